@@ -1,18 +1,19 @@
 #!/usr/bin/env python3
 """Measures the proved `wtround`: `html` on pages of 64 KiB, 512 KiB and 2 MiB, `wikitext` on HTML of 512 KiB,
-8 MiB and 64 MiB less a page's frame, of the HTML of pages with comments and entities, and of what `html` answers
-for pages of links, URLs, styles and tags (a third of the size for apostrophes); `html` on pages of lists and tables, and of templates; `expand` on pages of
-calls; `lint` on pages that are doubtful all over; `gen` of 100, 1,000 and 10,000 sections; `edit` on pages of which one word or a word of each paragraph was changed,
-and of which paragraphs and items come and go.
+8 MiB and 64 MiB less a page's frame, of the HTML of pages with comments and entities, and of what `html`
+answers for pages of links, URLs, styles and tags (a third of the size for apostrophes); `html` on pages of
+lists and tables, and of templates; `expand` on pages of calls; both on calls of functions; `lint` on pages
+that are doubtful all over; `gen` of 100, 1,000 and 10,000 sections; `edit` on pages of which one word or a
+word of each paragraph was changed, and of which paragraphs and items come and go.
 
   bench/bench.py PROGRAM [OTHER]
 
 PROGRAM is the proved program (crates/wtround/out/wtround, which ./wtround builds); OTHER a second program
 that takes the same words, which is run in turn on the same inputs. For each command and kind of page it
 prints, best of three runs, MB of page or of HTML for each second of processor time (the program has one
-thread, and so other work of the machine tells less than it does on a clock), the peak memory, and how the time
-grew from one size to the next. With OTHER the last column is the ratio of the speeds: 2 where PROGRAM takes half
-the time of OTHER.
+thread, and so other work of the machine tells less than it does on a clock), the peak memory, and how the
+time grew from one size to the next. With OTHER the last column is the ratio of the speeds: 2 where PROGRAM
+takes half the time of OTHER.
 """
 import os
 import subprocess
@@ -182,6 +183,25 @@ EXPAND_KINDS = {
 }
 
 
+
+def chosen_last(size):
+    """One `#switch` whose last part is given."""
+    parts = size // 8
+    return ("{{#switch:z" + "".join(f"|a{k % 1000:03}=b" for k in range(parts)) + "|z=c}}").encode()
+
+
+# Calls of functions, in the page and in templates: `expand` and `html`.
+FUNCTION_KINDS = {
+    "calls of #if": (whole("{{#if:x|a|b}}\n"), {}),
+    "one #switch": (chosen_last, {}),
+    "100 nested #if": (whole("{{#if:x|" * 100 + "a" + "}}" * 100 + "\n"), {}),
+    "a template with rows": (
+        whole("{{T|a|c=d}}\n"),
+        {"Template%3AT": b"{{#if:{{{1|}}}|{{{1}}}}}{{#if:{{{b|}}}|{{{b}}}}}{{#switch:{{{c}}}|a=1|d=2|3}}"},
+    ),
+}
+
+
 def html_of(block):
     """HTML of blocks of one kind, as `html` writes it, of about so many bytes."""
     def document(size):
@@ -311,6 +331,9 @@ def main():
         measure(programs, f"html, {kind}", ["html", "Main"], SIZES, make)
     for kind, (make, templates) in EXPAND_KINDS.items():
         measure(programs, f"expand, {kind}", ["expand", "Main"], SIZES, make, templates)
+    for kind, (make, templates) in FUNCTION_KINDS.items():
+        measure(programs, f"expand, {kind}", ["expand", "Main"], SIZES, make, templates)
+        measure(programs, f"html, {kind}", ["html", "Main"], SIZES, make, templates)
     for kind, (make, templates) in CALL_KINDS.items():
         measure(programs, f"html, {kind}", ["html", "Main"], SIZES, make, templates)
     for kind, make in LINT_KINDS.items():

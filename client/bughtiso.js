@@ -11,6 +11,7 @@
  */
 
 import { Part, write } from "./lib/markup.js";
+import { fill, refill } from "./lib/nodes.js";
 import { Original } from "./lib/original.js";
 import { Mender } from "./lib/mender.js";
 import { addMarks } from "./lib/marks.js";
@@ -25,9 +26,6 @@ export { hrefOf } from "./lib/links.js";
  * @type {WeakMap<object, Original>}
  */
 const opened = new WeakMap();
-
-/** Where an HTML parser throws out a `meta`, a `link` and an empty `span`. */
-const TABLE_PARTS = new Set(["table", "tbody", "tr"]);
 
 /**
  * Puts a page into a DOM.
@@ -52,6 +50,22 @@ export function open(html, options = {}) {
   root.replaceChildren(inside);
   opened.set(root, original);
   return root;
+}
+
+/**
+ * Puts a newer state of the page into a root that holds it, as after a save: the numbers and places of its
+ * elements are others then, and what was typed is the page's. Afterwards `save` compares with this state.
+ *
+ * Nodes that hold the same stay, with what the editor put on them. A block in which anything differs is made
+ * anew, so a selection in it is lost.
+ * @param {Element} root  the root that `open` answered
+ * @param {string} html  what `wtround html TITLE` wrote
+ * @throws {HtmlRefused} as `open`; the root is as it was
+ */
+export function renew(root, html) {
+  const original = new Original(html);
+  refill(root, root.ownerDocument, original.page);
+  opened.set(root, original);
 }
 
 /**
@@ -99,32 +113,6 @@ function newBody(document, page) {
   const body = document.implementation.createHTMLDocument("").body;
   for (const [name, value] of page.attributes) body.setAttribute(name, value);
   return body;
-}
-
-/**
- * Makes the nodes of a part's inside.
- * @param {Node} parent  that holds them then
- * @param {Document} document
- * @param {Part} part
- */
-function fill(parent, document, part) {
-  for (const child of part.children) {
-    if (typeof child === "string") {
-      parent.appendChild(document.createTextNode(child));
-      continue;
-    }
-    const carried = TABLE_PARTS.has(part.name) && isLostInTables(child);
-    const element = document.createElement(carried ? "template" : child.name);
-    if (carried) element.setAttribute("data-wt-name", child.name);
-    for (const [name, value] of child.attributes) element.setAttribute(name, value);
-    if (child.children.length > 0) fill(element, document, child);
-    parent.appendChild(element);
-  }
-}
-
-/** @param {Part} part */
-function isLostInTables(part) {
-  return part.name === "meta" || part.name === "link" || (part.name === "span" && part.children.length === 0);
 }
 
 /**

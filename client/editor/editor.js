@@ -1,7 +1,7 @@
 // @ts-check
 /** The editor of one page: it reads the page from the server, lets it be edited, and gives it back. */
 
-import { isChanged, open } from "../bughtiso.js";
+import { isChanged, open, renew } from "../bughtiso.js";
 import { Commands } from "./commands.js";
 import { History } from "./history.js";
 import { pasted } from "./paste.js";
@@ -52,7 +52,7 @@ class Editor {
       html: () => this.html,
       etag: () => this.etag,
       say: (text) => this.say(text),
-      saved: () => this.read(),
+      saved: (state) => this.#renew(state),
       bookmark: () => this.commands.bookmark(),
     });
     this.#listen();
@@ -99,30 +99,50 @@ class Editor {
   /** Reads the page from the server and shows it. */
   async read() {
     try {
-      const { html, etag } = await readPage(this.title);
-      const scrolled = window.scrollY;
-      const caret = caretIn(this.root);
-      this.html = html;
-      this.etag = etag;
-      open(html, { into: this.root });
-      this.root.classList.toggle("long", this.root.childElementCount > MANY_BLOCKS);
-      nameThings(this.root);
-      this.sizes = groupSizes(this.root);
-      this.things = thingsById(this.root);
-      this.history.forget();
+      const state = await readPage(this.title);
+      open(state.html, { into: this.root });
+      this.#take(state);
       this.root.contentEditable = "true";
       document.execCommand("defaultParagraphSeparator", false, "p");
       document.execCommand("styleWithCSS", false, "false");
       byId("save").removeAttribute("disabled");
       byId("waiting").hidden = true;
-      window.scrollTo(0, scrolled);
-      if (caret !== null) putCaret(this.root, caret);
+      this.history.forget();
     } catch (error) {
       byId("waiting").textContent = error instanceof ServerRefused ? error.sentence : String(error);
       byId("waiting").hidden = false;
     } finally {
       this.root.setAttribute("aria-busy", "false");
     }
+  }
+
+  /**
+   * Shows the page as it was stored. The caret stands where it stood; it is put there before anything looks
+   * at it, since the browser takes seconds for a caret that stands in no text of a long page.
+   * @param {{html: string, etag: string}} state
+   */
+  #renew(state) {
+    const scrolled = window.scrollY;
+    const caret = caretIn(this.root);
+    document.getSelection()?.removeAllRanges();
+    renew(this.root, state.html);
+    this.#take(state);
+    window.scrollTo(0, scrolled);
+    if (caret !== null) putCaret(this.root, caret);
+    this.history.forget();
+  }
+
+  /**
+   * Takes the page that the text shows now as the one that is edited.
+   * @param {{html: string, etag: string}} state
+   */
+  #take({ html, etag }) {
+    this.html = html;
+    this.etag = etag;
+    this.root.classList.toggle("long", this.root.childElementCount > MANY_BLOCKS);
+    nameThings(this.root);
+    this.sizes = groupSizes(this.root);
+    this.things = thingsById(this.root);
   }
 
   /** @param {string} text */
@@ -215,8 +235,31 @@ class Editor {
 
   // ---- What is typed and pasted
 
+  /**
+   * Takes out the whole text, where it is selected and long: the browser would take out block by block, each
+   * in time in proportion to their number, and a page of 1 MiB would take minutes. Undo puts the caret at the
+   * text's start, since to select it all takes as long.
+   * @returns {boolean} whether it did
+   */
+  #emptiesAll() {
+    if (!this.root.classList.contains("long") || !isAllSelected(this.root)) return false;
+    document.getSelection()?.collapseToStart();
+    this.history.step(() => {
+      const paragraph = document.createElement("p");
+      paragraph.append(document.createElement("br"));
+      this.root.replaceChildren(paragraph);
+      document.getSelection()?.collapse(paragraph, 0);
+    });
+    return true;
+  }
+
   /** @param {InputEvent} event */
   #beforeInput(event) {
+    const takesSelection = event.cancelable && /^(?:delete|insert(?:Text|Paragraph)$)/.test(event.inputType);
+    if (takesSelection && this.#emptiesAll()) {
+      if (event.inputType.startsWith("delete")) event.preventDefault();
+      return;
+    }
     // Keyboards of phones send no key for these.
     const [, direction] = /^deleteContent(Backward|Forward)$/.exec(event.inputType) ?? [];
     if (direction && event.cancelable && this.#takesThing(direction === "Backward")) event.preventDefault();
@@ -229,6 +272,7 @@ class Editor {
     event.preventDefault();
     if (event.clipboardData === null) return;
     const { html, leftOut } = pasted(event.clipboardData, this.root, this.things);
+    if (html !== "") this.#emptiesAll();
     if (html !== "") this.history.step(() => document.execCommand("insertHTML", false, html));
     if (leftOut > 0) this.say("Templates and references can't be copied: they were left out.");
   }
@@ -238,6 +282,22 @@ class Editor {
     event.preventDefault();
     this.say("Text can't be dragged here: cut and paste it.");
   }
+}
+
+/**
+ * Whether nothing that is written stands before or behind the selection.
+ * @param {HTMLElement} root
+ */
+function isAllSelected(root) {
+  const selection = document.getSelection();
+  if (!selection?.rangeCount || selection.isCollapsed || !root.contains(selection.anchorNode)) return false;
+  const selected = selection.getRangeAt(0);
+  const [before, behind] = [selected.cloneRange(), selected.cloneRange()];
+  before.collapse(true);
+  before.setStart(root, 0);
+  behind.collapse(false);
+  behind.setEnd(root, root.childNodes.length);
+  return [before, behind].every((range) => range.toString().trim() === "");
 }
 
 /**

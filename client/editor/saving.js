@@ -2,7 +2,7 @@
 /** Saving: what would change is shown before it is stored; a refusal shows its place and what to do. */
 
 import { save } from "../bughtiso.js";
-import { ServerRefused, give } from "./server.js";
+import { ServerRefused, page as readPage, preview, revisionOf, store } from "./server.js";
 import { shownDiff } from "./diff.js";
 import { sentenceFor } from "./sentences.js";
 
@@ -17,8 +17,8 @@ const WAITING = "The server is asked…";
 
 /**
  * @typedef {{title: string, root: HTMLElement, html: () => string, etag: () => string, say: (text: string) =>
- *   void, saved: () => Promise<void>, bookmark: () => () => void}} Page  `html`: the page as it was opened,
- *   `etag`: the name of this state of it
+ *   void, saved: (state: {html: string, etag: string}) => void, bookmark: () => () => void}} Page  `html`:
+ *   the page as it was opened, `etag`: the name of this state of it, `saved`: takes the state that is stored
  */
 
 export class Saving {
@@ -28,8 +28,15 @@ export class Saving {
     this.button = /** @type {HTMLButtonElement} */ (byId("save"));
     this.dialog = /** @type {HTMLDialogElement} */ (byId("changes"));
     this.refusal = byId("refusal");
-    /** What is shown in the dialog. */
+    /** What is shown in the dialog, and what the server said of it. */
     this.document = "";
+    /** @type {import("./server.js").Preview | null} */
+    this.answer = null;
+    /**
+     * An edit that was given to be stored, of which no answer came, and the revision that it makes.
+     * @type {{document: string, revision: number} | null}
+     */
+    this.unanswered = null;
     this.isBusy = false;
     /**
      * The element that a refusal is about.
@@ -59,7 +66,9 @@ export class Saving {
       return;
     }
     await this.#busy(async () => {
-      const answer = await give(this.page.title, this.document, this.page.etag(), true);
+      if (await this.#isStored()) return this.page.say("The page is saved.");
+      const answer = await preview(this.page.title, this.document, this.page.etag());
+      this.answer = answer;
       if (!answer.changed) return this.page.say("Nothing would change in the page's source.");
       const longer = answer.bytes_after - answer.bytes_before;
       const way = longer > 0 ? "longer" : "shorter";
@@ -74,8 +83,11 @@ export class Saving {
   async #store() {
     let isStored = false;
     const asking = this.#busy(async () => {
-      await give(this.page.title, this.document, this.page.etag(), false);
-      await this.page.saved();
+      const { prepared, revision } = /** @type {import("./server.js").Preview} */ (this.answer);
+      this.unanswered = { document: this.document, revision };
+      const state = await store(this.page.title, prepared, this.document, this.page.etag());
+      this.unanswered = null;
+      this.page.saved(state);
       isStored = true;
     });
     this.dialog.close();
@@ -83,6 +95,20 @@ export class Saving {
     if (!isStored) return;
     this.page.root.focus({ preventScroll: true });
     this.page.say("The page is saved.");
+  }
+
+  /**
+   * Whether this edit was stored before, and its answer lost, as where the server was ended meanwhile.
+   * @returns {Promise<boolean>}
+   */
+  async #isStored() {
+    const lost = this.unanswered;
+    if (lost === null || lost.document !== this.document) return false;
+    const state = await readPage(this.page.title);
+    this.unanswered = null;
+    if (revisionOf(state.etag) !== lost.revision) return false;
+    this.page.saved(state);
+    return true;
   }
 
   /**
@@ -99,6 +125,7 @@ export class Saving {
     } catch (error) {
       this.page.say("");
       if (!(error instanceof ServerRefused)) throw error;
+      if (error.status >= 400 && error.status < 500) this.unanswered = null;
       this.#setBusy(false);
       this.#showRefusal(error);
     } finally {

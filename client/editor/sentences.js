@@ -5,7 +5,7 @@ const UNDO = "Undo takes it back (Ctrl+Z).";
 
 /** @type {Record<string, string>} */
 const BY_NAME = {
-  InTemplate: "This part comes from a template: change it in the template or in the page's source. " + UNDO,
+  InTemplate: "This part comes from a template or function: change it there or in the page's source. " + UNDO,
   Moved: `A template, a reference or a table would stand in another block: that can't be saved yet. ${UNDO}`,
   UnknownId: "This was pasted from another page and can't be written here. " + UNDO,
   RepeatedId: `This is a copy of what can't be written twice, as a template or a reference. ${UNDO}`,
@@ -21,7 +21,7 @@ const BY_NAME = {
   Tangled:
     `This paragraph can be edited as source alone: its source begins or ends in its neighbours. ${UNDO}`,
   NewPageTooLong: "The page is too long: take something out.",
-  NewExpansion: "The page takes too many templates: take some out.",
+  NewExpansion: "The page takes too many templates or functions: take some out.",
   Unspelled: "This can't be written so that it shows the same. Write it in another way, or undo it (Ctrl+Z).",
   HtmlRefused: "This text can't be sent as it is. " + UNDO,
   ElementDoesNotFit: "This can't stand here. " + UNDO,

@@ -26,19 +26,28 @@ export class ServerRefused extends Error {
 }
 
 /**
- * @param {string} path
- * @param {RequestInit} [options]
- * @returns {Promise<Response>}
+ * @template T
+ * @param {Promise<T>} coming
+ * @returns {Promise<T>}
  */
-async function ask(path, options) {
-  let response;
+async function reached(coming) {
   try {
-    response = await fetch(path, { cache: "no-store", ...options });
+    return await coming;
   } catch {
     const sentence = "The server can't be reached. Your text is still here: try again when it runs.";
     throw new ServerRefused({ error: "Unreachable", status: 0, sentence });
   }
-  if (response.ok) return response;
+}
+
+/**
+ * @param {string} path
+ * @param {RequestInit} [options]
+ * @returns {Promise<{text: string, etag: string}>} the answer, whole
+ */
+async function ask(path, options) {
+  const response = await reached(fetch(path, { cache: "no-store", ...options }));
+  const etag = response.headers.get("ETag") ?? "";
+  if (response.ok) return { text: await reached(response.text()), etag };
   const answer = await response.json().catch(() => ({}));
   throw new ServerRefused({
     error: `Status ${response.status}`,
@@ -50,32 +59,73 @@ async function ask(path, options) {
 
 /** @returns {Promise<string[]>} the titles of the folder's pages */
 export async function titles() {
-  return (await (await ask("/titles")).json()).titles;
+  return JSON.parse((await ask("/titles")).text).titles;
 }
+
+/** Of the places of elements, which the editor doesn't need, its HTML has those alone that tell a source. */
+const SHAPE = "data_parsoid=sources";
 
 /**
  * @param {string} title
  * @returns {Promise<{html: string, etag: string}>} a page, and the name of this state of it
  */
 export async function page(title) {
-  const response = await ask(`/localhost/v3/page/html/${encodeURIComponent(title)}`);
-  return { html: await response.text(), etag: response.headers.get("ETag") ?? "" };
+  const { text, etag } = await ask(`/localhost/v3/page/html/${encodeURIComponent(title)}?${SHAPE}`);
+  return { html: text, etag };
 }
 
 /**
- * @typedef {{etag: string, changed: boolean, diff: string, bytes_before: number, bytes_after: number}} Saved
+ * @param {string} title
+ * @param {string} query
+ * @param {string} etag
+ * @param {object} body
+ * @returns {Promise<any>}
+ */
+async function give(title, query, etag, body) {
+  const headers = { "Content-Type": "application/json", "If-Match": etag };
+  const path = `/save/${encodeURIComponent(title)}?${query}`;
+  return JSON.parse((await ask(path, { method: "POST", headers, body: JSON.stringify(body) })).text);
+}
+
+/**
+ * @typedef {{changed: boolean, diff: string, bytes_before: number, bytes_after: number, revision: number,
+ *   prepared: string}} Preview `prepared`: the word with which it is stored; `revision`: the number that the
+ *   page has then
  */
 
 /**
- * Gives the edited page; it is stored unless `isPreview`.
+ * Asks what an edit would change.
  * @param {string} title
  * @param {string} html
  * @param {string} etag  of the page that was opened
- * @param {boolean} isPreview
- * @returns {Promise<Saved>}
+ * @returns {Promise<Preview>}
  */
-export async function give(title, html, etag, isPreview) {
-  const path = `/save/${encodeURIComponent(title)}${isPreview ? "?preview=1" : ""}`;
-  const headers = { "Content-Type": "application/json", "If-Match": etag };
-  return (await ask(path, { method: "POST", headers, body: JSON.stringify({ html }) })).json();
+export function preview(title, html, etag) {
+  return give(title, "preview=1", etag, { html });
+}
+
+/**
+ * Stores an edit.
+ * @param {string} title
+ * @param {string} prepared  the word of its preview
+ * @param {string} html  the same edit, where the server has forgotten it
+ * @param {string} etag  of the page that was opened
+ * @returns {Promise<{html: string, etag: string}>} the page as it stands then
+ */
+export async function store(title, prepared, html, etag) {
+  const query = `html=1&${SHAPE}`;
+  try {
+    return await give(title, query, etag, { prepared });
+  } catch (error) {
+    if (!(error instanceof ServerRefused) || error.error !== "NotPrepared") throw error;
+    return give(title, query, etag, { html });
+  }
+}
+
+/**
+ * @param {string} etag
+ * @returns {number} the revision of a page that has this name
+ */
+export function revisionOf(etag) {
+  return Number(/^(?:W\/)?"(\d+)\//.exec(etag)?.[1] ?? -1);
 }

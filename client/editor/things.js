@@ -52,21 +52,31 @@ export function nameThings(root) {
     if (element.parentElement?.closest("[data-thing]")) continue;
     const thing = describe(element);
     const isReference = thing?.kind === "extension" && thing.name === "ref";
-    element.setAttribute("contenteditable", "false");
-    element.setAttribute("data-thing", isReference ? "reference" : thing?.kind ?? "other");
+    put(element, "contenteditable", "false");
+    put(element, "data-thing", isReference ? "reference" : thing?.kind ?? "other");
     if (element.hasAttribute("about") && !element.hasAttribute("data-mw")) continue;
     if (isReference) references += 1;
     const kindName = thing === null ? "Preformatted text" : NAMES[thing.kind](thing.name);
     const name = isReference ? `${kindName} ${references}` : kindName;
-    element.setAttribute("data-name", name);
-    element.setAttribute("data-label", isReference ? `[${references}]` : name);
-    element.setAttribute("title", name);
-    if (!(element.textContent ?? "").trim()) element.setAttribute("data-hollow", "");
+    put(element, "data-name", name);
+    put(element, "data-label", isReference ? `[${references}]` : name);
+    put(element, "title", name);
+    if (!(element.textContent ?? "").trim()) put(element, "data-hollow", "");
     if (!/^(?:table|ul|ol|dl|pre|meta|link)$/.test(element.localName)) {
-      element.setAttribute("role", "group");
-      element.setAttribute("aria-label", name);
+      put(element, "role", "group");
+      put(element, "aria-label", name);
     }
   }
+}
+
+/**
+ * Sets an attribute, unless it is set: that is much faster for a page that is shown.
+ * @param {Element} element
+ * @param {string} name
+ * @param {string} value
+ */
+function put(element, name, value) {
+  if (element.getAttribute(name) !== value) element.setAttribute(name, value);
 }
 
 /**

@@ -62,8 +62,13 @@ export class Part {
  * @returns {number}
  */
 export function numberOf(id) {
-  const found = /^mw([1-9][0-9]{0,9})$/.exec(id ?? "");
-  const number = found ? Number(found[1]) : 0;
+  if (id === null || id.length > 12 || !id.startsWith("mw")) return 0;
+  let number = 0;
+  for (let at = 2; at < id.length; at += 1) {
+    const digit = id.charCodeAt(at) - 48;
+    if (digit < 0 || digit > 9 || (digit === 0 && at === 2)) return 0;
+    number = 10 * number + digit;
+  }
   return number <= 0xffffffff ? number : 0;
 }
 

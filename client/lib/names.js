@@ -7,12 +7,13 @@
  */
 
 /**
- * What an element is that can't be edited: a group (what a template gave), an extension, what is kept as it
- * stands, a comment, an include tag, a switch, a category. Of a group ask its first element, the one with an
- * `id`.
+ * What an element is that can't be edited: a group (what a template or a function gave), an extension,
+ * what is kept as it stands, a comment, an include tag, a switch, a category. Of a group ask its first
+ * element, the one with an `id`.
  * @param {Element} element
  * @returns {Description | null} null where it is none of these. `name` is that of the template, of the
- *   extension, of the category; `source` is its wikitext, empty where the element doesn't tell.
+ *   function with its `#`, of the extension, of the category; `source` is its wikitext, empty where the
+ *   element doesn't tell.
  */
 export function describe(element) {
   const type = element.getAttribute("typeof") ?? "";
@@ -58,8 +59,12 @@ function describeGroup(element, source) {
   } catch {
     parts = [];
   }
-  const names = parts.filter((part) => part.template).map((part) => part.template.target.wt.trim());
-  if (names.length > 0) return { kind: "template", name: names.join(", "), source };
+  const targets = parts.filter((part) => part.template).map((part) => part.template.target);
+  if (targets.length > 0) {
+    const names = targets.map((target) => (target.function ? `#${target.function}` : target.wt.trim()));
+    const kind = targets.every((target) => target.function) ? "function" : "template";
+    return { kind, name: names.join(", "), source };
+  }
   const argument = parts.find((part) => part.param);
   if (argument) return { kind: "argument", name: argument.param.wt, source };
   return { kind: "other", name: "", source };

@@ -47,8 +47,11 @@ export class Original {
   /** @param {string} html  as the program wrote it */
   constructor(html) {
     this.page = readPage(html);
-    /** The document as `save` would write it. */
-    this.text = write(this.page);
+  }
+
+  /** The document as `save` would write it. */
+  get text() {
+    return write(this.page);
   }
 
   /**

@@ -105,6 +105,19 @@ test("pages come back from the DOM that open makes", { skip }, async (context) =
   context.diagnostic(`${all.length} pages`);
 });
 
+test("pages are renewed, each in the place of another", { skip }, async (context) => {
+  const all = documents();
+  if (all.length === 0) return context.skip("there are no pages here: build wtround, or name one in WTROUND");
+  const body = `
+    const into = globalThis.renewed ??= document.createElement("div");
+    module.renew(into, html);
+    const opened = module.open(html, { into: document.createElement("div") });
+    return into.isEqualNode(opened) ? module.save(into) : "";
+  `;
+  assert.deepEqual(await changed(all, body), []);
+  context.diagnostic(`${all.length} pages`);
+});
+
 test("pages come back after the browser wrote and read its DOM as HTML", { skip }, async (context) => {
   // A parser of HTML takes U+0000 and carriage returns for something else.
   const all = documents().filter((html) => !/&#(?:0|13);/.test(html));

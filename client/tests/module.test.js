@@ -5,7 +5,8 @@ import { test } from "node:test";
 import assert from "node:assert/strict";
 import { createRequire } from "node:module";
 import { readFileSync } from "node:fs";
-import { HtmlRefused, Offsets, describe, hrefOf, isChanged, open, rangeOf, save } from "../bughtiso.js";
+import { HtmlRefused, Offsets, describe, hrefOf, isChanged, open } from "../bughtiso.js";
+import { rangeOf, renew, save } from "../bughtiso.js";
 import { read } from "../lib/markup.js";
 import { SmallDocument } from "./small_dom.js";
 import { Wiki, examplePages, findProgram, outsideDocuments } from "./pages.js";
@@ -396,7 +397,78 @@ test("outside documents come back from jsdom", (context) => {
   if (JSDOM === null) return context.skip("there is no jsdom here");
   if (documents.length === 0) return context.skip("there are no outside documents here");
   const { document } = new JSDOM("").window;
-  for (const html of documents) assert.equal(save(open(html, { document }), { marks: true }), html);
+  const root = open(page(""), { document });
+  for (const html of documents) {
+    assert.equal(save(open(html, { document }), { marks: true }), html);
+    renew(root, html);
+    assert.equal(save(root), html);
+  }
+});
+
+/**
+ * Renews a root, and looks whether it is then as if the page had been opened.
+ * @param {Element} root
+ * @param {string} html
+ */
+function assertRenewed(root, html) {
+  renew(root, html);
+  assert.equal(save(root), html);
+  assert.equal(save(root, { marks: true }), html);
+  assert.equal(isChanged(root), false);
+}
+
+test("a page is renewed where it stands", () => {
+  const was = page(`${TEXT}\n<ul id="mw4"><li id="mw5">a</li><li id="mw6">b</li></ul>\n<p id="mw7">last</p>`);
+  const now = page(
+    '<p id="mw1">one <b id="mw2">two</b> three</p>\n\n<h2 id="mw3">new</h2>\n\n<p id="mw4">four!</p>' +
+      '\n<ul id="mw5"><li id="mw6">a</li><li id="mw7">n</li><li id="mw8">b</li></ul>\n<p id="mw9">last</p>',
+  );
+  const root = opened(was);
+  const [first, , list, last] = root.children;
+  const items = list.children;
+  last.setAttribute("data-own", "x");
+  assertRenewed(root, now);
+  assert.deepEqual([root.children[0], root.children[3], root.children[4]], [first, list, last]);
+  assert.deepEqual([list.children[0], list.children[2]], items);
+  assert.equal(last.getAttribute("data-own"), "x");
+  assert.equal(last.getAttribute("id"), "mw9");
+});
+
+test("a page is renewed whatever an editor left in its place", () => {
+  const now = page(TEXT);
+  const left = [
+    "", "text", "<div>one</div>", '<p id="mw1">one <b id="mw2">two</b> three</p><p id="mw1">four</p>',
+    '<p id="mw9" class="c" data-mw="{}">one <b>two</b> three</p>\n\n<comment>x</comment><p>four</p>',
+    '<p id="mw3">four</p>\n\n<p id="mw1">one <b id="mw2">two</b> three</p>',
+    '<p about="#mwt1" id="mw1">one <b id="mw2">two</b> three</p>\n\n<p id="mw3"><i>four</i></p>',
+  ];
+  for (const body of left) assertRenewed(edited(body), now);
+});
+
+test("a page that isn't the program's renews nothing", () => {
+  const root = opened(page(TEXT));
+  assert.throws(() => renew(root, page("<p>a")), HtmlRefused);
+  assert.equal(save(root), page(TEXT));
+});
+
+test("outside documents are renewed, each in the place of another", (context) => {
+  const documents = outsideDocuments();
+  if (documents.length === 0) return context.skip("there are no outside documents here");
+  const root = opened(page(TEXT));
+  for (const html of documents) {
+    renew(root, html);
+    assert.equal(save(root), html);
+  }
+});
+
+test("many blocks of which others come and go are renewed in time in proportion", () => {
+  const block = (/** @type {number} */ at) => `<p id="mw${at + 1}">a <b>${at}</b></p>`;
+  const blocks = (/** @type {number} */ step) => Array.from({ length: 20000 }, (_, at) => block(at * step));
+  const root = opened(page(blocks(2).join("\n")));
+  const start = process.cpuUsage();
+  renew(root, page(blocks(3).join("\n")));
+  assert.ok(process.cpuUsage(start).user < 6e6); // microseconds
+  assert.equal(save(root), page(blocks(3).join("\n")));
 });
 
 test("new and removed blocks mark the body", () => {
@@ -435,14 +507,17 @@ test("places in UTF-16 units", () => {
 
 test("names of what can't be edited", () => {
   const call = '{"parts":[{"template":{"i":0,"params":{},"target":{"wt":"Infobox town\\n"}}}]}';
+  const choice = '{"parts":[{"template":{"i":0,"params":{},"target":{"function":"if","wt":"#If:a"}}}]}';
   const html = page(
     `<span about="#mwt1" data-mw='${call}' data-parsoid='{"src":"{{Infobox town}}"}'>x</span>` +
+      `<span about="#mwt2" data-mw='${choice}' data-parsoid='{"src":"{{#If:a}}"}'>x</span>` +
       '<span typeof="mw:Extension/ref"></span>' +
       `<span typeof="mw:Placeholder" data-parsoid='{"src":"[[File:A b.jpg|thumb]]"}'></span><b>y</b>`,
   );
   const root = opened(html);
-  const [group, reference, media, bold] = root.children.map(describe);
+  const [group, func, reference, media, bold] = root.children.map(describe);
   assert.deepEqual(group, { kind: "template", name: "Infobox town", source: "{{Infobox town}}" });
+  assert.deepEqual(func, { kind: "function", name: "#if", source: "{{#If:a}}" });
   assert.deepEqual(reference, { kind: "extension", name: "ref", source: "" });
   assert.equal(media?.name, "A b.jpg");
   assert.equal(bold, null);

@@ -1,5 +1,5 @@
 // @ts-check
-/** As much of a DOM as `open` and `save` need, so that the module's tests run where no other DOM is. */
+/** As much of a DOM as `open`, `renew` and `save` need: the module's tests run where no other DOM is. */
 
 class SmallNode {
   /**
@@ -58,6 +58,10 @@ class SmallElement extends SmallNode {
     return this.values.get(name) ?? null;
   }
 
+  getAttributeNames() {
+    return [...this.values.keys()];
+  }
+
   hasAttribute(name) {
     return this.values.has(name);
   }
@@ -72,6 +76,20 @@ class SmallElement extends SmallNode {
 
   appendChild(node) {
     this.childNodes.push(node);
+    return node;
+  }
+
+  insertBefore(node, behind) {
+    const at = behind === null ? this.childNodes.length : this.childNodes.indexOf(behind);
+    if (at < 0) throw new Error("what it is to stand before isn't there");
+    this.childNodes.splice(at, 0, node);
+    return node;
+  }
+
+  removeChild(node) {
+    const at = this.childNodes.indexOf(node);
+    if (at < 0) throw new Error("it isn't there");
+    this.childNodes.splice(at, 1);
     return node;
   }
 

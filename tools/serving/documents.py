@@ -1,5 +1,5 @@
-"""What is asked of a document that wtround wrote: without data-parsoid, its body alone, offsets in other
-units."""
+"""What is asked of a document that wtround wrote: without data-parsoid or with sources alone, its body alone,
+offsets in other units."""
 from __future__ import annotations
 
 import re
@@ -9,6 +9,8 @@ from .refusals import Refusal
 
 # In what wtround writes data-parsoid is the last attribute, and no text or value has a bare `<` or `>`.
 DATA_PARSOID = re.compile(rb" data-parsoid='([^'<>]*)'(?=/?>)")
+ANY_DATA_PARSOID = re.compile(rb"""\sdata-parsoid\s*=\s*("[^"]*"|'[^']*'|[^\s"'>]*)""", re.IGNORECASE)
+SOURCE = re.compile(rb'(?:"|&quot;|&#34;)src(?:"|&quot;|&#34;):')
 RANGES = re.compile(rb'"dsr":\[([0-9]+),([0-9]+),([0-9]+),([0-9]+)\]')
 BODY = re.compile(rb"<body[^<>]*>(.*)</body>", re.DOTALL)
 
@@ -22,6 +24,21 @@ UNITS: Dict[str, Callable[[bytes], int]] = {
 def without_data_parsoid(document: bytes) -> bytes:
     """Half as long; an edit doesn't need the attribute, `wikitext` does."""
     return DATA_PARSOID.sub(b"", document)
+
+
+def with_sources_alone(document: bytes) -> bytes:
+    """With data-parsoid where it tells a source, as of a template, and nowhere else."""
+    return DATA_PARSOID.sub(lambda found: found[0] if b'"src":' in found[1] else b"", document)
+
+
+def in_form_of(edited: bytes, original: bytes, page: bytes, unit: str) -> bytes:
+    """A document with data-parsoid as its edit has it, whoever wrote that: everywhere (with places in this
+    unit), where it tells a source alone, or nowhere."""
+    told = ANY_DATA_PARSOID.findall(edited)
+    if not told:
+        return without_data_parsoid(original)
+    original = with_offsets(original, page, unit)
+    return with_sources_alone(original) if all(map(SOURCE.search, told)) else original
 
 
 def body_of(document: bytes) -> bytes:

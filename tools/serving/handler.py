@@ -134,11 +134,7 @@ class Handler(BaseHTTPRequestHandler):
             answer = Answer(refusal.body(), JSON_TYPE, 500)
         if self._left:
             self.close_connection = True
-        try:
-            self._send(answer)
-        finally:
-            if answer.afterwards is not None:
-                answer.afterwards()
+        self._send(answer)
 
     def _answer(self) -> Answer:
         if self.request_version == "HTTP/0.9":

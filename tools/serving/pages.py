@@ -96,7 +96,8 @@ class PageFolder:
             os.close(folder)
 
     def replace(self, name: str, page: bytes) -> None:
-        """Puts a page in the place of the one that is there: whole, or not at all."""
+        """Puts a page in the place of the one that is there: whole, or not at all. When it is done the page
+        outlasts a loss of power."""
         path = self.file(name)
         temporary = os.path.join(self.path, TEMPORARY + secrets.token_hex(8))
         try:
@@ -112,10 +113,17 @@ class PageFolder:
             raise Refusal(500, "NotStored", sentence) from None
         finally:
             remove_if_there(temporary)
+        self._confirm_names()
 
-    def sync(self) -> None:
-        """Makes the names of files outlast a loss of power, as their bytes do already."""
-        sync_directory(self.path)
+    def _confirm_names(self) -> None:
+        """Waits until the disk has the names of files, as it has their bytes already."""
+        try:
+            sync_directory(self.path)
+        except OSError as error:
+            if error.errno in (errno.EINVAL, errno.ENOTSUP, errno.ENOSYS):  # the file system can't
+                return
+            sentence = f"The page is written; the disk didn't confirm it: {error.strerror}. Open it again."
+            raise Refusal(500, "NotConfirmed", sentence) from None
 
     def remove_unfinished(self) -> None:
         """Removes what savers that were killed left behind."""

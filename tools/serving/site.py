@@ -20,6 +20,7 @@ from .fingerprints import etag, names_tag
 from .mending import marked, mended
 from .other_tools import titles
 from .pages import PAGE_BYTES, PageFolder, full_name, remove_if_there, revision
+from .prepared import Edit, PreparedEdits
 from .program import Program
 from .refusals import Refusal
 
@@ -67,7 +68,6 @@ class Answer:
     content_type: str
     status: int = 200
     headers: Dict[str, str] = field(default_factory=dict)
-    afterwards: Optional[Callable[[], None]] = None  # what is done when the answer has been sent
 
 
 class Site:
@@ -77,6 +77,7 @@ class Site:
         self.folder = folder
         self.program = program
         self._texts = TextRoom(folder)
+        self._prepared = PreparedEdits()
 
     def close(self) -> None:
         self._texts.close()
@@ -139,7 +140,7 @@ class Site:
         fields = request.fields()
         if "if-match" not in request.headers:  # which says more than the number
             self._check_revision(self.folder.read(name), wanted)
-        return Answer(self._edited(request, name, fields)[1], WIKITEXT_TYPE)
+        return Answer(self._edited(request, name, fields).new, WIKITEXT_TYPE)
 
     def _page_of(self, document: bytes) -> bytes:
         """The page that an HTML is, as it is written, or else as it is when it is mended."""
@@ -170,55 +171,63 @@ class Site:
         if not request.headers.get("if-match"):
             sentence = "Send the ETag that came with the HTML as If-Match, so that no other change is lost."
             raise Refusal(428, "NoIfMatch", sentence)
-        is_preview = bodies.flag(request.query.get("preview"))
-        page, new = self._edited(request, name, request.fields(json_alone=True))
+        fields = request.fields(json_alone=True)
+        if "prepared" in fields:
+            edit = self._prepared.find(bodies.text_field(fields, "prepared"), name)
+        else:
+            edit = self._edited(request, name, fields)
         found = {
-            "changed": new != page,
-            "diff": unified(page.decode(), new.decode(), titles.file_name(name)),
-            "bytes_before": len(page),
-            "bytes_after": len(new),
+            "changed": edit.is_changed,
+            "diff": unified(edit.page.decode(), edit.new.decode(), titles.file_name(name)),
+            "bytes_before": len(edit.page),
+            "bytes_after": len(edit.new),
+            "revision": revision(edit.new),
         }
-        is_stored = new != page and not is_preview
+        if bodies.flag(request.query.get("preview")):
+            self._check_tag(request, edit.tag)
+            return saved({**found, "etag": edit.tag, "prepared": self._prepared.keep(edit)})
         with self.folder.locked():
-            found["etag"] = self._tag_then(request, name, new if is_stored else None)
-            answer = Answer(json.dumps(found).encode() + b"\n", JSON_TYPE, 200, {"ETag": found["etag"]})
-            if is_stored:
-                answer.afterwards = self.folder.sync
-                self.folder.replace(name, new)  # behind it nothing is left but to send the answer
+            document, found["etag"] = self._state_then(request, edit)
+            if bodies.flag(request.query.get("html")):
+                found["html"] = shaped(document, edit.new, request.query).decode()
+            answer = saved(found)
+            if edit.is_changed:
+                self.folder.replace(name, edit.new)  # behind it nothing is left but to send the answer
         return answer
 
-    def _edited(self, request: Request, name: str, fields: Dict[str, object]) -> Tuple[bytes, bytes]:
-        """The page, and the new page of an edit. HTML that bears a mark was made for `edit`, and is given on
-        as it is while the page's tag is looked at; other HTML is mended and marked first."""
+    def _edited(self, request: Request, name: str, fields: Dict[str, object]) -> Edit:
+        """The new page of an edit. HTML that bears a mark was made for `edit`, and is given on as it is while
+        the page's tag is looked at; other HTML is mended and marked first."""
         document = bodies.encoded(bodies.text_field(fields, "html"))
         with ThreadPoolExecutor(1) as pool:
             early = pool.submit(self.program.edit, name, document) if MARK.search(document) else None
             page, original, tag = self._taken(name)
             self._check_tag(request, tag)
             if early is not None:
-                return page, early.result()
+                return Edit(name, tag, page, early.result())
         check_length(document)
         check_kept(document, original)
-        if b"data-parsoid" in document:
-            unit = request.query.get("offsetType") or fields.get("offsetType")
-            original = documents.with_offsets(original, page, str(unit or "byte"))
-        else:
-            original = documents.without_data_parsoid(original)
-        return page, self.program.edit(name, marked(document.decode(), original.decode()).encode())
+        unit = request.query.get("offsetType") or fields.get("offsetType")
+        original = documents.in_form_of(document, original, page, str(unit or "byte"))
+        new = self.program.edit(name, marked(document.decode(), original.decode()).encode())
+        return Edit(name, tag, page, new)
 
-    def _tag_then(self, request: Request, name: str, new: Optional[bytes]) -> str:
-        """The tag that the page has once its text is the new one, if there is one. Refuses where anything has
+    def _state_then(self, request: Request, edit: Edit) -> Tuple[bytes, str]:
+        """The HTML and the tag that the page has once its text is the new one. Refuses where anything has
         changed since the edit."""
         with ThreadPoolExecutor(1) as pool:
-            after = pool.submit(self._tag_of_text, name, new) if new is not None else None
-            _, _, tag = self._taken(name)
+            after = pool.submit(self._taken_of_text, edit.name, edit.new) if edit.is_changed else None
+            _, document, tag = self._taken(edit.name)
             self._check_tag(request, tag)
-            return after.result() if after is not None else tag
+            if tag != edit.tag:
+                raise Refusal(412, "Stale", STALE, headers={"ETag": tag})
+            return after.result() if after is not None else (document, tag)
 
-    def _tag_of_text(self, name: str, text: bytes) -> str:
-        """The tag that a page will have once this is its text."""
+    def _taken_of_text(self, name: str, text: bytes) -> Tuple[bytes, str]:
+        """The HTML and the tag that a page will have once this is its text."""
         with self._texts.page(text) as (room, text_name):
-            return etag(self.folder, name, text, self.program.html(text_name, room))
+            document = self.program.html(text_name, room)
+        return document, etag(self.folder, name, text, document)
 
     def _check_tag(self, request: Request, tag: str) -> None:
         wanted = request.headers.get("if-match")
@@ -331,9 +340,17 @@ SHAPES = ("body_only", "offsetType", "data_parsoid")
 def shaped(document: bytes, page: bytes, options: Dict[str, str]) -> bytes:
     """The document in the form that a request asks for."""
     document = documents.with_offsets(document, page, options.get("offsetType") or "byte")
-    if not bodies.flag(options.get("data_parsoid"), otherwise=True):
+    wanted = options.get("data_parsoid")
+    if wanted == "sources":
+        document = documents.with_sources_alone(document)
+    elif not bodies.flag(wanted, otherwise=True):
         document = documents.without_data_parsoid(document)
     return documents.body_of(document) if bodies.flag(options.get("body_only")) else document
+
+
+def saved(found: Dict[str, object]) -> Answer:
+    body = json.dumps(found, ensure_ascii=False).encode() + b"\n"
+    return Answer(body, JSON_TYPE, 200, {"ETag": str(found["etag"])})
 
 
 def check_accepted(field: str) -> None:

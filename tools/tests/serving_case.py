@@ -67,9 +67,10 @@ class ServingCase(unittest.TestCase):
         finally:
             connection.close()
 
-    def raw(self, data: bytes, ends: bool = False) -> bytes:
+    def raw(self, data: bytes, ends: bool = False, port: Optional[int] = None) -> bytes:
         """What is answered to these bytes; `ends`: nothing comes behind them."""
-        with socket.create_connection(("127.0.0.1", self.port), timeout=SECONDS) as connection:
+        address = ("127.0.0.1", port or self.port)
+        with socket.create_connection(address, timeout=SECONDS) as connection:
             try:
                 connection.sendall(data)
                 if ends:

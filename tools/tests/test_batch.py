@@ -279,7 +279,8 @@ class Templates(BatchCase):
         "Article": "an article {{Never}}",
         "Made name": "{{ {{Name}} }}",
         "Key": "{{Show|{{Key}}=v}}",
-        "Hidden": "{{Hide|{{T}}}} <nowiki>{{Never}}</nowiki> {{#if:{{Never}}}}",
+        "Hidden": "{{Hide|{{T}}}} <nowiki>{{Never}}</nowiki> {{#expr:{{Never}}}}",
+        "Chosen": "{{#if:{{T}}|{{#switch:{{Hide}}|hidden={{Show}}|{{Never}}}}|{{Never}}}}",
         "Made twice": "{{Chain}} {{:Article}} {{user:Box}}",
         "Self": "{{Self}} {{:Self}} {{Includes}} {{no such}}",
         "In a comment": "{{Sh<!-- Never -->ow|1}} {{\nT\n}}",
@@ -289,6 +290,7 @@ class Templates(BatchCase):
         "Made name": ["Template:Name", "Template:T"],
         "Key": ["Template:Show", "Template:Key"],
         "Hidden": ["Template:Hide", "Template:T"],
+        "Chosen": ["Template:T", "Template:Hide", "Template:Show"],
         "Made twice": [
             "Template:Chain",
             "Template:Name",

@@ -21,7 +21,8 @@ class Answer(NamedTuple):
 
 def pages() -> Dict[str, bytes]:
     """The pages of the example, by their titles."""
-    return {urllib.parse.unquote(it.stem): it.read_bytes() for it in sorted(FOLDER.glob("*.wiki"))}
+    files = sorted(FOLDER.glob("*.wiki"))
+    return {urllib.parse.unquote(it.stem).replace("_", " "): it.read_bytes() for it in files}
 
 
 def case(words: List[str], data: bytes = b"", devices: str = "") -> str:

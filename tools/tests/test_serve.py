@@ -365,7 +365,8 @@ class Editor(ServingCase):
         (self.pages / "other.txt").touch()
         _, headers, body = self.ask("GET", "/titles")
         self.assertEqual(
-            json.loads(body), {"titles": ["A/B", "Opava", "Template:Infobox town", "Template:Lang"]}
+            json.loads(body),
+            {"titles": ["A/B", "Opava", "Template:Infobox row", "Template:Infobox town", "Template:Lang"]},
         )
         self.assertEqual(headers["content-type"], "application/json; charset=utf-8")
 
@@ -420,7 +421,7 @@ class Command(unittest.TestCase):
                 if not address:
                     self.skipTest("this machine has no address of IPv6")
                 with urlopen(address + "titles", timeout=120) as answer:
-                    self.assertEqual(len(json.load(answer)["titles"]), 3)
+                    self.assertEqual(len(json.load(answer)["titles"]), 4)
             finally:
                 process.terminate()
 

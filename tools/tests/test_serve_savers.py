@@ -112,54 +112,83 @@ class SaversAtOnce(ServingCase):
             changer.join()
 
 
+# Runs the server, which kills itself directly before or after a page takes its new name.
+SUICIDE = """
+import os, runpy, signal, sys
+when, tool, sys.argv[:] = sys.argv[1], sys.argv[2], sys.argv[2:]
+sys.path.insert(0, os.path.dirname(tool))
+sys.dont_write_bytecode = True
+from serving.pages import PageFolder
+replace = PageFolder.replace
+def killed(*words):
+    if when == "after":
+        replace(*words)
+    os.kill(os.getpid(), signal.SIGKILL)
+PageFolder.replace = killed
+runpy.run_path(tool, run_name="__main__")
+"""
+
+
 class Kills(ServingCase):
-    def start_process(self) -> "tuple[subprocess.Popen, int]":
-        command = [
-            sys.executable,
-            str(TOOLS / "serve"),
-            str(self.pages),
-            "--port",
-            "0",
-            "--program",
-            str(PROGRAM),
-            "--quiet",
-        ]
-        process = subprocess.Popen(command, stdout=subprocess.PIPE, start_new_session=True)
+    def start_process(self, *before: str) -> "tuple[subprocess.Popen, int]":
+        """`before`: words for Python before the server's own."""
+        words = [str(TOOLS / "serve"), str(self.pages), "--port", "0", "--program", str(PROGRAM), "--quiet"]
+        process = subprocess.Popen(
+            [sys.executable, *before, *words], stdout=subprocess.PIPE, start_new_session=True
+        )
         self.addCleanup(process.stdout.close)
         self.addCleanup(process.wait)
         self.addCleanup(process.kill)
         found = re.fullmatch(r"http://127\.0\.0\.1:([0-9]+)/\n", process.stdout.readline().decode())
         return process, int(found[1])
 
+    def prepared(self, word: str, port: int) -> tuple:
+        """An edit of the page, its tag, and what a preview tells of it."""
+        html, tag = self.html("Opava", port=port)
+        document = with_word(html, word)
+        status, told = self.save("Opava", document, tag, "?preview=1", port=port)
+        self.assertEqual(status, 200)
+        return document, tag, told
+
+    def assert_nothing_unfinished(self) -> None:
+        self.assertEqual([p.name for p in self.pages.iterdir() if not p.name.endswith(".wiki")], [])
+
+    def is_stored(self, told: dict) -> bool:
+        """Whether an edit whose answer was lost was stored, as a client finds it out: the page's tag begins
+        with the revision that the preview told."""
+        process, port = self.start_process()
+        tag = self.html("Opava", port=port)[1]
+        self.assert_nothing_unfinished()
+        process.kill()
+        return tag.startswith(f'W/"{told["revision"]}/')
+
     def test_a_kill_during_a_save(self) -> None:
-        """What stands there is the old page or the new one, whole; the new one wherever 200 was answered."""
+        """What stands there is the old page or the new one, whole; the new one wherever 200 was answered, and
+        where nothing was answered the revision tells."""
         filler = "\n".join(f"Line {k} of a longer page, so that a save takes a while." for k in range(3000))
         (self.pages / "Opava.wiki").write_text(self.page() + "\n" + filler)
         random.seed(1)
-        began = time.monotonic()
         process, port = self.start_process()
-        html, tag = self.html("Opava", port=port)
-        self.assertEqual(self.save("Opava", with_word(html, "w"), tag, "?preview=1", port=port)[0], 200)
+        document, tag, told = self.prepared("w", port)
+        began = time.monotonic()
+        self.assertEqual(self.store(document, told, tag, port, False), 200)
         longest = 1.3 * (time.monotonic() - began)
         process.kill()
         answered = unanswered = 0
         for k in range(KILLS):
             process, port = self.start_process()
-            self.assertEqual([p.name for p in self.pages.iterdir() if not p.name.endswith(".wiki")], [])
-            html, tag = self.html("Opava", port=port)
             before, word = self.page(), f"u{k}"
             after = before.replace("live there today.", f"live there today. {word}", 1)
+            document, tag, told = self.prepared(word, port)
             timer = threading.Timer(random.uniform(0, longest), process.kill)
             timer.start()
-            try:
-                status = self.save("Opava", with_word(html, word), tag, port=port)[0]
-            except (OSError, http.client.HTTPException, json.JSONDecodeError):
-                status = None
+            status = self.store(document, told, tag, port, k % 2 == 1)
             timer.join()
             process.wait()
             found = self.page()
             self.assertIn(found, (before, after))
             self.assertIn(status, (None, 200))
+            self.assertEqual(self.is_stored(told), found == after)
             if status == 200:
                 answered += 1
                 self.assertEqual(found, after)
@@ -169,8 +198,32 @@ class Kills(ServingCase):
             f"kills: {answered} of {KILLS} saves answered, {unanswered} stored and the answer cut off",
             file=sys.stderr,
         )
-        process, port = self.start_process()
-        self.assertEqual([p.name for p in self.pages.iterdir() if not p.name.endswith(".wiki")], [])
+
+    def store(self, document: str, told: dict, tag: str, port: int, by_word: bool) -> "int | None":
+        """The status of the answer, none where none came."""
+        body = {"prepared": told["prepared"]} if by_word else {"html": document}
+        headers = {"Content_Type": "application/json", "If_Match": tag}
+        try:
+            status, _, answer = self.ask("POST", "/save/Opava", json.dumps(body).encode(), port, **headers)
+            json.loads(answer)
+        except (OSError, http.client.HTTPException, json.JSONDecodeError):
+            return None
+        return status
+
+    def test_a_kill_beside_the_storing(self) -> None:
+        """Directly before a page takes its new name and directly after it nothing of an answer was sent."""
+        for when in ("before", "after"):
+            with self.subTest(when=when):
+                process, port = self.start_process("-c", SUICIDE, when)
+                before = self.page()
+                _, tag, told = self.prepared(when, port)
+                body = json.dumps({"prepared": told["prepared"]})
+                head = f"POST /save/Opava HTTP/1.1\r\nHost: localhost\r\nIf-Match: {tag}\r\n"
+                about = f"Content-Type: application/json\r\nContent-Length: {len(body)}\r\n\r\n"
+                self.assertEqual(self.raw((head + about + body).encode(), port=port), b"")
+                self.assertEqual(process.wait(SECONDS), -signal.SIGKILL)
+                self.assertEqual(self.page() != before, when == "after")
+                self.assertEqual(self.is_stored(told), when == "after")
 
     def test_an_end_by_signal(self) -> None:
         for number in (signal.SIGINT, signal.SIGTERM):

@@ -10,6 +10,7 @@ use Rattle.wt_tree.specs.declared.node.Part.TheVariants as datum
 use Rattle.wt_tree.specs.Tree.{label}
 use Rattle.wt_span.specs.declared.form.Form.TheVariants as form
 use Rattle.wt_span.specs.Items.{Item, char, whole}
+use Rattle.wt_span.specs.Functions.{begins_with, function_of}
 use Rattle.wt_span.specs.Origins.{OuterCall}
 use Rattle.wt_inline.specs.ItemTree.{plain, ItemTree, inner, leaf, forest, tree_items}
 use Rattle.wt_annotated.specs.Labels.{label_at}
@@ -74,13 +75,25 @@ abbrev argument_call : List ℕ → OuterCall
 argument_call bs = record (call bs) { argument = true }
 
 argument_first : group_word (group_data (argument_call (codes "{{{x}}}") ∷ call (codes "{{y}}") ∷ []) (called 0 ∷ called 1 ∷ [])) ≡ codes "mw:Param"
-unfolding group_data call_part argument_word
+unfolding group_data call_part function_of begins_with argument_word
 argument_first = refl
 
 call_first : group_word (group_data (call (codes "{{y}}") ∷ argument_call (codes "{{{x}}}") ∷ []) (called 0 ∷ between (codes " ") ∷ called 1 ∷ []))
     ≡ codes "mw:Transclusion"
-unfolding group_data call_part transclusion_word
+unfolding group_data call_part function_of begins_with transclusion_word
 call_first = refl
+
+-- a call of a parser function is a part of its own, and its word is that of a call of a page
+abbrev function_call : List OuterCall
+function_call = call (codes "{{#if:x|y}}") ∷ []
+
+function_first : group_word (group_data function_call (called 0 ∷ [])) ≡ codes "mw:Transclusion"
+unfolding group_data call_part function_of begins_with transclusion_word
+function_first = refl
+
+function_data : group_data function_call (called 0 ∷ []) ≡ Some (mw.Parts (datum.Function (codes "if") [] [] 0 ∷ []))
+unfolding group_data call_part function_of begins_with
+function_data = refl
 
 -- a call alone, of a page that is absent
 alone : lines_of (call (codes "{{m}}") ∷ []) (body (para (text (given 0 (codes "[[:Template:M]]")) ∷ []) ∷ []))
@@ -108,7 +121,7 @@ table_parts = refl
 -- the two calls are numbered, and what stands between them is a text
 table_data : group_data table_calls (parts table_calls (tree_items table_page) 0 9)
     ≡ Some (mw.Parts (datum.Template [] [] [] 0 ∷ datum.Literal (codes "\n| a\n") ∷ datum.Template [] [] [] 1 ∷ []))
-unfolding group_data call_part
+unfolding group_data call_part function_of begins_with
 table_data = refl
 
 -- texts of a cell are joined, and their line breaks at the end are a separator; beside a group they stand by themselves

@@ -16,6 +16,7 @@ argument_word = codes "mw:Param"
 -- by a part that stands first
 abbrev pub part_word : Part → List ℕ
 part_word (part.Template target href params i) = transclusion_word
+part_word (part.Function name target params i) = transclusion_word
 part_word (part.Param wt) = argument_word
 part_word (part.Literal bs) = transclusion_word
 

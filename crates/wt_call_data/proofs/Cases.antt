@@ -2,6 +2,7 @@
 use Rattle.std.proofs.Common.{◌≡◌, [], ◌∷◌, Some, None, refl}
 use Rattle.std.specs.Prelude.{codes, decimal, true, false}
 use Rattle.wt_tree.specs.declared.node.Part.TheVariants as part
+use Rattle.wt_span.specs.Functions.{begins_with, function_of}
 use Rattle.wt_span.specs.Origins.{OuterCall}
 use Rattle.wt_call_data.specs.CallData.{trimmed, param_by, call_part, next_call}
 
@@ -17,7 +18,7 @@ named = record {
 }
 
 named_part : call_part named 3 ≡ part.Template (codes "x") (codes "./Template:X") ((codes "a", codes "d") ∷ (codes "b", codes "e") ∷ []) 3
-unfolding call_part param_by trimmed
+unfolding call_part param_by trimmed function_of begins_with
 named_part = refl
 
 -- a target stands as it is written, and a value without a name, too
@@ -32,8 +33,23 @@ spaced = record {
 }
 
 spaced_part : call_part spaced 0 ≡ part.Template (codes " x\n") (codes "./Template:X") ((decimal 1, codes " b ") ∷ []) 0
-unfolding call_part param_by trimmed
+unfolding call_part param_by trimmed function_of begins_with
 spaced_part = refl
+
+-- a function, whose target is all in front of its first `|`
+abbrev function_call : OuterCall
+function_call = record {
+  start = 0;
+  source = codes "{{#If:x| a }}";
+  argument = false;
+  parts = (2, 7) ∷ (8, 11) ∷ [];
+  equals = None ∷ None ∷ [];
+  href = None;
+}
+
+function_part : call_part function_call 2 ≡ part.Function (codes "if") (codes "#If:x") ((decimal 1, codes " a ") ∷ []) 2
+unfolding call_part param_by function_of begins_with
+function_part = refl
 
 -- an argument by its whole source, and it isn't counted
 abbrev argument : OuterCall

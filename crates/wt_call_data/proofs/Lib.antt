@@ -2,4 +2,5 @@ pub mod CallTexts
 mod Cases
 pub mod Params
 pub mod ReadParams
+pub mod ShortCalls
 pub mod SoundParts

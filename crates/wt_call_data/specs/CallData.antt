@@ -1,5 +1,6 @@
 -- What the element of a group carries of an outermost call: a transclusion with its target as it is written, the link to its
--- title and its parameters, numbered among the calls of its group; or an argument by its whole source.
+-- title and its parameters, numbered among the calls of its group; a call of a parser function likewise, with the name of the
+-- function in place of the link; or an argument by its whole source.
 use Rattle.std.specs.Prelude.{ℕ, ◌+◌, ◌-◌, ◌==◌, ◌||◌, Bool, true, false, Option, Some, None, List, [], ◌∷◌, length, take, drop, reverse, decimal, fold, slice_range, if◌then◌else◌}
 use Rattle.std.specs.List.{prefix_len}
 use Rattle.std.specs.Map.{lookup}
@@ -10,6 +11,8 @@ use Rattle.std.specs.BTreeMap.{insert_entry}
 use Rattle.wt_tree.specs.declared.node.Part.{Part}
 use Rattle.wt_tree.specs.declared.node.Part.TheVariants as part
 use Rattle.wt_span.specs.Origins.{Span, OuterCall}
+use Rattle.wt_span.specs.declared.function.Function.{Function}
+use Rattle.wt_span.specs.Functions.{name_of, function_of}
 
 -- ---- texts of a call
 
@@ -68,8 +71,17 @@ abbrev pub target_by : OuterCall → List Span → List ℕ
 target_by c [] = []
 target_by c ((from, to) ∷ ps) = source_slice c from to
 
+-- the function that a call names behind its two braces
+abbrev pub function_named : OuterCall → Option (Function × ℕ)
+function_named c = function_of (drop 2 c.source)
+
+-- a call of two braces: a parser function, or a page with its link
+abbrev pub braces_part : OuterCall → ℕ → Option (Function × ℕ) → Part
+braces_part c i None = part.Template (target_by c c.parts) (text_or_none c.href) (params_of c) i
+braces_part c i (Some (f, n)) = part.Function (name_of f) (target_by c c.parts) (params_of c) i
+
 unfoldable pub call_part : OuterCall → ℕ → Part
-call_part c i = if c.argument then part.Param c.source else part.Template (target_by c c.parts) (text_or_none c.href) (params_of c) i
+call_part c i = if c.argument then part.Param c.source else braces_part c i (function_named c)
 
 abbrev pub next_call : OuterCall → ℕ → ℕ
 next_call c i = if c.argument then i else i + 1

@@ -16,8 +16,9 @@ use Rattle.wt_tree.specs.Tree.{Label, Tree, tree, none, trees}
 use Rattle.wt_tiles.specs.Urls.{scheme_len, is_url_char}
 use Rattle.wt_kept.specs.Kinds.{shape}
 use Rattle.wt_kept.specs.Kept.{kept_with}
-use Rattle.wt_content.specs.declared.reason.ContentWhy.TheVariants.{Element, Href, LineBreak, Nested}
+use Rattle.wt_content.specs.declared.reason.ContentWhy.TheVariants.{Element, Href, LineBreak, Nested, EmptyList}
 use Rattle.wt_content.specs.Content.{bad_content, is_url}
+use Rattle.wt_content.specs.Children.{bad_children}
 use Rattle.wt_content.specs.Typed.{AreTyped}
 
 abbrev labelled : Kind → ℕ → List ℕ → Label
@@ -220,3 +221,94 @@ typed_before_link_stands : bad_content same (para (kept_link ∷ []))
     (para (text (codes "a\nb") ∷ node kind.Bold 0 (text (codes "c") ∷ []) ∷ kept_link ∷ [])) ≡ None
 unfolding bad_content shape kept_with
 typed_before_link_stands = refl
+
+-- ---- children that come and go: what an editor sends of a body or list
+
+abbrev body : List Tree → Tree
+body ts = node kind.Body 0 ts
+
+abbrev list : List Tree → Tree
+list ts = node kind.Ul 1 ts
+
+abbrev new_para : List Tree → Tree
+new_para ts = node kind.Para 0 ts
+
+abbrev new_heading : List Tree → Tree
+new_heading ts = node (kind.Heading 2) 0 ts
+
+-- a new item, and one of the page
+abbrev new_item : List Tree → Tree
+new_item ts = node kind.Li 0 ts
+
+abbrev kept_item : Tree
+kept_item = node kind.Li 2 []
+
+new_blocks : bad_children same (body (para [] ∷ new_heading (text (codes "t") ∷ []) ∷ node kind.Rule 0 [] ∷ new_para (text (codes "a\nb") ∷ []) ∷ [])) ≡ None
+unfolding bad_children shape kept_with
+new_blocks = refl
+
+empty_body : bad_children same (body []) ≡ None
+unfolding bad_children shape
+empty_body = refl
+
+item_in_body : bad_children same (body (new_item [] ∷ [])) ≡ Some Element
+unfolding bad_children shape
+item_in_body = refl
+
+-- a term is no item that may be new
+new_term : bad_children same (list (kept_item ∷ node kind.Dt 0 [] ∷ [])) ≡ Some Element
+unfolding bad_children shape
+new_term = refl
+
+filled_rule : bad_children same (body (node kind.Rule 0 (text (codes "x") ∷ []) ∷ [])) ≡ Some Element
+unfolding bad_children shape
+filled_rule = refl
+
+-- a new block holds no node of the page: its number counts as none, so the tag is a new one
+tag_in_new_block : bad_children same (body (new_para (node (kind.Tag tag.Sub) 2 [] ∷ []) ∷ [])) ≡ Some Element
+unfolding bad_children shape kept_with
+tag_in_new_block = refl
+
+bad_link_in_new_block : bad_children same (body (new_para (linked kind.ExtLink (codes "./Oder") [] ∷ []) ∷ [])) ≡ Some Href
+unfolding bad_children shape kept_with scheme_len is_url_char
+bad_link_in_new_block = refl
+
+break_in_new_heading : bad_children same (body (new_heading (text (10 ∷ []) ∷ []) ∷ [])) ≡ Some LineBreak
+unfolding bad_children shape kept_with
+break_in_new_heading = refl
+
+break_in_new_item : bad_children same (list (kept_item ∷ new_item (text (10 ∷ []) ∷ []) ∷ [])) ≡ Some LineBreak
+unfolding bad_children shape kept_with
+break_in_new_item = refl
+
+link_in_link_in_new_item : bad_children same (list (kept_item
+    ∷ new_item (linked kind.ExtLink (codes "http://a") (linked kind.ExtLink (codes "http://b") [] ∷ []) ∷ []) ∷ [])) ≡ Some Nested
+unfolding bad_children shape kept_with scheme_len is_url_char
+link_in_link_in_new_item = refl
+
+one_item_left : bad_children same (list (new_item (text (codes "w") ∷ []) ∷ kept_item ∷ [])) ≡ None
+unfolding bad_children shape kept_with
+one_item_left = refl
+
+-- neither a comment of the page nor a new item keeps a list
+no_item_left : bad_children same (list (node kind.Comment 2 [] ∷ new_item (text (codes "w") ∷ []) ∷ [])) ≡ Some EmptyList
+unfolding bad_children shape kept_with
+no_item_left = refl
+
+empty_list : bad_children same (list []) ≡ Some EmptyList
+unfolding bad_children shape
+empty_list = refl
+
+-- what isn't looked into: a child of the page, and white space
+kept_block_as_it_is : bad_children changed (body (para (node (kind.Tag tag.Sub) 0 [] ∷ []) ∷ node kind.Sep 0 [] ∷ [])) ≡ None
+unfolding bad_children shape
+kept_block_as_it_is = refl
+
+elements_before_empty_list : bad_children same (list (new_heading [] ∷ [])) ≡ Some Element
+unfolding bad_children shape
+elements_before_empty_list = refl
+
+links_before_empty_list : bad_children same (list (new_item (linked kind.ExtLink (codes "http://a") (linked kind.ExtLink (codes "http://b") [] ∷ []) ∷ []) ∷ []))
+    ≡ Some Nested
+unfolding bad_children shape kept_with scheme_len is_url_char
+links_before_empty_list = refl

@@ -17,9 +17,9 @@ use Rattle.wt_tree.specs.declared.node.DataMw.{DataMw}
 use Rattle.wt_tree.specs.declared.node.DataMw.TheVariants as mw
 use Rattle.wt_tree.specs.declared.node.Part.{Part}
 use Rattle.wt_tree.specs.declared.node.Part.TheVariants as part
-use Rattle.wt_datamw.specs.Mw.{wt_data, params_from, params_data, template_data, part_data, parts_items, mw_data}
+use Rattle.wt_datamw.specs.Mw.{wt_data, params_from, params_data, template_data, function_data, part_data, parts_items, mw_data}
 use Rattle.wt_datamw.specs.SyncRead.{small}
-use Rattle.wt_datamw.specs.MwRead.{all_items, all_values, is_source, is_part, is_mw_shape, part_is_small, has_small_numbers, params_of, template_of, part_of, parts_of, mw_of_data, HasOrderedParams, HasOrderedNames}
+use Rattle.wt_datamw.specs.MwRead.{all_items, all_values, is_source, is_part, is_mw_shape, part_is_small, has_small_numbers, params_of, template_of, function_of, part_of, parts_of, mw_of_data, HasOrderedParams, HasOrderedNames}
 use Rattle.wt_datamw.specs.MwValues.{IsPart, IsMw}
 
 abbrev pub Param : Type 0
@@ -100,24 +100,31 @@ pub template_small : (target href : List ℕ) (ps : List Param) (i : ℕ) → i 
 unfolding template_data
 template_small target href ps i h = rw ((Decides-ltb i (2 ^ 32)).1 h) refl
 
-part_passes : (p : Part) → is_part (part_data p) ≡ true
-unfolding template_data params_data
-part_passes (part.Template target href ps i) = rw (params_pass ps no_members refl) refl
-part_passes (part.Param source) = refl
-part_passes (part.Literal text) = refl
+pub function_small : (name target : List ℕ) (ps : List Param) (i : ℕ) → i < 2 ^ 32 → part_is_small (function_data name target ps i) ≡ true
+unfolding function_data
+function_small name target ps i h = rw ((Decides-ltb i (2 ^ 32)).1 h) refl
 
-parts_pass : (ps : List Part) → all_items is_part (parts_items ps) ≡ true
-parts_pass [] = refl
-parts_pass (p ∷ ps) = and_true (is_part (part_data p)) (all_items is_part (parts_items ps)) (part_passes p) (parts_pass ps)
+part_passes : (p : Part) → HasOrderedParams p → is_part (part_data p) ≡ true
+unfolding template_data function_data params_data
+part_passes (part.Template target href ps i) h = rw (params_pass ps no_members refl) refl
+part_passes (part.Function name target ps i) h = rw (params_pass ps no_members refl, h.0) refl
+part_passes (part.Param source) h = refl
+part_passes (part.Literal text) h = refl
+
+parts_pass : (ps : List Part) → AllByRecursion HasOrderedParams ps → all_items is_part (parts_items ps) ≡ true
+parts_pass [] h = refl
+parts_pass (p ∷ ps) h = and_true (is_part (part_data p)) (all_items is_part (parts_items ps)) (part_passes p h.0) (parts_pass ps h.1)
 
 small_back : (i : ℕ) (b : Bool) → is_some (if b then Some i else None) ≡ true → unwrap_or (if b then Some i else None) 0 ≡ i
 small_back i true h = refl
 small_back i false h = absurd (true≢false (sym h))
 
 part_back : (p : Part) → part_is_small (part_data p) ≡ true → HasOrderedParams p → part_of (part_data p) ≡ p
-unfolding template_data params_data template_of
+unfolding template_data function_data params_data template_of function_of
 part_back (part.Template target href ps i) small ordered =
     rw (params_back ps ordered, small_back i (nat_lt i (2 ^ 32)) small) refl
+part_back (part.Function name target ps i) small ordered =
+    rw (params_back ps ordered.1, small_back i (nat_lt i (2 ^ 32)) small) refl
 part_back (part.Param source) small ordered = refl
 part_back (part.Literal text) small ordered = refl
 
@@ -137,6 +144,7 @@ parts_small (p ∷ ps) h =
 
 part_small : (p : Part) → IsPart p → part_is_small (part_data p) ≡ true
 part_small (part.Template target href ps i) h = template_small target href ps i h.3
+part_small (part.Function name target ps i) h = function_small name target ps i h.3
 part_small (part.Param source) h = refl
 part_small (part.Literal text) h = refl
 
@@ -152,6 +160,6 @@ mw_small (mw.Extension name (Some body)) h = refl
 
 pub reads_ordered : (d : DataMw) → has_small_numbers (mw_data d) ≡ true → HasOrderedNames d → mw_of_data (mw_data d) ≡ Ok d
 unfolding mw_of_data is_mw_shape has_small_numbers
-reads_ordered (mw.Parts ps) small ordered = rw (parts_pass ps, small, parts_back ps small ordered) refl
+reads_ordered (mw.Parts ps) small ordered = rw (parts_pass ps ordered, small, parts_back ps small ordered) refl
 reads_ordered (mw.Extension name None) small ordered = refl
 reads_ordered (mw.Extension name (Some body)) small ordered = refl

@@ -5,7 +5,7 @@ use Rattle.wt_tree.specs.declared.node.DataMw.TheVariants as mw
 use Rattle.wt_tree.specs.declared.node.Part.TheVariants as part
 use Rattle.wt_datamw.specs.declared.refusal.DataWhy.TheVariants as why
 use Rattle.wt_datamw.specs.Mw.{wt_data}
-use Rattle.wt_datamw.specs.MwRead.{is_mw_shape, has_small_numbers, template_of, mw_of_data}
+use Rattle.wt_datamw.specs.MwRead.{is_mw_shape, has_small_numbers, template_of, function_of, mw_of_data}
 
 abbrev group : Items → Data
 group ds = object (member (codes "parts") (array ds) no_members)
@@ -18,6 +18,25 @@ transclusion i params =
     (member (codes "href") (string (codes "./Template:X")) no_members)))
     (member (codes "params") (object params) (member (codes "i") (number i) no_members))))
     no_members)
+
+-- a call of a parser function of this name
+abbrev named : Data → Data
+named name =
+    object (member (codes "template")
+    (object (member (codes "i") (number (unsigned 0))
+    (member (codes "params") (object (member (codes "1") (wt_data (codes " a ")) no_members))
+    (member (codes "target") (object (member (codes "function") name (member (codes "wt") (string (codes "#if: x ")) no_members))) no_members))))
+    no_members)
+
+function_part : mw_of_data (group (item (named (string (codes "if"))) no_items))
+    ≡ Ok (mw.Parts (part.Function (codes "if") (codes "#if: x ") ((codes "1", codes " a ") ∷ []) 0 ∷ []))
+unfolding mw_of_data is_mw_shape has_small_numbers template_of function_of
+function_part = refl
+
+-- only functions by text have such data
+another_name : mw_of_data (group (item (named (string (codes "invoke"))) no_items)) ≡ Err why.Shape
+unfolding mw_of_data is_mw_shape has_small_numbers
+another_name = refl
 
 three_parts : mw_of_data (group (item (transclusion (unsigned 3) (member (codes "1") (wt_data (codes " c ")) no_members))
     (item (string (codes "b")) (item (object (member (codes "param") (wt_data (codes "{{{1}}}")) no_members)) no_items))))

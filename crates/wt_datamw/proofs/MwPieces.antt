@@ -11,8 +11,8 @@ use Rattle.wt_tree.specs.declared.node.DataMw.{DataMw}
 use Rattle.wt_tree.specs.declared.node.DataMw.TheVariants as mw
 use Rattle.wt_tree.specs.declared.node.Part.{Part}
 use Rattle.wt_tree.specs.declared.node.Part.TheVariants as part
-use Rattle.wt_datamw.specs.Mw.{params_data, template_data, part_data, parts_items, mw_text}
-use Rattle.wt_datamw.specs.MwPieces.{value_start, param_text, later_param, params_listed, ordered_params, number_start, params_start, href_start, target_start, target_text, template_text, argument_start, part_text, later_part, parts_listed, parts_start, body_start, name_start, mw_pieces}
+use Rattle.wt_datamw.specs.Mw.{params_data, template_data, function_data, part_data, parts_items, mw_text}
+use Rattle.wt_datamw.specs.MwPieces.{value_start, param_text, later_param, params_listed, ordered_params, number_start, params_start, href_start, target_start, target_text, template_text, function_start, function_target_text, function_text, argument_start, part_text, later_part, parts_listed, parts_start, body_start, name_start, mw_pieces}
 use Rattle.wt_datamw.proofs.MwBack.{Param, names, sources, all_last}
 
 -- ---- parameters in order
@@ -53,10 +53,14 @@ argument_shape : (a b t : List ℕ) → 123 ∷ (a ++ 58 ∷ ((123 ∷ (b ++ 58 
 argument_shape a b t = simp append_assoc
 
 part_is : (p : Part) → compact_text (part_data p) ≡ part_text p
-unfolding template_data template_text target_text number_start params_start href_start target_start argument_start
+unfolding template_data template_text target_text function_data function_text function_target_text number_start params_start href_start
+    function_start target_start argument_start
 part_is (part.Template target href ps i) =
     template_shape (quoted (codes "template")) (quoted (codes "i")) (quoted (codes "params")) (quoted (codes "target")) (quoted (codes "href"))
     (quoted (codes "wt")) (decimal i) (compact_text (params_data ps)) (quoted href) (quoted target)
+part_is (part.Function name target ps i) =
+    template_shape (quoted (codes "template")) (quoted (codes "i")) (quoted (codes "params")) (quoted (codes "target")) (quoted (codes "function"))
+    (quoted (codes "wt")) (decimal i) (compact_text (params_data ps)) (quoted name) (quoted target)
 part_is (part.Param source) = argument_shape (quoted (codes "param")) (quoted (codes "wt")) (quoted source)
 part_is (part.Literal text) = refl
 

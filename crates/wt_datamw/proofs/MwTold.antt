@@ -19,7 +19,7 @@ use Rattle.wt_tree.specs.declared.node.DataMw.{DataMw}
 use Rattle.wt_tree.specs.declared.node.DataMw.TheVariants as mw
 use Rattle.wt_tree.specs.declared.node.Part.{Part}
 use Rattle.wt_tree.specs.declared.node.Part.TheVariants as part
-use Rattle.wt_datamw.specs.Mw.{wt_data, params_from, params_data, template_data, part_data, parts_items, mw_data, mw_text}
+use Rattle.wt_datamw.specs.Mw.{wt_data, params_from, params_data, template_data, function_data, part_data, parts_items, mw_data, mw_text}
 use Rattle.wt_datamw.specs.MwRead.{mw_of_json, mw_told, HasOrderedNames}
 use Rattle.wt_datamw.specs.MwValues.{IsPart, IsMw}
 use Rattle.wt_datamw.proofs.MwBack.{Param, names, sources, all_last, mw_small, reads_ordered}
@@ -116,8 +116,9 @@ params_read ps =
 -- ---- parts are read
 
 part_read : (p : Part) → IsPart p → of_json (outline (part_data p)) ≡ Some (part_data p)
-unfolding template_data
+unfolding template_data function_data
 part_read (part.Template target href ps i) h = rw (number_of-decimal i (omega (arith, h.3)), params_read ps) refl
+part_read (part.Function name target ps i) h = rw (number_of-decimal i (omega (arith, h.3)), params_read ps) refl
 part_read (part.Param source) h = refl
 part_read (part.Literal text) h = refl
 
@@ -142,8 +143,9 @@ unfolding params_data
 params_numbers ps = subst (λ ms. tree.MembersHaveNumbers (members_outline ms)) (sym (in_order ps)) (sources_numbers (all_placed [] ps))
 
 part_numbers : (p : Part) → IsPart p → tree.HasNumbers (outline (part_data p))
-unfolding template_data
+unfolding template_data function_data
 part_numbers (part.Template target href ps i) h = ((IsNumber-decimal i (omega (arith, h.3)), (params_numbers ps, ((tt, (tt, tt)), tt))), tt)
+part_numbers (part.Function name target ps i) h = ((IsNumber-decimal i (omega (arith, h.3)), (params_numbers ps, ((tt, (tt, tt)), tt))), tt)
 part_numbers (part.Param source) h = ((tt, tt), tt)
 part_numbers (part.Literal text) h = tt
 
@@ -169,8 +171,9 @@ params_depth ps =
     omega (arith, below)
 
 part_depth : (p : Part) → tree.depth (outline (part_data p)) ≤ 5
-unfolding template_data
+unfolding template_data function_data
 part_depth (part.Template target href ps i) = omega (arith, params_depth ps)
+part_depth (part.Function name target ps i) = omega (arith, params_depth ps)
 part_depth (part.Param source) = omega arith
 part_depth (part.Literal text) = omega arith
 

@@ -18,7 +18,7 @@ use Rattle.wt_tree.specs.declared.node.DataMw.{DataMw}
 use Rattle.wt_tree.specs.declared.node.DataMw.TheVariants as mw
 use Rattle.wt_tree.specs.declared.node.Part.{Part}
 use Rattle.wt_tree.specs.declared.node.Part.TheVariants as part
-use Rattle.wt_datamw.specs.Mw.{wt_data, params_from, params_data, template_data, part_data, parts_items, mw_data, mw_text}
+use Rattle.wt_datamw.specs.Mw.{wt_data, params_from, params_data, template_data, function_data, part_data, parts_items, mw_data, mw_text}
 use Rattle.wt_datamw.specs.MwValues.{IsParam, IsPart, IsMw}
 
 -- the strings of a value are UTF-8, and so are its numbers
@@ -93,7 +93,7 @@ decimal_utf8 : (n : ℕ) → n < 2 ^ 32 → IsUtf8 (decimal n)
 decimal_utf8 n h = IsUtf8-from_ascii (decimal n) (IsAscii-decimal n (omega (arith, h)))
 
 part_utf8 : (p : Part) → IsPart p → HasUtf8 (part_data p)
-unfolding template_data params_data
+unfolding template_data function_data params_data
 part_utf8 (part.Template target href ps i) h = (
   IsUtf8-are_ascii (codes "template") refl,
   (
@@ -103,6 +103,19 @@ part_utf8 (part.Template target href ps i) h = (
       IsUtf8-are_ascii (codes "params") refl,
       params_utf8 ps no_members (recursion_from_All IsParam ps h.2) tt,
       (IsUtf8-are_ascii (codes "target") refl, (IsUtf8-are_ascii (codes "href") refl, h.1, wt_utf8 target h.0), tt),
+    ),
+  ),
+  tt,
+)
+part_utf8 (part.Function name target ps i) h = (
+  IsUtf8-are_ascii (codes "template") refl,
+  (
+    IsUtf8-are_ascii (codes "i") refl,
+    decimal_utf8 i h.3,
+    (
+      IsUtf8-are_ascii (codes "params") refl,
+      params_utf8 ps no_members (recursion_from_All IsParam ps h.2) tt,
+      (IsUtf8-are_ascii (codes "target") refl, (IsUtf8-are_ascii (codes "function") refl, h.0, wt_utf8 target h.1), tt),
     ),
   ),
   tt,

@@ -11,7 +11,7 @@ use Rattle.wt_tree.specs.declared.node.DataMw.{DataMw}
 use Rattle.wt_tree.specs.declared.node.DataMw.TheVariants as mw
 use Rattle.wt_tree.specs.declared.node.Part.{Part}
 use Rattle.wt_tree.specs.declared.node.Part.TheVariants as part
-use Rattle.wt_datamw.specs.Mw.{wt_data, params_from, params_data, template_data, part_data, parts_items, mw_data}
+use Rattle.wt_datamw.specs.Mw.{wt_data, params_from, params_data, template_data, function_data, part_data, parts_items, mw_data}
 
 or_free : (a b : Bool) → a ≡ false → b ≡ false → (a || b) ≡ false
 or_free a b e f = ap (λ x. x || b) e ∙ f
@@ -67,8 +67,9 @@ params_depth [] ms h = h
 params_depth (p ∷ ps) ms h = params_depth ps (put p.0 (wt_data p.1) ms) (put_depth 1 p.0 (wt_data p.1) ms (omega arith) h)
 
 part_depth : (p : Part) → depth (part_data p) ≤ 5
-unfolding template_data params_data
+unfolding template_data function_data params_data
 part_depth (part.Template target href ps i) = omega (arith, params_depth ps no_members (omega arith))
+part_depth (part.Function name target ps i) = omega (arith, params_depth ps no_members (omega arith))
 part_depth (part.Param source) = omega arith
 part_depth (part.Literal text) = omega arith
 

@@ -31,9 +31,21 @@ template_data target href ps i =
     (member (codes "params") (params_data ps) (member (codes "target") (target_data href target) no_members))))
     no_members)
 
--- a part of a group: a transclusion, an argument by its source, or the slice between two of these
+abbrev pub function_target : List ℕ → List ℕ → Data
+function_target name source = object (member (codes "function") (string name) (member (codes "wt") (string source) no_members))
+
+-- a parser function: the same with its name in place of a link
+unfoldable pub function_data : List ℕ → List ℕ → List (List ℕ × List ℕ) → ℕ → Data
+function_data name target ps i =
+    object (member (codes "template")
+    (object (member (codes "i") (number (unsigned i))
+    (member (codes "params") (params_data ps) (member (codes "target") (function_target name target) no_members))))
+    no_members)
+
+-- a part of a group: a transclusion, a parser function, an argument by its source, or the slice between two of these
 abbrev pub part_data : Part → Data
 part_data (part.Template target href ps i) = template_data target href ps i
+part_data (part.Function name target ps i) = function_data name target ps i
 part_data (part.Param source) = object (member (codes "param") (wt_data source) no_members)
 part_data (part.Literal text) = string text
 

@@ -52,6 +52,16 @@ target_start = codes "," ++ key_text (codes "wt")
 unfoldable pub target_text : List ℕ → List ℕ → List ℕ
 target_text href target = href_start ++ (quoted href ++ (target_start ++ (quoted target ++ codes "}}}")))
 
+unfoldable pub function_start : List ℕ
+function_start = codes "," ++ (key_text (codes "target") ++ (codes "{" ++ key_text (codes "function")))
+
+unfoldable pub function_target_text : List ℕ → List ℕ → List ℕ
+function_target_text name target = function_start ++ (quoted name ++ (target_start ++ (quoted target ++ codes "}}}")))
+
+unfoldable pub function_text : List ℕ → List ℕ → List (List ℕ × List ℕ) → ℕ → List ℕ
+function_text name target ps i =
+    number_start ++ (decimal i ++ (params_start ++ (compact_text (params_data ps) ++ function_target_text name target)))
+
 unfoldable pub template_text : List ℕ → List ℕ → List (List ℕ × List ℕ) → ℕ → List ℕ
 template_text target href ps i =
     number_start ++ (decimal i ++ (params_start ++ (compact_text (params_data ps) ++ target_text href target)))
@@ -62,6 +72,7 @@ argument_start = codes "{" ++ (key_text (codes "param") ++ (codes "{" ++ key_tex
 
 abbrev pub part_text : Part → List ℕ
 part_text (part.Template target href ps i) = template_text target href ps i
+part_text (part.Function name target ps i) = function_text name target ps i
 part_text (part.Param source) = argument_start ++ (quoted source ++ codes "}}")
 part_text (part.Literal text) = quoted text
 

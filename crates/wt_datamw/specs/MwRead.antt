@@ -1,5 +1,5 @@
 -- What a text of `data-mw` says, or why it is refused.
-use Rattle.std.specs.Prelude.{ℕ, ◌&&◌, ◌||◌, Bool, true, false, List, [], ◌∷◌, Option, Some, None, Result, Ok, Err, codes, map, is_some, unwrap_or, option_and_then, if◌then◌else◌}
+use Rattle.std.specs.Prelude.{◌≡◌, ℕ, ◌&&◌, ◌||◌, Bool, true, false, List, [], ◌∷◌, Option, Some, None, Result, Ok, Err, codes, map, is_some, unwrap_or, option_and_then, if◌then◌else◌}
 use Rattle.std.specs.List.{AllByRecursion}
 use Rattle.std.specs.List.Sorted.{IsStrictlySortedBy}
 use Rattle.std.specs.Ordering.{nat_cmp}
@@ -47,11 +47,27 @@ are_sources (Some ms) = all_values is_source ms
 abbrev pub are_params : Data → Bool
 are_params d = are_sources (as_object d)
 
--- a target: two texts, `href` and `wt`
-abbrev pub is_target : Data → Bool
-is_target d = has_only (is_among (codes "href" ∷ codes "wt" ∷ [])) (as_object d) && (has_text (codes "href") d && has_text (codes "wt") d)
+-- the target of a page: two texts, `href` and `wt`
+abbrev pub is_page_target : Data → Bool
+is_page_target d = has_only (is_among (codes "href" ∷ codes "wt" ∷ [])) (as_object d) && (has_text (codes "href") d && has_text (codes "wt") d)
 
--- a transclusion: a number `i`, its parameters `params` and its `target`
+-- the name of a parser function that decides by texts
+abbrev pub is_function_name : List ℕ → Bool
+is_function_name name = is_among (codes "if" ∷ codes "ifeq" ∷ codes "switch" ∷ []) name
+
+abbrev pub names_function : Option (List ℕ) → Bool
+names_function None = false
+names_function (Some name) = is_function_name name
+
+-- the target of a parser function: its name under `function`, and a text `wt`
+abbrev pub is_function_target : Data → Bool
+is_function_target d =
+    has_only (is_among (codes "function" ∷ codes "wt" ∷ [])) (as_object d) && (names_function (text_in (codes "function") d) && has_text (codes "wt") d)
+
+abbrev pub is_target : Data → Bool
+is_target d = is_page_target d || is_function_target d
+
+-- a call: a number `i`, its parameters `params` and its `target`
 abbrev pub is_template : Data → Bool
 is_template d =
     has_only (is_among (codes "i" ∷ codes "params" ∷ codes "target" ∷ [])) (as_object d)
@@ -139,10 +155,22 @@ template_of d =
     part.Template (text_or_empty (text_below (codes "target") (codes "wt") d)) (text_or_empty (text_below (codes "target") (codes "href") d))
     (params_if_any (params_in d)) (unwrap_or (number_in d) 0)
 
--- a text is a literal slice, an object with `template` a transclusion, one with `param` an argument
+unfoldable pub function_of : List ℕ → Data → Part
+function_of name d =
+    part.Function name (text_or_empty (text_below (codes "target") (codes "wt") d)) (params_if_any (params_in d)) (unwrap_or (number_in d) 0)
+
+-- a call whose target has `function` is a parser function, any other a transclusion
+abbrev pub call_by : Option (List ℕ) → Data → Part
+call_by None d = template_of d
+call_by (Some name) d = function_of name d
+
+abbrev pub call_of : Data → Part
+call_of d = call_by (text_below (codes "target") (codes "function") d) d
+
+-- a text is a literal slice, an object with `template` a call, one with `param` an argument
 abbrev pub part_from : Option (List ℕ) → Option Data → Data → Part
 part_from (Some text) template d = part.Literal text
-part_from None (Some t) d = template_of t
+part_from None (Some t) d = call_of t
 part_from None None d = part.Param (text_or_empty (text_below (codes "param") (codes "wt") d))
 
 abbrev pub part_of : Data → Part
@@ -174,9 +202,10 @@ mw_told text = mw_of_json (read text)
 
 -- ---- the values that a text gives back
 
--- the parameter names of a transclusion are distinct and in byte order
+-- the parameter names of a call are distinct and in byte order, and a parser function has a name of one
 abbrev pub HasOrderedParams : Part → Type 0
 HasOrderedParams (part.Template target href params i) = IsStrictlySortedBy (slice_cmp nat_cmp) (map (λ p. p.0) params)
+HasOrderedParams (part.Function name target params i) = (is_function_name name ≡ true) × IsStrictlySortedBy (slice_cmp nat_cmp) (map (λ p. p.0) params)
 HasOrderedParams (part.Param source) = Unit {0}
 HasOrderedParams (part.Literal text) = Unit {0}
 

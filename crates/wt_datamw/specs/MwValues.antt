@@ -12,6 +12,7 @@ IsParam p = IsUtf8 p.0 × IsUtf8 p.1
 
 abbrev pub IsPart : Part → Type 0
 IsPart (part.Template target href params i) = IsUtf8 target × IsUtf8 href × All IsParam params × (i < 2 ^ 32)
+IsPart (part.Function name target params i) = IsUtf8 name × IsUtf8 target × All IsParam params × (i < 2 ^ 32)
 IsPart (part.Param source) = IsUtf8 source
 IsPart (part.Literal text) = IsUtf8 text
 

@@ -41,6 +41,17 @@ fn check_part(part: &Part)
             check_params(params.as_slice());
             check_number(*i);
         }
+        Part::Function {
+            name,
+            target,
+            params,
+            i,
+        } => {
+            check_text(name);
+            check_text(target);
+            check_params(params.as_slice());
+            check_number(*i);
+        }
         Part::Param { wt } => check_text(wt),
         Part::Literal(text) => check_text(text),
     }

@@ -3,7 +3,7 @@ ghost use Rattle.serde_json.specs.Find.{as_object, as_array, as_str, get};
 ghost use Rattle.serde_json.specs.Read.{read};
 ghost use Rattle.serde_json.specs.View.{view, items_view, members_view};
 ghost use Rattle.wt_datamw.specs.SyncRead.{ReadsAs, small_number, text_in};
-ghost use Rattle.wt_datamw.specs.MwRead.{holds_if_any, all_items, number_in, has_small_number, part_is_small, parts_in, has_small_numbers, text_or_empty, text_below, params_of, params_if_any, params_in, template_of, part_from, part_of, parts_of, mw_from, mw_of, mw_of_data, mw_told};
+ghost use Rattle.wt_datamw.specs.MwRead.{holds_if_any, all_items, number_in, has_small_number, part_is_small, parts_in, has_small_numbers, text_or_empty, text_below, params_of, params_if_any, params_in, template_of, function_of, call_of, part_from, part_of, parts_of, mw_from, mw_of, mw_of_data, mw_told};
 
 use crate::mw_shape::{is_mw_shape, parts_in};
 use crate::parse::{copied, copied_if_any, parsed, small_number, text_under};
@@ -108,6 +108,33 @@ fn template_of(alloc: Global, value: &Value) -> Result<Part, NoMemory>
     })
 }
 
+/// A parser function of this name.
+#[tactic(auto, unfolding(crate::specs::MwRead::function_of))]
+fn function_of(alloc: Global, name: &str, value: &Value) -> Result<Part, NoMemory>
+    ensures { IfOk result (λ part. part ≡ function_of name.now (view value.now)) }
+{
+    let name = Str::copy_of(alloc, name)?;
+    let target = copied(alloc, text_below(value, "target", "wt"))?;
+    let params = params_if_any(alloc, params_in(value))?;
+    let i = number_in(value).unwrap_or(0);
+    Ok(Part::Function {
+        name,
+        target,
+        params,
+        i,
+    })
+}
+
+/// A call: a parser function where its target names one, else a transclusion.
+fn call_of(alloc: Global, value: &Value) -> Result<Part, NoMemory>
+    ensures { IfOk result (λ part. part ≡ call_of (view value.now)) }
+{
+    match text_below(value, "target", "function") {
+        Some(name) => function_of(alloc, name, value),
+        None => template_of(alloc, value),
+    }
+}
+
 fn part_from(
     alloc: Global,
     text: Option<&str>,
@@ -121,7 +148,7 @@ fn part_from(
             let text = Str::copy_of(alloc, text)?;
             Ok(Part::Literal(text))
         }
-        (None, Some(template)) => template_of(alloc, template),
+        (None, Some(template)) => call_of(alloc, template),
         (None, None) => {
             let wt = copied(alloc, text_below(value, "param", "wt"))?;
             Ok(Part::Param { wt })

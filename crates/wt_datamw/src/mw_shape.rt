@@ -2,7 +2,7 @@ ghost use Rattle.std.specs.Prelude.{◌≡◌, ◌&&◌, ◌||◌, [], ◌∷◌
 ghost use Rattle.serde_json.specs.Find.{as_object, as_array, as_str, get};
 ghost use Rattle.serde_json.specs.View.{view, items_view, members_view};
 ghost use Rattle.wt_datamw.specs.SyncRead.{is_among, has_only, is_number, text_in};
-ghost use Rattle.wt_datamw.specs.MwRead.{holds, holds_if_any, all_items, all_values, has_text, is_source, are_sources, are_params, is_target, is_template, is_part, are_parts, parts_in, is_group, is_body, is_extension, is_mw_shape};
+ghost use Rattle.wt_datamw.specs.MwRead.{holds, holds_if_any, all_items, all_values, has_text, is_source, are_sources, are_params, is_page_target, is_function_name, is_function_target, is_target, is_template, is_part, are_parts, parts_in, is_group, is_body, is_extension, is_mw_shape};
 
 use crate::parse::{has_only, text_under};
 use serde_json::{Map, Value};
@@ -39,10 +39,31 @@ fn are_params(value: &Value) -> bool
     }
 }
 
+fn is_page_target(value: &Value) -> bool
+    ensures { result ≡ is_page_target (view value.now) }
+{
+    has_only(value, &["href", "wt"]) && has_text(value, "href") && has_text(value, "wt")
+}
+
+/// The name of a parser function that decides by texts.
+fn is_function_name(name: &str) -> bool
+    ensures { result ≡ is_function_name name.now }
+{
+    name == "if" || name == "ifeq" || name == "switch"
+}
+
+fn is_function_target(value: &Value) -> bool
+    ensures { result ≡ is_function_target (view value.now) }
+{
+    has_only(value, &["function", "wt"])
+        && text_under(value, "function").is_some_and(is_function_name)
+        && has_text(value, "wt")
+}
+
 fn is_target(value: &Value) -> bool
     ensures { result ≡ is_target (view value.now) }
 {
-    has_only(value, &["href", "wt"]) && has_text(value, "href") && has_text(value, "wt")
+    is_page_target(value) || is_function_target(value)
 }
 
 fn is_template(value: &Value) -> bool

@@ -7,7 +7,7 @@ ghost use Rattle.std.specs.Ordering.{nat_cmp, is_lt};
 ghost use Rattle.json.specs.Print.{quoted};
 ghost use Rattle.serde_json.specs.Written.{compact_text};
 ghost use Rattle.wt_datamw.specs.Mw.{params_data, mw_text};
-ghost use Rattle.wt_datamw.specs.MwPieces.{value_start, param_text, later_param, params_listed, ordered_params, number_start, params_start, href_start, target_start, target_text, template_text, argument_start, part_text, later_part, parts_listed, parts_start, body_start, body_text, name_start, extension_text, mw_pieces};
+ghost use Rattle.wt_datamw.specs.MwPieces.{value_start, param_text, later_param, params_listed, ordered_params, number_start, params_start, href_start, target_start, target_text, template_text, function_start, function_target_text, function_text, argument_start, part_text, later_part, parts_listed, parts_start, body_start, body_text, name_start, extension_text, mw_pieces};
 
 use crate::disordered::push_disordered_params;
 use crate::json_text::push_quoted;
@@ -156,6 +156,46 @@ fn push_target(out: &mut Vec<u8>, href: &Str, target: &Str) -> Result<(), NoMemo
     Ok(())
 }
 
+#[tactic(auto, unfolding(json::specs::Print::escape_byte, crate::specs::MwPieces::function_start))]
+fn push_function_start(out: &mut Vec<u8>) -> Result<(), NoMemory>
+    ensures { OnOk result (out.new.items ≡ out.old.items ++ function_start) }
+{
+    push(out, b",\"target\":{\"function\":")
+}
+
+/// The target of a parser function, and its end.
+#[tactic(auto, unfolding(crate::specs::MwPieces::function_target_text))]
+fn push_function_target(out: &mut Vec<u8>, name: &Str, target: &Str) -> Result<(), NoMemory>
+    ensures { OnOk result (out.new.items ≡ out.old.items ++ function_target_text name.now target.now) }
+{
+    push_function_start(out)?;
+    push_string(out, name)?;
+    push_target_start(out)?;
+    push_string(out, target)?;
+    push(out, b"}}}")?;
+    Ok(())
+}
+
+/// A parser function: its number among the group's calls, its parameters, its target.
+#[tactic(auto, unfolding(crate::specs::MwPieces::function_text))]
+fn push_function(
+    alloc: Global,
+    out: &mut Vec<u8>,
+    name: &Str,
+    target: &Str,
+    params: &[(Str, Str)],
+    i: u32,
+) -> Result<(), NoMemory>
+    ensures { OnOk result (out.new.items ≡ out.old.items ++ function_text name.now target.now params.now i) }
+{
+    push_number_start(out)?;
+    push_number(out, i)?;
+    push_params_start(out)?;
+    push_params(alloc, out, params)?;
+    push_function_target(out, name, target)?;
+    Ok(())
+}
+
 /// A transclusion: its number among the group's calls, its parameters, its target.
 #[tactic(auto, unfolding(crate::specs::MwPieces::template_text))]
 fn push_template(
@@ -193,6 +233,12 @@ fn push_part(alloc: Global, out: &mut Vec<u8>, part: &Part) -> Result<(), NoMemo
             params,
             i,
         } => push_template(alloc, out, target, href, params.as_slice(), *i),
+        Part::Function {
+            name,
+            target,
+            params,
+            i,
+        } => push_function(alloc, out, name, target, params.as_slice(), *i),
         Part::Param { wt } => {
             push_argument_start(out)?;
             push_string(out, wt)?;

@@ -1,6 +1,7 @@
 -- What a page gives hangs on no page that isn't fetched for it.
-use Rattle.std.proofs.Common.{◌≡◌, ℕ, zero, suc, ◌+◌, ◌-◌, Bool, true, false, Option, Some, None, List, [], ◌∷◌, ◌++◌, take, drop, refl, sym, ap, ◌∙◌, subst, arith, append_assoc}
-use Rattle.std.specs.Prelude.{◌==◌, if◌then◌else◌, slice_index, Contains}
+use Rattle.std.proofs.Common.{◌≡◌, ℕ, zero, suc, ◌+◌, ◌-◌, Bool, true, false, Option, Some, None, List, [], ◌∷◌, ◌++◌, length, map, take, drop, refl, sym, ap, ◌∙◌, subst, arith, append_assoc}
+use Rattle.std.specs.Prelude.{◌==◌, if◌then◌else◌, slice_index, is_some, Contains}
+use Rattle.std.proofs.lemmas.List.{take-map}
 use Rattle.std.proofs.lemmas.List.Elements.{Contains-append_left, Contains-append_right}
 use Rattle.wt_span.specs.declared.form.Mode.{Mode}
 use Rattle.wt_span.specs.declared.form.Mode.TheVariants as mode
@@ -12,11 +13,17 @@ use Rattle.wt_names.specs.declared.title.Title.{Title}
 use Rattle.wt_names.specs.Namespace.{full_name_of}
 use Rattle.wt_braces.specs.PartMembers.{PartMembers, part_members}
 use Rattle.wt_expand.specs.Agreement.{AgreeOn}
-use Rattle.wt_expand.specs.Texts.{name_text}
-use Rattle.wt_expand.specs.Targets.{Called, argument, function, page, text, called, called_by, title_of_target, is_function}
+use Rattle.wt_expand.specs.Texts.{name_text, trimmed_items}
+use Rattle.wt_span.specs.declared.function.Function.{Function}
+use Rattle.wt_span.specs.declared.function.Function.TheVariants.{If, IfEq, Switch}
+use Rattle.wt_functions.specs.Choice.{told_count, chosen}
+use Rattle.wt_span.specs.Functions.{function_of}
+use Rattle.wt_functions.proofs.ChoiceLaws.{Alike}
+use Rattle.wt_functions.proofs.WholeLists.{told_alike}
+use Rattle.wt_expand.specs.Targets.{Called, argument, choice, function, page, text, called, called_function, called_by, title_of_target, is_function}
 use Rattle.wt_expand.specs.Templates.{template_text}
 use Rattle.wt_expand.specs.Work.{Pages, Entry, entered, begun, fetched, ended, fetched_by, fetches, is_among}
-use Rattle.wt_expand.specs.Expansion.{Output, just, joined, given, with_break, chars, loop_text, PartOutput, member_count, part_by, part_outputs, target_part, later_parts, Frame, value_of, values_from, parts_work, Reading, default_output, if_value, argument_output, page_output, text_output, called_output, output_of, outputs_of, text_members, text_given, fetched_output, template_output, most_templates, page_reading, page_work}
+use Rattle.wt_expand.specs.Expansion.{Output, just, joined, given, with_break, chars, loop_text, PartOutput, member_count, part_by, part_outputs, target_part, later_parts, Frame, value_of, values_from, parts_work, Reading, default_output, if_value, argument_output, page_output, told_by, first_given, told_outputs, chosen_output, function_output, text_output, called_output, output_of, outputs_of, text_members, text_given, fetched_output, template_output, most_templates, page_reading, page_work}
 use Rattle.wt_expand.specs.PageCalls.{Stretch, call_stretches, stretches_of, all_stretches, numbered, outer_calls, text_spans, page_stretches, expanded_page}
 
 -- ---- work in parts
@@ -77,8 +84,17 @@ drop_same p q (suc n) (o ∷ os) (u ∷ us) s = drop_same p q n os us s.1
 
 -- ---- parts
 
-abbrev PartSame : Pages → Pages → PartOutput → PartOutput → Type 0
-PartSame p q x y = AgreeOn p q x.all.work → x ≡ y
+abbrev NameSame : Pages → Pages → Option Output → Option Output → Type 0
+NameSame p q None None = Unit {0}
+NameSame p q None (Some u) = ⊥
+NameSame p q (Some o) None = ⊥
+NameSame p q (Some o) (Some u) = Same p q o u
+
+-- two parts: as a whole, by their names, and by their values
+record PartSame (p q : Pages) (x y : PartOutput) : Type 0 where
+  pub whole : AgreeOn p q x.all.work → x ≡ y
+  pub name : NameSame p q x.name y.name
+  pub value : Same p q x.value y.value
 
 abbrev PartsSame : Pages → Pages → List PartOutput → List PartOutput → Type 0
 PartsSame p q [] [] = Unit {0}
@@ -87,8 +103,16 @@ PartsSame p q (x ∷ xs) [] = ⊥
 PartsSame p q (x ∷ xs) (y ∷ ys) = PartSame p q x y × PartsSame p q xs ys
 
 part_same : (p q : Pages) (name : Option (List Member × ℕ)) (os us : List Output) → AllSame p q os us → PartSame p q (part_by name os) (part_by name us)
-part_same p q None os us s h = ap (part_by None) (all_equal p q os us s h)
-part_same p q (Some (xs, w)) os us s h = ap (part_by (Some (xs, w))) (all_equal p q os us s h)
+part_same p q None os us s = record {
+  whole = λ h. ap (part_by None) (all_equal p q os us s h);
+  name = tt;
+  value = λ h. ap joined (all_equal p q os us s h);
+}
+part_same p q (Some (xs, w)) os us s = record {
+  whole = λ h. ap (part_by (Some (xs, w))) (all_equal p q os us s h);
+  name = λ h. ap joined (all_equal p q (take (length xs) os) (take (length xs) us) (take_same p q (length xs) os us s) h);
+  value = λ h. ap joined (all_equal p q (drop (length xs + 1) os) (drop (length xs + 1) us) (drop_same p q (length xs + 1) os us s) h);
+}
 
 parts_same : (p q : Pages) (ps : List PartMembers) (os us : List Output) → AllSame p q os us → PartsSame p q (part_outputs ps os) (part_outputs ps us)
 parts_same p q [] os us s = tt
@@ -101,7 +125,7 @@ target_same : (p q : Pages) (xs ys : List PartOutput) → PartsSame p q xs ys �
 target_same p q [] [] s h = refl
 target_same p q [] (y ∷ ys) s h = absurd s
 target_same p q (x ∷ xs) [] s h = absurd s
-target_same p q (x ∷ xs) (y ∷ ys) s h = ap (λ z. z.all) (s.0 h)
+target_same p q (x ∷ xs) (y ∷ ys) s h = ap (λ z. z.all) (s.0.whole h)
 
 later_same : (p q : Pages) (xs ys : List PartOutput) → PartsSame p q xs ys → PartsSame p q (later_parts xs) (later_parts ys)
 later_same p q [] [] s = tt
@@ -114,7 +138,7 @@ parts_equal p q [] [] s h = refl
 parts_equal p q [] (y ∷ ys) s h = absurd s
 parts_equal p q (x ∷ xs) [] s h = absurd s
 parts_equal p q (x ∷ xs) (y ∷ ys) s h =
-    ap (λ z. z ∷ xs) (s.0 (agree_left p q x.all.work (parts_work xs) h))
+    ap (λ z. z ∷ xs) (s.0.whole (agree_left p q x.all.work (parts_work xs) h))
     ∙ ap (λ zs. y ∷ zs) (parts_equal p q xs ys s.1 (agree_right p q x.all.work (parts_work xs) h))
 
 -- ---- calls
@@ -134,7 +158,7 @@ default_same : (p q : Pages) (name : Output) (xs ys : List PartOutput) → Parts
 default_same p q name [] [] s h = refl
 default_same p q name [] (y ∷ ys) s h = absurd s
 default_same p q name (x ∷ xs) [] s h = absurd s
-default_same p q name (x ∷ xs) (y ∷ ys) s h = ap (λ z. z.all) (s.0 h)
+default_same p q name (x ∷ xs) (y ∷ ys) s h = ap (λ z. z.all) (s.0.whole h)
 
 value_same : (p q : Pages) (v : Option (List Item)) (o u : Output) → Same p q o u → Same p q (if_value v o) (if_value v u)
 value_same p q None o u s h = s h
@@ -175,11 +199,120 @@ page_same p q m v f g start t xs ys same s h =
     page_by : Output → List PartOutput → Output → Output
     page_by n zs u = given n.work (parts_work zs ++ u.work) (with_break start u.items)
 
+-- which parts have names
+names_same : (p q : Pages) (xs ys : List PartOutput) → PartsSame p q xs ys → map (λ x. is_some x.name) xs ≡ map (λ y. is_some y.name) ys
+names_same p q [] [] s = refl
+names_same p q [] (y ∷ ys) s = absurd s
+names_same p q (x ∷ xs) [] s = absurd s
+names_same p q (x ∷ xs) (y ∷ ys) s =
+    ap (λ b. b ∷ map (λ z. is_some z.name) xs) (one p q x.name y.name s.0.name) ∙ ap (λ bs. is_some y.name ∷ bs) (names_same p q xs ys s.1)
+  where
+    one : (p q : Pages) (a b : Option Output) → NameSame p q a b → is_some a ≡ is_some b
+    one p q None None s = refl
+    one p q None (Some u) s = absurd s
+    one p q (Some o) None s = absurd s
+    one p q (Some o) (Some u) s = refl
+
+-- what may be told of a part
+told_same : (p q : Pages) (c : Function) (a b : Option Output) (o u : Output) → NameSame p q a b → Same p q o u → Same p q (told_by c a o) (told_by c b u)
+told_same p q If a b o u n s = s
+told_same p q IfEq a b o u n s = s
+told_same p q Switch None None o u n s = s
+told_same p q Switch None (Some v) o u n s = absurd n
+told_same p q Switch (Some w) None o u n s = absurd n
+told_same p q Switch (Some w) (Some v) o u n s = n
+
+all_told_same : (p q : Pages) (c : Function) (xs ys : List PartOutput) → PartsSame p q xs ys
+    → AllSame p q (map (λ x. told_by c x.name x.all) xs) (map (λ y. told_by c y.name y.all) ys)
+all_told_same p q c [] [] s = tt
+all_told_same p q c [] (y ∷ ys) s = absurd s
+all_told_same p q c (x ∷ xs) [] s = absurd s
+all_told_same p q c (x ∷ xs) (y ∷ ys) s = (
+  told_same p q c x.name y.name x.all y.all s.0.name (λ h. ap (λ z. z.all) (s.0.whole h)),
+  all_told_same p q c xs ys s.1,
+)
+
+tells_same : (p q : Pages) (c : Function) (n : ℕ) (xs ys : List PartOutput) → PartsSame p q xs ys → AllSame p q (told_outputs c n xs) (told_outputs c n ys)
+tells_same p q c n xs ys s = (
+  λ h. ap (λ (o : Output). record { items = drop n o.items; work = o.work }) (target_same p q xs ys s h),
+  all_told_same p q c (later_parts xs) (later_parts ys) (later_same p q xs ys s),
+)
+
+-- what may be given of the part of a number
+first_same : (p q : Pages) (c : Function) (xs ys : List PartOutput) → PartsSame p q xs ys → Same p q (first_given c xs) (first_given c ys)
+first_same p q c [] [] s h = refl
+first_same p q c [] (y ∷ ys) s h = absurd s
+first_same p q c (x ∷ xs) [] s h = absurd s
+first_same p q If (x ∷ xs) (y ∷ ys) s h = ap (λ z. z.all) (s.0.whole h)
+first_same p q IfEq (x ∷ xs) (y ∷ ys) s h = ap (λ z. z.all) (s.0.whole h)
+first_same p q Switch (x ∷ xs) (y ∷ ys) s h = s.0.value h
+
+parts_drop : (p q : Pages) (n : ℕ) (xs ys : List PartOutput) → PartsSame p q xs ys → PartsSame p q (drop n xs) (drop n ys)
+parts_drop p q zero [] [] s = tt
+parts_drop p q zero [] (y ∷ ys) s = absurd s
+parts_drop p q zero (x ∷ xs) [] s = absurd s
+parts_drop p q zero (x ∷ xs) (y ∷ ys) s = s
+parts_drop p q (suc n) [] [] s = tt
+parts_drop p q (suc n) [] (y ∷ ys) s = absurd s
+parts_drop p q (suc n) (x ∷ xs) [] s = absurd s
+parts_drop p q (suc n) (x ∷ xs) (y ∷ ys) s = parts_drop p q n xs ys s.1
+
+chosen_same : (p q : Pages) (c : Function) (part : Option ℕ) (xs ys : List PartOutput) → PartsSame p q xs ys
+    → Same p q (chosen_output c part xs) (chosen_output c part ys)
+chosen_same p q c None xs ys s h = refl
+chosen_same p q c (Some k) xs ys s h = first_same p q c (drop k xs) (drop k ys) (parts_drop p q k xs ys s) h
+
+abbrev pub texts_of : List Output → List (List ℕ)
+texts_of os = map (λ o. name_text o.items) os
+
+take_texts : (n : ℕ) (os : List Output) → take n (texts_of os) ≡ texts_of (take n os)
+take_texts n os = take-map (λ (o : Output). name_text o.items) n os
+
+pub tell_count : (c : Function) (n : ℕ) (xs : List PartOutput) → length (texts_of (told_outputs c n xs)) ≡ length (map (λ x. is_some x.name) (later_parts xs)) + 1
+tell_count c n xs = counts (later_parts xs)
+  where
+    counts : (ps : List PartOutput) → suc (length (texts_of (map (λ x. told_by c x.name x.all) ps))) ≡ length (map (λ x. is_some x.name) ps) + 1
+    counts [] = refl
+    counts (x ∷ ps) = let e : suc (length (texts_of (map (λ x. told_by c x.name x.all) ps))) ≡ length (map (λ x. is_some x.name) ps) + 1 = counts ps in omega arith
+
+-- a function by what was told and what is given
+abbrev function_by : Bool → List Output → Output → Output
+function_by start told o = given [] ((joined told).work ++ o.work) (with_break start (trimmed_items o.items))
+
+-- a function whose told parts and whose given part fetch what both folders have alike
+function_same : (p q : Pages) (c : Function) (n : ℕ) (start : Bool) (xs ys : List PartOutput) → PartsSame p q xs ys
+    → AgreeOn p q (function_output c n start xs).work → function_output c n start xs ≡ function_output c n start ys
+function_same p q c n start xs ys parts h =
+    let told : List Output = told_outputs c n xs in
+    let others : List Output = told_outputs c n ys in
+    let es : List Bool = map (λ x. is_some x.name) (later_parts xs) in
+    let fs : List Bool = map (λ y. is_some y.name) (later_parts ys) in
+    let names : es ≡ fs = names_same p q (later_parts xs) (later_parts ys) (later_same p q xs ys parts) in
+    let count : ℕ = told_count c es (texts_of told) in
+    let part : Option ℕ = chosen c es (texts_of told) in
+    let inside = agree_inside p q [] ((joined (take count told)).work ++ (chosen_output c part xs).work) _ h in
+    let tells : take count told ≡ take count others =
+    all_equal p q (take count told) (take count others) (take_same p q count told others (tells_same p q c n xs ys parts))
+    (agree_left p q (joined (take count told)).work (chosen_output c part xs).work inside) in
+    let gives : chosen_output c part xs ≡ chosen_output c part ys =
+    chosen_same p q c part xs ys parts (agree_right p q (joined (take count told)).work (chosen_output c part xs).work inside) in
+    let texts : take count (texts_of told) ≡ take count (texts_of others) = take_texts count told ∙ ap texts_of tells ∙ sym (take_texts count others) in
+    let every : length (texts_of others) ≡ length es + 1 = tell_count c n ys ∙ ap (λ bs. length bs + 1) (sym names) in
+    let a : Alike c es (texts_of told) (texts_of others) = told_alike c es (texts_of told) (texts_of others) (tell_count c n xs) every texts in
+    ap (λ os. function_by start os (chosen_output c part xs)) tells
+    ∙ ap (function_by start (take count others)) gives
+    ∙ ap (λ m. function_by start (take m others) (chosen_output c part ys)) (sym a.count)
+    ∙ ap (λ k. function_by start (take (told_count c es (texts_of others)) others) (chosen_output c k ys)) (sym a.part)
+    ∙ ap (λ bs. function_by start (take (told_count c bs (texts_of others)) others) (chosen_output c (chosen c bs (texts_of others)) ys)) names
+
 text_same : (p q : Pages) (k : ℕ) (source : List ℕ) (os us : List Output) → AllSame p q os us → AgreeOn p q (text_output k source os).work → os ≡ us
 text_same p q k source os us s h = all_equal p q os us s (agree_left p q (joined os).work [] h)
 
+abbrev kind_by : Bool → Bool → Option (Function × ℕ) → Option Title → Called
+kind_by t u w o = if t then argument else (if u then called_function w else called_by o)
+
 pub called_is : (k : ℕ) (source : List ℕ) (target : List Item)
-    → called k source target ≡ (if k == 3 then argument else (if is_function source then function else called_by (title_of_target target)))
+    → called k source target ≡ kind_by (k == 3) (is_function source) (function_of (drop 2 source)) (title_of_target target)
 unfolding called
 called_is k source target = refl
 
@@ -188,9 +321,6 @@ record CallSame (p q : Pages) (r s : Reading) (start : Bool) (k : ℕ) (source :
     (os us : List Output) : Type 0 where
   pub kinds : c ≡ d
   pub outputs : called_output c r start k source xs os ≡ called_output d s start k source ys us
-
-abbrev kind_by : Bool → Bool → Option Title → Called
-kind_by t u o = if t then argument else (if u then function else called_by o)
 
 abbrev title_by : List PartOutput → Option Title
 title_by xs = title_of_target (target_part xs).items
@@ -217,12 +347,13 @@ title_same p q m v f g start k source xs ys os us (Some t) same s parts whole e 
     }
 
 tests_same : (p q : Pages) (m : Mode) (v : Frame) (f g : Title → Frame → Output) (start : Bool) (k : ℕ) (source : List ℕ)
-    (xs ys : List PartOutput) (os us : List Output) (t u : Bool) → TemplatesSame p q f g → AllSame p q os us
-    → PartsSame p q xs ys → (os ≡ us → xs ≡ ys) → AgreeOn p q (called_output (kind_by t u (title_by xs)) (reading m v f) start k source xs os).work
-    → CallSame p q (reading m v f) (reading m v g) start k source (kind_by t u (title_by xs)) (kind_by t u (title_by ys)) xs ys os us
-tests_same p q m v f g start k source xs ys os us true u same s parts whole h = record { kinds = refl; outputs = argument_same p q v xs ys parts h }
-tests_same p q m v f g start k source xs ys os us false true same s parts whole h = record { kinds = refl; outputs = refl }
-tests_same p q m v f g start k source xs ys os us false false same s parts whole h =
+    (xs ys : List PartOutput) (os us : List Output) (t u : Bool) (w : Option (Function × ℕ)) → TemplatesSame p q f g → AllSame p q os us
+    → PartsSame p q xs ys → (os ≡ us → xs ≡ ys) → AgreeOn p q (called_output (kind_by t u w (title_by xs)) (reading m v f) start k source xs os).work
+    → CallSame p q (reading m v f) (reading m v g) start k source (kind_by t u w (title_by xs)) (kind_by t u w (title_by ys)) xs ys os us
+tests_same p q m v f g start k source xs ys os us true u w same s parts whole h = record { kinds = refl; outputs = argument_same p q v xs ys parts h }
+tests_same p q m v f g start k source xs ys os us false true None same s parts whole h = record { kinds = refl; outputs = refl }
+tests_same p q m v f g start k source xs ys os us false true (Some (c, n)) same s parts whole h = record { kinds = refl; outputs = function_same p q c n start xs ys parts h }
+tests_same p q m v f g start k source xs ys os us false false w same s parts whole h =
     title_same p q m v f g start k source xs ys os us (title_by xs) same s parts whole refl h
 
 call_same : (p q : Pages) (m : Mode) (v : Frame) (f g : Title → Frame → Output) (start : Bool) (k : ℕ) (source : List ℕ)
@@ -232,14 +363,14 @@ call_same : (p q : Pages) (m : Mode) (v : Frame) (f g : Title → Frame → Outp
 call_same p q m v f g start k source parts os us xs ys e d same s h =
     let r = reading m v f in
     let A : Called → Type 0 = λ c. AgreeOn p q (called_output c r start k source xs os).work in
-    let P : Called → Type 0 = λ c. CallSame p q r (reading m v g) start k source c (kind_by (k == 3) (is_function source) (title_by ys)) xs ys os us in
+    let P : Called → Type 0 = λ c. CallSame p q r (reading m v g) start k source c (kind_by (k == 3) (is_function source) (function_of (drop 2 source)) (title_by ys)) xs ys os us in
     let Q : Called → Type 0 = λ c. CallSame p q r (reading m v g) start k source (called k source (target_part xs).items) c xs ys os us in
     let R : List PartOutput → Type 0 = λ zs. PartsSame p q zs ys in
     let S : List PartOutput → Type 0 = λ zs. PartsSame p q (part_outputs parts os) zs in
     let whole : os ≡ us → xs ≡ ys = λ z. sym e ∙ ap (part_outputs parts) z ∙ d in
     subst Q (sym (called_is k source (target_part ys).items))
     (subst P (sym (called_is k source (target_part xs).items))
-    (tests_same p q m v f g start k source xs ys os us (k == 3) (is_function source) same s
+    (tests_same p q m v f g start k source xs ys os us (k == 3) (is_function source) (function_of (drop 2 source)) same s
     (subst R e (subst S d (parts_same p q parts os us s))) whole (subst A (called_is k source (target_part xs).items) h)))
 
 -- ---- texts
@@ -309,6 +440,7 @@ template_same p q (suc n) open_titles t v h =
 inside_same : (d : Called) (at k : ℕ) (source : List ℕ) (ms : Members) (xs : List Item) (inside others : List Stretch)
     → (d ≡ text → inside ≡ others) → call_stretches d at k source ms xs inside ≡ call_stretches d at k source ms xs others
 inside_same argument at k source ms xs inside others f = refl
+inside_same (choice c n) at k source ms xs inside others f = refl
 inside_same function at k source ms xs inside others f = refl
 inside_same (page t) at k source ms xs inside others f = refl
 inside_same text at k source ms xs inside others f = ap (call_stretches text at k source ms xs) (f refl)

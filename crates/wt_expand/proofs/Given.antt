@@ -17,7 +17,7 @@ use Rattle.wt_braces.specs.Words.{total_width}
 use Rattle.wt_braces.proofs.TextLaws.{text_width}
 use Rattle.wt_expand.specs.PageItems.{form_of}
 use Rattle.wt_expand.specs.Texts.{shown, shown_text}
-use Rattle.wt_expand.specs.Targets.{Called, argument, function, page, text, called}
+use Rattle.wt_expand.specs.Targets.{Called, argument, choice, function, page, text, called}
 use Rattle.wt_expand.specs.Work.{Pages}
 use Rattle.wt_expand.specs.Expansion.{Output, joined, chars, lexeme_items, PartOutput, part_outputs, target_part, Reading, front_braces, back_braces, called_output, output_of, outputs_of, text_members, text_given, page_reading}
 use Rattle.wt_expand.specs.PageCalls.{Stretch, own, outer, text_call, call_stretches, stretches_of, all_stretches, from_call, outer_items, numbered, page_stretches, expanded_page}
@@ -36,6 +36,7 @@ given_call : (c : Called) (r : Reading) (start : Bool) (at k : ℕ) (source : Li
     (os : List Output) (inside : List Stretch) → given_items inside ≡ (joined os).items
     → given_items (call_stretches c at k source ms (called_output c r start k source ps os).items inside) ≡ (called_output c r start k source ps os).items
 given_call argument r start at k source ms ps os inside e = append-nil _
+given_call (choice f n) r start at k source ms ps os inside e = append-nil _
 given_call function r start at k source ms ps os inside e = append-nil _
 given_call (page t) r start at k source ms ps os inside e = append-nil _
 given_call text r start at k source ms ps os inside e =
@@ -118,6 +119,7 @@ bytes_call : (c : Called) (r : Reading) (start : Bool) (at k w : ℕ) (source : 
     → take k source ++ (page_bytes inside ++ drop (length source - k) source) ≡ source
     → page_bytes (call_stretches c at k source ms (called_output c r start k source ps os).items inside) ≡ source
 bytes_call argument r start at k w source ms ps os inside e = append-nil source
+bytes_call (choice f n) r start at k w source ms ps os inside e = append-nil source
 bytes_call function r start at k w source ms ps os inside e = append-nil _ ∙ append-nil source
 bytes_call (page t) r start at k w source ms ps os inside e = append-nil source
 bytes_call text r start at k w source ms ps os inside e =

@@ -12,7 +12,7 @@ use Rattle.wt_span.specs.Cuts.{source_of_call, text_by, text_at, text_between, p
 use Rattle.wt_span.specs.Braces.{Member, Members, lexeme, call, none, more, width, width_of_all}
 use Rattle.wt_braces.specs.PartMembers.{part_members}
 use Rattle.wt_expand.specs.PageItems.{form_of}
-use Rattle.wt_expand.specs.Targets.{Called, argument, function, page, text, called}
+use Rattle.wt_expand.specs.Targets.{Called, argument, choice, function, page, text, called}
 use Rattle.wt_expand.specs.Work.{Pages}
 use Rattle.wt_expand.specs.Expansion.{Output, chars, is_removed, lexeme_items, PartOutput, part_outputs, target_part, Reading, front_braces, back_braces, called_output, outputs_of, text_members, page_reading}
 use Rattle.wt_expand.specs.PageCalls.{Stretch, own, outer, text_call, call_stretches, stretches_of, all_stretches, from_call, outer_items, numbered, outer_calls, page_stretches, expanded_page}
@@ -45,6 +45,7 @@ own_call : (c : Called) (r : Reading) (start : Bool) (at k : ℕ) (source : List
     (os : List Output) (inside : List Stretch) → OwnPage inside
     → OwnPage (call_stretches c at k source ms (called_output c r start k source ps os).items inside)
 own_call argument r start at k source ms ps os inside h = tt
+own_call (choice f n) r start at k source ms ps os inside h = tt
 own_call function r start at k source ms ps os inside h = ((refl, tt), tt)
 own_call (page t) r start at k source ms ps os inside h = tt
 own_call text r start at k source ms ps os inside h = (

@@ -1,5 +1,8 @@
 mod Cases
+mod ChoiceCases
 mod ExpansionCases
+mod FrontCases
+pub mod FrontLaws
 pub mod MadePieces
 pub mod PageLaws
 pub mod PiecePlaces
@@ -11,3 +14,4 @@ pub mod Absent
 pub mod Names
 pub mod ShownPieces
 pub mod TextLaws
+pub mod Turns

@@ -10,7 +10,8 @@ use Rattle.wt_span.specs.Braces.{Member, Members, lexeme, call, none, more, widt
 use Rattle.wt_braces.specs.PartMembers.{PartMembers, part_members}
 use Rattle.wt_expand.specs.Asked.{AreOnce, IsLonger, IsArgument, AreArguments}
 use Rattle.wt_expand.specs.Texts.{name_text}
-use Rattle.wt_expand.specs.Targets.{Called, argument, function, called, called_by, title_of_target, is_function}
+use Rattle.wt_span.specs.Functions.{function_of}
+use Rattle.wt_expand.specs.Targets.{Called, argument, function, called, called_function, called_by, title_of_target, is_function}
 use Rattle.wt_expand.specs.Work.{Pages, Entry, ended, fetches, is_among, firsts_after, names_asked}
 use Rattle.wt_expand.specs.Expansion.{Output, joined, PartOutput, member_count, part_by, part_outputs, target_part, later_parts, value_of, Reading, default_output, if_value, argument_output, called_output, output_of, outputs_of, text_members, page_reading, page_work}
 use Rattle.wt_expand.proofs.Agreements.{fetches_append, called_is}
@@ -190,7 +191,7 @@ argument_quiet r ps h =
 
 three_is : (k : ℕ) (source : List ℕ) (target : List Item) → k ≡ 3 → called k source target ≡ argument
 three_is k source target e = called_is k source target
-    ∙ ap (λ n. if n == 3 then argument else (if is_function source then function else called_by (title_of_target target))) e
+    ∙ ap (λ n. if n == 3 then argument else (if is_function source then called_function (function_of (drop 2 source)) else called_by (title_of_target target))) e
 
 mutual
   quiet_one : (r : Reading) (start : Bool) (bs : List ℕ) (m : Member) → IsArgument m → Quiet (output_of r start bs m)

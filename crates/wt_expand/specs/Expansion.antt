@@ -1,6 +1,6 @@
 -- What texts, calls and arguments give, and the work of it. A call is substituted in the text in which it stands; what it calls is
 -- read with the values that it hands over.
-use Rattle.std.specs.Prelude.{ℕ, zero, suc, ◌+◌, ◌-◌, ◌==◌, ◌||◌, ◌&&◌, not, Bool, true, false, Option, Some, None, List, [], ◌∷◌, ◌++◌, length, map, take, drop, slice_index, codes, decimal, if◌then◌else◌}
+use Rattle.std.specs.Prelude.{ℕ, zero, suc, ◌+◌, ◌-◌, ◌==◌, ◌||◌, ◌&&◌, not, Bool, true, false, Option, Some, None, List, [], ◌∷◌, ◌++◌, length, map, take, drop, slice_index, codes, decimal, is_some, if◌then◌else◌}
 use Rattle.std.specs.Option.{option_or}
 use Rattle.std.specs.Str.{bytes_eq}
 use Rattle.wt_span.specs.declared.form.Mode.{Mode}
@@ -15,9 +15,12 @@ use Rattle.wt_span.specs.Braces.{Member, Members, lexeme, call, none, more, memb
 use Rattle.wt_names.specs.declared.title.Title.{Title}
 use Rattle.wt_names.specs.Namespace.{full_name_of}
 use Rattle.wt_braces.specs.PartMembers.{PartMembers, part_members}
+use Rattle.wt_span.specs.declared.function.Function.{Function}
+use Rattle.wt_span.specs.declared.function.Function.TheVariants.{If, IfEq, Switch}
+use Rattle.wt_functions.specs.Choice.{chosen, told_count}
 use Rattle.wt_expand.specs.PageItems.{form_of}
 use Rattle.wt_expand.specs.Texts.{trimmed_items, name_text}
-use Rattle.wt_expand.specs.Targets.{is_template, Called, argument, function, page, text, called}
+use Rattle.wt_expand.specs.Targets.{is_template, Called, argument, choice, function, page, text, called}
 use Rattle.wt_expand.specs.Templates.{template_text}
 use Rattle.wt_expand.specs.Work.{Pages, Entry, entered, begun, fetched, ended, is_among}
 use Rattle.wt_expand.specs.declared.limits.TheConstants.{MOST_TEMPLATES}
@@ -179,6 +182,43 @@ page_output r at_start t ps =
     let o = r.template t (values_from 1 (later_parts ps)) in
     given (target_part ps).work (parts_work (later_parts ps) ++ o.work) (with_break at_start o.items)
 
+-- of `#switch` a part with a name is told by this, and gives its value; every other part is told and given whole
+abbrev pub told_by : Function → Option Output → Output → Output
+told_by If name all = all
+told_by IfEq name all = all
+told_by Switch None all = all
+told_by Switch (Some name) all = name
+
+abbrev pub given_by : Function → PartOutput → Output
+given_by If p = p.all
+given_by IfEq p = p.all
+given_by Switch p = p.value
+
+-- what may be told of the parts, from part 0 on, which is the target without its first bytes
+abbrev pub told_outputs : Function → ℕ → List PartOutput → List Output
+told_outputs f n ps =
+    record { items = drop n (target_part ps).items; work = (target_part ps).work }
+    ∷ map (λ p. told_by f p.name p.all) (later_parts ps)
+
+abbrev pub first_given : Function → List PartOutput → Output
+first_given f [] = just []
+first_given f (p ∷ ps) = given_by f p
+
+-- what the part of a number gives, where one is chosen
+abbrev pub chosen_output : Function → Option ℕ → List PartOutput → Output
+chosen_output f None ps = just []
+chosen_output f (Some part) ps = first_given f (drop part ps)
+
+-- A function tells parts and gives one, trimmed. What is told is expanded, and what is given is expanded then, also where it was
+-- told before; no other part is.
+abbrev pub function_output : Function → ℕ → Bool → List PartOutput → Output
+function_output f n at_start ps =
+    let told = told_outputs f n ps in
+    let equals = map (λ p. is_some p.name) (later_parts ps) in
+    let texts = map (λ o. name_text o.items) told in
+    let o = chosen_output f (chosen f equals texts) ps in
+    given [] ((joined (take (told_count f equals texts) told)).work ++ o.work) (with_break at_start (trimmed_items o.items))
+
 -- the braces at the two ends of a call's source
 abbrev pub front_braces : ℕ → List ℕ → List ℕ
 front_braces k source = take k source
@@ -192,6 +232,7 @@ text_output k source os = then_output (just (chars (front_braces k source))) (th
 
 abbrev pub called_output : Called → Reading → Bool → ℕ → List ℕ → List PartOutput → List Output → Output
 called_output argument r at_start k source ps os = argument_output r.frame ps
+called_output (choice f n) r at_start k source ps os = function_output f n at_start ps
 called_output function r at_start k source ps os = just (whole form.Function None source ∷ [])
 called_output (page t) r at_start k source ps os = page_output r at_start t ps
 called_output text r at_start k source ps os = text_output k source os

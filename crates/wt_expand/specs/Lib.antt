@@ -1,6 +1,7 @@
 pub mod Agreement
 pub mod Asked
 pub mod Expansion
+pub mod Fronts
 pub mod Made
 pub mod PageCalls
 pub mod PageItems
@@ -11,3 +12,4 @@ pub mod Templates
 pub mod Texts
 pub mod Trimmed
 pub mod Work
+pub mod Asking

@@ -7,7 +7,7 @@ use Rattle.wt_span.specs.Origins.{OuterCall, Span, Expanded}
 use Rattle.wt_span.specs.Braces.{Member, Members, lexeme, call, none, more, width, width_of_all, parts_of}
 use Rattle.wt_names.specs.Written.{link_to}
 use Rattle.wt_braces.specs.PartMembers.{part_members}
-use Rattle.wt_expand.specs.Targets.{Called, argument, function, page, text, called}
+use Rattle.wt_expand.specs.Targets.{Called, argument, choice, function, page, text, called}
 use Rattle.wt_expand.specs.Work.{Pages}
 use Rattle.wt_expand.specs.Expansion.{chars, front_braces, back_braces, target_part, part_outputs, Reading, output_of, outputs_of, text_members, page_reading}
 
@@ -17,9 +17,10 @@ pub data Stretch : Type 0 where
   outer : OuterCall → List Item → Stretch
   text_call : Span → Stretch
 
--- the link that an outermost call has; an argument has none
+-- the link that an outermost call has; an argument and a function have none
 abbrev pub link_of : Called → Option (List ℕ)
 link_of argument = None
+link_of (choice f n) = None
 link_of function = None
 link_of (page t) = Some (link_to t)
 link_of text = None
@@ -35,10 +36,11 @@ outer_at at k source ms c = record {
   href = link_of c;
 }
 
--- The stretches of a call that begins at `at`. A function of the page is an item of its own, and of a text call the braces are
+-- The stretches of a call that begins at `at`. A function of the page that is kept is an item of its own, and of a text call the braces are
 -- characters and the calls in it are outermost ones.
 abbrev pub call_stretches : Called → ℕ → ℕ → List ℕ → Members → List Item → List Stretch → List Stretch
 call_stretches argument at k source ms given inside = outer (outer_at at k source ms argument) given ∷ []
+call_stretches (choice f n) at k source ms given inside = outer (outer_at at k source ms (choice f n)) given ∷ []
 call_stretches function at k source ms given inside = own given ∷ []
 call_stretches (page t) at k source ms given inside = outer (outer_at at k source ms (page t)) given ∷ []
 call_stretches text at k source ms given inside =

@@ -6,6 +6,8 @@ use Rattle.wt_names.specs.declared.namespace.Ns.{Ns}
 use Rattle.wt_names.specs.declared.namespace.Ns.TheVariants as ns
 use Rattle.wt_names.specs.declared.title.Title.{Title}
 use Rattle.wt_names.specs.Good.{is_good, read_text}
+use Rattle.wt_span.specs.declared.function.Function.{Function}
+use Rattle.wt_span.specs.Functions.{function_of}
 use Rattle.wt_expand.specs.Texts.{is_space, without_front, trimmed, target_text}
 
 abbrev pub is_main : Ns → Bool
@@ -52,9 +54,11 @@ title_of_target items = option_and_then title_in_target (target_text items)
 unfoldable pub is_function : List ℕ → Bool
 is_function source = slice_index (without_front is_space (drop 2 source)) 0 == 35
 
--- what a call is: an argument, a function, the call of a page, or text
+-- What a call is: an argument; a function by text, with how many bytes of its target stand before its part 0; another function,
+-- which is kept as it stands; the call of a page; or text.
 pub data Called : Type 0 where
   argument : Called
+  choice : Function → ℕ → Called
   function : Called
   page : Title → Called
   text : Called
@@ -63,6 +67,14 @@ abbrev pub called_by : Option Title → Called
 called_by None = text
 called_by (Some t) = page t
 
--- by its braces, its source, and its target as it was expanded
+-- a function by its word
+abbrev pub called_function : Option (Function × ℕ) → Called
+called_function None = function
+called_function (Some (f, n)) = choice f n
+
+-- By its braces, its source, and its target as it was expanded. The word of a function by text holds no sign of a call, so it
+-- stands in the target if it stands behind the two braces.
 unfoldable pub called : ℕ → List ℕ → List Item → Called
-called k source target = if k == 3 then argument else (if is_function source then function else called_by (title_of_target target))
+called k source target =
+    if k == 3 then argument
+    else (if is_function source then called_function (function_of (drop 2 source)) else called_by (title_of_target target))

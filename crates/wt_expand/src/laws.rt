@@ -8,15 +8,19 @@ ghost use Rattle.wt_span.specs.Origins.{AreItems, OuterCall, Span, once, span_of
 ghost use Rattle.wt_span.specs.declared.form.Piece.{Piece as PieceAt};
 ghost use Rattle.wt_names.specs.declared.title.Title.{Title as TitleOf};
 ghost use Rattle.wt_names.specs.Namespace.{full_name_of};
+ghost use Rattle.std.specs.Prelude.{Bool as BoolOf};
+ghost use Rattle.wt_span.specs.declared.function.Function.{Function as FunctionOf};
+ghost use Rattle.wt_expand.specs.Asking.{AsksInTurn};
 ghost use Rattle.wt_expand.specs.Agreement.{AgreeOn};
 ghost use Rattle.wt_expand.specs.Asked.{AreArguments, AreOnce, IsLonger};
-ghost use Rattle.wt_expand.specs.Expansion.{Frame, value_of, absent_text, chars, page_reading, page_work, template_output, text_given, text_members};
+ghost use Rattle.wt_expand.specs.Fronts.{Front, NextFetches, NextRefuses, allowed_work, cost_of_all, known_after, names_told};
+ghost use Rattle.wt_expand.specs.Expansion.{Frame, PartOutput, value_of, absent_text, chars, page_reading, page_work, template_output, text_given, text_members};
 ghost use Rattle.wt_expand.specs.PageCalls.{expanded_page};
 ghost use Rattle.wt_expand.specs.PageItems.{page_items};
 ghost use Rattle.wt_expand.specs.PiecePlaces.{BeginFrom, end_of_spans};
 ghost use Rattle.wt_expand.specs.Texts.{is_space, shown_text, trimmed, trimmed_items};
 ghost use Rattle.wt_expand.specs.Trimmed.{IsTrimmed};
-ghost use Rattle.wt_expand.specs.Work.{Entry, Pages, fetched, fetches, is_among, most_bytes, names_asked, template_refusal};
+ghost use Rattle.wt_expand.specs.Work.{Entry, Pages, Refused, fetched, fetches, first_refusal, is_among, most_bytes, names_asked, template_refusal};
 
 /// The sources of a page's items, joined, are the page, and none comes from a call.
 pub fn whole_page()
@@ -86,6 +90,12 @@ pub fn trimmed_ends()
     ensures items { (xs : List Item) → IsTrimmed (is_char_in is_space) xs (trimmed_items xs) }
 {}
 
+/// A function begins, asks for its parts one after the other, each decided by the texts before it, and
+/// ends with the part that is given. So only what is asked for is in its work, in this order.
+pub fn functions_ask_in_turn()
+    ensures { (f : FunctionOf) (n : ℕ) (at_start : BoolOf) (ps : List PartOutput) → AsksInTurn f n at_start ps }
+{}
+
 /// Of several values of a name the last one counts.
 pub fn last_value_counts()
     ensures { (name : List ℕ) (before after : Frame) (v : List Item) → value_of name after ≡ None → value_of name (before ++ (name, v) ∷ after) ≡ Some v }
@@ -95,4 +105,33 @@ pub fn last_value_counts()
 /// page is.
 pub fn cut_page_is_refused()
     ensures { (title bytes : List ℕ) → template_refusal title (take (most_bytes + 1) bytes) ≡ template_refusal title bytes }
+{}
+
+/// Work is refused as the entry is behind a front of it that is done, and this front is all that comes
+/// before: so there is one such front. Each other front is the beginning of it. Work of which no entry
+/// is refused is done whole.
+pub fn work_stops_at_its_first_refusal()
+    ensures refused { (pages : Pages) (page : List ℕ) (work done left : List Entry) (r : Refused) → Front pages page 0 work done left
+        → NextRefuses pages page (cost_of_all done) r left → first_refusal pages page work ≡ Some r }
+    ensures front { (pages : Pages) (page : List ℕ) (work done left : List Entry) (r : Refused) → Front pages page 0 work done left
+        → NextRefuses pages page (cost_of_all done) r left → allowed_work pages page work ≡ done }
+    ensures within { (pages : Pages) (page : List ℕ) (work done left : List Entry) → Front pages page 0 work done left
+        → (more : List Entry) × (allowed_work pages page work ≡ done ++ more) }
+    ensures whole { (pages : Pages) (page : List ℕ) (work : List Entry) → first_refusal pages page work ≡ None → allowed_work pages page work ≡ work }
+{}
+
+/// A name is told exactly where an entry before the first refusal fetches it, and each once.
+pub fn told_names_are_fetched()
+    ensures once { (pages : Pages) (page : List ℕ) (work : List Entry) → AreOnce (names_told pages page work) }
+    ensures fetched { (pages : Pages) (page : List ℕ) (work : List Entry) (name : List ℕ) → Contains (names_told pages page work) name
+        → Contains (allowed_work pages page work) (fetched name) }
+    ensures told { (pages : Pages) (page : List ℕ) (work : List Entry) (name : List ℕ) → Contains (allowed_work pages page work) (fetched name)
+        → Contains (names_told pages page work) name }
+{}
+
+/// Where a fetch fails, the names of what is done and then the name of this fetch are the first that
+/// the work asks for.
+pub fn failed_fetch_is_next()
+    ensures { (pages : Pages) (page : List ℕ) (work done left : List Entry) → Front pages page 0 work done left
+        → NextFetches (known_after [] (fetches done)) left → (title : List ℕ) × IsLonger (names_asked done ++ title ∷ []) (names_asked work) }
 {}

@@ -9,9 +9,10 @@ mod piece;
 mod shown;
 
 pub use laws::{
-    absent_page_is_a_link, arguments_fetch_nothing, cut_page_is_refused, hangs_on_what_is_fetched,
-    last_value_counts, names_are_asked_once, origins_join, pieces_have_places, shows_what_is_given,
-    trimmed_ends, whole_page, without_calls,
+    absent_page_is_a_link, arguments_fetch_nothing, cut_page_is_refused, failed_fetch_is_next,
+    functions_ask_in_turn, hangs_on_what_is_fetched, last_value_counts, names_are_asked_once,
+    origins_join, pieces_have_places, shows_what_is_given, told_names_are_fetched, trimmed_ends,
+    whole_page, without_calls, work_stops_at_its_first_refusal,
 };
 pub use limits::{MOST_COST, MOST_TEMPLATES};
 pub use page::page_items;

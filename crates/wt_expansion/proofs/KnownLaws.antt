@@ -14,14 +14,16 @@ use Rattle.std.specs.HashMap.{get_by_text}
 use Rattle.wt_transclusion.specs.declared.read.ReadText.{ReadText}
 use Rattle.wt_transclusion.specs.declared.store.Store.{Store}
 use Rattle.wt_transclusion.specs.Answers.{IsFetched, IsRefused}
-use Rattle.wt_transclusion.specs.Asked.{AreFirst}
+use Rattle.wt_expand.specs.Fronts.{known_after}
+use Rattle.wt_transclusion.specs.Stops.{Stops, told_with}
 use Rattle.wt_transclusion.specs.Steps.{given_from}
 use Rattle.wt_transclusion.specs.Stores.{Agrees, IsKept, IsKnown, IsStore}
-use Rattle.wt_transclusion.proofs.AskedLaws.{first_some}
 use Rattle.wt_transclusion.proofs.GrowthLaws.{agrees_before}
+use Rattle.wt_transclusion.proofs.StopLaws.{stops_page}
 use Rattle.wt_levels.specs.declared.expansion.Expansion.{Expansion}
-use Rattle.wt_levels.specs.Ledgers.{Comes, Refuses, ledger}
-use Rattle.wt_levels.proofs.PageLaws.{entered_first, page_refused, reading_is}
+use Rattle.wt_levels.specs.Ledgers.{Comes, Ledger, Refuses, ledger}
+use Rattle.wt_levels.proofs.LedgerLaws.{comes_refusal}
+use Rattle.wt_levels.proofs.PageLaws.{entered_first, reading_is, text_stops}
 use Rattle.wt_expansion.specs.declared.found.Found.{Found}
 use Rattle.wt_expansion.specs.Known.{HoldsPages, KnowsMore}
 use Rattle.wt_expansion.specs.Walks.{IsFree, Walked, at_page}
@@ -44,6 +46,20 @@ WalkedFrom pages page met spent answered to old new store now told =
     Walked pages page (ledger spent met answered) (all_stretches (at_page pages) 0 true (drop 0 page) (members (page_members page)))
     (given_from (at_page pages) true page 0 (page_members page)).work 0 to old new store now told
 
+-- all of some work is done
+record IsWhole (met known : List (List ℕ)) (work : List Entry) (before now : Option (List (List ℕ))) : Type 0 where
+  known_is : known ≡ known_after met (fetches work)
+  told_is : now ≡ told_with met work before
+
+whole_by : (pages : Pages) (page : List ℕ) (met known : List (List ℕ)) (work : List Entry) (before now : Option (List (List ℕ))) (spent : ℕ)
+    → Comes pages page (ledger 0 met before) work (ledger spent known now) [] → IsWhole met known work before now
+whole_by pages page met known work before now spent c =
+    let all : c.done ≡ work = sym (c.front.whole ∙ append-nil c.done) in
+    record {
+      known_is = ap (λ (l : Ledger). l.met) c.now_is ∙ ap (λ (es : List Entry). known_after met (fetches es)) all;
+      told_is = ap (λ (l : Ledger). l.answered) c.now_is ∙ ap (λ (es : List Entry). told_with met es before) all;
+    }
+
 pub page_is_found : (pages : Pages) (page : List ℕ) (met : List (List ℕ)) (spent : ℕ) (answered told : Option (List (List ℕ))) (to : ℕ)
     (old new : Found) (x : Expansion) (ps : List Piece) (cs : List Outer) (ts : List Range) → IsUtf8 page
     → deep_place mode.Page page ≡ None → spent ≡ 0 → old.pieces.items ≡ [] → old.outer.items ≡ [] → old.text_calls.items ≡ []
@@ -56,14 +72,16 @@ page_is_found pages page met spent answered told to old new x ps cs ts utf8 fits
     let comes = subst (λ (y : Reading). Comes pages page (ledger 0 met answered) (text_given y page).work (ledger x.spent known told) []) (reading_is pages)
     (subst (λ (es : List Entry). Comes pages page (ledger 0 met answered) es (ledger x.spent known told) []) (work_is pages page)
     (subst (λ (n : ℕ). Comes pages page (ledger n met answered) walked (ledger x.spent known told) []) free h.works.comes)) in
+    let whole = whole_by pages page met known w answered told x.spent comes in
+    let same : known ≡ known_after met (fetches (page_work pages page)) =
+    whole.known_is ∙ ap (λ (es : List Entry). known_after met (fetches es)) (sym (page_work_is pages page)) in
     record {
       found = page_found pages page old new to ps cs ts utf8 a b c h.finds p q r;
-      allowed = entered_first pages page fits ∙ ap (refusal_from pages page 0) (sym (append-nil w)) ∙ comes.refusal [];
+      allowed = entered_first pages page fits ∙ ap (refusal_from pages page 0) (sym (append-nil w))
+          ∙ comes_refusal pages page (ledger 0 met answered) w (ledger x.spent known told) [] comes [];
       more = record {
-        known = known;
-        free = record { stored = h.works.stored; names = names };
-        names = λ rest. ap (λ (es : List Entry). option_map (λ ns. ns ++ firsts_after met (fetches (es ++ rest))) answered) (page_work_is pages page)
-            ∙ comes.names rest;
+        free = record { stored = subst (λ (ns : List (List ℕ)). IsStore pages ns x.store) same h.works.stored; names = names };
+        told_is = whole.told_is ∙ ap (λ (es : List Entry). told_with met es answered) (sym (page_work_is pages page));
       };
     }
 
@@ -74,38 +92,25 @@ RefusesFrom pages page met spent answered told e =
     Refuses pages page (ledger spent met answered)
     (given_from (at_page pages) true page 0 (page_members page)).work told e
 
+-- where the walk stops the page's work does
+pub found_stops : (pages : Pages) (page : List ℕ) (met : List (List ℕ)) (spent : ℕ)
+    (answered told : Option (List (List ℕ))) (e : ExpandRefusal)
+    → deep_place mode.Page page ≡ None → spent ≡ 0 → RefusesFrom pages page met spent answered told e
+    → Stops pages page 0 met (page_work pages page) answered told e
+found_stops pages page met spent answered told e fits free h =
+    let work = (given_from (at_page pages) true page 0 (page_members page)).work in
+    let own = subst (λ (es : List Entry). Stops pages page 0 met es answered told e) (work_is pages page)
+    (subst (λ (n : ℕ). Stops pages page n met work answered told e) free h) in
+    let text = subst (λ (y : Reading). Stops pages page 0 met (text_given y page).work answered told e) (reading_is pages) own in
+    text_stops pages page met answered told e fits text
+
 -- a refusal of the walk is the first one of the page
 pub found_refused : (pages : Pages) (page : List ℕ) (met : List (List ℕ)) (spent : ℕ)
     (answered told : Option (List (List ℕ))) (e : ExpandRefusal)
     → deep_place mode.Page page ≡ None → spent ≡ 0 → RefusesFrom pages page met spent answered told e
     → IsRefused (first_refusal pages page (page_work pages page)) e
 found_refused pages page met spent answered told e fits free h =
-    let work = (given_from (at_page pages) true page 0 (page_members page)).work in
-    let own = subst (λ (es : List Entry). Refuses pages page (ledger 0 met answered) es told e) (work_is pages page)
-    (subst (λ (n : ℕ). Refuses pages page (ledger n met answered) work told e) free h) in
-    page_refused pages page e fits (λ rest. (own rest).0)
-
--- the names that all of this work asks for, and what follows it, where some were known and some were answered
-abbrev pub told_with : List (List ℕ) → Option (List (List ℕ)) → List Entry → List Entry
-    → Option (List (List ℕ))
-told_with met answered es rest = option_map (λ ns. ns ++ firsts_after met (fetches (es ++ rest))) answered
-
--- the names that are answered where the walk is refused are the first of those that the page's work asks for
-pub found_stops : (pages : Pages) (page : List ℕ) (met : List (List ℕ)) (spent : ℕ)
-    (answered told : Option (List (List ℕ))) (e : ExpandRefusal) (rest : List Entry)
-    → RefusesFrom pages page met spent answered told e
-    → AreFirst told (told_with met answered (page_work pages page) rest)
-found_stops pages page met spent answered told e rest h =
-    let first : List Entry → Type 0 = λ es. AreFirst told (told_with met answered es rest) in
-    subst first (sym (page_work_is pages page))
-    (subst (λ (y : Reading). first (text_given y page).work) (reading_is pages)
-    (subst first (work_is pages page) (h rest).1))
-
--- nothing is asked for where the page isn't read
-pub unread_stops : (pages : Pages) (page : List ℕ) (met : List (List ℕ)) (answered : Option (List (List ℕ)))
-    (rest : List Entry) → AreFirst answered (told_with met answered (page_work pages page) rest)
-unread_stops pages page met answered rest =
-    first_some answered (firsts_after met (fetches (page_work pages page ++ rest)))
+    stops_page pages page met (page_work pages page) answered told e (found_stops pages page met spent answered told e fits free h)
 
 -- an expansion whose costs are counted anew
 pub free_still : (pages : Pages) (met : List (List ℕ)) (old x : Expansion) → x.store ≡ old.store → x.names ≡ old.names → IsFree pages met old
@@ -137,33 +142,11 @@ free_by_agreeing pages others met old new h k a =
 
 -- ---- the names of a page's work
 
-names_end : (a : Option (List (List ℕ))) → option_map (λ ns. ns ++ []) a ≡ a
-names_end None = refl
-names_end (Some ns) = ap Some (append-nil ns)
-
 asked_are : (es : List Entry) → names_asked es ≡ firsts_after [] (fetches es)
 unfolding names_asked
 asked_are es = refl
 
--- where nothing was known before, and no work follows
-pub stops_at_first : (work : List Entry) (answered told : Option (List (List ℕ)))
-    → AreFirst told (told_with [] answered work []) → AreFirst told (option_map (λ ns. ns ++ names_asked work) answered)
-stops_at_first work answered told h =
-    subst (λ ns. AreFirst told (option_map (λ xs. xs ++ ns) answered)) (sym (asked_are work))
-    (subst (λ (es : List Entry). AreFirst told (option_map (λ xs. xs ++ firsts_after [] (fetches es)) answered))
-    (append-nil work) h)
-
 -- where nothing was known before, the folder answered the names that the work asks for
 pub asked_at_first : (pages : Pages) (work : List Entry) (x : Expansion) (answered told : Option (List (List ℕ)))
     → KnowsMore pages [] work x answered told → told ≡ option_map (λ ns. ns ++ names_asked work) answered
-asked_at_first pages work x answered told h =
-    sym (ap (λ es. option_map (λ ns. ns ++ es) answered) (asked_are work)
-    ∙ ap (λ es. option_map (λ ns. ns ++ firsts_after [] (fetches es)) answered) (sym (append-nil work)) ∙ h.names [] ∙ names_end told)
-
--- what is asked for the work of two pages, one after the other
-pub asked_for_both : (pages : Pages) (first second : List Entry) (mid last_known : Expansion) (answered told last : Option (List (List ℕ)))
-    (k : KnowsMore pages [] first mid answered told) → KnowsMore pages k.known second last_known told last
-    → last ≡ option_map (λ ns. ns ++ names_asked (first ++ second)) answered
-asked_for_both pages first second mid last_known answered told last k h =
-    sym (ap (λ es. option_map (λ ns. ns ++ es) answered) (asked_are (first ++ second)) ∙ k.names second
-    ∙ ap (λ es. option_map (λ ns. ns ++ firsts_after k.known (fetches es)) told) (sym (append-nil second)) ∙ h.names [] ∙ names_end last)
+asked_at_first pages work x answered told h = h.told_is ∙ ap (λ es. option_map (λ ns. ns ++ es) answered) (sym (asked_are work))

@@ -1,4 +1,5 @@
 pub mod FoundLaws
+pub mod FunctionSigns
 pub mod KnownLaws
 pub mod MarkBytes
 pub mod PageWalk

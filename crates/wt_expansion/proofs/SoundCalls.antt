@@ -1,6 +1,6 @@
 -- The outermost calls of an expanded page: their parts lie in order at character borders.
 use Rattle.std.proofs.Common.{◌≡◌, ℕ, suc, ◌+◌, ◌-◌, ◌<◌, ◌≤◌, Bool, true, false, Option, Some, None, List, [], ◌∷◌, ◌++◌, length, map, take, drop, refl, sym, ap, ◌∙◌, subst, arith, length-take, length-drop}
-use Rattle.std.specs.Prelude.{slice_index, ◌==◌, not, is_some, if◌then◌else◌, All}
+use Rattle.std.specs.Prelude.{slice_index, ◌==◌, ◌||◌, not, is_some, if◌then◌else◌, All}
 use Rattle.std.specs.Str.{IsUtf8, IsCharBoundary}
 use Rattle.std.proofs.lemmas.Str.{IsCharBoundary-before_ascii, IsCharBoundary-after_ascii}
 use Rattle.std.proofs.lemmas.List.{drop-drop, get_or-drop}
@@ -8,6 +8,8 @@ use Rattle.std.proofs.lemmas.List.Elements.{All-nil, All-cons, All-append}
 use Rattle.wt_span.specs.declared.form.Mode.TheVariants as mode
 use Rattle.wt_span.specs.declared.form.LexKind.TheVariants.{Equals, Pipe}
 use Rattle.wt_span.specs.Bytes.{is_break}
+use Rattle.wt_span.specs.declared.function.Function.{Function}
+use Rattle.wt_span.specs.Functions.{function_of}
 use Rattle.wt_span.specs.Items.{Item}
 use Rattle.wt_span.specs.Origins.{OuterCall, Span, IsBorder, LieFrom, IsNameEnd, AreNameEnds, IsSoundCall}
 use Rattle.wt_span.specs.Braces.{Member, Members, lexeme, call, none, more, members, listed, width, width_of_all, Sign, pipe, equals, sign_of, in_link, PartAt, parts_of}
@@ -16,11 +18,12 @@ use Rattle.wt_braces.specs.PartMembers.{PartMembers, joined, rejoined, part_memb
 use Rattle.wt_braces.proofs.Rejoins.{parts_join}
 use Rattle.wt_transclusion.proofs.PartLaws.{call_places}
 use Rattle.wt_transclusion.proofs.StretchLaws.{width_append, members_listed}
-use Rattle.wt_expand.specs.Targets.{Called, argument, function, page, text, called, called_by, is_function, title_of_target}
+use Rattle.wt_expand.specs.Targets.{Called, argument, choice, function, page, text, called, called_by, called_function, is_function, title_of_target}
 use Rattle.wt_names.specs.declared.title.Title.{Title}
 use Rattle.wt_expand.specs.Work.{Pages}
 use Rattle.wt_expand.specs.Expansion.{Reading, chars, target_part, part_outputs, back_braces, output_of, outputs_of, text_members, page_reading}
 use Rattle.wt_expand.specs.PageCalls.{Stretch, own, outer, text_call, link_of, outer_at, call_stretches, stretches_of, all_stretches, outer_calls, page_stretches, expanded_page}
+use Rattle.wt_expansion.proofs.FunctionSigns.{names_none}
 use Rattle.wt_expansion.proofs.SoundMembers.{IsCallHere, IsSoundMember, AreSoundMembers, text_sound, text_width}
 use Rattle.wt_expansion.proofs.SoundItems.{stretches_are}
 
@@ -192,40 +195,39 @@ placed_len : (p : ℕ) (ps : List PartMembers) → length (spans (placed p ps)) 
 placed_len p [] = refl
 placed_len p (q ∷ ps) = ap suc (placed_len (p + (name_width q.name + width_of q.value) + q.bar) ps)
 
--- ---- what it is by its braces
+-- ---- what it is by its braces and its target
 
-called_is : (k : ℕ) (source : List ℕ) (target : List Item) → called k source target
-    ≡ (if k == 3 then argument else (if is_function source then function else called_by (title_of_target target)))
+abbrev kind_by : Bool → Bool → Option (Function × ℕ) → Option Title → Called
+kind_by t u w o = if t then argument else (if u then called_function w else called_by o)
+
+called_is : (k : ℕ) (source : List ℕ) (target : List Item)
+    → called k source target ≡ kind_by (k == 3) (is_function source) (function_of (drop 2 source)) (title_of_target target)
 unfolding called
 called_is k source target = refl
 
-linked : (c : Called) (k : ℕ) (source : List ℕ) (target : List Item) → called k source target ≡ c → (c ≡ function → ⊥) → (c ≡ text → ⊥)
-    → is_some (link_of c) ≡ not (k == 3)
-linked c k source target e f g = by_braces (k == 3) c (sym (called_is k source target) ∙ e) f g
-  where
-    none_argument : (o : Option Title) → called_by o ≡ argument → ⊥
-    none_argument None h = cc
-    none_argument (Some t) h = cc
+link_by : (t u : Bool) (w : Option (Function × ℕ)) (o : Option Title) → (u ≡ false → is_some w ≡ false) → (kind_by t u w o ≡ function → ⊥)
+    → (kind_by t u w o ≡ text → ⊥) → is_some (link_of (kind_by t u w o)) ≡ not (t || is_some w)
+link_by true u w o n f g = refl
+link_by false true None o n f g = absurd (f refl)
+link_by false true (Some (c, k)) o n f g = refl
+link_by false false w None n f g = absurd (g refl)
+link_by false false w (Some t) n f g = sym (ap not (n refl))
 
-    by_braces : (b : Bool) (d : Called) → (if b then argument else (if is_function source then function else called_by (title_of_target target))) ≡ d
-        → (d ≡ function → ⊥) → (d ≡ text → ⊥) → is_some (link_of d) ≡ not b
-    by_braces true argument h i j = refl
-    by_braces true function h i j = absurd (i refl)
-    by_braces true (page t) h i j = absurd (let z : argument ≡ page t = h in cc)
-    by_braces true text h i j = absurd (j refl)
-    by_braces false argument h i j = absurd (by_function (is_function source) h)
-      where
-        by_function : (b : Bool) → (if b then function else called_by (title_of_target target)) ≡ argument → ⊥
-        by_function true h = cc
-        by_function false h = none_argument (title_of_target target) h
-    by_braces false function h i j = absurd (i refl)
-    by_braces false (page t) h i j = refl
-    by_braces false text h i j = absurd (j refl)
+-- a call without a link that is neither text nor kept as it stands is an argument or a function
+linked : (c : Called) (k : ℕ) (source : List ℕ) (target : List Item) → called k source target ≡ c → (c ≡ function → ⊥) → (c ≡ text → ⊥)
+    → is_some (link_of c) ≡ not (k == 3 || is_some (function_of (drop 2 source)))
+linked c k source target e f g =
+    let w = function_of (drop 2 source) in
+    let o = title_of_target target in
+    let is : kind_by (k == 3) (is_function source) w o ≡ c = sym (called_is k source target) ∙ e in
+    subst (λ d. is_some (link_of d) ≡ not (k == 3 || is_some w)) is
+    (link_by (k == 3) (is_function source) w o (names_none source) (λ h. f (sym is ∙ h)) (λ h. g (sym is ∙ h)))
 
 -- ---- a call
 
 sound_outer : (t : List ℕ) (at k : ℕ) (ms : Members) (c : Called) → IsUtf8 t → at + (k + width_of_all ms + k) ≤ length t
-    → IsCallHere mode.Page (drop at t) k ms → AreSoundMembers mode.Page (drop (at + k) t) ms → is_some (link_of c) ≡ not (k == 3)
+    → IsCallHere mode.Page (drop at t) k ms → AreSoundMembers mode.Page (drop (at + k) t) ms
+    → is_some (link_of c) ≡ not (k == 3 || is_some (function_of (drop 2 (take (k + width_of_all ms + k) (drop at t)))))
     → IsSoundCall (outer_at at k (take (k + width_of_all ms + k) (drop at t)) ms c)
 sound_outer t at k ms c u w h f l =
     let n : ℕ = k + width_of_all ms + k in
@@ -270,10 +272,13 @@ both_sound ss ts f g = subst (All IsSoundCall) (sym (calls_append ss ts)) (All-a
 
 sound_call : (c : Called) (at k : ℕ) (source : List ℕ) (target : List Item) (ms : Members) (given : List Item) (inside : List Stretch)
     → called k source target ≡ c
-    → ((d : Called) → is_some (link_of d) ≡ not (k == 3) → IsSoundCall (outer_at at k source ms d))
+    → ((d : Called) → is_some (link_of d) ≡ not (k == 3 || is_some (function_of (drop 2 source))) → IsSoundCall (outer_at at k source ms d))
     → All IsSoundCall (outer_calls inside) → All IsSoundCall (outer_calls (call_stretches c at k source ms given inside))
 sound_call argument at k source target ms given inside e f g =
     All-cons IsSoundCall (outer_at at k source ms argument) [] (f argument (linked argument k source target e (λ h. cc) (λ h. cc))) (All-nil IsSoundCall)
+sound_call (choice c n) at k source target ms given inside e f g =
+    All-cons IsSoundCall (outer_at at k source ms (choice c n)) [] (f (choice c n) (linked (choice c n) k source target e (λ h. cc) (λ h. cc)))
+    (All-nil IsSoundCall)
 sound_call function at k source target ms given inside e f g = All-nil IsSoundCall
 sound_call (page t) at k source target ms given inside e f g =
     All-cons IsSoundCall (outer_at at k source ms (page t)) [] (f (page t) (linked (page t) k source target e (λ h. cc) (λ h. cc))) (All-nil IsSoundCall)
@@ -291,7 +296,8 @@ mutual
       let inside : drop k bs ≡ drop (at + k) t = ap (drop k) e ∙ drop-drop k at t in
       sound_call (called k source target) at k source target ms (output_of r start bs (call k ms)).items (all_stretches r (at + k) false (drop k bs) ms) refl
       (λ d h. subst (λ xs. IsSoundCall (outer_at at k (take (k + width_of_all ms + k) xs) ms d)) (sym e)
-      (sound_outer t at k ms d u l (subst (λ xs. IsCallHere mode.Page xs k ms) e f.0) (subst (λ xs. AreSoundMembers mode.Page xs ms) inside f.1) h))
+      (sound_outer t at k ms d u l (subst (λ xs. IsCallHere mode.Page xs k ms) e f.0) (subst (λ xs. AreSoundMembers mode.Page xs ms) inside f.1)
+      (subst (λ xs. is_some (link_of d) ≡ not (k == 3 || is_some (function_of (drop 2 (take (k + width_of_all ms + k) xs))))) e h)))
       (calls_all r t (at + k) false (drop k bs) ms u inside (omega (arith, l)) f.1)
 
   calls_all : (r : Reading) (t : List ℕ) (at : ℕ) (start : Bool) (bs : List ℕ) (ms : Members) → IsUtf8 t → bs ≡ drop at t → at + width_of_all ms ≤ length t

@@ -13,7 +13,7 @@ use Rattle.wt_span.specs.Origins.{FitsOrigin, OuterCall}
 use Rattle.wt_span.specs.Braces.{Member, Members, lexeme, call, none, more, width, width_of_all, IsCall}
 use Rattle.wt_braces.specs.PartMembers.{part_members}
 use Rattle.wt_expand.specs.PageItems.{raw_form_by}
-use Rattle.wt_expand.specs.Targets.{Called, argument, function, page, text, called}
+use Rattle.wt_expand.specs.Targets.{Called, argument, choice, function, page, text, called}
 use Rattle.wt_expand.specs.Work.{Pages}
 use Rattle.wt_expand.specs.Expansion.{Output, chars, lexeme_items, target_part, part_outputs, front_braces, back_braces, outputs_of, called_output, text_members, page_reading}
 use Rattle.wt_expand.specs.PageCalls.{Stretch, own, outer, text_call, call_stretches, stretches_of, all_stretches, from_call, outer_items, numbered, page_stretches, expanded_page}
@@ -76,6 +76,7 @@ sound_call : (c : Called) (pages : Pages) (start : Bool) (at k : ℕ) (bs : List
     → AreSoundStretches (call_stretches c at k (take (k + width_of_all ms + k) bs) ms
     (called_output c (page_reading pages) start k (take (k + width_of_all ms + k) bs) (part_outputs (part_members 0 ms) os) os).items inside)
 sound_call argument pages start at k bs ms os inside h w f = ((w, h.is_call), tt)
+sound_call (choice c n) pages start at k bs ms os inside h w f = ((w, h.is_call), tt)
 sound_call function pages start at k bs ms os inside h w f = (((w.0, h.is_call), tt), tt)
 sound_call (page t) pages start at k bs ms os inside h w f = ((w, h.is_call), tt)
 sound_call text pages start at k bs ms os inside h w f =

@@ -7,7 +7,7 @@ use Rattle.wt_span.specs.Items.{Item}
 use Rattle.wt_span.specs.Origins.{Span, AreInOrder}
 use Rattle.wt_span.specs.Braces.{Member, Members, lexeme, call, none, more, width, width_of_all}
 use Rattle.wt_braces.specs.PartMembers.{part_members}
-use Rattle.wt_expand.specs.Targets.{Called, argument, function, page, text, called}
+use Rattle.wt_expand.specs.Targets.{Called, argument, choice, function, page, text, called}
 use Rattle.wt_expand.specs.Work.{Pages}
 use Rattle.wt_expand.specs.Expansion.{Reading, chars, back_braces, target_part, part_outputs, output_of, outputs_of, text_members, page_reading}
 use Rattle.wt_expand.specs.PageCalls.{Stretch, own, outer, text_call, call_stretches, stretches_of, all_stretches, text_spans, page_stretches, expanded_page}
@@ -32,6 +32,7 @@ rise_call : (c : Called) (at k : ℕ) (source : List ℕ) (ms : Members) (given 
     → RiseTo (at + k) (text_spans inside) (at + k + width_of_all ms)
     → RiseTo at (text_spans (call_stretches c at k source ms given inside)) (at + (k + width_of_all ms + k))
 rise_call argument at k source ms given inside f = omega arith
+rise_call (choice c n) at k source ms given inside f = omega arith
 rise_call function at k source ms given inside f = omega arith
 rise_call (page t) at k source ms given inside f = omega arith
 rise_call text at k source ms given inside f =

@@ -1,18 +1,20 @@
 -- Calls of the page: what is found of each, and its work.
 use Rattle.std.proofs.Common.{◌≡◌, ℕ, ◌+◌, ◌-◌, ◌≤◌, Bool, true, false, Option, Some, None, List, [], ◌∷◌, Ok, map, take, drop, refl, sym, ap, ◌∙◌, subst, arith, append-nil}
-use Rattle.std.specs.Prelude.{◌==◌, slice_range, if◌then◌else◌}
+use Rattle.std.specs.Prelude.{◌==◌, ◌||◌, is_some, slice_range, if◌then◌else◌}
 use Rattle.wt_span.specs.declared.form.Mode.TheVariants as mode
 use Rattle.wt_span.specs.declared.form.Form.TheVariants as form
 use Rattle.wt_span.specs.declared.form.Piece.{Piece}
 use Rattle.wt_span.specs.declared.text.Text.{Text}
 use Rattle.wt_span.specs.Slice.{bytes_of, start_of, end_of}
+use Rattle.wt_span.specs.declared.function.Function.{Function}
+use Rattle.wt_span.specs.Functions.{function_of}
 use Rattle.wt_span.specs.Items.{Item, whole, items}
 use Rattle.wt_span.specs.Origins.{OuterCall}
 use Rattle.wt_span.specs.Braces.{call, width_of_all, parts_of, PartAt}
 use Rattle.wt_names.specs.declared.title.Title.{Title}
 use Rattle.wt_braces.specs.PartMembers.{PartMembers, part_members}
 use Rattle.wt_braces.specs.Views.{part_of}
-use Rattle.wt_expand.specs.Targets.{Called, argument, function, page, called, called_by, is_function, title_of_target}
+use Rattle.wt_expand.specs.Targets.{Called, argument, choice, function, page, called, called_by, called_function, is_function, title_of_target}
 use Rattle.wt_expand.specs.Work.{Pages, Entry}
 use Rattle.wt_expand.specs.Expansion.{Output, PartOutput, target_part, part_outputs, called_output, output_of, outputs_of}
 use Rattle.wt_expand.specs.PageCalls.{Stretch, own, outer, link_of, outer_at, call_stretches, all_stretches}
@@ -26,9 +28,11 @@ use Rattle.wt_levels.specs.declared.reader.Reader.{Reader}
 use Rattle.wt_levels.specs.Calls.{IsCallOf, source_of, first_end}
 use Rattle.wt_levels.specs.Ledgers.{Ledger, AnswersOutput, Refuses, ledger}
 use Rattle.wt_levels.specs.Runs.{page_called}
+use Rattle.wt_levels.proofs.LedgerLaws.{comes_none}
 use Rattle.wt_expansion.specs.declared.found.Found.{Found}
 use Rattle.wt_expansion.specs.Calls.{outer_of}
-use Rattle.wt_expansion.specs.Walks.{at_page, Adds, Works, Walked, IsCallNext, call_stretches_at, call_work, page_stretch, page_work_at}
+use Rattle.wt_expansion.specs.Walks.{at_page, Adds, Works, Walked, IsCallNext, call_stretches_at, call_work, is_by_source, page_stretch, page_work_at}
+use Rattle.wt_expansion.proofs.FunctionSigns.{named_is_function}
 use Rattle.wt_expansion.proofs.WalkLaws.{alike_same}
 
 -- ---- what a call is
@@ -43,14 +47,25 @@ called_argument : (k : ℕ) (source : List ℕ) (target : List Item) → (k == 3
 unfolding called
 called_argument k source target e = if_true (k == 3) argument _ e
 
-called_function : (k : ℕ) (source : List ℕ) (target : List Item) → (k == 3) ≡ false → is_function source ≡ true → called k source target ≡ function
+-- a function, by the word of its target
+called_named : (k : ℕ) (source : List ℕ) (target : List Item) → (k == 3) ≡ false → is_function source ≡ true
+    → called k source target ≡ called_function (function_of (drop 2 source))
 unfolding called
-called_function k source target e f = if_false (k == 3) argument _ e ∙ if_true (is_function source) function _ f
+called_named k source target e f = if_false (k == 3) argument _ e ∙ if_true (is_function source) (called_function (function_of (drop 2 source))) _ f
+
+called_kept : (k : ℕ) (source : List ℕ) (target : List Item) → (k == 3) ≡ false → is_function source ≡ true
+    → is_some (function_of (drop 2 source)) ≡ false → called k source target ≡ function
+called_kept k source target e f n = called_named k source target e f ∙ by_name (function_of (drop 2 source)) n
+  where
+    by_name : (o : Option (Function × ℕ)) → is_some o ≡ false → called_function o ≡ function
+    by_name None h = refl
+    by_name (Some (c, m)) h = cc
 
 pub called_title : (k : ℕ) (source : List ℕ) (target : List Item) → (k == 3) ≡ false → is_function source ≡ false
     → called k source target ≡ called_by (title_of_target target)
 unfolding called
-called_title k source target e f = if_false (k == 3) argument _ e ∙ if_false (is_function source) function _ f
+called_title k source target e f = if_false (k == 3) argument _ e
+    ∙ if_false (is_function source) (called_function (function_of (drop 2 source))) _ f
 
 -- its parts and its members as they are expanded
 abbrev pub call_outs : (pages : Pages) (t : List ℕ) (b : Braces) → IsCallOf mode.Page t b → List Output
@@ -162,26 +177,54 @@ works_of : (pages : Pages) (t : List ℕ) (l : Ledger) (o : Output) (store : Sto
     → AnswersOutput pages t l o store spent answered (Ok ps) → Works pages t l o.work store spent answered []
 works_of pages t l o store spent answered ps h = record { met = h.1; stored = h.2; comes = h.3 }
 
--- ---- an argument
+-- ---- an argument, or a function by text
 
-pub argument_walked : (pages : Pages) (t : List ℕ) (l : Ledger) (b : Braces) (reader : Reader) (s : Bool) (n : IsCallNext t b reader s) (source : Text)
+-- a call that has no link, and is found as an outermost one
+record IsUnlinked (pages : Pages) (t : List ℕ) (b : Braces) (c : IsCallOf mode.Page t b) (s : Bool) : Type 0 where
+  pub kind : Called
+  pub is : what pages t b c ≡ kind
+  pub link : None ≡ link_of kind
+  pub stretches : outer (outer_at c.at c.braces (source_of mode.Page t b c) c.inside kind) (output_by pages t b c s kind).items ∷ []
+      ≡ stretches_by pages t b c s kind
+
+unlinked : (pages : Pages) (t : List ℕ) (b : Braces) (c : IsCallOf mode.Page t b) (s : Bool)
+    → is_by_source b.argument (source_of mode.Page t b c) ≡ true → IsUnlinked pages t b c s
+unlinked pages t b c s h = by_kind b.argument (function_of (drop 2 src)) c.kind_is refl h
+  where
+    src : List ℕ
+    src = source_of mode.Page t b c
+
+    by_kind : (a : Bool) (o : Option (Function × ℕ)) → a ≡ (c.braces == 3) → function_of (drop 2 src) ≡ o → (a || is_some o) ≡ true
+        → IsUnlinked pages t b c s
+    by_kind true o e f g = record { kind = argument; is = called_argument c.braces src _ (sym e); link = refl; stretches = refl }
+    by_kind false None e f g = cc
+    by_kind false (Some (d, n)) e f g = record {
+      kind = choice d n;
+      is = called_named c.braces src _ (sym e) (named_is_function src d n f) ∙ ap called_function f;
+      link = refl;
+      stretches = refl;
+    }
+
+pub unlinked_walked : (pages : Pages) (t : List ℕ) (l : Ledger) (b : Braces) (reader : Reader) (s : Bool) (n : IsCallNext t b reader s) (source : Text)
     (old new : Found)
-    (store : Store) (spent : ℕ) (answered : Option (List (List ℕ))) (ps : List Piece) → b.argument ≡ true
+    (store : Store) (spent : ℕ) (answered : Option (List (List ℕ))) (ps : List Piece)
+    → is_by_source b.argument (slice_range reader.text.text.now b.at.start b.at.end) ≡ true
     → AnswersOutput pages t l (given_from (at_page pages) s t n.is.at (call n.is.braces n.is.inside ∷ [])) store spent answered (Ok ps)
     → start_of source ≡ b.at.start → end_of source ≡ b.at.end → bytes_of source ≡ slice_range reader.text.text.now b.at.start b.at.end
     → Adds old new (start_of source) (outer (outer_of source b None) (items ps) ∷ []) (end_of source)
     → Walked pages t l (call_stretches_at pages t b n.is s) (call_work pages t b n.is s) n.is.at b.at.end old new store spent answered
-argument_walked pages t l b reader s n source old new store spent answered ps is h s_is e_is b_is a =
+unlinked_walked pages t l b reader s n source old new store spent answered ps is h s_is e_is b_is a =
     let c = n.is in
-    let e : what pages t b c ≡ argument = called_argument c.braces (source_of mode.Page t b c) _ (sym c.kind_is ∙ is) in
+    let same = source_same t reader.text.text.now b c n.reading.read.text_is in
+    let d = unlinked pages t b c s (subst (λ bs. is_by_source b.argument bs ≡ true) same is) in
     let o = output_of (at_page pages) s (drop c.at t) (call c.braces c.inside) in
-    let given : items ps ≡ (output_by pages t b c s argument).items = h.0 ∙ append-nil o.items
-    ∙ ap (λ (x : Output). x.items) (output_is pages t b c s argument e) in
-    let found = outer_found t b c source None argument old new (items ps) _ s_is e_is (b_is
-    ∙ source_same t reader.text.text.now b c n.reading.read.text_is) refl given a in
-    walked_by pages t l (call_stretches_at pages t b c s) (stretches_by pages t b c s argument) (call_work pages t b c s)
+    let given : items ps ≡ (output_by pages t b c s d.kind).items = h.0 ∙ append-nil o.items
+    ∙ ap (λ (x : Output). x.items) (output_is pages t b c s d.kind d.is) in
+    let found = outer_found t b c source None d.kind old new (items ps) _ s_is e_is (b_is ∙ same) d.link given a in
+    let stretches = d.stretches ∙ sym (stretches_is pages t b c s d.kind d.is) in
+    walked_by pages t l (call_stretches_at pages t b c s) _ (call_work pages t b c s)
     (given_from (at_page pages) s t c.at (call c.braces c.inside ∷ [])).work c.at b.at.end old new store spent answered
-    (sym (stretches_is pages t b c s argument e)) (append-nil o.work) found (works_of pages t l _ store spent answered ps h)
+    stretches (append-nil o.work) found (works_of pages t l _ store spent answered ps h)
 
 pub refused_one : (pages : Pages) (t : List ℕ) (l : Ledger) (b : Braces) (c : IsCallOf mode.Page t b)
     (s : Bool)
@@ -191,25 +234,28 @@ pub refused_one : (pages : Pages) (t : List ℕ) (l : Ledger) (b : Braces) (c : 
 refused_one pages t l b c s told e h = subst (λ es. Refuses pages t l es told e)
     (append-nil (output_of (at_page pages) s (drop c.at t) (call c.braces c.inside)).work) h
 
--- ---- a function
+-- ---- a function that is kept as it stands
 
 pub function_walked : (pages : Pages) (t : List ℕ) (met : List (List ℕ)) (spent : ℕ) (answered : Option (List (List ℕ))) (b : Braces) (reader : Reader)
     (s : Bool)
     (n : IsCallNext t b reader s) (old new : Found) (store : Store) → b.argument ≡ false
-    → is_function (slice_range reader.text.text.now b.at.start b.at.end) ≡ true → IsStore pages met store
+    → is_function (slice_range reader.text.text.now b.at.start b.at.end) ≡ true
+    → is_some (function_of (drop 2 (slice_range reader.text.text.now b.at.start b.at.end))) ≡ false → IsStore pages met store
     → Adds old new b.at.start (own (whole form.Function None (slice_range t b.at.start b.at.end) ∷ []) ∷ []) b.at.end
     → Walked pages t (ledger spent met answered) (call_stretches_at pages t b n.is s) (call_work pages t b n.is s) n.is.at b.at.end old new store spent answered
-function_walked pages t met spent answered b reader s n old new store is fn stored a =
+function_walked pages t met spent answered b reader s n old new store is fn other stored a =
     let c = n.is in
     let src = source_of mode.Page t b c in
-    let named = sym (ap is_function (source_same t reader.text.text.now b c n.reading.read.text_is)) ∙ fn in
-    let e : what pages t b c ≡ function = called_function c.braces src _ (sym c.kind_is ∙ is) named in
+    let same = source_same t reader.text.text.now b c n.reading.read.text_is in
+    let named = sym (ap is_function same) ∙ fn in
+    let none = subst (λ bs. is_some (function_of (drop 2 bs)) ≡ false) same other in
+    let e : what pages t b c ≡ function = called_kept c.braces src _ (sym c.kind_is ∙ is) named none in
     let found = subst (λ k. Adds old new k (own (whole form.Function None src ∷ []) ∷ []) b.at.end) c.start_is
     (subst (λ bs. Adds old new b.at.start (own (whole form.Function None bs ∷ []) ∷ []) b.at.end) (source_same t t b c refl) a) in
     walked_by pages t (ledger spent met answered) (call_stretches_at pages t b c s) (stretches_by pages t b c s function) (call_work pages t b c s) []
     c.at b.at.end old new store spent answered (sym (stretches_is pages t b c s function e))
     (sym (ap (λ (x : Output). x.work) (output_is pages t b c s function e))) found
-    (record { met = met; stored = stored; comes = record { refusal = λ rest. refl; names = λ rest. refl } })
+    (record { met = met; stored = stored; comes = comes_none pages t (ledger spent met answered) [] })
 
 -- ---- the call of a page
 

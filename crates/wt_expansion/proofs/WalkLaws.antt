@@ -11,7 +11,7 @@ use Rattle.wt_span.specs.Origins.{OuterCall}
 use Rattle.wt_span.specs.Braces.{Member, Members, lexeme, call, none, more, members, width, width_of_all}
 use Rattle.wt_braces.specs.PartMembers.{part_members, width_of}
 use Rattle.wt_expand.specs.Texts.{target_of, both, target_text}
-use Rattle.wt_expand.specs.Targets.{Called, argument, function, page, text, called, title_in_target, title_of_target}
+use Rattle.wt_expand.specs.Targets.{Called, argument, choice, function, page, text, called, title_in_target, title_of_target}
 use Rattle.wt_expand.specs.Expansion.{Output, joined, chars, lexeme_items, PartOutput, part_outputs, target_part, Reading, front_braces, back_braces, called_output, output_of, outputs_of}
 use Rattle.wt_expand.specs.PageCalls.{Stretch, own, outer, text_call, call_stretches, stretches_of, all_stretches, from_call, outer_items, numbered, outer_calls, text_spans}
 use Rattle.wt_expand.specs.Stretches.{given_items}
@@ -160,6 +160,7 @@ given_call : (c : Called) (r : Reading) (start : Bool) (at k : ℕ) (source : Li
     (os : List Output) (inside : List Stretch) → given_items inside ≡ (joined os).items
     → given_items (call_stretches c at k source ms (called_output c r start k source ps os).items inside) ≡ (called_output c r start k source ps os).items
 given_call argument r start at k source ms ps os inside e = append-nil _
+given_call (choice c n) r start at k source ms ps os inside e = append-nil _
 given_call function r start at k source ms ps os inside e = append-nil _
 given_call (page t) r start at k source ms ps os inside e = append-nil _
 given_call text r start at k source ms ps os inside e =

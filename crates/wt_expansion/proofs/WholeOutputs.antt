@@ -1,6 +1,6 @@
 -- The items that texts, calls and arguments give have whole bytes, whatever the folder has.
 use Rattle.std.proofs.Common.{◌≡◌, ℕ, zero, suc, ◌+◌, ◌-◌, ◌⊎◌, inl, inr, Bool, true, false, Option, Some, None, List, [], ◌∷◌, ◌++◌, length, map, take, drop, refl, sym, ap, ◌∙◌, subst, codes, ⊎_elim}
-use Rattle.std.specs.Prelude.{reverse, slice_index, if◌then◌else◌, ◌&&◌, not}
+use Rattle.std.specs.Prelude.{reverse, slice_index, is_some, if◌then◌else◌, ◌&&◌, not}
 use Rattle.std.specs.Option.{option_or}
 use Rattle.std.specs.Str.{bytes_eq}
 use Rattle.std.proofs.lemmas.List.{reverse-append}
@@ -15,15 +15,18 @@ use Rattle.wt_span.specs.Tags.{Tag, opening_tag, is_nowiki, is_extension, raw_by
 use Rattle.wt_span.specs.Whole.{IsWhole, IsRawTag}
 use Rattle.wt_span.specs.Items.{Item, char, whole, is_char_in, items_by}
 use Rattle.wt_span.specs.Braces.{Member, Members, lexeme, call, none, more, width, width_of_all}
+use Rattle.wt_span.specs.declared.function.Function.{Function}
+use Rattle.wt_span.specs.declared.function.Function.TheVariants.{If, IfEq, Switch}
 use Rattle.wt_names.specs.declared.title.Title.{Title}
 use Rattle.wt_names.specs.Namespace.{full_name_of}
 use Rattle.wt_braces.specs.PartMembers.{PartMembers, part_members}
+use Rattle.wt_functions.specs.Choice.{chosen}
 use Rattle.wt_expand.specs.PageItems.{raw_form_by, raw_form}
 use Rattle.wt_expand.specs.Texts.{is_space, without_front, trimmed_items, name_text}
-use Rattle.wt_expand.specs.Targets.{Called, argument, function, page, text, called}
+use Rattle.wt_expand.specs.Targets.{Called, argument, choice, function, page, text, called}
 use Rattle.wt_expand.specs.Templates.{template_text}
 use Rattle.wt_expand.specs.Work.{Pages, is_among}
-use Rattle.wt_expand.specs.Expansion.{Output, just, joined, chars, lexeme_items, PartOutput, member_count, part_by, part_outputs, target_part, later_parts, Frame, value_of, values_from, Reading, default_output, if_value, opens_block, with_break, front_braces, back_braces, called_output, output_of, outputs_of, text_members, text_given, loop_text, depth_text, absent_text, fetched_output, template_output, most_templates, page_reading}
+use Rattle.wt_expand.specs.Expansion.{Output, just, joined, chars, lexeme_items, PartOutput, member_count, part_by, part_outputs, target_part, later_parts, Frame, value_of, values_from, Reading, default_output, if_value, opens_block, with_break, given_by, first_given, chosen_output, told_outputs, front_braces, back_braces, called_output, output_of, outputs_of, text_members, text_given, loop_text, depth_text, absent_text, fetched_output, template_output, most_templates, page_reading}
 use Rattle.wt_expansion.proofs.SoundMembers.{IsSoundLexeme, IsCallHere, IsSoundMember, AreSoundMembers, text_sound}
 
 -- ---- items
@@ -255,12 +258,36 @@ whole_chosen : (o : Option (List Item)) (d : Output) → IsWholeValue o → AllW
 whole_chosen None d f g = g
 whole_chosen (Some v) d f g = f
 
+-- what a function gives of its parts
+whole_given : (f : Function) (p : PartOutput) → IsWholePart p → AllWhole (given_by f p).items
+whole_given If p h = h.all
+whole_given IfEq p h = h.all
+whole_given Switch p h = h.value
+
+whole_behind : (n : ℕ) (ps : List PartOutput) → AreWholeParts ps → AreWholeParts (drop n ps)
+whole_behind zero ps h = h
+whole_behind (suc n) [] h = tt
+whole_behind (suc n) (p ∷ ps) h = whole_behind n ps h.1
+
+whole_first : (f : Function) (ps : List PartOutput) → AreWholeParts ps → AllWhole (first_given f ps).items
+whole_first f [] h = tt
+whole_first f (p ∷ ps) h = whole_given f p h.0
+
+whole_choice : (f : Function) (o : Option ℕ) (ps : List PartOutput) → AreWholeParts ps → AllWhole (chosen_output f o ps).items
+whole_choice f None ps h = tt
+whole_choice f (Some part) ps h = whole_first f (drop part ps) (whole_behind part ps h)
+
 whole_called : (c : Called) (r : Reading) (start : Bool) (k : ℕ) (source : List ℕ) (ps : List PartOutput) (os : List Output) → IsWholeReading r
     → IsWhole form.Function source → AreWholeParts ps → AllOuts os → AllWhole (called_output c r start k source ps os).items
 whole_called argument r start k source ps os w s f g =
     let name = target_part ps in
     whole_chosen (value_of (name_text name.items) r.frame) (default_output name (later_parts ps)) (whole_value (name_text name.items) r.frame w.frame)
     (whole_default name (later_parts ps) (whole_target ps f) (whole_later ps f))
+whole_called (choice c n) r start k source ps os w s f g =
+    let equals = map (λ p. is_some p.name) (later_parts ps) in
+    let texts = map (λ o. name_text o.items) (told_outputs c n ps) in
+    let o = chosen_output c (chosen c equals texts) ps in
+    whole_break start (trimmed_items o.items) (whole_trimmed o.items (whole_choice c (chosen c equals texts) ps f))
 whole_called function r start k source ps os w s f g = (s, tt)
 whole_called (page t) r start k source ps os w s f g =
     let values = values_from 1 (later_parts ps) in

@@ -1,7 +1,8 @@
 -- What a walk over the page finds.
-use Rattle.std.specs.Prelude.{◌≡◌, ◌≤◌, ℕ, ◌+◌, Bool, false, Option, List, [], ◌∷◌, ◌++◌, Result, Ok, Err, length, map, drop}
+use Rattle.std.specs.Prelude.{◌≡◌, ◌≤◌, ℕ, ◌+◌, ◌||◌, Bool, false, is_some, Option, List, [], ◌∷◌, ◌++◌, Result, Ok, Err, length, map, drop}
 use Rattle.wt_span.specs.declared.form.Mode.TheVariants as mode
 use Rattle.wt_span.specs.declared.form.Piece.{Piece}
+use Rattle.wt_span.specs.Functions.{function_of}
 use Rattle.wt_span.specs.Origins.{outer_call, span_of}
 use Rattle.wt_span.specs.Braces.{Member, call, members, width_of_all}
 use Rattle.wt_expand.specs.Work.{Pages, Entry}
@@ -105,6 +106,10 @@ pub record IsCallNext (page : List ℕ) (b : Braces) (reader : Reader) (s : Bool
   pub is : IsCallOf mode.Page page b
   pub reading : IsReading mode.Page page reader is.at s
   pub alone : IsStretchOf mode.Page page is.at b.at.end (call is.braces is.inside ∷ [])
+
+-- an argument or a function by text: its source alone says so, before its target is read
+abbrev pub is_by_source : Bool → List ℕ → Bool
+is_by_source argument source = argument || is_some (function_of (drop 2 source))
 
 -- a call of a page with a title, whose target is read
 abbrev pub page_stretch : (pages : Pages) (page : List ℕ) (b : Braces) → IsCallOf mode.Page page b → Bool → Title → List Stretch

@@ -1,10 +1,11 @@
 //! A page with its templates expanded.
-ghost use Rattle.std.specs.Prelude.{◌≡◌, ◌<◌, ◌^◌, ◌++◌, ℕ, List, Some, None, IfErr, IfOk, OnErr, OnOk, length, option_map};
+ghost use Rattle.std.specs.Prelude.{◌≡◌, ◌<◌, ◌^◌, ◌++◌, [], ℕ, List, Some, None, IfErr, IfOk, OnOk, length, option_map};
 ghost use Rattle.wt_expand.specs.Expansion.{page_work};
 ghost use Rattle.wt_expand.specs.PageCalls.{expanded_page};
-ghost use Rattle.wt_expand.specs.Work.{Pages, Entry, fetches, first_refusal, firsts_after, names_asked};
+ghost use Rattle.wt_expand.specs.Work.{Pages, first_refusal, names_asked};
 ghost use Rattle.wt_transclusion.specs.Answers.{IsCounted, IsRefused};
-ghost use Rattle.wt_transclusion.specs.Asked.{Asks, AreFirst};
+ghost use Rattle.wt_transclusion.specs.Asked.{Asks};
+ghost use Rattle.wt_transclusion.specs.Stops.{Stops};
 ghost use Rattle.wt_expansion.specs.Known.{HoldsPages, KnowsMore};
 ghost use Rattle.wt_expansion.specs.Walks.{IsFree};
 
@@ -35,7 +36,8 @@ pub struct ExpandedPage<'a> {
 ///
 /// # Errors
 ///
-/// The first refusal in the order of the work; a fault of the folder; want of memory.
+/// The first refusal in the order of the work; a fault of the folder; want of memory. Where a fetch failed,
+/// nothing of the work before it is refused.
 pub fn expand_knowing<'a, F: Folder>(
     alloc: Global,
     page: &'a str,
@@ -56,10 +58,8 @@ pub fn expand_knowing<'a, F: Folder>(
     ensures known { IfOk result (λ found. HoldsPages found.expansion) }
     ensures refused { (pages : Pages) (met : List (List ℕ)) → F.pages folder.old ≡ Some pages → IsFree pages met expansion.entry
         → IfErr result (IsRefused (first_refusal pages page.entry.now (page_work pages page.entry.now))) }
-    ensures stops { (pages : Pages) (met : List (List ℕ)) (rest : List Entry) → F.pages folder.old ≡ Some pages
-        → IsFree pages met expansion.entry
-        → OnErr result (AreFirst (F.answered folder.new)
-        (option_map (λ names. names ++ firsts_after met (fetches (page_work pages page.entry.now ++ rest))) (F.answered folder.old))) }
+    ensures stops { (pages : Pages) (met : List (List ℕ)) → F.pages folder.old ≡ Some pages → IsFree pages met expansion.entry
+        → IfErr result (Stops pages page.entry.now 0 met (page_work pages page.entry.now) (F.answered folder.old) (F.answered folder.new)) }
     ensures kept { F.pages folder.new ≡ F.pages folder.old }
     ensures asks { Asks (F.answered folder.old) (F.answered folder.new) (F.most_asked folder.old) (F.most_asked folder.new) }
     ensures count { IsCounted (F.fault_count folder.old) (F.fault_count folder.new) result }
@@ -89,7 +89,8 @@ pub fn expand_knowing<'a, F: Folder>(
 ///
 /// # Errors
 ///
-/// The first refusal in the order of the work; a fault of the folder; want of memory.
+/// The first refusal in the order of the work; a fault of the folder; want of memory. Where a fetch failed,
+/// nothing of the work before it is refused.
 pub fn expand<'a, F: Folder>(
     alloc: Global,
     page: &'a str,
@@ -108,8 +109,7 @@ pub fn expand<'a, F: Folder>(
     ensures refused { (pages : Pages) → F.pages folder.old ≡ Some pages
         → IfErr result (IsRefused (first_refusal pages page.entry.now (page_work pages page.entry.now))) }
     ensures stops { (pages : Pages) → F.pages folder.old ≡ Some pages
-        → OnErr result (AreFirst (F.answered folder.new)
-        (option_map (λ names. names ++ names_asked (page_work pages page.entry.now)) (F.answered folder.old))) }
+        → IfErr result (Stops pages page.entry.now 0 [] (page_work pages page.entry.now) (F.answered folder.old) (F.answered folder.new)) }
     ensures kept { F.pages folder.new ≡ F.pages folder.old }
     ensures asks { Asks (F.answered folder.old) (F.answered folder.new) (F.most_asked folder.old) (F.most_asked folder.new) }
     ensures count { IsCounted (F.fault_count folder.old) (F.fault_count folder.new) result }

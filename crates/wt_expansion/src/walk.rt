@@ -1,5 +1,5 @@
 //! The walk over the page: its own pieces, its outermost calls and its text calls.
-ghost use Rattle.std.specs.Prelude.{◌≡◌, ◌+◌, ◌≤◌, ◌<◌, ◌∷◌, [], ℕ, List, Bool, None, Some, false, true, IfOk, OnOk, drop, length, slice_get, slice_range};
+ghost use Rattle.std.specs.Prelude.{◌≡◌, ◌+◌, ◌≤◌, ◌<◌, ◌∷◌, [], ℕ, List, Bool, None, Some, false, true, IfOk, OnOk, drop, length, is_some, slice_get, slice_range};
 ghost use Rattle.wt_span.specs.declared.form.Mode.TheVariants as text_mode;
 ghost use Rattle.wt_span.specs.Braces.{Member as TextMember, members};
 ghost use Rattle.wt_span.specs.Items.{items_by};
@@ -12,10 +12,11 @@ ghost use Rattle.wt_transclusion.specs.Answers.{IsCounted};
 ghost use Rattle.wt_transclusion.specs.Asked.{Asks};
 ghost use Rattle.wt_transclusion.specs.Steps.{IsStretchOf, given_from};
 ghost use Rattle.wt_transclusion.specs.Stores.{Concerns, Grows};
+ghost use Rattle.wt_span.specs.Functions.{function_of};
 ghost use Rattle.wt_levels.specs.Calls.{first_end};
 ghost use Rattle.wt_levels.specs.Ledgers.{ledger};
 ghost use Rattle.wt_levels.specs.Readers.{IsReading};
-ghost use Rattle.wt_expansion.specs.Walks.{Adds, AnswersStep, AnswersTarget, AnswersWalk, IsCallNext, IsFree, at_page, behind_stretches, behind_work, call_stretches_at, call_work, page_stretch, page_work_at};
+ghost use Rattle.wt_expansion.specs.Walks.{Adds, AnswersStep, AnswersTarget, AnswersWalk, IsCallNext, IsFree, at_page, behind_stretches, behind_work, call_stretches_at, call_work, is_by_source, page_stretch, page_work_at};
 
 use crate::found::Found;
 use std::alloc::Global;
@@ -25,7 +26,9 @@ use wt_levels::{Expansion, Reader};
 use wt_names::{Title, href_of};
 use wt_outer::Folder;
 use wt_span::{Form, LexKind, Mode, NoMemory};
-use wt_transclusion::{Braces, ExpandRefusal, Next, Values, is_function, title_of_target};
+use wt_transclusion::{
+    Braces, ExpandRefusal, Next, Values, function_named, is_function, title_of_target,
+};
 
 /// More calls than may lie one inside another on a page, whose limit is `NESTED_BRACES` of `wt_braces`.
 pub const MOST_NESTED: u32 = 101;
@@ -90,6 +93,14 @@ fn begins_function(reader: Reader<'_>, call: Braces<'_>) -> Result<bool, NoMemor
 {
     let source = reader.slice(call.at.start, call.at.end)?;
     Ok(is_function(source.as_str().as_bytes()))
+}
+
+/// Whether a call is a function by text.
+fn begins_choice(reader: Reader<'_>, call: Braces<'_>) -> Result<bool, NoMemory>
+    ensures { IfOk result (λ b. b ≡ is_some (function_of (drop 2 (slice_range reader.entry.text.text.now call.entry.at.start call.entry.at.end)))) }
+{
+    let source = reader.slice(call.at.start, call.at.end)?;
+    Ok(function_named(source.as_str().as_bytes()).is_some())
 }
 
 impl<'a> Walk<'a> {
@@ -199,7 +210,11 @@ impl<'a> Walk<'a> {
         ensures names { OnOk result (self.new.expansion.names ≡ self.old.expansion.names) }
     {
         if call.argument {
-            return self.argument(folder, reader, call);
+            return self.without_target(folder, reader, call);
+        }
+        let choice = begins_choice(reader, call)?;
+        if choice {
+            return self.without_target(folder, reader, call);
         }
         let function = begins_function(reader, call)?;
         if function {
@@ -215,8 +230,8 @@ impl<'a> Walk<'a> {
         self.with_target(folder, reader, call, nested)
     }
 
-    /// An argument is an outermost call.
-    fn argument<F: Folder>(
+    /// An argument or a function by text is an outermost call without a link.
+    fn without_target<F: Folder>(
         &mut self,
         folder: &mut F,
         reader: Reader<'a>,
@@ -224,7 +239,7 @@ impl<'a> Walk<'a> {
     ) -> Result<(), ExpandRefusal>
         ensures given { (pages : Pages) (page : List ℕ) (met : List (List ℕ)) (s : Bool) (n : IsCallNext page call.entry reader.entry s)
             → Concerns (F.pages folder.old) pages self.new.expansion.store result → IsFree pages met self.old.expansion
-            → call.entry.argument ≡ true
+            → is_by_source call.entry.argument (slice_range reader.entry.text.text.now call.entry.at.start call.entry.at.end) ≡ true
             → AnswersWalk pages page (ledger self.old.expansion.spent met (F.answered folder.old))
             (call_stretches_at pages page call.entry n.is s) (call_work pages page call.entry n.is s) n.is.at call.entry.at.end
             self.old.found self.new.found self.new.expansion.store self.new.expansion.spent (F.answered folder.new) result }

@@ -1,8 +1,8 @@
 -- Worked cases: what is asked after these texts. A part with a `=` is told by its name.
 use Rattle.std.proofs.Common.{◌≡◌, refl, Bool, true, false, List, ℕ, [], ◌∷◌}
 use Rattle.std.specs.Prelude.{codes}
-use Rattle.wt_functions.specs.declared.function.Function.{Function}
-use Rattle.wt_functions.specs.declared.function.Function.TheVariants.{If, IfEq, Switch}
+use Rattle.wt_span.specs.declared.function.Function.{Function}
+use Rattle.wt_span.specs.declared.function.Function.TheVariants.{If, IfEq, Switch}
 use Rattle.wt_functions.specs.declared.chooser.Ask.{Ask}
 use Rattle.wt_functions.specs.declared.chooser.Ask.TheVariants.{Tell, Give, Nothing}
 use Rattle.wt_functions.specs.Choice.{equal_part, last_whole, chosen, told_count, asked}

@@ -8,8 +8,8 @@ use Rattle.std.proofs.lemmas.Slice.Eq.{bytes_eq-Decides}
 use Rattle.std.specs.List.{position}
 use Rattle.std.specs.Option.{option_map, option_or, option_and_then, is_some, unwrap_or}
 use Rattle.std.specs.Str.{bytes_eq}
-use Rattle.wt_functions.specs.declared.function.Function.{Function}
-use Rattle.wt_functions.specs.declared.function.Function.TheVariants.{If, IfEq, Switch}
+use Rattle.wt_span.specs.declared.function.Function.{Function}
+use Rattle.wt_span.specs.declared.function.Function.TheVariants.{If, IfEq, Switch}
 use Rattle.wt_functions.specs.declared.chooser.Ask.TheVariants.{Tell, Give}
 use Rattle.wt_functions.specs.Choice.{Telling, text_at, if_there, equal_part, value_from, last_whole, is_default, last_default, chosen, told_count, given, asked}
 use Rattle.wt_functions.specs.Laws.{IsNeeded, with_more}
@@ -97,7 +97,7 @@ told_by true n k o h = refl
 told_by false n k None h = cc
 told_by false n k (Some j) h = cc
 
-none_equal : (ts : List (List ℕ)) (n : ℕ) (o : Option ℕ) → equal_part ts ≡ o → length ts < 1 + unwrap_or o n → equal_part ts ≡ None
+pub none_equal : (ts : List (List ℕ)) (n : ℕ) (o : Option ℕ) → equal_part ts ≡ o → length ts < 1 + unwrap_or o n → equal_part ts ≡ None
 none_equal ts n None e l = e
 none_equal ts n (Some k) e l = let first : IsFirst (λ t. bytes_eq t (text_at ts 0)) ts k = equal_part_first ts k e in absurd (omega arith)
 
@@ -185,7 +185,7 @@ ifeq_alike (e ∷ es) ts more l few =
     let one_stays : get_or (ts ++ more) 1 [] ≡ get_or ts 1 [] = get_or-append ts more [] 1 (omega arith) in
     record { count = refl; part = rw (zero_stays, one_stays) }
 
-alike : (f : Function) (es : List Bool) (ts more : List (List ℕ)) → told_count f es ts ≤ length ts → length (ts ++ more) ≤ length es + 1 → Alike f es ts (ts ++ more)
+pub alike : (f : Function) (es : List Bool) (ts more : List (List ℕ)) → told_count f es ts ≤ length ts → length (ts ++ more) ≤ length es + 1 → Alike f es ts (ts ++ more)
 unfolding told_count chosen
 alike If es ts more l few = record { count = refl; part = rw (get_or-append ts more [] 0 l) }
 alike IfEq es ts more l few = ifeq_alike es ts more l few

@@ -1,8 +1,8 @@
 -- Worked cases: which function a target names, and where its part 0 begins.
 use Rattle.std.proofs.Common.{◌≡◌, refl, Some, None}
 use Rattle.std.specs.Prelude.{codes}
-use Rattle.wt_functions.specs.declared.function.Function.TheVariants.{If, IfEq, Switch}
-use Rattle.wt_functions.specs.Functions.{begins_with, function_of}
+use Rattle.wt_span.specs.declared.function.Function.TheVariants.{If, IfEq, Switch}
+use Rattle.wt_span.specs.Functions.{begins_with, function_of}
 
 plain : function_of (codes "#if: x ") ≡ Some (If, 4)
 unfolding function_of begins_with

@@ -1,5 +1,5 @@
 -- That a target names a function exactly where it is blanks and line breaks, the function's word in any case, and anything.
-use Rattle.std.proofs.Common.{◌≡◌, refl, sym, ◌∙◌, ap, subst, ℕ, zero, suc, ◌+◌, ◌<◌, ◌≤◌, Bool, true, false, cond, Option, Some, None, List, [], ◌∷◌, ◌++◌, length, take, drop, arith, take-append-drop, one-add, ◌⊎◌, inl, inr, ◌↔◌}
+use Rattle.std.proofs.Common.{◌≡◌, refl, sym, ◌∙◌, ap, subst, ℕ, zero, suc, ◌+◌, ◌<◌, ◌≤◌, Bool, true, false, cond, Option, Some, None, List, [], ◌∷◌, ◌++◌, length, take, drop, arith, take-append-drop, length-take, one-add, ◌⊎◌, inl, inr, ◌↔◌}
 use Rattle.std.proofs.lemmas.List.{take-map, map-append, get_or-take}
 use Rattle.std.proofs.lemmas.List.Folds.{length-prefix_len}
 use Rattle.std.proofs.lemmas.List.Sums.{prefix_len_passes}
@@ -11,9 +11,9 @@ use Rattle.std.specs.List.{AllPass}
 use Rattle.std.specs.Option.{option_map}
 use Rattle.std.specs.Str.{bytes_eq}
 use Rattle.wt_span.specs.Bytes.{lower}
-use Rattle.wt_functions.specs.declared.function.Function.{Function}
-use Rattle.wt_functions.specs.declared.function.Function.TheVariants.{If, IfEq, Switch}
-use Rattle.wt_functions.specs.Functions.{is_space, space_len, word_of, begins_with, named, function_of}
+use Rattle.wt_span.specs.declared.function.Function.{Function}
+use Rattle.wt_span.specs.declared.function.Function.TheVariants.{If, IfEq, Switch}
+use Rattle.wt_span.specs.Functions.{is_space, space_len, word_of, begins_with, named, function_of}
 use Rattle.wt_functions.specs.Laws.{Names}
 
 -- ---- a function that is named has its word there
@@ -41,6 +41,13 @@ first_by P false false false f p q r h = cc
 
 named_word : (bs : List ℕ) (f : Function) → named bs ≡ Some f → lower (take (length (word_of f)) bs) ≡ word_of f
 named_word bs f h = first_by (λ g. lower (take (length (word_of g)) bs) ≡ word_of g) (begins_with If bs) (begins_with IfEq bs) (begins_with Switch bs) f (begins_word If bs) (begins_word IfEq bs) (begins_word Switch bs) h
+
+-- the word lies in the text
+pub named_fits : (bs : List ℕ) (f : Function) → named bs ≡ Some f → length (word_of f) ≤ length bs
+named_fits bs f h =
+    let e : length (take (length (word_of f)) bs) ≡ length (word_of f) =
+    sym (length_lower (take (length (word_of f)) bs)) ∙ ap length (named_word bs f h) in
+    omega (arith, length-take (length (word_of f)) bs)
 
 abbrev pair_at : List ℕ → Function → Function × ℕ
 pair_at target g = (g, space_len target + length (word_of g))

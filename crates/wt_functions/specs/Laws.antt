@@ -1,12 +1,12 @@
 -- What holds of every function call, in other words.
-use Rattle.std.specs.Prelude.{◌≡◌, ℕ, ◌+◌, ◌<◌, ◌≤◌, List, ◌++◌, length}
+use Rattle.std.specs.Prelude.{Bool, ◌≡◌, ℕ, ◌+◌, ◌<◌, ◌≤◌, List, ◌++◌, length, take, nat_lt, if◌then◌else◌}
 use Rattle.wt_span.specs.Bytes.{lower}
 use Rattle.std.specs.List.{AllPass}
-use Rattle.wt_functions.specs.declared.function.Function.{Function}
-use Rattle.wt_functions.specs.declared.function.Function.TheVariants.{If, IfEq, Switch}
+use Rattle.wt_span.specs.declared.function.Function.{Function}
+use Rattle.wt_span.specs.declared.function.Function.TheVariants.{If, IfEq, Switch}
 use Rattle.wt_functions.specs.declared.chooser.Ask.TheVariants.{Tell, Give}
-use Rattle.wt_functions.specs.Functions.{is_space, word_of}
-use Rattle.wt_functions.specs.Choice.{Telling, text_at, asked}
+use Rattle.wt_span.specs.Functions.{is_space, word_of}
+use Rattle.wt_functions.specs.Choice.{Telling, text_at, told_count, chosen, given, asked}
 
 -- A target that names a function: blanks and line breaks, the function's word in any case, and anything; part 0 begins behind
 -- the word.
@@ -35,6 +35,13 @@ IsNeeded Switch part texts = (before : ℕ) → 0 < before → before < part →
 
 abbrev pub TellsWhatIsNeeded : Telling → Type 0
 TellsWhatIsNeeded t = (part : ℕ) → asked t ≡ Tell part → IsNeeded t.function part t.texts
+
+-- Over the texts of all parts: those that are told are asked for one after the other, and then the part is given that is chosen
+-- from all of them.
+abbrev pub AsksAlong : Function → List Bool → List (List ℕ) → Type 0
+AsksAlong f equals texts =
+    (n : ℕ) → n ≤ told_count f equals texts → asked (record { function = f; equals = equals; texts = take n texts })
+    ≡ (if nat_lt n (told_count f equals texts) then Tell n else given (chosen f equals texts))
 
 -- when further texts are told
 abbrev pub with_more : Telling → List (List ℕ) → Telling

@@ -3,10 +3,9 @@ ghost use Rattle.std.specs.Prelude.{◌≡◌, ℕ, ◌+◌, ◌<◌, ◌≤◌,
 ghost use Rattle.std.specs.Option.{option_map};
 ghost use Rattle.wt_functions.specs.Choice.{Telling, text_at, if_there, first_from, equal_part, value_from, last_whole, is_default, last_default, chosen, told_count, asked, is_tell};
 
-use crate::function::Function;
 use std::alloc::Global;
 use std::marker::Model;
-use wt_span::{List, NoMemory, Str, rest_of};
+use wt_span::{Function, List, NoMemory, Str, rest_of};
 
 /// What a chooser asks next. Parts are counted from 0, which is what stands behind the function's
 /// colon in the target.

@@ -1,33 +1,10 @@
 //! Which function a call's target names: it begins, past blanks and line breaks, with the function's
 //! word in any case.
-ghost use Rattle.std.specs.Prelude.{◌≡◌, ◌≤◌, drop, length};
+ghost use Rattle.std.specs.Prelude.{◌≡◌, ◌≤◌, ◌<◌, ◌^◌, drop, length};
 ghost use Rattle.std.specs.List.{prefix_len};
-ghost use Rattle.wt_functions.specs.Functions.{is_space, space_len, word_of, begins_with, named, function_of};
+ghost use Rattle.wt_span.specs.Functions.{is_space, space_len, begins_with, named, function_of};
 
-use wt_span::{PAGE_BYTES, front_of};
-
-/// A parser function. `If` gives its part 1 or 2 by whether the text of part 0 isn't empty, `IfEq` its
-/// part 2 or 3 by whether those of parts 0 and 1 are equal, `Switch` a part that is found by the text
-/// of part 0.
-#[derive(Clone, Copy, Debug, PartialEq, Eq)]
-pub enum Function {
-    If,
-    IfEq,
-    Switch,
-}
-
-impl Function {
-    /// Its word in a target: `#`, its name and a colon, in lower case.
-    pub fn word(self) -> &'static [u8]
-        ensures { result.now ≡ word_of self }
-    {
-        match self {
-            Function::If => b"#if:",
-            Function::IfEq => b"#ifeq:",
-            Function::Switch => b"#switch:",
-        }
-    }
-}
+use wt_span::{Function, PAGE_BYTES, front_of, rest_of};
 
 /// A space, a tab or a line break.
 fn is_space(byte: u8) -> bool
@@ -50,7 +27,7 @@ fn space_len(bytes: &[u8]) -> usize
 }
 
 /// Whether a text begins with the word of a function.
-#[tactic(auto, using(std::proofs::lemmas::List::take_min), unfolding(crate::specs::Functions::begins_with))]
+#[tactic(auto, using(std::proofs::lemmas::List::take_min), unfolding(wt_span::specs::Functions::begins_with))]
 fn begins_with(function: Function, bytes: &[u8]) -> bool
     ensures { result ≡ begins_with function bytes.now }
 {
@@ -73,16 +50,23 @@ fn named(bytes: &[u8]) -> Option<Function>
     }
 }
 
+/// The same of a target's bytes.
+#[tactic(auto, unfolding(wt_span::specs::Functions::function_of))]
+pub fn function_in(target: &[u8]) -> Option<(Function, u32)>
+    requires { length target.now < 2 ^ 32 }
+    ensures { result ≡ function_of target.now }
+{
+    let space = space_len(target);
+    let function = named(rest_of(target, space))?;
+    Some((function, (space + function.word().len()) as u32))
+}
+
 /// The function that a call's target names, and the place of the byte behind its colon, in bytes from
 /// the target's start: there part 0 begins. `None` where no function is named; such a call is an
 /// ordinary one, or, where the target begins with `#`, kept as it stands.
-#[tactic(auto, unfolding(crate::specs::Functions::function_of))]
 pub fn function_of(target: &str) -> Option<(Function, u32)>
     requires { length target.now ≤ PAGE_BYTES }
     ensures { result ≡ function_of target.now }
 {
-    let bytes = target.as_bytes();
-    let space = space_len(bytes);
-    let function = named(&bytes[space..])?;
-    Some((function, (space + function.word().len()) as u32))
+    function_in(target.as_bytes())
 }

@@ -1,8 +1,8 @@
 //! What holds of every function call, for whoever calls these functions.
-ghost use Rattle.std.specs.Prelude.{◌≡◌, ℕ, Some, ◌↔◌};
-ghost use Rattle.wt_functions.specs.declared.function.Function.{Function};
-ghost use Rattle.wt_functions.specs.Functions.{function_of};
-ghost use Rattle.wt_functions.specs.Laws.{Names, TellsInOrder, GivesAPart, TellsWhatIsNeeded, IsForGood};
+ghost use Rattle.std.specs.Prelude.{◌≡◌, ◌+◌, ℕ, Bool, List, Some, length, ◌↔◌};
+ghost use Rattle.wt_span.specs.declared.function.Function.{Function};
+ghost use Rattle.wt_span.specs.Functions.{function_of};
+ghost use Rattle.wt_functions.specs.Laws.{Names, TellsInOrder, GivesAPart, TellsWhatIsNeeded, IsForGood, AsksAlong};
 
 use crate::chooser::Chooser;
 
@@ -28,4 +28,10 @@ pub fn nothing_behind_equal(chooser: &Chooser)
 /// texts of the parts that weren't told. So it hangs on the told texts alone.
 pub fn given_for_good(chooser: &Chooser)
     ensures { IsForGood chooser.now }
+{}
+
+/// Over the texts of all parts, one for each: the parts that are told are asked for one after the other,
+/// and then the part is given that is chosen from all texts.
+pub fn asks_along()
+    ensures { (f : Function) → (equals : List Bool) → (texts : List (List ℕ)) → length texts ≡ length equals + 1 → AsksAlong f equals texts }
 {}

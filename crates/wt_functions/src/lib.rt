@@ -9,5 +9,8 @@ mod function;
 mod laws;
 
 pub use chooser::{Ask, Chooser};
-pub use function::{Function, function_of};
-pub use laws::{given_for_good, named_by_its_word, nothing_behind_equal, parts_in_order};
+pub use function::{function_in, function_of};
+pub use laws::{
+    asks_along, given_for_good, named_by_its_word, nothing_behind_equal, parts_in_order,
+};
+pub use wt_span::Function;

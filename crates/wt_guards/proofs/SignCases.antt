@@ -6,7 +6,7 @@ use Rattle.wt_guards.specs.declared.role.Role.{Role}
 use Rattle.wt_guards.specs.declared.role.Role.TheVariants as role
 use Rattle.wt_guards.specs.declared.role.Transclusion.{Transclusion}
 use Rattle.wt_guards.specs.declared.side.Place.{Place}
-use Rattle.wt_guards.specs.declared.side.Place.TheVariants.{Paragraph, Heading, Term, Header}
+use Rattle.wt_guards.specs.declared.side.Place.TheVariants.{Paragraph, Heading, Item, Term, Header}
 use Rattle.wt_guards.specs.declared.side.Side.TheVariants as side
 use Rattle.wt_guards.specs.Table.{hazard, line_start_hazard}
 use Rattle.wt_guards.specs.Content.{Sign, letter, thing}
@@ -230,6 +230,21 @@ brace_before_function : spelled link_inside (kept (role.Bare false) (codes "http
     ++ kept role.Function (codes "{{#}}") 8 13) ≡ codes "http://{<nowiki/>{{#}}"
 unfolding is_guarded is_between_guard is_parted hazard nowiki
 brace_before_function = refl
+
+-- a paragraph `http://{ y` without ` y`, behind which a call may stand: its braces aren't lengthened
+brace_at_end : spelled (over (codes "http://{ y") Paragraph) (kept (role.Bare false) (codes "http://{") 0 8) ≡ codes "http://{<nowiki/>"
+unfolding is_guarded is_between_guard is_start_guard is_end_guard is_blank_guard hazard line_start_hazard nowiki
+brace_at_end = refl
+
+-- `y http://{` without `y `: it ended the paragraph
+brace_as_it_was : spelled (over (codes "y http://{") Paragraph) (kept (role.Bare false) (codes "http://{") 2 10) ≡ codes "http://{"
+unfolding is_guarded is_between_guard is_start_guard is_end_guard is_blank_guard hazard line_start_hazard nowiki
+brace_as_it_was = refl
+
+-- only in a paragraph
+brace_in_item : spelled (over (codes "* http://{ y") Item) (kept (role.Bare false) (codes "http://{") 2 10) ≡ codes "http://{"
+unfolding is_guarded is_between_guard is_start_guard is_end_guard is_blank_guard hazard line_start_hazard nowiki
+brace_in_item = refl
 
 -- `{{t}}&{{s}}` with a space in place of `&`
 blank_between : spelled (over (codes "{{t}}&{{s}}") Paragraph)

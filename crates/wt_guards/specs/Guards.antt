@@ -1,6 +1,6 @@
 -- Where `<nowiki/>` is put: at the starts and ends of lines, and between two signs. A place is given by the signs before it and
 -- those after it.
-use Rattle.std.specs.Prelude.{ℕ, ◌+◌, Bool, true, false, not, ◌||◌, ◌&&◌, ◌==◌, nat_eq, Option, Some, None, List, [], ◌∷◌, ◌++◌, if◌then◌else◌, codes, slice_get}
+use Rattle.std.specs.Prelude.{ℕ, ◌+◌, Bool, true, false, not, ◌||◌, ◌&&◌, ◌==◌, nat_eq, Option, Some, None, List, [], ◌∷◌, ◌++◌, length, if◌then◌else◌, codes, slice_get}
 use Rattle.std.specs.List.{ends_with}
 use Rattle.wt_span.specs.Bytes.{is_blank}
 use Rattle.wt_guards.specs.declared.role.Role.{Role}
@@ -14,6 +14,29 @@ use Rattle.wt_guards.specs.declared.side.Side.TheVariants as side
 use Rattle.wt_guards.specs.Table.{hazard, line_start_hazard}
 use Rattle.wt_guards.specs.Content.{Thing, Sign, letter, thing, nearest, side_of, ends_line, is_invisible, is_group, is_function}
 use Rattle.wt_guards.specs.Letters.{written}
+
+-- ---- a node
+
+-- where a node ends in the page, and where it starts
+abbrev pub end_of : Option Stretch → Option ℕ
+end_of None = None
+end_of (Some s) = Some s.end
+
+abbrev pub start_of : Option Stretch → Option ℕ
+start_of None = None
+start_of (Some s) = Some s.start
+
+abbrev pub is_this : Option ℕ → ℕ → Bool
+is_this None c = false
+is_this (Some d) c = d == c
+
+abbrev pub is_reached : Option ℕ → Option ℕ → Bool
+is_reached None start = false
+is_reached (Some at) start = is_this start at
+
+-- Its source ends with `{`, which would make a longer run of the braces of a call or function behind it.
+abbrev pub has_brace_last : List ℕ → Bool
+has_brace_last source = ends_with nat_eq source (123 ∷ [])
 
 -- ---- starts of lines
 
@@ -122,17 +145,25 @@ is_group_last None = false
 is_group_last (Some (letter c)) = false
 is_group_last (Some (thing t)) = is_new_last t.role
 
--- At the content's end `<nowiki/>` keeps a last space or tab, and in a paragraph a group from being all of it.
-abbrev pub is_content_end_guard : Place → Option Sign → Bool
-is_content_end_guard place.Paragraph last = is_group_last last
-is_content_end_guard place.Heading last = is_blank_last last
-is_content_end_guard place.Item last = is_blank_last last
-is_content_end_guard place.Term last = is_blank_last last
-is_content_end_guard place.Cell last = is_blank_last last
-is_content_end_guard place.Header last = is_blank_last last
+-- A node that ends with `{` and didn't end the paragraph, of which this is the source: a paragraph has no delimiters.
+abbrev pub is_brace_last : List ℕ → Option Sign → Bool
+is_brace_last source None = false
+is_brace_last source (Some (letter c)) = false
+is_brace_last source (Some (thing t)) = has_brace_last t.source && not (is_reached (end_of t.place) (Some (length source)))
 
-unfoldable pub is_end_guard : Place → List Sign → List Sign → Bool
-is_end_guard p before after = (is_line_end (nearest after) && is_unended before) || (is_end (nearest after) && is_content_end_guard p (nearest before))
+-- At the content's end `<nowiki/>` keeps a last space or tab; and in a paragraph a group from being all of it, and a last `{` from
+-- the braces of a call behind the paragraph.
+abbrev pub is_content_end_guard : List ℕ → Place → Option Sign → Bool
+is_content_end_guard source place.Paragraph last = is_group_last last || is_brace_last source last
+is_content_end_guard source place.Heading last = is_blank_last last
+is_content_end_guard source place.Item last = is_blank_last last
+is_content_end_guard source place.Term last = is_blank_last last
+is_content_end_guard source place.Cell last = is_blank_last last
+is_content_end_guard source place.Header last = is_blank_last last
+
+unfoldable pub is_end_guard : List ℕ → Place → List Sign → List Sign → Bool
+is_end_guard source p before after =
+    (is_line_end (nearest after) && is_unended before) || (is_end (nearest after) && is_content_end_guard source p (nearest before))
 
 -- ---- a text of spaces and tabs alone before a group
 
@@ -159,19 +190,6 @@ is_past_node [] = false
 is_past_node (letter c ∷ before) = is_blank c && is_past_node before
 is_past_node (thing t ∷ before) = true
 
--- where a node ends in the page, and where it starts
-abbrev pub end_of : Option Stretch → Option ℕ
-end_of None = None
-end_of (Some s) = Some s.end
-
-abbrev pub start_of : Option Stretch → Option ℕ
-start_of None = None
-start_of (Some s) = Some s.start
-
-abbrev pub is_this : Option ℕ → ℕ → Bool
-is_this None c = false
-is_this (Some d) c = d == c
-
 -- after this character, where the source has it here
 abbrev pub past : List ℕ → ℕ → Option ℕ → Option ℕ
 past source c None = None
@@ -182,10 +200,6 @@ abbrev pub reached : List ℕ → List Sign → Option ℕ
 reached source [] = None
 reached source (letter c ∷ before) = past source c (reached source before)
 reached source (thing t ∷ before) = end_of t.place
-
-abbrev pub is_reached : Option ℕ → Option ℕ → Bool
-is_reached None start = false
-is_reached (Some at) start = is_this start at
 
 -- The next sign is a node, and the page has the same text between the last node and this one.
 abbrev pub is_new_text_next : Option ℕ → Option Sign → Bool
@@ -255,10 +269,6 @@ is_adjacent a b = is_reached (end_of a.place) (start_of b.place)
 abbrev pub left_side : Role → Side
 left_side r = if ends_line r then side.Edge else side_of r
 
--- its source ends with `{`, which would make a longer run of the braces of a function
-abbrev pub has_brace_last : List ℕ → Bool
-has_brace_last source = ends_with nat_eq source (123 ∷ [])
-
 -- Two nodes: a function is parted from a `{`; marks from each other, unless they stood next to each other or the first one ends a
 -- line; and others by the table, unless they stood next to each other and aren't always parted.
 unfoldable pub is_parted : Thing → Thing → Bool
@@ -295,7 +305,7 @@ pub record Setting : Type 0 where
 unfoldable pub is_guarded : Setting → List Sign → List Sign → Bool
 is_guarded s before after =
     is_between_guard (nearest before) (nearest after) ||
-    (not s.within && (is_start_guard before after || (is_end_guard s.place before after || is_blank_guard s.source before after)))
+    (not s.within && (is_start_guard before after || (is_end_guard s.source s.place before after || is_blank_guard s.source before after)))
 
 unfoldable pub nowiki : List ℕ
 nowiki = codes "<nowiki/>"

@@ -2,7 +2,7 @@
 
 ghost use Rattle.std.specs.Prelude.{◌≡◌, ◌∷◌, ℕ, List, option_map, Option};
 ghost use Rattle.wt_guards.specs.Content.{Sign as AnySign, is_group};
-ghost use Rattle.wt_guards.specs.Guards.{start_of, is_this, is_reached, is_new_text_next, has_brace_last, is_adjacent, is_parted, is_parted_from_letter, is_parted_from_thing, is_between_guard, is_content_end_guard, is_start_guard, is_end_guard, is_blank_guard, is_nearest, is_guarded};
+ghost use Rattle.wt_guards.specs.Guards.{start_of, is_this, is_reached, is_new_text_next, has_brace_last, is_adjacent, is_parted, is_parted_from_letter, is_parted_from_thing, is_between_guard, is_brace_last, is_content_end_guard, is_start_guard, is_end_guard, is_blank_guard, is_nearest, is_guarded};
 ghost use Rattle.wt_guards.specs.Views.{sign_of, thing_of, signs_left, setting_of, IsBehind, Knows};
 
 use crate::ahead::{
@@ -128,11 +128,26 @@ fn is_start_guard(behind: Behind<'_>, after: Signs<'_, '_>) -> bool
     behind.is_line_begun && is_start_hazard(next)
 }
 
-fn is_content_end_guard(place: Place, last: Option<Sign<'_>>) -> bool
-    ensures { result ≡ is_content_end_guard place (option_map sign_of last.entry) }
+/// Whether the last sign of a paragraph is a node that ends with `{` and didn't end the paragraph in
+/// the page.
+fn is_brace_last(source: &[u8], last: Option<Sign<'_>>) -> bool
+    ensures { result ≡ is_brace_last source.now (option_map sign_of last.entry) }
 {
-    match place {
-        Place::Paragraph => is_group_last(last),
+    match last {
+        Some(Sign::Letter(_)) => false,
+        Some(Sign::Thing(thing)) => {
+            has_brace_last(thing.source.as_str())
+                && !is_reached(end_of(thing.place), Some(source.len()))
+        }
+        None => false,
+    }
+}
+
+fn is_content_end_guard(setting: Setting<'_>, last: Option<Sign<'_>>) -> bool
+    ensures { result ≡ is_content_end_guard setting.entry.source.now setting.entry.place (option_map sign_of last.entry) }
+{
+    match setting.place {
+        Place::Paragraph => is_group_last(last) || is_brace_last(setting.source, last),
         Place::Heading | Place::Item | Place::Term | Place::Cell | Place::Header => {
             is_blank_last(last)
         }
@@ -140,12 +155,13 @@ fn is_content_end_guard(place: Place, last: Option<Sign<'_>>) -> bool
 }
 
 #[tactic(auto, unfolding(crate::specs::Guards::is_end_guard))]
-fn is_end_guard(place: Place, behind: Behind<'_>, after: Signs<'_, '_>) -> bool
-    ensures { (source : List ℕ) (before : List AnySign) → IsBehind source before behind.entry → result ≡ is_end_guard place before (signs_left after.entry) }
+fn is_end_guard(setting: Setting<'_>, behind: Behind<'_>, after: Signs<'_, '_>) -> bool
+    ensures { (before : List AnySign) → IsBehind setting.entry.source.now before behind.entry
+        → result ≡ is_end_guard setting.entry.source.now setting.entry.place before (signs_left after.entry) }
 {
     let next = after.peek();
     (is_line_end(next) && behind.is_unended)
-        || (is_end(next) && is_content_end_guard(place, behind.last))
+        || (is_end(next) && is_content_end_guard(setting, behind.last))
 }
 
 // ---- a text of blanks before a group
@@ -227,6 +243,6 @@ pub fn is_guarded(
         return false;
     }
     is_start_guard(behind, after)
-        || is_end_guard(setting.place, behind, after)
+        || is_end_guard(setting, behind, after)
         || is_blank_guard(behind, after, known)
 }

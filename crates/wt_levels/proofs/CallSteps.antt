@@ -60,7 +60,7 @@ argument_returns r t run b out_ps ps v total h e f = record {
       (argument_with r.frame (later_parts (parts_of_call r t b h.ends.call)) (items out_ps) v e ∙ ap ended_with f) h.ends.gives;
 }
 
-part_get : (r : Reading) (t : List ℕ) (b : Braces) → (c : IsCallOf r.mode t b) → (n : ℕ) (x : Option PartOf) → slice_get b.parts.now n ≡ x
+pub part_get : (r : Reading) (t : List ℕ) (b : Braces) → (c : IsCallOf r.mode t b) → (n : ℕ) (x : Option PartOf) → slice_get b.parts.now n ≡ x
     → slice_get (placed (c.at + c.braces) (part_members 0 c.inside)) n ≡ option_map part_of x
 part_get r t b c n x e = ap (λ ps. slice_get ps n) (sym c.parts_are) ∙ slice_get-map part_of b.parts.now n ∙ ap (option_map part_of) e
 

@@ -1,5 +1,5 @@
 -- Work that is done one after another, with what is spent and the names that are known.
-use Rattle.std.proofs.Common.{◌≡◌, ℕ, zero, suc, ◌+◌, ◌-◌, ◌<◌, ◌≤◌, Bool, true, false, cond, Option, Some, None, option_map, List, [], ◌∷◌, ◌++◌, Ok, Err, refl, sym, ap, ◌∙◌, subst, arith, append_assoc}
+use Rattle.std.proofs.Common.{◌≡◌, ℕ, zero, suc, ◌+◌, ◌-◌, ◌<◌, ◌≤◌, Bool, true, false, cond, Option, Some, None, option_map, List, [], ◌∷◌, ◌++◌, Ok, Err, refl, sym, ap, ◌∙◌, subst, ⊎_elim, arith}
 use Rattle.std.specs.Prelude.{Result, if◌then◌else◌}
 use Rattle.std.specs.Option.{option_or}
 use Rattle.wt_span.specs.declared.form.Mode.{Mode}
@@ -10,8 +10,11 @@ use Rattle.wt_span.specs.Items.{Item, items}
 use Rattle.wt_names.specs.declared.title.Title.{Title}
 use Rattle.wt_names.specs.Namespace.{full_name_of}
 use Rattle.wt_expand.specs.Templates.{template_text}
-use Rattle.wt_expand.specs.Work.{Pages, Entry, Refused, entered, fetched, fetches, firsts_after, is_among, refusal_from, found_refusal}
+use Rattle.wt_expand.specs.Work.{Pages, Entry, Refused, braces_too_deep, too_large, not_utf8, too_long, entered, fetched, fetches, firsts_after, is_among, found_refusal, refusal_from}
+use Rattle.wt_expand.specs.Fronts.{Front, NextRefuses, cost_of_all, known_after}
 use Rattle.wt_expand.specs.Expansion.{Output, Reading, Frame, just, template_output, text_given, fetched_output}
+use Rattle.wt_expand.proofs.Agreements.{fetches_append}
+use Rattle.wt_expand.proofs.FrontLaws.{cost_append, front_before, front_none, front_refusal, front_then, known_append}
 use Rattle.wt_transclusion.specs.declared.refusal.ExpandRefusal.{ExpandRefusal}
 use Rattle.wt_transclusion.specs.declared.refusal.ExpandRefusal.TheVariants as answer
 use Rattle.wt_transclusion.specs.declared.read.ReadText.{ReadText}
@@ -19,13 +22,13 @@ use Rattle.wt_transclusion.specs.declared.store.Store.{Store}
 use Rattle.wt_transclusion.specs.declared.templates.Taken.{Taken}
 use Rattle.wt_transclusion.specs.declared.templates.Taken.TheVariants as taken
 use Rattle.wt_transclusion.specs.Answers.{IsFetched, IsRefused, IsNoFault, IsCountedErr}
-use Rattle.wt_transclusion.specs.Asked.{AreFirst}
 use Rattle.wt_transclusion.specs.Reads.{IsRead}
 use Rattle.wt_transclusion.specs.Cursors.{starts}
+use Rattle.wt_transclusion.specs.Stops.{IsCause, told_with}
 use Rattle.wt_transclusion.specs.Stores.{IsStore, met_with, named_with}
-use Rattle.wt_transclusion.specs.Takings.{AnswersTaking, IsNamed, names_taking, taking_refusal}
-use Rattle.wt_transclusion.proofs.AskedLaws.{first_some, first_then}
-use Rattle.wt_levels.specs.Ledgers.{Ledger, ledger, Comes, Refuses, answered_with, reading_of, AnswersOutput, Progress, Calling, TakesStep}
+use Rattle.wt_transclusion.specs.Takings.{AnswersTaking, IsAsked, IsNamed, IsNamedErr, names_taking, taking_refusal}
+use Rattle.wt_transclusion.proofs.StopLaws.{stops_after, stops_before, stops_memory, stops_there, told_none, told_then}
+use Rattle.wt_levels.specs.Ledgers.{Ledger, ledger, ledger_after, Comes, Refuses, reading_of, AnswersOutput, Progress, Calling, TakesStep}
 use Rattle.wt_levels.specs.Rests.{with_work, after_page}
 use Rattle.wt_levels.specs.Runs.{Spends, Holds, Calls, Returns, RefusesCost, Goes, TakesPart, TakesTurn}
 use Rattle.wt_levels.specs.Stacks.{stack}
@@ -36,37 +39,68 @@ use Rattle.wt_levels.specs.declared.run.Turn.TheVariants as turn
 use Rattle.wt_levels.proofs.LevelLaws.{strip}
 
 pub comes_none : (pages : Pages) (page : List ℕ) (b : Ledger) (w : List Entry) → Comes pages page b w b w
-comes_none pages page b w = record { refusal = λ rest. refl; names = λ rest. refl }
+comes_none pages page b w = record {
+  done = [];
+  front = front_none pages page b.spent w;
+  now_is =
+      let z : b.spent ≡ b.spent + 0 = omega arith in
+      ap (λ (n : ℕ). ledger n b.met b.answered) z ∙ ap (ledger (b.spent + 0) b.met) (sym (told_none b.answered));
+}
+
+-- once more is done
+ledger_then : (l : Ledger) (xs ys : List Entry) → ledger_after (ledger_after l xs) ys ≡ ledger_after l (xs ++ ys)
+ledger_then l xs ys =
+    let cost : (l.spent + cost_of_all xs) + cost_of_all ys ≡ l.spent + cost_of_all (xs ++ ys) = (let c = cost_append xs ys in omega (arith, c)) in
+    let known : known_after (known_after l.met (fetches xs)) (fetches ys) ≡ known_after l.met (fetches (xs ++ ys)) =
+    sym (ap (known_after l.met) (fetches_append xs ys) ∙ known_append l.met (fetches xs) (fetches ys)) in
+    let told = told_then l.met xs ys l.answered in
+    ap (λ (n : ℕ). ledger n (known_after (known_after l.met (fetches xs)) (fetches ys)) (told_with (known_after l.met (fetches xs)) ys (told_with l.met xs l.answered))) cost
+    ∙ ap (λ (m : List (List ℕ)). ledger (l.spent + cost_of_all (xs ++ ys)) m (told_with (known_after l.met (fetches xs)) ys (told_with l.met xs l.answered))) known
+    ∙ ap (ledger (l.spent + cost_of_all (xs ++ ys)) (known_after l.met (fetches (xs ++ ys)))) told
 
 pub comes_then : (pages : Pages) (page : List ℕ) (a b c : Ledger) (w v u : List Entry) → Comes pages page a w b v → Comes pages page b v c u
     → Comes pages page a w c u
-comes_then pages page a b c w v u f g = record { refusal = λ rest. f.refusal rest ∙ g.refusal rest; names = λ rest. f.names rest ∙ g.names rest }
+comes_then pages page a b c w v u f g = record {
+  done = f.done ++ g.done;
+  front = front_then pages page a.spent w f.done v g.done u f.front (subst (λ (l : Ledger). Front pages page l.spent v g.done u) f.now_is g.front);
+  now_is = g.now_is ∙ ap (λ (l : Ledger). ledger_after l g.done) f.now_is ∙ ledger_then a f.done g.done;
+}
 
 pub comes_spent : (pages : Pages) (page : List ℕ) (spent now : ℕ) (met : List (List ℕ)) (answered : Option (List (List ℕ))) (total left : Output)
     → Spends spent total now left
     → Comes pages page (record { spent = spent; met = met; answered = answered }) total.work (record { spent = now; met = met; answered = answered }) left.work
 comes_spent pages page spent now met answered total left s = record {
-  refusal = s.refusal pages page;
-  names = λ rest. ap (λ ns. option_map (λ xs. xs ++ firsts_after met ns) answered) (s.fetches rest);
+  done = s.done;
+  front = s.front pages page;
+  now_is =
+      ap (λ (n : ℕ). ledger n met answered) s.costs ∙ ap (ledger (spent + cost_of_all s.done) met) (sym (told_none answered))
+      ∙ ap (λ (ns : List (List ℕ)). ledger (spent + cost_of_all s.done) (known_after met ns) (option_map (λ xs. xs ++ firsts_after met ns) answered))
+      (sym s.unfetched);
 }
 
 -- what is done before more work comes to that work
 pub comes_before : (pages : Pages) (page : List ℕ) (a b : Ledger) (w v : List Entry) → Comes pages page a w b [] → Comes pages page a (w ++ v) b v
 comes_before pages page a b w v f = record {
-  refusal = λ rest. ap (refusal_from pages page a.spent) (append_assoc w v rest) ∙ f.refusal (v ++ rest);
-  names = λ rest. ap (answered_with a) (append_assoc w v rest) ∙ f.names (v ++ rest);
+  done = f.done;
+  front = front_before pages page a.spent w f.done [] v f.front;
+  now_is = f.now_is;
 }
+
+-- what is left comes to the same refusal as all of the work, whatever follows
+pub comes_refusal : (pages : Pages) (page : List ℕ) (before : Ledger) (work : List Entry) (now : Ledger) (left : List Entry)
+    → Comes pages page before work now left
+    → (rest : List Entry) → refusal_from pages page before.spent (work ++ rest) ≡ refusal_from pages page now.spent (left ++ rest)
+comes_refusal pages page before work now left f rest =
+    front_refusal pages page before.spent (work ++ rest) f.done (left ++ rest)
+    (front_before pages page before.spent work f.done left rest f.front)
+    ∙ ap (λ (l : Ledger). refusal_from pages page l.spent (left ++ rest)) (sym f.now_is)
 
 -- ---- work that is refused
 
--- the names of before are the first of those that work asks for
-before_first : (l : Ledger) (es : List Entry) → AreFirst l.answered (answered_with l es)
-before_first l es = first_some l.answered (firsts_after l.met (fetches es))
-
--- nothing is asked for where memory is missing
+-- memory may be missing anywhere
 pub memory_refused : (pages : Pages) (page : List ℕ) (l : Ledger) (w : List Entry)
     → Refuses pages page l w l.answered answer.NoMemory
-memory_refused pages page l w = λ rest. (tt, before_first l (w ++ rest))
+memory_refused pages page l w = stops_memory pages page l.spent l.met w l.answered
 
 pub memory_answered : (pages : Pages) (page : List ℕ) (l : Ledger) (o : Output) (store : Store) (now : ℕ)
     (x : Result (Listed Piece) ExpandRefusal)
@@ -74,48 +108,40 @@ pub memory_answered : (pages : Pages) (page : List ℕ) (l : Ledger) (o : Output
 memory_answered pages page l o store now x e =
     subst (AnswersOutput pages page l o store now l.answered) (sym e) (memory_refused pages page l o.work)
 
--- work that comes to other work is refused as that is
+-- work of which a front is done stops where the rest does
 pub comes_refused : (pages : Pages) (page : List ℕ) (a b : Ledger) (w v : List Entry)
     (told : Option (List (List ℕ))) (e : ExpandRefusal)
     → Comes pages page a w b v → Refuses pages page b v told e → Refuses pages page a w told e
-comes_refused pages page a b w v told e f h = λ rest. (
-  subst (λ (o : Option Refused). IsRefused o e) (sym (f.refusal rest)) (h rest).0,
-  subst (AreFirst told) (sym (f.names rest)) (h rest).1,
-)
+comes_refused pages page a b w v told e f h =
+    stops_after pages page a.spent a.met w f.done v a.answered told e f.front
+    (subst (λ (l : Ledger). Refuses pages page l v told e) f.now_is h)
 
--- work is refused as what is done first of it
+-- work stops where what is done first of it does
 pub refused_before : (pages : Pages) (page : List ℕ) (l : Ledger) (w v : List Entry)
     (told : Option (List (List ℕ))) (e : ExpandRefusal)
     → Refuses pages page l w told e → Refuses pages page l (w ++ v) told e
-refused_before pages page l w v told e h = λ rest.
-    subst
-    (λ (es : List Entry). IsRefused (refusal_from pages page l.spent es) e × AreFirst told (answered_with l es))
-    (sym (append_assoc w v rest))
-    (h (v ++ rest))
+refused_before pages page l w v told e h = stops_before pages page l.spent l.met w v l.answered told e h
 
 -- ---- a page is fetched
 
-names_fetched : (met : List (List ℕ)) (full : List ℕ) (answered : Option (List (List ℕ))) (es : List (List ℕ))
-    → option_map (λ ns. ns ++ firsts_after met (full ∷ es)) answered
-    ≡ option_map (λ ns. ns ++ firsts_after (met_with full met) es) (named_with full met answered)
-names_fetched met full answered es = by (is_among full met) answered
+told_fetched : (full : List ℕ) (met : List (List ℕ)) (answered : Option (List (List ℕ))) → named_with full met answered ≡ told_with met (fetched full ∷ []) answered
+told_fetched full met answered = by (is_among full met) answered
   where
     by : (b : Bool) (a : Option (List (List ℕ)))
-        → option_map (λ ns. ns ++ (if b then firsts_after met es else full ∷ firsts_after (full ∷ met) es)) a
-        ≡ option_map (λ ns. ns ++ firsts_after (if b then met else full ∷ met) es) (if b then a else option_map (λ names. names ++ full ∷ []) a)
-    by true a = refl
-    by false None = refl
-    by false (Some ns) = ap Some (sym (append_assoc ns (full ∷ []) (firsts_after (full ∷ met) es)))
-
-free : (pages : Pages) (page : List ℕ) (spent : ℕ) (es : List Entry) → refusal_from pages page (spent + 0) es ≡ refusal_from pages page spent es
-free pages page spent es = let z : spent + 0 ≡ spent = omega arith in ap (λ n. refusal_from pages page n es) z
+        → (if b then a else option_map (λ names. names ++ full ∷ []) a) ≡ option_map (λ ns. ns ++ (if b then [] else full ∷ [])) a
+    by true a = sym (told_none a)
+    by false a = refl
 
 pub comes_fetched : (pages : Pages) (page : List ℕ) (spent : ℕ) (met : List (List ℕ)) (answered : Option (List (List ℕ))) (full : List ℕ) (w : List Entry)
     → Comes pages page (record { spent = spent; met = met; answered = answered }) (fetched full ∷ w)
     (record { spent = spent; met = met_with full met; answered = named_with full met answered }) w
 comes_fetched pages page spent met answered full w = record {
-  refusal = λ rest. free pages page spent (w ++ rest);
-  names = λ rest. names_fetched met full answered (fetches (w ++ rest));
+  done = fetched full ∷ [];
+  front = record { whole = refl; allowed = refl };
+  now_is =
+      let z : spent ≡ spent + (0 + 0) = omega arith in
+      ap (λ (n : ℕ). ledger n (met_with full met) (named_with full met answered)) z
+      ∙ ap (ledger (spent + (0 + 0)) (met_with full met)) (told_fetched full met answered);
 }
 
 or_none : (o p : Option Refused) → o ≡ None → option_or o p ≡ p
@@ -124,8 +150,11 @@ or_none o p e = ap (λ x. option_or x p) e
 pub comes_entered : (pages : Pages) (page : List ℕ) (l : Ledger) (full : List ℕ) (w : List Entry) → found_refusal full (pages full) ≡ None
     → Comes pages page l (entered (Some full) ∷ w) l w
 comes_entered pages page l full w e = record {
-  refusal = λ rest. or_none (found_refusal full (pages full)) (refusal_from pages page (l.spent + 0) (w ++ rest)) e ∙ free pages page l.spent (w ++ rest);
-  names = λ rest. refl;
+  done = entered (Some full) ∷ [];
+  front = record { whole = refl; allowed = or_none (found_refusal full (pages full)) None e };
+  now_is =
+      let z : l.spent ≡ l.spent + (0 + 0) = omega arith in
+      ap (λ (n : ℕ). ledger n l.met l.answered) z ∙ ap (ledger (l.spent + (0 + 0)) l.met) (sym (told_none l.answered));
 }
 
 -- ---- what a page gives
@@ -151,61 +180,16 @@ page_gives pages left names t frame bytes e f =
 no_some : {A : Type 0} → (x : A) → None ≡ Some x → ⊥
 no_some x e = cc
 
-refused_any : (o : Option Refused) (e : ExpandRefusal) → IsRefused None e → IsRefused o e
-refused_any o (answer.BracesTooDeep title place) h = absurd (no_some _ h)
-refused_any o answer.TooLarge h = absurd (no_some _ h)
-refused_any o answer.FolderFault h = tt
-refused_any o (answer.TemplateNotUtf8 title place) h = absurd (no_some _ h)
-refused_any o (answer.TemplateTooLong title) h = absurd (no_some _ h)
-refused_any o answer.NoMemory h = tt
-
-refused_first : (o p : Option Refused) (e : ExpandRefusal) → IsRefused o e → IsRefused (option_or o p) e
-refused_first None p e h = refused_any p e h
-refused_first (Some x) p e h = h
-
-pub cost_refused : (o : Option Refused) (spent : ℕ) (total : Output) (e : ExpandRefusal) (pages : Pages) (page : List ℕ) (rest : List Entry)
-    → RefusesCost spent total e → o ≡ refusal_from pages page spent (total.work ++ rest) → IsRefused o e
-cost_refused o spent total (answer.BracesTooDeep title place) pages page rest h e = absurd h
-cost_refused o spent total answer.TooLarge pages page rest h e = e ∙ h pages page rest
-cost_refused o spent total answer.FolderFault pages page rest h e = tt
-cost_refused o spent total (answer.TemplateNotUtf8 title place) pages page rest h e = absurd h
-cost_refused o spent total (answer.TemplateTooLong title) pages page rest h e = absurd h
-cost_refused o spent total answer.NoMemory pages page rest h e = tt
-
--- nothing is asked for where the cost refuses
+-- where the cost refuses
 pub cost_refuses : (pages : Pages) (page : List ℕ) (l : Ledger) (total : Output) (e : ExpandRefusal)
     → RefusesCost l.spent total e
     → Refuses pages page l total.work l.answered e
-cost_refuses pages page l total e h = λ rest. (
-  cost_refused (refusal_from pages page l.spent (total.work ++ rest)) l.spent total e pages page rest h refl,
-  before_first l (total.work ++ rest),
-)
-
-page_unfound : (pages : Pages) (page : List ℕ) (spent left : ℕ) (names : List (List ℕ)) (t : Title)
-    (frame : Frame) (e : ExpandRefusal)
-    → IsRefused (taking_refusal left (is_among (full_name_of t) names) (found_refusal (full_name_of t) (pages (full_name_of t)))) e
-    → (rest : List Entry) → IsRefused (refusal_from pages page spent ((template_output pages left names t frame).work ++ rest)) e
-page_unfound pages page spent zero names t frame e h rest = refused_any _ e h
-page_unfound pages page spent (suc left) names t frame e h rest =
-    by_open (is_among (full_name_of t) names) refl h
-  where
-    by_page : (found : Option (List ℕ)) → is_among (full_name_of t) names ≡ false → pages (full_name_of t) ≡ found
-        → IsRefused (found_refusal (full_name_of t) found) e
-        → IsRefused (refusal_from pages page spent ((template_output pages (suc left) names t frame).work ++ rest)) e
-    by_page None shut is g = refused_any _ e g
-    by_page (Some bytes) shut is g =
-        let full = full_name_of t in
-        let o = text_given (reading_of pages mode.Template frame left (full ∷ names)) (template_text bytes) in
-        let w = o.work ++ rest in
-        let found = subst (λ (x : Option (List ℕ)). IsRefused (found_refusal full x) e) (sym is) g in
-        subst (λ (x : Output). IsRefused (refusal_from pages page spent (x.work ++ rest)) e) (sym (page_gives pages left names t frame bytes shut is))
-        (refused_first (found_refusal full (pages full)) (refusal_from pages page ((spent + 0) + 0) w) e found)
-
-    by_open : (b : Bool) → is_among (full_name_of t) names ≡ b
-        → IsRefused (taking_refusal (suc left) b (found_refusal (full_name_of t) (pages (full_name_of t)))) e
-        → IsRefused (refusal_from pages page spent ((template_output pages (suc left) names t frame).work ++ rest)) e
-    by_open true is g = refused_any _ e g
-    by_open false is g = by_page (pages (full_name_of t)) is refl g
+cost_refuses pages page l total (answer.BracesTooDeep title place) h = absurd h
+cost_refuses pages page l total answer.TooLarge h = stops_there pages page l.spent l.met total.work l.answered answer.TooLarge (h pages page)
+cost_refuses pages page l total answer.FolderFault h = absurd h
+cost_refuses pages page l total (answer.TemplateNotUtf8 title place) h = absurd h
+cost_refuses pages page l total (answer.TemplateTooLong title) h = absurd h
+cost_refuses pages page l total answer.NoMemory h = memory_refused pages page l total.work
 
 output_fetched : (full : List ℕ) (read : List ℕ → Output) (found : Option (List ℕ))
     → (w : List Entry) × ((fetched_output full read found).work ≡ fetched full ∷ w)
@@ -227,31 +211,102 @@ title_fetched pages left names t frame shut =
           (by_false (is_among full names) _ (fetched_output full read (pages full)) shut) ∙ x.1,
     )
 
--- with its name the names are the first of those that its work asks for
-fetched_first : (l : Ledger) (full : List ℕ) (w rest : List Entry)
-    → AreFirst (named_with full l.met l.answered) (answered_with l ((fetched full ∷ w) ++ rest))
-fetched_first l full w rest =
-    let names = fetches (w ++ rest) in
-    (firsts_after (met_with full l.met) names, names_fetched l.met full l.answered names)
-
--- the names answered where a title is taken are the first of those that its work asks for
-taking_first : (pages : Pages) (l : Ledger) (left : ℕ) (names : List (List ℕ)) (t : Title) (frame : Frame)
-    (rest : List Entry)
-    → AreFirst (names_taking left (is_among (full_name_of t) names) (full_name_of t) l.met l.answered)
-    (answered_with l ((template_output pages left names t frame).work ++ rest))
-taking_first pages l zero names t frame rest =
-    before_first l ((template_output pages zero names t frame).work ++ rest)
-taking_first pages l (suc left) names t frame rest = by_open (is_among (full_name_of t) names) refl
+-- a page that is refused is fetched and entered
+title_entered : (pages : Pages) (left : ℕ) (names : List (List ℕ)) (t : Title) (frame : Frame) (r : Refused)
+    → is_among (full_name_of t) names ≡ false → found_refusal (full_name_of t) (pages (full_name_of t)) ≡ Some r
+    → (w : List Entry) × ((template_output pages (suc left) names t frame).work ≡ fetched (full_name_of t) ∷ (entered (Some (full_name_of t)) ∷ w))
+title_entered pages left names t frame r shut h = by_page (pages (full_name_of t)) refl h
   where
-    by_open : (b : Bool) → is_among (full_name_of t) names ≡ b
-        → AreFirst (names_taking (suc left) b (full_name_of t) l.met l.answered)
-        (answered_with l ((template_output pages (suc left) names t frame).work ++ rest))
-    by_open true is = before_first l ((template_output pages (suc left) names t frame).work ++ rest)
-    by_open false is =
-        let full = full_name_of t in
+    by_page : (found : Option (List ℕ)) → pages (full_name_of t) ≡ found → found_refusal (full_name_of t) found ≡ Some r
+        → (w : List Entry) × ((template_output pages (suc left) names t frame).work ≡ fetched (full_name_of t) ∷ (entered (Some (full_name_of t)) ∷ w))
+    by_page None is g = absurd (no_some _ g)
+    by_page (Some bytes) is g =
+        let full = full_name_of t in (
+          (text_given (reading_of pages mode.Template frame left (full ∷ names)) (template_text bytes)).work,
+          ap (λ (o : Output). o.work) (page_gives pages left names t frame bytes shut is),
+        )
+
+-- work whose first entry is the fetch of a page stops behind it
+stops_fetched : (pages : Pages) (page : List ℕ) (l : Ledger) (full : List ℕ) (w : List Entry) (told : Option (List (List ℕ))) (e : ExpandRefusal)
+    → told ≡ named_with full l.met l.answered
+    → IsCause pages page l.spent (met_with full l.met) w e → Refuses pages page l (fetched full ∷ w) told e
+stops_fetched pages page l full w told e n h =
+    let now = ledger l.spent (met_with full l.met) (named_with full l.met l.answered) in
+    subst (λ (a : Option (List (List ℕ))). Refuses pages page l (fetched full ∷ w) a e) (sym n)
+    (comes_refused pages page l now (fetched full ∷ w) w now.answered e (comes_fetched pages page l.spent l.met l.answered full w)
+    (stops_there pages page l.spent (met_with full l.met) w now.answered e h))
+
+-- what `taking_refusal` says of a page that is asked for
+asked_refusal : (left : ℕ) (b : Bool) (o : Option Refused) → 0 < left → b ≡ false → taking_refusal left b o ≡ o
+asked_refusal zero b o l e = absurd (omega (arith, l))
+asked_refusal (suc left) true o l e = cc
+asked_refusal (suc left) false o l e = refl
+
+-- a page that is refused
+page_stops : (pages : Pages) (page : List ℕ) (l : Ledger) (left : ℕ) (names : List (List ℕ)) (t : Title) (frame : Frame) (told : Option (List (List ℕ)))
+    (e : ExpandRefusal) (r : Refused) → IsAsked left names (full_name_of t) l.met → told ≡ named_with (full_name_of t) l.met l.answered
+    → taking_refusal left (is_among (full_name_of t) names) (found_refusal (full_name_of t) (pages (full_name_of t))) ≡ Some r
+    → ((met : List (List ℕ)) (w : List Entry) → NextRefuses pages page l.spent r w → IsCause pages page l.spent met w e)
+    → Refuses pages page l (template_output pages left names t frame).work told e
+page_stops pages page l zero names t frame told e r a n h cause = absurd (let z = a.more in omega (arith, z))
+page_stops pages page l (suc left) names t frame told e r a n h cause =
+    let full = full_name_of t in
+    let found : found_refusal full (pages full) ≡ Some r =
+    sym (asked_refusal (suc left) (is_among full names) (found_refusal full (pages full)) a.more a.shut) ∙ h in
+    let x = title_entered pages left names t frame r a.shut found in
+    subst (λ (es : List Entry). Refuses pages page l es told e) (sym x.1)
+    (stops_fetched pages page l full (entered (Some full) ∷ x.0) told e n (cause (met_with full l.met) (entered (Some full) ∷ x.0) found))
+
+-- the folder failed
+fetch_stops : (pages : Pages) (page : List ℕ) (l : Ledger) (left : ℕ) (names : List (List ℕ)) (t : Title) (frame : Frame) (told : Option (List (List ℕ)))
+    → IsAsked left names (full_name_of t) l.met → told ≡ l.answered
+    → Refuses pages page l (template_output pages left names t frame).work told answer.FolderFault
+fetch_stops pages page l zero names t frame told a n = absurd (let z = a.more in omega (arith, z))
+fetch_stops pages page l (suc left) names t frame told a n =
+    let full = full_name_of t in
+    let x = title_fetched pages left names t frame a.shut in
+    subst (λ (es : List Entry). Refuses pages page l es told answer.FolderFault) (sym x.1)
+    (subst (λ (ns : Option (List (List ℕ))). Refuses pages page l (fetched full ∷ x.0) ns answer.FolderFault) (sym n)
+    (stops_there pages page l.spent l.met (fetched full ∷ x.0) l.answered answer.FolderFault a.unmet))
+
+-- memory is missing, behind the fetch of the page or before it
+memory_stops : (pages : Pages) (page : List ℕ) (l : Ledger) (left : ℕ) (names : List (List ℕ)) (t : Title) (frame : Frame) (told : Option (List (List ℕ)))
+    → told ≡ names_taking left (is_among (full_name_of t) names) (full_name_of t) l.met l.answered
+    → Refuses pages page l (template_output pages left names t frame).work told answer.NoMemory
+memory_stops pages page l zero names t frame told n =
+    subst (λ (a : Option (List (List ℕ))). Refuses pages page l (template_output pages zero names t frame).work a answer.NoMemory) (sym n)
+    (memory_refused pages page l (template_output pages zero names t frame).work)
+memory_stops pages page l (suc left) names t frame told n = by_open (is_among (full_name_of t) names) refl n
+  where
+    by_open : (b : Bool) → is_among (full_name_of t) names ≡ b → told ≡ names_taking (suc left) b (full_name_of t) l.met l.answered
+        → Refuses pages page l (template_output pages (suc left) names t frame).work told answer.NoMemory
+    by_open true is m =
+        subst (λ (a : Option (List (List ℕ))). Refuses pages page l (template_output pages (suc left) names t frame).work a answer.NoMemory) (sym m)
+        (memory_refused pages page l (template_output pages (suc left) names t frame).work)
+    by_open false is m =
         let x = title_fetched pages left names t frame is in
-        subst (λ (es : List Entry). AreFirst (named_with full l.met l.answered)
-        (answered_with l (es ++ rest))) (sym x.1) (fetched_first l full x.0 rest)
+        subst (λ (es : List Entry). Refuses pages page l es told answer.NoMemory) (sym x.1)
+        (stops_fetched pages page l (full_name_of t) x.0 told answer.NoMemory m tt)
+
+title_stops : (pages : Pages) (page : List ℕ) (l : Ledger) (left : ℕ) (names : List (List ℕ)) (t : Title) (frame : Frame) (told : Option (List (List ℕ)))
+    (e : ExpandRefusal)
+    → IsRefused (taking_refusal left (is_among (full_name_of t) names) (found_refusal (full_name_of t) (pages (full_name_of t)))) e
+    → IsNamedErr left names (full_name_of t) l.met l.answered told e
+    → Refuses pages page l (template_output pages left names t frame).work told e
+title_stops pages page l left names t frame told (answer.BracesTooDeep title place) h n =
+    page_stops pages page l left names t frame told (answer.BracesTooDeep title place) (braces_too_deep title place) n.0 n.1 h (λ met w g. g)
+title_stops pages page l left names t frame told answer.TooLarge h n =
+    page_stops pages page l left names t frame told answer.TooLarge too_large n.0 n.1 h (λ met w g. g)
+title_stops pages page l left names t frame told answer.FolderFault h n = fetch_stops pages page l left names t frame told n.0 n.1
+title_stops pages page l left names t frame told (answer.TemplateNotUtf8 title place) h n =
+    page_stops pages page l left names t frame told (answer.TemplateNotUtf8 title place) (not_utf8 title place) n.0 n.1 h (λ met w g. g)
+title_stops pages page l left names t frame told (answer.TemplateTooLong title) h n =
+    page_stops pages page l left names t frame told (answer.TemplateTooLong title) (too_long title) n.0 n.1 h (λ met w g. g)
+title_stops pages page l left names t frame told answer.NoMemory h n =
+    ⊎_elim
+    (λ e. subst (λ (a : Option (List (List ℕ))). Refuses pages page l (template_output pages left names t frame).work a answer.NoMemory) (sym e)
+    (memory_refused pages page l (template_output pages left names t frame).work))
+    (memory_stops pages page l left names t frame told) n
 
 -- the page of a title is refused
 pub taking_refused : (pages : Pages) (page : List ℕ) (spent : ℕ) (met : List (List ℕ))
@@ -265,13 +320,7 @@ taking_refused pages page spent met answered told left open_titles names t frame
     let l = ledger spent met answered in
     subst (λ (ns : List (List ℕ)). Refuses pages page l (template_output pages left ns t frame).work told e)
     same
-    (λ rest. (
-      page_unfound pages page spent left open_titles t frame e h rest,
-      first_then told
-          (names_taking left (is_among (full_name_of t) open_titles) (full_name_of t) met answered)
-          (answered_with l ((template_output pages left open_titles t frame).work ++ rest)) n
-          (taking_first pages l left open_titles t frame rest),
-    ))
+    (title_stops pages page l left open_titles t frame told e h n)
 
 taken_names : (left : ℕ) (b : Bool) (full : List ℕ) (met : List (List ℕ)) (answered : Option (List (List ℕ)))
     → 0 < left → b ≡ false
@@ -295,15 +344,9 @@ page_unread pages page spent met answered told left open_titles names t frame k 
     let l = ledger spent met answered in
     let g = subst (λ (x : Taken). AnswersTaking pages met open_titles left t store (Ok x)) is h in
     let told_is = subst (λ (x : Taken). IsNamed left open_titles full met answered told (Ok x)) is n in
-    let all_is = told_is ∙ taken_names left (is_among full open_titles) full met answered g.0 g.1 in
     subst (λ (ns : List (List ℕ)). Refuses pages page l (template_output pages left ns t frame).work told
     answer.NoMemory) same
-    (λ rest. (
-      tt,
-      subst (λ (a : Option (List (List ℕ))). AreFirst a
-          (answered_with l ((template_output pages left open_titles t frame).work ++ rest))) (sym all_is)
-          (taking_first pages l left open_titles t frame rest),
-    ))
+    (memory_stops pages page l left open_titles t frame told (told_is ∙ taken_names left (is_among full open_titles) full met answered g.0 g.1))
 
 -- ---- the page of a title is expanded
 

@@ -6,13 +6,14 @@ use Rattle.wt_expand.specs.Expansion.{Output, Reading, just, then_output, later_
 use Rattle.wt_transclusion.specs.Cursors.{starts}
 use Rattle.wt_transclusion.specs.Parts.{parts_given}
 use Rattle.wt_transclusion.specs.Steps.{given_from}
+use Rattle.wt_levels.specs.declared.choosing.Choosing.{Choosing}
 use Rattle.wt_levels.specs.declared.level.Level.{Level}
 use Rattle.wt_levels.specs.declared.level.Task.{Task}
 use Rattle.wt_levels.specs.declared.level.Task.TheVariants as task
 use Rattle.wt_levels.specs.Calls.{source_of, parts_of_call, behind_given}
 use Rattle.wt_levels.specs.Levels.{Resumes, Ends}
-use Rattle.wt_levels.specs.Rests.{with_work, ended_with, after_argument, after_value, after_name, after_text, after_target}
-use Rattle.wt_levels.proofs.RestLaws.{ended_work, argument_work, value_work, name_work, text_work, target_work, between_work}
+use Rattle.wt_levels.specs.Rests.{with_work, ended_with, after_argument, after_value, after_name, after_text, after_target, after_given, behind_word, after_told}
+use Rattle.wt_levels.proofs.RestLaws.{ended_work, argument_work, value_work, name_work, text_work, target_work, given_work, told_work, between_work}
 
 -- without work that comes first the levels give the rest
 abbrev pub Strips : Reading → List ℕ → ℕ → Bool → List Entry → Output → List Level → Output → Type 0
@@ -23,6 +24,15 @@ EndStrips r t e k w ls o total = (rest : Output) × (total ≡ with_work w rest)
 
 abbrev Below : Reading → List ℕ → List Entry → List Level → Output → Type 0
 Below r t w ls total = (q : ℕ) (x : Output) → Resumes r t q (starts t q) (with_work w x) ls total → Strips r t q (starts t q) w x ls total
+
+strip_told : (r : Reading) (t : List ℕ) (e : ℕ) (c : Choosing) (w : List Entry) (ls : List Level) (o total : Output) → Below r t w ls total
+    → Ends r t e (task.Told c) ls (with_work w o) total → EndStrips r t e (task.Told c) w ls o total
+strip_told r t e c w ls o total on h =
+    let to = c.call.at.end in
+    let ps = parts_of_call r t c.call h.choosing.call in
+    let z = on to (after_told c.at_start c.chooser ps o)
+    (subst (λ x. Resumes r t to (starts t to) x ls total) (told_work c.at_start c.chooser ps w o) h.gives) in
+    (z.0, z.1, record { choosing = h.choosing; before = h.before; within = h.within; gives = z.2 })
 
 strip_end : (r : Reading) (t : List ℕ) (e : ℕ) (k : Task) (w : List Entry) (ls : List Level) (o total : Output) → Below r t w ls total
     → Ends r t e k ls (with_work w o) total → EndStrips r t e k w ls o total
@@ -40,6 +50,10 @@ strip_end r t e (task.Target b s) w ls o total on h =
     let x = after_target r s c.braces (source_of r.mode t b c) (later_parts (parts_of_call r t b c)) (behind_given r t b c) o in
     let z = on b.at.end x (subst (λ y. Resumes r t b.at.end (starts t b.at.end) y ls total) same h.gives) in
     (z.0, z.1, record { call = c; end_is = h.end_is; gives = z.2 })
+strip_end r t e (task.First c n) w ls o total on h = strip_told r t e c w ls (behind_word n o) total on h
+strip_end r t e (task.Told c) w ls o total on h = strip_told r t e c w ls o total on h
+strip_end r t e (task.Given b s) w ls o total on h =
+    let z = on b.at.end (after_given s o) (subst (λ x. Resumes r t b.at.end (starts t b.at.end) x ls total) (given_work s w o) h.1) in (z.0, z.1, (h.0, z.2))
 strip_end r t e (task.Name a to) w ls o total on h =
     let value = given_from r (starts t (e + 1)) t (e + 1) h.value in
     let later = parts_given r (starts t h.at) t h.at h.ps in

@@ -1,8 +1,12 @@
 pub mod CallLaws
 pub mod CallSteps
+pub mod ChoiceSteps
+pub mod FirstAsked
 pub mod LedgerLaws
 pub mod LevelLaws
+pub mod NumberedParts
 pub mod PageLaws
 pub mod PartSteps
 pub mod RestLaws
+pub mod StackLaws
 pub mod StepLaws

@@ -1,17 +1,21 @@
 -- Work that comes before what is left of a call comes before all that is left; and what it costs.
-use Rattle.std.proofs.Common.{◌≡◌, ℕ, ◌+◌, ◌<◌, ◌≤◌, Bool, true, false, Option, Some, None, List, [], ◌∷◌, ◌++◌, length, refl, sym, ap, ◌∙◌, subst, arith, append_assoc, min}
+use Rattle.std.proofs.Common.{◌≡◌, ℕ, ◌+◌, ◌<◌, ◌≤◌, Bool, true, false, Option, Some, None, List, [], ◌∷◌, ◌++◌, length, drop, refl, sym, ap, ◌∙◌, subst, arith, append_assoc, min}
 use Rattle.std.specs.Prelude.{nat_lt, if◌then◌else◌}
 use Rattle.std.specs.Option.{option_or}
 use Rattle.std.proofs.lemmas.Bool.Decides.{nat_tests}
 use Rattle.wt_span.specs.Items.{Item, sources}
 use Rattle.wt_names.specs.declared.title.Title.{Title}
-use Rattle.wt_expand.specs.Texts.{name_text}
+use Rattle.wt_functions.specs.Choice.{Telling}
+use Rattle.wt_expand.specs.Asking.{asking}
+use Rattle.wt_expand.specs.Texts.{name_text, trimmed_items}
 use Rattle.wt_expand.specs.Targets.{title_of_target}
-use Rattle.wt_expand.specs.Work.{Pages, Refused, too_large, Entry, begun, ended, most_cost, refusal_from}
-use Rattle.wt_expand.specs.Expansion.{Output, Reading, PartOutput, Frame, just, then_output, chars, value_of, values_from, parts_work, default_output, if_value, back_braces, front_braces}
+use Rattle.wt_expand.specs.Fronts.{NextRefuses}
+use Rattle.wt_expand.specs.Work.{Pages, too_large, Entry, begun, ended, most_cost}
+use Rattle.wt_expand.specs.Expansion.{Output, Reading, PartOutput, Frame, just, then_output, chars, value_of, values_from, parts_work, default_output, if_value, with_break, back_braces, front_braces}
+use Rattle.wt_expand.proofs.FrontLaws.{front_none}
 use Rattle.wt_transclusion.specs.declared.refusal.ExpandRefusal.{ExpandRefusal}
 use Rattle.wt_transclusion.specs.declared.refusal.ExpandRefusal.TheVariants as answer
-use Rattle.wt_levels.specs.Rests.{with_work, ended_with, after_argument, after_page, after_values, next_number, after_value, after_name, after_text, after_target_by, after_target}
+use Rattle.wt_levels.specs.Rests.{with_work, ended_with, after_argument, after_page, after_values, next_number, after_value, after_name, after_text, after_target_by, after_target, after_given, later_told, after_told}
 use Rattle.wt_levels.specs.Runs.{Spends, RefusesCost}
 
 abbrev out : List Item → List Entry → Output
@@ -67,6 +71,15 @@ pub target_work : (r : Reading) (s : Bool) (k : ℕ) (source : List ℕ) (later 
     → after_target r s k source later behind (with_work w o) ≡ with_work w (after_target r s k source later behind o)
 target_work r s k source later behind w o = target_by_work (title_of_target o.items) r s k source later behind w o
 
+pub given_work : (s : Bool) (w : List Entry) (o : Output) → after_given s (with_work w o) ≡ with_work w (after_given s o)
+given_work s w o = ended_work w (out (with_break s (trimmed_items o.items)) o.work)
+
+pub told_work : (s : Bool) (told : Telling) (ps : List PartOutput) (w : List Entry) (o : Output)
+    → after_told s told ps (with_work w o) ≡ with_work w (after_told s told ps o)
+told_work s told ps w o =
+    let os = drop (length told.texts) (later_told told.function ps) in
+    let x = after_given s (asking told.function told.equals ps (told.texts ++ name_text o.items ∷ []) os) in ap (out x.items) (append_assoc w o.work x.work)
+
 -- what is given after other pieces
 pub between_work : (w : List Entry) (xs : List Item) (g o : Output)
     → then_output (just xs) (then_output (with_work w g) o) ≡ with_work w (then_output (just xs) (then_output g o))
@@ -74,38 +87,46 @@ between_work w xs g o = ap (out (xs ++ (g.items ++ o.items))) (append_assoc w g.
 
 -- ---- cost
 
-large_by : (b t : Bool) (x : Option Refused) → b ≡ t → option_or (if b then Some too_large else None) x ≡ (if t then Some too_large else x)
-large_by b true x e = ap (λ c. option_or (if c then Some too_large else None) x) e
-large_by b false x e = ap (λ c. option_or (if c then Some too_large else None) x) e
+large_is : (b t : Bool) → b ≡ t → (if b then Some too_large else None) ≡ (if t then Some too_large else None)
+large_is b t e = ap (λ c. if c then Some too_large else None) e
+
+alone : (b : Bool) → b ≡ false → option_or (if b then Some too_large else None) None ≡ None
+alone b e = ap (λ o. option_or o None) (large_is b false e)
 
 pub spends_none : (spent : ℕ) (o : Output) → Spends spent o spent o
-spends_none spent o = record { items = refl; refusal = λ pages page rest. refl; fetches = λ rest. refl }
+spends_none spent o = record {
+  items = refl;
+  done = [];
+  front = λ pages page. front_none pages page spent o.work;
+  costs = omega arith;
+  unfetched = refl;
+}
 
 pub spends_begun : (spent now : ℕ) (o : Output) → nat_lt most_cost (spent + 1) ≡ false → now ≡ spent + 1 → Spends spent (with_work (begun ∷ []) o) now o
 spends_begun spent now o e z = record {
   items = refl;
-  refusal = λ pages page rest.
-      large_by (nat_lt most_cost (spent + 1)) false (refusal_from pages page (spent + 1) (o.work ++ rest)) e
-      ∙ ap (λ n. refusal_from pages page n (o.work ++ rest)) (sym z);
-  fetches = λ rest. refl;
+  done = begun ∷ [];
+  front = λ pages page. record { whole = refl; allowed = alone (nat_lt most_cost (spent + 1)) e };
+  costs = omega (arith, z);
+  unfetched = refl;
 }
 
-pub refuses_begun : (spent : ℕ) (o : Output) → nat_lt most_cost (spent + 1) ≡ true → (pages : Pages) (page : List ℕ) (rest : List Entry)
-    → refusal_from pages page spent (begun ∷ (o.work ++ rest)) ≡ Some too_large
-refuses_begun spent o e pages page rest = large_by (nat_lt most_cost (spent + 1)) true (refusal_from pages page (spent + 1) (o.work ++ rest)) e
+pub refuses_begun : (spent : ℕ) (o : Output) → nat_lt most_cost (spent + 1) ≡ true → (pages : Pages) (page : List ℕ)
+    → NextRefuses pages page spent too_large (begun ∷ o.work)
+refuses_begun spent o e pages page = large_is (nat_lt most_cost (spent + 1)) true e
 
 pub spends_ended : (spent now n : ℕ) (o : Output) → nat_lt most_cost (spent + n) ≡ false → now ≡ spent + n → Spends spent (with_work (ended n ∷ []) o) now o
 spends_ended spent now n o e z = record {
   items = refl;
-  refusal = λ pages page rest.
-      large_by (nat_lt most_cost (spent + n)) false (refusal_from pages page (spent + n) (o.work ++ rest)) e
-      ∙ ap (λ k. refusal_from pages page k (o.work ++ rest)) (sym z);
-  fetches = λ rest. refl;
+  done = ended n ∷ [];
+  front = λ pages page. record { whole = refl; allowed = alone (nat_lt most_cost (spent + n)) e };
+  costs = omega (arith, z);
+  unfetched = refl;
 }
 
-pub refuses_ended : (spent n : ℕ) (o : Output) → nat_lt most_cost (spent + n) ≡ true → (pages : Pages) (page : List ℕ) (rest : List Entry)
-    → refusal_from pages page spent (ended n ∷ (o.work ++ rest)) ≡ Some too_large
-refuses_ended spent n o e pages page rest = large_by (nat_lt most_cost (spent + n)) true (refusal_from pages page (spent + n) (o.work ++ rest)) e
+pub refuses_ended : (spent n : ℕ) (o : Output) → nat_lt most_cost (spent + n) ≡ true → (pages : Pages) (page : List ℕ)
+    → NextRefuses pages page spent too_large (ended n ∷ o.work)
+refuses_ended spent n o e pages page = large_is (nat_lt most_cost (spent + n)) true e
 
 -- ---- values
 
@@ -148,7 +169,7 @@ pub begun_refused : (spent : ℕ) (total left : Output) (x : ExpandRefusal) → 
     → x ≡ answer.TooLarge
     → RefusesCost spent total x
 begun_refused spent total left x e l is = subst (λ (y : ExpandRefusal). RefusesCost spent total y) (sym is)
-    (λ pages page rest. ap (λ (o : Output). refusal_from pages page spent (o.work ++ rest)) e ∙ refuses_begun spent left (sym l) pages page rest)
+    (λ pages page. subst (λ (o : Output). NextRefuses pages page spent too_large o.work) (sym e) (refuses_begun spent left (sym l) pages page))
 
 pub ended_spent : (spent n count now : ℕ) (total left : Output) → total ≡ with_work (ended n ∷ []) left → false ≡ nat_lt most_cost (spent + count)
     → count ≡ min n 18446744073709551615 → now ≡ min (spent + count) 18446744073709551615 → Spends spent total now left
@@ -173,4 +194,4 @@ ended_refused spent n count total left x e l c is =
     let high = above spent count (sym l) in
     let large = above_is spent n (omega (arith, high, c)) in
     subst (λ (y : ExpandRefusal). RefusesCost spent total y) (sym is)
-    (λ pages page rest. ap (λ (o : Output). refusal_from pages page spent (o.work ++ rest)) e ∙ refuses_ended spent n left large pages page rest)
+    (λ pages page. subst (λ (o : Output). NextRefuses pages page spent too_large o.work) (sym e) (refuses_ended spent n left large pages page))

@@ -2,12 +2,13 @@
 use Rattle.std.proofs.Common.{◌≡◌, ℕ, ◌+◌, ◌-◌, ◌≤◌, Bool, true, false, Option, Some, None, option_map, List, [], ◌∷◌, ◌++◌, length, take, drop, refl, sym, ap, ◌∙◌, subst, arith, append_assoc, append-nil}
 use Rattle.std.specs.Prelude.{slice_get, slice_range, ◌==◌, if◌then◌else◌}
 use Rattle.std.proofs.lemmas.List.{drop-drop}
+use Rattle.std.proofs.lemmas.List.Concat.{flat_map-append}
 use Rattle.std.proofs.lemmas.Option.{slice_get-map}
 use Rattle.wt_span.specs.declared.form.Mode.{Mode}
 use Rattle.wt_span.specs.declared.form.Form.TheVariants as form
 use Rattle.wt_span.specs.declared.form.LexKind.{LexKind}
 use Rattle.wt_span.specs.declared.form.Piece.{Piece}
-use Rattle.wt_span.specs.Items.{Item, whole, sources, items}
+use Rattle.wt_span.specs.Items.{Item, whole, sources, items, items_of}
 use Rattle.wt_span.specs.Lexemes.{words}
 use Rattle.wt_span.specs.Braces.{Member, lexeme, call, members, width_of_all, reduced}
 use Rattle.wt_names.specs.declared.title.Title.{Title}
@@ -15,13 +16,16 @@ use Rattle.wt_braces.specs.declared.call.PartAt.{PartAt as PartOf}
 use Rattle.wt_braces.specs.PartMembers.{PartMembers, joined, rejoined, part_members, width_of}
 use Rattle.wt_braces.specs.Views.{part_of}
 use Rattle.wt_braces.proofs.Rejoins.{parts_join}
-use Rattle.wt_expand.specs.Targets.{argument, function, called, called_by, is_function, title_of_target}
+use Rattle.wt_span.specs.declared.function.Function.{Function}
+use Rattle.wt_span.specs.Functions.{function_of}
+use Rattle.wt_expand.specs.Targets.{argument, choice, function, called, called_by, called_function, is_function, title_of_target}
 use Rattle.wt_expand.specs.Work.{Entry, begun, ended}
 use Rattle.wt_expand.specs.Expansion.{Output, Reading, PartOutput, just, then_output, lexeme_items, chars, values_from, part_outputs, target_part, later_parts, parts_work, called_output, front_braces, back_braces, outputs_of, text_given, text_members}
 use Rattle.wt_expand.specs.Expansion as outputs
 use Rattle.wt_transclusion.specs.declared.read.Braces.{Braces}
 use Rattle.wt_transclusion.specs.declared.cursor.Next.TheVariants as next
 use Rattle.wt_transclusion.specs.Cursors.{starts}
+use Rattle.wt_transclusion.specs.Given.{option_items}
 use Rattle.wt_transclusion.specs.Parts.{part_given, parts_given, start_after}
 use Rattle.wt_transclusion.specs.Steps.{IsStretchOf, AnswersNext, given_from}
 use Rattle.wt_transclusion.specs.Stretch.{AllFull}
@@ -36,8 +40,8 @@ use Rattle.wt_levels.specs.Calls.{IsCallOf, source_of, parts_of_call, outs_of_ca
 use Rattle.wt_levels.specs.Levels.{Resumes, Ends}
 use Rattle.wt_levels.specs.Readers.{IsReading}
 use Rattle.wt_levels.specs.Rests.{with_work, after_argument, after_target, after_target_by}
-use Rattle.wt_levels.specs.Stacks.{stack, whole_level}
-use Rattle.wt_levels.specs.Runs.{Holds, HasEnded, Returns, TakesChunk, BeginsLevel, BeginsCall}
+use Rattle.wt_levels.specs.Stacks.{stack, whole_level, innermost_end, with_given, one_or_none}
+use Rattle.wt_levels.specs.Runs.{Holds, HasEnded, TakesChunk, BeginsLevel, BeginsCall}
 use Rattle.wt_levels.proofs.CallLaws.{First, first_of, behind_same, call_is}
 use Rattle.wt_levels.proofs.LevelLaws.{strip}
 
@@ -92,43 +96,46 @@ text_holds r t run n reading m levels is = record {
 
 -- ---- lexemes
 
-pub chunk_next : (r : Reading) (t : List ℕ) (run : TextRun) (l : Level) (kind : LexKind) (to : ℕ) (total : Output)
-    → (h : Holds r t run (l ∷ (stack run.levels)) total)
-    → AnswersNext r.mode t h.place l.end h.resumes.0 (next.Chunk kind to) → TakesChunk r t run l kind to total
-chunk_next r t run l kind to total h a = record {
-  place = h.place;
-  at_start = h.at_start;
-  running = h.running;
-  before = let z = a.0 in omega (arith, z);
-  left = a.2.left;
-  stretch = a.2.stretch;
-  ends = subst (λ o. Ends r t l.end l.task (stack run.levels) (then_output (just (items l.out)) o) total) (a.2.gives r h.at_start) h.resumes.2;
-}
+pub chunk_next : (r : Reading) (t : List ℕ) (run : TextRun) (ls : List Level) (end : ℕ) (kind : LexKind) (to : ℕ) (total : Output)
+    → (h : Holds r t run ls total) → innermost_end ls ≡ Some end
+    → ((xs : List Member) → IsStretchOf r.mode t h.place end xs → AnswersNext r.mode t h.place end xs (next.Chunk kind to))
+    → TakesChunk r t run ls kind to total
+chunk_next r t run [] end kind to total h e a = absurd h.resumes
+chunk_next r t run (l ∷ ls) end kind to total h e a =
+    let same : end ≡ l.end = cc in
+    let n = subst (λ q. (xs : List Member) → IsStretchOf r.mode t h.place q xs → AnswersNext r.mode t h.place q xs (next.Chunk kind to)) same a
+    h.resumes.0 h.resumes.1 in
+    record {
+      place = h.place;
+      at_start = h.at_start;
+      running = h.running;
+      before = let z = n.0 in omega (arith, z);
+      resumes = (
+        n.2.left,
+        n.2.stretch,
+        subst (λ o. Ends r t l.end l.task ls (then_output (just (items l.out)) o) total) (n.2.gives r h.at_start) h.resumes.2,
+      );
+    }
+
+-- ---- pieces that a level is given
 
 -- pieces of a level are given together
 joined_out : (xs ys zs : List Item) (g : Output) → zs ≡ xs ++ ys → then_output (just xs) (then_output (just ys) g) ≡ then_output (just zs) g
 joined_out xs ys zs g e = ap (λ k. out k g.work) (sym (append_assoc xs ys g.items) ∙ ap (λ k. k ++ g.items) (sym e))
 
-pub chunk_taken : (r : Reading) (t : List ℕ) (run : TextRun) (l : Level) (kind : LexKind) (to : ℕ) (total : Output) (ps : List Piece)
-    → (c : TakesChunk r t run l kind to total) → items ps ≡ items l.out ++ lexeme_items r.mode kind (take (to - c.place) (drop c.place t))
-    → Resumes r t to (starts t to) (just []) (record { end = l.end; out = ps; task = l.task } ∷ (stack run.levels)) total
-chunk_taken r t run l kind to total ps c e = (
-  c.left,
-  c.stretch,
-  subst (λ o. Ends r t l.end l.task (stack run.levels) o total)
-      (joined_out (items l.out) (lexeme_items r.mode kind (take (to - c.place) (drop c.place t))) (items ps) (given_from r (starts t to) t to c.left) e) c.ends,
-)
-
--- ---- pieces that a call gives
-
-pub pieces_given : (r : Reading) (t : List ℕ) (q : ℕ) (s : Bool) (l : Level) (ls : List Level) (total : Output) (xs : List Item) (ps : List Piece)
-    → Resumes r t q s (just xs) (l ∷ ls) total → items ps ≡ items l.out ++ xs
-    → Resumes r t q s (just []) (record { end = l.end; out = ps; task = l.task } ∷ ls) total
-pieces_given r t q s l ls total xs ps h e = (
+pub pieces_given : (r : Reading) (t : List ℕ) (q : ℕ) (s : Bool) (ls : List Level) (total : Output) (xs : List Item) (ps : List Piece)
+    → Resumes r t q s (just xs) ls total → items ps ≡ xs → Resumes r t q s (just []) (with_given ps ls) total
+pieces_given r t q s [] total xs ps h e = absurd h
+pieces_given r t q s (l ∷ ls) total xs ps h e = (
   h.0,
   h.1,
-  subst (λ o. Ends r t l.end l.task ls o total) (joined_out (items l.out) xs (items ps) (given_from r s t q h.0) e) h.2,
+  subst (λ o. Ends r t l.end l.task ls o total)
+      (joined_out (items l.out) xs (items (l.out ++ ps)) (given_from r s t q h.0) (flat_map-append items_of l.out ps ∙ ap (λ ys. items l.out ++ ys) e)) h.2,
 )
+
+one_given : (o : Option Piece) → items (one_or_none o) ≡ option_items o
+one_given None = refl
+one_given (Some p) = append-nil (items_of p)
 
 -- ---- a call
 
@@ -138,10 +145,15 @@ given_call r s k source ps qs os ns e f =
     ap (λ xs. called_output (called k source (target_part xs).items) r s k source xs os) e
     ∙ ap (called_output (called k source (target_part qs).items) r s k source qs) f
 
-pub call_next : (r : Reading) (t : List ℕ) (run : TextRun) (l : Level) (ls : List Level) (b : Braces) (n : ℕ) (total : Output)
-    → (h : Holds r t run (l ∷ ls) total)
-    → AnswersNext r.mode t h.place l.end h.resumes.0 (next.Call n) → slice_get run.reader.text.calls.now n ≡ Some b → BeginsCall r t run (l ∷ ls) b total
-call_next r t run l ls b n total h a f =
+pub call_next : (r : Reading) (t : List ℕ) (run : TextRun) (ls : List Level) (end : ℕ) (b : Braces) (n : ℕ) (total : Output)
+    → (h : Holds r t run ls total) → innermost_end ls ≡ Some end
+    → ((xs : List Member) → IsStretchOf r.mode t h.place end xs → AnswersNext r.mode t h.place end xs (next.Call n))
+    → slice_get run.reader.text.calls.now n ≡ Some b → BeginsCall r t run ls b total
+call_next r t run [] end b n total h e next_is f = absurd h.resumes
+call_next r t run (l ∷ ls) end b n total h e next_is f =
+    let same : end ≡ l.end = cc in
+    let a = subst (λ q. (xs : List Member) → IsStretchOf r.mode t h.place q xs → AnswersNext r.mode t h.place q xs (next.Call n)) same next_is
+    h.resumes.0 h.resumes.1 in
     let p = h.place in
     let k = a.0.braces in
     let ms = a.0.inside in
@@ -184,35 +196,43 @@ called_argument : (k : ℕ) (source : List ℕ) (target : List Item) → (k == 3
 unfolding called
 called_argument k source target e = if_true (k == 3) argument _ e
 
-called_function : (k : ℕ) (source : List ℕ) (target : List Item) → (k == 3) ≡ false → is_function source ≡ true → called k source target ≡ function
+by_word : (k : ℕ) (source : List ℕ) (target : List Item) (w : Option (Function × ℕ)) → (k == 3) ≡ false → is_function source ≡ true
+    → function_of (drop 2 source) ≡ w → called k source target ≡ called_function w
 unfolding called
-called_function k source target e f = if_false (k == 3) argument _ e ∙ if_true (is_function source) function _ f
+by_word k source target w e f is =
+    if_false (k == 3) argument _ e ∙ if_true (is_function source) (called_function (function_of (drop 2 source))) _ f ∙ ap called_function is
+
+pub called_choice : (k : ℕ) (source : List ℕ) (target : List Item) (f : Function) (n : ℕ) → (k == 3) ≡ false → is_function source ≡ true
+    → function_of (drop 2 source) ≡ Some (f, n) → called k source target ≡ choice f n
+called_choice k source target f n e i w = by_word k source target (Some (f, n)) e i w
+
+called_kept : (k : ℕ) (source : List ℕ) (target : List Item) → (k == 3) ≡ false → is_function source ≡ true → function_of (drop 2 source) ≡ None
+    → called k source target ≡ function
+called_kept k source target e i w = by_word k source target None e i w
 
 called_title : (k : ℕ) (source : List ℕ) (target : List Item) → (k == 3) ≡ false → is_function source ≡ false
     → called k source target ≡ called_by (title_of_target target)
 unfolding called
-called_title k source target e f = if_false (k == 3) argument _ e ∙ if_false (is_function source) function _ f
+called_title k source target e f = if_false (k == 3) argument _ e ∙ if_false (is_function source) (called_function (function_of (drop 2 source))) _ f
 
 pub source_is : (m : Mode) (t : List ℕ) (b : Braces) → (c : IsCallOf m t b) → slice_range t b.at.start b.at.end ≡ source_of m t b c
 source_is m t b c =
     let z : b.at.end - b.at.start ≡ c.braces + width_of_all c.inside + c.braces = let x = c.start_is in let y = c.end_is in omega (arith, x, y) in
     ap (λ n. take n (drop b.at.start t)) z ∙ ap (λ n. take (c.braces + width_of_all c.inside + c.braces) (drop n t)) c.start_is
 
-pub function_begins : (r : Reading) (t : List ℕ) (run : TextRun) (l : Level) (ls : List Level) (b : Braces) (total : Output) (source : List ℕ) (ps : List Piece)
-    → BeginsCall r t run (l ∷ ls) b total → b.argument ≡ false → source ≡ slice_range t b.at.start b.at.end → is_function source ≡ true
-    → items ps ≡ items l.out ++ whole form.Function None source ∷ []
-    → Resumes r t b.at.end (starts t b.at.end) (just []) (record { end = l.end; out = ps; task = l.task } ∷ ls) total
-function_begins r t run l ls b total source ps h k e f is =
+pub function_begins : (r : Reading) (t : List ℕ) (run : TextRun) (ls : List Level) (b : Braces) (total : Output) (source : List ℕ)
+    → BeginsCall r t run ls b total → b.argument ≡ false → source ≡ slice_range t b.at.start b.at.end → is_function source ≡ true
+    → function_of (drop 2 source) ≡ None
+    → Resumes r t b.at.end (starts t b.at.end) (just (whole form.Function None source ∷ [])) ls total
+function_begins r t run ls b total source h k e f w =
     let c = h.call in
     let same = e ∙ source_is r.mode t b c in
     let ps0 = parts_of_call r t b c in
     let src = source_of r.mode t b c in
     let fn : is_function src ≡ true = ap is_function (sym same) ∙ f in
     let gives = ap (λ d. called_output d r h.at_start c.braces src ps0 (outs_of_call r t b c))
-    (called_function c.braces src (target_part ps0).items (sym c.kind_is ∙ k) fn) in
-    pieces_given r t b.at.end (starts t b.at.end) l ls total (whole form.Function None source ∷ []) ps
-    (subst (λ o. Resumes r t b.at.end (starts t b.at.end) o (l ∷ ls) total) (gives
-    ∙ ap (λ bs. just (whole form.Function None bs ∷ [])) (sym same)) h.resumes) is
+    (called_kept c.braces src (target_part ps0).items (sym c.kind_is ∙ k) fn (ap (λ bs. function_of (drop 2 bs)) (sym same) ∙ w)) in
+    subst (λ o. Resumes r t b.at.end (starts t b.at.end) o ls total) (gives ∙ ap (λ bs. just (whole form.Function None bs ∷ [])) (sym same)) h.resumes
 
 -- ---- the first part of a call
 
@@ -397,16 +417,17 @@ level_ends r t run l total h low =
 
 -- ---- what the code knows
 
-pub chunk_read : (r : Reading) (t : List ℕ) (run : TextRun) (l : Level) (kind : LexKind) (to : ℕ) (total : Output) (ps : List Piece) (given : List Item)
+pub chunk_read : (r : Reading) (t : List ℕ) (run : TextRun) (ls : List Level) (kind : LexKind) (to : ℕ) (total : Output) (o : Option Piece)
     (bytes : List ℕ)
-    → TakesChunk r t run l kind to total → items ps ≡ items l.out ++ given → given ≡ lexeme_items run.mode kind bytes
+    → TakesChunk r t run ls kind to total → option_items o ≡ lexeme_items run.mode kind bytes
     → bytes ≡ slice_range run.reader.text.text.now run.reader.cursor.at to
-    → Resumes r t to (starts t to) (just []) (record { end = l.end; out = ps; task = l.task } ∷ (stack run.levels)) total
-chunk_read r t run l kind to total ps given bytes h e is bytes_are =
+    → Resumes r t to (starts t to) (just []) (with_given (one_or_none o) ls) total
+chunk_read r t run ls kind to total o bytes h is bytes_are =
     let reading = h.running.reading in
-    chunk_taken r t run l kind to total ps h (e ∙ ap (λ o. items l.out ++ o) (is ∙ ap (λ m. lexeme_items m kind bytes) h.running.mode_is
+    pieces_given r t to (starts t to) ls total (lexeme_items r.mode kind (take (to - h.place) (drop h.place t))) (one_or_none o) h.resumes
+    (one_given o ∙ is ∙ ap (λ m. lexeme_items m kind bytes) h.running.mode_is
     ∙ ap (lexeme_items r.mode kind) (bytes_are ∙ ap (λ xs. slice_range xs run.reader.cursor.at to) reading.read.text_is
-    ∙ ap (λ q. take (to - q) (drop q t)) reading.at.at_is)))
+    ∙ ap (λ q. take (to - q) (drop q t)) reading.at.at_is))
 
 pub call_before : (m : Mode) (t : List ℕ) (b : Braces) → (c : IsCallOf m t b) → c.at ≤ b.at.end
 call_before m t b c = let z = c.end_is in omega (arith, z)
@@ -422,14 +443,13 @@ popped r t run next ls total h rd md e = record {
   resumes = subst (λ ks. Resumes r t h.place h.at_start (just []) ks total) e h.resumes;
 }
 
-pub read_to_end : (r : Reading) (t : List ℕ) (run : TextRun) (l : Level) (total : Output) → Holds r t run (l ∷ (stack run.levels)) total
-    → l.end ≤ run.reader.cursor.at
-    → HasEnded r t run l.task l.out total
-read_to_end r t run l total h low = level_ends r t run l total h (let z = h.running.reading.at.at_is in omega (arith, z, low))
-
--- the level round a call is taken and gets pieces
-pub level_given : (r : Reading) (t : List ℕ) (run : TextRun) (to : ℕ) (l : Level) (ls : List Level) (total : Output) (xs : List Item) (ps : List Piece)
-    → Returns r t run to (just xs) total → stack run.levels ≡ l ∷ ls → items ps ≡ items l.out ++ xs
-    → Resumes r t to (starts t to) (just []) (record { end = l.end; out = ps; task = l.task } ∷ ls) total
-level_given r t run to l ls total xs ps h e is =
-    pieces_given r t to (starts t to) l ls total xs ps (subst (λ ks. Resumes r t to (starts t to) (just xs) ks total) e h.resumes) is
+-- the innermost level is read to its end and taken
+pub read_to_end : (r : Reading) (t : List ℕ) (run next : TextRun) (l : Level) (end : ℕ) (total : Output) → Holds r t run (stack run.levels) total
+    → innermost_end (stack run.levels) ≡ Some end → end ≤ run.reader.cursor.at → stack run.levels ≡ l ∷ stack next.levels
+    → next.reader ≡ run.reader → next.mode ≡ run.mode → HasEnded r t next l.task l.out total
+read_to_end r t run next l end total h e low is rd md =
+    let ends : Some l.end ≡ Some end = sym (ap innermost_end is) ∙ e in
+    let same : l.end ≡ end = cc in
+    let q = popped r t run next (l ∷ stack next.levels) total h rd md is in
+    let here : next.reader.cursor.at ≡ run.reader.cursor.at = ap (λ x. x.cursor.at) rd in
+    level_ends r t next l total q (let z = q.running.reading.at.at_is in omega (arith, z, here, low, same))

@@ -1,15 +1,15 @@
 -- What the expansion of a text does to what is spent and to the names that are known.
-use Rattle.std.specs.Prelude.{◌≡◌, ℕ, Option, Some, None, option_map, List, [], ◌++◌, Result, Ok, Err}
+use Rattle.std.specs.Prelude.{◌≡◌, ℕ, ◌+◌, Option, Some, None, List, [], Result, Ok, Err}
 use Rattle.wt_span.specs.declared.form.Mode.{Mode}
 use Rattle.wt_span.specs.declared.form.Piece.{Piece}
 use Rattle.wt_span.specs.declared.list.List.{List as Listed}
 use Rattle.wt_span.specs.Items.{items}
 use Rattle.wt_expand.specs.Expansion.{Output, Reading, Frame, template_output}
-use Rattle.wt_expand.specs.Work.{Pages, Entry, fetches, firsts_after, refusal_from}
+use Rattle.wt_expand.specs.Fronts.{Front, cost_of_all, known_after}
+use Rattle.wt_expand.specs.Work.{Pages, Entry, fetches}
 use Rattle.wt_transclusion.specs.declared.refusal.ExpandRefusal.{ExpandRefusal}
 use Rattle.wt_transclusion.specs.declared.store.Store.{Store}
-use Rattle.wt_transclusion.specs.Answers.{IsRefused}
-use Rattle.wt_transclusion.specs.Asked.{AreFirst}
+use Rattle.wt_transclusion.specs.Stops.{Stops, told_with}
 use Rattle.wt_transclusion.specs.Stores.{IsStore}
 use Rattle.wt_levels.specs.declared.level.Handing.{Handing}
 use Rattle.wt_levels.specs.declared.run.TextRun.{TextRun}
@@ -30,19 +30,23 @@ pub record Ledger : Type 0 where
 
 -- the names answered in all, where this work is still to be done
 abbrev pub answered_with : Ledger → List Entry → Option (List (List ℕ))
-answered_with l es = option_map (λ ns. ns ++ firsts_after l.met (fetches es)) l.answered
+answered_with l es = told_with l.met es l.answered
 
--- of some work what is left comes to the same refusal and to the same names as all of it, whatever follows
+-- once this work is done
+abbrev pub ledger_after : Ledger → List Entry → Ledger
+ledger_after l done = record { spent = l.spent + cost_of_all done; met = known_after l.met (fetches done); answered = answered_with l done }
+
+-- a front of some work is done, and this is left
 pub record Comes (pages : Pages) (page : List ℕ) (before : Ledger) (work : List Entry) (now : Ledger) (left : List Entry) : Type 0 where
-  pub refusal : (rest : List Entry) → refusal_from pages page before.spent (work ++ rest) ≡ refusal_from pages page now.spent (left ++ rest)
-  pub names : (rest : List Entry) → answered_with before (work ++ rest) ≡ answered_with now (left ++ rest)
+  pub done : List Entry
+  pub front : Front pages page before.spent work done left
+  pub now_is : now ≡ ledger_after before done
 
--- whatever work follows this, its first refusal is this one, and the names that are answered are the first of those that it asks for
+-- the work stopped behind a front of it, for this cause
 abbrev pub Refuses : Pages → List ℕ → Ledger → List Entry → Option (List (List ℕ)) → ExpandRefusal → Type 0
-Refuses pages page before work answered e = (rest : List Entry)
-    → IsRefused (refusal_from pages page before.spent (work ++ rest)) e × AreFirst answered (answered_with before (work ++ rest))
+Refuses pages page before work answered e = Stops pages page before.spent before.met work before.answered answered e
 
--- what was to be given is given, and its work is done; or the first refusal is that of its work
+-- what was to be given is given, and its work is done; or its work stopped
 abbrev pub AnswersOutput : Pages → List ℕ → Ledger → Output → Store → ℕ → Option (List (List ℕ)) → Result (Listed Piece) ExpandRefusal → Type 0
 AnswersOutput pages page before o store spent answered (Ok ps) =
     (items ps ≡ o.items) × (met : List (List ℕ)) × IsStore pages met store × Comes pages page before o.work

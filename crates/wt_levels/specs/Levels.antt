@@ -1,24 +1,28 @@
 -- Levels of a text as they stand, and what they give in all.
-use Rattle.std.specs.Prelude.{◌≡◌, ◌≤◌, ℕ, ◌+◌, Bool, Option, Some, None, List, [], ◌∷◌, map, drop, String, string_bytes}
+use Rattle.std.specs.Prelude.{◌≡◌, ◌≤◌, ℕ, suc, ◌+◌, Bool, Option, Some, None, List, [], ◌∷◌, map, length, drop, slice_get, String, string_bytes}
 use Rattle.std.specs.declared.alloc.Global.{Global}
 use Rattle.wt_span.specs.Items.{items}
 use Rattle.wt_span.specs.Braces.{Member}
 use Rattle.wt_span.specs.declared.form.Mode.{Mode}
+use Rattle.wt_braces.specs.declared.call.PartAt.{PartAt}
 use Rattle.wt_braces.specs.PartMembers.{PartMembers, part_members, placed, width_of}
 use Rattle.wt_braces.specs.Views.{part_of}
 use Rattle.wt_expand.specs.Texts.{name_text}
+use Rattle.wt_expand.specs.Asking.{have_names}
 use Rattle.wt_expand.specs.Expansion.{Output, Reading, Frame, just, then_output, later_parts}
 use Rattle.wt_transclusion.specs.declared.read.Braces.{Braces}
 use Rattle.wt_transclusion.specs.Cursors.{starts}
 use Rattle.wt_transclusion.specs.Frames.{AreValues}
 use Rattle.wt_transclusion.specs.Parts.{parts_given}
 use Rattle.wt_transclusion.specs.Steps.{IsStretchOf, given_from}
+use Rattle.wt_levels.specs.declared.choosing.Choosing.{Choosing}
 use Rattle.wt_levels.specs.declared.level.Level.{Level}
 use Rattle.wt_levels.specs.declared.level.Handing.{Handing}
 use Rattle.wt_levels.specs.declared.level.Task.{Task}
 use Rattle.wt_levels.specs.declared.level.Task.TheVariants as task
 use Rattle.wt_levels.specs.Calls.{ArePartsAt, IsCallOf, source_of, parts_of_call, first_end, behind_given}
-use Rattle.wt_levels.specs.Rests.{ended_with, after_argument, after_value, after_name, after_text, after_target}
+use Rattle.wt_levels.specs.Readers.{IsReading}
+use Rattle.wt_levels.specs.Rests.{ended_with, after_argument, after_value, after_name, after_text, after_target, after_given, behind_word, after_told}
 
 -- ---- calls whose values are read
 
@@ -34,6 +38,15 @@ IsNamedBy None None = Unit {0}
 IsNamedBy None (Some o) = ⊥
 IsNamedBy (Some s) None = ⊥
 IsNamedBy (Some s) (Some o) = string_bytes s ≡ name_text o.items
+
+-- ---- functions whose parts are told
+
+-- what is kept of a function: its call, the text where it begins, and which of its parts have a name
+pub record IsChoosing (r : Reading) (t : List ℕ) (c : Choosing) : Type 0 where
+  pub call : IsCallOf r.mode t c.call
+  pub begun : IsReading r.mode t c.begun call.at c.at_start
+  pub function_is : c.chooser.function ≡ c.function
+  pub equals_are : c.chooser.equals ≡ have_names (parts_of_call r t c.call call)
 
 -- ---- what is done where a level ends
 
@@ -86,12 +99,22 @@ pub record TextWaits (r : Reading) (t : List ℕ) (e : ℕ) (b : Braces) (back :
   pub end_is : e + call.braces ≡ b.at.end
   pub gives : back b.at.end (after_text call.braces (source_of r.mode t b call) o)
 
+-- a part that is told to a function is read up to `e`, and the next one begins there or behind it
+pub record ToldWaits (r : Reading) (t : List ℕ) (e : ℕ) (c : Choosing) (back : Back) (o : Output) : Type 0 where
+  pub choosing : IsChoosing r t c
+  pub before : (next : PartAt) → slice_get c.call.parts.now (suc (length c.chooser.texts)) ≡ Some next → e ≤ next.at.start
+  pub within : e ≤ c.call.at.end
+  pub gives : back c.call.at.end (after_told c.at_start c.chooser (parts_of_call r t c.call choosing.call) o)
+
 -- what follows from what a level that ends at `e` gives in all: of the whole text, or of the call of which it is a part
 abbrev pub After : Reading → List ℕ → ℕ → Task → (Output → Type 0) → Back → Output → Type 0
 After r t e task.Whole whole back o = whole o
 After r t e (task.Argument b) whole back o = ArgumentWaits r t e b back o
 After r t e (task.Default b) whole back o = (e ≤ b.at.end) × back b.at.end (ended_with o)
 After r t e (task.Target b at_start) whole back o = TargetWaits r t e b at_start back o
+After r t e (task.First c n) whole back o = ToldWaits r t e c back (behind_word n o)
+After r t e (task.Told c) whole back o = ToldWaits r t e c back o
+After r t e (task.Given b at_start) whole back o = (e ≤ b.at.end) × back b.at.end (after_given at_start o)
 After r t e (task.Name h to) whole back o = NameWaits r t e h to back o
 After r t e (task.Value h name) whole back o = ValueWaits r t e h name back o
 After r t e (task.Text b) whole back o = TextWaits r t e b back o

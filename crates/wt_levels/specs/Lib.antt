@@ -1,4 +1,5 @@
 pub mod Calls
+pub mod Choosings
 pub mod Ledgers
 pub mod Levels
 pub mod Names
@@ -6,3 +7,4 @@ pub mod Readers
 pub mod Rests
 pub mod Runs
 pub mod Stacks
+pub mod ToldParts

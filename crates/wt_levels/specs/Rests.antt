@@ -1,12 +1,15 @@
 -- What a call gives from the point on up to which it is read, with the work that is left. `o` is always what gives the name, the
 -- value or the target that is being read, in all.
-use Rattle.std.specs.Prelude.{ℕ, ◌+◌, Option, Some, None, List, [], ◌∷◌, ◌++◌, length, Bool}
+use Rattle.std.specs.Prelude.{ℕ, ◌+◌, Option, Some, None, List, [], ◌∷◌, ◌++◌, length, map, drop, Bool}
+use Rattle.wt_span.specs.declared.function.Function.{Function}
 use Rattle.wt_span.specs.Items.{sources}
 use Rattle.wt_names.specs.declared.title.Title.{Title}
-use Rattle.wt_expand.specs.Texts.{name_text}
+use Rattle.wt_functions.specs.Choice.{Telling}
+use Rattle.wt_expand.specs.Texts.{name_text, trimmed_items}
 use Rattle.wt_expand.specs.Targets.{title_of_target}
 use Rattle.wt_expand.specs.Work.{Entry, begun, ended}
-use Rattle.wt_expand.specs.Expansion.{Output, Reading, PartOutput, Frame, just, then_output, chars, value_of, values_from, parts_work, default_output, if_value, with_break, front_braces, back_braces}
+use Rattle.wt_expand.specs.Asking.{asking}
+use Rattle.wt_expand.specs.Expansion.{Output, Reading, PartOutput, Frame, just, then_output, chars, value_of, values_from, parts_work, default_output, if_value, with_break, later_parts, told_by, front_braces, back_braces}
 
 -- so much work comes before
 abbrev pub with_work : List Entry → Output → Output
@@ -55,3 +58,23 @@ after_target_by (Some t) r at_start k source later behind o = with_work (o.work 
 
 abbrev pub after_target : Reading → Bool → ℕ → List ℕ → List PartOutput → Output → Output → Output
 after_target r at_start k source later behind o = after_target_by (title_of_target o.items) r at_start k source later behind o
+
+-- ---- functions by text
+
+-- the part that a function gives
+abbrev pub after_given : Bool → Output → Output
+after_given at_start o = ended_with (record { items = with_break at_start (trimmed_items o.items); work = o.work })
+
+-- a target from its part 0 on, before which so many bytes stand
+abbrev pub behind_word : ℕ → Output → Output
+behind_word n o = record { items = drop n o.items; work = o.work }
+
+-- what may be told of the parts behind the target
+abbrev pub later_told : Function → List PartOutput → List Output
+later_told f ps = map (λ p. told_by f p.name p.all) (later_parts ps)
+
+-- a part that is told to a function that was told the parts before it; its beginning is done already
+abbrev pub after_told : Bool → Telling → List PartOutput → Output → Output
+after_told at_start told ps o =
+    let more = asking told.function told.equals ps (told.texts ++ name_text o.items ∷ []) (drop (length told.texts) (later_told told.function ps)) in
+    with_work o.work (after_given at_start more)

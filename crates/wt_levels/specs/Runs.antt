@@ -1,12 +1,13 @@
 -- What the steps of a text that is expanded answer.
-use Rattle.std.specs.Prelude.{◌≡◌, ◌≤◌, ℕ, Bool, Some, List, [], ◌∷◌, ◌++◌, Result, Ok, Err, take, drop, ◌-◌}
+use Rattle.std.specs.Prelude.{◌≡◌, ◌≤◌, ℕ, ◌+◌, Bool, List, [], ◌∷◌, Result, Ok, Err, take, drop, ◌-◌}
 use Rattle.wt_span.specs.declared.form.LexKind.{LexKind}
 use Rattle.wt_span.specs.declared.form.Piece.{Piece}
 use Rattle.wt_span.specs.Items.{items}
 use Rattle.wt_span.specs.Braces.{Member}
 use Rattle.wt_braces.specs.PartMembers.{PartMembers}
-use Rattle.wt_expand.specs.Work.{Pages, Entry, begun, fetches, refusal_from, too_large}
-use Rattle.wt_expand.specs.Expansion.{Output, Reading, Frame, just, then_output, lexeme_items, called_output, later_parts, target_part}
+use Rattle.wt_expand.specs.Fronts.{Front, NextRefuses, cost_of_all}
+use Rattle.wt_expand.specs.Work.{Pages, Entry, begun, fetches, too_large}
+use Rattle.wt_expand.specs.Expansion.{Output, Reading, Frame, just, lexeme_items, called_output, later_parts, target_part}
 use Rattle.wt_expand.specs.Targets.{called}
 use Rattle.wt_names.specs.declared.title.Title.{Title}
 use Rattle.wt_transclusion.specs.declared.refusal.ExpandRefusal.{ExpandRefusal}
@@ -57,17 +58,13 @@ pub record Returns (r : Reading) (t : List ℕ) (run : TextRun) (to : ℕ) (g to
   pub before : place ≤ to
   pub resumes : Resumes r t to (starts t to) g (stack run.levels) total
 
--- bytes of a lexeme stand next, and then others, in a level
-pub record TakesChunk (r : Reading) (t : List ℕ) (run : TextRun) (l : Level) (kind : LexKind) (to : ℕ) (total : Output) : Type 0 where
+-- bytes of a lexeme stand next, and then others, in the innermost of these levels
+pub record TakesChunk (r : Reading) (t : List ℕ) (run : TextRun) (ls : List Level) (kind : LexKind) (to : ℕ) (total : Output) : Type 0 where
   pub place : ℕ
   pub at_start : Bool
   pub running : IsRunning r t run place at_start
   pub before : place ≤ to
-  pub left : List Member
-  pub stretch : IsStretchOf r.mode t to l.end left
-  pub ends : Ends r t l.end l.task (stack run.levels)
-      (then_output (just (items l.out)) (then_output (just (lexeme_items r.mode kind (take (to - place) (drop place t))))
-      (given_from r (starts t to) t to left))) total
+  pub resumes : Resumes r t to (starts t to) (just (lexeme_items r.mode kind (take (to - place) (drop place t)))) ls total
 
 -- a level with this task begins at a place, behind what is read
 pub record BeginsLevel (r : Reading) (t : List ℕ) (run : TextRun) (at : ℕ) (s : Bool) (to : ℕ) (k : Task) (total : Output) : Type 0 where
@@ -123,15 +120,15 @@ TakesPart r t total run (turn.Called h) = Calls r t run h total
 -- what was to be given and done is what was done with this cost, and what is left; no page was fetched
 pub record Spends (spent : ℕ) (total : Output) (now : ℕ) (left : Output) : Type 0 where
   pub items : total.items ≡ left.items
-  pub refusal : (pages : Pages) (page : List ℕ) (rest : List Entry)
-      → refusal_from pages page spent (total.work ++ rest) ≡ refusal_from pages page now (left.work ++ rest)
-  pub fetches : (rest : List Entry) → fetches (total.work ++ rest) ≡ fetches (left.work ++ rest)
+  pub done : List Entry
+  pub front : (pages : Pages) (page : List ℕ) → Front pages page spent total.work done left.work
+  pub costs : now ≡ spent + cost_of_all done
+  pub unfetched : fetches done ≡ []
 
 -- the expansion is refused for its cost, or memory is missing
 abbrev pub RefusesCost : ℕ → Output → ExpandRefusal → Type 0
 RefusesCost spent total (answer.BracesTooDeep title place) = ⊥
-RefusesCost spent total answer.TooLarge = (pages : Pages) (page : List ℕ) (rest : List Entry)
-    → refusal_from pages page spent (total.work ++ rest) ≡ Some too_large
+RefusesCost spent total answer.TooLarge = (pages : Pages) (page : List ℕ) → NextRefuses pages page spent too_large total.work
 RefusesCost spent total answer.FolderFault = ⊥
 RefusesCost spent total (answer.TemplateNotUtf8 title place) = ⊥
 RefusesCost spent total (answer.TemplateTooLong title) = ⊥

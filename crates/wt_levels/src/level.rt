@@ -1,8 +1,9 @@
 //! What is being read of one text: its levels.
 ghost use Rattle.std.specs.Prelude.{◌≡◌, ◌∷◌, [], OnOk};
 ghost use Rattle.wt_transclusion.specs.Frames.{AreValues};
-ghost use Rattle.wt_levels.specs.Stacks.{TakesLevel, stack};
+ghost use Rattle.wt_levels.specs.Stacks.{TakesLevel, innermost_end, one_or_none, stack, with_given};
 
+use crate::choosing::Choosing;
 use std::alloc::Global;
 use wt_names::Title;
 use wt_span::{List, NoMemory, Piece};
@@ -55,6 +56,20 @@ pub enum Task<'a> {
     },
     /// The target of a call of two braces.
     Target {
+        call: Braces<'a>,
+        at_start: bool,
+    },
+    /// The target of a function, which has its part 0 behind so many bytes.
+    First {
+        choosing: Choosing<'a>,
+        part_0: u32,
+    },
+    /// A later part of a function that is told.
+    Told {
+        choosing: Choosing<'a>,
+    },
+    /// The part that a function gives.
+    Given {
         call: Braces<'a>,
         at_start: bool,
     },
@@ -111,5 +126,48 @@ impl<'a> Levels<'a> {
         ensures { TakesLevel result (stack self.old) (stack self.new) }
     {
         self.items.pop()
+    }
+
+    /// Where the innermost level ends.
+    pub fn end(&self) -> Option<u32>
+        ensures { result ≡ innermost_end (stack self.now) }
+    {
+        let count = self.items.len();
+        if count == 0 {
+            return None;
+        }
+        Some(self.items[count - 1].end)
+    }
+
+    /// The innermost level gives these pieces, too.
+    pub fn give(&mut self, pieces: &[Piece<'a>]) -> Result<(), NoMemory>
+        ensures { OnOk result (stack self.new ≡ with_given pieces.now (stack self.old)) }
+    {
+        let count = self.items.len();
+        if count == 0 {
+            return Err(NoMemory);
+        }
+        self.items[count - 1].out.extend_from_slice(pieces)
+    }
+
+    /// The innermost level gives this piece, too.
+    pub fn give_one(&mut self, piece: Piece<'a>) -> Result<(), NoMemory>
+        ensures { OnOk result (stack self.new ≡ with_given (piece.entry ∷ []) (stack self.old)) }
+    {
+        let count = self.items.len();
+        if count == 0 {
+            return Err(NoMemory);
+        }
+        self.items[count - 1].out.push(piece)
+    }
+
+    /// The same of a piece that is there or not.
+    pub fn give_some(&mut self, piece: Option<Piece<'a>>) -> Result<(), NoMemory>
+        ensures { OnOk result (stack self.new ≡ with_given (one_or_none piece.entry) (stack self.old)) }
+    {
+        match piece {
+            Some(piece) => self.give_one(piece),
+            None => Ok(()),
+        }
     }
 }

@@ -2,6 +2,7 @@
 //! stack grows by the templates that are entered one inside another, and by nothing else.
 #![tactic(auto)]
 
+mod choosing;
 mod expansion;
 mod level;
 mod page;

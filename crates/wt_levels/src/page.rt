@@ -1,5 +1,5 @@
 //! The text that a page shows with its templates expanded.
-ghost use Rattle.std.specs.Prelude.{◌≡◌, ◌<◌, ◌^◌, ◌++◌, Some, None, IfErr, IfOk, OnErr, OnOk, length, option_map};
+ghost use Rattle.std.specs.Prelude.{◌≡◌, ◌<◌, ◌^◌, ◌++◌, [], ℕ, List, Option, Some, None, IfErr, IfOk, OnOk, length, option_map};
 ghost use Rattle.wt_span.specs.Items.{items};
 ghost use Rattle.wt_span.specs.declared.form.Mode.TheVariants as text_mode;
 ghost use Rattle.wt_expand.specs.Expansion.{page_work};
@@ -7,8 +7,9 @@ ghost use Rattle.wt_expand.specs.PageCalls.{expanded_page};
 ghost use Rattle.wt_expand.specs.Texts.{shown_text};
 ghost use Rattle.wt_expand.specs.Work.{Pages, deep_place, first_refusal, names_asked};
 ghost use Rattle.wt_transclusion.specs.Answers.{IsCounted, IsNoFault, IsRefused};
-ghost use Rattle.wt_transclusion.specs.Asked.{Asks, AreFirst};
+ghost use Rattle.wt_transclusion.specs.Asked.{Asks};
 ghost use Rattle.wt_transclusion.specs.Reads.{IsRead};
+ghost use Rattle.wt_transclusion.specs.Stops.{Stops};
 
 use crate::expansion::Expansion;
 use bumpalo::Bump;
@@ -34,6 +35,8 @@ pub fn read_page<'a>(
     ensures fits { OnOk result (deep_place text_mode.Page page.entry.now ≡ None) }
     ensures refused { IfErr result (λ e. (pages : Pages)
         → IsRefused (first_refusal pages page.entry.now (page_work pages page.entry.now)) e) }
+    ensures stops { IfErr result (λ e. (pages : Pages) (met : List (List ℕ)) (told : Option (List (List ℕ)))
+        → Stops pages page.entry.now 0 met (page_work pages page.entry.now) told told e) }
     ensures fault { IfErr result IsNoFault }
 {
     match read_in(alloc, arena, page, Mode::Page) {
@@ -68,8 +71,7 @@ pub fn expanded_text<'a, F: Folder>(
     ensures refused { (pages : Pages) → F.pages folder.old ≡ Some pages
         → IfErr result (IsRefused (first_refusal pages page.entry.now (page_work pages page.entry.now))) }
     ensures stops { (pages : Pages) → F.pages folder.old ≡ Some pages
-        → OnErr result (AreFirst (F.answered folder.new)
-        (option_map (λ names. names ++ names_asked (page_work pages page.entry.now)) (F.answered folder.old))) }
+        → IfErr result (Stops pages page.entry.now 0 [] (page_work pages page.entry.now) (F.answered folder.old) (F.answered folder.new)) }
     ensures kept { F.pages folder.new ≡ F.pages folder.old }
     ensures asks { Asks (F.answered folder.old) (F.answered folder.new) (F.most_asked folder.old) (F.most_asked folder.new) }
     ensures count { IsCounted (F.fault_count folder.old) (F.fault_count folder.new) result }

@@ -1,28 +1,31 @@
 //! One text as it is expanded, with levels in place of calls within calls.
-ghost use Rattle.std.specs.Prelude.{◌≡◌, ◌<◌, ◌≤◌, ◌∷◌, ◌++◌, [], ℕ, List, Option, Some, None, Bool, true, false, IfErr, IfOk, OnOk, length, slice_get, slice_range};
+ghost use Rattle.std.specs.Prelude.{◌≡◌, ◌<◌, ◌≤◌, ◌∷◌, ◌++◌, [], ℕ, List, Option, Some, None, Bool, true, false, IfErr, IfOk, OnOk, drop, length, slice_get, slice_range};
 ghost use Rattle.wt_span.specs.Items.{items, items_of};
 ghost use Rattle.wt_span.specs.Slice.{bytes_of};
+ghost use Rattle.wt_span.specs.Functions.{function_of};
 ghost use Rattle.wt_expand.specs.Targets.{is_function, title_of_target};
 ghost use Rattle.wt_transclusion.specs.Cursors.{starts};
 ghost use Rattle.wt_expand.specs.Expansion.{Frame, Output as Gives, Reading, just, text_given, values_from};
 ghost use Rattle.wt_transclusion.specs.Answers.{IsNoFault};
-ghost use Rattle.wt_transclusion.specs.Given.{option_items};
 ghost use Rattle.wt_transclusion.specs.Frames.{AreValues};
 ghost use Rattle.wt_transclusion.specs.Reads.{IsRead};
 ghost use Rattle.wt_levels.specs.Levels.{IsNamedBy, Resumes};
-ghost use Rattle.wt_levels.specs.Stacks.{stack, whole_level};
+ghost use Rattle.wt_levels.specs.Stacks.{innermost_end, stack, whole_level};
 ghost use Rattle.wt_levels.specs.Rests.{after_page, ended_with, next_number};
 ghost use Rattle.wt_levels.specs.Runs.{AnswersGoing, AnswersTurn, BeginsCall, BeginsLevel, HandsParts, HasEnded, Holds, IsRunning, Returns, TakesChunk, TakesPart};
 ghost use Rattle.wt_levels.specs.declared.level.Task.TheVariants as tasks;
 
+use crate::choosing::{Choosing, given_start, part_at, told_end};
 use crate::level::{Handing, Level, Levels, Task};
 use crate::reader::{MOST_BYTES, Reader};
 use std::alloc::Global;
 use wt_braces::PartAt;
+use wt_functions::Ask;
 use wt_span::{Form, LexKind, List, Mode, NoMemory, Piece, Text};
 use wt_transclusion::{
-    Braces, ExpandRefusal, Handed, Next, ReadText, Values, byte_count, charge, is_function,
-    lexeme_piece, name_text, piece_of, spelled, title_of_target, with_break,
+    Braces, ExpandRefusal, Handed, Next, ReadText, Values, behind_items, byte_count, charge,
+    function_named, is_function, lexeme_piece, name_text, piece_of, spelled, title_of_target,
+    trimmed_items, with_break,
 };
 
 /// What came of a step.
@@ -84,16 +87,6 @@ fn push_piece<'a>(out: &mut List<Piece<'a>>, piece: Piece<'a>) -> Result<(), NoM
     out.push(piece)
 }
 
-/// Appends a piece, where there is one.
-fn push_some<'a>(out: &mut List<Piece<'a>>, piece: Option<Piece<'a>>) -> Result<(), NoMemory>
-    ensures { OnOk result (items out.new ≡ items out.old ++ option_items piece.entry) }
-{
-    match piece {
-        Some(piece) => push_piece(out, piece),
-        None => Ok(()),
-    }
-}
-
 /// Appends pieces.
 fn push_all<'a>(out: &mut List<Piece<'a>>, pieces: &[Piece<'a>]) -> Result<(), NoMemory>
     ensures { OnOk result (items out.new ≡ items out.old ++ items pieces.now) }
@@ -146,125 +139,131 @@ impl<'a> TextRun<'a> {
             → AnswersTurn r t spent.old total self.new spent.new result }
         ensures fault { IfErr result IsNoFault }
     {
+        let Some(end) = self.levels.end() else {
+            return Err(ExpandRefusal::NoMemory);
+        };
+        if self.reader.cursor.at < end {
+            self.read(end, spent)?;
+            return Ok(Turn::Went);
+        }
         let Some(level) = self.levels.pop() else {
             return Err(ExpandRefusal::NoMemory);
         };
-        if self.reader.cursor.at < level.end {
-            self.read(level, spent)?;
-            return Ok(Turn::Went);
-        }
         let Level { end: _, out, task } = level;
         self.end(task, out, values, spent)
     }
 
-    /// What stands next in a level.
-    fn read(&mut self, level: Level<'a>, spent: &mut u64) -> Result<(), ExpandRefusal>
-        requires { self.old.reader.cursor.at < level.end }
-        ensures answer { (r : Reading) (t : List ℕ) (total : Gives) → Holds r t self.old (level.entry ∷ (stack self.old.levels)) total
-            → AnswersGoing r t spent.old total self.new spent.new result }
+    /// What stands next in the innermost level, which ends at a place.
+    fn read(&mut self, end: u32, spent: &mut u64) -> Result<(), ExpandRefusal>
+        requires { self.old.reader.cursor.at < end }
+        ensures answer { (r : Reading) (t : List ℕ) (total : Gives) → Holds r t self.old (stack self.old.levels) total
+            → innermost_end (stack self.old.levels) ≡ Some end → AnswersGoing r t spent.old total self.new spent.new result }
         ensures fault { IfErr result IsNoFault }
     {
-        match self.reader.next(level.end) {
+        match self.reader.next(end) {
             Next::Chunk { kind, to } => {
-                self.read_chunk(level, kind, to)?;
+                self.read_chunk(kind, to)?;
                 Ok(())
             }
             Next::Call(number) => {
                 let call = self.reader.call(number)?;
-                self.begin(call, level, spent)
+                self.begin(call, spent)
             }
         }
     }
 
     /// Bytes of a lexeme, up to a place.
-    fn read_chunk(&mut self, level: Level<'a>, kind: LexKind, to: u32) -> Result<(), NoMemory>
-        ensures { OnOk result ((r : Reading) (t : List ℕ) (total : Gives) → TakesChunk r t self.old level.entry kind to total
+    fn read_chunk(&mut self, kind: LexKind, to: u32) -> Result<(), NoMemory>
+        ensures { OnOk result ((r : Reading) (t : List ℕ) (total : Gives) → TakesChunk r t self.old (stack self.old.levels) kind to total
             → Holds r t self.new (stack self.new.levels) total) }
     {
         let text = self.reader.slice(self.reader.cursor.at, to)?;
-        let mut level = level;
-        push_some(&mut level.out, lexeme_piece(self.mode, kind, text))?;
-        self.resume(to, level)?;
+        self.levels.give_some(lexeme_piece(self.mode, kind, text))?;
+        self.resume(to)?;
         Ok(())
     }
 
-    /// A level is read on from a place.
-    fn resume(&mut self, to: u32, level: Level<'a>) -> Result<(), NoMemory>
+    /// The innermost level is read on from a place.
+    fn resume(&mut self, to: u32) -> Result<(), NoMemory>
         ensures { OnOk result ((r : Reading) (t : List ℕ) (total : Gives) (p : ℕ) (s : Bool) → IsRunning r t self.old p s → p ≤ to
-            → Resumes r t to (starts t to) (just []) (level.entry ∷ (stack self.old.levels)) total → Holds r t self.new (stack self.new.levels) total) }
+            → Resumes r t to (starts t to) (just []) (stack self.old.levels) total → Holds r t self.new (stack self.new.levels) total) }
     {
-        self.levels.push(level)?;
         self.reader = self.reader.seek(to)?;
         Ok(())
     }
 
     /// A call that stands next in a level.
-    fn begin(
-        &mut self,
-        call: Braces<'a>,
-        level: Level<'a>,
-        spent: &mut u64,
-    ) -> Result<(), ExpandRefusal>
-        ensures answer { (r : Reading) (t : List ℕ) (total : Gives) → BeginsCall r t self.old (level.entry ∷ (stack self.old.levels)) call.entry total
+    fn begin(&mut self, call: Braces<'a>, spent: &mut u64) -> Result<(), ExpandRefusal>
+        ensures answer { (r : Reading) (t : List ℕ) (total : Gives) → BeginsCall r t self.old (stack self.old.levels) call.entry total
             → AnswersGoing r t spent.old total self.new spent.new result }
         ensures fault { IfErr result IsNoFault }
     {
         if call.argument {
-            return self.begin_argument(call, level, spent);
+            return self.begin_argument(call, spent);
         }
         let source = self.reader.slice(call.at.start, call.at.end)?;
         if is_function(source.as_str().as_bytes()) {
-            self.push_function(call, source, level)?;
-            return Ok(());
+            return self.begin_function(call, source, spent);
         }
-        self.begin_target(call, level)?;
+        self.begin_target(call)?;
+        Ok(())
+    }
+
+    /// A function begins: one by text, or another, which stands for itself.
+    fn begin_function(
+        &mut self,
+        call: Braces<'a>,
+        source: Text<'a>,
+        spent: &mut u64,
+    ) -> Result<(), ExpandRefusal>
+        ensures answer { (r : Reading) (t : List ℕ) (total : Gives) → BeginsCall r t self.old (stack self.old.levels) call.entry total
+            → call.entry.argument ≡ false → bytes_of source.entry ≡ slice_range t call.entry.at.start call.entry.at.end
+            → is_function (bytes_of source.entry) ≡ true → AnswersGoing r t spent.old total self.new spent.new result }
+        ensures fault { IfErr result IsNoFault }
+    {
+        let Some((function, part_0)) = function_named(source.as_str().as_bytes()) else {
+            self.push_function(call, source)?;
+            return Ok(());
+        };
+        charge(spent, 1)?;
+        let choosing = Choosing::start(self.alloc, call, function, self.reader)?;
+        let target = first_part(call)?;
+        self.begin_within(target, Task::First { choosing, part_0 })?;
         Ok(())
     }
 
     /// A function stands for itself.
-    fn push_function(
-        &mut self,
-        call: Braces<'a>,
-        source: Text<'a>,
-        level: Level<'a>,
-    ) -> Result<(), NoMemory>
-        ensures { OnOk result ((r : Reading) (t : List ℕ) (total : Gives) → BeginsCall r t self.old (level.entry ∷ (stack self.old.levels)) call.entry total
+    fn push_function(&mut self, call: Braces<'a>, source: Text<'a>) -> Result<(), NoMemory>
+        ensures { OnOk result ((r : Reading) (t : List ℕ) (total : Gives) → BeginsCall r t self.old (stack self.old.levels) call.entry total
             → call.entry.argument ≡ false → bytes_of source.entry ≡ slice_range t call.entry.at.start call.entry.at.end
-            → is_function (bytes_of source.entry) ≡ true → Holds r t self.new (stack self.new.levels) total) }
+            → is_function (bytes_of source.entry) ≡ true → function_of (drop 2 (bytes_of source.entry)) ≡ None
+            → Holds r t self.new (stack self.new.levels) total) }
     {
-        let mut level = level;
-        push_piece(&mut level.out, piece_of(source, Form::Function))?;
-        self.resume(call.at.end, level)?;
+        self.levels.give_one(piece_of(source, Form::Function))?;
+        self.resume(call.at.end)?;
         Ok(())
     }
 
     /// An argument begins, and its name is read.
-    fn begin_argument(
-        &mut self,
-        call: Braces<'a>,
-        level: Level<'a>,
-        spent: &mut u64,
-    ) -> Result<(), ExpandRefusal>
-        ensures answer { (r : Reading) (t : List ℕ) (total : Gives) → BeginsCall r t self.old (level.entry ∷ (stack self.old.levels)) call.entry total
+    fn begin_argument(&mut self, call: Braces<'a>, spent: &mut u64) -> Result<(), ExpandRefusal>
+        ensures answer { (r : Reading) (t : List ℕ) (total : Gives) → BeginsCall r t self.old (stack self.old.levels) call.entry total
             → call.entry.argument ≡ true → AnswersGoing r t spent.old total self.new spent.new result }
         ensures fault { IfErr result IsNoFault }
     {
         charge(spent, 1)?;
         let name = first_part(call)?;
-        self.levels.push(level)?;
         self.begin_within(name, Task::Argument { call })?;
         Ok(())
     }
 
     /// The target of a call of two braces is read.
-    fn begin_target(&mut self, call: Braces<'a>, level: Level<'a>) -> Result<(), NoMemory>
-        ensures { OnOk result ((r : Reading) (t : List ℕ) (total : Gives) → BeginsCall r t self.old (level.entry ∷ (stack self.old.levels)) call.entry total
+    fn begin_target(&mut self, call: Braces<'a>) -> Result<(), NoMemory>
+        ensures { OnOk result ((r : Reading) (t : List ℕ) (total : Gives) → BeginsCall r t self.old (stack self.old.levels) call.entry total
             → call.entry.argument ≡ false → is_function (slice_range t call.entry.at.start call.entry.at.end) ≡ false
             → Holds r t self.new (stack self.new.levels) total) }
     {
         let at_start = self.reader.cursor.at_start;
         let target = first_part(call)?;
-        self.levels.push(level)?;
         self.begin_within(target, Task::Target { call, at_start })?;
         Ok(())
     }
@@ -320,6 +319,19 @@ impl<'a> TextRun<'a> {
                 Ok(Turn::Went)
             }
             Task::Target { call, at_start } => self.end_target(call, at_start, out, spent),
+            Task::First { choosing, part_0 } => {
+                let out = behind_items(self.alloc, out.as_slice(), part_0)?;
+                self.end_told(choosing, out, spent)?;
+                Ok(Turn::Went)
+            }
+            Task::Told { choosing } => {
+                self.end_told(choosing, out, spent)?;
+                Ok(Turn::Went)
+            }
+            Task::Given { call, at_start } => {
+                self.end_given(call, at_start, out, spent)?;
+                Ok(Turn::Went)
+            }
             Task::Name { handing, end } => {
                 self.end_name(handing, end, out)?;
                 Ok(Turn::Went)
@@ -340,12 +352,8 @@ impl<'a> TextRun<'a> {
         ensures { OnOk result ((r : Reading) (t : List ℕ) (total : Gives) → Returns r t self.old to (just (items out.now)) total
             → Holds r t self.new (stack self.new.levels) total) }
     {
-        let Some(level) = self.levels.pop() else {
-            return Err(NoMemory);
-        };
-        let mut level = level;
-        push_all(&mut level.out, out)?;
-        self.resume(to, level)?;
+        self.levels.give(out)?;
+        self.resume(to)?;
         Ok(())
     }
 
@@ -382,6 +390,69 @@ impl<'a> TextRun<'a> {
         }
         let own = spelled(self.alloc, out.as_slice())?;
         self.give(call.at.end, own.as_slice(), spent)
+    }
+
+    /// A part of a function is told: the next one is read, or the one that is given.
+    fn end_told(
+        &mut self,
+        choosing: Choosing<'a>,
+        out: List<Piece<'a>>,
+        spent: &mut u64,
+    ) -> Result<(), ExpandRefusal>
+        ensures answer { (r : Reading) (t : List ℕ) (total : Gives) → HasEnded r t self.old (tasks.Told choosing.entry) out.entry total
+            → AnswersGoing r t spent.old total self.new spent.new result }
+        ensures fault { IfErr result IsNoFault }
+    {
+        let text = name_text(self.alloc, out.as_slice())?;
+        let Choosing {
+            call,
+            at_start,
+            function,
+            chooser,
+            begun,
+        } = choosing;
+        let mut chooser = chooser;
+        chooser.told(text.as_str())?;
+        match chooser.ask() {
+            Ask::Tell(number) => {
+                let part = part_at(call, number)?;
+                let next = Choosing {
+                    call,
+                    at_start,
+                    function,
+                    chooser,
+                    begun,
+                };
+                let end = told_end(function, part);
+                self.begin_level(part.at.start, end, Task::Told { choosing: next })?;
+                Ok(())
+            }
+            Ask::Give(number) => {
+                let part = part_at(call, number)?;
+                let start = given_start(function, part)?;
+                self.reader = begun;
+                self.begin_level(start, part.at.end, Task::Given { call, at_start })?;
+                Ok(())
+            }
+            Ask::Nothing => self.give(call.at.end, &[], spent),
+        }
+    }
+
+    /// The part that a function gives is read.
+    fn end_given(
+        &mut self,
+        call: Braces<'a>,
+        at_start: bool,
+        out: List<Piece<'a>>,
+        spent: &mut u64,
+    ) -> Result<(), ExpandRefusal>
+        ensures answer { (r : Reading) (t : List ℕ) (total : Gives) → HasEnded r t self.old (tasks.Given call.entry at_start) out.entry total
+            → AnswersGoing r t spent.old total self.new spent.new result }
+        ensures fault { IfErr result IsNoFault }
+    {
+        let out = trimmed_items(self.alloc, out.as_slice())?;
+        let out = with_break(self.alloc, at_start, out)?;
+        self.give(call.at.end, out.as_slice(), spent)
     }
 
     /// The target of a call is read: a page is called, or the call is text.

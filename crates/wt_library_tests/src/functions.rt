@@ -1,8 +1,8 @@
 //! What function calls ask, part after part, worked out from the rules.
 use std::alloc::Global;
 use std::test::Fail;
-use wt_functions::{Ask, Chooser, Function, function_of};
-use wt_span::{List, NoMemory};
+use wt_functions::{Ask, Chooser, function_of};
+use wt_span::{Function, List, NoMemory};
 
 /// The word of a function, the parts of a call, and what is asked of it: the parts that are told, then
 /// the one that is given.

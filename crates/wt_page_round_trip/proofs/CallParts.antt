@@ -1,5 +1,5 @@
 -- What is carried of an outermost call of a page in UTF-8: its texts are UTF-8.
-use Rattle.std.proofs.Common.{◌≡◌, ℕ, ◌+◌, ◌-◌, ◌<◌, ◌≤◌, ◌^◌, Bool, true, false, Option, Some, None, List, [], ◌∷◌, length, drop, decimal, IsUtf8, subst, arith}
+use Rattle.std.proofs.Common.{◌≡◌, ℕ, ◌+◌, ◌-◌, ◌<◌, ◌≤◌, ◌^◌, Bool, true, false, Option, Some, None, List, [], ◌∷◌, length, drop, decimal, IsUtf8, refl, subst, arith}
 use Rattle.std.specs.Prelude.{fold, reverse, slice_index, if◌then◌else◌}
 use Rattle.std.specs.BTreeMap.{insert_entry}
 use Rattle.std.specs.Cmp.Lexicographic.{slice_cmp}
@@ -10,14 +10,18 @@ use Rattle.std.specs.declared.cmp.Ordering.{Ordering}
 use Rattle.std.specs.declared.cmp.Ordering.TheVariants.{Less, Equal, Greater}
 use Rattle.std.proofs.lemmas.Fmt.{IsAscii-decimal}
 use Rattle.std.proofs.lemmas.Str.{IsUtf8-nil, IsUtf8-take, IsUtf8-drop, IsUtf8-between, IsUtf8-from_ascii, IsCharBoundary-after_ascii}
+use Rattle.json.proofs.Printed.Utf8.{IsUtf8-are_ascii}
 use Rattle.wt_tree.specs.declared.node.Part.TheVariants as part
+use Rattle.wt_span.specs.declared.function.Function.{Function}
+use Rattle.wt_span.specs.declared.function.Function.TheVariants.{If, IfEq, Switch}
+use Rattle.wt_span.specs.Functions.{name_of}
 use Rattle.wt_span.specs.Origins.{Span, OuterCall, IsBorder, LieFrom, IsNameEnd, AreNameEnds}
 use Rattle.wt_round_trip.specs.Written.{IsUtf8IfAny}
-use Rattle.wt_call_data.specs.CallData.{Param, is_white, without_lead, trimmed, source_slice, param_by, next_number, params_from, put_param, params_of, text_or_none, target_by, call_part}
+use Rattle.wt_call_data.specs.CallData.{Param, is_white, without_lead, trimmed, source_slice, param_by, next_number, params_from, put_param, params_of, text_or_none, target_by, function_named, braces_part, call_part}
 use Rattle.wt_call_data.proofs.CallTexts.{lead_border, tail_border}
 use Rattle.wt_call_data.proofs.Params.{names_ascend}
 use Rattle.wt_page_round_trip.specs.GroupTexts.{IsPageCall}
-use Rattle.wt_page_round_trip.proofs.GroupJson.{IsTextParam, IsTextPart}
+use Rattle.wt_page_round_trip.proofs.GroupJson.{IsFunctionName, IsTextParam, IsTextPart}
 
 -- ---- texts
 
@@ -117,16 +121,22 @@ link_text : (link : Option (List ℕ)) → IsUtf8IfAny link → IsUtf8 (text_or_
 link_text None h = IsUtf8-nil
 link_text (Some bs) h = h
 
+name_text : (f : Function) → IsFunctionName (name_of f)
+name_text If = (IsUtf8-are_ascii (name_of If) refl, refl)
+name_text IfEq = (IsUtf8-are_ascii (name_of IfEq) refl, refl)
+name_text Switch = (IsUtf8-are_ascii (name_of Switch) refl, refl)
+
 pub call_text : (c : OuterCall) (i : ℕ) → IsPageCall c → i < 2 ^ 32 → IsTextPart (call_part c i)
 unfolding call_part
-call_text c i h l = by_argument c.argument
+call_text c i h l = by_kind c.argument (function_named c)
   where
-    by_argument : (b : Bool) → IsTextPart (if b then part.Param c.source else part.Template (target_by c c.parts) (text_or_none c.href) (params_of c) i)
-    by_argument true = h.source
-    by_argument false = (
+    by_kind : (b : Bool) (f : Option (Function × ℕ)) → IsTextPart (if b then part.Param c.source else braces_part c i f)
+    by_kind true f = h.source
+    by_kind false None = (
       target_text c c.parts h.source h.sound.in_order,
       link_text c.href h.link,
       params_are_texts c h,
       names_ascend c,
       l,
     )
+    by_kind false (Some (f, n)) = (name_text f, target_text c c.parts h.source h.sound.in_order, params_are_texts c h, names_ascend c, l)

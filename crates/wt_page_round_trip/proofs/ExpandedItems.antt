@@ -11,7 +11,7 @@ use Rattle.wt_span.specs.Origins.{OuterCall}
 use Rattle.wt_span.specs.Braces.{Member, Members, lexeme, call, none, more, width, width_of_all}
 use Rattle.wt_braces.specs.PartMembers.{part_members}
 use Rattle.wt_inline.specs.Parts.{same_origin}
-use Rattle.wt_expand.specs.Targets.{Called, argument, function, page, text, called}
+use Rattle.wt_expand.specs.Targets.{Called, argument, choice, function, page, text, called}
 use Rattle.wt_expand.specs.Work.{Pages, first_refusal}
 use Rattle.wt_expand.specs.Expansion.{Output, joined, chars, PartOutput, target_part, part_outputs, front_braces, back_braces, called_output, output_of, outputs_of, text_members, page_reading, page_work}
 use Rattle.wt_expand.specs.PageCalls.{Stretch, own, outer, text_call, call_stretches, stretches_of, all_stretches, from_call, outer_items, numbered, page_stretches, expanded_page}
@@ -112,6 +112,7 @@ given_call : (pages : Pages) (c : Called) (start : Bool) (at k : ℕ) (bs : List
     → AreGivenStretches (call_stretches c at k (take (k + width_of_all ms + k) bs) ms
     (called_output c (page_reading pages) start k (take (k + width_of_all ms + k) bs) ps os).items inside)
 given_call pages argument start at k bs ms ps os inside h u s g w f = ((g, (h.is_call, u)), tt)
+given_call pages (choice c n) start at k bs ms ps os inside h u s g w f = ((g, (h.is_call, u)), tt)
 given_call pages function start at k bs ms ps os inside h u s g w f = (g, tt)
 given_call pages (page t) start at k bs ms ps os inside h u s g w f = ((g, (h.is_call, u)), tt)
 given_call pages text start at k bs ms ps os inside h u s g w f =

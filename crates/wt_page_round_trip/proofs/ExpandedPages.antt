@@ -14,7 +14,7 @@ use Rattle.wt_span.specs.Items.{Item, char, whole, items_by}
 use Rattle.wt_span.specs.Origins.{OuterCall}
 use Rattle.wt_braces.specs.PartMembers.{part_members}
 use Rattle.wt_expand.specs.PageItems.{form_of}
-use Rattle.wt_expand.specs.Targets.{Called, argument, function, page, text, called}
+use Rattle.wt_expand.specs.Targets.{Called, argument, choice, function, page, text, called}
 use Rattle.wt_expand.specs.Work.{Pages}
 use Rattle.wt_expand.specs.Expansion.{Output, called_output, front_braces, back_braces, target_part, part_outputs, outputs_of, text_members, page_reading}
 use Rattle.wt_expand.specs.PageCalls.{Stretch, own, outer, text_call, outer_at, call_stretches, stretches_of, all_stretches, from_call, outer_items, numbered, outer_calls, page_stretches, expanded_page}
@@ -159,6 +159,9 @@ called_stands : (c : Called) (pages : Pages) (start : Bool) (at k : ℕ) (bs : L
 called_stands argument pages start at k bs ms os inside ss w g f =
     call_source_stands (outer_at at k (take (k + width_of_all ms + k) bs) ms argument) (k + width_of_all ms + k) bs
     (called_output argument (page_reading pages) start k (take (k + width_of_all ms + k) bs) (part_outputs (part_members 0 ms) os) os).items ss refl g
+called_stands (choice f n) pages start at k bs ms os inside ss w g e =
+    call_source_stands (outer_at at k (take (k + width_of_all ms + k) bs) ms (choice f n)) (k + width_of_all ms + k) bs
+    (called_output (choice f n) (page_reading pages) start k (take (k + width_of_all ms + k) bs) (part_outputs (part_members 0 ms) os) os).items ss refl g
 called_stands function pages start at k bs ms os inside ss w g f = function_stands (k + width_of_all ms + k) bs ss g
 called_stands (page t) pages start at k bs ms os inside ss w g f =
     call_source_stands (outer_at at k (take (k + width_of_all ms + k) bs) ms (page t)) (k + width_of_all ms + k) bs

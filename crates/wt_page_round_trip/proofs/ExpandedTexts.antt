@@ -17,7 +17,7 @@ use Rattle.wt_lex.specs.Reading.{IsForm}
 use Rattle.wt_lines.specs.Pieces.{is_chars}
 use Rattle.wt_braces.specs.PartMembers.{part_members}
 use Rattle.wt_expand.specs.PageItems.{form_of}
-use Rattle.wt_expand.specs.Targets.{Called, argument, function, page, text, called}
+use Rattle.wt_expand.specs.Targets.{Called, argument, choice, function, page, text, called}
 use Rattle.wt_expand.specs.Work.{Pages}
 use Rattle.wt_expand.specs.Expansion.{Output, called_output, front_braces, back_braces, target_part, part_outputs, outputs_of, text_members, page_reading}
 use Rattle.wt_expand.specs.PageCalls.{Stretch, own, outer, text_call, outer_at, call_stretches, stretches_of, all_stretches, from_call, outer_items, numbered, page_stretches, expanded_page}
@@ -145,6 +145,11 @@ call_goes argument pages start at k bs ms os inside ss w h g f j run u =
     let c = call_cut k ms run bs w h u in
     outer_goes j (outer_at at k (take (k + width_of_all ms + k) bs) ms argument)
     (called_output argument (page_reading pages) start k (take (k + width_of_all ms + k) bs) (part_outputs (part_members 0 ms) os) os).items ss run c.before
+    (g (suc j) [] c.behind)
+call_goes (choice f n) pages start at k bs ms os inside ss w h g e j run u =
+    let c = call_cut k ms run bs w h u in
+    outer_goes j (outer_at at k (take (k + width_of_all ms + k) bs) ms (choice f n))
+    (called_output (choice f n) (page_reading pages) start k (take (k + width_of_all ms + k) bs) (part_outputs (part_members 0 ms) os) os).items ss run c.before
     (g (suc j) [] c.behind)
 call_goes function pages start at k bs ms os inside ss w h g f j run u =
     let c = call_cut k ms run bs w h u in

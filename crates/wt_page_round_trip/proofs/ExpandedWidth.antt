@@ -12,9 +12,9 @@ use Rattle.wt_span.specs.Braces.{Member, Members, lexeme, call, none, more, widt
 use Rattle.wt_braces.specs.PartMembers.{part_members}
 use Rattle.wt_expand.specs.Stretches.{page_bytes}
 use Rattle.wt_expand.specs.Texts.{name_text}
-use Rattle.wt_expand.specs.Targets.{Called, argument, function, page, text, called}
+use Rattle.wt_expand.specs.Targets.{Called, argument, choice, function, page, text, called}
 use Rattle.wt_expand.specs.Work.{Pages, Entry, entered, begun, fetched, ended, too_large, most_cost, cost_of, if_large, entry_refusal, refusal_from, first_refusal}
-use Rattle.wt_expand.specs.Expansion.{Output, joined, chars, PartOutput, part_outputs, target_part, later_parts, value_of, values_from, parts_work, default_output, if_value, with_break, Reading, back_braces, called_output, output_of, outputs_of, text_members, page_reading, page_work}
+use Rattle.wt_expand.specs.Expansion.{Output, joined, chars, PartOutput, part_outputs, target_part, later_parts, value_of, values_from, parts_work, default_output, if_value, with_break, function_output, Reading, back_braces, called_output, output_of, outputs_of, text_members, page_reading, page_work}
 use Rattle.wt_expand.specs.PageCalls.{Stretch, own, outer, text_call, call_stretches, stretches_of, all_stretches, from_call, outer_items, numbered, page_stretches, expanded_page}
 use Rattle.wt_expand.proofs.Given.{stretches_join}
 
@@ -110,6 +110,10 @@ call_paid argument r start at k bs ms ps os inside h =
     let name = target_part ps in
     let o = if_value (value_of (name_text name.items) r.frame) (default_output name (later_parts ps)) in
     let p = paid [] (name.work ++ o.work) (length (sources o.items)) in
+    omega (arith, p)
+call_paid (choice f n) r start at k bs ms ps os inside h =
+    let o = function_output f n start ps in
+    let p : length (sources o.items) ≤ cost o.work = paid [] _ _ in
     omega (arith, p)
 call_paid function r start at k bs ms ps os inside h = omega arith
 call_paid (page t) r start at k bs ms ps os inside h =

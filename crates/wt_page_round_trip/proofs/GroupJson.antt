@@ -18,10 +18,10 @@ use Rattle.serde_json.proofs.Numbers.{number_of-decimal}
 use Rattle.wt_tree.specs.declared.node.DataMw.TheVariants as mw
 use Rattle.wt_tree.specs.declared.node.Part.{Part}
 use Rattle.wt_tree.specs.declared.node.Part.TheVariants as part
-use Rattle.wt_datamw.specs.Mw.{wt_data, params_from, params_data, template_data, part_data, parts_items, mw_data, mw_text}
-use Rattle.wt_datamw.specs.MwRead.{part_is_small, has_small_numbers, HasOrderedParams, mw_of_json, mw_told}
+use Rattle.wt_datamw.specs.Mw.{wt_data, params_from, params_data, template_data, function_data, part_data, parts_items, mw_data, mw_text}
+use Rattle.wt_datamw.specs.MwRead.{is_function_name, part_is_small, has_small_numbers, HasOrderedParams, mw_of_json, mw_told}
 use Rattle.wt_datamw.proofs.Mws.{mw_depth}
-use Rattle.wt_datamw.proofs.MwBack.{template_small, parts_small, reads_ordered}
+use Rattle.wt_datamw.proofs.MwBack.{template_small, function_small, parts_small, reads_ordered}
 use Rattle.wt_datamw.proofs.SyncTold.{json_read}
 use Rattle.wt_round_trip.specs.Written.{HasParts}
 use Rattle.wt_round_trip.proofs.Json.{HasUtf8, ItemsHaveUtf8, MembersHaveUtf8, data_utf8}
@@ -36,10 +36,16 @@ names ps = map (λ p. p.0) ps
 abbrev pub IsTextParam : List ℕ × List ℕ → Type 0
 IsTextParam p = IsUtf8 p.0 × IsUtf8 p.1
 
+-- the name of a parser function, which is UTF-8
+abbrev pub IsFunctionName : List ℕ → Type 0
+IsFunctionName name = IsUtf8 name × (is_function_name name ≡ true)
+
 -- the texts of a part are UTF-8, its parameters have names that rise, and its number is below 2^32
 abbrev pub IsTextPart : Part → Type 0
 IsTextPart (part.Template target href params i) =
     IsUtf8 target × IsUtf8 href × AllByRecursion IsTextParam params × IsStrictlySortedBy (slice_cmp nat_cmp) (map (λ p. p.0) params) × (i < 2 ^ 32)
+IsTextPart (part.Function name target params i) =
+    IsFunctionName name × IsUtf8 target × AllByRecursion IsTextParam params × IsStrictlySortedBy (slice_cmp nat_cmp) (map (λ p. p.0) params) × (i < 2 ^ 32)
 IsTextPart (part.Param source) = IsUtf8 source
 IsTextPart (part.Literal text) = IsUtf8 text
 
@@ -93,6 +99,7 @@ record Keys : Type 0 where
   i : IsUtf8 (codes "i")
   params : IsUtf8 (codes "params")
   target : IsUtf8 (codes "target")
+  function : IsUtf8 (codes "function")
   template : IsUtf8 (codes "template")
   param : IsUtf8 (codes "param")
   parts : IsUtf8 (codes "parts")
@@ -104,6 +111,7 @@ keys = record {
   i = IsUtf8-are_ascii (codes "i") refl;
   params = IsUtf8-are_ascii (codes "params") refl;
   target = IsUtf8-are_ascii (codes "target") refl;
+  function = IsUtf8-are_ascii (codes "function") refl;
   template = IsUtf8-are_ascii (codes "template") refl;
   param = IsUtf8-are_ascii (codes "param") refl;
   parts = IsUtf8-are_ascii (codes "parts") refl;
@@ -168,7 +176,7 @@ params_back ps h =
 -- ---- parts
 
 part_utf8 : (p : Part) → Keys → IsTextPart p → HasUtf8 (part_data p)
-unfolding template_data params_data
+unfolding template_data function_data params_data
 part_utf8 (part.Template target href ps i) k h = (
   k.template,
   (
@@ -182,6 +190,19 @@ part_utf8 (part.Template target href ps i) k h = (
   ),
   tt,
 )
+part_utf8 (part.Function name target ps i) k h = (
+  k.template,
+  (
+    k.i,
+    omega (arith, h.4),
+    (
+      k.params,
+      params_utf8 ps no_members k h.2 tt,
+      (k.target, (k.function, h.0.0, (k.wt, h.1, tt)), tt),
+    ),
+  ),
+  tt,
+)
 part_utf8 (part.Param source) k h = (k.param, (k.wt, h, tt), tt)
 part_utf8 (part.Literal text) k h = h
 
@@ -190,8 +211,9 @@ parts_utf8 [] k h = tt
 parts_utf8 (p ∷ ps) k h = (part_utf8 p k h.0, parts_utf8 ps k h.1)
 
 part_back : (p : Part) → IsTextPart p → of_json (outline (part_data p)) ≡ Some (part_data p)
-unfolding template_data
+unfolding template_data function_data
 part_back (part.Template target href ps i) h = rw (number_of-decimal i (omega (arith, h.4)), params_back ps h.3) refl
+part_back (part.Function name target ps i) h = rw (number_of-decimal i (omega (arith, h.4)), params_back ps h.3) refl
 part_back (part.Param source) h = refl
 part_back (part.Literal text) h = refl
 
@@ -201,6 +223,7 @@ parts_back (p ∷ ps) h = rw (part_back p h.0, parts_back ps h.1) refl
 
 part_small : (p : Part) → IsTextPart p → part_is_small (part_data p) ≡ true
 part_small (part.Template target href ps i) h = template_small target href ps i h.4
+part_small (part.Function name target ps i) h = function_small name target ps i h.4
 part_small (part.Param source) h = refl
 part_small (part.Literal text) h = refl
 
@@ -214,6 +237,7 @@ have_small ps h = parts_small ps (all_small ps h)
 
 part_ordered : (p : Part) → IsTextPart p → HasOrderedParams p
 part_ordered (part.Template target href ps i) h = h.3
+part_ordered (part.Function name target ps i) h = (h.0.1, h.3)
 part_ordered (part.Param source) h = tt
 part_ordered (part.Literal text) h = tt
 

@@ -31,6 +31,7 @@ use Rattle.wt_page_round_trip.proofs.OwnTexts.{IsCallIfAny, call_there, free_bef
 part_is : (p : Datum) → IsWord (part_word p)
 unfolding transclusion_word argument_word transclusion param
 part_is (datum.Template target href params i) = inl refl
+part_is (datum.Function name target params i) = inl refl
 part_is (datum.Param source) = inr refl
 part_is (datum.Literal bs) = inl refl
 

@@ -15,7 +15,7 @@ use Rattle.wt_span.specs.Items.{Item}
 use Rattle.wt_span.specs.Origins.{Span, OuterCall, IsSoundCall}
 use Rattle.wt_braces.specs.PartMembers.{PartMembers, with_member, with_equals, with_sign_of, later_after, split_members, part_members, placed, name_width, width_of}
 use Rattle.wt_transclusion.proofs.PartLaws.{call_places}
-use Rattle.wt_expand.specs.Targets.{Called, argument, function, page, text, called}
+use Rattle.wt_expand.specs.Targets.{Called, argument, choice, function, page, text, called}
 use Rattle.wt_expand.specs.Work.{Pages}
 use Rattle.wt_expand.specs.Expansion.{Reading, target_part, part_outputs, output_of, outputs_of, text_members, page_reading}
 use Rattle.wt_expand.specs.PageCalls.{Stretch, own, link_of, outer_at, call_stretches, stretches_of, all_stretches, outer_calls, page_stretches, expanded_page}
@@ -90,6 +90,7 @@ parts_few p bs ms h =
 
 link_text : (c : Called) → IsUtf8IfAny (link_of c)
 link_text argument = tt
+link_text (choice f n) = tt
 link_text function = tt
 link_text (page t) = link_utf8 t
 link_text text = tt
@@ -137,6 +138,7 @@ call_texts : (c : Called) (at k : ℕ) (source : List ℕ) (ms : Members) (given
     → ((d : Called) → IsTextCall (outer_at at k source ms d)) → AreTextCalls (outer_calls inside)
     → AreTextCalls (outer_calls (call_stretches c at k source ms given inside))
 call_texts argument at k source ms given inside f g = (f argument, tt)
+call_texts (choice c n) at k source ms given inside f g = (f (choice c n), tt)
 call_texts function at k source ms given inside f g = tt
 call_texts (page t) at k source ms given inside f g = (f (page t), tt)
 call_texts text at k source ms given inside f g = joined_texts inside (own _ ∷ []) g tt

@@ -6,6 +6,9 @@ use Rattle.std.specs.Str.{IsCharBoundary, bytes_eq}
 use Rattle.std.proofs.lemmas.List.{length-take-le}
 use Rattle.std.proofs.lemmas.Str.{IsUtf8-nil, IsUtf8-take, IsUtf8-drop, IsCharBoundary-before_ascii, IsCharBoundary-after_ascii}
 use Rattle.json.proofs.Printed.Utf8.{IsUtf8-are_ascii}
+use Rattle.wt_span.specs.declared.function.Function.{Function}
+use Rattle.wt_span.specs.declared.function.Function.TheVariants.{If, IfEq, Switch}
+use Rattle.wt_span.specs.Functions.{function_of}
 use Rattle.wt_span.specs.declared.form.Mode.{Mode}
 use Rattle.wt_span.specs.declared.form.Mode.TheVariants as mode
 use Rattle.wt_span.specs.declared.form.Form.TheVariants as form
@@ -17,11 +20,11 @@ use Rattle.wt_lex.proofs.Fronts.{byte_front}
 use Rattle.wt_names.specs.declared.title.Title.{Title}
 use Rattle.wt_names.specs.Namespace.{full_name_of}
 use Rattle.wt_braces.specs.PartMembers.{PartMembers, part_members}
-use Rattle.wt_expand.specs.Texts.{name_text}
-use Rattle.wt_expand.specs.Targets.{Called, argument, function, page, text, called, called_by, is_function, title_of_target}
+use Rattle.wt_expand.specs.Texts.{name_text, trimmed_items}
+use Rattle.wt_expand.specs.Targets.{Called, argument, choice, function, page, text, called, called_function, called_by, is_function, title_of_target}
 use Rattle.wt_expand.specs.Templates.{template_text}
 use Rattle.wt_expand.specs.Work.{Pages, Entry, begun, ended, is_among}
-use Rattle.wt_expand.specs.Expansion.{Output, just, joined, chars, PartOutput, member_count, part_by, part_outputs, target_part, later_parts, Frame, value_of, values_from, parts_work, Reading, default_output, if_value, with_break, front_braces, back_braces, called_output, output_of, outputs_of, text_members, text_given, loop_text, depth_text, absent_text, fetched_output, template_output, most_templates, page_reading}
+use Rattle.wt_expand.specs.Expansion.{Output, just, joined, chars, PartOutput, member_count, part_by, part_outputs, target_part, later_parts, Frame, value_of, values_from, parts_work, Reading, default_output, if_value, with_break, first_given, chosen_output, front_braces, back_braces, called_output, output_of, outputs_of, text_members, text_given, loop_text, depth_text, absent_text, fetched_output, template_output, most_templates, page_reading}
 use Rattle.wt_expansion.proofs.SoundMembers.{IsCallHere, IsSoundMember, AreSoundMembers, text_sound, text_width}
 use Rattle.wt_page_round_trip.proofs.OfPage.{IsPageItem}
 use Rattle.wt_page_round_trip.proofs.TextMembers.{IsTextMember, AreTextMembers, members_utf8}
@@ -51,16 +54,6 @@ given_joined : (os : List Output) → AllGiven os → AreGiven [] (joined os).it
 given_joined [] g = IsUtf8-nil
 given_joined (o ∷ os) g = given_both [] o.items (joined os).items g.0 (given_joined os g.1)
 
-given_take : (n : ℕ) (os : List Output) → AllGiven os → AllGiven (take n os)
-given_take zero os g = tt
-given_take (suc n) [] g = tt
-given_take (suc n) (o ∷ os) g = (g.0, given_take n os g.1)
-
-given_drop : (n : ℕ) (os : List Output) → AllGiven os → AllGiven (drop n os)
-given_drop zero os g = g
-given_drop (suc n) [] g = tt
-given_drop (suc n) (o ∷ os) g = given_drop n os g.1
-
 good_take : (pages : Pages) (n : ℕ) (os : List Output) → AllGood pages os → AllGood pages (take n os)
 good_take pages zero os g = tt
 good_take pages (suc n) [] g = tt
@@ -71,26 +64,36 @@ good_drop pages zero os g = g
 good_drop pages (suc n) [] g = tt
 good_drop pages (suc n) (o ∷ os) g = good_drop pages n os g.1
 
-record IsGivenPart (p : PartOutput) : Type 0 where
-  value : AreGiven [] p.value.items
-  all : AreGiven [] p.all.items
+entries_drop : (pages : Pages) (n : ℕ) (os : List Output) → AreTextEntries pages (joined os).work → AreTextEntries pages (joined (drop n os)).work
+entries_drop pages zero os w = w
+entries_drop pages (suc n) [] w = w
+entries_drop pages (suc n) (o ∷ os) w = entries_drop pages n os (entries_right pages o.work (joined os).work w)
 
+-- the values of parts
 abbrev AreGivenParts : List PartOutput → Type 0
 AreGivenParts [] = Unit {0}
-AreGivenParts (p ∷ ps) = IsGivenPart p × AreGivenParts ps
+AreGivenParts (p ∷ ps) = AreGiven [] p.value.items × AreGivenParts ps
 
-abbrev IsGoodPart : Pages → PartOutput → Type 0
-IsGoodPart pages p = AreTextEntries pages p.all.work → IsGivenPart p
+-- all of a part and its value alone, of whose work all of it has the entries
+record IsGoodPart (pages : Pages) (p : PartOutput) : Type 0 where
+  all : IsGood pages p.all
+  value : IsGood pages p.value
+  within : AreTextEntries pages p.all.work → AreTextEntries pages p.value.work
 
 abbrev AreGoodParts : Pages → List PartOutput → Type 0
 AreGoodParts pages [] = Unit {0}
 AreGoodParts pages (p ∷ ps) = IsGoodPart pages p × AreGoodParts pages ps
 
+good_joined : (pages : Pages) (os : List Output) → AllGood pages os → IsGood pages (joined os)
+good_joined pages os g w = given_joined os (all_given pages os g w)
+
 good_part : (pages : Pages) (name : Option (List Member × ℕ)) (os : List Output) → AllGood pages os → IsGoodPart pages (part_by name os)
-good_part pages None os g w = let h = given_joined os (all_given pages os g w) in record { value = h; all = h }
-good_part pages (Some (xs, n)) os g w =
-    let h = all_given pages os g w in
-    record { value = given_joined (drop (length xs + 1) os) (given_drop (length xs + 1) os h); all = given_joined os h }
+good_part pages None os g = record { all = good_joined pages os g; value = good_joined pages os g; within = λ w. w }
+good_part pages (Some (xs, n)) os g = record {
+  all = good_joined pages os g;
+  value = good_joined pages (drop (length xs + 1) os) (good_drop pages (length xs + 1) os g);
+  within = entries_drop pages (length xs + 1) os;
+}
 
 good_parts : (pages : Pages) (ps : List PartMembers) (os : List Output) → AllGood pages os → AreGoodParts pages (part_outputs ps os)
 good_parts pages [] os g = tt
@@ -101,7 +104,7 @@ good_parts pages (p ∷ ps) os g = (
 
 good_target : (pages : Pages) (ps : List PartOutput) → AreGoodParts pages ps → IsGood pages (target_part ps)
 good_target pages [] g w = IsUtf8-nil
-good_target pages (p ∷ ps) g w = (g.0 w).all
+good_target pages (p ∷ ps) g w = g.0.all w
 
 good_later : (pages : Pages) (ps : List PartOutput) → AreGoodParts pages ps → AreGoodParts pages (later_parts ps)
 good_later pages [] g = tt
@@ -110,7 +113,7 @@ good_later pages (p ∷ ps) g = g.1
 given_parts : (pages : Pages) (ps : List PartOutput) → AreGoodParts pages ps → AreTextEntries pages (parts_work ps) → AreGivenParts ps
 given_parts pages [] g w = tt
 given_parts pages (p ∷ ps) g w = (
-  g.0 (entries_left pages p.all.work (parts_work ps) w),
+  g.0.value (g.0.within (entries_left pages p.all.work (parts_work ps) w)),
   given_parts pages ps g.1 (entries_right pages p.all.work (parts_work ps) w),
 )
 
@@ -127,7 +130,7 @@ one_value n (Some o) v a ps g h = (given_trimmed v.items g, h n)
 
 given_values : (n : ℕ) (ps : List PartOutput) → AreGivenParts ps → IsGivenFrame (values_from n ps)
 given_values n [] g = tt
-given_values n (p ∷ ps) g = one_value n p.name p.value p.all ps g.0.value (λ m. given_values m ps g.1)
+given_values n (p ∷ ps) g = one_value n p.name p.value p.all ps g.0 (λ m. given_values m ps g.1)
 
 abbrev IsGivenValue : Option (List Item) → Type 0
 IsGivenValue None = Unit {0}
@@ -164,7 +167,7 @@ good_default : (pages : Pages) (name : Output) (ps : List PartOutput) → AreGiv
 good_default pages name [] f g w =
     given_both [] (chars (codes "{{{")) (name.items ++ chars (codes "}}}")) (given_chars (codes "{{{") (IsUtf8-are_ascii (codes "{{{") refl))
     (given_both [] name.items (chars (codes "}}}")) f (given_chars (codes "}}}") (IsUtf8-are_ascii (codes "}}}") refl)))
-good_default pages name (p ∷ ps) f g w = (g.0 w).all
+good_default pages name (p ∷ ps) f g w = g.0.all w
 
 good_chosen : (pages : Pages) (o : Option (List Item)) (d : Output) → IsGivenValue o → (AreTextEntries pages d.work → AreGiven [] d.items)
     → AreTextEntries pages (if_value o d).work → AreGiven [] (if_value o d).items
@@ -212,9 +215,35 @@ good_text pages k source os s g w =
     (given_both [] (joined os).items (chars (back_braces k source)) (given_joined os (all_given pages os g (entries_left pages (joined os).work [] w)))
     (given_chars (back_braces k source) s.back))
 
+good_parts_behind : (pages : Pages) (n : ℕ) (ps : List PartOutput) → AreGoodParts pages ps → AreGoodParts pages (drop n ps)
+good_parts_behind pages zero ps g = g
+good_parts_behind pages (suc n) [] g = tt
+good_parts_behind pages (suc n) (p ∷ ps) g = good_parts_behind pages n ps g.1
+
+good_first : (pages : Pages) (f : Function) (ps : List PartOutput) → AreGoodParts pages ps → IsGood pages (first_given f ps)
+good_first pages f [] g w = IsUtf8-nil
+good_first pages If (p ∷ ps) g w = g.0.all w
+good_first pages IfEq (p ∷ ps) g w = g.0.all w
+good_first pages Switch (p ∷ ps) g w = g.0.value w
+
+good_part_given : (pages : Pages) (f : Function) (part : Option ℕ) (ps : List PartOutput) → AreGoodParts pages ps → IsGood pages (chosen_output f part ps)
+good_part_given pages f None ps g w = IsUtf8-nil
+good_part_given pages f (Some n) ps g w = good_first pages f (drop n ps) (good_parts_behind pages n ps g) w
+
+-- a part is given behind the work of those that are told
+good_choice : (pages : Pages) (f : Function) (start : Bool) (part : Option ℕ) (ps : List PartOutput) → AreGoodParts pages ps → (told : List Entry) (n : ℕ)
+    → let o = chosen_output f part ps in
+    AreTextEntries pages ([] ++ (begun ∷ ((told ++ o.work) ++ ended n ∷ []))) → AreGiven [] (with_break start (trimmed_items o.items))
+good_choice pages f start part ps g told n w =
+    let o = chosen_output f part ps in
+    let inside = work_inside pages [] (told ++ o.work) n w in
+    let given = good_part_given pages f part ps g (entries_right pages told o.work inside) in
+    given_break start (trimmed_items o.items) (given_trimmed o.items given)
+
 -- what a call of a page needs of its title
 abbrev IsNamed : Pages → List PartOutput → Called → Type 0
 IsNamed pages ps argument = Unit {0}
+IsNamed pages ps (choice f n) = Unit {0}
 IsNamed pages ps function = Unit {0}
 IsNamed pages ps (page t) = AreTextEntries pages (target_part ps).work → IsUtf8 t.name
 IsNamed pages ps text = Unit {0}
@@ -223,28 +252,31 @@ good_called : (pages : Pages) (c : Called) (r : Reading) (start : Bool) (k : ℕ
     → IsGoodReading pages r → IsTextCall k source → AreGoodParts pages ps → AllGood pages os → IsNamed pages ps c
     → IsGood pages (called_output c r start k source ps os)
 good_called pages argument r start k source ps os h s f g named w = good_argument pages r ps h f _ w
+good_called pages (choice c n) r start k source ps os h s f g named w = good_choice pages c start _ ps f _ _ w
 good_called pages function r start k source ps os h s f g named w = (IsUtf8-nil, refl, s.form, IsUtf8-nil)
 good_called pages (page t) r start k source ps os h s f g named w = good_page pages r start t ps h f named _ w
 good_called pages text r start k source ps os h s f g named w = good_text pages k source os s g w
 
 called_is : (k : ℕ) (source : List ℕ) (target : List Item) → called k source target
-    ≡ (if k == 3 then argument else (if is_function source then function else called_by (title_of_target target)))
+    ≡ (if k == 3 then argument else (if is_function source then called_function (function_of (drop 2 source)) else called_by (title_of_target target)))
 unfolding called
 called_is k source target = refl
 
-named_by : (pages : Pages) (ps : List PartOutput) (a f : Bool) (o : Option Title) → (AreTextEntries pages (target_part ps).work → HasTextName o)
-    → IsNamed pages ps (if a then argument else (if f then function else called_by o))
-named_by pages ps true f o h = tt
-named_by pages ps false true o h = tt
-named_by pages ps false false None h = tt
-named_by pages ps false false (Some t) h = h
+named_by : (pages : Pages) (ps : List PartOutput) (a f : Bool) (w : Option (Function × ℕ)) (o : Option Title)
+    → (AreTextEntries pages (target_part ps).work → HasTextName o)
+    → IsNamed pages ps (if a then argument else (if f then called_function w else called_by o))
+named_by pages ps true f w o h = tt
+named_by pages ps false true None o h = tt
+named_by pages ps false true (Some (c, n)) o h = tt
+named_by pages ps false false w None h = tt
+named_by pages ps false false w (Some t) h = h
 
 call_named : (pages : Pages) (k : ℕ) (source : List ℕ) (ps : List PartOutput) → AreGoodParts pages ps
     → IsNamed pages ps (called k source (target_part ps).items)
 call_named pages k source ps g =
     let target = (target_part ps).items in
     subst (IsNamed pages ps) (sym (called_is k source target))
-    (named_by pages ps (k == 3) (is_function source) (title_of_target target) (λ w. target_named target (good_target pages ps g w)))
+    (named_by pages ps (k == 3) (is_function source) (function_of (drop 2 source)) (title_of_target target) (λ w. target_named target (good_target pages ps g w)))
 
 -- ---- the bytes of a call
 

@@ -1,6 +1,7 @@
 pub mod AnswerLaws
 pub mod AskedLaws
 pub mod Cases
+mod NameCases
 pub mod EditLaws
 pub mod EditedLaws
 pub mod ExpandLaws

@@ -4,6 +4,7 @@ use Rattle.std.specs.Prelude.{◌⊎◌, ◌≢◌, nat_lt, Option, Some, None, 
 use Rattle.std.specs.Io.KnownBytes.{Appends, IsAtEnd}
 use Rattle.wt_outer.specs.Device.{Pages}
 use Rattle.wt_transclusion.specs.Asked.{AreFirst}
+use Rattle.wt_transclusion.specs.Stops.{AnswersFewer}
 use Rattle.wt_tree.specs.Tree.{Tree}
 use Rattle.wt_tree.specs.Source.{flat}
 use Rattle.wt_markup.specs.Html.{html_text}
@@ -24,11 +25,11 @@ use Rattle.wt_pagetool.specs.Devices.{SourceUse, FolderUse, SinkUse, SourceFaile
 use Rattle.wt_pagetool.specs.Refusals.{status_of}
 use Rattle.wt_pagetool.specs.Words.{command_of, Reads}
 use Rattle.wt_pagetool.specs.Answers.{Answer, done, refused, page_output, made_of_tree, made, title_answer, expansion_of, gen_answer, edit_of, source_answer, wikitext_answer, edit_told, answer_told, status_of_answer}
-use Rattle.wt_pagetool.specs.Asked.{followed_by, AnswersFirst, AsksNames}
+use Rattle.wt_pagetool.specs.Asked.{AnswersAll, AnswersFirst, AsksAs, AsksNames}
 use Rattle.wt_pagetool.specs.Causes.{Answered, RefusesAs, IsKept, found_status}
 use Rattle.wt_pagetool.specs.Calls.{call, IsDueAs, IsDue, KeptCounts, NothingFailed}
 use Rattle.wt_pagetool.specs.Reports.{Reported, WasDone, WasRefused, OutFailed, ErrFailed, WrotePage, WroteExpansion, WroteEdit, WroteCounts, WroteSource}
-use Rattle.wt_pagetool.proofs.StatusLaws.{is_done, is_write_fault, is_answer, IsUnansweredBy, unanswered}
+use Rattle.wt_pagetool.proofs.StatusLaws.{is_done, is_folder_fault, is_write_fault, is_answer, IsUnansweredBy, unanswered}
 use Rattle.wt_pagetool.proofs.AnswerLaws.{input_done}
 use Rattle.wt_pagetool.proofs.AskedLaws.{first_named}
 use Rattle.wt_pagetool.proofs.EditLaws.{wrote_edit, told_edit}
@@ -298,19 +299,56 @@ pub run_asks : (told before after : Option (List (List ℕ))) (found : Result Ou
 run_asks None before after found grown named = tt
 run_asks (Some names) before after found grown named = first_named names before after found grown named
 
-named_done : (told before after : Option (List (List ℕ))) (found : Result Output Refusal) (out err : SinkUse)
-    → FoundDone found out err
-    → IfSome told (λ names. AsksNames names before after found) → IfSome told (λ names. after ≡ followed_by before names)
-named_done None before after found out err f named = tt
-named_done (Some names) before after found out err f named = subst (λ r. AsksNames names before after r) f.is named
+-- a call ends as what was found does, or for want of memory for its line, or by a fault of a sink
+ended_as : (found : Result Output Refusal) (s : Status) (out err : SinkUse) → Reported found s out err
+    → (s ≡ found_status found) ⊎ ((s ≡ status.NoMemory) ⊎ (s ≡ status.WriteFault))
+ended_as (Ok output) s out err (inl r) = inl r.0
+ended_as (Ok output) s out err (inr r) = inr (inr r.0)
+ended_as (Err refusal) s out err (u, inl (inl t)) = inl t.0
+ended_as (Err refusal) s out err (u, inl (inr t)) = inr (inr t.0)
+ended_as (Err refusal) s out err (u, inr (inl t)) = inr (inl t.0)
+ended_as (Err refusal) s out err (u, inr (inr t)) = inr (inr t.0)
 
-pub run_asked : (words : List (List ℕ)) (input : SourceUse) (folder : FolderUse) (out err : SinkUse)
-    (found : Result Output Refusal) (s : Status) (ended : ℕ) (told before after : Option (List (List ℕ))) → ended ≡ code s
-    → IfErr found (IsDue words input folder) → Reported found s out err
-    → IfSome told (λ names. AsksNames names before after found) → ended ≡ code status.Done
-    → IfSome told (λ names. after ≡ followed_by before names)
-run_asked words input folder out err found s ended told before after is due r named e =
-    named_done told before after found out err (found_done words input folder out err found s due r (is_done s (sym is ∙ e))) named
+all_answered : (s : Status) (names : List (List ℕ)) (before after : Option (List (List ℕ))) → IsAnswer s → AsksAs s names before after
+    → AnswersAll names before after
+all_answered status.Done names before after is h = h
+all_answered status.Usage names before after is h = h
+all_answered status.PageRefused names before after is h = h
+all_answered status.HtmlRefused names before after is h = h
+all_answered status.EditRefused names before after is h = h
+all_answered status.ReadFault names before after is h = absurd is
+all_answered status.FolderFault names before after is h = absurd is
+all_answered status.WriteFault names before after is h = absurd is
+all_answered status.NoMemory names before after is h = absurd is
+
+answer_found : (found : Result Output Refusal) (s : Status) → IsAnswer s → (s ≡ found_status found) ⊎ ((s ≡ status.NoMemory) ⊎ (s ≡ status.WriteFault))
+    → IsAnswer (found_status found)
+answer_found found s is (inl e) = subst IsAnswer e is
+answer_found found s is (inr (inl e)) = absurd (subst IsAnswer e is)
+answer_found found s is (inr (inr e)) = absurd (subst IsAnswer e is)
+
+-- a call that is done or refused has asked for all of its names
+pub run_all : (told before after : Option (List (List ℕ))) (found : Result Output Refusal) (s : Status) (ended : ℕ) (out err : SinkUse) → ended ≡ code s
+    → Reported found s out err → IfSome told (λ names. AsksNames names before after found) → IsDoneOrRefused ended
+    → IfSome told (λ names. AnswersAll names before after)
+run_all None before after found s ended out err is r named h = tt
+run_all (Some names) before after found s ended out err is r named h =
+    all_answered (found_status found) names before after
+    (answer_found found s (is_answer s (subst IsDoneOrRefused is h)) (ended_as found s out err r)) named
+
+fault_found : (found : Result Output Refusal) (s : Status) → s ≡ status.FolderFault
+    → (s ≡ found_status found) ⊎ ((s ≡ status.NoMemory) ⊎ (s ≡ status.WriteFault)) → found_status found ≡ status.FolderFault
+fault_found found s f (inl e) = sym e ∙ f
+fault_found found s f (inr (inl e)) = absurd (let z : status.NoMemory ≡ status.FolderFault = sym e ∙ f in cc)
+fault_found found s f (inr (inr e)) = absurd (let z : status.WriteFault ≡ status.FolderFault = sym e ∙ f in cc)
+
+-- one that ends by a fault of the folder asked for the next of them, too
+pub run_fewer : (told before after : Option (List (List ℕ))) (found : Result Output Refusal) (s : Status) (ended : ℕ) (out err : SinkUse) → ended ≡ code s
+    → Reported found s out err → IfSome told (λ names. AsksNames names before after found) → ended ≡ code status.FolderFault
+    → IfSome told (λ names. AnswersFewer names before after)
+run_fewer None before after found s ended out err is r named h = tt
+run_fewer (Some names) before after found s ended out err is r named h =
+    subst (λ (v : Status). AsksAs v names before after) (fault_found found s (is_folder_fault s (sym is ∙ h)) (ended_as found s out err r)) named
 
 -- ---- the clauses of the commands
 

@@ -32,6 +32,17 @@ is_write_fault FolderFault e = absurd (omega (arith, e))
 is_write_fault WriteFault e = refl
 is_write_fault NoMemory e = absurd (omega (arith, e))
 
+pub is_folder_fault : (s : Status) → code s ≡ code FolderFault → s ≡ FolderFault
+is_folder_fault Done e = absurd (omega (arith, e))
+is_folder_fault Usage e = absurd (omega (arith, e))
+is_folder_fault PageRefused e = absurd (omega (arith, e))
+is_folder_fault HtmlRefused e = absurd (omega (arith, e))
+is_folder_fault EditRefused e = absurd (omega (arith, e))
+is_folder_fault ReadFault e = absurd (omega (arith, e))
+is_folder_fault FolderFault e = refl
+is_folder_fault WriteFault e = absurd (omega (arith, e))
+is_folder_fault NoMemory e = absurd (omega (arith, e))
+
 pub is_answer : (s : Status) → IsDoneOrRefused (code s) → IsAnswer s
 is_answer Done h = tt
 is_answer Usage h = tt
@@ -62,10 +73,10 @@ past Usage h = absurd h
 past PageRefused h = absurd h
 past HtmlRefused h = absurd h
 past EditRefused h = absurd h
-past ReadFault h = omega arith
-past FolderFault h = omega arith
-past WriteFault h = omega arith
-past NoMemory h = omega arith
+past ReadFault h = (omega arith, omega arith)
+past FolderFault h = (omega arith, omega arith)
+past WriteFault h = (omega arith, omega arith)
+past NoMemory h = (omega arith, omega arith)
 
 pub unanswered : (s : Status) (ended : ℕ) → ended ≡ code s → IsUnansweredBy s → IsFaultOrNoMemory ended
 unanswered s ended is h = subst IsFaultOrNoMemory (sym is) (past s h)

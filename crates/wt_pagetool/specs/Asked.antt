@@ -3,16 +3,26 @@ use Rattle.std.specs.Prelude.{◌≡◌, ℕ, List, [], ◌∷◌, ◌++◌, len
 use Rattle.wt_span.specs.declared.limits.TheConstants.{HTML_BYTES, PAGE_BYTES}
 use Rattle.wt_utf8.specs.Places.{not_utf8_place}
 use Rattle.wt_expand.specs.Expansion.{page_work}
-use Rattle.wt_expand.specs.Work.{Pages, Entry, names_asked}
-use Rattle.wt_transclusion.specs.Asked.{AnswersNames}
+use Rattle.wt_expand.specs.Fronts.{allowed_work}
+use Rattle.wt_expand.specs.Work.{Pages, Entry, Refused, names_asked}
+use Rattle.wt_transclusion.specs.Asked.{AreFirst}
+use Rattle.wt_transclusion.specs.Stops.{AnswersFewer}
 use Rattle.wt_fitting.specs.Read.{Read, page as as_page, ill, misfit, read}
 use Rattle.wt_selser.specs.declared.refusal.EditRefusal.{EditRefusal}
 use Rattle.wt_pagetool.specs.declared.command.Command.{Command}
 use Rattle.wt_pagetool.specs.declared.command.Command.TheVariants.{Page, Expand, Edit, Gen, Wikitext}
-use Rattle.wt_pagetool.specs.Answers.{answer_of_edit}
+use Rattle.wt_pagetool.specs.declared.refusal.Refusal.{Refusal}
+use Rattle.wt_pagetool.specs.declared.status.Status.{Status}
+use Rattle.wt_pagetool.specs.declared.status.Status.TheVariants as status
+use Rattle.wt_pagetool.specs.Answers.{answer_of_edit, refusal_of_page}
+use Rattle.wt_pagetool.specs.Causes.{found_status}
 use Rattle.wt_pagetool.specs.Words.{command_of}
 
 -- ---- the work of a command
+
+-- the work of a page, up to its first refusal
+abbrev pub work_done : Pages → List ℕ → List Entry
+work_done pages page = allowed_work pages page (page_work pages page)
 
 abbrev pub text_work : List ℕ → (List ℕ → List Entry) → Option ℕ → List Entry
 text_work page made (Some place) = []
@@ -24,14 +34,21 @@ title_work None made = []
 title_work (Some page) made =
     if nat_lt PAGE_BYTES (length page) then [] else text_work page made (not_utf8_place page)
 
--- the work for the new page of an edit
+-- the work for the new page of an edit: none where the edit is refused
 abbrev pub new_work : Pages → Result (List ℕ) EditRefusal → List Entry
-new_work pages (Ok new) = page_work pages new
+new_work pages (Ok new) = title_work (Some new) (work_done pages)
 new_work pages (Err refusal) = []
 
--- the work for the edit of a page to what was read: that for the page, and then that for the new page
+-- the work behind that of a page: none where the page is refused
+abbrev pub work_behind : Option Refused → List Entry → List Entry
+work_behind None work = work
+work_behind (Some refused) work = []
+
+-- The work for the edit of a page to what was read: that for the page, and then that for the new page. HTML that is refused is so
+-- before the page is expanded.
 unfoldable pub edited_work : Pages → List ℕ → Read → List Entry
-edited_work pages page (as_page edited unsourced) = page_work pages page ++ new_work pages (answer_of_edit pages page edited)
+edited_work pages page (as_page edited unsourced) =
+    work_done pages page ++ work_behind (refusal_of_page pages page) (new_work pages (answer_of_edit pages page edited))
 edited_work pages page (ill place why) = []
 edited_work pages page (misfit n why) = []
 
@@ -54,11 +71,11 @@ abbrev pub edit_names : Option Pages → Option (List ℕ) → List ℕ → Opti
 edit_names pages input name =
     option_and_then (λ ps. option_map (λ bytes. names_of name (edit_work ps (ps name) bytes)) input) pages
 
--- The names that a command asks for, where the devices tell what they depend on.
+-- The names that a command asks for, where the devices tell what they depend on: up to its first refusal.
 abbrev pub names_for : Option Pages → Option (List ℕ) → Option Command → Option (List (List ℕ))
 names_for pages input None = Some []
-names_for pages input (Some (Page command name)) = option_map (λ ps. names_of name (title_work (ps name) (page_work ps))) pages
-names_for pages input (Some (Expand name)) = option_map (λ ps. names_of name (title_work (ps name) (page_work ps))) pages
+names_for pages input (Some (Page command name)) = option_map (λ ps. names_of name (title_work (ps name) (work_done ps))) pages
+names_for pages input (Some (Expand name)) = option_map (λ ps. names_of name (title_work (ps name) (work_done ps))) pages
 names_for pages input (Some (Edit name)) = edit_names pages input name
 names_for pages input (Some (Gen n)) = Some []
 names_for pages input (Some Wikitext) = Some []
@@ -76,6 +93,22 @@ followed_by before names = option_map (λ ns. ns ++ names) before
 abbrev pub AnswersFirst : List (List ℕ) → Option (List (List ℕ)) → Option (List (List ℕ)) → Type 0
 AnswersFirst names before after = (n : ℕ) × (after ≡ followed_by before (take n names))
 
--- after what it had answered before, the folder answered all of these names where something was found, and else the first of them
-abbrev pub AsksNames : {T R : Type 0} → List (List ℕ) → Option (List (List ℕ)) → Option (List (List ℕ)) → Result T R → Type 0
-AsksNames names before after result = AnswersNames (followed_by before names) after result
+-- it answered all of them
+abbrev pub AnswersAll : List (List ℕ) → Option (List (List ℕ)) → Option (List (List ℕ)) → Type 0
+AnswersAll names before after = after ≡ followed_by before names
+
+-- What the folder answered of the names since, by how a step ended: all of them where it is done or refused; where the folder failed the
+-- first of them, and the next one is that of the fetch that failed; else the first of them, which may be all.
+abbrev pub AsksAs : Status → List (List ℕ) → Option (List (List ℕ)) → Option (List (List ℕ)) → Type 0
+AsksAs status.Done names before after = AnswersAll names before after
+AsksAs status.Usage names before after = AnswersAll names before after
+AsksAs status.PageRefused names before after = AnswersAll names before after
+AsksAs status.HtmlRefused names before after = AnswersAll names before after
+AsksAs status.EditRefused names before after = AnswersAll names before after
+AsksAs status.ReadFault names before after = AreFirst after (followed_by before names)
+AsksAs status.FolderFault names before after = AnswersFewer names before after
+AsksAs status.WriteFault names before after = AreFirst after (followed_by before names)
+AsksAs status.NoMemory names before after = AreFirst after (followed_by before names)
+
+abbrev pub AsksNames : {T : Type 0} → List (List ℕ) → Option (List (List ℕ)) → Option (List (List ℕ)) → Result T Refusal → Type 0
+AsksNames names before after result = AsksAs (found_status result) names before after

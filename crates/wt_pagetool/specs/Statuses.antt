@@ -31,7 +31,6 @@ IsAnswer NoMemory = ⊥
 abbrev pub IsDoneOrRefused : ℕ → Type 0
 IsDoneOrRefused status = status ≤ code EditRefused
 
--- the number of no answer, but of a device's fault or of want of memory; which of these it is, and that no other number comes, the
--- line says that was written
+-- the number of no answer, but of a device's fault or of want of memory: which of these it is the line says that was written
 abbrev pub IsFaultOrNoMemory : ℕ → Type 0
-IsFaultOrNoMemory status = code ReadFault ≤ status
+IsFaultOrNoMemory status = (code ReadFault ≤ status) × (status ≤ code NoMemory)

@@ -2,7 +2,6 @@
 
 ghost use Rattle.std.specs.Prelude.{◌≡◌, ◌≤◌, ◌+◌, ◌++◌, ℕ, List, None, Some, IfSome, IfOk, IfErr, OnOk, length};
 ghost use Rattle.std.specs.Io.KnownBytes.{IsAtEnd};
-ghost use Rattle.wt_expand.specs.Expansion.{page_work};
 ghost use Rattle.wt_expand.specs.PageCalls.{expanded_page};
 ghost use Rattle.wt_expand.specs.Work.{Pages, fetches, firsts_after, names_asked};
 ghost use Rattle.wt_expansion.specs.Known.{HoldsPages};
@@ -20,8 +19,8 @@ ghost use Rattle.wt_tree.specs.Tiling.{InPreorder};
 ghost use Rattle.wt_tree.specs.Tree.{label};
 ghost use Rattle.wt_tree.specs.View.{view};
 ghost use Rattle.wt_tree.specs.declared.kind.Kind.TheVariants as kind;
-ghost use Rattle.wt_pagetool.specs.Answers.{done, answer_of_edit, input_answer, new_answer, edit_by, edit_to, edited_answer, edit_told, IsNoText};
-ghost use Rattle.wt_pagetool.specs.Asked.{AsksNames, edit_names, edited_work, input_work, new_work};
+ghost use Rattle.wt_pagetool.specs.Answers.{done, answer_of_edit, input_answer, new_answer, edit_by, edit_to, edited_answer, edit_told, refusal_of_page, IsNoText};
+ghost use Rattle.wt_pagetool.specs.Asked.{AsksNames, edit_names, edited_work, input_work, new_work, title_work, work_behind, work_done};
 ghost use Rattle.wt_pagetool.specs.Causes.{Answered, Refuses, IsOfEdit, IsKept, refusal_of_new};
 ghost use Rattle.wt_pagetool.specs.Inputs.{GivesAtMost};
 
@@ -98,7 +97,7 @@ fn check_meaning<'a, F: Folder>(
         (F.most_asked folder.new) }
     ensures asked { (pages : Pages) (met : List (List ℕ)) → F.pages folder.old ≡ Some pages
         → IsFree pages met expansion.entry
-        → AsksNames (firsts_after met (fetches (page_work pages new_page.entry.now)))
+        → AsksNames (firsts_after met (fetches (title_work (Some new_page.entry.now) (work_done pages))))
         (F.answered folder.old) (F.answered folder.new) result }
     ensures of_edit { IfErr result (IsOfEdit ⊥ (Rose (F.fault_count folder.old) (F.fault_count folder.new))) }
     ensures count { IsKept result (F.fault_count folder.old) (F.fault_count folder.new) }
@@ -171,8 +170,9 @@ fn edit_to<'a, F: Folder>(
     ensures asks { Asks (F.answered folder.old) (F.answered folder.new) (F.most_asked folder.old)
         (F.most_asked folder.new) }
     ensures asked { (pages : Pages) → F.pages folder.old ≡ Some pages
-        → AsksNames (names_asked (page_work pages page.now
-        ++ new_work pages (answer_of_edit pages page.now (view edited.now))))
+        → AsksNames (names_asked (work_done pages page.now
+        ++ work_behind (refusal_of_page pages page.now)
+        (new_work pages (answer_of_edit pages page.now (view edited.now)))))
         (F.answered folder.old) (F.answered folder.new) result }
     ensures of_edit { IfErr result (IsOfEdit ⊥ (Rose (F.fault_count folder.old) (F.fault_count folder.new))) }
     ensures count { IsKept result (F.fault_count folder.old) (F.fault_count folder.new) }

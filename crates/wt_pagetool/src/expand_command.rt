@@ -1,9 +1,8 @@
 ghost use Rattle.std.specs.Prelude.{◌≡◌, ◌≤◌, length, Some, IfSome, IfErr};
-ghost use Rattle.wt_expand.specs.Expansion.{page_work};
 ghost use Rattle.wt_expand.specs.Work.{Pages, names_asked};
 ghost use Rattle.wt_transclusion.specs.Asked.{Asks};
 ghost use Rattle.wt_pagetool.specs.Answers.{title_answer, expansion_of};
-ghost use Rattle.wt_pagetool.specs.Asked.{AsksNames, names_of, title_work};
+ghost use Rattle.wt_pagetool.specs.Asked.{AsksNames, names_of, title_work, work_done};
 ghost use Rattle.wt_pagetool.specs.Causes.{Answered, IsOfTitle, IsKept};
 
 use crate::fetch::fetched_page;
@@ -27,7 +26,7 @@ fn output_of_text<F: Folder>(alloc: Global, page: &str, folder: &mut F) -> Resul
     ensures asks { Asks (F.answered folder.old) (F.answered folder.new) (F.most_asked folder.old)
         (F.most_asked folder.new) }
     ensures asked { (pages : Pages) → F.pages folder.old ≡ Some pages
-        → AsksNames (names_asked (page_work pages page.now)) (F.answered folder.old)
+        → AsksNames (names_asked (work_done pages page.now)) (F.answered folder.old)
         (F.answered folder.new) result }
 {
     let arena = Bump::new(alloc);
@@ -49,7 +48,7 @@ pub fn expansion_of_title<F: Folder>(
     ensures asks { Asks (F.answered folder.old) (F.answered folder.new) (F.most_asked folder.old)
         (F.most_asked folder.new) }
     ensures asked { IfSome (F.pages folder.old)
-        (λ pages. AsksNames (names_of title.now (title_work (pages title.now) (page_work pages)))
+        (λ pages. AsksNames (names_of title.now (title_work (pages title.now) (work_done pages)))
         (F.answered folder.old) (F.answered folder.new) result) }
 {
     let page = fetched_page(alloc, title, folder)?;

@@ -1,17 +1,17 @@
 //! The tree of a page some of whose templates are known already.
 
-ghost use Rattle.std.specs.Prelude.{◌≡◌, ◌≤◌, ℕ, List, ◌++◌, length, OnOk, OnErr, IfOk, IfErr, Some, None};
+ghost use Rattle.std.specs.Prelude.{◌≡◌, ◌≤◌, ℕ, List, length, OnOk, IfOk, IfErr, Some, None};
 ghost use Rattle.wt_expand.specs.Expansion.{page_work};
 ghost use Rattle.wt_expand.specs.PageCalls.{expanded_page};
-ghost use Rattle.wt_expand.specs.Work.{Pages, Entry, fetches, firsts_after};
+ghost use Rattle.wt_expand.specs.Work.{Pages};
 ghost use Rattle.wt_expansion.specs.Known.{HoldsPages, KnowsMore};
 ghost use Rattle.wt_expansion.specs.Walks.{IsFree};
 ghost use Rattle.wt_page_round_trip.specs.PageTree.{page_tree};
 ghost use Rattle.wt_tree.specs.View.{view};
 ghost use Rattle.wt_transclusion.specs.Answers.{IsCounted, IsRefused};
-ghost use Rattle.wt_transclusion.specs.Asked.{Asks, AreFirst};
+ghost use Rattle.wt_transclusion.specs.Asked.{Asks};
+ghost use Rattle.wt_transclusion.specs.Stops.{Stops};
 ghost use Rattle.wt_pagetool.specs.Answers.{refusal_of_page};
-ghost use Rattle.wt_pagetool.specs.Asked.{followed_by};
 
 use crate::page::annotated_of_items;
 use bumpalo::Bump;
@@ -59,10 +59,10 @@ pub fn known_page<'a, F: Folder>(
         → IsFree pages met expansion.entry
         → IfOk result (λ found. KnowsMore pages met (page_work pages page.entry.now) found.expansion
         (F.answered folder.old) (F.answered folder.new)) }
-    ensures stops { (pages : Pages) (met : List (List ℕ)) (rest : List Entry) → F.pages folder.old ≡ Some pages
+    ensures stops { (pages : Pages) (met : List (List ℕ)) → F.pages folder.old ≡ Some pages
         → IsFree pages met expansion.entry
-        → OnErr result (AreFirst (F.answered folder.new) (followed_by (F.answered folder.old)
-        (firsts_after met (fetches (page_work pages page.entry.now ++ rest))))) }
+        → IfErr result (Stops pages page.entry.now 0 met (page_work pages page.entry.now) (F.answered folder.old)
+        (F.answered folder.new)) }
     ensures asks { Asks (F.answered folder.old) (F.answered folder.new) (F.most_asked folder.old)
         (F.most_asked folder.new) }
     ensures known { IfOk result (λ found. HoldsPages found.expansion) }

@@ -1,9 +1,15 @@
-ghost use Rattle.std.specs.Prelude.{◌≡◌, ℕ, List, length};
-ghost use Rattle.wt_expand.specs.Work.{Pages};
+ghost use Rattle.std.specs.Prelude.{◌≡◌, ◌++◌, [], ℕ, List, Option as OptionOf, Some, None, Ok, Err, length};
+ghost use Rattle.wt_expand.specs.Expansion.{page_work};
+ghost use Rattle.wt_expand.specs.Work.{Entry, Pages, Refused};
+ghost use Rattle.wt_fitting.specs.Read.{Read, page as as_page};
+ghost use Rattle.wt_selser.specs.declared.refusal.EditRefusal.{EditRefusal as EditRefusalOf};
+ghost use Rattle.wt_tree.specs.Tree.{Tree};
+ghost use Rattle.wt_pagetool.specs.declared.refusal.Refusal.{Refusal as RefusalOf};
 ghost use Rattle.wt_tree.specs.Source.{flat};
 ghost use Rattle.wt_tree.specs.Tiling.{Tiled, Covers, InPreorder};
 ghost use Rattle.wt_annotated.specs.Reached.{AreReachedSlices};
-ghost use Rattle.wt_pagetool.specs.Answers.{IsUnrefused};
+ghost use Rattle.wt_pagetool.specs.Answers.{Answer, answer_of_edit, input_answer, refused, refusal_of_page, title_answer, IsUnrefused};
+ghost use Rattle.wt_pagetool.specs.Asked.{edited_work, input_work, title_work, work_done};
 ghost use Rattle.wt_pagetool.specs.GivenBack.{IsGivenBack};
 ghost use Rattle.wt_pagetool.specs.Unchanged.{StaysUnchanged};
 ghost use Rattle.wt_page_round_trip.specs.PageTree.{page_tree};
@@ -30,4 +36,23 @@ pub fn pages_come_back()
 /// page.
 pub fn unchanged_page_stays()
     ensures { (pages : Pages) (page : List ℕ) → StaysUnchanged pages page }
+{}
+
+/// A command asks for no page behind what refuses it. What is refused by what stands under the title, or by
+/// the input, asks for no work; where the page's expansion is refused it ends there, and where the edit is
+/// refused it doesn't reach into a new page. Work that nothing refuses is done whole.
+pub fn refused_calls_ask_no_further()
+    ensures title { (stands : OptionOf (List ℕ)) (r : RefusalOf) (made : List ℕ → List Entry)
+        → ((answer : List ℕ → Answer) → title_answer stands answer ≡ refused r) → title_work stands made ≡ [] }
+    ensures input { (input : List ℕ) (r : RefusalOf) (made : Read → List Entry)
+        → ((answer : Read → Answer) → input_answer answer input ≡ refused r) → input_work made input ≡ [] }
+    ensures page { (pages : Pages) (page : List ℕ) (edited : Tree) (unsourced : OptionOf ℕ) (first : Refused)
+        → refusal_of_page pages page ≡ Some first
+        → edited_work pages page (as_page edited unsourced) ≡ work_done pages page }
+    ensures edit { (pages : Pages) (page : List ℕ) (edited : Tree) (unsourced : OptionOf ℕ) (why : EditRefusalOf)
+        → refusal_of_page pages page ≡ None → answer_of_edit pages page edited ≡ Err why
+        → edited_work pages page (as_page edited unsourced) ≡ page_work pages page }
+    ensures done { (pages : Pages) (page : List ℕ) (edited : Tree) (unsourced : OptionOf ℕ) (new : List ℕ)
+        → refusal_of_page pages page ≡ None → answer_of_edit pages page edited ≡ Ok new → IsUnrefused pages new
+        → edited_work pages page (as_page edited unsourced) ≡ page_work pages page ++ page_work pages new }
 {}

@@ -19,7 +19,7 @@ mod top;
 mod wikitext_command;
 mod write;
 
-pub use laws::{pages_come_back, unchanged_page_stays, whole_tree};
+pub use laws::{pages_come_back, refused_calls_ask_no_further, unchanged_page_stays, whole_tree};
 pub use report::tell_no_memory;
 pub use status::Status;
 pub use top::run;

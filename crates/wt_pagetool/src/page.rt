@@ -2,7 +2,6 @@
 
 ghost use Rattle.std.specs.Prelude.{◌≡◌, ◌≤◌, ◌<◌, ◌^◌, length, OnOk, IfOk, IfErr, Some, None};
 ghost use Rattle.wt_annotated.specs.Reached.{AreReachedSlices};
-ghost use Rattle.wt_expand.specs.Expansion.{page_work};
 ghost use Rattle.wt_expand.specs.PageCalls.{expanded_page};
 ghost use Rattle.wt_expand.specs.Work.{Pages, names_asked};
 ghost use Rattle.wt_inline.specs.ItemTree.{tree_items};
@@ -12,7 +11,7 @@ ghost use Rattle.wt_span.specs.Cuts.{page_of};
 ghost use Rattle.wt_transclusion.specs.Asked.{Asks};
 ghost use Rattle.wt_tree.specs.View.{view};
 ghost use Rattle.wt_pagetool.specs.Answers.{refusal_of_page, IsText};
-ghost use Rattle.wt_pagetool.specs.Asked.{AsksNames};
+ghost use Rattle.wt_pagetool.specs.Asked.{AsksNames, work_done};
 ghost use Rattle.wt_pagetool.specs.Causes.{RefusesTitle, RefusesExpansion, IsOfPage, IsOfTitle, IsKept};
 
 use crate::refusal::Refusal;
@@ -60,7 +59,7 @@ pub fn annotated_of_text<'a, F: Folder>(
     ensures asks { Asks (F.answered folder.old) (F.answered folder.new) (F.most_asked folder.old)
         (F.most_asked folder.new) }
     ensures asked { (pages : Pages) → F.pages folder.old ≡ Some pages
-        → AsksNames (names_asked (page_work pages page.entry.now)) (F.answered folder.old)
+        → AsksNames (names_asked (work_done pages page.entry.now)) (F.answered folder.old)
         (F.answered folder.new) result }
 {
     let items = expand(alloc, page, arena, folder)?;
@@ -90,7 +89,7 @@ pub fn tree_of_text<'a, F: Folder>(
     ensures asks { Asks (F.answered folder.old) (F.answered folder.new) (F.most_asked folder.old)
         (F.most_asked folder.new) }
     ensures asked { (pages : Pages) → F.pages folder.old ≡ Some pages
-        → AsksNames (names_asked (page_work pages page.entry.now)) (F.answered folder.old)
+        → AsksNames (names_asked (work_done pages page.entry.now)) (F.answered folder.old)
         (F.answered folder.new) result }
 {
     let annotated = annotated_of_text(alloc, page, arena, folder)?;

@@ -1,6 +1,5 @@
 ghost use Rattle.std.specs.Prelude.{◌≡◌, ◌≤◌, length, IfOk, IfSome, IfErr, Some};
 ghost use Rattle.wt_annotated.specs.Reached.{AreReachedSlices};
-ghost use Rattle.wt_expand.specs.Expansion.{page_work};
 ghost use Rattle.wt_expand.specs.Work.{Pages, names_asked};
 ghost use Rattle.wt_lint.specs.Lines.{findings};
 ghost use Rattle.wt_lint.specs.Report.{finding_lines};
@@ -8,7 +7,7 @@ ghost use Rattle.wt_markup.specs.Html.{html_text};
 ghost use Rattle.wt_tree.specs.View.{view};
 ghost use Rattle.wt_transclusion.specs.Asked.{Asks};
 ghost use Rattle.wt_pagetool.specs.Answers.{html_within, made_of_tree, made, title_answer};
-ghost use Rattle.wt_pagetool.specs.Asked.{AsksNames, names_of, title_work};
+ghost use Rattle.wt_pagetool.specs.Asked.{AsksNames, names_of, title_work, work_done};
 ghost use Rattle.wt_pagetool.specs.Causes.{Answered, IsOfPage, IsOfTitle, IsKept};
 
 use crate::command::PageCommand;
@@ -83,7 +82,7 @@ fn output_of_text<F: Folder>(
     ensures asks { Asks (F.answered folder.old) (F.answered folder.new) (F.most_asked folder.old)
         (F.most_asked folder.new) }
     ensures asked { (pages : Pages) → F.pages folder.old ≡ Some pages
-        → AsksNames (names_asked (page_work pages page.now)) (F.answered folder.old)
+        → AsksNames (names_asked (work_done pages page.now)) (F.answered folder.old)
         (F.answered folder.new) result }
 {
     let arena = Bump::new(alloc);
@@ -106,7 +105,7 @@ pub fn output_of_title<F: Folder>(
     ensures asks { Asks (F.answered folder.old) (F.answered folder.new) (F.most_asked folder.old)
         (F.most_asked folder.new) }
     ensures asked { IfSome (F.pages folder.old)
-        (λ pages. AsksNames (names_of title.now (title_work (pages title.now) (page_work pages)))
+        (λ pages. AsksNames (names_of title.now (title_work (pages title.now) (work_done pages)))
         (F.answered folder.old) (F.answered folder.new) result) }
 {
     let page = fetched_page(alloc, title, folder)?;

@@ -2,8 +2,9 @@ ghost use Rattle.std.specs.Prelude.{◌≡◌, ◌≢◌, ◌⊎◌, ◌+◌, �
 ghost use Rattle.std.specs.Io.KnownBytes.{IsAtEnd};
 ghost use Rattle.wt_expand.specs.Work.{Pages};
 ghost use Rattle.wt_transclusion.specs.Asked.{Asks, AsksAtMost};
+ghost use Rattle.wt_transclusion.specs.Stops.{AnswersFewer};
 ghost use Rattle.wt_pagetool.specs.Answers.{done, html_answer, answer_told, status_of_answer, IsNoText};
-ghost use Rattle.wt_pagetool.specs.Asked.{followed_by, names_told, AnswersFirst, AsksNames};
+ghost use Rattle.wt_pagetool.specs.Asked.{names_told, AnswersAll, AnswersFirst, AsksNames};
 ghost use Rattle.wt_pagetool.specs.Calls.{call, IsDue, KeptCounts, NothingFailed};
 ghost use Rattle.wt_pagetool.specs.Causes.{Answered, IsKept};
 ghost use Rattle.wt_pagetool.specs.Devices.{read_from, fetched_from, written_to};
@@ -45,7 +46,7 @@ fn find_answer<S: Source, F: Folder>(
     ensures folder_kept { IsKept result (F.fault_count folder.old) (F.fault_count folder.new) }
     ensures asks { Asks (F.answered folder.old) (F.answered folder.new) (F.most_asked folder.old)
         (F.most_asked folder.new) }
-    ensures asked { IfSome (names_told (F.pages folder.old) (S.left input.old) words.now)
+    ensures names { IfSome (names_told (F.pages folder.old) (S.left input.old) words.now)
         (λ names. AsksNames names (F.answered folder.old) (F.answered folder.new) result) }
     ensures takes { GivesAtMost (HTML_BYTES + PIECE) (S.left input.old) (S.left input.new) }
     ensures waits { (title : List ℕ) → command_of words.now ≡ Some (Command.Edit title)
@@ -70,15 +71,15 @@ fn find_answer<S: Source, F: Folder>(
 /// (`Status::code`).
 ///
 /// `html TITLE` writes to `out` the HTML of the page that stands in `folder` under the title, with its
-/// templates expanded, whose pages stand in `folder`, too; `ranges TITLE` a line for each of its nodes that
-/// has a number, `mwN KIND START END OPEN CLOSE`, in bytes; `lint TITLE` a line for each doubtful place,
-/// `KIND LINE COLUMN START END`; `expand TITLE` the items of the expanded page. `gen N` makes a page of N
-/// sections and its HTML, reads this back and writes what it counted. `wikitext` reads the HTML of `input`
-/// to its end and writes to `out` the source of the page for which it stands. `edit TITLE` reads the HTML
-/// of `input`, in which some elements of the page's HTML are marked as edited, and writes the new page: the
-/// inside of each marked block is written anew, blocks and items come and go where their parent is marked
-/// so, and nothing else is changed. Nothing goes to `out` before the whole answer is known, and each refusal
-/// has its one line on `err`.
+/// templates, whose pages stand in `folder`, too, and its functions expanded; `ranges TITLE` a line for each
+/// of its nodes that has a number, `mwN KIND START END OPEN CLOSE`, in bytes; `lint TITLE` a line for each
+/// doubtful place, `KIND LINE COLUMN START END`; `expand TITLE` the items of the expanded page. `gen N` makes
+/// a page of N sections and its HTML, reads this back and writes what it counted. `wikitext` reads the HTML
+/// of `input` to its end and writes to `out` the source of the page for which it stands. `edit TITLE` reads
+/// the HTML of `input`, in which some elements of the page's HTML are marked as edited, and writes the new
+/// page: the inside of each marked block is written anew, blocks and items come and go where their parent is
+/// marked so, and nothing else is changed. Nothing goes to `out` before the whole answer is known, and each
+/// refusal has its one line on `err`.
 ///
 /// A title stands here for its full name. What is said of a device's pages or bytes holds where the device
 /// tells them (`IfSome`), as those in memory do; the directory and the standard streams of the program tell
@@ -184,15 +185,20 @@ pub fn run<S: Source, F: Folder, W: Sink, E: Sink>(
         (read_from S.Source input.old input.new) (fetched_from F.Folder folder.old folder.new)
         (written_to W.Sink out.old out.new) (written_to E.Sink err.old err.new)) }
 
-    // The folder answered the first of the names that the command asks for, in their order and no others;
-    // all of them where the call is done. The first is that of the page; then come those that its expansion
-    // fetches (the page's own again, where a call names it), and with `edit` those that the expansion of the
-    // new page fetches, each once, in the order of their first fetch.
-    ensures asks { IfSome (names_told (F.pages folder.old) (S.left input.old) words.now)
+    // The folder answered the first of the names that the command asks for, in their order and no others.
+    // The first is that of the page; then come those that its expansion fetches (the page's own again, where
+    // a call names it), and with `edit` those that the expansion of the new page fetches, each once, in the
+    // order of their first fetch. The names end where the command is refused, and a call that is done or
+    // refused has asked for all of them. Where a fetch failed, it is that of the next name: nothing that is done
+    // before it is refused, and it was asked for in its turn.
+    ensures first_names { IfSome (names_told (F.pages folder.old) (S.left input.old) words.now)
         (λ names. AnswersFirst names (F.answered folder.old) (F.answered folder.new)) }
-    ensures asked { result ≡ code Status.Done
+    ensures all_names { IsDoneOrRefused result
         → IfSome (names_told (F.pages folder.old) (S.left input.old) words.now)
-        (λ names. F.answered folder.new ≡ followed_by (F.answered folder.old) names) }
+        (λ names. AnswersAll names (F.answered folder.old) (F.answered folder.new)) }
+    ensures fewer_names { result ≡ code Status.FolderFault
+        → IfSome (names_told (F.pages folder.old) (S.left input.old) words.now)
+        (λ names. AnswersFewer names (F.answered folder.old) (F.answered folder.new)) }
 
     // No page that the folder answered was asked for with more than one byte more than it may have, and no
     // more of the input was read than the longest HTML and one piece. The folder keeps its pages in any

@@ -14,6 +14,7 @@ fn part_word(part: &Part) -> &'static str
 {
     match part {
         Part::Template { .. } => "mw:Transclusion",
+        Part::Function { .. } => "mw:Transclusion",
         Part::Param { .. } => "mw:Param",
         Part::Literal(_) => "mw:Transclusion",
     }

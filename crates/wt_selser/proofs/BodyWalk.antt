@@ -1,8 +1,7 @@
 -- How the code finds the slices of a body, step by step.
-use Rattle.std.proofs.Common.{arith, ◌≡◌, ◌<◌, ◌≤◌, ℕ, zero, suc, ◌+◌, ◌-◌, Bool, true, false, Option, None, Some, List, [], ◌∷◌, ◌++◌, length, drop, get_or, refl, sym, ap, ◌∙◌, subst, length-append, append_assoc, append-nil}
-use Rattle.std.specs.Prelude.{◌&&◌, ◌||◌, if◌then◌else◌, nat_eq, Result, Ok, Err, IfOk, option_map}
+use Rattle.std.proofs.Common.{arith, ◌≡◌, ◌<◌, ◌≤◌, ℕ, zero, suc, ◌+◌, ◌-◌, Bool, true, false, Option, None, Some, List, [], ◌∷◌, ◌++◌, length, drop, get_or, refl, sym, ap, ◌∙◌, length-append, append_assoc, append-nil}
+use Rattle.std.specs.Prelude.{◌&&◌, ◌||◌, if◌then◌else◌, nat_eq, Result, Ok, Err, IfOk}
 use Rattle.std.specs.List.{ends_with, flat_map}
-use Rattle.std.proofs.lemmas.List.{drop_more, drop_all}
 use Rattle.wt_tree.specs.declared.node.Node.{Node, out-Node}
 use Rattle.wt_tree.specs.Source.{flat}
 use Rattle.wt_tree.specs.Tiling.{end_of}
@@ -25,7 +24,7 @@ use Rattle.wt_selser.specs.BodySlices.{all_child_slices, before_new, begins_new,
 use Rattle.wt_selser.specs.Changes.{insides}
 use Rattle.wt_selser.specs.ListSlices.{at_place, list_slices, sign_of}
 use Rattle.wt_selser.specs.Splice.{Change}
-use Rattle.wt_selser.specs.Steps.{Step, stays, goes, kept, comes, steps}
+use Rattle.wt_selser.specs.Steps.{Step, goes, comes, steps}
 use Rattle.wt_selser.specs.Views.{parted_ends, steps_view, step_view}
 use Rattle.wt_selser.proofs.ListWalk.{steps_end, steps_turn}
 use Rattle.wt_selser.proofs.Spliced.{kind_seen, ranges_seen}

@@ -7,7 +7,7 @@ use Rattle.wt_tree.specs.declared.kind.Kind.TheVariants as kind
 use Rattle.wt_tree.specs.declared.kind.Mark.{Mark}
 use Rattle.wt_tree.specs.declared.kind.Mark.TheVariants as marks
 use Rattle.wt_tree.specs.declared.kind.Ranges.{Ranges}
-use Rattle.wt_tree.specs.Tree.{Label, Tree, tree, Trees, none, more}
+use Rattle.wt_tree.specs.Tree.{Tree, tree, Trees, none, more}
 use Rattle.wt_escape.specs.Spelling.{block_spelling, inline_spelling}
 use Rattle.wt_selser.specs.BodySlices.{slices}
 use Rattle.wt_selser.specs.ListSlices.{at_place}

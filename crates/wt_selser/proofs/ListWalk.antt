@@ -16,7 +16,7 @@ use Rattle.wt_selser.specs.declared.steps.Step.{Step as Taken}
 use Rattle.wt_selser.specs.Changes.{insides}
 use Rattle.wt_selser.specs.ListSlices.{at_place, first_removed, first_start, from_kept, is_item, is_kept_item, item_slices, list_from, list_slices, new_before, new_one_before, removed_before, start_of}
 use Rattle.wt_selser.specs.Splice.{Change}
-use Rattle.wt_selser.specs.Steps.{Step, stays, goes, kept, comes, from_number, steps}
+use Rattle.wt_selser.specs.Steps.{Step, goes, kept, comes, from_number, steps}
 use Rattle.wt_selser.specs.Views.{steps_view, step_view}
 use Rattle.wt_selser.proofs.Spliced.{kind_seen, ranges_seen}
 

@@ -14,7 +14,7 @@ use Rattle.wt_content.specs.Content.{has_break}
 use Rattle.wt_content.specs.declared.children.Holder.TheVariants as holder
 use Rattle.wt_content.specs.Children.{is_space, is_mark, is_separator}
 use Rattle.wt_selser.specs.declared.body.Front.{Front}
-use Rattle.wt_selser.specs.Changes.{insides, all_insides}
+use Rattle.wt_selser.specs.Changes.{insides}
 use Rattle.wt_selser.specs.ListSlices.{at_place, sign_of, list_slices}
 use Rattle.wt_selser.specs.Splice.{Change}
 use Rattle.wt_selser.specs.Steps.{Step, stays, goes, kept, comes, steps}

@@ -1,5 +1,5 @@
 -- Outermost calls, and where the items of a page come from.
-use Rattle.std.specs.Prelude.{◌≡◌, ◌<◌, ◌≤◌, ◌+◌, ◌-◌, ◌==◌, ℕ, Bool, false, not, Option, Some, None, List, [], ◌∷◌, length, map, slice_get, slice_index, All, is_some, if◌then◌else◌}
+use Rattle.std.specs.Prelude.{◌≡◌, ◌<◌, ◌≤◌, ◌+◌, ◌-◌, ◌==◌, ◌||◌, ℕ, Bool, false, not, Option, Some, None, List, [], ◌∷◌, length, map, slice_get, slice_index, drop, All, is_some, if◌then◌else◌}
 use Rattle.std.specs.Str.{IsCharBoundary}
 use Rattle.wt_span.specs.declared.form.Mode.TheVariants.{Page}
 use Rattle.wt_span.specs.declared.range.Range.{Range}
@@ -12,6 +12,7 @@ use Rattle.wt_span.specs.declared.form.Outer.{Outer}
 use Rattle.wt_span.specs.Slice.{bytes_of, start_of, end_of}
 use Rattle.wt_span.specs.Items.{Item, call_of_origin}
 use Rattle.wt_span.specs.Braces.{IsCall}
+use Rattle.wt_span.specs.Functions.{function_of}
 use Rattle.wt_span.specs.Whole.{IsWhole}
 
 -- two places, the second after the last byte
@@ -65,11 +66,12 @@ AreNameEnds c [] (e ∷ es) = ⊥
 AreNameEnds c (p ∷ ps) [] = ⊥
 AreNameEnds c (p ∷ ps) (e ∷ es) = IsNameEnd c p e × AreNameEnds c ps es
 
+-- a call to a page has a link to it: no argument has one, and no call of a parser function
 pub record IsSoundCall (c : OuterCall) : Type 0 where
   pub some_part : 0 < length c.parts
   pub in_order : LieFrom c c.start c.parts
   pub name_ends : AreNameEnds c c.parts c.equals
-  pub linked : is_some c.href ≡ not c.argument
+  pub linked : is_some c.href ≡ not (c.argument || is_some (function_of (drop 2 c.source)))
 
 -- ---- pieces
 

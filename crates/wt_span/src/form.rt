@@ -70,6 +70,6 @@ pub struct Outer<'a> {
     pub parts: List<Range>,
     /// For each part the place of the `=` that ends its name, in bytes of the page.
     pub equals: List<Option<u32>>,
-    /// The link to the page that is called; an argument has none.
+    /// The link to the page that is called; an argument and a parser function have none.
     pub href: Option<Str>,
 }

@@ -4,6 +4,7 @@
 #![tactic(auto)]
 
 mod form;
+mod function;
 mod items;
 mod laws;
 mod limits;
@@ -17,6 +18,7 @@ mod str;
 mod text;
 
 pub use form::{Form, LexKind, Mode, Outer, Piece};
+pub use function::Function;
 pub use items::Items;
 pub use laws::one_cut;
 pub use limits::{HTML_BYTES, PAGE_BYTES};

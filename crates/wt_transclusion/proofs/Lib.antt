@@ -1,4 +1,5 @@
 pub mod AskedLaws
+pub mod Behind
 pub mod ChunkLaws
 pub mod Chunks
 pub mod Counts
@@ -10,6 +11,7 @@ pub mod Insides
 pub mod MarkLaws
 pub mod Openings
 pub mod PartLaws
+pub mod StopLaws
 pub mod StoreLaws
 pub mod StretchCuts
 pub mod StretchLaws

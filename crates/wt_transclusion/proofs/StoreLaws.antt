@@ -11,10 +11,11 @@ use Rattle.wt_expand.specs.Templates.{template_text}
 use Rattle.wt_expand.specs.Work.{Pages, Refused, most_bytes, template_refusal, found_refusal, is_among}
 use Rattle.wt_expand.proofs.TextLaws.{cut_page_refused}
 use Rattle.wt_transclusion.specs.declared.refusal.ExpandRefusal.{ExpandRefusal}
+use Rattle.wt_transclusion.specs.declared.refusal.ExpandRefusal.TheVariants as answer
 use Rattle.wt_transclusion.specs.declared.read.ReadText.{ReadText}
 use Rattle.wt_transclusion.specs.Reads.{IsRead}
-use Rattle.wt_transclusion.specs.Answers.{IsRefused, AnswersTemplate, IsFetched}
-use Rattle.wt_transclusion.specs.Stores.{IsKnown}
+use Rattle.wt_transclusion.specs.Answers.{IsRefused, IsNoFault, AnswersTemplate, IsFetched}
+use Rattle.wt_transclusion.specs.Stores.{IsKnown, TellsErr}
 use Rattle.wt_transclusion.proofs.TemplateReads.{long_refused}
 
 -- ---- a page that was cut
@@ -59,6 +60,15 @@ found_refused title cut slice (Some bs) x e s h =
 pub absent_read : (title : List ℕ) (page : Option (List ℕ)) → None ≡ option_map (take 2097153) page → IsFetched title page None
 absent_read title None e = tt
 absent_read title (Some bs) e = absurd (let z : None ≡ Some (take 2097153 bs) = e in cc)
+
+-- the name of a page that is refused was told
+pub told_refused : (before all now : Option (List (List ℕ))) (e : ExpandRefusal) → IsNoFault e → now ≡ all → TellsErr before all now e
+told_refused before all now (answer.BracesTooDeep title place) h e = e
+told_refused before all now answer.TooLarge h e = e
+told_refused before all now answer.FolderFault h e = absurd h
+told_refused before all now (answer.TemplateNotUtf8 title place) h e = e
+told_refused before all now (answer.TemplateTooLong title) h e = e
+told_refused before all now answer.NoMemory h e = inr e
 
 -- ---- one more page
 

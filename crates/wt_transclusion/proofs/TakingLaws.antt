@@ -1,6 +1,6 @@
 -- What titles give that aren't taken from a page.
-use Rattle.std.proofs.Common.{◌≡◌, ℕ, zero, suc, ◌+◌, ◌<◌, Bool, true, false, cond, Option, Some, None, option_map, List, [], ◌∷◌, ◌++◌, Ok, Err, length, get_or, drop, refl, sym, ap, ◌∙◌, subst, arith}
-use Rattle.std.specs.Prelude.{Result, IsErr, reverse, if◌then◌else◌}
+use Rattle.std.proofs.Common.{◌≡◌, ℕ, zero, suc, ◌+◌, ◌<◌, ◌⊎◌, inl, inr, ⊎_elim, Bool, true, false, cond, Option, Some, None, List, [], ◌∷◌, ◌++◌, Ok, Err, length, get_or, drop, refl, sym, ap, ◌∙◌, subst, arith}
+use Rattle.std.specs.Prelude.{Result, reverse}
 use Rattle.std.specs.Str.{bytes_eq}
 use Rattle.std.proofs.lemmas.List.{drop_more, reverse-append}
 use Rattle.wt_span.specs.declared.form.Piece.{Piece}
@@ -12,13 +12,12 @@ use Rattle.wt_expand.specs.Work.{Pages, fetched, found_refusal, is_among}
 use Rattle.wt_expand.proofs.Absent.{absent_page}
 use Rattle.wt_transclusion.specs.declared.read.ReadText.{ReadText}
 use Rattle.wt_transclusion.specs.declared.refusal.ExpandRefusal.{ExpandRefusal}
+use Rattle.wt_transclusion.specs.declared.refusal.ExpandRefusal.TheVariants as answer
 use Rattle.wt_transclusion.specs.declared.store.Store.{Store}
 use Rattle.wt_transclusion.specs.declared.templates.Taken.{Taken}
 use Rattle.wt_transclusion.specs.Answers.{IsFetched, IsRefused}
-use Rattle.wt_transclusion.specs.Asked.{AreFirst}
-use Rattle.wt_transclusion.specs.Stores.{IsStore, AnswersTitle, met_with, named_with}
-use Rattle.wt_transclusion.specs.Takings.{IsNamed, names_taking, taking_refusal}
-use Rattle.wt_transclusion.proofs.AskedLaws.{first_all, first_some}
+use Rattle.wt_transclusion.specs.Stores.{IsStore, AnswersTitle, TellsErr, met_with, named_with}
+use Rattle.wt_transclusion.specs.Takings.{IsAsked, IsNamed, IsNamedErr, names_taking, taking_refusal}
 
 -- ---- among names
 
@@ -156,22 +155,40 @@ taking_named (suc left) names t full met old f e z =
     ap (λ n. named_with n met old) f
     ∙ ap (λ b. names_taking (suc left) b (full_name_of t) met old) (sym (among_open names t full false f e))
 
--- a folder that wasn't asked
-pub taking_unnamed : (left : ℕ) (b : Bool) (full : List ℕ) (met : List (List ℕ))
-    (old : Option (List (List ℕ)))
-    → AreFirst old (names_taking left b full met old)
-taking_unnamed zero b full met old = first_all old
-taking_unnamed (suc left) true full met old = first_all old
-taking_unnamed (suc left) false full met old = with_name (is_among full met)
-  where
-    with_name : (t : Bool) → AreFirst old (if t then old else option_map (λ names. names ++ full ∷ []) old)
-    with_name true = first_all old
-    with_name false = first_some old (full ∷ [])
-
-pub refused_named : (left : ℕ) (open_titles : List (List ℕ)) (full : List ℕ) (met : List (List ℕ))
-    (old new : Option (List (List ℕ)))
-    (x : Result Taken ExpandRefusal) → IsErr x
-    → AreFirst new (names_taking left (is_among full open_titles) full met old)
+-- where memory is missing, nothing or this name was told
+pub memory_named : (left : ℕ) (open_titles : List (List ℕ)) (full : List ℕ) (met : List (List ℕ))
+    (old new : Option (List (List ℕ))) (x : Result Taken ExpandRefusal) → x ≡ Err answer.NoMemory
+    → (new ≡ old) ⊎ (new ≡ names_taking left (is_among full open_titles) full met old)
     → IsNamed left open_titles full met old new x
-refused_named left open_titles full met old new (Ok k) e h = absurd (let z : false ≡ true = e in cc)
-refused_named left open_titles full met old new (Err x) e h = h
+memory_named left open_titles full met old new x e h = subst (IsNamed left open_titles full met old new) (sym e) h
+
+asked_named : (left : ℕ) (open_titles : List (List ℕ)) (full : List ℕ) (met : List (List ℕ))
+    (old new : Option (List (List ℕ))) (e : ExpandRefusal) → IsAsked left open_titles full met
+    → named_with full met old ≡ names_taking left (is_among full open_titles) full met old
+    → TellsErr old (named_with full met old) new e → IsNamedErr left open_titles full met old new e
+asked_named left open_titles full met old new (answer.BracesTooDeep title place) a n h = (a, h)
+asked_named left open_titles full met old new answer.TooLarge a n h = (a, h)
+asked_named left open_titles full met old new answer.FolderFault a n h = (a, h)
+asked_named left open_titles full met old new (answer.TemplateNotUtf8 title place) a n h = (a, h)
+asked_named left open_titles full met old new (answer.TemplateTooLong title) a n h = (a, h)
+asked_named left open_titles full met old new answer.NoMemory a n h = ⊎_elim (λ e. inl e) (λ e. inr (e ∙ n)) h
+
+over_zero : (n : ℕ) → (n ≡ 0 → ⊥) → 0 < n
+over_zero zero h = absurd (h refl)
+over_zero (suc n) h = omega arith
+
+-- the page of a title is asked for and refused
+pub title_named : (left : ℕ) (names : List (List ℕ)) (t : Title) (full : List ℕ) (met : List (List ℕ))
+    (old new : Option (List (List ℕ))) (e : ExpandRefusal)
+    → full ≡ full_name_of t → is_among full names ≡ false → (left ≡ 0 → ⊥) → is_among full met ≡ false
+    → TellsErr old (named_with full met old) new e
+    → IsNamedErr left (reverse names) (full_name_of t) met old new e
+title_named left names t full met old new e f shut z u h =
+    let asked : IsAsked left (reverse names) (full_name_of t) met = record {
+      more = over_zero left z;
+      shut = among_open names t full false f shut;
+      unmet = ap (λ n. is_among n met) (sym f) ∙ u;
+    } in
+    asked_named left (reverse names) (full_name_of t) met old new e asked
+    (ap (λ n. named_with n met old) (sym f) ∙ taking_named left names t full met old f shut z)
+    (subst (λ (n : List ℕ). TellsErr old (named_with n met old) new e) f h)

@@ -10,6 +10,7 @@ pub mod Opening
 pub mod Parts
 pub mod Reads
 pub mod Steps
+pub mod Stops
 pub mod Stores
 pub mod Stretch
 pub mod Takings

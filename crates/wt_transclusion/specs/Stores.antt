@@ -1,9 +1,10 @@
 -- The pages that were fetched.
-use Rattle.std.specs.Prelude.{◌≡◌, ℕ, Bool, true, false, Option, Some, None, option_map, List, [], ◌∷◌, ◌++◌, Result, Ok, Err, if◌then◌else◌}
+use Rattle.std.specs.Prelude.{◌≡◌, ◌⊎◌, ℕ, Bool, true, false, Option, Some, None, option_map, List, [], ◌∷◌, ◌++◌, Result, Ok, Err, if◌then◌else◌}
 use Rattle.std.specs.Str.{bytes_eq}
 use Rattle.std.specs.HashMap.{get_by_text}
 use Rattle.wt_expand.specs.Work.{Pages, found_refusal, is_among}
 use Rattle.wt_transclusion.specs.declared.refusal.ExpandRefusal.{ExpandRefusal}
+use Rattle.wt_transclusion.specs.declared.refusal.ExpandRefusal.TheVariants as answer
 use Rattle.wt_transclusion.specs.declared.read.ReadText.{ReadText}
 use Rattle.wt_transclusion.specs.declared.store.Store.{Store}
 use Rattle.wt_transclusion.specs.Answers.{IsFetched, IsRefused}
@@ -57,6 +58,20 @@ met_with name met = if is_among name met then met else name ∷ met
 -- what the folder has answered, after this name was asked for where it isn't known
 abbrev pub named_with : List ℕ → List (List ℕ) → Option (List (List ℕ)) → Option (List (List ℕ))
 named_with name met answered = if is_among name met then answered else option_map (λ names. names ++ name ∷ []) answered
+
+-- The names told where the page of a name was asked for and isn't read: those with this name where the page is refused, those of before
+-- where the folder failed, and the ones or the others where memory is missing.
+abbrev pub TellsErr : Option (List (List ℕ)) → Option (List (List ℕ)) → Option (List (List ℕ)) → ExpandRefusal → Type 0
+TellsErr before with_name now (answer.BracesTooDeep title place) = now ≡ with_name
+TellsErr before with_name now answer.TooLarge = now ≡ with_name
+TellsErr before with_name now answer.FolderFault = now ≡ before
+TellsErr before with_name now (answer.TemplateNotUtf8 title place) = now ≡ with_name
+TellsErr before with_name now (answer.TemplateTooLong title) = now ≡ with_name
+TellsErr before with_name now answer.NoMemory = (now ≡ before) ⊎ (now ≡ with_name)
+
+abbrev pub Tells : {A : Type 0} → Option (List (List ℕ)) → Option (List (List ℕ)) → Option (List (List ℕ)) → Result A ExpandRefusal → Type 0
+Tells before with_name now (Ok x) = now ≡ with_name
+Tells before with_name now (Err e) = TellsErr before with_name now e
 
 -- a title's page is read; or it is refused, and wasn't fetched before
 abbrev pub AnswersTitle : Pages → List (List ℕ) → List ℕ → Store → Result (Option ReadText) ExpandRefusal → Type 0

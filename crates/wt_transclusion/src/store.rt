@@ -1,10 +1,10 @@
 //! The pages that were fetched, each once, by their full names.
-ghost use Rattle.std.specs.Prelude.{◌≡◌, ◌∷◌, ◌++◌, [], ℕ, List, Option, Some, IfOk, OnOk, option_map};
+ghost use Rattle.std.specs.Prelude.{◌≡◌, ◌∷◌, ◌++◌, [], ℕ, List, Option, Some, false, IfOk, OnErr, OnOk, option_map};
 ghost use Rattle.std.specs.HashMap.{get_by_text};
-ghost use Rattle.wt_expand.specs.Work.{Pages};
+ghost use Rattle.wt_expand.specs.Work.{Pages, is_among};
 ghost use Rattle.wt_transclusion.specs.Answers.{AnswersTemplate, AnswersFetch, IsCounted, IsFetched};
-ghost use Rattle.wt_transclusion.specs.Asked.{AnswersNames, Asks};
-ghost use Rattle.wt_transclusion.specs.Stores.{IsStore, AnswersTitle, Concerns, Grows, Keeps, named_with};
+ghost use Rattle.wt_transclusion.specs.Asked.{Asks};
+ghost use Rattle.wt_transclusion.specs.Stores.{IsStore, AnswersTitle, Concerns, Grows, Keeps, Tells, named_with};
 
 use crate::only::template_text;
 use crate::read::{ReadText, read_in};
@@ -69,7 +69,7 @@ fn fetch_template<'a, F: Folder>(
     ensures read { IfOk result (λ found. (page : Option (List ℕ)) × IsFetched title.now page found) }
     ensures kept { F.pages folder.new ≡ F.pages folder.old }
     ensures asks { Asks (F.answered folder.old) (F.answered folder.new) (F.most_asked folder.old) (F.most_asked folder.new) }
-    ensures named { AnswersNames (option_map (λ names. names ++ title.now ∷ []) (F.answered folder.old))
+    ensures named { Tells (F.answered folder.old) (option_map (λ names. names ++ title.now ∷ []) (F.answered folder.old))
         (F.answered folder.new) result }
     ensures count { IsCounted (F.fault_count folder.old) (F.fault_count folder.new) result }
 {
@@ -135,7 +135,8 @@ impl<'a> Store<'a> {
         ensures kept { F.pages folder.new ≡ F.pages folder.old }
         ensures asks { Asks (F.answered folder.old) (F.answered folder.new) (F.most_asked folder.old) (F.most_asked folder.new) }
         ensures named { (pages : Pages) (met : List (List ℕ)) → IsStore pages met self.old
-            → AnswersNames (named_with full.now met (F.answered folder.old)) (F.answered folder.new) result }
+            → Tells (F.answered folder.old) (named_with full.now met (F.answered folder.old)) (F.answered folder.new) result }
+        ensures unmet { (pages : Pages) (met : List (List ℕ)) → IsStore pages met self.old → OnErr result (is_among full.now met ≡ false) }
         ensures count { IsCounted (F.fault_count folder.old) (F.fault_count folder.new) result }
     {
         if let Some(found) = self.known(full) {

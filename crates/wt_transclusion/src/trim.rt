@@ -1,5 +1,5 @@
 //! Values without the blanks and line breaks at their ends.
-ghost use Rattle.std.specs.Prelude.{◌≡◌, ◌++◌, ◌∷◌, [], IfOk};
+ghost use Rattle.std.specs.Prelude.{◌≡◌, ◌<◌, ◌++◌, ◌∷◌, [], IfOk, drop, length};
 ghost use Rattle.wt_span.specs.Items.{is_char_in, items, items_of};
 ghost use Rattle.wt_expand.specs.Texts.{is_space, without_front, trimmed_items};
 ghost use Rattle.wt_transclusion.specs.Ends.{without_back, is_chars, IsLeft};
@@ -126,4 +126,56 @@ pub fn trimmed_items<'a>(alloc: Global, pieces: &[Piece<'a>]) -> Result<List<Pie
 {
     let rest = all_without_front(alloc, pieces)?;
     all_without_back(alloc, rest.as_slice())
+}
+
+/// How many items a piece is: each byte of characters is one.
+fn item_count(piece: Piece<'_>) -> usize
+    ensures { result ≡ length (items_of piece.entry) }
+{
+    if is_chars(piece.form) {
+        piece.text.as_str().len()
+    } else {
+        1
+    }
+}
+
+/// A piece behind its first items, of which it has more. Characters that would be cut are answered as
+/// want of memory.
+fn behind_bytes(piece: Piece<'_>, count: usize) -> Result<Piece<'_>, NoMemory>
+    requires { count < length (items_of piece) }
+    ensures { IfOk result (λ rest. items_of rest ≡ drop count (items_of piece.entry)) }
+{
+    if count == 0 {
+        return Ok(piece);
+    }
+    let text = piece.text.as_str();
+    if !text.is_char_boundary(count) {
+        return Err(NoMemory);
+    }
+    let (_, rest) = piece.text.split_at(piece.text.range().start + count as u32);
+    Ok(Piece {
+        text: rest,
+        form: piece.form,
+        origin: piece.origin,
+    })
+}
+
+/// Pieces behind their first items.
+pub fn behind_items<'a>(
+    alloc: Global,
+    pieces: &[Piece<'a>],
+    count: u32,
+) -> Result<List<Piece<'a>>, NoMemory>
+    ensures { IfOk result (λ ps. items ps ≡ drop count (items pieces.now)) }
+{
+    let mut left = count as usize;
+    for (i, piece) in pieces.iter().enumerate() {
+        let len = item_count(*piece);
+        if left < len {
+            let first = behind_bytes(*piece, left)?;
+            return with_first(alloc, first, rest_of(pieces, i + 1));
+        }
+        left -= len;
+    }
+    Ok(List::new(alloc))
 }

@@ -9,13 +9,20 @@ pub struct Attr {
 }
 
 /// A part of a group of templates: a transclusion with its target as written, the link to its title,
-/// its parameters and its number among the group's calls; an argument by its source; or the slice of
-/// the page between two of these.
+/// its parameters and its number among the group's calls; a parser function likewise, with its name
+/// (`if`, `ifeq` or `switch`) in place of the link; an argument by its source; or the slice of the page
+/// between two of these.
 #[derive(Debug, Drop, PartialEq)]
 pub enum Part {
     Template {
         target: Str,
         href: Str,
+        params: List<(Str, Str)>,
+        i: u32,
+    },
+    Function {
+        name: Str,
+        target: Str,
         params: List<(Str, Str)>,
         i: u32,
     },

@@ -3,8 +3,8 @@ use Rattle.std.specs.Prelude.{IfErr}
 use Rattle.wt_expand.specs.Expansion.{page_work}
 use Rattle.wt_expand.specs.Work.{first_refusal}
 use Rattle.wt_transclusion.specs.Answers.{IsRefused}
-use Rattle.wt_expansion.proofs.KnownLaws.{asked_at_first, free_at_first, holds_at_first, stops_at_first}
-use Rattle.wt_expansion.proofs.Refusals.{on_err}
+use Rattle.wt_transclusion.specs.Stops.{Stops}
+use Rattle.wt_expansion.proofs.KnownLaws.{asked_at_first, free_at_first, holds_at_first}
 use Rattle.wt_expansion.proofs.page.expand.Goals as goal
 
 pub expand_knowing-requires-clause-known : goal.expand_knowing-requires-clause-known
@@ -21,11 +21,12 @@ returns-in_err-expanded-clause-refused g c = λ pages told.
 
 pub returns-in_err-expanded-clause-stops : goal.returns-in_err-expanded-clause-stops
 returns-in_err-expanded-clause-stops g c = λ pages told.
-    let free = free_at_first pages c.new-expansion.result c.new-expansion.ensures.store
-    c.new-expansion.ensures.names in
-    on_err c.from_residual.result (stops_at_first (page_work pages c.args.page.now)
-    (g.F.Folder.answered c.args.folder.now)
-    (g.F.Folder.answered c.expand_knowing.new.folder) (c.in_err-expanded.ensures.stops pages [] [] told free))
+    let bytes = c.args.page.now in
+    let free = free_at_first pages c.new-expansion.result c.new-expansion.ensures.store c.new-expansion.ensures.names in
+    let e : c.from_residual.result ≡ Err c.in_err-expanded.field-0.0 = search rules in
+    subst (λ x. IfErr x (Stops pages bytes 0 [] (page_work pages bytes) (g.F.Folder.answered c.args.folder.now)
+    (g.F.Folder.answered c.expand_knowing.new.folder))) (sym e)
+    (c.in_err-expanded.ensures.stops pages [] told free)
 
 pub returns-clause-items : goal.returns-clause-items
 returns-clause-items g c = λ pages told.

@@ -4,13 +4,14 @@ use Rattle.wt_span.specs.declared.form.Mode.TheVariants as mode
 use Rattle.wt_span.specs.Items.{items}
 use Rattle.wt_span.specs.Origins.{Expanded, outer_call, span_of}
 use Rattle.wt_expand.specs.Expansion.{page_work}
-use Rattle.wt_expand.specs.Work.{first_refusal}
+use Rattle.wt_expand.specs.Fronts.{known_after}
+use Rattle.wt_expand.specs.Work.{fetches, first_refusal}
 use Rattle.wt_transclusion.specs.Answers.{IsRefused}
+use Rattle.wt_transclusion.specs.Stops.{Stops}
 use Rattle.wt_transclusion.proofs.GrowthLaws.{agrees_known, has_known}
 use Rattle.wt_levels.specs.declared.expansion.Expansion.{Expansion}
 use Rattle.wt_expansion.proofs.PageWalk.{page_members, page_stands}
-use Rattle.wt_expansion.proofs.KnownLaws.{found_refused, found_stops, free_by_agreeing, free_still, page_is_found, unread_stops}
-use Rattle.wt_expansion.proofs.Refusals.{on_err}
+use Rattle.wt_expansion.proofs.KnownLaws.{found_refused, found_stops, free_by_agreeing, free_still, page_is_found}
 use Rattle.wt_expansion.proofs.page.expand_knowing.Goals as goal
 
 pub returns-in_err-text-clause-refused : goal.returns-in_err-text-clause-refused
@@ -37,23 +38,29 @@ returns-in_err-stretch-clause-refused g c = λ pages met told h.
     c.in_ok-text.ensures.fits spent refused)
 
 pub returns-in_err-text-clause-stops : goal.returns-in_err-text-clause-stops
-returns-in_err-text-clause-stops g c = λ pages met rest told h.
+returns-in_err-text-clause-stops g c = λ pages met told h.
+    let bytes = c.args.page.now in
     let answered = g.F.Folder.answered c.args.folder.now in
-    on_err c.from_residual.result (unread_stops pages c.args.page.now met answered rest)
+    let e : c.from_residual.result ≡ Err c.in_err-text.field-0.0 = search rules in
+    subst (λ x. IfErr x (Stops pages bytes 0 met (page_work pages bytes) answered answered)) (sym e)
+    (c.in_err-text.ensures.stops pages met answered)
 
 pub returns-in_err-stretch-clause-stops : goal.returns-in_err-stretch-clause-stops
-returns-in_err-stretch-clause-stops g c = λ pages met rest told h.
+returns-in_err-stretch-clause-stops g c = λ pages met told h.
     let bytes = c.args.page.now in
     let walk = c.new-walk.result in
     let answered = g.F.Folder.answered c.args.folder.now in
+    let told_now = g.F.Folder.answered c.stretch.new.folder in
+    let spent = ap (λ (y : Expansion). y.spent) c.new-walk.ensures.expansion in
     let store = ap (λ (y : Expansion). y.store) c.new-walk.ensures.expansion in
     let names = ap (λ (y : Expansion). y.names) c.new-walk.ensures.expansion in
     let free = free_still pages met c.args.expansion walk.expansion store names h in
+    let e : c.from_residual-in_err-stretch.result ≡ Err c.in_err-stretch.field-0.0 = search rules in
     let refused = c.in_err-stretch.ensures.given pages bytes met 0 true (page_members bytes) told free
     (c.start.ensures mode.Page bytes c.in_ok-text.ensures.read) (page_stands bytes) in
-    on_err c.from_residual-in_err-stretch.result
-    (found_stops pages bytes met walk.expansion.spent answered
-    (g.F.Folder.answered c.stretch.new.folder) c.in_err-stretch.field-0.0 rest refused)
+    subst (λ x. IfErr x (Stops pages bytes 0 met (page_work pages bytes) answered told_now)) (sym e)
+    (found_stops pages bytes met walk.expansion.spent answered told_now c.in_err-stretch.field-0.0
+    c.in_ok-text.ensures.fits spent refused)
 
 pub new-items-requires : goal.new-items-requires
 new-items-requires g c =
@@ -217,4 +224,4 @@ returns-clause-known g c =
     c.from_vec-pieces.result c.from_vec-outer.result c.from_vec-text_calls.result c.utf8.page c.in_ok-text.ensures.fits spent
     c.new-walk.ensures.pieces c.new-walk.ensures.outer c.new-walk.ensures.text_calls (c.in_ok-stretch.ensures.names ∙ free.names) walked
     c.from_vec-pieces.ensures c.from_vec-outer.ensures c.from_vec-text_calls.ensures in
-    (pages, found.more.known, found.more.free)
+    (pages, known_after met (fetches (page_work pages bytes)), found.more.free)

@@ -1,6 +1,6 @@
 use Rattle.std.proofs.Common.{◌≡◌, ◌+◌, drop}
 use Rattle.std.specs.List.{prefix_len}
-use Rattle.wt_functions.specs.Functions.{is_space}
+use Rattle.wt_span.specs.Functions.{is_space}
 use Rattle.wt_functions.proofs.function.space_len.Given as goal
 
 abbrev pub invariant-loop-i : goal.invariant-loop-i

@@ -1,15 +1,17 @@
-use Rattle.std.proofs.Common.{◌≡◌, ◌++◌, Err, Ok, [], ap, option_map, rules, subst, sym, ◌∙◌}
+use Rattle.std.proofs.Common.{◌≡◌, Err, Ok, [], ap, rules, subst, sym, ◌∙◌}
 use Rattle.std.specs.Prelude.{IfErr}
 use Rattle.wt_span.specs.Items.{items}
 use Rattle.wt_expand.specs.Expansion.{page_work}
 use Rattle.wt_expand.specs.Texts.{shown_text}
-use Rattle.wt_expand.specs.Work.{first_refusal, names_asked}
+use Rattle.wt_expand.specs.Work.{first_refusal}
 use Rattle.wt_expand.proofs.Given.{shows_what_is_given}
 use Rattle.wt_transclusion.specs.Answers.{IsRefused}
-use Rattle.wt_transclusion.specs.Asked.{AreFirst}
-use Rattle.wt_transclusion.proofs.AskedLaws.{asks_none, first_is, first_some}
+use Rattle.wt_transclusion.specs.declared.refusal.ExpandRefusal.TheVariants as answer
+use Rattle.wt_transclusion.specs.Stops.{Stops}
+use Rattle.wt_transclusion.proofs.AskedLaws.{asks_none}
 use Rattle.wt_transclusion.proofs.GrowthLaws.{agrees_known}
-use Rattle.wt_levels.proofs.PageLaws.{begun_at_first, on_refusal, page_refused, page_shown, page_stops}
+use Rattle.wt_transclusion.proofs.StopLaws.{stops_refused}
+use Rattle.wt_levels.proofs.PageLaws.{begun_at_first, page_shown, page_stopped, page_stops_end, refusal_is}
 use Rattle.wt_levels.proofs.page.expanded_text.Goals as goal
 
 pub returns-in_err-read-clause-refused : goal.returns-in_err-read-clause-refused
@@ -20,10 +22,10 @@ returns-in_err-read-clause-refused g c = λ pages told.
 
 pub returns-in_err-read-clause-stops : goal.returns-in_err-read-clause-stops
 returns-in_err-read-clause-stops g c = λ pages told.
+    let bytes = c.args.page.now in
     let answered = g.F.Folder.answered c.args.folder.now in
-    let asked = names_asked (page_work pages c.args.page.now) in
-    on_refusal c.from_residual.result (AreFirst answered (option_map (λ names. names ++ asked) answered))
-    (first_some answered asked)
+    let e : c.from_residual.result ≡ Err c.in_err-read.field-0.0 = search rules in
+    subst (λ x. IfErr x (Stops pages bytes 0 [] (page_work pages bytes) answered answered)) (sym e) (c.in_err-read.ensures.stops pages [] answered)
 
 pub returns-in_err-pieces-clause-refused : goal.returns-in_err-pieces-clause-refused
 returns-in_err-pieces-clause-refused g c = λ pages told.
@@ -36,8 +38,12 @@ returns-in_err-pieces-clause-refused g c = λ pages told.
     c.new-expansion.ensures.names
     (c.in_err-pieces.ensures.given pages bytes bytes [] [] told (c.new-expansion.ensures.store pages)
     c.new-values.ensures c.in_ok-read.ensures.read) in
+    let answered = g.F.Folder.answered c.args.folder.now in
+    let told_now = g.F.Folder.answered c.text.new.folder in
+    let stops = page_stopped pages bytes answered told_now c.in_err-pieces.field-0.0 c.in_ok-read.ensures.fits given in
     subst (λ x. IfErr x (IsRefused (first_refusal pages bytes (page_work pages bytes)))) (sym e)
-    (page_refused pages bytes c.in_err-pieces.field-0.0 c.in_ok-read.ensures.fits (λ rest. (given rest).0))
+    (subst (λ o. IsRefused o c.in_err-pieces.field-0.0) (sym (refusal_is pages bytes (page_work pages bytes)))
+    (stops_refused pages bytes 0 [] (page_work pages bytes) answered told_now c.in_err-pieces.field-0.0 stops))
 
 pub returns-in_err-pieces-clause-stops : goal.returns-in_err-pieces-clause-stops
 returns-in_err-pieces-clause-stops g c = λ pages told.
@@ -45,14 +51,14 @@ returns-in_err-pieces-clause-stops g c = λ pages told.
     let new = c.new-expansion.result in
     let answered = g.F.Folder.answered c.args.folder.now in
     let told_now = g.F.Folder.answered c.text.new.folder in
+    let e : c.from_residual-in_err-pieces.result ≡ Err c.in_err-pieces.field-0.0 = search rules in
     let given = begun_at_first pages bytes answered told_now new.spent c.text.new.self.spent
     new.names c.text.new.self.store (Err c.in_err-pieces.field-0.0) c.new-expansion.ensures.spent
     c.new-expansion.ensures.names
     (c.in_err-pieces.ensures.given pages bytes bytes [] [] told (c.new-expansion.ensures.store pages)
     c.new-values.ensures c.in_ok-read.ensures.read) in
-    on_refusal c.from_residual-in_err-pieces.result
-    (AreFirst told_now (option_map (λ names. names ++ names_asked (page_work pages bytes)) answered))
-    (page_stops pages bytes answered told_now (λ rest. (given rest).1))
+    subst (λ x. IfErr x (Stops pages bytes 0 [] (page_work pages bytes) answered told_now)) (sym e)
+    (page_stopped pages bytes answered told_now c.in_err-pieces.field-0.0 c.in_ok-read.ensures.fits given)
 
 pub returns-in_err-text-clause-stops : goal.returns-in_err-text-clause-stops
 returns-in_err-text-clause-stops g c = λ pages told.
@@ -68,11 +74,9 @@ returns-in_err-text-clause-stops g c = λ pages told.
     c.new-expansion.ensures.spent c.new-expansion.ensures.names
     (c.in_ok-pieces.ensures.given pages bytes bytes [] [] agrees (c.new-expansion.ensures.store pages)
     c.new-values.ensures c.in_ok-read.ensures.read) in
-    let shows = page_shown pages bytes answered told_now c.text.new.self.store c.text.new.self.spent ps
-    c.in_ok-read.ensures.fits given in
-    let all = option_map (λ names. names ++ names_asked (page_work pages bytes)) answered in
-    on_refusal c.from_residual-in_err-text.result (AreFirst told_now all)
-    (first_is told_now all shows.worked.named)
+    let e : c.from_residual-in_err-text.result ≡ Err answer.NoMemory = search rules in
+    subst (λ x. IfErr x (Stops pages bytes 0 [] (page_work pages bytes) answered told_now)) (sym e)
+    (page_stops_end pages bytes answered told_now given.1 c.text.new.self.spent c.in_ok-read.ensures.fits given.3)
 
 pub returns-clause-text : goal.returns-clause-text
 returns-clause-text g c = λ pages told.

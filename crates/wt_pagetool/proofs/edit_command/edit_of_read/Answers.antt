@@ -1,10 +1,6 @@
-use Rattle.std.proofs.Common.{refl}
 use Rattle.wt_tree.specs.View.{view}
 use Rattle.wt_pagetool.proofs.EditLaws.{edited_read, unread_from}
-use Rattle.wt_fitting.specs.Read.{read}
-use Rattle.wt_expand.specs.Work.{names_asked}
-use Rattle.wt_pagetool.specs.Asked.{edited_work}
-use Rattle.wt_pagetool.proofs.AskedLaws.{named_none, read_names}
+use Rattle.wt_pagetool.proofs.AskedLaws.{read_names, unread_names}
 use Rattle.wt_pagetool.proofs.edit_command.edit_of_read.Goals as goal
 
 pub returns-in_err-edited-clause-answered : goal.returns-in_err-edited-clause-answered
@@ -19,9 +15,8 @@ returns-clause-answered g c = λ pages bytes told fed.
 
 pub returns-in_err-edited-clause-asked : goal.returns-in_err-edited-clause-asked
 returns-in_err-edited-clause-asked g c = λ pages bytes told fed.
-    let before = g.F.Folder.answered c.args.folder.now in
-    named_none (names_asked (edited_work pages c.args.page.now (read bytes))) before before c.from_residual.result _
-    c.from_residual.ensures.1 refl
+    unread_names pages c.args.page.now bytes (g.F.Folder.answered c.args.folder.now) c.from_residual.result c.in_err-edited.field-0.0
+    c.from_residual.ensures.1 (c.in_err-edited.ensures.answers bytes fed)
 
 pub returns-clause-asked : goal.returns-clause-asked
 returns-clause-asked g c = λ pages bytes told fed.

@@ -1,4 +1,4 @@
-use Rattle.std.proofs.Common.{refl}
+use Rattle.std.proofs.Common.{◌≡◌, Err, rules}
 use Rattle.wt_pagetool.specs.Answers.{edited_answer}
 use Rattle.wt_pagetool.proofs.WikitextLaws.{answered_whole}
 use Rattle.wt_pagetool.specs.Asked.{edited_work}
@@ -13,9 +13,11 @@ returns-clause-answered g c = λ pages told.
 
 pub returns-in_err-reader-clause-asked : goal.returns-in_err-reader-clause-asked
 returns-in_err-reader-clause-asked g c = λ pages told.
-    let before = g.F.Folder.answered c.args.folder.now in
-    input_none (edited_work pages c.args.page.now) (g.S.Source.left c.args.input.now) before before c.from_residual.result _
-    c.from_residual.ensures.1 refl
+    let d = g.S.Source in
+    let e : c.from_residual.result ≡ Err c.in_err-reader.field-0.0 = search rules in
+    input_none (edited_work pages c.args.page.now) (d.left c.args.input.now) (d.fault_count c.args.input.now) (d.fault_count c.read_all.new.input)
+    (g.F.Folder.answered c.args.folder.now) c.from_residual.result c.in_err-reader.field-0.0 e
+    c.in_err-reader.ensures.of_input c.in_err-reader.ensures.answered
 
 pub returns-clause-asked : goal.returns-clause-asked
 returns-clause-asked g c = λ pages told.

@@ -1,4 +1,4 @@
-use Rattle.std.proofs.Common.{ap, ◌∙◌, [], ◌++◌, subst}
+use Rattle.std.proofs.Common.{ap, ◌∙◌, [], subst}
 use Rattle.wt_tree.specs.Tree.{label}
 use Rattle.wt_tree.specs.View.{view}
 use Rattle.wt_expansion.proofs.KnownLaws.{free_at_first, holds_at_first}
@@ -6,6 +6,7 @@ use Rattle.wt_pagetool.proofs.EditLaws.{edit_expanded}
 use Rattle.wt_pagetool.proofs.EditedLaws.{edit_unexpanded}
 use Rattle.wt_pagetool.proofs.ShownLaws.{page_body}
 use Rattle.wt_expand.specs.Expansion.{page_work}
+use Rattle.wt_expand.specs.Fronts.{known_after}
 use Rattle.wt_expand.specs.Work.{fetches, firsts_after}
 use Rattle.wt_pagetool.specs.Answers.{answer_of_edit}
 use Rattle.wt_pagetool.specs.Asked.{new_work, AsksNames}
@@ -35,15 +36,15 @@ returns-clause-answered g c = λ pages told.
     edit_expanded pages c.args.page.now found.annotated.items (view found.annotated.tree.body) (view c.args.edited.now) c.new_page.result
     (c.in_ok-found.ensures.whole pages [] told free) (c.in_ok-found.ensures.items pages [] told free)
     (c.in_ok-found.ensures.tree pages [] told free)
-    (c.new_page.ensures.answered pages more.known (c.in_ok-found.ensures.kept ∙ told) more.free)
+    (c.new_page.ensures.answered pages (known_after [] (fetches (page_work pages c.args.page.now))) (c.in_ok-found.ensures.kept ∙ told) more.free)
 
 pub returns-in_err-found-clause-asked : goal.returns-in_err-found-clause-asked
 returns-in_err-found-clause-asked g c = λ pages told.
     let d = g.F.Folder in
     let free = free_at_first pages c.new-expansion.result c.new-expansion.ensures.store c.new-expansion.ensures.names in
-    let rest = new_work pages (answer_of_edit pages c.args.page.now (view c.args.edited.now)) in
-    stopped_names (page_work pages c.args.page.now ++ rest) (d.answered c.args.folder.now) (d.answered c.known_page.new.folder)
-    c.from_residual.result _ c.from_residual.ensures.1 (c.in_err-found.ensures.stops pages [] rest told free)
+    stopped_names pages c.args.page.now (new_work pages (answer_of_edit pages c.args.page.now (view c.args.edited.now))) (d.answered c.args.folder.now)
+    (d.answered c.known_page.new.folder) c.from_residual.result c.in_err-found.field-0.0 c.from_residual.ensures.1
+    (c.in_err-found.ensures.stops pages [] told free)
 
 pub returns-clause-asked : goal.returns-clause-asked
 returns-clause-asked g c = λ pages told.
@@ -54,12 +55,13 @@ returns-clause-asked g c = λ pages told.
     let page = c.args.page.now in
     let edited = view c.args.edited.now in
     let after = d.answered c.new_page.new.folder in
-    new_names pages (page_work pages page) (new_work pages (answer_of_edit pages page edited)) found.expansion (d.answered c.args.folder.now)
-    (d.answered c.known_page.new.folder) after c.new_page.result more
-    (subst (λ es. AsksNames (firsts_after more.known (fetches es)) (d.answered c.known_page.new.folder) after c.new_page.result)
+    let known = known_after [] (fetches (page_work pages page)) in
+    new_names pages page (new_work pages (answer_of_edit pages page edited)) found.expansion (d.answered c.args.folder.now)
+    (d.answered c.known_page.new.folder) after c.new_page.result (c.in_ok-found.ensures.whole pages [] told free) more
+    (subst (λ es. AsksNames (firsts_after known (fetches es)) (d.answered c.known_page.new.folder) after c.new_page.result)
     (edit_is pages page found.annotated.items (view found.annotated.tree.body) edited (c.in_ok-found.ensures.items pages [] told free)
     (c.in_ok-found.ensures.tree pages [] told free))
-    (c.new_page.ensures.asked pages more.known (c.in_ok-found.ensures.kept ∙ told) more.free))
+    (c.new_page.ensures.asked pages known (c.in_ok-found.ensures.kept ∙ told) more.free))
 
 pub returns-clause-asks : goal.returns-clause-asks
 returns-clause-asks g c =

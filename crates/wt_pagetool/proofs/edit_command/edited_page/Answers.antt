@@ -1,7 +1,7 @@
-use Rattle.std.proofs.Common.{◌∙◌, refl, subst}
+use Rattle.std.proofs.Common.{◌≡◌, ◌∙◌, Err, refl, rules, subst}
 use Rattle.wt_pagetool.specs.Answers.{IsText}
 use Rattle.wt_transclusion.proofs.AskedLaws.{asks_then}
-use Rattle.wt_pagetool.proofs.AskedLaws.{edit_names_under, edit_title_alone, edit_title_first, reads_text, waits}
+use Rattle.wt_pagetool.proofs.AskedLaws.{edit_names_under, edit_unfetched, edit_untexted, reads_text, waits}
 use Rattle.wt_pagetool.proofs.EditLaws.{edited_title}
 use Rattle.wt_pagetool.proofs.edit_command.edited_page.Goals as goal
 
@@ -16,15 +16,17 @@ returns-clause-answered g c =
 pub returns-in_err-page-clause-asked : goal.returns-in_err-page-clause-asked
 returns-in_err-page-clause-asked g c =
     let d = g.F.Folder in
-    edit_title_first (d.pages c.args.folder.now) (g.S.Source.left c.args.input.now) c.args.title.now (d.answered c.args.folder.now)
-    (d.answered c.fetched_page.new.folder) c.from_residual.result _ c.from_residual.ensures.1 c.in_err-page.ensures.asked
+    let e : c.from_residual.result ≡ Err c.in_err-page.field-0.0 = search rules in
+    edit_unfetched (d.pages c.args.folder.now) (g.S.Source.left c.args.input.now) c.args.title.now (d.answered c.args.folder.now)
+    (d.answered c.fetched_page.new.folder) c.from_residual.result c.in_err-page.field-0.0 e c.in_err-page.ensures.page c.in_err-page.ensures.asked
 
 pub returns-in_err-text-clause-asked : goal.returns-in_err-text-clause-asked
 returns-in_err-text-clause-asked g c =
     let d = g.F.Folder in
-    edit_title_alone (d.pages c.args.folder.now) (g.S.Source.left c.args.input.now) c.args.title.now (d.answered c.args.folder.now)
-    (d.answered c.fetched_page.new.folder) c.from_residual-in_err-text.result _ c.from_residual-in_err-text.ensures.1
-    c.in_ok-page.ensures.asked
+    let e : c.from_residual-in_err-text.result ≡ Err c.in_err-text.field-0.0 = search rules in
+    edit_untexted (d.pages c.args.folder.now) (g.S.Source.left c.args.input.now) c.args.title.now c.in_ok-page.page c.as_slice.result.now
+    (d.answered c.args.folder.now) (d.answered c.fetched_page.new.folder) c.from_residual-in_err-text.result c.in_err-text.field-0.0 e
+    c.in_ok-page.ensures.page c.as_slice.ensures c.in_err-text.ensures.refused c.in_err-text.ensures.of_page c.in_ok-page.ensures.asked
 
 pub returns-clause-asked : goal.returns-clause-asked
 returns-clause-asked g c =

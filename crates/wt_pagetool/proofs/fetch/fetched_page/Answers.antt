@@ -1,13 +1,12 @@
-use Rattle.std.proofs.Common.{[], ◌∷◌}
 use Rattle.wt_pagetool.proofs.PageLaws.{found_is, absent_is}
-use Rattle.wt_pagetool.proofs.AskedLaws.{named_none}
+use Rattle.wt_pagetool.proofs.AskedLaws.{unfetched_names}
 use Rattle.wt_transclusion.proofs.AskedLaws.{asks_one}
 use Rattle.wt_pagetool.proofs.fetch.fetched_page.Goals as goal
 
 pub returns-in_err-page-clause-asked : goal.returns-in_err-page-clause-asked
 returns-in_err-page-clause-asked g c =
     let d = g.F.Folder in
-    named_none (c.args.title.now ∷ []) (d.answered c.args.folder.now) (d.answered c.fetch.new.self) c.from_residual.result _
+    unfetched_names c.args.title.now (d.answered c.args.folder.now) (d.answered c.fetch.new.self) c.from_residual.result c.in_err-page.field-0.0
     c.from_residual.ensures.1 c.in_err-page.ensures.unnamed
 
 pub returns-in-Found-clause-page : goal.returns-in-Found-clause-page

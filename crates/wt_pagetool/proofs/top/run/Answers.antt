@@ -1,4 +1,4 @@
-use Rattle.wt_pagetool.proofs.RunLaws.{run_page, run_wikitext, run_exact, run_done, run_refused, run_fault, run_complete, run_kept, run_asks, run_asked, run_expansion, run_counts, run_edit}
+use Rattle.wt_pagetool.proofs.RunLaws.{run_page, run_wikitext, run_exact, run_done, run_refused, run_fault, run_complete, run_kept, run_all, run_asks, run_fewer, run_expansion, run_counts, run_edit}
 use Rattle.wt_pagetool.proofs.GivenBackLaws.{run_gives_back}
 use Rattle.wt_pagetool.proofs.UnchangedLaws.{run_changes_nothing}
 use Rattle.wt_pagetool.specs.Answers.{answer_told}
@@ -104,22 +104,27 @@ returns-clause-kept g c h =
     c.find_answer-found.result c.report.result c.code.result c.code.ensures c.find_answer-found.ensures.input_kept
     c.find_answer-found.ensures.folder_kept c.report.ensures h
 
-pub returns-clause-asks : goal.returns-clause-asks
-returns-clause-asks g c =
+pub returns-clause-first_names : goal.returns-clause-first_names
+returns-clause-first_names g c =
     let d = g.F.Folder in
     run_asks (names_told (d.pages c.args.folder.now) (g.S.Source.left c.args.input.now) c.args.words.now) (d.answered c.args.folder.now)
-    (d.answered c.find_answer-found.new.folder) c.find_answer-found.result c.find_answer-found.ensures.asks.names c.find_answer-found.ensures.asked
+    (d.answered c.find_answer-found.new.folder) c.find_answer-found.result c.find_answer-found.ensures.asks.names c.find_answer-found.ensures.names
 
-pub returns-clause-asked : goal.returns-clause-asked
-returns-clause-asked g c e =
+pub returns-clause-all_names : goal.returns-clause-all_names
+returns-clause-all_names g c h =
     let d = g.F.Folder in
-    run_asked c.args.words.now (read_from g.S.Source c.args.input.now c.find_answer-found.new.input)
-    (fetched_from g.F.Folder c.args.folder.now c.find_answer-found.new.folder)
+    run_all (names_told (d.pages c.args.folder.now) (g.S.Source.left c.args.input.now) c.args.words.now) (d.answered c.args.folder.now)
+    (d.answered c.find_answer-found.new.folder) c.find_answer-found.result c.report.result c.code.result
     (written_to g.W.Sink c.args.out.now c.report.new.out) (written_to g.E.Sink c.args.err.now c.report.new.err)
-    c.find_answer-found.result c.report.result c.code.result
-    (names_told (d.pages c.args.folder.now) (g.S.Source.left c.args.input.now) c.args.words.now) (d.answered c.args.folder.now)
-    (d.answered c.find_answer-found.new.folder) c.code.ensures c.find_answer-found.ensures.due c.report.ensures
-    c.find_answer-found.ensures.asked e
+    c.code.ensures c.report.ensures c.find_answer-found.ensures.names h
+
+pub returns-clause-fewer_names : goal.returns-clause-fewer_names
+returns-clause-fewer_names g c e =
+    let d = g.F.Folder in
+    run_fewer (names_told (d.pages c.args.folder.now) (g.S.Source.left c.args.input.now) c.args.words.now) (d.answered c.args.folder.now)
+    (d.answered c.find_answer-found.new.folder) c.find_answer-found.result c.report.result c.code.result
+    (written_to g.W.Sink c.args.out.now c.report.new.out) (written_to g.E.Sink c.args.err.now c.report.new.err)
+    c.code.ensures c.report.ensures c.find_answer-found.ensures.names e
 
 pub returns-clause-most : goal.returns-clause-most
 returns-clause-most g c = c.find_answer-found.ensures.asks.most

@@ -1,4 +1,4 @@
-use Rattle.std.proofs.Common.{arith, drop, refl}
+use Rattle.std.proofs.Common.{drop, refl}
 use Rattle.wt_selser.specs.BodySlices.{leaves_blank}
 use Rattle.wt_selser.specs.Views.{steps_view}
 use Rattle.wt_selser.proofs.BodyWalk.{blank_later, blank_nowhere, blank_said}

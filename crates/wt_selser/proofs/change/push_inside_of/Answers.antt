@@ -1,4 +1,4 @@
-use Rattle.std.proofs.Common.{Option, ◌++◌, ap, sym, ◌∙◌}
+use Rattle.std.proofs.Common.{◌++◌, ap, sym, ◌∙◌}
 use Rattle.std.specs.Prelude.{option_map}
 use Rattle.wt_tree.specs.View.{view}
 use Rattle.wt_checks.specs.View.{seen}

@@ -1,6 +1,6 @@
-use Rattle.std.proofs.Common.{◌≡◌, List, ℕ, ap, sym, ◌∙◌, subst}
+use Rattle.std.proofs.Common.{List, ℕ, ap, ◌∙◌, subst}
 use Rattle.wt_tree.specs.View.{view}
-use Rattle.wt_checks.specs.Places.{page_of, places}
+use Rattle.wt_checks.specs.Places.{page_of}
 use Rattle.wt_checks.specs.View.{indexed}
 use Rattle.wt_selser.specs.BodySlices.{slices}
 use Rattle.wt_selser.specs.Changes.{Pair, marked}

@@ -2,7 +2,7 @@ use Rattle.std.proofs.Common.{List, [], ◌++◌, ◌≡◌, ap, sym, ◌∙◌,
 use Rattle.wt_checks.specs.View.{indexed}
 use Rattle.wt_selser.specs.ListSlices.{item_slices}
 use Rattle.wt_selser.specs.Steps.{Step}
-use Rattle.wt_selser.specs.Views.{changes_view, steps_view}
+use Rattle.wt_selser.specs.Views.{changes_view}
 use Rattle.wt_selser.proofs.ListWalk.{steps_end, steps_turn}
 use Rattle.wt_selser.proofs.list.push_items.Goals as goal
 

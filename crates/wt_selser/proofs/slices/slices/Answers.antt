@@ -1,4 +1,4 @@
-use Rattle.std.proofs.Common.{[], ap}
+use Rattle.std.proofs.Common.{ap}
 use Rattle.wt_tree.specs.View.{view}
 use Rattle.wt_checks.specs.Places.{page_of}
 use Rattle.wt_checks.specs.View.{indexed}

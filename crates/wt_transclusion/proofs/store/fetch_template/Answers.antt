@@ -1,7 +1,7 @@
-use Rattle.std.proofs.Common.{◌∷◌, Some, []}
+use Rattle.std.proofs.Common.{◌∷◌, ◌++◌, Some, [], inl, option_map}
 use Rattle.wt_outer.specs.declared.device.Fetched.TheVariants.{Found, Absent}
-use Rattle.wt_transclusion.proofs.AskedLaws.{asks_one, first_same}
-use Rattle.wt_transclusion.proofs.StoreLaws.{given_page, found_read, found_refused, absent_read}
+use Rattle.wt_transclusion.proofs.AskedLaws.{asks_one}
+use Rattle.wt_transclusion.proofs.StoreLaws.{given_page, found_read, found_refused, absent_read, told_refused}
 use Rattle.wt_transclusion.proofs.store.fetch_template.Goals as goal
 
 pub returns-in-Ok-clause-page : goal.returns-in-Ok-clause-page
@@ -48,12 +48,11 @@ returns-in-Ok-Absent-clause-asks g c =
     (g.F.Folder.most_asked c.args.folder.now)
     (g.F.Folder.most_asked c.fetch.new.self) c.in-Ok-Absent.ensures.named c.in-Ok-Absent.ensures.asked
 
-pub returns-in-Err-Failed-clause-named : goal.returns-in-Err-Failed-clause-named
-returns-in-Err-Failed-clause-named g c =
-    first_same (g.F.Folder.answered c.args.folder.now) (g.F.Folder.answered c.fetch.new.self)
-    (c.args.title.now ∷ []) c.in-Err-Failed.ensures.unnamed
+pub returns-in-Ok-Found-clause-named : goal.returns-in-Ok-Found-clause-named
+returns-in-Ok-Found-clause-named g c =
+    let before = g.F.Folder.answered c.args.folder.now in
+    told_refused before (option_map (λ names. names ++ c.args.title.now ∷ []) before) (g.F.Folder.answered c.fetch.new.self) c.in-Err.refusal
+    c.in-Err.ensures.1 c.in-Ok-Found.ensures.named
 
 pub returns-clause-named : goal.returns-clause-named
-returns-clause-named g c =
-    first_same (g.F.Folder.answered c.args.folder.now) (g.F.Folder.answered c.fetch.new.self)
-    (c.args.title.now ∷ []) c.in-Err-NoMemory.ensures.unnamed
+returns-clause-named g c = inl c.in-Err-NoMemory.ensures.unnamed

@@ -1,13 +1,13 @@
-use Rattle.std.proofs.Common.{ap, subst, sym, ◌∙◌}
+use Rattle.std.proofs.Common.{◌≡◌, Err, ap, inl, inr, refl, rules, sym, ◌∙◌}
 use Rattle.std.specs.Prelude.{reverse}
 use Rattle.wt_names.specs.Namespace.{full_name_of}
 use Rattle.wt_expand.specs.Expansion.{absent_text, chars}
 use Rattle.wt_expand.specs.Work.{is_among}
-use Rattle.wt_transclusion.specs.Asked.{AreFirst}
+use Rattle.wt_transclusion.specs.declared.refusal.ExpandRefusal.TheVariants as answer
 use Rattle.wt_transclusion.specs.Stores.{named_with}
-use Rattle.wt_transclusion.proofs.AskedLaws.{asks_none, first_is}
+use Rattle.wt_transclusion.proofs.AskedLaws.{asks_none}
 use Rattle.wt_transclusion.proofs.GrowthLaws.{grows_none}
-use Rattle.wt_transclusion.proofs.TakingLaws.{loop_taken, depth_taken, link_taken, page_taken, refused_named, refused_taken, taking_named, taking_unnamed}
+use Rattle.wt_transclusion.proofs.TakingLaws.{loop_taken, depth_taken, link_taken, memory_named, page_taken, refused_taken, taking_named, title_named}
 use Rattle.wt_transclusion.proofs.templates.take.Goals as goal
 
 pub returns-then-is_open-clause-taken : goal.returns-then-is_open-clause-taken
@@ -66,46 +66,6 @@ returns-clause-taken g c = λ pages met told s.
     (ap (λ n. is_among n c.args.names.now) (c.as_str-2.ensures ∙ sym c.as_str.ensures) ∙ sym c.is_open.ensures ∙ c.if-is_open.false) c.if-left-eq0.false
     (c.in-Err.ensures.page pages met told s)
 
-pub returns-in_err-full-clause-named : goal.returns-in_err-full-clause-named
-returns-in_err-full-clause-named g c = λ pages met s.
-    let full = full_name_of c.args.title.now in
-    let old = g.F.Folder.answered c.args.folder.now in
-    let open_titles = reverse c.args.names.now in
-    refused_named c.args.left open_titles full met old old c.from_residual.result c.from_residual.ensures.0
-    (taking_unnamed c.args.left (is_among full open_titles) full met old)
-
-pub returns-in_err-loop_message-clause-named : goal.returns-in_err-loop_message-clause-named
-returns-in_err-loop_message-clause-named g c = λ pages met s.
-    let full = full_name_of c.args.title.now in
-    let old = g.F.Folder.answered c.args.folder.now in
-    let open_titles = reverse c.args.names.now in
-    refused_named c.args.left open_titles full met old old c.from_residual-in_err-loop_message.result
-    c.from_residual-in_err-loop_message.ensures.0
-    (taking_unnamed c.args.left (is_among full open_titles) full met old)
-
-pub returns-in_err-absent_link-in-Ok-None-clause-named : goal.returns-in_err-absent_link-in-Ok-None-clause-named
-returns-in_err-absent_link-in-Ok-None-clause-named g c = λ pages met s.
-    let old = g.F.Folder.answered c.args.folder.now in
-    refused_named c.args.left (reverse c.args.names.now) (full_name_of c.args.title.now) met old
-    (g.F.Folder.answered c.template.new.folder)
-    c.from_residual-in_err-absent_link-in-Ok-None.result
-    c.from_residual-in_err-absent_link-in-Ok-None.ensures.0
-    (first_is (g.F.Folder.answered c.template.new.folder) _ (c.in-Ok-None.ensures.named pages met s
-    ∙ taking_named c.args.left c.args.names.now c.args.title.now c.as_str-2.result.now met old
-    (c.as_str-2.ensures ∙ c.in_ok-full.ensures)
-    (ap (λ n. is_among n c.args.names.now) (c.as_str-2.ensures ∙ sym c.as_str.ensures) ∙ sym c.is_open.ensures
-    ∙ c.if-is_open.false) c.if-left-eq0.false))
-
-pub returns-clause-named : goal.returns-clause-named
-returns-clause-named g c = λ pages met s.
-    subst (AreFirst (g.F.Folder.answered c.template.new.folder))
-    (taking_named c.args.left c.args.names.now c.args.title.now c.as_str-2.result.now met
-    (g.F.Folder.answered c.args.folder.now)
-    (c.as_str-2.ensures ∙ c.in_ok-full.ensures)
-    (ap (λ n. is_among n c.args.names.now) (c.as_str-2.ensures ∙ sym c.as_str.ensures) ∙ sym c.is_open.ensures
-    ∙ c.if-is_open.false) c.if-left-eq0.false)
-    (c.in-Err.ensures.named pages met s)
-
 pub returns-in_err-full-clause-asks : goal.returns-in_err-full-clause-asks
 returns-in_err-full-clause-asks g c =
     asks_none (g.F.Folder.answered c.args.folder.now) (g.F.Folder.most_asked c.args.folder.now)
@@ -126,11 +86,42 @@ pub returns-then-left-eq0-clause-asks : goal.returns-then-left-eq0-clause-asks
 returns-then-left-eq0-clause-asks g c =
     asks_none (g.F.Folder.answered c.args.folder.now) (g.F.Folder.most_asked c.args.folder.now)
 
+pub returns-in_err-full-clause-named : goal.returns-in_err-full-clause-named
+returns-in_err-full-clause-named g c = λ pages met s.
+    let old = g.F.Folder.answered c.args.folder.now in
+    let e : c.from_residual.result ≡ Err answer.NoMemory = search rules in
+    memory_named c.args.left (reverse c.args.names.now) (full_name_of c.args.title.now) met old old c.from_residual.result e (inl refl)
+
+pub returns-in_err-loop_message-clause-named : goal.returns-in_err-loop_message-clause-named
+returns-in_err-loop_message-clause-named g c = λ pages met s.
+    let old = g.F.Folder.answered c.args.folder.now in
+    let e : c.from_residual-in_err-loop_message.result ≡ Err answer.NoMemory = search rules in
+    memory_named c.args.left (reverse c.args.names.now) (full_name_of c.args.title.now) met old old c.from_residual-in_err-loop_message.result e (inl refl)
+
 pub returns-in_err-depth_message-clause-named : goal.returns-in_err-depth_message-clause-named
 returns-in_err-depth_message-clause-named g c = λ pages met s.
-    let full = full_name_of c.args.title.now in
     let old = g.F.Folder.answered c.args.folder.now in
-    let open_titles = reverse c.args.names.now in
-    refused_named c.args.left open_titles full met old old c.from_residual-in_err-depth_message.result
-    c.from_residual-in_err-depth_message.ensures.0
-    (taking_unnamed c.args.left (is_among full open_titles) full met old)
+    let e : c.from_residual-in_err-depth_message.result ≡ Err answer.NoMemory = search rules in
+    memory_named c.args.left (reverse c.args.names.now) (full_name_of c.args.title.now) met old old c.from_residual-in_err-depth_message.result e (inl refl)
+
+pub returns-in_err-absent_link-in-Ok-None-clause-named : goal.returns-in_err-absent_link-in-Ok-None-clause-named
+returns-in_err-absent_link-in-Ok-None-clause-named g c = λ pages met s.
+    let old = g.F.Folder.answered c.args.folder.now in
+    let x = c.from_residual-in_err-absent_link-in-Ok-None.result in
+    let e : x ≡ Err answer.NoMemory = search rules in
+    memory_named c.args.left (reverse c.args.names.now) (full_name_of c.args.title.now) met old
+    (g.F.Folder.answered c.template.new.folder) x e
+    (inr (c.in-Ok-None.ensures.named pages met s
+    ∙ taking_named c.args.left c.args.names.now c.args.title.now c.as_str-2.result.now met old
+    (c.as_str-2.ensures ∙ c.in_ok-full.ensures)
+    (ap (λ n. is_among n c.args.names.now) (c.as_str-2.ensures ∙ sym c.as_str.ensures) ∙ sym c.is_open.ensures
+    ∙ c.if-is_open.false) c.if-left-eq0.false))
+
+pub returns-clause-named : goal.returns-clause-named
+returns-clause-named g c = λ pages met s.
+    title_named c.args.left c.args.names.now c.args.title.now c.as_str-2.result.now met
+    (g.F.Folder.answered c.args.folder.now) (g.F.Folder.answered c.template.new.folder) c.in-Err.refusal
+    (c.as_str-2.ensures ∙ c.in_ok-full.ensures)
+    (ap (λ n. is_among n c.args.names.now) (c.as_str-2.ensures ∙ sym c.as_str.ensures) ∙ sym c.is_open.ensures
+    ∙ c.if-is_open.false) c.if-left-eq0.false (c.in-Err.ensures.unmet pages met s)
+    (c.in-Err.ensures.named pages met s)

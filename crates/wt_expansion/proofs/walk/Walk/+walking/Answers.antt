@@ -1,6 +1,7 @@
-use Rattle.std.proofs.Common.{◌≡◌, ◌+◌, ◌≤◌, [], ℕ, false, Err, List, None, Option, Some, ap, arith, drop, length, refl, rules, subst, sym, ◌∙◌}
-use Rattle.std.specs.Prelude.{Result}
+use Rattle.std.proofs.Common.{◌≡◌, ◌+◌, ◌≤◌, ◌||◌, [], ℕ, false, Err, List, None, Option, Some, ap, arith, drop, length, refl, rules, subst, sym, ◌∙◌}
+use Rattle.std.specs.Prelude.{Result, is_some, slice_range}
 use Rattle.wt_span.specs.declared.form.Mode.TheVariants as mode
+use Rattle.wt_span.specs.Functions.{function_of}
 use Rattle.wt_names.specs.declared.title.Title.{Title}
 use Rattle.wt_braces.specs.PartMembers.{part_members}
 use Rattle.wt_expand.specs.Targets.{is_function, title_of_target}
@@ -117,7 +118,16 @@ behind_target-returns-clause-given g t c = λ pages page met s n concerns free f
     (c.in_ok-push_slice.ensures.adds page n.is.at s n.reading (omega (arith, place, closes, two)))
 
 pub walk_call-returns-then-call-clause-given : goal.walk_call-returns-then-call-clause-given
-walk_call-returns-then-call-clause-given g t c = λ pages page met s n concerns free. c.argument.ensures.given pages page met s n concerns free c.if-call.true
+walk_call-returns-then-call-clause-given g t c = λ pages page met s n concerns free.
+    let source = slice_range c.args.reader.text.text.now c.args.call.at.start c.args.call.at.end in
+    c.without_target.ensures.given pages page met s n concerns free
+    (ap (λ a. a || is_some (function_of (drop 2 source))) c.if-call.true)
+
+pub walk_call-returns-then-choice-clause-given : goal.walk_call-returns-then-choice-clause-given
+walk_call-returns-then-choice-clause-given g t c = λ pages page met s n concerns free.
+    let source = slice_range c.args.reader.text.text.now c.args.call.at.start c.args.call.at.end in
+    c.without_target-then-choice.ensures.given pages page met s n concerns free
+    (ap (λ a. a || is_some (function_of (drop 2 source))) c.if-call.false ∙ (sym c.in_ok-choice.ensures ∙ c.if-choice.true))
 
 pub walk_call-returns-then-function-clause-given : goal.walk_call-returns-then-function-clause-given
 walk_call-returns-then-function-clause-given g t c = λ pages page met s n concerns free.
@@ -126,7 +136,7 @@ walk_call-returns-then-function-clause-given g t c = λ pages page met s n conce
     let closes = n.is.end_is in
     let two = n.is.two in
     function_walked pages page met self.expansion.spent (g.F.Folder.answered c.args.folder.now) c.args.call c.args.reader s n self.found c.push_slice.new.found
-    self.expansion.store c.if-call.false (sym c.in_ok-function.ensures ∙ c.if-function.true) free.stored
+    self.expansion.store c.if-call.false (sym c.in_ok-function.ensures ∙ c.if-function.true) (sym c.in_ok-choice.ensures ∙ c.if-choice.false) free.stored
     (c.in_ok-push_slice.ensures.adds page n.is.at s n.reading (omega (arith, start, closes, two)))
 
 pub walk_call-returns-clause-given : goal.walk_call-returns-clause-given
@@ -489,14 +499,27 @@ pub step-returns-in_err-braces-in-Call-clause-asks : goal.step-returns-in_err-br
 step-returns-in_err-braces-in-Call-clause-asks g t c = asks_none (g.F.Folder.answered c.args.folder.now)
     (g.F.Folder.most_asked c.args.folder.now)
 
-pub walk_call-returns-in_err-function-clause-given : goal.walk_call-returns-in_err-function-clause-given
-walk_call-returns-in_err-function-clause-given g t c = λ pages page met s n concerns free.
+pub walk_call-returns-in_err-choice-clause-given : goal.walk_call-returns-in_err-choice-clause-given
+walk_call-returns-in_err-choice-clause-given g t c = λ pages page met s n concerns free.
     let x = c.args.self.now in
     let e : c.from_residual.result ≡ Err answer.NoMemory = search rules in
     none_walked pages page x.expansion.spent met (g.F.Folder.answered c.args.folder.now)
     (call_stretches_at pages page c.args.call n.is s)
     (call_work pages page c.args.call n.is s) n.is.at c.args.call.at.end
     x.found x.found x.expansion.store x.expansion.spent c.from_residual.result e
+
+pub walk_call-returns-in_err-choice-clause-asks : goal.walk_call-returns-in_err-choice-clause-asks
+walk_call-returns-in_err-choice-clause-asks g t c = asks_none (g.F.Folder.answered c.args.folder.now)
+    (g.F.Folder.most_asked c.args.folder.now)
+
+pub walk_call-returns-in_err-function-clause-given : goal.walk_call-returns-in_err-function-clause-given
+walk_call-returns-in_err-function-clause-given g t c = λ pages page met s n concerns free.
+    let x = c.args.self.now in
+    let e : c.from_residual-in_err-function.result ≡ Err answer.NoMemory = search rules in
+    none_walked pages page x.expansion.spent met (g.F.Folder.answered c.args.folder.now)
+    (call_stretches_at pages page c.args.call n.is s)
+    (call_work pages page c.args.call n.is s) n.is.at c.args.call.at.end
+    x.found x.found x.expansion.store x.expansion.spent c.from_residual-in_err-function.result e
 
 pub walk_call-returns-in_err-function-clause-asks : goal.walk_call-returns-in_err-function-clause-asks
 walk_call-returns-in_err-function-clause-asks g t c = asks_none (g.F.Folder.answered c.args.folder.now)

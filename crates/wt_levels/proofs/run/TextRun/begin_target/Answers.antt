@@ -1,7 +1,6 @@
-use Rattle.std.proofs.Common.{◌∷◌, refl, sym, subst, false}
+use Rattle.std.proofs.Common.{refl, sym, subst, false}
 use Rattle.wt_levels.specs.Runs.{BeginsLevel}
 use Rattle.wt_levels.specs.Stacks.{stack}
-use Rattle.wt_levels.specs.declared.run.TextRun.{TextRun}
 use Rattle.wt_levels.specs.declared.level.Task.TheVariants as task
 use Rattle.wt_levels.proofs.StepLaws.{target_begins}
 use Rattle.wt_levels.proofs.run.TextRun.begin_target.Goals as goal
@@ -10,8 +9,6 @@ pub returns : goal.returns
 returns c = λ r t total h k nf.
     let part = c.in_ok-target.target in
     let run = c.args.self.now in
-    let next : TextRun = record { alloc = run.alloc; reader = run.reader; mode = run.mode; levels = c.push.new.self } in
     c.in_ok-begin_within.ensures r t total
-    (subst (λ s. BeginsLevel r t next part.at.start false part.at.end (task.Target c.args.call s) total) (sym h.running.reading.starts)
-    (target_begins r t run next (c.args.level ∷ stack c.args.self.now.levels) c.args.call total part h k nf c.in_ok-target.ensures refl refl
-    c.in_ok-push.ensures))
+    (subst (λ s. BeginsLevel r t run part.at.start false part.at.end (task.Target c.args.call s) total) (sym h.running.reading.starts)
+    (target_begins r t run run (stack run.levels) c.args.call total part h k nf c.in_ok-target.ensures refl refl refl))

@@ -1,4 +1,4 @@
-use Rattle.std.proofs.Common.{◌≡◌, Err, sym, subst, refl, rules}
+use Rattle.std.proofs.Common.{◌≡◌, Err, ap, drop, sym, subst, refl, rules, ◌∙◌}
 use Rattle.wt_levels.specs.Runs.{AnswersTurn}
 use Rattle.wt_span.specs.declared.form.Piece.{Piece}
 use Rattle.wt_span.specs.Items.{items}
@@ -8,6 +8,7 @@ use Rattle.wt_levels.specs.Rests.{ended_with}
 use Rattle.wt_levels.specs.Runs.{HasEnded, Returns}
 use Rattle.wt_levels.specs.declared.level.Task.{Task}
 use Rattle.wt_levels.proofs.CallSteps.{default_returns}
+use Rattle.wt_levels.proofs.ChoiceSteps.{first_ends}
 use Rattle.wt_levels.proofs.PartSteps.{part_taken}
 use Rattle.wt_levels.proofs.RestLaws.{spends_none}
 use Rattle.wt_levels.proofs.run.TextRun.end.Goals as goal
@@ -64,3 +65,43 @@ pub returns-clause-answer : goal.returns-clause-answer
 returns-clause-answer c = λ r t total h v.
     let w = subst (λ (k : Task). HasEnded r t c.args.self.now k c.args.out total) c.in-Text.is h in
     (total, spends_none c.args.spent.now total, c.in_ok-end_text-in-Text.ensures r t total w)
+
+pub returns-in-First-clause-answer : goal.returns-in-First-clause-answer
+returns-in-First-clause-answer c = λ r t total h v.
+    let w = subst (λ (k : Task). HasEnded r t c.args.self.now k c.args.out total) c.in-First.is h in
+    c.in_ok-end_told-in-First.ensures.answer r t total
+    (first_ends r t c.args.self.now c.in-First.choosing c.in-First.part_0 c.args.out c.in_ok-out-in-First.out total w
+    (c.in_ok-out-in-First.ensures ∙ ap (λ ps. drop c.in-First.part_0 (items ps)) c.as_slice-in-First.ensures))
+
+pub returns-in_err-end_told-in-First-clause-answer : goal.returns-in_err-end_told-in-First-clause-answer
+returns-in_err-end_told-in-First-clause-answer c = λ r t total h v.
+    let w = subst (λ (k : Task). HasEnded r t c.args.self.now k c.args.out total) c.in-First.is h in
+    let e : c.from_residual-in_err-end_told-in-First.result ≡ Err c.in_err-end_told-in-First.field-0.0 = search rules in
+    subst (λ x. AnswersTurn r t c.args.spent.now total c.end_told.new.self c.end_told.new.spent x) (sym e)
+    (c.in_err-end_told-in-First.ensures.answer r t total
+    (first_ends r t c.args.self.now c.in-First.choosing c.in-First.part_0 c.args.out c.in_ok-out-in-First.out total w
+    (c.in_ok-out-in-First.ensures ∙ ap (λ ps. drop c.in-First.part_0 (items ps)) c.as_slice-in-First.ensures)))
+
+pub returns-in-Told-clause-answer : goal.returns-in-Told-clause-answer
+returns-in-Told-clause-answer c = λ r t total h v.
+    let w = subst (λ (k : Task). HasEnded r t c.args.self.now k c.args.out total) c.in-Told.is h in
+    c.in_ok-end_told-in-Told.ensures.answer r t total w
+
+pub returns-in_err-end_told-in-Told-clause-answer : goal.returns-in_err-end_told-in-Told-clause-answer
+returns-in_err-end_told-in-Told-clause-answer c = λ r t total h v.
+    let w = subst (λ (k : Task). HasEnded r t c.args.self.now k c.args.out total) c.in-Told.is h in
+    let e : c.from_residual-in_err-end_told-in-Told.result ≡ Err c.in_err-end_told-in-Told.field-0.0 = search rules in
+    subst (λ x. AnswersTurn r t c.args.spent.now total c.end_told-in-Told.new.self c.end_told-in-Told.new.spent x) (sym e)
+    (c.in_err-end_told-in-Told.ensures.answer r t total w)
+
+pub returns-in-Given-clause-answer : goal.returns-in-Given-clause-answer
+returns-in-Given-clause-answer c = λ r t total h v.
+    let w = subst (λ (k : Task). HasEnded r t c.args.self.now k c.args.out total) c.in-Given.is h in
+    c.in_ok-end_given-in-Given.ensures.answer r t total w
+
+pub returns-in_err-end_given-in-Given-clause-answer : goal.returns-in_err-end_given-in-Given-clause-answer
+returns-in_err-end_given-in-Given-clause-answer c = λ r t total h v.
+    let w = subst (λ (k : Task). HasEnded r t c.args.self.now k c.args.out total) c.in-Given.is h in
+    let e : c.from_residual-in_err-end_given-in-Given.result ≡ Err c.in_err-end_given-in-Given.field-0.0 = search rules in
+    subst (λ x. AnswersTurn r t c.args.spent.now total c.end_given.new.self c.end_given.new.spent x) (sym e)
+    (c.in_err-end_given-in-Given.ensures.answer r t total w)

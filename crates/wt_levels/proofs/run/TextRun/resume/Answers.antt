@@ -1,4 +1,4 @@
-use Rattle.std.proofs.Common.{◌∷◌}
+use Rattle.std.proofs.Common.{refl}
 use Rattle.wt_transclusion.specs.Cursors.{starts}
 use Rattle.wt_levels.specs.Stacks.{stack}
 use Rattle.wt_levels.proofs.StepLaws.{holds}
@@ -6,5 +6,5 @@ use Rattle.wt_levels.proofs.run.TextRun.resume.Goals as goal
 
 pub returns : goal.returns
 returns c = λ r t total p s running before h.
-    holds r t _ c.args.to (starts t c.args.to) (c.args.level ∷ stack c.args.self.now.levels) total
-    (c.in_ok-self.ensures r.mode t p s running.reading before) running.mode_is c.in_ok-push.ensures h
+    holds r t _ c.args.to (starts t c.args.to) (stack c.args.self.now.levels) total
+    (c.in_ok-self.ensures r.mode t p s running.reading before) running.mode_is refl h

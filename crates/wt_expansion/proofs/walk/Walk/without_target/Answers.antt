@@ -15,8 +15,8 @@ use Rattle.wt_levels.specs.Ledgers.{AnswersOutput, Refuses, ledger, reading_of}
 use Rattle.wt_expansion.specs.Calls.{outer_of}
 use Rattle.wt_expansion.specs.Walks.{Adds, AnswersWalk, call_stretches_at, call_work}
 use Rattle.wt_expansion.proofs.Refusals.{given_stops, none_walked}
-use Rattle.wt_expansion.proofs.WalkCalls.{argument_walked, refused_one}
-use Rattle.wt_expansion.proofs.walk.Walk.argument.Goals as goal
+use Rattle.wt_expansion.proofs.WalkCalls.{unlinked_walked, refused_one}
+use Rattle.wt_expansion.proofs.walk.Walk.without_target.Goals as goal
 
 pub returns-in_err-given-clause-given : goal.returns-in_err-given-clause-given
 returns-in_err-given-clause-given g c = λ pages page met s n concerns free is.
@@ -49,7 +49,7 @@ returns-clause-given g c = λ pages page met s n concerns free is.
     let own = subst (λ ns. AnswersOutput pages page l
     (given_from (reading_of pages mode.Page [] 40 ns) s page n.is.at (call n.is.braces n.is.inside ∷ [])) now.store now.spent answered (Ok given))
     free.names h in
-    argument_walked pages page l b c.args.reader s n source self.found c.push_outer.new.self now.store now.spent answered given is own
+    unlinked_walked pages page l b c.args.reader s n source self.found c.push_outer.new.self now.store now.spent answered given is own
     c.in_ok-source.ensures.start c.in_ok-source.ensures.end c.in_ok-source.ensures.bytes
     (subst (λ qs. Adds self.found c.push_outer.new.self (start_of source) (outer (outer_of source b None) (items qs) ∷ []) (end_of source)) c.as_slice.ensures
     c.in_ok-push_outer.ensures)

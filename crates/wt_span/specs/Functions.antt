@@ -4,8 +4,8 @@ use Rattle.std.specs.Option.{option_map}
 use Rattle.std.specs.List.{prefix_len}
 use Rattle.std.specs.Str.{bytes_eq}
 use Rattle.wt_span.specs.Bytes.{is_blank, is_break, lower}
-use Rattle.wt_functions.specs.declared.function.Function.{Function}
-use Rattle.wt_functions.specs.declared.function.Function.TheVariants.{If, IfEq, Switch}
+use Rattle.wt_span.specs.declared.function.Function.{Function}
+use Rattle.wt_span.specs.declared.function.Function.TheVariants.{If, IfEq, Switch}
 
 -- a space, a tab or a line break
 abbrev pub is_space : ℕ → Bool
@@ -20,6 +20,12 @@ abbrev pub word_of : Function → List ℕ
 word_of If = codes "#if:"
 word_of IfEq = codes "#ifeq:"
 word_of Switch = codes "#switch:"
+
+-- its name
+abbrev pub name_of : Function → List ℕ
+name_of If = codes "if"
+name_of IfEq = codes "ifeq"
+name_of Switch = codes "switch"
 
 -- a text begins with a function's word, in any case
 unfoldable pub begins_with : Function → List ℕ → Bool
