@@ -73,8 +73,9 @@ typedef int64_t wtround_fetch(void *context, const char *name, size_t name_lengt
  * `wikitext` and `edit` alone, and may be null where it has no bytes; `context` is handed to each call of
  * `fetch`. The result is a wtround_status, never WTROUND_MISSING.
  *
- * The names are those that the answer takes, except where the target of a call is built from a template's
- * output: then a page may be asked for that the answer doesn't take in the end. */
+ * The names are those that the answer takes, except where the target of a call, or the part that a function
+ * such as #if chooses, depends on a template's output: then a page may be asked for that the answer doesn't
+ * take in the end. */
 int wtround_run(const wtround_text *words, size_t word_count, const char *input, size_t input_length,
                 wtround_fetch *fetch, void *context, wtround_room *out, wtround_room *line);
 
