@@ -52,7 +52,8 @@ class Server(ThreadingHTTPServer):
         self._room.acquire()
         try:
             super().process_request(request, client_address)
-        except BaseException:
+        except Exception:
+            # No thread was begun. (At an end by a signal it may have been, and then it gives the room back.)
             self._room.release()
             raise
 

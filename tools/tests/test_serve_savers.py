@@ -6,11 +6,13 @@ import os
 import random
 import re
 import signal
+import socket
 import subprocess
 import sys
 import threading
 import time
 import unittest
+from unittest import mock
 
 from loading import REPOSITORY, TOOLS
 from serving_case import PROGRAM, SECONDS, ServingCase
@@ -133,8 +135,12 @@ class Kills(ServingCase):
     def start_process(self, *before: str) -> "tuple[subprocess.Popen, int]":
         """`before`: words for Python before the server's own."""
         words = [str(TOOLS / "serve"), str(self.pages), "--port", "0", "--program", str(PROGRAM), "--quiet"]
+        # A shell that runs these tests in the background lets them ignore SIGINT, and the server would, too.
         process = subprocess.Popen(
-            [sys.executable, *before, *words], stdout=subprocess.PIPE, start_new_session=True
+            [sys.executable, *before, *words],
+            stdout=subprocess.PIPE,
+            start_new_session=True,
+            preexec_fn=lambda: signal.signal(signal.SIGINT, signal.SIG_DFL),
         )
         self.addCleanup(process.stdout.close)
         self.addCleanup(process.wait)
@@ -231,6 +237,21 @@ class Kills(ServingCase):
             self.html("Opava", port=port)
             process.send_signal(number)
             self.assertEqual(process.wait(SECONDS), 0)
+
+    def test_an_end_by_signal_while_a_thread_begins(self) -> None:
+        """The signal isn't lost where the thread has answered already, and so given its room back."""
+        start = threading.Thread.start
+
+        def start_and_interrupt(thread: threading.Thread) -> None:
+            start(thread)
+            thread.join()
+            raise KeyboardInterrupt
+
+        client, connection = socket.socketpair()
+        client.close()
+        with mock.patch.object(threading.Thread, "start", start_and_interrupt):
+            with self.assertRaises(KeyboardInterrupt):
+                self.server.process_request(connection, ("127.0.0.1", 1))
 
 
 if __name__ == "__main__":

@@ -116,17 +116,25 @@ def batches_of(tasks: "Iterator[Task]", most: int) -> "Iterator[list[Task]]":
 class Engine:
     """Works tasks off on several processes. A process that ends takes no more than one page with it."""
 
-    def __init__(self, orders: Orders, jobs: int, pages: int, is_stopped: "Callable[[], bool]") -> None:
+    def __init__(self, orders: Orders, jobs: int, is_stopped: "Callable[[], bool]") -> None:
+        """The processes begin at once, since beginning takes them a while in which the pages can be counted."""
         self._orders = orders
         self._is_stopped = is_stopped
         self._jobs = jobs
-        self._most = max(1, min(BATCH_PAGES, pages // (jobs * 8)))
         self._selector = selectors.DefaultSelector()
         self._workers: "list[Worker]" = []
         self._again: "deque[list[Task]]" = deque()  # pages whose worker ended, each by itself
+        for _ in range(jobs):
+            self._start_worker()
 
-    def run(self, tasks: "Iterator[Task]") -> "Generator[Done, None, None]":
-        batches = batches_of(tasks, self._most)
+    def close(self) -> None:
+        for worker in self._workers:
+            worker.close()
+        self._selector.close()
+
+    def run(self, tasks: "Iterator[Task]", pages: int) -> "Generator[Done, None, None]":
+        """`pages`: how many tasks there are at most."""
+        batches = batches_of(tasks, max(1, min(BATCH_PAGES, pages // (self._jobs * 8))))
         try:
             while not self._is_stopped():
                 self._hand_out(batches)
@@ -135,9 +143,7 @@ class Engine:
                 for key, _ in self._selector.select(STOP_SECONDS):
                     yield from self._received(key.data)
         finally:
-            for worker in self._workers:
-                worker.close()
-            self._selector.close()
+            self.close()
 
     def _hand_out(self, batches: "Iterator[list[Task]]") -> None:
         for waiting in range(WAITING_BATCHES):

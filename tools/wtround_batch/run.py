@@ -139,10 +139,14 @@ class Run:
         started = time.monotonic()
         self._store.clear_skipped("list")
         self.number = self._store.count_up("run")
-        self.total = self._count()
-        self._store.begin()
-        engine = Engine(self._orders, jobs, self.total, lambda: self.is_stopped)
-        results = engine.run(self._tasks())
+        engine = Engine(self._orders, jobs, lambda: self.is_stopped)
+        try:
+            self.total = self._count()
+            self._store.begin()
+        except BaseException:
+            engine.close()
+            raise
+        results = engine.run(self._tasks(), self.total)
         try:
             for done in results:
                 self._take(done)

@@ -1,0 +1,3 @@
+pub mod InnerStyles
+pub mod RunCounts
+pub mod RunToggles
