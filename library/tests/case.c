@@ -4,6 +4,9 @@
 #include <stdlib.h>
 #include <string.h>
 
+#define FIRST_ROOM 65536
+#define FIRST_LINE 256
+
 /* What the tests allocate isn't what they try to make fail. */
 static void *own(void *at)
 {
@@ -113,6 +116,14 @@ void free_case(struct test_case *it)
     free(it->line.at);
 }
 
+size_t text_length(const struct test_case *it)
+{
+    size_t length = it->input.length;
+    for (size_t i = 0; i < it->page_count; i++)
+        length += it->pages[i].text.length;
+    return length;
+}
+
 static void enlarge(wtround_room *room)
 {
     if (room->length > room->room) {
@@ -135,9 +146,18 @@ static int64_t give_page(void *context, const char *name, size_t name_length, ch
     return WTROUND_ABSENT;
 }
 
-struct reply call_by_callback(const struct test_case *it)
+/* Rooms in which most answers fit at the first call. */
+static struct reply first_reply(void)
 {
     struct reply reply = { 0 };
+    reply.out = (wtround_room){ own(malloc(FIRST_ROOM)), FIRST_ROOM, 0 };
+    reply.line = (wtround_room){ own(malloc(FIRST_LINE)), FIRST_LINE, 0 };
+    return reply;
+}
+
+struct reply call_by_callback(const struct test_case *it)
+{
+    struct reply reply = first_reply();
     do {
         enlarge(&reply.out);
         enlarge(&reply.line);
@@ -165,7 +185,7 @@ static void add_absent(struct full_table *table, const wtround_room *missing)
 
 struct reply call_by_table(const struct test_case *it)
 {
-    struct reply reply = { 0 };
+    struct reply reply = first_reply();
     wtround_room missing = { 0 };
     struct full_table table = { own(malloc((it->page_count + 1) * sizeof *it->pages)), it->page_count };
     memcpy(table.pages, it->pages, it->page_count * sizeof *it->pages);

@@ -32,6 +32,9 @@ enum read_case {
 enum read_case read_case(struct test_case *into, char *asked, char *wanted);
 void free_case(struct test_case *it);
 
+/* How many bytes its input and its pages have. */
+size_t text_length(const struct test_case *it);
+
 /* A room that was filled as far as needed, and what the call ended with. */
 struct reply {
     int status;

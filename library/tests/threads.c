@@ -1,5 +1,5 @@
-/* Runs the smaller stored cases through the library in eight threads at once, each with a stack of 1 MiB;
- * before them each thread answers pages and HTML that nest as deep as the limits allow.
+/* Runs the smaller stored cases through the library in eight threads at once, each with a stack of 1 MiB and
+ * with its share of the cases; before them each answers its share of what nests as deep as the limits allow.
  *
  *   threads CASES ANSWERS
  */
@@ -16,7 +16,7 @@
 struct work {
     char **asked, **wanted;
     long count;
-    long first;
+    long thread;
     long passed, failed;
 };
 
@@ -122,44 +122,49 @@ static bool reads_deep(size_t depth)
     return good;
 }
 
-static long deep_failures(void)
+/* What opens, what stands inside, what closes. */
+static const char *const kinds[][3] = {
+    { "{{T|", "x", "}}" },
+    { "{{{1|", "x", "}}}" },
+    { "{|\n|\n", "x\n", "\n|}\n" },
+    { "<small>", "x", "</small>" },
+    { "[[A|", "x", "]]" },
+    { "*", "x", "" },
+    { "*:;", "x", "" },
+    { "''a'''b", "x", "" },
+    { "<ref>", "x", "</ref>" },
+    { "<includeonly>", "x", "</includeonly>" },
+};
+
+#define KINDS ((long)(sizeof kinds / sizeof *kinds))
+#define DEEPEST 1280
+
+/* Each thread has each eighth of the kinds, then each eighth of the depths of HTML, and the first one a chain
+ * of templates. */
+static long deep_failures(long thread)
 {
     long failures = 0;
-    for (size_t depth = 10; depth <= 1280; depth *= 2) {
-        failures += !goes_deep(nested(depth, "{{T|", "x", "}}"));
-        failures += !goes_deep(nested(depth, "{{{1|", "x", "}}}"));
-        failures += !goes_deep(nested(depth, "{|\n|\n", "x\n", "\n|}\n"));
-        failures += !goes_deep(nested(depth, "<small>", "x", "</small>"));
-        failures += !goes_deep(nested(depth, "[[A|", "x", "]]"));
-        failures += !goes_deep(nested(depth, "*", "x", ""));
-        failures += !goes_deep(nested(depth, "*:;", "x", ""));
-        failures += !goes_deep(nested(depth, "''a'''b", "x", ""));
-        failures += !goes_deep(nested(depth, "<ref>", "x", "</ref>"));
-        failures += !goes_deep(nested(depth, "<includeonly>", "x", "</includeonly>"));
-        failures += !reads_deep(depth);
-    }
-    failures += !reads_deep(199) + !reads_deep(200) + !goes_deep(nested(1, "{{N1|", "x", "}}"));
+    for (long kind = thread; kind < KINDS; kind += THREADS)
+        for (size_t depth = 10; depth <= DEEPEST; depth *= 2)
+            failures += !goes_deep(nested(depth, kinds[kind][0], kinds[kind][1], kinds[kind][2]));
+    failures += !reads_deep(thread < 6 ? (size_t)40 << thread : thread == 6 ? 199 : 200);
+    if (thread == 0)
+        failures += !goes_deep(nested(1, "{{N1|", "x", "}}"));
     return failures;
 }
 
 /* ---- the stored cases */
 
-/* A case of large texts would take a thread's share of memory eightfold. */
-static bool is_small(const struct test_case *it)
-{
-    size_t length = it->input.length;
-    for (size_t i = 0; i < it->page_count; i++)
-        length += it->pages[i].text.length;
-    return length < 65536;
-}
+/* Cases of larger texts take much memory, eight at once. */
+#define SMALL 65536
 
 static void try_case(struct work *work, long number)
 {
     struct test_case it = { 0 };
     char *asked = strdup(work->asked[number]), *wanted = strdup(work->wanted[number]);
     if (asked && wanted && read_case(&it, asked, wanted) == CASE_READ) {
-        if (is_small(&it)) {
-            struct reply reply = number % 2 ? call_by_table(&it) : call_by_callback(&it);
+        if (text_length(&it) < SMALL) {
+            struct reply reply = number / THREADS % 2 ? call_by_table(&it) : call_by_callback(&it);
             *(is_wanted(&it, &reply) ? &work->passed : &work->failed) += 1;
             free_reply(&reply);
         }
@@ -172,9 +177,9 @@ static void try_case(struct work *work, long number)
 static void *run_all(void *at)
 {
     struct work *work = at;
-    work->failed += deep_failures();
-    for (long i = 0; i < work->count; i++)
-        try_case(work, (work->first + i) % work->count);
+    work->failed += deep_failures(work->thread);
+    for (long number = work->thread; number < work->count; number += THREADS)
+        try_case(work, number);
     return NULL;
 }
 
@@ -210,7 +215,7 @@ int main(int argc, char **argv)
     if (pthread_attr_setstacksize(&attributes, STACK) != 0)
         return 2;
     for (long i = 0; i < THREADS; i++) {
-        work[i] = (struct work){ asked, wanted, count, i * count / THREADS, 0, 0 };
+        work[i] = (struct work){ asked, wanted, count, i, 0, 0 };
         if (pthread_create(&threads[i], &attributes, run_all, &work[i]) != 0)
             return 2;
     }

@@ -52,11 +52,12 @@ function haveFiles(array $names): bool
     return max(0, ...array_map(fn ($name) => strlen(rawurlencode((string) $name)), $names)) <= 250;
 }
 
-function tryCases(Engine $engine): void
+/** Tries one of `$step` cases. */
+function tryCases(Engine $engine, int $step): void
 {
     $tried = 0;
     foreach (cases() as $number => [$words, $input, $pages, $wanted]) {
-        if ($engine instanceof Program && !haveFiles([...$words, ...array_keys($pages)])) {
+        if ($number % $step !== 0 || ($engine instanceof Program && !haveFiles([...$words, ...array_keys($pages)]))) {
             continue;
         }
         $answer = $engine->answer($words, $input, $pages);
@@ -138,14 +139,15 @@ if ($library === null) {
     $asked = new Asked();
     check((new Bughtiso($library))->expand('{{A}}', $asked) === '[[:Template:B]][[:Template:B]]', 'pages that are looked up');
     check($asked->names === ['Template:A', 'Template:B'], 'each page is looked up once');
-    tryCases($library);
+    tryCases($library, 1);
 }
 $program = getenv('BUGHTISO_PROGRAM') ?: trim((string) shell_exec('command -v wtround'));
 if ($program === '') {
     echo "the program: skipped, it isn't here\n";
 } else {
     tryCalls(new Bughtiso(new Program($program)));
-    tryCases(new Program($program));
+    // Each is a process and a folder of its own, so that of each eight one is enough where the library answers all.
+    tryCases(new Program($program), $library === null ? 1 : 8);
 }
 echo $failures === 0 ? "php: passed\n" : "php: $failures failed\n";
 exit($failures === 0 ? 0 : 1);

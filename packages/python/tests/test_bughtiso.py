@@ -1,6 +1,7 @@
 """Tests of the package: the stored cases of the repository, where they are, through what is here, and the calls."""
 from __future__ import annotations
 
+import itertools
 import os
 import pickle
 import re
@@ -80,7 +81,9 @@ class StoredCases(unittest.TestCase):
         engine = available("program")
         if engine is None or not CASES.exists():
             self.skipTest("no program, or no stored cases")
-        self.try_cases(engine, (case for case in stored_cases() if has_files(case)))
+        # Each is a process and a folder of its own, so that of each eight one is enough where the library answers all.
+        step = 8 if available("library") else 1
+        self.try_cases(engine, itertools.islice(filter(has_files, stored_cases()), 0, None, step))
 
     def test_outside_cases(self):
         engine = available("library")
