@@ -1,0 +1,44 @@
+use Rattle.std.proofs.Common.{ap}
+use Rattle.std.specs.Prelude.{Some}
+use Rattle.wt_pagetool.specs.Answers.{IsNoText}
+use Rattle.wtround_c.specs.Indexes.{entries_of}
+use Rattle.wtround_c.specs.Tables.{pages_of}
+use Rattle.wtround_c.proofs.RunLaws.{of_library, waits_left}
+use Rattle.wtround_c.proofs.ran.run_over.Goals as goal
+
+pub returns : goal.returns
+returns c =
+    let h = c.run-status.ensures in
+    of_library c.args.words.now c.run-status.result
+    _ c.args.input.now c.run-status.new.input.left.now
+    _ (pages_of (entries_of c.args.index.now)) _ c.run-status.new.folder.faults
+    _ c.run-status.new.out.bytes _ c.run-status.new.out.faults
+    _ c.run-status.new.err.bytes _ c.run-status.new.err.faults
+    _ c.run-status.new.folder.answered
+    c.new-source.ensures c.new-folder.ensures.pages c.new-folder.ensures.faults
+    (ap Some c.new-out.ensures.bytes) c.new-out.ensures.faults
+    (ap Some c.new-line.ensures.bytes) c.new-line.ensures.faults
+    c.new-folder.ensures.answered
+    (record {
+      page = h.page;
+      expansion = h.expansion;
+      wikitext = h.wikitext;
+      edit = h.edit;
+      counted = h.counted;
+      gives_back = h.gives_back;
+      changes_nothing = h.changes_nothing;
+      exact = h.exact;
+      done = h.done;
+      refused = h.refused;
+      write_fault = h.write_fault;
+      complete = h.complete;
+      kept = h.kept;
+      first_names = h.first_names;
+      all_names = h.all_names;
+      fewer_names = h.fewer_names;
+      takes = h.takes;
+      waits = λ title is. waits_left (Some (pages_of (entries_of c.new-folder.result.index.now))) (λ pages. IsNoText (pages title))
+          c.run-status.new.input c.new-source.result (h.waits title is);
+      unread = λ no. ap (λ s. Some s.left.now) (h.unread no);
+      unasked = λ no. ap (λ f. Some f.answered) (h.unasked no);
+    })

@@ -1,0 +1,6 @@
+-- What the code keeps of a reply, as what is told.
+use Rattle.wtround_c.specs.declared.reply.Reply.{Reply}
+use Rattle.wtround_c.specs.Replies.{Told}
+
+abbrev pub told_of : Reply → Told
+told_of reply = record { status = reply.status; out = reply.out; line = reply.line; missing = reply.missing }
