@@ -154,6 +154,7 @@ class Editor {
   #changed() {
     this.commands?.show();
     this.saving?.clear();
+    this.saving?.ahead.changed();
     if (byId("status").textContent !== "") this.say("");
   }
 

@@ -2,8 +2,9 @@
 /** Saving: what would change is shown before it is stored; a refusal shows its place and what to do. */
 
 import { readAhead, save } from "../bughtiso.js";
+import { Ahead } from "./ahead.js";
 import { blocksOf } from "./blocks.js";
-import { ServerRefused, page as readPage, pageThen, preview, revisionOf, store } from "./server.js";
+import { ServerRefused, page as readPage, pageThen, revisionOf, store } from "./server.js";
 import { shownDiff } from "./diff.js";
 import { layOver } from "./overlay.js";
 import { sentenceFor } from "./sentences.js";
@@ -53,6 +54,10 @@ export class Saving {
      */
     this.unanswered = null;
     this.isBusy = false;
+    this.ahead = new Ahead(page.title, () => {
+      if (this.isLocked) return null;
+      return { html: page.html(), etag: page.etag(), written: () => save(page.root, { marks: true }) };
+    });
     /**
      * The element that a refusal is about.
      * @type {Element | null}
@@ -88,7 +93,7 @@ export class Saving {
     }
     await this.#busy(async () => {
       if (await this.#isStored()) return this.page.say("The page is saved.");
-      const answer = await preview(this.page.title, this.document, this.page.etag());
+      const answer = await this.ahead.preview(this.document, this.page.etag());
       this.answer = answer;
       if (!answer.changed) return this.page.say("Nothing would change in the page's source.");
       const longer = answer.bytes_after - answer.bytes_before;

@@ -98,10 +98,27 @@ async function give(title, query, etag, body) {
  * @param {string} title
  * @param {string} html
  * @param {string} etag  of the page that was opened
+ * @param {string} [instead]  the word of an edit that won't be stored
  * @returns {Promise<Preview>}
  */
-export function preview(title, html, etag) {
-  return give(title, "?preview=1", etag, { html });
+export function preview(title, html, etag, instead) {
+  return give(title, "?preview=1", etag, { html, instead });
+}
+
+/**
+ * Asks again what an edit would change, now.
+ * @param {string} title
+ * @param {string} prepared  the word of its preview
+ * @param {string} etag  of the page that was opened
+ * @returns {Promise<Preview | null>} null where the server has forgotten it
+ */
+export async function previewAgain(title, prepared, etag) {
+  try {
+    return await give(title, "?preview=1", etag, { prepared });
+  } catch (error) {
+    if (!(error instanceof ServerRefused) || error.error !== "NotPrepared") throw error;
+    return null;
+  }
 }
 
 /**

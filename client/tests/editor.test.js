@@ -654,6 +654,42 @@ test("what the server no longer keeps is sent again", { skip }, async () => {
   assert.deepEqual(await tab.js("bodies"), ["html", "prepared", "html"]);
 });
 
+test("of a long page what would change is asked for behind the typing", { skip }, async () => {
+  const long = `Third paragraph.\n\n${"A '''long''' [[page]].\n\n".repeat(4000)}`;
+  wiki.write("A page", long);
+  await opened("A page");
+  await intercept(`
+    const isSave = path.startsWith("/save/");
+    const answer = await ask(path, options);
+    if (!isSave) return answer;
+    const what = /preview/.test(path) ? "shown" : "stored";
+    const by = Object.keys(JSON.parse(options.body))[0];
+    globalThis.asked = [...(globalThis.asked ?? []), what + " " + by];
+    return answer;
+  `);
+  const asked = (/** @type {number} */ count) => tab.until(`globalThis.asked?.length === ${count}`);
+  await select("Third", 5);
+  await tab.type("ly");
+  await asked(1);
+  assert.equal(await stored(), long.replace("Third", "Thirdly"));
+  assert.deepEqual(await tab.js("asked.splice(0)"), ["shown html", "shown prepared", "stored prepared"]);
+  await tab.type("x");
+  await asked(1);
+  await tab.type("y");
+  assert.equal(await save(), "changes");
+  assert.match(await textOf("changes-diff"), /Thirdlyxy/);
+  assert.deepEqual(await tab.js("asked.splice(0)"), ["shown html", "shown html"]);
+  await tab.press("Enter");
+  await tab.until(`document.getElementById("status").textContent === "The page is saved."`);
+  assert.equal(wiki.read("A page"), long.replace("Third", "Thirdlyxy"));
+  await tab.js("asked.splice(0)");
+  await tab.type("z");
+  await asked(1);
+  wiki.write("A page", `${long}changed by another\n`);
+  assert.match(await refused(), /Stale/);
+  assert.match(await shown(), /^Thirdlyxyz/);
+});
+
 /**
  * What each step with a page of 1 MiB, and a whole save, may take on the clock of a machine that does nothing
  * else.
@@ -670,15 +706,16 @@ const MOST_WORK = 5;
  * @param {import("node:test").TestContext} context
  * @param {() => Promise<unknown>} prepare
  * @param {() => Promise<unknown>} action
+ * @param {number} [most]  seconds on the clock
  */
-async function takesSeconds(name, context, prepare, action) {
+async function takesSeconds(name, context, prepare, action, most = MOST_SECONDS) {
   for (let left = 3; ; left -= 1) {
     await prepare();
     const { clock, stretch, page, server: programs } = await measured(tab, server, action);
     const seconds = [clock, page, programs].map((time) => `${time.toFixed(2)} s`);
     const text = `${seconds[0]}, of work ${seconds[1]} here and ${seconds[2]} there`;
     context.diagnostic(`${name}: ${text}; the machine stretches time by ${stretch.toFixed(1)}`);
-    if (clock <= MOST_SECONDS * stretch && page + programs <= MOST_WORK) return;
+    if (clock <= most * stretch && page + programs <= MOST_WORK) return;
     assert.ok(left > 1, `${name} takes too long: ${text}`);
   }
 }
@@ -711,7 +748,15 @@ test("a page of 1 MiB is opened, shows its changes, is stored", { skip }, async 
   };
   const changeAndShow = async () => (await isShown()) || (await change(), await show());
   await takesSeconds("storing", context, changeAndShow, store);
-  await takesSeconds("a whole save", context, change, async () => (await show(), await store()));
+  const saveWhole = async () => (await show(), await store());
+  await takesSeconds("a whole save at once", context, change, saveWhole, 1.5 * MOST_SECONDS);
+  const isAsked = `performance.getEntriesByType("resource").some(({ name }) => /preview=1/.test(name))`;
+  const changeAndWait = async () => {
+    await tab.js("performance.clearResourceTimings()");
+    await change();
+    await tab.until(isAsked);
+  };
+  await takesSeconds("a whole save after a pause", context, changeAndWait, saveWhole);
   assert.equal(wiki.read("A page"), page);
   assert.equal(await save(), "Nothing was changed.");
   const emptied = await measured(tab, server, () => tab.press("Control+a", "Backspace"));

@@ -108,6 +108,14 @@ class PreparedEdits:
             raise Refusal(410, "NotPrepared", "The server keeps this edit no longer: send the HTML again.")
         return kept
 
+    def forget(self, word: str, name: str) -> None:
+        """Forgets an edit of a page that nobody will store."""
+        with self._lock:
+            kept = self._edits.get(word)
+            if kept is not None and kept.edit.name == name:
+                self._edits.move_to_end(word, last=False)
+                self._forget_oldest()
+
     def _forget_oldest(self) -> None:
         _, kept = self._edits.popitem(last=False)
         if kept.coming is not None:

@@ -180,7 +180,7 @@ class Site:
             kept = self._prepared.find(bodies.text_field(fields, "prepared"), name)
         try:
             if bodies.flag(request.query.get("preview")):
-                return self._shown(request, kept.edit if kept else self._edited(request, name, fields))
+                return self._shown(request, name, fields, kept)
             return self._stored(request, kept or Kept(self._edited(request, name, fields), None))
         except Refusal as refusal:
             if refusal.error != "Stale":
@@ -191,10 +191,19 @@ class Site:
                 raise
             return answer
 
-    def _shown(self, request: Request, edit: Edit) -> Answer:
-        """Keeps an edit, and tells what it would change."""
-        self._check_tag(request, edit.tag)
-        word = self._prepared.keep(edit)
+    def _shown(self, request: Request, name: str, fields: Dict[str, object], kept: Optional[Kept]) -> Answer:
+        """Keeps an edit, and tells what it would change. Of one that is kept already it tells that again, if
+        nothing has changed since."""
+        if kept is not None:
+            edit, word = kept.edit, bodies.text_field(fields, "prepared")
+            self._check_tag(request, edit.tag)
+            if not self._is_still(edit) and self._taken(name)[1].tag != edit.tag:
+                raise Refusal(412, "Stale", STALE)
+        else:
+            edit = self._edited(request, name, fields)
+            if "instead" in fields:
+                self._prepared.forget(bodies.text_field(fields, "instead"), name)
+            word = self._prepared.keep(edit)
         return saved({**changes_of(edit), "etag": edit.tag, "prepared": word})
 
     def _stored(self, request: Request, kept: Kept) -> Answer:
@@ -262,13 +271,16 @@ class Site:
 
     def _is_untouched(self, edit: Edit, state: State) -> bool:
         """Whether the HTML from which an edit was made, and that of the state that it leads to, are what they
-        would be if they were made now: no file of the folder was written since, and what is named in letters
-        is read again besides."""
+        would be if they were made now."""
+        is_still = self._is_still(edit)
+        return is_still and etag(self.folder, edit.name, edit.new, state.html_hash) == state.tag
+
+    def _is_still(self, edit: Edit) -> bool:
+        """Whether the page has the state from which an edit was made: no file of the folder was written
+        since, and what is named in letters is read again besides."""
         if edit.fingerprint is None or self.folder.fingerprint() != edit.fingerprint:
             return False
-        page = self.folder.read(edit.name)
-        is_same = etag(self.folder, edit.name, page, edit.html_hash) == edit.tag
-        return is_same and etag(self.folder, edit.name, edit.new, state.html_hash) == state.tag
+        return etag(self.folder, edit.name, self.folder.read(edit.name), edit.html_hash) == edit.tag
 
     def _state_of(self, edit: Edit) -> State:
         """The state that a page will have once an edit is stored."""

@@ -96,6 +96,32 @@ class Prepared(ServingCase):
             self.assertEqual(self.ask("GET", f"/prepared/{title}/{word}")[0], 410)
         self.assertEqual(self.ask("POST", f"/prepared/Opava/{shown['prepared']}", b"")[0], 405)
 
+    def test_it_is_shown_again(self) -> None:
+        """By its word, while the page is the one that was edited."""
+        tag, shown = self.settled()
+        body = {"prepared": shown["prepared"]}
+        path = self.pages / "Template%3ALang.wiki"
+        before = path.read_text()
+        self.assertEqual(self.store(body, tag, "?preview=1"), (200, shown))
+        self.assertEqual(self.store(body, 'W/"1/2"', "?preview=1")[0], 412)
+        path.write_text(before + "!")
+        self.assertEqual(self.store(body, tag, "?preview=1")[0], 412)
+        path.write_text(before)  # the times of the files differ now
+        self.assertEqual(self.store(body, tag, "?preview=1"), (200, shown))
+        self.assertIn("is a town in", self.page())
+
+    def test_an_edit_that_takes_the_place_of_another(self) -> None:
+        html, tag = self.html("Opava")
+        (self.pages / "Copy.wiki").write_text(self.page())
+        other_tag, other = self.preview("Copy")
+        _, shown = self.preview()
+        for given in (shown["prepared"], other["prepared"], "0" * 32):
+            body = {"html": edited(html), "instead": given}
+            self.assertEqual(self.store(body, tag, "?preview=1")[0], 200)
+        self.assertEqual(self.store({"prepared": shown["prepared"]}, tag, "?preview=1")[0], 410)
+        self.assertEqual(self.store({"prepared": other["prepared"]}, other_tag, "", "Copy")[0], 200)
+        self.assertEqual(self.store({"html": edited(html), "instead": 5}, tag, "?preview=1")[0], 400)
+
     def test_states_that_are_too_much_to_keep(self) -> None:
         with mock.patch("serving.prepared.MOST_BYTES", 10):
             tag, shown = self.settled()
