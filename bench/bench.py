@@ -42,6 +42,7 @@ KINDS = {
     "paragraphs": lines(lambda k: (WORDS + "\n") * 3 + "\n"),
     "comment and entity in each": lines(lambda k: WORDS + "<!-- a note on this -->\n" + WORDS + "&nbsp;&ndash; " + WORDS + "\n\n"),
     "headings": lines(lambda k: f"== Part {k} ==\n{WORDS}\n\n"),
+    "headings of all levels": lines(lambda k: "=" * (k % 6 + 1) + f" {k} " + "=" * (k % 6 + 1) + "\n"),
     "one letter a paragraph": lines(lambda k: "a\n\n"),
     "one long line": lines(lambda k: WORDS + " "),
     "blank lines": lines(lambda k: "\n"),

@@ -15,6 +15,7 @@ import { fill, refill } from "./lib/nodes.js";
 import { Original } from "./lib/original.js";
 import { Mender } from "./lib/mender.js";
 import { addMarks } from "./lib/marks.js";
+import { Watch } from "./lib/watch.js";
 
 export { HtmlRefused } from "./lib/markup.js";
 export { Offsets, rangeOf } from "./lib/offsets.js";
@@ -22,8 +23,8 @@ export { describe, titleOf } from "./lib/names.js";
 export { hrefOf } from "./lib/links.js";
 
 /**
- * What each opened root was, so that `save` can tell what was changed.
- * @type {WeakMap<object, Original>}
+ * What each opened root was, so that `save` can tell what was changed, and what has been touched since.
+ * @type {WeakMap<object, {original: Original, watch: Watch}>}
  */
 const opened = new WeakMap();
 
@@ -47,9 +48,24 @@ export function open(html, options = {}) {
   const root = options.into ?? newBody(options.document ?? globalThis.document, original.page);
   const inside = root.ownerDocument.createDocumentFragment();
   fill(inside, root.ownerDocument, original.page);
+  const watch = opened.get(root)?.watch ?? new Watch(root);
+  watch.stop();
   root.replaceChildren(inside);
-  opened.set(root, original);
+  watch.start(original.page);
+  opened.set(root, { original, watch });
   return root;
+}
+
+/**
+ * Reads a page ahead of `renew`, which then takes less time.
+ * @param {string} html  what `wtround html TITLE` wrote
+ * @returns {Original} what `renew` takes in place of it
+ * @throws {HtmlRefused} as `open`
+ */
+export function readAhead(html) {
+  const original = new Original(html);
+  void original.nodes; // they are read now
+  return original;
 }
 
 /**
@@ -59,13 +75,15 @@ export function open(html, options = {}) {
  * Nodes that hold the same stay, with what the editor put on them. A block in which anything differs is made
  * anew, so a selection in it is lost.
  * @param {Element} root  the root that `open` answered
- * @param {string} html  what `wtround html TITLE` wrote
+ * @param {string | Original} html  what `wtround html TITLE` wrote, or what `readAhead` made of it
  * @throws {HtmlRefused} as `open`; the root is as it was
  */
 export function renew(root, html) {
-  const original = new Original(html);
-  refill(root, root.ownerDocument, original.page);
-  opened.set(root, original);
+  const original = typeof html === "string" ? new Original(html) : html;
+  const watch = opened.get(root)?.watch ?? new Watch(root);
+  refill(root, root.ownerDocument, original.page, watch);
+  watch.start(original.page);
+  opened.set(root, { original, watch });
 }
 
 /**
@@ -82,8 +100,9 @@ export function renew(root, html) {
  */
 export function save(dom, options = {}) {
   const root = bodyOf(dom);
-  const original = options.original === undefined ? opened.get(root) : new Original(options.original);
-  const page = new Mender(original).page(root);
+  const { original, watch } =
+    options.original === undefined ? opened.get(root) ?? {} : { original: new Original(options.original) };
+  const page = new Mender(original, watch).page(root);
   if (options.marks) {
     if (original === undefined) {
       throw new TypeError("marks need the page as it was: `open` it, or give `original`");
@@ -99,8 +118,8 @@ export function save(dom, options = {}) {
  * @returns {boolean}
  */
 export function isChanged(root) {
-  const original = opened.get(root);
-  return original === undefined || write(new Mender(original).page(root)) !== original.text;
+  const { original, watch } = opened.get(root) ?? {};
+  return original === undefined || write(new Mender(original, watch).page(root)) !== original.text;
 }
 
 /**

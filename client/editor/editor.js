@@ -2,6 +2,7 @@
 /** The editor of one page: it reads the page from the server, lets it be edited, and gives it back. */
 
 import { isChanged, open, renew } from "../bughtiso.js";
+import { blocksOf } from "./blocks.js";
 import { Commands } from "./commands.js";
 import { History } from "./history.js";
 import { pasted } from "./paste.js";
@@ -60,11 +61,11 @@ class Editor {
     byId("title").textContent = this.title;
   }
 
-  /** While the server is asked nothing in the text changes. */
+  /** While the server is asked, and while changes are shown, nothing in the text changes. */
   #lockWhileBusy() {
     const stop = (/** @type {Event} */ event) => {
       const isLeaving = event instanceof KeyboardEvent && event.key === "Tab";
-      if (!this.saving.isBusy || isLeaving) return;
+      if (!this.saving.isLocked || isLeaving) return;
       event.preventDefault();
       event.stopImmediatePropagation();
     };
@@ -89,7 +90,7 @@ class Editor {
         this.saving.preview();
       }
     });
-    byId("thing-delete").addEventListener("click", () => this.saving.isBusy || this.#deleteThing());
+    byId("thing-delete").addEventListener("click", () => this.saving.isLocked || this.#deleteThing());
     byId("thing-close").addEventListener("click", () => (this.#showThing(null), this.commands.focus()));
     window.addEventListener("beforeunload", (event) => {
       if (this.history.canUndo && isChanged(this.root)) event.preventDefault();
@@ -119,13 +120,13 @@ class Editor {
   /**
    * Shows the page as it was stored. The caret stands where it stood; it is put there before anything looks
    * at it, since the browser takes seconds for a caret that stands in no text of a long page.
-   * @param {{html: string, etag: string}} state
+   * @param {import("./saving.js").State} state
    */
   #renew(state) {
     const scrolled = window.scrollY;
     const caret = caretIn(this.root);
     document.getSelection()?.removeAllRanges();
-    renew(this.root, state.html);
+    renew(this.root, state.read ?? state.html);
     this.#take(state);
     window.scrollTo(0, scrolled);
     if (caret !== null) putCaret(this.root, caret);
@@ -139,7 +140,7 @@ class Editor {
   #take({ html, etag }) {
     this.html = html;
     this.etag = etag;
-    this.root.classList.toggle("long", this.root.childElementCount > MANY_BLOCKS);
+    this.root.classList.toggle("long", blocksOf(this.root).length > MANY_BLOCKS);
     nameThings(this.root);
     this.sizes = groupSizes(this.root);
     this.things = thingsById(this.root);
@@ -153,6 +154,7 @@ class Editor {
   #changed() {
     this.commands?.show();
     this.saving?.clear();
+    this.saving?.ahead.changed();
     if (byId("status").textContent !== "") this.say("");
   }
 
@@ -308,10 +310,11 @@ function isAllSelected(root) {
 function caretIn(root) {
   const selection = document.getSelection();
   if (!selection?.rangeCount || !root.contains(selection.anchorNode)) return null;
-  const block = [...root.children].findIndex((child) => child.contains(selection.anchorNode));
+  const blocks = blocksOf(root);
+  const block = blocks.findIndex((child) => child.contains(selection.anchorNode));
   if (block < 0) return null;
   const range = selection.getRangeAt(0).cloneRange();
-  range.setStart(root.children[block], 0);
+  range.setStart(blocks[block], 0);
   return { block, characters: range.toString().length };
 }
 
@@ -320,7 +323,8 @@ function caretIn(root) {
  * @param {{block: number, characters: number}} caret
  */
 function putCaret(root, caret) {
-  const block = root.children[Math.min(caret.block, root.childElementCount - 1)];
+  const blocks = blocksOf(root);
+  const block = blocks[Math.min(caret.block, blocks.length - 1)];
   if (block === undefined) return;
   const walker = document.createTreeWalker(block, NodeFilter.SHOW_TEXT);
   let left = caret.characters;

@@ -1,9 +1,12 @@
 // @ts-check
 /** Saving: what would change is shown before it is stored; a refusal shows its place and what to do. */
 
-import { save } from "../bughtiso.js";
-import { ServerRefused, page as readPage, preview, revisionOf, store } from "./server.js";
+import { readAhead, save } from "../bughtiso.js";
+import { Ahead } from "./ahead.js";
+import { blocksOf } from "./blocks.js";
+import { ServerRefused, page as readPage, pageThen, revisionOf, store } from "./server.js";
 import { shownDiff } from "./diff.js";
+import { layOver } from "./overlay.js";
 import { sentenceFor } from "./sentences.js";
 
 /**
@@ -15,10 +18,17 @@ const byId = (id) => /** @type {T} */ (/** @type {unknown} */ (document.getEleme
 
 const WAITING = "The server is asked…";
 
+/** Blocks that an editor makes. */
+const CAN_BE_NEW = "p, h1, h2, h3, h4, h5, h6, hr, div, ul, ol, li";
+
 /**
  * @typedef {{title: string, root: HTMLElement, html: () => string, etag: () => string, say: (text: string) =>
- *   void, saved: (state: {html: string, etag: string}) => void, bookmark: () => () => void}} Page  `html`:
- *   the page as it was opened, `etag`: the name of this state of it, `saved`: takes the state that is stored
+ *   void, saved: (state: State) => void, bookmark: () => () => void}} Page  `html`: the page as it was
+ *   opened, `etag`: the name of this state of it, `saved`: takes the state that is stored
+ */
+/**
+ * @typedef {{html: string, etag: string, read?: ReturnType<typeof readAhead>}} State  of a page; `read`: its
+ *   HTML where it was read ahead
  */
 
 export class Saving {
@@ -33,11 +43,21 @@ export class Saving {
     /** @type {import("./server.js").Preview | null} */
     this.answer = null;
     /**
+     * The state that it leads to, which is fetched and read while the changes are looked at; null where that
+     * went wrong.
+     * @type {Promise<State | null>}
+     */
+    this.coming = Promise.resolve(null);
+    /**
      * An edit that was given to be stored, of which no answer came, and the revision that it makes.
      * @type {{document: string, revision: number} | null}
      */
     this.unanswered = null;
     this.isBusy = false;
+    this.ahead = new Ahead(page.title, () => {
+      if (this.isLocked) return null;
+      return { html: page.html(), etag: page.etag(), written: () => save(page.root, { marks: true }) };
+    });
     /**
      * The element that a refusal is about.
      * @type {Element | null}
@@ -48,11 +68,17 @@ export class Saving {
      * @type {() => void}
      */
     this.restore = () => undefined;
+    layOver(this.dialog);
     this.button.addEventListener("click", () => this.preview());
     byId("changes-save").addEventListener("click", () => this.#store());
     byId("refusal-close").addEventListener("click", () => (this.clear(), this.restore()));
     byId("refusal-show").addEventListener("click", () => this.#goToPlace());
     this.dialog.addEventListener("close", () => this.isBusy || this.restore());
+  }
+
+  /** Whether nothing in the text may change: the server is asked, or what would be stored is shown. */
+  get isLocked() {
+    return this.isBusy || this.dialog.open;
   }
 
   /** Shows what would change. */
@@ -67,7 +93,7 @@ export class Saving {
     }
     await this.#busy(async () => {
       if (await this.#isStored()) return this.page.say("The page is saved.");
-      const answer = await preview(this.page.title, this.document, this.page.etag());
+      const answer = await this.ahead.preview(this.document, this.page.etag());
       this.answer = answer;
       if (!answer.changed) return this.page.say("Nothing would change in the page's source.");
       const longer = answer.bytes_after - answer.bytes_before;
@@ -75,9 +101,24 @@ export class Saving {
       const much = longer === 0 ? "as long as before" : `${Math.abs(longer)} bytes ${way}`;
       byId("changes-size").textContent = `The source will be ${much}. Nothing else in it changes.`;
       byId("changes-diff").replaceChildren(...shownDiff(answer.diff));
-      this.dialog.showModal();
+      this.dialog.show();
+      this.coming = this.#readThen(answer.prepared);
     });
     if (!this.dialog.open && this.refusal.hidden) this.restore();
+  }
+
+  /**
+   * @param {string} prepared  the word of a preview
+   * @returns {Promise<State | null>}
+   */
+  async #readThen(prepared) {
+    try {
+      const state = await pageThen(this.page.title, prepared);
+      await idle();
+      return this.isLocked ? { ...state, read: readAhead(state.html) } : null;
+    } catch {
+      return null; // it is asked for again once the edit is stored
+    }
   }
 
   async #store() {
@@ -85,9 +126,10 @@ export class Saving {
     const asking = this.#busy(async () => {
       const { prepared, revision } = /** @type {import("./server.js").Preview} */ (this.answer);
       this.unanswered = { document: this.document, revision };
-      const state = await store(this.page.title, prepared, this.document, this.page.etag());
+      const etag = await store(this.page.title, prepared, this.document, this.page.etag());
+      const coming = await this.coming;
+      this.page.saved(coming?.etag === etag ? coming : await readPage(this.page.title));
       this.unanswered = null;
-      this.page.saved(state);
       isStored = true;
     });
     this.dialog.close();
@@ -187,6 +229,14 @@ export class Saving {
   }
 }
 
+/** @returns {Promise<void>} when the browser has drawn what is to be shown, and nothing is typed */
+function idle() {
+  return new Promise((done) => {
+    if ("requestIdleCallback" in window) requestIdleCallback(() => done(), { timeout: 500 });
+    else setTimeout(done, 50);
+  });
+}
+
 /**
  * The first block or item that the page hadn't.
  * @param {HTMLElement} root
@@ -195,8 +245,8 @@ export class Saving {
 function firstNew(root) {
   /** @type {Set<string>} */
   const seen = new Set();
-  const blocks = ":scope > :is(p, h1, h2, h3, h4, h5, h6, hr, div, ul, ol), :scope > * > li";
-  for (const element of root.querySelectorAll(blocks)) {
+  const blocks = blocksOf(root).flatMap((block) => [block, ...block.querySelectorAll(":scope > li")]);
+  for (const element of blocks.filter((block) => block.matches(CAN_BE_NEW))) {
     const id = element.getAttribute("id") ?? "";
     if (id === "" || seen.has(id)) return element;
     seen.add(id);

@@ -83,7 +83,7 @@ export async function page(title) {
  */
 async function give(title, query, etag, body) {
   const headers = { "Content-Type": "application/json", "If-Match": etag };
-  const path = `/save/${encodeURIComponent(title)}?${query}`;
+  const path = `/save/${encodeURIComponent(title)}${query}`;
   return JSON.parse((await ask(path, { method: "POST", headers, body: JSON.stringify(body) })).text);
 }
 
@@ -98,10 +98,38 @@ async function give(title, query, etag, body) {
  * @param {string} title
  * @param {string} html
  * @param {string} etag  of the page that was opened
+ * @param {string} [instead]  the word of an edit that won't be stored
  * @returns {Promise<Preview>}
  */
-export function preview(title, html, etag) {
-  return give(title, "preview=1", etag, { html });
+export function preview(title, html, etag, instead) {
+  return give(title, "?preview=1", etag, { html, instead });
+}
+
+/**
+ * Asks again what an edit would change, now.
+ * @param {string} title
+ * @param {string} prepared  the word of its preview
+ * @param {string} etag  of the page that was opened
+ * @returns {Promise<Preview | null>} null where the server has forgotten it
+ */
+export async function previewAgain(title, prepared, etag) {
+  try {
+    return await give(title, "?preview=1", etag, { prepared });
+  } catch (error) {
+    if (!(error instanceof ServerRefused) || error.error !== "NotPrepared") throw error;
+    return null;
+  }
+}
+
+/**
+ * Asks for the page as it will be once an edit that was shown is stored.
+ * @param {string} title
+ * @param {string} prepared  the word of its preview
+ * @returns {Promise<{html: string, etag: string}>}
+ */
+export async function pageThen(title, prepared) {
+  const { text, etag } = await ask(`/prepared/${encodeURIComponent(title)}/${prepared}?${SHAPE}`);
+  return { html: text, etag };
 }
 
 /**
@@ -110,15 +138,14 @@ export function preview(title, html, etag) {
  * @param {string} prepared  the word of its preview
  * @param {string} html  the same edit, where the server has forgotten it
  * @param {string} etag  of the page that was opened
- * @returns {Promise<{html: string, etag: string}>} the page as it stands then
+ * @returns {Promise<string>} the name of the page's state that is stored then
  */
 export async function store(title, prepared, html, etag) {
-  const query = `html=1&${SHAPE}`;
   try {
-    return await give(title, query, etag, { prepared });
+    return (await give(title, "", etag, { prepared })).etag;
   } catch (error) {
     if (!(error instanceof ServerRefused) || error.error !== "NotPrepared") throw error;
-    return give(title, query, etag, { html });
+    return (await give(title, "", etag, { html })).etag;
   }
 }
 

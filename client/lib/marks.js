@@ -17,7 +17,7 @@ const WRITABLE = new Set(["b", "i", "a", "br", "p", ...HEADINGS, "hr", "li"]);
  * @param {Original} original  changed in place
  */
 export function addMarks(page, original) {
-  const present = new Set(numbersIn(page));
+  const present = new Numbers(page);
   for (const block of page.parts) adopt(block, original, present);
   settle(page, 0, original);
   if (!hasSameChildren(page, original.page)) mark(page, "children");
@@ -118,13 +118,38 @@ function numbersIn(part) {
 
 // ---- Nodes that moved
 
+/** The numbers that stand in a page, read when they are first asked for. */
+class Numbers {
+  /** @type {Set<number> | null} */
+  #found = null;
+
+  /** @param {Part} page */
+  constructor(page) {
+    this.page = page;
+  }
+
+  /** @param {number} number */
+  has(number) {
+    return this.#all().has(number);
+  }
+
+  /** @param {number} number */
+  add(number) {
+    this.#all().add(number);
+  }
+
+  #all() {
+    return (this.#found ??= new Set(numbersIn(this.page)));
+  }
+}
+
 /**
  * A paragraph, heading or item in which something stands that can't be written anew, all of it from one other
  * block, which is gone, becomes that block: so two blocks that were joined are saved as the second one
  * without the first.
  * @param {Part} block
  * @param {Original} original
- * @param {Set<number>} present  the numbers that stand in the page
+ * @param {Numbers} present  those that stand in the page
  */
 function adopt(block, original, present) {
   if (block.name === "section" || block.name === "ul" || block.name === "ol") {

@@ -12,6 +12,7 @@ import { Original, kindOf } from "./original.js";
 import { linkTarget } from "./links.js";
 import { putBack } from "./strays.js";
 import { append, isBare, isEmpty, tidy } from "./texts.js";
+import { Watch } from "./watch.js";
 import {
   ATTRIBUTES, CELLS, ITEMS, LINES, LISTS, TABLE_ATTRIBUTES, TAGS, isBlank, isBlock, isBlockName, isHiddenName,
   isIsland, nameOf,
@@ -48,9 +49,19 @@ export class Mender {
   /** Whether what is read stands in a link. */
   #inLink = false;
 
-  /** @param {Original | undefined} original  the page as it was, where that is known */
-  constructor(original) {
+  /**
+   * The blocks that nobody has touched, with the page's parts that they are.
+   * @type {Map<Element, Part>}
+   */
+  #asOpened = new Map();
+
+  /**
+   * @param {Original | undefined} original  the page as it was, where that is known
+   * @param {Watch} [watch]  what tells which blocks nobody has touched since it was opened
+   */
+  constructor(original, watch) {
     this.original = original;
+    this.watch = watch;
   }
 
   /**
@@ -58,7 +69,7 @@ export class Mender {
    * @returns {Part} its body
    */
   page(root) {
-    this.#claim(root);
+    if (!this.#claimTouched(root)) this.#claim(root.querySelectorAll("[id]"));
     const attributes = this.original?.page.attributes ?? this.#attributes(root, "body", 0);
     const page = new Part("body", new Map(attributes), this.#blocks(root.childNodes));
     if (this.original !== undefined) putBack(page, this.original);
@@ -71,14 +82,53 @@ export class Mender {
    * Finds the owner of each number: of several elements of the right kind, as the halves of a paragraph that
    * was split, the one that holds most of what can't be written anew; of those the first that shows
    * something, else the first.
-   * @param {Element} root
+   * @param {Iterable<Element>} elements  those that have an `id`, in the order of the document
    */
-  #claim(root) {
-    for (const element of root.querySelectorAll("[id]")) {
+  #claim(elements) {
+    for (const element of elements) {
       const number = numberOf(element.getAttribute("id"));
       if (number === 0) continue;
       const owner = this.#owners.get(number);
       if (owner === undefined || this.#isBetter(element, owner, number)) this.#owners.set(number, element);
+    }
+  }
+
+  /**
+   * Finds the owners of the numbers in the blocks that were touched. The others needn't be looked into,
+   * unless a number stands in one of them too.
+   * @param {Element} root
+   * @returns {boolean} whether that is enough
+   */
+  #claimTouched(root) {
+    if (this.watch === undefined) return false;
+    /** @type {Element[]} */
+    const touched = [];
+    this.#sort(root, this.watch, touched);
+    this.#claim(touched.flatMap((element) => [...withNumbers(element)]));
+    const asOpened = new Set(this.#asOpened.values());
+    for (const number of this.#owners.keys()) {
+      let kept = this.#kept(number);
+      while (kept?.parent) kept = kept.parent;
+      if (kept === undefined || !asOpened.has(kept.part)) continue;
+      this.#owners.clear();
+      this.#asOpened.clear();
+      return false;
+    }
+    return true;
+  }
+
+  /**
+   * @param {Element} holder  of blocks
+   * @param {Watch} watch
+   * @param {Element[]} touched  where those go that aren't as they were opened
+   */
+  #sort(holder, watch, touched) {
+    for (const element of holder.children) {
+      const part = watch.untouched(element);
+      const isSection = element.localName === "section" && !element.hasAttribute("id");
+      if (part !== undefined) this.#asOpened.set(element, part);
+      else if (isSection) this.#sort(element, watch, touched);
+      else touched.push(element);
     }
   }
 
@@ -221,8 +271,13 @@ export class Mender {
       } else if (node.nodeType === ELEMENT) {
         const element = /** @type {Element} */ (node);
         const name = nameOf(element);
-        if (name === "") continue;
-        if (this.#standsInBody(element, name, loose.length > 0)) {
+        const asOpened = this.#asOpened.get(element);
+        if (asOpened !== undefined) {
+          close();
+          out.push(asOpened);
+        } else if (name === "") {
+          continue;
+        } else if (this.#standsInBody(element, name, loose.length > 0)) {
           close();
           for (const piece of this.#block(element, name)) if (!this.#hasVanished(piece)) append(out, piece);
         } else {
@@ -605,6 +660,15 @@ export class Mender {
     }
     return out;
   }
+}
+
+/**
+ * @param {Element} element
+ * @returns {Element[]} those in it that have an `id`, itself too
+ */
+function withNumbers(element) {
+  const inside = [...element.querySelectorAll("[id]")];
+  return element.hasAttribute("id") ? [element, ...inside] : inside;
 }
 
 /** @param {Part} part */

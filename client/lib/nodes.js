@@ -3,6 +3,7 @@
 
 import { Part } from "./markup.js";
 import { ATTRIBUTES } from "./kinds.js";
+import { Watch } from "./watch.js";
 
 const ELEMENT = 1;
 const TEXT = 3;
@@ -56,14 +57,15 @@ function isLostInTables(part) {
  * @param {Node} parent
  * @param {Document} document
  * @param {Part} part
+ * @param {Watch} [watch]  knows blocks of which needn't be asked what they hold
  */
-export function refill(parent, document, part) {
+export function refill(parent, document, part, watch) {
   const nodes = [...parent.childNodes];
   const { children } = part;
   let at = 0;
   let next = 0;
   while (at < nodes.length || next < children.length) {
-    if (at < nodes.length && next < children.length && becomes(nodes[at], children[next])) {
+    if (at < nodes.length && next < children.length && becomes(nodes[at], children[next], watch)) {
       at += 1;
       next += 1;
       continue;
@@ -128,14 +130,20 @@ function nameOf(node) {
  * Makes a node that of a child, where it holds the same.
  * @param {Node} node
  * @param {Part | string} child
+ * @param {Watch} [watch]
  * @returns {boolean} whether it does; else some of its attributes may be others now
  */
-function becomes(node, child) {
+function becomes(node, child, watch) {
   if (typeof child === "string") return isText(node, child);
+  const was = watch?.untouched(node);
+  if (was !== undefined && hasSameShape(was, child)) {
+    if (was.written === "" || was.written !== child.written) turn(/** @type {Element} */ (node), was, child);
+    return true;
+  }
   if (node.nodeType !== ELEMENT || nameOf(node) !== child.name) return false;
   const element = /** @type {Element} */ (node);
   if (KIND.some((name) => (element.getAttribute(name) ?? "") !== child.value(name))) return false;
-  if (HOLDERS.has(child.name)) refill(element, element.ownerDocument, child);
+  if (HOLDERS.has(child.name)) refill(element, element.ownerDocument, child, watch);
   else if (!childrenBecome(element, child)) return false;
   for (const name of element.getAttributeNames()) {
     if (ATTRIBUTES.has(name) && !child.attributes.has(name)) element.removeAttribute(name);
@@ -144,6 +152,42 @@ function becomes(node, child) {
     if (element.getAttribute(name) !== value) element.setAttribute(name, value);
   }
   return true;
+}
+
+/**
+ * @param {Part} was
+ * @param {Part} now
+ * @returns {boolean} whether both are the same but for attributes that don't say what an element is
+ */
+function hasSameShape(was, now) {
+  if (was.written !== "" && was.written === now.written) return true;
+  if (was.name !== now.name || was.children.length !== now.children.length) return false;
+  if (KIND.some((name) => was.value(name) !== now.value(name))) return false;
+  return now.children.every((child, at) => {
+    const other = was.children[at];
+    const isText = typeof child === "string" || typeof other === "string";
+    return isText ? child === other : hasSameShape(other, child);
+  });
+}
+
+/**
+ * Gives an element the attributes of another part of the same shape, inside too.
+ * @param {Element} element
+ * @param {Part} was  what it holds
+ * @param {Part} now
+ */
+function turn(element, was, now) {
+  for (const name of was.attributes.keys()) if (!now.attributes.has(name)) element.removeAttribute(name);
+  for (const [name, value] of now.attributes) {
+    if (was.attributes.get(name) !== value) element.setAttribute(name, value);
+  }
+  let node = element.firstChild;
+  now.children.forEach((child, at) => {
+    if (typeof child !== "string") {
+      turn(/** @type {Element} */ (node), /** @type {Part} */ (was.children[at]), child);
+    }
+    node = node?.nextSibling ?? null;
+  });
 }
 
 /**

@@ -7,12 +7,14 @@ import { createServer } from "node:http";
 import { readFileSync } from "node:fs";
 import { join } from "node:path";
 import { Browser, findChromium } from "./chromium.js";
+import { mutate, randomFrom } from "./mutations.js";
 import { REPOSITORY, Wiki, examplePages, findProgram, outsideDocuments } from "./pages.js";
 
 const chromium = findChromium();
 const program = findProgram();
 const skip = chromium === null ? "there is no Chromium here" : false;
 const AT_ONCE = 200;
+const SHARE = 10; // each so many-th outside page is changed at random
 
 /** @type {Browser} */
 let browser;
@@ -116,6 +118,62 @@ test("pages are renewed, each in the place of another", { skip }, async (context
   `;
   assert.deepEqual(await changed(all, body), []);
   context.diagnostic(`${all.length} pages`);
+});
+
+test("what nobody touched needn't be looked at: the same is saved and renewed", { skip }, async (context) => {
+  const all = documents().filter((_, at) => at % SHARE === 0 || at < 30);
+  if (all.length === 0) return context.skip("there are no pages here: build wtround, or name one in WTROUND");
+  const other = [];
+  for (let at = 0; at < all.length; at += AT_ONCE) {
+    const some = all.slice(at, at + AT_ONCE);
+    const answer = tab.js(`(async () => {
+      const { open, save, renew } = module;
+      const [randomFrom, mutate] = [${randomFrom}, ${mutate}];
+      const other = [];
+      const all = ${JSON.stringify(some)};
+      for (const [at, html] of all.entries()) {
+        const root = open(html, { into: document.createElement("div") });
+        const [random, aside] = [randomFrom(at), []];
+        for (let step = 0; step < 6; step += 1) {
+          mutate(root, random, aside);
+          if (random(2) === 0) await null;
+          const whole = save(root, { marks: true, original: html });
+          if (save(root, { marks: true }) !== whole) other.push([${at} + at, step]);
+        }
+        renew(root, all[(at + 1) % all.length]);
+        const anew = open(all[(at + 1) % all.length], { into: document.createElement("div") });
+        if (!root.isEqualNode(anew)) other.push([${at} + at, "renewed"]);
+        mutate(root, random, aside);
+        renew(root, html);
+        if (save(root) !== html) other.push([${at} + at, "renewed again"]);
+      }
+      return other;
+    })()`);
+    other.push(...(await answer));
+  }
+  assert.deepEqual(other, []);
+  context.diagnostic(`${all.length} pages`);
+});
+
+test("blocks that were taken out, changed, and put back are saved as they are", { skip }, async () => {
+  const html =
+    '<!DOCTYPE html><html><head><meta charset="utf-8"/></head><body><section data-mw-section-id="0">' +
+    '<p id="mw1">one</p><p id="mw2">two</p></section></body></html>';
+  for (const taken of ["p", "section", "p + p"]) {
+    const answer = await tab.js(`(async () => {
+      const root = module.open(${JSON.stringify(html)}, { into: document.createElement("div") });
+      const [block, parent] = [root.querySelector("${taken}"), root.querySelector("${taken}").parentNode];
+      block.remove();
+      await new Promise((done) => setTimeout(done));
+      (block.querySelector("p") ?? block).append("!");
+      await new Promise((done) => setTimeout(done));
+      parent.prepend(block);
+      const original = ${JSON.stringify(html)};
+      return [module.save(root, { marks: true }), module.save(root, { marks: true, original })];
+    })()`);
+    assert.match(answer[0], taken === "p + p" ? />two!</ : />one!</);
+    assert.equal(answer[0], answer[1]);
+  }
 });
 
 test("pages come back after the browser wrote and read its DOM as HTML", { skip }, async (context) => {

@@ -473,6 +473,78 @@ test("a page that has become stale when it is stored is refused, and the text st
   assert.equal(wiki.read("A page"), `${PAGE}changed by another\n`);
 });
 
+test("a template that changed before the page is stored: refused, and the text stays", { skip }, async () => {
+  wiki.write("Template:Inner", "inner");
+  wiki.write("Template:Name", "Inner");
+  wiki.write("A page", `${PAGE}\n{{ {{name}} }}\n`);
+  await opened("A page");
+  await select("Third", 5);
+  await tab.type("ly");
+  assert.equal(await save(), "changes");
+  wiki.write("Template:Inner", "other");
+  await tab.press("Enter");
+  await tab.until(`!document.getElementById("refusal").hidden`);
+  assert.match(await shown(), /Thirdly/);
+  assert.equal(wiki.read("A page"), `${PAGE}\n{{ {{name}} }}\n`);
+});
+
+test("while changes are shown nothing is typed; Escape leads back to the caret", { skip }, async () => {
+  await select("Third", 5);
+  await tab.type("ly");
+  assert.equal(await save(), "changes");
+  const isInDialog = () => tab.js(`document.getElementById("changes").contains(document.activeElement)`);
+  for (const key of ["Tab", "Tab", "Tab", "Shift+Tab", "Shift+Tab", "Shift+Tab", "Shift+Tab"]) {
+    await tab.press(key);
+    assert.ok(await isInDialog());
+  }
+  await tab.js(`document.getElementById("page").focus()`);
+  assert.ok(await isInDialog());
+  await tab.press("x", "Backspace", "Control+z", "Control+s");
+  assert.equal(await shown(), SHOWN.replace("Third", "Thirdly"));
+  const at = await tab.js(`(() => {
+    const { left, top } = document.querySelector("#page p").getBoundingClientRect();
+    return document.elementFromPoint(left + 5, top + 5).className;
+  })()`);
+  assert.equal(at, "shade");
+  await tab.press("Escape");
+  await tab.until(`!document.getElementById("changes").open`);
+  await tab.type("!");
+  assert.equal(await stored(), PAGE.replace("Third", "Thirdly!"));
+});
+
+test("what was shown before and not stored comes to nothing", { skip }, async () => {
+  await select("Third", 5);
+  await tab.type("ly");
+  assert.equal(await save(), "changes");
+  await tab.press("Escape");
+  await tab.until(`!document.getElementById("changes").open`);
+  await tab.press("Backspace", "Backspace");
+  await tab.type("!");
+  assert.equal(await stored(), PAGE.replace("Third", "Third!"));
+  await tab.type("?");
+  assert.equal(await stored(), PAGE.replace("Third", "Third!?"));
+});
+
+/** Ways in which the page can't be fetched while its changes are shown. */
+const NOT_FETCHED = [
+  `throw new TypeError("lost")`,
+  `return new Response("{}", { status: 410 })`,
+  `return new Response(await (await ask(path)).text(), { headers: { ETag: 'W/"1/2"' } })`,
+];
+
+test("a page that can't be fetched while changes are shown is fetched when stored", { skip }, async () => {
+  for (const [at, answer] of NOT_FETCHED.entries()) {
+    const before = wiki.read("A page");
+    await opened("A page");
+    await select("Third", 5);
+    await tab.type(String(at));
+    await intercept(`if (/^\\/prepared\\//.test(path)) { ${answer} } return ask(path, options);`);
+    assert.equal(await stored(), before.replace("Third", `Third${at}`));
+    await tab.type("!");
+    assert.equal(await stored(), before.replace("Third", `Third${at}!`));
+  }
+});
+
 test("a refusal outlines its place", { skip }, async () => {
   wiki.write("A page", "* item\n** inner\n\nnext\n");
   await opened("A page");
@@ -537,7 +609,7 @@ test("a save that was stored and never answered is known again", { skip }, async
     await tab.type(String(at));
     await intercept(`
       const answer = await ask(path, options);
-      if (!/^\\/save\\/.*html=1/.test(path) || globalThis.isLost) return answer;
+      if (!/^\\/save\\/[^?]*$/.test(path) || globalThis.isLost) return answer;
       globalThis.isLost = true;
       ${lost};
     `);
@@ -556,7 +628,7 @@ test("a save that never came is stored when it is given again", { skip }, async 
   await select("Third", 5);
   await tab.type("ly");
   await intercept(`
-    if (/^\\/save\\/.*html=1/.test(path) && !globalThis.isCut) {
+    if (/^\\/save\\/[^?]*$/.test(path) && !globalThis.isCut) {
       globalThis.isCut = true;
       throw new TypeError("cut off");
     }
@@ -573,7 +645,8 @@ test("what the server no longer keeps is sent again", { skip }, async () => {
   await select("Third", 5);
   await tab.type("ly");
   await intercept(`
-    globalThis.bodies = [...(globalThis.bodies ?? []), Object.keys(JSON.parse(options?.body ?? "{}"))[0]];
+    if (options?.body === undefined) return ask(path, options);
+    globalThis.bodies = [...(globalThis.bodies ?? []), Object.keys(JSON.parse(options.body))[0]];
     const body = options?.body?.replace(/"prepared":"/, '$&0');
     return ask(path, { ...options, body });
   `);
@@ -581,7 +654,46 @@ test("what the server no longer keeps is sent again", { skip }, async () => {
   assert.deepEqual(await tab.js("bodies"), ["html", "prepared", "html"]);
 });
 
-/** What each step with a page of 1 MiB may take on the clock of a machine that does nothing else. */
+test("of a long page what would change is asked for behind the typing", { skip }, async () => {
+  const long = `Third paragraph.\n\n${"A '''long''' [[page]].\n\n".repeat(4000)}`;
+  wiki.write("A page", long);
+  await opened("A page");
+  await intercept(`
+    const isSave = path.startsWith("/save/");
+    const answer = await ask(path, options);
+    if (!isSave) return answer;
+    const what = /preview/.test(path) ? "shown" : "stored";
+    const by = Object.keys(JSON.parse(options.body))[0];
+    globalThis.asked = [...(globalThis.asked ?? []), what + " " + by];
+    return answer;
+  `);
+  const asked = (/** @type {number} */ count) => tab.until(`globalThis.asked?.length === ${count}`);
+  await select("Third", 5);
+  await tab.type("ly");
+  await asked(1);
+  assert.equal(await stored(), long.replace("Third", "Thirdly"));
+  assert.deepEqual(await tab.js("asked.splice(0)"), ["shown html", "shown prepared", "stored prepared"]);
+  await tab.type("x");
+  await asked(1);
+  await tab.type("y");
+  assert.equal(await save(), "changes");
+  assert.match(await textOf("changes-diff"), /Thirdlyxy/);
+  assert.deepEqual(await tab.js("asked.splice(0)"), ["shown html", "shown html"]);
+  await tab.press("Enter");
+  await tab.until(`document.getElementById("status").textContent === "The page is saved."`);
+  assert.equal(wiki.read("A page"), long.replace("Third", "Thirdlyxy"));
+  await tab.js("asked.splice(0)");
+  await tab.type("z");
+  await asked(1);
+  wiki.write("A page", `${long}changed by another\n`);
+  assert.match(await refused(), /Stale/);
+  assert.match(await shown(), /^Thirdlyxyz/);
+});
+
+/**
+ * What each step with a page of 1 MiB, and a whole save, may take on the clock of a machine that does nothing
+ * else.
+ */
 const MOST_SECONDS = 2;
 
 /** The same of processor time, of the page and the server together: other work makes it longer, too. */
@@ -594,15 +706,16 @@ const MOST_WORK = 5;
  * @param {import("node:test").TestContext} context
  * @param {() => Promise<unknown>} prepare
  * @param {() => Promise<unknown>} action
+ * @param {number} [most]  seconds on the clock
  */
-async function takesSeconds(name, context, prepare, action) {
+async function takesSeconds(name, context, prepare, action, most = MOST_SECONDS) {
   for (let left = 3; ; left -= 1) {
     await prepare();
     const { clock, stretch, page, server: programs } = await measured(tab, server, action);
     const seconds = [clock, page, programs].map((time) => `${time.toFixed(2)} s`);
     const text = `${seconds[0]}, of work ${seconds[1]} here and ${seconds[2]} there`;
     context.diagnostic(`${name}: ${text}; the machine stretches time by ${stretch.toFixed(1)}`);
-    if (clock <= MOST_SECONDS * stretch && page + programs <= MOST_WORK) return;
+    if (clock <= most * stretch && page + programs <= MOST_WORK) return;
     assert.ok(left > 1, `${name} takes too long: ${text}`);
   }
 }
@@ -611,6 +724,7 @@ test("a page of 1 MiB is opened, shows its changes, is stored", { skip }, async 
   const lines = [];
   for (let bytes = 0, at = 0; bytes < 1 << 20; at += 1) {
     const line = `Paragraph ${at} of a '''long''' page with [[Main Page|links]], ''words'' and a reference.`;
+    if (at % 20 === 10) lines.push(at % 100 === 10 ? `== Part ${at} ==` : `=== Part ${at} ===`, "");
     lines.push(`${line}<ref>note ${at}</ref>`, "");
     bytes += lines[lines.length - 2].length + 2;
   }
@@ -628,11 +742,21 @@ test("a page of 1 MiB is opened, shows its changes, is stored", { skip }, async 
   };
   const show = async () => assert.equal(await save(), "changes");
   await takesSeconds("showing changes", context, change, show);
-  const changeAndShow = async () => (await isShown()) || (await change(), await show());
-  await takesSeconds("storing", context, changeAndShow, async () => {
+  const store = async () => {
     await tab.press("Enter");
     await tab.until(`document.getElementById("status").textContent === "The page is saved."`);
-  });
+  };
+  const changeAndShow = async () => (await isShown()) || (await change(), await show());
+  await takesSeconds("storing", context, changeAndShow, store);
+  const saveWhole = async () => (await show(), await store());
+  await takesSeconds("a whole save at once", context, change, saveWhole, 1.5 * MOST_SECONDS);
+  const isAsked = `performance.getEntriesByType("resource").some(({ name }) => /preview=1/.test(name))`;
+  const changeAndWait = async () => {
+    await tab.js("performance.clearResourceTimings()");
+    await change();
+    await tab.until(isAsked);
+  };
+  await takesSeconds("a whole save after a pause", context, changeAndWait, saveWhole);
   assert.equal(wiki.read("A page"), page);
   assert.equal(await save(), "Nothing was changed.");
   const emptied = await measured(tab, server, () => tab.press("Control+a", "Backspace"));

@@ -4,7 +4,8 @@ from __future__ import annotations
 import hashlib
 import html
 import re
-from functools import lru_cache
+import threading
+from collections import OrderedDict
 from typing import Optional
 
 from .other_tools import titles
@@ -12,32 +13,64 @@ from .pages import PageFolder, revision
 
 CALL = re.compile(r"\{\{+([^{}|]+)")  # where a call's target begins, behind all braces
 HIDDEN = re.compile(r"<!--.*?(?:-->|\Z)|</?(?:include|no|only)[a-z]*[^<>]*>", re.DOTALL | re.IGNORECASE)
+MOST_NAMES = 100_000  # that are remembered
 TAG = re.compile(r'\s*(?:W/)?"([\x21\x23-\x7e]*)"\s*(?:,|\Z)')
 
 
-def etag(folder: PageFolder, name: str, page: bytes, document: bytes) -> str:
-    """The tag of a page and its HTML.
+def hash_of(data: bytes) -> bytes:
+    return hashlib.sha256(data).digest()
+
+
+def etag(folder: PageFolder, name: str, page: bytes, html_hash: bytes) -> str:
+    """The tag of a page and its HTML, of which the hash (`hash_of`) is given.
 
     It is a hash of the page, of its HTML, in which stands all that its templates give, and of every page that
     a call names in letters, in the page or in these in turn. So it changes with each of them, and also with a
     template whose name other calls or arguments make up, where that shows anything.
     """
-    digest = hashlib.sha256(hashlib.sha256(page).digest() + hashlib.sha256(document).digest())
+    digest = hashlib.sha256(hash_of(page) + html_hash)
     seen, texts = {name}, [page]
     while texts:
-        for called in names_in(texts.pop()):
+        for called in NAMES.of(texts.pop()):
             if called in seen:
                 continue
             seen.add(called)
             text = folder.read_if_there(called)
-            digest.update(hashlib.sha256(called.encode()).digest())
-            digest.update(hashlib.sha256(text).digest() if text is not None else b"absent")
+            digest.update(hash_of(called.encode()))
+            digest.update(hash_of(text) if text is not None else b"absent")
             if text is not None:
                 texts.append(text)
     return f'W/"{revision(page)}/{digest.hexdigest()[:32]}"'
 
 
-@lru_cache(maxsize=4096)
+class NamesOfPages:
+    """Remembers which pages a page names, of the pages that were looked at last."""
+
+    def __init__(self) -> None:
+        self._lock = threading.Lock()
+        self._known: "OrderedDict[bytes, tuple]" = OrderedDict()  # by the hashes of the pages
+        self._count = 0  # of all names, and one for each page
+
+    def of(self, page: bytes) -> tuple:
+        key = hash_of(page)
+        with self._lock:
+            names = self._known.get(key)
+            if names is not None:
+                self._known.move_to_end(key)
+                return names
+        names = names_in(page)
+        with self._lock:
+            if key not in self._known:
+                self._known[key] = names
+                self._count += 1 + len(names)
+            while self._count > MOST_NAMES:
+                self._count -= 1 + len(self._known.popitem(last=False)[1])
+        return names
+
+
+NAMES = NamesOfPages()
+
+
 def names_in(page: bytes) -> tuple:
     """The full names of the pages that calls in a text name in letters, in their order, each once."""
     text = HIDDEN.sub("", page.decode("utf-8", "replace"))

@@ -18,6 +18,8 @@ from .refusals import Refusal
 PAGE_BYTES = 2_097_152  # more than these wtround doesn't take
 STEP = 100_000_000  # nanoseconds, more than the steps of the clock of file systems
 TEMPORARY = ".wtround-serve-"  # begins the names of files that are being written
+NOTE = "user.wtround-serve"  # the attribute of a page's file that tells which save made it
+MOST_LOOKED_AT = 20_000  # files; to look at all of more takes longer than to make a page's HTML
 
 
 def full_name(text: str) -> str:
@@ -59,6 +61,29 @@ class PageFolder:
         changed = os.stat(self.path).st_mtime_ns
         return changed if time.time_ns() - changed > STEP else None
 
+    def fingerprint(self) -> Optional[bytes]:
+        """Another one after any page's file came, went or was written: their names, sizes and times.
+
+        Nothing where that can't be told: a file was written just now, so that a clock's step may hide the
+        next time, or there are very many."""
+        digest = hashlib.sha256()
+        latest = time.time_ns() - STEP
+        try:
+            with os.scandir(self.path) as entries:
+                pages = sorted((e for e in entries if e.name.endswith(".wiki")), key=lambda e: e.name)
+            if len(pages) > MOST_LOOKED_AT:
+                return None
+            for entry in pages:
+                for follows in (False, True) if entry.is_symlink() else (False,):
+                    told = entry.stat(follow_symlinks=follows)
+                    if max(told.st_mtime_ns, told.st_ctime_ns) > latest:
+                        return None
+                    numbers = (told.st_dev, told.st_ino, told.st_size, told.st_mtime_ns, told.st_ctime_ns)
+                    digest.update(f"{entry.name}\0{numbers}\0".encode("utf-8", "surrogateescape"))
+        except OSError:  # a file went meanwhile, or a link leads nowhere
+            return None
+        return digest.digest()
+
     def read(self, name: str) -> bytes:
         """The page of a full name, as its bytes. Refuses with 404 where there is none."""
         data = self.read_if_there(name)
@@ -95,9 +120,9 @@ class PageFolder:
         finally:
             os.close(folder)
 
-    def replace(self, name: str, page: bytes) -> None:
+    def replace(self, name: str, page: bytes, note: bytes) -> None:
         """Puts a page in the place of the one that is there: whole, or not at all. When it is done the page
-        outlasts a loss of power."""
+        outlasts a loss of power. `note` tells which save made it, and comes and goes with the file."""
         path = self.file(name)
         temporary = os.path.join(self.path, TEMPORARY + secrets.token_hex(8))
         try:
@@ -105,6 +130,7 @@ class PageFolder:
             with open(temporary, "xb") as file:
                 file.write(page)
                 file.flush()
+                put_note(file.fileno(), note)
                 os.fchmod(file.fileno(), mode)
                 os.fsync(file.fileno())
             os.replace(temporary, path)
@@ -113,6 +139,21 @@ class PageFolder:
             raise Refusal(500, "NotStored", sentence) from None
         finally:
             remove_if_there(temporary)
+        self._confirm_names()
+
+    def note(self, name: str) -> bytes:
+        """The note of the save that made a page's file; empty where there is none."""
+        return note_of(self.file(name))
+
+    def confirm(self, name: str) -> None:
+        """Waits until the disk has a page as it stands, also where the server that wrote it was killed
+        before."""
+        try:
+            with open(self.file(name), "rb", opener=open_regular) as file:
+                os.fsync(file.fileno())
+        except OSError as error:
+            sentence = f"The disk didn't confirm the page: {error.strerror}. Open it again."
+            raise Refusal(500, "NotConfirmed", sentence) from None
         self._confirm_names()
 
     def _confirm_names(self) -> None:
@@ -131,6 +172,21 @@ class PageFolder:
             for name in os.listdir(self.path):
                 if name.startswith(TEMPORARY):
                     remove_if_there(os.path.join(self.path, name))
+
+
+def put_note(file: int, note: bytes) -> None:
+    """Where the file system keeps no such attributes a save that is sent again isn't known again."""
+    try:
+        os.setxattr(file, NOTE, note)
+    except (OSError, AttributeError):
+        pass
+
+
+def note_of(path: str) -> bytes:
+    try:
+        return os.getxattr(path, NOTE)
+    except (OSError, AttributeError):  # nobody put one, or the system has no such attributes
+        return b""
 
 
 def title_of_file(file: str) -> Optional[str]:

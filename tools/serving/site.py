@@ -15,12 +15,11 @@ from typing import Callable, Dict, List, Optional, Tuple
 from urllib.parse import quote
 
 from . import bodies, documents
-from .differences import unified
-from .fingerprints import etag, names_tag
+from .fingerprints import etag, hash_of, names_tag, tags_of
 from .mending import marked, mended
 from .other_tools import titles
 from .pages import PAGE_BYTES, PageFolder, full_name, remove_if_there, revision
-from .prepared import Edit, PreparedEdits
+from .prepared import Edit, Kept, PreparedEdits, State
 from .program import Program
 from .refusals import Refusal
 
@@ -77,9 +76,10 @@ class Site:
         self.folder = folder
         self.program = program
         self._texts = TextRoom(folder)
-        self._prepared = PreparedEdits()
+        self._prepared = PreparedEdits(self._state_of)
 
     def close(self) -> None:
+        self._prepared.close()
         self._texts.close()
         self.program.close()
 
@@ -104,19 +104,22 @@ class Site:
     def page_html(self, request: Request, title: str, wanted: Optional[str] = None) -> Answer:
         check_accepted(request.headers.get("accept", ""))
         name = full_name(title)
-        page, document, tag = self._taken(name)
+        page, state = self._taken(name)
         self._check_revision(page, wanted)
-        headers = {"ETag": tag, "Vary": "Accept"}
-        if names_tag(request.headers.get("if-none-match", ""), tag):
+        headers = {"ETag": state.tag, "Vary": "Accept"}
+        if names_tag(request.headers.get("if-none-match", ""), state.tag):
             return Answer(b"", HTML_TYPE, 304, headers)
-        return Answer(shaped(document, page, request.query), HTML_TYPE, 200, headers)
+        return Answer(shaped(state.document, page, request.query), HTML_TYPE, 200, headers)
 
-    def _taken(self, name: str) -> Tuple[bytes, bytes, str]:
-        """A page, its HTML, and the tag of both. Where the page changes meanwhile the tag is that of no
+    def _taken(self, name: str) -> Tuple[bytes, State]:
+        """A page, and its HTML with the tag of both. Where the page changes meanwhile the tag is that of no
         page."""
         page = self.folder.read(name)
-        document = self.program.html(name)
-        return page, document, etag(self.folder, name, page, document)
+        return page, self._state(name, page, self.program.html(name))
+
+    def _state(self, name: str, page: bytes, document: bytes) -> State:
+        html_hash = hash_of(document)
+        return State(document, html_hash, etag(self.folder, name, page, html_hash))
 
     def page_wikitext(self, request: Request, title: str, wanted: Optional[str] = None) -> Answer:
         page = self.folder.read(full_name(title))
@@ -172,62 +175,125 @@ class Site:
             sentence = "Send the ETag that came with the HTML as If-Match, so that no other change is lost."
             raise Refusal(428, "NoIfMatch", sentence)
         fields = request.fields(json_alone=True)
+        kept = None
         if "prepared" in fields:
-            edit = self._prepared.find(bodies.text_field(fields, "prepared"), name)
+            kept = self._prepared.find(bodies.text_field(fields, "prepared"), name)
+        try:
+            if bodies.flag(request.query.get("preview")):
+                return self._shown(request, name, fields, kept)
+            return self._stored(request, kept or Kept(self._edited(request, name, fields), None))
+        except Refusal as refusal:
+            if refusal.error != "Stale":
+                raise
+            sent = kept.edit.sent if kept else sent_in(request, name, fields)
+            answer = self._stored_before(request, name, sent)
+            if answer is None:
+                raise
+            return answer
+
+    def _shown(self, request: Request, name: str, fields: Dict[str, object], kept: Optional[Kept]) -> Answer:
+        """Keeps an edit, and tells what it would change. Of one that is kept already it tells that again, if
+        nothing has changed since."""
+        if kept is not None:
+            edit, word = kept.edit, bodies.text_field(fields, "prepared")
+            self._check_tag(request, edit.tag)
+            if not self._is_still(edit) and self._taken(name)[1].tag != edit.tag:
+                raise Refusal(412, "Stale", STALE)
         else:
             edit = self._edited(request, name, fields)
-        found = {
-            "changed": edit.is_changed,
-            "diff": unified(edit.page.decode(), edit.new.decode(), titles.file_name(name)),
-            "bytes_before": len(edit.page),
-            "bytes_after": len(edit.new),
-            "revision": revision(edit.new),
-        }
-        if bodies.flag(request.query.get("preview")):
-            self._check_tag(request, edit.tag)
-            return saved({**found, "etag": edit.tag, "prepared": self._prepared.keep(edit)})
+            if "instead" in fields:
+                self._prepared.forget(bodies.text_field(fields, "instead"), name)
+            word = self._prepared.keep(edit)
+        return saved({**changes_of(edit), "etag": edit.tag, "prepared": word})
+
+    def _stored(self, request: Request, kept: Kept) -> Answer:
+        """Stores an edit."""
+        edit, made = kept.edit, kept.state()
         with self.folder.locked():
-            document, found["etag"] = self._state_then(request, edit)
+            state = self._state_then(request, edit, made)
+            found = {**changes_of(edit), "etag": state.tag}
             if bodies.flag(request.query.get("html")):
-                found["html"] = shaped(document, edit.new, request.query).decode()
+                found["html"] = shaped(state.document, edit.new, request.query).decode()
             answer = saved(found)
             if edit.is_changed:
-                self.folder.replace(name, edit.new)  # behind it nothing is left but to send the answer
-        return answer
+                self.folder.replace(edit.name, edit.new, note_of_save(edit.tag, edit.sent, edit.new))
+        return answer  # behind its storing nothing is left but to send it
+
+    def _stored_before(self, request: Request, name: str, sent: str) -> Optional[Answer]:
+        """The answer to a save that was stored already, and its answer lost, as where the server was killed;
+        nothing where the page as it stands isn't what this save made of the state that it names."""
+        if bodies.flag(request.query.get("preview")):
+            return None
+        with self.folder.locked():
+            page = self.folder.read(name)
+            tag = tag_before(self.folder.note(name), sent, page)
+            if tag is None or not names_tag(request.headers["if-match"], tag):
+                return None
+            self.folder.confirm(name)
+            state = self._state(name, page, self.program.html(name))
+        same = Edit(name, state.tag, page, page, sent, None, state.html_hash)
+        found = {**changes_of(same), "etag": state.tag, "stored_before": True}
+        if bodies.flag(request.query.get("html")):
+            found["html"] = shaped(state.document, page, request.query).decode()
+        return saved(found)
 
     def _edited(self, request: Request, name: str, fields: Dict[str, object]) -> Edit:
         """The new page of an edit. HTML that bears a mark was made for `edit`, and is given on as it is while
         the page's tag is looked at; other HTML is mended and marked first."""
         document = bodies.encoded(bodies.text_field(fields, "html"))
+        fingerprint = self.folder.fingerprint()
         with ThreadPoolExecutor(1) as pool:
             early = pool.submit(self.program.edit, name, document) if MARK.search(document) else None
-            page, original, tag = self._taken(name)
-            self._check_tag(request, tag)
+            page, state = self._taken(name)
+            self._check_tag(request, state.tag)
             if early is not None:
-                return Edit(name, tag, page, early.result())
-        check_length(document)
-        check_kept(document, original)
-        unit = request.query.get("offsetType") or fields.get("offsetType")
-        original = documents.in_form_of(document, original, page, str(unit or "byte"))
-        new = self.program.edit(name, marked(document.decode(), original.decode()).encode())
-        return Edit(name, tag, page, new)
+                new = early.result()
+            else:
+                check_length(document)
+                check_kept(document, state.document)
+                original = documents.in_form_of(document, state.document, page, unit_of(request, fields))
+                new = self.program.edit(name, marked(document.decode(), original.decode()).encode())
+        return Edit(name, state.tag, page, new, sent_in(request, name, fields), fingerprint, state.html_hash)
 
-    def _state_then(self, request: Request, edit: Edit) -> Tuple[bytes, str]:
-        """The HTML and the tag that the page has once its text is the new one. Refuses where anything has
-        changed since the edit."""
+    def _state_then(self, request: Request, edit: Edit, made: Optional[State]) -> State:
+        """The state that the page has once its text is the new one; `made`: as it was made before. Refuses
+        where anything has changed since the edit."""
+        if made is not None and self._is_untouched(edit, made):
+            self._check_tag(request, edit.tag)
+            return made
         with ThreadPoolExecutor(1) as pool:
-            after = pool.submit(self._taken_of_text, edit.name, edit.new) if edit.is_changed else None
-            _, document, tag = self._taken(edit.name)
-            self._check_tag(request, tag)
-            if tag != edit.tag:
-                raise Refusal(412, "Stale", STALE, headers={"ETag": tag})
-            return after.result() if after is not None else (document, tag)
+            after = pool.submit(self._state_of, edit) if edit.is_changed else None
+            _, now = self._taken(edit.name)
+            self._check_tag(request, now.tag)
+            if now.tag != edit.tag:
+                raise Refusal(412, "Stale", STALE, headers={"ETag": now.tag})
+            return after.result() if after is not None else now
 
-    def _taken_of_text(self, name: str, text: bytes) -> Tuple[bytes, str]:
-        """The HTML and the tag that a page will have once this is its text."""
-        with self._texts.page(text) as (room, text_name):
+    def _is_untouched(self, edit: Edit, state: State) -> bool:
+        """Whether the HTML from which an edit was made, and that of the state that it leads to, are what they
+        would be if they were made now."""
+        is_still = self._is_still(edit)
+        return is_still and etag(self.folder, edit.name, edit.new, state.html_hash) == state.tag
+
+    def _is_still(self, edit: Edit) -> bool:
+        """Whether the page has the state from which an edit was made: no file of the folder was written
+        since, and what is named in letters is read again besides."""
+        if edit.fingerprint is None or self.folder.fingerprint() != edit.fingerprint:
+            return False
+        return etag(self.folder, edit.name, self.folder.read(edit.name), edit.html_hash) == edit.tag
+
+    def _state_of(self, edit: Edit) -> State:
+        """The state that a page will have once an edit is stored."""
+        with self._texts.page(edit.new) as (room, text_name):
             document = self.program.html(text_name, room)
-        return document, etag(self.folder, name, text, document)
+        return self._state(edit.name, edit.new, document)
+
+    def prepared_html(self, request: Request, title: str, word: str) -> Answer:
+        """The HTML that a page will have once an edit that was shown is stored, and the tag of that state."""
+        kept = self._prepared.find(word, full_name(title))
+        state = kept.state() or self._state_of(kept.edit)
+        document = shaped(state.document, kept.edit.new, request.query)
+        return Answer(document, HTML_TYPE, 200, {"ETag": state.tag})
 
     def _check_tag(self, request: Request, tag: str) -> None:
         wanted = request.headers.get("if-match")
@@ -348,6 +414,38 @@ def shaped(document: bytes, page: bytes, options: Dict[str, str]) -> bytes:
     return documents.body_of(document) if bodies.flag(options.get("body_only")) else document
 
 
+def unit_of(request: Request, fields: Dict[str, object]) -> str:
+    return str(request.query.get("offsetType") or fields.get("offsetType") or "byte")
+
+
+def sent_in(request: Request, name: str, fields: Dict[str, object]) -> str:
+    """A hash of the edit that a request sends: the same one for the same edit of the same page."""
+    about = json.dumps([name, unit_of(request, fields)]).encode()
+    return hash_of(hash_of(about) + bodies.encoded(bodies.text_field(fields, "html"))).hex()
+
+
+def note_of_save(tag: str, sent: str, new: bytes) -> bytes:
+    """What is kept of a save: which state it was made of, what was sent, which page it made."""
+    return f"{sent} {hash_of(new).hex()} {tag}".encode()
+
+
+def tag_before(note: bytes, sent: str, page: bytes) -> Optional[str]:
+    """The tag of the state of which a save made this page, where the note is of one that sent this."""
+    start = note_of_save("", sent, page)
+    tag = note[len(start) :].decode("ascii", "replace")
+    return tag if note.startswith(start) and tags_of(tag) else None
+
+
+def changes_of(edit: Edit) -> Dict[str, object]:
+    return {
+        "changed": edit.is_changed,
+        "diff": edit.diff,
+        "bytes_before": len(edit.page),
+        "bytes_after": len(edit.new),
+        "revision": revision(edit.new),
+    }
+
+
 def saved(found: Dict[str, object]) -> Answer:
     body = json.dumps(found, ensure_ascii=False).encode() + b"\n"
     return Answer(body, JSON_TYPE, 200, {"ETag": str(found["etag"])})
@@ -417,6 +515,7 @@ ROUTES = [
         ("GET", "/client/{part}/{file}", Site.static),
         ("GET", "/client/{part}/{part}/{file}", Site.static),
         ("POST", "/save/{title}", Site.save),
+        ("GET", "/prepared/{title}/{word}", Site.prepared_html),
         ("GET", "/{domain}/v3/page/html/{title}/{revision?}", Site.page_html),
         ("GET", "/{domain}/v3/page/wikitext/{title}/{revision?}", Site.page_wikitext),
         ("POST", "/{domain}/v3/transform/html/to/wikitext/{title?}/{revision?}", Site.to_wikitext),

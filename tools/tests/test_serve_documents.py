@@ -10,6 +10,7 @@ import unittest
 from html.parser import HTMLParser
 from pathlib import Path
 from typing import Iterator, List, Tuple
+from unittest import mock
 
 from loading import REPOSITORY
 from serving_case import ServingCase
@@ -289,6 +290,18 @@ class Calls(unittest.TestCase):
         }.items():
             with self.subTest(text=text):
                 self.assertEqual(fingerprints.names_in(text.encode()), names)
+
+    def test_names_that_are_remembered(self) -> None:
+        """The pages that were looked at last, up to a number of names in all."""
+        names = fingerprints.NamesOfPages()
+        with mock.patch.object(fingerprints, "MOST_NAMES", 50):
+            for k in range(40):
+                self.assertEqual(names.of(b"{{c%d}}{{b}}" % k), (f"Template:C{k}", "Template:B"))
+                self.assertEqual(names.of(b"{{kept}}"), ("Template:Kept",))
+            with mock.patch.object(fingerprints, "names_in", side_effect=AssertionError("it was read again")):
+                self.assertEqual(names.of(b"{{kept}}"), ("Template:Kept",))
+                with self.assertRaises(AssertionError):
+                    names.of(b"{{c0}}{{b}}")
 
     def test_tags(self) -> None:
         for field, tags in {

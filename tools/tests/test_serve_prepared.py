@@ -1,7 +1,9 @@
 """What a preview made is stored by its word; HTML with sources alone; what the disk doesn't confirm."""
 import errno
 import json
+import os
 import re
+import time
 import unittest
 from typing import Dict, Tuple
 from unittest import mock
@@ -9,7 +11,9 @@ from urllib.parse import quote
 
 from serving_case import ServingCase, edited
 
-from serving.prepared import MOST_KEPT  # (serving_case has put the tools on the path)
+from serving.pages import STEP, PageFolder  # (serving_case has put the tools on the path)
+from serving.prepared import MOST_KEPT
+from serving.program import Program
 
 
 def revision_of(tag: str) -> int:
@@ -51,12 +55,117 @@ class Prepared(ServingCase):
         body = {"prepared": shown["prepared"]}
         status, told = self.store(body, tag)
         self.assertEqual(status, 200)
-        for later in (tag, told["etag"], f"{tag}, {told['etag']}"):
-            self.assertEqual(self.store(body, later)[1]["error"], "Stale")
+        stored = self.stored()
+        self.assertEqual(self.store(body, told["etag"])[1]["error"], "Stale")
+        for later in (tag, f"{tag}, {told['etag']}"):  # sent again: it is stored already
+            status, again = self.store(body, later)
+            self.assertEqual((status, again["stored_before"], again["changed"]), (200, True, False))
+            self.assertEqual(again["etag"], told["etag"])
+        (self.pages / "Opava.wiki").write_text(self.page() + "other")
+        self.assertEqual(self.store(body, tag)[1]["error"], "Stale")
+        self.assertEqual({**self.stored(), "Opava.wiki": stored["Opava.wiki"]}, stored)
+
+    def settled(self) -> Tuple[str, Dict]:
+        """A preview long enough after the last file was written that no clock's step hides the next one."""
+        time.sleep(2 * STEP / 1e9)
+        return self.preview()
+
+    def test_it_is_stored_without_running_the_program(self) -> None:
+        """The HTML was made while its changes were shown, and no file was written since."""
+        tag, shown = self.settled()
+        wanted = self.coming(shown)
+        with mock.patch.object(Program, "_run", side_effect=AssertionError("the program was run")):
+            status, told = self.store({"prepared": shown["prepared"]}, tag, "?html=1")
+        self.assertEqual((status, told["html"], told["etag"]), (200, *wanted))
+        self.assertEqual(self.html("Opava"), wanted)
+
+    def coming(self, shown: Dict, query: str = "", title: str = "Opava") -> Tuple[str, str]:
+        status, headers, body = self.ask("GET", f"/prepared/{title}/{shown['prepared']}{query}")
+        self.assertEqual(status, 200, body)
+        return body.decode(), headers["etag"]
+
+    def test_the_page_that_will_be(self) -> None:
+        stored = self.stored()
+        tag, shown = self.preview()
+        wanted = self.coming(shown, "?data_parsoid=sources")
+        self.assertEqual(self.stored(), stored)
+        status, told = self.store({"prepared": shown["prepared"]}, tag)
+        self.assertEqual((status, told["etag"]), (200, wanted[1]))
+        self.assertEqual(self.html("Opava", "?data_parsoid=sources"), wanted)
+        for title, word in [("Opava", "0" * 32), ("Main%20Page", shown["prepared"])]:
+            self.assertEqual(self.ask("GET", f"/prepared/{title}/{word}")[0], 410)
+        self.assertEqual(self.ask("POST", f"/prepared/Opava/{shown['prepared']}", b"")[0], 405)
+
+    def test_it_is_shown_again(self) -> None:
+        """By its word, while the page is the one that was edited."""
+        tag, shown = self.settled()
+        body = {"prepared": shown["prepared"]}
+        path = self.pages / "Template%3ALang.wiki"
+        before = path.read_text()
+        self.assertEqual(self.store(body, tag, "?preview=1"), (200, shown))
+        self.assertEqual(self.store(body, 'W/"1/2"', "?preview=1")[0], 412)
+        path.write_text(before + "!")
+        self.assertEqual(self.store(body, tag, "?preview=1")[0], 412)
+        path.write_text(before)  # the times of the files differ now
+        self.assertEqual(self.store(body, tag, "?preview=1"), (200, shown))
+        self.assertIn("is a town in", self.page())
+
+    def test_an_edit_that_takes_the_place_of_another(self) -> None:
+        html, tag = self.html("Opava")
+        (self.pages / "Copy.wiki").write_text(self.page())
+        other_tag, other = self.preview("Copy")
+        _, shown = self.preview()
+        for given in (shown["prepared"], other["prepared"], "0" * 32):
+            body = {"html": edited(html), "instead": given}
+            self.assertEqual(self.store(body, tag, "?preview=1")[0], 200)
+        self.assertEqual(self.store({"prepared": shown["prepared"]}, tag, "?preview=1")[0], 410)
+        self.assertEqual(self.store({"prepared": other["prepared"]}, other_tag, "", "Copy")[0], 200)
+        self.assertEqual(self.store({"html": edited(html), "instead": 5}, tag, "?preview=1")[0], 400)
+
+    def test_states_that_are_too_much_to_keep(self) -> None:
+        with mock.patch("serving.prepared.MOST_BYTES", 10):
+            tag, shown = self.settled()
+            wanted = self.coming(shown)
+            runs = mock.patch.object(Program, "_run", autospec=True, side_effect=Program._run)
+            with runs as run:
+                status, told = self.store({"prepared": shown["prepared"]}, tag)
+            self.assertGreater(run.call_count, 0)
+        self.assertEqual((status, told["etag"]), (200, wanted[1]))
+
+    def test_a_template_whose_name_another_one_makes(self) -> None:
+        """What changes what is shown makes the edit stale, though no call names it in letters."""
+        (self.pages / "Template%3APick.wiki").write_text("Inner")
+        (self.pages / "Template%3AInner.wiki").write_text("inner")
+        (self.pages / "Opava.wiki").write_text(self.page() + "\n{{ {{pick}} }}\n")
+        for text, status in [("inner<!-- c -->", 200), ("other", 412)]:
+            tag, shown = self.settled()
+            self.coming(shown)
+            (self.pages / "Template%3AInner.wiki").write_text(text)
+            stored = self.stored()
+            with self.subTest(text=text):
+                self.assertEqual(self.store({"prepared": shown["prepared"]}, tag)[0], status)
+                self.assertEqual(self.stored() == stored, status == 412)
+            (self.pages / "Opava.wiki").write_text(self.page().replace("is an old town in", "is a town in"))
+
+    def test_files_that_were_written_unseen(self) -> None:
+        """A page that is put back with the same size and times, and one of which only the bytes tell."""
+        for name in ("Template%3ALang.wiki", "Opava.wiki"):
+            tag, shown = self.settled()
+            self.coming(shown)
+            path = self.pages / name
+            before, times = path.read_text(), os.stat(path)
+            path.write_text(before.swapcase())
+            os.utime(path, ns=(times.st_atime_ns, times.st_mtime_ns))
+            fingerprint = self.server.site._prepared.find(shown["prepared"], "Opava").edit.fingerprint
+            self.assertIsNotNone(fingerprint)
+            self.assertNotEqual(PageFolder.fingerprint(self.server.site.folder), fingerprint)
+            with mock.patch.object(PageFolder, "fingerprint", return_value=fingerprint):
+                self.assertEqual(self.store({"prepared": shown["prepared"]}, tag)[0], 412)
+            path.write_text(before)
 
     def test_it_is_stale_when_a_page_changed(self) -> None:
         for name, text in [("Template%3ALang.wiki", "<b>{{{2}}}</b>"), ("Opava.wiki", "other")]:
-            tag, shown = self.preview()
+            tag, shown = self.settled()
             (self.pages / name).write_text(text)
             stored = self.stored()
             status, told = self.store({"prepared": shown["prepared"]}, tag)

@@ -1,5 +1,7 @@
 """Several savers at once, and savers that are killed: a page is whole, and stored only where 200 was
 answered."""
+import errno
+import hashlib
 import http.client
 import json
 import os
@@ -12,10 +14,14 @@ import sys
 import threading
 import time
 import unittest
+from pathlib import Path
 from unittest import mock
 
 from loading import REPOSITORY, TOOLS
 from serving_case import PROGRAM, SECONDS, ServingCase
+
+from serving.pages import PageFolder, note_of, put_note  # (serving_case has put the tools on the path)
+from serving.site import Request, sent_in
 
 SAVERS = 4
 ROUNDS = 5
@@ -114,7 +120,8 @@ class SaversAtOnce(ServingCase):
             changer.join()
 
 
-# Runs the server, which kills itself directly before or after a page takes its new name.
+# Runs the server, which kills itself directly before or after a page takes its new name, or once the disk has
+# confirmed it.
 SUICIDE = """
 import os, runpy, signal, sys
 when, tool, sys.argv[:] = sys.argv[1], sys.argv[2], sys.argv[2:]
@@ -123,12 +130,26 @@ sys.dont_write_bytecode = True
 from serving.pages import PageFolder
 replace = PageFolder.replace
 def killed(*words):
-    if when == "after":
+    if when == "confirmed":
         replace(*words)
     os.kill(os.getpid(), signal.SIGKILL)
-PageFolder.replace = killed
+if when == "after":
+    PageFolder._confirm_names = killed
+else:
+    PageFolder.replace = killed
 runpy.run_path(tool, run_name="__main__")
 """
+
+
+def keeps_notes(folder: Path) -> bool:
+    """Whether the file system keeps the attribute by which a save is known again."""
+    path = folder / "note"
+    path.touch()
+    with path.open() as file:
+        put_note(file.fileno(), b"note")
+    kept = note_of(str(path))
+    path.unlink()
+    return kept == b"note"
 
 
 class Kills(ServingCase):
@@ -218,18 +239,87 @@ class Kills(ServingCase):
 
     def test_a_kill_beside_the_storing(self) -> None:
         """Directly before a page takes its new name and directly after it nothing of an answer was sent."""
-        for when in ("before", "after"):
+        for when in ("before", "after", "confirmed"):
             with self.subTest(when=when):
-                process, port = self.start_process("-c", SUICIDE, when)
                 before = self.page()
-                _, tag, told = self.prepared(when, port)
-                body = json.dumps({"prepared": told["prepared"]})
-                head = f"POST /save/Opava HTTP/1.1\r\nHost: localhost\r\nIf-Match: {tag}\r\n"
-                about = f"Content-Type: application/json\r\nContent-Length: {len(body)}\r\n\r\n"
-                self.assertEqual(self.raw((head + about + body).encode(), port=port), b"")
-                self.assertEqual(process.wait(SECONDS), -signal.SIGKILL)
-                self.assertEqual(self.page() != before, when == "after")
-                self.assertEqual(self.is_stored(told), when == "after")
+                _, _, told = self.killed_when_storing(when, by_word=True)
+                self.assertEqual(self.page() != before, when != "before")
+                self.assertEqual(self.is_stored(told), when != "before")
+
+    def killed_when_storing(self, when: str, by_word: bool) -> tuple:
+        """An edit that a server was to store which killed itself, its tag, and what its preview told."""
+        process, port = self.start_process("-c", SUICIDE, when)
+        document, tag, told = self.prepared(when, port)
+        body = json.dumps({"prepared": told["prepared"]} if by_word else {"html": document}).encode()
+        head = f"POST /save/Opava HTTP/1.1\r\nHost: localhost\r\nIf-Match: {tag}\r\n"
+        about = f"Content-Type: application/json\r\nContent-Length: {len(body)}\r\n\r\n"
+        self.assertEqual(self.raw((head + about).encode() + body, port=port), b"")
+        self.assertEqual(process.wait(SECONDS), -signal.SIGKILL)
+        return document, tag, told
+
+    def test_a_save_that_is_sent_again_after_a_kill(self) -> None:
+        """Whatever is stored is answered 200 as soon as it is asked; another edit of the same state isn't."""
+        if not keeps_notes(self.root):
+            self.skipTest("the file system here keeps no attributes of files")
+        for by_word in (True, False):
+            for when in ("before", "after", "confirmed"):
+                with self.subTest(when=when, by_word=by_word):
+                    self.send_again(when, by_word)
+
+    def send_again(self, when: str, by_word: bool) -> None:
+        before = self.page()
+        document, tag, told = self.killed_when_storing(when, by_word)
+        server = self.start()
+        port, found = server.server_address[1], self.page()
+        after = before.replace("live there today.", f"live there today. {when}", 1)
+        self.assertEqual(found, before if when == "before" else after)
+        body = json.dumps({"prepared": told["prepared"]}).encode()
+        headers = {"Content_Type": "application/json", "If_Match": tag}
+        self.assertEqual(self.ask("POST", "/save/Opava", body, port, **headers)[0], 410)
+        if when != "before":
+            for other, given in [
+                (with_word(document, "else"), tag),
+                (document + " ", tag),
+                (document, 'W/"1/2"'),
+                (document, tag[:-2] + '"'),
+            ]:
+                status, refused = self.save("Opava", other, given, port=port)
+                self.assertEqual((status, refused["error"]), (412, "Stale"))
+            status, refused = self.save("Opava", document, tag, "?preview=1", port=port)
+            self.assertEqual((status, refused["error"], self.page()), (412, "Stale", after))
+        for again in (when != "before", True):
+            status, answer = self.save("Opava", document, tag, "?html=1", port=port)
+            self.assertEqual((status, answer.get("stored_before", False)), (200, again), answer)
+            self.assertEqual(answer["revision"], told["revision"])
+            self.assertEqual((answer["html"], answer["etag"]), self.html("Opava", port=port))
+            self.assertEqual(self.page(), after)
+        (self.pages / "Opava.wiki").write_text(after + "by another")
+        status, refused = self.save("Opava", document, tag, port=port)
+        self.assertEqual((status, refused["error"], self.page()), (412, "Stale", after + "by another"))
+        (self.pages / "Opava.wiki").write_text(before)
+
+    def test_a_save_that_is_sent_again_where_no_note_is_kept(self) -> None:
+        html, tag = self.html("Opava")
+        fault = mock.patch("os.setxattr", side_effect=OSError(errno.ENOTSUP, "no"), create=True)
+        with fault:
+            self.assertEqual(self.save("Opava", with_word(html, "w"), tag)[0], 200)
+        self.assertEqual(self.save("Opava", with_word(html, "w"), tag)[0], 412)
+
+    def test_notes_of_others(self) -> None:
+        """They are nobody's save."""
+        html, tag = self.html("Opava")
+        document = with_word(html, "w")
+        made = hashlib.sha256((self.page() + "x").encode()).hexdigest()
+        request = Request("POST", [], {}, {"if-match": tag}, lambda: b"")
+        sent = sent_in(request, "Opava", {"html": document})
+        (self.pages / "Opava.wiki").write_text(self.page() + "x")
+        start = f"{sent} {made} ".encode()
+        notes = [b"", b"\xff", b"x" * 9000, start, start + b"\xff", start + b"x", start + tag.encode() + b"x"]
+        for note in [*notes, f"{made} {made} {tag}".encode(), f"{sent} {sent} {tag}".encode()]:
+            with self.subTest(note=note[:60]), mock.patch.object(PageFolder, "note", return_value=note):
+                self.assertEqual(self.save("Opava", document, tag)[0], 412)
+        with mock.patch.object(PageFolder, "note", return_value=start + tag.encode()):
+            self.assertEqual(self.save("Opava", document, tag)[0], 200)
 
     def test_an_end_by_signal(self) -> None:
         for number in (signal.SIGINT, signal.SIGTERM):

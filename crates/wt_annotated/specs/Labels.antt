@@ -16,6 +16,7 @@ width items = length (sources items)
 -- The open width of a leaf with so many bytes: of an element all, of what is written as text nothing, and of a group nothing.
 abbrev pub leaf_open : Kind → ℕ → ℕ
 leaf_open kind.Body n = n
+leaf_open (kind.Section s) n = n
 leaf_open kind.Para n = n
 leaf_open (kind.Heading l) n = n
 leaf_open kind.Rule n = n

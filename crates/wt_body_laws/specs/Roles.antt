@@ -22,6 +22,7 @@ pub data Role : Type 0 where
 
 abbrev pub role : Kind → Role
 role kind.Body = outer
+role (kind.Section n) = other
 role kind.Para = lines
 role (kind.Heading n) = lines
 role kind.Rule = lines

@@ -6,6 +6,7 @@ use Rattle.std.specs.Str.{bytes_eq}
 use Rattle.std.proofs.lemmas.Slice.Eq.{bytes_eq-Decides}
 use Rattle.wt_tree.specs.declared.node.DataMw.{DataMw}
 use Rattle.wt_tree.specs.Kinds.{writing}
+use Rattle.wt_tree.specs.Opened.{opened}
 use Rattle.wt_tree.specs.Tiling.{is_group}
 use Rattle.wt_tree.specs.Tree.{Tree, tree, label}
 use Rattle.wt_checks.specs.Alike.{same_kind, same_attrs, same_data}
@@ -148,17 +149,17 @@ is_data (Some c) d (inr e) = (data_decide (Some c) d).1 e
 
 holds_is : (t u : Tree) → holds_same t u ≡ true → HoldsTheSame t u
 holds_is (tree l ts) (tree m us) e =
-    let b = both (bytes_eq (own_character (writing l.kind) l.shown) (own_character (writing m.kind) m.shown)) (same_entries (entries ts) (entries us)) e in
+    let b = both (bytes_eq (own_character (writing l.kind) l.shown) (own_character (writing m.kind) m.shown)) (same_entries (entries (opened ts)) (entries us)) e in
     record {
       character = (bytes_eq-Decides (own_character (writing l.kind) l.shown) (own_character (writing m.kind) m.shown)).0 b.0;
-      held = (entries_decide (entries ts) (entries us)).0 b.1;
+      held = (entries_decide (entries (opened ts)) (entries us)).0 b.1;
     }
 
 is_holding : (t u : Tree) → HoldsTheSame t u → holds_same t u ≡ true
 is_holding (tree l ts) (tree m us) h =
-    of_both (bytes_eq (own_character (writing l.kind) l.shown) (own_character (writing m.kind) m.shown)) (same_entries (entries ts) (entries us))
+    of_both (bytes_eq (own_character (writing l.kind) l.shown) (own_character (writing m.kind) m.shown)) (same_entries (entries (opened ts)) (entries us))
     ((bytes_eq-Decides (own_character (writing l.kind) l.shown) (own_character (writing m.kind) m.shown)).1 h.character)
-    ((entries_decide (entries ts) (entries us)).1 h.held)
+    ((entries_decide (entries (opened ts)) (entries us)).1 h.held)
 
 node_is : (t u : Tree) → not (keeps_face (label t) (label u) && keeps_children t u) ≡ false → NodeAsItWas t u
 node_is t u e =

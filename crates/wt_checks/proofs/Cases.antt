@@ -66,11 +66,21 @@ one_letter = body (node kind.Para 1 (words (codes "a") ∷ []) ∷ [])
 abbrev pub two_lines : Tree
 two_lines = body (node kind.Para 1 (words (codes "a") ∷ []) ∷ gap (codes "\n\n") ∷ node kind.Para 2 (words (codes "b") ∷ []) ∷ [])
 
+-- The same lines in sections: the lead holds the first one, and a section in another one the second.
+abbrev pub in_sections : Tree
+in_sections = body (node (kind.Section 0) 0 (node kind.Para 1 (words (codes "a") ∷ []) ∷ gap (codes "\n\n") ∷ [])
+    ∷ node (kind.Section 1) 0 (node (kind.Section 2) 0 (node kind.Para 2 (words (codes "b") ∷ []) ∷ []) ∷ []) ∷ [])
+
 -- ---- what is accepted
 
 same_tree : checked false two_lines two_lines ≡ None
 unfolding checked same_kind same_data
 same_tree = refl
+
+-- what stands in a section of the page is a child of its body
+same_without_sections : checked false in_sections two_lines ≡ None
+unfolding checked same_kind same_data
+same_without_sections = refl
 
 -- separators aren't compared, and marked content may be anything
 content_changed : checked false two_lines (body
@@ -157,6 +167,14 @@ new_child_of_body = refl
 missing_child_of_body : checked false two_lines (body (node kind.Para 2 (words (codes "b") ∷ []) ∷ [])) ≡ Some (UnmarkedChange 0)
 unfolding checked same_kind same_data
 missing_child_of_body = refl
+
+missing_in_section : checked false in_sections (body (node kind.Para 1 (words (codes "a") ∷ []) ∷ [])) ≡ Some (UnmarkedChange 0)
+unfolding checked same_kind same_data
+missing_in_section = refl
+
+lead_missing : checked false in_sections (body (node kind.Para 2 (words (codes "b") ∷ []) ∷ [])) ≡ Some (UnmarkedChange 0)
+unfolding checked same_kind same_data
+lead_missing = refl
 
 attribute_changed : checked false
     (body (node kind.Para 1 (with_attrs ((attr.Href, codes "./A") ∷ []) kind.WikiLink 2 (words (codes "a") ∷ []) ∷ []) ∷ []))

@@ -11,7 +11,7 @@ use Rattle.wt_tree.specs.Tree.{Tree, tree, Trees, none, more, label, listed}
 use Rattle.wt_checks.specs.Ids.{has_parent}
 use Rattle.wt_checks.specs.Kept.{children, InOrder}
 use Rattle.wt_checks.specs.Places.{Place, placed, all_placed, places, number, kind_at, is_kept, is_body, is_content, Page, page_of, parent_below}
-use Rattle.wt_checks.specs.PutBack.{has_body, have_body, IsOneBody, TextsHoldNoNumber}
+use Rattle.wt_checks.specs.PutBack.{is_frame, has_frame, have_frame, IsOneBody, TextsHoldNoNumber}
 use Rattle.wt_checks.specs.Tokens.{is_text}
 use Rattle.wt_checks.proofs.Found.{Itself, each_itself, found_has, Inner, inner_by, own_by, body_no_group}
 use Rattle.wt_checks.proofs.InOrder.{Increasing, Right, all_right, kept_not_zero, not_zero_kept, same_by}
@@ -121,9 +121,10 @@ root_below page (tree l ts) n b e s r z o =
           (ap (λ k. page (parent_below 0 k)) n ∙ e) (λ t i. i) s.1 r w.0 w.1,
     )
 
--- what has no number by its kind is a body or a text
-pub unnumbered_text : (k : Kind) → is_numbered k ≡ false → is_body k ≡ false → is_text (writing k) ≡ true
+-- what has no number by its kind is a body, a section or a text
+pub unnumbered_text : (k : Kind) → is_numbered k ≡ false → is_frame k ≡ false → is_text (writing k) ≡ true
 unnumbered_text kind.Body n b = absurd (cc)
+unnumbered_text (kind.Section s) n b = absurd (cc)
 unnumbered_text kind.Sep n b = refl
 unnumbered_text kind.Text n b = refl
 unnumbered_text k n b = absurd (cc)
@@ -134,17 +135,17 @@ TextFree p = is_text (writing (kind_at p)) ≡ true → AllZero (ids_of_all (chi
 
 -- below the only body, where texts hold no number
 mutual
-  free_below : (parent : ℕ) (within : Bool) (t : Tree) → has_body t ≡ false → AllByRecursion TextFree (placed parent within t)
+  free_below : (parent : ℕ) (within : Bool) (t : Tree) → has_frame t ≡ false → AllByRecursion TextFree (placed parent within t)
       → AllByRecursion UnnumberedFree (placed parent within t)
   free_below parent within (tree l ts) b f =
-      let c = or_false (is_body l.kind) (have_body ts) b in
+      let c = or_false (is_frame l.kind) (have_frame ts) b in
       ((λ n. f.0 (unnumbered_text l.kind n c.0)), all_free_below (parent_below parent l.id) (within || is_content l.mark) ts c.1 f.1)
 
-  all_free_below : (parent : ℕ) (within : Bool) (ts : Trees) → have_body ts ≡ false → AllByRecursion TextFree (all_placed parent within ts)
+  all_free_below : (parent : ℕ) (within : Bool) (ts : Trees) → have_frame ts ≡ false → AllByRecursion TextFree (all_placed parent within ts)
       → AllByRecursion UnnumberedFree (all_placed parent within ts)
   all_free_below parent within none b f = tt
   all_free_below parent within (more t ts) b f =
-      let c = or_false (has_body t) (have_body ts) b in
+      let c = or_false (has_frame t) (have_frame ts) b in
       let s = each_split TextFree (placed parent within t) (all_placed parent within ts) f in
       each_join UnnumberedFree (placed parent within t) (all_placed parent within ts) (free_below parent within t c.0 s.0)
       (all_free_below parent within ts c.1 s.1)

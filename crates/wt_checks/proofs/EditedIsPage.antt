@@ -88,7 +88,7 @@ root_for : (page u : Tree) → IsOneBody page → PageNodes page → is_body (la
     → IsFor (page_of page) (label u) (record { node = page; parent = 0; in_content = false })
 root_for page u b n r z e =
     for_body (page_of page) (label u) (record { node = page; parent = 0; in_content = false }) r (ap (page_of page) z ∙ n.root) (e ∙ sym z)
-    (body_no_group (label page).kind b.root) n.root_found n.known
+    (body_no_group (label page).kind b.root) n.root_found n.known n.root_bare
 
 -- the root of the edited tree has no number
 pub edited_root : (values : Bool) (page edited : Tree) → IsOneBody page → InPreorder page → is_body (label edited).kind ≡ true

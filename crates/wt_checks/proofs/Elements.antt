@@ -6,7 +6,7 @@ use Rattle.wt_tree.specs.declared.kind.Showing.TheVariants.{Characters, Inside, 
 use Rattle.wt_tree.specs.declared.node.Node.{Node, out-Node}
 use Rattle.wt_tree.specs.Kinds.{showing, writing}
 use Rattle.wt_tree.specs.declared.row.Writing.{Writing}
-use Rattle.wt_tree.specs.declared.row.Writing.TheVariants.{AsText, AsVoid, RoundCharacter, RoundChildren, Unwritten}
+use Rattle.wt_tree.specs.declared.row.Writing.TheVariants.{AsText, AsVoid, RoundCharacter, RoundChildren, AsSection, Unwritten}
 use Rattle.std.specs.Prelude.{if◌then◌else◌}
 use Rattle.wt_tree.specs.Plain.{face, text, element, Plains, ended, along}
 use Rattle.wt_tree.specs.Tree.{Label, Tree, tree}
@@ -122,6 +122,7 @@ node_by AsText Element l held = refl
 node_by AsVoid s l held = append-nil (bracket (opens (face l)) ∷ (signs_in held ++ (bracket closes ∷ [])))
 node_by RoundCharacter s l held = append-nil (bracket (opens (face l)) ∷ ((map byte l.shown ++ signs_in held) ++ (bracket closes ∷ [])))
 node_by RoundChildren s l held = append-nil (bracket (opens (face l)) ∷ (signs_in held ++ (bracket closes ∷ [])))
+node_by (AsSection n) s l held = append-nil (bracket (opens (face l)) ∷ (signs_in held ++ (bracket closes ∷ [])))
 node_by Unwritten s l held = append-nil (bracket (opens (face l)) ∷ (signs_in held ++ (bracket closes ∷ [])))
 
 -- one node
@@ -143,6 +144,7 @@ before_by AsVoid s l held rest = ap (λ (ss : List Sign). ss ++ signs_in rest) (
 before_by RoundCharacter s l held rest = ap (λ (ss : List Sign). ss ++ signs_in rest)
     (sym (append-nil (signs_of (element (face l) (along (text l.shown) held)))))
 before_by RoundChildren s l held rest = ap (λ (ss : List Sign). ss ++ signs_in rest) (sym (append-nil (signs_of (element (face l) held))))
+before_by (AsSection n) s l held rest = ap (λ (ss : List Sign). ss ++ signs_in rest) (sym (append-nil (signs_of (element (face l) held))))
 before_by Unwritten s l held rest = ap (λ (ss : List Sign). ss ++ signs_in rest) (sym (append-nil (signs_of (element (face l) held))))
 
 before_rest : (t : Tree) (rest : Plains) → signs_in (read_before t rest) ≡ signs_in (read_before t ended) ++ signs_in rest

@@ -59,49 +59,12 @@ compared_from_end ns from i ge le later same =
     let e : i ≡ length ns = omega arith in
     record { later = omega arith; within = omega arith; same = same ∙ ap (λ k. entries_of (drop k ns)) e; first = λ m h q. absurd (omega (arith, h)) }
 
--- from places on of which both are compared, or one is the end
-nothing_left : (ns : List Node) (i : ℕ) → i ≡ length ns → entries_of (drop i ns) ≡ []
+-- from the end on nothing is compared
+pub nothing_left : (ns : List Node) (i : ℕ) → i ≡ length ns → entries_of (drop i ns) ≡ []
 nothing_left ns i e = ap entries_of (drop_all i ns (omega arith))
 
-pub one_turn : (ms ns : List Node) (i j : ℕ) (m n : Node) → ComparedFrom ms i i → ComparedFrom ns j j → i < length ms
-    → j < length ns → m ≡ get_or ms i m → n ≡ get_or ns j n
-    → same_entries (entries_of (drop i ms)) (entries_of (drop j ns))
-    ≡ (same_entry (entry (label_of (out-Node m))) (entry (label_of (out-Node n)))
-    && same_entries (entries_of (drop (i + 1) ms)) (entries_of (drop (j + 1) ns)))
-one_turn ms ns i j m n c d lt mt p q =
-    let e : entries_of (drop i ms) ≡ entry (label_of (out-Node m)) ∷ entries_of (drop (i + 1) ms) = c.first m lt p in
-    let f : entries_of (drop j ns) ≡ entry (label_of (out-Node n)) ∷ entries_of (drop (j + 1) ns) = d.first n mt q in
-    ap (λ (es : List Entry). same_entries es (entries_of (drop j ns))) e
-    ∙ ap (λ (es : List Entry). same_entries (entry (label_of (out-Node m)) ∷ entries_of (drop (i + 1) ms)) es) f
-
--- a place that isn't the end has an entry
-pub has_first : (ns : List Node) (j : ℕ) → ComparedFrom ns j j → j < length ns → (e : Entry) × (entries_of (drop j ns) ≡ e ∷ entries_of (drop (j + 1) ns))
-has_first ns j d lt =
-    elim (slice_get_cases ns j).1 [ inl w ↦ (entry (label_of (out-Node w.0)), d.first w.0 lt (sym w.3)) | inr w ↦ absurd (omega (arith, lt, w.0)) ]
-
-test_less : (i n : ℕ) → i < n → nat_eq i n ≡ false
+pub test_less : (i n : ℕ) → i < n → nat_eq i n ≡ false
 test_less i n lt = grind (arith, nat_tests)
 
-test_end : (i n : ℕ) → i ≡ n → nat_eq i n ≡ true
+pub test_end : (i n : ℕ) → i ≡ n → nat_eq i n ≡ true
 test_end i n e = grind (arith, nat_tests)
-
--- what the loop answers where the left one is the end, and where it isn't
-pub left_ended : (ms ns : List Node) (i j : ℕ) → ComparedFrom ns j j → i ≡ length ms
-    → nat_eq j (length ns) ≡ same_entries (entries_of (drop i ms)) (entries_of (drop j ns))
-left_ended ms ns i j d e =
-    let ends : same_entries (entries_of (drop i ms)) (entries_of (drop j ns)) ≡ same_entries [] (entries_of (drop j ns)) =
-    ap (λ (es : List Entry). same_entries es (entries_of (drop j ns))) (nothing_left ms i e) in
-    elim (slice_get_cases ns j).1 [
-      | inl w ↦ let f = has_first ns j d w.1 in
-          test_less j (length ns) w.1 ∙ sym (ends ∙ ap (λ (es : List Entry). same_entries [] es) f.1)
-      | inr w ↦ let within : j ≤ length ns = d.within in let past : length ns ≤ j = w.0 in let f : j ≡ length ns = omega arith in
-          test_end j (length ns) f ∙ sym (ends ∙ ap (λ (es : List Entry). same_entries [] es) (nothing_left ns j f))
-    ]
-
-pub right_ended : (ms ns : List Node) (i j : ℕ) → ComparedFrom ms i i → i < length ms → j ≡ length ns
-    → nat_eq i (length ms) ≡ same_entries (entries_of (drop i ms)) (entries_of (drop j ns))
-right_ended ms ns i j c lt e =
-    let f = has_first ms i c lt in
-    test_less i (length ms) lt
-    ∙ sym (ap (λ (es : List Entry). same_entries es (entries_of (drop j ns))) f.1
-    ∙ ap (λ (es : List Entry). same_entries (f.0 ∷ entries_of (drop (i + 1) ms)) es) (nothing_left ns j e))

@@ -5,12 +5,14 @@ use Rattle.std.specs.List.{AllByRecursion}
 use Rattle.wt_tree.specs.declared.kind.Kind.{Kind}
 use Rattle.wt_tree.specs.declared.kind.Kind.TheVariants as kind
 use Rattle.wt_tree.specs.Kinds.{is_numbered, writing}
+use Rattle.wt_tree.specs.Opened.{opened}
 use Rattle.wt_tree.specs.Tiling.{is_group, numbers, numbers_of_all, ids, ids_of_all, others, others_of_all}
 use Rattle.wt_tree.specs.Tree.{Tree, tree, Trees, none, more, label, listed}
 use Rattle.wt_checks.specs.Kept.{children}
 use Rattle.wt_checks.specs.Places.{Place, placed, all_placed, places, number, kind_at, is_kept, is_body, is_content, numbered, Page, page_of, parent_below}
-use Rattle.wt_checks.specs.PutBack.{has_body, have_body, IsOneBody}
+use Rattle.wt_checks.specs.PutBack.{is_frame, has_frame, have_frame, IsOneBody}
 use Rattle.wt_checks.specs.Tokens.{is_text}
+use Rattle.wt_checks.proofs.Frames.{no_frame, IsBare, bare_places, bare_root}
 use Rattle.wt_checks.proofs.InOrder.{Increasing, Above, kept_not_zero, not_zero_kept, zero_of, test_equal, test_other, same_by}
 use Rattle.wt_checks.proofs.Lookups.{each_split, each_join, AllZero, NoZero}
 use Rattle.wt_checks.proofs.Repeated.{or_false}
@@ -106,9 +108,9 @@ mutual
 
 -- ---- and only texts and separators have no number
 
--- a node of a page is no body, and has a number where its kind has one
+-- a node of a page is neither a body nor a section, and has a number where its kind has one
 pub record IsKnown (t : Tree) : Type 0 where
-  pub other : is_body (label t).kind ≡ false
+  pub other : is_frame (label t).kind ≡ false
   pub has : is_numbered (label t).kind ≡ true → (label t).id ≢ 0
 
 -- what is known of the children of a page's node: of one without a number, which may stand in a group, nothing
@@ -145,13 +147,13 @@ pub own_by : (n : Bool) (id : ℕ) (ms : List ℕ) → NoZero ((if n then id ∷
 own_by true id ms o e = o.0
 own_by false id ms o e = absurd (cc)
 
-known_children : (ts : Trees) → AllZero (others_of_all ts) → NoZero (numbers_of_all ts) → have_body ts ≡ false → AllByRecursion IsKnown (listed ts)
+known_children : (ts : Trees) → AllZero (others_of_all ts) → NoZero (numbers_of_all ts) → have_frame ts ≡ false → AllByRecursion IsKnown (listed ts)
 known_children none z o b = tt
 known_children (more (tree l us) ts) z o b =
     let y = each_split (λ n. n ≡ 0) (others (tree l us)) (others_of_all ts) z in
     let p = each_split (λ n. n ≢ 0) (numbers (tree l us)) (numbers_of_all ts) o in
-    let c = or_false (is_body l.kind || have_body us) (have_body ts) b in
-    let d = or_false (is_body l.kind) (have_body us) c.0 in (
+    let c = or_false (is_frame l.kind || have_frame us) (have_frame ts) b in
+    let d = or_false (is_frame l.kind) (have_frame us) c.0 in (
       record { other = d.0; has = own_by (is_numbered l.kind) l.id (if is_group l.kind then [] else numbers_of_all us) p.0 },
       known_children ts y.1 p.1 c.1,
     )
@@ -163,20 +165,20 @@ below_by true parent within ts i f = all_unkept parent within ts (i.in_group ref
 below_by false parent within ts i f = let w = i.outside refl in f w.0 w.1
 
 mutual
-  all_known_below : (parent : ℕ) (within : Bool) (ts : Trees) → AllZero (others_of_all ts) → NoZero (numbers_of_all ts) → have_body ts ≡ false
+  all_known_below : (parent : ℕ) (within : Bool) (ts : Trees) → AllZero (others_of_all ts) → NoZero (numbers_of_all ts) → have_frame ts ≡ false
       → AllByRecursion KnownChildren (all_placed parent within ts)
   all_known_below parent within none z o b = tt
   all_known_below parent within (more t ts) z o b =
       let y = each_split (λ n. n ≡ 0) (others t) (others_of_all ts) z in
       let p = each_split (λ n. n ≢ 0) (numbers t) (numbers_of_all ts) o in
-      let c = or_false (has_body t) (have_body ts) b in
+      let c = or_false (has_frame t) (have_frame ts) b in
       each_join KnownChildren (placed parent within t) (all_placed parent within ts) (known_below parent within t y.0 p.0 c.0)
       (all_known_below parent within ts y.1 p.1 c.1)
 
-  known_below : (parent : ℕ) (within : Bool) (t : Tree) → AllZero (others t) → NoZero (numbers t) → has_body t ≡ false
+  known_below : (parent : ℕ) (within : Bool) (t : Tree) → AllZero (others t) → NoZero (numbers t) → has_frame t ≡ false
       → AllByRecursion KnownChildren (placed parent within t)
   known_below parent within (tree l ts) z o b =
-      let c = or_false (is_body l.kind) (have_body ts) b in
+      let c = or_false (is_frame l.kind) (have_frame ts) b in
       let i = inner_by (is_numbered l.kind) (is_group l.kind) l.id ts z o in (
         λ k g. let w = i.outside g in known_children ts w.0 w.1 c.1,
         below_by (is_group l.kind) (parent_below parent l.id) (within || is_content l.mark) ts i
@@ -194,18 +196,18 @@ abbrev pub NoBody : Place → Type 0
 NoBody q = is_kept q ≡ true → is_body (kind_at q) ≡ false
 
 mutual
-  no_body : (parent : ℕ) (within : Bool) (t : Tree) → has_body t ≡ false → AllByRecursion NoBody (placed parent within t)
+  no_body : (parent : ℕ) (within : Bool) (t : Tree) → has_frame t ≡ false → AllByRecursion NoBody (placed parent within t)
   no_body parent within (tree l ts) b =
-      let c = or_false (is_body l.kind) (have_body ts) b in
-      (λ k. c.0, no_bodies (parent_below parent l.id) (within || is_content l.mark) ts c.1)
+      let c = or_false (is_frame l.kind) (have_frame ts) b in
+      (λ k. (no_frame l.kind c.0).0, no_bodies (parent_below parent l.id) (within || is_content l.mark) ts c.1)
 
-  no_bodies : (parent : ℕ) (within : Bool) (ts : Trees) → have_body ts ≡ false → AllByRecursion NoBody (all_placed parent within ts)
+  no_bodies : (parent : ℕ) (within : Bool) (ts : Trees) → have_frame ts ≡ false → AllByRecursion NoBody (all_placed parent within ts)
   no_bodies parent within none b = tt
   no_bodies parent within (more t ts) b =
-      let c = or_false (has_body t) (have_body ts) b in
+      let c = or_false (has_frame t) (have_frame ts) b in
       each_join NoBody (placed parent within t) (all_placed parent within ts) (no_body parent within t c.0) (no_bodies parent within ts c.1)
 
-all_no_body : (t : Tree) → (label t).id ≡ 0 → have_body (children t) ≡ false → AllByRecursion NoBody (places t)
+all_no_body : (t : Tree) → (label t).id ≡ 0 → have_frame (children t) ≡ false → AllByRecursion NoBody (places t)
 all_no_body (tree l ts) e b = (λ k. absurd (kept_not_zero l.id k e), no_bodies (parent_below 0 l.id) (is_content l.mark) ts b)
 
 -- a place with a number is no text
@@ -266,11 +268,16 @@ pub record PageNode (page : Page) (q : Place) : Type 0 where
   pub known : KnownChildren q
   pub other : NoBody q
   pub element : NoText q
+  pub bare : IsBare q
 
 all_hold : (page : Page) (ps : List Place) → AllByRecursion (λ q. AllByRecursion (Found page) (listed (children q.node))) ps
-    → AllByRecursion KnownChildren ps → AllByRecursion NoBody ps → AllByRecursion NoText ps → AllByRecursion (PageNode page) ps
-all_hold page [] f k n t = tt
-all_hold page (p ∷ ps) f k n t = (record { found = f.0; known = k.0; other = n.0; element = t.0 }, all_hold page ps f.1 k.1 n.1 t.1)
+    → AllByRecursion KnownChildren ps → AllByRecursion NoBody ps → AllByRecursion NoText ps → AllByRecursion IsBare ps
+    → AllByRecursion (PageNode page) ps
+all_hold page [] f k n t b = tt
+all_hold page (p ∷ ps) f k n t b = (
+  record { found = f.0; known = k.0; other = n.0; element = t.0; bare = b.0 },
+  all_hold page ps f.1 k.1 n.1 t.1 b.1,
+)
 
 root_known : (t : Tree) → IsOneBody t → AllZero (others t) → NoZero (numbers t)
     → AllByRecursion KnownChildren (places t) × AllByRecursion IsKnown (listed (children t))
@@ -286,8 +293,9 @@ pub record PageNodes (t : Tree) : Type 0 where
   pub root : page_of t 0 ≡ Some (record { node = t; parent = 0; in_content = false })
   pub known : AllByRecursion IsKnown (listed (children t))
   pub root_found : AllByRecursion (Found (page_of t)) (listed (children t))
+  pub root_bare : opened (children t) ≡ children t
 
-found_root : (t : Tree) → (label t).id ≡ 0 → page_of t 0 ≡ Some (record { node = t; parent = 0; in_content = false })
+pub found_root : (t : Tree) → (label t).id ≡ 0 → page_of t 0 ≡ Some (record { node = t; parent = 0; in_content = false })
 found_root (tree l ts) e =
     ap (λ b. if b then Some (record { node = tree l ts; parent = 0; in_content = false }) else numbered 0
     (all_placed (parent_below 0 l.id) (is_content l.mark) ts))
@@ -304,5 +312,5 @@ page_nodes t b e z o inc =
     let f = children_found (page_of t) 0 false t (each_itself (places t) inc) in
     let all = all_hold (page_of t) (places t) f r.0
     (all_no_body t e b.alone)
-    (no_text 0 false t z) in
-    record { each = λ n q s. found_has (PageNode (page_of t)) n q (places t) all s; root = found_root t e; known = r.1; root_found = first_found t f }
+    (no_text 0 false t z) (bare_places t b.alone) in
+    record { each = λ n q s. found_has (PageNode (page_of t)) n q (places t) all s; root = found_root t e; known = r.1; root_found = first_found t f; root_bare = bare_root t b.alone }

@@ -11,6 +11,7 @@ pub mod Entries
 pub mod FirstPlace
 pub mod Firsts
 pub mod Found
+pub mod Frames
 pub mod Given
 pub mod InNew
 pub mod InOrder
@@ -20,10 +21,12 @@ pub mod Moved
 pub mod Numbers
 pub mod OnlyThePage
 pub mod Parents
+pub mod Passing
 pub mod PlainGist
 pub mod PutBack
 pub mod PutBackCases
 pub mod Repeated
+pub mod Sections
 pub mod Shows
 pub mod Signs
 pub mod Spans

@@ -120,7 +120,7 @@ found_by : (b : Bool) (n : ℕ) (p : Place) (ps qs : List Place) → (number p =
 found_by true n p ps qs e h = ap (λ t. if t then Some p else numbered (suc n) ps) (tests_other (number p) n (zero_is (number p) e)) ∙ h
 found_by false n p ps qs e h = ap (λ o. if number p == suc n then Some p else o) h
 
-found_kept : (n : ℕ) (ps : List Place) → numbered (suc n) ps ≡ numbered (suc n) (filter is_kept ps)
+pub found_kept : (n : ℕ) (ps : List Place) → numbered (suc n) ps ≡ numbered (suc n) (filter is_kept ps)
 found_kept n [] = refl
 found_kept n (p ∷ ps) = found_by (number p == 0) n p ps (filter is_kept ps) refl (found_kept n ps)
 
@@ -153,7 +153,7 @@ record Ordered (t : Tree) : Type 0 where
   root : (label t).id ≡ 0
   kept : map number (filter is_kept (places t)) ≡ range_with_len 1 (length (numbers t))
 
-filter_root : (p : Place) (ps : List Place) → number p ≡ 0 → filter is_kept (p ∷ ps) ≡ filter is_kept ps
+pub filter_root : (p : Place) (ps : List Place) → number p ≡ 0 → filter is_kept (p ∷ ps) ≡ filter is_kept ps
 filter_root p ps e = ap (λ b. if not b then p ∷ filter is_kept ps else filter is_kept ps) (is_zero (number p) e)
 
 body_others : (t : Tree) → (label t).kind ≡ kind.Body → AllZero (others t) → (label t).id ≡ 0

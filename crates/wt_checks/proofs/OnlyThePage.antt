@@ -7,7 +7,7 @@ use Rattle.wt_tree.specs.declared.kind.Mark.{Mark}
 use Rattle.wt_tree.specs.declared.kind.Mark.TheVariants as marks
 use Rattle.wt_tree.specs.declared.node.DataMw.{DataMw}
 use Rattle.wt_tree.specs.declared.row.Writing.{Writing}
-use Rattle.wt_tree.specs.declared.row.Writing.TheVariants.{AsText, AsVoid, RoundCharacter, RoundChildren, Unwritten}
+use Rattle.wt_tree.specs.declared.row.Writing.TheVariants.{AsText, AsVoid, RoundCharacter, RoundChildren, AsSection, Unwritten}
 use Rattle.wt_tree.specs.Kinds.{showing, writing}
 use Rattle.wt_tree.specs.Tiling.{is_group}
 use Rattle.wt_tree.specs.Tree.{Label, Tree, tree, Trees, none, more, label, listed}
@@ -16,11 +16,12 @@ use Rattle.wt_checks.specs.Groups.{is_marked}
 use Rattle.wt_checks.specs.Kept.{children, HoldsTheSame, NodeAsItWas, NodeKept}
 use Rattle.wt_checks.specs.Marks.{is_children}
 use Rattle.wt_checks.specs.Places.{Place, placed, all_placed, kind_at, is_body, is_content, Page, parent_below}
-use Rattle.wt_checks.specs.PutBack.{original, inside, page_data, data_back, label_back, as_they_stand, inside_back, put_back, all_put_back, in_new, all_in_new, has_body, have_body}
+use Rattle.wt_checks.specs.PutBack.{original, inside, page_data, data_back, label_back, as_they_stand, inside_back, put_back, all_put_back, in_new, all_in_new, is_frame, has_frame, have_frame}
 use Rattle.wt_checks.specs.Tokens.{is_text}
 use Rattle.wt_checks.specs.Unmarked.{Entry, is_compared, entry, entries}
 use Rattle.wt_checks.specs.Unmarked as unmarked
 use Rattle.wt_checks.proofs.Found.{Found, IsKnown}
+use Rattle.wt_checks.proofs.Frames.{no_frame, IsBare}
 use Rattle.wt_checks.proofs.InOrder.{kept_not_zero, not_zero_kept, zero_of}
 use Rattle.wt_checks.proofs.Lookups.{each_split, each_join}
 use Rattle.wt_checks.proofs.Given.{Given, IsPages, pages_children}
@@ -59,23 +60,23 @@ parent_same id parent e = by_test (id == 0) (zero_test id e)
 -- in a group of the page nothing is kept
 mutual
   in_group : (values : Bool) (page : Page) (n : ℕ) (q : Place) (within : Bool) (t : Tree) → page n ≡ Some q → is_group (kind_at q) ≡ true
-      → has_body t ≡ false → AllByRecursion (Given values page) (placed n within t) → AllByRecursion (NodeKept page) (placed n within t)
+      → has_frame t ≡ false → AllByRecursion (Given values page) (placed n within t) → AllByRecursion (NodeKept page) (placed n within t)
   in_group values page n q within (tree l ts) e g b h =
-      let c = or_false (is_body l.kind) (have_body ts) b in
+      let c = or_false (is_frame l.kind) (have_frame ts) b in
       let new = λ (k : not (l.id == 0) ≡ true). not_both (is_group (kind_at q)) g (h.0.free k q e) in
       let z : l.id ≡ 0 = zero_of l.id (no_true (not (l.id == 0)) new) in
       let s : n ≡ parent_below n l.id = parent_same l.id n z in (
-        λ o i. absurd (new_by (not (l.id == 0)) (is_body l.kind) o new c.0),
+        λ o i. absurd (new_by (not (l.id == 0)) (is_body l.kind) o new (no_frame l.kind c.0).0),
         subst (λ (m : ℕ). AllByRecursion (NodeKept page) (all_placed m (within || is_content l.mark) ts)) s
             (all_in_group values page n q (within || is_content l.mark) ts e g c.1
             (subst (λ (m : ℕ). AllByRecursion (Given values page) (all_placed m (within || is_content l.mark) ts)) (sym s) h.1)),
       )
 
   all_in_group : (values : Bool) (page : Page) (n : ℕ) (q : Place) (within : Bool) (ts : Trees) → page n ≡ Some q → is_group (kind_at q) ≡ true
-      → have_body ts ≡ false → AllByRecursion (Given values page) (all_placed n within ts) → AllByRecursion (NodeKept page) (all_placed n within ts)
+      → have_frame ts ≡ false → AllByRecursion (Given values page) (all_placed n within ts) → AllByRecursion (NodeKept page) (all_placed n within ts)
   all_in_group values page n q within none e g b h = tt
   all_in_group values page n q within (more t ts) e g b h =
-      let c = or_false (has_body t) (have_body ts) b in
+      let c = or_false (has_frame t) (have_frame ts) b in
       let s = each_split (Given values page) (placed n within t) (all_placed n within ts) h in
       each_join (NodeKept page) (placed n within t) (all_placed n within ts) (in_group values page n q within t e g c.0 s.0)
       (all_in_group values page n q within ts e g c.1 s.1)
@@ -95,6 +96,7 @@ gist_entry AsText l held = refl
 gist_entry AsVoid l held = refl
 gist_entry RoundCharacter l held = refl
 gist_entry RoundChildren l held = refl
+gist_entry (AsSection n) l held = refl
 gist_entry Unwritten l held = refl
 
 -- with the same number and characters
@@ -104,6 +106,7 @@ gist_entry_back AsText values o l held = refl
 gist_entry_back AsVoid values o l held = refl
 gist_entry_back RoundCharacter values o l held = refl
 gist_entry_back RoundChildren values o l held = refl
+gist_entry_back (AsSection n) values o l held = refl
 gist_entry_back Unwritten values o l held = refl
 
 entries_step : (b : Bool) (e : Entry) (es : List Entry) (g : Gist) (gs : Gists) → e ≡ entry_of g → es ≡ entries_of gs
@@ -177,10 +180,10 @@ stand_parts marks.Children g o q ys gs c e h = sym (ap (λ x. gists (as_they_sta
 stand_parts marks.Other g o q ys gs c e h = absurd (cc)
 
 -- a node with the page's features and entries is as it was
-node_as : (values : Bool) (page : Page) (o : Option Place) (q : Place) (m : Label) (us : Trees) → o ≡ Some q → is_group (kind_at q) ≡ false
+node_as : (values : Bool) (page : Page) (o : Option Place) (q : Place) (m : Label) (us : Trees) → o ≡ Some q → is_group (kind_at q) ≡ false → IsBare q
     → Parts values o m (inside_back m.mark (is_group m.kind) o (all_put_back values page us)) q.node
     → NodeAsItWas q.node (tree m us)
-node_as values page o q m us oe g p =
+node_as values page o q m us oe g b p =
     let k : m.kind ≡ kind_at q = ap (λ (f : Features). f.kind) p.features in
     let n : is_group m.kind ≡ false = ap is_group k ∙ g in
     record {
@@ -198,7 +201,8 @@ node_as values page o q m us oe g p =
     holds_by false e n = inr (record {
       character = sym (ap (λ (f : Features). f.character) p.features);
       held =
-          gists_entries (children q.node)
+          ap entries b
+          ∙ gists_entries (children q.node)
           ∙ ap entries_of (sym (inside_parts m.mark (is_group m.kind) o (all_put_back values page us) (gists (children q.node))
           (unmarked_content (is_content m.mark) m.mark refl e) (unmarked_children (is_children m.mark) m.mark refl e) n p.held))
           ∙ sym (back_entries values page us);
@@ -212,7 +216,7 @@ of_some P (Some r) q e h = let d : q ≡ r = cc in subst P d h
 
 below_by : (c g d : Bool) (values : Bool) (page : Page) (m : Label) (parent : ℕ) (q : Place) (us : Trees) → is_group m.kind ≡ g → is_children m.mark ≡ d
     → page m.id ≡ Some q → (is_group m.kind ≡ true → is_group (kind_at q) ≡ true) → parent_below parent m.id ≡ m.id
-    → have_body us ≡ false → AllByRecursion (Given values page) (all_placed (parent_below parent m.id) c us)
+    → have_frame us ≡ false → AllByRecursion (Given values page) (all_placed (parent_below parent m.id) c us)
     → (c ≡ false → g ≡ false → d ≡ false → AllByRecursion (NodeKept page) (all_placed (parent_below parent m.id) false us))
     → (c ≡ false → g ≡ false → d ≡ true → AllByRecursion (NodeKept page) (all_placed (parent_below parent m.id) false us))
     → AllByRecursion (NodeKept page) (all_placed (parent_below parent m.id) c us)
@@ -298,7 +302,7 @@ old_in_new page parent m us o i =
 
 mutual
   pub node_kept : (values : Bool) (page : Page) (parent : ℕ) (u : Tree) (q : Place) → PageOf page → IsFor page (label u) q
-      → parent_below parent (label u).id ≡ (label u).id → have_body (children u) ≡ false
+      → parent_below parent (label u).id ≡ (label u).id → have_frame (children u) ≡ false
       → AllByRecursion (Given values page) (placed parent false u) → AllByRecursion (NodeKept page) (in_new parent false u)
       → gist (put_back values page u) ≡ gist q.node → AllByRecursion (NodeKept page) (placed parent false u)
   node_kept values page parent (tree m us) q H f d b s i e =
@@ -312,7 +316,7 @@ mutual
       let out = λ (c : is_content m.mark ≡ false). subst (λ (w : Bool). AllByRecursion (Given values page) (all_placed n w us)) c s.1 in
       let inner = λ (c : is_content m.mark ≡ false). subst (λ (w : Bool). AllByRecursion (NodeKept page) (all_in_new n w us)) c new in (
         λ old out. of_some (λ r. is_group (kind_at r) ≡ false → NodeAsItWas r.node (tree m us)) (page m.id) q f.there
-            (λ g. node_as values page o q m us oe g p),
+            (λ g. node_as values page o q m us oe g f.bare p),
         below_by (is_content m.mark) (is_group m.kind) (is_children m.mark) values page m parent q us refl refl f.there (λ g. ap is_group (sym k) ∙ g) d b s.1
             (λ c g x. nodes_kept values page n us (shown_children (children q.node)) H
             (inside_parts m.mark (is_group m.kind) o vs (gists (children q.node)) c x g p.held ∙ gists_shown (children q.node))
@@ -324,19 +328,19 @@ mutual
       )
 
   nodes_kept : (values : Bool) (page : Page) (parent : ℕ) (us : Trees) (ts : List Tree) → PageOf page
-      → gists (all_put_back values page us) ≡ gist_list ts → AllByRecursion (Found page) ts → AllByRecursion IsKnown ts → have_body us ≡ false
+      → gists (all_put_back values page us) ≡ gist_list ts → AllByRecursion (Found page) ts → AllByRecursion IsKnown ts → have_frame us ≡ false
       → AllByRecursion (Given values page) (all_placed parent false us) → AllByRecursion (NodeKept page) (all_in_new parent false us)
       → AllByRecursion (NodeKept page) (all_placed parent false us)
   nodes_kept values page parent none ts H e f k b s i = tt
   nodes_kept values page parent (more (tree m vs) us) ts H e f k b s i =
       let w = each_split (Given values page) (placed parent false (tree m vs)) (all_placed parent false us) s in
       let j = each_split (NodeKept page) (in_new parent false (tree m vs)) (all_in_new parent false us) i in
-      let n = or_false (is_body m.kind || have_body vs) (have_body us) b in
-      let d = or_false (is_body m.kind) (have_body vs) n.0 in
+      let n = or_false (is_frame m.kind || have_frame vs) (have_frame us) b in
+      let d = or_false (is_frame m.kind) (have_frame vs) n.0 in
       let g : Gist = gist (put_back values page (tree m vs)) in
       let r = children_by (is_compared (showing m.kind)) g (gists (all_put_back values page us)) page ts
       (AllByRecursion (NodeKept page) (placed parent false (tree m vs))) (AllByRecursion (NodeKept page) (all_placed parent false us)) e f k
-      (λ h. child_kept (is_compared (showing m.kind)) (is_text (writing m.kind)) values page parent m vs refl refl d.0 w.0.0
+      (λ h. child_kept (is_compared (showing m.kind)) (is_text (writing m.kind)) values page parent m vs refl refl (no_frame m.kind d.0).0 w.0.0
       (λ c i. let t = h c in
       let a = element_found values page (original page m) m
       (inside_back m.mark (is_group m.kind) (original page m) (all_put_back values page vs)) t.0 i t.1 t.2 t.3 in
@@ -345,17 +349,17 @@ mutual
       (λ rs x y z. nodes_kept values page parent us rs H x y z n.1 w.1 j.1) in
       each_join (NodeKept page) (placed parent false (tree m vs)) (all_placed parent false us) r.0 r.1
 
-  children_kept : (values : Bool) (page : Page) (parent : ℕ) (us : Trees) → PageOf page → have_body us ≡ false
+  children_kept : (values : Bool) (page : Page) (parent : ℕ) (us : Trees) → PageOf page → have_frame us ≡ false
       → AllByRecursion (Given values page) (all_placed parent false us) → AllByRecursion (NodeKept page) (all_in_new parent false us)
       → AllByRecursion (IsPages values page) (listed us) → AllByRecursion (NodeKept page) (all_placed parent false us)
   children_kept values page parent none H b s i a = tt
   children_kept values page parent (more (tree m vs) us) H b s i a =
       let w = each_split (Given values page) (placed parent false (tree m vs)) (all_placed parent false us) s in
       let j = each_split (NodeKept page) (in_new parent false (tree m vs)) (all_in_new parent false us) i in
-      let n = or_false (is_body m.kind || have_body vs) (have_body us) b in
-      let d = or_false (is_body m.kind) (have_body vs) n.0 in
+      let n = or_false (is_frame m.kind || have_frame vs) (have_frame us) b in
+      let d = or_false (is_frame m.kind) (have_frame vs) n.0 in
       each_join (NodeKept page) (placed parent false (tree m vs)) (all_placed parent false us)
-      (marked_child_by (not (m.id == 0)) values page parent m vs refl d.0 w.0 j.0
+      (marked_child_by (not (m.id == 0)) values page parent m vs refl (no_frame m.kind d.0).0 w.0 j.0
       (λ z x c. let r = a.0 z c in
       node_kept values page parent (tree m vs) r.0 H (kept_for page m r.0 H x z r.1) (kept_below parent m.id (not_zero_kept m.id z)) d.1 w.0 j.0 r.2))
       (children_kept values page parent us H n.1 w.1 j.1 a.1)

@@ -40,6 +40,7 @@ by_kind kind.Text l gs f rest c h = refl
 by_kind kind.Entity l gs f rest c h = refl
 by_kind kind.Nowiki l gs f rest c h = h rest
 by_kind kind.Group l gs f rest c h = h rest
+by_kind (kind.Section n) l gs f rest c h = h rest
 by_kind k l gs f rest c h = ap (λ qs. along (element (record { kind = k; attrs = l.attrs; mw = l.mw }) qs) rest) (h ended)
 
 nothing_shown : (s : Showing) (l : Label) (f : Plains → Plains) (rest : Plains) → is_compared s ≡ false → shown_before s l f rest ≡ rest

@@ -9,8 +9,9 @@ use Rattle.wt_tree.specs.declared.kind.Mark.{Mark}
 use Rattle.wt_tree.specs.declared.kind.Mark.TheVariants as marks
 use Rattle.wt_tree.specs.declared.node.DataMw.{DataMw}
 use Rattle.wt_tree.specs.declared.row.Writing.{Writing}
-use Rattle.wt_tree.specs.declared.row.Writing.TheVariants.{AsText, AsVoid, RoundCharacter, RoundChildren, Unwritten}
+use Rattle.wt_tree.specs.declared.row.Writing.TheVariants.{AsText, AsVoid, RoundCharacter, RoundChildren, AsSection, Unwritten}
 use Rattle.wt_tree.specs.Kinds.{showing, writing, is_numbered}
+use Rattle.wt_tree.specs.Opened.{opened}
 use Rattle.wt_tree.specs.Tiling.{is_group}
 use Rattle.wt_tree.specs.Tree.{Label, Tree, tree, Trees, none, more, label, listed}
 use Rattle.wt_checks.specs.declared.editing.Editing.{Editing}
@@ -20,12 +21,13 @@ use Rattle.wt_checks.specs.Groups.{is_marked}
 use Rattle.wt_checks.specs.Kept.{children, is_of_page, GroupAsItWas, HoldsTheSame, NodeAsItWas, GroupKept, NodeKept, MarkKept}
 use Rattle.wt_checks.specs.Marks.{editing, allows, is_children}
 use Rattle.wt_checks.specs.Places.{Place, placed, all_placed, number, kind_at, is_kept, is_body, is_content, Page, parent_below}
-use Rattle.wt_checks.specs.PutBack.{original, inside, page_data, data_back, label_back, numbered_or, as_they_stand, inside_back, put_back, all_put_back}
+use Rattle.wt_checks.specs.PutBack.{is_frame, original, inside, page_data, data_back, label_back, numbered_or, as_they_stand, inside_back, put_back, all_put_back}
 use Rattle.wt_checks.specs.Tokens.{is_text}
 use Rattle.wt_checks.specs.Unmarked.{Entry, is_compared, entry, entries, own_character}
 use Rattle.wt_checks.specs.Unmarked as unmarked
 use Rattle.wt_checks.proofs.AsItWas.{both}
 use Rattle.wt_checks.proofs.Found.{Found, IsKnown, PageNode}
+use Rattle.wt_checks.proofs.Frames.{IsBare}
 use Rattle.wt_checks.proofs.InOrder.{not_zero_kept}
 use Rattle.wt_checks.proofs.Lookups.{each_split}
 
@@ -91,7 +93,7 @@ record Same (values : Bool) (o : Option Place) (t u : Tree) : Type 0 where
   attrs : (label u).attrs ≡ (label t).attrs
   mw : data_back (values && is_group (label u).kind) o (label u).mw ≡ (label t).mw
   character : own_character (writing (label u).kind) (label u).shown ≡ own_character (writing (label t).kind) (label t).shown
-  held : is_marked (label u).mark ≡ false → is_group (label u).kind ≡ false → entries (children u) ≡ entries (children t)
+  held : is_marked (label u).mark ≡ false → is_group (label u).kind ≡ false → entries (children u) ≡ entries (opened (children t))
 
 group_is : (k : Kind) → is_group k ≡ true → k ≡ kind.Group
 group_is kind.Group e = refl
@@ -181,6 +183,7 @@ gist_node AsText l held e = absurd (cc)
 gist_node AsVoid l held e = refl
 gist_node RoundCharacter l held e = refl
 gist_node RoundChildren l held e = refl
+gist_node (AsSection n) l held e = refl
 gist_node Unwritten l held e = refl
 
 pub gist_text : (w : Writing) (l : Label) (held : Gists) → is_text w ≡ true → gist_by w l held ≡ text l.shown
@@ -188,6 +191,7 @@ gist_text AsText l held e = refl
 gist_text AsVoid l held e = absurd (cc)
 gist_text RoundCharacter l held e = absurd (cc)
 gist_text RoundChildren l held e = absurd (cc)
+gist_text (AsSection n) l held e = absurd (cc)
 gist_text Unwritten l held e = absurd (cc)
 
 features_same : (values : Bool) (o : Option Place) (t u : Tree) → (label u).id ≡ (label t).id → Same values o t u
@@ -304,8 +308,9 @@ stand_like page (more t ts) vs f h =
 
 -- ---- a child and the page's in its place
 
-pub numbered_kind : (k : Kind) → is_body k ≡ false → is_text (writing k) ≡ false → is_numbered k ≡ true
+pub numbered_kind : (k : Kind) → is_frame k ≡ false → is_text (writing k) ≡ false → is_numbered k ≡ true
 numbered_kind kind.Body b w = absurd (cc)
+numbered_kind (kind.Section n) b w = absurd (cc)
 numbered_kind kind.Sep b w = absurd (cc)
 numbered_kind kind.Text b w = absurd (cc)
 numbered_kind k b w = refl
@@ -315,6 +320,7 @@ text_entry AsText l e = refl
 text_entry AsVoid l e = absurd (cc)
 text_entry RoundCharacter l e = absurd (cc)
 text_entry RoundChildren l e = absurd (cc)
+text_entry (AsSection n) l e = absurd (cc)
 text_entry Unwritten l e = absurd (cc)
 
 child_entry : (w : Writing) (l : Label) → is_text w ≡ false → unmarked.entry_by w l ≡ unmarked.child l.id
@@ -322,6 +328,7 @@ child_entry AsText l e = absurd (cc)
 child_entry AsVoid l e = refl
 child_entry RoundCharacter l e = refl
 child_entry RoundChildren l e = refl
+child_entry (AsSection n) l e = refl
 child_entry Unwritten l e = refl
 
 child_by : (b c : Bool) (m : Label) (page : Page) (g : Gist) (t : Tree) → is_text (writing m.kind) ≡ b → is_text (writing (label t).kind) ≡ c
@@ -379,6 +386,7 @@ pub record IsFor (page : Page) (m : Label) (q : Place) : Type 0 where
   pub number : number q ≡ m.id
   pub found : AllByRecursion (Found page) (listed (children q.node))
   pub known : is_group (kind_at q) ≡ false → AllByRecursion IsKnown (listed (children q.node))
+  pub bare : IsBare q
 
 pub kept_for : (page : Page) (m : Label) (q : Place) → PageOf page → is_text (writing m.kind) ≡ false → m.id ≢ 0 → page m.id ≡ Some q → IsFor page m q
 kept_for page m q H w z e =
@@ -392,6 +400,7 @@ kept_for page m q H w z e =
       number = h.1;
       found = h.0.found;
       known = h.0.known (not_zero_kept (number q) (λ i. z (sym h.1 ∙ i)));
+      bare = h.0.bare;
     }
 
 -- a kept node has the page's kind
@@ -417,7 +426,7 @@ mutual
       (inside_same m.mark (is_group m.kind) o q (all_put_back values page us) oe
       (λ h. allowed_marks (editing m.kind) m.mark (page m.id) (s.0.mark h).allowed)
       (λ c g. same_nodes values page (parent_below parent m.id) us (shown_children (children q.node)) H
-      (a.held c g ∙ entries_shown (children q.node))
+      (a.held c g ∙ ap entries f.bare ∙ entries_shown (children q.node))
       (each_shown (Found page) (λ t. is_compared (showing (label t).kind)) (listed (children q.node)) f.found)
       (each_shown IsKnown (λ t. is_compared (showing (label t).kind)) (listed (children q.node)) (f.known (ap is_group (sym a.kind) ∙ g)))
       (out (unmarked_outside m.mark c))
@@ -464,8 +473,8 @@ or_true true y h = refl
 or_true false y h = h
 
 pub for_body : (page : Page) (m : Label) (q : Place) → is_body m.kind ≡ true → page m.id ≡ Some q → number q ≡ m.id → is_group (kind_at q) ≡ false
-    → AllByRecursion (Found page) (listed (children q.node)) → AllByRecursion IsKnown (listed (children q.node)) → IsFor page m q
-for_body page m q b e n g f k =
+    → AllByRecursion (Found page) (listed (children q.node)) → AllByRecursion IsKnown (listed (children q.node)) → IsBare q → IsFor page m q
+for_body page m q b e n g f k o =
     record {
       element = body_element m.kind b;
       old = or_true (not (m.id == 0)) (is_body m.kind) b;
@@ -474,4 +483,5 @@ for_body page m q b e n g f k =
       number = n;
       found = f;
       known = λ h. k;
+      bare = o;
     }

@@ -1,7 +1,7 @@
 -- The elements that are written for what a group shows, and those that are read in it.
 use Rattle.std.specs.Prelude.{None, List, [], ◌∷◌, ◌++◌, map}
 use Rattle.wt_tree.specs.declared.row.Writing.{Writing}
-use Rattle.wt_tree.specs.declared.row.Writing.TheVariants.{AsText, AsVoid, RoundCharacter, RoundChildren, Unwritten}
+use Rattle.wt_tree.specs.declared.row.Writing.TheVariants.{AsText, AsVoid, RoundCharacter, RoundChildren, AsSection, Unwritten}
 use Rattle.wt_tree.specs.declared.kind.Showing.{Showing}
 use Rattle.wt_tree.specs.declared.kind.Showing.TheVariants.{Characters, Inside, Nothing, Element}
 use Rattle.wt_tree.specs.Elements.{as_elements, or_empty_span}
@@ -41,6 +41,7 @@ read_by AsText Element l held rest = rest
 read_by AsVoid s l held rest = along (element (face l) held) rest
 read_by RoundCharacter s l held rest = along (element (face l) (along (text l.shown) held)) rest
 read_by RoundChildren s l held rest = along (element (face l) held) rest
+read_by (AsSection n) s l held rest = along (element (face l) held) rest
 read_by Unwritten s l held rest = along (element (face l) held) rest
 
 abbrev mutual

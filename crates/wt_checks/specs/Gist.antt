@@ -4,7 +4,7 @@ use Rattle.wt_tree.specs.declared.kind.AttrName.{AttrName}
 use Rattle.wt_tree.specs.declared.kind.Kind.{Kind}
 use Rattle.wt_tree.specs.declared.node.DataMw.{DataMw}
 use Rattle.wt_tree.specs.declared.row.Writing.{Writing}
-use Rattle.wt_tree.specs.declared.row.Writing.TheVariants.{AsText, AsVoid, RoundCharacter, RoundChildren, Unwritten}
+use Rattle.wt_tree.specs.declared.row.Writing.TheVariants.{AsText, AsVoid, RoundCharacter, RoundChildren, AsSection, Unwritten}
 use Rattle.wt_tree.specs.Kinds.{showing, writing}
 use Rattle.wt_tree.specs.Tree.{Label, Tree, tree, Trees, none, more, label}
 use Rattle.wt_checks.specs.Unmarked.{is_compared, own_character}
@@ -35,6 +35,7 @@ gist_by AsText l held = text l.shown
 gist_by AsVoid l held = node (features l) held
 gist_by RoundCharacter l held = node (features l) held
 gist_by RoundChildren l held = node (features l) held
+gist_by (AsSection n) l held = node (features l) held
 gist_by Unwritten l held = node (features l) held
 
 -- Separators, marks and skips are left out, at every level. Neighbouring texts aren't joined.

@@ -2,6 +2,7 @@
 use Rattle.std.specs.Prelude.{◌≡◌, ◌⊎◌, ℕ, ◌==◌, ◌&&◌, ◌||◌, not, Bool, true, false, None, MatchOption, List, [], ◌∷◌, if◌then◌else◌}
 use Rattle.std.specs.List.{AllByRecursion}
 use Rattle.wt_tree.specs.Kinds.{writing}
+use Rattle.wt_tree.specs.Opened.{opened}
 use Rattle.wt_tree.specs.Tiling.{is_group}
 use Rattle.wt_tree.specs.Tree.{Tree, tree, Trees, none, more, label}
 use Rattle.wt_checks.specs.Elements.{written_for, all_read, signs_in}
@@ -54,10 +55,10 @@ pub record GroupAsItWas (values : Bool) (t u : Tree) : Type 0 where
   pub elements : signs_in (written_for (children t)) ≡ signs_in (all_read (children u))
   pub mw : (values ≡ true) ⊎ ((label t).mw ≡ (label u).mw)
 
--- the same texts and children, and the same character
+-- the same texts and children, where those in a section of the page are children of its body, and the same character
 pub record HoldsTheSame (t u : Tree) : Type 0 where
   pub character : own_character (writing (label t).kind) (label t).shown ≡ own_character (writing (label u).kind) (label u).shown
-  pub held : entries (children t) ≡ entries (children u)
+  pub held : entries (opened (children t)) ≡ entries (children u)
 
 -- another node of the page and what stands for it
 pub record NodeAsItWas (t u : Tree) : Type 0 where

@@ -9,6 +9,7 @@ pub mod Unmarked
 pub mod Compared
 pub mod Tokens
 pub mod Kept
+pub mod BareSections
 pub mod Gist
 pub mod PutBack
 pub mod Checked

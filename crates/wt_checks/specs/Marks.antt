@@ -18,6 +18,7 @@ use Rattle.wt_checks.specs.Groups.{is_marked}
 -- bullets or numbers that are children of the body.
 abbrev pub editing : Kind → Editing
 editing kind.Body = Children
+editing (kind.Section n) = Never
 editing kind.Para = Content
 editing (kind.Heading n) = Content
 editing kind.Rule = Never

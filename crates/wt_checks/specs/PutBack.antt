@@ -1,10 +1,11 @@
 -- An edited tree in which everything that may differ is the page's again.
 use Rattle.std.specs.Prelude.{ℕ, ◌≡◌, ◌==◌, ◌&&◌, ◌||◌, not, Bool, true, false, Option, Some, None, List, [], ◌++◌, if◌then◌else◌}
 use Rattle.std.specs.List.{AllByRecursion}
+use Rattle.wt_tree.specs.declared.kind.Kind.{Kind}
 use Rattle.wt_tree.specs.declared.kind.Mark.{Mark}
 use Rattle.wt_tree.specs.declared.kind.Mark.TheVariants as marks
 use Rattle.wt_tree.specs.declared.node.DataMw.{DataMw}
-use Rattle.wt_tree.specs.Kinds.{showing, writing}
+use Rattle.wt_tree.specs.Kinds.{showing, writing, is_section}
 use Rattle.wt_tree.specs.Tiling.{is_group, ids_of_all}
 use Rattle.wt_tree.specs.Tree.{Label, Tree, tree, Trees, none, more, label}
 use Rattle.wt_checks.specs.Gist.{gist}
@@ -81,19 +82,23 @@ abbrev mutual
 abbrev pub places_in_new : Tree → List Place
 places_in_new t = in_new 0 false t
 
--- a body among these nodes or inside them
+-- the body or a section
+abbrev pub is_frame : Kind → Bool
+is_frame k = is_body k || is_section k
+
+-- a body or a section among these nodes or inside them
 abbrev mutual
-  pub has_body : Tree → Bool
-  has_body (tree l ts) = is_body l.kind || have_body ts
+  pub has_frame : Tree → Bool
+  has_frame (tree l ts) = is_frame l.kind || have_frame ts
 
-  pub have_body : Trees → Bool
-  have_body none = false
-  have_body (more t ts) = has_body t || have_body ts
+  pub have_frame : Trees → Bool
+  have_frame none = false
+  have_frame (more t ts) = has_frame t || have_frame ts
 
--- the root is a body, and the only one
+-- the root is a body, and in it stand no other one and no section
 pub record IsOneBody (t : Tree) : Type 0 where
   pub root : is_body (label t).kind ≡ true
-  pub alone : have_body (children t) ≡ false
+  pub alone : have_frame (children t) ≡ false
 
 -- No text, and no separator, of a page's tree holds a node with a number.
 abbrev pub TextsHoldNoNumber : Tree → Type 0

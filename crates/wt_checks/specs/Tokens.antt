@@ -4,7 +4,7 @@ use Rattle.wt_tree.specs.declared.kind.Showing.{Showing}
 use Rattle.wt_tree.specs.declared.kind.Showing.TheVariants.{Characters, Inside, Nothing, Element}
 use Rattle.wt_tree.specs.declared.node.Node.{out-Node}
 use Rattle.wt_tree.specs.declared.row.Writing.{Writing}
-use Rattle.wt_tree.specs.declared.row.Writing.TheVariants.{AsText, AsVoid, RoundCharacter, RoundChildren, Unwritten}
+use Rattle.wt_tree.specs.declared.row.Writing.TheVariants.{AsText, AsVoid, RoundCharacter, RoundChildren, AsSection, Unwritten}
 use Rattle.wt_tree.specs.Kinds.{showing, writing}
 use Rattle.wt_checks.specs.Unmarked.{own_character}
 use Rattle.wt_tree.specs.Plain.{face}
@@ -105,6 +105,7 @@ is_text AsText = true
 is_text AsVoid = false
 is_text RoundCharacter = false
 is_text RoundChildren = false
+is_text (AsSection n) = false
 is_text Unwritten = false
 
 abbrev pub shows_characters : Showing → Bool

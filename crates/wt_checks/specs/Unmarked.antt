@@ -3,10 +3,11 @@ use Rattle.std.specs.Prelude.{ℕ, ◌==◌, ◌&&◌, ◌||◌, not, Bool, true
 use Rattle.std.specs.Str.{bytes_eq}
 use Rattle.wt_tree.specs.declared.node.DataMw.{DataMw}
 use Rattle.wt_tree.specs.declared.row.Writing.{Writing}
-use Rattle.wt_tree.specs.declared.row.Writing.TheVariants.{AsText, AsVoid, RoundCharacter, RoundChildren, Unwritten}
+use Rattle.wt_tree.specs.declared.row.Writing.TheVariants.{AsText, AsVoid, RoundCharacter, RoundChildren, AsSection, Unwritten}
 use Rattle.wt_tree.specs.declared.kind.Showing.{Showing}
 use Rattle.wt_tree.specs.declared.kind.Showing.TheVariants.{Characters, Inside, Nothing, Element}
 use Rattle.wt_tree.specs.Kinds.{showing, writing}
+use Rattle.wt_tree.specs.Opened.{opened}
 use Rattle.wt_tree.specs.Tiling.{is_group}
 use Rattle.wt_tree.specs.Tree.{Label, Tree, tree, Trees, none, more, label}
 use Rattle.wt_checks.specs.Alike.{same_kind, same_attrs, same_data}
@@ -32,6 +33,7 @@ entry_by AsText l = text l.shown
 entry_by AsVoid l = child l.id
 entry_by RoundCharacter l = child l.id
 entry_by RoundChildren l = child l.id
+entry_by (AsSection n) l = child l.id
 entry_by Unwritten l = child l.id
 
 abbrev pub entry : Label → Entry
@@ -47,6 +49,7 @@ own_character AsText bs = []
 own_character AsVoid bs = []
 own_character RoundCharacter bs = bs
 own_character RoundChildren bs = []
+own_character (AsSection n) bs = []
 own_character Unwritten bs = []
 
 abbrev pub same_entry : Entry → Entry → Bool
@@ -62,10 +65,11 @@ same_entries [] (b ∷ ys) = false
 same_entries (a ∷ xs) [] = false
 same_entries (a ∷ xs) (b ∷ ys) = same_entry a b && same_entries xs ys
 
--- the two nodes hold the same
+-- the page's node and an edited one hold the same, where what stands in a section of the page counts as
+-- standing in its body
 abbrev pub holds_same : Tree → Tree → Bool
 holds_same (tree l ts) (tree m us) = bytes_eq (own_character (writing l.kind) l.shown)
-    (own_character (writing m.kind) m.shown) && same_entries (entries ts) (entries us)
+    (own_character (writing m.kind) m.shown) && same_entries (entries (opened ts)) (entries us)
 
 -- ---- the condition
 

@@ -30,9 +30,13 @@ impl Editing {
             Kind::Li | Kind::Dt | Kind::Dd | Kind::Caption | Kind::Td | Kind::Th => {
                 Editing::InlineContent
             }
-            Kind::Rule | Kind::Dl | Kind::Pre | Kind::Table | Kind::Tbody | Kind::Tr => {
-                Editing::Never
-            }
+            Kind::Section(_)
+            | Kind::Rule
+            | Kind::Dl
+            | Kind::Pre
+            | Kind::Table
+            | Kind::Tbody
+            | Kind::Tr => { Editing::Never }
             Kind::Bold | Kind::Italic | Kind::WikiLink | Kind::ExtLink | Kind::Category => {
                 Editing::Never
             }

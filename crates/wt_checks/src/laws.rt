@@ -8,10 +8,12 @@ ghost use Rattle.wt_tree.specs.Stream.{Sign};
 ghost use Rattle.wt_checks.specs.Alike.{same_kind, same_attrs, same_data};
 ghost use Rattle.wt_checks.specs.Groups.{same_signs};
 ghost use Rattle.wt_checks.specs.Unmarked.{Entry, same_entries};
+ghost use Rattle.wt_tree.specs.Opened.{without_sections};
 ghost use Rattle.wt_tree.specs.Tiling.{InPreorder};
 ghost use Rattle.wt_tree.specs.Tree.{Tree, label};
 ghost use Rattle.wt_tree.specs.declared.kind.Kind.TheVariants as kind;
 ghost use Rattle.wt_checks.specs.declared.refusal.Check.{Check};
+ghost use Rattle.wt_checks.specs.BareSections.{HasBareSections};
 ghost use Rattle.wt_checks.specs.Checked.{checked};
 ghost use Rattle.wt_checks.specs.FirstRefusal.{IsFirstRefusal};
 ghost use Rattle.wt_checks.specs.Kept.{Kept, ChildrenInOrder};
@@ -33,6 +35,12 @@ pub fn what_is_kept()
 /// first place in preorder where it holds.
 pub fn first_refusal()
     ensures { (values : Bool) (page edited : Tree) (c : Check) → checked values page edited ≡ Some c → IsFirstRefusal values page edited c }
+{}
+
+/// Sections make no difference: what is refused of an edit of a page in sections is what is refused of one
+/// of the page without them. So the other laws, which speak of a page without sections, hold of it, too.
+pub fn sections_make_no_difference()
+    ensures { (values : Bool) (page edited : Tree) → HasBareSections page → checked values page edited ≡ checked values (without_sections page) edited }
 {}
 
 /// Where nothing is refused, the edited tree is the page's but for the insides of marked nodes and of

@@ -21,7 +21,7 @@ pub use editing::Editing;
 pub use index::original;
 pub use laws::{
     children_in_order, comparisons, edited_is_the_page, first_refusal, only_the_page_is_taken,
-    what_is_kept,
+    sections_make_no_difference, what_is_kept,
 };
 pub use marks::is_children;
 pub use refusal::Check;

@@ -52,7 +52,8 @@ fn own_text<'n>(node: &'n Node<'_>) -> &'n str
 {
     match node.kind.writing() {
         Writing::RoundCharacter => node.shown.as_str(),
-        Writing::AsText | Writing::AsVoid | Writing::RoundChildren | Writing::Unwritten => "",
+        Writing::AsText | Writing::AsVoid | Writing::RoundChildren => "",
+        Writing::AsSection(_) | Writing::Unwritten => "",
     }
 }
 
@@ -117,8 +118,7 @@ fn is_text(kind: Kind) -> bool
 {
     match kind.writing() {
         Writing::AsText => true,
-        Writing::AsVoid | Writing::RoundCharacter | Writing::RoundChildren | Writing::Unwritten => {
-            false
-        }
+        Writing::AsVoid | Writing::RoundCharacter | Writing::RoundChildren => false,
+        Writing::AsSection(_) | Writing::Unwritten => false,
     }
 }

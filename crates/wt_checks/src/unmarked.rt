@@ -1,12 +1,14 @@
 ghost use Rattle.std.specs.Prelude.{◌≡◌, ◌≤◌, ◌<◌, ◌&&◌, ◌||◌, [], not, option_map, length, drop};
 ghost use Rattle.std.specs.Str.{bytes_eq};
 ghost use Rattle.wt_tree.specs.Kinds.{showing, writing};
+ghost use Rattle.wt_tree.specs.Opened.{opened, opened_before};
+ghost use Rattle.wt_tree.specs.Tree.{none};
 ghost use Rattle.wt_tree.specs.View.{view, views, label_of};
 ghost use Rattle.wt_tree.specs.declared.node.Node.{out-Node};
 ghost use Rattle.wt_checks.specs.Places.{first};
 ghost use Rattle.wt_checks.specs.Unmarked.{is_compared, entry, entries, own_character, holds_same, same_entry, same_entries, keeps_data, keeps_face, keeps_children, is_other, is_unmarked_change};
 ghost use Rattle.wt_checks.specs.View.{seen, all_seen, indexed};
-ghost use Rattle.wt_checks.specs.Compared.{ComparedFrom};
+ghost use Rattle.wt_checks.specs.Compared.{ComparedFrom, IsBehindSame};
 
 use crate::alike::{same_attrs, same_data, same_kind};
 use crate::index::original;
@@ -57,19 +59,50 @@ fn compared_from(nodes: &[Node<'_>], from: usize) -> usize
     nodes.len()
 }
 
-fn same_children(left: &[Node<'_>], right: &[Node<'_>]) -> bool
-    ensures { result ≡ same_entries (entries (views left.now)) (entries (views right.now)) }
+/// The place behind the edited children from `from` on that are what the page's node is, or, where it is a
+/// section, what it holds; None where they are something else.
+#[cycle(passing)]
+fn behind_same(page: &Node<'_>, edited: &[Node<'_>], from: usize) -> Option<usize>
+    requires { from ≤ length edited.now }
+    ensures { IsBehindSame (opened_before (view page.now) none) edited.now from result }
 {
-    let mut at = compared_from(left, 0);
-    let mut to = compared_from(right, 0);
-    while at < left.len() && to < right.len() {
-        if !same_entry(&left[at], &right[to]) {
-            return false;
-        }
-        at = compared_from(left, at + 1);
-        to = compared_from(right, to + 1);
+    if page.kind.is_section() {
+        return behind_all_same(page.children.as_slice(), edited, from);
     }
-    at == left.len() && to == right.len()
+    if !is_compared(page) {
+        return Some(from);
+    }
+    let at = compared_from(edited, from);
+    if at < edited.len() && same_entry(page, &edited[at]) {
+        Some(at + 1)
+    } else {
+        None
+    }
+}
+
+/// The same of nodes that follow one another.
+#[cycle(passing)]
+fn behind_all_same(page: &[Node<'_>], edited: &[Node<'_>], from: usize) -> Option<usize>
+    requires { from ≤ length edited.now }
+    ensures { IsBehindSame (opened (views page.now)) edited.now from result }
+{
+    let mut at = from;
+    for node in page {
+        match behind_same(node, edited, at) {
+            None => return None,
+            Some(behind) => at = behind,
+        }
+    }
+    Some(at)
+}
+
+fn same_children(page: &[Node<'_>], edited: &[Node<'_>]) -> bool
+    ensures { result ≡ same_entries (entries (opened (views page.now))) (entries (views edited.now)) }
+{
+    match behind_all_same(page, edited, 0) {
+        None => false,
+        Some(behind) => compared_from(edited, behind) == edited.len(),
+    }
 }
 
 fn own_character<'n>(node: &'n Node<'_>) -> &'n str
@@ -77,7 +110,8 @@ fn own_character<'n>(node: &'n Node<'_>) -> &'n str
 {
     match node.kind.writing() {
         Writing::RoundCharacter => node.shown.as_str(),
-        Writing::AsText | Writing::AsVoid | Writing::RoundChildren | Writing::Unwritten => "",
+        Writing::AsText | Writing::AsVoid | Writing::RoundChildren => "",
+        Writing::AsSection(_) | Writing::Unwritten => "",
     }
 }
 

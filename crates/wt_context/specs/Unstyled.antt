@@ -22,6 +22,7 @@ pub data Role : Type 0 where
 
 abbrev pub role : Kind → Role
 role kind.Body = other
+role (kind.Section n) = other
 role kind.Para = other
 role (kind.Heading n) = other
 role kind.Rule = other

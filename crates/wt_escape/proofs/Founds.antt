@@ -79,6 +79,7 @@ all_found block n lt e =
 held_if : (k : Kind) → is_leaf k ≡ false → (not (is_leaf k) && is_delimited (shape k).items) ≡ true
 unfolding shape
 held_if kind.Body e = refl
+held_if (kind.Section n) e = refl
 held_if kind.Para e = refl
 held_if (kind.Heading n) e = refl
 held_if kind.Rule e = cc

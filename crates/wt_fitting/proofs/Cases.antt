@@ -228,3 +228,27 @@ no_place_for_group : read (codes "<html><body><b about='#mwt1' typeof='mw:Param'
 unfolding read read_tree spelling tag_name attribute_name digits placeholder switch_prefix is_switch transclusion param
     mw_told mw_of_data is_mw_shape has_small_numbers serde_json_on_literals
 no_place_for_group = refl
+
+-- ---- sections
+
+-- What a section holds stands in its place, and a section in a section too. Their attributes don't count,
+-- and no section is asked for a source.
+sections_opened : read (codes
+    "<html><body><section data-mw-section-id='0' about='#a' id='mw9'>\n<section><hr/></section></section> <section></section><p></p></body></html>")
+    ≡ page (bare kind.Body 0 (one_more (sep_leaf None (codes "\n")) (one_more (bare kind.Rule 0 no_trees)
+    (one_more (sep_leaf None (codes " ")) (one_more (bare kind.Para 0 no_trees) no_trees))))) (Some 5)
+unfolding read read_tree spelling tag_name attribute_name digits placeholder switch_prefix is_switch
+sections_opened = refl
+
+-- the mark of an edit in one, text in one, and one in a cell
+marked_section : read (codes "<html><body><section data-wt-edit='content'></section></body></html>") ≡ misfit 3 why.Data
+unfolding read read_tree spelling tag_name attribute_name digits placeholder switch_prefix is_switch
+marked_section = refl
+
+text_in_section : read (codes "<html><body><section><section>a</section></section></body></html>") ≡ misfit 4 why.Text
+unfolding read read_tree spelling tag_name attribute_name digits placeholder switch_prefix is_switch
+text_in_section = refl
+
+section_in_cell : read (codes "<html><body><table><tbody><tr><td><section></section></td></tr></tbody></table></body></html>") ≡ misfit 7 why.Place
+unfolding read read_tree spelling tag_name attribute_name digits placeholder switch_prefix is_switch
+section_in_cell = refl

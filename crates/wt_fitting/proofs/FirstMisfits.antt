@@ -14,6 +14,7 @@ use Rattle.wt_fitting.specs.declared.standing.Standing.{Standing}
 use Rattle.wt_fitting.specs.Groups.{standing, open_after, Piece}
 use Rattle.wt_fitting.specs.Data.{Data, data_for}
 use Rattle.wt_fitting.specs.Fit.{Misfit, Found, elements, label_for, label_as, texts_in, onto, onto_told, with_children, one_piece, Spot, within, row_as, is_block_element, behind_it, fits_place, is_inside, text_fits, fit_told, fit_as, fit_row, fit_node, fit_nodes, fit_body_told, body_data, fit_body, fit, body_of}
+use Rattle.wt_fitting.specs.Sections.{opened_if_fit}
 use Rattle.wt_fitting.specs.Misfits.{Place, place, places, places_of_all, places_of_body, is_wrong, IsReason, FitsAlone, FirstMisfit}
 
 -- ---- the first in a list
@@ -124,10 +125,16 @@ body_told_agrees (Some d) n ps c r o h =
     text_agrees (text_fits kind.Body c) n (with_children false kind.Body (label_for kind.Body ps d (texts_in c)) r) o
     (inside_agrees false kind.Body (label_for kind.Body ps d (texts_in c)) r o h)
 
+-- sections are opened where the page fits
+opened_agrees : (r : Result Tree Misfit) (o : Option Misfit) → Agrees r o → Agrees (opened_if_fit r) o
+opened_agrees (Ok t) o h = h
+opened_agrees (Err e) o h = h
+
 body_agrees : (f : Found) → Agrees (fit_body (Some f)) (first_wrong (places_of_body f))
 body_agrees f =
-    body_told_agrees (body_data f.attributes) f.number f.attributes f.contents
-    (fit_nodes (suc f.number) (within kind.Body false) f.contents) _ (nodes_agree f.contents (suc f.number) (within kind.Body false))
+    let held = fit_nodes (suc f.number) (within kind.Body false) f.contents in
+    opened_agrees (fit_body_told f.number f.attributes (body_data f.attributes) f.contents held) _
+    (body_told_agrees (body_data f.attributes) f.number f.attributes f.contents held _ (nodes_agree f.contents (suc f.number) (within kind.Body false)))
 
 -- ---- what the first is
 

@@ -1,16 +1,24 @@
 -- The first element without a source, by going over the tree, is the first in the list of elements.
 use Rattle.std.proofs.Common.{◌≡◌, ℕ, suc, ◌+◌, ◌++◌, Bool, true, false, Option, Some, None, List, [], ◌∷◌, refl, sym, ap, ap₂, ◌∙◌, map}
-use Rattle.std.specs.Prelude.{◌||◌, ◌&&◌, if◌then◌else◌}
+use Rattle.std.specs.Prelude.{not, ◌||◌, ◌&&◌, if◌then◌else◌}
 use Rattle.std.specs.Option.{option_or}
 use Rattle.wt_tree.specs.declared.kind.Kind.{Kind}
 use Rattle.wt_tree.specs.declared.kind.Kind.TheVariants as kind
 use Rattle.wt_html_grammar.specs.Markup.{Pair, Markup, Markups, text, node, empty, more}
 use Rattle.wt_fitting.specs.declared.standing.Standing.{Standing}
 use Rattle.wt_fitting.specs.declared.standing.Standing.TheVariants as stands
-use Rattle.wt_fitting.specs.Groups.{standing, open_after, is_grouped}
+use Rattle.wt_fitting.specs.Groups.{standing, open_after, is_grouped, pairs_for}
 use Rattle.wt_fitting.specs.Fit.{Found, elements, row_as, is_block_element, body_of}
-use Rattle.wt_fitting.specs.Unsourced.{is_marked, is_unsourced, unsourced_as, unsourced_node, unsourced_nodes, unsourced_body, unsourced}
-use Rattle.wt_fitting.specs.Misfits.{Place, place, places, places_of_all, is_asked, source_at, sources_of_body, first_unsourced}
+use Rattle.wt_fitting.specs.Unsourced.{is_marked, is_unsourced, unsourced_as, unsourced_node, unsourced_nodes, lacks_source, unsourced_body, unsourced}
+use Rattle.wt_fitting.specs.Misfits.{Place, place, places, places_of_all, is_asked, is_section_row, source_at, sources_of_body, first_unsourced}
+use Rattle.wt_fitting.proofs.SectionRows.{section_by_name}
+
+-- an element of this row, with these attributes
+abbrev lacks : Option Kind → List Pair → Bool
+lacks j ps = not (is_section_row j) && is_unsourced ps
+
+lacks_by_row : (name : List ℕ) (s : Standing) (ps : List Pair) → lacks_source name ps ≡ lacks (row_as s name ps) ps
+lacks_by_row name s ps = ap (λ b. not b && is_unsourced ps) (sym (section_by_name name (pairs_for s ps)))
 
 abbrev first_in : List Place → Option ℕ
 first_in xs = first_unsourced (map source_at xs)
@@ -26,7 +34,7 @@ or_first false n o p = refl
 append : (xs ys : List Place) → first_in (xs ++ ys) ≡ option_or (first_in xs) (first_in ys)
 append [] ys = refl
 append (x ∷ xs) ys =
-    let b : Bool = is_asked x.inside x.standing && is_unsourced x.attributes in
+    let b : Bool = is_asked x.inside x.standing && lacks x.kind x.attributes in
     here b x.number (map source_at (xs ++ ys)) ∙ ap (λ o. if b then Some x.number else o) (append xs ys)
     ∙ or_first b x.number (first_in xs) (first_in ys)
     ∙ ap (λ o. option_or o (first_in ys)) (sym (here b x.number (map source_at xs)))
@@ -41,8 +49,8 @@ not_asked stands.Astray = refl
 
 skipped : (x : Place) (xs : List Place) → x.inside ≡ true → first_in xs ≡ None → first_in (x ∷ xs) ≡ None
 skipped x xs e f =
-    here (is_asked x.inside x.standing && is_unsourced x.attributes) x.number (map source_at xs)
-    ∙ ap (λ b. if b && is_unsourced x.attributes then Some x.number else first_in xs) (ap (λ i. is_asked i x.standing) e ∙ not_asked x.standing) ∙ f
+    here (is_asked x.inside x.standing && lacks x.kind x.attributes) x.number (map source_at xs)
+    ∙ ap (λ b. if b && lacks x.kind x.attributes then Some x.number else first_in xs) (ap (λ i. is_asked i x.standing) e ∙ not_asked x.standing) ∙ f
 
 mutual
   none_node : (t : Markup) (n : ℕ) (p : Option Kind) (b : Bool) (group : Option (List ℕ)) → first_in (places n p true b group t) ≡ None
@@ -62,22 +70,23 @@ mutual
 
 as_first : (s : Standing) (n : ℕ) (p : Option Kind) (b : Bool) (j : Option Kind) (ps : List Pair) (c : Markups) (o : Option ℕ)
     → o ≡ first_in (places_of_all (suc n) j false false None c)
-    → unsourced_as s n ps o ≡ first_in (place n p false b s j ps c ∷ places_of_all (suc n) j (false || is_grouped s) false None c)
+    → unsourced_as s n (lacks j ps) o ≡ first_in (place n p false b s j ps c ∷ places_of_all (suc n) j (false || is_grouped s) false None c)
 as_first stands.Alone n p b j ps c o h =
-    ap (λ o. if is_unsourced ps then Some n else o) h ∙ sym (here (is_unsourced ps) n (map source_at (places_of_all (suc n) j false false None c)))
+    ap (λ o. if lacks j ps then Some n else o) h ∙ sym (here (lacks j ps) n (map source_at (places_of_all (suc n) j false false None c)))
 as_first stands.First n p b j ps c o h =
-    ap (λ o. if is_unsourced ps then Some n else o) (sym (none_nodes c (suc n) j false None))
-    ∙ sym (here (is_unsourced ps) n (map source_at (places_of_all (suc n) j true false None c)))
+    ap (λ o. if lacks j ps then Some n else o) (sym (none_nodes c (suc n) j false None))
+    ∙ sym (here (lacks j ps) n (map source_at (places_of_all (suc n) j true false None c)))
 as_first stands.Further n p b j ps c o h =
     sym (none_nodes c (suc n) j false None) ∙ sym (here false n (map source_at (places_of_all (suc n) j true false None c)))
 as_first stands.Astray n p b j ps c o h =
-    ap (λ o. if is_unsourced ps then Some n else o) h ∙ sym (here (is_unsourced ps) n (map source_at (places_of_all (suc n) j false false None c)))
+    ap (λ o. if lacks j ps then Some n else o) h ∙ sym (here (lacks j ps) n (map source_at (places_of_all (suc n) j false false None c)))
 
 mutual
   node_first : (t : Markup) (n : ℕ) (p : Option Kind) (b : Bool) (group : Option (List ℕ)) → unsourced_node n group t ≡ first_in (places n p false b group t)
   node_first (text bs) n p b group = refl
   node_first (node name ps c) n p b group =
-      as_first (standing group ps) n p b (row_as (standing group ps) name ps) ps c (unsourced_nodes (suc n) None c)
+      ap (λ l. unsourced_as (standing group ps) n l (unsourced_nodes (suc n) None c)) (lacks_by_row name (standing group ps) ps)
+      ∙ as_first (standing group ps) n p b (row_as (standing group ps) name ps) ps c (unsourced_nodes (suc n) None c)
       (nodes_first c (suc n) (row_as (standing group ps) name ps) false None)
 
   nodes_first : (ts : Markups) (n : ℕ) (p : Option Kind) (b : Bool) (group : Option (List ℕ))

@@ -7,7 +7,7 @@ use Rattle.wt_tree.specs.declared.row.Payload.{Payload}
 use Rattle.wt_tree.specs.declared.row.Payload.TheVariants.{NoData, ExtensionTag, GroupParts}
 use Rattle.wt_tree.specs.declared.node.DataMw.{DataMw}
 use Rattle.wt_tree.specs.declared.node.DataMw.TheVariants as mw
-use Rattle.wt_tree.specs.Kinds.{is_leaf, is_numbered, payload, attribute_name}
+use Rattle.wt_tree.specs.Kinds.{is_leaf, is_numbered, is_section, payload, attribute_name}
 use Rattle.wt_tree.specs.Values.{is_extension_type}
 use Rattle.wt_datamw.specs.declared.sync.Sync.{Sync}
 use Rattle.wt_datamw.specs.declared.refusal.DataWhy.{DataWhy}
@@ -71,10 +71,11 @@ abbrev pub both : Option (Option Sync) → Option (Option DataMw) → Option Dat
 both (Some s) (Some d) = Some (record { sync = s; mw = d })
 both s d = None
 
--- the data of a node by itself, in no group; None where it is bad
+-- The data of a node by itself, in no group; None where it is bad. A section may not have the mark of an edit.
 abbrev pub data_of : Kind → List Pair → Option Data
 data_of k ps =
-    both (sync_fits k (value_of (codes "data-parsoid") ps))
+    if is_section k && has (codes "data-wt-edit") ps then None
+    else both (sync_fits k (value_of (codes "data-parsoid") ps))
     (mw_fits (is_extension_of k (value_of (attribute_name attr.Typeof) ps)) (value_of (codes "data-mw") ps))
 
 -- ---- groups

@@ -5,7 +5,6 @@ use Rattle.std.specs.Option.{option_map}
 use Rattle.std.specs.Str.{bytes_eq}
 use Rattle.wt_tree.specs.declared.kind.Kind.{Kind}
 use Rattle.wt_tree.specs.declared.kind.Kind.TheVariants as kind
-use Rattle.wt_tree.specs.declared.kind.Mark.TheVariants as mark
 use Rattle.wt_tree.specs.Tree.{Label, Tree, tree, Trees}
 use Rattle.wt_datamw.specs.declared.sync.Sync.{Sync}
 use Rattle.wt_html_grammar.specs.Markup.{Pair, Markup, Markups, text, node, empty, more}
@@ -21,6 +20,7 @@ use Rattle.wt_tree.specs.Kinds.{may_hold, may_follow, is_block, texts_of_kind}
 use Rattle.wt_tree.specs.Recut.{is_blank, text_leaf, sep_leaf, recut}
 use Rattle.wt_fitting.specs.Rows.{row, holds_text, shows_text, attrs_for}
 use Rattle.wt_fitting.specs.Data.{Data, no_data, data_of, data_for, id_for}
+use Rattle.wt_fitting.specs.Sections.{all_bared, opened_if_fit}
 
 -- ---- labels
 
@@ -227,7 +227,8 @@ is_marked_root ps =
     has (codes "about") ps || (has (codes "data-mw") ps ||
     (has (codes "data-parsoid") ps || (has (codes "data-wt-edit") ps || (is_typed ps || not (id_of ps == 0)))))
 
--- the body of a document: the number of its element, its attributes and its contents
+-- the body of a document: the number of its element, its attributes and its contents, in which sections have
+-- no attributes but marks
 pub record Found : Type 0 where
   pub number : ℕ
   pub attributes : List Pair
@@ -235,10 +236,10 @@ pub record Found : Type 0 where
 
 -- a body, and maybe a head before it, whose contents are ignored
 abbrev pub body_in : Markups → Option Found
-body_in (more (node name ps c) empty) = if bytes_eq name (codes "body") then Some (record { number = 2; attributes = ps; contents = c }) else None
+body_in (more (node name ps c) empty) = if bytes_eq name (codes "body") then Some (record { number = 2; attributes = ps; contents = all_bared c }) else None
 body_in (more (node head hs hc) (more (node name ps c) empty)) =
     if bytes_eq head (codes "head") && bytes_eq name (codes "body")
-    then Some (record { number = 3 + elements_of_all hc; attributes = ps; contents = c })
+    then Some (record { number = 3 + elements_of_all hc; attributes = ps; contents = all_bared c })
     else None
 body_in ts = None
 
@@ -258,7 +259,9 @@ body_data ps = if has (codes "about") ps && not (has (codes "data-mw") ps) then 
 
 abbrev pub fit_body : Option Found → Result Tree Misfit
 fit_body None = Err (1, why.Root)
-fit_body (Some f) = fit_body_told f.number f.attributes (body_data f.attributes) f.contents (fit_nodes (suc f.number) (within kind.Body false) f.contents)
+fit_body (Some f) =
+    opened_if_fit (fit_body_told f.number f.attributes (body_data f.attributes) f.contents
+    (fit_nodes (suc f.number) (within kind.Body false) f.contents))
 
 -- the page that a tree of elements is, or its first misfit
 abbrev pub fit : Markup → Result Tree Misfit

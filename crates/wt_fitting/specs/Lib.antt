@@ -1,5 +1,6 @@
 pub mod Attributes
 pub mod Rows
+pub mod Sections
 pub mod Groups
 pub mod Data
 pub mod Fit

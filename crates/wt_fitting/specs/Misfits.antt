@@ -5,6 +5,7 @@ use Rattle.std.specs.List.{AllByRecursion}
 use Rattle.std.specs.Option.{option_map}
 use Rattle.wt_tree.specs.declared.kind.Kind.{Kind}
 use Rattle.wt_tree.specs.declared.kind.Kind.TheVariants as kind
+use Rattle.wt_tree.specs.Kinds.{is_section}
 use Rattle.wt_html_grammar.specs.Markup.{Pair, Markup, Markups, text, node, empty, more}
 use Rattle.wt_fitting.specs.declared.why.FitWhy.{FitWhy}
 use Rattle.wt_fitting.specs.declared.why.FitWhy.TheVariants as why
@@ -59,9 +60,13 @@ is_asked inside stands.First = not inside
 is_asked inside stands.Further = false
 is_asked inside stands.Astray = not inside
 
--- an element's number, and whether it is asked and has no source or has the mark of an edit
+abbrev pub is_section_row : Option Kind → Bool
+is_section_row None = false
+is_section_row (Some k) = is_section k
+
+-- an element's number, and whether it is asked, is no section, and has no source or has the mark of an edit
 abbrev pub source_at : Place → ℕ × Bool
-source_at x = (x.number, is_asked x.inside x.standing && is_unsourced x.attributes)
+source_at x = (x.number, is_asked x.inside x.standing && (not (is_section_row x.kind) && is_unsourced x.attributes))
 
 -- the body, which needs no source, and all below it
 abbrev pub sources_of_body : Found → List (ℕ × Bool)

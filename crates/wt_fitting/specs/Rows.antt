@@ -20,10 +20,11 @@ use Rattle.wt_tree.specs.Kinds.{spelling, level_digits, attribute_name, order, t
 use Rattle.wt_tree.specs.Values.{passes, is_needed}
 use Rattle.wt_html_grammar.specs.Markup.{Pair}
 use Rattle.wt_fitting.specs.Attributes.{value_of}
+use Rattle.wt_fitting.specs.Sections.{is_section_name}
 
 -- ---- which element is which kind
 
--- the kinds whose elements are read: all but the body and what is no element of its own
+-- the kinds whose elements are read by their rows: all but the body, sections and what is no element of its own
 abbrev pub read_kinds : List Kind
 read_kinds =
     kind.Para ∷ kind.WikiLink ∷ kind.ExtLink ∷ kind.Bold ∷ kind.Italic
@@ -69,9 +70,9 @@ is_row name type property rel k = is_named name k && (tells attr.Typeof type k &
 abbrev pub row_by : List ℕ → Option (List ℕ) → Option (List ℕ) → Option (List ℕ) → Option Kind
 row_by name type property rel = find (is_row name type property rel) read_kinds
 
--- None where the element is no row
+-- A section is one by its name alone; its number isn't read. None where the element is no row.
 abbrev pub row : List ℕ → List Pair → Option Kind
-row name ps = row_by name (value_of (attribute_name attr.Typeof) ps) (value_of (attribute_name attr.Property) ps) (value_of (attribute_name attr.Rel) ps)
+row name ps = if is_section_name name then Some (kind.Section 0) else row_by name (value_of (attribute_name attr.Typeof) ps) (value_of (attribute_name attr.Property) ps) (value_of (attribute_name attr.Rel) ps)
 
 -- ---- texts
 

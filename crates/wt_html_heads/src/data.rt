@@ -1,5 +1,5 @@
 ghost use Rattle.std.specs.Prelude.{◌≡◌, ◌&&◌, not, true, false, None, Ok, codes, option_map, IfOk};
-ghost use Rattle.wt_tree.specs.Kinds.{attribute_name};
+ghost use Rattle.wt_tree.specs.Kinds.{attribute_name, is_section};
 ghost use Rattle.wt_datamw.specs.MwRead.{mw_told};
 ghost use Rattle.wt_datamw.specs.SyncRead.{sync_told};
 ghost use Rattle.wt_html_elements.specs.Built.{pairs};
@@ -10,7 +10,7 @@ ghost use Rattle.wt_fitting.specs.Fit.{body_data};
 ghost use Rattle.wt_html_heads.specs.Texts.{are_utf8_values};
 ghost use Rattle.wt_html_heads.specs.Told.{sync_said, mw_said, data_said};
 
-use crate::attributes::{has, text_value, value_of};
+use crate::attributes::{has, is_marked, text_value, value_of};
 use crate::number::id_of;
 use crate::typed::is_extension_type;
 use std::alloc::Global;
@@ -184,11 +184,21 @@ fn mw_data(alloc: Global, is_tag: bool, attributes: &[Attribute]) -> Result<MwDa
     mw_fits(alloc, is_tag, text_value(b"data-mw".as_slice(), attributes))
 }
 
-/// The data of a node of this kind by itself, in no group.
+/// Whether it is a section with the mark of an edit.
+fn is_marked_section(kind: Kind, attributes: &[Attribute]) -> bool
+    ensures { result ≡ (is_section kind && has (codes "data-wt-edit") (pairs attributes.now)) }
+{
+    kind.is_section() && is_marked(attributes)
+}
+
+/// The data of a node of this kind by itself, in no group. A section may not have the mark of an edit.
 pub fn data_of(alloc: Global, kind: Kind, attributes: &[Attribute]) -> Result<Data, NoMemory>
     requires { are_utf8_values (pairs attributes.now) ≡ true }
     ensures { IfOk result (λ d. data_said d ≡ data_of kind (pairs attributes.now)) }
 {
+    if is_marked_section(kind, attributes) {
+        return Ok(Data::Bad);
+    }
     let sync = sync_data(alloc, kind, attributes)?;
     let mw = mw_data(alloc, is_extension(kind, attributes), attributes)?;
     Ok(both(sync, mw))

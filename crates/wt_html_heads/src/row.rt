@@ -3,6 +3,7 @@ ghost use Rattle.std.specs.Str.{bytes_eq};
 ghost use Rattle.wt_html_elements.specs.Built.{pairs, view_content, views};
 ghost use Rattle.wt_tree.specs.Kinds.{fixed_of, level_digits};
 ghost use Rattle.wt_fitting.specs.Rows.{values_at, agrees, is_value, agrees_by, tells, is_named, is_row, row_by, row, holds_text, shows_text};
+ghost use Rattle.wt_fitting.specs.Sections.{is_section_name};
 ghost use Rattle.wt_tree.specs.Recut.{is_blank};
 ghost use Rattle.wt_fitting.specs.Fit.{are_blank, text_fits};
 ghost use Rattle.wt_html_heads.specs.Told.{is_blank_or_element};
@@ -13,7 +14,7 @@ use wt_html_elements::{Attribute, Content};
 use wt_span::rest_of;
 use wt_tree::{AttrName, Fixed, Kind, Own, TagName, Texts, Values};
 
-/// The kinds whose elements are read.
+/// The kinds whose elements are read by their rows.
 const READ_KINDS: [Kind; 41] = [
     Kind::Para,
     Kind::WikiLink,
@@ -169,10 +170,20 @@ fn row_by(
         .find(|kind| is_row(name, type_name, property, rel, *kind))
 }
 
-/// The kind of an element, by the table of kinds.
+/// Whether an element of this name is a section.
+pub fn is_section_name(name: &[u8]) -> bool
+    ensures { result ≡ is_section_name name.now }
+{
+    is_word(name, b"section")
+}
+
+/// The kind of an element: a section by its name alone, any other by the table of kinds.
 pub fn row(name: &[u8], attributes: &[Attribute]) -> Option<Kind>
     ensures { result ≡ row name.now (pairs attributes.now) }
 {
+    if is_section_name(name) {
+        return Some(Kind::Section(0));
+    }
     row_by(
         name,
         value_of(AttrName::Typeof.text(), attributes),

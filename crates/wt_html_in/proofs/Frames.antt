@@ -1,8 +1,9 @@
 -- The frame of a document.
 use Rattle.std.proofs.Common.{◌≡◌, ℕ, suc, ◌+◌, ◌<◌, ◌^◌, Bool, true, false, Option, Some, None, Result, Ok, Err, List, [], ◌∷◌, ◌++◌, refl, sym, ap, ◌∙◌, arith, subst, codes, length}
-use Rattle.std.specs.Prelude.{if◌then◌else◌, ◌&&◌, ◌≤◌}
+use Rattle.std.specs.Prelude.{if◌then◌else◌, ◌&&◌, ◌≤◌, IfOk}
 use Rattle.std.specs.Option.{option_or}
 use Rattle.std.specs.Str.{bytes_eq}
+use Rattle.wt_span.specs.declared.memory.NoMemory.{NoMemory}
 use Rattle.wt_tree.specs.declared.kind.Kind.TheVariants as kind
 use Rattle.wt_tree.specs.Tree.{tree}
 use Rattle.wt_tree.specs.View.{view, views}
@@ -26,6 +27,9 @@ use Rattle.wt_html_heads.specs.Heads.{label_of_head, BodyFits}
 use Rattle.wt_html_in.specs.Fits.{held_in, FitsNodes}
 use Rattle.wt_html_in.specs.Frame.{found_of, found_if_any, is_element, number_behind_one, number_behind, body_as, is_root, marked_here, FitsBody}
 use Rattle.wt_html_heads.proofs.Values.{and_left, and_right}
+use Rattle.wt_tree.specs.Opened.{without_sections}
+use Rattle.wt_fitting.specs.Sections.{all_bared, opened_if_fit}
+use Rattle.wt_html_in.proofs.Bared.{count_bared, utf8_bared, append_push, append_empty}
 use Rattle.wt_html_in.proofs.Walking.{here_or}
 
 -- ---- the body among the elements
@@ -34,7 +38,7 @@ one_body : (m : Markup) → body_in (more m empty) ≡ body_as m (Some 2)
 one_body (text bs) = refl
 one_body (node name ps c) = refl
 
-head_and : (h m : Bool) (n : ℕ) (b : FoundBody) (name : List ℕ) (ps : List Pair) (c : Markups) → b ≡ found_of n ps c
+head_and : (h m : Bool) (n : ℕ) (b : FoundBody) (name : List ℕ) (ps : List Pair) (c : Markups) → b ≡ found_of n ps (all_bared c)
     → (if h && bytes_eq name (codes "body") then Some b else None) ≡ body_as (node name ps c) (if h then Some n else None)
 head_and true m n b name ps c e = ap (λ x. if bytes_eq name (codes "body") then Some x else None) e
 head_and false m n b name ps c e = refl
@@ -50,7 +54,7 @@ two_bodies : (h m : Markup) → body_in (more h (more m empty)) ≡ body_as m (n
 two_bodies (text bs) m = refl
 two_bodies (node head hs hc) (text bs) = text_behind (bytes_eq head (codes "head")) (3 + elements_of_all hc) bs
 two_bodies (node head hs hc) (node name ps c) = head_and (bytes_eq head (codes "head")) true (3 + elements_of_all hc)
-    (found_of (3 + elements_of_all hc) ps c) name ps c refl
+    (found_of (3 + elements_of_all hc) ps (all_bared c)) name ps c refl
 
 many_bodies : (a b c : Markup) (ts : Markups) → body_in (more a (more b (more c ts))) ≡ None
 many_bodies (text bs) b c ts = refl
@@ -89,17 +93,17 @@ pub record Sound (m : ℕ) (f : FoundBody) : Type 0 where
   pub utf8_values : are_utf8_values f.attributes ≡ true
   pub utf8 : are_utf8_markups f.contents ≡ true
 
-body_sound : (t : Bool) (n m : ℕ) (ps : List Pair) (c : Markups) (f : FoundBody) → (if t then Some (found_of n ps c) else None)
+body_sound : (t : Bool) (n m : ℕ) (ps : List Pair) (c : Markups) (f : FoundBody) → (if t then Some (found_of n ps (all_bared c)) else None)
     ≡ Some f → n + elements_of_all c ≤ m
     → (are_utf8_values ps && are_utf8_markups c) ≡ true → Sound m f
 body_sound true n m ps c f e l u =
-    let same : found_of n ps c ≡ f = cc in
+    let same : found_of n ps (all_bared c) ≡ f = cc in
     let P : FoundBody → Type 0 = Sound m in
+    let count = count_bared c in
     subst P same (record {
-      few = l;
+      few = omega (arith, l, count);
       utf8_values = and_left (are_utf8_values ps) (are_utf8_markups c) u;
-      utf8 =
-          and_right (are_utf8_values ps) (are_utf8_markups c) u;
+      utf8 = utf8_bared c (and_right (are_utf8_values ps) (are_utf8_markups c) u);
     })
 body_sound false n m ps c f e l u = absurd cc
 
@@ -140,31 +144,35 @@ bodied_at n ps qs xs ys r d e h = rw (sym d, sym e) h
 abbrev inner : ℕ → Markups → Result (List Piece) Misfit
 inner n c = fit_nodes n (within kind.Body false) c
 
-pub body_made : (n : ℕ) (ps : List Pair) (c : Markups) (h : Head) (w v : Walk) (ns : List Node) (b : Node) (e : Edited)
+-- a body's tree, and the same without its sections
+pub body_made : (n : ℕ) (ps : List Pair) (c : Markups) (h : Head) (w v : Walk) (ns : List Node) (a b : Node) (e : Edited)
     → Bodied n ps c (Ok h) → w.next ≡ n + 1 → w.unsourced ≡ marked_here n ps → FitsNodes w kind.Body false c v (Ok ns)
-    → view b ≡ tree (label_of_head h) (held_in false h.kind (views ns)) → body_told e ≡ view b → unsourced_of e ≡ v.unsourced
+    → view a ≡ tree (label_of_head h) (held_in false h.kind (views ns)) → view b ≡ without_sections (view a)
+    → body_told e ≡ view b → unsourced_of e ≡ v.unsourced
     → FitsBody (Some (found_of n ps c)) (Ok e)
-body_made n ps c h w v ns b e f x y g i j k =
+body_made n ps c h w v ns a b e f x y g i o j k =
     let s : w.next ≡ suc n = omega (arith, x) in (
-      f (inner (suc n) c)
+      ap opened_if_fit (f (inner (suc n) c)
           ∙ ap (λ z. with_children false h.kind (label_of_head h) (inner z c)) (sym s)
           ∙ ap (with_children false h.kind (label_of_head h)) g.1
-          ∙ ap (λ z. Ok (tree (label_of_head h) (held_in false h.kind z))) g.2
-          ∙ ap (λ z. Ok z) (sym (j ∙ i)),
+          ∙ ap (λ z. Ok (tree (label_of_head h) (held_in false h.kind z))) g.2)
+          ∙ ap (λ z. Ok (without_sections z)) (sym i)
+          ∙ ap (λ z. Ok z) (sym (j ∙ o)),
       sym (k ∙ g.3.unsourced ∙ ap (λ z. option_or z (unsourced_nodes w.next None c)) y
           ∙ here_or (is_marked ps) n (unsourced_nodes w.next None c)
           ∙ ap (λ z. if is_marked ps then Some n else unsourced_nodes z None c) s),
     )
 
 pub body_misfit : (n : ℕ) (ps : List Pair) (c : Markups) (e : FitFault) → Bodied n ps c (Err e) → FitsBody (Some (found_of n ps c)) (Err e)
-body_misfit n ps c (faults.Unfit m y) f = f (inner (suc n) c)
+body_misfit n ps c (faults.Unfit m y) f = ap opened_if_fit (f (inner (suc n) c))
 body_misfit n ps c faults.NoMemory f = tt
 
 pub body_inside : (n : ℕ) (ps : List Pair) (c : Markups) (h : Head) (w v : Walk) (e : FitFault) → Bodied n ps c (Ok h) → w.next ≡ n + 1
     → FitsNodes w kind.Body false c v (Err e) → FitsBody (Some (found_of n ps c)) (Err e)
 body_inside n ps c h w v (faults.Unfit m y) f x g =
     let s : suc n ≡ w.next = omega (arith, x) in
-    f (inner (suc n) c) ∙ ap (λ z. with_children false h.kind (label_of_head h) (inner z c)) s ∙ ap (with_children false h.kind (label_of_head h)) g
+    ap opened_if_fit (f (inner (suc n) c) ∙ ap (λ z. with_children false h.kind (label_of_head h) (inner z c)) s
+    ∙ ap (with_children false h.kind (label_of_head h)) g)
 body_inside n ps c h w v faults.NoMemory f x g = tt
 
 pub fits_at : (f g : Option FoundBody) (r s : Result Edited FitFault) → f ≡ g → r ≡ s → FitsBody g s → FitsBody f r
@@ -194,20 +202,12 @@ kept_element : (m : Markup) (ts : Markups) → is_element m ≡ true → element
 kept_element (text bs) ts e = cc
 kept_element (node name ps c) ts e = refl
 
-append_push : (es : List Content) (c : Content) (ts : Markups) → append (markups (es ++ c ∷ [])) ts ≡ append (markups es) (more (view_content c) ts)
-append_push [] c ts = refl
-append_push (e ∷ es) c ts = ap (more (view_content e)) (append_push es c ts)
-
 pub element_on : (es fs : List Content) (c : Content) (xs ys : List Content) (t : Bool) (all : Markups) → fs ≡ es ++ c ∷ []
     → xs ≡ c ∷ ys → t ≡ is_element (view_content c) → t ≡ true
     → append (markups es) (elements_in (markups xs)) ≡ all → append (markups fs) (elements_in (markups ys)) ≡ all
 element_on es fs c xs ys t all d e f g h =
     ap (λ zs. append (markups zs) (elements_in (markups ys))) d ∙ append_push es c (elements_in (markups ys))
     ∙ ap (append (markups es)) (sym (kept_element (view_content c) (markups ys) (sym f ∙ g)) ∙ ap (λ zs. elements_in (markups zs)) (sym e)) ∙ h
-
-append_empty : (ts : Markups) → append ts empty ≡ ts
-append_empty empty = refl
-append_empty (more t ts) = ap (more t) (append_empty ts)
 
 pub elements_end : (es xs : List Content) (all : Markups) → xs ≡ [] → append (markups es) (elements_in (markups xs)) ≡ all → markups es ≡ all
 elements_end es xs all e h = sym (append_empty (markups es)) ∙ ap (λ zs. append (markups es) (elements_in (markups zs))) (sym e) ∙ h
@@ -219,3 +219,7 @@ few_in_root m name ps c ts d e l = let f = ap elements d in let g = ap elements_
 pub sound_by : (m : Markup) (o : Option Found) (f : Found) → found_if_any o ≡ body_of m → o ≡ Some f → is_utf8_markup m ≡ true
     → Sound (elements m) (found_of f.number (pairs f.attributes.items) (markups f.contents.items))
 sound_by m o f d e u = found_sound m (found_of f.number (pairs f.attributes.items) (markups f.contents.items)) (sym d ∙ ap found_if_any e) u
+
+-- what is told of one body is told of what it is
+pub found_at : (r : Result (Option Found) NoMemory) (a b : Option FoundBody) → IfOk r (λ f. found_if_any f ≡ a) → a ≡ b → IfOk r (λ f. found_if_any f ≡ b)
+found_at r a b h e = let P : Option FoundBody → Type 0 = λ o. IfOk r (λ f. found_if_any f ≡ o) in subst P e h

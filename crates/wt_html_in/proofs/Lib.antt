@@ -3,6 +3,8 @@ pub mod RolesFound
 pub mod Blocks
 pub mod Pieces
 pub mod Walking
+pub mod Bared
+pub mod Opened
 pub mod Frames
 pub mod Standing
 pub mod Reading

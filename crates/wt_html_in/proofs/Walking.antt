@@ -13,7 +13,7 @@ use Rattle.wt_fitting.specs.declared.standing.Standing.{Standing}
 use Rattle.wt_fitting.specs.declared.standing.Standing.TheVariants as stands
 use Rattle.wt_fitting.specs.Groups.{Piece, single, gathered, standing, is_grouped, is_dropped, open_after}
 use Rattle.wt_fitting.specs.Fit.{Misfit, Spot as Place, within, onto, onto_told, with_children, is_block_element, behind_it, elements, elements_of_all, row_as, leaf_in, fit_row, fit_text, fit_node, fit_nodes}
-use Rattle.wt_fitting.specs.Unsourced.{is_unsourced, unsourced_as, unsourced_nodes}
+use Rattle.wt_fitting.specs.Unsourced.{lacks_source, unsourced_as, unsourced_nodes}
 use Rattle.wt_html_heads.specs.Texts.{is_utf8_markup, are_utf8_markups}
 use Rattle.wt_html_heads.specs.declared.fault.FitFault.{FitFault}
 use Rattle.wt_html_heads.specs.declared.fault.FitFault.TheVariants as faults
@@ -228,23 +228,23 @@ abbrev stood : ℕ → Spot → Option (List ℕ) → Standing → List ℕ → 
 stood n s g z name ps c =
     fit_row n (spot_with s g) z (row_as z name ps) ps c (λ k. fit_nodes (suc n) (within k (s.inside || is_grouped z)) c)
 
-abbrev passed_as : Bool → Standing → ℕ → List Pair → Markups → Option ℕ
-passed_as true z n ps c = None
-passed_as false z n ps c = unsourced_as z n ps (unsourced_nodes (suc n) None c)
+abbrev passed_as : Bool → Standing → ℕ → List ℕ → List Pair → Markups → Option ℕ
+passed_as true z n name ps c = None
+passed_as false z n name ps c = unsourced_as z n (lacks_source name ps) (unsourced_nodes (suc n) None c)
 
-passed_element : (i : Bool) (z : Standing) (n : ℕ) (ps : List Pair) (c : Markups)
-    → option_or (unsourced_here i z n ps) (unsourced_among (i || is_grouped z) (suc n) None c) ≡ passed_as i z n ps c
-passed_element true stands.Alone n ps c = refl
-passed_element true stands.First n ps c = refl
-passed_element true stands.Further n ps c = refl
-passed_element true stands.Astray n ps c = refl
-passed_element false stands.Alone n ps c = here_or (is_unsourced ps) n (unsourced_nodes (suc n) None c)
-passed_element false stands.First n ps c = or_none (if is_unsourced ps then Some n else None)
-passed_element false stands.Further n ps c = refl
-passed_element false stands.Astray n ps c = here_or (is_unsourced ps) n (unsourced_nodes (suc n) None c)
+passed_element : (i : Bool) (z : Standing) (n : ℕ) (name : List ℕ) (ps : List Pair) (c : Markups)
+    → option_or (unsourced_here i z n name ps) (unsourced_among (i || is_grouped z) (suc n) None c) ≡ passed_as i z n name ps c
+passed_element true stands.Alone n name ps c = refl
+passed_element true stands.First n name ps c = refl
+passed_element true stands.Further n name ps c = refl
+passed_element true stands.Astray n name ps c = refl
+passed_element false stands.Alone n name ps c = here_or (lacks_source name ps) n (unsourced_nodes (suc n) None c)
+passed_element false stands.First n name ps c = or_none (if lacks_source name ps then Some n else None)
+passed_element false stands.Further n name ps c = refl
+passed_element false stands.Astray n name ps c = here_or (lacks_source name ps) n (unsourced_nodes (suc n) None c)
 
 one_element : (i : Bool) (n : ℕ) (g : Option (List ℕ)) (name : List ℕ) (ps : List Pair) (c : Markups)
-    → unsourced_one i n g (node name ps c) ≡ passed_as i (standing g ps) n ps c
+    → unsourced_one i n g (node name ps c) ≡ passed_as i (standing g ps) n name ps c
 one_element true n g name ps c = refl
 one_element false n g name ps c = refl
 
@@ -261,7 +261,7 @@ stood_is w v s g z name ps c h f e =
 
 pub element_ok : (w v u : Walk) (s : Spot) (r : Role) (z : Standing) (name : List ℕ) (ps : List Pair) (c : Markups) (h : Headed)
     (ns : List Node) (o : Made)
-    → z ≡ standing_in r → Begun w s z name ps c (Ok h) → Passed w v 1 (unsourced_here s.inside z w.next ps)
+    → z ≡ standing_in r → Begun w s z name ps c (Ok h) → Passed w v 1 (unsourced_here s.inside z w.next name ps)
     → FitsNodes v h.head.kind (s.inside || is_grouped z) c u (Ok ns)
     → piece_of o ≡ Some (piece_by h.group h.standing (tree (label_of_head h.head) (held_in (s.inside || is_grouped z) h.head.kind (views ns))))
     → FitsPiece w s r (node name ps c) u (Ok o)
@@ -277,11 +277,11 @@ element_ok w v u s r z name ps c h ns o y f p g m = λ group ts q.
         next = omega (arith, p.next, g.3.next);
         unsourced = g.3.unsourced
             ∙ ap (λ x. option_or x (unsourced_among j v.next None c)) p.unsourced
-            ∙ or_assoc w.unsourced (unsourced_here s.inside z w.next ps) (unsourced_among j v.next None c)
-            ∙ ap (λ x. option_or w.unsourced (option_or (unsourced_here s.inside z w.next ps) (unsourced_among j x None c)))
+            ∙ or_assoc w.unsourced (unsourced_here s.inside z w.next name ps) (unsourced_among j v.next None c)
+            ∙ ap (λ x. option_or w.unsourced (option_or (unsourced_here s.inside z w.next name ps) (unsourced_among j x None c)))
             (let next : v.next ≡ suc w.next = omega (arith, p.next) in next)
-            ∙ ap (option_or w.unsourced) (passed_element s.inside z w.next ps c)
-            ∙ ap (λ x. option_or w.unsourced (passed_as s.inside x w.next ps c)) is
+            ∙ ap (option_or w.unsourced) (passed_element s.inside z w.next name ps c)
+            ∙ ap (λ x. option_or w.unsourced (passed_as s.inside x w.next name ps c)) is
             ∙ ap (option_or w.unsourced) (sym (one_element s.inside w.next group name ps c));
       },
     )
@@ -294,7 +294,7 @@ element_misfit w x s r z name ps c (faults.Unfit n y) a f = λ group ts q.
 element_misfit w x s r z name ps c faults.NoMemory a f = tt
 
 pub element_inside : (w v u x : Walk) (s : Spot) (r : Role) (z : Standing) (name : List ℕ) (ps : List Pair) (c : Markups) (h : Headed) (e : FitFault)
-    → z ≡ standing_in r → Begun w s z name ps c (Ok h) → Passed w v 1 (unsourced_here s.inside z w.next ps)
+    → z ≡ standing_in r → Begun w s z name ps c (Ok h) → Passed w v 1 (unsourced_here s.inside z w.next name ps)
     → FitsNodes v h.head.kind (s.inside || is_grouped z) c u (Err e) → FitsPiece w s r (node name ps c) x (Err e)
 element_inside w v u x s r z name ps c h (faults.Unfit n y) a f p g = λ group ts q.
     ap (λ p. stood w.next s group p name ps c) (sym (a ∙ ap standing_in q))

@@ -11,7 +11,7 @@ use Rattle.wt_fitting.specs.declared.standing.Standing.{Standing}
 use Rattle.wt_fitting.specs.declared.standing.Standing.TheVariants as stands
 use Rattle.wt_fitting.specs.Groups.{Piece, single, begun, further, gathered}
 use Rattle.wt_fitting.specs.Fit.{within, held_as, elements, elements_of_all, fit_node, fit_nodes}
-use Rattle.wt_fitting.specs.Unsourced.{is_unsourced, unsourced_node, unsourced_nodes}
+use Rattle.wt_fitting.specs.Unsourced.{lacks_source, unsourced_node, unsourced_nodes}
 use Rattle.wt_html_heads.specs.declared.fault.FitFault.{FitFault}
 use Rattle.wt_html_heads.specs.declared.fault.FitFault.TheVariants as faults
 use Rattle.wt_html_heads.specs.declared.head.Spot.{Spot}
@@ -35,8 +35,8 @@ is_asked inside stands.First = not inside
 is_asked inside stands.Further = false
 is_asked inside stands.Astray = not inside
 
-abbrev pub unsourced_here : Bool → Standing → ℕ → List Pair → Option ℕ
-unsourced_here inside s n ps = if is_asked inside s && is_unsourced ps then Some n else None
+abbrev pub unsourced_here : Bool → Standing → ℕ → List ℕ → List Pair → Option ℕ
+unsourced_here inside s n name ps = if is_asked inside s && lacks_source name ps then Some n else None
 
 abbrev pub unsourced_among : Bool → ℕ → Option (List ℕ) → Markups → Option ℕ
 unsourced_among true n g ms = None

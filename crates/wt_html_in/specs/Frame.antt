@@ -4,6 +4,7 @@ use Rattle.std.specs.Str.{bytes_eq}
 use Rattle.wt_html_grammar.specs.Markup.{Pair, Markup, Markups, text, node, empty, more}
 use Rattle.wt_html_elements.specs.Built.{pairs, views}
 use Rattle.wt_fitting.specs.Fit.{elements_of_all, is_marked_root, fit_body, Found as FoundBody}
+use Rattle.wt_fitting.specs.Sections.{all_bared}
 use Rattle.wt_fitting.specs.Unsourced.{is_marked, unsourced_body}
 use Rattle.wt_html_in.specs.declared.frame.Found.{Found}
 use Rattle.wt_html_in.specs.declared.edited.Edited.{Edited}
@@ -44,7 +45,7 @@ number_behind ms = None
 abbrev pub body_as : Markup → Option ℕ → Option FoundBody
 body_as m None = None
 body_as (text bs) (Some n) = None
-body_as (node name ps c) (Some n) = if bytes_eq name (codes "body") then Some (found_of n ps c) else None
+body_as (node name ps c) (Some n) = if bytes_eq name (codes "body") then Some (found_of n ps (all_bared c)) else None
 
 -- what is told of the page that a body is
 abbrev pub FitsBody : Option FoundBody → Result Edited FitFault → Type 0

@@ -6,6 +6,7 @@ ghost use Rattle.wt_html_in.specs.Frame.{found_of, found_if_any, is_element, num
 
 use crate::edited::Edited;
 use crate::nodes::node_of;
+use crate::sections::{all_bared, without_sections};
 use crate::walk::{Walk, nodes};
 use bumpalo::Bump;
 use std::alloc::Global;
@@ -98,41 +99,42 @@ fn number_behind(before: &[Content]) -> Option<u32>
     }
 }
 
-/// The element of this number, where it is a body.
-fn body_as(content: Content, number: u32) -> Option<Found>
-    ensures { found_if_any result ≡ body_as (view_content content) (Some number) }
+/// The element of this number, where it is a body. Its sections keep no attributes but marks.
+fn body_as(alloc: Global, content: Content, number: u32) -> Result<Option<Found>, NoMemory>
+    ensures { IfOk result (λ f. found_if_any f ≡ body_as (view_content content) (Some number)) }
 {
     match content {
-        Content::Text(_) => None,
+        Content::Text(_) => Ok(None),
         Content::Element {
             name,
             attributes,
             contents,
         } => {
             if name.as_slice() == b"body".as_slice() {
-                Some(Found {
+                let contents = all_bared(alloc, contents)?;
+                Ok(Some(Found {
                     number,
                     attributes,
                     contents,
-                })
+                }))
             } else {
-                None
+                Ok(None)
             }
         }
     }
 }
 
 /// The body among the elements of the root.
-fn body_in(elements: Vec<Content>) -> Option<Found>
+fn body_in(alloc: Global, elements: Vec<Content>) -> Result<Option<Found>, NoMemory>
     requires { elements_of_all (views elements.items) + 2 < 2 ^ 32 }
-    ensures { found_if_any result ≡ body_in (views elements.items) }
+    ensures { IfOk result (λ f. found_if_any f ≡ body_in (views elements.items)) }
 {
     let mut before = elements;
     match before.pop() {
-        None => None,
+        None => Ok(None),
         Some(last) => match number_behind(before.as_slice()) {
-            None => None,
-            Some(number) => body_as(last, number),
+            None => Ok(None),
+            Some(number) => body_as(alloc, last, number),
         },
     }
 }
@@ -167,7 +169,8 @@ fn find_body(alloc: Global, root: Content) -> Result<Option<Found>, NoMemory>
         } => {
             if is_root(name.as_slice(), attributes.as_slice()) {
                 let elements = elements_in(alloc, contents)?;
-                Ok(body_in(elements))
+                let found = body_in(alloc, elements)?;
+                Ok(found)
             } else {
                 Ok(None)
             }
@@ -208,7 +211,8 @@ fn edited<'a>(
     let head = body_head(alloc, number, attributes.as_slice(), contents.as_slice())?;
     let mut walk = walk_in(number, attributes);
     let children = nodes(alloc, arena, &mut walk, Kind::Body, false, contents)?;
-    let body = node_of(alloc, arena, false, head, children)?;
+    let sectioned = node_of(alloc, arena, false, head, children)?;
+    let body = without_sections(alloc, sectioned)?;
     Ok(Edited::of(body, walk.unsourced))
 }
 

@@ -9,6 +9,7 @@ mod nodes;
 mod reader;
 mod refusal;
 mod roles;
+mod sections;
 mod walk;
 mod whole;
 

@@ -6,7 +6,7 @@ ghost use Rattle.wt_tree.specs.Recutting.{appended};
 ghost use Rattle.wt_html_elements.specs.Built.{view_content, pairs, views};
 ghost use Rattle.wt_fitting.specs.Groups.{is_grouped, single};
 ghost use Rattle.wt_fitting.specs.Fit.{leaf_in, row_as, fit_row, elements, elements_of_all};
-ghost use Rattle.wt_fitting.specs.Unsourced.{is_unsourced};
+ghost use Rattle.wt_fitting.specs.Unsourced.{lacks_source};
 ghost use Rattle.wt_html_heads.specs.Texts.{are_utf8_values, is_utf8_markup, are_utf8_markups};
 ghost use Rattle.wt_html_heads.specs.Heads.{RowFits, spot_with, label_of_head, piece_by};
 ghost use Rattle.wt_html_in.specs.Roles.{text_piece};
@@ -19,7 +19,9 @@ use bumpalo::Bump;
 use std::alloc::Global;
 use wt_fitting::Standing;
 use wt_html_elements::{Attribute, Content};
-use wt_html_heads::{FitFault, Head, Headed, Spot, headed_by, is_grouped, is_unsourced};
+use wt_html_heads::{
+    FitFault, Head, Headed, Spot, headed_by, is_grouped, is_section_name, is_unsourced,
+};
 use wt_span::{List, NoMemory};
 use wt_tree::{Kind, Node};
 
@@ -43,21 +45,27 @@ fn is_asked(inside: bool, standing: Standing) -> bool
     }
 }
 
-/// Whether an element is asked for its source and has none.
-fn lacks_source(inside: bool, standing: Standing, attributes: &[Attribute]) -> bool
-    ensures { result ≡ (is_asked inside standing && is_unsourced (pairs attributes.now)) }
+/// Whether an element is asked for its source and has none. A section isn't asked.
+fn lacks_source(inside: bool, standing: Standing, name: &[u8], attributes: &[Attribute]) -> bool
+    ensures { result ≡ (is_asked inside standing && lacks_source name.now (pairs attributes.now)) }
 {
-    is_asked(inside, standing) && is_unsourced(attributes)
+    is_asked(inside, standing) && (!is_section_name(name) && is_unsourced(attributes))
 }
 
 /// Passes the start of an element, in a group or not; it gives the element's number.
-fn enter(walk: &mut Walk, inside: bool, standing: Standing, attributes: &[Attribute]) -> u32
+fn enter(
+    walk: &mut Walk,
+    inside: bool,
+    standing: Standing,
+    name: &[u8],
+    attributes: &[Attribute],
+) -> u32
     requires { walk.old.next + 1 < 2 ^ 32 }
     ensures number { result ≡ walk.old.next }
-    ensures passed { Passed walk.old walk.new 1 (unsourced_here inside standing walk.old.next (pairs attributes.now)) }
+    ensures passed { Passed walk.old walk.new 1 (unsourced_here inside standing walk.old.next name.now (pairs attributes.now)) }
 {
     let number = walk.next;
-    if walk.unsourced.is_none() && lacks_source(inside, standing, attributes) {
+    if walk.unsourced.is_none() && lacks_source(inside, standing, name, attributes) {
         walk.unsourced = Some(number);
     }
     walk.next = number + 1;
@@ -80,9 +88,15 @@ fn begin(
     ensures headed { RowFits (spot.inside || is_grouped standing)
         (λ group held. fit_row walk.old.next (spot_with spot group) standing (row_as standing name.items (pairs attributes.items)) (pairs attributes.items)
         (views contents.now) held) result }
-    ensures passed { Passed walk.old walk.new 1 (unsourced_here spot.inside standing walk.old.next (pairs attributes.items)) }
+    ensures passed { Passed walk.old walk.new 1 (unsourced_here spot.inside standing walk.old.next name.items (pairs attributes.items)) }
 {
-    let number = enter(walk, spot.inside, standing, attributes.as_slice());
+    let number = enter(
+        walk,
+        spot.inside,
+        standing,
+        name.as_slice(),
+        attributes.as_slice(),
+    );
     headed_by(
         alloc,
         number,

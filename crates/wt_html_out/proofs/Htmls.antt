@@ -1,11 +1,11 @@
 -- The HTML of a node by one level.
 use Rattle.std.proofs.Common.{◌≡◌, ℕ, suc, Bool, false, ◌++◌, ap, ◌∙◌}
 use Rattle.std.specs.Prelude.{if◌then◌else◌}
-use Rattle.wt_tree.specs.declared.row.Writing.TheVariants.{RoundCharacter, RoundChildren}
+use Rattle.wt_tree.specs.declared.row.Writing.TheVariants.{AsSection, RoundCharacter, RoundChildren}
 use Rattle.wt_tree.specs.Kinds.{writing}
 use Rattle.wt_tree.specs.Plain.{ended, plains_before}
 use Rattle.wt_tree.specs.Tiling.{is_group}
-use Rattle.wt_markup.specs.Html.{start_tag, end_tag, round_character, written, group_html, html, html_of_all}
+use Rattle.wt_markup.specs.Html.{start_tag, section_start, end_tag, round_character, written, group_html, html, html_of_all}
 use Rattle.wt_tree.specs.declared.node.Node.{Node, out-Node}
 use Rattle.wt_tree.specs.View.{label_of, view, views}
 use Rattle.wt_tree.proofs.Views.{view_out}
@@ -30,3 +30,7 @@ html_children k n e f = other_html k n e ∙ ap (λ w. written w (label_of (out-
 pub html_character : (k : ℕ) (n : Node) → is_group (out-Node n).kind ≡ false → writing (out-Node n).kind ≡ RoundCharacter
     → html k (view n) ≡ round_character (label_of (out-Node n))
 html_character k n e f = other_html k n e ∙ ap (λ w. written w (label_of (out-Node n)) (html_of_all k (views (out-Node n).children))) f
+
+pub html_section : (k m : ℕ) (n : Node) → is_group (out-Node n).kind ≡ false → writing (out-Node n).kind ≡ AsSection m
+    → html k (view n) ≡ section_start m ++ (html_of_all k (views (out-Node n).children) ++ end_tag (label_of (out-Node n)))
+html_section k m n e f = other_html k n e ∙ ap (λ w. written w (label_of (out-Node n)) (html_of_all k (views (out-Node n).children))) f

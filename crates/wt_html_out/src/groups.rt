@@ -158,7 +158,7 @@ fn push_group_element(
             push_shown_all(out, node.children.as_slice())?;
             push_end_of(out, node.kind)
         }
-        Writing::AsText | Writing::Unwritten => Ok(()),
+        Writing::AsText | Writing::AsSection(_) | Writing::Unwritten => Ok(()),
     }
 }
 

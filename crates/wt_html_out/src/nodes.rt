@@ -8,7 +8,7 @@ ghost use Rattle.wt_tree.specs.View.{texts_of, view, views};
 use crate::bytes::push_escaped;
 use crate::groups::push_group;
 use crate::refusal::LengthRefusal;
-use crate::tags::{push_end, push_start, push_void};
+use crate::tags::{push_end, push_section_start, push_start, push_void};
 use std::alloc::Global;
 use wt_outer::push;
 use wt_span::{List, NoMemory, Text};
@@ -80,6 +80,12 @@ fn push_html(
         }
         Writing::RoundChildren => {
             push_start(alloc, out, node)?;
+            let behind = push_all(alloc, out, most, before, node.children.as_slice())?;
+            push_end(out, node)?;
+            return Ok(behind);
+        }
+        Writing::AsSection(number) => {
+            push_section_start(out, number)?;
             let behind = push_all(alloc, out, most, before, node.children.as_slice())?;
             push_end(out, node)?;
             return Ok(behind);

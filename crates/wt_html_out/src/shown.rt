@@ -42,7 +42,7 @@ fn push_element(out: &mut Vec<u8>, node: &Node<'_>) -> Result<(), NoMemory>
             push_shown_all(out, node.children.as_slice())?;
             push_end_of(out, node.kind)
         }
-        Writing::AsText | Writing::Unwritten => Ok(()),
+        Writing::AsText | Writing::AsSection(_) | Writing::Unwritten => Ok(()),
     }
 }
 

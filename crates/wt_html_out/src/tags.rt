@@ -1,12 +1,12 @@
 ghost use Rattle.std.specs.Prelude.{◌≡◌, ◌++◌, OnOk};
-ghost use Rattle.wt_markup.specs.Html.{start_tag, void_tag, end_tag_of, end_tag};
+ghost use Rattle.wt_markup.specs.Html.{start_tag, void_tag, section_start, end_tag_of, end_tag};
 ghost use Rattle.wt_tree.specs.View.{label_of};
 ghost use Rattle.wt_tree.specs.declared.node.Node.{out-Node};
 
 use crate::attributes::push_attributes;
 use crate::names::push_name;
 use std::alloc::Global;
-use wt_outer::push;
+use wt_outer::{push, push_number};
 use wt_span::NoMemory;
 use wt_tree::{Kind, Node};
 
@@ -29,6 +29,17 @@ pub fn push_void(alloc: Global, out: &mut Vec<u8>, node: &Node<'_>) -> Result<()
     push_name(out, node.kind)?;
     push_attributes(alloc, out, node)?;
     push(out, b"/>")?;
+    Ok(())
+}
+
+/// The start tag of the section of this number.
+#[tactic(auto, unfolding(wt_markup::specs::Html::section_start))]
+pub fn push_section_start(out: &mut Vec<u8>, number: u32) -> Result<(), NoMemory>
+    ensures { OnOk result (out.new.items ≡ out.old.items ++ section_start number) }
+{
+    push(out, b"<section data-mw-section-id=\"")?;
+    push_number(out, number)?;
+    push(out, b"\">")?;
     Ok(())
 }
 

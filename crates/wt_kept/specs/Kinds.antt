@@ -18,6 +18,7 @@ row i s w f = record { items = i; sort = s; way = w; form = f }
 -- what a new block of this kind is written with
 unfoldable pub shape : Kind → Spelled
 shape kind.Body = row item.Delimited sort.Other way.AsItStood form.NoBlock
+shape (kind.Section n) = row item.Delimited sort.Other way.AsItStood form.NoBlock
 shape kind.Para = row item.Delimited sort.Other way.AsItStood form.Paragraph
 shape (kind.Heading n) = row item.Delimited sort.Other way.AsItStood (form.Heading n)
 shape kind.Rule = row item.Opaque sort.Other way.AsItStood form.Rule

@@ -88,6 +88,12 @@ pub fn shape(kind: Kind) -> Spelled
             Way::AsItStood,
             BlockForm::NoBlock,
         ),
+        Kind::Section(_) => row(
+            ItemsOf::Delimited,
+            Sort::Other,
+            Way::AsItStood,
+            BlockForm::NoBlock,
+        ),
         Kind::Para => row(
             ItemsOf::Delimited,
             Sort::Other,

@@ -23,6 +23,7 @@ use Rattle.wt_transclusion.specs.Steps.{IsStretchOf, given_from}
 use Rattle.wt_levels.specs.declared.level.Handing.{Handing}
 use Rattle.wt_levels.specs.declared.level.Task.TheVariants as task
 use Rattle.wt_levels.specs.declared.run.TextRun.{TextRun}
+use Rattle.wt_levels.specs.Accounts.{Account, Does}
 use Rattle.wt_levels.specs.Calls.{next_place, ArePartsAt, IsCallOf, source_of, parts_of_call, members_behind, first_end, behind_given}
 use Rattle.wt_levels.specs.Levels.{Resumes}
 use Rattle.wt_levels.specs.Readers.{IsReading}
@@ -47,7 +48,7 @@ first_before r t b c = before (part_members 0 c.inside) c.parts_stand
     before (p ∷ ps) h = h.0.ends
 
 -- what the call of an argument gives
-pub argument_returns : (r : Reading) (t : List ℕ) (run : TextRun) (b : Braces) (out_ps ps : List Piece) (v : Option (List Item)) (total : Output)
+pub argument_returns : (r : Reading) (t : List ℕ) (run : TextRun) (b : Braces) (out_ps ps : List Piece) (v : Option (List Item)) (total : Account)
     → (h : HasEnded r t run (task.Argument b) out_ps total) → value_of (name_text (items out_ps)) r.frame ≡ v
     → if_value v (default_output (just (items out_ps)) (later_parts (parts_of_call r t b h.ends.call))) ≡ just (items ps)
     → Returns r t run b.at.end (ended_with (just (items ps))) total
@@ -64,12 +65,12 @@ pub part_get : (r : Reading) (t : List ℕ) (b : Braces) → (c : IsCallOf r.mod
     → slice_get (placed (c.at + c.braces) (part_members 0 c.inside)) n ≡ option_map part_of x
 part_get r t b c n x e = ap (λ ps. slice_get ps n) (sym c.parts_are) ∙ slice_get-map part_of b.parts.now n ∙ ap (option_map part_of) e
 
-pub value_returns : (r : Reading) (t : List ℕ) (run : TextRun) (b : Braces) (out_ps ps : List Piece) (total : Output)
+pub value_returns : (r : Reading) (t : List ℕ) (run : TextRun) (b : Braces) (out_ps ps : List Piece) (total : Account)
     → HasEnded r t run (task.Argument b) out_ps total
     → value_of (name_text (items out_ps)) r.frame ≡ Some (items ps) → Returns r t run b.at.end (ended_with (just (items ps))) total
 value_returns r t run b out_ps ps total h e = argument_returns r t run b out_ps ps (Some (items ps)) total h e refl
 
-pub spelled_returns : (r : Reading) (t : List ℕ) (run : TextRun) (b : Braces) (out_ps ps : List Piece) (total : Output)
+pub spelled_returns : (r : Reading) (t : List ℕ) (run : TextRun) (b : Braces) (out_ps ps : List Piece) (total : Account)
     → HasEnded r t run (task.Argument b) out_ps total
     → value_of (name_text (items out_ps)) r.frame ≡ None → slice_get b.parts.now 1 ≡ None
     → items ps ≡ chars (codes "{{{") ++ (items out_ps ++ chars (codes "}}}")) → Returns r t run b.at.end (ended_with (just (items ps))) total
@@ -78,7 +79,7 @@ spelled_returns r t run b out_ps ps total h e f is =
     let none = no_second r t (c.at + c.braces) false (part_members 0 c.inside) (part_get r t b c 1 None f) in
     argument_returns r t run b out_ps ps None total h e (ap (default_output (just (items out_ps))) none ∙ ap just (sym is))
 
-pub default_begins : (r : Reading) (t : List ℕ) (run : TextRun) (b : Braces) (out_ps : List Piece) (part : PartOf) (total : Output)
+pub default_begins : (r : Reading) (t : List ℕ) (run : TextRun) (b : Braces) (out_ps : List Piece) (part : PartOf) (total : Account)
     → HasEnded r t run (task.Argument b) out_ps total → value_of (name_text (items out_ps)) r.frame ≡ None → slice_get b.parts.now 1 ≡ Some part
     → BeginsLevel r t run part.at.start (starts t part.at.start) part.at.end (task.Default b) total
 default_begins r t run b out_ps part total h e f =
@@ -97,21 +98,21 @@ default_begins r t run b out_ps part total h e f =
       ends = (x.within, subst (λ o. Resumes r t b.at.end (starts t b.at.end) o (stack run.levels) total) same h.ends.gives);
     }
 
-pub default_returns : (r : Reading) (t : List ℕ) (run : TextRun) (b : Braces) (ps : List Piece) (total : Output)
+pub default_returns : (r : Reading) (t : List ℕ) (run : TextRun) (b : Braces) (ps : List Piece) (total : Account)
     → (h : HasEnded r t run (task.Default b) ps total)
     → Returns r t run b.at.end (ended_with (just (items ps))) total
 default_returns r t run b ps total h = record { place = h.place; at_start = h.at_start; running = h.running; before = h.ends.0; resumes = h.ends.1 }
 
 -- ---- a call ends
 
-pub call_ends : (r : Reading) (t : List ℕ) (run : TextRun) (to : ℕ) (xs : List Item) (total : Output) → (h : Returns r t run to (ended_with (just xs)) total)
-    → (left : Output) × (total ≡ with_work (ended (length (sources xs)) ∷ []) left) × Returns r t run to (just xs) left
+pub call_ends : (r : Reading) (t : List ℕ) (run : TextRun) (to : ℕ) (xs : List Item) (total : Account) → (h : Returns r t run to (ended_with (just xs)) total)
+    → (left : Account) × Does (ended (length (sources xs)) ∷ []) total left × Returns r t run to (just xs) left
 call_ends r t run to xs total h =
     let z = strip r t to (starts t to) (ended (length (sources xs)) ∷ []) (just xs) (stack run.levels) total h.resumes in
     (z.0, z.1, record { place = h.place; at_start = h.at_start; running = h.running; before = h.before; resumes = z.2 })
 
 -- a page gives its pieces, with a line break before them where one is wanted
-pub page_returns : (r : Reading) (t : List ℕ) (run : TextRun) (to : ℕ) (s : Bool) (given ps : List Piece) (total : Output)
+pub page_returns : (r : Reading) (t : List ℕ) (run : TextRun) (to : ℕ) (s : Bool) (given ps : List Piece) (total : Account)
     → Returns r t run to (after_page s (just (items given))) total → items ps ≡ with_break s (items given)
     → Returns r t run to (ended_with (just (items ps))) total
 page_returns r t run to s given ps total h e = record {
@@ -135,7 +136,7 @@ text_joined a xs z behind =
     ap (λ ys. out ys (behind.work ++ [])) (sym (append_assoc a xs (behind.items ++ z)) ∙ sym (append_assoc (a ++ xs) behind.items z))
 
 pub text_begins : (r : Reading) (t : List ℕ) (run : TextRun) (b : Braces) (s : Bool) (out_ps ps : List Piece) (part : PartOf) (front : List ℕ) (end : ℕ)
-    (total : Output)
+    (total : Account)
     → (h : HasEnded r t run (task.Target b s) out_ps total) → title_of_target (items out_ps) ≡ None → slice_get b.parts.now 0 ≡ Some part
     → front ≡ slice_range t b.at.start part.at.start → items ps ≡ chars front ++ items out_ps → end ≡ b.at.end - (part.at.start - b.at.start)
     → Resumes r t h.place h.at_start (just []) (record { end = end; out = ps; task = task.Text b } ∷ (stack run.levels)) total
@@ -176,7 +177,7 @@ text_begins r t run b s out_ps ps part front end total h none e front_is is end_
       },
     )
 
-pub text_returns : (r : Reading) (t : List ℕ) (run : TextRun) (b : Braces) (out_ps ps : List Piece) (back : List ℕ) (total : Output)
+pub text_returns : (r : Reading) (t : List ℕ) (run : TextRun) (b : Braces) (out_ps ps : List Piece) (back : List ℕ) (total : Account)
     → (h : HasEnded r t run (task.Text b) out_ps total) → b.at.end ≤ length t → back ≡ slice_range t h.place b.at.end → items ps ≡ items out_ps ++ chars back
     → Returns r t run b.at.end (just (items ps)) total
 text_returns r t run b out_ps ps back total h fits e is =
@@ -208,7 +209,7 @@ text_returns r t run b out_ps ps back total h fits e is =
         let z : n ≡ length (take (n + k) xs) - k = omega (arith, len) in
         ap (take k) (sym (drop-drop n at t)) ∙ sym (drop-take n k xs) ∙ ap (λ j. drop j (take (n + k) xs)) z
 
-pub text_back : (r : Reading) (t : List ℕ) (run : TextRun) (b : Braces) (out_ps ps given : List Piece) (back : List ℕ) (total : Output)
+pub text_back : (r : Reading) (t : List ℕ) (run : TextRun) (b : Braces) (out_ps ps given : List Piece) (back : List ℕ) (total : Account)
     → HasEnded r t run (task.Text b) out_ps total → b.at.end ≤ length run.reader.text.text.now
     → back ≡ slice_range run.reader.text.text.now run.reader.cursor.at b.at.end
     → items ps ≡ items out_ps ++ chars back → given ≡ ps → Returns r t run b.at.end (just (items given)) total
@@ -254,7 +255,7 @@ pub record IsFirst (h : Handing) (b : Braces) (s : Bool) (title : Title) : Type 
   pub values : AreValues h.handed.values []
 
 -- its first part but for the target stands next
-pub first_hands : (r : Reading) (t : List ℕ) (run : TextRun) (b : Braces) (s : Bool) (title : Title) (h : Handing) (total : Output) (c : IsCallOf r.mode t b)
+pub first_hands : (r : Reading) (t : List ℕ) (run : TextRun) (b : Braces) (s : Bool) (title : Title) (h : Handing) (total : Account) (c : IsCallOf r.mode t b)
     (p : ℕ) (at_start : Bool) → IsRunning r t run p at_start → p ≤ first_end (c.at + c.braces) (part_members 0 c.inside) → IsFirst h b s title
     → Resumes r t b.at.end (starts t b.at.end) (after_values r s title [] 1 (later_parts (parts_of_call r t b c))) (stack run.levels) total
     → HandsParts r t run h total
@@ -289,9 +290,9 @@ first_hands r t run b s title h total c p at_start running low f back =
           (sym f.call) counted;
     }
 
-pub page_begins : (r : Reading) (t : List ℕ) (run : TextRun) (b : Braces) (s : Bool) (out_ps : List Piece) (title : Title) (total : Output)
+pub page_begins : (r : Reading) (t : List ℕ) (run : TextRun) (b : Braces) (s : Bool) (out_ps : List Piece) (title : Title) (total : Account)
     → HasEnded r t run (task.Target b s) out_ps total → title_of_target (items out_ps) ≡ Some title
-    → (left : Output) × (total ≡ with_work (begun ∷ []) left) × ((h : Handing) → IsFirst h b s title → HandsParts r t run h left)
+    → (left : Account) × Does (begun ∷ []) total left × ((h : Handing) → IsFirst h b s title → HandsParts r t run h left)
 page_begins r t run b s out_ps title total w e =
     let c = w.ends.call in
     let later = later_parts (parts_of_call r t b c) in
@@ -306,11 +307,12 @@ page_begins r t run b s out_ps title total w e =
 
 -- a call whose target is read already, alone
 pub page_alone : (r : Reading) (t : List ℕ) (run : TextRun) (b : Braces) (s : Bool) (title : Title) (h : Handing) (c : IsCallOf r.mode t b) (p : ℕ)
-    (at_start : Bool)
+    (at_start : Bool) (total : Account)
+    → total.left ≡ after_values r s title [] 1 (later_parts (parts_of_call r t b c))
     → IsReading r.mode t run.reader p at_start → run.mode ≡ r.mode → stack run.levels ≡ whole_level b.at.end ∷ []
     → p ≤ first_end (c.at + c.braces) (part_members 0 c.inside) → IsFirst h b s title
-    → HandsParts r t run h (after_values r s title [] 1 (later_parts (parts_of_call r t b c)))
-page_alone r t run b s title h c p at_start reading m levels low f =
+    → HandsParts r t run h total
+page_alone r t run b s title h c p at_start total left reading m levels low f =
     let o = after_values r s title [] 1 (later_parts (parts_of_call r t b c)) in
-    first_hands r t run b s title h o c p at_start (record { reading = reading; mode_is = m }) low f
-    (subst (λ ls. Resumes r t b.at.end (starts t b.at.end) o ls o) (sym levels) ([], empty_stretch r.mode t b.at.end, (refl, nothing_behind o)))
+    first_hands r t run b s title h total c p at_start (record { reading = reading; mode_is = m }) low f
+    (subst (λ ls. Resumes r t b.at.end (starts t b.at.end) o ls total) (sym levels) ([], empty_stretch r.mode t b.at.end, (refl, left ∙ nothing_behind o)))

@@ -1,18 +1,17 @@
 -- Work that is done one after another, with what is spent and the names that are known.
-use Rattle.std.proofs.Common.{◌≡◌, ℕ, zero, suc, ◌+◌, ◌-◌, ◌<◌, ◌≤◌, Bool, true, false, cond, Option, Some, None, option_map, List, [], ◌∷◌, ◌++◌, Ok, Err, refl, sym, ap, ◌∙◌, subst, ⊎_elim, arith}
+use Rattle.std.proofs.Common.{◌≡◌, ℕ, zero, suc, ◌+◌, ◌<◌, Bool, true, false, cond, Option, Some, None, option_map, List, [], ◌∷◌, ◌++◌, Ok, Err, refl, sym, ap, ◌∙◌, subst, ⊎_elim, arith}
 use Rattle.std.specs.Prelude.{Result, if◌then◌else◌}
 use Rattle.std.specs.Option.{option_or}
-use Rattle.wt_span.specs.declared.form.Mode.{Mode}
 use Rattle.wt_span.specs.declared.form.Mode.TheVariants as mode
 use Rattle.wt_span.specs.declared.form.Piece.{Piece}
 use Rattle.wt_span.specs.declared.list.List.{List as Listed}
-use Rattle.wt_span.specs.Items.{Item, items}
+use Rattle.wt_span.specs.Items.{items}
 use Rattle.wt_names.specs.declared.title.Title.{Title}
 use Rattle.wt_names.specs.Namespace.{full_name_of}
 use Rattle.wt_expand.specs.Templates.{template_text}
-use Rattle.wt_expand.specs.Work.{Pages, Entry, Refused, braces_too_deep, too_large, not_utf8, too_long, entered, fetched, fetches, firsts_after, is_among, found_refusal, refusal_from}
+use Rattle.wt_expand.specs.Work.{Pages, Entry, Refused, braces_too_deep, too_large, not_utf8, too_long, entered, fetched, fetches, is_among, found_refusal, refusal_from}
 use Rattle.wt_expand.specs.Fronts.{Front, NextRefuses, cost_of_all, known_after}
-use Rattle.wt_expand.specs.Expansion.{Output, Reading, Frame, just, template_output, text_given, fetched_output}
+use Rattle.wt_expand.specs.Expansion.{Output, Frame, template_output, text_given, fetched_output}
 use Rattle.wt_expand.proofs.Agreements.{fetches_append}
 use Rattle.wt_expand.proofs.FrontLaws.{cost_append, front_before, front_none, front_refusal, front_then, known_append}
 use Rattle.wt_transclusion.specs.declared.refusal.ExpandRefusal.{ExpandRefusal}
@@ -21,31 +20,27 @@ use Rattle.wt_transclusion.specs.declared.read.ReadText.{ReadText}
 use Rattle.wt_transclusion.specs.declared.store.Store.{Store}
 use Rattle.wt_transclusion.specs.declared.templates.Taken.{Taken}
 use Rattle.wt_transclusion.specs.declared.templates.Taken.TheVariants as taken
-use Rattle.wt_transclusion.specs.Answers.{IsFetched, IsRefused, IsNoFault, IsCountedErr}
+use Rattle.wt_transclusion.specs.Answers.{IsFetched, IsRefused}
 use Rattle.wt_transclusion.specs.Reads.{IsRead}
-use Rattle.wt_transclusion.specs.Cursors.{starts}
 use Rattle.wt_transclusion.specs.Stops.{IsCause, told_with}
 use Rattle.wt_transclusion.specs.Stores.{IsStore, met_with, named_with}
 use Rattle.wt_transclusion.specs.Takings.{AnswersTaking, IsAsked, IsNamed, IsNamedErr, names_taking, taking_refusal}
 use Rattle.wt_transclusion.proofs.StopLaws.{stops_after, stops_before, stops_memory, stops_there, told_none, told_then}
-use Rattle.wt_levels.specs.Ledgers.{Ledger, ledger, ledger_after, Comes, Refuses, reading_of, AnswersOutput, Progress, Calling, TakesStep}
-use Rattle.wt_levels.specs.Rests.{with_work, after_page}
-use Rattle.wt_levels.specs.Runs.{Spends, Holds, Calls, Returns, RefusesCost, Goes, TakesPart, TakesTurn}
-use Rattle.wt_levels.specs.Stacks.{stack}
-use Rattle.wt_levels.specs.declared.level.Handing.{Handing}
-use Rattle.wt_levels.specs.declared.run.TextRun.{TextRun}
-use Rattle.wt_levels.specs.declared.run.Turn.{Turn}
-use Rattle.wt_levels.specs.declared.run.Turn.TheVariants as turn
-use Rattle.wt_levels.proofs.LevelLaws.{strip}
+use Rattle.wt_levels.specs.Accounts.{Account, AreFetched, IsAllowed, spent_of}
+use Rattle.wt_levels.specs.Ledgers.{Ledger, ledger, ledger_after, Comes, ComesBy, Refuses, reading_of, AnswersOutput}
+use Rattle.wt_levels.specs.Runs.{Spends, IsTooLarge, RefusesCost}
+use Rattle.wt_levels.proofs.AgainLaws.{NoneNew, fetched_none_new}
 
-pub comes_none : (pages : Pages) (page : List ℕ) (b : Ledger) (w : List Entry) → Comes pages page b w b w
-comes_none pages page b w = record {
-  done = [];
+pub by_none : (pages : Pages) (page : List ℕ) (b : Ledger) (w : List Entry) → ComesBy pages page b w [] b w
+by_none pages page b w = record {
   front = front_none pages page b.spent w;
   now_is =
       let z : b.spent ≡ b.spent + 0 = omega arith in
       ap (λ (n : ℕ). ledger n b.met b.answered) z ∙ ap (ledger (b.spent + 0) b.met) (sym (told_none b.answered));
 }
+
+pub comes_none : (pages : Pages) (page : List ℕ) (b : Ledger) (w : List Entry) → Comes pages page b w b w
+comes_none pages page b w = let z = by_none pages page b w in record { done = []; front = z.front; now_is = z.now_is }
 
 -- once more is done
 ledger_then : (l : Ledger) (xs ys : List Entry) → ledger_after (ledger_after l xs) ys ≡ ledger_after l (xs ++ ys)
@@ -58,25 +53,69 @@ ledger_then l xs ys =
     ∙ ap (λ (m : List (List ℕ)). ledger (l.spent + cost_of_all (xs ++ ys)) m (told_with (known_after l.met (fetches xs)) ys (told_with l.met xs l.answered))) known
     ∙ ap (ledger (l.spent + cost_of_all (xs ++ ys)) (known_after l.met (fetches (xs ++ ys)))) told
 
-pub comes_then : (pages : Pages) (page : List ℕ) (a b c : Ledger) (w v u : List Entry) → Comes pages page a w b v → Comes pages page b v c u
-    → Comes pages page a w c u
-comes_then pages page a b c w v u f g = record {
-  done = f.done ++ g.done;
-  front = front_then pages page a.spent w f.done v g.done u f.front (subst (λ (l : Ledger). Front pages page l.spent v g.done u) f.now_is g.front);
-  now_is = g.now_is ∙ ap (λ (l : Ledger). ledger_after l g.done) f.now_is ∙ ledger_then a f.done g.done;
+pub by_then : (pages : Pages) (page : List ℕ) (a b c : Ledger) (w v u d e : List Entry) → ComesBy pages page a w d b v → ComesBy pages page b v e c u
+    → ComesBy pages page a w (d ++ e) c u
+by_then pages page a b c w v u d e f g = record {
+  front = front_then pages page a.spent w d v e u f.front (subst (λ (l : Ledger). Front pages page l.spent v e u) f.now_is g.front);
+  now_is = g.now_is ∙ ap (λ (l : Ledger). ledger_after l e) f.now_is ∙ ledger_then a d e;
 }
 
-pub comes_spent : (pages : Pages) (page : List ℕ) (spent now : ℕ) (met : List (List ℕ)) (answered : Option (List (List ℕ))) (total left : Output)
-    → Spends spent total now left
-    → Comes pages page (record { spent = spent; met = met; answered = answered }) total.work (record { spent = now; met = met; answered = answered }) left.work
-comes_spent pages page spent now met answered total left s = record {
-  done = s.done;
-  front = s.front pages page;
-  now_is =
-      ap (λ (n : ℕ). ledger n met answered) s.costs ∙ ap (ledger (spent + cost_of_all s.done) met) (sym (told_none answered))
-      ∙ ap (λ (ns : List (List ℕ)). ledger (spent + cost_of_all s.done) (known_after met ns) (option_map (λ xs. xs ++ firsts_after met ns) answered))
-      (sym s.unfetched);
-}
+pub comes_then : (pages : Pages) (page : List ℕ) (a b c : Ledger) (w v u : List Entry) → Comes pages page a w b v → Comes pages page b v c u
+    → Comes pages page a w c u
+comes_then pages page a b c w v u f g =
+    let z = by_then pages page a b c w v u f.done g.done (record { front = f.front; now_is = f.now_is }) (record { front = g.front; now_is = g.now_is }) in
+    record { done = f.done ++ g.done; front = z.front; now_is = z.now_is }
+
+-- what is spent, and the names that are known, where this is done
+by_spent : (pages : Pages) (page : List ℕ) (b : Ledger) (w d v : List Entry) (spent : ℕ) (met : List (List ℕ)) (answered : Option (List (List ℕ)))
+    → ComesBy pages page b w d (ledger spent met answered) v → spent ≡ b.spent + cost_of_all d
+by_spent pages page b w d v spent met answered c = ap (λ (l : Ledger). l.spent) c.now_is
+
+by_met : (pages : Pages) (page : List ℕ) (b : Ledger) (w d v : List Entry) (spent : ℕ) (met : List (List ℕ)) (answered : Option (List (List ℕ)))
+    → ComesBy pages page b w d (ledger spent met answered) v → met ≡ known_after b.met (fetches d)
+by_met pages page b w d v spent met answered c = ap (λ (l : Ledger). l.met) c.now_is
+
+by_allowed : (pages : Pages) (page : List ℕ) (b : Ledger) (w : List Entry) (total : Account) (now : Ledger) → total.before ≡ b.spent
+    → ComesBy pages page b w total.done now total.left.work → IsAllowed pages page total
+by_allowed pages page b w total now e c = ap (λ n. refusal_from pages page n total.done) e ∙ c.front.allowed
+
+pub spent_all : (pages : Pages) (page : List ℕ) (b : Ledger) (w : List Entry) (total : Account) (spent : ℕ) (met : List (List ℕ))
+    (answered : Option (List (List ℕ))) → total.before ≡ b.spent → ComesBy pages page b w total.done (ledger spent met answered) total.left.work
+    → spent ≡ spent_of total
+spent_all pages page b w total spent met answered e c =
+    by_spent pages page b w total.done total.left.work spent met answered c ∙ ap (λ n. n + cost_of_all total.done) (sym e)
+
+-- work that fetches no page that wasn't fetched before
+nothing_new : (pages : Pages) (page : List ℕ) (b : Ledger) (w d v done : List Entry) (spent : ℕ) (met : List (List ℕ)) (answered : Option (List (List ℕ)))
+    → ComesBy pages page b w d (ledger spent met answered) v → AreFetched d done → NoneNew met (fetches done)
+nothing_new pages page b w d v done spent met answered c f =
+    subst (λ (ns : List (List ℕ)). NoneNew ns (fetches done)) (sym (by_met pages page b w d v spent met answered c)) (fetched_none_new b.met d done f)
+
+nothing_told : (met : List (List ℕ)) (done : List Entry) (answered : Option (List (List ℕ))) → NoneNew met (fetches done) → answered ≡ told_with met done answered
+nothing_told met done answered z = sym (told_none answered) ∙ ap (λ (ns : List (List ℕ)). option_map (λ xs. xs ++ ns) answered) (sym z.firsts)
+
+by_step : (pages : Pages) (page : List ℕ) (b : Ledger) (w : List Entry) (spent now : ℕ) (met : List (List ℕ)) (answered : Option (List (List ℕ)))
+    (total left : Account) → total.before ≡ b.spent → ComesBy pages page b w total.done (ledger spent met answered) total.left.work
+    → (s : Spends spent total now left) → ComesBy pages page (ledger spent met answered) total.left.work s.done (ledger now met answered) left.left.work
+by_step pages page b w spent now met answered total left e c s =
+    let z = nothing_new pages page b w total.done total.left.work s.done spent met answered c s.fetched in
+    record {
+      front = record {
+        whole = ap (λ (o : Output). o.work) s.does.left_is;
+        allowed = s.allowed pages page (by_allowed pages page b w total (ledger spent met answered) e c);
+      };
+      now_is = ap (λ (n : ℕ). ledger n met answered) s.costs ∙ ap (λ (ns : List (List ℕ)). ledger (spent + cost_of_all s.done) ns answered) (sym z.known)
+          ∙ ap (ledger (spent + cost_of_all s.done) (known_after met (fetches s.done))) (nothing_told met s.done answered z);
+    }
+
+-- what was done before a step and in it
+pub comes_spent : (pages : Pages) (page : List ℕ) (b : Ledger) (w : List Entry) (spent now : ℕ) (met : List (List ℕ)) (answered : Option (List (List ℕ)))
+    (total left : Account) → total.before ≡ b.spent → ComesBy pages page b w total.done (ledger spent met answered) total.left.work
+    → Spends spent total now left → ComesBy pages page b w left.done (ledger now met answered) left.left.work
+comes_spent pages page b w spent now met answered total left e c s =
+    subst (λ (es : List Entry). ComesBy pages page b w es (ledger now met answered) left.left.work) (sym s.does.done_is)
+    (by_then pages page b (ledger spent met answered) (ledger now met answered) w total.left.work left.left.work total.done s.done c
+    (by_step pages page b w spent now met answered total left e c s))
 
 -- what is done before more work comes to that work
 pub comes_before : (pages : Pages) (page : List ℕ) (a b : Ledger) (w v : List Entry) → Comes pages page a w b [] → Comes pages page a (w ++ v) b v
@@ -115,6 +154,11 @@ pub comes_refused : (pages : Pages) (page : List ℕ) (a b : Ledger) (w v : List
 comes_refused pages page a b w v told e f h =
     stops_after pages page a.spent a.met w f.done v a.answered told e f.front
     (subst (λ (l : Ledger). Refuses pages page l v told e) f.now_is h)
+
+pub by_refused : (pages : Pages) (page : List ℕ) (a b : Ledger) (w d v : List Entry) (told : Option (List (List ℕ))) (e : ExpandRefusal)
+    → ComesBy pages page a w d b v → Refuses pages page b v told e → Refuses pages page a w told e
+by_refused pages page a b w d v told e f h =
+    comes_refused pages page a b w v told e (record { done = d; front = f.front; now_is = f.now_is }) h
 
 -- work stops where what is done first of it does
 pub refused_before : (pages : Pages) (page : List ℕ) (l : Ledger) (w v : List Entry)
@@ -181,15 +225,33 @@ no_some : {A : Type 0} → (x : A) → None ≡ Some x → ⊥
 no_some x e = cc
 
 -- where the cost refuses
-pub cost_refuses : (pages : Pages) (page : List ℕ) (l : Ledger) (total : Output) (e : ExpandRefusal)
-    → RefusesCost l.spent total e
-    → Refuses pages page l total.work l.answered e
-cost_refuses pages page l total (answer.BracesTooDeep title place) h = absurd h
-cost_refuses pages page l total answer.TooLarge h = stops_there pages page l.spent l.met total.work l.answered answer.TooLarge (h pages page)
-cost_refuses pages page l total answer.FolderFault h = absurd h
-cost_refuses pages page l total (answer.TemplateNotUtf8 title place) h = absurd h
-cost_refuses pages page l total (answer.TemplateTooLong title) h = absurd h
-cost_refuses pages page l total answer.NoMemory h = memory_refused pages page l total.work
+large_stops : (pages : Pages) (page : List ℕ) (l : Ledger) (total : Account) → IsTooLarge pages page l.spent total
+    → ((done : List Entry) → AreFetched total.done done → NoneNew l.met (fetches done)) → Refuses pages page l total.left.work l.answered answer.TooLarge
+large_stops pages page l total x f = record {
+  done = x.done;
+  left = x.left;
+  front = x.front;
+  cause = x.refused;
+  told = nothing_told l.met x.done l.answered (f x.done x.fetched);
+}
+
+cost_stops : (pages : Pages) (page : List ℕ) (l : Ledger) (total : Account) (e : ExpandRefusal) → RefusesCost l.spent total e → IsAllowed pages page total
+    → ((done : List Entry) → AreFetched total.done done → NoneNew l.met (fetches done)) → Refuses pages page l total.left.work l.answered e
+cost_stops pages page l total (answer.BracesTooDeep title place) h a f = absurd h
+cost_stops pages page l total answer.TooLarge h a f = large_stops pages page l total (h pages page a) f
+cost_stops pages page l total answer.FolderFault h a f = absurd h
+cost_stops pages page l total (answer.TemplateNotUtf8 title place) h a f = absurd h
+cost_stops pages page l total (answer.TemplateTooLong title) h a f = absurd h
+cost_stops pages page l total answer.NoMemory h a f = memory_refused pages page l total.left.work
+
+pub cost_refuses : (pages : Pages) (page : List ℕ) (b : Ledger) (w : List Entry) (spent : ℕ) (met : List (List ℕ)) (answered : Option (List (List ℕ)))
+    (total : Account) (e : ExpandRefusal) → total.before ≡ b.spent → ComesBy pages page b w total.done (ledger spent met answered) total.left.work
+    → RefusesCost spent total e → Refuses pages page b w answered e
+cost_refuses pages page b w spent met answered total e is c h =
+    let now = ledger spent met answered in
+    by_refused pages page b now w total.done total.left.work answered e c
+    (cost_stops pages page now total e h (by_allowed pages page b w total now is c)
+    (λ done f. nothing_new pages page b w total.done total.left.work done spent met answered c f))
 
 output_fetched : (full : List ℕ) (read : List ℕ → Output) (found : Option (List ℕ))
     → (w : List Entry) × ((fetched_output full read found).work ≡ fetched full ∷ w)
@@ -449,278 +511,3 @@ page_refused pages page spent met answered told left names t frame read e n h =
     (comes_refused pages page (ledger spent met answered)
     (ledger spent (met_with full met) (named_with full met answered))
     (fetched full ∷ (entered (Some full) ∷ o.work)) o.work told e (n.comes o.work) h)
-
--- ---- a text is expanded, step by step
-
-pub begins : (pages : Pages) (page t : List ℕ) (r : Reading) (l : Ledger) (all : Output) (run : TextRun) (store : Store) → IsStore pages l.met store
-    → Holds r t run (stack run.levels) all → Progress pages page r t l all run store l.spent l.answered
-begins pages page t r l all run store s h = record {
-  total = all;
-  met = l.met;
-  stored = s;
-  holding = h;
-  items_are = refl;
-  comes = comes_none pages page l all.work;
-}
-
-pub goes_on : (pages : Pages) (page t : List ℕ) (r : Reading) (l : Ledger) (all : Output) (run next : TextRun) (store : Store) (spent now : ℕ)
-    (answered : Option (List (List ℕ))) → (p : Progress pages page r t l all run store spent answered) → Goes r t spent p.total next now
-    → Progress pages page r t l all next store now answered
-goes_on pages page t r l all run next store spent now answered p g = record {
-  total = g.0;
-  met = p.met;
-  stored = p.stored;
-  holding = g.2;
-  items_are = p.items_are ∙ g.1.items;
-  comes = comes_then pages page l (ledger spent p.met answered) (ledger now p.met answered) all.work p.total.work (g.0).work p.comes
-      (comes_spent pages page spent now p.met answered p.total g.0 g.1);
-}
-
-pub step_refused : (pages : Pages) (page t : List ℕ) (r : Reading) (l : Ledger) (all : Output) (run : TextRun) (store : Store) (spent : ℕ)
-    (answered : Option (List (List ℕ))) (e : ExpandRefusal) → (p : Progress pages page r t l all run store spent answered) → RefusesCost spent p.total e
-    → Refuses pages page l all.work answered e
-step_refused pages page t r l all run store spent answered e p h =
-    let now = ledger spent p.met answered in
-    comes_refused pages page l now all.work p.total.work answered e p.comes
-    (cost_refuses pages page now p.total e h)
-
--- memory is missing on the way
-pub going_refused : (pages : Pages) (page t : List ℕ) (r : Reading) (l : Ledger) (all : Output)
-    (run : TextRun) (store : Store) (spent : ℕ)
-    (answered : Option (List (List ℕ))) → (p : Progress pages page r t l all run store spent answered)
-    → Refuses pages page l all.work answered answer.NoMemory
-going_refused pages page t r l all run store spent answered p =
-    let now = ledger spent p.met answered in
-    comes_refused pages page l now all.work p.total.work answered answer.NoMemory p.comes
-    (memory_refused pages page now p.total.work)
-
-pub done : (pages : Pages) (page t : List ℕ) (r : Reading) (l : Ledger) (all : Output) (run : TextRun) (store : Store) (spent now : ℕ)
-    (answered : Option (List (List ℕ)))
-    (ps : List Piece) → (p : Progress pages page r t l all run store spent answered) → now ≡ spent → p.total ≡ just (items ps)
-    → AnswersOutput pages page l all store now answered (Ok ps)
-done pages page t r l all run store spent now answered ps p n e = (
-  sym (p.items_are ∙ ap (λ (o : Output). o.items) e),
-  p.met,
-  p.stored,
-  subst (λ (k : ℕ). Comes pages page l all.work (ledger k p.met answered) []) (sym n)
-      (subst (λ (o : Output). Comes pages page l all.work (ledger spent p.met answered) o.work) e p.comes),
-)
-
--- what a step came to
-pub step_taken : (pages : Pages) (page t : List ℕ) (r : Reading) (l : Ledger) (all : Output) (run next : TextRun) (store : Store) (spent now : ℕ)
-    (answered : Option (List (List ℕ))) (k : Turn) → (p : Progress pages page r t l all run store spent answered) → TakesTurn r t spent p.total next now k
-    → TakesStep pages page r t l all next store now answered k
-step_taken pages page t r l all run next store spent now answered turn.Went p h = goes_on pages page t r l all run next store spent now answered p h
-step_taken pages page t r l all run next store spent now answered (turn.Done ps) p h = done pages page t r l all run store spent now answered ps p h.0 h.1
-step_taken pages page t r l all run next store spent now answered (turn.Called a) p h = record {
-  total = h.0;
-  met = p.met;
-  stored = p.stored;
-  calls = h.2;
-  items_are = p.items_are ∙ h.1.items;
-  comes = comes_then pages page l (ledger spent p.met answered) (ledger now p.met answered) all.work p.total.work (h.0).work p.comes
-      (comes_spent pages page spent now p.met answered p.total h.0 h.1);
-}
-
--- what is left gives the rest of all
-pub finished : (pages : Pages) (page t : List ℕ) (r : Reading) (l : Ledger) (all : Output) (run : TextRun) (store next : Store) (spent now : ℕ)
-    (answered told : Option (List (List ℕ))) (x : Result (Listed Piece) ExpandRefusal) → (p : Progress pages page r t l all run store spent answered)
-    → AnswersOutput pages page (ledger spent p.met answered) p.total next now told x → AnswersOutput pages page l all next now told x
-finished pages page t r l all run store next spent now answered told (Ok ps) p h = (
-  h.0 ∙ sym p.items_are,
-  h.1,
-  h.2,
-  comes_then pages page l (ledger spent p.met answered) (ledger now h.1 told) all.work p.total.work [] p.comes h.3,
-)
-finished pages page t r l all run store next spent now answered told (Err e) p h =
-    comes_refused pages page l (ledger spent p.met answered) all.work p.total.work told e p.comes h
-
--- a call whose target is read already, behind its beginning
-pub part_step : (pages : Pages) (page t : List ℕ) (r : Reading) (spent now : ℕ) (met : List (List ℕ)) (answered : Option (List (List ℕ))) (total left : Output)
-    (run : TextRun) (store : Store) (k : Turn) → IsStore pages met store → Spends spent total now left → TakesPart r t left run k
-    → TakesStep pages page r t (ledger spent met answered) total run store now answered k
-part_step pages page t r spent now met answered total left run store turn.Went s z h = record {
-  total = left;
-  met = met;
-  stored = s;
-  holding = h;
-  items_are = z.items;
-  comes = comes_spent pages page spent now met answered total left z;
-}
-part_step pages page t r spent now met answered total left run store (turn.Done ps) s z h = absurd h
-part_step pages page t r spent now met answered total left run store (turn.Called a) s z h = record {
-  total = left;
-  met = met;
-  stored = s;
-  calls = h;
-  items_are = z.items;
-  comes = comes_spent pages page spent now met answered total left z;
-}
-
--- ---- a page that is called
-
--- what a called page gives comes first
-record Stripped (r : Reading) (t : List ℕ) (run : TextRun) (h : Handing) (o total : Output) : Type 0 where
-  left : Output
-  total_is : total ≡ with_work o.work left
-  returns : Returns r t run h.call.at.end (after_page h.at_start (just o.items)) left
-
-stripped : (r : Reading) (t : List ℕ) (run : TextRun) (h : Handing) (total : Output) → (c : Calls r t run h total)
-    → Stripped r t run h (r.template h.title c.frame) total
-stripped r t run h total c =
-    let o = r.template h.title c.frame in
-    let to = h.call.at.end in
-    let z = strip r t to (starts t to) o.work (after_page h.at_start (just o.items)) (stack run.levels) total c.resumes in
-    record {
-      left = z.0;
-      total_is = z.1;
-      returns = record { place = c.place; at_start = c.at_start; running = c.running; before = c.before; resumes = z.2 };
-    }
-
--- a page that was called has given its pieces
-pub record Paged (pages : Pages) (page : List ℕ) (r : Reading) (t : List ℕ) (before : Ledger) (all : Output) (run : TextRun) (store : Store) (spent : ℕ)
-    (answered : Option (List (List ℕ))) (h : Handing) (ps : List Piece) : Type 0 where
-  pub left : Output
-  pub met : List (List ℕ)
-  pub stored : IsStore pages met store
-  pub returns : Returns r t run h.call.at.end (after_page h.at_start (just (items ps))) left
-  pub items_are : all.items ≡ left.items
-  pub comes : Comes pages page before all.work (ledger spent met answered) left.work
-
-pub page_taken : (pages : Pages) (page t : List ℕ) (r : Reading) (l : Ledger) (all : Output) (run : TextRun) (store next : Store) (spent now : ℕ)
-    (answered told : Option (List (List ℕ))) (h : Handing) (ps : List Piece) → (c : Calling pages page r t l all run store spent answered h)
-    → AnswersOutput pages page (ledger spent c.met answered) (r.template h.title c.calls.frame) next now told (Ok ps)
-    → Paged pages page r t l all run next now told h ps
-page_taken pages page t r l all run store next spent now answered told h ps c g =
-    let o = r.template h.title c.calls.frame in
-    let s = stripped r t run h c.total c.calls in
-    record {
-      left = s.left;
-      met = g.1;
-      stored = g.2;
-      returns = subst (λ (xs : List Item). Returns r t run h.call.at.end (after_page h.at_start (just xs)) s.left) (sym g.0) s.returns;
-      items_are = c.items_are ∙ ap (λ (x : Output). x.items) s.total_is;
-      comes = comes_then pages page l (ledger spent c.met answered) (ledger now g.1 told) all.work (o.work ++ s.left.work) s.left.work
-          (subst (λ (x : Output). Comes pages page l all.work (ledger spent c.met answered) x.work) s.total_is c.comes)
-          (comes_before pages page (ledger spent c.met answered) (ledger now g.1 told) o.work s.left.work g.3);
-    }
-
-pub page_untaken : (pages : Pages) (page t : List ℕ) (r : Reading) (l : Ledger) (all : Output) (run : TextRun) (store : Store) (spent : ℕ)
-    (answered told : Option (List (List ℕ))) (h : Handing) (e : ExpandRefusal)
-    → (c : Calling pages page r t l all run store spent answered h)
-    → Refuses pages page (ledger spent c.met answered) (r.template h.title c.calls.frame).work told e
-    → Refuses pages page l all.work told e
-page_untaken pages page t r l all run store spent answered told h e c g =
-    let o = r.template h.title c.calls.frame in
-    let s = stripped r t run h c.total c.calls in
-    let now = ledger spent c.met answered in
-    comes_refused pages page l now all.work c.total.work told e c.comes
-    (subst (λ (x : Output). Refuses pages page now x.work told e) (sym s.total_is)
-    (refused_before pages page now o.work s.left.work told e g))
-
-pub paged_goes : (pages : Pages) (page t : List ℕ) (r : Reading) (l : Ledger) (all : Output) (run next : TextRun) (store : Store) (spent now : ℕ)
-    (answered : Option (List (List ℕ))) (h : Handing) (ps : List Piece) → (p : Paged pages page r t l all run store spent answered h ps)
-    → Goes r t spent p.left next now → Progress pages page r t l all next store now answered
-paged_goes pages page t r l all run next store spent now answered h ps p g = record {
-  total = g.0;
-  met = p.met;
-  stored = p.stored;
-  holding = g.2;
-  items_are = p.items_are ∙ g.1.items;
-  comes = comes_then pages page l (ledger spent p.met answered) (ledger now p.met answered) all.work p.left.work (g.0).work p.comes
-      (comes_spent pages page spent now p.met answered p.left g.0 g.1);
-}
-
-pub paged_refused : (pages : Pages) (page t : List ℕ) (r : Reading) (l : Ledger) (all : Output) (run : TextRun) (store : Store) (spent : ℕ)
-    (answered : Option (List (List ℕ))) (h : Handing) (ps : List Piece) (e : ExpandRefusal) → (p : Paged pages page r t l all run store spent answered h ps)
-    → RefusesCost spent p.left e → Refuses pages page l all.work answered e
-paged_refused pages page t r l all run store spent answered h ps e p g =
-    let now = ledger spent p.met answered in
-    comes_refused pages page l now all.work p.left.work answered e p.comes
-    (cost_refuses pages page now p.left e g)
-
--- ---- what the code hands on
-
-pub no_fault_counted : (before now : ℕ) (e : ExpandRefusal) → IsNoFault e → now ≡ before → IsCountedErr before now e
-no_fault_counted before now (answer.BracesTooDeep title place) h e = e
-no_fault_counted before now answer.TooLarge h e = e
-no_fault_counted before now answer.FolderFault h e = absurd h
-no_fault_counted before now (answer.TemplateNotUtf8 title place) h e = e
-no_fault_counted before now (answer.TemplateTooLong title) h e = e
-no_fault_counted before now answer.NoMemory h e = e
-
--- a step, where the names of the pages that are being expanded are those of before
-pub step_handed : (pages : Pages) (page t : List ℕ) (m : Mode) (frame : Frame) (left : ℕ) (names names_now : List (List ℕ)) → names_now ≡ names
-    → (l : Ledger) (all : Output) (run next : TextRun) (store : Store) (spent now : ℕ) (answered : Option (List (List ℕ))) (k : Turn)
-    → (p : Progress pages page (reading_of pages m frame left names) t l all run store spent answered)
-    → TakesTurn (reading_of pages m frame left names) t spent p.total next now k
-    → TakesStep pages page (reading_of pages m frame left names_now) t l all next store now answered k
-step_handed pages page t m frame left names names_now e l all run next store spent now answered k p h =
-    subst (λ (ns : List (List ℕ)). TakesStep pages page (reading_of pages m frame left ns) t l all next store now answered k) (sym e)
-    (step_taken pages page t (reading_of pages m frame left names) l all run next store spent now answered k p h)
-
-pub one_less : (left less : ℕ) → 1 ≤ left → less ≡ left - 1 → left ≡ suc less
-one_less left less l e = omega (arith, l, e)
-
-pub message_done : (pages : Pages) (page : List ℕ) (spent : ℕ) (met : List (List ℕ)) (answered now : Option (List (List ℕ))) (left : ℕ)
-    (open_titles names : List (List ℕ)) (title : Title) (frame : Frame) (k : Taken) (ps : List Piece) (store : Store) → open_titles ≡ names
-    → k ≡ taken.Message ps
-    → AnswersTaking pages met open_titles left title store (Ok k)
-    → IsNamed left open_titles (full_name_of title) met answered now (Ok k)
-    → AnswersOutput pages page (ledger spent met answered) (template_output pages left names title frame) store spent now (Ok ps)
-message_done pages page spent met answered now left open_titles names title frame k ps store e is h n =
-    let g = subst (λ (x : Taken). AnswersTaking pages met open_titles left title store (Ok x)) is h in
-    let same = subst (λ (x : Taken). IsNamed left open_titles (full_name_of title) met answered now (Ok x))
-    is n in
-    subst (λ (ns : List (List ℕ)). AnswersOutput pages page (ledger spent met answered) (template_output pages left ns title frame) store spent now (Ok ps)) e
-    (message_given pages page spent met answered now (template_output pages left open_titles title frame) store ps (g.0 frame) g.1 same)
-
-pub link_done : (pages : Pages) (page : List ℕ) (spent : ℕ) (met : List (List ℕ)) (answered now : Option (List (List ℕ))) (left : ℕ)
-    (open_titles names : List (List ℕ)) (title : Title) (frame : Frame) (k : Taken) (ps : List Piece) (store : Store) → open_titles ≡ names → k ≡ taken.Link ps
-    → AnswersTaking pages met open_titles left title store (Ok k)
-    → IsNamed left open_titles (full_name_of title) met answered now (Ok k)
-    → AnswersOutput pages page (ledger spent met answered) (template_output pages left names title frame) store spent now (Ok ps)
-link_done pages page spent met answered now left open_titles names title frame k ps store e is h n =
-    let g = subst (λ (x : Taken). AnswersTaking pages met open_titles left title store (Ok x)) is h in
-    let same = subst (λ (x : Taken). IsNamed left open_titles (full_name_of title) met answered now (Ok x))
-    is n in
-    subst (λ (ns : List (List ℕ)). AnswersOutput pages page (ledger spent met answered) (template_output pages left ns title frame) store spent now (Ok ps)) e
-    (link_given pages page spent met answered now (full_name_of title) (template_output pages left open_titles title frame) store ps (g.0 frame) g.1 same)
-
--- the text of a page that is entered gives the rest
-pub entered_done : (pages : Pages) (page : List ℕ) (spent now : ℕ) (met : List (List ℕ)) (answered told : Option (List (List ℕ))) (left : ℕ)
-    (names : List (List ℕ)) (t : Title) (frame : Frame) (read : ReadText) (next : Store) (x : Result (Listed Piece) ExpandRefusal)
-    → (n : Enters pages page spent met answered left names t frame read)
-    → AnswersOutput pages page (ledger spent (met_with (full_name_of t) met) (named_with (full_name_of t) met answered))
-    (text_given (reading_of pages mode.Template frame left (full_name_of t ∷ names)) (template_text n.bytes)) next now told x
-    → AnswersOutput pages page (ledger spent met answered) (template_output pages (suc left) names t frame) next now told x
-entered_done pages page spent now met answered told left names t frame read next (Ok ps) n h =
-    page_given pages page spent met answered left names t frame read next now told ps n h
-entered_done pages page spent now met answered told left names t frame read next (Err e) n h =
-    page_refused pages page spent met answered told left names t frame read e n h
-
-pub page_done : (pages : Pages) (page : List ℕ) (spent now : ℕ) (met : List (List ℕ)) (answered named told : Option (List (List ℕ))) (left less : ℕ)
-    (open_titles names names_in : List (List ℕ)) (t : Title) (frame : Frame) (k : Taken) (read : ReadText) (run : TextRun) (store next : Store)
-    (x : Result (Listed Piece) ExpandRefusal) → open_titles ≡ names → k ≡ taken.Page read → left ≡ suc less → names_in ≡ full_name_of t ∷ names
-    → AnswersTaking pages met open_titles left t store (Ok k)
-    → IsNamed left open_titles (full_name_of t) met answered named (Ok k)
-    → ((r : Reading) (bs : List ℕ) → mode.Template ≡ r.mode → IsRead r.mode bs read → Holds r bs run (stack run.levels) (text_given r bs))
-    → ((bs : List ℕ) (now_met : List (List ℕ)) (all : Output) → IsStore pages now_met store
-    → Holds (reading_of pages mode.Template frame less names_in) bs run (stack run.levels) all
-    → AnswersOutput pages page (ledger spent now_met named) all next now told x)
-    → AnswersOutput pages page (ledger spent met answered) (template_output pages left names t frame) next now told x
-page_done pages page spent now met answered named told left less open_titles names names_in t frame k read run store next x e is some inside h n holds on =
-    let full = full_name_of t in
-    let g = subst (λ (y : Taken). AnswersTaking pages met open_titles left t store (Ok y)) is h in
-    let same = subst (λ (y : Taken). IsNamed left open_titles full met answered named (Ok y)) is n in
-    let shut = subst (λ (ns : List (List ℕ)). is_among full ns ≡ false) e g.1 in
-    let enter = enters pages page spent met answered less names t frame read shut g.2 in
-    let given = on (template_text enter.bytes) (met_with full met)
-    (text_given (reading_of pages mode.Template frame less names_in) (template_text enter.bytes)) g.3
-    (holds (reading_of pages mode.Template frame less names_in) (template_text enter.bytes) refl enter.is_read) in
-    let there = subst (λ (ns : List (List ℕ)). AnswersOutput pages page (ledger spent (met_with full met) named)
-    (text_given (reading_of pages mode.Template frame less ns) (template_text enter.bytes)) next now told x) inside given in
-    let known = subst (λ (a : Option (List (List ℕ))). AnswersOutput pages page (ledger spent (met_with full met) a)
-    (text_given (reading_of pages mode.Template frame less (full ∷ names)) (template_text enter.bytes)) next now told x) same there in
-    subst (λ (j : ℕ). AnswersOutput pages page (ledger spent met answered) (template_output pages j names t frame) next now told x) (sym some)
-    (entered_done pages page spent now met answered told less names t frame read next x enter known)

@@ -1,3 +1,4 @@
+pub mod AgainLaws
 pub mod CallLaws
 pub mod CallSteps
 pub mod ChoiceSteps
@@ -7,6 +8,7 @@ pub mod LevelLaws
 pub mod NumberedParts
 pub mod PageLaws
 pub mod PartSteps
+pub mod ProgressLaws
 pub mod RestLaws
 pub mod StackLaws
 pub mod StepLaws

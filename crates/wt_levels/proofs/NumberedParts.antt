@@ -18,7 +18,7 @@ use Rattle.wt_transclusion.specs.Steps.{IsStretchOf, given_from}
 use Rattle.wt_transclusion.proofs.StretchLaws.{width_append}
 use Rattle.wt_levels.specs.Calls.{IsPartAt, next_place, ArePartsAt, IsCallOf, parts_of_call}
 use Rattle.wt_levels.specs.Rests.{later_told}
-use Rattle.wt_levels.specs.ToldParts.{end_by, start_by, told_end, given_start, have_equals}
+use Rattle.wt_levels.specs.ToldParts.{end_by, start_by, name_end, told_end, given_start, have_equals}
 use Rattle.wt_levels.proofs.CallLaws.{some_is, joined_width}
 use Rattle.wt_levels.proofs.CallSteps.{part_get}
 use Rattle.wt_levels.proofs.StepLaws.{drop_none}
@@ -216,6 +216,15 @@ given_gives Switch r t most place (Some (xs, n)) value part h =
     subst (λ e. StretchGives r t (start_by e part.at.start) part.at.end o) (sym h.equals_is) (subst (λ k. StretchGives r t k part.at.end o) behind
     (record { left = value; stretch = subst (λ k. IsStretchOf r.mode t q k value) ends h.stands.cut.2; gives = refl }))
 
+-- of a part without a name what is told is given
+whole_told : (f : Function) (r : Reading) (t : List ℕ) (most place : ℕ) (name : Option (List Member × ℕ)) (value : List Member) (part : PartOf)
+    → IsPlaced r t most place name value part → name_end f part.equals ≡ None
+    → given_by f (part_given r (starts t place) t place name value) ≡ told_part f (part_given r (starts t place) t place name value)
+whole_told If r t most place name value part h e = refl
+whole_told IfEq r t most place name value part h e = refl
+whole_told Switch r t most place None value part h e = refl
+whole_told Switch r t most place (Some (xs, n)) value part h e = absurd (let z : Some (place + width_of xs) ≡ None = sym h.equals_is ∙ e in cc)
+
 -- what is told ends within the part, and what is given begins within it
 ends_within : (f : Function) (r : Reading) (t : List ℕ) (most place : ℕ) (name : Option (List Member × ℕ)) (value : List Member) (part : PartOf)
     → IsPlaced r t most place name value part → told_end f part ≤ part.at.end
@@ -241,6 +250,7 @@ pub record Told (f : Function) (r : Reading) (t : List ℕ) (b : Braces) (c : Is
   pub others : List Output
   pub stretch : StretchGives r t part.at.start (told_end f part) output
   pub outputs_are : drop n (later_told f (parts_of_call r t b c)) ≡ output ∷ others
+  pub whole : name_end f part.equals ≡ None → first_given f (drop (suc n) (parts_of_call r t b c)) ≡ output
   pub within : told_end f part ≤ b.at.end
   pub next : (x : PartOf) → slice_get b.parts.now (suc (suc n)) ≡ Some x → told_end f part ≤ x.at.start
 
@@ -262,6 +272,7 @@ part_told f r t b c n part e =
       others = map (told_part f) x.others;
       stretch = told_gives f r t b.at.end x.place x.p.name x.p.value part at;
       outputs_are = drop-map (told_part f) n (later_parts ps) ∙ ap (map (told_part f)) (drop_later n ps ∙ x.given);
+      whole = λ no_name. ap (first_given f) x.given ∙ whole_told f r t b.at.end x.place x.p.name x.p.value part at no_name;
       within = omega (arith, w, most, to);
       next = λ y f. let z = x.next y f in omega (arith, z, w);
     }

@@ -29,6 +29,7 @@ use Rattle.wt_levels.specs.declared.level.Task.TheVariants as task
 use Rattle.wt_levels.specs.declared.run.TextRun.{TextRun}
 use Rattle.wt_levels.specs.declared.run.Turn.{Turn}
 use Rattle.wt_levels.specs.declared.run.Turn.TheVariants as turn
+use Rattle.wt_levels.specs.Accounts.{Account}
 use Rattle.wt_levels.specs.Calls.{IsPartAt, next_place, ArePartsAt}
 use Rattle.wt_levels.specs.Levels.{IsNamedBy, Resumes, Ends}
 use Rattle.wt_levels.specs.Rests.{with_work, after_page, after_values, next_number, after_name}
@@ -45,7 +46,7 @@ no_parts : (at : ℕ) (ps : List PartMembers) → [] ≡ placed at ps → ps ≡
 no_parts at [] e = refl
 no_parts at (p ∷ ps) e = absurd cc
 
-pub parts_end : (r : Reading) (t : List ℕ) (run : TextRun) (h : Handing) (total : Output) → HandsParts r t run h total → length h.call.parts.now ≤ h.part
+pub parts_end : (r : Reading) (t : List ℕ) (run : TextRun) (h : Handing) (total : Account) → HandsParts r t run h total → length h.call.parts.now ≤ h.part
     → Calls r t run h total
 parts_end r t run h total w l =
     let none = no_parts w.at w.ps (sym (drop_all h.part (map part_of h.call.parts.now) (let z = length-map h.call.parts.now part_of in omega (arith, z, l)))
@@ -92,7 +93,7 @@ abbrev pub next_handing : Handing → Handing
 next_handing h = record { call = h.call; at_start = h.at_start; title = h.title; part = h.part + 1; handed = h.handed }
 
 -- a part stands next of a call whose earlier parts have these values
-record PartThere (r : Reading) (t : List ℕ) (h : Handing) (ls : List Level) (frame : Frame) (at : ℕ) (total : Output) (p : PartMembers)
+record PartThere (r : Reading) (t : List ℕ) (h : Handing) (ls : List Level) (frame : Frame) (at : ℕ) (total : Account) (p : PartMembers)
     (rest : List PartMembers) (part : PartOf) : Type 0 where
   values : AreValues h.handed.values frame
   places : drop (h.part + 1) (map part_of h.call.parts.now) ≡ placed (next_place at p) rest
@@ -104,12 +105,12 @@ record PartThere (r : Reading) (t : List ℕ) (h : Handing) (ls : List Level) (f
   resumes : Resumes r t h.call.at.end (starts t h.call.at.end) (after_values r h.at_start h.title frame h.handed.number
       (part_given r (starts t at) t at p.name p.value ∷ parts_given r (starts t (next_place at p)) t (next_place at p) rest)) ls total
 
-pub record LevelThere (r : Reading) (t : List ℕ) (at to : ℕ) (k : Task) (ls : List Level) (total : Output) : Type 0 where
+pub record LevelThere (r : Reading) (t : List ℕ) (at to : ℕ) (k : Task) (ls : List Level) (total : Account) : Type 0 where
   pub left : List Member
   pub stretch : IsStretchOf r.mode t at to left
   pub ends : Ends r t to k ls (given_from r (starts t at) t at left) total
 
-named_there : (r : Reading) (t : List ℕ) (h : Handing) (ls : List Level) (frame : Frame) (at : ℕ) (total : Output) (nm : Option (List Member × ℕ))
+named_there : (r : Reading) (t : List ℕ) (h : Handing) (ls : List Level) (frame : Frame) (at : ℕ) (total : Account) (nm : Option (List Member × ℕ))
     (value : List Member)
     (bar : ℕ) (rest : List PartMembers) (part : PartOf) (equals : ℕ)
     → PartThere r t h ls frame at total (record { name = nm; value = value; bar = bar }) rest part
@@ -150,7 +151,7 @@ named_there r t h ls frame at total (Some (xs, n)) value bar rest part equals w 
       };
     }
 
-unnamed_there : (r : Reading) (t : List ℕ) (h : Handing) (ls : List Level) (frame : Frame) (at : ℕ) (total : Output) (nm : Option (List Member × ℕ))
+unnamed_there : (r : Reading) (t : List ℕ) (h : Handing) (ls : List Level) (frame : Frame) (at : ℕ) (total : Account) (nm : Option (List Member × ℕ))
     (value : List Member)
     (bar : ℕ) (rest : List PartMembers) (part : PartOf) → PartThere r t h ls frame at total (record { name = nm; value = value; bar = bar }) rest part
     → part.equals ≡ None → LevelThere r t at part.at.end (task.Value (next_handing h) None) ls total
@@ -187,12 +188,12 @@ drop_get (y ∷ xs) (suc n) x e = drop_get xs n x e ∙ ap (λ k. x ∷ drop k (
 place_is : (a b : PartAt) (xs ys : List PartAt) → a ∷ xs ≡ b ∷ ys → (a ≡ b) × (xs ≡ ys)
 place_is a b xs ys e = (cc, cc)
 
-pub record HasPart (r : Reading) (t : List ℕ) (run : TextRun) (h : Handing) (total : Output) (w : HandsParts r t run h total) (part : PartOf) : Type 0 where
+pub record HasPart (r : Reading) (t : List ℕ) (run : TextRun) (h : Handing) (total : Account) (w : HandsParts r t run h total) (part : PartOf) : Type 0 where
   p : PartMembers
   rest : List PartMembers
   there : PartThere r t h (stack run.levels) w.frame w.at total p rest part
 
-has_part : (r : Reading) (t : List ℕ) (run : TextRun) (h : Handing) (total : Output) (w : HandsParts r t run h total) (part : PartOf)
+has_part : (r : Reading) (t : List ℕ) (run : TextRun) (h : Handing) (total : Account) (w : HandsParts r t run h total) (part : PartOf)
     → slice_get h.call.parts.now h.part ≡ Some part → HasPart r t run h total w part
 has_part r t run h total w part e = by_parts w.ps w.handing.parts w.handing.stand w.resumes
   where
@@ -222,7 +223,7 @@ has_part r t run h total w part e = by_parts w.ps w.handing.parts w.handing.stan
           };
         }
 
-begins_there : (r : Reading) (t : List ℕ) (run : TextRun) (h : Handing) (total : Output) (w : HandsParts r t run h total) (start to : ℕ) (k : Task)
+begins_there : (r : Reading) (t : List ℕ) (run : TextRun) (h : Handing) (total : Account) (w : HandsParts r t run h total) (start to : ℕ) (k : Task)
     → start ≡ w.at
     → LevelThere r t w.at to k (stack run.levels) total → BeginsLevel r t run start (starts t start) to k total
 begins_there r t run h total w start to k e l = record {
@@ -236,7 +237,7 @@ begins_there r t run h total w start to k e l = record {
 }
 
 -- a part that has a name
-pub name_begins : (r : Reading) (t : List ℕ) (run : TextRun) (h : Handing) (part : PartOf) (equals : ℕ) (total : Output) → HandsParts r t run h total
+pub name_begins : (r : Reading) (t : List ℕ) (run : TextRun) (h : Handing) (part : PartOf) (equals : ℕ) (total : Account) → HandsParts r t run h total
     → slice_get h.call.parts.now h.part ≡ Some part → part.equals ≡ Some equals
     → BeginsLevel r t run part.at.start (starts t part.at.start) equals (task.Name (next_handing h) part.at.end) total
 name_begins r t run h part equals total w e q =
@@ -245,7 +246,7 @@ name_begins r t run h part equals total w e q =
     (named_there r t h (stack run.levels) w.frame w.at total x.p.name x.p.value x.p.bar x.rest part equals x.there q)
 
 -- a part without a name
-pub value_begins : (r : Reading) (t : List ℕ) (run : TextRun) (h : Handing) (part : PartOf) (total : Output) → HandsParts r t run h total
+pub value_begins : (r : Reading) (t : List ℕ) (run : TextRun) (h : Handing) (part : PartOf) (total : Account) → HandsParts r t run h total
     → slice_get h.call.parts.now h.part ≡ Some part → part.equals ≡ None
     → BeginsLevel r t run part.at.start (starts t part.at.start) part.at.end (task.Value (next_handing h) None) total
 value_begins r t run h part total w e q =
@@ -255,7 +256,7 @@ value_begins r t run h part total w e q =
 
 -- ---- a name or a value ends
 
-pub name_ends : (r : Reading) (t : List ℕ) (run : TextRun) (h : Handing) (to : ℕ) (out_ps : List Piece) (name : String Global) (total : Output)
+pub name_ends : (r : Reading) (t : List ℕ) (run : TextRun) (h : Handing) (to : ℕ) (out_ps : List Piece) (name : String Global) (total : Account)
     → (w : HasEnded r t run (task.Name h to) out_ps total) → string_bytes name ≡ name_text (items out_ps)
     → BeginsLevel r t run (w.place + 1) (starts t (w.place + 1)) to (task.Value h (Some name)) total
 name_ends r t run h to out_ps name total w e = record {
@@ -278,7 +279,7 @@ name_ends r t run h to out_ps name total w e = record {
   };
 }
 
-pub name_begun : (r : Reading) (t : List ℕ) (run : TextRun) (h : Handing) (to : ℕ) (out_ps : List Piece) (name : String Global) (at : ℕ) (total : Output)
+pub name_begun : (r : Reading) (t : List ℕ) (run : TextRun) (h : Handing) (to : ℕ) (out_ps : List Piece) (name : String Global) (at : ℕ) (total : Account)
     → (w : HasEnded r t run (task.Name h to) out_ps total) → string_bytes name ≡ name_text (items out_ps) → at ≡ run.reader.cursor.at + 1
     → BeginsLevel r t run at (starts t at) to (task.Value h (Some name)) total
 name_begun r t run h to out_ps name at total w e is =
@@ -290,7 +291,7 @@ abbrev pub handing_with : Handing → Handed → Handing
 handing_with h handed = record { call = h.call; at_start = h.at_start; title = h.title; part = h.part; handed = handed }
 
 pub value_ends : (r : Reading) (t : List ℕ) (run : TextRun) (h : Handing) (handed : Handed) (name : Option (String Global)) (out_ps : List Piece)
-    (total : Output)
+    (total : Account)
     → HasEnded r t run (task.Value h name) out_ps total
     → ((frame : Frame) (named : Option Output) (given : Output) → AreValues h.handed.values frame → IsNamedBy name named → items out_ps ≡ given.items
     → AreValues handed.values (frame ++ values_from h.handed.number (record { name = named; value = given; all = given } ∷ [])))
@@ -315,14 +316,14 @@ value_ends r t run h handed name out_ps total w put counted =
     }
 
 -- a part that is begun, or a page that is called, with nothing spent
-pub part_taken : (r : Reading) (t : List ℕ) (spent : ℕ) (total : Output) (run : TextRun) (k : Turn) → TakesPart r t total run k
+pub part_taken : (r : Reading) (t : List ℕ) (spent : ℕ) (total : Account) (run : TextRun) (k : Turn) → TakesPart r t total run k
     → TakesTurn r t spent total run spent k
 part_taken r t spent total run turn.Went h = (total, spends_none spent total, h)
 part_taken r t spent total run (turn.Done ps) h = absurd h
 part_taken r t spent total run (turn.Called a) h = (total, spends_none spent total, h)
 
 -- the same behind some work
-pub part_taken_behind : (r : Reading) (t : List ℕ) (spent now : ℕ) (total left : Output) (run : TextRun) (k : Turn) → Spends spent total now left
+pub part_taken_behind : (r : Reading) (t : List ℕ) (spent now : ℕ) (total left : Account) (run : TextRun) (k : Turn) → Spends spent total now left
     → TakesPart r t left run k
     → TakesTurn r t spent total run now k
 part_taken_behind r t spent now total left run turn.Went s h = (left, s, h)

@@ -1,5 +1,5 @@
 -- Work that comes before what is left of a call comes before all that is left; and what it costs.
-use Rattle.std.proofs.Common.{◌≡◌, ℕ, ◌+◌, ◌<◌, ◌≤◌, Bool, true, false, Option, Some, None, List, [], ◌∷◌, ◌++◌, length, drop, refl, sym, ap, ◌∙◌, subst, arith, append_assoc, min}
+use Rattle.std.proofs.Common.{◌≡◌, ℕ, ◌+◌, ◌<◌, ◌≤◌, Bool, true, false, Option, Some, None, List, [], ◌∷◌, ◌++◌, length, drop, refl, sym, ap, ◌∙◌, subst, arith, append_assoc, append-nil, min}
 use Rattle.std.specs.Prelude.{nat_lt, if◌then◌else◌}
 use Rattle.std.specs.Option.{option_or}
 use Rattle.std.proofs.lemmas.Bool.Decides.{nat_tests}
@@ -10,13 +10,14 @@ use Rattle.wt_expand.specs.Asking.{asking}
 use Rattle.wt_expand.specs.Texts.{name_text, trimmed_items}
 use Rattle.wt_expand.specs.Targets.{title_of_target}
 use Rattle.wt_expand.specs.Fronts.{NextRefuses}
-use Rattle.wt_expand.specs.Work.{Pages, too_large, Entry, begun, ended, most_cost}
+use Rattle.wt_expand.specs.Work.{Pages, too_large, Entry, begun, ended, fetches, is_among, most_cost}
 use Rattle.wt_expand.specs.Expansion.{Output, Reading, PartOutput, Frame, just, then_output, chars, value_of, values_from, parts_work, default_output, if_value, with_break, back_braces, front_braces}
 use Rattle.wt_expand.proofs.FrontLaws.{front_none}
 use Rattle.wt_transclusion.specs.declared.refusal.ExpandRefusal.{ExpandRefusal}
 use Rattle.wt_transclusion.specs.declared.refusal.ExpandRefusal.TheVariants as answer
 use Rattle.wt_levels.specs.Rests.{with_work, ended_with, after_argument, after_page, after_values, next_number, after_value, after_name, after_text, after_target_by, after_target, after_given, later_told, after_told}
-use Rattle.wt_levels.specs.Runs.{Spends, RefusesCost}
+use Rattle.wt_levels.specs.Accounts.{Account, AreFetched, Does, IsAllowed}
+use Rattle.wt_levels.specs.Runs.{IsTooLarge, Spends, RefusesCost}
 
 abbrev out : List Item → List Entry → Output
 out xs es = record { items = xs; work = es }
@@ -87,46 +88,66 @@ between_work w xs g o = ap (out (xs ++ (g.items ++ o.items))) (append_assoc w g.
 
 -- ---- cost
 
-large_is : (b t : Bool) → b ≡ t → (if b then Some too_large else None) ≡ (if t then Some too_large else None)
+pub large_is : (b t : Bool) → b ≡ t → (if b then Some too_large else None) ≡ (if t then Some too_large else None)
 large_is b t e = ap (λ c. if c then Some too_large else None) e
 
 alone : (b : Bool) → b ≡ false → option_or (if b then Some too_large else None) None ≡ None
 alone b e = ap (λ o. option_or o None) (large_is b false e)
 
-pub spends_none : (spent : ℕ) (o : Output) → Spends spent o spent o
-spends_none spent o = record {
-  items = refl;
+fetched_none : (before work : List Entry) → fetches work ≡ [] → AreFetched before work
+fetched_none before work e = λ name h. let z : false ≡ true = ap (is_among name) (sym e) ∙ h in cc
+
+pub spends_none : (spent : ℕ) (total : Account) → Spends spent total spent total
+spends_none spent total = record {
   done = [];
-  front = λ pages page. front_none pages page spent o.work;
+  does = record { before_is = refl; done_is = sym (append-nil total.done); left_is = refl };
+  allowed = λ pages page h. refl;
   costs = omega arith;
-  unfetched = refl;
+  fetched = fetched_none total.done [] refl;
 }
 
-pub spends_begun : (spent now : ℕ) (o : Output) → nat_lt most_cost (spent + 1) ≡ false → now ≡ spent + 1 → Spends spent (with_work (begun ∷ []) o) now o
-spends_begun spent now o e z = record {
-  items = refl;
+spends_begun : (spent now : ℕ) (total left : Account) → Does (begun ∷ []) total left → nat_lt most_cost (spent + 1) ≡ false → now ≡ spent + 1
+    → Spends spent total now left
+spends_begun spent now total left d e z = record {
   done = begun ∷ [];
-  front = λ pages page. record { whole = refl; allowed = alone (nat_lt most_cost (spent + 1)) e };
+  does = d;
+  allowed = λ pages page h. alone (nat_lt most_cost (spent + 1)) e;
   costs = omega (arith, z);
-  unfetched = refl;
+  fetched = fetched_none total.done (begun ∷ []) refl;
 }
 
-pub refuses_begun : (spent : ℕ) (o : Output) → nat_lt most_cost (spent + 1) ≡ true → (pages : Pages) (page : List ℕ)
-    → NextRefuses pages page spent too_large (begun ∷ o.work)
-refuses_begun spent o e pages page = large_is (nat_lt most_cost (spent + 1)) true e
-
-pub spends_ended : (spent now n : ℕ) (o : Output) → nat_lt most_cost (spent + n) ≡ false → now ≡ spent + n → Spends spent (with_work (ended n ∷ []) o) now o
-spends_ended spent now n o e z = record {
-  items = refl;
+spends_ended : (spent now n : ℕ) (total left : Account) → Does (ended n ∷ []) total left → nat_lt most_cost (spent + n) ≡ false → now ≡ spent + n
+    → Spends spent total now left
+spends_ended spent now n total left d e z = record {
   done = ended n ∷ [];
-  front = λ pages page. record { whole = refl; allowed = alone (nat_lt most_cost (spent + n)) e };
+  does = d;
+  allowed = λ pages page h. alone (nat_lt most_cost (spent + n)) e;
   costs = omega (arith, z);
-  unfetched = refl;
+  fetched = fetched_none total.done (ended n ∷ []) refl;
 }
 
-pub refuses_ended : (spent n : ℕ) (o : Output) → nat_lt most_cost (spent + n) ≡ true → (pages : Pages) (page : List ℕ)
-    → NextRefuses pages page spent too_large (ended n ∷ o.work)
-refuses_ended spent n o e pages page = large_is (nat_lt most_cost (spent + n)) true e
+-- the next entry is refused
+pub next_too_large : (pages : Pages) (page : List ℕ) (spent : ℕ) (total : Account) → NextRefuses pages page spent too_large total.left.work
+    → IsTooLarge pages page spent total
+next_too_large pages page spent total h = record {
+  done = [];
+  left = total.left.work;
+  front = front_none pages page spent total.left.work;
+  refused = let z : spent ≡ spent + 0 = omega arith in subst (λ (n : ℕ). NextRefuses pages page n too_large total.left.work) z h;
+  fetched = fetched_none total.done [] refl;
+}
+
+pub refuses_begun : (spent : ℕ) (total left : Account) → Does (begun ∷ []) total left → nat_lt most_cost (spent + 1) ≡ true → (pages : Pages) (page : List ℕ)
+    → IsAllowed pages page total → IsTooLarge pages page spent total
+refuses_begun spent total left d e pages page a =
+    next_too_large pages page spent total
+    (subst (λ (o : Output). NextRefuses pages page spent too_large o.work) (sym d.left_is) (large_is (nat_lt most_cost (spent + 1)) true e))
+
+pub refuses_ended : (spent n : ℕ) (total left : Account) → Does (ended n ∷ []) total left → nat_lt most_cost (spent + n) ≡ true → (pages : Pages) (page : List ℕ)
+    → IsAllowed pages page total → IsTooLarge pages page spent total
+refuses_ended spent n total left d e pages page a =
+    next_too_large pages page spent total
+    (subst (λ (o : Output). NextRefuses pages page spent too_large o.work) (sym d.left_is) (large_is (nat_lt most_cost (spent + n)) true e))
 
 -- ---- values
 
@@ -160,24 +181,21 @@ min_of a b l = omega (arith, l)
 pub spent_is : (spent n now : ℕ) → nat_lt most_cost (spent + n) ≡ false → now ≡ min (spent + n) 18446744073709551615 → now ≡ spent + n
 spent_is spent n now e is = is ∙ min_of (spent + n) 18446744073709551615 (let l = at_most spent n e in omega (arith, l))
 
-pub begun_spent : (spent now : ℕ) (total left : Output) → total ≡ with_work (begun ∷ []) left → false ≡ nat_lt most_cost (spent + 1)
+pub begun_spent : (spent now : ℕ) (total left : Account) → Does (begun ∷ []) total left → false ≡ nat_lt most_cost (spent + 1)
     → now ≡ min (spent + 1) 18446744073709551615 → Spends spent total now left
-begun_spent spent now total left e l n =
-    subst (λ (o : Output). Spends spent o now left) (sym e) (spends_begun spent now left (sym l) (spent_is spent 1 now (sym l) n))
+begun_spent spent now total left d l n = spends_begun spent now total left d (sym l) (spent_is spent 1 now (sym l) n)
 
-pub begun_refused : (spent : ℕ) (total left : Output) (x : ExpandRefusal) → total ≡ with_work (begun ∷ []) left → true ≡ nat_lt most_cost (spent + 1)
+pub begun_refused : (spent : ℕ) (total left : Account) (x : ExpandRefusal) → Does (begun ∷ []) total left → true ≡ nat_lt most_cost (spent + 1)
     → x ≡ answer.TooLarge
     → RefusesCost spent total x
-begun_refused spent total left x e l is = subst (λ (y : ExpandRefusal). RefusesCost spent total y) (sym is)
-    (λ pages page. subst (λ (o : Output). NextRefuses pages page spent too_large o.work) (sym e) (refuses_begun spent left (sym l) pages page))
+begun_refused spent total left x d l is = subst (λ (y : ExpandRefusal). RefusesCost spent total y) (sym is) (refuses_begun spent total left d (sym l))
 
-pub ended_spent : (spent n count now : ℕ) (total left : Output) → total ≡ with_work (ended n ∷ []) left → false ≡ nat_lt most_cost (spent + count)
+pub ended_spent : (spent n count now : ℕ) (total left : Account) → Does (ended n ∷ []) total left → false ≡ nat_lt most_cost (spent + count)
     → count ≡ min n 18446744073709551615 → now ≡ min (spent + count) 18446744073709551615 → Spends spent total now left
-ended_spent spent n count now total left e l c m =
+ended_spent spent n count now total left d l c m =
     let small = at_most spent count (sym l) in
     let same : count ≡ n = omega (arith, small, c) in
-    subst (λ (o : Output). Spends spent o now left) (sym e)
-    (spends_ended spent now n left (sym (l ∙ ap (λ k. nat_lt most_cost (spent + k)) same)) (spent_is spent count now (sym l) m ∙ ap (λ k. spent + k) same))
+    spends_ended spent now n total left d (sym (l ∙ ap (λ k. nat_lt most_cost (spent + k)) same)) (spent_is spent count now (sym l) m ∙ ap (λ k. spent + k) same)
 
 above : (spent n : ℕ) → nat_lt most_cost (spent + n) ≡ true → 8388608 < spent + n
 unfolding most_cost
@@ -187,11 +205,10 @@ above_is : (spent n : ℕ) → 8388608 < spent + n → nat_lt most_cost (spent +
 unfolding most_cost
 above_is spent n l = grind (arith, nat_tests)
 
-pub ended_refused : (spent n count : ℕ) (total left : Output) (x : ExpandRefusal) → total ≡ with_work (ended n ∷ []) left
+pub ended_refused : (spent n count : ℕ) (total left : Account) (x : ExpandRefusal) → Does (ended n ∷ []) total left
     → true ≡ nat_lt most_cost (spent + count)
     → count ≡ min n 18446744073709551615 → x ≡ answer.TooLarge → RefusesCost spent total x
-ended_refused spent n count total left x e l c is =
+ended_refused spent n count total left x d l c is =
     let high = above spent count (sym l) in
     let large = above_is spent n (omega (arith, high, c)) in
-    subst (λ (y : ExpandRefusal). RefusesCost spent total y) (sym is)
-    (λ pages page. subst (λ (o : Output). NextRefuses pages page spent too_large o.work) (sym e) (refuses_ended spent n left large pages page))
+    subst (λ (y : ExpandRefusal). RefusesCost spent total y) (sym is) (refuses_ended spent n total left d large)

@@ -36,10 +36,11 @@ use Rattle.wt_levels.specs.declared.level.Level.{Level}
 use Rattle.wt_levels.specs.declared.level.Task.{Task}
 use Rattle.wt_levels.specs.declared.level.Task.TheVariants as task
 use Rattle.wt_levels.specs.declared.run.TextRun.{TextRun}
+use Rattle.wt_levels.specs.Accounts.{Account, Does, undone}
 use Rattle.wt_levels.specs.Calls.{IsCallOf, source_of, parts_of_call, outs_of_call, members_behind, first_end, behind_given}
 use Rattle.wt_levels.specs.Levels.{Resumes, Ends}
 use Rattle.wt_levels.specs.Readers.{IsReading}
-use Rattle.wt_levels.specs.Rests.{with_work, after_argument, after_target, after_target_by}
+use Rattle.wt_levels.specs.Rests.{after_argument, after_target, after_target_by}
 use Rattle.wt_levels.specs.Stacks.{stack, whole_level, innermost_end, with_given, one_or_none}
 use Rattle.wt_levels.specs.Runs.{Holds, HasEnded, TakesChunk, BeginsLevel, BeginsCall}
 use Rattle.wt_levels.proofs.CallLaws.{First, first_of, behind_same, call_is}
@@ -54,26 +55,26 @@ pub drop_none : {A : Type 0} → (xs : List A) → drop 0 xs ≡ xs
 drop_none [] = refl
 drop_none (x ∷ xs) = refl
 
-pub whole_resumes : (r : Reading) (t : List ℕ)
-    → Resumes r t 0 true (just []) (whole_level (length t) ∷ []) (text_given r t)
+pub whole_resumes : (r : Reading) (t : List ℕ) (spent : ℕ)
+    → Resumes r t 0 true (just []) (whole_level (length t) ∷ []) (undone spent (text_given r t))
 unfolding text_members
-whole_resumes r t =
+whole_resumes r t spent =
     let xs = reduced (words r.mode t) in
     (xs, whole_stretch r.mode t, (refl, ap (λ bs. outputs.joined (outputs_of r true bs (members xs))) (sym (drop_none t))))
 
 -- ---- a run
 
 -- a stretch of a text of which nothing is read
-pub stretch_holds : (r : Reading) (t : List ℕ) (run : TextRun) (p e : ℕ) (s : Bool) (xs : List Member) → IsReading r.mode t run.reader p s → run.mode ≡ r.mode
-    → stack run.levels ≡ whole_level e ∷ [] → IsStretchOf r.mode t p e xs → Holds r t run (stack run.levels) (given_from r s t p xs)
-stretch_holds r t run p e s xs reading m levels h = record {
+pub stretch_holds : (r : Reading) (t : List ℕ) (spent : ℕ) (run : TextRun) (p e : ℕ) (s : Bool) (xs : List Member) → IsReading r.mode t run.reader p s → run.mode ≡ r.mode
+    → stack run.levels ≡ whole_level e ∷ [] → IsStretchOf r.mode t p e xs → Holds r t run (stack run.levels) (undone spent (given_from r s t p xs))
+stretch_holds r t spent run p e s xs reading m levels h = record {
   place = p;
   at_start = s;
   running = record { reading = reading; mode_is = m };
-  resumes = subst (λ ls. Resumes r t p s (just []) ls (given_from r s t p xs)) (sym levels) (xs, h, (refl, refl));
+  resumes = subst (λ ls. Resumes r t p s (just []) ls (undone spent (given_from r s t p xs))) (sym levels) (xs, h, (refl, refl));
 }
 
-pub holds : (r : Reading) (t : List ℕ) (run : TextRun) (p : ℕ) (s : Bool) (ls : List Level) (total : Output) → IsReading r.mode t run.reader p s
+pub holds : (r : Reading) (t : List ℕ) (run : TextRun) (p : ℕ) (s : Bool) (ls : List Level) (total : Account) → IsReading r.mode t run.reader p s
     → run.mode ≡ r.mode
     → (stack run.levels) ≡ ls → Resumes r t p s (just []) ls total → Holds r t run (stack run.levels) total
 holds r t run p s ls total a m e h = record {
@@ -84,19 +85,19 @@ holds r t run p s ls total a m e h = record {
 }
 
 -- a text of which nothing is read
-pub text_holds : (r : Reading) (t : List ℕ) (run : TextRun) (n : ℕ) → IsReading r.mode t run.reader 0 true → run.mode ≡ r.mode
+pub text_holds : (r : Reading) (t : List ℕ) (spent : ℕ) (run : TextRun) (n : ℕ) → IsReading r.mode t run.reader 0 true → run.mode ≡ r.mode
     → stack run.levels ≡ whole_level n ∷ []
-    → n ≡ length t → Holds r t run (stack run.levels) (text_given r t)
-text_holds r t run n reading m levels is = record {
+    → n ≡ length t → Holds r t run (stack run.levels) (undone spent (text_given r t))
+text_holds r t spent run n reading m levels is = record {
   place = 0;
   at_start = true;
   running = record { reading = reading; mode_is = m };
-  resumes = subst (λ ls. Resumes r t 0 true (just []) ls (text_given r t)) (sym (levels ∙ ap (λ e. whole_level e ∷ []) is)) (whole_resumes r t);
+  resumes = subst (λ ls. Resumes r t 0 true (just []) ls (undone spent (text_given r t))) (sym (levels ∙ ap (λ e. whole_level e ∷ []) is)) (whole_resumes r t spent);
 }
 
 -- ---- lexemes
 
-pub chunk_next : (r : Reading) (t : List ℕ) (run : TextRun) (ls : List Level) (end : ℕ) (kind : LexKind) (to : ℕ) (total : Output)
+pub chunk_next : (r : Reading) (t : List ℕ) (run : TextRun) (ls : List Level) (end : ℕ) (kind : LexKind) (to : ℕ) (total : Account)
     → (h : Holds r t run ls total) → innermost_end ls ≡ Some end
     → ((xs : List Member) → IsStretchOf r.mode t h.place end xs → AnswersNext r.mode t h.place end xs (next.Chunk kind to))
     → TakesChunk r t run ls kind to total
@@ -123,7 +124,7 @@ chunk_next r t run (l ∷ ls) end kind to total h e a =
 joined_out : (xs ys zs : List Item) (g : Output) → zs ≡ xs ++ ys → then_output (just xs) (then_output (just ys) g) ≡ then_output (just zs) g
 joined_out xs ys zs g e = ap (λ k. out k g.work) (sym (append_assoc xs ys g.items) ∙ ap (λ k. k ++ g.items) (sym e))
 
-pub pieces_given : (r : Reading) (t : List ℕ) (q : ℕ) (s : Bool) (ls : List Level) (total : Output) (xs : List Item) (ps : List Piece)
+pub pieces_given : (r : Reading) (t : List ℕ) (q : ℕ) (s : Bool) (ls : List Level) (total : Account) (xs : List Item) (ps : List Piece)
     → Resumes r t q s (just xs) ls total → items ps ≡ xs → Resumes r t q s (just []) (with_given ps ls) total
 pieces_given r t q s [] total xs ps h e = absurd h
 pieces_given r t q s (l ∷ ls) total xs ps h e = (
@@ -145,7 +146,7 @@ given_call r s k source ps qs os ns e f =
     ap (λ xs. called_output (called k source (target_part xs).items) r s k source xs os) e
     ∙ ap (called_output (called k source (target_part qs).items) r s k source qs) f
 
-pub call_next : (r : Reading) (t : List ℕ) (run : TextRun) (ls : List Level) (end : ℕ) (b : Braces) (n : ℕ) (total : Output)
+pub call_next : (r : Reading) (t : List ℕ) (run : TextRun) (ls : List Level) (end : ℕ) (b : Braces) (n : ℕ) (total : Account)
     → (h : Holds r t run ls total) → innermost_end ls ≡ Some end
     → ((xs : List Member) → IsStretchOf r.mode t h.place end xs → AnswersNext r.mode t h.place end xs (next.Call n))
     → slice_get run.reader.text.calls.now n ≡ Some b → BeginsCall r t run ls b total
@@ -220,7 +221,7 @@ source_is m t b c =
     let z : b.at.end - b.at.start ≡ c.braces + width_of_all c.inside + c.braces = let x = c.start_is in let y = c.end_is in omega (arith, x, y) in
     ap (λ n. take n (drop b.at.start t)) z ∙ ap (λ n. take (c.braces + width_of_all c.inside + c.braces) (drop n t)) c.start_is
 
-pub function_begins : (r : Reading) (t : List ℕ) (run : TextRun) (ls : List Level) (b : Braces) (total : Output) (source : List ℕ)
+pub function_begins : (r : Reading) (t : List ℕ) (run : TextRun) (ls : List Level) (b : Braces) (total : Account) (source : List ℕ)
     → BeginsCall r t run ls b total → b.argument ≡ false → source ≡ slice_range t b.at.start b.at.end → is_function source ≡ true
     → function_of (drop 2 source) ≡ None
     → Resumes r t b.at.end (starts t b.at.end) (just (whole form.Function None source ∷ [])) ls total
@@ -242,9 +243,9 @@ first_part r t b c part e =
     first_of r t b.at.end (c.at + c.braces) false (part_members 0 c.inside) (part_of part)
     (ap (λ ps. slice_get ps 0) (sym c.parts_are) ∙ slice_get-map part_of b.parts.now 0 ∙ ap (option_map part_of) e) c.parts_stand
 
-pub argument_begins : (r : Reading) (t : List ℕ) (run : TextRun) (ls : List Level) (b : Braces) (total : Output) (part : PartOf)
+pub argument_begins : (r : Reading) (t : List ℕ) (run : TextRun) (ls : List Level) (b : Braces) (total : Account) (part : PartOf)
     → (h : BeginsCall r t run ls b total) → b.argument ≡ true → slice_get b.parts.now 0 ≡ Some part
-    → (left : Output) × (total ≡ with_work (begun ∷ []) left)
+    → (left : Account) × Does (begun ∷ []) total left
     × ((next : TextRun) → next.reader ≡ run.reader → next.mode ≡ run.mode → stack next.levels ≡ ls
     → BeginsLevel r t next part.at.start false part.at.end (task.Argument b) left)
 argument_begins r t run ls b total part h k e =
@@ -278,9 +279,9 @@ argument_begins r t run ls b total part h k e =
     )
 
 -- the work of an argument that is left behind its beginning
-pub argument_work_left : (r : Reading) (t : List ℕ) (run : TextRun) (ls : List Level) (b : Braces) (total : Output) → (h : BeginsCall r t run ls b total)
+pub argument_work_left : (r : Reading) (t : List ℕ) (run : TextRun) (ls : List Level) (b : Braces) (total : Account) → (h : BeginsCall r t run ls b total)
     → b.argument ≡ true
-    → (left : Output) × (total ≡ with_work (begun ∷ []) left)
+    → (left : Account) × Does (begun ∷ []) total left
 argument_work_left r t run ls b total h k =
     let c = h.call in
     let ps = parts_of_call r t b c in
@@ -350,7 +351,7 @@ target_by (Some t) r s k source ps os behind e =
     ap (λ es. out xs (x.work ++ begun ∷ es)) (append_assoc (parts_work later) o.work z)
     ∙ ap (out xs) (sym (append_assoc x.work (begun ∷ []) (parts_work later ++ (o.work ++ z))))
 
-pub target_begins : (r : Reading) (t : List ℕ) (run next : TextRun) (ls : List Level) (b : Braces) (total : Output) (part : PartOf)
+pub target_begins : (r : Reading) (t : List ℕ) (run next : TextRun) (ls : List Level) (b : Braces) (total : Account) (part : PartOf)
     → (h : BeginsCall r t run ls b total)
     → b.argument ≡ false → is_function (slice_range t b.at.start b.at.end) ≡ false → slice_get b.parts.now 0 ≡ Some part
     → next.reader ≡ run.reader → next.mode ≡ run.mode → stack next.levels ≡ ls
@@ -387,7 +388,7 @@ target_begins r t run next ls b total part h k nf e rd md lv =
 
 -- ---- a level begins
 
-pub level_begins : (r : Reading) (t : List ℕ) (run : TextRun) (at : ℕ) (s : Bool) (to : ℕ) (k : Task) (total : Output)
+pub level_begins : (r : Reading) (t : List ℕ) (run : TextRun) (at : ℕ) (s : Bool) (to : ℕ) (k : Task) (total : Account)
     → (b : BeginsLevel r t run at s to k total)
     → Resumes r t at s (just []) (record { end = to; out = []; task = k } ∷ (stack run.levels)) total
 level_begins r t run at s to k total b = (b.left, b.stretch, b.ends)
@@ -399,7 +400,7 @@ nothing_left [] f e = refl
 nothing_left (lexeme (kind, n) ∷ xs) f e = absurd (let z = f.0 in omega (arith, z, e))
 nothing_left (call k ms ∷ xs) f e = absurd (let z = f.0.0 in omega (arith, z, e))
 
-pub level_ends : (r : Reading) (t : List ℕ) (run : TextRun) (l : Level) (total : Output) → (h : Holds r t run (l ∷ (stack run.levels)) total) → l.end ≤ h.place
+pub level_ends : (r : Reading) (t : List ℕ) (run : TextRun) (l : Level) (total : Account) → (h : Holds r t run (l ∷ (stack run.levels)) total) → l.end ≤ h.place
     → HasEnded r t run l.task l.out total
 level_ends r t run l total h low =
     let w = h.resumes.1.width in
@@ -417,7 +418,7 @@ level_ends r t run l total h low =
 
 -- ---- what the code knows
 
-pub chunk_read : (r : Reading) (t : List ℕ) (run : TextRun) (ls : List Level) (kind : LexKind) (to : ℕ) (total : Output) (o : Option Piece)
+pub chunk_read : (r : Reading) (t : List ℕ) (run : TextRun) (ls : List Level) (kind : LexKind) (to : ℕ) (total : Account) (o : Option Piece)
     (bytes : List ℕ)
     → TakesChunk r t run ls kind to total → option_items o ≡ lexeme_items run.mode kind bytes
     → bytes ≡ slice_range run.reader.text.text.now run.reader.cursor.at to
@@ -433,7 +434,7 @@ pub call_before : (m : Mode) (t : List ℕ) (b : Braces) → (c : IsCallOf m t b
 call_before m t b c = let z = c.end_is in omega (arith, z)
 
 -- with the innermost level taken
-pub popped : (r : Reading) (t : List ℕ) (run next : TextRun) (ls : List Level) (total : Output) → Holds r t run (stack run.levels) total
+pub popped : (r : Reading) (t : List ℕ) (run next : TextRun) (ls : List Level) (total : Account) → Holds r t run (stack run.levels) total
     → next.reader ≡ run.reader
     → next.mode ≡ run.mode → stack run.levels ≡ ls → Holds r t next ls total
 popped r t run next ls total h rd md e = record {
@@ -444,7 +445,7 @@ popped r t run next ls total h rd md e = record {
 }
 
 -- the innermost level is read to its end and taken
-pub read_to_end : (r : Reading) (t : List ℕ) (run next : TextRun) (l : Level) (end : ℕ) (total : Output) → Holds r t run (stack run.levels) total
+pub read_to_end : (r : Reading) (t : List ℕ) (run next : TextRun) (l : Level) (end : ℕ) (total : Account) → Holds r t run (stack run.levels) total
     → innermost_end (stack run.levels) ≡ Some end → end ≤ run.reader.cursor.at → stack run.levels ≡ l ∷ stack next.levels
     → next.reader ≡ run.reader → next.mode ≡ run.mode → HasEnded r t next l.task l.out total
 read_to_end r t run next l end total h e low is rd md =

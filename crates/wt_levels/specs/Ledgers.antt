@@ -15,6 +15,7 @@ use Rattle.wt_levels.specs.declared.level.Handing.{Handing}
 use Rattle.wt_levels.specs.declared.run.TextRun.{TextRun}
 use Rattle.wt_levels.specs.declared.run.Turn.{Turn}
 use Rattle.wt_levels.specs.declared.run.Turn.TheVariants as turn
+use Rattle.wt_levels.specs.Accounts.{Account}
 use Rattle.wt_levels.specs.Runs.{Calls, Holds}
 use Rattle.wt_levels.specs.Stacks.{stack}
 
@@ -42,6 +43,11 @@ pub record Comes (pages : Pages) (page : List ℕ) (before : Ledger) (work : Lis
   pub front : Front pages page before.spent work done left
   pub now_is : now ≡ ledger_after before done
 
+-- the same, where this is what is done
+pub record ComesBy (pages : Pages) (page : List ℕ) (before : Ledger) (work done : List Entry) (now : Ledger) (left : List Entry) : Type 0 where
+  pub front : Front pages page before.spent work done left
+  pub now_is : now ≡ ledger_after before done
+
 -- the work stopped behind a front of it, for this cause
 abbrev pub Refuses : Pages → List ℕ → Ledger → List Entry → Option (List (List ℕ)) → ExpandRefusal → Type 0
 Refuses pages page before work answered e = Stops pages page before.spent before.met work before.answered answered e
@@ -59,22 +65,24 @@ ledger spent met answered = record { spent = spent; met = met; answered = answer
 -- So much of a text is expanded, or of a stretch of one: what is left comes to what it gives in all.
 pub record Progress (pages : Pages) (page : List ℕ) (r : Reading) (t : List ℕ) (before : Ledger) (all : Output) (run : TextRun) (store : Store) (spent : ℕ)
     (answered : Option (List (List ℕ))) : Type 0 where
-  pub total : Output
+  pub total : Account
   pub met : List (List ℕ)
   pub stored : IsStore pages met store
   pub holding : Holds r t run (stack run.levels) total
-  pub items_are : all.items ≡ total.items
-  pub comes : Comes pages page before all.work (ledger spent met answered) total.work
+  pub items_are : all.items ≡ total.left.items
+  pub before_is : total.before ≡ before.spent
+  pub comes : ComesBy pages page before all.work total.done (ledger spent met answered) total.left.work
 
 -- so much is expanded, and a page is called
 pub record Calling (pages : Pages) (page : List ℕ) (r : Reading) (t : List ℕ) (before : Ledger) (all : Output) (run : TextRun) (store : Store) (spent : ℕ)
     (answered : Option (List (List ℕ))) (h : Handing) : Type 0 where
-  pub total : Output
+  pub total : Account
   pub met : List (List ℕ)
   pub stored : IsStore pages met store
   pub calls : Calls r t run h total
-  pub items_are : all.items ≡ total.items
-  pub comes : Comes pages page before all.work (ledger spent met answered) total.work
+  pub items_are : all.items ≡ total.left.items
+  pub before_is : total.before ≡ before.spent
+  pub comes : ComesBy pages page before all.work total.done (ledger spent met answered) total.left.work
 
 -- what a step came to
 abbrev pub TakesStep : Pages → List ℕ → Reading → List ℕ → Ledger → Output → TextRun → Store → ℕ → Option (List (List ℕ)) → Turn → Type 0

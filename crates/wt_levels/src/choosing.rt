@@ -1,5 +1,5 @@
 //! A function by text of which the parts are told one after the other.
-ghost use Rattle.std.specs.Prelude.{◌≡◌, true, IfOk, slice_get};
+ghost use Rattle.std.specs.Prelude.{◌≡◌, true, IfOk, is_some, not, slice_get};
 ghost use Rattle.wt_functions.specs.Choice.{asked, is_tell};
 ghost use Rattle.wt_levels.specs.ToldParts.{have_equals, name_end, told_end, given_start};
 
@@ -20,6 +20,10 @@ pub struct Choosing<'a> {
     pub chooser: Chooser,
     /// The text where the call begins: a part may be given that was told before.
     pub begun: Reader<'a>,
+    /// The part that is being told.
+    pub number: u32,
+    /// What the expansion had cost when this part began.
+    pub spent: u64,
     pub ghost asks: { is_tell (asked chooser) ≡ true },
 }
 
@@ -32,6 +36,7 @@ impl<'a> Choosing<'a> {
         call: Braces<'a>,
         function: Function,
         begun: Reader<'a>,
+        spent: u64,
     ) -> Result<Choosing<'a>, NoMemory>
         ensures { IfOk result (λ k. IsStarted k call.entry function begun.entry) }
     {
@@ -45,6 +50,8 @@ impl<'a> Choosing<'a> {
             function,
             chooser: Chooser::start(alloc, function, &equals)?,
             begun,
+            number: 0,
+            spent,
         })
     }
 }
@@ -82,6 +89,13 @@ fn name_end(function: Function, part: PartAt) -> Option<u32>
         Function::If | Function::IfEq => None,
         Function::Switch => part.equals,
     }
+}
+
+/// Whether a part has no name, so that what is told of it is what is given.
+pub fn is_whole(function: Function, part: PartAt) -> bool
+    ensures { result ≡ not (is_some (name_end function part.equals)) }
+{
+    name_end(function, part).is_none()
 }
 
 /// Where what is told of a part ends: with its name, or with all of it.

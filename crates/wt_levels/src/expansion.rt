@@ -13,8 +13,9 @@ ghost use Rattle.wt_transclusion.specs.Frames.{AreValues};
 ghost use Rattle.wt_transclusion.specs.Reads.{IsRead};
 ghost use Rattle.wt_transclusion.specs.Steps.{IsStretchOf, given_from};
 ghost use Rattle.wt_transclusion.specs.Stores.{IsStore, Concerns, Grows};
+ghost use Rattle.wt_levels.specs.Accounts.{undone};
 ghost use Rattle.wt_levels.specs.Calls.{IsCallOf, first_end};
-ghost use Rattle.wt_levels.specs.Ledgers.{AnswersAdvance, AnswersOutput, Ledger, TakesStep, ledger, reading_of};
+ghost use Rattle.wt_levels.specs.Ledgers.{AnswersAdvance, AnswersOutput, Ledger, Progress, TakesStep, ledger, reading_of};
 ghost use Rattle.wt_levels.specs.Names.{TakesName};
 ghost use Rattle.wt_levels.specs.Readers.{IsReading};
 ghost use Rattle.wt_levels.specs.Runs.{Holds, page_called};
@@ -85,8 +86,8 @@ fn entered<'a>(
     text: ReadText<'a>,
 ) -> Result<TextRun<'a>, NoMemory>
     ensures names { OnOk result (names.new ≡ full_name_of title.now ∷ names.old) }
-    ensures run { IfOk result (λ run. (r : Reading) (t : List ℕ) → text_mode.Template ≡ r.mode
-        → IsRead r.mode t text.entry → Holds r t run (stack run.levels) (text_given r t)) }
+    ensures run { IfOk result (λ run. (r : Reading) (t : List ℕ) (spent : ℕ) → text_mode.Template ≡ r.mode
+        → IsRead r.mode t text.entry → Holds r t run (stack run.levels) (undone spent (text_given r t))) }
 {
     names.push(full_name(alloc, title)?)?;
     TextRun::of_text(alloc, text, Mode::Template)
@@ -131,10 +132,10 @@ impl<'a> Expansion<'a> {
         values: &Values<'a>,
         left: u32,
     ) -> Result<List<Piece<'a>>, ExpandRefusal>
-        ensures given { (pages : Pages) (page t : List ℕ) (mode : TextMode) (frame : Frame) (met : List (List ℕ)) (all : Gives)
-            → Concerns (F.pages folder.old) pages self.new.store result → IsStore pages met self.old.store → AreValues values.now frame
-            → Holds (reading_of pages mode frame left self.old.names) t run.entry (stack run.entry.levels) all
-            → AnswersOutput pages page (ledger self.old.spent met (F.answered folder.old)) all self.new.store self.new.spent (F.answered folder.new) result }
+        ensures given { (pages : Pages) (page t : List ℕ) (mode : TextMode) (frame : Frame) (before : Ledger) (all : Gives)
+            → Concerns (F.pages folder.old) pages self.new.store result → AreValues values.now frame
+            → Progress pages page (reading_of pages mode frame left self.old.names) t before all run.entry self.old.store self.old.spent
+            (F.answered folder.old) → AnswersOutput pages page before all self.new.store self.new.spent (F.answered folder.new) result }
         ensures grown { OnOk result (Grows (F.pages folder.old) self.old.store self.new.store) }
         ensures kept { F.pages folder.new ≡ F.pages folder.old }
         ensures asks { Asks (F.answered folder.old) (F.answered folder.new) (F.most_asked folder.old) (F.most_asked folder.new) }

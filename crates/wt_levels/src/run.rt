@@ -9,13 +9,14 @@ ghost use Rattle.wt_expand.specs.Expansion.{Frame, Output as Gives, Reading, jus
 ghost use Rattle.wt_transclusion.specs.Answers.{IsNoFault};
 ghost use Rattle.wt_transclusion.specs.Frames.{AreValues};
 ghost use Rattle.wt_transclusion.specs.Reads.{IsRead};
+ghost use Rattle.wt_levels.specs.Accounts.{Account, spent_of, undone};
 ghost use Rattle.wt_levels.specs.Levels.{IsNamedBy, Resumes};
 ghost use Rattle.wt_levels.specs.Stacks.{innermost_end, stack, whole_level};
 ghost use Rattle.wt_levels.specs.Rests.{after_page, ended_with, next_number};
-ghost use Rattle.wt_levels.specs.Runs.{AnswersGoing, AnswersTurn, BeginsCall, BeginsLevel, HandsParts, HasEnded, Holds, IsRunning, Returns, TakesChunk, TakesPart};
+ghost use Rattle.wt_levels.specs.Runs.{AnswersGoing, AnswersTurn, BeginsCall, BeginsLevel, GivesAgain, HandsParts, HasEnded, Holds, IsRunning, Returns, TakesChunk, TakesPart};
 ghost use Rattle.wt_levels.specs.declared.level.Task.TheVariants as tasks;
 
-use crate::choosing::{Choosing, given_start, part_at, told_end};
+use crate::choosing::{Choosing, given_start, is_whole, part_at, told_end};
 use crate::level::{Handing, Level, Levels, Task};
 use crate::reader::{MOST_BYTES, Reader};
 use std::alloc::Global;
@@ -122,8 +123,8 @@ impl<'a> TextRun<'a> {
 
     /// A text of which nothing is read.
     pub fn of_text(alloc: Global, text: ReadText<'a>, mode: Mode) -> Result<TextRun<'a>, NoMemory>
-        ensures { IfOk result (λ run. (r : Reading) (t : List ℕ) → mode ≡ r.mode → IsRead r.mode t text.entry
-            → Holds r t run (stack run.levels) (text_given r t)) }
+        ensures { IfOk result (λ run. (r : Reading) (t : List ℕ) (spent : ℕ) → mode ≡ r.mode → IsRead r.mode t text.entry
+            → Holds r t run (stack run.levels) (undone spent (text_given r t))) }
     {
         if text.text.len() > MOST_BYTES {
             return Err(NoMemory);
@@ -135,8 +136,8 @@ impl<'a> TextRun<'a> {
 
     /// One step. It goes on reading, or ends a level.
     pub fn step(&mut self, values: &Values<'a>, spent: &mut u64) -> Result<Turn<'a>, ExpandRefusal>
-        ensures answer { (r : Reading) (t : List ℕ) (total : Gives) → Holds r t self.old (stack self.old.levels) total → AreValues values.now r.frame
-            → AnswersTurn r t spent.old total self.new spent.new result }
+        ensures answer { (r : Reading) (t : List ℕ) (total : Account) → Holds r t self.old (stack self.old.levels) total → AreValues values.now r.frame
+            → spent.old ≡ spent_of total → AnswersTurn r t spent.old total self.new spent.new result }
         ensures fault { IfErr result IsNoFault }
     {
         let Some(end) = self.levels.end() else {
@@ -156,7 +157,7 @@ impl<'a> TextRun<'a> {
     /// What stands next in the innermost level, which ends at a place.
     fn read(&mut self, end: u32, spent: &mut u64) -> Result<(), ExpandRefusal>
         requires { self.old.reader.cursor.at < end }
-        ensures answer { (r : Reading) (t : List ℕ) (total : Gives) → Holds r t self.old (stack self.old.levels) total
+        ensures answer { (r : Reading) (t : List ℕ) (total : Account) → Holds r t self.old (stack self.old.levels) total
             → innermost_end (stack self.old.levels) ≡ Some end → AnswersGoing r t spent.old total self.new spent.new result }
         ensures fault { IfErr result IsNoFault }
     {
@@ -174,7 +175,7 @@ impl<'a> TextRun<'a> {
 
     /// Bytes of a lexeme, up to a place.
     fn read_chunk(&mut self, kind: LexKind, to: u32) -> Result<(), NoMemory>
-        ensures { OnOk result ((r : Reading) (t : List ℕ) (total : Gives) → TakesChunk r t self.old (stack self.old.levels) kind to total
+        ensures { OnOk result ((r : Reading) (t : List ℕ) (total : Account) → TakesChunk r t self.old (stack self.old.levels) kind to total
             → Holds r t self.new (stack self.new.levels) total) }
     {
         let text = self.reader.slice(self.reader.cursor.at, to)?;
@@ -185,7 +186,7 @@ impl<'a> TextRun<'a> {
 
     /// The innermost level is read on from a place.
     fn resume(&mut self, to: u32) -> Result<(), NoMemory>
-        ensures { OnOk result ((r : Reading) (t : List ℕ) (total : Gives) (p : ℕ) (s : Bool) → IsRunning r t self.old p s → p ≤ to
+        ensures { OnOk result ((r : Reading) (t : List ℕ) (total : Account) (p : ℕ) (s : Bool) → IsRunning r t self.old p s → p ≤ to
             → Resumes r t to (starts t to) (just []) (stack self.old.levels) total → Holds r t self.new (stack self.new.levels) total) }
     {
         self.reader = self.reader.seek(to)?;
@@ -194,7 +195,7 @@ impl<'a> TextRun<'a> {
 
     /// A call that stands next in a level.
     fn begin(&mut self, call: Braces<'a>, spent: &mut u64) -> Result<(), ExpandRefusal>
-        ensures answer { (r : Reading) (t : List ℕ) (total : Gives) → BeginsCall r t self.old (stack self.old.levels) call.entry total
+        ensures answer { (r : Reading) (t : List ℕ) (total : Account) → BeginsCall r t self.old (stack self.old.levels) call.entry total
             → AnswersGoing r t spent.old total self.new spent.new result }
         ensures fault { IfErr result IsNoFault }
     {
@@ -216,7 +217,7 @@ impl<'a> TextRun<'a> {
         source: Text<'a>,
         spent: &mut u64,
     ) -> Result<(), ExpandRefusal>
-        ensures answer { (r : Reading) (t : List ℕ) (total : Gives) → BeginsCall r t self.old (stack self.old.levels) call.entry total
+        ensures answer { (r : Reading) (t : List ℕ) (total : Account) → BeginsCall r t self.old (stack self.old.levels) call.entry total
             → call.entry.argument ≡ false → bytes_of source.entry ≡ slice_range t call.entry.at.start call.entry.at.end
             → is_function (bytes_of source.entry) ≡ true → AnswersGoing r t spent.old total self.new spent.new result }
         ensures fault { IfErr result IsNoFault }
@@ -226,7 +227,7 @@ impl<'a> TextRun<'a> {
             return Ok(());
         };
         charge(spent, 1)?;
-        let choosing = Choosing::start(self.alloc, call, function, self.reader)?;
+        let choosing = Choosing::start(self.alloc, call, function, self.reader, *spent)?;
         let target = first_part(call)?;
         self.begin_within(target, Task::First { choosing, part_0 })?;
         Ok(())
@@ -234,7 +235,7 @@ impl<'a> TextRun<'a> {
 
     /// A function stands for itself.
     fn push_function(&mut self, call: Braces<'a>, source: Text<'a>) -> Result<(), NoMemory>
-        ensures { OnOk result ((r : Reading) (t : List ℕ) (total : Gives) → BeginsCall r t self.old (stack self.old.levels) call.entry total
+        ensures { OnOk result ((r : Reading) (t : List ℕ) (total : Account) → BeginsCall r t self.old (stack self.old.levels) call.entry total
             → call.entry.argument ≡ false → bytes_of source.entry ≡ slice_range t call.entry.at.start call.entry.at.end
             → is_function (bytes_of source.entry) ≡ true → function_of (drop 2 (bytes_of source.entry)) ≡ None
             → Holds r t self.new (stack self.new.levels) total) }
@@ -246,7 +247,7 @@ impl<'a> TextRun<'a> {
 
     /// An argument begins, and its name is read.
     fn begin_argument(&mut self, call: Braces<'a>, spent: &mut u64) -> Result<(), ExpandRefusal>
-        ensures answer { (r : Reading) (t : List ℕ) (total : Gives) → BeginsCall r t self.old (stack self.old.levels) call.entry total
+        ensures answer { (r : Reading) (t : List ℕ) (total : Account) → BeginsCall r t self.old (stack self.old.levels) call.entry total
             → call.entry.argument ≡ true → AnswersGoing r t spent.old total self.new spent.new result }
         ensures fault { IfErr result IsNoFault }
     {
@@ -258,7 +259,7 @@ impl<'a> TextRun<'a> {
 
     /// The target of a call of two braces is read.
     fn begin_target(&mut self, call: Braces<'a>) -> Result<(), NoMemory>
-        ensures { OnOk result ((r : Reading) (t : List ℕ) (total : Gives) → BeginsCall r t self.old (stack self.old.levels) call.entry total
+        ensures { OnOk result ((r : Reading) (t : List ℕ) (total : Account) → BeginsCall r t self.old (stack self.old.levels) call.entry total
             → call.entry.argument ≡ false → is_function (slice_range t call.entry.at.start call.entry.at.end) ≡ false
             → Holds r t self.new (stack self.new.levels) total) }
     {
@@ -270,7 +271,7 @@ impl<'a> TextRun<'a> {
 
     /// A part is read that begins behind braces.
     fn begin_within(&mut self, part: PartAt, task: Task<'a>) -> Result<(), NoMemory>
-        ensures { OnOk result ((r : Reading) (t : List ℕ) (total : Gives) → BeginsLevel r t self.old part.at.start false part.at.end task.entry total
+        ensures { OnOk result ((r : Reading) (t : List ℕ) (total : Account) → BeginsLevel r t self.old part.at.start false part.at.end task.entry total
             → Holds r t self.new (stack self.new.levels) total) }
     {
         self.reader = self.reader.within(part.at.start)?;
@@ -284,7 +285,7 @@ impl<'a> TextRun<'a> {
 
     /// What stands between two places is read.
     fn begin_level(&mut self, at: u32, end: u32, task: Task<'a>) -> Result<(), NoMemory>
-        ensures { OnOk result ((r : Reading) (t : List ℕ) (total : Gives) → BeginsLevel r t self.old at (starts t at) end task.entry total
+        ensures { OnOk result ((r : Reading) (t : List ℕ) (total : Account) → BeginsLevel r t self.old at (starts t at) end task.entry total
             → Holds r t self.new (stack self.new.levels) total) }
     {
         self.reader = self.reader.seek(at)?;
@@ -304,8 +305,8 @@ impl<'a> TextRun<'a> {
         values: &Values<'a>,
         spent: &mut u64,
     ) -> Result<Turn<'a>, ExpandRefusal>
-        ensures answer { (r : Reading) (t : List ℕ) (total : Gives) → HasEnded r t self.old task.entry out.entry total → AreValues values.now r.frame
-            → AnswersTurn r t spent.old total self.new spent.new result }
+        ensures answer { (r : Reading) (t : List ℕ) (total : Account) → HasEnded r t self.old task.entry out.entry total → AreValues values.now r.frame
+            → spent.old ≡ spent_of total → AnswersTurn r t spent.old total self.new spent.new result }
         ensures fault { IfErr result IsNoFault }
     {
         match task {
@@ -349,7 +350,7 @@ impl<'a> TextRun<'a> {
 
     /// Gives pieces to the level round a call that ends at a place.
     fn give_free(&mut self, to: u32, out: &[Piece<'a>]) -> Result<(), NoMemory>
-        ensures { OnOk result ((r : Reading) (t : List ℕ) (total : Gives) → Returns r t self.old to (just (items out.now)) total
+        ensures { OnOk result ((r : Reading) (t : List ℕ) (total : Account) → Returns r t self.old to (just (items out.now)) total
             → Holds r t self.new (stack self.new.levels) total) }
     {
         self.levels.give(out)?;
@@ -359,7 +360,7 @@ impl<'a> TextRun<'a> {
 
     /// A call or argument ends that gives these pieces.
     fn give(&mut self, to: u32, out: &[Piece<'a>], spent: &mut u64) -> Result<(), ExpandRefusal>
-        ensures answer { (r : Reading) (t : List ℕ) (total : Gives) → Returns r t self.old to (ended_with (just (items out.now))) total
+        ensures answer { (r : Reading) (t : List ℕ) (total : Account) → Returns r t self.old to (ended_with (just (items out.now))) total
             → AnswersGoing r t spent.old total self.new spent.new result }
         ensures fault { IfErr result IsNoFault }
     {
@@ -376,7 +377,7 @@ impl<'a> TextRun<'a> {
         values: &Values<'a>,
         spent: &mut u64,
     ) -> Result<(), ExpandRefusal>
-        ensures answer { (r : Reading) (t : List ℕ) (total : Gives) → HasEnded r t self.old (tasks.Argument call.entry) out.entry total
+        ensures answer { (r : Reading) (t : List ℕ) (total : Account) → HasEnded r t self.old (tasks.Argument call.entry) out.entry total
             → AreValues values.now r.frame → AnswersGoing r t spent.old total self.new spent.new result }
         ensures fault { IfErr result IsNoFault }
     {
@@ -399,8 +400,8 @@ impl<'a> TextRun<'a> {
         out: List<Piece<'a>>,
         spent: &mut u64,
     ) -> Result<(), ExpandRefusal>
-        ensures answer { (r : Reading) (t : List ℕ) (total : Gives) → HasEnded r t self.old (tasks.Told choosing.entry) out.entry total
-            → AnswersGoing r t spent.old total self.new spent.new result }
+        ensures answer { (r : Reading) (t : List ℕ) (total : Account) → HasEnded r t self.old (tasks.Told choosing.entry) out.entry total
+            → spent.old ≡ spent_of total → AnswersGoing r t spent.old total self.new spent.new result }
         ensures fault { IfErr result IsNoFault }
     {
         let text = name_text(self.alloc, out.as_slice())?;
@@ -410,6 +411,8 @@ impl<'a> TextRun<'a> {
             function,
             chooser,
             begun,
+            number: told,
+            spent: before,
         } = choosing;
         let mut chooser = chooser;
         chooser.told(text.as_str())?;
@@ -422,6 +425,8 @@ impl<'a> TextRun<'a> {
                     function,
                     chooser,
                     begun,
+                    number,
+                    spent: *spent,
                 };
                 let end = told_end(function, part);
                 self.begin_level(part.at.start, end, Task::Told { choosing: next })?;
@@ -429,6 +434,9 @@ impl<'a> TextRun<'a> {
             }
             Ask::Give(number) => {
                 let part = part_at(call, number)?;
+                if number == told && is_whole(function, part) {
+                    return self.give_again(call, at_start, out, before, spent);
+                }
                 let start = given_start(function, part)?;
                 self.reader = begun;
                 self.begin_level(start, part.at.end, Task::Given { call, at_start })?;
@@ -436,6 +444,24 @@ impl<'a> TextRun<'a> {
             }
             Ask::Nothing => self.give(call.at.end, &[], spent),
         }
+    }
+
+    /// The part that a function gives was told last, and whole: its work is done once more, with no page
+    /// to be fetched again, and gives the same. So much had been spent before it was told.
+    fn give_again(
+        &mut self,
+        call: Braces<'a>,
+        at_start: bool,
+        out: List<Piece<'a>>,
+        before: u64,
+        spent: &mut u64,
+    ) -> Result<(), ExpandRefusal>
+        ensures answer { (r : Reading) (t : List ℕ) (total : Account) → GivesAgain r t self.old call.entry at_start before out.entry total
+            → spent.old ≡ spent_of total → AnswersGoing r t spent.old total self.new spent.new result }
+        ensures fault { IfErr result IsNoFault }
+    {
+        charge(spent, spent.saturating_sub(before))?;
+        self.end_given(call, at_start, out, spent)
     }
 
     /// The part that a function gives is read.
@@ -446,7 +472,7 @@ impl<'a> TextRun<'a> {
         out: List<Piece<'a>>,
         spent: &mut u64,
     ) -> Result<(), ExpandRefusal>
-        ensures answer { (r : Reading) (t : List ℕ) (total : Gives) → HasEnded r t self.old (tasks.Given call.entry at_start) out.entry total
+        ensures answer { (r : Reading) (t : List ℕ) (total : Account) → HasEnded r t self.old (tasks.Given call.entry at_start) out.entry total
             → AnswersGoing r t spent.old total self.new spent.new result }
         ensures fault { IfErr result IsNoFault }
     {
@@ -463,7 +489,7 @@ impl<'a> TextRun<'a> {
         out: List<Piece<'a>>,
         spent: &mut u64,
     ) -> Result<Turn<'a>, ExpandRefusal>
-        ensures answer { (r : Reading) (t : List ℕ) (total : Gives) → HasEnded r t self.old (tasks.Target call.entry at_start) out.entry total
+        ensures answer { (r : Reading) (t : List ℕ) (total : Account) → HasEnded r t self.old (tasks.Target call.entry at_start) out.entry total
             → AnswersTurn r t spent.old total self.new spent.new result }
         ensures fault { IfErr result IsNoFault }
     {
@@ -480,7 +506,7 @@ impl<'a> TextRun<'a> {
     /// A call turns out to be text: its braces are characters, and what stands behind its target is
     /// read on.
     fn begin_text(&mut self, call: Braces<'a>, out: List<Piece<'a>>) -> Result<(), NoMemory>
-        ensures { OnOk result ((r : Reading) (t : List ℕ) (total : Gives) (s : Bool) → HasEnded r t self.old (tasks.Target call.entry s) out.entry total
+        ensures { OnOk result ((r : Reading) (t : List ℕ) (total : Account) (s : Bool) → HasEnded r t self.old (tasks.Target call.entry s) out.entry total
             → title_of_target (items out.entry) ≡ None → Holds r t self.new (stack self.new.levels) total) }
     {
         let target = first_part(call)?;
@@ -500,7 +526,7 @@ impl<'a> TextRun<'a> {
 
     /// The last braces of a call that is text.
     fn end_text(&mut self, call: Braces<'a>, out: List<Piece<'a>>) -> Result<(), NoMemory>
-        ensures { OnOk result ((r : Reading) (t : List ℕ) (total : Gives) → HasEnded r t self.old (tasks.Text call.entry) out.entry total
+        ensures { OnOk result ((r : Reading) (t : List ℕ) (total : Account) → HasEnded r t self.old (tasks.Text call.entry) out.entry total
             → Holds r t self.new (stack self.new.levels) total) }
     {
         let back = self.reader.slice(self.reader.cursor.at, call.at.end)?;
@@ -512,7 +538,7 @@ impl<'a> TextRun<'a> {
 
     /// The next part of a call is read; where none is left, its page is called.
     pub fn next_part(&mut self, handing: Handing<'a>) -> Result<Turn<'a>, NoMemory>
-        ensures { IfOk result (λ k. (r : Reading) (t : List ℕ) (total : Gives) → HandsParts r t self.old handing.entry total → TakesPart r t total self.new k) }
+        ensures { IfOk result (λ k. (r : Reading) (t : List ℕ) (total : Account) → HandsParts r t self.old handing.entry total → TakesPart r t total self.new k) }
     {
         if handing.part < handing.call.parts.len() {
             let part = handing.call.parts[handing.part];
@@ -525,7 +551,7 @@ impl<'a> TextRun<'a> {
     /// A part of a call is read: its name, or its value where it has none.
     fn begin_part(&mut self, handing: Handing<'a>, part: PartAt) -> Result<(), NoMemory>
         requires { handing.part < length handing.call.parts.now }
-        ensures { OnOk result ((r : Reading) (t : List ℕ) (total : Gives) → HandsParts r t self.old handing.entry total
+        ensures { OnOk result ((r : Reading) (t : List ℕ) (total : Account) → HandsParts r t self.old handing.entry total
             → slice_get handing.entry.call.parts.now handing.entry.part ≡ Some part → Holds r t self.new (stack self.new.levels) total) }
     {
         let mut handing = handing;
@@ -547,7 +573,7 @@ impl<'a> TextRun<'a> {
         end: u32,
         out: List<Piece<'a>>,
     ) -> Result<(), NoMemory>
-        ensures { OnOk result ((r : Reading) (t : List ℕ) (total : Gives) → HasEnded r t self.old (tasks.Name handing.entry end) out.entry total
+        ensures { OnOk result ((r : Reading) (t : List ℕ) (total : Account) → HasEnded r t self.old (tasks.Name handing.entry end) out.entry total
             → Holds r t self.new (stack self.new.levels) total) }
     {
         let name = Some(name_text(self.alloc, out.as_slice())?);
@@ -565,7 +591,7 @@ impl<'a> TextRun<'a> {
         name: Option<String>,
         out: List<Piece<'a>>,
     ) -> Result<Turn<'a>, NoMemory>
-        ensures { IfOk result (λ k. (r : Reading) (t : List ℕ) (total : Gives) → HasEnded r t self.old (tasks.Value handing.entry name) out.entry total
+        ensures { IfOk result (λ k. (r : Reading) (t : List ℕ) (total : Account) → HasEnded r t self.old (tasks.Value handing.entry name) out.entry total
             → TakesPart r t total self.new k) }
     {
         let mut handing = handing;
@@ -582,7 +608,7 @@ impl<'a> TextRun<'a> {
         given: List<Piece<'a>>,
         spent: &mut u64,
     ) -> Result<(), ExpandRefusal>
-        ensures answer { (r : Reading) (t : List ℕ) (total : Gives)
+        ensures answer { (r : Reading) (t : List ℕ) (total : Account)
             → Returns r t self.old call.entry.at.end (after_page at_start (just (items given.entry))) total
             → AnswersGoing r t spent.old total self.new spent.new result }
         ensures fault { IfErr result IsNoFault }

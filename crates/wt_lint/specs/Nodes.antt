@@ -12,6 +12,7 @@ use Rattle.wt_lint.specs.declared.place.Place.{Place}
 -- what is looked for in a node of a kind
 abbrev pub sort_of : Kind → Sort
 sort_of kind.Body = Other
+sort_of (kind.Section n) = Other
 sort_of kind.Para = Paragraph
 sort_of (kind.Heading n) = Heading
 sort_of kind.Rule = Other

@@ -14,7 +14,7 @@ use Rattle.wt_datamw.specs.Sync.{sync_text, sync_members}
 use Rattle.wt_datamw.specs.Mw.{params_data, template_data, mw_text}
 use Rattle.wt_tree.specs.Kinds.{spelling, tag_name, attribute_name}
 use Rattle.wt_markup.specs.Escapes.{escape, escape_single, escape_double}
-use Rattle.wt_markup.specs.Html.{attribute, about_attribute, first_attributes, next_attributes, id_attribute, mw_attribute, sync_of, sync_start, sync_value, sync_attribute, attributes_of, start_tag, end_tag, frame_start, frame_end, html_text}
+use Rattle.wt_markup.specs.Html.{attribute, about_attribute, first_attributes, next_attributes, id_attribute, mw_attribute, sync_of, sync_start, sync_value, sync_attribute, attributes_of, start_tag, section_start, end_tag, frame_start, frame_end, html_text}
 
 abbrev blank : Kind → ℕ → ℕ → ℕ → Label
 blank k id start end = record {
@@ -62,6 +62,14 @@ heading : html_text (body 9 (more (tree (record (blank (kind.Heading 2) 1 0 9) {
 unfolding html_text frame_start frame_end start_tag end_tag attributes_of id_attribute mw_attribute sync_of sync_start sync_value
     sync_attribute spelling sync_text sync_members escape escape_single serde_json_on_literals digits
 heading = refl
+
+-- the page `a`, in the section of what stands before all headings
+one_section : html_text (body 1 (more (tree (blank (kind.Section 0) 0 0 1)
+    (more (tree (blank kind.Para 1 0 1) (more (text_leaf 0 1 (codes "a")) none)) none)) none))
+    ≡ codes "<!DOCTYPE html><html><head><meta charset=\"utf-8\"/></head><body data-parsoid='{\"dsr\":[0,1,0,0]}'><section data-mw-section-id=\"0\"><p id=\"mw1\" data-parsoid='{\"dsr\":[0,1,0,0]}'>a</p></section></body></html>"
+unfolding html_text frame_start frame_end start_tag section_start end_tag attributes_of id_attribute mw_attribute sync_of sync_start sync_value
+    sync_attribute spelling sync_text sync_members escape escape_single serde_json_on_literals digits
+one_section = refl
 
 -- ---- groups
 

@@ -14,7 +14,7 @@ use Rattle.wt_datamw.specs.declared.sync.Sync.{Sync}
 use Rattle.wt_datamw.specs.Sync.{sync_text}
 use Rattle.wt_datamw.specs.Mw.{mw_text}
 use Rattle.wt_tree.specs.declared.row.Writing.{Writing}
-use Rattle.wt_tree.specs.declared.row.Writing.TheVariants.{AsText, AsVoid, RoundCharacter, RoundChildren, Unwritten}
+use Rattle.wt_tree.specs.declared.row.Writing.TheVariants.{AsText, AsVoid, RoundCharacter, RoundChildren, AsSection, Unwritten}
 use Rattle.wt_markup.specs.Escapes.{escaped, escaped_double, escaped_single}
 
 -- an attribute with its value
@@ -82,23 +82,29 @@ end_tag l = end_tag_of l.kind
 abbrev pub round_character : Label → List ℕ
 round_character l = start_tag l ++ (escaped l.shown ++ end_tag l)
 
+-- The start tag of the section of this number. It has neither a number of a node nor a source.
+unfoldable pub section_start : ℕ → List ℕ
+section_start n = codes "<section data-mw-section-id=\"" ++ (decimal n ++ codes "\">")
+
 -- a node round what it holds
 abbrev pub written : Writing → Label → List ℕ → List ℕ
 written AsText l inside = escaped l.own
 written AsVoid l inside = void_tag l
 written RoundCharacter l inside = round_character l
 written RoundChildren l inside = start_tag l ++ (inside ++ end_tag l)
+written (AsSection n) l inside = section_start n ++ (inside ++ end_tag l)
 written Unwritten l inside = []
 
 -- ---- groups: the elements of what their nodes show
 
--- an element with these attributes round this inside, by how its kind is written; texts and what isn't
--- written are no elements
+-- an element with these attributes round this inside, by how its kind is written; texts, sections and what
+-- isn't written are no elements of a group
 abbrev pub element_by : Writing → Kind → List ℕ → List ℕ → List ℕ
 element_by AsText k attrs inside = []
 element_by AsVoid k attrs inside = tag_of k attrs (codes "/>")
 element_by RoundCharacter k attrs inside = tag_of k attrs (codes ">") ++ (inside ++ end_tag_of k)
 element_by RoundChildren k attrs inside = tag_of k attrs (codes ">") ++ (inside ++ end_tag_of k)
+element_by (AsSection n) k attrs inside = []
 element_by Unwritten k attrs inside = []
 
 -- the attribute that the kind alone tells, and the node's own
@@ -167,6 +173,7 @@ groups_by AsText inside = 0
 groups_by AsVoid inside = 0
 groups_by RoundCharacter inside = 0
 groups_by RoundChildren inside = inside
+groups_by (AsSection n) inside = inside
 groups_by Unwritten inside = 0
 
 abbrev mutual

@@ -156,7 +156,7 @@ within_reads : (m : ℕ) → Reads (within m) m
 within_reads zero = by_placed gaps 0 (λ n e. absurd (none_more 0 n refl e))
 within_reads (suc m) = by_placed (within m) (suc m) (λ n e. subst (Reads (within m)) (less_one m n e) (within_reads m))
 
--- what stands in the body of a page
-pub body_placed : (xs : List Item) → ArePageItems xs → ArePlaced 3 kind.Body (blocks (rows xs))
+-- what stands in the body of a page, which sections may lie round
+pub body_placed : (xs : List Item) → ArePageItems xs → ArePlaced 9 kind.Body (blocks (rows xs))
 unfolding blocks
-body_placed xs h = within_reads 16 3 kind.Body body_blocks (omega arith) (rows xs) (page_rows xs h) (page_walk xs)
+body_placed xs h = within_reads 16 9 kind.Body body_blocks (omega arith) (rows xs) (page_rows xs h) (page_walk xs)

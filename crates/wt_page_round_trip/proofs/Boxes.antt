@@ -16,7 +16,7 @@ use Rattle.wt_tree.specs.declared.row.Payload.TheVariants.{NoData}
 use Rattle.wt_tree.specs.declared.row.Shape.{Shape}
 use Rattle.wt_tree.specs.Tree.{Label, Trees}
 use Rattle.wt_tree.specs.Tiling.{is_group}
-use Rattle.wt_tree.specs.Kinds.{row, shape, writing, showing, texts_of_kind, is_leaf, may_hold, spelling}
+use Rattle.wt_tree.specs.Kinds.{row, shape, writing, showing, texts_of_kind, is_leaf, is_section, may_hold, spelling}
 use Rattle.wt_fitting.specs.Rows.{shows_text}
 use Rattle.wt_round_trip.specs.Written.{has_level, HasSource, IsShown, HasAttributes, HasData, is_extension_label, is_childless}
 use Rattle.wt_inline.specs.ItemTree.{plain, ItemTrees, inner, leaf, forest, held_by_all}
@@ -51,6 +51,11 @@ pub record IsBox (q : Kind) (named : List (AttrName × List ℕ)) (front back : 
   pub opening : ArePageItems front
   pub closing : ArePageItems back
 
+-- what is written round its children as an element is no section
+no_section : (q : Kind) → writing q ≡ RoundChildren → is_section q ≡ false
+no_section (kind.Section n) e = absurd cc
+no_section q e = refl
+
 box_label : (q : Kind) → (r : IsRound q) → (attrs : List (AttrName × List ℕ)) (opening own closing : List Item)
     → IsBox q attrs opening closing → IsShownLabel (no_place (label_at 0 0 false (with_attrs q attrs) opening own closing))
 unfolding label_at
@@ -59,6 +64,7 @@ box_label q r attrs opening own closing b =
     let inner_node : is_leaf q ≡ false = ap (λ (y : Shape). y.is_leaf) r.shape_is in
     let no_data : is_extension_label l ≡ false = extends in
     record {
+      element = no_section q (ap (λ (y : Shape). y.writing) r.shape_is);
       level = r.level;
       source = subst (λ v. HasSource v l) (sym inner_node)
           (record { own = refl; opening = page_utf8 opening b.opening; closing = page_utf8 closing b.closing });
@@ -143,6 +149,7 @@ rule_written k parent own small holds u = record {
     small,
     holds,
     record {
+      element = refl;
       level = refl;
       source = record { own = subst (λ xs. IsUtf8 (sources xs)) (sym (append-nil own)) (page_utf8 own u); opening = refl; closing = refl };
       shown = refl;

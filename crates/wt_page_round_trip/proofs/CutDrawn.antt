@@ -12,7 +12,7 @@ use Rattle.wt_tree.specs.declared.kind.Ranges.{Ranges}
 use Rattle.wt_tree.specs.declared.row.Texts.{Texts}
 use Rattle.wt_tree.specs.declared.row.Texts.TheVariants.{Separators, Page, Bordered, OwnCharacter}
 use Rattle.wt_tree.specs.declared.row.Writing.{Writing}
-use Rattle.wt_tree.specs.declared.row.Writing.TheVariants.{AsText, AsVoid, RoundCharacter, RoundChildren, Unwritten}
+use Rattle.wt_tree.specs.declared.row.Writing.TheVariants.{AsText, AsVoid, RoundCharacter, RoundChildren, AsSection, Unwritten}
 use Rattle.wt_tree.specs.Cutting.{begins_with_text}
 use Rattle.wt_tree.specs.Kinds.{writing, is_leaf, texts_of_kind, is_block, may_follow}
 use Rattle.wt_tree.specs.Recut.{is_break, is_blank, before_break, from_break, text_leaf, sep_leaf, is_as_text, is_text, shows_block, is_border, leads_to_block, front_ranges, rest_ranges, joined_ranges, text_onto, joined_texts, from_start, front_of, rest_of, parts_before, text_before, cut_from, recut}
@@ -106,6 +106,7 @@ text_by AsText k q l childless inside group e h = h.0
 text_by AsVoid k q l childless inside group e h = absurd cc
 text_by RoundCharacter k q l childless inside group e h = absurd cc
 text_by RoundChildren k q l childless inside group e h = absurd cc
+text_by (AsSection n) k q l childless inside group e h = absurd h
 text_by Unwritten k q l childless inside group e h = absurd cc
 
 text_written : (k : ℕ) (q : Kind) (t : Tree) → is_text t ≡ true → WrittenIn k q t → IsTextIn q (label t)
@@ -291,6 +292,7 @@ kept_cut AsText k q l ts us old new g c f h = (h.0, c h.1)
 kept_cut AsVoid k q l ts us old new g c f h = (h.0, h.1, h.2, leaf_cut (is_leaf l.kind) (is_childless ts) (is_childless us) c h.3, f h.4)
 kept_cut RoundCharacter k q l ts us old new g c f h = (h.0, h.1, h.2, leaf_cut (is_leaf l.kind) (is_childless ts) (is_childless us) c h.3, f h.4)
 kept_cut RoundChildren k q l ts us old new g c f h = (h.0, h.1, h.2, leaf_cut (is_leaf l.kind) (is_childless ts) (is_childless us) c h.3, f h.4)
+kept_cut (AsSection n) k q l ts us old new g c f h = absurd h
 kept_cut Unwritten k q l ts us old new g c f h = absurd (let x : false ≡ true = sym g ∙ ap is_group h.label.kind in cc)
 
 node_cut : (g : Bool) (k : ℕ) (q : Kind) (l : Label) (ts us : Trees) (old : Type 0) → is_group l.kind ≡ g → (is_childless ts ≡ true → is_childless us ≡ true)

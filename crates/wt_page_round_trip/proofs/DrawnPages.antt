@@ -1,4 +1,4 @@
--- The annotated tree of a page with calls is written, where its tree without groups is shown.
+-- The annotated tree of a page with calls is written in its sections, where its tree without groups is shown.
 use Rattle.std.proofs.Common.{◌≡◌, ℕ, suc, ◌+◌, ◌<◌, ◌≤◌, ◌^◌, ◌⊎◌, Bool, true, false, Option, None, List, [], ◌++◌, length, refl, sym, ap, ◌∙◌, subst, arith, inl, inr}
 use Rattle.std.specs.List.{AllByRecursion, list_all}
 use Rattle.std.proofs.lemmas.Str.{IsUtf8-nil}
@@ -7,10 +7,12 @@ use Rattle.wt_tree.specs.declared.kind.Kind.TheVariants as kind
 use Rattle.wt_tree.specs.declared.row.Texts.{Texts}
 use Rattle.wt_tree.specs.declared.row.Texts.TheVariants.{Separators, Page, Bordered, OwnCharacter}
 use Rattle.wt_tree.specs.declared.row.Writing.{Writing}
-use Rattle.wt_tree.specs.Kinds.{writing, is_leaf, may_hold, texts_of_kind, spelling}
+use Rattle.wt_tree.specs.Kinds.{writing, is_leaf, is_section, may_hold, texts_of_kind, spelling}
+use Rattle.wt_tree.specs.Opened.{without_sections}
 use Rattle.wt_tree.specs.Elements.{span}
 use Rattle.wt_tree.specs.Recut.{is_as_text}
-use Rattle.wt_tree.specs.Tree.{Label, Tree, tree, Trees, none, label, trees}
+use Rattle.wt_tree.specs.Tiling.{is_group}
+use Rattle.wt_tree.specs.Tree.{Label, Tree, tree, Trees, none, more, label, trees}
 use Rattle.wt_fitting.specs.Rows.{holds_text}
 use Rattle.wt_markup.specs.Html.{groups}
 use Rattle.wt_span.specs.Cuts.{page_of}
@@ -18,16 +20,16 @@ use Rattle.wt_span.specs.Items.{Item, sources}
 use Rattle.wt_span.specs.Origins.{OuterCall}
 use Rattle.wt_span.specs.Runs.{runs}
 use Rattle.wt_span.proofs.RunLaws.{runs_are}
-use Rattle.wt_round_trip.specs.Written.{HasPlaces, is_childless, IsWritten}
+use Rattle.wt_round_trip.specs.Written.{HasPlaces, is_childless}
 use Rattle.wt_inline.specs.ItemTree.{Head, plain, ItemTree, inner, ItemTrees, nothing, further, tree_items, held_by_all}
 use Rattle.wt_annotated.specs.Annotated.{kept_label, unplaced, all_unplaced, placed, annotated}
 use Rattle.wt_annotated.specs.Clean.{is_page, own_by, is_clean}
 use Rattle.wt_annotated.specs.Counted.{numbered_in_all}
-use Rattle.wt_annotated.specs.CutTexts.{cut_texts}
+use Rattle.wt_annotated.specs.CutTexts.{cut_texts, all_cut_texts}
 use Rattle.wt_annotated.specs.GroupData.{group_data}
 use Rattle.wt_annotated.specs.Grouped.{Grouped, grouped}
 use Rattle.wt_annotated.specs.Labels.{width, if_leaf, if_inner, label_at}
-use Rattle.wt_annotated.specs.Numbering.{count, with_numbers, all_with_numbers}
+use Rattle.wt_annotated.specs.Numbering.{count, count_all, with_numbers, all_with_numbers}
 use Rattle.wt_annotated.specs.Reached.{AreReachedSlices, start_of, size_of}
 use Rattle.wt_annotated.specs.Seams.{last_of, first_of, text_from}
 use Rattle.wt_annotated.specs.Walked.{clean_at, Near, near_tied, near_nodes, near_runs, walked, near}
@@ -37,6 +39,10 @@ use Rattle.wt_annotated.proofs.CutPlaced.{placed_bare}
 use Rattle.wt_annotated.proofs.Ends.{start_is, size_is, stand, body_clean}
 use Rattle.wt_annotated.proofs.Slices.{slices}
 use Rattle.wt_annotated.proofs.Walks.{walk_all}
+use Rattle.wt_sections.specs.Gathering.{heading_count}
+use Rattle.wt_sections.specs.Sections.{opens, with_sections}
+use Rattle.wt_sections.specs.SectionLaws.{NoneIsSection}
+use Rattle.wt_sections.proofs.Opened.{gathered_opened}
 use Rattle.wt_page_round_trip.specs.GroupTexts.{ArePageCalls, AllHoldTexts}
 use Rattle.wt_page_round_trip.proofs.LabelledGroups.{IfGroup, OfGroups, IsAlmost, annotated_almost}
 use Rattle.wt_page_round_trip.proofs.OwnNodes.{is_own, AreOwn, HasOrigin, IsParted, AreParted}
@@ -47,6 +53,8 @@ use Rattle.wt_page_round_trip.proofs.CutDrawn.{all_uncut_written}
 use Rattle.wt_page_round_trip.proofs.KeptNodes.{clean_own, leaf_source, opening_source, closing_source, label_of, kept_drawn, own_clean, own_free, span_held}
 use Rattle.wt_page_round_trip.proofs.GroupCounts.{few_groups}
 use Rattle.wt_page_round_trip.proofs.NumbersFew.{children_light, nodes_light}
+use Rattle.wt_page_round_trip.proofs.SectionGroups.{groups_stay}
+use Rattle.wt_page_round_trip.proofs.Sectioned.{IsWrittenBody, headings_few, headings_numbered}
 use Rattle.wt_page_round_trip.proofs.DrawnRuns.{kind_of, IsNear, IsFree, MayGroup, runs_drawn, order_drawn}
 
 -- ---- a kept node
@@ -216,6 +224,7 @@ walked_body calls ts = walked calls (group_data calls) None 0 None (body_of ts)
 body_label : (at : ℕ) (source : List ℕ) → IsShownLabel (kept_label false (plain kind.Body) at source [] [])
 unfolding spelling
 body_label at source = record {
+  element = refl;
   level = refl;
   source = record { own = refl; opening = IsUtf8-nil; closing = IsUtf8-nil };
   shown = refl;
@@ -225,54 +234,113 @@ body_label at source = record {
   mw = refl;
 }
 
+-- ---- the whole body
+
+headings_cut : (ts : Trees) → heading_count (all_cut_texts ts) ≡ heading_count ts
+headings_cut none = refl
+headings_cut (more (tree l us) ts) = ap (λ k. opens (spelling l.kind).level + k) (headings_cut ts)
+
+drawn_body : (calls : List OuterCall) (ts : ItemTrees) → AreShownIn 9 kind.Body (all_unplaced ts) → AreParted ts
+    → AreDrawnIn 8 kind.Body (trees (near_runs calls (group_data calls) (near calls (group_data calls) None 0 None ts)))
+drawn_body calls ts shown n =
+    let ns : List Near = near calls (group_data calls) None 0 None ts in
+    let good : AllByRecursion (IsNear 8 kind.Body) ns = nears_drawn calls 8 kind.Body None 0 None ts shown n in
+    let same : near_nodes ns ≡ ts = near_nodes_are calls None 0 None ts in
+    runs_drawn calls 8 kind.Body (runs near_tied ns) ns (runs_are near_tied ns) (omega arith) (inl (λ e. absurd cc)) good (subst AreParted (sym same) n)
+
 whole_body : (page : List ℕ) (calls : List OuterCall) (ts : ItemTrees) → length page < 2 ^ 32 → AreReachedSlices page (walked_body calls ts)
-    → OfGroups IsAlmost (walked_body calls ts) → 1 + count (walked_body calls ts) ≤ 2 ^ 32 → AreShownIn 3 kind.Body (all_unplaced ts) → AreParted ts
-    → IsWritten (cut_texts (with_numbers 1 (walked_body calls ts)))
+    → OfGroups IsAlmost (walked_body calls ts) → 1 + count (walked_body calls ts) ≤ 2 ^ 32 → AreShownIn 9 kind.Body (all_unplaced ts) → AreParted ts
+    → IsWrittenBody (cut_texts (with_numbers 1 (walked_body calls ts)))
 whole_body page calls ts room s almost few shown n =
     let ns : List Near = near calls (group_data calls) None 0 None ts in
     let vs : Trees = trees (near_runs calls (group_data calls) ns) in
-    let good : AllByRecursion (IsNear 2 kind.Body) ns = nears_drawn calls 2 kind.Body None 0 None ts shown n in
-    let same : near_nodes ns ≡ ts = near_nodes_are calls None 0 None ts in
-    let drawn : AreDrawnIn 2 kind.Body vs =
-    runs_drawn calls 2 kind.Body (runs near_tied ns) ns (runs_are near_tied ns) (omega arith) (inl (λ e. absurd cc)) good (subst AreParted (sym same) n) in (
+    let drawn : AreDrawnIn 8 kind.Body vs = drawn_body calls ts shown n in
+    let cut : heading_count (all_cut_texts (all_with_numbers 1 vs)) ≡ heading_count vs =
+    headings_cut (all_with_numbers 1 vs) ∙ headings_numbered 1 vs in
+    let headings : heading_count vs ≤ count_all vs = headings_few vs in (
       refl,
       element_numbered 0 (label (walked_body calls ts)) (body_label 0 (text_from calls None (held_by_all ts ++ []))) refl (body_places page calls ts room s),
-      all_uncut_written 2 kind.Body (all_with_numbers 1 vs) (all_numbered_uncut page 2 1 kind.Body vs room (omega arith) (omega (arith, few)) almost s.1 drawn),
+      all_uncut_written 8 kind.Body (all_with_numbers 1 vs) (all_numbered_uncut page 8 1 kind.Body vs room (omega arith) (omega (arith, few)) almost s.1 drawn),
+      omega (arith, cut, headings, few),
     )
   where
     body_places : (page : List ℕ) (calls : List OuterCall) (ts : ItemTrees) → length page < 2 ^ 32 → AreReachedSlices page (walked_body calls ts)
         → HasPlaces (label (walked_body calls ts)).ranges
     body_places page calls ts room s = (omega arith, omega (arith, room, s.0.within), omega arith, omega arith)
 
--- The annotated tree of a body whose nodes are shown and parted, and cut between characters.
-pub grouped_written : (calls : List OuterCall) (ts : ItemTrees) → ArePageCalls calls → AreShownIn 3 kind.Body (all_unplaced ts) → AreParted ts
-    → AllHoldTexts ts → length (page_of calls (tree_items (body_of ts))) < 2 ^ 32
-    → numbered_in_all ts + width (held_by_all ts) < 2 ^ 32
-    → IsWritten (annotated calls (group_data calls) (body_of ts))
+-- the annotated tree, from the tree in one pass
+annotated_body : (calls : List OuterCall) (ts : ItemTrees)
+    → cut_texts (with_numbers 1 (walked_body calls ts)) ≡ annotated calls (group_data calls) (body_of ts)
 unfolding annotated
-grouped_written calls ts c shown n holds room small =
+annotated_body calls ts =
     let t : ItemTree = body_of ts in
     let g : Grouped = grouped (tree_items t) 0 t in
-    let p : Tree = placed calls (group_data calls) (tree_items t) g in
+    ap (λ (u : Tree). cut_texts (with_numbers 1 u)) (walk_all calls (group_data calls) t)
+    ∙ cut_numbered 1 (placed calls (group_data calls) (tree_items t) g) (placed_bare calls (group_data calls) (tree_items t) g)
+
+-- The annotated tree of a body whose nodes are shown and parted, and cut between characters.
+pub grouped_body : (calls : List OuterCall) (ts : ItemTrees) → ArePageCalls calls → AreShownIn 9 kind.Body (all_unplaced ts) → AreParted ts
+    → AllHoldTexts ts → length (page_of calls (tree_items (body_of ts))) < 2 ^ 32
+    → numbered_in_all ts + width (held_by_all ts) < 2 ^ 32
+    → IsWrittenBody (annotated calls (group_data calls) (body_of ts))
+grouped_body calls ts c shown n holds room small =
+    let t : ItemTree = body_of ts in
     let page : List ℕ = page_of calls (tree_items t) in
-    let same : walked_body calls ts ≡ p = walk_all calls (group_data calls) t in
+    let same : walked_body calls ts ≡ placed calls (group_data calls) (tree_items t) (grouped (tree_items t) 0 t) = walk_all calls (group_data calls) t in
     let clean : is_clean (tree_items t) 0 t ≡ true = body_clean ts in
     let few : 1 + count (walked_body calls ts) ≤ 2 ^ 32 =
-    omega (arith, children_light calls None 0 None ts, nodes_light 3 kind.Body ts shown, small) in
-    let w : IsWritten (cut_texts (with_numbers 1 (walked_body calls ts))) =
-    whole_body page calls ts room (subst (AreReachedSlices page) (sym same) (placed_slices calls t clean))
-    (subst (OfGroups IsAlmost) (sym same) (annotated_almost calls t c (refl, IsUtf8-nil, holds, IsUtf8-nil))) few shown n in
-    subst IsWritten (ap (λ (u : Tree). cut_texts (with_numbers 1 u)) same ∙ cut_numbered 1 p (placed_bare calls (group_data calls) (tree_items t) g)) w
+    omega (arith, children_light calls None 0 None ts, nodes_light 9 kind.Body ts shown, small) in
+    subst IsWrittenBody (annotated_body calls ts)
+    (whole_body page calls ts room (subst (AreReachedSlices page) (sym same) (placed_slices calls t clean))
+    (subst (OfGroups IsAlmost) (sym same) (annotated_almost calls t c (refl, IsUtf8-nil, holds, IsUtf8-nil))) few shown n)
+
+-- ---- without its sections it is what it was
+
+drawn_no_section : (j : Kind) (k : ℕ) (q : Kind) (l : Label) (childless : Bool) (group inside : Type 0)
+    → IfGroup (is_group j) group (NodeIsDrawn (writing j) k q l childless inside) → is_section j ≡ false
+drawn_no_section (kind.Section n) k q l childless group inside h = absurd h
+drawn_no_section j k q l childless group inside h = refl
+
+none_section : (k : ℕ) (q : Kind) (ts : Trees) → AreDrawnIn k q ts → NoneIsSection ts
+none_section k q none h = tt
+none_section k q (more (tree l us) ts) h = (
+  drawn_no_section l.kind k q l (is_childless us) (IsDrawnGroup k q us) (IsInOrder (texts_of_kind l.kind) us × AreDrawnIn (suc k) l.kind us) h.0,
+  none_section k q ts h.2,
+)
+
+none_numbered : (n : ℕ) (ts : Trees) → NoneIsSection ts → NoneIsSection (all_with_numbers n ts)
+none_numbered n none h = tt
+none_numbered n (more (tree l us) ts) h = (h.0, none_numbered (n + count (tree l us)) ts h.1)
+
+none_cut : (ts : Trees) → NoneIsSection ts → NoneIsSection (all_cut_texts ts)
+none_cut none h = tt
+none_cut (more (tree l us) ts) h = (h.0, none_cut ts h.1)
+
+abbrev pub HoldsNoSection : Tree → Type 0
+HoldsNoSection (tree l ts) = NoneIsSection ts
+
+pub opened_again : (t : Tree) → HoldsNoSection t → without_sections (with_sections t) ≡ t
+opened_again (tree l ts) h = ap (λ us. tree l us) (gathered_opened ts h)
+
+pub grouped_none : (calls : List OuterCall) (ts : ItemTrees) → AreShownIn 9 kind.Body (all_unplaced ts) → AreParted ts
+    → HoldsNoSection (annotated calls (group_data calls) (body_of ts))
+grouped_none calls ts shown n =
+    let vs : Trees = trees (near_runs calls (group_data calls) (near calls (group_data calls) None 0 None ts)) in
+    subst HoldsNoSection (annotated_body calls ts)
+    (none_cut (all_with_numbers 1 vs) (none_numbered 1 vs (none_section 8 kind.Body vs (drawn_body calls ts shown n))))
 
 -- ---- its numbers and groups
 
 -- it has no more numbers than its nodes have and bytes stand in it
-pub placed_few : (calls : List OuterCall) (ts : ItemTrees) → AreShownIn 3 kind.Body (all_unplaced ts)
+pub placed_few : (calls : List OuterCall) (ts : ItemTrees) → AreShownIn 9 kind.Body (all_unplaced ts)
     → count (placed calls (group_data calls) (tree_items (body_of ts)) (grouped (tree_items (body_of ts)) 0 (body_of ts)))
     ≤ numbered_in_all ts + width (held_by_all ts)
 placed_few calls ts shown =
-    omega (arith, children_light calls None 0 None ts, nodes_light 3 kind.Body ts shown, ap count (walk_all calls (group_data calls) (body_of ts)))
+    omega (arith, children_light calls None 0 None ts, nodes_light 9 kind.Body ts shown, ap count (walk_all calls (group_data calls) (body_of ts)))
 
-pub few_groups_in : (calls : List OuterCall) (ts : ItemTrees) → AreShownIn 3 kind.Body (all_unplaced ts)
-    → numbered_in_all ts + width (held_by_all ts) < 2 ^ 32 → groups (annotated calls (group_data calls) (body_of ts)) < 2 ^ 64
-few_groups_in calls ts shown small = few_groups calls (body_of ts) (omega (arith, placed_few calls ts shown, small))
+pub few_groups_in : (calls : List OuterCall) (ts : ItemTrees) → AreShownIn 9 kind.Body (all_unplaced ts)
+    → numbered_in_all ts + width (held_by_all ts) < 2 ^ 32 → groups (with_sections (annotated calls (group_data calls) (body_of ts))) < 2 ^ 64
+few_groups_in calls ts shown small =
+    let few : groups (annotated calls (group_data calls) (body_of ts)) < 2 ^ 64 =
+    few_groups calls (body_of ts) (omega (arith, placed_few calls ts shown, small)) in
+    subst (λ (n : ℕ). n < 2 ^ 64) (sym (groups_stay (annotated calls (group_data calls) (body_of ts)))) few

@@ -10,7 +10,7 @@ use Rattle.wt_tree.specs.declared.kind.Kind.TheVariants as kind
 use Rattle.wt_tree.specs.declared.row.Texts.{Texts}
 use Rattle.wt_tree.specs.declared.row.Texts.TheVariants.{Separators, Page, Bordered, OwnCharacter}
 use Rattle.wt_tree.specs.declared.row.Writing.{Writing}
-use Rattle.wt_tree.specs.declared.row.Writing.TheVariants.{AsText, AsVoid, RoundCharacter, RoundChildren, Unwritten}
+use Rattle.wt_tree.specs.declared.row.Writing.TheVariants.{AsText, AsVoid, RoundCharacter, RoundChildren, AsSection, Unwritten}
 use Rattle.wt_tree.specs.Cutting.{begins_with_text}
 use Rattle.wt_tree.specs.Elements.{span}
 use Rattle.wt_tree.specs.Kinds.{writing, may_hold, texts_of_kind, is_block, is_inline, may_follow}
@@ -115,6 +115,7 @@ text_by AsText k q l childless inside e h = h.0.kind
 text_by AsVoid k q l childless inside e h = absurd cc
 text_by RoundCharacter k q l childless inside e h = absurd cc
 text_by RoundChildren k q l childless inside e h = absurd cc
+text_by (AsSection n) k q l childless inside e h = absurd h
 text_by Unwritten k q l childless inside e h = absurd cc
 
 shown_text : (k : ℕ) (q : Kind) (t : Tree) → is_text t ≡ true → IsShownIn k q t → HasLeafKind (texts_of_kind q) (leaf_kind q) (label t).kind

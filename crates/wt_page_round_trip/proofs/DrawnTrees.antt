@@ -9,7 +9,7 @@ use Rattle.wt_tree.specs.declared.kind.Ranges.{Ranges}
 use Rattle.wt_tree.specs.declared.row.Texts.{Texts}
 use Rattle.wt_tree.specs.declared.row.Texts.TheVariants.{Separators, Page, Bordered, OwnCharacter}
 use Rattle.wt_tree.specs.declared.row.Writing.{Writing}
-use Rattle.wt_tree.specs.declared.row.Writing.TheVariants.{AsText, AsVoid, RoundCharacter, RoundChildren, Unwritten}
+use Rattle.wt_tree.specs.declared.row.Writing.TheVariants.{AsText, AsVoid, RoundCharacter, RoundChildren, AsSection, Unwritten}
 use Rattle.wt_tree.specs.Cutting.{begins_with_text}
 use Rattle.wt_tree.specs.Kinds.{writing, is_leaf, is_numbered, texts_of_kind, is_block, may_follow}
 use Rattle.wt_tree.specs.Recut.{is_as_text, is_text, shows_block, any_shows_block}
@@ -32,6 +32,7 @@ NodeIsDrawn AsText k parent l childless inside = IsTextIn parent l × (childless
 NodeIsDrawn AsVoid k parent l childless inside = IsShownElement k parent l childless inside
 NodeIsDrawn RoundCharacter k parent l childless inside = IsShownElement k parent l childless inside
 NodeIsDrawn RoundChildren k parent l childless inside = IsShownElement k parent l childless inside
+NodeIsDrawn (AsSection n) k parent l childless inside = ⊥
 NodeIsDrawn Unwritten k parent l childless inside = ⊥
 
 -- the children of an item, a cell or a caption stand in their order
@@ -132,6 +133,7 @@ source_numbered false n l h = record { own = h.own; opening = h.opening; closing
 
 pub element_numbered : (n : ℕ) (l : Label) → IsShownLabel l → IsNumber (is_numbered l.kind) n → HasPlaces l.ranges → IsElementLabel (with_id n l)
 element_numbered n l h number places = record {
+  element = h.element;
   level = h.level;
   number = number;
   places = places;
@@ -207,6 +209,7 @@ kept_numbered RoundCharacter k n q l c d old new group e number places same f h 
     (h.0, h.1, element_numbered n l h.2 number (places h.2.source), ap (λ x. not (is_leaf l.kind) || x) same ∙ h.3, f h.4)
 kept_numbered RoundChildren k n q l c d old new group e number places same f h =
     (h.0, h.1, element_numbered n l h.2 number (places h.2.source), ap (λ x. not (is_leaf l.kind) || x) same ∙ h.3, f h.4)
+kept_numbered (AsSection m) k n q l c d old new group e number places same f h = absurd h
 kept_numbered Unwritten k n q l c d old new group e number places same f h = absurd h
 
 group_numbered_in : (k n : ℕ) (q : Kind) (l : Label) (ts : Trees) (c : Bool) (inside : Type 0)

@@ -98,6 +98,7 @@ entity_node k parent o c bs small e h = record {
     small,
     e,
     record {
+      element = refl;
       level = refl;
       source = record { own = subst IsUtf8 (sym (append-nil bs)) h.1; opening = refl; closing = refl };
       shown = entity_utf8 c bs h.0;
@@ -122,6 +123,7 @@ comment_node k parent o bs small h = record {
     small,
     refl,
     record {
+      element = refl;
       level = refl;
       source = record { own = subst IsUtf8 (sym (append-nil bs)) h.1; opening = refl; closing = refl };
       shown = refl;
@@ -158,6 +160,7 @@ include_node k parent o bs small h = record {
     small,
     refl,
     record {
+      element = refl;
       level = refl;
       source = record { own = subst IsUtf8 (sym (append-nil bs)) h.1; opening = refl; closing = refl };
       shown = refl;
@@ -192,6 +195,7 @@ hidden_node k parent o bs small h = record {
     small,
     refl,
     record {
+      element = refl;
       level = refl;
       source = record { own = subst IsUtf8 (sym (append-nil bs)) h.1; opening = refl; closing = refl };
       shown = refl;
@@ -245,6 +249,7 @@ function_node k parent o bs small e h = record {
     small,
     e,
     record {
+      element = refl;
       level = refl;
       source = record { own = subst IsUtf8 (sym (append-nil bs)) h.1; opening = refl; closing = refl };
       shown = refl;
@@ -341,6 +346,7 @@ extension_node k parent o bs small e h =
         small,
         e,
         record {
+          element = refl;
           level = refl;
           source = record { own = subst IsUtf8 (sym (append-nil bs)) h.1; opening = refl; closing = refl };
           shown = refl;

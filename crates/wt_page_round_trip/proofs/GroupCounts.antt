@@ -4,7 +4,7 @@ use Rattle.std.specs.Prelude.{if◌then◌else◌}
 use Rattle.wt_tree.specs.declared.kind.Kind.{Kind}
 use Rattle.wt_tree.specs.declared.kind.Kind.TheVariants as kind
 use Rattle.wt_tree.specs.declared.row.Writing.{Writing}
-use Rattle.wt_tree.specs.declared.row.Writing.TheVariants.{AsText, AsVoid, RoundCharacter, RoundChildren, Unwritten}
+use Rattle.wt_tree.specs.declared.row.Writing.TheVariants.{AsText, AsVoid, RoundCharacter, RoundChildren, AsSection, Unwritten}
 use Rattle.wt_tree.specs.Kinds.{writing, is_numbered}
 use Rattle.wt_tree.specs.Tiling.{is_group}
 use Rattle.wt_tree.specs.Tree.{Tree, tree, Trees, none, more}
@@ -32,6 +32,7 @@ groups_by_few false v AsText m n f h = omega arith
 groups_by_few false v AsVoid m n f h = omega arith
 groups_by_few false v RoundCharacter m n f h = omega arith
 groups_by_few false v RoundChildren m n f h = omega (arith, h)
+groups_by_few false v (AsSection s) m n f h = omega (arith, h)
 groups_by_few false v Unwritten m n f h = omega arith
 
 mutual

@@ -209,6 +209,7 @@ nowiki_node k parent o bs small e h =
         omega arith,
         e,
         record {
+          element = refl;
           level = refl;
           source = record {
             own = refl;

@@ -44,6 +44,7 @@ bold_shown most opening closing ps f k parent le p = (
   omega (arith, f.small, le),
   p.elements kind.Bold refl,
   record {
+    element = refl;
     level = refl;
     source = record { own = refl; opening = page_utf8 opening f.opening; closing = page_utf8 closing f.closing };
     shown = refl;
@@ -74,6 +75,7 @@ italic_shown most opening closing ps f k parent le p = (
   omega (arith, f.small, le),
   p.elements kind.Italic refl,
   record {
+    element = refl;
     level = refl;
     source = record { own = refl; opening = page_utf8 opening f.opening; closing = page_utf8 closing f.closing };
     shown = refl;
@@ -105,6 +107,7 @@ wiki_link_shown most attrs good opening closing ps f k parent le p = (
   omega (arith, f.small, le),
   p.elements kind.WikiLink refl,
   record {
+    element = refl;
     level = refl;
     source = record { own = refl; opening = page_utf8 opening f.opening; closing = page_utf8 closing f.closing };
     shown = refl;
@@ -137,6 +140,7 @@ ext_link_shown most attrs good opening closing ps f k parent le p = (
   omega (arith, f.small, le),
   p.elements kind.ExtLink refl,
   record {
+    element = refl;
     level = refl;
     source = record { own = refl; opening = page_utf8 opening f.opening; closing = page_utf8 closing f.closing };
     shown = refl;
@@ -169,6 +173,7 @@ tag_shown m most attrs good opening closing ps f k parent le p = (
   omega (arith, f.small, le),
   p.elements (kind.Tag m) refl,
   record {
+    element = refl;
     level = refl;
     source = record { own = refl; opening = page_utf8 opening f.opening; closing = page_utf8 closing f.closing };
     shown = refl;
@@ -199,6 +204,7 @@ category_shown most attrs good own small u k parent le p = (
   omega (arith, small, le),
   refl,
   record {
+    element = refl;
     level = refl;
     source = record { own = subst (λ xs. IsUtf8 (sources xs)) (sym (append-nil own)) (page_utf8 own u); opening = refl; closing = refl };
     shown = refl;
@@ -226,6 +232,7 @@ switch_shown most attrs good own small u k parent le p = (
   omega (arith, small, le),
   refl,
   record {
+    element = refl;
     level = refl;
     source = record { own = subst (λ xs. IsUtf8 (sources xs)) (sym (append-nil own)) (page_utf8 own u); opening = refl; closing = refl };
     shown = refl;
@@ -253,6 +260,7 @@ break_shown most own small u k parent le p = (
   omega (arith, small, le),
   p.elements kind.Br refl,
   record {
+    element = refl;
     level = refl;
     source = record { own = subst (λ xs. IsUtf8 (sources xs)) (sym (append-nil own)) (page_utf8 own u); opening = refl; closing = refl };
     shown = refl;
@@ -279,6 +287,7 @@ skip_shown most own small u k parent le p = (
   omega (arith, small, le),
   refl,
   record {
+    element = refl;
     level = refl;
     source = record { own = subst (λ xs. IsUtf8 (sources xs)) (sym (append-nil own)) (page_utf8 own u); opening = refl; closing = refl };
     shown = refl;
@@ -319,6 +328,7 @@ kept_shown most opening ts closing small u k parent le p = (
   omega (arith, small, le),
   p.elements kind.Island refl,
   record {
+    element = refl;
     level = refl;
     source = record { own = node_utf8 (inner kept opening ts closing) (kept_page opening ts closing u); opening = refl; closing = refl };
     shown = refl;

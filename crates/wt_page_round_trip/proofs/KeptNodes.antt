@@ -9,7 +9,7 @@ use Rattle.wt_tree.specs.declared.kind.Kind.TheVariants as kind
 use Rattle.wt_tree.specs.declared.kind.Mark.TheVariants as marks
 use Rattle.wt_tree.specs.declared.kind.Ranges.{Ranges}
 use Rattle.wt_tree.specs.declared.row.Writing.{Writing}
-use Rattle.wt_tree.specs.declared.row.Writing.TheVariants.{AsText, AsVoid, RoundCharacter, RoundChildren, Unwritten}
+use Rattle.wt_tree.specs.declared.row.Writing.TheVariants.{AsText, AsVoid, RoundCharacter, RoundChildren, AsSection, Unwritten}
 use Rattle.wt_tree.specs.Elements.{span}
 use Rattle.wt_tree.specs.Kinds.{is_leaf, may_hold}
 use Rattle.wt_tree.specs.Tree.{Label}
@@ -188,6 +188,7 @@ source_placed false h r a b c s = record { own = s.own; opening = s.opening; clo
 
 element_placed : (h : Head) (r : Option Ranges) (a b c : List ℕ) → IsShownLabel (label_of h None a b c) → IsShownLabel (label_of h r a b c)
 element_placed h r a b c l = record {
+  element = l.element;
   level = l.level;
   source = source_placed (is_leaf h.kind) h r a b c l.source;
   shown = l.shown;
@@ -230,6 +231,7 @@ kept_drawn RoundCharacter k q h r a b c x y old new e f g n =
     (omega (arith, n.0), n.1, element_placed h r a b c n.2, leaf_placed (is_leaf h.kind) x y f n.3, g n.0 n.4)
 kept_drawn RoundChildren k q h r a b c x y old new e f g n =
     (omega (arith, n.0), n.1, element_placed h r a b c n.2, leaf_placed (is_leaf h.kind) x y f n.3, g n.0 n.4)
+kept_drawn (AsSection s) k q h r a b c x y old new e f g n = absurd n
 kept_drawn Unwritten k q h r a b c x y old new e f g n = absurd (e n.0)
 
 -- ---- which nodes may hold a `span`
@@ -237,6 +239,7 @@ kept_drawn Unwritten k q h r a b c x y old new e f g n = absurd (e n.0)
 pub span_held : (k : Kind) → (k ≡ kind.Nowiki) ⊎ (is_leaf k ≡ false → holds_text k ≡ true → may_hold k span.kind ≡ true)
 span_held kind.Nowiki = inl refl
 span_held kind.Body = inr (λ e f. absurd cc)
+span_held (kind.Section n) = inr (λ e f. absurd cc)
 span_held kind.Rule = inr (λ e f. absurd cc)
 span_held kind.Ul = inr (λ e f. absurd cc)
 span_held kind.Ol = inr (λ e f. absurd cc)

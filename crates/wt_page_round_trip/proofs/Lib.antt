@@ -57,6 +57,9 @@ pub mod KeptNodes
 pub mod DrawnRuns
 pub mod NumbersFew
 pub mod GroupCounts
+pub mod SectionSlices
+pub mod SectionGroups
+pub mod Sectioned
 pub mod DrawnPages
 pub mod OwnItems
 pub mod PageCalls

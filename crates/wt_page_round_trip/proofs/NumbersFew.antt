@@ -9,8 +9,8 @@ use Rattle.wt_tree.specs.declared.row.Class.TheVariants as class
 use Rattle.wt_tree.specs.declared.row.Holding.{Holding}
 use Rattle.wt_tree.specs.declared.row.Holding.TheVariants as holding
 use Rattle.wt_tree.specs.declared.row.Writing.{Writing}
-use Rattle.wt_tree.specs.declared.row.Writing.TheVariants.{AsText, AsVoid, RoundCharacter, RoundChildren, Unwritten}
-use Rattle.wt_tree.specs.Kinds.{shape, writing, is_leaf, is_numbered, may_hold, admits, is_anywhere}
+use Rattle.wt_tree.specs.declared.row.Writing.TheVariants.{AsText, AsVoid, RoundCharacter, RoundChildren, AsSection, Unwritten}
+use Rattle.wt_tree.specs.Kinds.{shape, writing, is_leaf, is_numbered, is_section, may_hold, admits, is_anywhere}
 use Rattle.wt_tree.specs.Recut.{is_as_text}
 use Rattle.wt_tree.specs.Recutting.{is_empty}
 use Rattle.wt_tree.specs.Tiling.{is_group}
@@ -150,11 +150,12 @@ nowhere holding.InlinesThenLists e = absurd cc
 nowhere holding.InlinesThenBlocks e = absurd cc
 
 -- what may stand in another node has a number
-held_numbered : (q k : Kind) → may_hold q k ≡ true → is_numbered k ≡ true
-held_numbered q kind.Body e = absurd (nowhere (shape q).holding e)
-held_numbered q kind.Sep e = absurd (nowhere (shape q).holding e)
-held_numbered q kind.Text e = absurd (nowhere (shape q).holding e)
-held_numbered q k e = refl
+held_numbered : (q k : Kind) → may_hold q k ≡ true → is_section k ≡ false → is_numbered k ≡ true
+held_numbered q kind.Body e s = absurd (nowhere (shape q).holding e)
+held_numbered q (kind.Section n) e s = absurd cc
+held_numbered q kind.Sep e s = absurd (nowhere (shape q).holding e)
+held_numbered q kind.Text e s = absurd (nowhere (shape q).holding e)
+held_numbered q k e s = refl
 
 text_leaf : (k : Kind) → is_as_text (writing k) ≡ true → is_leaf k ≡ true
 text_leaf kind.Sep e = refl
@@ -192,11 +193,12 @@ by_writing : (w : Writing) (k : ℕ) (q : Kind) (l : Label) (childless : Bool) (
 by_writing AsText k q l childless inside xs m n e o f h =
     text_light (is_leaf l.kind) xs m n (is_numbered l.kind) (text_leaf l.kind (ap is_as_text e)) (ap is_empty (sym o) ∙ h.0.some)
 by_writing AsVoid k q l childless inside xs m n e o f h =
-    numbered_light (is_leaf l.kind) (is_numbered l.kind) m n (width xs) (held_numbered q l.kind h.1) (λ g. f g h.4)
+    numbered_light (is_leaf l.kind) (is_numbered l.kind) m n (width xs) (held_numbered q l.kind h.1 h.2.element) (λ g. f g h.4)
 by_writing RoundCharacter k q l childless inside xs m n e o f h =
-    numbered_light (is_leaf l.kind) (is_numbered l.kind) m n (width xs) (held_numbered q l.kind h.1) (λ g. f g h.4)
+    numbered_light (is_leaf l.kind) (is_numbered l.kind) m n (width xs) (held_numbered q l.kind h.1 h.2.element) (λ g. f g h.4)
 by_writing RoundChildren k q l childless inside xs m n e o f h =
-    numbered_light (is_leaf l.kind) (is_numbered l.kind) m n (width xs) (held_numbered q l.kind h.1) (λ g. f g h.4)
+    numbered_light (is_leaf l.kind) (is_numbered l.kind) m n (width xs) (held_numbered q l.kind h.1 h.2.element) (λ g. f g h.4)
+by_writing (AsSection s) k q l childless inside xs m n e o f h = absurd h
 by_writing Unwritten k q l childless inside xs m n e o f h =
     numbered_light (is_leaf l.kind) (is_numbered l.kind) m n (width xs) (empty_numbered l.kind h.0)
     (λ g. absurd (let x : true ≡ false = ap is_leaf (sym h.0) ∙ g in cc))

@@ -24,14 +24,14 @@ body_takes = record { kind = refl; stands = λ bs e. e }
 abbrev pub body_nodes : List Item → ItemTrees
 body_nodes xs = forest (children (stretches_parts (blocks (rows xs))))
 
-body_parts : (xs : List Item) → ArePageItems xs → AllByRecursion (IsPartIn 3 kind.Body) (stretches_parts (blocks (rows xs)))
-body_parts xs h = placed_parts 3 kind.Body (omega arith) (blocks (rows xs)) (body_placed xs h)
+body_parts : (xs : List Item) → ArePageItems xs → AllByRecursion (IsPartIn 9 kind.Body) (stretches_parts (blocks (rows xs)))
+body_parts xs h = placed_parts 9 kind.Body (omega arith) (blocks (rows xs)) (body_placed xs h)
 
--- with one level to spare, as in a group over text a `span` stands round it
-pub page_shown : (xs : List Item) → ArePageItems xs → AreShownIn 3 kind.Body (all_unplaced (body_nodes xs)) × ArePageNodes (body_nodes xs)
+-- with one level to spare, as in a group over text a `span` stands round it, and six for sections
+pub page_shown : (xs : List Item) → ArePageItems xs → AreShownIn 9 kind.Body (all_unplaced (body_nodes xs)) × ArePageNodes (body_nodes xs)
 page_shown xs h =
     let ps : List Part = stretches_parts (blocks (rows xs)) in
-    let a : AllByRecursion (IsPartIn 3 kind.Body) ps = body_parts xs h in (
-      children_shown 3 kind.Body ps (separated_parts 3 kind.Body ps a) (separated_shown 3 kind.Body body_takes ps a),
-      children_nodes ps (separated_parts 3 kind.Body ps a),
+    let a : AllByRecursion (IsPartIn 9 kind.Body) ps = body_parts xs h in (
+      children_shown 9 kind.Body ps (separated_parts 9 kind.Body ps a) (separated_shown 9 kind.Body body_takes ps a),
+      children_nodes ps (separated_parts 9 kind.Body ps a),
     )

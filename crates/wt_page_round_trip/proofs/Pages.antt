@@ -1,9 +1,11 @@
 -- The annotated tree of a page with its templates is written, its HTML is read as the tree, and its source is the page.
-use Rattle.std.proofs.Common.{◌≡◌, ℕ, ◌+◌, ◌*◌, ◌<◌, ◌≤◌, ◌^◌, None, List, [], ◌++◌, length, IsUtf8, ap, ◌∙◌, arith, append-nil}
+use Rattle.std.proofs.Common.{◌≡◌, ℕ, ◌+◌, ◌*◌, ◌<◌, ◌≤◌, ◌^◌, None, List, [], ◌++◌, length, IsUtf8, sym, ap, ◌∙◌, arith, append-nil}
 use Rattle.wt_span.specs.Cuts.{page_of}
 use Rattle.wt_span.specs.Items.{Item}
 use Rattle.wt_span.specs.Origins.{OuterCall}
+use Rattle.wt_tree.specs.Opened.{without_sections}
 use Rattle.wt_tree.specs.Source.{flat}
+use Rattle.wt_tree.specs.Tree.{Tree}
 use Rattle.wt_markup.specs.Html.{groups, html_text}
 use Rattle.wt_fitting.specs.Read.{read, page as read_page}
 use Rattle.wt_round_trip.specs.Written.{unranged, IsWritten}
@@ -19,10 +21,12 @@ use Rattle.wt_annotated.specs.Annotated.{annotated}
 use Rattle.wt_annotated.specs.Counted.{numbered_in_all}
 use Rattle.wt_annotated.specs.GroupData.{group_data}
 use Rattle.wt_annotated.specs.Labels.{width}
+use Rattle.wt_sections.specs.Sections.{with_sections}
+use Rattle.wt_sections.proofs.Kept.{source}
 use Rattle.wt_page_round_trip.specs.GroupTexts.{ArePageCalls}
 use Rattle.wt_page_round_trip.specs.PageTree.{page_tree}
 use Rattle.wt_page_round_trip.proofs.Counts.{page_few}
-use Rattle.wt_page_round_trip.proofs.DrawnPages.{grouped_written, few_groups_in}
+use Rattle.wt_page_round_trip.proofs.DrawnPages.{HoldsNoSection, opened_again, grouped_body, grouped_none, few_groups_in}
 use Rattle.wt_page_round_trip.proofs.ExpandedItems.{expanded_items}
 use Rattle.wt_page_round_trip.proofs.ExpandedWidth.{expanded_short}
 use Rattle.wt_page_round_trip.proofs.HeldPages.{its_page}
@@ -30,7 +34,8 @@ use Rattle.wt_page_round_trip.proofs.OfPage.{ArePageItems}
 use Rattle.wt_page_round_trip.proofs.OwnItems.{nodes_hold, nodes_parted}
 use Rattle.wt_page_round_trip.proofs.PageCalls.{page_calls}
 use Rattle.wt_page_round_trip.proofs.PageShown.{body_nodes, page_shown}
-use Rattle.wt_page_round_trip.proofs.PageTrees.{flat_page}
+use Rattle.wt_page_round_trip.proofs.PageTrees.{ungathered, flat_page}
+use Rattle.wt_page_round_trip.proofs.Sectioned.{IsWrittenBody, sections_written}
 
 -- ---- numbers
 
@@ -48,15 +53,15 @@ body_few xs h room =
 
 -- the tree of items with these calls
 pub items_written : (calls : List OuterCall) (xs : List Item) → ArePageCalls calls → ArePageItems xs → length (page_of calls (tree_items (meaning xs))) < 2 ^ 32
-    → 3 * width xs < 2 ^ 32 → IsWritten (annotated calls (group_data calls) (meaning xs))
+    → 3 * width xs < 2 ^ 32 → IsWrittenBody (annotated calls (group_data calls) (meaning xs))
 unfolding meaning
 items_written calls xs c h room wide =
     let ts : ItemTrees = body_nodes xs in
     let s = page_shown xs h in
-    grouped_written calls ts c s.0 (nodes_parted ts s.1) (nodes_hold ts s.1) room (body_few xs h wide)
+    grouped_body calls ts c s.0 (nodes_parted ts s.1) (nodes_hold ts s.1) room (body_few xs h wide)
 
 items_groups : (calls : List OuterCall) (xs : List Item) → ArePageItems xs → 3 * width xs < 2 ^ 32
-    → groups (annotated calls (group_data calls) (meaning xs)) < 2 ^ 64
+    → groups (with_sections (annotated calls (group_data calls) (meaning xs))) < 2 ^ 64
 unfolding meaning
 items_groups calls xs h wide = few_groups_in calls (body_nodes xs) (page_shown xs h).0 (body_few xs h wide)
 
@@ -67,20 +72,47 @@ page_width : (pages : Pages) (page : List ℕ) → length page < 2 ^ 30 → firs
     → 3 * width (expanded_page pages page).items < 2 ^ 32
 page_width pages page room e = let short = expanded_short pages page e in omega (arith, short, room)
 
-pub page_written : (pages : Pages) (page : List ℕ) → IsUtf8 page → length page < 2 ^ 30 → first_refusal pages page (page_work pages page) ≡ None
-    → IsWritten (page_tree pages page)
-page_written pages page u room e =
+-- the tree before its body's children are gathered
+pub body_written : (pages : Pages) (page : List ℕ) → IsUtf8 page → length page < 2 ^ 30 → first_refusal pages page (page_work pages page) ≡ None
+    → IsWrittenBody (ungathered (expanded_page pages page).outer (expanded_page pages page).items)
+body_written pages page u room e =
     let its : length (page_of (expanded_page pages page).outer (tree_items (meaning (expanded_page pages page).items))) ≡ length page =
     ap length (its_page pages page u e) in
     items_written (expanded_page pages page).outer (expanded_page pages page).items (page_calls pages page u (omega (arith, room)))
     (expanded_items pages page u e) (omega (arith, its, room)) (page_width pages page room e)
 
+pub page_written : (pages : Pages) (page : List ℕ) → IsUtf8 page → length page < 2 ^ 30 → first_refusal pages page (page_work pages page) ≡ None
+    → IsWritten (page_tree pages page)
+page_written pages page u room e =
+    sections_written (ungathered (expanded_page pages page).outer (expanded_page pages page).items) (body_written pages page u room e)
+
 pub page_is_read : (pages : Pages) (page : List ℕ) → IsUtf8 page → length page < 2 ^ 30 → first_refusal pages page (page_work pages page) ≡ None
-    → read (html_text (page_tree pages page)) ≡ read_page (unranged (page_tree pages page)) None
+    → read (html_text (page_tree pages page)) ≡ read_page (unranged (without_sections (page_tree pages page))) None
 page_is_read pages page u room e =
     written_read (page_tree pages page) (page_written pages page u room e)
     (items_groups (expanded_page pages page).outer (expanded_page pages page).items (expanded_items pages page u e) (page_width pages page room e))
 
+items_none : (calls : List OuterCall) (xs : List Item) → ArePageItems xs → HoldsNoSection (annotated calls (group_data calls) (meaning xs))
+unfolding meaning
+items_none calls xs h =
+    let ts : ItemTrees = body_nodes xs in
+    let s = page_shown xs h in
+    grouped_none calls ts s.0 (nodes_parted ts s.1)
+
+-- before its body's children are gathered the page's tree holds no section
+pub page_none : (pages : Pages) (page : List ℕ) → IsUtf8 page → first_refusal pages page (page_work pages page) ≡ None
+    → HoldsNoSection (ungathered (expanded_page pages page).outer (expanded_page pages page).items)
+page_none pages page u e = items_none (expanded_page pages page).outer (expanded_page pages page).items (expanded_items pages page u e)
+
+-- the page's tree without its sections is the annotated tree of its items
+pub page_opened : (pages : Pages) (page : List ℕ) → IsUtf8 page → first_refusal pages page (page_work pages page) ≡ None
+    → without_sections (page_tree pages page) ≡ ungathered (expanded_page pages page).outer (expanded_page pages page).items
+page_opened pages page u e =
+    opened_again (ungathered (expanded_page pages page).outer (expanded_page pages page).items) (page_none pages page u e)
+
 pub same_page : (pages : Pages) (page : List ℕ) → IsUtf8 page → first_refusal pages page (page_work pages page) ≡ None
-    → flat (unranged (page_tree pages page)) ≡ page
-same_page pages page u e = same_source (page_tree pages page) ∙ flat_page pages page (its_page pages page u e)
+    → flat (unranged (without_sections (page_tree pages page))) ≡ page
+same_page pages page u e =
+    let t : Tree = ungathered (expanded_page pages page).outer (expanded_page pages page).items in
+    same_source (without_sections (page_tree pages page)) ∙ ap flat (page_opened pages page u e) ∙ sym (source t)
+    ∙ flat_page pages page (its_page pages page u e)

@@ -14,10 +14,10 @@ use Rattle.wt_tree.specs.declared.row.Holding.TheVariants as holding
 use Rattle.wt_tree.specs.declared.row.Texts.{Texts}
 use Rattle.wt_tree.specs.declared.row.Texts.TheVariants.{Separators, Page, Bordered, OwnCharacter}
 use Rattle.wt_tree.specs.declared.row.Writing.{Writing}
-use Rattle.wt_tree.specs.declared.row.Writing.TheVariants.{AsText, AsVoid, RoundCharacter, RoundChildren, Unwritten}
+use Rattle.wt_tree.specs.declared.row.Writing.TheVariants.{AsText, AsVoid, RoundCharacter, RoundChildren, AsSection, Unwritten}
 use Rattle.wt_html_grammar.proofs.Steps.{if_false}
 use Rattle.wt_tree.specs.Elements.{span, as_elements, or_empty_span}
-use Rattle.wt_tree.specs.Kinds.{shape, writing, is_leaf, showing, texts_of_kind, admits, is_anywhere, may_hold, is_block, is_inline, may_follow}
+use Rattle.wt_tree.specs.Kinds.{shape, writing, is_leaf, is_section, showing, texts_of_kind, admits, is_anywhere, may_hold, is_block, is_inline, may_follow}
 use Rattle.wt_tree.specs.Plain.{Plain, text, element, face, Plains, ended, along, text_before, shown_before, plain_before, plains_before}
 use Rattle.wt_tree.specs.Recut.{shows_block, any_shows_block}
 use Rattle.wt_tree.specs.Tiling.{is_group}
@@ -84,6 +84,7 @@ character_kind k e f = absurd cc
 -- what holds characters, or inline elements, holds text
 character_text : (k : Kind) → (is_anywhere class.Character || admits (shape k).holding class.Character) ≡ true → holds_text k ≡ true
 character_text kind.Body e = absurd cc
+character_text (kind.Section n) e = absurd cc
 character_text kind.Ul e = absurd cc
 character_text kind.Ol e = absurd cc
 character_text kind.Dl e = absurd cc
@@ -122,6 +123,7 @@ nowiki_holds h c a e = absurd cc
 
 inline_text : (k : Kind) → admits (shape k).holding class.Inline ≡ true → holds_text k ≡ true
 inline_text kind.Body e = absurd cc
+inline_text (kind.Section n) e = absurd cc
 inline_text kind.Ul e = absurd cc
 inline_text kind.Ol e = absurd cc
 inline_text kind.Dl e = absurd cc
@@ -154,6 +156,7 @@ element_by AsText k q l childless inside e h = absurd cc
 element_by AsVoid k q l childless inside e h = h
 element_by RoundCharacter k q l childless inside e h = h
 element_by RoundChildren k q l childless inside e h = h
+element_by (AsSection n) k q l childless inside e h = absurd h
 element_by Unwritten k q l childless inside e h = absurd cc
 
 group_writing : (k : Kind) → is_group k ≡ true → writing k ≡ Unwritten
@@ -180,14 +183,23 @@ character_by AsText k q l childless inside e s h = text_shown q l h.0 s
 character_by AsVoid k q l childless inside e s h = entity_shown q l s (ap is_element e) h.1 h.2.shown
 character_by RoundCharacter k q l childless inside e s h = entity_shown q l s (ap is_element e) h.1 h.2.shown
 character_by RoundChildren k q l childless inside e s h = entity_shown q l s (ap is_element e) h.1 h.2.shown
+character_by (AsSection n) k q l childless inside e s h = absurd h
 character_by Unwritten k q l childless inside e s h = absurd (empty_shows l.kind h.0 s)
 
-nowiki_kind : (k : Kind) → showing k ≡ Inside → is_group k ≡ false → k ≡ kind.Nowiki
-nowiki_kind kind.Nowiki e g = refl
-nowiki_kind kind.Group e g = absurd cc
-nowiki_kind k e g = absurd cc
+-- no section is shown
+shown_no_section : (j : Kind) (k : ℕ) (q : Kind) (l : Label) (childless : Bool) (inside : Type 0) → NodeIsShown (writing j) k q l childless inside
+    → is_section j ≡ false
+shown_no_section (kind.Section n) k q l childless inside h = absurd h
+shown_no_section j k q l childless inside h = refl
+
+nowiki_kind : (k : Kind) → showing k ≡ Inside → is_group k ≡ false → is_section k ≡ false → k ≡ kind.Nowiki
+nowiki_kind kind.Nowiki e g s = refl
+nowiki_kind kind.Group e g s = absurd cc
+nowiki_kind (kind.Section n) e g s = absurd cc
+nowiki_kind k e g s = absurd cc
 
 shown_written : (k : Kind) → showing k ≡ Element → is_element (writing k) ≡ true
+shown_written (kind.Section n) e = absurd cc
 shown_written kind.Sep e = absurd cc
 shown_written kind.Text e = absurd cc
 shown_written kind.Group e = absurd cc
@@ -206,7 +218,7 @@ nowiki_element kind.Switch e f = (refl, refl)
 nowiki_element k e f = absurd cc
 
 face_is : (l : Label) → showing l.kind ≡ Element → IsShownLabel l → IsFace (face l)
-face_is l e h = record { level = h.level; attrs = h.attrs; shows = shown_element l.kind e }
+face_is l e h = record { element = h.element; level = h.level; attrs = h.attrs; shows = shown_element l.kind e }
 
 abbrev InsideOf : ℕ → Label → Trees → Type 0
 InsideOf k l ts = IsOrdered (texts_of_kind l.kind) ts × AreShownIn (suc k) l.kind ts
@@ -223,7 +235,8 @@ record IsNowiki (k : ℕ) (q : Kind) (l : Label) (ts : Trees) : Type 0 where
 
 nowiki_in : (k : ℕ) (q : Kind) (l : Label) (ts : Trees) → showing l.kind ≡ Inside → IsShownIn k q (tree l ts) → IsNowiki k q l ts
 nowiki_in k q l ts e h =
-    let is : l.kind ≡ kind.Nowiki = nowiki_kind l.kind e (none_group k q l ts h) in
+    let is : l.kind ≡ kind.Nowiki = nowiki_kind l.kind e (none_group k q l ts h)
+    (shown_no_section l.kind k q l (is_childless ts) (InsideOf k l ts) h) in
     let f : IsShownElement k q l (is_childless ts) (InsideOf k l ts) =
     element_by (writing l.kind) k q l (is_childless ts) (InsideOf k l ts) (ap (λ x. is_element (writing x)) is) h in
     record { kind = is; held = f.1; inside = f.4.1 }

@@ -90,6 +90,7 @@ inline_held h c a e = refl
 
 pub page_takes : (k : Kind) → texts_of_kind k ≡ Page → takes_inline (shape k).holding ≡ true
 page_takes kind.Body e = absurd cc
+page_takes (kind.Section n) e = absurd cc
 page_takes kind.Ul e = absurd cc
 page_takes kind.Ol e = absurd cc
 page_takes kind.Dl e = absurd cc
@@ -106,6 +107,7 @@ page_takes k e = refl
 
 pub separators_take : (k : Kind) → texts_of_kind k ≡ Separators → takes_none (shape k).holding ≡ true
 separators_take kind.Body e = refl
+separators_take (kind.Section n) e = refl
 separators_take kind.Ul e = refl
 separators_take kind.Ol e = refl
 separators_take kind.Dl e = refl
@@ -130,4 +132,4 @@ leaf_ended false (more t ts) h = absurd cc
 
 pub span_is : IsFace span
 unfolding spelling
-span_is = record { level = refl; attrs = inr (refl, inr (refl, inr (refl, inr (refl, inr (refl, inr (refl, refl)))))); shows = refl }
+span_is = record { element = refl; level = refl; attrs = inr (refl, inr (refl, inr (refl, inr (refl, inr (refl, inr (refl, refl)))))); shows = refl }

@@ -7,15 +7,16 @@ use Rattle.wt_tree.specs.declared.kind.Mark.TheVariants as mark
 use Rattle.wt_tree.specs.declared.row.Texts.{Texts}
 use Rattle.wt_tree.specs.declared.row.Texts.TheVariants.{Separators, Page, Bordered, OwnCharacter}
 use Rattle.wt_tree.specs.declared.row.Writing.{Writing}
-use Rattle.wt_tree.specs.declared.row.Writing.TheVariants.{AsText, AsVoid, RoundCharacter, RoundChildren, Unwritten}
-use Rattle.wt_tree.specs.Kinds.{writing, is_leaf, may_hold, texts_of_kind, is_inline}
+use Rattle.wt_tree.specs.declared.row.Writing.TheVariants.{AsText, AsVoid, RoundCharacter, RoundChildren, AsSection, Unwritten}
+use Rattle.wt_tree.specs.Kinds.{writing, is_leaf, is_section, may_hold, texts_of_kind, is_inline}
 use Rattle.wt_tree.specs.Tree.{Label, Tree, tree, Trees, none, more}
 use Rattle.wt_fitting.specs.Rows.{shows_text}
 use Rattle.wt_round_trip.specs.Written.{IsTextIn, has_level, HasSource, IsShown, HasAttributes, is_extension_label, HasData, is_childless}
 use Rattle.wt_tree.specs.Recut.{shows_block}
 
--- an element, by the tables of kinds, but for its number and its places
+-- an element, by the tables of kinds, but for its number and its places; a section is none
 pub record IsShownLabel (l : Label) : Type 0 where
+  pub element : is_section l.kind ≡ false
   pub level : has_level l.kind ≡ true
   pub source : HasSource (is_leaf l.kind) l
   pub shown : IsShown (shows_text l.kind) l.shown
@@ -34,6 +35,7 @@ NodeIsShown AsText k parent l childless inside = IsTextIn parent l × (childless
 NodeIsShown AsVoid k parent l childless inside = IsShownElement k parent l childless inside
 NodeIsShown RoundCharacter k parent l childless inside = IsShownElement k parent l childless inside
 NodeIsShown RoundChildren k parent l childless inside = IsShownElement k parent l childless inside
+NodeIsShown (AsSection n) k parent l childless inside = ⊥
 NodeIsShown Unwritten k parent l childless inside = (l.kind ≡ kind.Empty) × (childless ≡ true)
 
 -- A text shows characters, which would be in a `span` in a group; so it stands behind no block, as an inline element.

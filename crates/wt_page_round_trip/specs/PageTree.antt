@@ -1,4 +1,4 @@
--- The annotated tree of a page with its templates: its items, what they mean, and where each part of that stands.
+-- The annotated tree of a page with its templates: its items, what they mean, and where each part of that stands, in sections.
 use Rattle.std.specs.Prelude.{ℕ, List}
 use Rattle.wt_span.specs.Origins.{Expanded}
 use Rattle.wt_tree.specs.Tree.{Tree}
@@ -7,9 +7,10 @@ use Rattle.wt_expand.specs.PageCalls.{expanded_page}
 use Rattle.wt_body.specs.Body.{meaning}
 use Rattle.wt_annotated.specs.Annotated.{annotated}
 use Rattle.wt_annotated.specs.GroupData.{group_data}
+use Rattle.wt_sections.specs.Sections.{with_sections}
 
 abbrev pub expanded_tree : Expanded → Tree
-expanded_tree e = annotated e.outer (group_data e.outer) (meaning e.items)
+expanded_tree e = with_sections (annotated e.outer (group_data e.outer) (meaning e.items))
 
 abbrev pub page_tree : Pages → List ℕ → Tree
 page_tree pages page = expanded_tree (expanded_page pages page)

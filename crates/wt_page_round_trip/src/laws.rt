@@ -2,6 +2,7 @@ ghost use Rattle.std.specs.Prelude.{◌≡◌, ◌<◌, ◌^◌, ℕ, [], List, 
 ghost use Rattle.std.specs.List.{AllByRecursion};
 ghost use Rattle.wt_span.specs.Cuts.{page_of};
 ghost use Rattle.wt_span.specs.Origins.{OuterCall};
+ghost use Rattle.wt_tree.specs.Opened.{without_sections};
 ghost use Rattle.wt_tree.specs.Source.{flat};
 ghost use Rattle.wt_tree.specs.Tiling.{Tiled, Covers, InPreorder, HasNoGroup};
 ghost use Rattle.wt_markup.specs.Html.{html_text};
@@ -28,8 +29,8 @@ ghost use Rattle.wt_page_round_trip.specs.GroupTexts.{
 };
 ghost use Rattle.wt_page_round_trip.specs.PageTree.{page_tree};
 
-/// The HTML of a page with its templates is read as the page's own annotated tree, without the ranges of
-/// its texts and separators, and with the nodes of a group's elements in the place of its own. Each
+/// The HTML of a page with its templates is read as the page's own annotated tree, without its sections and
+/// the ranges of its texts and separators, and with the nodes of a group's elements in the place of its own. Each
 /// element outside groups, and each group, tells where it comes from, and the source is the page. It
 /// holds of each page in UTF-8 of fewer than 2^30 bytes whose expansion nothing refuses, which so gives
 /// at most 2^23 bytes more.
@@ -38,9 +39,9 @@ pub fn page_is_read()
         → first_refusal pages page (page_work pages page) ≡ None → IsWritten (page_tree pages page) }
     ensures read { (pages : Pages) (page : List ℕ) → IsUtf8 page → length page < 2 ^ 30
         → first_refusal pages page (page_work pages page) ≡ None
-        → read (html_text (page_tree pages page)) ≡ as_page (unranged (page_tree pages page)) None }
+        → read (html_text (page_tree pages page)) ≡ as_page (unranged (without_sections (page_tree pages page))) None }
     ensures source { (pages : Pages) (page : List ℕ) → IsUtf8 page → first_refusal pages page (page_work pages page) ≡ None
-        → flat (unranged (page_tree pages page)) ≡ page }
+        → flat (unranged (without_sections (page_tree pages page))) ≡ page }
 {}
 
 /// What stands on a page for the meaning of its expanded items, each of its own once and of each

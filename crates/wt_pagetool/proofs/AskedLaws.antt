@@ -1,6 +1,6 @@
 -- What a command asks its folder for, step after step.
 use Rattle.std.proofs.Common.{◌≡◌, ℕ, ◌≤◌, Bool, true, List, [], ◌∷◌, ◌++◌, length, take, false, cond, refl, sym, ap, ◌∙◌, subst, arith, append-nil, append_assoc}
-use Rattle.std.specs.Prelude.{nat_lt, Option, Some, None, option_map, IfSome, IfErr, OnErr, IsErrAnd, Result, Ok, Err, if◌then◌else◌}
+use Rattle.std.specs.Prelude.{nat_lt, Option, Some, None, IfSome, IfErr, IsErrAnd, Result, Ok, Err, if◌then◌else◌}
 use Rattle.std.proofs.lemmas.Bool.Decides.{nat_tests}
 use Rattle.std.proofs.lemmas.List.{append_cancel_left, take-append-le, take_all}
 use Rattle.wt_outer.specs.Device.{Pages}
@@ -9,7 +9,7 @@ use Rattle.wt_outer.specs.declared.device.FetchRefusal.TheVariants as of_fetch
 use Rattle.wt_span.specs.declared.limits.TheConstants.{HTML_BYTES, PAGE_BYTES}
 use Rattle.wt_utf8.specs.Places.{not_utf8_place}
 use Rattle.wt_expand.specs.Expansion.{page_work}
-use Rattle.wt_expand.specs.Fronts.{allowed_work, known_after}
+use Rattle.wt_expand.specs.Fronts.{known_after}
 use Rattle.wt_expand.specs.Work.{Entry, Refused, fetches, first_refusal, firsts_after, names_asked, refusal_from}
 use Rattle.wt_expand.proofs.Agreements.{fetches_append}
 use Rattle.wt_expand.proofs.FrontLaws.{firsts_append, work_allowed}

@@ -4,9 +4,7 @@ use Rattle.std.specs.Prelude.{nat_lt, length, Option, Some, None, option_map, If
 use Rattle.std.specs.Io.KnownBytes.{Appends, IsAtEnd}
 use Rattle.wt_outer.specs.Device.{Pages}
 use Rattle.wt_span.specs.Origins.{Expanded}
-use Rattle.wt_tree.specs.Plain.{Face}
-use Rattle.wt_tree.specs.Tree.{Tree, tree, label}
-use Rattle.wt_checks.specs.Places.{is_body}
+use Rattle.wt_tree.specs.Tree.{Tree, tree}
 use Rattle.wt_expand.specs.PageCalls.{expanded_page}
 use Rattle.wt_expand.specs.Work.{Refused}
 use Rattle.wt_transclusion.specs.declared.refusal.ExpandRefusal.{ExpandRefusal}
@@ -20,8 +18,6 @@ use Rattle.wt_html_in.specs.declared.refusal.HtmlRefusal.TheVariants as refusals
 use Rattle.wt_checks.specs.declared.refusal.Check.{Check}
 use Rattle.wt_checks.specs.Checked.{checked}
 use Rattle.wt_page_round_trip.specs.PageTree.{page_tree}
-use Rattle.wt_page_round_trip.proofs.HeldPages.{its_page}
-use Rattle.wt_page_round_trip.proofs.PageTrees.{page_tiled, page_covered, page_numbered}
 use Rattle.wt_selser.specs.declared.refusal.EditRefusal.{EditRefusal}
 use Rattle.wt_selser.specs.declared.refusal.EditRefusal.TheVariants as of_edit
 use Rattle.wt_selser.specs.BodySlices.{slices}
@@ -32,7 +28,6 @@ use Rattle.wt_shown.specs.Restored.{restored_from}
 use Rattle.wt_shown.specs.SameNodes.{same_node}
 use Rattle.wt_selser.specs.Splice.{spliced}
 use Rattle.wt_shown.proofs.DifferingLaws.{differing_is, none_same}
-use Rattle.wt_selser.proofs.EditChains.{edit_stands}
 use Rattle.wt_pagetool.specs.declared.output.Output.{Output}
 use Rattle.wt_pagetool.specs.declared.refusal.Refusal.{Refusal}
 use Rattle.wt_pagetool.specs.declared.command.Command.TheVariants.{Edit}
@@ -43,9 +38,10 @@ use Rattle.wt_pagetool.specs.Causes.{Answered, Refuses, IsFetched, refusal_of, r
 use Rattle.wt_pagetool.specs.Reports.{new_page, WroteEdit}
 use Rattle.wt_pagetool.proofs.AnswerLaws.{input_done}
 use Rattle.wt_pagetool.proofs.ExpandLaws.{fetched_as}
-use Rattle.wt_pagetool.proofs.LeavesLaws.{page_bodiless, page_leaves}
 use Rattle.wt_pagetool.proofs.PageLaws.{text_of, page_text, title_made, title_stands, expanded_done}
-use Rattle.wt_pagetool.proofs.ShownLaws.{IsBare, same_shown, page_body, page_face, read_face}
+use Rattle.wt_pagetool.proofs.ShownLaws.{IsBare, same_shown, page_face, read_face}
+use Rattle.wt_pagetool.proofs.SectionEdits.{edit_outside}
+use Rattle.wt_html_laws.proofs.OneBody.{read_is_one_body}
 
 -- ---- the new page
 
@@ -247,9 +243,6 @@ edited_done pages page (misfit n why) bytes e = cc
 restored_bare : (page t : Tree) → IsBare t → IsBare (restored_from page t)
 restored_bare page (tree l ts) h = h
 
-bare_body : (t : Tree) → IsBare t → is_body (label t).kind ≡ true
-bare_body t h = ap (λ (f : Face). is_body f.kind) h
-
 pub wrote_edit : (pages : Pages) (title input bytes : List ℕ) (left old new : Option (List ℕ))
     → edit_of pages (pages title) input ≡ done bytes → IsAtEnd left → Appends old new bytes → WroteEdit pages title input left old new
 wrote_edit pages title input bytes left old new e ended wrote =
@@ -273,10 +266,8 @@ wrote_edit pages title input bytes left old new e ended wrote =
       allowed = d.new.allowed;
       unrefused = d.new.answer;
       wrote = subst (Appends old new) d.new.is wrote;
-      outside = edit_stands same_node (expanded_page pages page) page (new_page pages page d.edited) t d.edited (page_body pages page)
-          (page_bodiless pages page text its.within d.unrefused) (page_numbered pages page) (page_tiled pages page)
-          (page_covered pages page (its_page pages page text d.unrefused))
-          (page_leaves pages page text its.within d.unrefused) (bare_body d.edited (read_face input d.edited d.unsourced d.reads)) d.new.answer;
+      outside = edit_outside pages page (new_page pages page d.edited) d.edited text its.within d.unrefused
+          (read_is_one_body input d.edited d.unsourced d.reads) d.new.answer;
       answered = d.new.answered;
       shows = same_shown (page_tree pages (new_page pages page d.edited)) (restored_from t d.edited)
           (page_face pages (new_page pages page d.edited)) (restored_bare t d.edited (read_face input d.edited d.unsourced d.reads)) d.new.shows;

@@ -12,6 +12,7 @@ use Rattle.wt_body.specs.Body.{meaning}
 use Rattle.wt_annotated.specs.Annotated.{annotated}
 use Rattle.wt_annotated.specs.Clean.{is_clean}
 use Rattle.wt_annotated.specs.GroupData.{group_data}
+use Rattle.wt_sections.specs.Sections.{with_sections}
 use Rattle.wt_annotated.specs.Reached.{AreReachedSlices}
 use Rattle.wt_page_round_trip.specs.PageTree.{expanded_tree, page_tree}
 use Rattle.wt_page_round_trip.proofs.HeldPages.{its_page}
@@ -122,5 +123,6 @@ meaning_small calls xs t is small = subst (λ u. length (page_of calls (tree_ite
 pub meaning_clean : (xs : List Item) (t : ItemTree) → t ≡ meaning xs → is_clean (tree_items t) 0 t ≡ true
 meaning_clean xs t is = ap (λ u. is_clean (tree_items u) 0 u) is ∙ clean_meaning xs
 
-pub meaning_tree : (t : Tree) (e : Expanded) (m : ItemTree) → m ≡ meaning e.items → t ≡ annotated e.outer (group_data e.outer) m → t ≡ expanded_tree e
-meaning_tree t e m is made = made ∙ ap (λ u. annotated e.outer (group_data e.outer) u) is
+pub meaning_tree : (t : Tree) (e : Expanded) (m : ItemTree) → m ≡ meaning e.items → t ≡ with_sections (annotated e.outer (group_data e.outer) m)
+    → t ≡ expanded_tree e
+meaning_tree t e m is made = made ∙ ap (λ u. with_sections (annotated e.outer (group_data e.outer) u)) is

@@ -4,6 +4,7 @@ use Rattle.std.specs.Prelude.{IsUtf8, nat_lt, Option, Some, None, option_map, If
 use Rattle.std.specs.Io.KnownBytes.{Appends}
 use Rattle.std.proofs.lemmas.Bool.Decides.{nat_tests}
 use Rattle.wt_outer.specs.Device.{Pages}
+use Rattle.wt_tree.specs.Opened.{without_sections}
 use Rattle.wt_markup.specs.Html.{html_text}
 use Rattle.wt_fitting.specs.Read.{read}
 use Rattle.wt_pagetool.specs.declared.output.Output.{Output}
@@ -69,7 +70,7 @@ given_back pages page back bytes e =
 
 pub read_back : (pages : Pages) (page : List ℕ) → IsUtf8 page → length page ≤ 2097152 → refusal_of_page pages page ≡ None → IsReadBack pages page
 read_back pages page text within unrefused = record {
-  tree = unranged (page_tree pages page);
+  tree = unranged (without_sections (page_tree pages page));
   reads = page_is_read pages page text (omega (arith, within)) unrefused;
   source = same_page pages page text unrefused;
 }

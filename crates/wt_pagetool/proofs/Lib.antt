@@ -8,10 +8,12 @@ pub mod ExpandLaws
 pub mod GenLaws
 pub mod GivenBackLaws
 pub mod LeavesLaws
+pub mod PageSections
 pub mod PageLaws
 pub mod ReadGroups
 pub mod RefusalLines
 pub mod RunLaws
+pub mod SectionEdits
 pub mod ShownLaws
 pub mod StatusLaws
 pub mod UnchangedLaws

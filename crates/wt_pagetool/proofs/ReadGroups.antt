@@ -17,6 +17,7 @@ use Rattle.wt_round_trip.proofs.Faces.{held_somewhere}
 use Rattle.wt_round_trip.proofs.Rows.{is_somewhere, held}
 use Rattle.wt_checks.specs.Elements.{bare, all_bare, written_for, read_by, read_before, all_read}
 use Rattle.wt_checks.specs.Groups.{has_mark, have_mark}
+use Rattle.wt_checks.specs.PutBack.{is_frame}
 use Rattle.wt_checks.specs.Places.{Place, placed, all_placed, kind_at, is_kept, is_body, is_content, parent_below}
 use Rattle.wt_checks.proofs.Lookups.{each_join}
 
@@ -25,6 +26,7 @@ use Rattle.wt_checks.proofs.Lookups.{each_join}
 face_read : (k : Kind) (s : Showing) (l : Label) (inside rest : Plains) → is_somewhere (shape k).class ≡ true → shows_text k ≡ false
     → read_by (writing k) s l inside rest ≡ along (element (face l) inside) rest
 face_read kind.Entity s l inside rest e t = absurd cc
+face_read (kind.Section n) s l inside rest e t = absurd cc
 face_read kind.Sep s l inside rest e t = absurd cc
 face_read kind.Text s l inside rest e t = absurd cc
 face_read k s l inside rest e t = refl
@@ -34,7 +36,7 @@ mutual
       → read_before (inner_node p) rest ≡ along (bare p) rest
   inner_read (text bs) k parent rest h = refl
   inner_read (element f qs) k parent rest h =
-      face_read f.kind (showing f.kind) (element_label f) (all_read (inner_nodes qs)) rest (held parent f.kind h.0) h.1.1.shows
+      face_read f.kind (showing f.kind) (element_label f) (all_read (inner_nodes qs)) rest (held parent f.kind h.0 h.1.1.element) h.1.1.shows
       ∙ ap (λ x. along (element (face (element_label f)) x) rest) (inners_read qs (suc k) f.kind h.1.3.1)
 
   inners_read : (ps : Plains) (k : ℕ) (parent : Kind) → PlainsIn k parent ps → all_read (inner_nodes ps) ≡ all_bare ps
@@ -47,7 +49,7 @@ tops_read ended k parent h = refl
 tops_read (along (text bs) ps) k parent h = absurd h.0
 tops_read (along (element f qs) ps) k parent h =
     face_read f.kind (showing f.kind) (element_label f) (all_read (inner_nodes qs)) (all_read (inner_nodes ps))
-    (held_somewhere parent f.kind (is_ended qs) h.0.0) h.0.1.1.shows
+    (held_somewhere parent f.kind (is_ended qs) h.0.0 h.0.1.1.element) h.0.1.1.shows
     ∙ ap (λ x. along (element (face (element_label f)) x) (all_read (inner_nodes ps))) (inners_read qs (suc k) f.kind h.0.1.3.1)
     ∙ ap (λ x. along (bare (element f qs)) x) (tops_read ps k parent h.1)
 
@@ -86,12 +88,18 @@ pub no_body : (k : Kind) → is_somewhere (shape k).class ≡ true → is_body k
 no_body kind.Body e = absurd cc
 no_body k e = refl
 
+-- what stands in another element or in a group is neither a body nor a section
+pub no_frame : (k : Kind) → is_somewhere (shape k).class ≡ true → is_frame k ≡ false
+no_frame kind.Body e = absurd cc
+no_frame (kind.Section n) e = absurd cc
+no_frame k e = refl
+
 mutual
   inner_new : (p : Plain) (k : ℕ) (parent : Kind) (n : ℕ) (within : Bool) → PlainIn k parent p
       → AllByRecursion IsNew (placed n within (inner_node p))
   inner_new (text bs) k parent n within h = (record { unkept = refl; other = refl; unmarked = refl }, tt)
   inner_new (element f qs) k parent n within h = (
-    record { unkept = refl; other = no_body f.kind (held parent f.kind h.0); unmarked = refl },
+    record { unkept = refl; other = no_body f.kind (held parent f.kind h.0 h.1.1.element); unmarked = refl },
     inners_new qs (suc k) f.kind (parent_below n 0) (within || is_content mark.Nothing) h.1.3.1,
   )
 
@@ -107,7 +115,7 @@ tops_new : (ps : Plains) (k : ℕ) (parent : Kind) (n : ℕ) (within : Bool) →
 tops_new ended k parent n within h = tt
 tops_new (along (text bs) ps) k parent n within h = absurd h.0
 tops_new (along (element f qs) ps) k parent n within h = (
-  record { unkept = refl; other = no_body f.kind (held_somewhere parent f.kind (is_ended qs) h.0.0); unmarked = refl },
+  record { unkept = refl; other = no_body f.kind (held_somewhere parent f.kind (is_ended qs) h.0.0 h.0.1.1.element); unmarked = refl },
   each_join IsNew (all_placed (parent_below n 0) (within || is_content mark.Nothing) (inner_nodes qs)) (all_placed n within (inner_nodes ps))
       (inners_new qs (suc k) f.kind (parent_below n 0) (within || is_content mark.Nothing) h.0.1.3.1)
       (tops_new ps k parent n within h.1),

@@ -5,6 +5,7 @@ use Rattle.std.specs.Prelude.{length, codes, Option, Some, None, Result, Ok, Err
 use Rattle.wt_tree.specs.declared.kind.Kind.TheVariants as kind
 use Rattle.wt_tree.specs.declared.node.DataMw.{DataMw}
 use Rattle.wt_tree.specs.Kinds.{showing, spelling}
+use Rattle.wt_tree.specs.Opened.{without_sections}
 use Rattle.wt_tree.specs.Plain.{Face, face, element, Plains, ended, along, shown_before, plains_before, plain}
 use Rattle.wt_tree.specs.Tree.{Label, Tree, tree, Trees, label}
 use Rattle.wt_expand.specs.Work.{Pages}
@@ -26,6 +27,7 @@ use Rattle.wt_fitting.specs.Data.{Data, data_of, both, sync_fits, mw_for, mw_fit
 use Rattle.wt_fitting.specs.Fit.{Misfit, label_for, texts_in, text_fits, with_children, children_in, within, fit_nodes, Found, body_of, fit_body_told, body_data, fit_body, fit}
 use Rattle.wt_fitting.specs.Groups.{Piece}
 use Rattle.wt_fitting.specs.Read.{page as as_page, ill, read_fit, read_tree, read_root, read_run, read}
+use Rattle.wt_fitting.specs.Sections.{opened_if_fit}
 use Rattle.wt_fitting.specs.Unsourced.{unsourced}
 use Rattle.wt_shown.specs.Children.{listed, shown_children}
 
@@ -119,11 +121,22 @@ told_face : (n : ℕ) (ps : List Pair) (o : Option Data) (c : Markups) (held : R
 told_face n ps None c held t is e = cc
 told_face n ps (Some d) c held t is e = fits_face n ps d (texts_in c) held t (text_fits kind.Body c) (data_none ps d is) e
 
+-- without its sections a tree has the label that it has with them
+opened_face : (t : Tree) → IsBare t → IsBare (without_sections t)
+opened_face (tree l ts) h = h
+
+if_fit_face : (r : Result Tree Misfit) (t : Tree) → ((u : Tree) → r ≡ Ok u → IsBare u) → opened_if_fit r ≡ Ok t → IsBare t
+if_fit_face (Err x) t f e = cc
+if_fit_face (Ok u) t f e =
+    let same : t ≡ without_sections u = cc in
+    ap (λ x. face (label x)) same ∙ opened_face u (f u refl)
+
 fit_face : (o : Option Found) (t : Tree) → fit_body o ≡ Ok t → IsBare t
 fit_face None t e = cc
 fit_face (Some f) t e =
-    told_face f.number f.attributes (body_data f.attributes) f.contents
-    (fit_nodes (suc f.number) (within kind.Body false) f.contents) t refl e
+    let held : Result (List Piece) Misfit = fit_nodes (suc f.number) (within kind.Body false) f.contents in
+    if_fit_face (fit_body_told f.number f.attributes (body_data f.attributes) f.contents held) t
+    (λ u is. told_face f.number f.attributes (body_data f.attributes) f.contents held u refl is) e
 
 read_step : (m : Markup) (v : Option ℕ) (r : Result Tree Misfit) (t : Tree) (u : Option ℕ) → fit m ≡ r → read_fit v r ≡ as_page t u → IsBare t
 read_step m v (Err x) t u is e = cc

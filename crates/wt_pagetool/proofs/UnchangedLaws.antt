@@ -1,22 +1,31 @@
 -- From the tree of a page to `run`: what `edit` answers for the HTML of the page, given back unchanged.
-use Rattle.std.proofs.Common.{◌≡◌, ℕ, ◌≤◌, List, length, refl, sym, ap, ◌∙◌, subst, arith}
+use Rattle.std.proofs.Common.{◌≡◌, ℕ, ◌≤◌, ◌<◌, ◌^◌, List, length, refl, sym, ap, ◌∙◌, subst, arith}
 use Rattle.std.specs.Prelude.{Option, Some, None, IfSome, Result, Ok}
 use Rattle.wt_span.specs.Origins.{Expanded}
-use Rattle.wt_tree.specs.Plain.{Plain}
+use Rattle.wt_tree.specs.Opened.{without_sections}
+use Rattle.wt_tree.specs.Plain.{Plain, ended as nothing_more}
 use Rattle.wt_tree.specs.Tiling.{InPreorder}
-use Rattle.wt_tree.specs.Tree.{Tree}
+use Rattle.wt_tree.specs.Tree.{Tree, tree}
 use Rattle.wt_fitting.specs.Read.{page as as_page, read}
-use Rattle.wt_round_trip.specs.Written.{unranged, IsWritten}
+use Rattle.wt_html_laws.proofs.OneBody.{read_is_one_body}
+use Rattle.wt_markup.specs.Html.{html_text}
+use Rattle.wt_round_trip.specs.Written.{unranged}
 use Rattle.wt_expand.specs.PageCalls.{expanded_page}
 use Rattle.wt_expand.specs.Work.{Pages}
 use Rattle.wt_page_round_trip.specs.PageTree.{page_tree}
-use Rattle.wt_page_round_trip.proofs.Pages.{page_written, page_is_read}
-use Rattle.wt_page_round_trip.proofs.PageTrees.{page_numbered}
-use Rattle.wt_shown.specs.Children.{shown_children, differing}
+use Rattle.wt_page_round_trip.proofs.Pages.{body_written, page_is_read, page_opened}
+use Rattle.wt_page_round_trip.proofs.PageTrees.{ungathered_numbered}
+use Rattle.wt_page_round_trip.proofs.Sectioned.{IsWrittenBody}
+use Rattle.wt_sections.specs.Sections.{with_sections}
+use Rattle.wt_sections.proofs.Kept.{plains_stay}
+use Rattle.wt_checks.specs.BareSections.{HasBareSections}
+use Rattle.wt_checks.specs.PutBack.{IsOneBody}
+use Rattle.wt_shown.specs.Children.{listed, shown_children, differing}
 use Rattle.wt_selser.specs.Edits.{most_bytes, edit_answer}
 use Rattle.wt_shown.specs.Restored.{restored_from}
 use Rattle.wt_shown.specs.SameNodes.{same_node}
 use Rattle.wt_selser.proofs.Answering.{unmarked_stands}
+use Rattle.wt_selser.proofs.Sections.{answers_same}
 use Rattle.wt_shown.proofs.DifferingLaws.{differing_is}
 use Rattle.wt_pagetool.specs.declared.command.Command.TheVariants.{Edit}
 use Rattle.wt_pagetool.specs.declared.command.PageCommand.TheVariants.{Html}
@@ -35,6 +44,8 @@ use Rattle.wt_pagetool.proofs.AnswerLaws.{input_within}
 use Rattle.wt_pagetool.proofs.EditLaws.{told_edit}
 use Rattle.wt_pagetool.proofs.GivenBackLaws.{written, gave_step}
 use Rattle.wt_pagetool.proofs.PageLaws.{title_made, page_text}
+use Rattle.wt_pagetool.proofs.PageSections.{restored_without}
+use Rattle.wt_pagetool.proofs.SectionEdits.{plain_page, page_bare}
 use Rattle.wt_pagetool.proofs.UnchangedShown.{unchanged_unmarked, unchanged_shown}
 use Rattle.wt_pagetool.proofs.UnchangedTree.{unchanged_checked}
 
@@ -45,7 +56,7 @@ within_most : (page : List ℕ) → length page ≤ 2097152 → length page ≤ 
 unfolding most_bytes
 within_most page h = h
 
-unchanged_edit : (items : Expanded) (page : List ℕ) (t : Tree) → length page ≤ 2097152 → IsWritten t → InPreorder t
+unchanged_edit : (items : Expanded) (page : List ℕ) (t : Tree) → length page ≤ 2097152 → IsWrittenBody t → InPreorder t
     → edit_answer same_node items page t (unranged t) ≡ Ok page
 unchanged_edit items page t le w i =
     unmarked_stands same_node items page t (unranged t) (unchanged_unmarked t w i) (unchanged_checked t w i) (within_most page le)
@@ -60,34 +71,72 @@ edited_read : (pages : Pages) (page : List ℕ) (u : Tree) (o : Option ℕ) → 
 unfolding edited_answer
 edited_read pages page u o = refl
 
--- the page as its own new page
-unchanged_new : (pages : Pages) (page : List ℕ) (t : Tree) → page_tree pages page ≡ t → IsText page → refusal_of_page pages page ≡ None
-    → IsWritten t → InPreorder t → edit_by pages t (unranged t) (Ok page) ≡ done page
-unchanged_new pages page t is text unrefused w i =
-    text (new_expanded pages t (unranged t)) ∙ ap (new_by (unspelled_answer pages t (unranged t) page)) unrefused
-    ∙ none_differs (shown_children (page_tree pages page)) (shown_children (restored_from t (unranged t))) page
-    (ap shown_children is ∙ sym (unchanged_shown t w i))
+-- with its sections a body shows what it shows without
+shown_gathered : (t : Tree) → shown_children (with_sections t) ≡ shown_children t
+shown_gathered (tree l ts) = ap listed (plains_stay ts nothing_more)
 
-unchanged_by : (pages : Pages) (page : List ℕ) (t : Tree) → page_tree pages page ≡ t → length page ≤ 2097152 → IsText page
-    → refusal_of_page pages page ≡ None → IsWritten t → InPreorder t
-    → edit_by pages t (unranged t) (edit_answer same_node (expanded_page pages page) page t (unranged t)) ≡ done page
-unchanged_by pages page t is le text unrefused w i =
-    ap (edit_by pages t (unranged t)) (unchanged_edit (expanded_page pages page) page t le w i) ∙ unchanged_new pages page t is text unrefused w i
+-- What is read is the tree u, which the page's tree t has in sections.
+record IsInSections (t u : Tree) : Type 0 where
+  pub bare : HasBareSections t
+  pub opened : without_sections t ≡ u
+  pub gathered : t ≡ with_sections u
+  pub written : IsWrittenBody u
+  pub numbered : InPreorder u
+  pub one : IsOneBody (unranged u)
+
+sections_edit : (items : Expanded) (page : List ℕ) (t u : Tree) → length page ≤ 2097152 → IsInSections t u
+    → edit_answer same_node items page t (unranged u) ≡ Ok page
+sections_edit items page t u le h =
+    answers_same same_node items page t (unranged u) h.bare h.one
+    ∙ ap (λ x. edit_answer same_node items page x (unranged u)) h.opened
+    ∙ unchanged_edit items page u le h.written h.numbered
+
+sections_shown : (t u : Tree) → IsInSections t u → shown_children t ≡ shown_children (restored_from t (unranged u))
+sections_shown t u h =
+    ap shown_children h.gathered ∙ shown_gathered u ∙ sym (unchanged_shown u h.written h.numbered)
+    ∙ ap (λ x. shown_children (restored_from x (unranged u))) (sym h.opened)
+    ∙ ap shown_children (sym (restored_without t (unranged u) h.bare))
+
+-- the page as its own new page
+unchanged_new : (pages : Pages) (page : List ℕ) (t u : Tree) → page_tree pages page ≡ t → IsText page → refusal_of_page pages page ≡ None
+    → IsInSections t u → edit_by pages t (unranged u) (Ok page) ≡ done page
+unchanged_new pages page t u is text unrefused h =
+    text (new_expanded pages t (unranged u)) ∙ ap (new_by (unspelled_answer pages t (unranged u) page)) unrefused
+    ∙ none_differs (shown_children (page_tree pages page)) (shown_children (restored_from t (unranged u))) page
+    (ap shown_children is ∙ sections_shown t u h)
+
+unchanged_by : (pages : Pages) (page : List ℕ) (t u : Tree) → page_tree pages page ≡ t → length page ≤ 2097152 → IsText page
+    → refusal_of_page pages page ≡ None → IsInSections t u
+    → edit_by pages t (unranged u) (edit_answer same_node (expanded_page pages page) page t (unranged u)) ≡ done page
+unchanged_by pages page t u is le text unrefused h =
+    ap (edit_by pages t (unranged u)) (sections_edit (expanded_page pages page) page t u le h) ∙ unchanged_new pages page t u is text unrefused h
 
 pub stays_unchanged : (pages : Pages) (page : List ℕ) → StaysUnchanged pages page
 stays_unchanged pages page bytes e =
     let m = title_made page bytes (made Html pages) e in
     let w = written pages page bytes e in
     let t : Tree = page_tree pages page in
+    let u : Tree = plain_page pages page in
     let text : IsText page = page_text page m.within m.text in
-    let is : IsWritten t = page_written pages page w.text (let le = w.within in omega (arith, le)) w.unrefused in
+    let opened : without_sections t ≡ u = page_opened pages page w.text w.unrefused in
+    let few : length page < 2 ^ 30 = let le = w.within in omega (arith, le) in
+    let reads : read (html_text t) ≡ as_page (unranged u) None =
+    page_is_read pages page w.text few w.unrefused ∙ ap (λ x. as_page (unranged x) None) opened in
+    let h : IsInSections t u = record {
+      bare = page_bare pages page w.text w.unrefused;
+      opened = opened;
+      gathered = refl;
+      written = body_written pages page w.text few w.unrefused;
+      numbered = ungathered_numbered (expanded_page pages page).outer (expanded_page pages page).items;
+      one = read_is_one_body (html_text t) (unranged u) None reads;
+    } in
     text (λ bs. input_answer (edited_answer pages bs) bytes)
     ∙ input_within (edited_answer pages page) bytes w.few
     ∙ ap (λ bs. edited_answer pages page (read bs)) w.is
-    ∙ ap (edited_answer pages page) (page_is_read pages page w.text (let le = w.within in omega (arith, le)) w.unrefused)
-    ∙ edited_read pages page (unranged t) None
-    ∙ ap (expanded_by (edit_from pages page (unranged t))) w.unrefused
-    ∙ unchanged_by pages page t refl w.within text w.unrefused is (page_numbered pages page)
+    ∙ ap (edited_answer pages page) reads
+    ∙ edited_read pages page (unranged u) None
+    ∙ ap (expanded_by (edit_from pages page (unranged u))) w.unrefused
+    ∙ unchanged_by pages page t u refl w.within text w.unrefused h
 
 -- ---- the clause
 

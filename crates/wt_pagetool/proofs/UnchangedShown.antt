@@ -1,24 +1,23 @@
 -- What is read of the HTML that is written for a tree, unchanged, has no marks, and shows what the tree shows, where each group is
 -- what the page's group of its number holds.
-use Rattle.std.proofs.Common.{◌≡◌, ◌≢◌, ℕ, suc, ◌<◌, Bool, true, false, List, [], ◌∷◌, ◌++◌, refl, ap, ◌∙◌, subst, arith}
+use Rattle.std.proofs.Common.{◌≡◌, ◌≢◌, ℕ, suc, ◌<◌, Bool, true, false, refl, ap, ◌∙◌, subst, arith}
 use Rattle.std.specs.Prelude.{◌||◌, if◌then◌else◌}
-use Rattle.std.specs.List.{AllByRecursion, flat_map}
+use Rattle.std.specs.List.{AllByRecursion}
 use Rattle.wt_tree.specs.declared.kind.Kind.{Kind}
 use Rattle.wt_tree.specs.declared.kind.Kind.TheVariants as kind
-use Rattle.wt_tree.specs.declared.kind.Mark.{Mark}
-use Rattle.wt_tree.specs.declared.kind.Mark.TheVariants as mark
 use Rattle.wt_tree.specs.declared.kind.Showing.{Showing}
 use Rattle.wt_tree.specs.declared.kind.Showing.TheVariants.{Characters, Inside, Nothing, Element}
 use Rattle.wt_tree.specs.declared.row.Writing.{Writing}
-use Rattle.wt_tree.specs.declared.row.Writing.TheVariants.{AsText, AsVoid, RoundCharacter, RoundChildren, Unwritten}
+use Rattle.wt_tree.specs.declared.row.Writing.TheVariants.{AsText, AsVoid, RoundCharacter, RoundChildren, AsSection, Unwritten}
 use Rattle.wt_tree.specs.Kinds.{showing, writing}
 use Rattle.wt_tree.specs.Plain.{Plains, ended, shown_before, plain_before, plains_before}
 use Rattle.wt_tree.specs.Tiling.{is_group, InPreorder}
-use Rattle.wt_tree.specs.Tree.{Label, Tree, tree, Trees, none, more, label}
+use Rattle.wt_tree.specs.Tree.{Label, Tree, tree, Trees, none, more}
 use Rattle.wt_round_trip.specs.GroupNodes.{group_nodes}
-use Rattle.wt_round_trip.specs.Written.{label_read, unranged, unranged_all, is_childless, IsWrittenGroup, NodeIsWritten, WrittenIn, AllWrittenIn, IsWritten}
+use Rattle.wt_round_trip.specs.Written.{label_read, unranged, unranged_all, is_childless, IsWrittenGroup, NodeIsWritten, WrittenIn, AllWrittenIn}
+use Rattle.wt_page_round_trip.proofs.Sectioned.{IsWrittenBody}
 use Rattle.wt_checks.specs.Groups.{is_marked, has_mark, have_mark}
-use Rattle.wt_checks.specs.Places.{Place, placed, all_placed, places, is_content, Page, page_of, parent_below}
+use Rattle.wt_checks.specs.Places.{placed, all_placed, places, is_content, Page, page_of, parent_below}
 use Rattle.wt_checks.proofs.Found.{Itself, each_itself}
 use Rattle.wt_checks.proofs.InOrder.{not_zero_kept, test_other}
 use Rattle.wt_checks.proofs.Lookups.{each_split}
@@ -40,7 +39,7 @@ mutual
       let s = each_split (IsAgain page) (placed m w u) (all_placed m w us) h in
       ap (λ b. b || have_mark us) (none_marked page m w u s.0) ∙ none_marked_in page m w us s.1
 
-pub unchanged_unmarked : (t : Tree) → IsWritten t → InPreorder t → has_mark (unranged t) ≡ false
+pub unchanged_unmarked : (t : Tree) → IsWrittenBody t → InPreorder t → has_mark (unranged t) ≡ false
 unchanged_unmarked t w i = none_marked (page_of t) 0 false (unranged t) (page_again t w i)
 
 -- ---- what is shown
@@ -69,6 +68,7 @@ inside_written AsText l ts k parent Cut g h = childless_written ts (suc k) l.kin
 inside_written AsVoid l ts k parent Cut g h = h.4.1
 inside_written RoundCharacter l ts k parent Cut g h = h.4.1
 inside_written RoundChildren l ts k parent Cut g h = h.4.1
+inside_written (AsSection n) l ts k parent Cut g h = absurd h
 inside_written Unwritten l ts k parent Cut g h = absurd (true_is (is_group l.kind) g (ap is_group h.label.kind))
 
 written_group : (l : Label) (ts : Trees) (k : ℕ) (parent : Kind) (Content : Type 0) → is_group l.kind ≡ true
@@ -111,8 +111,8 @@ mutual
       same_shown t k parent page n within h.0 a.0 (plains_before (all_restored page (unranged_all ts)) rest)
       ∙ ap (plain_before t) (all_same_shown ts k parent page n within h.2 a.1 rest)
 
-pub unchanged_shown : (t : Tree) → IsWritten t → InPreorder t → shown_children (restored_from t (unranged t)) ≡ shown_children t
+pub unchanged_shown : (t : Tree) → IsWrittenBody t → InPreorder t → shown_children (restored_from t (unranged t)) ≡ shown_children t
 unchanged_shown (tree l ts) w i =
     let s : AllByRecursion (Itself (page_of (tree l ts))) (places (tree l ts)) = each_itself (places (tree l ts)) (increasing (tree l ts) w.0 i) in
     ap listed (held_shown (is_group l.kind) (page_of (tree l ts)) l.id ts (λ g. absurd (true_is (is_group l.kind) (ap is_group w.0) g))
-    (λ g r. all_same_shown ts 2 kind.Body (page_of (tree l ts)) (parent_below 0 l.id) (is_content l.mark) w.2 s.1 r) ended)
+    (λ g r. all_same_shown ts 8 kind.Body (page_of (tree l ts)) (parent_below 0 l.id) (is_content l.mark) w.2 s.1 r) ended)

@@ -7,15 +7,18 @@ use Rattle.wt_tree.specs.declared.kind.Kind.TheVariants as kind
 use Rattle.wt_tree.specs.declared.kind.Mark.{Mark}
 use Rattle.wt_tree.specs.declared.kind.Mark.TheVariants as mark
 use Rattle.wt_tree.specs.declared.row.Writing.{Writing}
-use Rattle.wt_tree.specs.declared.row.Writing.TheVariants.{AsText, AsVoid, RoundCharacter, RoundChildren, Unwritten}
-use Rattle.wt_tree.specs.Kinds.{shape, showing, writing, is_numbered}
+use Rattle.wt_tree.specs.declared.row.Writing.TheVariants.{AsText, AsVoid, RoundCharacter, RoundChildren, AsSection, Unwritten}
+use Rattle.wt_tree.specs.Kinds.{shape, showing, writing, is_numbered, is_section, texts_of_kind}
+use Rattle.wt_tree.specs.Opened.{all_opened_before, opened}
 use Rattle.wt_tree.specs.Tiling.{is_group, ids, ids_of_all, others, others_of_all, InPreorder}
 use Rattle.wt_tree.specs.Tree.{Label, Tree, tree, Trees, none, more, label}
 use Rattle.wt_round_trip.specs.GroupNodes.{elements_for, group_nodes, inner_node, inner_nodes}
 use Rattle.wt_tree.specs.Plain.{Plain, text, element, Plains, ended, along}
-use Rattle.wt_round_trip.specs.Written.{label_read, unranged, unranged_all, is_childless, IsTextIn, IsElementLabel, IsWrittenGroup, NodeIsWritten, WrittenIn, AllWrittenIn, IsWritten}
+use Rattle.wt_round_trip.specs.Written.{label_read, unranged, unranged_all, is_childless, IsTextIn, IsElementLabel, IsCutIn, IsWrittenGroup, NodeIsWritten, WrittenIn, AllWrittenIn}
 use Rattle.wt_round_trip.proofs.Bare.{others_read}
 use Rattle.wt_round_trip.proofs.Rows.{is_somewhere, held}
+use Rattle.wt_sections.specs.SectionLaws.{NoneIsSection}
+use Rattle.wt_page_round_trip.proofs.Sectioned.{IsWrittenBody}
 use Rattle.wt_checks.specs.Checked.{checked}
 use Rattle.wt_checks.specs.Elements.{signs_in}
 use Rattle.wt_checks.specs.Groups.{is_marked, have_mark}
@@ -72,6 +75,7 @@ entry_read AsText l = refl
 entry_read AsVoid l = refl
 entry_read RoundCharacter l = refl
 entry_read RoundChildren l = refl
+entry_read (AsSection n) l = refl
 entry_read Unwritten l = refl
 
 entries_read : (ts : Trees) → entries (unranged_all ts) ≡ entries ts
@@ -80,8 +84,33 @@ entries_read (more (tree l us) ts) =
     ap (λ x. if is_compared (showing l.kind) then x ∷ entries (unranged_all ts) else entries (unranged_all ts)) (entry_read (writing l.kind) l)
     ∙ ap (λ xs. if is_compared (showing l.kind) then entry l ∷ xs else xs) (entries_read ts)
 
-same_node : (l : Label) (ts : Trees) → NodeAsItWas (tree l ts) (tree (label_read l) (unranged_all ts))
-same_node l ts = record { kind = refl; attrs = refl; mw = inr refl; holds = inr (record { character = refl; held = sym (entries_read ts) }) }
+-- no section is written in another node, so none is opened there
+no_section : (j : Kind) (k : ℕ) (parent : Kind) (l : Label) (childless : Bool) (inside group : Type 0)
+    → NodeIsWritten (writing j) k parent l childless inside group → is_section j ≡ false
+no_section (kind.Section n) k parent l childless inside group h = absurd h
+no_section j k parent l childless inside group h = refl
+
+none_section : (ts : Trees) (k : ℕ) (parent : Kind) → AllWrittenIn k parent ts → NoneIsSection ts
+none_section none k parent h = tt
+none_section (more (tree l us) ts) k parent h = (
+  no_section l.kind k parent l (is_childless us) (IsCutIn (texts_of_kind l.kind) us × AllWrittenIn (suc k) l.kind us)
+      (IsWrittenGroup k parent l us) h.0,
+  none_section ts k parent h.2,
+)
+
+none_opened : (ts : Trees) → NoneIsSection ts → opened ts ≡ ts
+none_opened none h = refl
+none_opened (more (tree l us) ts) h =
+    ap (λ v. if v then all_opened_before us (opened ts) else more (tree l us) (opened ts)) h.0
+    ∙ ap (λ vs. more (tree l us) vs) (none_opened ts h.1)
+
+same_node : (l : Label) (ts : Trees) → NoneIsSection ts → NodeAsItWas (tree l ts) (tree (label_read l) (unranged_all ts))
+same_node l ts h = record {
+  kind = refl;
+  attrs = refl;
+  mw = inr refl;
+  holds = inr (record { character = refl; held = ap entries (none_opened ts h) ∙ sym (entries_read ts) });
+}
 
 -- ---- nodes by how they are written
 
@@ -134,17 +163,17 @@ text_again l ts parent page n within e h =
     (childless_again ts page (parent_below n l.id) (within || is_content l.mark) h.1)
 
 element_again : (l : Label) (ts : Trees) (page : Page) (n : ℕ) (within : Bool) → is_somewhere (shape l.kind).class ≡ true → IsElementLabel l
-    → Itself page (place_of n within l ts)
+    → Itself page (place_of n within l ts) → NoneIsSection ts
     → AllByRecursion (IsAgain page) (all_placed (parent_below n l.id) (within || is_content l.mark) (unranged_all ts))
     → AllByRecursion (IsAgain page) (placed n within (unranged (tree l ts)))
-element_again l ts page n within w h s i =
+element_again l ts page n within w h s alone i =
     let p : Place = place_read n within l (unranged_all ts) in
     let u : Tree = tree (label_read l) (unranged_all ts) in
     others_again l ts page n within (no_group l.kind w)
     (record {
       group = λ k. found_group false (page l.id) (place_of n within l ts) u (s k) (λ g. absurd (true_is (is_group l.kind) (no_group l.kind w) g));
       node = λ o c. found_node (page l.id) (place_of n within l ts) u (s (either_left (is_kept p) (is_body l.kind) (no_body l.kind w) o))
-          (λ g. same_node l ts);
+          (λ g. same_node l ts alone);
       unmarked = h.mark;
     }) i
 
@@ -179,20 +208,21 @@ group_again l ts k parent page n within h s =
 
 node_by : (w : Writing) (l : Label) (ts : Trees) (k : ℕ) (parent : Kind) (page : Page) (n : ℕ) (within : Bool) (Cut Inside : Type 0)
     → writing l.kind ≡ w → NodeIsWritten w k parent l (is_childless ts) (Cut × Inside) (IsWrittenGroup k parent l ts)
-    → Itself page (place_of n within l ts)
+    → Itself page (place_of n within l ts) → (Inside → NoneIsSection ts)
     → (Inside → AllByRecursion (IsAgain page) (all_placed (parent_below n l.id) (within || is_content l.mark) (unranged_all ts)))
     → AllByRecursion (IsAgain page) (placed n within (unranged (tree l ts)))
-node_by AsText l ts k parent page n within Cut Inside e h s f = text_again l ts parent page n within e h
-node_by AsVoid l ts k parent page n within Cut Inside e h s f = element_again l ts page n within (held parent l.kind h.1) h.2 s (f h.4.1)
-node_by RoundCharacter l ts k parent page n within Cut Inside e h s f = element_again l ts page n within (held parent l.kind h.1) h.2 s (f h.4.1)
-node_by RoundChildren l ts k parent page n within Cut Inside e h s f = element_again l ts page n within (held parent l.kind h.1) h.2 s (f h.4.1)
-node_by Unwritten l ts k parent page n within Cut Inside e h s f = group_again l ts k parent page n within h s
+node_by AsText l ts k parent page n within Cut Inside e h s v f = text_again l ts parent page n within e h
+node_by AsVoid l ts k parent page n within Cut Inside e h s v f = element_again l ts page n within (held parent l.kind h.1 h.2.element) h.2 s (v h.4.1) (f h.4.1)
+node_by RoundCharacter l ts k parent page n within Cut Inside e h s v f = element_again l ts page n within (held parent l.kind h.1 h.2.element) h.2 s (v h.4.1) (f h.4.1)
+node_by RoundChildren l ts k parent page n within Cut Inside e h s v f = element_again l ts page n within (held parent l.kind h.1 h.2.element) h.2 s (v h.4.1) (f h.4.1)
+node_by (AsSection s) l ts k parent page n within Cut Inside e h r v f = absurd h
+node_by Unwritten l ts k parent page n within Cut Inside e h s v f = group_again l ts k parent page n within h s
 
 mutual
   node_again : (t : Tree) (k : ℕ) (parent : Kind) (page : Page) (n : ℕ) (within : Bool) → WrittenIn k parent t
       → AllByRecursion (Itself page) (placed n within t) → AllByRecursion (IsAgain page) (placed n within (unranged t))
   node_again (tree l ts) k parent page n within h s =
-      node_by (writing l.kind) l ts k parent page n within _ (AllWrittenIn (suc k) l.kind ts) refl h s.0
+      node_by (writing l.kind) l ts k parent page n within _ (AllWrittenIn (suc k) l.kind ts) refl h s.0 (none_section ts (suc k) l.kind)
       (λ w. nodes_again ts (suc k) l.kind page (parent_below n l.id) (within || is_content l.mark) w s.1)
 
   nodes_again : (ts : Trees) (k : ℕ) (parent : Kind) (page : Page) (n : ℕ) (within : Bool) → AllWrittenIn k parent ts
@@ -206,10 +236,10 @@ mutual
 -- ---- the whole page
 
 root_again : (l : Label) (ts : Trees) (page : Page) → l.kind ≡ kind.Body → IsElementLabel l → l.id ≡ 0
-    → page 0 ≡ Some (place_of 0 false l ts) → IsAgain page (place_read 0 false l (unranged_all ts))
-root_again l ts page b h z r = record {
+    → page 0 ≡ Some (place_of 0 false l ts) → NoneIsSection ts → IsAgain page (place_read 0 false l (unranged_all ts))
+root_again l ts page b h z r alone = record {
   group = λ k. absurd (true_is (not (l.id == 0)) (unkept_zero l.id z) k);
-  node = λ o c. found_node (page l.id) (place_of 0 false l ts) (tree (label_read l) (unranged_all ts)) (ap page z ∙ r) (λ g. same_node l ts);
+  node = λ o c. found_node (page l.id) (place_of 0 false l ts) (tree (label_read l) (unranged_all ts)) (ap page z ∙ r) (λ g. same_node l ts alone);
   unmarked = h.mark;
 }
 
@@ -218,13 +248,13 @@ found_root : (l : Label) (ts : Trees) → l.id ≡ 0 → page_of (tree l ts) 0 �
 found_root l ts e =
     ap (λ b. if b then Some (place_of 0 false l ts) else numbered 0 (all_placed (parent_below 0 l.id) (is_content l.mark) ts)) (test_equal l.id 0 e)
 
-pub page_again : (t : Tree) → IsWritten t → InPreorder t → AllByRecursion (IsAgain (page_of t)) (places (unranged t))
+pub page_again : (t : Tree) → IsWrittenBody t → InPreorder t → AllByRecursion (IsAgain (page_of t)) (places (unranged t))
 page_again (tree l ts) w i =
     let s : AllByRecursion (Itself (page_of (tree l ts))) (places (tree l ts)) = each_itself (places (tree l ts)) (increasing (tree l ts) w.0 i) in
     let z : l.id ≡ 0 = (all_page_numbers (tree l ts) w.0 i).root in
     others_again l ts (page_of (tree l ts)) 0 false (ap is_group w.0)
-    (root_again l ts (page_of (tree l ts)) w.0 w.1 z (found_root l ts z))
-    (nodes_again ts 2 kind.Body (page_of (tree l ts)) (parent_below 0 l.id) (is_content l.mark) w.2 s.1)
+    (root_again l ts (page_of (tree l ts)) w.0 w.1 z (found_root l ts z) (none_section ts 8 kind.Body w.2))
+    (nodes_again ts 8 kind.Body (page_of (tree l ts)) (parent_below 0 l.id) (is_content l.mark) w.2 s.1)
 
 -- ---- kept nodes in their order
 
@@ -314,10 +344,10 @@ marks_of page (p ∷ ps) h = (
   marks_of page ps h.1,
 )
 
-body_kind : (t : Tree) → IsWritten t → (label t).kind ≡ kind.Body
+body_kind : (t : Tree) → IsWrittenBody t → (label t).kind ≡ kind.Body
 body_kind (tree l ts) w = w.0
 
-unchanged_kept : (t : Tree) → IsWritten t → InPreorder t → Kept false t (unranged t)
+unchanged_kept : (t : Tree) → IsWrittenBody t → InPreorder t → Kept false t (unranged t)
 unchanged_kept t w i =
     let a = page_again t w i in
     record {
@@ -329,5 +359,5 @@ unchanged_kept t w i =
     }
 
 -- the checks find nothing
-pub unchanged_checked : (t : Tree) → IsWritten t → InPreorder t → checked false t (unranged t) ≡ None
+pub unchanged_checked : (t : Tree) → IsWrittenBody t → InPreorder t → checked false t (unranged t) ≡ None
 unchanged_checked t w i = unrefused false t (unranged t) (body_kind t w) i (unchanged_kept t w i)

@@ -11,11 +11,13 @@ ghost use Rattle.wt_annotated.specs.Annotated.{annotated};
 ghost use Rattle.wt_annotated.specs.Clean.{is_clean};
 ghost use Rattle.wt_annotated.specs.GroupData.{group_data};
 ghost use Rattle.wt_annotated.specs.Pieces.{outer_calls};
+ghost use Rattle.wt_sections.specs.Sections.{with_sections};
 ghost use Rattle.wt_ranges.specs.Preorder.{InPreorder-prop};
 
 use crate::grouping::group_tree;
 use std::alloc::Global;
 use wt_inline::PieceTree;
+use wt_sections::gather_sections;
 use wt_span::{Items, NoMemory, Outer, Range};
 use wt_tree::Node;
 
@@ -79,9 +81,25 @@ fn sound_calls<'a, 'b>(items: &'b Items<'a>) -> &'b [Outer<'a>]
     items.outer()
 }
 
+/// The annotated tree of a page with this body, whose children are put into sections.
+fn in_sections<'a>(
+    alloc: Global,
+    body: Node<'a>,
+    items: Items<'a>,
+) -> Result<Annotated<'a>, NoMemory>
+    requires tiled { Tiled (view body) }
+    requires numbered { InPreorder (view body) }
+    ensures tree { IfOk result (λ a. view a.tree.body ≡ with_sections (view body.entry)) }
+    ensures items { IfOk result (λ a. a.items ≡ items.entry) }
+{
+    let gathered = gather_sections(alloc, body)?;
+    Ok(Annotated::of(gathered, items))
+}
+
 /// The annotated tree of a tree over a page's items: its groups and the nodes that are kept, each
 /// with its place in bytes of the page, its source as it stands there, and its number; each group
-/// carries its parts; the texts and separators of items and cells are cut anew.
+/// carries its parts; the texts and separators of items and cells are cut anew; the body's children stand in
+/// sections.
 ///
 /// The root of the tree is clean: so is each body of a page (`body_is_clean`).
 pub fn group<'a>(
@@ -91,9 +109,9 @@ pub fn group<'a>(
 ) -> Result<Annotated<'a>, NoMemory>
     requires clean { is_clean (tree_items (item_tree tree)) 0 (item_tree tree) ≡ true }
     requires bytes { length (page_of items.outer (tree_items (item_tree tree))) < 2 ^ 32 }
-    ensures tree { IfOk result (λ a. view a.tree.body ≡ annotated items.entry.outer (group_data items.entry.outer) (item_tree tree.entry)) }
+    ensures tree { IfOk result (λ a. view a.tree.body ≡ with_sections (annotated items.entry.outer (group_data items.entry.outer) (item_tree tree.entry))) }
     ensures items { IfOk result (λ a. a.items ≡ items.entry) }
 {
     let body = group_tree(alloc, sound_calls(&items), tree)?;
-    Ok(Annotated::of(body, items))
+    in_sections(alloc, body, items)
 }

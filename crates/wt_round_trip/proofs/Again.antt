@@ -12,7 +12,7 @@ use Rattle.wt_tree.specs.Source.{flat, flat_of_all}
 use Rattle.wt_tree.specs.Plain.{Plains, ended, along, element, face, text_before, shown_before, plain_before, plains_before, plain}
 use Rattle.wt_tree.specs.Tiling.{HasNoGroup, NoneIsGroup, is_group, numbers, numbers_of_all}
 use Rattle.wt_tree.specs.declared.row.Writing.{Writing}
-use Rattle.wt_tree.specs.declared.row.Writing.TheVariants.{AsText, AsVoid, RoundCharacter, RoundChildren, Unwritten}
+use Rattle.wt_tree.specs.declared.row.Writing.TheVariants.{AsText, AsVoid, RoundCharacter, RoundChildren, AsSection, Unwritten}
 use Rattle.wt_tree.specs.Kinds.{writing}
 use Rattle.wt_markup.specs.Html.{written, group_html, groups_by, groups, groups_of_all, html, html_of_all, frame_start, frame_end, html_text}
 use Rattle.wt_round_trip.specs.GroupNodes.{group_nodes}
@@ -47,6 +47,7 @@ same_label AsText l inside = refl
 same_label AsVoid l inside = refl
 same_label RoundCharacter l inside = refl
 same_label RoundChildren l inside = refl
+same_label (AsSection n) l inside = refl
 same_label Unwritten l inside = refl
 
 same_shown : (s : Showing) (l m : Label) (f g : Plains → Plains) (rest : Plains) → l.shown ≡ m.shown → face l ≡ face m

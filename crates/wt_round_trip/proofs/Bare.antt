@@ -3,7 +3,7 @@ use Rattle.std.proofs.Common.{◌≡◌, ℕ, Bool, true, false, Option, None, L
 use Rattle.std.specs.Prelude.{◌||◌, ◌&&◌, if◌then◌else◌}
 use Rattle.wt_tree.specs.declared.kind.Ranges.{Ranges}
 use Rattle.wt_tree.specs.declared.row.Writing.{Writing}
-use Rattle.wt_tree.specs.declared.row.Writing.TheVariants.{AsText, AsVoid, RoundCharacter, RoundChildren, Unwritten}
+use Rattle.wt_tree.specs.declared.row.Writing.TheVariants.{AsText, AsVoid, RoundCharacter, RoundChildren, AsSection, Unwritten}
 use Rattle.wt_tree.specs.Kinds.{writing, is_block}
 use Rattle.wt_tree.specs.Tiling.{is_group}
 use Rattle.wt_tree.specs.Tree.{Label, Tree, tree, Trees, none, more, label}
@@ -50,6 +50,7 @@ text_ranges l e = by_writing (writing l.kind) e
     by_writing AsVoid e = absurd (cc e)
     by_writing RoundCharacter e = absurd (cc e)
     by_writing RoundChildren e = absurd (cc e)
+    by_writing (AsSection n) e = absurd (cc e)
     by_writing Unwritten e = absurd (cc e)
 
 text_same : (r : Option Ranges) (own : List ℕ) (ts : Trees) → unranged_all (text_onto r own ts) ≡ text_onto None own (unranged_all ts)

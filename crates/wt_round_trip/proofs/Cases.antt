@@ -21,7 +21,7 @@ use Rattle.wt_datamw.specs.Sync.{sync_text, sync_members}
 use Rattle.wt_datamw.specs.SyncRead.{sync_told, sync_of_data, is_sync_shape}
 use Rattle.wt_tree.specs.Kinds.{spelling, tag_name, attribute_name}
 use Rattle.wt_markup.specs.Escapes.{escape, escape_double, escape_single}
-use Rattle.wt_markup.specs.Html.{attribute, id_attribute, mw_attribute, sync_of, sync_start, sync_value, sync_attribute, attributes_of, start_tag, void_tag, end_tag, about_attribute, first_attributes, next_attributes, frame_start, frame_end, html_text}
+use Rattle.wt_markup.specs.Html.{attribute, id_attribute, mw_attribute, sync_of, sync_start, sync_value, sync_attribute, attributes_of, start_tag, void_tag, end_tag, about_attribute, first_attributes, next_attributes, frame_start, frame_end, section_start, html_text}
 use Rattle.wt_tree.specs.Values.{placeholder, extension_prefix, no_include, no_include_end, only_include, only_include_end, include_only}
 use Rattle.wt_fitting.specs.Groups.{transclusion, param}
 use Rattle.wt_fitting.specs.Read.{read, read_tree, page}
@@ -68,6 +68,17 @@ unfolding read read_tree sync_told sync_of_data is_sync_shape html_text frame_st
     id_attribute mw_attribute sync_of sync_start sync_value sync_attribute spelling attribute_name placeholder sync_text
     sync_members escape escape_single serde_json_on_literals digits tag_name
 one_letter = refl
+
+-- the same in a section that stands in the lead: sections are written, and what they hold is read
+abbrev section : ℕ → Tree → Tree
+section n t = tree (blank (kind.Section n) 0 0 1) (more t none)
+
+sections_opened : read (html_text (body 1 (more (section 0 (section 1 (tree (blank kind.Para 1 0 1) (more (text_leaf 0 1 (codes "a")) none)))) none)))
+    ≡ page (unranged letter_page) None
+unfolding read read_tree sync_told sync_of_data is_sync_shape html_text frame_start frame_end section_start start_tag end_tag attributes_of
+    id_attribute mw_attribute sync_of sync_start sync_value sync_attribute spelling attribute_name placeholder sync_text
+    sync_members escape escape_single serde_json_on_literals digits tag_name
+sections_opened = refl
 
 -- `&lt;` in a paragraph
 entity_page : Tree
@@ -234,6 +245,7 @@ unfolding spelling tag_name digits mw_text mw_told mw_of_data is_mw_shape has_sm
 style_written = (
   refl,
   record {
+    element = refl;
     level = refl;
     number = refl;
     places = (omega arith, omega arith, omega arith, omega arith);
@@ -249,6 +261,7 @@ style_written = (
       omega arith,
       refl,
       record {
+        element = refl;
         level = refl;
         number = (omega arith, omega arith);
         places = (omega arith, omega arith, omega arith, omega arith);
@@ -300,6 +313,7 @@ style_written = (
                   (
                     omega arith,
                     record {
+                      element = refl;
                       level = refl;
                       attrs = inr (refl, inr (refl, inr (refl, inr (refl, inr (refl, inr (refl, refl))))));
                       shows = refl;

@@ -4,7 +4,7 @@ use Rattle.std.proofs.Common.{◌≡◌, ℕ, suc, ◌+◌, ◌<◌, ◌^◌, Bo
 use Rattle.wt_tree.specs.declared.kind.Kind.{Kind}
 use Rattle.wt_tree.specs.Tree.{Label, Tree, tree, Trees, none as no_trees, more as one_more}
 use Rattle.wt_tree.specs.declared.row.Writing.{Writing}
-use Rattle.wt_tree.specs.declared.row.Writing.TheVariants.{AsText, AsVoid, RoundCharacter, RoundChildren, Unwritten}
+use Rattle.wt_tree.specs.declared.row.Writing.TheVariants.{AsText, AsVoid, RoundCharacter, RoundChildren, AsSection, Unwritten}
 use Rattle.wt_tree.specs.declared.kind.Kind.TheVariants as kind
 use Rattle.wt_tree.specs.Kinds.{writing, element_name, texts_of_kind, may_hold}
 use Rattle.wt_tree.specs.Plain.{ended, plains_before}
@@ -24,7 +24,7 @@ use Rattle.wt_round_trip.proofs.Rows.{is_as_void, is_round_character, IsElementK
 use Rattle.wt_round_trip.proofs.Order.{pairs}
 use Rattle.wt_round_trip.proofs.Labels.{IsTold, told, small_id}
 use Rattle.wt_round_trip.proofs.ShownAgain.{elements_html}
-use Rattle.wt_round_trip.proofs.Tags.{pieces, signs, element_with, void_with, node_with, signs_spelled, character_spelled, with_spelled, void_with_spelled, signs_good, with_good, void_with_good, text_before, signs_stand, text_twice, text_empty, text_node, character_stands, with_stands, void_with_stands}
+use Rattle.wt_round_trip.proofs.Tags.{pieces, signs, element_with, void_with, node_with, section_for, section_markup, signs_spelled, character_spelled, with_spelled, void_with_spelled, signs_good, with_good, void_with_good, text_before, signs_stand, text_twice, text_empty, text_node, character_stands, with_stands, void_with_stands}
 use Rattle.wt_round_trip.proofs.GroupItems.{group_items, group_markups, group_spelled, group_good, group_stands}
 
 abbrev pub element_for : Label → Items → Element
@@ -39,6 +39,7 @@ placed AsText l inside group rest = signs (pieces l.own) rest
 placed AsVoid l inside group rest = child (void_for l) rest
 placed RoundCharacter l inside group rest = child (element_for l (signs (pieces l.shown) none)) rest
 placed RoundChildren l inside group rest = child (element_for l inside) rest
+placed (AsSection n) l inside group rest = child (section_for n inside) rest
 placed Unwritten l inside group rest = group
 
 -- behind n groups
@@ -79,6 +80,7 @@ node_bytes AsText l inside group = written AsText l inside
 node_bytes AsVoid l inside group = written AsVoid l inside
 node_bytes RoundCharacter l inside group = written RoundCharacter l inside
 node_bytes RoundChildren l inside group = written RoundChildren l inside
+node_bytes (AsSection n) l inside group = written (AsSection n) l inside
 node_bytes Unwritten l inside group = group
 
 spelled_by : (w : Writing) (k : ℕ) (parent : Kind) (l : Label) (childless : Bool) (H G : Type 0) (inside group : Items) (bytes others : List ℕ)
@@ -96,6 +98,7 @@ spelled_by RoundCharacter k parent l childless H G inside group bytes others res
     (held_spelled parent l h.1 h.2) (character_spelled l.shown u))
 spelled_by RoundChildren k parent l childless H G inside group bytes others rest e h f g =
     ap (λ x. x ++ spell_items rest) (element_spelled l inside bytes (held_spelled parent l h.1 h.2) (f e h.4))
+spelled_by (AsSection n) k parent l childless H G inside group bytes others rest e h f g = absurd h
 spelled_by Unwritten k parent l childless H G inside group bytes others rest e h f g = g h
 
 -- what is written as a node is no group
@@ -104,6 +107,7 @@ is_written AsText = true
 is_written AsVoid = true
 is_written RoundCharacter = true
 is_written RoundChildren = true
+is_written (AsSection n) = true
 is_written Unwritten = false
 
 pub not_group : (k : Kind) → is_written (writing k) ≡ true → is_group k ≡ false
@@ -121,6 +125,7 @@ node_html RoundCharacter l k parent childless H ts bytes others e h =
     if_false (is_group l.kind) _ _ (not_group l.kind (ap is_written e)) ∙ ap (λ v. written v l bytes) e
 node_html RoundChildren l k parent childless H ts bytes others e h =
     if_false (is_group l.kind) _ _ (not_group l.kind (ap is_written e)) ∙ ap (λ v. written v l bytes) e
+node_html (AsSection n) l k parent childless H ts bytes others e h = absurd h
 node_html Unwritten l k parent childless H ts bytes others e h = ap (λ j. if is_group j then others else written (writing l.kind) l bytes) h.label.kind
 
 -- the groups in a node round its children, and a group itself
@@ -182,6 +187,7 @@ good_by RoundCharacter k parent l childless H G inside group rest e h f i g =
 good_by RoundChildren k parent l childless H G inside group rest e h f i g =
     let q : IsElementKind l.kind l.attrs = held_kind parent l h.1 h.2 in
     (element_good l k inside h.0 q (ap is_as_void e) (told l q h.2) (f e h.4), g)
+good_by (AsSection n) k parent l childless H G inside group rest e h f i g = absurd h
 good_by Unwritten k parent l childless H G inside group rest e h f i g = i h
 
 mutual
@@ -208,6 +214,7 @@ marked_up AsText l inside group rest = text_before l.own rest
 marked_up AsVoid l inside group rest = more (node_for l empty) rest
 marked_up RoundCharacter l inside group rest = more (node_for l (flush l.shown empty)) rest
 marked_up RoundChildren l inside group rest = more (node_for l inside) rest
+marked_up (AsSection n) l inside group rest = more (section_markup n inside) rest
 marked_up Unwritten l inside group rest = group
 
 abbrev mutual
@@ -246,6 +253,7 @@ stands_by RoundCharacter k parent l childless H G inside group rest m g n run e 
     (element_stands l (signs (pieces l.shown) none) (flush l.shown empty) (told l q h.2) (character_stands l.shown u)) (r [])
 stands_by RoundChildren k parent l childless H G inside group rest m g n run e h f i r =
     child_stands l (element_for l inside) m n rest run (element_stands l inside m (told l (held_kind parent l h.1 h.2) h.2) (f e h.4)) (r [])
+stands_by (AsSection i) k parent l childless H G inside group rest m g n run e h f j r = absurd h
 stands_by Unwritten k parent l childless H G inside group rest m g n run e h f i r = i h
 
 mutual

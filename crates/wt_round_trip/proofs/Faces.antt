@@ -7,8 +7,8 @@ use Rattle.wt_tree.specs.declared.kind.Kind.{Kind}
 use Rattle.wt_tree.specs.declared.kind.Kind.TheVariants as kind
 use Rattle.wt_tree.specs.declared.kind.TagName.TheVariants as tag
 use Rattle.wt_tree.specs.declared.row.Writing.{Writing}
-use Rattle.wt_tree.specs.declared.row.Writing.TheVariants.{AsText, AsVoid, RoundCharacter, RoundChildren, Unwritten}
-use Rattle.wt_tree.specs.Kinds.{shape, writing, is_numbered, may_hold, spelling, fixed_attributes, element_name, attribute_name}
+use Rattle.wt_tree.specs.declared.row.Writing.TheVariants.{AsText, AsVoid, RoundCharacter, RoundChildren, AsSection, Unwritten}
+use Rattle.wt_tree.specs.Kinds.{shape, writing, is_numbered, is_section, may_hold, spelling, fixed_attributes, element_name, attribute_name}
 use Rattle.wt_tree.specs.Plain.{Face}
 use Rattle.wt_tree.specs.Tiling.{is_group}
 use Rattle.wt_markup.specs.Html.{face_attributes}
@@ -36,6 +36,7 @@ is_element AsText = false
 is_element AsVoid = true
 is_element RoundCharacter = true
 is_element RoundChildren = true
+is_element (AsSection n) = false
 is_element Unwritten = false
 
 element_writing : (k : Kind) → is_somewhere (shape k).class ≡ true → is_element (writing k) ≡ true
@@ -44,6 +45,7 @@ element_writing kind.Sep e = absurd cc
 element_writing kind.Text e = absurd cc
 element_writing kind.Group e = absurd cc
 element_writing kind.Empty e = absurd cc
+element_writing (kind.Section n) e = absurd cc
 element_writing k e = refl
 
 no_group : (k : Kind) → is_somewhere (shape k).class ≡ true → is_group k ≡ false
@@ -60,11 +62,12 @@ or_held false true e h f = refl
 or_held false false e h f = absurd (cc h)
 
 -- where it may stand it is somewhere
-pub held_somewhere : (parent k : Kind) (e : Bool) → (may_hold parent k || (is_span k && e)) ≡ true → is_somewhere (shape k).class ≡ true
-held_somewhere parent k e h = by_test (may_hold parent k) refl
+pub held_somewhere : (parent k : Kind) (e : Bool) → (may_hold parent k || (is_span k && e)) ≡ true → is_section k ≡ false
+    → is_somewhere (shape k).class ≡ true
+held_somewhere parent k e h s = by_test (may_hold parent k) refl
   where
     by_test : (b : Bool) → may_hold parent k ≡ b → is_somewhere (shape k).class ≡ true
-    by_test true t = held parent k t
+    by_test true t = held parent k t s
     by_test false t = span_somewhere k (or_held (may_hold parent k) (is_span k) e h t)
 
 -- ---- its attributes

@@ -4,16 +4,15 @@ use Rattle.std.specs.Prelude.{Ok, not, ◌||◌, ◌&&◌, if◌then◌else◌}
 use Rattle.std.specs.Option.{option_map, option_or}
 use Rattle.wt_tree.specs.declared.kind.Kind.{Kind}
 use Rattle.wt_tree.specs.declared.kind.Kind.TheVariants as kind
-use Rattle.wt_tree.specs.Kinds.{is_leaf, is_numbered, may_follow, may_hold, texts_of_kind, writing, element_name}
+use Rattle.wt_tree.specs.Kinds.{is_leaf, is_section, may_follow, may_hold, texts_of_kind, writing, element_name}
 use Rattle.wt_tree.specs.Plain.{Plains}
-use Rattle.wt_tree.specs.Tree.{Label, Tree, tree, Trees, none as no_trees, more as one_more, label}
+use Rattle.wt_tree.specs.Tree.{Label, Tree, tree, Trees, none as no_trees, more as one_more}
 use Rattle.wt_tree.specs.Tiling.{is_group}
 use Rattle.wt_tree.specs.Recut.{is_as_text, shows_block}
-use Rattle.wt_tree.specs.declared.row.Holding.TheVariants as holding
 use Rattle.wt_tree.specs.declared.row.Texts.{Texts}
 use Rattle.wt_tree.specs.declared.row.Texts.TheVariants.{Separators, Page, Bordered, OwnCharacter}
 use Rattle.wt_tree.specs.declared.row.Writing.{Writing}
-use Rattle.wt_tree.specs.declared.row.Writing.TheVariants.{AsText, AsVoid, RoundCharacter, RoundChildren, Unwritten}
+use Rattle.wt_tree.specs.declared.row.Writing.TheVariants.{AsText, AsVoid, RoundCharacter, RoundChildren, AsSection, Unwritten}
 use Rattle.wt_markup.specs.Html.{groups, groups_of_all}
 use Rattle.wt_html_grammar.specs.Markup.{Pair, Markups, text, node, empty, more, flush}
 use Rattle.wt_html_grammar.proofs.Steps.{if_true, if_false}
@@ -24,7 +23,8 @@ use Rattle.wt_fitting.specs.Rows.{holds_text, shows_text}
 use Rattle.wt_fitting.specs.Data.{is_empty}
 use Rattle.wt_fitting.specs.Groups.{standing, open_by, is_span, is_none, is_dropped, Piece, single}
 use Rattle.wt_fitting.specs.Fit.{elements, label_for, texts_in, are_blank, onto_told, held_as, text_fits, within, fit_nodes}
-use Rattle.wt_fitting.specs.Unsourced.{is_unsourced, unsourced_as, unsourced_nodes}
+use Rattle.wt_fitting.specs.Unsourced.{is_unsourced, lacks_source, unsourced_as, unsourced_nodes}
+use Rattle.wt_fitting.specs.Sections.{is_section_name}
 use Rattle.wt_round_trip.specs.GroupNodes.{elements_for, group_nodes, all_follow}
 use Rattle.wt_round_trip.specs.Written.{label_read, unranged, unranged_all, leaf_kind, goes_behind, are_ordered, IsCutIn, IsShown, IsElementLabel, IsWrittenGroup, is_childless, NodeIsWritten, WrittenIn, AllWrittenIn}
 use Rattle.wt_round_trip.proofs.Bare.{others_read}
@@ -36,7 +36,7 @@ use Rattle.wt_round_trip.proofs.ShownAgain.{elements_some}
 use Rattle.wt_round_trip.proofs.Tags.{text_before, text_twice}
 use Rattle.wt_round_trip.proofs.GroupItems.{group_markups}
 use Rattle.wt_round_trip.proofs.Elements.{is_written, not_group, Inside, group_number, inside_number, node_for, marked_up, markup_before, markups_of}
-use Rattle.wt_round_trip.proofs.Steps.{spot, node_step, leaf_of, leaf_other, not_dropped, none_open, text_step, Fresh, fresh_fit, group_pieces, ungathered, gathered_again}
+use Rattle.wt_round_trip.proofs.Steps.{spot, node_step, leaf_of, leaf_other, not_dropped, none_open, text_step, none_lacks, Fresh, fresh_fit, group_pieces, ungathered, gathered_again}
 use Rattle.wt_round_trip.proofs.GroupFits.{stands_alone, behind_all, behind_is, group_fit, group_sourced, group_fresh, before_group}
 use Rattle.wt_round_trip.proofs.Merged.{held_read, merged, merged_text, merged_twice, no_children}
 use Rattle.wt_round_trip.proofs.Ordered.{goes_is, group_goes, group_shows, ordered_in, shows_is, text_class, texts_fit}
@@ -109,24 +109,21 @@ none_held OwnCharacter = refl
 
 -- an element before others
 child_fit : (n : ℕ) (parent : Kind) (b : Bool) (l : Label) (ts : Trees) (m rest : Markups) (us vs : Trees) → IsTold l
-    → may_hold parent l.kind ≡ true → may_follow b l.kind ≡ true → is_group l.kind ≡ false
+    → may_hold parent l.kind ≡ true → is_section l.kind ≡ false → may_follow b l.kind ≡ true → is_group l.kind ≡ false
     → (if shows_text l.kind then texts_in m else []) ≡ l.shown → text_fits l.kind m ≡ true
     → fit_nodes (suc n) (within l.kind false) m ≡ Ok (ungathered us) → held_as (texts_of_kind l.kind) us ≡ unranged_all ts
     → ((n : ℕ) → fit_nodes n (spot parent false (b || shows_block (tree l ts)) None) rest ≡ Ok (ungathered vs))
     → fit_nodes n (spot parent false b None) (more (node_for l m) rest) ≡ Ok (ungathered (one_more (unranged (tree l ts)) vs))
-child_fit n parent b l ts m rest us vs t h q o s f i c g =
+child_fit n parent b l ts m rest us vs t h d q o s f i c g =
     let ps : List Pair = pairs (said_of l) in
     let same : label_for l.kind ps t.told (texts_in m) ≡ label_read l = t.label_is (texts_in m) s in
     node_step n (spot parent false b None) stands.Alone l.kind (element_name l.kind) ps t.told m rest (ungathered us) (ungathered vs)
-    (stands_alone ps None t.alone) (t.row (numbered_held parent l h))
+    (stands_alone ps None t.alone) (t.row (held_numbered parent l h d))
     (ap (λ x. x || (false && (is_span l.kind && is_none m))) (and_true _ _ h q)) t.data_is f i
     (λ k. ap (λ x. fit_nodes k (spot parent false (b || x) None) rest) (sym (shows_is l ts o)) ∙ g k)
     ∙ ap₂ (λ x y. Ok (single (tree x y) ∷ ungathered vs)) same (ap (held_as (texts_of_kind l.kind)) (gathered_again us) ∙ c)
     ∙ ap Ok (sym (if_false (is_group l.kind) _ _ o))
     ∙ ap (λ x. Ok (ungathered (one_more x vs))) (sym (others_read l ts o))
-  where
-    numbered_held : (parent : Kind) (l : Label) → may_hold parent l.kind ≡ true → is_numbered l.kind ≡ true
-    numbered_held parent l h = held_numbered parent l h
 
 -- an element by how it is written, or a group
 fit_by : (w : Writing) (k : ℕ) (parent : Kind) (b : Bool) (l : Label) (ts : Trees) (H : Type 0) (m group rest : Markups) (vs : Trees)
@@ -145,7 +142,7 @@ fit_by AsVoid k parent b l ts H m group rest vs n e a h q f i j g =
     let o : is_group l.kind ≡ false = not_group l.kind (ap is_written e) in
     let s : shows_text l.kind ≡ false = d.shows ∙ ap is_round_character e in
     let c : unranged_all ts ≡ no_trees = leaf_children l.kind ts (void_leaf l.kind e) h.3 in
-    child_fit n parent b l ts empty rest no_trees vs (told l d h.2) h.1 (sym (goes_is b l ts o) ∙ q) o (nothing_shown l [] s h.2) (empty_text l.kind) refl
+    child_fit n parent b l ts empty rest no_trees vs (told l d h.2) h.1 h.2.element (sym (goes_is b l ts o) ∙ q) o (nothing_shown l [] s h.2) (empty_text l.kind) refl
     (none_held (texts_of_kind l.kind) ∙ sym c) g
 fit_by RoundCharacter k parent b l ts H m group rest vs n e a h q f i j g =
     let d : IsElementKind l.kind l.attrs = held_kind parent l h.1 h.2 in
@@ -153,14 +150,15 @@ fit_by RoundCharacter k parent b l ts H m group rest vs n e a h q f i j g =
     let s : shows_text l.kind ≡ true = d.shows ∙ ap is_round_character e in
     let c : unranged_all ts ≡ no_trees = leaf_children l.kind ts (character_leaf l.kind e) h.3 in
     let x : Markups = flush l.shown empty in
-    child_fit n parent b l ts x rest no_trees vs (told l d h.2) h.1 (sym (goes_is b l ts o) ∙ q) o (character_shown l s) (character_text l.kind x s)
+    child_fit n parent b l ts x rest no_trees vs (told l d h.2) h.1 h.2.element (sym (goes_is b l ts o) ∙ q) o (character_shown l s) (character_text l.kind x s)
     (no_node (suc n) l.kind l.shown s) (none_held (texts_of_kind l.kind) ∙ sym c) g
 fit_by RoundChildren k parent b l ts H m group rest vs n e a h q f i j g =
     let d : IsElementKind l.kind l.attrs = held_kind parent l h.1 h.2 in
     let o : is_group l.kind ≡ false = not_group l.kind (ap is_written e) in
     let s : shows_text l.kind ≡ false = d.shows ∙ ap is_round_character e in
     let r = i e h.4 s (suc n) in
-    child_fit n parent b l ts m rest r.0 vs (told l d h.2) h.1 (sym (goes_is b l ts o) ∙ q) o (nothing_shown l (texts_in m) s h.2) (f e h.4) r.1 r.2 g
+    child_fit n parent b l ts m rest r.0 vs (told l d h.2) h.1 h.2.element (sym (goes_is b l ts o) ∙ q) o (nothing_shown l (texts_in m) s h.2) (f e h.4) r.1 r.2 g
+fit_by (AsSection i) k parent b l ts H m group rest vs n e a h q f j o g = absurd h
 fit_by Unwritten k parent b l ts H m group rest vs n e a h q f i j g = j h (sym (group_goes b l ts h.label.kind) ∙ q)
 
 and_follow : (a b : Bool) → (a && b) ≡ true → (a ≡ true) × (b ≡ true)
@@ -168,13 +166,13 @@ and_follow true b e = (refl, e)
 and_follow false b e = absurd (cc e)
 
 -- a text alone, before what begins with none
-text_alone : (n : ℕ) (parent : Kind) (b : Bool) (own : List ℕ) (ms : Markups) (vs : Trees) → shows_text parent ≡ false
+pub text_alone : (n : ℕ) (parent : Kind) (b : Bool) (own : List ℕ) (ms : Markups) (vs : Trees) → shows_text parent ≡ false
     → ((n : ℕ) → fit_nodes n (spot parent false b None) ms ≡ Ok (ungathered vs))
     → fit_nodes n (spot parent false b None) (more (text own) ms) ≡ Ok (ungathered (one_more (leaf_of parent own) vs))
 text_alone n parent b own ms vs p g =
     text_step n parent false b own ms (ungathered vs) p g ∙ ap Ok (sym (if_false (is_group (leaf_kind parent)) _ _ (leaf_other parent)))
 
-before_none : (own : List ℕ) → is_empty own ≡ false → text_before own empty ≡ more (text own) empty
+pub before_none : (own : List ℕ) → is_empty own ≡ false → text_before own empty ≡ more (text own) empty
 before_none [] e = absurd (cc e)
 before_none (b ∷ bs) e = refl
 
@@ -188,7 +186,7 @@ some_append [] cs e = absurd (cc e)
 some_append (b ∷ bs) cs e = refl
 
 -- what is written of an element or a group begins with no text
-before_other : (w : Writing) (own : List ℕ) (k : ℕ) (parent : Kind) (l : Label) (childless : Bool) (H : Type 0) (ts : Trees) (i : ℕ) (m ms : Markups)
+pub before_other : (w : Writing) (own : List ℕ) (k : ℕ) (parent : Kind) (l : Label) (childless : Bool) (H : Type 0) (ts : Trees) (i : ℕ) (m ms : Markups)
     → is_as_text w ≡ false → NodeIsWritten w k parent l childless H (IsWrittenGroup k parent l ts) → is_empty own ≡ false
     → text_before own (marked_up w l m (group_markups true i l (elements_for ts) ms) ms)
     ≡ more (text own) (marked_up w l m (group_markups true i l (elements_for ts) ms) ms)
@@ -196,21 +194,24 @@ before_other AsText own k parent l childless H ts i m ms a h e = absurd (cc a)
 before_other AsVoid own k parent l childless H ts i m ms a h e = before_child own l empty ms e
 before_other RoundCharacter own k parent l childless H ts i m ms a h e = before_child own l (flush l.shown empty) ms e
 before_other RoundChildren own k parent l childless H ts i m ms a h e = before_child own l m ms e
+before_other (AsSection n) own k parent l childless H ts i m ms a h e = absurd h
 before_other Unwritten own k parent l childless H ts i m ms a h e = before_group own (elements_for ts) k parent i l ms e (elements_some ts) h.elements
 
-text_facts : (w : Writing) (k : ℕ) (parent : Kind) (l : Label) (childless : Bool) (H G : Type 0) → is_as_text w ≡ true
+pub text_facts : (w : Writing) (k : ℕ) (parent : Kind) (l : Label) (childless : Bool) (H G : Type 0) → is_as_text w ≡ true
     → NodeIsWritten w k parent l childless H G → is_empty l.own ≡ false
 text_facts AsText k parent l childless H G a h = h.0.some
 text_facts AsVoid k parent l childless H G a h = absurd (cc a)
 text_facts RoundCharacter k parent l childless H G a h = absurd (cc a)
 text_facts RoundChildren k parent l childless H G a h = absurd (cc a)
+text_facts (AsSection n) k parent l childless H G a h = absurd (cc a)
 text_facts Unwritten k parent l childless H G a h = absurd (cc a)
 
-text_markup : (w : Writing) (l : Label) (m g ms : Markups) → is_as_text w ≡ true → marked_up w l m g ms ≡ text_before l.own ms
+pub text_markup : (w : Writing) (l : Label) (m g ms : Markups) → is_as_text w ≡ true → marked_up w l m g ms ≡ text_before l.own ms
 text_markup AsText l m g ms a = refl
 text_markup AsVoid l m g ms a = absurd (cc a)
 text_markup RoundCharacter l m g ms a = absurd (cc a)
 text_markup RoundChildren l m g ms a = absurd (cc a)
+text_markup (AsSection n) l m g ms a = absurd (cc a)
 text_markup Unwritten l m g ms a = absurd (cc a)
 
 -- a text is no group, and behind a block or not it leaves it so
@@ -278,7 +279,7 @@ group_read k parent b l us vs rest n i small h o x g =
         else single (tree (label_read l) (if y then group_nodes us else unranged_all us)) ∷ ungathered vs
 
 -- an element or a group, by what stands in it and what follows it
-other_fit : (k : ℕ) (parent : Kind) (b : Bool) (l : Label) (us vs : Trees) (rest : Markups) (i : ℕ) → is_as_text (writing l.kind) ≡ false
+pub other_fit : (k : ℕ) (parent : Kind) (b : Bool) (l : Label) (us vs : Trees) (rest : Markups) (i : ℕ) → is_as_text (writing l.kind) ≡ false
     → WrittenIn k parent (tree l us) → goes_behind b (tree l us) ≡ true → i + groups (tree l us) < 2 ^ 64 → Fresh rest
     → (writing l.kind ≡ RoundChildren → shows_text l.kind ≡ false → AllWrittenIn (suc k) l.kind us → are_ordered false us ≡ true → (m : ℕ)
     → fit_nodes m (within l.kind false) (markups_of i us) ≡ Ok (ungathered (merged l.kind (unranged_all us))))
@@ -319,9 +320,10 @@ fresh_by AsText k parent l childless H ts m rest i h b x = fresh_text l.own rest
 fresh_by AsVoid k parent l childless H ts m rest i h b x = fresh_node parent l h.1 h.2
 fresh_by RoundCharacter k parent l childless H ts m rest i h b x = fresh_node parent l h.1 h.2
 fresh_by RoundChildren k parent l childless H ts m rest i h b x = fresh_node parent l h.1 h.2
+fresh_by (AsSection n) k parent l childless H ts m rest i h b x = absurd h
 fresh_by Unwritten k parent l childless H ts m rest i h b x = group_fresh (elements_for ts) k parent (suc i) l rest (b h) h.label (elements_some ts) h.elements
 
-fresh_one : (t : Tree) (k : ℕ) (parent : Kind) (i : ℕ) (rest : Markups) → WrittenIn k parent t → i + groups t < 2 ^ 64 → Fresh rest
+pub fresh_one : (t : Tree) (k : ℕ) (parent : Kind) (i : ℕ) (rest : Markups) → WrittenIn k parent t → i + groups t < 2 ^ 64 → Fresh rest
     → Fresh (markup_before i t rest)
 fresh_one (tree l ts) k parent i rest h b x =
     fresh_by (writing l.kind) k parent l (is_childless ts) (Inside k l.kind ts) ts (markups_of i ts) rest i h (λ g. group_number i l ts b g.label.kind) x
@@ -391,9 +393,10 @@ element_sourced : (parent : Kind) (l : Label) (m rest : Markups) (n : ℕ) → m
 element_sourced parent l m rest n h e i g =
     let t : IsTold l = told l (held_kind parent l h e) e in
     let ps : List Pair = pairs (said_of l) in
-    ap (λ s. option_or (unsourced_as s n ps (unsourced_nodes (suc n) None m))
+    let lacks : Bool = lacks_source (element_name l.kind) ps in
+    ap (λ s. option_or (unsourced_as s n lacks (unsourced_nodes (suc n) None m))
     (unsourced_nodes (n + elements (node_for l m)) (open_by s None (value_of (codes "about") ps)) rest)) (stands_alone ps None t.alone)
-    ∙ ap₂ option_or (if_false (is_unsourced ps) _ _ t.sourced ∙ i) (g (n + elements (node_for l m)))
+    ∙ ap₂ option_or (if_false lacks _ _ (none_lacks (is_section_name (element_name l.kind)) (is_unsourced ps) t.sourced) ∙ i) (g (n + elements (node_for l m)))
 
 text_sourced : (n : ℕ) (own : List ℕ) (ms : Markups) → ((n : ℕ) → unsourced_nodes n None ms ≡ None) → unsourced_nodes n None (text_before own ms) ≡ None
 text_sourced n [] ms g = g n
@@ -413,6 +416,7 @@ sourced_by AsVoid k parent l childless H G m group rest n e h i j g = element_so
 sourced_by RoundCharacter k parent l childless H G m group rest n e h i j g = element_sourced parent l (flush l.shown empty) rest n h.1 h.2
     (texts_sourced (suc n) l.shown) g
 sourced_by RoundChildren k parent l childless H G m group rest n e h i j g = element_sourced parent l m rest n h.1 h.2 (i e h.4 (suc n)) g
+sourced_by (AsSection i) k parent l childless H G m group rest n e h j o g = absurd h
 sourced_by Unwritten k parent l childless H G m group rest n e h i j g = j h
 
 mutual

@@ -20,7 +20,8 @@ use Rattle.wt_fitting.specs.Rows.{row, holds_text, shows_text}
 use Rattle.wt_fitting.specs.Data.{is_empty, no_data}
 use Rattle.wt_fitting.specs.Groups.{standing, standing_by, open_by, is_span, is_none, Piece, single, begun, further, gathered}
 use Rattle.wt_fitting.specs.Fit.{elements, texts_in, are_blank, label_for, text_fits, fit_nodes}
-use Rattle.wt_fitting.specs.Unsourced.{unsourced_as, unsourced_nodes}
+use Rattle.wt_fitting.specs.Sections.{is_section_name}
+use Rattle.wt_fitting.specs.Unsourced.{is_unsourced, lacks_source, unsourced_as, unsourced_nodes}
 use Rattle.wt_round_trip.specs.GroupNodes.{element_label, inner_node, inner_nodes, is_ended, is_empty_span, is_block_face, in_order, all_follow}
 use Rattle.wt_round_trip.specs.Written.{label_read, shown_of, begins_with_characters, PlainIn, PlainsIn, TopsIn, IsGroupLabel}
 use Rattle.wt_round_trip.proofs.Said.{about_value, face_said, next_said, first_said}
@@ -28,7 +29,7 @@ use Rattle.wt_round_trip.proofs.Order.{pairs}
 use Rattle.wt_round_trip.proofs.Tags.{text_before}
 use Rattle.wt_round_trip.proofs.Firsts.{first_told}
 use Rattle.wt_round_trip.proofs.GroupItems.{plains_markups, group_markups, inner_told, top_told}
-use Rattle.wt_round_trip.proofs.Steps.{spot, node_step, leaf_of, text_step, Fresh, fresh_sourced, further_pieces, group_pieces, singles, gathered_singles}
+use Rattle.wt_round_trip.proofs.Steps.{spot, node_step, leaf_of, text_step, none_lacks, Fresh, fresh_sourced, further_pieces, group_pieces, singles, gathered_singles}
 
 and_both : (a b : Bool) → (a && b) ≡ true → (a ≡ true) × (b ≡ true)
 and_both true b e = (refl, e)
@@ -213,7 +214,7 @@ further_sourced (along (face_of f qs) ps) k parent g l rest small h r n =
     let i = t.next g small in
     let e : List Pair = pairs (next_said g (face_attributes f)) in
     let c : Markups = plains_markups qs in
-    ap (λ s. option_or (unsourced_as s n e (unsourced_nodes (suc n) None c))
+    ap (λ s. option_or (unsourced_as s n (lacks_source (element_name f.kind) e) (unsourced_nodes (suc n) None c))
     (unsourced_nodes (n + elements (node (element_name f.kind) e c)) (open_by s (Some (about_value g)) (value_of (codes "about") e))
     (group_markups false g l ps rest)))
     (stands_further (about_value g) e i.about i.no_mw)
@@ -230,9 +231,10 @@ group_sourced (along (face_of f qs) ps) k parent g l rest small w e h x r n =
     let rs : List Pair = pairs (first_said g l (face_attributes f)) in
     let c : Markups = plains_markups qs in
     let m : ℕ = n + elements (node (element_name f.kind) rs c) in
-    ap (λ s. option_or (unsourced_as s n rs (unsourced_nodes (suc n) None c))
+    ap (λ s. option_or (unsourced_as s n (lacks_source (element_name f.kind) rs) (unsourced_nodes (suc n) None c))
     (unsourced_nodes m (open_by s None (value_of (codes "about") rs)) (group_markups false g l ps rest))) (i.stands None)
-    ∙ ap₂ (λ u y. option_or (if u then Some n else None) (unsourced_nodes m y (group_markups false g l ps rest))) i.sourced i.about
+    ∙ ap₂ (λ u y. option_or (if u then Some n else None) (unsourced_nodes m y (group_markups false g l ps rest)))
+    (none_lacks (is_section_name (element_name f.kind)) (is_unsourced rs) i.sourced) i.about
     ∙ further_sourced ps k parent g l rest small h.1 (λ m. fresh_sourced rest m (Some (about_value g)) x ∙ r m) m
 
 -- ---- they follow a text, or another group

@@ -5,7 +5,7 @@ use Rattle.std.specs.Prelude.{not, ◌||◌}
 use Rattle.wt_tree.specs.declared.kind.Kind.{Kind}
 use Rattle.wt_tree.specs.declared.kind.Kind.TheVariants as kind
 use Rattle.wt_tree.specs.declared.row.Writing.{Writing}
-use Rattle.wt_tree.specs.declared.row.Writing.TheVariants.{AsText, AsVoid, RoundCharacter, RoundChildren, Unwritten}
+use Rattle.wt_tree.specs.declared.row.Writing.TheVariants.{AsText, AsVoid, RoundCharacter, RoundChildren, AsSection, Unwritten}
 use Rattle.wt_tree.specs.Kinds.{writing, is_leaf, may_hold, element_name}
 use Rattle.wt_tree.specs.Plain.{Face, Plain, text as characters, element as face_of, Plains, ended, along}
 use Rattle.wt_tree.specs.Tree.{Label}
@@ -30,6 +30,7 @@ element_as AsText k ss inside = element_with k ss inside
 element_as AsVoid k ss inside = void_with k ss
 element_as RoundCharacter k ss inside = element_with k ss inside
 element_as RoundChildren k ss inside = element_with k ss inside
+element_as (AsSection n) k ss inside = element_with k ss inside
 element_as Unwritten k ss inside = element_with k ss inside
 
 as_spelled : (w : Writing) (k : Kind) (ss : List Said) (attrs bytes : List ℕ) (inside : Items) → is_element w ≡ true
@@ -38,6 +39,7 @@ as_spelled AsText k ss attrs bytes inside i e f = absurd (cc i)
 as_spelled AsVoid k ss attrs bytes inside i e f = void_with_spelled k ss attrs e
 as_spelled RoundCharacter k ss attrs bytes inside i e f = with_spelled k ss attrs bytes inside e f
 as_spelled RoundChildren k ss attrs bytes inside i e f = with_spelled k ss attrs bytes inside e f
+as_spelled (AsSection n) k ss attrs bytes inside i e f = absurd (cc i)
 as_spelled Unwritten k ss attrs bytes inside i e f = absurd (cc i)
 
 as_good : (w : Writing) (k : Kind) (ss : List Said) (depth : ℕ) (inside : Items) → depth < 200 → IsName (element_name k)
@@ -46,6 +48,7 @@ as_good AsText k ss depth inside h n v g i = with_good k ss depth inside h n v g
 as_good AsVoid k ss depth inside h n v g i = void_with_good k ss depth h n v g
 as_good RoundCharacter k ss depth inside h n v g i = with_good k ss depth inside h n v g i
 as_good RoundChildren k ss depth inside h n v g i = with_good k ss depth inside h n v g i
+as_good (AsSection m) k ss depth inside h n v g i = with_good k ss depth inside h n v g i
 as_good Unwritten k ss depth inside h n v g i = with_good k ss depth inside h n v g i
 
 as_stands : (w : Writing) (k : Kind) (ss : List Said) (inside : Items) (m : Markups) → AreGood [] ss → contents [] inside ≡ m
@@ -54,6 +57,7 @@ as_stands AsText k ss inside m g e f = with_stands k ss inside m g e
 as_stands AsVoid k ss inside m g e f = void_with_stands k ss g ∙ ap (node_with k ss) (sym (f refl))
 as_stands RoundCharacter k ss inside m g e f = with_stands k ss inside m g e
 as_stands RoundChildren k ss inside m g e f = with_stands k ss inside m g e
+as_stands (AsSection n) k ss inside m g e f = with_stands k ss inside m g e
 as_stands Unwritten k ss inside m g e f = with_stands k ss inside m g e
 
 -- ---- what stands in the elements of a group
@@ -100,7 +104,7 @@ void_empty k qs h e = none_inside qs (by_test (is_leaf k) (void_leaf k e) h)
 
 -- what is read of an element that a node of a kind holds
 pub inner_told : (parent : Kind) (f : Face) → may_hold parent f.kind ≡ true → IsFace f → IsFaceTold f
-inner_told parent f h i = face_told f i (held parent f.kind h)
+inner_told parent f h i = face_told f i (held parent f.kind h i.element)
 
 mutual
   plain_spelled : (p : Plain) (k : ℕ) (parent : Kind) (rest : Items) → PlainIn k parent p
@@ -170,7 +174,7 @@ group_markups first g l (along (face_of f qs) ps) rest =
     more (node_with f.kind (top_said first g l f) (plains_markups qs)) (group_markups false g l ps rest)
 
 pub top_told : (parent : Kind) (f : Face) (qs : Plains) (k : ℕ) → TopIn k parent (face_of f qs) → IsFaceTold f
-top_told parent f qs k h = face_told f h.1.1 (held_somewhere parent f.kind (is_ended qs) h.0)
+top_told parent f qs k h = face_told f h.1.1 (held_somewhere parent f.kind (is_ended qs) h.0 h.1.1.element)
 
 top_good : (first : Bool) (g : ℕ) (l : Label) (f : Face) → g < 2 ^ 64 → IsGroupLabel l → IsFaceTold f → AreGood [] (top_said first g l f)
 top_good true g l f small h t = (first_told g l f small h t.rising).good

@@ -1,6 +1,6 @@
 -- What is read of the label of an element: its kind, its number, its places, its source and its data.
 use Rattle.std.proofs.Common.{◌≡◌, ℕ, ◌<◌, ◌≤◌, ◌^◌, Bool, true, false, Option, Some, None, List, [], ◌∷◌, ◌++◌, map, decimal, IsUtf8, refl, sym, ap, ap₂, ◌∙◌, subst, arith, codes, option_map}
-use Rattle.std.specs.Prelude.{Ok, is_some, not, ◌==◌, ◌||◌, if◌then◌else◌}
+use Rattle.std.specs.Prelude.{Ok, is_some, not, ◌==◌, ◌&&◌, ◌||◌, if◌then◌else◌}
 use Rattle.std.proofs.lemmas.Bool.{eqb-true}
 use Rattle.std.proofs.lemmas.Bool.Decides.{nat_tests}
 use Rattle.std.proofs.lemmas.Fmt.{IsAscii-decimal}
@@ -22,7 +22,9 @@ use Rattle.wt_datamw.specs.SyncRead.{sync_told}
 use Rattle.wt_markup.specs.Html.{leaf_sync, inner_sync, sync_of}
 use Rattle.wt_html_grammar.specs.Markup.{Pair}
 use Rattle.wt_html_grammar.proofs.Steps.{if_true, if_false}
-use Rattle.wt_fitting.specs.Attributes.{value_of, or_zero, id_of_value, id_of, mark_of_value}
+use Rattle.wt_fitting.specs.Sections.{is_section_name}
+use Rattle.wt_fitting.proofs.SectionNames.{no_section}
+use Rattle.wt_fitting.specs.Attributes.{value_of, has, or_zero, id_of_value, id_of, mark_of_value}
 use Rattle.wt_fitting.specs.Rows.{row_by, row, shows_text, own_of, attrs_for}
 use Rattle.wt_fitting.specs.Data.{Data, is_for, sync_for, some_sync, sync_fits, is_extension_of, mw_for, mw_fits, both, data_of, id_for}
 use Rattle.wt_fitting.specs.Fit.{source_of, label_for}
@@ -288,7 +290,8 @@ pub row_is : (name : List ℕ) (xs : List (AttrName × List ℕ)) (ps : List Pai
     → value_of (attribute_name attr.Typeof) ps ≡ value_at 1 xs → value_of (attribute_name attr.Property) ps ≡ value_at 2 xs
     → value_of (attribute_name attr.Rel) ps ≡ value_at 3 xs → row_by name (value_at 1 xs) (value_at 2 xs) (value_at 3 xs) ≡ Some k → row name ps ≡ Some k
 row_is name xs ps k t p r f =
-    ap (λ o. row_by name o (value_of (attribute_name attr.Property) ps) (value_of (attribute_name attr.Rel) ps)) t
+    if_false (is_section_name name) _ _ (no_section name (value_at 1 xs) (value_at 2 xs) (value_at 3 xs) k f)
+    ∙ ap (λ o. row_by name o (value_of (attribute_name attr.Property) ps) (value_of (attribute_name attr.Rel) ps)) t
     ∙ ap (λ o. row_by name (value_at 1 xs) o (value_of (attribute_name attr.Rel) ps)) p
     ∙ ap (row_by name (value_at 1 xs) (value_at 2 xs)) r
     ∙ f
@@ -316,7 +319,10 @@ told_by l r s k h p e y q =
       marked = ap is_some v.edit;
       alone = v.about;
       told = record { sync = Some s; mw = l.mw };
-      data_is = ap₂ both (ap (sync_fits l.kind) v.source ∙ sync_fits_is l.kind s (sync_text s) (sync_read s places) y.kind)
+      data_is = ap (λ b. if b && has (codes "data-wt-edit") ps then None
+          else both (sync_fits l.kind (value_of (codes "data-parsoid") ps))
+          (mw_fits (is_extension_of l.kind (value_of (attribute_name attr.Typeof) ps)) (value_of (codes "data-mw") ps))) h.element
+          ∙ ap₂ both (ap (sync_fits l.kind) v.source ∙ sync_fits_is l.kind s (sync_text s) (sync_read s places) y.kind)
           (ap₂ mw_fits (ap (is_extension_of l.kind) v.type) v.mw ∙ mw_fits_is (is_extension_label l) l.mw h.mw);
       label_is = λ bs f. same_label l.kind l.mw (id_is l.kind ps l.id h.number (ap id_of_value v.id ∙ number_said_is l.id small))
           (ap Some y.places ∙ sym e ∙ sym (k.placed l.ranges)) y.opening y.closing y.own f

@@ -19,6 +19,10 @@ pub mod GroupFits
 pub mod Merged
 pub mod Ordered
 pub mod Fits
+pub mod SectionItems
+pub mod SectionBared
+pub mod SectionFits
 pub mod Whole
+pub mod Shallower
 pub mod ShownAgain
 pub mod Again

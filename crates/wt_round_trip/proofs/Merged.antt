@@ -3,18 +3,15 @@ use Rattle.std.proofs.Common.{◌≡◌, ℕ, Bool, true, false, None, List, [],
 use Rattle.std.specs.Prelude.{◌&&◌, if◌then◌else◌}
 use Rattle.std.proofs.lemmas.Bool.{true≢false}
 use Rattle.wt_tree.specs.declared.kind.Kind.{Kind}
-use Rattle.wt_tree.specs.declared.kind.Kind.TheVariants as kind
 use Rattle.wt_tree.specs.Kinds.{texts_of_kind, writing}
 use Rattle.wt_tree.specs.Tree.{Label, Tree, tree, Trees, none as no_trees, more as one_more, label}
 use Rattle.wt_tree.specs.Recut.{leaf_label, sep_leaf, is_as_text, is_text, text_onto, onto, joined_texts, cut_from, recut}
 use Rattle.wt_tree.specs.Cutting.{begins_with_text}
-use Rattle.wt_tree.specs.declared.row.Holding.TheVariants as holding
 use Rattle.wt_tree.specs.declared.row.Texts.{Texts}
 use Rattle.wt_tree.specs.declared.row.Texts.TheVariants.{Separators, Page, Bordered, OwnCharacter}
 use Rattle.wt_tree.specs.declared.row.Writing.{Writing}
-use Rattle.wt_tree.specs.declared.row.Writing.TheVariants.{AsText, AsVoid, RoundCharacter, RoundChildren, Unwritten}
+use Rattle.wt_tree.specs.declared.row.Writing.TheVariants.{AsText, AsVoid, RoundCharacter, RoundChildren, AsSection, Unwritten}
 use Rattle.wt_html_grammar.proofs.Steps.{if_true, if_false}
-use Rattle.wt_fitting.specs.declared.standing.Standing.TheVariants as stands
 use Rattle.wt_fitting.specs.Fit.{held_as}
 use Rattle.wt_round_trip.specs.Written.{ranges_read, label_read, unranged, unranged_all, shown_of, leaf_kind, HasLeafKind, IsTextIn, joins, IsCutIn, IsWrittenGroup, is_childless, NodeIsWritten, WrittenIn, AllWrittenIn}
 use Rattle.wt_round_trip.proofs.Bare.{SameBlocks, AllSame, others_read, recut_same}
@@ -62,13 +59,13 @@ is_bordered Bordered = true
 is_bordered OwnCharacter = false
 
 -- where a text and a separator don't stand beside each other, each is read as it is
-text_label : (parent : Kind) (l : Label) → l.kind ≡ leaf_kind parent → IsTextIn parent l
+pub text_label : (parent : Kind) (l : Label) → l.kind ≡ leaf_kind parent → IsTextIn parent l
     → leaf_label (leaf_kind parent) None l.own (shown_of (leaf_kind parent) l.own) ≡ label_read l
 text_label parent l e h =
     let w : writing l.kind ≡ AsText = ap writing e ∙ leaf_as_text parent in
     rw (w, h.shown, e, h.id, h.opening, h.closing, h.attrs, h.origin, h.mark, h.mw)
 
-plain_kind : (x : Texts) (j k : Kind) → is_bordered x ≡ false → HasLeafKind x j k → k ≡ j
+pub plain_kind : (x : Texts) (j k : Kind) → is_bordered x ≡ false → HasLeafKind x j k → k ≡ j
 plain_kind Separators j k e h = h
 plain_kind Page j k e h = h
 plain_kind Bordered j k e h = absurd (cc e)
@@ -98,6 +95,7 @@ alone_by AsText k parent l us ts H G e b h a =
 alone_by AsVoid k parent l us ts H G e b h a = refl
 alone_by RoundCharacter k parent l us ts H G e b h a = refl
 alone_by RoundChildren k parent l us ts H G e b h a = refl
+alone_by (AsSection n) k parent l us ts H G e b h a = refl
 alone_by Unwritten k parent l us ts H G e b h a = refl
 
 alone_read : (k : ℕ) (parent : Kind) (t : Tree) (ts : Trees) → is_bordered (texts_of_kind parent) ≡ false → WrittenIn k parent t
@@ -129,6 +127,7 @@ one_unranged (tree l us) e = by_writing (writing l.kind) e
     by_writing AsVoid e = absurd (cc e)
     by_writing RoundCharacter e = absurd (cc e)
     by_writing RoundChildren e = absurd (cc e)
+    by_writing (AsSection n) e = absurd (cc e)
     by_writing Unwritten e = absurd (cc e)
 
 merged_unranged : (parent : Kind) (own : List ℕ) (ts : Trees) → AllUnranged ts → AllUnranged (merged_text parent own ts)
@@ -190,6 +189,7 @@ blocks_by AsText k parent l childless H ts e h g = absurd (true≢false (sym g �
 blocks_by AsVoid k parent l childless H ts e h g = absurd (true≢false (sym g ∙ not_group l.kind (ap is_written e)))
 blocks_by RoundCharacter k parent l childless H ts e h g = absurd (true≢false (sym g ∙ not_group l.kind (ap is_written e)))
 blocks_by RoundChildren k parent l childless H ts e h g = absurd (true≢false (sym g ∙ not_group l.kind (ap is_written e)))
+blocks_by (AsSection n) k parent l childless H ts e h g = absurd h
 blocks_by Unwritten k parent l childless H ts e h g = h.blocks
 
 same_blocks : (t : Tree) (k : ℕ) (parent : Kind) → WrittenIn k parent t → SameBlocks t

@@ -5,7 +5,7 @@ use Rattle.wt_tree.specs.declared.kind.Kind.{Kind}
 use Rattle.wt_tree.specs.declared.kind.Kind.TheVariants as kind
 use Rattle.wt_tree.specs.Kinds.{shape, is_class, is_anywhere, admits, is_block, is_inline, may_follow, may_hold, texts_of_kind, writing}
 use Rattle.wt_tree.specs.Plain.{text as characters, element as face_of, Plains, ended, along}
-use Rattle.wt_tree.specs.Tree.{Label, Tree, tree, Trees, none as no_trees, more as one_more, label}
+use Rattle.wt_tree.specs.Tree.{Label, Tree, tree, Trees, none as no_trees, more as one_more}
 use Rattle.wt_tree.specs.Tiling.{is_group}
 use Rattle.wt_tree.specs.Recut.{is_white, is_blank, is_as_text, shows_block, any_shows_block}
 use Rattle.wt_tree.specs.declared.row.Class.{Class}
@@ -15,16 +15,15 @@ use Rattle.wt_tree.specs.declared.row.Holding.TheVariants as holding
 use Rattle.wt_tree.specs.declared.row.Texts.{Texts}
 use Rattle.wt_tree.specs.declared.row.Texts.TheVariants.{Separators, Page, Bordered, OwnCharacter}
 use Rattle.wt_tree.specs.declared.row.Writing.{Writing}
-use Rattle.wt_tree.specs.declared.row.Writing.TheVariants.{AsText, AsVoid, RoundCharacter, RoundChildren, Unwritten}
+use Rattle.wt_tree.specs.declared.row.Writing.TheVariants.{AsText, AsVoid, RoundCharacter, RoundChildren, AsSection, Unwritten}
 use Rattle.wt_markup.specs.Html.{groups}
 use Rattle.wt_html_grammar.specs.Markup.{Markups, text, node, empty, more}
 use Rattle.wt_html_grammar.proofs.Steps.{if_false}
 use Rattle.wt_html_grammar.proofs.Reading.{and_true}
-use Rattle.wt_fitting.specs.declared.standing.Standing.TheVariants as stands
 use Rattle.wt_fitting.specs.Rows.{holds_text}
 use Rattle.wt_fitting.specs.Groups.{is_span}
 use Rattle.std.proofs.lemmas.List.Folds.{list_all-append}
-use Rattle.wt_fitting.specs.Fit.{elements, are_blank, text_fits}
+use Rattle.wt_fitting.specs.Fit.{are_blank, text_fits}
 use Rattle.wt_round_trip.specs.GroupNodes.{elements_for, inner_nodes, is_ended, is_empty_span, all_follow}
 use Rattle.wt_round_trip.specs.Written.{goes_behind, are_ordered, IsCutIn, IsWrittenGroup, TopsIn, is_childless, NodeIsWritten, WrittenIn, AllWrittenIn}
 use Rattle.wt_round_trip.proofs.Faces.{or_held}
@@ -57,9 +56,10 @@ blank_by AsText k parent l childless H G inside group rest e h f g = blank_text 
 blank_by AsVoid k parent l childless H G inside group rest e h f g = f
 blank_by RoundCharacter k parent l childless H G inside group rest e h f g = f
 blank_by RoundChildren k parent l childless H G inside group rest e h f g = f
+blank_by (AsSection n) k parent l childless H G inside group rest e h f g = f
 blank_by Unwritten k parent l childless H G inside group rest e h f g = g
 
-blank_before : (t : Tree) (k : ℕ) (parent : Kind) (i : ℕ) (rest : Markups) → holds_text parent ≡ false → WrittenIn k parent t
+pub blank_before : (t : Tree) (k : ℕ) (parent : Kind) (i : ℕ) (rest : Markups) → holds_text parent ≡ false → WrittenIn k parent t
     → are_blank rest ≡ true → are_blank (markup_before i t rest) ≡ true
 blank_before (tree l ts) k parent i rest e h f =
     blank_by (writing l.kind) k parent l (is_childless ts) (Inside k l.kind ts) (IsWrittenGroup k parent l ts) (markups_of i ts)
@@ -129,6 +129,7 @@ text_class k e = absurd cc
 -- an item, a cell or a caption alone holds both
 unmixed : (k : Kind) → is_bordered (texts_of_kind k) ≡ false → ((shape k).holding ≡ holding.Blocks) ⊎ (holds_blocks (shape k).holding ≡ false)
 unmixed kind.Body e = inl refl
+unmixed (kind.Section n) e = inl refl
 unmixed kind.Li e = absurd cc
 unmixed kind.Dt e = absurd cc
 unmixed kind.Dd e = absurd cc
@@ -138,7 +139,7 @@ unmixed kind.Th e = absurd cc
 unmixed k e = inr refl
 
 -- a group stands among blocks alone, or among none
-not_and : (b c : Bool) → c ≡ false → not (b && c) ≡ true
+pub not_and : (b c : Bool) → c ≡ false → not (b && c) ≡ true
 not_and true c e = ap not e
 not_and false c e = refl
 
@@ -211,6 +212,7 @@ goes_by RoundCharacter k parent l childless H ts behind e b h =
     goes_is behind l ts (not_group l.kind (ap is_written e)) ∙ not_and behind (is_inline l.kind) (among_blocks parent l.kind b h.1)
 goes_by RoundChildren k parent l childless H ts behind e b h =
     goes_is behind l ts (not_group l.kind (ap is_written e)) ∙ not_and behind (is_inline l.kind) (among_blocks parent l.kind b h.1)
+goes_by (AsSection n) k parent l childless H ts behind e b h = absurd h
 goes_by Unwritten k parent l childless H ts behind e b h =
     group_goes behind l ts h.label.kind ∙ tops_follow (elements_for ts) k parent behind b h.elements
 
@@ -225,11 +227,12 @@ none_by RoundCharacter k parent l childless H ts e b h =
     let g = not_group l.kind (ap is_written e) in (goes_is false l ts g, shows_is l ts g ∙ no_block (shape parent).holding (shape l.kind).class b h.1)
 none_by RoundChildren k parent l childless H ts e b h =
     let g = not_group l.kind (ap is_written e) in (goes_is false l ts g, shows_is l ts g ∙ no_block (shape parent).holding (shape l.kind).class b h.1)
+none_by (AsSection n) k parent l childless H ts e b h = absurd h
 none_by Unwritten k parent l childless H ts e b h =
     let r = no_block_among (elements_for ts) k parent b h.elements in
     (group_goes false l ts h.label.kind ∙ r.0, group_shows l ts h.label.kind ∙ sym h.blocks ∙ r.1)
 
-goes : (t : Tree) (k : ℕ) (parent : Kind) (behind : Bool) → (shape parent).holding ≡ holding.Blocks → WrittenIn k parent t → goes_behind behind t ≡ true
+pub goes : (t : Tree) (k : ℕ) (parent : Kind) (behind : Bool) → (shape parent).holding ≡ holding.Blocks → WrittenIn k parent t → goes_behind behind t ≡ true
 goes (tree l ts) k parent behind b h = goes_by (writing l.kind) k parent l (is_childless ts) (Inside k l.kind ts) ts behind refl b h
 
 none_block : (t : Tree) (k : ℕ) (parent : Kind) → holds_blocks (shape parent).holding ≡ false → WrittenIn k parent t

@@ -13,12 +13,12 @@ use Rattle.wt_tree.specs.declared.kind.TagName.{TagName}
 use Rattle.wt_tree.specs.declared.kind.TagName.TheVariants as tag
 use Rattle.wt_tree.specs.declared.kind.Ranges.{Ranges}
 use Rattle.wt_tree.specs.declared.row.Class.{Class}
-use Rattle.wt_tree.specs.declared.row.Class.TheVariants.{Nowhere}
+use Rattle.wt_tree.specs.declared.row.Class.TheVariants.{Nowhere, Section}
 use Rattle.wt_tree.specs.declared.row.Holding.{Holding}
 use Rattle.wt_tree.specs.declared.row.Holding.TheVariants as holding
 use Rattle.wt_tree.specs.declared.row.Writing.{Writing}
 use Rattle.wt_tree.specs.declared.row.Writing.TheVariants.{AsVoid, RoundCharacter}
-use Rattle.wt_tree.specs.Kinds.{shape, writing, is_numbered, is_anywhere, admits, may_hold, spelling, tag_name, element_name, fixed_attributes}
+use Rattle.wt_tree.specs.Kinds.{shape, writing, is_numbered, is_section, is_class, is_anywhere, admits, may_hold, spelling, tag_name, element_name, fixed_attributes}
 use Rattle.wt_tree.specs.Values.{placeholder, extension_prefix, is_island_type, no_include, no_include_end, only_include, only_include_end, include_only, is_include_type, switch_prefix, is_switch_name}
 use Rattle.wt_tree.specs.Tree.{Label}
 use Rattle.wt_html_grammar.specs.Signs.{is_void, IsName}
@@ -621,8 +621,10 @@ switch_kind xs h =
 
 -- ---- all of them
 
+-- a section is no element with a row
 abbrev pub is_somewhere : Class → Bool
 is_somewhere Nowhere = false
+is_somewhere Section = false
 is_somewhere c = true
 
 nowhere : (h : Holding) → admits h Nowhere ≡ true → ⊥
@@ -638,9 +640,10 @@ nowhere holding.Cells e = cc
 nowhere holding.InlinesThenLists e = cc
 nowhere holding.InlinesThenBlocks e = cc
 
-somewhere : (h : Holding) (c : Class) → (is_anywhere c || admits h c) ≡ true → is_somewhere c ≡ true
-somewhere h Nowhere e = absurd (nowhere h e)
-somewhere h c e = refl
+somewhere : (h : Holding) (c : Class) → (is_anywhere c || admits h c) ≡ true → is_class c Section ≡ false → is_somewhere c ≡ true
+somewhere h Nowhere e s = absurd (nowhere h e)
+somewhere h Section e s = absurd (cc s)
+somewhere h c e s = refl
 
 level_of : (n : ℕ) → has_level (kind.Heading n) ≡ true → (nat_le 1 n && nat_le n 6) ≡ true
 unfolding spelling
@@ -666,6 +669,7 @@ element_kind kind.Island xs e l h = island_kind xs h
 element_kind kind.Include xs e l h = include_kind xs h
 element_kind kind.Switch xs e l h = switch_kind xs h
 element_kind kind.Body xs e l h = absurd (not_true e)
+element_kind (kind.Section n) xs e l h = absurd (not_true e)
 element_kind kind.Sep xs e l h = absurd (not_true e)
 element_kind kind.Text xs e l h = absurd (not_true e)
 element_kind kind.Group xs e l h = absurd (not_true e)
@@ -685,18 +689,19 @@ element_kind kind.Th xs e l h = th_kind xs h
 
 pub numbered : (k : Kind) → is_somewhere (shape k).class ≡ true → is_numbered k ≡ true
 numbered kind.Body e = absurd (not_true e)
+numbered (kind.Section n) e = absurd (not_true e)
 numbered kind.Sep e = absurd (not_true e)
 numbered kind.Text e = absurd (not_true e)
 numbered k e = refl
 
-pub held : (parent k : Kind) → may_hold parent k ≡ true → is_somewhere (shape k).class ≡ true
-held parent k h = somewhere (shape parent).holding (shape k).class h
+pub held : (parent k : Kind) → may_hold parent k ≡ true → is_section k ≡ false → is_somewhere (shape k).class ≡ true
+held parent k h s = somewhere (shape parent).holding (shape k).class h s
 
 pub held_kind : (parent : Kind) (l : Label) → may_hold parent l.kind ≡ true → IsElementLabel l → IsElementKind l.kind l.attrs
-held_kind parent l h e = element_kind l.kind l.attrs (held parent l.kind h) e.level e.attrs
+held_kind parent l h e = element_kind l.kind l.attrs (held parent l.kind h e.element) e.level e.attrs
 
-pub held_numbered : (parent : Kind) (l : Label) → may_hold parent l.kind ≡ true → is_numbered l.kind ≡ true
-held_numbered parent l h = numbered l.kind (held parent l.kind h)
+pub held_numbered : (parent : Kind) (l : Label) → may_hold parent l.kind ≡ true → is_section l.kind ≡ false → is_numbered l.kind ≡ true
+held_numbered parent l h s = numbered l.kind (held parent l.kind h s)
 
 pub body_is_kind : (l : Label) → l.kind ≡ kind.Body → IsElementLabel l → IsElementKind l.kind l.attrs
 body_is_kind l h e = subst (λ k. IsElementKind k l.attrs) (sym h) (body_kind l.attrs)

@@ -89,7 +89,7 @@ digit_plain d l h =
     no_control : (c : ℕ) → 48 ≤ c → is_control c ≡ false
     no_control c h = grind (arith, nat_tests)
 
-digits_plain : (ds : List ℕ) → AllDigits 10 ds → escaped_double ds ≡ ds
+pub digits_plain : (ds : List ℕ) → AllDigits 10 ds → escaped_double ds ≡ ds
 digits_plain [] h = refl
 digits_plain (d ∷ ds) h = let q = digit_from_value d h.0 in ap₂ (λ (x y : List ℕ). x ++ y) (digit_plain d (omega arith) (omega arith)) (digits_plain ds h.1)
 

@@ -1,6 +1,6 @@
 -- Steps of reading: a text, an element by how it stands, and what follows a group.
 use Rattle.std.proofs.Common.{◌≡◌, ℕ, suc, ◌+◌, Bool, true, false, Option, Some, None, List, [], ◌∷◌, refl, sym, ap, ap₂, ◌∙◌, codes}
-use Rattle.std.specs.Prelude.{Result, Ok, ◌||◌, ◌&&◌, if◌then◌else◌}
+use Rattle.std.specs.Prelude.{Result, Ok, not, ◌||◌, ◌&&◌, if◌then◌else◌}
 use Rattle.std.specs.Option.{option_map, option_or}
 use Rattle.wt_tree.specs.declared.kind.Kind.{Kind}
 use Rattle.wt_tree.specs.declared.kind.Kind.TheVariants as kind
@@ -18,7 +18,7 @@ use Rattle.wt_fitting.specs.Rows.{holds_text, shows_text}
 use Rattle.wt_fitting.specs.Data.{Data, data_for}
 use Rattle.wt_fitting.specs.Groups.{standing, standing_by, open_by, open_after, is_gap, is_further, goes_on, is_dropped, Piece, single, begun, further, furthers, gathered}
 use Rattle.wt_fitting.specs.Fit.{Misfit, Spot, within, elements, leaf_in, texts_in, label_as, piece_as, onto_told, children_in, with_children, one_piece, text_fits, is_block_row, row_as, behind_it, fits_place, is_inside, fit_told, fit_row, fit_node, fit_nodes}
-use Rattle.wt_fitting.specs.Unsourced.{unsourced_as, unsourced_nodes}
+use Rattle.wt_fitting.specs.Unsourced.{lacks_source, unsourced_as, unsourced_nodes}
 use Rattle.wt_round_trip.specs.Written.{shown_of, leaf_kind}
 
 -- ---- where something stands
@@ -173,15 +173,20 @@ fresh_fit (more (node name ps c) ts) n parent inside b group h =
     (λ k. fit_nodes (suc n) (within k (is_inside (spot parent inside b None) (standing None ps))) c))
     (open_same (standing None ps) group (value_of (codes "about") ps) (never_further ps))
 
+-- an element that has a source doesn't lack one, whatever its name is
+pub none_lacks : (b c : Bool) → c ≡ false → (not b && c) ≡ false
+none_lacks true c e = refl
+none_lacks false c e = e
+
 pub fresh_sourced : (ts : Markups) (n : ℕ) (group : Option (List ℕ)) → Fresh ts → unsourced_nodes n group ts ≡ unsourced_nodes n None ts
 fresh_sourced empty n group h = refl
 fresh_sourced (more (text bs) ts) n group h =
     ap (λ x. option_or None (unsourced_nodes (n + 0) (if x then group else None) ts)) (fresh_kept group bs ts h)
     ∙ sym (ap (λ x. option_or None (unsourced_nodes (n + 0) (if x then None else None) ts)) (fresh_kept None bs ts h))
 fresh_sourced (more (node name ps c) ts) n group h =
-    ap (λ s. option_or (unsourced_as s n ps (unsourced_nodes (suc n) None c))
+    ap (λ s. option_or (unsourced_as s n (lacks_source name ps) (unsourced_nodes (suc n) None c))
     (unsourced_nodes (n + elements (node name ps c)) (open_by s group (value_of (codes "about") ps)) ts)) (h group)
-    ∙ ap (λ y. option_or (unsourced_as (standing None ps) n ps (unsourced_nodes (suc n) None c))
+    ∙ ap (λ y. option_or (unsourced_as (standing None ps) n (lacks_source name ps) (unsourced_nodes (suc n) None c))
     (unsourced_nodes (n + elements (node name ps c)) y ts))
     (open_same (standing None ps) group (value_of (codes "about") ps) (never_further ps))
 

@@ -1,14 +1,14 @@
 -- Characters and elements as the grammar has them: how they are spelled, that they are good, and what
 -- they stand for.
-use Rattle.std.proofs.Common.{◌≡◌, ℕ, suc, ◌<◌, true, false, List, [], ◌∷◌, ◌++◌, map, flat_map, IsUtf8, chars, refl, sym, ap, ap₂, ◌∙◌, append_assoc, append-nil, codes}
+use Rattle.std.proofs.Common.{◌≡◌, ℕ, suc, ◌<◌, true, false, List, [], ◌∷◌, ◌++◌, map, flat_map, decimal, IsUtf8, chars, refl, sym, ap, ap₂, ◌∙◌, append_assoc, append-nil, codes}
 use Rattle.wt_tree.specs.declared.kind.Kind.{Kind}
 use Rattle.wt_tree.specs.Kinds.{element_name}
 use Rattle.wt_markup.specs.Escapes.{escaped}
 use Rattle.wt_markup.specs.Html.{tag_of, end_tag_of}
 use Rattle.wt_html_grammar.specs.Signs.{in_text, is_void, IsName}
-use Rattle.wt_html_grammar.specs.Grammar.{Piece, spell_piece, spell_pieces, ArePieces, spell_attributes, slash, Element, Items, element, void, none, sign, spell, spell_items, IsElement, AreItems}
+use Rattle.wt_html_grammar.specs.Grammar.{Piece, spell_piece, spell_pieces, ArePieces, Attribute, spell_attributes, slash, Element, Items, element, void, none, sign, spell, spell_items, IsElement, AreItems}
 use Rattle.wt_html_grammar.specs.Markup.{Pair, Markup, Markups, text, node, empty, more, unit_of, flush, meaning, contents}
-use Rattle.wt_round_trip.proofs.Pieces.{text_piece, spells_text, pieces_spelled, pieces_stand}
+use Rattle.wt_round_trip.proofs.Pieces.{text_piece, double_piece, spells_text, pieces_spelled, pieces_stand}
 use Rattle.wt_round_trip.proofs.Said.{Said, attributes_for, said_pairs, said_good, AreGood}
 use Rattle.wt_round_trip.proofs.Order.{pairs}
 
@@ -28,6 +28,23 @@ void_with k ss = void (element_name k) (attributes_for ss) [] slash
 
 abbrev pub node_with : Kind → List Said → Markups → Markup
 node_with k ss inside = node (element_name k) (pairs ss) inside
+
+-- a section round what it holds: its number is its one attribute
+abbrev pub section_attribute : ℕ → Attribute
+section_attribute n = record {
+  gap = 32 ∷ [];
+  name = codes "data-mw-section-id";
+  left = [];
+  right = [];
+  quote = 34;
+  value = map double_piece (chars (decimal n));
+}
+
+abbrev pub section_for : ℕ → Items → Element
+section_for n inside = element (codes "section") (section_attribute n ∷ []) [] inside []
+
+abbrev pub section_markup : ℕ → Markups → Markup
+section_markup n inside = node (codes "section") ((codes "data-mw-section-id", decimal n) ∷ []) inside
 
 -- ---- spelling
 

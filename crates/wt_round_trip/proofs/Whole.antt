@@ -4,6 +4,7 @@ use Rattle.std.specs.Prelude.{Result, Ok, is_some, not, ◌&&◌, if◌then◌el
 use Rattle.std.specs.Str.{bytes_eq}
 use lib.Utf8.{encode}
 use Rattle.wt_tree.specs.declared.kind.Kind.TheVariants as kind
+use Rattle.wt_tree.specs.Opened.{opened, without_sections}
 use Rattle.wt_tree.specs.Tree.{Label, Tree, tree, Trees}
 use Rattle.wt_tree.specs.Kinds.{writing, spelling, element_name, texts_of_kind}
 use Rattle.wt_tree.specs.Plain.{ended, plains_before}
@@ -20,18 +21,20 @@ use Rattle.wt_fitting.specs.Groups.{Piece}
 use Rattle.wt_fitting.specs.Data.{Data, data_of}
 use Rattle.wt_fitting.specs.Rows.{shows_text}
 use Rattle.wt_fitting.specs.Fit.{Misfit, Found, texts_in, label_for, held_as, with_children, text_fits, within, fit_nodes, fit_body_told, body_data, fit_body, body_of, fit}
+use Rattle.wt_fitting.specs.Sections.{all_bared, opened_if_fit}
 use Rattle.wt_fitting.specs.Unsourced.{is_marked, unsourced_body, unsourced}
 use Rattle.wt_fitting.specs.Read.{page, read_fit, read_tree, read_root, read_run, read}
-use Rattle.wt_round_trip.specs.Written.{unranged, unranged_all, IsShown, IsElementLabel, AllWrittenIn, IsWritten}
+use Rattle.wt_round_trip.specs.Written.{unranged, unranged_all, IsShown, IsElementLabel, PartsIn, IsWritten}
 use Rattle.wt_round_trip.proofs.Said.{said_of}
 use Rattle.wt_round_trip.proofs.Rows.{is_as_void, IsElementKind, body_is_kind}
 use Rattle.wt_round_trip.proofs.Order.{pairs}
 use Rattle.wt_round_trip.proofs.Labels.{IsTold, told, small_id}
 use Rattle.wt_round_trip.proofs.Bare.{others_read}
-use Rattle.wt_round_trip.proofs.Elements.{element_for, attributes_spelled, element_spelled, items_of, items_spelled, inside_groups, element_good, items_good, node_for, markups_of, element_stands, items_stand}
+use Rattle.wt_round_trip.proofs.Elements.{element_for, attributes_spelled, element_spelled, items_of, inside_groups, element_good, node_for, markups_of, element_stands}
 use Rattle.wt_round_trip.proofs.Steps.{ungathered, gathered_again}
-use Rattle.wt_round_trip.proofs.Ordered.{texts_fit}
-use Rattle.wt_round_trip.proofs.Fits.{held_fit, items_sourced}
+use Rattle.wt_round_trip.proofs.SectionItems.{parts_spelled, parts_good, parts_stand}
+use Rattle.wt_round_trip.proofs.SectionBared.{parts_blank}
+use Rattle.wt_round_trip.proofs.SectionFits.{parts_read, body_holds, parts_fit, parts_opened, parts_sourced}
 
 -- ---- the document
 
@@ -96,7 +99,7 @@ unfolding encode
 document_stands body = refl
 
 abbrev found : Label → Markups → Found
-found l m = record { number = 4; attributes = pairs (said_of l); contents = m }
+found l m = record { number = 4; attributes = pairs (said_of l); contents = all_bared m }
 
 body_found : (l : Label) (m : Markups) → l.kind ≡ kind.Body → body_of (page_markup (node_for l m)) ≡ Some (found l m)
 unfolding spelling
@@ -118,31 +121,31 @@ body_whole n ps d m us o held e f i =
     ∙ ap (with_children false kind.Body (label_for kind.Body ps d (texts_in m))) i
     ∙ ap (λ ts. Ok (tree (label_for kind.Body ps d (texts_in m)) (held_as (texts_of_kind kind.Body) ts))) (gathered_again us)
 
-body_fits : (l : Label) (ts : Trees) → l.kind ≡ kind.Body → IsElementLabel l → IsTold l → AllWrittenIn 2 kind.Body ts → groups_of_all ts < 2 ^ 64
-    → fit (page_markup (node_for l (markups_of 0 ts))) ≡ Ok (unranged (tree l ts))
+body_fits : (l : Label) (ts : Trees) → l.kind ≡ kind.Body → IsElementLabel l → IsTold l → PartsIn 2 kind.Body ts → groups_of_all ts < 2 ^ 64
+    → fit (page_markup (node_for l (markups_of 0 ts))) ≡ Ok (unranged (without_sections (tree l ts)))
 body_fits l ts e w t h b =
     let ps : List Pair = pairs (said_of l) in
-    let m : Markups = markups_of 0 ts in
+    let m : Markups = all_bared (markups_of 0 ts) in
     let s : [] ≡ l.shown = sym (subst (λ k. IsShown (shows_text k) l.shown) e w.shown) in
-    let f = held_fit ts 2 kind.Body 0 refl tt h (omega (arith, b)) 5 in
-    ap fit_body (body_found l m e)
-    ∙ body_whole 4 ps t.told m f.0 (body_data ps) (fit_nodes 5 (within kind.Body false) m) (body_data_is l t.told e t.alone t.data_is)
-    (texts_fit ts 2 kind.Body 0 h) f.1
-    ∙ ap (λ us. Ok (tree (label_for kind.Body ps t.told (texts_in m)) us)) f.2
-    ∙ ap (λ x. Ok (tree x (unranged_all ts)))
+    ap fit_body (body_found l (markups_of 0 ts) e)
+    ∙ ap opened_if_fit (body_whole 4 ps t.told m (parts_read ts) (body_data ps) (fit_nodes 5 (within kind.Body false) m)
+    (body_data_is l t.told e t.alone t.data_is)
+    (parts_blank ts 2 kind.Body 0 refl h) (parts_fit ts 2 kind.Body false 0 5 body_holds h (omega (arith, b))))
+    ∙ ap (λ us. Ok (tree (label_for kind.Body ps t.told (texts_in m)) us)) (parts_opened ts)
+    ∙ ap (λ x. Ok (tree x (unranged_all (opened ts))))
     (ap (λ k. label_for k ps t.told (texts_in m)) (sym e) ∙ t.label_is (texts_in m) (ap (λ k. if shows_text k then texts_in m else []) e ∙ s))
-    ∙ ap Ok (sym (others_read l ts (ap is_group e)))
+    ∙ ap Ok (sym (others_read l (opened ts) (ap is_group e)))
 
-body_sourced : (l : Label) (ts : Trees) → l.kind ≡ kind.Body → IsTold l → AllWrittenIn 2 kind.Body ts → groups_of_all ts < 2 ^ 64
+body_sourced : (l : Label) (ts : Trees) → l.kind ≡ kind.Body → IsTold l → PartsIn 2 kind.Body ts → groups_of_all ts < 2 ^ 64
     → unsourced (page_markup (node_for l (markups_of 0 ts))) ≡ None
 body_sourced l ts e t h b =
     ap unsourced_body (body_found l (markups_of 0 ts) e)
-    ∙ if_false (is_marked (pairs (said_of l))) _ _ t.marked ∙ items_sourced ts 2 kind.Body 0 5 h (omega (arith, b))
+    ∙ if_false (is_marked (pairs (said_of l))) _ _ t.marked ∙ parts_sourced ts 2 kind.Body 0 5 h (omega (arith, b))
 
 -- ---- the law
 
 pub written_stands : (t : Tree) → IsWritten t → groups t < 2 ^ 64
-    → (m : Markup) × Stands (html_text t) m × (fit m ≡ Ok (unranged t)) × (unsourced m ≡ None)
+    → (m : Markup) × Stands (html_text t) m × (fit m ≡ Ok (unranged (without_sections t))) × (unsourced m ≡ None)
 unfolding html_text
 written_stands (tree l ts) h few =
     let b : groups_of_all ts < 2 ^ 64 = omega (arith, few, inside_groups l ts (ap writing h.0)) in
@@ -152,13 +155,13 @@ written_stands (tree l ts) h few =
     let e : Element = element_for l (items_of 0 ts) in
     let same : html 0 (tree l ts) ≡ spell e =
     ap (λ j. if is_group j then group_html 1 l (plains_before ts ended) else written (writing j) l (html_of_all 0 ts)) h.0
-    ∙ sym (element_spelled l (items_of 0 ts) (html_of_all 0 ts) (attributes_spelled l t (small_id l h.1)) (items_spelled ts 2 kind.Body 0 h.2 z)) in (
+    ∙ sym (element_spelled l (items_of 0 ts) (html_of_all 0 ts) (attributes_spelled l t (small_id l h.1)) (parts_spelled ts 2 kind.Body 0 h.2 z)) in (
       page_markup (node_for l (markups_of 0 ts)),
       (
         document e,
-        document_good e (element_good l 1 (items_of 0 ts) (omega arith) k (ap (λ j. is_as_void (writing j)) h.0) t (items_good ts 2 kind.Body 0 h.2 z)),
+        document_good e (element_good l 1 (items_of 0 ts) (omega arith) k (ap (λ j. is_as_void (writing j)) h.0) t (parts_good ts 2 kind.Body 0 h.2 z)),
         ap (λ x. frame_start ++ (x ++ frame_end)) same ∙ document_spelled e,
-        document_stands e ∙ ap page_markup (element_stands l (items_of 0 ts) (markups_of 0 ts) t (items_stand ts 2 kind.Body [] 0 h.2 z)),
+        document_stands e ∙ ap page_markup (element_stands l (items_of 0 ts) (markups_of 0 ts) t (parts_stand ts 2 kind.Body [] 0 h.2 z)),
       ),
       body_fits l ts h.0 h.1 t h.2 b,
       body_sourced l ts h.0 t h.2 b,
@@ -172,5 +175,5 @@ stands_read bytes m t u s f e =
     ∙ ap (λ (x : Building). read_root bytes x.root) (stands_told bytes m s)
     ∙ ap₂ read_fit e f
 
-pub written_read : (t : Tree) → IsWritten t → groups t < 2 ^ 64 → read (html_text t) ≡ page (unranged t) None
-written_read t h few = let w = written_stands t h few in stands_read (html_text t) w.0 (unranged t) None w.1 w.2 w.3
+pub written_read : (t : Tree) → IsWritten t → groups t < 2 ^ 64 → read (html_text t) ≡ page (unranged (without_sections t)) None
+written_read t h few = let w = written_stands t h few in stands_read (html_text t) w.0 (unranged (without_sections t)) None w.1 w.2 w.3

@@ -11,11 +11,11 @@ use Rattle.wt_tree.specs.declared.node.DataMw.TheVariants as mw
 use Rattle.wt_tree.specs.declared.row.Own.{Own}
 use Rattle.wt_tree.specs.declared.row.Texts.{Texts}
 use Rattle.wt_tree.specs.declared.row.Texts.TheVariants.{Separators, Page, Bordered, OwnCharacter}
-use Rattle.wt_tree.specs.Kinds.{writing, is_leaf, is_numbered, may_hold, may_follow, order, spelling, fixed_attributes, texts_of_kind}
+use Rattle.wt_tree.specs.Kinds.{writing, is_leaf, is_numbered, is_section, may_hold, may_follow, order, spelling, fixed_attributes, texts_of_kind}
 use Rattle.wt_tree.specs.Values.{passes, is_needed}
-use Rattle.wt_tree.specs.Tree.{Label, Tree, tree, Trees, none, more, label}
+use Rattle.wt_tree.specs.Tree.{Label, Tree, tree, Trees, none, more}
 use Rattle.wt_tree.specs.declared.row.Writing.{Writing}
-use Rattle.wt_tree.specs.declared.row.Writing.TheVariants.{AsText, Unwritten}
+use Rattle.wt_tree.specs.declared.row.Writing.TheVariants.{AsText, AsVoid, RoundCharacter, RoundChildren, AsSection, Unwritten}
 use Rattle.wt_fitting.specs.Data.{is_empty, is_extension_of}
 use Rattle.wt_tree.specs.Plain.{Face, Plain, text, element, Plains, ended, along}
 use Rattle.wt_tree.specs.Tiling.{is_group}
@@ -170,8 +170,9 @@ abbrev pub HasData : Bool → Option DataMw → Type 0
 HasData true d = IsExtension d
 HasData false d = d ≡ None
 
--- an element, by the tables above
+-- an element, by the tables above; a section is none
 pub record IsElementLabel (l : Label) : Type 0 where
+  pub element : is_section l.kind ≡ false
   pub level : has_level l.kind ≡ true
   pub number : IsNumber (is_numbered l.kind) l.id
   pub places : HasPlaces l.ranges
@@ -184,8 +185,9 @@ pub record IsElementLabel (l : Label) : Type 0 where
 
 -- ---- groups
 
--- an element in a group: a kind with its attributes, which shows no characters of its own
+-- an element in a group: a kind with its attributes, which is no section and shows no characters of its own
 pub record IsFace (f : Face) : Type 0 where
+  pub element : is_section f.kind ≡ false
   pub level : has_level f.kind ≡ true
   pub attrs : HasAttributes f.kind f.attrs
   pub shows : shows_text f.kind ≡ false
@@ -260,9 +262,11 @@ is_childless none = true
 is_childless (more t ts) = false
 
 -- A node by how it is written, within k elements, the innermost of which has the kind `parent`. HTML
--- nests at most `NESTED_ELEMENTS` elements. No leaf has children. A group is written as its elements.
+-- nests at most `NESTED_ELEMENTS` elements. No leaf has children. A group is written as its elements. No
+-- section stands in a node.
 abbrev pub NodeIsWritten : Writing → ℕ → Kind → Label → Bool → Type 0 → Type 0 → Type 0
 NodeIsWritten AsText k parent l childless inside group = IsTextIn parent l × (childless ≡ true)
+NodeIsWritten (AsSection n) k parent l childless inside group = ⊥
 NodeIsWritten Unwritten k parent l childless inside group = group
 NodeIsWritten w k parent l childless inside group = (k < NESTED_ELEMENTS) × (may_hold parent l.kind ≡ true) × IsElementLabel l ×
     ((not (is_leaf l.kind) || childless) ≡ true) × inside
@@ -300,6 +304,26 @@ abbrev mutual
   AllWrittenIn k parent (more t ts) = WrittenIn k parent t ×
       (joins (texts_of_kind parent) (is_text t && begins_with_text ts) ≡ false) × AllWrittenIn k parent ts
 
+-- What stands in the body or in a section, within k elements, by how it is written: a section, with what
+-- stands in it, or a node.
+abbrev pub PartIsWritten : Writing → ℕ → Type 0 → Type 0 → Type 0
+PartIsWritten AsText k inside node = node
+PartIsWritten AsVoid k inside node = node
+PartIsWritten RoundCharacter k inside node = node
+PartIsWritten RoundChildren k inside node = node
+PartIsWritten (AsSection n) k inside node = (k < NESTED_ELEMENTS) × (n < 2 ^ 32) × inside
+PartIsWritten Unwritten k inside node = node
+
+-- No two texts stand next to each other there. No section's number is read: what stands in one is read in a
+-- section of number 0.
+abbrev mutual
+  pub PartIn : ℕ → Kind → Tree → Type 0
+  PartIn k parent (tree l ts) = PartIsWritten (writing l.kind) k (PartsIn (suc k) (kind.Section 0) ts) (WrittenIn k parent (tree l ts))
+
+  pub PartsIn : ℕ → Kind → Trees → Type 0
+  PartsIn k parent none = Unit {0}
+  PartsIn k parent (more t ts) = PartIn k parent t × ((is_text t && begins_with_text ts) ≡ false) × PartsIn k parent ts
+
 -- the tree of a page: a body, which stands within `html`
 abbrev pub IsWritten : Tree → Type 0
-IsWritten (tree l ts) = (l.kind ≡ kind.Body) × IsElementLabel l × AllWrittenIn 2 kind.Body ts
+IsWritten (tree l ts) = (l.kind ≡ kind.Body) × IsElementLabel l × PartsIn 2 kind.Body ts

@@ -3,4 +3,4 @@
 
 mod laws;
 
-pub use laws::{without_ranges, written_is_read};
+pub use laws::{nodes_stand_in_sections, without_ranges, written_is_read};

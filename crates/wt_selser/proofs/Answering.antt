@@ -9,6 +9,7 @@ use Rattle.wt_tree.specs.declared.kind.Mark.{Mark}
 use Rattle.wt_tree.specs.declared.kind.Mark.TheVariants as marks
 use Rattle.wt_tree.specs.declared.node.Node.{Node, out-Node}
 use Rattle.wt_span.specs.Origins.{Expanded}
+use Rattle.wt_tree.specs.Opened.{opened}
 use Rattle.wt_tree.specs.Tree.{Tree, tree, Trees, none, more, label}
 use Rattle.wt_tree.specs.View.{label_of, view, views}
 use Rattle.wt_tree.proofs.Views.{view_out}
@@ -77,9 +78,6 @@ tangled_out items page n =
 or_first : (a b : Bool) → a ≡ true → true ≡ (a || b)
 or_first a b e = sym (ap (λ c. c || b) e)
 
-or_second : (a b : Bool) → a ≡ false → b ≡ (a || b)
-or_second a b e = sym (ap (λ c. c || b) e)
-
 or_joined : (a b c : Bool) → ((a || b) || c) ≡ (a || (b || c))
 or_joined true b c = refl
 or_joined false b c = refl
@@ -92,16 +90,6 @@ touches_any items page n b e t =
     let tag = touches_open_tag (before page (out-Node n).ranges) (view n) in
     let rest = has_faulty_group items (views (out-Node n).children) in
     or_first (call || tag) rest (sym e ∙ t) ∙ or_joined call tag rest ∙ sym (tangled_out items page n)
-
-pub only_groups : (items : Expanded) (page : List ℕ) (n : Node) (ns : List Node) (b d : Bool)
-    → b ≡ (touches_text_call items.text_calls (out-Node n).ranges || touches_open_tag (before page (out-Node n).ranges) (view n)) → b ≡ false
-    → ns ≡ (out-Node n).children → d ≡ has_faulty_group items (views ns) → d ≡ is_tangled items page (view n)
-only_groups items page n ns b d e f is k =
-    let call = touches_text_call items.text_calls (out-Node n).ranges in
-    let tag = touches_open_tag (before page (out-Node n).ranges) (view n) in
-    let rest = has_faulty_group items (views (out-Node n).children) in
-    k ∙ ap (λ ms. has_faulty_group items (views ms)) is ∙ or_second (call || tag) rest (sym e ∙ f) ∙ or_joined call tag rest
-    ∙ sym (tangled_out items page n)
 
 -- of a content that is tangled or isn't, by the two tests
 tangled_by : (items : Expanded) (page : List ℕ) (p : Found) (m b : Bool) → m ≡ is_content (out-Node p.new.now).mark → b ≡ is_tangled items page (view p.old.now)
@@ -262,7 +250,7 @@ no_children same page (more u us) e =
 no_slices : (same : Tree → Tree → Bool) (t u : Tree) → has_mark u ≡ false → slices same t u ≡ []
 no_slices same t (tree l us) e =
     let n = or_none (is_marked l.mark) (have_mark us) e in
-    ap (λ b. if b then body_slices same (page_of t) start (steps holder.Body (children t) us) else all_child_slices same (page_of t) us) (no_mark l.mark n.0).1
+    ap (λ b. if b then body_slices same (page_of t) start (steps holder.Body (opened (children t)) us) else all_child_slices same (page_of t) us) (no_mark l.mark n.0).1
     ∙ no_children same (page_of t) us n.1
 
 pub unmarked_stands : (same : Tree → Tree → Bool) (items : Expanded) (page : List ℕ) (t u : Tree) → has_mark u ≡ false → checked false t u ≡ None

@@ -10,12 +10,13 @@ use Rattle.wt_tree.specs.Tree.{Tree, tree, Trees, none, more, label, listed}
 use Rattle.wt_checks.specs.Ids.{is_there}
 use Rattle.wt_checks.specs.Kept.{children, GroupAsItWas, NodeAsItWas, GroupKept}
 use Rattle.wt_checks.specs.Places.{Place, placed, all_placed, places, kind_at, is_kept, is_body, is_content, page_of, parent_below}
+use Rattle.wt_checks.specs.PutBack.{is_frame}
 use Rattle.wt_checks.specs.Tokens.{is_text}
 use Rattle.wt_checks.proofs.Children.{UnnumberedFree, below_root, unnumbered_text}
 use Rattle.wt_checks.proofs.Found.{IsKnown, body_no_group, found_has, inner_by, own_by}
 use Rattle.wt_checks.proofs.InOrder.{kept_not_zero, zero_of}
 use Rattle.wt_checks.proofs.Lookups.{each_split, each_join, AllZero, NoZero, PageNumbers}
-use Rattle.wt_selser.specs.Leaves.{LeavesHoldNoNumber, AllLeavesHoldNoNumber, HoldsNoBody, NoneIsBody}
+use Rattle.wt_selser.specs.Leaves.{LeavesHoldNoNumber, AllLeavesHoldNoNumber, HoldsNoFrame, NoneIsFrame}
 use Rattle.wt_selser.proofs.PageChains.{all_none_kept}
 
 either : (b : Bool) (P : Type 0) → (b ≡ true → P) → (b ≡ false → P) → P
@@ -40,7 +41,7 @@ mutual
       each_join UnnumberedFree (placed m w t) (all_placed m w ts) (numberless m w t y.0) (all_numberless m w ts y.1)
 
 mutual
-  free : (m : ℕ) (w : Bool) (t : Tree) → LeavesHoldNoNumber t → is_body (label t).kind ≡ false → HoldsNoBody t → AllByRecursion UnnumberedFree (placed m w t)
+  free : (m : ℕ) (w : Bool) (t : Tree) → LeavesHoldNoNumber t → is_frame (label t).kind ≡ false → HoldsNoFrame t → AllByRecursion UnnumberedFree (placed m w t)
   free m w (tree l ts) b n h =
       let down = parent_below m l.id in
       let v = w || is_content l.mark in (
@@ -49,17 +50,17 @@ mutual
             (λ e. all_free down v ts b.1 (h e)),
       )
 
-  all_free : (m : ℕ) (w : Bool) (ts : Trees) → AllLeavesHoldNoNumber ts → NoneIsBody ts → AllByRecursion UnnumberedFree (all_placed m w ts)
+  all_free : (m : ℕ) (w : Bool) (ts : Trees) → AllLeavesHoldNoNumber ts → NoneIsFrame ts → AllByRecursion UnnumberedFree (all_placed m w ts)
   all_free m w none b h = tt
   all_free m w (more t ts) b h =
       each_join UnnumberedFree (placed m w t) (all_placed m w ts) (free m w t b.0 h.0 h.1) (all_free m w ts b.1 h.2)
 
-pub free_root : (t : Tree) → (label t).kind ≡ kind.Body → HoldsNoBody t → LeavesHoldNoNumber t → AllByRecursion UnnumberedFree (below_root t)
+pub free_root : (t : Tree) → (label t).kind ≡ kind.Body → HoldsNoFrame t → LeavesHoldNoNumber t → AllByRecursion UnnumberedFree (below_root t)
 free_root (tree l ts) k h b = all_free (parent_below 0 l.id) (is_content l.mark) ts b.1 (h (ap is_leaf k))
 
 -- ---- the children of the root
 
-known : (ts : Trees) → NoneIsBody ts → NoZero (numbers_of_all ts) → AllByRecursion IsKnown (listed ts)
+known : (ts : Trees) → NoneIsFrame ts → NoZero (numbers_of_all ts) → AllByRecursion IsKnown (listed ts)
 known none h o = tt
 known (more (tree l us) ts) h o =
     let p = each_split (λ n. n ≢ 0) (numbers (tree l us)) (numbers_of_all ts) o in (
@@ -67,7 +68,7 @@ known (more (tree l us) ts) h o =
       known ts h.2 p.1,
     )
 
-pub known_top : (t : Tree) → (label t).kind ≡ kind.Body → HoldsNoBody t → PageNumbers t → AllByRecursion IsKnown (listed (children t))
+pub known_top : (t : Tree) → (label t).kind ≡ kind.Body → HoldsNoFrame t → PageNumbers t → AllByRecursion IsKnown (listed (children t))
 known_top (tree l ts) k h n =
     let i = inner_by (is_numbered l.kind) (is_group l.kind) l.id ts n.unnumbered n.counted in
     known ts (h (ap is_leaf k)) (i.outside (ap is_group k)).1

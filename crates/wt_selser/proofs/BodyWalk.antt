@@ -3,6 +3,7 @@ use Rattle.std.proofs.Common.{arith, ◌≡◌, ◌<◌, ◌≤◌, ℕ, zero, s
 use Rattle.std.specs.Prelude.{◌&&◌, ◌||◌, if◌then◌else◌, nat_eq, Result, Ok, Err, IfOk}
 use Rattle.std.specs.List.{ends_with, flat_map}
 use Rattle.wt_tree.specs.declared.node.Node.{Node, out-Node}
+use Rattle.wt_tree.specs.Opened.{opened}
 use Rattle.wt_tree.specs.Source.{flat}
 use Rattle.wt_tree.specs.Tiling.{end_of}
 use Rattle.wt_tree.specs.Tree.{Tree, Trees, label}
@@ -19,7 +20,6 @@ use Rattle.wt_content.specs.Children.{is_mark, is_separator, is_space}
 use Rattle.wt_content.specs.Content.{has_break}
 use Rattle.wt_selser.specs.declared.body.Front.{Front}
 use Rattle.wt_selser.specs.declared.steps.Step.{Step as Taken}
-use Rattle.wt_selser.specs.declared.steps.Step.TheVariants as taken
 use Rattle.wt_selser.specs.BodySlices.{all_child_slices, before_new, begins_new, blank_at, body_slices, break_at, child_slices, for_removed, holds_break, holds_kept, is_parted, leaves_blank, leaves_break, list_at, parts_with, past, past_node, removed_with, said_or, slices_of, start, step_slices, tail, tail_at_end, tail_before}
 use Rattle.wt_selser.specs.Changes.{insides}
 use Rattle.wt_selser.specs.ListSlices.{at_place, list_slices, sign_of}
@@ -221,12 +221,12 @@ blank_nowhere ss i f z inv l = sym (ap (leaves_blank f) (steps_end ss i l)) ∙ 
 
 -- ---- the walk
 
-pub list_pushed : (same : Tree → Tree → Bool) (page : Page) (v : Visit) (ns ms : List Node) (sign : ℕ) (xs ys : List Change)
-    → sign ≡ sign_of (out-Node v.node.now).kind → ns ≡ (out-Node v.node.now).children → ys ≡ xs ++ list_slices same page sign (views ns) (views ms)
+pub list_pushed : (same : Tree → Tree → Bool) (page : Page) (v : Visit) (ts : Trees) (ms : List Node) (sign : ℕ) (xs ys : List Change)
+    → sign ≡ sign_of (out-Node v.node.now).kind → ts ≡ views (out-Node v.node.now).children → ys ≡ xs ++ list_slices same page sign ts (views ms)
     → ys ≡ xs ++ list_at same page (Some (seen v)) (views ms)
-list_pushed same page v ns ms sign xs ys e are f =
-    f ∙ ap (λ (k : ℕ). xs ++ list_slices same page k (views ns) (views ms)) (e ∙ ap sign_of (sym (kind_seen v.node.now)))
-    ∙ ap (λ (ks : List Node). xs ++ list_slices same page (sign_of (label (view v.node.now)).kind) (views ks) (views ms)) are
+list_pushed same page v ts ms sign xs ys e are f =
+    f ∙ ap (λ (k : ℕ). xs ++ list_slices same page k ts (views ms)) (e ∙ ap sign_of (sym (kind_seen v.node.now)))
+    ∙ ap (λ (us : Trees). xs ++ list_slices same page (sign_of (label (view v.node.now)).kind) us (views ms)) are
     ∙ ap (λ (t : Tree). xs ++ list_slices same page (sign_of (label (view v.node.now)).kind) (children t) (views ms)) (sym (view_out v.node.now))
 
 child_out : (same : Tree → Tree → Bool) (page : Page) (n : Node) → child_slices same page (view n)
@@ -329,10 +329,10 @@ changed_body same page ts n b ns ss xs ys e t are is k =
     ∙ ap (λ (c : Bool). xs ++ (if c then body_slices same page start (steps holder.Body ts all) else all_child_slices same page all)) (sym t ∙ e)
     ∙ ap (λ (cs : List Change). xs ++ cs) (sym (slices_out same page ts n))
 
-pub page_sliced : (same : Tree → Tree → Bool) (look page : Page) (n : Node) (u : Tree) (ns : List Node) (cs ds : List Change) → look ≡ page → cs ≡ []
-    → ns ≡ (out-Node n).children → ds ≡ cs ++ slices_of same look (views ns) u → ds ≡ slices_of same page (children (view n)) u
-page_sliced same look page n u ns cs ds e none are k =
-    k ∙ ap (λ (xs : List Change). xs ++ slices_of same look (views ns) u) none
-    ∙ ap (λ (p : Page). slices_of same p (views ns) u) e
-    ∙ ap (λ (ms : List Node). slices_of same page (views ms) u) are
-    ∙ ap (λ (t : Tree). slices_of same page (children t) u) (sym (view_out n))
+pub page_sliced : (same : Tree → Tree → Bool) (look page : Page) (n : Node) (u : Tree) (ts : Trees) (cs ds : List Change) → look ≡ page → cs ≡ []
+    → ts ≡ opened (views (out-Node n).children) → ds ≡ cs ++ slices_of same look ts u → ds ≡ slices_of same page (opened (children (view n))) u
+page_sliced same look page n u ts cs ds e none are k =
+    k ∙ ap (λ (xs : List Change). xs ++ slices_of same look ts u) none
+    ∙ ap (λ (p : Page). slices_of same p ts u) e
+    ∙ ap (λ (us : Trees). slices_of same page us u) are
+    ∙ ap (λ (t : Tree). slices_of same page (opened (children t)) u) (sym (view_out n))

@@ -43,6 +43,40 @@ first_missing : (same : Tree → Tree → Bool) → slices same paragraphs (kept
     ≡ record { start = 0; end = 1; by = [] } ∷ []
 first_missing same = refl
 
+-- the same lines in sections
+abbrev in_sections : Tree
+in_sections = node kind.Body 0 (at 0 4 0 0) [] marks.Nothing
+    (more (node (kind.Section 0) 0 (at 0 3 0 0) [] marks.Nothing
+    (more (node kind.Para 1 (at 0 1 0 0) [] marks.Nothing none) (more (node kind.Sep 0 (at 1 3 0 0) (codes "\n\n") marks.Nothing none) none)))
+    (more (node (kind.Section 1) 0 (at 3 4 0 0) [] marks.Nothing (more (node kind.Para 2 (at 3 4 0 0) [] marks.Nothing none) none)) none))
+
+heading_between : (same : Tree → Tree → Bool) → slices same in_sections (kept kind.Body 0 marks.Children
+    (more (kept kind.Para 1 marks.Nothing none) (more (new (kind.Heading 2)) (more (kept kind.Para 2 marks.Nothing none) none))))
+    ≡ at_place 1 (10 ∷ 10 ∷ (block_spelling same (new (kind.Heading 2)) 42 ++ 10 ∷ [])) ∷ []
+heading_between same = refl
+
+lead_missing : (same : Tree → Tree → Bool) → slices same in_sections (kept kind.Body 0 marks.Children (more (kept kind.Para 2 marks.Nothing none) none))
+    ≡ record { start = 0; end = 1; by = [] } ∷ []
+lead_missing same = refl
+
+-- a section in a section: the lines `== a ==` and `=== b ===`
+abbrev in_one_another : Tree
+in_one_another = node kind.Body 0 (at 0 17 0 0) [] marks.Nothing
+    (more (node (kind.Section 1) 0 (at 0 17 0 0) [] marks.Nothing
+    (more (node (kind.Heading 2) 1 (at 0 7 2 2) [] marks.Nothing none) (more (node kind.Sep 0 (at 7 8 0 0) (codes "\n") marks.Nothing none)
+    (more (node (kind.Section 2) 0 (at 8 17 0 0) [] marks.Nothing (more (node (kind.Heading 3) 2 (at 8 17 3 3) [] marks.Nothing none) none)) none)))) none)
+
+-- a new block behind the last one
+block_in_both : (same : Tree → Tree → Bool) → slices same in_one_another (kept kind.Body 0 marks.Children
+    (more (kept (kind.Heading 2) 1 marks.Nothing none) (more (kept (kind.Heading 3) 2 marks.Nothing none) (more (new kind.Para) none))))
+    ≡ at_place 17 (10 ∷ 10 ∷ (block_spelling same (new kind.Para) 42 ++ [])) ∷ []
+block_in_both same = refl
+
+-- the inner section's heading is missing
+inner_missing : (same : Tree → Tree → Bool) → slices same in_one_another
+    (kept kind.Body 0 marks.Children (more (kept (kind.Heading 2) 1 marks.Nothing none) none)) ≡ record { start = 8; end = 17; by = [] } ∷ []
+inner_missing same = refl
+
 -- ---- the line `* x`, and `* x`, `* y`
 
 abbrev one_item : Tree

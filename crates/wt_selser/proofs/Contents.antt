@@ -7,6 +7,7 @@ use Rattle.wt_tree.specs.declared.kind.Kind.{Kind}
 use Rattle.wt_tree.specs.declared.kind.Kind.TheVariants as kind
 use Rattle.wt_tree.specs.declared.kind.Mark.{Mark}
 use Rattle.wt_tree.specs.declared.kind.Mark.TheVariants as marks
+use Rattle.wt_tree.specs.Opened.{opened}
 use Rattle.wt_tree.specs.Tiling.{InPreorder}
 use Rattle.wt_tree.specs.Tree.{Tree, tree, Trees, none, more, label}
 use Rattle.wt_checks.specs.Checked.{checked}
@@ -130,7 +131,7 @@ listed_by same t (tree l us) b s h =
     let down = parent_below 0 l.id in
     let o = outside_all page (places (tree l us)) h in
     let rest = flat_map (inside_at same page) (all_placed down v us) in
-    ap (λ c. if c then body_slices same page start (steps holder.Body (children t) us) else all_child_slices same page us) s.0
+    ap (λ c. if c then body_slices same page start (steps holder.Body (opened (children t)) us) else all_child_slices same page us) s.0
     ∙ children_stay same page down v us s.1 ∙ all_listed same page down v us o.1
     ∙ ap (λ c. (if c then inside_of same (page l.id) (tree l us) else []) ++ rest) (sym (root_bare page p b s.0 h.0))
 

@@ -9,10 +9,11 @@ use Rattle.wt_tree.specs.declared.kind.Mark.{Mark}
 use Rattle.wt_tree.specs.declared.kind.Mark.TheVariants as marks
 use Rattle.wt_tree.specs.declared.kind.Ranges.{Ranges}
 use Rattle.wt_tree.specs.declared.row.Writing.{Writing}
-use Rattle.wt_tree.specs.declared.row.Writing.TheVariants.{AsText, AsVoid, RoundCharacter, RoundChildren, Unwritten}
+use Rattle.wt_tree.specs.declared.row.Writing.TheVariants.{AsText, AsVoid, RoundCharacter, RoundChildren, AsSection, Unwritten}
 use Rattle.wt_tree.specs.Kinds.{is_leaf, showing, writing}
 use Rattle.wt_tree.specs.Tiling.{Tiled, TiledFrom, Covers, InPreorder, is_group, end_of}
 use Rattle.wt_span.specs.Origins.{Expanded}
+use Rattle.wt_tree.specs.Opened.{all_opened_before, opened}
 use Rattle.wt_tree.specs.Tree.{Label, Tree, tree, Trees, none, more, label, listed}
 use Rattle.wt_checks.specs.declared.refusal.Check.{Check}
 use Rattle.wt_checks.specs.Checked.{checked}
@@ -25,6 +26,7 @@ use Rattle.wt_checks.specs.Tokens.{is_text}
 use Rattle.wt_checks.specs.Unmarked.{Entry, is_compared, entry_by, entries}
 use Rattle.wt_checks.specs.Unmarked as unmarked
 use Rattle.wt_checks.proofs.Children.{Among, StandsIn, all_stand_in}
+use Rattle.wt_checks.proofs.Frames.{no_frame}
 use Rattle.wt_checks.proofs.Found.{Found, IsKnown, Itself, each_itself, found_has, children_found}
 use Rattle.wt_checks.proofs.InOrder.{Above, Right, all_right, kept_not_zero, not_zero_kept, same_by, test_equal, test_other}
 use Rattle.wt_checks.proofs.Lookups.{each_split, each_join, all_page_numbers}
@@ -38,7 +40,7 @@ use Rattle.wt_escape.specs.Spelling.{inline_spelling}
 use Rattle.wt_selser.specs.declared.refusal.EditRefusal.{EditRefusal}
 use Rattle.wt_selser.specs.declared.refusal.EditRefusal.TheVariants as refusal
 use Rattle.wt_selser.specs.Edits.{unless_refused, if_short, refused_pairs, most_bytes, edit_answer}
-use Rattle.wt_selser.specs.Leaves.{LeavesHoldNoNumber, AllLeavesHoldNoNumber, HoldsNoBody}
+use Rattle.wt_selser.specs.Leaves.{LeavesHoldNoNumber, AllLeavesHoldNoNumber, HoldsNoFrame, NoneIsFrame}
 use Rattle.wt_selser.specs.Splice.{Change, AreApart, OutsideStands, spliced}
 use Rattle.wt_selser.specs.Steps.{steps}
 use Rattle.wt_selser.proofs.Bodies.{free_root, known_top, root_zero}
@@ -540,6 +542,7 @@ entry_known AsText l f = tt
 entry_known AsVoid l f = f refl
 entry_known RoundCharacter l f = f refl
 entry_known RoundChildren l f = f refl
+entry_known (AsSection n) l f = f refl
 entry_known Unwritten l f = f refl
 
 entries_known : (ts : Trees) → AllByRecursion IsKnown (listed ts) → AllByRecursion EntryKnown (entries ts)
@@ -556,6 +559,7 @@ entry_number AsText l e k = absurd (cc)
 entry_number AsVoid l e k = k
 entry_number RoundCharacter l e k = k
 entry_number RoundChildren l e k = k
+entry_number (AsSection n) l e k = k
 entry_number Unwritten l e k = k
 
 abbrev BodyKnown : Tree → Type 0
@@ -590,12 +594,12 @@ all_new_unmarked same page m w (more (tree l vs) us) o k =
     )
 
 -- the children of an unmarked body are the page's
-same_entries : (t u : Tree) → NodeAsItWas t u → is_marked (label u).mark ≡ false → entries (children t) ≡ entries (children u)
-same_entries t u n f = held_by n.holds
+same_entries : (t u : Tree) → opened (children t) ≡ children t → NodeAsItWas t u → is_marked (label u).mark ≡ false → entries (children t) ≡ entries (children u)
+same_entries t u o n f = held_by n.holds
   where
     held_by : (is_marked (label u).mark ≡ true) ⊎ HoldsTheSame t u → entries (children t) ≡ entries (children u)
     held_by (inl e) = absurd (cc)
-    held_by (inr h) = h.held
+    held_by (inr h) = ap entries (sym o) ∙ h.held
 
 all_units : (ps : List Place) → AllByRecursion (λ p. Unit {0}) ps
 all_units [] = tt
@@ -604,6 +608,16 @@ all_units (p ∷ ps) = (tt, all_units ps)
 first_found : (t : Tree) → AllByRecursion (λ q. AllByRecursion (Found (page_of t)) (listed (children q.node))) (places t)
     → AllByRecursion (Found (page_of t)) (listed (children t))
 first_found (tree l ts) h = h.0
+
+-- where no section stands in the body nothing is opened
+none_opened : (ts : Trees) → NoneIsFrame ts → opened ts ≡ ts
+none_opened none h = refl
+none_opened (more (tree l us) ts) h =
+    ap (λ v. if v then all_opened_before us (opened ts) else more (tree l us) (opened ts)) (no_frame l.kind h.0).1
+    ∙ ap (λ vs. more (tree l us) vs) (none_opened ts h.2)
+
+none_open : (t : Tree) → (label t).kind ≡ kind.Body → HoldsNoFrame t → opened (children t) ≡ children t
+none_open (tree l ts) k h = none_opened ts (h (ap is_leaf k))
 
 -- ---- all slices
 
@@ -633,7 +647,7 @@ root_unmarked m k o r e f = content_or (is_marked m) (is_marked m ≡ false) (λ
     only_children kind.Body r a = absurd (cc)
     only_children j r a = absurd (cc)
 
-pub slices_apart : (same : Tree → Tree → Bool) (page : List ℕ) (t u : Tree) → (label t).kind ≡ kind.Body → HoldsNoBody t → InPreorder t → Tiled t
+pub slices_apart : (same : Tree → Tree → Bool) (page : List ℕ) (t u : Tree) → (label t).kind ≡ kind.Body → HoldsNoFrame t → InPreorder t → Tiled t
     → Covers (length page) t → LeavesHoldNoNumber t → is_body (label u).kind ≡ true → checked false t u ≡ None
     → AreApart 0 (slices same t u) (length page)
 slices_apart same page t (tree m us) b one h tiled covers bare r free =
@@ -669,7 +683,8 @@ slices_apart same page t (tree m us) b one h tiled covers bare r free =
     let v = is_content m.mark in
     let rest = all_placed down v us in
     let inner = within_rest look (record { node = u; parent = 0; in_content = false }) rest w in
-    by_body same look (children t) m us (length page)
+    let bare_body : opened (children t) ≡ children t = none_open t b one in
+    subst (λ (ts : Trees). AreApart 0 (slices_of same look ts u) (length page)) (sym bare_body) (by_body same look (children t) m us (length page)
     (λ e. body_apart same look start (steps holder.Body (children t) us) (length page)
     (steps_from holder.Body (children t) us 0 (length page) (body_tiled (length page) t b tiled covers))
     (steps_apart (child_slices same look) look holder.Body (children t) us (first_found t all_found) (kept_children same look down v us H o.1 st.1 inner)))
@@ -682,11 +697,11 @@ slices_apart same page t (tree m us) b one h tiled covers bare r free =
     (record { node = t; parent = 0; in_content = false }) (ap look zero ∙ found)
     (k.nodes.0 (or_true (not (m.id == 0)) (is_body m.kind) r) refl) (ap is_group b) in
     let bare_root = root_unmarked m.mark m.kind (look m.id) r e (λ i. (k.marks.0 i).allowed) in
-    let known = bodies_known us (subst (AllByRecursion EntryKnown) (same_entries t u was bare_root) (entries_known (children t) (known_top t b one is))) in
+    let known = bodies_known us (subst (AllByRecursion EntryKnown) (same_entries t u bare_body was bare_root) (entries_known (children t) (known_top t b one is))) in
     let a = all_child_chain same look down v us H o.1 st.1 inner (all_new_unmarked same look down v us o.1 known) (starts look down) f.chain in
     apart_lower 0 (starts look down) (length page) (all_child_slices same look us) (omega arith)
     (apart_raise (starts look down) (end_after (ends look) (starts look down) (kept_under down rest)) (length page) (all_child_slices same look us)
-    (omega (arith, g, last)) a))
+    (omega (arith, g, last)) a)))
   where
     or_true : (x y : Bool) → y ≡ true → (x || y) ≡ true
     or_true true y e = refl
@@ -719,7 +734,7 @@ new_page same items page new t u e =
       short_is (nat_lt most_bytes (length (spliced page cs))) (spliced page cs) new b.1,
     )
 
-pub edit_stands : (same : Tree → Tree → Bool) (items : Expanded) (page new : List ℕ) (t u : Tree) → (label t).kind ≡ kind.Body → HoldsNoBody t
+pub edit_stands : (same : Tree → Tree → Bool) (items : Expanded) (page new : List ℕ) (t u : Tree) → (label t).kind ≡ kind.Body → HoldsNoFrame t
     → InPreorder t → Tiled t → Covers (length page) t → LeavesHoldNoNumber t → is_body (label u).kind ≡ true
     → edit_answer same items page t u ≡ Ok new → OutsideStands page new (slices same t u)
 edit_stands same items page new t u b one h tiled covers bare r e =

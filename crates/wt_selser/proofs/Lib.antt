@@ -7,7 +7,9 @@ pub mod EditChains
 pub mod ListWalk
 pub mod BodyWalk
 pub mod Contents
+pub mod Opening
 pub mod Pushing
+pub mod Sections
 pub mod Spliced
 pub mod StepWalk
 pub mod Answering

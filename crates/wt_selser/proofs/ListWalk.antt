@@ -17,8 +17,10 @@ use Rattle.wt_selser.specs.Changes.{insides}
 use Rattle.wt_selser.specs.ListSlices.{at_place, first_removed, first_start, from_kept, is_item, is_kept_item, item_slices, list_from, list_slices, new_before, new_one_before, removed_before, start_of}
 use Rattle.wt_selser.specs.Splice.{Change}
 use Rattle.wt_selser.specs.Steps.{Step, goes, kept, comes, from_number, steps}
-use Rattle.wt_selser.specs.Views.{steps_view, step_view}
+use Rattle.wt_selser.specs.declared.child.Child.{Child}
+use Rattle.wt_selser.specs.Views.{child_views, steps_view, step_view}
 use Rattle.wt_selser.proofs.Spliced.{kind_seen, ranges_seen}
+use Rattle.wt_selser.proofs.StepWalk.{from_place}
 
 id_seen : (n : Node) → (label (view n)).id ≡ (out-Node n).id
 id_seen n = rw (view_out n)
@@ -32,7 +34,7 @@ some_there zero e = absurd (cc)
 some_there (suc n) e = omega arith
 
 -- a slice from a place up to the end
-pub rest_is : (ns : List Node) (i : ℕ) → take (length ns - i) (drop i ns) ≡ drop i ns
+pub rest_is : {X : Type 0} (ns : List X) (i : ℕ) → take (length ns - i) (drop i ns) ≡ drop i ns
 rest_is ns i = take_all (length ns - i) (drop i ns) (omega (arith, length-drop i ns))
 
 pub nodes_end : (ns : List Node) (i : ℕ) → length ns ≤ i → views (drop i ns) ≡ none
@@ -112,45 +114,52 @@ all_new same sign place ns i cs ds inv l =
 
 -- ---- the items that are missing before it
 
-removed_turn : (number : ℕ) (ns : List Node) (i : ℕ) (n : Node) (d : Bool) → i < length ns → n ≡ get_or ns i n → d ≡ is_child holder.List (out-Node n).kind
-    → first_removed number (views (drop i ns)) ≡ (if (out-Node n).id == number then None else
-    (if d then Some (start_of (out-Node n).ranges) else first_removed number (views (drop (i + 1) ns))))
-removed_turn number ns i n d l is e =
-    let rest = first_removed number (views (drop (i + 1) ns)) in
-    ap (first_removed number) (nodes_turn ns i n l is)
-    ∙ ap (λ (k : ℕ). if k == number then None else (if is_item (view n) then Some (start_of (label (view n)).ranges) else rest)) (id_seen n)
-    ∙ ap (λ r. if (out-Node n).id == number then None else (if is_item (view n) then Some (start_of r) else rest)) (ranges_seen n)
-    ∙ ap (λ (c : Bool). if (out-Node n).id == number then None else (if c then Some (start_of (out-Node n).ranges) else rest)) (sym (item_is n d e))
+lent_turn : (ns : List Child) (i : ℕ) (n : Child) → i < length ns → n ≡ get_or ns i n
+    → child_views (drop i ns) ≡ more (view n.node.now) (child_views (drop (i + 1) ns))
+lent_turn ns i n l is = ap child_views (from_place ns i n l is)
 
-pub removed_none : (number : ℕ) (ns : List Node) (i : ℕ) (n : Node) → first_removed number (views ns) ≡ first_removed number (views (drop i ns))
-    → i < length ns → n ≡ get_or ns i n → (out-Node n).id ≡ number → None ≡ first_removed number (views ns)
+lent_end : (ns : List Child) (i : ℕ) → length ns ≤ i → child_views (drop i ns) ≡ none
+lent_end ns i l = ap child_views (drop_all i ns l)
+
+removed_turn : (number : ℕ) (ns : List Child) (i : ℕ) (n : Child) (d : Bool) → i < length ns → n ≡ get_or ns i n → d ≡ is_child holder.List (out-Node n.node.now).kind
+    → first_removed number (child_views (drop i ns)) ≡ (if (out-Node n.node.now).id == number then None else
+    (if d then Some (start_of (out-Node n.node.now).ranges) else first_removed number (child_views (drop (i + 1) ns))))
+removed_turn number ns i n d l is e =
+    let rest = first_removed number (child_views (drop (i + 1) ns)) in
+    ap (first_removed number) (lent_turn ns i n l is)
+    ∙ ap (λ (k : ℕ). if k == number then None else (if is_item (view n.node.now) then Some (start_of (label (view n.node.now)).ranges) else rest)) (id_seen n.node.now)
+    ∙ ap (λ r. if (out-Node n.node.now).id == number then None else (if is_item (view n.node.now) then Some (start_of r) else rest)) (ranges_seen n.node.now)
+    ∙ ap (λ (c : Bool). if (out-Node n.node.now).id == number then None else (if c then Some (start_of (out-Node n.node.now).ranges) else rest)) (sym (item_is n.node.now d e))
+
+pub removed_none : (number : ℕ) (ns : List Child) (i : ℕ) (n : Child) → first_removed number (child_views ns) ≡ first_removed number (child_views (drop i ns))
+    → i < length ns → n ≡ get_or ns i n → (out-Node n.node.now).id ≡ number → None ≡ first_removed number (child_views ns)
 removed_none number ns i n inv l is t =
-    let d = is_child holder.List (out-Node n).kind in
-    let rest = first_removed number (views (drop (i + 1) ns)) in
-    ap (λ (c : Bool). if c then None else (if d then Some (start_of (out-Node n).ranges) else rest)) (sym (test_equal (out-Node n).id number t))
+    let d = is_child holder.List (out-Node n.node.now).kind in
+    let rest = first_removed number (child_views (drop (i + 1) ns)) in
+    ap (λ (c : Bool). if c then None else (if d then Some (start_of (out-Node n.node.now).ranges) else rest)) (sym (test_equal (out-Node n.node.now).id number t))
     ∙ sym (removed_turn number ns i n d l is refl) ∙ sym inv
 
-pub removed_here : (number start : ℕ) (ns : List Node) (i : ℕ) (n : Node) (d : Bool)
-    → first_removed number (views ns) ≡ first_removed number (views (drop i ns)) → i < length ns → n ≡ get_or ns i n → ((out-Node n).id ≡ number → ⊥)
-    → d ≡ is_child holder.List (out-Node n).kind → d ≡ true → start ≡ start_of (out-Node n).ranges → Some start ≡ first_removed number (views ns)
+pub removed_here : (number start : ℕ) (ns : List Child) (i : ℕ) (n : Child) (d : Bool)
+    → first_removed number (child_views ns) ≡ first_removed number (child_views (drop i ns)) → i < length ns → n ≡ get_or ns i n → ((out-Node n.node.now).id ≡ number → ⊥)
+    → d ≡ is_child holder.List (out-Node n.node.now).kind → d ≡ true → start ≡ start_of (out-Node n.node.now).ranges → Some start ≡ first_removed number (child_views ns)
 removed_here number start ns i n d inv l is t e u s =
-    let rest = first_removed number (views (drop (i + 1) ns)) in
-    ap (λ (k : ℕ). Some k) s ∙ ap (λ (c : Bool). if c then Some (start_of (out-Node n).ranges) else rest) (sym u)
-    ∙ ap (λ (c : Bool). if c then None else (if d then Some (start_of (out-Node n).ranges) else rest)) (sym (test_other (out-Node n).id number t))
+    let rest = first_removed number (child_views (drop (i + 1) ns)) in
+    ap (λ (k : ℕ). Some k) s ∙ ap (λ (c : Bool). if c then Some (start_of (out-Node n.node.now).ranges) else rest) (sym u)
+    ∙ ap (λ (c : Bool). if c then None else (if d then Some (start_of (out-Node n.node.now).ranges) else rest)) (sym (test_other (out-Node n.node.now).id number t))
     ∙ sym (removed_turn number ns i n d l is e) ∙ sym inv
 
-pub removed_later : (number : ℕ) (ns : List Node) (i : ℕ) (n : Node) (d : Bool)
-    → first_removed number (views ns) ≡ first_removed number (views (drop i ns)) → i < length ns → n ≡ get_or ns i n → ((out-Node n).id ≡ number → ⊥)
-    → d ≡ is_child holder.List (out-Node n).kind → d ≡ false → first_removed number (views ns) ≡ first_removed number (views (drop (i + 1) ns))
+pub removed_later : (number : ℕ) (ns : List Child) (i : ℕ) (n : Child) (d : Bool)
+    → first_removed number (child_views ns) ≡ first_removed number (child_views (drop i ns)) → i < length ns → n ≡ get_or ns i n → ((out-Node n.node.now).id ≡ number → ⊥)
+    → d ≡ is_child holder.List (out-Node n.node.now).kind → d ≡ false → first_removed number (child_views ns) ≡ first_removed number (child_views (drop (i + 1) ns))
 removed_later number ns i n d inv l is t e u =
-    let rest = first_removed number (views (drop (i + 1) ns)) in
+    let rest = first_removed number (child_views (drop (i + 1) ns)) in
     inv ∙ removed_turn number ns i n d l is e
-    ∙ ap (λ (c : Bool). if c then None else (if d then Some (start_of (out-Node n).ranges) else rest)) (test_other (out-Node n).id number t)
-    ∙ ap (λ (c : Bool). if c then Some (start_of (out-Node n).ranges) else rest) u
+    ∙ ap (λ (c : Bool). if c then None else (if d then Some (start_of (out-Node n.node.now).ranges) else rest)) (test_other (out-Node n.node.now).id number t)
+    ∙ ap (λ (c : Bool). if c then Some (start_of (out-Node n.node.now).ranges) else rest) u
 
-pub removed_nowhere : (number : ℕ) (ns : List Node) (i : ℕ) → first_removed number (views ns) ≡ first_removed number (views (drop i ns)) → length ns ≤ i
-    → None ≡ first_removed number (views ns)
-removed_nowhere number ns i inv l = ap (first_removed number) (sym (nodes_end ns i l)) ∙ sym inv
+pub removed_nowhere : (number : ℕ) (ns : List Child) (i : ℕ) → first_removed number (child_views ns) ≡ first_removed number (child_views (drop i ns)) → length ns ≤ i
+    → None ≡ first_removed number (child_views ns)
+removed_nowhere number ns i inv l = ap (first_removed number) (sym (lent_end ns i l)) ∙ sym inv
 
 -- ---- from the first kept item on
 
@@ -193,12 +202,6 @@ pub steps_end : (ss : List Taken) (i : ℕ) → length ss ≤ i → steps_view (
 steps_end ss i l = ap steps_view (drop_all i ss l)
 
 -- ---- a list
-
-pub no_items : (same : Tree → Tree → Bool) (page : Page) (sign : ℕ) (ts us : Trees) (cs : List Change) → from_kept us ≡ none
-    → cs ≡ cs ++ list_slices same page sign ts us
-no_items same page sign ts us cs e =
-    let empty : cs ++ [] ≡ cs = simp append-nil in
-    sym empty ∙ ap (λ (vs : Trees). cs ++ list_from same page sign ts us vs) (sym e)
 
 pub list_made : (same : Tree → Tree → Bool) (page : Page) (sign place number : ℕ) (ts us all behind vs : Trees) (n : Node) (cs ds es fs : List Change)
     → from_kept us ≡ all → all ≡ more (view n) vs → number ≡ (out-Node n).id → behind ≡ from_number number ts → place ≡ first_start behind

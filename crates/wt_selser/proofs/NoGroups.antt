@@ -1,9 +1,12 @@
 -- A block without groups is tangled by text calls and open tags alone.
-use Rattle.std.proofs.Common.{◌≡◌, ℕ, false, List, refl, ap, ◌∙◌}
+use Rattle.std.proofs.Common.{◌≡◌, ℕ, false, List, refl, sym, ap, ◌∙◌, subst}
 use Rattle.std.specs.Prelude.{◌||◌, if◌then◌else◌}
 use Rattle.wt_span.specs.Origins.{Expanded}
 use Rattle.wt_tree.specs.Tiling.{HasNoGroup, NoneIsGroup}
 use Rattle.wt_tree.specs.Tree.{Label, Tree, tree, Trees, none, more}
+use Rattle.wt_tree.specs.View.{view, views}
+use Rattle.wt_tree.specs.declared.node.Node.{Node, out-Node}
+use Rattle.wt_tree.proofs.Views.{view_out}
 use Rattle.wt_kept.specs.declared.kinds.Way.{Way}
 use Rattle.wt_kept.specs.declared.kinds.Way.TheVariants as way
 use Rattle.wt_kept.specs.Kinds.{shape}
@@ -40,3 +43,10 @@ pub untangled : (items : Expanded) (page : List ℕ) (l : Label) (ts : Trees) �
 untangled items page l ts h e f =
     ap (λ b. b || (touches_open_tag (before page l.ranges) (tree l ts) || has_faulty_group items ts)) e
     ∙ ap (λ b. b || has_faulty_group items ts) f ∙ all_fine items ts h
+
+-- a node without groups holds none
+held_fine : (n : Node) → HasNoGroup (view n) → NoneIsGroup (views (out-Node n).children)
+held_fine n h = (subst HasNoGroup (view_out n) h).1
+
+pub none_held : (n : Node) (ns : List Node) → ns ≡ (out-Node n).children → HasNoGroup (view n) → NoneIsGroup (views ns)
+none_held n ns is h = subst (λ (ms : List Node). NoneIsGroup (views ms)) (sym is) (held_fine n h)

@@ -2,6 +2,7 @@
 use Rattle.std.specs.Prelude.{ℕ, ◌&&◌, ◌||◌, Bool, true, false, Option, Some, None, List, [], ◌∷◌, ◌++◌, if◌then◌else◌, nat_eq}
 use Rattle.std.specs.List.{ends_with}
 use Rattle.wt_tree.specs.declared.kind.Ranges.{Ranges}
+use Rattle.wt_tree.specs.Opened.{opened}
 use Rattle.wt_tree.specs.Source.{flat}
 use Rattle.wt_tree.specs.Tiling.{end_of}
 use Rattle.wt_tree.specs.Tree.{Tree, tree, Trees, none, more, label}
@@ -169,6 +170,6 @@ all_child_slices same page (more u us) = child_slices same page u ++ all_child_s
 abbrev pub slices_of : (Tree → Tree → Bool) → Page → Trees → Tree → List Change
 slices_of same page ts (tree l us) = if is_children l.mark then body_slices same page start (steps holder.Body ts us) else all_child_slices same page us
 
--- of a page with this tree that was edited to that one
+-- of a page with this tree that was edited to that one; what stands in its sections counts as standing in its body
 abbrev pub slices : (Tree → Tree → Bool) → Tree → Tree → List Change
-slices same t edited = slices_of same (page_of t) (children t) edited
+slices same t edited = slices_of same (page_of t) (opened (children t)) edited

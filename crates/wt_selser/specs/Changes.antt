@@ -41,6 +41,7 @@ marked page edited = flat_map (pair_at (page_of page)) (places edited)
 -- what the content of a block stands in
 abbrev pub place_in : Kind → Surround
 place_in kind.Body = place.Paragraph
+place_in (kind.Section n) = place.Paragraph
 place_in kind.Para = place.Paragraph
 place_in (kind.Heading n) = place.Heading
 place_in kind.Rule = place.Paragraph

@@ -1,7 +1,9 @@
 -- What the code's own types stand for.
 use Rattle.std.specs.Prelude.{Bool, true, List, [], ◌∷◌, ◌++◌, map}
+use Rattle.wt_tree.specs.Tree.{Tree, Trees, trees}
 use Rattle.wt_tree.specs.View.{view}
 use Rattle.wt_selser.specs.declared.change.Change.{Change as Made}
+use Rattle.wt_selser.specs.declared.child.Child.{Child}
 use Rattle.wt_selser.specs.declared.change.Pair.{Pair as Found}
 use Rattle.wt_selser.specs.Changes.{Pair}
 use Rattle.wt_selser.specs.declared.steps.Step.{Step as Taken}
@@ -21,6 +23,13 @@ change_view c = record { start = c.start; end = c.end; by = c.by }
 
 abbrev pub changes_view : List Made → List Change
 changes_view cs = map change_view cs
+
+-- the trees of children
+abbrev pub child_trees : List Child → List Tree
+child_trees cs = map (λ c. view c.node.now) cs
+
+abbrev pub child_views : List Child → Trees
+child_views cs = trees (child_trees cs)
 
 abbrev pub step_view : Taken → Step
 step_view (taken.Stays t) = stays (view t.now)

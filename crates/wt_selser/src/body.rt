@@ -15,6 +15,7 @@ ghost use Rattle.wt_selser.specs.Steps.{Step as Taken};
 ghost use Rattle.wt_selser.specs.Views.{changes_view, parted_ends, step_view, steps_view};
 
 use crate::change::{Change, push_insides};
+use crate::child::children_of;
 use crate::list::{end_of, push_at, push_list, sign_of};
 use crate::steps::Step;
 use std::alloc::Global;
@@ -405,7 +406,8 @@ fn push_list_at<'t, 'a>(
         Some(visit) => {
             let list = visit.node;
             let sign = sign_of(list.kind);
-            push_list(alloc, found, index, sign, list.children.as_slice(), new)?;
+            let old = children_of(alloc, list)?;
+            push_list(alloc, found, index, sign, old.as_slice(), new)?;
             Ok(())
         }
     }

@@ -44,8 +44,8 @@ fn place_in(kind: Kind) -> Place
         Kind::Dt => Place::Term,
         Kind::Td | Kind::Caption => Place::Cell,
         Kind::Th => Place::Header,
-        Kind::Body | Kind::Para | Kind::Rule | Kind::Ul | Kind::Ol | Kind::Dl | Kind::Pre =>
-            Place::Paragraph,
+        Kind::Body | Kind::Section(_) | Kind::Para | Kind::Rule => Place::Paragraph,
+        Kind::Ul | Kind::Ol | Kind::Dl | Kind::Pre => Place::Paragraph,
         Kind::Table | Kind::Tbody | Kind::Tr | Kind::Bold | Kind::Italic => Place::Paragraph,
         Kind::WikiLink | Kind::ExtLink | Kind::Category | Kind::Tag(_) | Kind::Br =>
             Place::Paragraph,

@@ -12,13 +12,13 @@ ghost use Rattle.wt_tangled.specs.Passes.{AreOf};
 ghost use Rattle.wt_selser.specs.BodySlices.{slices};
 ghost use Rattle.wt_selser.specs.Changes.{marked};
 ghost use Rattle.wt_selser.specs.Splice.{spliced};
-ghost use Rattle.wt_selser.specs.Edits.{AnswersEdit, is_tangled, bad_pair, refused_pairs, edit_answer, if_short, pairs_answer, first_of, most_bytes, tangled_pair, why_bad};
+ghost use Rattle.wt_selser.specs.Edits.{AnswersEdit, bad_pair, refused_pairs, edit_answer, if_short, pairs_answer, first_of, most_bytes, tangled_pair, why_bad};
 ghost use Rattle.wt_selser.specs.Views.{changes_view, pair_of, pairs_of};
 
 use crate::change::{Change, Pair, marked_pairs, spliced};
-use crate::group_fault::has_faulty_group;
 use crate::refusal::EditRefusal;
 use crate::slices::slices;
+use crate::tangled_block::is_tangled;
 use std::alloc::Global;
 use wt_checks::{Visit, check, is_children, is_content, numbered_nodes};
 use wt_content::{ContentWhy, bad_children, bad_content};
@@ -56,26 +56,6 @@ fn first_bad(alloc: Global, pairs: &[Pair<'_, '_>]) -> Result<Option<EditRefusal
         }
     }
     Ok(None)
-}
-
-/// Whether a block of a page with these items can't be read by itself.
-fn is_tangled(
-    alloc: Global,
-    items: &Items<'_>,
-    page: &[u8],
-    passes: &mut Passes,
-    block: &Node<'_>,
-) -> Result<bool, NoMemory>
-    requires { AreOf items.now page.now passes.old }
-    ensures value { IfOk result (λ b. b ≡ is_tangled items.now page.now (view block.now)) }
-    ensures passes { AreOf items.now page.now passes.new }
-{
-    let touches = passes.touches(alloc, items, page, block)?;
-    if touches {
-        return Ok(true);
-    }
-    let faulty = has_faulty_group(alloc, items, block.children.as_slice())?;
-    Ok(faulty)
 }
 
 /// Whether a content can't be read by itself.

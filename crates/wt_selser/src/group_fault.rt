@@ -1,11 +1,12 @@
 //! What makes a group no part of a block that is read by itself.
 
-ghost use Rattle.std.specs.Prelude.{◌≡◌, All, IfOk};
+ghost use Rattle.std.specs.Prelude.{◌≡◌, All, IfOk, Ok, false};
 ghost use Rattle.std.specs.Bool.{Decides};
 ghost use Rattle.wt_span.specs.Items.{items};
 ghost use Rattle.wt_span.specs.Origins.{IsSoundPiece};
 ghost use Rattle.wt_tree.specs.declared.node.Node.{out-Node};
 ghost use Rattle.wt_tree.specs.Plain.{face};
+ghost use Rattle.wt_tree.specs.Tiling.{HasNoGroup, NoneIsGroup};
 ghost use Rattle.wt_tree.specs.View.{label_of, view, views};
 ghost use Rattle.wt_body.specs.Body.{meaning};
 ghost use Rattle.wt_annotated.specs.Annotated.{all_unplaced};
@@ -125,7 +126,8 @@ fn is_faulty_at(
 /// Whether a group has a fault, or one in a bold or an italic node.
 #[cycle(faults)]
 fn is_faulty_node(alloc: Global, page: &Items<'_>, node: &Node<'_>) -> Result<bool, NoMemory>
-    ensures { IfOk result (λ b. b ≡ is_faulty_node page.now (view node.now)) }
+    ensures value { IfOk result (λ b. b ≡ is_faulty_node page.now (view node.now)) }
+    ensures alone { HasNoGroup (view node.now) → result ≡ Ok false }
 {
     if is_group(node.kind) {
         return is_faulty_at(alloc, page, node.ranges, node);
@@ -144,7 +146,8 @@ pub fn has_faulty_group(
     page: &Items<'_>,
     nodes: &[Node<'_>],
 ) -> Result<bool, NoMemory>
-    ensures { IfOk result (λ b. b ≡ has_faulty_group page.now (views nodes.now)) }
+    ensures value { IfOk result (λ b. b ≡ has_faulty_group page.now (views nodes.now)) }
+    ensures alone { NoneIsGroup (views nodes.now) → result ≡ Ok false }
 {
     for node in nodes {
         let faulty = is_faulty_node(alloc, page, node)?;

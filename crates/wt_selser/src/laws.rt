@@ -1,7 +1,10 @@
 //! Laws of the new page, which do nothing when they are called.
 
 ghost use Rattle.std.specs.Prelude.{◌≡◌, ◌≤◌, ℕ, Bool, List, [], length, None, Ok, true, false};
+ghost use Rattle.wt_checks.specs.BareSections.{HasBareSections};
 ghost use Rattle.wt_checks.specs.Checked.{checked};
+ghost use Rattle.wt_checks.specs.PutBack.{IsOneBody};
+ghost use Rattle.wt_tree.specs.Opened.{without_sections};
 ghost use Rattle.wt_span.specs.Origins.{Expanded};
 ghost use Rattle.wt_tree.specs.Tiling.{Covers, InPreorder, NoneIsGroup, Tiled};
 ghost use Rattle.wt_tree.specs.Tree.{Label, Tree, Trees, label, tree};
@@ -12,7 +15,7 @@ ghost use Rattle.wt_checks.specs.Places.{is_body, page_of, places};
 ghost use Rattle.wt_selser.specs.BodySlices.{slices};
 ghost use Rattle.wt_selser.specs.Changes.{inside_at, AllStay};
 ghost use Rattle.wt_selser.specs.Edits.{edit_answer, is_tangled, most_bytes};
-ghost use Rattle.wt_selser.specs.Leaves.{LeavesHoldNoNumber, HoldsNoBody};
+ghost use Rattle.wt_selser.specs.Leaves.{LeavesHoldNoNumber, HoldsNoFrame};
 ghost use Rattle.wt_tangled.specs.OpenTags.{before, touches_open_tag};
 ghost use Rattle.wt_selser.specs.Splice.{Change, spliced, AreApart, OutsideStands};
 ghost use Rattle.wt_tangled.specs.TextCalls.{touches_text_call};
@@ -30,16 +33,25 @@ pub fn nothing_changes()
     ensures { (page : List ℕ) → spliced page [] ≡ page }
 {}
 
+/// Sections make no difference: the new page of an edit of a page in sections is the one of an edit of the page
+/// without them, and so are its slices. So the other laws hold of a page in sections, too.
+pub fn sections_make_no_difference()
+    ensures answers { (same : Tree → Tree → Bool) (items : Expanded) (page : List ℕ) (tree edited : Tree) → HasBareSections tree → IsOneBody edited
+        → edit_answer same items page tree edited ≡ edit_answer same items page (without_sections tree) edited }
+    ensures sliced { (same : Tree → Tree → Bool) (tree edited : Tree) → HasBareSections tree → IsOneBody edited → checked false tree edited ≡ None
+        → slices same tree edited ≡ slices same (without_sections tree) edited }
+{}
+
 /// The slices of an edit (the insides of nodes marked `content`, the ranges of missing children with their
 /// separators, and the empty places of new ones) stand in the page one after the other, where the page's
-/// tree tiles it, has its numbers in preorder and holds no body in its body, and the checks refuse nothing.
-/// So every byte of the page outside them stands in the new page, in its order.
+/// tree tiles it, has its numbers in preorder and holds no body and no section in its body, and the checks
+/// refuse nothing. So every byte of the page outside them stands in the new page, in its order.
 pub fn edit_is_a_splice()
-    ensures apart { (same : Tree → Tree → Bool) (page : List ℕ) (tree edited : Tree) → (label tree).kind ≡ kind.Body → HoldsNoBody tree → InPreorder tree → Tiled tree
+    ensures apart { (same : Tree → Tree → Bool) (page : List ℕ) (tree edited : Tree) → (label tree).kind ≡ kind.Body → HoldsNoFrame tree → InPreorder tree → Tiled tree
         → Covers (length page) tree → LeavesHoldNoNumber tree → is_body (label edited).kind ≡ true → checked false tree edited ≡ None
         → AreApart 0 (slices same tree edited) (length page) }
     ensures stands { (same : Tree → Tree → Bool) (items : Expanded) (page new : List ℕ) (tree edited : Tree) → (label tree).kind ≡ kind.Body
-        → HoldsNoBody tree → InPreorder tree → Tiled tree → Covers (length page) tree → LeavesHoldNoNumber tree
+        → HoldsNoFrame tree → InPreorder tree → Tiled tree → Covers (length page) tree → LeavesHoldNoNumber tree
         → is_body (label edited).kind ≡ true → edit_answer same items page tree edited ≡ Ok new
         → OutsideStands page new (slices same tree edited) }
 {}

@@ -4,6 +4,7 @@
 
 mod body;
 mod change;
+mod child;
 mod differing;
 mod editing;
 mod group_fault;
@@ -12,12 +13,14 @@ mod list;
 mod refusal;
 mod slices;
 mod steps;
+mod tangled_block;
 
 pub use differing::first_differing;
 pub use editing::edit;
 pub use laws::{
     contents_alone, edit_is_a_splice, groups_alone_tangle, nothing_changes, outside_stands,
-    unmarked_edit_is_the_page,
+    sections_make_no_difference, unmarked_edit_is_the_page,
 };
 pub use refusal::EditRefusal;
+pub use tangled_block::tangled;
 pub use wt_content::ContentWhy;

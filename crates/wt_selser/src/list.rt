@@ -9,9 +9,10 @@ ghost use Rattle.wt_escape.specs.Spelling.{block_spelling};
 ghost use Rattle.wt_checks.specs.View.{indexed};
 ghost use Rattle.wt_selser.specs.ListSlices.{at_place, first_removed, first_start, from_kept, item_slices, list_slices, new_before, new_one_before, removed_before, sign_of, start_of};
 ghost use Rattle.wt_selser.specs.Steps.{Step as Taken};
-ghost use Rattle.wt_selser.specs.Views.{changes_view, step_view, steps_view};
+ghost use Rattle.wt_selser.specs.Views.{child_views, changes_view, step_view, steps_view};
 
 use crate::change::{Change, push_insides};
+use crate::child::Child;
 use crate::steps::{Step, place_of, steps_along};
 use std::alloc::Global;
 use wt_checks::Visit;
@@ -148,15 +149,15 @@ fn push_all_new_before(
 }
 
 /// Where the first item of the page begins that stands before the one with this number.
-fn first_removed(number: u32, nodes: &[Node<'_>]) -> Option<u32>
-    ensures { result ≡ first_removed number (views nodes.now) }
+fn first_removed(number: u32, nodes: &[Child<'_, '_>]) -> Option<u32>
+    ensures { result ≡ first_removed number (child_views nodes.now) }
 {
-    for node in nodes {
-        if node.id == number {
+    for child in nodes {
+        if child.node.id == number {
             return None;
         }
-        if is_child(Holder::List, node.kind) {
-            return Some(start_of(node.ranges));
+        if is_child(Holder::List, child.node.kind) {
+            return Some(start_of(child.node.ranges));
         }
     }
     None
@@ -251,12 +252,12 @@ fn push_items(
 
 // ---- a list
 
-fn first_start(nodes: &[Node<'_>]) -> u32
-    ensures { result ≡ first_start (views nodes.now) }
+fn first_start(nodes: &[Child<'_, '_>]) -> u32
+    ensures { result ≡ first_start (child_views nodes.now) }
 {
     match nodes.first() {
         None => 0,
-        Some(node) => start_of(node.ranges),
+        Some(child) => start_of(child.node.ranges),
     }
 }
 
@@ -266,11 +267,11 @@ pub fn push_list<'t, 'a>(
     found: &mut Vec<Change>,
     index: &[Visit<'t, 'a>],
     sign: char,
-    old: &'t [Node<'a>],
+    old: &[Child<'t, 'a>],
     new: &'t [Node<'a>],
 ) -> Result<(), NoMemory>
     ensures { (same : Tree → Tree → Bool) → TellsSame same → OnOk result (changes_view found.new.items
-        ≡ changes_view found.old.items ++ list_slices same (indexed index.now) sign (views old.now) (views new.now)) }
+        ≡ changes_view found.old.items ++ list_slices same (indexed index.now) sign (child_views old.now) (views new.now)) }
 {
     let kept = &new[first_kept(new)..];
     let Some(first) = kept.first() else {

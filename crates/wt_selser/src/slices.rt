@@ -7,10 +7,11 @@ ghost use Rattle.wt_kept.specs.Page.{TellsSame};
 ghost use Rattle.wt_checks.specs.View.{indexed};
 ghost use Rattle.wt_checks.specs.Places.{page_of};
 ghost use Rattle.wt_selser.specs.BodySlices.{all_child_slices, slices, slices_of};
-ghost use Rattle.wt_selser.specs.Views.{changes_view};
+ghost use Rattle.wt_selser.specs.Views.{child_views, changes_view};
 
 use crate::body::{push_body, push_child};
 use crate::change::Change;
+use crate::child::{Child, opened_children};
 use crate::steps::steps_along;
 use std::alloc::Global;
 use wt_checks::{Visit, is_children};
@@ -39,11 +40,11 @@ fn push_slices<'t, 'a>(
     alloc: Global,
     found: &mut Vec<Change>,
     index: &[Visit<'t, 'a>],
-    old: &'t [Node<'a>],
+    old: &[Child<'t, 'a>],
     edited: &'t Node<'a>,
 ) -> Result<(), NoMemory>
     ensures { (same : Tree → Tree → Bool) → TellsSame same → OnOk result (changes_view found.new.items
-        ≡ changes_view found.old.items ++ slices_of same (indexed index.now) (views old.now) (view edited.now)) }
+        ≡ changes_view found.old.items ++ slices_of same (indexed index.now) (child_views old.now) (view edited.now)) }
 {
     let new = edited.children.as_slice();
     if !is_children(edited.mark) {
@@ -67,7 +68,8 @@ pub fn slices<'t, 'a>(
     ensures { (same : Tree → Tree → Bool) → TellsSame same
         → IfOk result (λ cs. changes_view cs.items ≡ slices same (view page.now) (view edited.now)) }
 {
+    let old = opened_children(alloc, page)?;
     let mut found = Vec::new(alloc);
-    push_slices(alloc, &mut found, index, page.children.as_slice(), edited)?;
+    push_slices(alloc, &mut found, index, old.as_slice(), edited)?;
     Ok(found)
 }

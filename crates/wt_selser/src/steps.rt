@@ -5,8 +5,9 @@ ghost use Rattle.std.specs.Prelude.{◌≡◌, ◌≤◌, ◌++◌, ◌∷◌, [
 ghost use Rattle.wt_tree.specs.Tree.{Trees, more, label};
 ghost use Rattle.wt_tree.specs.View.{view, views};
 ghost use Rattle.wt_selser.specs.Steps.{behind_first, from_number, kept_first, passed, passed_one, passed_up_to, steps};
-ghost use Rattle.wt_selser.specs.Views.{steps_view};
+ghost use Rattle.wt_selser.specs.Views.{child_views, steps_view};
 
+use crate::child::Child;
 use std::alloc::Global;
 use wt_content::{Holder, is_child};
 use wt_span::NoMemory;
@@ -26,13 +27,13 @@ pub enum Step<'t, 'a> {
 }
 
 /// The place of the first node with this number, or the end.
-pub fn place_of(nodes: &[Node<'_>], number: u32) -> usize
+pub fn place_of(nodes: &[Child<'_, '_>], number: u32) -> usize
     ensures fits { result ≤ length nodes.now }
-    ensures behind { views (drop result nodes.now) ≡ from_number number (views nodes.now) }
-    ensures before { (h : Holder) → passed h (views (take result nodes.now)) ≡ passed_up_to h number (views nodes.now) }
+    ensures behind { child_views (drop result nodes.now) ≡ from_number number (child_views nodes.now) }
+    ensures before { (h : Holder) → passed h (child_views (take result nodes.now)) ≡ passed_up_to h number (child_views nodes.now) }
 {
     for at in 0..nodes.len() {
-        if nodes[at].id == number {
+        if nodes[at].node.id == number {
             return at;
         }
     }
@@ -58,12 +59,12 @@ fn push_passed_one<'t, 'a>(
 fn push_passed<'t, 'a>(
     out: &mut Vec<Step<'t, 'a>>,
     holder: Holder,
-    nodes: &'t [Node<'a>],
+    nodes: &[Child<'t, 'a>],
 ) -> Result<(), NoMemory>
-    ensures { OnOk result (steps_view out.new.items ≡ steps_view out.old.items ++ passed holder (views nodes.now)) }
+    ensures { OnOk result (steps_view out.new.items ≡ steps_view out.old.items ++ passed holder (child_views nodes.now)) }
 {
-    for node in nodes {
-        push_passed_one(out, holder, node)?;
+    for child in nodes {
+        push_passed_one(out, holder, child.node)?;
     }
     Ok(())
 }
@@ -73,21 +74,21 @@ fn push_passed<'t, 'a>(
 fn push_kept<'t, 'a>(
     out: &mut Vec<Step<'t, 'a>>,
     holder: Holder,
-    old: &'t [Node<'a>],
+    old: &[Child<'t, 'a>],
     child: &'t Node<'a>,
 ) -> Result<usize, NoMemory>
     ensures fits { IfOk result (λ n. n ≤ length old.now) }
-    ensures behind { IfOk result (λ n. views (drop n old.now) ≡ behind_first (from_number (label (view child.now)).id (views old.now))) }
+    ensures behind { IfOk result (λ n. child_views (drop n old.now) ≡ behind_first (from_number (label (view child.now)).id (child_views old.now))) }
     ensures pushed { OnOk result (steps_view out.new.items ≡ steps_view out.old.items
-        ++ (passed_up_to holder (label (view child.now)).id (views old.now)
-        ++ kept_first (from_number (label (view child.now)).id (views old.now)) (view child.now))) }
+        ++ (passed_up_to holder (label (view child.now)).id (child_views old.now)
+        ++ kept_first (from_number (label (view child.now)).id (child_views old.now)) (view child.now))) }
 {
     let at = place_of(old, child.id);
     push_passed(out, holder, &old[..at])?;
     match old.get(at) {
         None => Ok(at),
-        Some(node) => {
-            out.push(Step::Kept(node, child))?;
+        Some(kept) => {
+            out.push(Step::Kept(kept.node, child))?;
             Ok(at + 1)
         }
     }
@@ -98,12 +99,12 @@ fn push_kept<'t, 'a>(
 fn push_child<'t, 'a>(
     out: &mut Vec<Step<'t, 'a>>,
     holder: Holder,
-    old: &'t [Node<'a>],
+    old: &[Child<'t, 'a>],
     child: &'t Node<'a>,
 ) -> Result<usize, NoMemory>
     ensures fits { IfOk result (λ n. n ≤ length old.now) }
-    ensures goes_on { (us : Trees) → IfOk result (λ n. steps_view out.new.items ++ steps holder (views (drop n old.now)) us
-        ≡ steps_view out.old.items ++ steps holder (views old.now) (more (view child.now) us)) }
+    ensures goes_on { (us : Trees) → IfOk result (λ n. steps_view out.new.items ++ steps holder (child_views (drop n old.now)) us
+        ≡ steps_view out.old.items ++ steps holder (child_views old.now) (more (view child.now) us)) }
 {
     if !is_child(holder, child.kind) {
         return Ok(0);
@@ -119,10 +120,10 @@ fn push_child<'t, 'a>(
 pub fn steps_along<'t, 'a>(
     alloc: Global,
     holder: Holder,
-    old: &'t [Node<'a>],
+    old: &[Child<'t, 'a>],
     new: &'t [Node<'a>],
 ) -> Result<Vec<Step<'t, 'a>>, NoMemory>
-    ensures { IfOk result (λ ss. steps_view ss.items ≡ steps holder (views old.now) (views new.now)) }
+    ensures { IfOk result (λ ss. steps_view ss.items ≡ steps holder (child_views old.now) (views new.now)) }
 {
     let mut steps = Vec::new(alloc);
     let mut from = 0;

@@ -3,3 +3,5 @@ pub mod Forms
 pub mod TextReads
 pub mod Signs
 pub mod Lines
+pub mod TextKinds
+mod NeighbourCases

@@ -10,11 +10,23 @@ use Rattle.std.proofs.lemmas.Str.{encode_ascii}
 use Rattle.wt_names.proofs.Ascii.{IsWide, encode_wide, encode_some}
 use Rattle.wt_guards.specs.Table.{line_start_hazard}
 use Rattle.wt_guards.specs.Content.{Sign, letter, letters, nearest}
-use Rattle.wt_guards.specs.Letters.{is_escaped, reference, written_by}
+use Rattle.wt_guards.specs.Letters.{is_bracket, is_escaped, reference, written_by}
 use Rattle.wt_guards.specs.Guards.{Setting, nowiki, nowiki_if, is_between_guard, is_start_guard, is_guarded, is_line_start, is_line_begun, is_empty_line, spelled_from, spelled}
 use Rattle.wt_guards.proofs.Escapes.{is_escapable, escapable, each_escapable}
-use Rattle.wt_spelling_laws.specs.Reading.{may_begin, are_text_lines}
-use Rattle.wt_spelling_laws.proofs.TextReads.{or_parts}
+use Rattle.wt_spelling_laws.proofs.TextReads.{or_parts, not_bracket, bracket_escaped}
+
+-- neither a sign that begins a block of another kind, nor a line break
+abbrev is_free : ℕ → Bool
+is_free b = not (line_start_hazard b) && not (b == 10)
+
+-- a character that begins a line of a paragraph, in a table too
+abbrev pub may_begin : ℕ → Bool
+may_begin b = is_free b && not (is_bracket b)
+
+-- Each line begins with such a character, so that none is empty. `start` tells whether a line begins here.
+abbrev pub are_text_lines : Bool → List ℕ → Bool
+are_text_lines start [] = not start
+are_text_lines start (b ∷ bs) = (not start || may_begin b) && are_text_lines (b == 10) bs
 
 lines_nowiki : (start : Bool) (rest : List ℕ) → are_text_lines false rest ≡ true → are_text_lines start (nowiki ++ rest) ≡ true
 unfolding nowiki line_start_hazard
@@ -39,7 +51,7 @@ lines_on [] rest h r = r
 lines_on (b ∷ bs) rest h r =
     ap (λ (t : Bool). are_text_lines t (bs ++ rest)) (no_break b (All-head IsWide b bs h)) ∙ lines_on bs rest (All-tail IsWide b bs h) r
 
-both : (a b : Bool) → a ≡ true → b ≡ true → (a && b) ≡ true
+pub both : (a b : Bool) → a ≡ true → b ≡ true → (a && b) ≡ true
 both true b e f = f
 both false b e f = e
 
@@ -84,7 +96,7 @@ within_first false x e f = f
 within_first true x e f = cc
 
 unguarded_begins : (s : Setting) (before : List Sign) (c : ℕ) (after : List Sign) → s.within ≡ false → is_line_start (nearest before) ≡ true
-    → is_line_begun before ≡ true → is_guarded s before (letter c ∷ after) ≡ false → may_begin c ≡ true
+    → is_line_begun before ≡ true → is_guarded s before (letter c ∷ after) ≡ false → is_free c ≡ true
 unfolding is_guarded is_start_guard
 unguarded_begins s before c after w l b g =
     let outer = (or_parts (is_between_guard (nearest before) (Some (letter c))) _ g).1 in
@@ -94,17 +106,19 @@ unguarded_begins s before c after w l b g =
     not_both (line_start_hazard c) (c == 10) f.1 (or_parts (c == 10) _ f.0).0
 
 lines_letter : (start : Bool) (s : Setting) (before : List Sign) (c : ℕ) (after : List Sign) (rest : List ℕ) (e : Bool)
-    → is_escaped s.within s.place before c after ≡ e → (start ≡ true → may_begin c ≡ true) → are_text_lines (c == 10) rest ≡ true
+    → is_escaped s.within s.place before c after ≡ e → (start ≡ true → is_free c ≡ true) → are_text_lines (c == 10) rest ≡ true
     → are_text_lines start (written_by e c ++ rest) ≡ true
 lines_letter start s before c after rest true h f r =
     let e = escapable s.within s.place before c after h in
     lines_reference start c rest e (each_escapable (λ k. are_text_lines (k == 10) rest ≡ true → are_text_lines false rest ≡ true)
     (λ q. q) (λ q. q) (λ q. q) (λ q. q) (λ q. q) (λ q. q) (λ q. q) (λ q. q) (λ q. q) (λ q. q) (λ q. q) (λ q. q) (λ q. q) c e r)
-lines_letter start s before c after rest false h f r = lines_plain start c rest f r
+lines_letter start s before c after rest false h f r =
+    let b = not_bracket (is_bracket c) (is_escaped s.within s.place before c after) (bracket_escaped s.within s.place before c after) h in
+    lines_plain start c rest (λ i. both (is_free c) (not (is_bracket c)) (f i) (ap not b)) r
 
 -- a guard, or none and then a character that may begin the line
 lines_guarded : (start g : Bool) (s : Setting) (before : List Sign) (c : ℕ) (after : List Sign) (rest : List ℕ)
-    → (start ≡ true → g ≡ false → may_begin c ≡ true) → are_text_lines (c == 10) rest ≡ true
+    → (start ≡ true → g ≡ false → is_free c ≡ true) → are_text_lines (c == 10) rest ≡ true
     → are_text_lines start (nowiki_if g ++ (written_by (is_escaped s.within s.place before c after) c ++ rest)) ≡ true
 lines_guarded start true s before c after rest f r =
     let e = is_escaped s.within s.place before c after in

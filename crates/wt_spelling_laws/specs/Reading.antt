@@ -1,5 +1,5 @@
 -- What a text shows whose lexemes are characters, `=`, character references and empty nowikis alone.
-use Rattle.std.specs.Prelude.{ℕ, Bool, false, not, ◌||◌, ◌&&◌, ◌==◌, Option, Some, None, List, [], ◌∷◌, ◌++◌, take, drop, if◌then◌else◌, encode_utf8}
+use Rattle.std.specs.Prelude.{ℕ, Bool, false, ◌||◌, Option, Some, None, List, [], ◌∷◌, ◌++◌, take, drop, if◌then◌else◌, encode_utf8}
 use Rattle.std.specs.Option.{option_map}
 use Rattle.std.specs.Str.{bytes_eq}
 use Rattle.wt_span.specs.declared.form.Mode.{Mode}
@@ -7,7 +7,6 @@ use Rattle.wt_span.specs.declared.form.LexKind.{LexKind}
 use Rattle.wt_span.specs.declared.form.LexKind.TheVariants.{Chars, CommentLine, Comment, Raw, Include, Hidden, Entity, Opens, Closes, LinkOpen, LinkClose, Pipe, Equals}
 use Rattle.wt_span.specs.Bytes.{begins}
 use Rattle.wt_span.specs.Lexemes.{Word, words}
-use Rattle.wt_guards.specs.Table.{line_start_hazard}
 use Rattle.wt_guards.specs.Guards.{nowiki}
 
 -- what a lexeme shows: itself, the character that it names, or nothing where it is `<nowiki/>`; None where it is another one
@@ -43,14 +42,3 @@ read_text mode bs = shown_words bs (words mode bs)
 abbrev pub stands : List ℕ → List ℕ → Bool
 stands sign [] = false
 stands sign (b ∷ bs) = begins sign (b ∷ bs) || stands sign bs
-
--- ---- lines
-
--- a character that begins a line of a paragraph
-abbrev pub may_begin : ℕ → Bool
-may_begin b = not (line_start_hazard b) && not (b == 10)
-
--- Each line begins with such a character, so that none is empty. `start` tells whether a line begins here.
-abbrev pub are_text_lines : Bool → List ℕ → Bool
-are_text_lines start [] = not start
-are_text_lines start (b ∷ bs) = (not start || may_begin b) && are_text_lines (b == 10) bs

@@ -9,8 +9,8 @@ use Rattle.std.proofs.lemmas.List.{get_or-reverse, get_or_append_left, get_or_pu
 use Rattle.std.proofs.lemmas.List.Sums.{prefix_len-le-length, prefix_len_passes}
 use Rattle.wt_tangled.specs.OpenTags.{bare_len, ends_open, is_stop}
 use Rattle.wt_tangled.specs.Passes.{ending_of, ends_with_less}
-use Rattle.wt_tangled.specs.declared.tag_pass.Ending.{Ending}
-use Rattle.wt_tangled.specs.declared.tag_pass.Ending.TheVariants as ending
+use Rattle.wt_tangled.specs.declared.ending.Ending.{Ending}
+use Rattle.wt_tangled.specs.declared.ending.Ending.TheVariants as ending
 
 less_test : (a b : ℕ) → a < b → nat_lt a b ≡ true
 less_test a b e = grind (arith, nat_tests)

@@ -1,6 +1,7 @@
 mod Cases
 pub mod OpenTags
 pub mod Endings
+pub mod Sources
 pub mod Passing
 pub mod Schemes
 pub mod QuoteRuns

@@ -7,8 +7,8 @@ use Rattle.wt_tangled.specs.OpenTags.{ends_open}
 use Rattle.wt_tangled.specs.TextCalls.{share_byte}
 use Rattle.wt_tangled.specs.declared.text_call.CallPass.{CallPass}
 use Rattle.wt_tangled.specs.declared.passes.Passes.{Passes}
-use Rattle.wt_tangled.specs.declared.tag_pass.Ending.{Ending}
-use Rattle.wt_tangled.specs.declared.tag_pass.Ending.TheVariants as ending
+use Rattle.wt_tangled.specs.declared.ending.Ending.{Ending}
+use Rattle.wt_tangled.specs.declared.ending.Ending.TheVariants as ending
 use Rattle.wt_tangled.specs.declared.tag_pass.TagPass.{TagPass}
 
 -- ---- open tags

@@ -3,6 +3,7 @@
 //! read alone.
 #![tactic(auto)]
 
+mod ending;
 mod group_items;
 mod open_tag;
 mod open_text;

@@ -1,6 +1,6 @@
 //! What is known of a page up to a block, so that no block goes through the page again.
 
-ghost use Rattle.std.specs.Prelude.{◌≡◌, ◌||◌, IfOk, List, map, ℕ};
+ghost use Rattle.std.specs.Prelude.{◌≡◌, ◌||◌, List, map, ℕ};
 ghost use Rattle.wt_span.specs.Origins.{AreInOrder, Expanded, span_of};
 ghost use Rattle.wt_tree.specs.View.{view};
 ghost use Rattle.wt_tree.specs.declared.node.Node.{out-Node};
@@ -11,8 +11,7 @@ ghost use Rattle.wt_tangled.specs.TextCalls.{touches_text_call};
 use crate::open_tag::touches_open_tag;
 use crate::tag_pass::TagPass;
 use crate::text_call::CallPass;
-use std::alloc::Global;
-use wt_span::{Items, NoMemory, Range};
+use wt_span::{Items, Range};
 use wt_tree::Node;
 
 /// One pass over the text calls of a page and one over its bytes.
@@ -35,23 +34,17 @@ impl Passes {
 
     /// Whether a block of the page with these items touches a text call or an open tag. Goes on to the block;
     /// what was passed already is gone through again only for a block that stands before it.
-    pub fn touches(
-        &mut self,
-        alloc: Global,
-        items: &Items<'_>,
-        page: &[u8],
-        block: &Node<'_>,
-    ) -> Result<bool, NoMemory>
+    pub fn touches(&mut self, items: &Items<'_>, page: &[u8], block: &Node<'_>) -> bool
         requires { AreOf items.now page.now self.old }
-        ensures value { IfOk result (λ b. b ≡ (touches_text_call items.now.text_calls (out-Node block.now).ranges
-            || touches_open_tag (before page.now (out-Node block.now).ranges) (view block.now))) }
+        ensures value { result ≡ (touches_text_call items.now.text_calls (out-Node block.now).ranges
+            || touches_open_tag (before page.now (out-Node block.now).ranges) (view block.now)) }
         ensures passes { AreOf items.now page.now self.new }
     {
         let call = self.calls.touches(text_calls(items), block.ranges);
         if call {
-            return Ok(true);
+            return true;
         }
-        touches_open_tag(alloc, page, &mut self.tags, block)
+        touches_open_tag(page, &mut self.tags, block)
     }
 }
 

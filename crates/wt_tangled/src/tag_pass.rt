@@ -1,52 +1,11 @@
 //! One pass over the page, which tells of the blocks one after the other whether they stand in an open tag.
 
-ghost use Rattle.std.specs.Prelude.{◌≡◌, ◌<◌, ◌≤◌, ◌+◌, ◌^◌, ◌++◌, ◌∷◌, [], ℕ, List, length, slice_index, take};
+ghost use Rattle.std.specs.Prelude.{◌≡◌, ◌<◌, ◌≤◌, ◌+◌, ◌^◌, ℕ, List, length, slice_index, take};
 ghost use Rattle.wt_tangled.specs.OpenTags.{before, ends_open};
 ghost use Rattle.wt_tangled.specs.Passes.{IsReadTo, ending_of};
 
+use crate::ending::Ending;
 use wt_tree::Ranges;
-
-/// How a text ends.
-#[derive(Clone, Copy)]
-enum Ending {
-    Outside,
-    BehindLess,
-    InTag,
-}
-
-impl Ending {
-    /// How it ends with one byte more.
-    fn with(self, byte: u8) -> Ending
-        ensures { (text : List ℕ) → self ≡ ending_of text → result ≡ ending_of (text ++ byte ∷ []) }
-    {
-        if byte == b'<' {
-            return Ending::BehindLess;
-        }
-        if byte == b'>' || byte == b'\n' {
-            return Ending::Outside;
-        }
-        match self {
-            Ending::Outside => Ending::Outside,
-            Ending::BehindLess => {
-                if byte.is_ascii_alphabetic() {
-                    Ending::InTag
-                } else {
-                    Ending::Outside
-                }
-            }
-            Ending::InTag => Ending::InTag,
-        }
-    }
-
-    fn is_in_tag(self) -> bool
-        ensures { (text : List ℕ) → self ≡ ending_of text → result ≡ ends_open text }
-    {
-        match self {
-            Ending::Outside | Ending::BehindLess => false,
-            Ending::InTag => true,
-        }
-    }
-}
 
 /// A place up to which the page was read, and how what stands before it ends.
 #[derive(Clone, Copy)]
@@ -63,7 +22,7 @@ impl TagPass {
     {
         TagPass {
             place: 0,
-            ending: Ending::Outside,
+            ending: Ending::start(),
         }
     }
 

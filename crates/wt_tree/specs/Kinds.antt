@@ -8,11 +8,11 @@ use Rattle.wt_tree.specs.declared.kind.TagName.TheVariants as tag
 use Rattle.wt_tree.specs.declared.kind.AttrName.{AttrName}
 use Rattle.wt_tree.specs.declared.kind.AttrName.TheVariants as attr
 use Rattle.wt_tree.specs.declared.row.Writing.{Writing}
-use Rattle.wt_tree.specs.declared.row.Writing.TheVariants.{AsText, AsVoid, RoundCharacter, RoundChildren, Unwritten}
+use Rattle.wt_tree.specs.declared.row.Writing.TheVariants.{AsText, AsVoid, RoundCharacter, RoundChildren, AsSection, Unwritten}
 use Rattle.wt_tree.specs.declared.kind.Showing.{Showing}
 use Rattle.wt_tree.specs.declared.kind.Showing.TheVariants.{Characters, Inside, Nothing, Element}
 use Rattle.wt_tree.specs.declared.row.Class.{Class}
-use Rattle.wt_tree.specs.declared.row.Class.TheVariants.{Nowhere, Anywhere, Mark, Block, List as ListClass, Item, Term, TablePart, TableRow, Cell, Inline, Character}
+use Rattle.wt_tree.specs.declared.row.Class.TheVariants.{Nowhere, Anywhere, Mark, Block, List as ListClass, Item, Term, TablePart, TableRow, Cell, Inline, Character, Section}
 use Rattle.wt_tree.specs.declared.row.Holding.{Holding}
 use Rattle.wt_tree.specs.declared.row.Holding.TheVariants.{NoElements, Blocks, Inlines, Entities, Items, Terms, TableParts, TableRows, Cells, InlinesThenLists, InlinesThenBlocks}
 use Rattle.wt_tree.specs.declared.row.Texts.{Texts}
@@ -35,6 +35,7 @@ row w l n s c h t p = record { writing = w; is_leaf = l; is_numbered = n; showin
 
 abbrev pub shape : Kind → Shape
 shape kind.Body = row RoundChildren false false Element Nowhere Blocks Separators NoData
+shape (kind.Section n) = row (AsSection n) false false Inside Section Blocks Separators NoData
 shape kind.Para = row RoundChildren false true Element Block Inlines Page NoData
 shape (kind.Heading n) = row RoundChildren false true Element Block Inlines Page NoData
 shape kind.Rule = row AsVoid true true Element Block NoElements Page NoData
@@ -78,7 +79,7 @@ writing k = (shape k).writing
 abbrev pub is_leaf : Kind → Bool
 is_leaf k = (shape k).is_leaf
 
--- Every node but the body, texts and separators has a number. (The mark of an empty call stands
+-- Every node but the body, sections, texts and separators has a number. (The mark of an empty call stands
 -- inside groups alone, where nothing is numbered.)
 abbrev pub is_numbered : Kind → Bool
 is_numbered k = (shape k).is_numbered
@@ -109,13 +110,14 @@ number_of_class Cell = 8
 number_of_class Inline = 9
 number_of_class Character = 10
 number_of_class Mark = 11
+number_of_class Section = 12
 
 abbrev pub is_class : Class → Class → Bool
 is_class c d = number_of_class c == number_of_class d
 
 abbrev pub admits : Holding → Class → Bool
 admits NoElements c = false
-admits Blocks c = is_class c Block || is_class c ListClass
+admits Blocks c = is_class c Block || (is_class c ListClass || is_class c Section)
 admits Inlines c = is_class c Inline || is_class c Character
 admits Entities c = is_class c Character
 admits Items c = is_class c Item
@@ -137,6 +139,10 @@ may_hold parent k = is_anywhere (shape k).class || admits (shape parent).holding
 -- a comment or an include tag
 abbrev pub is_mark : Kind → Bool
 is_mark k = is_class (shape k).class Mark
+
+-- a section, which stands in the body and in sections
+abbrev pub is_section : Kind → Bool
+is_section k = is_class (shape k).class Section
 
 -- a block or a list
 abbrev pub is_block : Kind → Bool
@@ -209,6 +215,7 @@ tag_own tag.Span = styles
 
 unfoldable pub spelling : Kind → Spelling
 spelling kind.Body = spelled (codes "body") None None [] []
+spelling (kind.Section n) = spelled (codes "section") None None [] []
 spelling kind.Para = spelled (codes "p") None None [] (codes "p")
 spelling (kind.Heading n) = spelled (codes "h") (Some n) None [] (codes "h")
 spelling kind.Rule = spelled (codes "hr") None None [] (codes "hr")

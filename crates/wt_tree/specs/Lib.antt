@@ -3,6 +3,7 @@ pub mod Elements
 pub mod Forgets
 pub mod Kinds
 pub mod Look
+pub mod Opened
 pub mod Plain
 pub mod Recut
 pub mod Recutting

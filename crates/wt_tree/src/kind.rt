@@ -31,12 +31,14 @@ pub enum TagName {
     Span,
 }
 
-/// What a node is. A `Heading` has its level, from 1 to 6. An `Island` is a part of the page that is
-/// kept and not read into: an extension, or a tag, media or function; its `typeof` tells which.
+/// What a node is. A `Section` has its number: 0 where it is the lead, else the place of its heading among
+/// those that open one, from 1. A `Heading` has its level, from 1 to 6. An `Island` is a part of the page
+/// that is kept and not read into: an extension, or a tag, media or function; its `typeof` tells which.
 /// `Empty` is the mark of a call without output, and stands inside groups alone.
 #[derive(Clone, Copy, Debug, PartialEq, Eq)]
 pub enum Kind {
     Body,
+    Section(u32),
     Para,
     Heading(u8),
     Rule,

@@ -1,20 +1,21 @@
 use crate::kind::{AttrName, Showing};
 
 /// How a node is written: as its source, as an element without an end tag, as an element round its
-/// character, as an element round its children, or not by an element of its own (groups, and what
-/// stands in them alone).
+/// character, as an element round its children, as the section of this number round its children, or
+/// not by an element of its own (groups, and what stands in them alone).
 #[derive(Clone, Copy, Debug, PartialEq, Eq)]
 pub enum Writing {
     AsText,
     AsVoid,
     RoundCharacter,
     RoundChildren,
+    AsSection(u32),
     Unwritten,
 }
 
-/// Where an element may stand. `Anywhere` is anywhere below the body, and so are comments and include
-/// tags (`Mark`). `Nowhere` is what stands in no other element by a row of its own: the body, texts,
-/// separators and groups.
+/// Where an element may stand. A `Section` stands in the body and in sections. `Anywhere` is anywhere below
+/// the body, and so are comments and include tags (`Mark`). `Nowhere` is what stands in no other element by
+/// a row of its own: the body, texts, separators and groups.
 #[derive(Clone, Copy, Debug)]
 pub enum Class {
     Nowhere,
@@ -29,10 +30,11 @@ pub enum Class {
     Cell,
     Inline,
     Character,
+    Section,
 }
 
-/// Which elements an element holds beside those that may stand anywhere. Those of an item, a cell or
-/// a caption have an order: the inline ones come first.
+/// Which elements an element holds beside those that may stand anywhere. Where blocks stand, sections do,
+/// too. Those of an item, a cell or a caption have an order: the inline ones come first.
 #[derive(Clone, Copy, Debug)]
 pub enum Holding {
     NoElements,

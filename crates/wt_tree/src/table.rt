@@ -11,6 +11,7 @@ ghost use Rattle.wt_tree.specs.Kinds.{
   is_anywhere,
   may_hold,
   is_mark,
+  is_section,
   is_block,
   is_inline,
   may_follow,
@@ -34,7 +35,8 @@ ghost use Rattle.wt_tree.specs.Kinds.{
 use crate::kind::Showing::{Characters, Element, Inside, Nothing};
 use crate::kind::{AttrName, Kind, Showing, TagName};
 use crate::row::Class::{
-    Anywhere, Block, Cell, Character, Inline, Item, List, Mark, Nowhere, TablePart, TableRow, Term,
+    Anywhere, Block, Cell, Character, Inline, Item, List, Mark, Nowhere, Section, TablePart,
+    TableRow, Term,
 };
 use crate::row::Holding::{
     Blocks, Cells, Entities, Inlines, InlinesThenBlocks, InlinesThenLists, Items, NoElements,
@@ -42,7 +44,7 @@ use crate::row::Holding::{
 };
 use crate::row::Payload::{ExtensionTag, GroupParts, NoData};
 use crate::row::Texts::{Bordered, OwnCharacter, Page, Separators};
-use crate::row::Writing::{AsText, AsVoid, RoundCharacter, RoundChildren, Unwritten};
+use crate::row::Writing::{AsSection, AsText, AsVoid, RoundCharacter, RoundChildren, Unwritten};
 use crate::row::{Class, Fixed, Holding, Own, Payload, Shape, Spelling, Texts, Values, Writing};
 
 fn row(
@@ -205,6 +207,16 @@ impl Kind {
                 false,
                 Element,
                 Nowhere,
+                Blocks,
+                Separators,
+                NoData,
+            ),
+            Kind::Section(number) => row(
+                AsSection(number),
+                false,
+                false,
+                Inside,
+                Section,
                 Blocks,
                 Separators,
                 NoData,
@@ -476,6 +488,7 @@ impl Kind {
     {
         match self {
             Kind::Body => spelled(b"body", None, None, &[], b""),
+            Kind::Section(_) => spelled(b"section", None, None, &[], b""),
             Kind::Para => spelled(b"p", None, None, &[], b"p"),
             Kind::Heading(level) => spelled(b"h", Some(level), None, &[], b"h"),
             Kind::Rule => spelled(b"hr", None, None, &[], b"hr"),
@@ -597,7 +610,7 @@ impl Kind {
         self.shape().writing
     }
 
-    /// Whether nodes of this kind have a number: all but the body, texts and separators.
+    /// Whether nodes of this kind have a number: all but the body, sections, texts and separators.
     pub fn is_numbered(self) -> bool
         ensures { result ≡ is_numbered self }
     {
@@ -631,6 +644,13 @@ impl Kind {
         ensures { result ≡ is_mark self }
     {
         matches!(self.shape().class, Class::Mark)
+    }
+
+    /// Whether it is a section.
+    pub fn is_section(self) -> bool
+        ensures { result ≡ is_section self }
+    {
+        matches!(self.shape().class, Section)
     }
 
     /// Whether it is a block or a list.
@@ -670,7 +690,7 @@ impl Holding {
     {
         match self {
             NoElements => false,
-            Blocks => matches!(class, Block | List),
+            Blocks => matches!(class, Block | List | Section),
             Inlines => matches!(class, Inline | Character),
             Entities => matches!(class, Character),
             Items => matches!(class, Item),

@@ -19,11 +19,11 @@ returns-in_err-children c =
 pub returns : goal.returns
 returns c =
     body_made c.args.number (pairs c.args.attributes.items) (views c.args.contents.items) c.in_ok-head.head c.walk_in-walk.result
-    c.nodes.new.walk c.in_ok-children.children c.in_ok-body.body c.of.result
+    c.nodes.new.walk c.in_ok-children.children c.in_ok-sectioned.sectioned c.in_ok-body.body c.of.result
     (bodied_at c.args.number (pairs c.as_slice.result.now) (pairs c.args.attributes.items) c.as_slice-2.result.now
     c.args.contents.items (Ok c.in_ok-head.head) (ap pairs c.as_slice.ensures.value) c.as_slice-2.ensures.value
     c.in_ok-head.ensures)
-    c.walk_in-walk.ensures.next c.walk_in-walk.ensures.unsourced c.in_ok-children.ensures c.in_ok-body.ensures c.of.ensures.body c.of.ensures.unsourced
+    c.walk_in-walk.ensures.next c.walk_in-walk.ensures.unsourced c.in_ok-children.ensures c.in_ok-sectioned.ensures c.in_ok-body.ensures c.of.ensures.body c.of.ensures.unsourced
 
 pub returns-in_err-head : goal.returns-in_err-head
 returns-in_err-head c =

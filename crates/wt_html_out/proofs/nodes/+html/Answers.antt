@@ -1,6 +1,6 @@
 use Rattle.std.proofs.Common.{sym, ◌∙◌, arith, append_assoc, length-append}
 use Rattle.std.proofs.lemmas.Grind.{common_steps}
-use Rattle.wt_html_out.proofs.Htmls.{html_children, html_character}
+use Rattle.wt_html_out.proofs.Htmls.{html_children, html_character, html_section}
 use Rattle.wt_html_out.proofs.nodes.+html.Goals as goal
 
 pub push_html-returns-in-RoundChildren-clause-text : goal.push_html-returns-in-RoundChildren-clause-text
@@ -16,4 +16,14 @@ push_html-returns-in_ok-push_end-in-RoundCharacter-clause-text t c =
 pub push_html-returns-in_err-behind-in-RoundChildren-clause-too_long : goal.push_html-returns-in_err-behind-in-RoundChildren-clause-too_long
 push_html-returns-in_err-behind-in-RoundChildren-clause-too_long t c =
     rw (html_children c.args.before c.args.node.now (sym c.is_group.ensures ∙ c.if-is_group.false) (sym c.writing.ensures ∙ c.in-RoundChildren.is))
+    (grind (arith, common_steps, append_assoc, length-append))
+
+pub push_html-returns-in-AsSection-clause-text : goal.push_html-returns-in-AsSection-clause-text
+push_html-returns-in-AsSection-clause-text t c =
+    rw (html_section c.args.before c.in-AsSection.number c.args.node.now (sym c.is_group.ensures ∙ c.if-is_group.false) (sym c.writing.ensures ∙ c.in-AsSection.is))
+    (grind (arith, common_steps, append_assoc))
+
+pub push_html-returns-in_err-behind-in-AsSection-clause-too_long : goal.push_html-returns-in_err-behind-in-AsSection-clause-too_long
+push_html-returns-in_err-behind-in-AsSection-clause-too_long t c =
+    rw (html_section c.args.before c.in-AsSection.number c.args.node.now (sym c.is_group.ensures ∙ c.if-is_group.false) (sym c.writing.ensures ∙ c.in-AsSection.is))
     (grind (arith, common_steps, append_assoc, length-append))

@@ -6,6 +6,7 @@ use Rattle.wt_selser.specs.ListSlices.{item_slices, removed_before}
 use Rattle.wt_selser.specs.Steps.{Step}
 use Rattle.wt_selser.specs.Views.{changes_view, steps_view}
 use Rattle.wt_selser.proofs.ListWalk.{list_made, nodes_turn, rest_is, some_there}
+use Rattle.wt_selser.specs.Views.{child_views}
 use Rattle.wt_selser.proofs.list.push_list.Goals as goal
 
 pub returns : goal.returns
@@ -19,12 +20,12 @@ returns c = λ same tells.
     let left = take (length new - c.first_kept.result) (drop c.first_kept.result new) in
     let cs = changes_view c.args.found.now.items in
     let es = changes_view c.push_all_new_before.new.found.items in
-    list_made same page c.args.sign place (out-Node n).id (views old) (views new) (views left) (views behind) (views (drop (0 + 1) left)) n cs
+    list_made same page c.args.sign place (out-Node n).id (child_views old) (views new) (views left) (child_views behind) (views (drop (0 + 1) left)) n cs
     (changes_view c.push_removed_before.new.found.items) es (changes_view c.push_items.new.found.items)
     (c.first_kept.ensures.behind ∙ sym (ap views (rest_is new c.first_kept.result)))
     (nodes_turn left 0 n (some_there (length left) c.in-Some.ensures.item.0) c.in-Some.ensures.item.1)
     refl
-    (ap views (rest_is old c.place_of.result) ∙ c.place_of.ensures.behind)
+    (ap child_views (rest_is old c.place_of.result) ∙ c.place_of.ensures.behind)
     c.first_start-place.ensures
     (c.in_ok-push_removed_before.ensures ∙ ap (λ r. cs ++ removed_before r place) c.first_removed.ensures)
     (c.in_ok-push_all_new_before.ensures same tells)

@@ -1,13 +1,13 @@
-use Rattle.std.proofs.Common.{ap}
+use Rattle.std.proofs.Common.{ap, ◌∙◌}
 use Rattle.wt_tree.specs.View.{view}
 use Rattle.wt_checks.specs.Places.{page_of}
 use Rattle.wt_checks.specs.View.{indexed}
-use Rattle.wt_selser.specs.Views.{changes_view}
+use Rattle.wt_selser.specs.Views.{child_views, changes_view}
 use Rattle.wt_selser.proofs.BodyWalk.{page_sliced}
 use Rattle.wt_selser.proofs.slices.slices.Goals as goal
 
 pub returns : goal.returns
 returns c = λ same tells.
-    page_sliced same (indexed c.args.index.now) (page_of (view c.args.page.now)) c.args.page.now (view c.args.edited.now) c.as_slice.result.now
+    page_sliced same (indexed c.args.index.now) (page_of (view c.args.page.now)) c.args.page.now (view c.args.edited.now) (child_views c.as_slice.result.now)
     (changes_view c.new-found.result.items) (changes_view c.push_slices.new.found.items) c.requires (ap changes_view c.new-found.ensures.items)
-    c.as_slice.ensures (c.in_ok-push_slices.ensures same tells)
+    (ap child_views c.as_slice.ensures.value ∙ c.in_ok-old.ensures) (c.in_ok-push_slices.ensures same tells)

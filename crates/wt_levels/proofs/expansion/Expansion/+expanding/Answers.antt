@@ -10,7 +10,8 @@ use Rattle.wt_transclusion.proofs.AskedLaws.{asks_none, asks_then}
 use Rattle.wt_transclusion.proofs.GrowthLaws.{agrees_before, agrees_known, grows_none, grows_then}
 use Rattle.wt_levels.specs.Ledgers.{AnswersAdvance, AnswersOutput, Progress, TakesStep, ledger, reading_of}
 use Rattle.wt_levels.specs.declared.run.Turn.{Turn}
-use Rattle.wt_levels.proofs.LedgerLaws.{begins, going_refused, link_done, message_done, no_fault_counted, one_less, page_done, page_taken, page_unread, page_untaken, paged_goes, paged_refused, step_handed, step_refused, taking_refused}
+use Rattle.wt_levels.proofs.LedgerLaws.{page_unread, taking_refused}
+use Rattle.wt_levels.proofs.ProgressLaws.{going_refused, link_done, message_done, no_fault_counted, one_less, page_done, page_taken, page_untaken, paged_goes, paged_refused, progress_spent, step_handed, step_refused}
 use Rattle.wt_levels.proofs.expansion.Expansion.+expanding.Goals as goal
 
 pub advance-returns-in-Went-clause-grown : goal.advance-returns-in-Went-clause-grown
@@ -81,25 +82,23 @@ finish-steps-init g t c = record {
   count = refl;
   names = refl;
   grown = grows_none (g.F.Folder.pages c.args.folder.now) c.args.self.now.store;
-  given = λ pages page text mode frame met all told s v h.
-      let self = c.args.self.now in
-      begins pages page text (reading_of pages mode frame c.args.left self.names) (ledger self.spent met (g.F.Folder.answered c.args.folder.now)) all
-      c.args.run self.store s h;
+  given = λ pages page text mode frame before all told v h.
+      h;
 }
 
 pub finish-returns-in_err-turn-clause-given : goal.finish-returns-in_err-turn-clause-given
-finish-returns-in_err-turn-clause-given g t c = λ pages page text mode frame met all told s v h.
+finish-returns-in_err-turn-clause-given g t c = λ pages page text mode frame before all told v h.
     let self = c.args.self.now in
     let r = reading_of pages mode frame c.args.left self.names in
-    let before = ledger self.spent met (g.F.Folder.answered c.args.folder.now) in
     let answered = g.F.Folder.answered c.steps.folder in
     let e : c.from_residual.result ≡ Err c.in_err-turn.field-0.0 = search rules in
     let named = subst (λ x. Concerns (g.F.Folder.pages c.args.folder.now) pages c.steps.self.store x) e told in
-    let agrees = c.steps.invariant.grown.agrees pages named (agrees_known pages met self.store s) in
-    let p = c.steps.invariant.given pages page text mode frame met all agrees s v h in
+    let agrees = c.steps.invariant.grown.agrees pages named (agrees_known pages h.met self.store h.stored) in
+    let p = c.steps.invariant.given pages page text mode frame before all agrees v h in
     subst (λ x. AnswersOutput pages page before all c.steps.self.store c.step.new.spent answered x) (sym e)
     (step_refused pages page text r before all c.steps.run c.steps.self.store c.steps.self.spent answered c.in_err-turn.field-0.0 p
-    (c.in_err-turn.ensures.answer r text p.total p.holding v))
+    (c.in_err-turn.ensures.answer r text p.total p.holding v
+    (progress_spent pages page text r before all c.steps.run c.steps.self.store c.steps.self.spent answered p)))
 
 pub finish-returns-in_err-turn-clause-count : goal.finish-returns-in_err-turn-clause-count
 finish-returns-in_err-turn-clause-count g t c =
@@ -110,30 +109,30 @@ finish-returns-in_err-turn-clause-count g t c =
     (no_fault_counted before now c.in_err-turn.field-0.0 c.in_err-turn.ensures.fault c.steps.invariant.count)
 
 pub finish-returns-in_err-pieces-clause-given : goal.finish-returns-in_err-pieces-clause-given
-finish-returns-in_err-pieces-clause-given g t c = λ pages page text mode frame met all told s v h.
+finish-returns-in_err-pieces-clause-given g t c = λ pages page text mode frame before all told v h.
     let self = c.args.self.now in
     let r = reading_of pages mode frame c.args.left self.names in
-    let before = ledger self.spent met (g.F.Folder.answered c.args.folder.now) in
     let answered = g.F.Folder.answered c.steps.folder in
     let e : c.from_residual-in_err-pieces.result ≡ Err c.in_err-pieces.field-0.0 = search rules in
     let named = subst (λ x. Concerns (g.F.Folder.pages c.args.folder.now) pages c.advance.new.self.store x) e told in
-    let agrees = c.steps.invariant.grown.agrees pages named (agrees_known pages met self.store s) in
-    let p = c.steps.invariant.given pages page text mode frame met all agrees s v h in
+    let agrees = c.steps.invariant.grown.agrees pages named (agrees_known pages h.met self.store h.stored) in
+    let p = c.steps.invariant.given pages page text mode frame before all agrees v h in
     let step = step_handed pages page text mode frame c.args.left self.names c.steps.self.names c.steps.invariant.names before all c.steps.run c.step.new.self
-    c.steps.self.store c.steps.self.spent c.step.new.spent answered c.in_ok-turn.turn p (c.in_ok-turn.ensures.answer r text p.total p.holding v) in
+    c.steps.self.store c.steps.self.spent c.step.new.spent answered c.in_ok-turn.turn p (c.in_ok-turn.ensures.answer r text p.total p.holding v
+    (progress_spent pages page text r before all c.steps.run c.steps.self.store c.steps.self.spent answered p)) in
     subst (λ x. AnswersOutput pages page before all c.advance.new.self.store c.advance.new.self.spent (g.F.Folder.answered c.advance.new.folder) x) (sym e)
     (c.in_err-pieces.ensures.given pages page text mode frame before all (c.steps.invariant.kept ∙ named) step)
 
 pub finish-returns-in-Some-clause-given : goal.finish-returns-in-Some-clause-given
-finish-returns-in-Some-clause-given g t c = λ pages page text mode frame met all told s v h.
+finish-returns-in-Some-clause-given g t c = λ pages page text mode frame before all told v h.
     let self = c.args.self.now in
     let r = reading_of pages mode frame c.args.left self.names in
-    let before = ledger self.spent met (g.F.Folder.answered c.args.folder.now) in
     let answered = g.F.Folder.answered c.steps.folder in
     let agrees = agrees_before pages c.steps.self.store c.advance.new.self.store c.in_ok-pieces.ensures.grown.kept told in
-    let p = c.steps.invariant.given pages page text mode frame met all agrees s v h in
+    let p = c.steps.invariant.given pages page text mode frame before all agrees v h in
     let step = step_handed pages page text mode frame c.args.left self.names c.steps.self.names c.steps.invariant.names before all c.steps.run c.step.new.self
-    c.steps.self.store c.steps.self.spent c.step.new.spent answered c.in_ok-turn.turn p (c.in_ok-turn.ensures.answer r text p.total p.holding v) in
+    c.steps.self.store c.steps.self.spent c.step.new.spent answered c.in_ok-turn.turn p (c.in_ok-turn.ensures.answer r text p.total p.holding v
+    (progress_spent pages page text r before all c.steps.run c.steps.self.store c.steps.self.spent answered p)) in
     subst (λ (o : Option (Listed Piece)). AnswersAdvance pages page
     (reading_of pages mode frame c.args.left c.steps.self.names) text before all c.advance.new.run
     c.advance.new.self.store c.advance.new.self.spent (g.F.Folder.answered c.advance.new.folder) (Ok o)) c.in-Some.is
@@ -152,15 +151,15 @@ finish-steps-preserved g t c = record {
   names = c.in_ok-pieces.ensures.names ∙ c.steps.invariant.names;
   grown = grows_then (g.F.Folder.pages c.args.folder.now) c.args.self.now.store c.steps.self.store c.advance.new.self.store c.steps.invariant.grown
       (subst (λ o. Grows o c.steps.self.store c.advance.new.self.store) c.steps.invariant.kept c.in_ok-pieces.ensures.grown);
-  given = λ pages page text mode frame met all told s v h.
+  given = λ pages page text mode frame before all told v h.
       let self = c.args.self.now in
       let r = reading_of pages mode frame c.args.left self.names in
-      let before = ledger self.spent met (g.F.Folder.answered c.args.folder.now) in
       let answered = g.F.Folder.answered c.steps.folder in
       let agrees = agrees_before pages c.steps.self.store c.advance.new.self.store c.in_ok-pieces.ensures.grown.kept told in
-      let p = c.steps.invariant.given pages page text mode frame met all agrees s v h in
+      let p = c.steps.invariant.given pages page text mode frame before all agrees v h in
       let step = step_handed pages page text mode frame c.args.left self.names c.steps.self.names c.steps.invariant.names before all c.steps.run c.step.new.self
-      c.steps.self.store c.steps.self.spent c.step.new.spent answered c.in_ok-turn.turn p (c.in_ok-turn.ensures.answer r text p.total p.holding v) in
+      c.steps.self.store c.steps.self.spent c.step.new.spent answered c.in_ok-turn.turn p (c.in_ok-turn.ensures.answer r text p.total p.holding v
+      (progress_spent pages page text r before all c.steps.run c.steps.self.store c.steps.self.spent answered p)) in
       subst (λ (ns : List (List ℕ)). Progress pages page (reading_of pages mode frame c.args.left ns) text before all c.advance.new.run c.advance.new.self.store
       c.advance.new.self.spent (g.F.Folder.answered c.advance.new.folder)) c.steps.invariant.names
       (subst (λ (o : Option (Listed Piece)). AnswersAdvance pages page
@@ -190,8 +189,7 @@ page-returns-in_err-given-in-Page-clause-given g t c = λ pages page frame met t
     c.in_ok-run-in-Page.ensures.names (c.in_ok-pieces.ensures.taken pages met agrees s)
     (c.in_ok-pieces.ensures.named pages met s)
     c.in_ok-run-in-Page.ensures.run
-    (λ bs now_met all stored holds. c.in_err-given-in-Page.ensures.given pages page bs _ frame now_met all (c.in_ok-pieces.ensures.kept ∙ named_pages) stored v
-    holds))
+    (λ bs l all begun. c.in_err-given-in-Page.ensures.given pages page bs _ frame l all (c.in_ok-pieces.ensures.kept ∙ named_pages) v begun))
 
 pub page-returns-in_ok-given-in-Page-clause-given : goal.page-returns-in_ok-given-in-Page-clause-given
 page-returns-in_ok-given-in-Page-clause-given g t c = λ pages page frame met told s v.
@@ -209,7 +207,7 @@ page-returns-in_ok-given-in-Page-clause-given g t c = λ pages page frame met to
     c.in_ok-run-in-Page.ensures.names (c.in_ok-pieces.ensures.taken pages met agrees s)
     (c.in_ok-pieces.ensures.named pages met s)
     c.in_ok-run-in-Page.ensures.run
-    (λ bs now_met all stored holds. c.in_ok-given-in-Page.ensures.given pages page bs _ frame now_met all told stored v holds)
+    (λ bs l all begun. c.in_ok-given-in-Page.ensures.given pages page bs _ frame l all told v begun)
 
 pub page-returns-in_ok-given-in-Page-clause-grown : goal.page-returns-in_ok-given-in-Page-clause-grown
 page-returns-in_ok-given-in-Page-clause-grown g t c =
@@ -257,14 +255,13 @@ page-returns-in_ok-given-in-Page-clause-asks g t c =
     asks_then _ _ _ _ _ _ c.in_ok-pieces.ensures.asks c.in_ok-given-in-Page.ensures.asks
 
 pub finish-returns-clause-given : goal.finish-returns-clause-given
-finish-returns-clause-given g t c = λ pages page text mode frame met all told s v h.
+finish-returns-clause-given g t c = λ pages page text mode frame before all told v h.
     let self = c.args.self.now in
-    let before = ledger self.spent met (g.F.Folder.answered c.args.folder.now) in
-    let agrees = c.steps.invariant.grown.agrees pages told (agrees_known pages met self.store s) in
+    let agrees = c.steps.invariant.grown.agrees pages told (agrees_known pages h.met self.store h.stored) in
     going_refused pages page text (reading_of pages mode frame c.args.left self.names) before all c.steps.run
     c.steps.self.store c.steps.self.spent
     (g.F.Folder.answered c.steps.folder)
-    (c.steps.invariant.given pages page text mode frame met all agrees s v h)
+    (c.steps.invariant.given pages page text mode frame before all agrees v h)
 
 pub page-returns-in_err-pieces-clause-given : goal.page-returns-in_err-pieces-clause-given
 page-returns-in_err-pieces-clause-given g t c = λ pages page frame met told s v.

@@ -4,10 +4,8 @@ use Rattle.wt_expand.specs.Expansion.{Frame, Output}
 use Rattle.wt_expand.specs.Work.{Pages}
 use Rattle.wt_transclusion.specs.Asked.{Asks}
 use Rattle.wt_transclusion.specs.Frames.{AreValues}
-use Rattle.wt_transclusion.specs.Stores.{Agrees, Grows, IsStore}
-use Rattle.wt_levels.specs.Ledgers.{Progress, ledger, reading_of}
-use Rattle.wt_levels.specs.Runs.{Holds}
-use Rattle.wt_levels.specs.Stacks.{stack}
+use Rattle.wt_transclusion.specs.Stores.{Agrees, Grows}
+use Rattle.wt_levels.specs.Ledgers.{Ledger, Progress, reading_of}
 use Rattle.wt_levels.proofs.expansion.Expansion.+expanding.Given as goal
 
 abbrev pub decreases-advance : goal.decreases-advance
@@ -27,9 +25,9 @@ invariant-finish-steps g l = record {
   count : g.F.Folder.fault_count l.folder ≡ g.F.Folder.fault_count l.initial.folder;
   names : l.self.names ≡ l.initial.self.names;
   grown : Grows (g.F.Folder.pages l.initial.folder) l.initial.self.store l.self.store;
-  given : (pages : Pages) (page t : List ℕ) (mode : Mode) (frame : Frame) (met : List (List ℕ)) (all : Output)
-      → Agrees pages l.self.store → IsStore pages met l.initial.self.store → AreValues l.values frame
-      → Holds (reading_of pages mode frame l.left l.initial.self.names) t l.initial.run (stack l.initial.run.levels) all
-      → Progress pages page (reading_of pages mode frame l.left l.initial.self.names) t
-      (ledger l.initial.self.spent met (g.F.Folder.answered l.initial.folder)) all l.run l.self.store l.self.spent (g.F.Folder.answered l.folder);
+  given : (pages : Pages) (page t : List ℕ) (mode : Mode) (frame : Frame) (before : Ledger) (all : Output)
+      → Agrees pages l.self.store → AreValues l.values frame
+      → Progress pages page (reading_of pages mode frame l.left l.initial.self.names) t before all l.initial.run l.initial.self.store l.initial.self.spent
+      (g.F.Folder.answered l.initial.folder)
+      → Progress pages page (reading_of pages mode frame l.left l.initial.self.names) t before all l.run l.self.store l.self.spent (g.F.Folder.answered l.folder);
 }

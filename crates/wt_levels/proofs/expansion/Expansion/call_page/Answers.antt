@@ -7,6 +7,7 @@ use Rattle.wt_transclusion.specs.declared.refusal.ExpandRefusal.TheVariants as a
 use Rattle.wt_transclusion.specs.Stores.{Concerns, Grows}
 use Rattle.wt_transclusion.proofs.AskedLaws.{asks_none, asks_then}
 use Rattle.wt_transclusion.proofs.GrowthLaws.{agrees_between, agrees_known, grows_through}
+use Rattle.wt_levels.specs.Accounts.{undone}
 use Rattle.wt_levels.specs.Calls.{parts_of_call}
 use Rattle.wt_levels.specs.Ledgers.{AnswersAdvance, AnswersOutput, Progress, ledger, reading_of}
 use Rattle.wt_levels.specs.Readers.{IsReading}
@@ -14,7 +15,8 @@ use Rattle.wt_levels.specs.Rests.{after_values}
 use Rattle.wt_levels.specs.Runs.{page_called}
 use Rattle.wt_levels.specs.declared.reader.Reader.{Reader}
 use Rattle.wt_levels.proofs.CallSteps.{page_alone}
-use Rattle.wt_levels.proofs.LedgerLaws.{cost_refuses, finished, memory_answered, part_step}
+use Rattle.wt_levels.proofs.LedgerLaws.{by_none, cost_refuses, memory_answered}
+use Rattle.wt_levels.proofs.ProgressLaws.{page_begun, page_does, part_step}
 use Rattle.wt_levels.proofs.RestLaws.{begun_refused, begun_spent}
 use Rattle.wt_levels.proofs.expansion.Expansion.call_page.Goals as goal
 
@@ -23,9 +25,9 @@ returns-in_err-pieces-clause-given g c = λ pages page t frame met p s b told st
     let self = c.args.self.now in
     let r = reading_of pages c.args.mode frame c.args.left self.names in
     let answered = g.F.Folder.answered c.args.folder.now in
-    let o = after_values r c.args.at_start c.args.title [] 1 (later_parts (parts_of_call r t c.args.call b)) in
+    let o = page_begun self.spent (after_values r c.args.at_start c.args.title [] 1 (later_parts (parts_of_call r t c.args.call b))) in
     let all = page_called r t c.args.call b c.args.at_start c.args.title in
-    let first = page_alone r t c.in_ok-run.run' c.args.call c.args.at_start c.args.title c.new-handing.result b p s
+    let first = page_alone r t c.in_ok-run.run' c.args.call c.args.at_start c.args.title c.new-handing.result b p s o refl
     (subst (λ (x : Reader). IsReading c.args.mode t x p s) (sym c.in_ok-run.ensures.reader) reading) c.in_ok-run.ensures.mode c.in_ok-run.ensures.levels low
     (record {
       call = c.new-handing.ensures.call;
@@ -36,7 +38,8 @@ returns-in_err-pieces-clause-given g c = λ pages page t frame met p s b told st
       values = c.new-handing.ensures.values;
     }) in
     let step = part_step pages page t r self.spent c.charge.new.spent met answered all o c.next_part.new.self self.store c.in_ok-turn.turn st
-    (begun_spent self.spent c.charge.new.spent all o refl c.in_ok-charge.ensures.large c.in_ok-charge.ensures.spent) (c.in_ok-turn.ensures r t o first) in
+    (begun_spent self.spent c.charge.new.spent (undone self.spent all) o (page_does self.spent all o.left refl)
+    c.in_ok-charge.ensures.large c.in_ok-charge.ensures.spent) (c.in_ok-turn.ensures r t o first) in
     let before = ledger self.spent met answered in
     let e : c.from_residual-in_err-pieces.result ≡ Err c.in_err-pieces.field-0.0 = search rules in
     let named = subst (λ x. Concerns (g.F.Folder.pages c.args.folder.now) pages c.advance.new.self.store x) e told in
@@ -48,9 +51,9 @@ returns-in-Some-clause-given g c = λ pages page t frame met p s b told st v rea
     let self = c.args.self.now in
     let r = reading_of pages c.args.mode frame c.args.left self.names in
     let answered = g.F.Folder.answered c.args.folder.now in
-    let o = after_values r c.args.at_start c.args.title [] 1 (later_parts (parts_of_call r t c.args.call b)) in
+    let o = page_begun self.spent (after_values r c.args.at_start c.args.title [] 1 (later_parts (parts_of_call r t c.args.call b))) in
     let all = page_called r t c.args.call b c.args.at_start c.args.title in
-    let first = page_alone r t c.in_ok-run.run' c.args.call c.args.at_start c.args.title c.new-handing.result b p s
+    let first = page_alone r t c.in_ok-run.run' c.args.call c.args.at_start c.args.title c.new-handing.result b p s o refl
     (subst (λ (x : Reader). IsReading c.args.mode t x p s) (sym c.in_ok-run.ensures.reader) reading) c.in_ok-run.ensures.mode c.in_ok-run.ensures.levels low
     (record {
       call = c.new-handing.ensures.call;
@@ -61,7 +64,8 @@ returns-in-Some-clause-given g c = λ pages page t frame met p s b told st v rea
       values = c.new-handing.ensures.values;
     }) in
     let step = part_step pages page t r self.spent c.charge.new.spent met answered all o c.next_part.new.self self.store c.in_ok-turn.turn st
-    (begun_spent self.spent c.charge.new.spent all o refl c.in_ok-charge.ensures.large c.in_ok-charge.ensures.spent) (c.in_ok-turn.ensures r t o first) in
+    (begun_spent self.spent c.charge.new.spent (undone self.spent all) o (page_does self.spent all o.left refl)
+    c.in_ok-charge.ensures.large c.in_ok-charge.ensures.spent) (c.in_ok-turn.ensures r t o first) in
     let before = ledger self.spent met answered in
     subst (λ (x : Option (Listed Piece)). AnswersAdvance pages page r t before all c.advance.new.run c.advance.new.self.store c.advance.new.self.spent
     (g.F.Folder.answered c.advance.new.folder) (Ok x)) c.in-Some.is (c.in_ok-pieces.ensures.given pages page t c.args.mode frame before all told step)
@@ -71,9 +75,9 @@ returns-clause-given g c = λ pages page t frame met p s b told st v reading low
     let self = c.args.self.now in
     let r = reading_of pages c.args.mode frame c.args.left self.names in
     let answered = g.F.Folder.answered c.args.folder.now in
-    let o = after_values r c.args.at_start c.args.title [] 1 (later_parts (parts_of_call r t c.args.call b)) in
+    let o = page_begun self.spent (after_values r c.args.at_start c.args.title [] 1 (later_parts (parts_of_call r t c.args.call b))) in
     let all = page_called r t c.args.call b c.args.at_start c.args.title in
-    let first = page_alone r t c.in_ok-run.run' c.args.call c.args.at_start c.args.title c.new-handing.result b p s
+    let first = page_alone r t c.in_ok-run.run' c.args.call c.args.at_start c.args.title c.new-handing.result b p s o refl
     (subst (λ (x : Reader). IsReading c.args.mode t x p s) (sym c.in_ok-run.ensures.reader) reading) c.in_ok-run.ensures.mode c.in_ok-run.ensures.levels low
     (record {
       call = c.new-handing.ensures.call;
@@ -84,7 +88,8 @@ returns-clause-given g c = λ pages page t frame met p s b told st v reading low
       values = c.new-handing.ensures.values;
     }) in
     let step = part_step pages page t r self.spent c.charge.new.spent met answered all o c.next_part.new.self self.store c.in_ok-turn.turn st
-    (begun_spent self.spent c.charge.new.spent all o refl c.in_ok-charge.ensures.large c.in_ok-charge.ensures.spent) (c.in_ok-turn.ensures r t o first) in
+    (begun_spent self.spent c.charge.new.spent (undone self.spent all) o (page_does self.spent all o.left refl)
+    c.in_ok-charge.ensures.large c.in_ok-charge.ensures.spent) (c.in_ok-turn.ensures r t o first) in
     let before = ledger self.spent met answered in
     let now = c.advance.new.self in
     let told_now = g.F.Folder.answered c.advance.new.folder in
@@ -97,10 +102,8 @@ returns-clause-given g c = λ pages page t frame met p s b told st v reading low
     let there = subst (λ (ns : List (List ℕ)). Progress pages page
     (reading_of pages c.args.mode frame c.args.left ns) t before all c.advance.new.run now.store now.spent told_now)
     (sym c.in_ok-pieces.ensures.names) left in
-    finished pages page t (reading_of pages c.args.mode frame c.args.left now.names) before all c.advance.new.run now.store c.finish.new.self.store now.spent
-    c.finish.new.self.spent told_now (g.F.Folder.answered c.finish.new.folder) c.finish.result there
-    (c.finish.ensures.given pages page t c.args.mode frame there.met there.total
-    (subst (λ o. Concerns o pages c.finish.new.self.store c.finish.result) (sym c.in_ok-pieces.ensures.kept) told) there.stored v there.holding)
+    c.finish.ensures.given pages page t c.args.mode frame before all
+    (subst (λ o. Concerns o pages c.finish.new.self.store c.finish.result) (sym c.in_ok-pieces.ensures.kept) told) v there
 
 pub returns-clause-grown : goal.returns-clause-grown
 returns-clause-grown g c =
@@ -113,15 +116,14 @@ returns-in_err-charge-clause-given g c = λ pages page t frame met p s b told st
     let self = c.args.self.now in
     let r = reading_of pages c.args.mode frame c.args.left self.names in
     let answered = g.F.Folder.answered c.args.folder.now in
-    let o = after_values r c.args.at_start c.args.title [] 1
-    (later_parts (parts_of_call r t c.args.call b)) in
+    let o = after_values r c.args.at_start c.args.title [] 1 (later_parts (parts_of_call r t c.args.call b)) in
     let all = page_called r t c.args.call b c.args.at_start c.args.title in
     let before = ledger self.spent met answered in
     let e : c.from_residual.result ≡ Err c.in_err-charge.field-0.0 = search rules in
     subst (λ x. AnswersOutput pages page before all self.store c.charge.new.spent answered x) (sym e)
-    (cost_refuses pages page before all c.in_err-charge.field-0.0
-    (begun_refused self.spent all o c.in_err-charge.field-0.0 refl c.in_err-charge.ensures.large
-    c.in_err-charge.ensures.refusal))
+    (cost_refuses pages page before all.work self.spent met answered (undone self.spent all) c.in_err-charge.field-0.0 refl (by_none pages page before all.work)
+    (begun_refused self.spent (undone self.spent all) (page_begun self.spent o) c.in_err-charge.field-0.0 (page_does self.spent all o refl)
+    c.in_err-charge.ensures.large c.in_err-charge.ensures.refusal))
 
 pub returns-in_err-run-clause-given : goal.returns-in_err-run-clause-given
 returns-in_err-run-clause-given g c = λ pages page t frame met p s b told st v reading low.

@@ -5,16 +5,20 @@ use Rattle.wt_transclusion.proofs.AskedLaws.{asks_none}
 use Rattle.wt_levels.specs.Ledgers.{ledger, reading_of}
 use Rattle.wt_levels.specs.Readers.{IsReading}
 use Rattle.wt_levels.proofs.LedgerLaws.{memory_answered}
+use Rattle.wt_levels.proofs.ProgressLaws.{begins}
 use Rattle.wt_levels.proofs.StepLaws.{stretch_holds}
 use Rattle.wt_levels.proofs.expansion.Expansion.stretch.Goals as goal
 
 pub returns-clause-given : goal.returns-clause-given
 returns-clause-given g c = λ pages page t frame met p s xs told st v reading stands.
     let r = reading_of pages c.args.mode frame c.args.left c.args.self.now.names in
-    c.finish.ensures.given pages page t c.args.mode frame met (given_from r s t p xs) told st v
-    (stretch_holds r t c.in_ok-run.run' p c.args.end s xs
+    let self = c.args.self.now in
+    let before = ledger self.spent met (g.F.Folder.answered c.args.folder.now) in
+    c.finish.ensures.given pages page t c.args.mode frame before (given_from r s t p xs) told v
+    (begins pages page t r before (given_from r s t p xs) c.in_ok-run.run' self.store st
+    (stretch_holds r t self.spent c.in_ok-run.run' p c.args.end s xs
     (subst (λ x. IsReading c.args.mode t x p s) (sym c.in_ok-run.ensures.reader) reading) c.in_ok-run.ensures.mode
-    c.in_ok-run.ensures.levels stands)
+    c.in_ok-run.ensures.levels stands))
 
 pub returns-in_err-run-clause-given : goal.returns-in_err-run-clause-given
 returns-in_err-run-clause-given g c = λ pages page t frame met p s xs told st v reading stands.

@@ -4,12 +4,16 @@ use Rattle.wt_transclusion.specs.declared.refusal.ExpandRefusal.TheVariants as a
 use Rattle.wt_transclusion.proofs.AskedLaws.{asks_none}
 use Rattle.wt_levels.specs.Ledgers.{ledger, reading_of}
 use Rattle.wt_levels.proofs.LedgerLaws.{memory_answered}
+use Rattle.wt_levels.proofs.ProgressLaws.{begins}
 use Rattle.wt_levels.proofs.expansion.Expansion.text.Goals as goal
 
 pub returns-clause-given : goal.returns-clause-given
 returns-clause-given g c = λ pages page t frame met told st v read.
     let r = reading_of pages c.args.mode frame c.args.left c.args.self.now.names in
-    c.finish.ensures.given pages page t c.args.mode frame met (text_given r t) told st v (c.in_ok-run.ensures r t refl read)
+    let self = c.args.self.now in
+    let before = ledger self.spent met (g.F.Folder.answered c.args.folder.now) in
+    c.finish.ensures.given pages page t c.args.mode frame before (text_given r t) told v
+    (begins pages page t r before (text_given r t) c.in_ok-run.run' self.store st (c.in_ok-run.ensures r t self.spent refl read))
 
 pub returns-in_err-run-clause-given : goal.returns-in_err-run-clause-given
 returns-in_err-run-clause-given g c = λ pages page t frame met told st v read.

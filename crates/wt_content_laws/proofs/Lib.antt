@@ -1,0 +1,3 @@
+pub mod TextEditsStand
+pub mod ChildrenStand
+mod Cases

@@ -1,0 +1,2 @@
+pub mod TextEdits
+pub mod NewChildren

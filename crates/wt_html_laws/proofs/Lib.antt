@@ -1,0 +1,14 @@
+pub mod RowKinds
+pub mod Opens
+pub mod Recuts
+pub mod Pieces
+pub mod Elements
+pub mod Sections
+pub mod OneBody
+pub mod SameBodies
+pub mod Numbers
+pub mod Alone
+pub mod Holders
+pub mod Openings
+pub mod OpenedBodies
+mod Cases

@@ -1,0 +1,2 @@
+pub mod SameBodies
+pub mod OpenedBodies

@@ -1,0 +1,56 @@
+//! Laws of the rows of a page (`wt_body`), in other words than their definitions: kinds of lines and units by
+//! counts, blocks by cases.
+#![tactic(auto)]
+
+ghost use Rattle.std.specs.Prelude.{◌≡◌, List, ◌∷◌};
+ghost use Rattle.std.specs.List.{flat_map};
+ghost use Rattle.wt_span.specs.Items.{Item};
+ghost use Rattle.wt_lines.specs.declared.kind.LineKind.TheVariants as kind;
+ghost use Rattle.wt_tables.specs.Parts.{units, table_of};
+ghost use Rattle.wt_inline.specs.ItemTree.{ItemTree};
+ghost use Rattle.wt_body.specs.Rows.{Row, kind_of, rows_from};
+ghost use Rattle.wt_body.specs.Tables.{Reading};
+ghost use Rattle.wt_body.specs.Body.{blocks_by, meaning};
+ghost use Rattle.wt_row_laws.specs.Counts.{KindIsCounted};
+ghost use Rattle.wt_row_laws.specs.Units.{IsUnit, AreUnits, HoldsUnits};
+ghost use Rattle.wt_row_laws.specs.Cells.{CellsHoldBlocks};
+ghost use Rattle.wt_row_laws.specs.Blocks.{Block, AreBlocks, block_parts, IsMeaningByCases};
+
+/// The kind of a line is that at which so many tables are open as the rows before it have opened, less
+/// those that they have ended.
+pub fn kinds_are_counted()
+    ensures { (ls : List (List Item)) (l : List Item) (ms : List (List Item)) → KindIsCounted ls l ms }
+{}
+
+/// The rows of a page are units: rows that neither open nor end a table, and whole tables, each of which
+/// goes up to and with the row that brings its count back. No rows are cut into units in another way.
+pub fn units_are_counted()
+    ensures are { (ls : List (List Item)) → AreUnits (units kind_of (rows_from 0 ls)) (rows_from 0 ls) }
+    ensures only { (us : List (List Row)) (rs : List Row) → AreUnits us rs → us ≡ units kind_of rs }
+{}
+
+/// Tables nest: between the row that opens a table and the one that ends it stand whole units, so of two
+/// tables the later one lies behind the other or within it.
+pub fn tables_hold_units()
+    ensures { (r : Row) (rs : List Row) → r.kind ≡ kind.TableOpen → IsUnit (r ∷ rs) → HoldsUnits rs }
+{}
+
+/// Rows that are blocks one behind the other, by the cases of their kinds, are read as what these make,
+/// however cells are read.
+pub fn blocks_are_read_by_cases()
+    ensures { (read : Reading) (bs : List Block) (rs : List Row) → AreBlocks bs rs
+        → blocks_by read rs ≡ flat_map (block_parts read) bs }
+{}
+
+/// In a table whose inside is whole units, what stands behind each line of cells or of a caption is blocks,
+/// told by cases of their rows.
+pub fn cells_hold_blocks()
+    ensures { (first : Row) (inside : List Row) → AreUnits (units kind_of inside) inside
+        → CellsHoldBlocks (table_of kind_of first inside) }
+{}
+
+/// The meaning of a page is found by blocks that are told by cases of their rows, and no other tree is.
+pub fn meaning_is_read_by_cases()
+    ensures are { (xs : List Item) → IsMeaningByCases (meaning xs) xs }
+    ensures only { (t : ItemTree) (xs : List Item) → IsMeaningByCases t xs → t ≡ meaning xs }
+{}

@@ -1,0 +1,5 @@
+mod Cases
+pub mod Headings
+pub mod Levels
+pub mod Reaches
+pub mod SectionParts
