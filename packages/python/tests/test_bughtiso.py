@@ -44,7 +44,7 @@ def stored_cases():
 
 def outside_cases(name):
     """The cases of a file of others', where it is here. One of the folder `sections` takes the place of that of its name in
-    `functions`, and that of the one above."""
+    `functions`, and that the place of the one above."""
     for file in (VECTORS / "sections" / name, VECTORS / "functions" / name, VECTORS / name):
         if file.exists():
             rows = [row.split("\t") for row in file.read_text(encoding="utf-8").split("\n") if row]
