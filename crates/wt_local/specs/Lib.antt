@@ -1,0 +1,5 @@
+pub mod Contents
+pub mod TextEdits
+pub mod Replaced
+pub mod Swaps
+pub mod SameBut
