@@ -1,5 +1,6 @@
 pub mod Contents
 pub mod TextEdits
+pub mod LocalBlocks
 pub mod Replaced
 pub mod Swaps
 pub mod SameBut
