@@ -25,19 +25,19 @@ labelled k id opening closing own shown = record {
   origin = None;
 }
 
-abbrev text : List ℕ → Tree
+abbrev pub text : List ℕ → Tree
 text bytes = tree (labelled kind.Text 0 [] [] bytes bytes) none
 
-abbrev inner : Kind → ℕ → List ℕ → List Tree → List ℕ → Tree
+abbrev pub inner : Kind → ℕ → List ℕ → List Tree → List ℕ → Tree
 inner k id opening ts closing = tree (labelled k id opening closing [] []) (trees ts)
 
-abbrev leaf : Kind → ℕ → List ℕ → Tree
+abbrev pub leaf : Kind → ℕ → List ℕ → Tree
 leaf k id own = tree (labelled k id [] [] own []) none
 
-abbrev group : ℕ → List ℕ → List Tree → Tree
+abbrev pub group : ℕ → List ℕ → List Tree → Tree
 group id own ts = tree (labelled kind.Group id [] [] own []) (trees ts)
 
-abbrev para : List Tree → Tree
+abbrev pub para : List Tree → Tree
 para ts = inner kind.Para 1 [] ts []
 
 -- ---- contents

@@ -1,3 +1,4 @@
 pub mod Between
 pub mod Cases
 pub mod PageCases
+pub mod LocalCases

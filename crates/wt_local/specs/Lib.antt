@@ -1,6 +1,7 @@
 pub mod Contents
 pub mod TextEdits
 pub mod LocalBlocks
+pub mod Joints
 pub mod Replaced
 pub mod Swaps
 pub mod SameBut

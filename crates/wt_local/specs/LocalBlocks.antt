@@ -67,6 +67,9 @@ reaches_end page (Some r) = r.end == length page
 abbrev pub on_own_lines : Bool → List ℕ → List ℕ
 on_own_lines at_end source = 10 ∷ (source ++ (if at_end then [] else 10 ∷ []))
 
+abbrev pub read_as : List ℕ → Tree → List ℕ → List ℕ
+read_as page block inside = on_own_lines (reaches_end page (label block).ranges) (new_source block inside)
+
 -- where the inside begins there
 abbrev pub inside_start : Tree → ℕ
 inside_start block = 1 + length (label block).opening
@@ -124,12 +127,11 @@ is_run lex.Pipe = false
 is_run lex.Equals = false
 
 -- of each lexeme from a place on: it is the page's or spelled text, and only a run of characters goes over an end of a slice
-abbrev pub AreSpelled : List Span → List Span → List ℕ → ℕ → List Word → Type 0
-AreSpelled page slices text at [] = Unit {0}
-AreSpelled page slices text at ((kind, n) ∷ ws) =
-    ((list_any (lies_in (at, at + n)) page || is_spelled_word kind (between at (at + n) text)) ≡ true)
-    × ((is_run kind || not (list_any (is_cut_by (at, at + n)) slices)) ≡ true)
-    × AreSpelled page slices text (at + n) ws
+abbrev pub are_spelled : List Span → List Span → List ℕ → ℕ → List Word → Bool
+are_spelled page slices text at [] = true
+are_spelled page slices text at ((kind, n) ∷ ws) =
+    (list_any (lies_in (at, at + n)) page || is_spelled_word kind (between at (at + n) text))
+    && ((is_run kind || not (list_any (is_cut_by (at, at + n)) slices)) && are_spelled page slices text (at + n) ws)
 
 -- a `<` before a letter, `/` or `!`
 abbrev pub begins_markup : List ℕ → Bool
@@ -142,12 +144,12 @@ is_at p s = nat_le s.0 p && nat_lt p s.1
 -- The lexemes of the new source by itself: what was typed makes none but those of spelled text, and none that goes over an end of a
 -- slice; nor does a tag go over one, nor might what was typed begin a tag or comment with what follows it.
 pub record IsReadByItself (page : List ℕ) (block : Tree) (inside : List ℕ) (ks : List Slice) : Type 0 where
-  text : List ℕ
-  pub text_is : text ≡ on_own_lines (reaches_end page (label block).ranges) (new_source block inside)
-  pub spelled : AreSpelled (page_spans block inside ks) (slice_spans (inside_start block) ks) text 0 (words Page text)
-  pub tags : (p : ℕ) (t : Tag) → opening_tag (drop p text) ≡ Some t → list_any (is_cut_by (p, p + t.len)) (slice_spans (inside_start block) ks) ≡ false
-  pub quiet : (p : ℕ) → begins_markup (drop p text) ≡ true
-      → (list_any (is_at p) (page_spans block inside ks) ≡ true) ⊎ (begins (codes "<nowiki/>") (drop p text) ≡ true)
+  pub spelled : are_spelled (page_spans block inside ks) (slice_spans (inside_start block) ks) (read_as page block inside) 0
+      (words Page (read_as page block inside)) ≡ true
+  pub tags : (p : ℕ) (t : Tag) → opening_tag (drop p (read_as page block inside)) ≡ Some t
+      → list_any (is_cut_by (p, p + t.len)) (slice_spans (inside_start block) ks) ≡ false
+  pub quiet : (p : ℕ) → begins_markup (drop p (read_as page block inside)) ≡ true
+      → (list_any (is_at p) (page_spans block inside ks) ≡ true) ⊎ (begins (codes "<nowiki/>") (drop p (read_as page block inside)) ≡ true)
 
 -- ---- calls
 
