@@ -2,3 +2,4 @@ pub mod Between
 pub mod Cases
 pub mod PageCases
 pub mod LocalCases
+pub mod Sources
