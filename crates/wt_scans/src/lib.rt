@@ -27,3 +27,13 @@ pub fn lexemes_join()
     ensures { (mode : TextMode) (a : Bool) (n : ℕ) (q rest : List ℕ) → Settles (lexer mode) rest a n q
         → cuts mode a n (q ++ rest) ≡ onto (lexer mode) a n q (cuts mode (after_all (lexer mode) a q) 0 rest) }
 {}
+
+/// A lexeme that fits into a front of a text is read of the front alone, and where none begins the text, none
+/// begins a front. So the lexemes of a text that is cut where no lexeme goes over the cut are those of its two
+/// parts.
+#[tactic(auto, using(crate::proofs::LexemeFronts::lexemes_front, crate::proofs::LexemeFronts::uncrossed_join))]
+pub fn lexemes_have_fronts()
+    ensures fronts { (mode : TextMode) → HasFronts (lexer mode) }
+    ensures uncrossed { (mode : TextMode) (a : Bool) (n : ℕ) (q rest : List ℕ) → Passes (lexer mode) rest a n q
+        → cuts mode a n (q ++ rest) ≡ onto (lexer mode) a n q (cuts mode (after_all (lexer mode) a q) 0 rest) }
+{}
