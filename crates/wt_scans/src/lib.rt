@@ -4,7 +4,11 @@
 ghost use Rattle.std.specs.Prelude.{◌≡◌, ℕ, Bool, List, ◌++◌};
 ghost use Rattle.wt_span.specs.declared.form.Mode.{Mode as TextMode};
 ghost use Rattle.wt_span.specs.Lexemes.{cuts};
+ghost use Rattle.wt_tiles.specs.declared.glyph.Glyph.{Glyph as Sign};
+ghost use Rattle.wt_tiles.specs.declared.context.Context.{Context};
+ghost use Rattle.wt_tiles.specs.Tiles.{cuts as tile_cuts};
 ghost use Rattle.wt_scans.specs.Lexer.{lexer};
+ghost use Rattle.wt_scans.specs.Tiler.{tiler};
 ghost use Rattle.wt_scans.specs.Scans.{Scanner, scan, after_all, onto, Settles, Passes, HasFronts};
 
 /// What is read of a list whose front settles is what is read of the front alone, and behind it what is
@@ -36,4 +40,11 @@ pub fn lexemes_have_fronts()
     ensures fronts { (mode : TextMode) → HasFronts (lexer mode) }
     ensures uncrossed { (mode : TextMode) (a : Bool) (n : ℕ) (q rest : List ℕ) → Passes (lexer mode) rest a n q
         → cuts mode a n (q ++ rest) ≡ onto (lexer mode) a n q (cuts mode (after_all (lexer mode) a q) 0 rest) }
+{}
+
+/// The tiles of a context whose front settles are those of the front, and behind them those of the rest.
+#[tactic(auto, using(crate::proofs::PartedTiles::cuts_join))]
+pub fn tiles_join()
+    ensures { (cx : Context) (a : Bool) (n : ℕ) (q rest : List Sign) → Settles (tiler cx) rest a n q
+        → tile_cuts cx a n (q ++ rest) ≡ onto (tiler cx) a n q (tile_cuts cx (after_all (tiler cx) a q) 0 rest) }
 {}
