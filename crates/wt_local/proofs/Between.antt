@@ -12,7 +12,8 @@ onto_len bs [] h = omega (arith, h)
 onto_len bs (n ∷ ns) h = refl
 
 -- a border on each side
-styled : (x : Border) (bs : List Border) (inside : List (List ℕ) → List (List ℕ)) (after : List (List ℕ)) → ((xs : List (List ℕ)) → 1 ≤ length xs → length (inside xs) ≡ length bs + length xs)
+styled : (x : Border) (bs : List Border) (inside : List (List ℕ) → List (List ℕ)) (after : List (List ℕ))
+    → ((xs : List (List ℕ)) → 1 ≤ length xs → length (inside xs) ≡ length bs + length xs)
     → suc (length (inside ([] ∷ after))) ≡ length (x ∷ (bs ++ (end ∷ []))) + length after
 styled x bs inside after h =
     let i = h ([] ∷ after) (omega arith) in

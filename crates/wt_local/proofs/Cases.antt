@@ -1,5 +1,5 @@
 -- Worked cases of contents, of what may be typed, and of pages with another inside of a block, by computing.
-use Rattle.std.proofs.Common.{◌≡◌, ℕ, true, false, None, Some, List, [], ◌∷◌, refl}
+use Rattle.std.proofs.Common.{◌≡◌, ℕ, true, false, None, Some, List, [], ◌∷◌, refl, length, ◌+◌}
 use Rattle.std.specs.Prelude.{codes}
 use Rattle.wt_tree.specs.declared.kind.Kind.{Kind}
 use Rattle.wt_tree.specs.declared.kind.Kind.TheVariants as kind
@@ -8,9 +8,10 @@ use Rattle.wt_tree.specs.Tree.{Label, Tree, tree, none, Trees, trees}
 use Rattle.wt_kept.specs.Kinds.{shape}
 use Rattle.wt_kept.specs.Kept.{kept_nodes, kept_with}
 use Rattle.wt_local.specs.Contents.{element, italic, end, borders, texts}
+use Rattle.wt_local.specs.Replaced.{with_inside}
 use Rattle.wt_local.specs.TextEdits.{element_at, is_line_mark, are_tied}
 
-abbrev labelled : Kind → ℕ → List ℕ → List ℕ → List ℕ → List ℕ → Label
+abbrev pub labelled : Kind → ℕ → List ℕ → List ℕ → List ℕ → List ℕ → Label
 labelled k id opening closing own shown = record {
   kind = k;
   id = id;
@@ -99,3 +100,29 @@ loose = para (text (codes "x") ∷ group 2 (codes "{{h}}") (text (codes "http:")
 loose_groups : are_tied (element_at (kept_nodes loose) (Some (element 2))) (element_at (kept_nodes loose) (Some (element 3))) ≡ false
 unfolding shape kept_with
 loose_groups = refl
+
+-- ---- another inside
+
+-- a node that stands there in the page
+abbrev at : ℕ → ℕ → Tree → Tree
+at from to (tree l ts) = tree (record l { ranges = Some (record { start = from; end = to; open_w = length l.opening; close_w = length l.closing }) }) ts
+
+-- `{{i}}`, `a river {{l}}` and `== c ==` on lines of their own, with the text of the second line and the places behind it as they are
+-- given
+abbrev river : Trees → ℕ → Tree
+river lead more_bytes = at 0 (28 + more_bytes) (inner kind.Body 0 []
+    (at 0 5 (group 1 (codes "{{i}}") (text (codes "i") ∷ []))
+    ∷ tree (record (labelled kind.Para 2 [] [] [] []) { ranges = Some (record { start = 6; end = 19 + more_bytes; open_w = 0; close_w = 0 }) }) lead
+    ∷ at (20 + more_bytes) (28 + more_bytes) (inner (kind.Heading 2) 4 (codes "== ")
+    (at (23 + more_bytes) (25 + more_bytes) (text (codes "cd")) ∷ []) (codes " ==")) ∷ []) [])
+
+abbrev a_river : Trees
+a_river = trees (at 6 14 (text (codes "a river ")) ∷ at 14 19 (group 3 (codes "{{l}}") (text (codes "l") ∷ [])) ∷ [])
+
+abbrev a_long_river : Trees
+a_long_river = trees (at 6 19 (text (codes "a long river ")) ∷ at 19 24 (group 3 (codes "{{l}}") (text (codes "l") ∷ [])) ∷ [])
+
+-- five bytes more: the lead and the body grow, the heading moves, and no number is another
+long_river : with_inside (record { number = 2; inside = a_long_river; old_end = 19; new_end = 24; old_last = 3; new_last = 3 }) (river a_river 0)
+    ≡ river a_long_river 5
+long_river = refl

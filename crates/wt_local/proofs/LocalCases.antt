@@ -1,11 +1,12 @@
 -- Worked cases of local blocks, by computing.
 use Rattle.std.proofs.Common.{◌≡◌, ℕ, Bool, true, false, None, Some, List, [], ◌∷◌, refl}
 use Rattle.std.specs.Prelude.{codes}
+use Rattle.std.specs.List.{list_any}
 use Rattle.wt_span.specs.declared.form.Mode.TheVariants.{Page}
 use Rattle.wt_span.specs.Braces.{calls, parts_of, rewritten, reduced}
 use Rattle.wt_span.specs.Comments.{comment_len, comment_line_len}
 use Rattle.wt_span.specs.Entities.{entity_at, named_entity, decimal_entity, hex_entity, entity_names}
-use Rattle.wt_span.specs.Items.{Item, char}
+use Rattle.wt_span.specs.Items.{Item, call_of, char}
 use Rattle.wt_span.specs.Lexemes.{sign_word, form_at, closed, words}
 use Rattle.wt_span.specs.Origins.{OuterCall}
 use Rattle.wt_span.specs.Tags.{raw_len, opening_tag, tag_after, closing_tag, with_inside, is_extension, include_at}
@@ -15,7 +16,7 @@ use Rattle.wt_blocks.specs.Headings.{level, opening, closing}
 use Rattle.wt_tree.specs.declared.kind.Kind.TheVariants as kind
 use Rattle.wt_tree.specs.Tree.{Tree}
 use Rattle.wt_expand.specs.PageItems.{page_items}
-use Rattle.wt_local.specs.LocalBlocks.{Slice, are_spelled, begins_with, given_from, held, inside_start, may_open_block, page_spans, read_as, slice_calls, slice_spans, tables_round}
+use Rattle.wt_local.specs.LocalBlocks.{Slice, are_spelled, begins_with, given_from, held, inside_start, is_own, may_open_block, page_spans, read_as, slice_calls, slice_spans, tables_round}
 use Rattle.wt_local.proofs.Cases.{text, inner, group, para}
 
 -- the lexemes of a block's new source, behind which the page goes on
@@ -122,6 +123,13 @@ text_kind : line_kind 0 (page_items (codes "<nowiki/>* c")) ≡ line.Text
 unfolding words closed form_at comment_len comment_line_len raw_len opening_tag tag_after closing_tag with_inside is_extension include_at
     entity_at named_entity decimal_entity hex_entity entity_names sign_word page_items kind_of_signs level opening closing
 text_kind = refl
+
+-- a paragraph of a call alone holds nothing of the page itself, so it would become a group; with a text it stays one
+call_alone : list_any (λ x. is_own (call_of x)) (char (Some 0) 97 ∷ []) ≡ false
+call_alone = refl
+
+call_and_text : list_any (λ x. is_own (call_of x)) (char (Some 0) 97 ∷ char None 98 ∷ []) ≡ true
+call_and_text = refl
 
 -- ---- tables
 

@@ -9,7 +9,7 @@ use Rattle.wt_local.specs.Once.{HasNot, NoneHas, HasOnce, OneHas}
 use Rattle.wt_local.specs.Replaced.{Edit, with_inside, all_with_inside}
 use Rattle.wt_local.specs.Swaps.{Swap}
 
-untrue : true ≡ false → ⊥
+pub untrue : true ≡ false → ⊥
 untrue e = subst (λ (b : Bool). cond b (Unit {0}) ⊥) e tt
 
 -- ---- what a node holds now
