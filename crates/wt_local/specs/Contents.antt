@@ -1,0 +1,107 @@
+-- The content of a block as texts with what stands between them: elements, and where bold and italic text begins and ends.
+use Rattle.std.specs.Prelude.{ℕ, List, [], ◌∷◌, ◌++◌, Option, Some, None}
+use Rattle.wt_tree.specs.Tree.{Tree, tree, Trees, none, more}
+use Rattle.wt_kept.specs.declared.kinds.Way.{Way}
+use Rattle.wt_kept.specs.declared.kinds.Way.TheVariants as way
+use Rattle.wt_kept.specs.Kinds.{shape}
+
+-- ---- what stands between texts
+
+-- an element, and the begin of bold and of italic text, each with its number; and the end of such text
+pub data Border : Type 0 where
+  element : ℕ → Border
+  bold : ℕ → Border
+  italic : ℕ → Border
+  end : Border
+
+abbrev pub borders_by : Way → ℕ → List Border → List Border
+borders_by way.Nothing n inside = []
+borders_by way.Characters n inside = []
+borders_by way.Bold n inside = bold n ∷ (inside ++ (end ∷ []))
+borders_by way.Italic n inside = italic n ∷ (inside ++ (end ∷ []))
+borders_by way.Shown n inside = element n ∷ []
+borders_by way.PageLink n inside = element n ∷ []
+borders_by way.ExternalLink n inside = element n ∷ []
+borders_by way.Tag n inside = element n ∷ []
+borders_by way.Break n inside = element n ∷ []
+borders_by way.AsItStood n inside = element n ∷ []
+
+-- in order, those in bold and italic text among them
+abbrev mutual
+  pub borders_of : Tree → List Border
+  borders_of (tree l ts) = borders_by (shape l.kind).way l.id (borders ts)
+
+  pub borders : Trees → List Border
+  borders none = []
+  borders (more t ts) = borders_of t ++ borders ts
+
+-- ---- the elements
+
+abbrev pub elements_by : Way → Tree → List Tree → List Tree
+elements_by way.Nothing t inside = []
+elements_by way.Characters t inside = []
+elements_by way.Bold t inside = inside
+elements_by way.Italic t inside = inside
+elements_by way.Shown t inside = t ∷ []
+elements_by way.PageLink t inside = t ∷ []
+elements_by way.ExternalLink t inside = t ∷ []
+elements_by way.Tag t inside = t ∷ []
+elements_by way.Break t inside = t ∷ []
+elements_by way.AsItStood t inside = t ∷ []
+
+-- all elements but bold and italic ones, which count by what they hold
+abbrev mutual
+  pub elements_of : Tree → List Tree
+  elements_of (tree l ts) = elements_by (shape l.kind).way (tree l ts) (elements ts)
+
+  pub elements : Trees → List Tree
+  elements none = []
+  elements (more t ts) = elements_of t ++ elements ts
+
+-- ---- the texts
+
+-- characters before the first of texts
+abbrev pub onto_first : List ℕ → List (List ℕ) → List (List ℕ)
+onto_first bs [] = bs ∷ []
+onto_first bs (n ∷ ns) = (bs ++ n) ∷ ns
+
+-- before the texts that follow: a node, by its characters and the texts in it
+abbrev pub texts_by : Way → List ℕ → (List (List ℕ) → List (List ℕ)) → List (List ℕ) → List (List ℕ)
+texts_by way.Nothing shown inside after = after
+texts_by way.Characters shown inside after = onto_first shown after
+texts_by way.Bold shown inside after = [] ∷ inside ([] ∷ after)
+texts_by way.Italic shown inside after = [] ∷ inside ([] ∷ after)
+texts_by way.Shown shown inside after = [] ∷ after
+texts_by way.PageLink shown inside after = [] ∷ after
+texts_by way.ExternalLink shown inside after = [] ∷ after
+texts_by way.Tag shown inside after = [] ∷ after
+texts_by way.Break shown inside after = [] ∷ after
+texts_by way.AsItStood shown inside after = [] ∷ after
+
+abbrev mutual
+  pub texts_before : Tree → List (List ℕ) → List (List ℕ)
+  texts_before (tree l ts) after = texts_by (shape l.kind).way l.shown (all_texts_before ts) after
+
+  pub all_texts_before : Trees → List (List ℕ) → List (List ℕ)
+  all_texts_before none after = after
+  all_texts_before (more t ts) after = texts_before t (all_texts_before ts after)
+
+-- The text before each border, and that behind the last one; characters that nothing parts are one text.
+abbrev pub texts : Trees → List (List ℕ)
+texts ts = all_texts_before ts ([] ∷ [])
+
+-- ---- texts with the borders beside them
+
+-- a text, and what stands on its left and right, unless the content begins or ends there
+pub record Slot : Type 0 where
+  pub left : Option Border
+  pub text : List ℕ
+  pub right : Option Border
+
+abbrev pub slots_from : Option Border → List Border → List (List ℕ) → List Slot
+slots_from left bs [] = []
+slots_from left [] (n ∷ ns) = record { left = left; text = n; right = None } ∷ slots_from None [] ns
+slots_from left (b ∷ bs) (n ∷ ns) = record { left = left; text = n; right = Some b } ∷ slots_from (Some b) bs ns
+
+abbrev pub slots : Trees → List Slot
+slots ts = slots_from None (borders ts) (texts ts)

@@ -1,0 +1,4 @@
+pub mod Joins
+pub mod Parted
+pub mod LexemeFronts
+pub mod PartedTiles
