@@ -32,12 +32,15 @@ signs_typed = record {
   closed = refl;
   in_order = refl;
   untouched = tt;
-  texts = (inr (record {
+  texts = (
+    inr (record {
       breaks = refl;
       stays_empty = λ h e. absurd (untrue (sym h));
       stays_ended = λ h e. absurd (untrue (sym h));
       stays_tied = λ h. absurd (untrue (sym h));
-    }), tt);
+    }),
+    tt,
+  );
   one_line = tt;
 }
 
