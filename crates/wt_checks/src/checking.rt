@@ -84,3 +84,24 @@ pub fn check(
     let refusal = check_visits(alloc, values, index.as_slice(), edited.as_slice())?;
     Ok(refusal)
 }
+
+/// Compares the nodes of an edited tree alone with the page's: unknown and repeated numbers, and groups that were
+/// changed. Where nodes stand doesn't count, and neither do changes outside groups.
+pub fn check_nodes(
+    alloc: Global,
+    page: &Node<'_>,
+    edited: &Node<'_>,
+) -> Result<Option<Check>, NoMemory> {
+    let index = numbered_nodes(alloc, page)?;
+    let edited = preorder(alloc, edited)?;
+    if let Some(number) = first_unknown(index.as_slice(), edited.as_slice()) {
+        return Ok(Some(Check::UnknownId(number)));
+    }
+    if let Some(number) = first_repeated(alloc, index.len(), edited.as_slice())? {
+        return Ok(Some(Check::RepeatedId(number)));
+    }
+    if let Some(number) = first_in_template(alloc, false, index.as_slice(), edited.as_slice())? {
+        return Ok(Some(Check::InTemplate(number)));
+    }
+    Ok(None)
+}

@@ -16,7 +16,7 @@ mod unmarked;
 mod visit;
 mod written;
 
-pub use checking::{check, numbered_nodes};
+pub use checking::{check, check_nodes, numbered_nodes};
 pub use editing::Editing;
 pub use index::original;
 pub use laws::{

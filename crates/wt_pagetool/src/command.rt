@@ -26,6 +26,8 @@ pub enum Command {
     Expand(Str),
     /// The page of this full name, changed as its HTML, which is the input, was.
     Edit(Str),
+    /// The same by the difference of the input alone, without marks.
+    Selser(Str),
     /// What is told of a page that is made with so many sections.
     Gen(u32),
     /// The source of the page whose HTML is the input.
@@ -84,6 +86,13 @@ fn edit_of(alloc: Global, title: &str) -> Result<Option<Command>, NoMemory>
     }
 }
 
+fn selser_of(alloc: Global, title: &str) -> Result<Option<Command>, NoMemory> {
+    match page_name(alloc, title)? {
+        Some(name) => Ok(Some(Command::Selser(name))),
+        None => Ok(None),
+    }
+}
+
 fn gen_of(count: &str) -> Option<Command>
     ensures { result ≡ option_map (λ n. Command.Gen n) (section_count count.now) }
 {
@@ -108,6 +117,9 @@ fn page_command(alloc: Global, word: &str, title: &str) -> Result<Option<Command
     }
     if word == "edit" {
         return edit_of(alloc, title);
+    }
+    if word == "selser" {
+        return selser_of(alloc, title);
     }
     if word == "gen" {
         return Ok(gen_of(title));

@@ -14,6 +14,7 @@ mod page;
 mod page_command;
 mod refusal;
 mod report;
+mod selser_command;
 mod status;
 mod top;
 mod wikitext_command;

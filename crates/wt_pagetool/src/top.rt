@@ -23,6 +23,7 @@ use crate::output::Output;
 use crate::page_command::output_of_title;
 use crate::refusal::Refusal;
 use crate::report::report;
+use crate::selser_command::selser_page;
 use crate::status::Status;
 use crate::wikitext_command::{PIECE, wikitext_of_input};
 use std::alloc::Global;
@@ -61,6 +62,7 @@ fn find_answer<S: Source, F: Folder>(
         }
         Some(Command::Expand(title)) => expansion_of_title(alloc, title.as_str(), folder),
         Some(Command::Edit(title)) => edited_page(alloc, title.as_str(), input, folder),
+        Some(Command::Selser(title)) => selser_page(alloc, title.as_str(), input, folder),
         Some(Command::Gen(count)) => counts_of_made(alloc, count),
         Some(Command::Wikitext) => wikitext_of_input(alloc, input),
         None => Err(Refusal::Usage),

@@ -1,0 +1,4 @@
+pub mod Insides
+pub mod Tokens
+pub mod Difference
+pub mod Views

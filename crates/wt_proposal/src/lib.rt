@@ -1,0 +1,13 @@
+//! What is proposed for an edited page: the page in which what was changed is written anew, and everything else
+//! stands as it stood, texts too. Whether a proposal is any good is told by reading it back, and by nothing here.
+#![tactic(auto)]
+
+mod blocks;
+mod children;
+mod common;
+mod inline;
+mod known;
+mod proposal;
+
+pub use known::Known;
+pub use proposal::{Keeping, propose};
