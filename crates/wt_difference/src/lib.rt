@@ -3,13 +3,13 @@
 #![tactic(auto)]
 
 mod changed;
-mod difference;
+mod differing;
 mod insides;
 mod region;
 mod tokens;
 
 pub use changed::Changed;
-pub use difference::{difference, is_compared, same_children, same_inside, stays_in};
+pub use differing::{difference, is_compared, same_children, same_inside, stays_in};
 pub use insides::{Child, has_inside, held, inside, is_block_part};
 pub use region::Region;
 pub use tokens::are_same;

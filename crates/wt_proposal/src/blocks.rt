@@ -1,12 +1,12 @@
 //! Blocks, items and rows as wikitext, where they are new, come from elsewhere or are of another kind now.
 
 use crate::inline::{Edges, Writing, edges_of, spelled};
-use crate::known::{Known, block_of};
+use crate::known::{Known, block_of, sign_of};
 use std::alloc::Global;
 use wt_checks::original;
 use wt_difference::{are_same, held, inside, is_block_part};
 use wt_guards::Place;
-use wt_span::{NoMemory, Str, Text};
+use wt_span::{NoMemory, Str};
 use wt_tree::{Kind, Node, flat, same_attrs, same_kind};
 
 /// What an inside of this kind of block is written for.
@@ -18,31 +18,6 @@ pub fn place_in(kind: Kind) -> Place {
         Kind::Td | Kind::Caption => Place::Cell,
         Kind::Th => Place::Header,
         _ => Place::Paragraph,
-    }
-}
-
-/// The signs of an item at the start of its line, without the blanks behind them.
-pub fn signs_of(alloc: Global, opening: &[Text<'_>]) -> Result<Str, NoMemory> {
-    let mut out = Str::new(alloc);
-    for text in opening {
-        for at in 0..text.as_str().len() {
-            let byte = text.as_str().as_bytes()[at];
-            if byte == b'*' || byte == b'#' || byte == b':' || byte == b';' {
-                out.push_str(&text.as_str()[at..at + 1])?;
-            }
-        }
-    }
-    Ok(out)
-}
-
-fn sign_of(list: Kind, item: Kind) -> &'static str {
-    match item {
-        Kind::Dt => ";",
-        Kind::Dd => ":",
-        _ => match list {
-            Kind::Ol => "#",
-            _ => "*",
-        },
     }
 }
 
@@ -136,6 +111,17 @@ fn push_held<'t, 'a>(
     Ok(())
 }
 
+/// Whether a source begins with these signs, and no other behind them.
+fn begins_with(source: &[u8], signs: &[u8]) -> bool {
+    if !source.starts_with(signs) {
+        return false;
+    }
+    match source.get(signs.len()) {
+        None => true,
+        Some(byte) => *byte != b'*' && *byte != b'#' && *byte != b':' && *byte != b';',
+    }
+}
+
 /// Appends an item with these signs.
 pub fn push_item<'t, 'a>(
     alloc: Global,
@@ -147,9 +133,8 @@ pub fn push_item<'t, 'a>(
     tail: Option<&'t Node<'a>>,
 ) -> Result<(), NoMemory> {
     if let Some(old) = standing(alloc, known, node)? {
-        let stood = signs_of(alloc, old.opening.as_slice())?;
-        if stood.as_str() == signs {
-            let source = flat(alloc, old)?;
+        let source = flat(alloc, old)?;
+        if begins_with(source.as_str().as_bytes(), signs.as_bytes()) {
             out.push_str(source.as_str())?;
             return Ok(());
         }

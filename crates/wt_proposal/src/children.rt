@@ -1,7 +1,7 @@
 //! A list of children that is written anew: what goes, what comes, and the line breaks between.
 
-use crate::blocks::{push_block, signs_of};
-use crate::known::{Known, last_text};
+use crate::blocks::push_block;
+use crate::known::{Known, last_text, signs_of};
 use crate::proposal::Rewrite;
 use std::alloc::Global;
 use wt_difference::{Child, inside, is_compared};
@@ -50,19 +50,20 @@ fn is_list(kind: Kind) -> bool {
     matches!(kind, Kind::Ul | Kind::Ol | Kind::Dl)
 }
 
+/// Whether a block is told by the signs at its line's start or end.
+fn is_lined(kind: Kind) -> bool {
+    is_part(kind) || is_list(kind) || matches!(kind, Kind::Heading(_) | Kind::Rule | Kind::Table)
+}
+
 /// How many line breaks two neighbours ask for at least.
 fn least_between(left: Kind, right: Kind) -> usize {
     match left {
         Kind::Td | Kind::Th => 0,
-        Kind::Para => match right {
-            Kind::Para => 2,
-            _ => 1,
-        },
         _ => {
-            if is_list(left) && is_list(right) {
-                2
-            } else {
+            if (is_lined(left) || is_lined(right)) && !(is_list(left) && is_list(right)) {
                 1
+            } else {
+                2
             }
         }
     }
@@ -117,6 +118,7 @@ fn missing(wanted: usize, standing: usize) -> usize {
 /// The signs with which an item of this list begins: those of the items that stand there.
 fn signs_in<'t, 'a>(
     alloc: Global,
+    known: &Known<'t, 'a>,
     gap: &Gap<'t, 'a>,
     node: &Node<'_>,
     outer: &str,
@@ -134,7 +136,7 @@ fn signs_in<'t, 'a>(
     match beside {
         None => Str::copy_of(alloc, outer),
         Some(child) => {
-            let signs = signs_of(alloc, child.node.opening.as_slice())?;
+            let signs = signs_of(alloc, known, child.node)?;
             let front = signs.as_str();
             let count = if front.is_empty() { 0 } else { front.len() - 1 };
             let mut out = Str::copy_of(alloc, &front[..count])?;
@@ -166,7 +168,7 @@ fn new_source<'t, 'a>(
             Some(child) if at + 1 == new.len() => last_text(inside(child.node)),
             _ => None,
         };
-        let signs = signs_in(alloc, gap, new[at].node, outer)?;
+        let signs = signs_in(alloc, known, gap, new[at].node, outer)?;
         push_block(alloc, &mut out, known, keeps, signs.as_str(), new[at].node, tail)?;
     }
     Ok(out)
@@ -190,6 +192,7 @@ fn push_gone(
     gap: &Gap<'_, '_>,
     first: Child<'_, '_>,
     last: Child<'_, '_>,
+    at: u32,
 ) -> Result<(), NoMemory> {
     let mut by = Str::new(alloc);
     let mut start = start_of(first.node);
@@ -209,6 +212,8 @@ fn push_gone(
                 if start == start_of(first.node) {
                     start = end_of(before.node);
                 }
+            } else if at < start {
+                start = at;
             }
         }
     }
@@ -289,7 +294,7 @@ pub fn push_gap<'t, 'a>(
     if gone.is_empty() {
         return Ok(());
     }
-    push_gone(alloc, out, page, gap, gone[0], gone[gone.len() - 1])
+    push_gone(alloc, out, page, gap, gone[0], gone[gone.len() - 1], at)
 }
 
 /// Those of the children that count.

@@ -79,18 +79,36 @@ fn push_standing(
     Ok(())
 }
 
-/// How many bytes a text has in common with the front of one of the page, and where that one starts.
-fn front_in(text: &str, old: Option<&Node<'_>>) -> (usize, usize) {
-    match old {
-        None => (0, 0),
-        Some(old) => match start_of(old) {
-            None => (0, 0),
-            Some(start) => (
-                common_front(old.shown.as_str().as_bytes(), text.as_bytes()),
-                start,
-            ),
+fn is_at(text: Option<&Node<'_>>, start: usize) -> bool {
+    match text {
+        None => false,
+        Some(text) => match start_of(text) {
+            None => false,
+            Some(found) => found == start,
         },
     }
+}
+
+/// The text without its last byte.
+fn shortened(text: &[u8]) -> &[u8] {
+    if text.is_empty() { text } else { &text[..text.len() - 1] }
+}
+
+/// How many bytes a text has in common with the front of one of the page, and where that one starts. Of the one
+/// text between two nodes the last character, where it stays, counts for the back.
+fn front_in(text: &str, old: Option<&Node<'_>>, right: Option<&Node<'_>>) -> (usize, usize) {
+    let Some(old) = old else {
+        return (0, 0);
+    };
+    let Some(start) = start_of(old) else {
+        return (0, 0);
+    };
+    let before = old.shown.as_str().as_bytes();
+    let after = text.as_bytes();
+    if before == after || !is_at(right, start) || before.last() != after.last() {
+        return (common_front(before, after), start);
+    }
+    (common_front(shortened(before), shortened(after)), start)
 }
 
 fn back_in(text: &str, old: Option<&Node<'_>>, from: usize, front: usize) -> (usize, usize) {
@@ -121,7 +139,7 @@ fn push_text<'n>(
     left: Option<&Node<'_>>,
     right: Option<&Node<'_>>,
 ) -> Result<(), NoMemory> {
-    let (front, start) = front_in(text, left);
+    let (front, start) = front_in(text, left, right);
     let (back, behind) = back_in(text, right, start, front);
     let end = text.len() - back;
     push_standing(alloc, out, &text[..front], start)?;
@@ -212,11 +230,11 @@ fn push_style<'n, 't, 'a>(
                 end: old.place.end,
             };
             if !opening.as_str().is_empty() {
-                push_thing(out, Role::Toggle, opening, Some(opened))?;
+                push_thing(out, Role::Node, opening, Some(opened))?;
             }
             push_units(alloc, out, writing, node.children.as_slice(), edges_in(kept))?;
             if !closing.as_str().is_empty() {
-                push_thing(out, Role::Toggle, closing, Some(closed))?;
+                push_thing(out, Role::Node, closing, Some(closed))?;
             }
             return Ok(());
         }
@@ -341,6 +359,10 @@ fn push_node<'n, 't, 'a>(
         Way::Bold => push_style(alloc, out, writing, "'''", kept, node),
         Way::Italic => push_style(alloc, out, writing, "''", kept, node),
         Way::AsItStood => {
+            // What a link skips is no part of its text.
+            if matches!(node.kind, Kind::Skip) {
+                return Ok(());
+            }
             if let Some(old) = kept {
                 let source = flat(alloc, old.node)?;
                 push_thing(out, old.role, source, Some(old.place))?;

@@ -1,10 +1,10 @@
 //! What is known of the page: its nodes by their numbers, the texts next to each, and its source.
 
 use std::alloc::Global;
-use wt_checks::{Visit, numbered_nodes};
+use wt_checks::{Visit, numbered_nodes, original};
 use wt_guards::Stretch;
 use wt_kept::{Kept, Page, page_of_block};
-use wt_span::NoMemory;
+use wt_span::{NoMemory, Str};
 use wt_tree::{Kind, Node};
 
 /// The texts directly before and behind a node of the page.
@@ -143,4 +143,44 @@ pub fn block_of<'t, 'a>(alloc: Global, node: &'t Node<'a>) -> Result<Block<'t, '
         None => 0,
     };
     Ok(Block { page, start })
+}
+
+/// The sign of an item of a list.
+pub fn sign_of(list: Kind, item: Kind) -> &'static str {
+    match item {
+        Kind::Dt => ";",
+        Kind::Dd => ":",
+        _ => match list {
+            Kind::Ol => "#",
+            _ => "*",
+        },
+    }
+}
+
+fn is_item(kind: Kind) -> bool {
+    matches!(kind, Kind::Li | Kind::Dt | Kind::Dd)
+}
+
+/// The signs with which an item of the page begins its line, by the lists in which it stands; nothing of another
+/// node.
+pub fn signs_of(alloc: Global, known: &Known<'_, '_>, item: &Node<'_>) -> Result<Str, NoMemory> {
+    let mut out = Str::new(alloc);
+    push_signs(&mut out, known, item)?;
+    Ok(out)
+}
+
+fn push_signs(out: &mut Str, known: &Known<'_, '_>, item: &Node<'_>) -> Result<(), NoMemory> {
+    if item.id == 0 || !is_item(item.kind) {
+        return Ok(());
+    }
+    let Some(visit) = original(known.index.as_slice(), item.id) else {
+        return Ok(());
+    };
+    let Some(list) = original(known.index.as_slice(), visit.parent) else {
+        return Ok(());
+    };
+    if let Some(holder) = original(known.index.as_slice(), list.parent) {
+        push_signs(out, known, holder.node)?;
+    }
+    out.push_str(sign_of(list.node.kind, item.kind))
 }

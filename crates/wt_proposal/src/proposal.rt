@@ -1,9 +1,9 @@
 //! A proposal: the page with the places of the difference written anew.
 
-use crate::blocks::{place_in, signs_of};
+use crate::blocks::place_in;
 use crate::children::{Gap, push_compared, push_gap};
 use crate::inline::{Writing, edges_of, spelled};
-use crate::known::{Known, block_of};
+use crate::known::{Known, block_of, signs_of};
 use std::alloc::Global;
 use wt_checks::original;
 use wt_difference::{Child, has_inside, held, inside, is_block_part, same_inside, stays_in};
@@ -125,7 +125,7 @@ fn push_children<'t, 'a>(
     let mut after = Vec::new(alloc);
     push_compared(&mut after, held(alloc, new)?.as_slice())?;
     let start = children_start(alloc, old)?;
-    let outer = signs_of(alloc, old.opening.as_slice())?;
+    let outer = signs_of(alloc, known, old)?;
     let mut from = 0;
     let mut last = None;
     let mut coming = Vec::new(alloc);
