@@ -1,5 +1,11 @@
 //! The difference of an edited tree: the smallest places of the page in which something was changed.
 
+ghost use Rattle.std.specs.Prelude.{◌≡◌, IfOk};
+ghost use Rattle.wt_tree.specs.View.{view};
+ghost use Rattle.wt_checks.specs.View.{indexed};
+ghost use Rattle.wt_difference.specs.Difference.{differing};
+ghost use Rattle.wt_difference.specs.Views.{changes_view};
+
 use crate::changed::Changed;
 use crate::insides::{Child, held, inside, is_block_part};
 use crate::region::Region;
@@ -149,7 +155,9 @@ pub fn difference<'t, 'a>(
     alloc: Global,
     index: &[Visit<'t, 'a>],
     edited: &'t Node<'a>,
-) -> Result<Vec<Changed<'t, 'a>>, NoMemory> {
+) -> Result<Vec<Changed<'t, 'a>>, NoMemory>
+    ensures { IfOk result (λ cs. changes_view cs.items ≡ differing (indexed index.now) (view edited.now)) }
+{
     let mut out = Vec::new(alloc);
     push_differing(alloc, &mut out, index, edited)?;
     Ok(out)

@@ -1,5 +1,9 @@
 //! What a node holds, in two parts: its inside, and the children behind it.
 
+ghost use Rattle.std.specs.Prelude.{◌≡◌};
+ghost use Rattle.wt_tree.specs.View.{view, views};
+ghost use Rattle.wt_difference.specs.Insides.{has_inside, inside, is_block_part};
+
 use std::alloc::Global;
 use wt_span::NoMemory;
 use wt_tree::{Class, Holding, Kind, Node};
@@ -11,7 +15,9 @@ pub struct Child<'t, 'a> {
 }
 
 /// Whether pages are built of nodes of this kind: a block, a list, an item, a term, or a part of a table.
-pub fn is_block_part(kind: Kind) -> bool {
+pub fn is_block_part(kind: Kind) -> bool
+    ensures { result ≡ is_block_part kind }
+{
     match kind.shape().class {
         Class::Block
         | Class::List
@@ -30,7 +36,9 @@ pub fn is_block_part(kind: Kind) -> bool {
 }
 
 /// Whether what a node of this kind holds begins with lines of text.
-pub fn has_inside(kind: Kind) -> bool {
+pub fn has_inside(kind: Kind) -> bool
+    ensures { result ≡ has_inside kind }
+{
     match kind.shape().holding {
         Holding::Inlines | Holding::InlinesThenLists | Holding::InlinesThenBlocks => {
             is_block_part(kind)
@@ -82,7 +90,9 @@ fn inside_len(nodes: &[Node<'_>]) -> usize {
 
 /// The text and inline elements that a paragraph, a heading, an item, a term, a cell or a caption begins with;
 /// nothing of another node.
-pub fn inside<'t, 'a>(node: &'t Node<'a>) -> &'t [Node<'a>] {
+pub fn inside<'t, 'a>(node: &'t Node<'a>) -> &'t [Node<'a>]
+    ensures { views result.now ≡ inside (view node.now) }
+{
     let nodes = node.children.as_slice();
     if has_inside(node.kind) {
         &nodes[..inside_len(nodes)]
