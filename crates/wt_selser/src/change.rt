@@ -26,7 +26,7 @@ pub struct Pair<'t, 'a> {
     pub new: &'t Node<'a>,
 }
 
-/// A slice of the page, by its first byte and the byte behind its last one, and what stands in its place.
+/// A slice of the page, in bytes: its first byte and the byte after its last one, and what stands in its place.
 #[derive(Drop)]
 pub struct Change {
     pub start: u32,
@@ -207,7 +207,8 @@ fn push_rest(out: &mut Str, page: &str, from: u32) -> Result<(), NoMemory>
     Ok(())
 }
 
-/// The page with these slices replaced.
+/// The page with these slices replaced, which stand in it one after the other; want of memory, too, where they
+/// don't.
 #[tactic(auto, unfolding(crate::specs::Splice::spliced))]
 pub fn spliced(alloc: Global, page: &str, changes: &[Change]) -> Result<Str, NoMemory>
     ensures { IfOk result (λ new. new ≡ spliced page.now (changes_view changes.now)) }

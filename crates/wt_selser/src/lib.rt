@@ -15,6 +15,7 @@ mod slices;
 mod steps;
 mod tangled_block;
 
+pub use change::{Change, spliced};
 pub use differing::first_differing;
 pub use editing::edit;
 pub use laws::{
