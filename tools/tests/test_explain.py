@@ -74,7 +74,7 @@ def bytes_of(field: str) -> bytes:
 class Lines(unittest.TestCase):
     def test_each_kind_of_refusal(self) -> None:
         lines = [
-            "usage: wtround html TITLE | wikitext | edit TITLE | ranges TITLE | expand TITLE | gen N | lint TITLE",
+            "usage: wtround html TITLE | wikitext | edit TITLE | ranges TITLE | expand TITLE | gen N | lint TITLE | selser TITLE",
             "no such page", "page too long", "page not UTF-8 at 7", "html too long", "input too long",
             "braces too deep at 300", "braces too deep at 3 in Template:A b", "expansion too large", "element 3 has no source",
             "Template:X not UTF-8 at 0", "Template:X too long", "Über not UTF-8 at 1", "read fault", "folder fault",
