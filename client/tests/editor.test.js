@@ -546,13 +546,22 @@ test("a page that can't be fetched while changes are shown is fetched when store
 });
 
 test("a refusal outlines its place", { skip }, async () => {
-  wiki.write("A page", "* item\n** inner\n\nnext\n");
+  wiki.write("A page", "before\n\n{|\n|x\n|}\n\nnext\n");
+  await opened("A page");
+  await select("x", 0, "x", 1);
+  await tab.type("+");
+  assert.equal(await refused(), "edit refused: Unspelled 2");
+  assert.equal(await tab.js(`document.querySelector("[data-refused]").localName`), "table");
+  assert.match(await shown(), /^before ?\+ ?next$/);
+});
+
+test("the text of an item that holds a list is changed", { skip }, async () => {
+  wiki.write("A page", "* item ]\n** inner\n\nnext\n");
   await opened("A page");
   await select("item", 4);
   await tab.type("s");
-  assert.equal(await refused(), "edit refused: UnmarkedChange 2");
-  assert.ok(await tab.js(`document.querySelector("[data-refused]").textContent.startsWith("items")`));
-  assert.match(await shown(), /^items ?inner next$/);
+  await stored();
+  assert.equal(wiki.read("A page"), "* items ]\n** inner\n\nnext\n");
 });
 
 test("the whole text is deleted and written anew", { skip }, async () => {

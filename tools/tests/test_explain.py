@@ -41,6 +41,17 @@ class Places(unittest.TestCase):
             with self.subTest(line=line):
                 self.assertEqual(HTML[place_of(line, HTML) :][: len(start)], start)
 
+    def test_blocks_in_sections_are_counted(self) -> None:
+        html = (
+            b'<html><body><section data-mw-section-id="0"><p>one</p><meta typeof="mw:Comment"/></section>'
+            b'<section data-mw-section-id="1"><h2>two</h2><p>three <b>x</b></p>'
+            b'<section data-mw-section-id="2"><h3>four</h3></section></section>'
+            b'<section data-mw-section-id="3"><h2>five</h2></section><p>six</p></body></html>'
+        )
+        found = [html[place_of(f"edit refused: Unspelled {k}", html) :].split(b">")[1][:4] for k in range(1, 7)]
+        self.assertEqual(found, [b"one<", b"two<", b"thre", b"four", b"five", b"six<"])
+        self.assertIsNone(place_of("edit refused: Unspelled 7", html))
+
     def test_lines_and_columns(self) -> None:
         data = "ab\n日本 é\tx\n\n".encode()
         for place, wanted in {0: (1, 1), 2: (1, 3), 3: (2, 1), 9: (2, 3), 12: (2, 5), 14: (2, 7), 15: (3, 1), 16: (4, 1)}.items():
