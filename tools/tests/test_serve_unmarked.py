@@ -8,6 +8,7 @@ from serving_case import PROGRAM, ServingCase
 from serving.program import Program
 
 TRANSFORM = "/localhost/v3/transform/html/to/wikitext/"
+ROW = "</tr><tr><td>z</td></tr>"
 
 OLDER = """#!/bin/sh
 # The program without the command `selser`; it notes its commands.
@@ -47,14 +48,15 @@ class Unmarked(ServingCase):
             ("[[Hugh Capet]]'s ] heirs", "heirs", "sons", "[[Hugh Capet]]'s ] sons"),
             ("* a ]\n** b", ">a ]", ">c ]", "* c ]\n** b"),
             ("a b<ref>c</ref>\n\nd", "a b", "a</p><p>b", "a\n\nb<ref>c</ref>\n\nd"),
-            ("{|\n|-\n| x ] || y\n|}", "</tr>", "</tr><tr><td>z</td></tr>", "{|\n|-\n| x ] || y\n|-\n| z\n|}"),
+            ("{|\n|-\n| x ] || y\n|}", "</tr>", ROW, "{|\n|-\n| x ] || y\n|-\n| z\n|}"),
         ]:
             for fields in ({}, {"mended": True}):
                 with self.subTest(page=page, **fields):
                     self.assertEqual(self.new_page("Short", page, before, after, **fields), wanted)
 
     def test_what_a_browser_writes_is_mended(self) -> None:
-        self.assertEqual(self.new_page("Short", "a ] b", "a ] b", "a ] <strong>b</strong><br>"), "a ] '''b'''")
+        made = self.new_page("Short", "a ] b", "a ] b", "a ] <strong>b</strong><br>")
+        self.assertEqual(made, "a ] '''b'''")
 
     def test_a_page_is_saved(self) -> None:
         before = self.page()
@@ -114,5 +116,6 @@ class OlderProgram(ServingCase):
         html, _ = self.html("Opava")
         for word in ("many", "some"):
             body = json.dumps({"html": html.replace("six hundred", f"{word} hundred")}).encode()
-            self.assertEqual(self.ask("POST", f"{TRANSFORM}Opava", body, Content_Type="application/json")[0], 200)
+            status, _, _ = self.ask("POST", f"{TRANSFORM}Opava", body, Content_Type="application/json")
+            self.assertEqual(status, 200)
         self.assertEqual(self.log.read_text().split("\n")[:-1].count(""), 1)
