@@ -8,6 +8,10 @@ mod common;
 mod inline;
 mod known;
 mod proposal;
+mod reached;
+mod slot;
+mod slots;
 
 pub use known::Known;
 pub use proposal::{Keeping, propose};
+pub use slot::Slot;
