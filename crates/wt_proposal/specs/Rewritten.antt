@@ -13,9 +13,12 @@ abbrev pub LiesInOne : List Slot → Change → Type 0
 LiesInOne [] c = ⊥
 LiesInOne (s ∷ ss) c = LiesIn s c ⊎ LiesInOne ss c
 
--- the slices that are written anew, one after the other, each in one of the places
-pub record IsRewritten (page : List ℕ) (tree edited : Tree) (new : List ℕ) : Type 0 where
+-- the slices that are written anew, one after the other, each in one of these places
+pub record IsRewrittenIn (page : List ℕ) (within : List Slot) (new : List ℕ) : Type 0 where
   pub changes : List Change
   pub apart : AreApart 0 changes (length page)
-  pub within : AllByRecursion (LiesInOne (places tree edited)) changes
+  pub lie_in : AllByRecursion (LiesInOne within) changes
   pub is : spliced page changes ≡ new
+
+abbrev pub IsRewritten : List ℕ → Tree → Tree → List ℕ → Type 0
+IsRewritten page tree edited new = IsRewrittenIn page (places tree edited) new
