@@ -13,7 +13,7 @@ use Rattle.wt_difference.specs.declared.insides.Child.{Child}
 use Rattle.wt_difference.specs.Views.{child_views}
 use Rattle.wt_proposal.specs.declared.reached.Reached.{Reached}
 use Rattle.wt_proposal.specs.declared.slot.Slot.{Slot}
-use Rattle.wt_proposal.specs.Places.{along, begun, gap, gap_before, if_in_turn, inside_place, inside_stop, is_in_turn, partner, places_in, reached, rest_behind, some_count}
+use Rattle.wt_proposal.specs.Places.{along, begun, gap, gap_before, if_in_turn, inside_place, inside_stop, is_in_turn, partner, places_in, arrived, rest_behind, some_count}
 use Rattle.wt_proposal.proofs.Passing.{from_place}
 
 pub ranges_seen : (n : Node) → (label (view n)).ranges ≡ (out-Node n).ranges
@@ -35,7 +35,7 @@ sources_end ns i xs zs l inv =
 abbrev along_by : Page → Tree → Reached → Trees → Tree → Trees → Bool → List Slot
 along_by page t r ts u us b =
     if_in_turn b (gap_before r ts (partner page u) u ++ if_in_turn (is_block_part (label u).kind) (places_in page (partner page u) u))
-    ++ along page t (reached b (partner page u) r u) (rest_behind b u ts) us
+    ++ along page t (arrived b (partner page u) r u) (rest_behind b u ts) us
 
 by_turn : (page : Page) (t : Tree) (r : Reached) (ts : Trees) (u : Tree) (us : Trees) (holder : ℕ) (b : Bool) → (label t).id ≡ holder
     → is_in_turn page holder r u ≡ b → along page t r ts (more u us) ≡ along_by page t r ts u us b
@@ -43,12 +43,12 @@ by_turn page t r ts u us holder b e turn = ap (along_by page t r ts u us) (ap (�
 
 pub turn_taken : (page : Page) (t : Tree) (holder : ℕ) (r s : Reached) (ts rest : Trees) (u : Tree) (us : Trees) (gs ws : List Slot)
     → (label t).id ≡ holder → is_in_turn page holder r u ≡ true → gs ≡ gap_before r ts (partner page u) u
-    → ws ≡ if_in_turn (is_block_part (label u).kind) (places_in page (partner page u) u) → s ≡ reached true (partner page u) r u
+    → ws ≡ if_in_turn (is_block_part (label u).kind) (places_in page (partner page u) u) → s ≡ arrived true (partner page u) r u
     → rest ≡ rest_behind true u ts → gs ++ (ws ++ along page t s rest us) ≡ along page t r ts (more u us)
 turn_taken page t holder r s ts rest u us gs ws e turn g w to behind =
     let gap_slots : List Slot = gap_before r ts (partner page u) u in
     let within : List Slot = if_in_turn (is_block_part (label u).kind) (places_in page (partner page u) u) in
-    let next : Reached = reached true (partner page u) r u in
+    let next : Reached = arrived true (partner page u) r u in
     ap (λ (x : List Slot). x ++ (ws ++ along page t s rest us)) g
     ∙ ap (λ (x : List Slot). gap_slots ++ (x ++ along page t s rest us)) w
     ∙ ap (λ (x : Reached). gap_slots ++ (within ++ along page t x rest us)) to
@@ -57,7 +57,7 @@ turn_taken page t holder r s ts rest u us gs ws e turn g w to behind =
     ∙ sym (by_turn page t r ts u us holder true e turn)
 
 pub turn_passed : (page : Page) (t : Tree) (holder : ℕ) (r s : Reached) (ts : Trees) (u : Tree) (us : Trees)
-    → (label t).id ≡ holder → is_in_turn page holder r u ≡ false → s ≡ reached false (partner page u) r u
+    → (label t).id ≡ holder → is_in_turn page holder r u ≡ false → s ≡ arrived false (partner page u) r u
     → along page t s ts us ≡ along page t r ts (more u us)
 turn_passed page t holder r s ts u us e turn to = ap (λ (x : Reached). along page t x ts us) to ∙ sym (by_turn page t r ts u us holder false e turn)
 

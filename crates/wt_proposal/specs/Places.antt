@@ -85,9 +85,9 @@ abbrev pub partner : Page → Tree → Tree
 partner page u = node_or u (page (label u).id)
 
 -- behind it, by whether it is in its turn
-abbrev pub reached : Bool → Tree → Reached → Tree → Reached
-reached true t r u = record { end = end_of (label t).ranges; number = (label u).id; came = false; inside = false }
-reached false t r u = record { end = r.end; number = r.number; came = r.came || counts r u; inside = goes_on r u }
+abbrev pub arrived : Bool → Tree → Reached → Tree → Reached
+arrived true t r u = record { end = end_of (label t).ranges; number = (label u).id; came = false; inside = false }
+arrived false t r u = record { end = r.end; number = r.number; came = r.came || counts r u; inside = goes_on r u }
 
 -- what the page has behind it then
 abbrev pub rest_behind : Bool → Tree → Trees → Trees
@@ -114,7 +114,7 @@ abbrev mutual
   along page t r ts none = gap (r.came || some_count ts) r.end (inside_stop (label t).ranges)
   along page t r ts (more u us) =
       if_in_turn (is_in_turn page (label t).id r u) (gap_before r ts (partner page u) u ++ if_in_turn (is_block_part (label u).kind) (places_in page (partner page u) u))
-      ++ along page t (reached (is_in_turn page (label t).id r u) (partner page u) r u) (rest_behind (is_in_turn page (label t).id r u) u ts) us
+      ++ along page t (arrived (is_in_turn page (label t).id r u) (partner page u) r u) (rest_behind (is_in_turn page (label t).id r u) u ts) us
 
 -- of a page's tree and an edited one
 abbrev pub places : Tree → Tree → List Slot

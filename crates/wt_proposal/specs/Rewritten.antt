@@ -21,4 +21,4 @@ pub record IsRewrittenIn (page : List ℕ) (within : List Slot) (new : List ℕ)
   pub is : spliced page changes ≡ new
 
 abbrev pub IsRewritten : List ℕ → Tree → Tree → List ℕ → Type 0
-IsRewritten page tree edited new = IsRewrittenIn page (places tree edited) new
+IsRewritten page t u new = IsRewrittenIn page (places t u) new

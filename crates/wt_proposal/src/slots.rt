@@ -28,7 +28,7 @@ ghost use Rattle.wt_proposal.specs.Places.{
   partner,
   places,
   places_in,
-  reached,
+  arrived,
   rest_behind,
   some_count,
   start_of,
@@ -217,7 +217,7 @@ fn partner<'t, 'a>(index: &[Visit<'t, 'a>], node: &'t Node<'a>) -> Visit<'t, 'a>
 
 /// Behind a child in its turn, which is this node of the page.
 pub fn reached_behind(old: &Node<'_>, reached: Reached, child: &Node<'_>) -> Reached
-    ensures { result ≡ reached true (view old.now) reached (view child.now) }
+    ensures { result ≡ arrived true (view old.now) reached (view child.now) }
 {
     Reached {
         end: end_of(old.ranges),
@@ -229,7 +229,7 @@ pub fn reached_behind(old: &Node<'_>, reached: Reached, child: &Node<'_>) -> Rea
 
 /// Behind any other child.
 pub fn reached_past(reached: Reached, child: &Node<'_>) -> Reached
-    ensures { (t : Tree) → result ≡ reached false t reached (view child.now) }
+    ensures { (t : Tree) → result ≡ arrived false t reached (view child.now) }
 {
     Reached {
         end: reached.end,
@@ -275,7 +275,7 @@ fn turn_of<'t, 'a>(beside: Beside<'_, 't, 'a>, old: &'t Node<'a>, child: &Node<'
     ensures gap { slots_of result.gap ≡ gap_before beside.entry.reached (child_views beside.entry.rest.now) (view old.now) (view child.now) }
     ensures within { (page : Page) → places_within page (view child.now) (option_map (λ n. view n.now) result.within)
         ≡ if_in_turn (is_block_part (label (view child.now)).kind) (places_in page (view old.now) (view child.now)) }
-    ensures reached { result.reached ≡ reached true (view old.now) beside.entry.reached (view child.now) }
+    ensures reached { result.reached ≡ arrived true (view old.now) beside.entry.reached (view child.now) }
     ensures fits { result.passed ≤ length beside.entry.rest.now }
     ensures rest { child_views (drop result.passed beside.entry.rest.now) ≡ rest_behind true (view child.now) (child_views beside.entry.rest.now) }
 {
