@@ -1,6 +1,5 @@
 -- Slices that stand one after the other, each in one of the places.
-use Rattle.std.proofs.Common.{◌≡◌, ◌≤◌, ◌<◌, ℕ, zero, suc, ◌+◌, Some, None, List, [], ◌∷◌, length, drop, get_or, sym, ap, ◌∙◌, subst, inl, inr}
-use Rattle.std.specs.Prelude.{slice_get}
+use Rattle.std.proofs.Common.{◌≡◌, ◌≤◌, ◌<◌, ℕ, zero, suc, ◌+◌, List, [], ◌∷◌, length, drop, get_or, sym, ap, ◌∙◌, subst, inl, inr, arith}
 use Rattle.std.specs.List.{AllByRecursion}
 use Rattle.std.proofs.lemmas.List.{drop_all}
 use Rattle.wt_selser.specs.declared.change.Change.{Change as Made}
@@ -10,10 +9,10 @@ use Rattle.wt_proposal.specs.declared.slot.Slot.{Slot}
 use Rattle.wt_proposal.specs.Rewritten.{LiesIn, LiesInOne}
 use Rattle.wt_proposal.proofs.Passing.{from_place}
 
-pub lies_at : (ss : List Slot) (i : ℕ) (s : Slot) (c : Change) → slice_get ss i ≡ Some s → LiesIn s c → LiesInOne ss c
-lies_at [] i s c e h = absurd (let w : ⊥ = cc in w)
-lies_at (x ∷ ss) zero s c e h = let d : s ≡ x = cc in inl (subst (λ y. LiesIn y c) d h)
-lies_at (x ∷ ss) (suc i) s c e h = inr (lies_at ss i s c e h)
+pub lies_at : (ss : List Slot) (i : ℕ) (d : Slot) (c : Change) → i < length ss → LiesIn (get_or ss i d) c → LiesInOne ss c
+lies_at [] i d c lt h = absurd (let w : ⊥ = omega arith in w)
+lies_at (s ∷ ss) zero d c lt h = inl h
+lies_at (s ∷ ss) (suc i) d c lt h = inr (lies_at ss i d c (omega arith) h)
 
 -- what is left to be tested, and what then holds of all
 pub record HasTested (places : List Slot) (cs : List Made) (at i size : ℕ) : Type 0 where

@@ -13,7 +13,7 @@ use crate::inline::{Writing, edges_of, spelled};
 use crate::known::{Known, block_of, signs_of};
 use crate::reached::Reached;
 use crate::slot::Slot;
-use crate::slots::{Beside, Turn, begun, counts, inside_end, inside_start, inside_stop, next_turn, places};
+use crate::slots::{Beside, begun, counts, inside_end, inside_start, inside_stop, next_turn, places};
 use crate::testing::tested;
 use std::alloc::Global;
 use wt_checks::numbered_nodes;
@@ -90,7 +90,7 @@ fn push_inside<'t, 'a>(
     alloc: Global,
     out: &mut Vec<Change>,
     plan: Plan<'_, 't, 'a>,
-    block: u32,
+    number: u32,
     new: &'t Node<'a>,
     old: &'t Node<'a>,
 ) -> Result<(), NoMemory> {
@@ -98,10 +98,12 @@ fn push_inside<'t, 'a>(
         return Ok(());
     }
     let standing = block_of(alloc, old)?;
+    let known = plan.known;
+    let block = Some(&standing);
     let writing = Writing {
-        known: plan.known,
-        block: Some(&standing),
-        keeps: plan.keeps(block),
+        known,
+        block,
+        keeps: plan.keeps(number),
         place: place_in(old.kind),
     };
     let by = spelled(alloc, writing, inside(new), edges_of(inside(old)))?;
@@ -114,12 +116,21 @@ fn push_inside<'t, 'a>(
 
 // ---- children
 
-/// How far one has come along the edited children of a node: the page's node that the last child in its turn
-/// is, how many of the page's children are passed, the first edited child behind it, and the numbers of its block
-/// and of the one in hand.
+/// The children that a node of the page holds, the signs with which it begins where it is an item, its number, and
+/// where its children begin and end.
 #[derive(Clone, Copy)]
-struct Line<'t, 'a> {
-    before: Option<&'t Node<'a>>,
+struct Held<'w, 't, 'a> {
+    children: &'w [Child<'t, 'a>],
+    signs: &'w str,
+    number: u32,
+    begun: Reached,
+    stop: usize,
+}
+
+/// How far one has come along the edited children of a node: how many of the page's children are passed, the first
+/// edited child behind the last one that stayed in its turn, and the numbers of its block and of the one in hand.
+#[derive(Clone, Copy)]
+struct Line {
     from: usize,
     came_from: usize,
     reached: Reached,
@@ -127,19 +138,19 @@ struct Line<'t, 'a> {
     block: Numbering,
 }
 
-/// The list from one place up to another.
-fn part_of<'w, T>(list: &'w [T], from: usize, to: usize) -> &'w [T] {
-    if from <= to && to <= list.len() {
-        &list[from..to]
-    } else {
-        &list[..0]
-    }
+/// A gap, by how many of the page's children stand before it, and before what stands behind it.
+#[derive(Clone, Copy)]
+struct Span {
+    place: Slot,
+    from: usize,
+    to: usize,
+    is_last: bool,
+    first: Numbering,
 }
 
-impl<'t, 'a> Line<'t, 'a> {
-    fn of(reached: Reached, block: Numbering) -> Line<'t, 'a> {
+impl Line {
+    fn of(reached: Reached, block: Numbering) -> Line {
         Line {
-            before: None,
             from: 0,
             came_from: 0,
             reached,
@@ -149,10 +160,9 @@ impl<'t, 'a> Line<'t, 'a> {
     }
 
     /// With the number of the child in hand.
-    fn at(self, child: &Node<'_>) -> Line<'t, 'a> {
+    fn at(self, child: &Node<'_>) -> Line {
         let block = if counts(self.reached, child) { self.block.next() } else { self.block };
         Line {
-            before: self.before,
             from: self.from,
             came_from: self.came_from,
             reached: self.reached,
@@ -161,36 +171,89 @@ impl<'t, 'a> Line<'t, 'a> {
         }
     }
 
-    /// Behind the child with this index.
-    fn behind(self, turn: Turn<'t, 'a>, at: usize) -> Line<'t, 'a> {
-        let is_new_start = turn.standing.is_some() || turn.reached.inside;
+    /// Behind the child with this index, which passes so many of the page's children.
+    fn behind(self, passed: usize, reached: Reached, at: usize) -> Line {
+        let is_begun = passed > 0 || reached.inside;
         Line {
-            before: turn.standing.or(self.before),
-            from: self.from.saturating_add(turn.passed),
-            came_from: if is_new_start { at.saturating_add(1) } else { self.came_from },
-            reached: turn.reached,
-            first: if is_new_start { self.block.next() } else { self.first },
+            from: self.from.saturating_add(passed),
+            came_from: if is_begun { at.saturating_add(1) } else { self.came_from },
+            reached,
+            first: if is_begun { self.block.next() } else { self.first },
             block: self.block,
         }
     }
 
-    /// The gap before the edited child with this index, of which the page has `gone` children there.
-    fn gap<'w>(
-        self,
-        place: Slot,
-        behind: Option<&'t Node<'a>>,
-        gone: &'w [Child<'t, 'a>],
-        new: &'w [Node<'a>],
-    ) -> Gap<'w, 't, 'a> {
-        Gap {
+    /// The gap before a child that passes so many of the page's children, itself the last of them.
+    fn span(self, place: Slot, passed: usize) -> Span {
+        Span {
             place,
-            before: self.before,
-            behind,
-            gone,
-            new,
+            from: self.from,
+            to: self.from.saturating_add(passed).saturating_sub(1),
+            is_last: false,
             first: self.first,
         }
     }
+
+    /// The gap behind the last child that stays in its turn.
+    fn last_span(self, held: Held<'_, '_, '_>) -> Span {
+        Span {
+            place: Slot {
+                start: self.reached.end,
+                end: held.stop,
+            },
+            from: self.from,
+            to: held.children.len(),
+            is_last: true,
+            first: self.first,
+        }
+    }
+}
+
+/// The children from one place up to another; none where there are none.
+fn children_between<'w, 't, 'a>(
+    children: &'w [Child<'t, 'a>],
+    from: usize,
+    to: usize,
+) -> &'w [Child<'t, 'a>] {
+    if from <= to && to <= children.len() {
+        &children[from..to]
+    } else {
+        &children[..0]
+    }
+}
+
+fn nodes_between<'w, 'a>(nodes: &'w [Node<'a>], from: usize, to: usize) -> &'w [Node<'a>] {
+    if from <= to && to <= nodes.len() {
+        &nodes[from..to]
+    } else {
+        &nodes[..0]
+    }
+}
+
+fn node_at<'t, 'a>(children: &[Child<'t, 'a>], at: Option<usize>) -> Option<&'t Node<'a>> {
+    let child = children.get(at?)?;
+    Some(child.node)
+}
+
+/// Appends what is written anew in a gap in which these children come.
+fn push_span<'t, 'a>(
+    alloc: Global,
+    out: &mut Vec<Change>,
+    plan: Plan<'_, 't, 'a>,
+    held: Held<'_, 't, 'a>,
+    new: &[Node<'a>],
+    span: Span,
+) -> Result<(), NoMemory> {
+    let behind = if span.is_last { None } else { Some(span.to) };
+    let gap = Gap {
+        place: span.place,
+        before: node_at(held.children, span.from.checked_sub(1)),
+        behind: node_at(held.children, behind),
+        gone: children_between(held.children, span.from, span.to),
+        new,
+        first: span.first,
+    };
+    push_gap(alloc, out, plan, held.signs, gap)
 }
 
 /// Appends what is written anew of a node's children.
@@ -200,39 +263,30 @@ fn push_children<'t, 'a>(
     out: &mut Vec<Change>,
     plan: Plan<'_, 't, 'a>,
     nodes: &'t [Node<'a>],
-    old: &'t Node<'a>,
+    held: Held<'_, 't, 'a>,
     block: Numbering,
 ) -> Result<(), NoMemory> {
-    let children = held(alloc, old)?;
-    let signs = signs_of(alloc, plan.known, old)?;
-    let mut line = Line::of(begun(alloc, old)?, block);
+    let mut line = Line::of(held.begun, block);
     for at in 0..nodes.len() {
         let child = &nodes[at];
         line = line.at(child);
-        let rest = part_of(children.as_slice(), line.from, children.len());
         let beside = Beside {
-            holder: old.id,
-            rest,
+            holder: held.number,
+            rest: children_between(held.children, line.from, held.children.len()),
             reached: line.reached,
         };
         let turn = next_turn(plan.known.index.as_slice(), beside, child);
         if let Some(place) = turn.gap {
-            let gone = part_of(rest, 0, turn.passed.saturating_sub(1));
-            let gap = line.gap(place, turn.standing, gone, part_of(nodes, line.came_from, at));
-            push_gap(alloc, out, plan, signs.as_str(), gap)?;
+            let new = nodes_between(nodes, line.came_from, at);
+            push_span(alloc, out, plan, held, new, line.span(place, turn.passed))?;
         }
         if let Some(within) = turn.within {
             push_node(alloc, out, plan, child, within, line.block.inside())?;
         }
-        line = line.behind(turn, at);
+        line = line.behind(turn.passed, turn.reached, at);
     }
-    let place = Slot {
-        start: line.reached.end,
-        end: inside_stop(old.ranges),
-    };
-    let gone = part_of(children.as_slice(), line.from, children.len());
-    let gap = line.gap(place, None, gone, part_of(nodes, line.came_from, nodes.len()));
-    push_gap(alloc, out, plan, signs.as_str(), gap)
+    let new = nodes_between(nodes, line.came_from, nodes.len());
+    push_span(alloc, out, plan, held, new, line.last_span(held))
 }
 
 /// Appends what is written anew of a node of the page that stays.
@@ -246,7 +300,17 @@ fn push_node<'t, 'a>(
     block: Numbering,
 ) -> Result<(), NoMemory> {
     push_inside(alloc, out, plan, block.number, new, old)?;
-    push_children(alloc, out, plan, new.children.as_slice(), old, block)
+    let children = held(alloc, old)?;
+    let signs = signs_of(alloc, plan.known, old)?;
+    let begun = begun(alloc, old)?;
+    let held = Held {
+        children: children.as_slice(),
+        signs: signs.as_str(),
+        number: old.id,
+        begun,
+        stop: inside_stop(old.ranges),
+    };
+    push_children(alloc, out, plan, new.children.as_slice(), held, block)
 }
 
 // ---- a proposal

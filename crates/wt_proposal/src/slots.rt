@@ -250,12 +250,11 @@ pub struct Beside<'w, 't, 'a> {
     pub reached: Reached,
 }
 
-/// What a child gives: the page's node that it is, where it stays in its turn; the gap before it, where that is a
-/// place; that node, where it may have places of its own; how far one has come behind it; and how many of the page's
-/// children are passed then.
+/// What a child gives: the gap before it, where that is a place; the page's node that it is, where it may have
+/// places of its own; how far one has come behind it; and how many of the page's children are passed then, which are
+/// none where it isn't in its turn.
 #[derive(Clone, Copy)]
 pub struct Turn<'t, 'a> {
-    pub standing: Option<&'t Node<'a>>,
     pub gap: Option<Slot>,
     pub within: Option<&'t Node<'a>>,
     pub reached: Reached,
@@ -282,7 +281,6 @@ fn turn_of<'t, 'a>(beside: Beside<'_, 't, 'a>, old: &'t Node<'a>, child: &Node<'
     let place = place_of(beside.rest, child.id);
     let differs = beside.reached.came || some_count(&beside.rest[..place]);
     Turn {
-        standing: Some(old),
         gap: gap(differs, beside.reached.end, start_of(old.ranges)),
         within: within(old, child),
         reached: reached_behind(old, beside.reached, child),
@@ -314,7 +312,6 @@ pub fn next_turn<'t, 'a>(
 {
     if !is_in_turn(index, beside.holder, beside.reached, child) {
         return Turn {
-            standing: None,
             gap: None,
             within: None,
             reached: reached_past(beside.reached, child),
@@ -394,7 +391,8 @@ fn push_places<'t, 'a>(
 {
     push_inside_place(alloc, out, old, new)?;
     let children = held(alloc, old)?;
-    push_along(alloc, out, index, new.children.as_slice(), old, children.as_slice())
+    push_along(alloc, out, index, new.children.as_slice(), old, children.as_slice())?;
+    Ok(())
 }
 
 /// The places of a page in which an edited tree differs from it, in the order of the page. `index` are the body and

@@ -31,10 +31,7 @@ fn lies_in(place: Slot, change: &Change) -> bool
 fn lies_at(places: &[Slot], at: usize, change: &Change) -> bool
     ensures { result ≡ true → LiesInOne places.now (change_view change.now) }
 {
-    match places.get(at) {
-        Some(place) => lies_in(*place, change),
-        None => false,
-    }
+    at < places.len() && lies_in(places[at], change)
 }
 
 /// Whether it stands behind this place, and doesn't end before it begins.
