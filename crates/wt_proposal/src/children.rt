@@ -1,6 +1,6 @@
 //! A list of children that is written anew: what goes, what comes, and the line breaks between.
 
-use crate::blocks::push_block;
+use crate::blocks::{Surroundings, push_block};
 use crate::known::{Known, last_text, signs_of};
 use crate::proposal::Rewrite;
 use std::alloc::Global;
@@ -169,7 +169,13 @@ fn new_source<'t, 'a>(
             _ => None,
         };
         let signs = signs_in(alloc, known, gap, new[at].node, outer)?;
-        push_block(alloc, &mut out, known, keeps, signs.as_str(), new[at].node, tail)?;
+        let around = Surroundings {
+            known,
+            keeps,
+            signs: signs.as_str(),
+            tail,
+        };
+        push_block(alloc, &mut out, around, new[at].node)?;
     }
     Ok(out)
 }

@@ -1,13 +1,13 @@
 //! Inline content as wikitext: what stood in the page as it stood, texts too, and what is new as `edit` spells it.
 
-use crate::common::{common_back, common_front};
 use crate::known::{Block, Known, first_text, last_text};
+use crate::texts::{push_letters, push_text};
 use std::alloc::Global;
 use wt_escape::{external_link_of, page_link_of};
 use wt_guards::{Place, Role, Setting, Stretch, Thing, Unit, spelling_of};
 use wt_kept::{Kept, Way, is_unchanged, shape, shown_text};
 use wt_span::{NoMemory, Str, Text};
-use wt_tree::{Kind, Node, flat, same_attrs};
+use wt_tree::{Kind, Node, flat, same_attrs, same_kind};
 
 /// How an inside is written: what is known of the page, the block in which it stands, whether texts keep their
 /// bytes, and what kind of block it is.
@@ -34,121 +34,17 @@ pub fn edges_of<'t, 'a>(nodes: &'t [Node<'a>]) -> Edges<'t, 'a> {
     }
 }
 
-// ---- texts
-
-/// The start in the page of a text that stands there as it is shown.
-fn start_of(text: &Node<'_>) -> Option<usize> {
-    match text.ranges {
-        None => None,
-        Some(ranges) => {
-            if (ranges.end - ranges.start) as usize == text.shown.as_str().len() {
-                Some(ranges.start as usize)
-            } else {
-                None
-            }
-        }
-    }
-}
-
-fn push_letters<'n>(out: &mut Vec<Unit<'n>>, text: &'n str) -> Result<(), NoMemory> {
-    if !text.is_empty() {
-        out.push(Unit::Text(text))?;
-    }
-    Ok(())
-}
-
-/// Appends characters that stand in the page as they stand.
-fn push_standing(
-    alloc: Global,
-    out: &mut Vec<Unit<'_>>,
-    text: &str,
-    start: usize,
-) -> Result<(), NoMemory> {
-    if text.is_empty() {
-        return Ok(());
-    }
-    let source = Str::copy_of(alloc, text)?;
-    out.push(Unit::Thing(Thing {
-        role: Role::Node,
-        source,
-        place: Some(Stretch {
-            start,
-            end: start + text.len(),
-        }),
-    }))?;
-    Ok(())
-}
-
-fn is_at(text: Option<&Node<'_>>, start: usize) -> bool {
-    match text {
-        None => false,
-        Some(text) => match start_of(text) {
-            None => false,
-            Some(found) => found == start,
+fn edges_in<'t, 'a>(kept: Option<Kept<'t, 'a>>) -> Edges<'t, 'a> {
+    match kept {
+        Some(kept) => edges_of(kept.node.children.as_slice()),
+        None => Edges {
+            first: None,
+            last: None,
         },
     }
 }
 
-/// The text without its last byte.
-fn shortened(text: &[u8]) -> &[u8] {
-    if text.is_empty() { text } else { &text[..text.len() - 1] }
-}
-
-/// How many bytes a text has in common with the front of one of the page, and where that one starts. Of the one
-/// text between two nodes the last character, where it stays, counts for the back.
-fn front_in(text: &str, old: Option<&Node<'_>>, right: Option<&Node<'_>>) -> (usize, usize) {
-    let Some(old) = old else {
-        return (0, 0);
-    };
-    let Some(start) = start_of(old) else {
-        return (0, 0);
-    };
-    let before = old.shown.as_str().as_bytes();
-    let after = text.as_bytes();
-    if before == after || !is_at(right, start) || before.last() != after.last() {
-        return (common_front(before, after), start);
-    }
-    (common_front(shortened(before), shortened(after)), start)
-}
-
-fn back_in(text: &str, old: Option<&Node<'_>>, from: usize, front: usize) -> (usize, usize) {
-    match old {
-        None => (0, 0),
-        Some(old) => match start_of(old) {
-            None => (0, 0),
-            Some(start) => {
-                let before = old.shown.as_str().as_bytes();
-                let most = if start == from && front > 0 {
-                    before.len() - front
-                } else {
-                    before.len()
-                };
-                let rest = &text.as_bytes()[front..];
-                let count = common_back(before, rest, most);
-                (count, start + before.len() - count)
-            }
-        },
-    }
-}
-
-/// Appends a text between two nodes: what it has in common with the page's texts next to these stands.
-fn push_text<'n>(
-    alloc: Global,
-    out: &mut Vec<Unit<'n>>,
-    text: &'n str,
-    left: Option<&Node<'_>>,
-    right: Option<&Node<'_>>,
-) -> Result<(), NoMemory> {
-    let (front, start) = front_in(text, left, right);
-    let (back, behind) = back_in(text, right, start, front);
-    let end = text.len() - back;
-    push_standing(alloc, out, &text[..front], start)?;
-    push_letters(out, &text[front..end])?;
-    push_standing(alloc, out, &text[end..], behind)?;
-    Ok(())
-}
-
-// ---- nodes
+// ---- one unit
 
 fn push_thing(
     out: &mut Vec<Unit<'_>>,
@@ -164,11 +60,16 @@ fn push_thing(
     Ok(())
 }
 
-fn joined(alloc: Global, texts: &[Text<'_>]) -> Result<Str, NoMemory> {
-    let mut out = Str::new(alloc);
+fn push_texts(out: &mut Str, texts: &[Text<'_>]) -> Result<(), NoMemory> {
     for text in texts {
         out.push_str(text.as_str())?;
     }
+    Ok(())
+}
+
+fn joined(alloc: Global, texts: &[Text<'_>]) -> Result<Str, NoMemory> {
+    let mut out = Str::new(alloc);
+    push_texts(&mut out, texts)?;
     Ok(out)
 }
 
@@ -179,33 +80,116 @@ fn place_of(kept: Option<Kept<'_, '_>>) -> Option<Stretch> {
     }
 }
 
-fn edges_in<'t, 'a>(kept: Option<Kept<'t, 'a>>) -> Edges<'t, 'a> {
-    match kept {
-        Some(kept) => edges_of(kept.node.children.as_slice()),
-        None => Edges {
-            first: None,
-            last: None,
-        },
-    }
-}
-
-fn is_of(kept: Option<Kept<'_, '_>>, kind: Kind) -> bool {
-    match kept {
-        Some(kept) => wt_tree::same_kind(kept.node.kind, kind),
-        None => false,
-    }
-}
-
-fn push_delimiter(
+/// Appends a node as it stood in the page.
+fn push_as_it_stood(
     alloc: Global,
     out: &mut Vec<Unit<'_>>,
-    sign: &str,
+    old: Kept<'_, '_>,
 ) -> Result<(), NoMemory> {
+    let source = flat(alloc, old.node)?;
+    push_thing(out, old.role, source, Some(old.place))
+}
+
+/// The same of a node that may not have stood there. What a link skips is no part of its text.
+fn push_kept(
+    alloc: Global,
+    out: &mut Vec<Unit<'_>>,
+    kept: Option<Kept<'_, '_>>,
+    kind: Kind,
+) -> Result<(), NoMemory> {
+    match kept {
+        Some(old) if !matches!(kind, Kind::Skip) => push_as_it_stood(alloc, out, old),
+        _ => Ok(()),
+    }
+}
+
+/// Appends a node as it stood in the page, where it shows what it showed; it says whether it does.
+fn push_if_unchanged(
+    alloc: Global,
+    out: &mut Vec<Unit<'_>>,
+    writing: Writing<'_, '_, '_>,
+    kept: Option<Kept<'_, '_>>,
+    node: &Node<'_>,
+) -> Result<bool, NoMemory> {
+    let Some(old) = kept else {
+        return Ok(false);
+    };
+    let Some(groups) = writing.known.groups(writing.block) else {
+        return Ok(false);
+    };
+    if !is_unchanged(alloc, groups, old, node)? {
+        return Ok(false);
+    }
+    push_as_it_stood(alloc, out, old)?;
+    Ok(true)
+}
+
+fn push_shown(alloc: Global, out: &mut Vec<Unit<'_>>, node: &Node<'_>) -> Result<(), NoMemory> {
+    let text = shown_text(alloc, node)?;
+    if !text.is_empty() {
+        out.push(Unit::Copied(Str::from_string(text)))?;
+    }
+    Ok(())
+}
+
+// ---- bold and italic
+
+fn push_toggle(alloc: Global, out: &mut Vec<Unit<'_>>, sign: &str) -> Result<(), NoMemory> {
     let source = Str::copy_of(alloc, sign)?;
     push_thing(out, Role::Toggle, source, None)
 }
 
+fn push_nowiki(alloc: Global, out: &mut Vec<Unit<'_>>) -> Result<(), NoMemory> {
+    let source = Str::copy_of(alloc, "<nowiki/>")?;
+    push_thing(out, Role::Node, source, None)
+}
+
+/// Appends the opening delimiter of a node of the page.
+fn push_opening(
+    alloc: Global,
+    out: &mut Vec<Unit<'_>>,
+    old: Kept<'_, '_>,
+) -> Result<(), NoMemory> {
+    let source = joined(alloc, old.node.opening.as_slice())?;
+    let length = source.as_str().len();
+    if length == 0 {
+        return Ok(());
+    }
+    let start = old.place.start;
+    let end = start.saturating_add(length);
+    push_thing(out, Role::Node, source, Some(Stretch { start, end }))
+}
+
+/// Appends its closing delimiter; a style that is open to its line's end has none.
+fn push_closing(
+    alloc: Global,
+    out: &mut Vec<Unit<'_>>,
+    old: Kept<'_, '_>,
+) -> Result<(), NoMemory> {
+    let source = joined(alloc, old.node.closing.as_slice())?;
+    let length = source.as_str().len();
+    if length == 0 {
+        return Ok(());
+    }
+    let end = old.place.end;
+    let start = end.saturating_sub(length);
+    push_thing(out, Role::Node, source, Some(Stretch { start, end }))
+}
+
+/// The page's node, where it is of the same kind and its delimiters stay.
+fn with_delimiters<'t, 'a>(
+    writing: Writing<'_, '_, '_>,
+    kept: Option<Kept<'t, 'a>>,
+    kind: Kind,
+) -> Option<Kept<'t, 'a>> {
+    match kept {
+        Some(old) if writing.keeps && same_kind(old.node.kind, kind) => Some(old),
+        _ => None,
+    }
+}
+
 /// Appends bold or italic: with its delimiters where the page has it.
+#[cycle(units)]
 fn push_style<'n, 't, 'a>(
     alloc: Global,
     out: &mut Vec<Unit<'n>>,
@@ -214,43 +198,25 @@ fn push_style<'n, 't, 'a>(
     kept: Option<Kept<'t, 'a>>,
     node: &'n Node<'_>,
 ) -> Result<(), NoMemory> {
-    let stood = is_of(kept, node.kind) && writing.keeps;
-    if let Some(old) = kept {
-        if stood {
-            let opening = joined(alloc, old.node.opening.as_slice())?;
-            let closing = joined(alloc, old.node.closing.as_slice())?;
-            let open_end = old.place.start + opening.as_str().len();
-            let close_start = old.place.end - closing.as_str().len();
-            let opened = Stretch {
-                start: old.place.start,
-                end: open_end,
-            };
-            let closed = Stretch {
-                start: close_start,
-                end: old.place.end,
-            };
-            if !opening.as_str().is_empty() {
-                push_thing(out, Role::Node, opening, Some(opened))?;
-            }
-            push_units(alloc, out, writing, node.children.as_slice(), edges_in(kept))?;
-            if !closing.as_str().is_empty() {
-                push_thing(out, Role::Node, closing, Some(closed))?;
-            }
-            return Ok(());
-        }
+    let nodes = node.children.as_slice();
+    if let Some(old) = with_delimiters(writing, kept, node.kind) {
+        push_opening(alloc, out, old)?;
+        push_units(alloc, out, writing, nodes, edges_in(kept))?;
+        return push_closing(alloc, out, old);
     }
-    push_delimiter(alloc, out, sign)?;
-    if node.children.as_slice().is_empty() {
-        let source = Str::copy_of(alloc, "<nowiki/>")?;
-        push_thing(out, Role::Node, source, None)?;
+    push_toggle(alloc, out, sign)?;
+    if nodes.is_empty() {
+        push_nowiki(alloc, out)?;
     }
-    push_units(alloc, out, writing, node.children.as_slice(), edges_in(kept))?;
-    push_delimiter(alloc, out, sign)
+    push_units(alloc, out, writing, nodes, edges_in(kept))?;
+    push_toggle(alloc, out, sign)
 }
+
+// ---- links and tags
 
 /// Whether the page's link stands as it did but for its text, and has one of its own.
 fn keeps_target(old: &Node<'_>, node: &Node<'_>) -> bool {
-    if !wt_tree::same_kind(old.kind, node.kind) || !same_attrs(&old.attrs, &node.attrs) {
+    if !same_kind(old.kind, node.kind) || !same_attrs(&old.attrs, &node.attrs) {
         return false;
     }
     match old.opening.as_slice().last() {
@@ -262,45 +228,33 @@ fn keeps_target(old: &Node<'_>, node: &Node<'_>) -> bool {
     }
 }
 
-fn within(
-    alloc: Global,
-    writing: Writing<'_, '_, '_>,
-    nodes: &[Node<'_>],
-    edges: Edges<'_, '_>,
-) -> Result<String, NoMemory> {
-    let mut units = Vec::new(alloc);
-    push_units(alloc, &mut units, writing, nodes, edges)?;
-    let setting = Setting {
-        within: true,
-        place: writing.place,
-        source: writing.known.whole.source.as_bytes(),
-    };
-    let inside = spelling_of(alloc, setting, units.as_slice())?;
-    Ok(inside)
-}
-
 fn pair_round(alloc: Global, old: &Node<'_>, inside: &str) -> Result<Str, NoMemory> {
     let mut out = joined(alloc, old.opening.as_slice())?;
     out.push_str(inside)?;
-    let closing = joined(alloc, old.closing.as_slice())?;
-    out.push_str(closing.as_str())?;
+    push_texts(&mut out, old.closing.as_slice())?;
     Ok(out)
 }
 
-/// A link or tag, new or changed.
-fn element_source(
+/// Whether an element has the delimiters of the page's round what it holds now.
+fn keeps_pair(way: Way, keeps: bool, old: &Node<'_>, node: &Node<'_>, inside: &str) -> bool {
+    match way {
+        Way::Tag => true,
+        _ => keeps && !inside.is_empty() && keeps_target(old, node),
+    }
+}
+
+fn source_round(
     alloc: Global,
     writing: Writing<'_, '_, '_>,
-    way: Way,
     kept: Option<Kept<'_, '_>>,
     node: &Node<'_>,
+    inside: &str,
 ) -> Result<Str, NoMemory> {
-    let inside = within(alloc, writing, node.children.as_slice(), edges_in(kept))?;
-    let inside = inside.as_str();
-    if let Some(old) = kept {
-        if matches!(way, Way::Tag) || (writing.keeps && !inside.is_empty() && keeps_target(old.node, node)) {
-            return pair_round(alloc, old.node, inside);
-        }
+    let way = shape(node.kind).way;
+    if let Some(old) = kept
+        && keeps_pair(way, writing.keeps, old.node, node, inside)
+    {
+        return pair_round(alloc, old.node, inside);
     }
     match way {
         Way::PageLink => page_link_of(alloc, node, inside),
@@ -318,33 +272,41 @@ fn role_of(way: Way) -> Role {
     }
 }
 
-fn push_shown(alloc: Global, out: &mut Vec<Unit<'_>>, node: &Node<'_>) -> Result<(), NoMemory> {
-    let text = shown_text(alloc, node)?;
-    if !text.is_empty() {
-        out.push(Unit::Copied(Str::from_string(text)))?;
-    }
-    Ok(())
-}
-
-/// Appends a node as it stood in the page, where it shows what it showed; it says whether it does.
-fn push_if_unchanged(
+/// Appends a link or tag that is new or changed.
+#[cycle(units)]
+fn push_element(
     alloc: Global,
     out: &mut Vec<Unit<'_>>,
     writing: Writing<'_, '_, '_>,
     kept: Option<Kept<'_, '_>>,
     node: &Node<'_>,
-) -> Result<bool, NoMemory> {
-    let Some(old) = kept else {
-        return Ok(false);
-    };
-    let same = is_unchanged(alloc, &writing.known.whole, old, node)?;
-    if same {
-        let source = flat(alloc, old.node)?;
-        push_thing(out, old.role, source, Some(old.place))?;
-    }
-    Ok(same)
+) -> Result<(), NoMemory> {
+    let inside = within(alloc, writing, node.children.as_slice(), edges_in(kept))?;
+    let source = source_round(alloc, writing, kept, node, inside.as_str())?;
+    push_thing(out, role_of(shape(node.kind).way), source, place_of(kept))
 }
 
+/// The inside of a link or tag.
+#[cycle(units)]
+fn within(
+    alloc: Global,
+    writing: Writing<'_, '_, '_>,
+    nodes: &[Node<'_>],
+    edges: Edges<'_, '_>,
+) -> Result<String, NoMemory> {
+    let units = units_of(alloc, writing, nodes, edges)?;
+    let setting = Setting {
+        within: true,
+        place: writing.place,
+        source: writing.known.page.as_bytes(),
+    };
+    let inside = spelling_of(alloc, setting, units.as_slice())?;
+    Ok(inside)
+}
+
+// ---- all nodes
+
+#[cycle(units)]
 fn push_node<'n, 't, 'a>(
     alloc: Global,
     out: &mut Vec<Unit<'n>>,
@@ -352,40 +314,63 @@ fn push_node<'n, 't, 'a>(
     node: &'n Node<'_>,
 ) -> Result<(), NoMemory> {
     let kept = writing.known.find(writing.block, node.id);
-    let way = shape(node.kind).way;
-    match way {
+    match shape(node.kind).way {
         Way::Nothing => Ok(()),
         Way::Characters => push_letters(out, node.shown.as_str()),
         Way::Bold => push_style(alloc, out, writing, "'''", kept, node),
         Way::Italic => push_style(alloc, out, writing, "''", kept, node),
-        Way::AsItStood => {
-            // What a link skips is no part of its text.
-            if matches!(node.kind, Kind::Skip) {
+        Way::AsItStood => push_kept(alloc, out, kept, node.kind),
+        Way::Shown => {
+            if push_if_unchanged(alloc, out, writing, kept, node)? {
                 return Ok(());
             }
-            if let Some(old) = kept {
-                let source = flat(alloc, old.node)?;
-                push_thing(out, old.role, source, Some(old.place))?;
-            }
-            Ok(())
-        }
-        Way::Shown => {
-            if !push_if_unchanged(alloc, out, writing, kept, node)? {
-                push_shown(alloc, out, node)?;
-            }
-            Ok(())
+            push_shown(alloc, out, node)
         }
         Way::PageLink | Way::ExternalLink | Way::Tag | Way::Break => {
-            if !push_if_unchanged(alloc, out, writing, kept, node)? {
-                let source = element_source(alloc, writing, way, kept, node)?;
-                push_thing(out, role_of(way), source, place_of(kept))?;
+            if push_if_unchanged(alloc, out, writing, kept, node)? {
+                return Ok(());
             }
-            Ok(())
+            push_element(alloc, out, writing, kept, node)
         }
     }
 }
 
+fn is_text(node: &Node<'_>) -> bool {
+    matches!(node.kind, Kind::Text)
+}
+
+fn before<'n, 'a>(nodes: &'n [Node<'a>], at: usize) -> Option<&'n Node<'a>> {
+    nodes.get(at.checked_sub(1)?)
+}
+
+/// The page's text behind the node before a place, or at the edge.
+fn text_left<'t, 'a>(
+    writing: Writing<'_, 't, 'a>,
+    nodes: &[Node<'_>],
+    at: usize,
+    edges: Edges<'t, 'a>,
+) -> Option<&'t Node<'a>> {
+    match before(nodes, at) {
+        Some(node) => writing.known.behind(writing.block, node.id),
+        None => edges.first,
+    }
+}
+
+/// The page's text before the node behind a place, or at the edge.
+fn text_right<'t, 'a>(
+    writing: Writing<'_, 't, 'a>,
+    nodes: &[Node<'_>],
+    at: usize,
+    edges: Edges<'t, 'a>,
+) -> Option<&'t Node<'a>> {
+    match nodes.get(at + 1) {
+        Some(node) => writing.known.before(writing.block, node.id),
+        None => edges.last,
+    }
+}
+
 /// Appends the units of nodes between two edges.
+#[cycle(units)]
 fn push_units<'n, 't, 'a>(
     alloc: Global,
     out: &mut Vec<Unit<'n>>,
@@ -395,24 +380,28 @@ fn push_units<'n, 't, 'a>(
 ) -> Result<(), NoMemory> {
     for at in 0..nodes.len() {
         let node = &nodes[at];
-        let is_text = matches!(node.kind, Kind::Text);
-        if !is_text || !writing.keeps {
-            push_node(alloc, out, writing, node)?;
-        } else {
-            let left = if at == 0 {
-                edges.first
-            } else {
-                writing.known.behind(nodes[at - 1].id)
-            };
-            let right = if at + 1 == nodes.len() {
-                edges.last
-            } else {
-                writing.known.before(nodes[at + 1].id)
-            };
+        if is_text(node) && writing.keeps {
+            let left = text_left(writing, nodes, at, edges);
+            let right = text_right(writing, nodes, at, edges);
             push_text(alloc, out, node.shown.as_str(), left, right)?;
+        } else {
+            push_node(alloc, out, writing, node)?;
         }
     }
     Ok(())
+}
+
+/// The units of nodes between two edges.
+#[cycle(units)]
+fn units_of<'n, 't, 'a>(
+    alloc: Global,
+    writing: Writing<'_, 't, 'a>,
+    nodes: &'n [Node<'_>],
+    edges: Edges<'t, 'a>,
+) -> Result<Vec<Unit<'n>>, NoMemory> {
+    let mut units = Vec::new(alloc);
+    push_units(alloc, &mut units, writing, nodes, edges)?;
+    Ok(units)
 }
 
 /// Inline nodes as the inside of a block.
@@ -422,12 +411,11 @@ pub fn spelled(
     nodes: &[Node<'_>],
     edges: Edges<'_, '_>,
 ) -> Result<Str, NoMemory> {
-    let mut units = Vec::new(alloc);
-    push_units(alloc, &mut units, writing, nodes, edges)?;
+    let units = units_of(alloc, writing, nodes, edges)?;
     let setting = Setting {
         within: false,
         place: writing.place,
-        source: writing.known.whole.source.as_bytes(),
+        source: writing.known.page.as_bytes(),
     };
     let out = spelling_of(alloc, setting, units.as_slice())?;
     Ok(Str::from_string(out))

@@ -8,6 +8,7 @@ mod common;
 mod inline;
 mod known;
 mod proposal;
+mod texts;
 
 pub use known::Known;
 pub use proposal::{Keeping, propose};
