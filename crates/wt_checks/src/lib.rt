@@ -16,6 +16,7 @@ mod unmarked;
 mod visit;
 mod written;
 
+pub use alike::{same_attrs, same_data, same_kind};
 pub use checking::{check, check_nodes, numbered_nodes};
 pub use editing::Editing;
 pub use index::original;
