@@ -4,10 +4,12 @@
 
 mod children;
 mod compare;
+mod kept_marks;
 mod laws;
 mod shown_node;
 
 pub use children::{Child, held_nodes, is_group, shown_nodes};
 pub use compare::{first_of_children, shows_same};
-pub use laws::{differing_is_first, nodes_are_told};
+pub use kept_marks::keeps_marks;
+pub use laws::{differing_is_first, marks_show_nothing, nodes_are_told};
 pub use shown_node::ShownNode;
