@@ -4,7 +4,7 @@ use Rattle.wt_tree.specs.Tree.{Tree, tree, none}
 use Rattle.wt_tree.specs.declared.kind.Kind.TheVariants as kind
 use Rattle.wt_checks.specs.Places.{places, page_of}
 use Rattle.wt_checks.proofs.Cases.{blank, body, node, words, group}
-use Rattle.wt_shown.specs.KeptMarks.{mark_sources, marks_still, IsWithin, KeepsMarks}
+use Rattle.wt_shown.specs.KeptMarks.{mark_sources, marks_still, KeepsMarks}
 
 abbrev comment : ℕ → List ℕ → Tree
 comment n bs = tree (record (blank kind.Comment n) { own = bs }) none

@@ -1,5 +1,5 @@
 -- Whether one list is left of another where some members are left out, found from left to right.
-use Rattle.std.proofs.Common.{arith, ◌≡◌, ◌<◌, ◌≤◌, ℕ, zero, suc, ◌+◌, Bool, true, false, List, [], ◌∷◌, length, drop, get_or, refl, sym, ap, ◌∙◌, subst, inl, inr, ◌⊎◌}
+use Rattle.std.proofs.Common.{arith, ◌≡◌, ◌<◌, ◌≤◌, ℕ, zero, suc, ◌+◌, true, List, [], ◌∷◌, length, drop, get_or, refl, sym, ap, ◌∙◌, subst, inl, inr}
 use Rattle.std.specs.Prelude.{◌↔◌, ◌==◌}
 use Rattle.std.specs.Bool.{Decides}
 use Rattle.std.proofs.lemmas.Bool.Decides.{nat_tests}
@@ -37,9 +37,10 @@ abbrev pub Same : List (List ℕ) → List (List ℕ) → List (List ℕ) → Li
 Same xs ys us vs = IsWithin xs ys ↔ IsWithin us vs
 
 same_by : (xs us vs zs : List (List ℕ)) (y : List ℕ) (ws : List (List ℕ)) → xs ≡ us → vs ≡ zs → Same us (y ∷ ws) zs ws → Same xs (y ∷ ws) vs ws
-same_by xs us vs zs y ws e f h =
-    (λ k. subst (λ (r : List (List ℕ)). IsWithin r ws) (sym f) (h.0 (subst (λ (r : List (List ℕ)). IsWithin r (y ∷ ws)) e k)),
-    λ k. subst (λ (r : List (List ℕ)). IsWithin r (y ∷ ws)) (sym e) (h.1 (subst (λ (r : List (List ℕ)). IsWithin r ws) f k)))
+same_by xs us vs zs y ws e f h = (
+  λ k. subst (λ (r : List (List ℕ)). IsWithin r ws) (sym f) (h.0 (subst (λ (r : List (List ℕ)). IsWithin r (y ∷ ws)) e k)),
+  λ k. subst (λ (r : List (List ℕ)). IsWithin r (y ∷ ws)) (sym e) (h.1 (subst (λ (r : List (List ℕ)). IsWithin r ws) f k)),
+)
 
 -- none is left to be found
 pub all_found : (xs : List (List ℕ)) (n : ℕ) (y : List ℕ) (ys : List (List ℕ)) → length xs ≤ n → Same (drop n xs) (y ∷ ys) (drop n xs) ys
@@ -64,9 +65,10 @@ next_other xs n x y ys lt is e =
 pub turned : (xs ys : List (List ℕ)) (i n m : ℕ) (y : List ℕ) → i < length ys → y ≡ get_or ys i y → Same xs ys (drop n xs) (drop i ys)
     → Same (drop n xs) (y ∷ drop (i + 1) ys) (drop m xs) (drop (i + 1) ys) → Same xs ys (drop m xs) (drop (i + 1) ys)
 turned xs ys i n m y lt is h k =
-    let d : drop i ys ≡ y ∷ drop (i + 1) ys = drop_more ys i y lt ∙ ap (λ z. z ∷ drop (i + 1) ys) (sym is) in
-    (λ w. k.0 (subst (λ (r : List (List ℕ)). IsWithin (drop n xs) r) d (h.0 w)),
-    λ w. h.1 (subst (λ (r : List (List ℕ)). IsWithin (drop n xs) r) (sym d) (k.1 w)))
+    let d : drop i ys ≡ y ∷ drop (i + 1) ys = drop_more ys i y lt ∙ ap (λ z. z ∷ drop (i + 1) ys) (sym is) in (
+      λ w. k.0 (subst (λ (r : List (List ℕ)). IsWithin (drop n xs) r) d (h.0 w)),
+      λ w. h.1 (subst (λ (r : List (List ℕ)). IsWithin (drop n xs) r) (sym d) (k.1 w)),
+    )
 
 left_none : (xs : List (List ℕ)) (n : ℕ) → n ≤ length xs → IsWithin (drop n xs) [] → n ≡ length xs
 left_none [] zero le h = refl

@@ -1,5 +1,5 @@
-//! What bodies show, child by child, and the first child in which two of them differ. In an edited tree a
-//! group shows what the page's group of its number does.
+//! What bodies show, child by child, and the first child in which two of them differ; whether comments and
+//! include tags stay. In an edited tree a group shows what the page's group of its number does.
 #![tactic(auto)]
 
 mod children;
