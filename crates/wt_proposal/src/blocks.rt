@@ -298,7 +298,10 @@ fn push_lines(
 }
 
 fn is_item_or_list(kind: Kind) -> bool {
-    matches!(kind, Kind::Ul | Kind::Ol | Kind::Dl | Kind::Li | Kind::Dt | Kind::Dd)
+    matches!(
+        kind,
+        Kind::Ul | Kind::Ol | Kind::Dl | Kind::Li | Kind::Dt | Kind::Dd
+    )
 }
 
 /// Appends a block as it stood in the page, where it stood there as it is; it says whether it does. An item

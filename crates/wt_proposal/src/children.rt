@@ -104,7 +104,9 @@ fn past_breaks(page: &str, from: u32, to: u32) -> u32 {
     let bytes = page.as_bytes();
     let mut at = from;
     while at < to
-        && (bytes[at as usize] == b'\n' || bytes[at as usize] == b' ' || bytes[at as usize] == b'\t')
+        && (bytes[at as usize] == b'\n'
+            || bytes[at as usize] == b' '
+            || bytes[at as usize] == b'\t')
     {
         at += 1;
     }
@@ -112,7 +114,11 @@ fn past_breaks(page: &str, from: u32, to: u32) -> u32 {
 }
 
 fn missing(wanted: usize, standing: usize) -> usize {
-    if wanted > standing { wanted - standing } else { 0 }
+    if wanted > standing {
+        wanted - standing
+    } else {
+        0
+    }
 }
 
 /// The signs with which an item of this list begins: those of the items that stand there.
@@ -180,12 +186,7 @@ fn new_source<'t, 'a>(
     Ok(out)
 }
 
-fn push_rewrite(
-    out: &mut Vec<Rewrite>,
-    start: u32,
-    end: u32,
-    by: Str,
-) -> Result<(), NoMemory> {
+fn push_rewrite(out: &mut Vec<Rewrite>, start: u32, end: u32, by: Str) -> Result<(), NoMemory> {
     out.push(Rewrite { start, end, by })?;
     Ok(())
 }

@@ -145,11 +145,7 @@ fn push_nowiki(alloc: Global, out: &mut Vec<Unit<'_>>) -> Result<(), NoMemory> {
 }
 
 /// Appends the opening delimiter of a node of the page.
-fn push_opening(
-    alloc: Global,
-    out: &mut Vec<Unit<'_>>,
-    old: Kept<'_, '_>,
-) -> Result<(), NoMemory> {
+fn push_opening(alloc: Global, out: &mut Vec<Unit<'_>>, old: Kept<'_, '_>) -> Result<(), NoMemory> {
     let source = joined(alloc, old.node.opening.as_slice())?;
     let length = source.as_str().len();
     if length == 0 {
@@ -161,11 +157,7 @@ fn push_opening(
 }
 
 /// Appends its closing delimiter; a style that is open to its line's end has none.
-fn push_closing(
-    alloc: Global,
-    out: &mut Vec<Unit<'_>>,
-    old: Kept<'_, '_>,
-) -> Result<(), NoMemory> {
+fn push_closing(alloc: Global, out: &mut Vec<Unit<'_>>, old: Kept<'_, '_>) -> Result<(), NoMemory> {
     let source = joined(alloc, old.node.closing.as_slice())?;
     let length = source.as_str().len();
     if length == 0 {
@@ -214,85 +206,146 @@ fn push_style<'n, 't, 'a>(
 
 // ---- links and tags
 
-/// Whether the page's link stands as it did but for its text, and has one of its own.
-fn keeps_target(old: &Node<'_>, node: &Node<'_>) -> bool {
-    if !same_kind(old.kind, node.kind) || !same_attrs(&old.attrs, &node.attrs) {
-        return false;
-    }
-    match old.opening.as_slice().last() {
-        None => false,
-        Some(text) => {
-            let bytes = text.as_str().as_bytes();
-            bytes.ends_with(b"|") || bytes.ends_with(b" ")
-        }
-    }
-}
-
-fn pair_round(alloc: Global, old: &Node<'_>, inside: &str) -> Result<Str, NoMemory> {
+/// A changed tag with its old delimiters.
+fn tag_round(alloc: Global, old: &Node<'_>, inside: &str) -> Result<Str, NoMemory> {
     let mut out = joined(alloc, old.opening.as_slice())?;
     out.push_str(inside)?;
     push_texts(&mut out, old.closing.as_slice())?;
     Ok(out)
 }
 
-/// Whether an element has the delimiters of the page's round what it holds now.
-fn keeps_pair(way: Way, keeps: bool, old: &Node<'_>, node: &Node<'_>, inside: &str) -> bool {
-    match way {
-        Way::Tag => true,
-        _ => keeps && !inside.is_empty() && keeps_target(old, node),
+/// Whether a link's opening delimiter has its target, and its text stands behind it.
+fn has_target(opening: &str) -> bool {
+    let bytes = opening.as_bytes();
+    bytes.ends_with(b"|") || bytes.ends_with(b" ")
+}
+
+/// Appends the target of a link that has no text of its own: what stands in it up to its brackets. It says
+/// whether that is the target alone.
+fn push_target(alloc: Global, out: &mut Str, nodes: &[Node<'_>]) -> Result<bool, NoMemory> {
+    for node in nodes {
+        match node.kind {
+            Kind::Text | Kind::Entity => {
+                let source = flat(alloc, node)?;
+                out.push_str(source.as_str())?;
+            }
+            Kind::Skip => return Ok(true),
+            _ => return Ok(false),
+        }
+    }
+    Ok(true)
+}
+
+/// What stands before the text of a link of the page; of one without a text its target and a new `|`. None where
+/// there is no such thing.
+fn target_of(alloc: Global, old: &Node<'_>) -> Result<Option<Str>, NoMemory> {
+    let mut out = joined(alloc, old.opening.as_slice())?;
+    if has_target(out.as_str()) {
+        return Ok(Some(out));
+    }
+    if !matches!(old.kind, Kind::WikiLink) {
+        return Ok(None);
+    }
+    if !push_target(alloc, &mut out, old.children.as_slice())? {
+        return Ok(None);
+    }
+    out.push_str("|")?;
+    Ok(Some(out))
+}
+
+/// Appends the closing delimiter of a link of the page; where letters behind its brackets were part of its text,
+/// these stand in it.
+fn push_link_end(out: &mut Str, old: &Node<'_>) -> Result<(), NoMemory> {
+    if matches!(old.kind, Kind::WikiLink) && old.closing.as_slice().is_empty() {
+        return out.push_str("]]");
+    }
+    push_texts(out, old.closing.as_slice())
+}
+
+/// A link of the page whose text alone was changed: its target stands as it was written. None where the target
+/// was changed, too, or no text is left.
+fn link_round(
+    alloc: Global,
+    old: &Node<'_>,
+    node: &Node<'_>,
+    inside: &str,
+) -> Result<Option<Str>, NoMemory> {
+    let is_same = same_kind(old.kind, node.kind) && same_attrs(&old.attrs, &node.attrs);
+    if !is_same || inside.is_empty() {
+        return Ok(None);
+    }
+    let Some(mut out) = target_of(alloc, old)? else {
+        return Ok(None);
+    };
+    out.push_str(inside)?;
+    push_link_end(&mut out, old)?;
+    Ok(Some(out))
+}
+
+fn new_source(alloc: Global, node: &Node<'_>, inside: &str) -> Result<Str, NoMemory> {
+    match shape(node.kind).way {
+        Way::PageLink => page_link_of(alloc, node, inside),
+        Way::ExternalLink => external_link_of(alloc, node, inside),
+        Way::Break => Str::copy_of(alloc, "<br>"),
+        Way::Nothing
+        | Way::Characters
+        | Way::Bold
+        | Way::Italic
+        | Way::Shown
+        | Way::Tag
+        | Way::AsItStood => Str::copy_of(alloc, inside),
     }
 }
 
+/// The source of a link or tag round what it holds now.
 fn source_round(
     alloc: Global,
-    writing: Writing<'_, '_, '_>,
+    keeps: bool,
     kept: Option<Kept<'_, '_>>,
     node: &Node<'_>,
     inside: &str,
 ) -> Result<Str, NoMemory> {
-    let way = shape(node.kind).way;
-    if let Some(old) = kept
-        && keeps_pair(way, writing.keeps, old.node, node, inside)
-    {
-        return pair_round(alloc, old.node, inside);
+    let Some(old) = kept else {
+        return new_source(alloc, node, inside);
+    };
+    if matches!(node.kind, Kind::Tag(_)) {
+        return tag_round(alloc, old.node, inside);
     }
-    match way {
-        Way::PageLink => page_link_of(alloc, node, inside),
-        Way::ExternalLink => external_link_of(alloc, node, inside),
-        Way::Break => Str::copy_of(alloc, "<br>"),
-        _ => Str::copy_of(alloc, inside),
+    if keeps && let Some(source) = link_round(alloc, old.node, node, inside)? {
+        return Ok(source);
     }
+    new_source(alloc, node, inside)
 }
 
-fn role_of(way: Way) -> Role {
-    match way {
-        Way::PageLink => Role::Link,
-        Way::ExternalLink => Role::External,
+fn role_of(kind: Kind) -> Role {
+    match kind {
+        Kind::WikiLink => Role::Link,
+        Kind::ExtLink => Role::External,
         _ => Role::Node,
     }
 }
 
 /// Appends a link or tag that is new or changed.
 #[cycle(units)]
-fn push_element(
+fn push_element<'t, 'a>(
     alloc: Global,
     out: &mut Vec<Unit<'_>>,
-    writing: Writing<'_, '_, '_>,
-    kept: Option<Kept<'_, '_>>,
+    writing: Writing<'_, 't, 'a>,
+    kept: Option<Kept<'t, 'a>>,
     node: &Node<'_>,
 ) -> Result<(), NoMemory> {
     let inside = within(alloc, writing, node.children.as_slice(), edges_in(kept))?;
-    let source = source_round(alloc, writing, kept, node, inside.as_str())?;
-    push_thing(out, role_of(shape(node.kind).way), source, place_of(kept))
+    let source = source_round(alloc, writing.keeps, kept, node, inside.as_str())?;
+    push_thing(out, role_of(node.kind), source, place_of(kept))
 }
 
 /// The inside of a link or tag.
 #[cycle(units)]
-fn within(
+fn within<'t, 'a>(
     alloc: Global,
-    writing: Writing<'_, '_, '_>,
+    writing: Writing<'_, 't, 'a>,
     nodes: &[Node<'_>],
-    edges: Edges<'_, '_>,
+    edges: Edges<'t, 'a>,
 ) -> Result<String, NoMemory> {
     let units = units_of(alloc, writing, nodes, edges)?;
     let setting = Setting {
@@ -343,6 +396,10 @@ fn before<'n, 'a>(nodes: &'n [Node<'a>], at: usize) -> Option<&'n Node<'a>> {
     nodes.get(at.checked_sub(1)?)
 }
 
+fn behind<'n, 'a>(nodes: &'n [Node<'a>], at: usize) -> Option<&'n Node<'a>> {
+    nodes.get(at.checked_add(1)?)
+}
+
 /// The page's text behind the node before a place, or at the edge.
 fn text_left<'t, 'a>(
     writing: Writing<'_, 't, 'a>,
@@ -363,7 +420,7 @@ fn text_right<'t, 'a>(
     at: usize,
     edges: Edges<'t, 'a>,
 ) -> Option<&'t Node<'a>> {
-    match nodes.get(at + 1) {
+    match behind(nodes, at) {
         Some(node) => writing.known.before(writing.block, node.id),
         None => edges.last,
     }
@@ -405,11 +462,11 @@ fn units_of<'n, 't, 'a>(
 }
 
 /// Inline nodes as the inside of a block.
-pub fn spelled(
+pub fn spelled<'t, 'a>(
     alloc: Global,
-    writing: Writing<'_, '_, '_>,
+    writing: Writing<'_, 't, 'a>,
     nodes: &[Node<'_>],
-    edges: Edges<'_, '_>,
+    edges: Edges<'t, 'a>,
 ) -> Result<Str, NoMemory> {
     let units = units_of(alloc, writing, nodes, edges)?;
     let setting = Setting {

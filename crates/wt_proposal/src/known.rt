@@ -9,18 +9,19 @@ ghost use Rattle.wt_tree.specs.declared.kind.Kind.TheVariants as kind;
 use std::alloc::Global;
 use wt_checks::{Visit, numbered_nodes, original};
 use wt_difference::is_block_part;
-use wt_guards::Stretch;
+use wt_guards::{Role, Stretch};
 use wt_kept::{Kept, Page, page_of_block};
 use wt_span::{NoMemory, Str};
 use wt_tree::{Kind, Node};
 
 // ---- texts beside nodes
 
-/// The texts directly before and behind a node of the page.
+/// The texts directly before and behind a node of the page, and whether nothing stands behind it in what holds it.
 #[derive(Clone, Copy)]
 pub struct Sides<'t, 'a> {
     pub before: Option<&'t Node<'a>>,
     pub behind: Option<&'t Node<'a>>,
+    pub is_last: bool,
 }
 
 /// A node, where it is a text.
@@ -53,15 +54,17 @@ fn text_at<'t, 'a>(nodes: &'t [Node<'a>], at: usize) -> Option<&'t Node<'a>> {
 }
 
 /// Appends the sides of all nodes with a number that these are and hold, in preorder.
-fn push_sides<'t, 'a>(
-    out: &mut Vec<Sides<'t, 'a>>,
-    nodes: &'t [Node<'a>],
-) -> Result<(), NoMemory> {
+fn push_sides<'t, 'a>(out: &mut Vec<Sides<'t, 'a>>, nodes: &'t [Node<'a>]) -> Result<(), NoMemory> {
     let mut before = None;
     for at in 0..nodes.len() {
         if nodes[at].id != 0 {
             let behind = text_at(nodes, at + 1);
-            out.push(Sides { before, behind })?;
+            let is_last = at + 1 == nodes.len();
+            out.push(Sides {
+                before,
+                behind,
+                is_last,
+            })?;
         }
         push_sides(out, nodes[at].children.as_slice())?;
         before = text_at(nodes, at);
@@ -86,6 +89,7 @@ fn sides_in<'t, 'a>(alloc: Global, node: &'t Node<'a>) -> Result<Vec<Sides<'t, '
     let own: Sides<'t, 'a> = Sides {
         before: None,
         behind: None,
+        is_last: false,
     };
     let mut sides = Vec::new(alloc);
     sides.push(own)?;
@@ -123,10 +127,34 @@ impl<'t, 'a> Block<'t, 'a> {
         })
     }
 
+    /// The same where the block is the whole page: the node comes from a block of its own.
+    fn find_anywhere(&self, number: u32) -> Option<Kept<'t, 'a>> {
+        let kept = self.find(number)?;
+        match self.sides_of(number) {
+            Some(sides) if sides.is_last => Some(Kept {
+                node: kept.node,
+                role: at_end(kept.role),
+                place: kept.place,
+            }),
+            _ => Some(kept),
+        }
+    }
+
     /// The texts beside the block's node of this number.
     fn sides_of(&self, number: u32) -> Option<Sides<'t, 'a>> {
         let place = number.checked_sub(self.first)?;
         self.sides.get(place as usize).copied()
+    }
+}
+
+/// A node that ended what held it may end a block again.
+fn at_end(role: Role) -> Role {
+    match role {
+        Role::Group(mut group) => {
+            group.ended_content = true;
+            Role::Group(group)
+        }
+        other => other,
     }
 }
 
@@ -244,7 +272,7 @@ impl<'t, 'a> Known<'t, 'a> {
             return Some(kept);
         }
         match &self.whole {
-            Some(whole) => whole.find(number),
+            Some(whole) => whole.find_anywhere(number),
             None => None,
         }
     }

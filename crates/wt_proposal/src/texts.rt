@@ -85,7 +85,10 @@ fn back_in(rest: &[u8], right: Option<PageText<'_>>, front: Common) -> Common {
     let length = common_back(old.text, rest, most);
     Common {
         length,
-        start: old.start.saturating_add(old.text.len()).saturating_sub(length),
+        start: old
+            .start
+            .saturating_add(old.text.len())
+            .saturating_sub(length),
     }
 }
 
