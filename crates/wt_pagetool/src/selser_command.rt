@@ -60,7 +60,7 @@ fn new_page<'a, F: Folder>(
     if let Some(check) = refused {
         return Err(Refusal::Checked(check));
     }
-    let known = Known::of(alloc, page, tree, edited)?;
+    let known = Known::of(alloc, tree)?;
     let first = propose(alloc, &known, page, edited, Keeping::Everywhere)?;
     let read = read_back(alloc, &first, tree, edited, arena, folder, found.expansion)?;
     let Some(block) = read.differing else {

@@ -1,6 +1,6 @@
 //! A list of children that is written anew: what goes, what comes, and the line breaks between.
 
-use crate::blocks::{Surroundings, push_block};
+use crate::blocks::push_block;
 use crate::known::{Known, last_text, signs_of};
 use crate::proposal::Rewrite;
 use std::alloc::Global;
@@ -104,9 +104,7 @@ fn past_breaks(page: &str, from: u32, to: u32) -> u32 {
     let bytes = page.as_bytes();
     let mut at = from;
     while at < to
-        && (bytes[at as usize] == b'\n'
-            || bytes[at as usize] == b' '
-            || bytes[at as usize] == b'\t')
+        && (bytes[at as usize] == b'\n' || bytes[at as usize] == b' ' || bytes[at as usize] == b'\t')
     {
         at += 1;
     }
@@ -114,11 +112,7 @@ fn past_breaks(page: &str, from: u32, to: u32) -> u32 {
 }
 
 fn missing(wanted: usize, standing: usize) -> usize {
-    if wanted > standing {
-        wanted - standing
-    } else {
-        0
-    }
+    if wanted > standing { wanted - standing } else { 0 }
 }
 
 /// The signs with which an item of this list begins: those of the items that stand there.
@@ -175,18 +169,17 @@ fn new_source<'t, 'a>(
             _ => None,
         };
         let signs = signs_in(alloc, known, gap, new[at].node, outer)?;
-        let around = Surroundings {
-            known,
-            keeps,
-            signs: signs.as_str(),
-            tail,
-        };
-        push_block(alloc, &mut out, around, new[at].node)?;
+        push_block(alloc, &mut out, known, keeps, signs.as_str(), new[at].node, tail)?;
     }
     Ok(out)
 }
 
-fn push_rewrite(out: &mut Vec<Rewrite>, start: u32, end: u32, by: Str) -> Result<(), NoMemory> {
+fn push_rewrite(
+    out: &mut Vec<Rewrite>,
+    start: u32,
+    end: u32,
+    by: Str,
+) -> Result<(), NoMemory> {
     out.push(Rewrite { start, end, by })?;
     Ok(())
 }

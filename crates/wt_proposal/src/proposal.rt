@@ -110,7 +110,6 @@ fn children_start(alloc: Global, node: &Node<'_>) -> Result<u32, NoMemory> {
 }
 
 /// Appends what is written anew of a node's children.
-#[cycle(children)]
 fn push_children<'t, 'a>(
     alloc: Global,
     out: &mut Vec<Rewrite>,
@@ -191,7 +190,6 @@ fn push_children<'t, 'a>(
 
 /// Appends what is written anew of a node that stays. `number` is that of its block in the edited body, 0 for
 /// the body itself.
-#[cycle(children)]
 fn push_node<'t, 'a>(
     alloc: Global,
     out: &mut Vec<Rewrite>,
