@@ -23,12 +23,7 @@ pub struct Surroundings<'w, 't, 'a> {
 impl<'w, 't, 'a> Surroundings<'w, 't, 'a> {
     /// How the inside of a block of this kind is written; `block` is the one that stood in the page.
     fn writing(self, block: Option<&'w Block<'t, 'a>>, kind: Kind) -> Writing<'w, 't, 'a> {
-        Writing {
-            known: self.known,
-            block,
-            keeps: self.keeps,
-            place: place_in(kind),
-        }
+        Writing::of(self.known, block, self.keeps, place_in(kind))
     }
 
     /// The same for what stands in the block.

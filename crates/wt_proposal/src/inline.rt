@@ -19,6 +19,22 @@ pub struct Writing<'w, 't, 'a> {
     pub place: Place,
 }
 
+impl<'w, 't, 'a> Writing<'w, 't, 'a> {
+    pub fn of(
+        known: &'w Known<'t, 'a>,
+        block: Option<&'w Block<'t, 'a>>,
+        keeps: bool,
+        place: Place,
+    ) -> Writing<'w, 't, 'a> {
+        Writing {
+            known,
+            block,
+            keeps,
+            place,
+        }
+    }
+}
+
 /// The texts of the page at the two edges of what is written.
 #[derive(Clone, Copy)]
 pub struct Edges<'t, 'a> {

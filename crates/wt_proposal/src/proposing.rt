@@ -98,12 +98,8 @@ fn push_inside<'t, 'a>(
         return Ok(());
     }
     let standing = block_of(alloc, old)?;
-    let writing = Writing {
-        known: plan.known,
-        block: Some(&standing),
-        keeps: plan.keeps(block),
-        place: place_in(old.kind),
-    };
+    let keeps = plan.keeps(block);
+    let writing = Writing::of(plan.known, Some(&standing), keeps, place_in(old.kind));
     let by = spelled(alloc, writing, inside(new), edges_of(inside(old)))?;
     let place = Slot {
         start: inside_start(old.ranges),
