@@ -12,6 +12,7 @@ mod reached;
 mod slot;
 mod slots;
 mod testing;
+mod texts;
 
 pub use proposing::{Keeping, proposal};
 pub use slot::Slot;

@@ -98,14 +98,8 @@ fn push_inside<'t, 'a>(
         return Ok(());
     }
     let standing = block_of(alloc, old)?;
-    let known = plan.known;
-    let block = Some(&standing);
-    let writing = Writing {
-        known,
-        block,
-        keeps: plan.keeps(number),
-        place: place_in(old.kind),
-    };
+    let keeps = plan.keeps(number);
+    let writing = Writing::of(plan.known, Some(&standing), keeps, place_in(old.kind));
     let by = spelled(alloc, writing, inside(new), edges_of(inside(old)))?;
     let place = Slot {
         start: inside_start(old.ranges),
