@@ -102,7 +102,7 @@ pub past_drops : (cs : List Child) (place n : ℕ) → place ≤ length cs → (
     → child_views (drop n cs) ≡ child_views (drop (place + 1) cs)
 past_drops cs place n le one all =
     elim (below_or place (length cs)) [
-      inl lt ↦ ap (λ k. child_views (drop k cs)) (one lt)
+      | inl lt ↦ ap (λ k. child_views (drop k cs)) (one lt)
       | inr ge ↦
           let e = all ge in
           let d : drop n cs ≡ [] = drop_all n cs (let m : length cs ≤ n = omega (arith, e) in m) in

@@ -195,7 +195,11 @@ fn least_between(left: Kind, right: Kind) -> usize {
 
 /// How many line breaks are written between two neighbours one of which is new.
 fn between(left: Kind, right: Kind) -> usize {
-    if is_part(left) || is_part(right) { 1 } else { 2 }
+    if is_part(left) || is_part(right) {
+        1
+    } else {
+        2
+    }
 }
 
 fn push_breaks(out: &mut Str, count: usize) -> Result<(), NoMemory> {
@@ -287,7 +291,11 @@ fn item_beside<'t, 'a>(gap: Gap<'_, 't, 'a>) -> Option<&'t Node<'a>> {
 /// All but the last byte of an item's signs, which are ASCII.
 fn outer_signs(signs: &str) -> &str {
     let count = signs.len().saturating_sub(1);
-    if signs.is_char_boundary(count) { &signs[..count] } else { signs }
+    if signs.is_char_boundary(count) {
+        &signs[..count]
+    } else {
+        signs
+    }
 }
 
 /// The signs of an item of this kind beside one with these.
@@ -418,7 +426,13 @@ fn place_between(gap: Gap<'_, '_, '_>) -> Slot {
 }
 
 /// The line breaks before what comes.
-fn breaks_before(page: &str, gap: Gap<'_, '_, '_>, takes_place: bool, first: Kind, at: usize) -> usize {
+fn breaks_before(
+    page: &str,
+    gap: Gap<'_, '_, '_>,
+    takes_place: bool,
+    first: Kind,
+    at: usize,
+) -> usize {
     let standing = most_breaks(page, gap.place.start, at);
     let wanted = match gap.before {
         Some(before) if takes_place => least_between(before.kind, first),
@@ -495,7 +509,14 @@ pub fn push_gap<'t, 'a>(
     let slices = slices_of(alloc, gap.gone)?;
     let coming = coming_of(alloc, plan, outer, gap)?;
     match coming {
-        None => push_gone(alloc, out, page, gap, slices.as_slice(), wanted_between(gap)),
+        None => push_gone(
+            alloc,
+            out,
+            page,
+            gap,
+            slices.as_slice(),
+            wanted_between(gap),
+        ),
         Some(coming) => {
             push_new(alloc, out, page, gap, slices.as_slice(), coming)?;
             push_gone(alloc, out, page, gap, behind_first(slices.as_slice()), 0)
@@ -504,5 +525,9 @@ pub fn push_gap<'t, 'a>(
 }
 
 fn behind_first(slices: &[Slot]) -> &[Slot] {
-    if slices.is_empty() { slices } else { &slices[1..] }
+    if slices.is_empty() {
+        slices
+    } else {
+        &slices[1..]
+    }
 }

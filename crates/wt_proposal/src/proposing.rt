@@ -13,7 +13,9 @@ use crate::inline::{Writing, edges_of, spelled};
 use crate::known::{Known, block_of, signs_of};
 use crate::reached::Reached;
 use crate::slot::Slot;
-use crate::slots::{Beside, begun, counts, inside_end, inside_start, inside_stop, next_turn, places};
+use crate::slots::{
+    Beside, begun, counts, inside_end, inside_start, inside_stop, next_turn, places,
+};
 use crate::testing::tested;
 use std::alloc::Global;
 use wt_checks::numbered_nodes;
@@ -155,7 +157,11 @@ impl Line {
 
     /// With the number of the child in hand.
     fn at(self, child: &Node<'_>) -> Line {
-        let block = if counts(self.reached, child) { self.block.next() } else { self.block };
+        let block = if counts(self.reached, child) {
+            self.block.next()
+        } else {
+            self.block
+        };
         Line {
             from: self.from,
             came_from: self.came_from,
@@ -170,9 +176,17 @@ impl Line {
         let is_begun = passed > 0 || reached.inside;
         Line {
             from: self.from.saturating_add(passed),
-            came_from: if is_begun { at.saturating_add(1) } else { self.came_from },
+            came_from: if is_begun {
+                at.saturating_add(1)
+            } else {
+                self.came_from
+            },
             reached,
-            first: if is_begun { self.block.next() } else { self.first },
+            first: if is_begun {
+                self.block.next()
+            } else {
+                self.first
+            },
             block: self.block,
         }
     }

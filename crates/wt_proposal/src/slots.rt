@@ -161,7 +161,11 @@ fn some_count(children: &[Child<'_, '_>]) -> bool
 fn gap(differs: bool, start: usize, end: usize) -> Option<Slot>
     ensures { slots_of result ≡ gap differs start end }
 {
-    if differs { Some(Slot { start, end }) } else { None }
+    if differs {
+        Some(Slot { start, end })
+    } else {
+        None
+    }
 }
 
 // ---- along its edited children
@@ -193,12 +197,7 @@ pub fn counts(reached: Reached, child: &Node<'_>) -> bool
 }
 
 /// Whether an edited child of the node with this number stays in its turn.
-pub fn is_in_turn(
-    index: &[Visit<'_, '_>],
-    holder: u32,
-    reached: Reached,
-    child: &Node<'_>,
-) -> bool
+pub fn is_in_turn(index: &[Visit<'_, '_>], holder: u32, reached: Reached, child: &Node<'_>) -> bool
     ensures { result ≡ is_in_turn (indexed index.now) holder reached (view child.now) }
 {
     counts(reached, child) && stays_in(index, holder, child) && reached.number < child.id
@@ -266,7 +265,11 @@ fn within<'t, 'a>(old: &'t Node<'a>, child: &Node<'_>) -> Option<&'t Node<'a>>
     ensures { (page : Page) → places_within page (view child.now) (option_map (λ n. view n.now) result)
         ≡ if_in_turn (is_block_part (label (view child.now)).kind) (places_in page (view old.now) (view child.now)) }
 {
-    if is_block_part(child.kind) { Some(old) } else { None }
+    if is_block_part(child.kind) {
+        Some(old)
+    } else {
+        None
+    }
 }
 
 /// A child that stays in its turn, which is this node of the page.
@@ -391,7 +394,14 @@ fn push_places<'t, 'a>(
 {
     push_inside_place(alloc, out, old, new)?;
     let children = held(alloc, old)?;
-    push_along(alloc, out, index, new.children.as_slice(), old, children.as_slice())?;
+    push_along(
+        alloc,
+        out,
+        index,
+        new.children.as_slice(),
+        old,
+        children.as_slice(),
+    )?;
     Ok(())
 }
 
