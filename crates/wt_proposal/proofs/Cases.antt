@@ -1,9 +1,9 @@
 -- Worked cases of the places in which a page may be written anew, each by computing. All pages are one byte a letter.
-use Rattle.std.proofs.Common.{◌≡◌, ℕ, ◌+◌, Bool, true, false, Some, None, List, [], ◌∷◌, refl, codes, length}
+use Rattle.std.proofs.Common.{◌≡◌, ℕ, ◌+◌, Some, None, List, [], ◌∷◌, refl, codes, length}
 use Rattle.wt_tree.specs.declared.kind.Kind.{Kind}
 use Rattle.wt_tree.specs.declared.kind.Kind.TheVariants as kind
 use Rattle.wt_tree.specs.declared.kind.Mark.TheVariants as marks
-use Rattle.wt_tree.specs.Tree.{Label, Tree, tree, none, trees, label}
+use Rattle.wt_tree.specs.Tree.{Label, Tree, tree, none, trees}
 use Rattle.wt_checks.specs.Alike.{same_kind, same_data}
 use Rattle.wt_proposal.specs.declared.slot.Slot.{Slot}
 use Rattle.wt_proposal.specs.Places.{slot, places}

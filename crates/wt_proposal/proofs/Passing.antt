@@ -1,8 +1,7 @@
 -- The page's children before and behind the one with a number.
-use Rattle.std.proofs.Common.{◌≡◌, ◌≢◌, ◌⊎◌, ◌≤◌, ◌<◌, ℕ, ◌+◌, ◌-◌, Bool, true, false, List, [], ◌∷◌, ◌++◌, length, take, drop, get_or, refl, sym, ap, ◌∙◌, subst, arith, inl, inr, nat_eq, eq-eqb, if◌then◌else◌, ◌||◌}
+use Rattle.std.proofs.Common.{◌≡◌, ◌≢◌, ◌⊎◌, ◌≤◌, ◌<◌, ℕ, ◌+◌, true, false, List, [], ◌∷◌, ◌++◌, length, take, drop, get_or, refl, sym, ap, ◌∙◌, subst, arith, inl, inr, nat_eq, eq-eqb}
 use Rattle.std.proofs.lemmas.Bool.Decides.{eqb_tells, leb_tells}
-use Rattle.std.proofs.lemmas.List.{drop_more, take_more, drop_all, take_all, take-append-drop}
-use Rattle.wt_tree.specs.Kinds.{showing}
+use Rattle.std.proofs.lemmas.List.{drop_more, take_more, drop_all, take-append-drop}
 use Rattle.wt_tree.specs.Tree.{Trees, none, more, label}
 use Rattle.wt_tree.specs.View.{view}
 use Rattle.wt_tree.specs.declared.node.Node.{Node, out-Node}

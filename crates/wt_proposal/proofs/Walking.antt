@@ -1,10 +1,9 @@
 -- The walk along the edited children of a node, child by child.
-use Rattle.std.proofs.Common.{◌≡◌, ◌≤◌, ◌<◌, ℕ, ◌+◌, ◌-◌, Bool, true, false, Option, Some, None, List, [], ◌∷◌, ◌++◌, length, take, drop, get_or, refl, sym, ap, ◌∙◌, arith, append_assoc, append-nil, ◌||◌}
+use Rattle.std.proofs.Common.{◌≡◌, ◌≤◌, ◌<◌, ℕ, ◌+◌, ◌-◌, Bool, true, false, List, ◌++◌, length, take, drop, get_or, sym, ap, ◌∙◌, arith, append_assoc, append-nil, ◌||◌}
 use Rattle.std.proofs.lemmas.List.{drop_all, take_all, drop-drop, length-drop}
-use Rattle.wt_tree.specs.declared.kind.Ranges.{Ranges}
 use Rattle.wt_tree.specs.declared.node.Node.{Node, out-Node}
 use Rattle.wt_tree.specs.Source.{flat, flat_of_all}
-use Rattle.wt_tree.specs.Tree.{Tree, Trees, none, more, label}
+use Rattle.wt_tree.specs.Tree.{Tree, Trees, more, label}
 use Rattle.wt_tree.specs.View.{view, views}
 use Rattle.wt_tree.proofs.Views.{view_out}
 use Rattle.wt_checks.specs.Places.{Page}

@@ -1,4 +1,4 @@
-use Rattle.std.proofs.Common.{ℕ, ◌≡◌, ◌≤◌, arith, ap, sym, ◌∙◌, length}
+use Rattle.std.proofs.Common.{arith, ap, sym, ◌∙◌}
 use Rattle.wt_tree.specs.declared.node.Node.{out-Node}
 use Rattle.wt_difference.specs.declared.insides.Child.{Child}
 use Rattle.wt_proposal.proofs.Passing.{found_at, found_none, passed_more}

@@ -1,4 +1,4 @@
-use Rattle.std.proofs.Common.{◌-◌, ◌≤◌, length}
+use Rattle.std.proofs.Common.{◌-◌, length}
 use Rattle.wt_proposal.proofs.testing.place_up_to.Given as goal
 
 abbrev pub decreases-loop-at : goal.decreases-loop-at
