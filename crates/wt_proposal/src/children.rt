@@ -217,12 +217,25 @@ fn breaks(alloc: Global, wanted: usize, standing: usize) -> Result<Str, NoMemory
 
 // ---- what goes
 
+/// Where the last comment or include tag before a place ends, which may end with a line break of its own; the start
+/// of the gap, where there is none.
+fn behind_marks(gap: Gap<'_, '_, '_>, at: usize) -> usize {
+    let mut end = gap.place.start;
+    for child in gap.gone {
+        let mark = range_of(child.node);
+        if is_mark(child.node.kind) && mark.end <= at {
+            end = mark.end.max(end);
+        }
+    }
+    end
+}
+
 /// A slice that goes, with the blanks behind it; at the end of its holder with those before it.
 fn with_blanks(page: &str, gap: Gap<'_, '_, '_>, slice: Slot) -> Slot {
     let end = past_blanks(page, slice.end, gap.place.end);
     if gap.behind.is_none() && end == gap.place.end {
         return Slot {
-            start: back_over_blanks(page, gap.place.start, slice.start),
+            start: back_over_blanks(page, behind_marks(gap, slice.start), slice.start),
             end: slice.end,
         };
     }
@@ -449,13 +462,28 @@ fn breaks_before(
     }
 }
 
+/// Whether a cell of the page goes on in the line of the one before it, and may do so behind one of this kind.
+fn shares_line(page: &str, last: Kind, cell: &Node<'_>) -> bool {
+    let start = range_of(cell).start;
+    let sign = byte_at(page, start);
+    let is_doubled = (sign == b'|' || sign == b'!')
+        && sign == byte_at(page, start.saturating_add(1));
+    match last {
+        Kind::Td => is_doubled && matches!(cell.kind, Kind::Td),
+        Kind::Th => is_doubled && matches!(cell.kind, Kind::Th),
+        _ => false,
+    }
+}
+
 /// The line breaks behind it, up to what stands behind or to the next slice that goes.
 fn breaks_behind(page: &str, gap: Gap<'_, '_, '_>, last: Kind, from: usize, to: usize) -> usize {
     let Some(behind) = gap.behind else {
         return 0;
     };
     let standing = most_breaks(page, from, to);
-    let wanted = if standing == 0 {
+    let wanted = if standing == 0 && shares_line(page, last, behind) {
+        0
+    } else if standing == 0 {
         between(last, behind.kind)
     } else {
         least_between(last, behind.kind)
