@@ -307,7 +307,7 @@ unfolding checked same_kind same_data
 empty_group = refl
 
 -- other data of a group, and the same where values are edited
-abbrev other_data : Tree
+abbrev pub other_data : Tree
 other_data = body (tree (record (blank kind.Group 1) {
   attrs = (attr.Typeof, codes "mw:Transclusion") ∷ [];
   mw =

@@ -8,11 +8,8 @@ use Rattle.wt_tree.specs.declared.node.Node.{Node, out-Node}
 use Rattle.wt_tree.proofs.Views.{view_out}
 use Rattle.wt_checks.specs.Unmarked.{Entry, is_compared, entry, entries}
 use Rattle.wt_checks.specs.Compared.{ComparedFrom}
-use Rattle.wt_checks.specs.Unmarked.{same_entry, same_entries}
 use Rattle.std.proofs.lemmas.List.{drop_all}
-use Rattle.std.specs.Prelude.{nat_eq, ◌&&◌}
-use Rattle.std.proofs.Common.{inl, inr}
-use Rattle.std.proofs.lemmas.Option.{slice_get_cases}
+use Rattle.std.specs.Prelude.{nat_eq}
 use Rattle.std.proofs.lemmas.Bool.Decides.{nat_tests}
 use Rattle.wt_checks.proofs.Firsts.{if_true, if_false}
 

@@ -5,7 +5,7 @@ use Rattle.std.specs.List.{AllByRecursion}
 use Rattle.wt_tree.specs.declared.kind.Kind.{Kind}
 use Rattle.wt_tree.specs.Kinds.{is_section}
 use Rattle.wt_tree.specs.Opened.{all_opened_before, opened}
-use Rattle.wt_tree.specs.Tree.{Tree, tree, Trees, none, more, label}
+use Rattle.wt_tree.specs.Tree.{Tree, tree, Trees, none, more}
 use Rattle.wt_checks.specs.Kept.{children}
 use Rattle.wt_checks.specs.Places.{Place, placed, all_placed, places, is_body, is_content, parent_below}
 use Rattle.wt_checks.specs.PutBack.{is_frame, has_frame, have_frame}

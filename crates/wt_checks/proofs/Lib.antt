@@ -18,6 +18,9 @@ pub mod InOrder
 pub mod Known
 pub mod Lookups
 pub mod Moved
+pub mod NodesAlone
+pub mod NodesCases
+pub mod NodesUnmarked
 pub mod Numbers
 pub mod OnlyThePage
 pub mod Parents

@@ -1,5 +1,5 @@
 -- What the checks of an edit answer: the first refusal by number, then the first place in preorder.
-use Rattle.std.specs.Prelude.{ℕ, Bool, Option, Some, None, List}
+use Rattle.std.specs.Prelude.{ℕ, Bool, true, false, Option, Some, None, List}
 use Rattle.wt_tree.specs.Tree.{Tree}
 use Rattle.wt_checks.specs.declared.refusal.Check.{Check}
 use Rattle.wt_checks.specs.declared.refusal.Check.TheVariants.{UnknownId, RepeatedId, Moved, InTemplate, NotEditable, UnmarkedChange}
@@ -26,3 +26,23 @@ refused values page edited =
 
 unfoldable pub checked : Bool → Tree → Tree → Option Check
 checked values page edited = refused values (page_of page) (places edited)
+
+-- of the nodes alone: unknown and repeated numbers, and groups; where nodes stand isn't asked, nor what
+-- stands outside groups
+abbrev pub nodes_refused : Page → List Place → Option Check
+nodes_refused page edited =
+    or_else (first (is_unknown page) edited) UnknownId
+    (or_else (first is_repeated edited) RepeatedId
+    (or_else (first (is_in_template false page) edited) InTemplate None))
+
+unfoldable pub nodes_checked : Tree → Tree → Option Check
+nodes_checked page edited = nodes_refused (page_of page) (places edited)
+
+-- a refusal of a node, and not of where it stands or of a change outside groups
+abbrev pub is_of_nodes : Check → Bool
+is_of_nodes (UnknownId n) = true
+is_of_nodes (RepeatedId n) = true
+is_of_nodes (Moved n) = false
+is_of_nodes (InTemplate n) = true
+is_of_nodes (NotEditable n) = false
+is_of_nodes (UnmarkedChange n) = false

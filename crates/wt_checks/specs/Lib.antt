@@ -1,5 +1,6 @@
 pub mod Places
 pub mod View
+pub mod WithoutMarks
 pub mod Ids
 pub mod Alike
 pub mod Elements

@@ -5,7 +5,7 @@ ghost use Rattle.wt_tree.specs.View.{view};
 ghost use Rattle.wt_tree.specs.declared.kind.Kind.TheVariants as kind;
 ghost use Rattle.wt_tree.specs.declared.node.Node.{out-Node};
 ghost use Rattle.wt_checks.specs.Places.{page_of};
-ghost use Rattle.wt_checks.specs.Checked.{refused, checked};
+ghost use Rattle.wt_checks.specs.Checked.{refused, checked, nodes_refused, nodes_checked};
 ghost use Rattle.wt_checks.specs.View.{all_seen, indexed};
 
 use crate::groups::first_in_template;
@@ -85,23 +85,40 @@ pub fn check(
     Ok(refusal)
 }
 
-/// Compares the nodes of an edited tree alone with the page's: unknown and repeated numbers, and groups that were
-/// changed. Where nodes stand doesn't count, and neither do changes outside groups.
+fn check_visits_alone(
+    alloc: Global,
+    index: &[Visit<'_, '_>],
+    edited: &[Visit<'_, '_>],
+) -> Result<Option<Check>, NoMemory>
+    requires { 0 < length index.now }
+    ensures { IfOk result (λ r. r ≡ nodes_refused (indexed index.now) (all_seen edited.now)) }
+{
+    if let Some(number) = first_unknown(index, edited) {
+        return Ok(Some(Check::UnknownId(number)));
+    }
+    if let Some(number) = first_repeated(alloc, index.len(), edited)? {
+        return Ok(Some(Check::RepeatedId(number)));
+    }
+    if let Some(number) = first_in_template(alloc, false, index, edited)? {
+        return Ok(Some(Check::InTemplate(number)));
+    }
+    Ok(None)
+}
+
+/// Compares the nodes of an edited tree with the page's, each alone: the first unknown or repeated number,
+/// or group that is marked or changed, or None where there is none. Where nodes stand doesn't count, and
+/// neither do marks and changes outside groups.
 pub fn check_nodes(
     alloc: Global,
     page: &Node<'_>,
     edited: &Node<'_>,
-) -> Result<Option<Check>, NoMemory> {
+) -> Result<Option<Check>, NoMemory>
+    requires body { (label (view page.now)).kind ≡ kind.Body }
+    requires numbered { ∥ InPreorder (view page.now) ∥₁ }
+    ensures { IfOk result (λ r. r ≡ nodes_checked (view page.now) (view edited.now)) }
+{
     let index = numbered_nodes(alloc, page)?;
     let edited = preorder(alloc, edited)?;
-    if let Some(number) = first_unknown(index.as_slice(), edited.as_slice()) {
-        return Ok(Some(Check::UnknownId(number)));
-    }
-    if let Some(number) = first_repeated(alloc, index.len(), edited.as_slice())? {
-        return Ok(Some(Check::RepeatedId(number)));
-    }
-    if let Some(number) = first_in_template(alloc, false, index.as_slice(), edited.as_slice())? {
-        return Ok(Some(Check::InTemplate(number)));
-    }
-    Ok(None)
+    let refusal = check_visits_alone(alloc, index.as_slice(), edited.as_slice())?;
+    Ok(refusal)
 }

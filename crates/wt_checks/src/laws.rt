@@ -1,4 +1,4 @@
-ghost use Rattle.std.specs.Prelude.{◌≡◌, ◌↔◌, ℕ, List, Option, Some, None, Bool, true};
+ghost use Rattle.std.specs.Prelude.{◌≡◌, ◌↔◌, ℕ, List, Option, Some, None, Bool, true, false};
 ghost use Rattle.std.specs.Bool.{Decides};
 ghost use Rattle.std.specs.List.{AllByRecursion};
 ghost use Rattle.wt_tree.specs.declared.kind.AttrName.{AttrName};
@@ -14,12 +14,13 @@ ghost use Rattle.wt_tree.specs.Tree.{Tree, label};
 ghost use Rattle.wt_tree.specs.declared.kind.Kind.TheVariants as kind;
 ghost use Rattle.wt_checks.specs.declared.refusal.Check.{Check};
 ghost use Rattle.wt_checks.specs.BareSections.{HasBareSections};
-ghost use Rattle.wt_checks.specs.Checked.{checked};
+ghost use Rattle.wt_checks.specs.Checked.{checked, nodes_checked, is_of_nodes};
 ghost use Rattle.wt_checks.specs.FirstRefusal.{IsFirstRefusal};
 ghost use Rattle.wt_checks.specs.Kept.{Kept, ChildrenInOrder};
 ghost use Rattle.wt_checks.specs.Gist.{gist};
 ghost use Rattle.wt_checks.specs.Places.{is_body, places, page_of};
 ghost use Rattle.wt_checks.specs.PutBack.{put_back, IsOneBody, TextsHoldNoNumber, AreAsRead, IsThePage};
+ghost use Rattle.wt_checks.specs.WithoutMarks.{unmarked, groups_unmarked};
 ghost use Rattle.wt_tree.specs.Plain.{plain};
 
 /// Nothing is refused exactly where all that isn't marked is kept: under each kept parent the kept
@@ -80,4 +81,17 @@ pub fn comparisons()
     ensures values { (a b : Option DataMw) → Decides (same_data a b) (a ≡ b) }
     ensures held { (xs ys : List Entry) → Decides (same_entries xs ys) (xs ≡ ys) }
     ensures shown { (xs ys : List Sign) → Decides (same_signs xs ys) (xs ≡ ys) }
+{}
+
+/// The check of nodes alone answers what the whole check does where that refuses a node, or nothing. (Behind
+/// a node that was moved there may be a changed group.)
+pub fn nodes_as_checked()
+    ensures refused { (page edited : Tree) (c : Check) → checked false page edited ≡ Some c → is_of_nodes c ≡ true
+        → nodes_checked page edited ≡ Some c }
+    ensures taken { (page edited : Tree) → checked false page edited ≡ None → nodes_checked page edited ≡ None }
+{}
+
+/// Marks outside groups make no difference to the check of nodes.
+pub fn nodes_without_marks()
+    ensures { (page edited : Tree) → groups_unmarked edited ≡ true → nodes_checked page edited ≡ nodes_checked page (unmarked edited) }
 {}

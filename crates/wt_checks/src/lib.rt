@@ -16,12 +16,13 @@ mod unmarked;
 mod visit;
 mod written;
 
+pub use alike::{same_attrs, same_data, same_kind};
 pub use checking::{check, check_nodes, numbered_nodes};
 pub use editing::Editing;
 pub use index::original;
 pub use laws::{
-    children_in_order, comparisons, edited_is_the_page, first_refusal, only_the_page_is_taken,
-    sections_make_no_difference, what_is_kept,
+    children_in_order, comparisons, edited_is_the_page, first_refusal, nodes_as_checked,
+    nodes_without_marks, only_the_page_is_taken, sections_make_no_difference, what_is_kept,
 };
 pub use marks::is_children;
 pub use refusal::Check;

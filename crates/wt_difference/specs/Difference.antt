@@ -1,11 +1,10 @@
 -- The difference of an edited tree: the smallest places of the page in which something was changed.
-use Rattle.std.specs.Prelude.{ℕ, ◌==◌, ◌&&◌, ◌||◌, not, Bool, true, false, Option, Some, None, List, [], ◌∷◌, ◌++◌, if◌then◌else◌}
+use Rattle.std.specs.Prelude.{ℕ, ◌==◌, ◌&&◌, not, Bool, false, Option, Some, None, List, [], ◌∷◌, ◌++◌, if◌then◌else◌}
 use Rattle.std.specs.Str.{bytes_eq}
 use Rattle.wt_tree.specs.Kinds.{showing}
-use Rattle.wt_tree.specs.Tiling.{is_group}
 use Rattle.wt_tree.specs.Tree.{Tree, tree, Trees, none, more, label}
 use Rattle.wt_checks.specs.Alike.{same_kind, same_attrs}
-use Rattle.wt_checks.specs.Places.{Place, Page, page_of, number}
+use Rattle.wt_checks.specs.Places.{Place, Page, page_of}
 use Rattle.wt_checks.specs.Unmarked.{is_compared}
 use Rattle.wt_difference.specs.declared.region.Region.{Region}
 use Rattle.wt_difference.specs.declared.region.Region.TheVariants.{Inside, Children}
@@ -61,6 +60,10 @@ changed page u (Some q) = unless (same_inside q.node u) Inside q.node u ++ unles
 
 -- ---- all nodes
 
+-- a block, a list, an item, a term or a part of a table that stays
+abbrev pub is_stable : Page → ℕ → Tree → Bool
+is_stable page holder u = is_block_part (label u).kind && stays_in page holder u
+
 -- Each node that stays is asked for itself, then what stays in it. What is new or comes from elsewhere is
 -- written with the list of children that it joins. A group goes, stays or moves whole.
 abbrev mutual
@@ -69,8 +72,11 @@ abbrev mutual
 
   pub all_differing : Page → ℕ → Trees → List Changed
   all_differing page holder none = []
-  all_differing page holder (more u us) = (if is_block_part (label u).kind && stays_in page holder u
-      then differing page u else []) ++ all_differing page holder us
+  all_differing page holder (more u us) = (if is_stable page holder u then differing page u else []) ++ all_differing page holder us
+
+-- of one child of the node with this number
+abbrev pub differing_child : Page → ℕ → Tree → List Changed
+differing_child page holder u = if is_stable page holder u then differing page u else []
 
 -- the difference of a page's body and an edited one
 abbrev pub difference : Tree → Tree → List Changed
