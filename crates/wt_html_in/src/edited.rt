@@ -28,6 +28,14 @@ impl<'a> Edited<'a> {
     {
         &self.body
     }
+
+    #[tactic(auto, unfolding(crate::specs::Answers::body_of))]
+    /// The body by itself.
+    pub fn into_body(self) -> Node<'a>
+        ensures { view result ≡ body_of self.entry }
+    {
+        self.body
+    }
 }
 
 #[tactic(auto, unfolding(crate::specs::Answers::unsourced_of))]
