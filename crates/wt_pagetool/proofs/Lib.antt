@@ -14,6 +14,7 @@ pub mod ReadGroups
 pub mod RefusalLines
 pub mod RunLaws
 pub mod SectionEdits
+pub mod SelserLaws
 pub mod ShownLaws
 pub mod StatusLaws
 pub mod UnchangedLaws
