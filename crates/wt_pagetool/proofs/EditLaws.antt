@@ -240,7 +240,7 @@ edited_done pages page (as_page t unsourced) bytes e =
 edited_done pages page (ill place why) bytes e = cc
 edited_done pages page (misfit n why) bytes e = cc
 
-restored_bare : (page t : Tree) → IsBare t → IsBare (restored_from page t)
+pub restored_bare : (page t : Tree) → IsBare t → IsBare (restored_from page t)
 restored_bare page (tree l ts) h = h
 
 pub wrote_edit : (pages : Pages) (title input bytes : List ℕ) (left old new : Option (List ℕ))

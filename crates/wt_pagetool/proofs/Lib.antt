@@ -14,7 +14,10 @@ pub mod ReadGroups
 pub mod RefusalLines
 pub mod RunLaws
 pub mod SectionEdits
+pub mod SelserFound
 pub mod SelserLaws
+pub mod SelserRuns
+pub mod SelserShown
 pub mod ShownLaws
 pub mod StatusLaws
 pub mod UnchangedLaws

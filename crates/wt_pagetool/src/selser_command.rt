@@ -115,19 +115,22 @@ fn page_of_found<'a, F: Folder>(
         annotated,
         expansion,
     } = found;
-    let compared = compared(alloc, annotated.body(), edited)?;
-    if let Some(check) = compared.refused {
-        return Err(Refusal::Checked(check));
+    let tree = annotated.body();
+    let beside = compared(alloc, tree, edited)?;
+    match beside.refused {
+        Some(check) => Err(Refusal::Checked(check)),
+        None => {
+            let edit = EditedPage {
+                page,
+                tree,
+                items: annotated.items(),
+                edited: &beside.edited,
+                same: beside.same,
+                arena,
+            };
+            new_page(alloc, &edit, folder, expansion)
+        }
     }
-    let edit = EditedPage {
-        page,
-        tree: annotated.body(),
-        items: annotated.items(),
-        edited: &compared.edited,
-        same: compared.same,
-        arena,
-    };
-    new_page(alloc, &edit, folder, expansion)
 }
 
 /// The new page of a page that is text, by the tree to which it was edited.
@@ -148,7 +151,8 @@ fn page_to<'a, F: Folder>(
     ensures count { IsKept result (F.fault_count folder.old) (F.fault_count folder.new) }
     ensures kept { F.pages folder.new ≡ F.pages folder.old }
 {
-    let found = known_page(alloc, page, arena, folder, new_expansion(alloc, arena))?;
+    let expansion = new_expansion(alloc, arena);
+    let found = known_page(alloc, page, arena, folder, expansion)?;
     page_of_found(alloc, page, found, edited, arena, folder)
 }
 
@@ -172,7 +176,8 @@ fn page_of_read<'a, F: Folder>(
     ensures kept { F.pages folder.new ≡ F.pages folder.old }
 {
     let edited = reader.finish()?;
-    page_to(alloc, page, edited.into_body(), arena, folder)
+    let body = edited.into_body();
+    page_to(alloc, page, body, arena, folder)
 }
 
 /// The new page of a page that is text, by the HTML that the input gives, which is read to its end first.
