@@ -27,7 +27,7 @@ use Rattle.wt_selser.specs.Splice.{Change}
 use Rattle.wt_selser.specs.Steps.{Step, goes, comes, steps}
 use Rattle.wt_selser.specs.Views.{parted_ends, steps_view, step_view}
 use Rattle.wt_selser.proofs.ListWalk.{steps_end, steps_turn}
-use Rattle.wt_selser.proofs.Spliced.{kind_seen, ranges_seen}
+use Rattle.wt_selser.proofs.Splicing.{kind_seen, ranges_seen}
 
 pub if_ok : {A E : Type 0} (r : Result A E) (P Q : A → Type 0) → ((x : A) → P x → Q x) → IfOk r P → IfOk r Q
 if_ok (Ok x) P Q f h = f x h

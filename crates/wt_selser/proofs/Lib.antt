@@ -10,7 +10,7 @@ pub mod Contents
 pub mod Opening
 pub mod Pushing
 pub mod Sections
-pub mod Spliced
+pub mod Splicing
 pub mod StepWalk
 pub mod Answering
 pub mod GroupFaultLaws

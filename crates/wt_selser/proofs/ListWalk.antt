@@ -19,7 +19,7 @@ use Rattle.wt_selser.specs.Splice.{Change}
 use Rattle.wt_selser.specs.Steps.{Step, goes, kept, comes, from_number, steps}
 use Rattle.wt_selser.specs.declared.child.Child.{Child}
 use Rattle.wt_selser.specs.Views.{child_views, steps_view, step_view}
-use Rattle.wt_selser.proofs.Spliced.{kind_seen, ranges_seen}
+use Rattle.wt_selser.proofs.Splicing.{kind_seen, ranges_seen}
 use Rattle.wt_selser.proofs.StepWalk.{from_place}
 
 id_seen : (n : Node) → (label (view n)).id ≡ (out-Node n).id

@@ -3,3 +3,6 @@ pub mod SameTells
 pub mod DifferingLaws
 pub mod ShownChildren
 pub mod RestoredShown
+pub mod MarksShowNothing
+pub mod Within
+mod KeptMarksCases

@@ -2,3 +2,4 @@ pub mod SameNodes
 pub mod Children
 pub mod Restored
 pub mod Views
+pub mod KeptMarks

@@ -5,7 +5,7 @@ use Rattle.wt_checks.specs.View.{indexed, seen}
 use Rattle.wt_selser.specs.Changes.{insides}
 use Rattle.wt_selser.specs.Views.{changes_view}
 use Rattle.wt_selser.proofs.Pushing.{next_pushed, all_pushed}
-use Rattle.wt_selser.proofs.Spliced.{content_pushed, held_pushed, insides_views}
+use Rattle.wt_selser.proofs.Splicing.{content_pushed, held_pushed, insides_views}
 use Rattle.wt_selser.proofs.change.+walking.Goals as goal
 
 pub push_insides-returns-then-is_content : goal.push_insides-returns-then-is_content

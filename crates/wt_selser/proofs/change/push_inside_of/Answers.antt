@@ -4,7 +4,7 @@ use Rattle.wt_tree.specs.View.{view}
 use Rattle.wt_checks.specs.View.{seen}
 use Rattle.wt_selser.specs.Changes.{inside_of}
 use Rattle.wt_selser.specs.Views.{changes_view}
-use Rattle.wt_selser.proofs.Spliced.{inside_made}
+use Rattle.wt_selser.proofs.Splicing.{inside_made}
 use Rattle.wt_selser.proofs.change.push_inside_of.Goals as goal
 
 pub returns-in_ok-push_inside-in-Some : goal.returns-in_ok-push_inside-in-Some

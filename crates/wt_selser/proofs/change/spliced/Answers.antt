@@ -1,6 +1,6 @@
 use Rattle.std.proofs.Common.{arith}
 use Rattle.std.proofs.lemmas.Grind.{common_steps}
-use Rattle.wt_selser.proofs.Spliced.{spliced_turn}
+use Rattle.wt_selser.proofs.Splicing.{spliced_turn}
 use Rattle.wt_selser.proofs.change.spliced.Goals as goal
 
 pub loop-change-preserved : goal.loop-change-preserved
