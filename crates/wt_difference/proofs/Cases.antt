@@ -3,12 +3,14 @@ use Rattle.std.proofs.Common.{◌≡◌, ℕ, Bool, true, false, Some, None, Lis
 use Rattle.std.specs.Prelude.{map}
 use Rattle.wt_tree.specs.declared.kind.Kind.{Kind}
 use Rattle.wt_tree.specs.declared.kind.Kind.TheVariants as kind
+use Rattle.wt_tree.specs.declared.kind.Mark.{Mark}
 use Rattle.wt_tree.specs.declared.kind.Mark.TheVariants as marks
 use Rattle.wt_tree.specs.Tree.{Label, Tree, tree, none, trees, label}
 use Rattle.wt_checks.specs.Alike.{same_kind, same_data}
 use Rattle.wt_difference.specs.declared.region.Region.{Region}
 use Rattle.wt_difference.specs.declared.region.Region.TheVariants.{Inside, Children}
 use Rattle.wt_difference.specs.Difference.{Changed, difference}
+use Rattle.wt_difference.specs.Remarked.{remarked}
 
 -- ---- trees
 
@@ -131,3 +133,43 @@ group_stays : found (body (node kind.Para 1 (node kind.Group 2 (words (codes "a"
     (body (node kind.Para 1 (node kind.Group 2 [] ∷ []) ∷ [])) ≡ []
 unfolding same_kind same_data
 group_stays = refl
+
+-- ---- the marks of the difference
+
+abbrev marked : Mark → Tree → Tree
+marked k (tree l ts) = tree (record l { mark = k }) ts
+
+-- a mark that nothing tells is taken off, wherever it stands
+taken_off : remarked two (body (marked marks.Content (para 1 (codes "a")) ∷ node kind.Para 2 (marked marks.Children (words (codes "b")) ∷ []) ∷ []))
+    ≡ body (para 1 (codes "a") ∷ para 2 (codes "b") ∷ [])
+unfolding same_kind same_data remarked
+taken_off = refl
+
+-- a word was typed
+typed_marked : remarked two (body (para 1 (codes "a") ∷ para 2 (codes "b c") ∷ []))
+    ≡ body (para 1 (codes "a") ∷ marked marks.Content (para 2 (codes "b c")) ∷ [])
+unfolding same_kind same_data remarked
+typed_marked = refl
+
+-- a new paragraph, which has no mark itself
+came_marked : remarked two (body (para 1 (codes "a") ∷ marked marks.Content (para 0 (codes "n")) ∷ para 2 (codes "b") ∷ []))
+    ≡ marked marks.Children (body (para 1 (codes "a") ∷ para 0 (codes "n") ∷ para 2 (codes "b") ∷ []))
+unfolding same_kind same_data remarked
+came_marked = refl
+
+-- a new item in a list
+abbrev item : ℕ → List ℕ → Tree
+item id bs = node kind.Li id (words bs ∷ [])
+
+abbrev list : List Tree → Tree
+list ts = node kind.Ul 1 ts
+
+item_marked : remarked (body (list (item 2 (codes "a") ∷ []) ∷ [])) (body (list (item 2 (codes "a") ∷ item 0 (codes "b") ∷ []) ∷ []))
+    ≡ body (marked marks.Children (list (item 2 (codes "a") ∷ item 0 (codes "b") ∷ [])) ∷ [])
+unfolding same_kind same_data remarked
+item_marked = refl
+
+-- an item with another text, and without the list that was in it
+both_marked : remarked (nested (codes "a") (codes "b")) (body (list (item 2 (codes "c") ∷ []) ∷ [])) ≡ body (list (marked marks.Content (item 2 (codes "c")) ∷ []) ∷ [])
+unfolding same_kind same_data remarked
+both_marked = refl

@@ -1,1 +1,7 @@
 mod Cases
+pub mod Gathered
+pub mod HeldChildren
+pub mod InsideEnd
+pub mod OneByOne
+pub mod Remarks
+pub mod UneditedLaws

@@ -61,6 +61,10 @@ changed page u (Some q) = unless (same_inside q.node u) Inside q.node u ++ unles
 
 -- ---- all nodes
 
+-- a block, a list, an item, a term or a part of a table that stays
+abbrev pub is_stable : Page → ℕ → Tree → Bool
+is_stable page holder u = is_block_part (label u).kind && stays_in page holder u
+
 -- Each node that stays is asked for itself, then what stays in it. What is new or comes from elsewhere is
 -- written with the list of children that it joins. A group goes, stays or moves whole.
 abbrev mutual
@@ -69,8 +73,11 @@ abbrev mutual
 
   pub all_differing : Page → ℕ → Trees → List Changed
   all_differing page holder none = []
-  all_differing page holder (more u us) = (if is_block_part (label u).kind && stays_in page holder u
-      then differing page u else []) ++ all_differing page holder us
+  all_differing page holder (more u us) = (if is_stable page holder u then differing page u else []) ++ all_differing page holder us
+
+-- of one child of the node with this number
+abbrev pub differing_child : Page → ℕ → Tree → List Changed
+differing_child page holder u = if is_stable page holder u then differing page u else []
 
 -- the difference of a page's body and an edited one
 abbrev pub difference : Tree → Tree → List Changed

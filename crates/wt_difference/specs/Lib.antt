@@ -1,4 +1,6 @@
 pub mod Insides
 pub mod Tokens
 pub mod Difference
+pub mod Remarked
+pub mod Unedited
 pub mod Views

@@ -1,8 +1,22 @@
 //! What a node holds, in two parts: its inside, and the children behind it.
 
-ghost use Rattle.std.specs.Prelude.{◌≡◌};
+ghost use Rattle.std.specs.Prelude.{◌≡◌, ◌≤◌, IfOk, OnOk, drop, length, take};
+ghost use Rattle.wt_tree.specs.Opened.{opened, opened_before};
+ghost use Rattle.wt_tree.specs.Recut.{any_shows_block, shows_block};
+ghost use Rattle.wt_tree.specs.Recutting.{appended};
+ghost use Rattle.wt_tree.specs.Tree.{none};
 ghost use Rattle.wt_tree.specs.View.{view, views};
-ghost use Rattle.wt_difference.specs.Insides.{has_inside, inside, is_block_part};
+ghost use Rattle.wt_difference.specs.Insides.{
+  before_blocks,
+  ends_inside,
+  from_blocks,
+  has_inside,
+  held,
+  inside,
+  is_block_part,
+  is_separator,
+};
+ghost use Rattle.wt_difference.specs.Views.{child_views};
 
 use std::alloc::Global;
 use wt_span::NoMemory;
@@ -13,6 +27,8 @@ use wt_tree::{Class, Holding, Kind, Node};
 pub struct Child<'t, 'a> {
     pub node: &'t Node<'a>,
 }
+
+// ---- kinds
 
 /// Whether pages are built of nodes of this kind: a block, a list, an item, a term, or a part of a table.
 pub fn is_block_part(kind: Kind) -> bool
@@ -54,8 +70,21 @@ pub fn has_inside(kind: Kind) -> bool
     }
 }
 
+fn is_separator(kind: Kind) -> bool
+    ensures { result ≡ is_separator kind }
+{
+    match kind {
+        Kind::Sep => true,
+        _ => false,
+    }
+}
+
+// ---- the inside
+
 #[cycle(showing)]
-fn shows_block(node: &Node<'_>) -> bool {
+fn shows_block(node: &Node<'_>) -> bool
+    ensures { result ≡ shows_block (view node.now) }
+{
     match node.kind {
         Kind::Group => any_shows_block(node.children.as_slice()),
         kind => kind.is_block(),
@@ -63,7 +92,9 @@ fn shows_block(node: &Node<'_>) -> bool {
 }
 
 #[cycle(showing)]
-fn any_shows_block(nodes: &[Node<'_>]) -> bool {
+fn any_shows_block(nodes: &[Node<'_>]) -> bool
+    ensures { result ≡ any_shows_block (views nodes.now) }
+{
     for node in nodes {
         if shows_block(node) {
             return true;
@@ -72,16 +103,21 @@ fn any_shows_block(nodes: &[Node<'_>]) -> bool {
     false
 }
 
-fn is_separator(kind: Kind) -> bool {
-    match kind {
-        Kind::Sep => true,
-        _ => false,
-    }
+/// Whether the text that a node begins with ends before this child: a separator, or what shows a block.
+pub fn ends_inside(node: &Node<'_>) -> bool
+    ensures { result ≡ ends_inside (view node.now) }
+{
+    is_separator(node.kind) || shows_block(node)
 }
 
-fn inside_len(nodes: &[Node<'_>]) -> usize {
+/// How many nodes stand before the first separator or block.
+fn inside_len(nodes: &[Node<'_>]) -> usize
+    ensures within { result ≤ length nodes.now }
+    ensures before { views (take result nodes.now) ≡ before_blocks (views nodes.now) }
+    ensures behind { views (drop result nodes.now) ≡ from_blocks (views nodes.now) }
+{
     for at in 0..nodes.len() {
-        if is_separator(nodes[at].kind) || shows_block(&nodes[at]) {
+        if ends_inside(&nodes[at]) {
             return at;
         }
     }
@@ -101,24 +137,51 @@ pub fn inside<'t, 'a>(node: &'t Node<'a>) -> &'t [Node<'a>]
     }
 }
 
-fn push_opened<'t, 'a>(out: &mut Vec<Child<'t, 'a>>, node: &'t Node<'a>) -> Result<(), NoMemory> {
-    if !node.kind.is_section() {
-        out.push(Child { node })?;
-        return Ok(());
+// ---- what stands behind it
+
+#[cycle(opening)]
+fn push_opened<'t, 'a>(out: &mut Vec<Child<'t, 'a>>, node: &'t Node<'a>) -> Result<(), NoMemory>
+    ensures { OnOk result (child_views out.new.items ≡ appended (child_views out.old.items) (opened_before (view node.now) none)) }
+{
+    if node.kind.is_section() {
+        return push_all_opened(out, node.children.as_slice());
     }
-    for child in node.children.as_slice() {
-        push_opened(out, child)?;
+    out.push(Child { node })?;
+    Ok(())
+}
+
+#[cycle(opening)]
+fn push_all_opened<'t, 'a>(
+    out: &mut Vec<Child<'t, 'a>>,
+    nodes: &'t [Node<'a>],
+) -> Result<(), NoMemory>
+    ensures { OnOk result (child_views out.new.items ≡ appended (child_views out.old.items) (opened (views nodes.now))) }
+{
+    for node in nodes {
+        push_opened(out, node)?;
+    }
+    Ok(())
+}
+
+fn push_all<'t, 'a>(out: &mut Vec<Child<'t, 'a>>, nodes: &'t [Node<'a>]) -> Result<(), NoMemory>
+    ensures { OnOk result (child_views out.new.items ≡ appended (child_views out.old.items) (views nodes.now)) }
+{
+    for node in nodes {
+        out.push(Child { node })?;
     }
     Ok(())
 }
 
 /// The children of a node behind its inside; what a section holds stands in its place.
-pub fn held<'t, 'a>(alloc: Global, node: &'t Node<'a>) -> Result<Vec<Child<'t, 'a>>, NoMemory> {
+pub fn held<'t, 'a>(alloc: Global, node: &'t Node<'a>) -> Result<Vec<Child<'t, 'a>>, NoMemory>
+    ensures { IfOk result (λ cs. child_views cs.items ≡ held (view node.now)) }
+{
     let nodes = node.children.as_slice();
-    let from = if has_inside(node.kind) { inside_len(nodes) } else { 0 };
     let mut out = Vec::new(alloc);
-    for child in &nodes[from..] {
-        push_opened(&mut out, child)?;
+    if has_inside(node.kind) {
+        push_all(&mut out, &nodes[inside_len(nodes)..])?;
+    } else {
+        push_all_opened(&mut out, nodes)?;
     }
     Ok(out)
 }

@@ -5,11 +5,15 @@
 mod changed;
 mod differing;
 mod insides;
+mod laws;
 mod region;
+mod remarking;
 mod tokens;
 
 pub use changed::Changed;
-pub use differing::{difference, is_compared, same_children, same_inside, stays_in};
-pub use insides::{Child, has_inside, held, inside, is_block_part};
+pub use differing::{difference, same_children, same_inside, stays_in};
+pub use insides::{Child, ends_inside, has_inside, held, inside, is_block_part};
+pub use laws::{marks_alone, nothing_differs};
 pub use region::Region;
-pub use tokens::are_same;
+pub use remarking::remark;
+pub use tokens::{are_same, is_compared};

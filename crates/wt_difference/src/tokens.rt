@@ -1,104 +1,204 @@
 //! An inside from left to right, as an editor sees it: texts, and elements by their numbers.
 
+ghost use Rattle.std.specs.Prelude.{◌≡◌, ◌++◌, ◌∷◌, [], IfOk, OnOk};
+ghost use Rattle.std.specs.Str.{bytes_eq};
+ghost use Rattle.wt_tree.specs.Kinds.{showing, writing};
+ghost use Rattle.wt_tree.specs.Tiling.{is_group};
+ghost use Rattle.wt_tree.specs.View.{view, views, label_of};
+ghost use Rattle.wt_tree.specs.declared.node.Node.{out-Node};
+ghost use Rattle.wt_checks.specs.Unmarked.{is_compared, own_character};
+ghost use Rattle.wt_difference.specs.Tokens.{
+  all_tokens,
+  closes,
+  is_text,
+  opens,
+  same_label,
+  same_token,
+  same_tokens,
+  tokens,
+};
+ghost use Rattle.wt_difference.specs.Views.{token_view, tokens_view};
+
 use std::alloc::Global;
+use wt_checks::{same_attrs, same_data, same_kind};
 use wt_span::NoMemory;
-use wt_tree::{Kind, Node, Showing, Writing, same_attrs, same_data, same_kind};
+use wt_tree::{Kind, Node, Showing, Writing};
 
 /// A text, where an element opens, and where one closes.
 #[derive(Clone, Copy)]
-enum Token<'t, 'a> {
+pub enum Token<'t, 'a> {
     Characters(&'t str),
     Opens(&'t Node<'a>),
     Closes,
 }
 
-fn is_compared(kind: Kind) -> bool {
+// ---- tokens
+
+/// Whether a node of this kind is compared: one that shows nothing isn't.
+pub fn is_compared(kind: Kind) -> bool
+    ensures { result ≡ is_compared (showing kind) }
+{
     match kind.showing() {
         Showing::Nothing => false,
         Showing::Characters | Showing::Inside | Showing::Element => true,
     }
 }
 
-fn is_text(node: &Node<'_>) -> bool {
-    matches!(node.kind.writing(), Writing::AsText)
+fn is_text(kind: Kind) -> bool
+    ensures { result ≡ is_text (writing kind) }
+{
+    match kind.writing() {
+        Writing::AsText => true,
+        Writing::AsVoid | Writing::RoundCharacter | Writing::RoundChildren => false,
+        Writing::AsSection(_) | Writing::Unwritten => false,
+    }
 }
 
-fn is_group(kind: Kind) -> bool {
-    matches!(kind, Kind::Group)
+fn is_group(kind: Kind) -> bool
+    ensures { result ≡ is_group kind }
+{
+    match kind {
+        Kind::Group => true,
+        _ => false,
+    }
 }
 
-fn push_tokens<'t, 'a>(out: &mut Vec<Token<'t, 'a>>, node: &'t Node<'a>) -> Result<(), NoMemory> {
+fn push_token<'t, 'a>(out: &mut Vec<Token<'t, 'a>>, token: Token<'t, 'a>) -> Result<(), NoMemory>
+    ensures { OnOk result (tokens_view out.new.items ≡ tokens_view out.old.items ++ token_view token.entry ∷ []) }
+{
+    out.push(token)?;
+    Ok(())
+}
+
+fn push_group<'t, 'a>(out: &mut Vec<Token<'t, 'a>>, node: &'t Node<'a>) -> Result<(), NoMemory>
+    ensures { OnOk result (tokens_view out.new.items
+        ≡ tokens_view out.old.items ++ opens (label_of (out-Node node.now)) ∷ closes ∷ []) }
+{
+    push_token(out, Token::Opens(node))?;
+    push_token(out, Token::Closes)?;
+    Ok(())
+}
+
+#[cycle(tokens)]
+fn push_element<'t, 'a>(out: &mut Vec<Token<'t, 'a>>, node: &'t Node<'a>) -> Result<(), NoMemory>
+    ensures { OnOk result (tokens_view out.new.items
+        ≡ tokens_view out.old.items ++ opens (label_of (out-Node node.now))
+        ∷ (all_tokens (views (out-Node node.now).children) ++ closes ∷ [])) }
+{
+    push_token(out, Token::Opens(node))?;
+    push_all_tokens(out, node.children.as_slice())?;
+    push_token(out, Token::Closes)?;
+    Ok(())
+}
+
+#[cycle(tokens)]
+fn push_tokens<'t, 'a>(out: &mut Vec<Token<'t, 'a>>, node: &'t Node<'a>) -> Result<(), NoMemory>
+    ensures { OnOk result (tokens_view out.new.items ≡ tokens_view out.old.items ++ tokens (view node.now)) }
+{
     if !is_compared(node.kind) {
         return Ok(());
     }
-    if is_text(node) {
-        out.push(Token::Characters(node.shown.as_str()))?;
-        return Ok(());
+    if is_text(node.kind) {
+        return push_token(out, Token::Characters(node.shown.as_str()));
     }
-    out.push(Token::Opens(node))?;
-    if !is_group(node.kind) {
-        for child in node.children.as_slice() {
-            push_tokens(out, child)?;
-        }
+    if is_group(node.kind) {
+        return push_group(out, node);
     }
-    out.push(Token::Closes)?;
+    push_element(out, node)
+}
+
+#[cycle(tokens)]
+fn push_all_tokens<'t, 'a>(
+    out: &mut Vec<Token<'t, 'a>>,
+    nodes: &'t [Node<'a>],
+) -> Result<(), NoMemory>
+    ensures { OnOk result (tokens_view out.new.items ≡ tokens_view out.old.items ++ all_tokens (views nodes.now)) }
+{
+    for node in nodes {
+        push_tokens(out, node)?;
+    }
     Ok(())
 }
 
 fn tokens_of<'t, 'a>(
     alloc: Global,
     nodes: &'t [Node<'a>],
-) -> Result<Vec<Token<'t, 'a>>, NoMemory> {
+) -> Result<Vec<Token<'t, 'a>>, NoMemory>
+    ensures { IfOk result (λ ts. tokens_view ts.items ≡ all_tokens (views nodes.now)) }
+{
     let mut out = Vec::new(alloc);
-    for node in nodes {
-        push_tokens(&mut out, node)?;
-    }
+    push_all_tokens(&mut out, nodes)?;
     Ok(out)
 }
 
-fn own_character<'n>(node: &'n Node<'_>) -> &'n str {
+// ---- comparisons
+
+fn own_character<'n>(node: &'n Node<'_>) -> &'n str
+    ensures { result.now ≡ own_character (writing (out-Node node.now).kind) (out-Node node.now).shown }
+{
     match node.kind.writing() {
         Writing::RoundCharacter => node.shown.as_str(),
-        _ => "",
+        Writing::AsText | Writing::AsVoid | Writing::RoundChildren => "",
+        Writing::AsSection(_) | Writing::Unwritten => "",
     }
 }
 
-fn same_label(a: &Node<'_>, b: &Node<'_>) -> bool {
-    if a.id != b.id || !same_kind(a.kind, b.kind) {
-        return false;
-    }
-    if !same_attrs(&a.attrs, &b.attrs) || !same_data(&a.mw, &b.mw) {
-        return false;
-    }
+fn same_character(a: &Node<'_>, b: &Node<'_>) -> bool
+    ensures { result ≡ bytes_eq (own_character (writing (out-Node a.now).kind) (out-Node a.now).shown)
+        (own_character (writing (out-Node b.now).kind) (out-Node b.now).shown) }
+{
     own_character(a) == own_character(b)
 }
 
-fn same_token(a: Token<'_, '_>, b: Token<'_, '_>) -> bool {
-    match a {
-        Token::Characters(left) => match b {
-            Token::Characters(right) => left == right,
-            _ => false,
-        },
-        Token::Opens(left) => match b {
-            Token::Opens(right) => same_label(left, right),
-            _ => false,
-        },
-        Token::Closes => matches!(b, Token::Closes),
+fn same_label(a: &Node<'_>, b: &Node<'_>) -> bool
+    ensures { result ≡ same_label (label_of (out-Node a.now)) (label_of (out-Node b.now)) }
+{
+    if a.id != b.id || !same_kind(a.kind, b.kind) {
+        return false;
     }
+    if !same_attrs(a.attrs.as_slice(), b.attrs.as_slice()) {
+        return false;
+    }
+    same_data(&a.mw, &b.mw) && same_character(a, b)
+}
+
+fn same_text(a: &str, b: &str) -> bool
+    ensures { result ≡ bytes_eq a.now b.now }
+{
+    a == b
+}
+
+fn same_token(a: Token<'_, '_>, b: Token<'_, '_>) -> bool
+    ensures { result ≡ same_token (token_view a.entry) (token_view b.entry) }
+{
+    match (a, b) {
+        (Token::Characters(left), Token::Characters(right)) => same_text(left, right),
+        (Token::Opens(left), Token::Opens(right)) => same_label(left, right),
+        (Token::Closes, Token::Closes) => true,
+        _ => false,
+    }
+}
+
+fn same_tokens(old: &[Token<'_, '_>], new: &[Token<'_, '_>]) -> bool
+    ensures { result ≡ same_tokens (tokens_view old.now) (tokens_view new.now) }
+{
+    if old.len() != new.len() {
+        return false;
+    }
+    for at in 0..old.len() {
+        if !same_token(old[at], new[at]) {
+            return false;
+        }
+    }
+    true
 }
 
 /// Whether two lists of nodes are the same to an editor: texts by their characters, elements by their numbers,
 /// kinds, attributes and data, and groups by these alone.
-pub fn are_same(alloc: Global, old: &[Node<'_>], new: &[Node<'_>]) -> Result<bool, NoMemory> {
+pub fn are_same(alloc: Global, old: &[Node<'_>], new: &[Node<'_>]) -> Result<bool, NoMemory>
+    ensures { IfOk result (λ same. same ≡ same_tokens (all_tokens (views old.now)) (all_tokens (views new.now))) }
+{
     let old = tokens_of(alloc, old)?;
     let new = tokens_of(alloc, new)?;
-    if old.len() != new.len() {
-        return Ok(false);
-    }
-    for at in 0..old.len() {
-        if !same_token(old[at], new[at]) {
-            return Ok(false);
-        }
-    }
-    Ok(true)
+    Ok(same_tokens(old.as_slice(), new.as_slice()))
 }

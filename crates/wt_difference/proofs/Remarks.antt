@@ -1,0 +1,73 @@
+-- Marks are taken off and set node by node; and they are all that is new in the remarked tree.
+use Rattle.std.proofs.Common.{◌≡◌, ℕ, Bool, true, false, List, [], ◌∷◌, ◌++◌, refl, sym, ap, ap₂, ◌∙◌}
+use Rattle.std.specs.Prelude.{if◌then◌else◌, Option}
+use Rattle.wt_tree.specs.Recutting.{appended}
+use Rattle.wt_tree.specs.Tree.{Label, Tree, tree, Trees, none, more}
+use Rattle.wt_tree.specs.View.{view, views, label_of}
+use Rattle.wt_tree.specs.declared.kind.Mark.{Mark}
+use Rattle.wt_tree.specs.declared.kind.Mark.TheVariants as marks
+use Rattle.wt_tree.specs.declared.node.Node.{Node, out-Node}
+use Rattle.wt_tree.proofs.Views.{view_out}
+use Rattle.wt_checks.specs.Places.{Place, Page, page_of}
+use Rattle.wt_difference.specs.Difference.{is_stable}
+use Rattle.wt_difference.specs.Remarked.{unmarked, all_unmarked, mark_of, remarked_in, all_remarked, remarked_child, remarked}
+use Rattle.wt_difference.proofs.HeldChildren.{appended_none, appended_twice}
+
+views_push : (ns : List Node) (n : Node) → views (ns ++ n ∷ []) ≡ appended (views ns) (more (view n) none)
+views_push [] n = refl
+views_push (m ∷ ns) n = ap (more (view m)) (views_push ns n)
+
+-- one node more, whatever is made of each
+pub made_on : (f : Tree → Tree) (fs : Trees → Trees) → ((t : Tree) (ts : Trees) → fs (more t ts) ≡ more (f t) (fs ts)) →
+    (vs ws : List Node) (n m : Node) (xs ys : List Node) (all : Trees) → xs ≡ n ∷ ys → ws ≡ vs ++ m ∷ [] → view m ≡ f (view n)
+    → appended (views vs) (fs (views xs)) ≡ all → appended (views ws) (fs (views ys)) ≡ all
+made_on f fs each vs ws n m xs ys all e p h k =
+    ap (λ ts. appended ts (fs (views ys))) (ap views p ∙ views_push vs m)
+    ∙ appended_twice (views vs) (more (view m) none) (fs (views ys))
+    ∙ ap (λ t. appended (views vs) (more t (fs (views ys)))) h
+    ∙ ap (appended (views vs)) (sym (each (view n) (views ys)))
+    ∙ ap (λ zs. appended (views vs) (fs (views zs))) (sym e) ∙ k
+
+pub made_end : (fs : Trees → Trees) → fs none ≡ none → (vs xs : List Node) (all : Trees) → xs ≡ [] → appended (views vs) (fs (views xs)) ≡ all → views vs ≡ all
+made_end fs b vs xs all e h =
+    sym (appended_none (views vs)) ∙ ap (appended (views vs)) (sym b) ∙ ap (λ zs. appended (views vs) (fs (views zs))) (sym e) ∙ h
+
+-- ---- one node
+
+pub unmarked_out : (n : Node) → unmarked (view n) ≡ tree (record (label_of (out-Node n)) { mark = marks.Nothing }) (all_unmarked (views (out-Node n).children))
+unmarked_out n = rw (view_out n)
+
+pub remarked_out : (page : Page) (n : Node)
+    → remarked_in page (view n) ≡ tree (record (label_of (out-Node n)) { mark = mark_of page (view n) (page (out-Node n).id) })
+    (all_remarked page (out-Node n).id (views (out-Node n).children))
+remarked_out page n =
+    ap (remarked_in page) (view_out n)
+    ∙ ap (λ t. tree (record (label_of (out-Node n)) { mark = mark_of page t (page (out-Node n).id) })
+    (all_remarked page (out-Node n).id (views (out-Node n).children))) (sym (view_out n))
+
+-- ---- marks alone
+
+mutual
+  twice : (t : Tree) → unmarked (unmarked t) ≡ unmarked t
+  twice (tree l ts) = ap (tree (record l { mark = marks.Nothing })) (all_twice ts)
+
+  all_twice : (ts : Trees) → all_unmarked (all_unmarked ts) ≡ all_unmarked ts
+  all_twice none = refl
+  all_twice (more t ts) = ap₂ more (twice t) (all_twice ts)
+
+either : (b : Bool) (t u v : Tree) → unmarked t ≡ v → unmarked u ≡ v → unmarked (if b then t else u) ≡ v
+either true t u v e f = e
+either false t u v e f = f
+
+mutual
+  marks_in : (page : Page) (u : Tree) → unmarked (remarked_in page u) ≡ unmarked u
+  marks_in page (tree m us) = ap (tree (record m { mark = marks.Nothing })) (marks_in_all page m.id us)
+
+  marks_in_all : (page : Page) (holder : ℕ) (us : Trees) → all_unmarked (all_remarked page holder us) ≡ all_unmarked us
+  marks_in_all page holder none = refl
+  marks_in_all page holder (more u us) =
+      ap₂ more (either (is_stable page holder u) (remarked_in page u) (unmarked u) (unmarked u) (marks_in page u) (twice u)) (marks_in_all page holder us)
+
+pub marks_alone : (t u : Tree) → unmarked (remarked t u) ≡ unmarked u
+unfolding remarked
+marks_alone t u = marks_in (page_of t) u

@@ -1,0 +1,43 @@
+-- The edited tree with the marks of the difference and no others: what `edit` is told of it.
+use Rattle.std.specs.Prelude.{ℕ, Bool, Option, Some, None, if◌then◌else◌}
+use Rattle.wt_tree.specs.declared.kind.Mark.{Mark}
+use Rattle.wt_tree.specs.declared.kind.Mark.TheVariants as marks
+use Rattle.wt_tree.specs.Tree.{Tree, tree, Trees, none, more}
+use Rattle.wt_checks.specs.Places.{Place, Page, page_of}
+use Rattle.wt_difference.specs.Difference.{same_inside, same_children, is_stable}
+
+-- a tree without any mark
+abbrev mutual
+  pub unmarked : Tree → Tree
+  unmarked (tree l ts) = tree (record l { mark = marks.Nothing }) (all_unmarked ts)
+
+  pub all_unmarked : Trees → Trees
+  all_unmarked none = none
+  all_unmarked (more t ts) = more (unmarked t) (all_unmarked ts)
+
+-- A node whose inside was changed is marked `content`, whatever else was changed of it; one whose children
+-- alone were changed is marked `children`.
+abbrev pub mark_between : Page → Tree → Tree → Mark
+mark_between page t u = if same_inside t u then (if same_children page t u then marks.Nothing else marks.Children) else marks.Content
+
+abbrev pub mark_of : Page → Tree → Option Place → Mark
+mark_of page u None = marks.Nothing
+mark_of page u (Some q) = mark_between page q.node u
+
+-- Each node that stays has the mark of what was changed of it, and so has what stays in it. All else, and
+-- what stands in it, has no mark.
+abbrev mutual
+  pub remarked_in : Page → Tree → Tree
+  remarked_in page (tree m us) = tree (record m { mark = mark_of page (tree m us) (page m.id) }) (all_remarked page m.id us)
+
+  pub all_remarked : Page → ℕ → Trees → Trees
+  all_remarked page holder none = none
+  all_remarked page holder (more u us) = more (if is_stable page holder u then remarked_in page u else unmarked u) (all_remarked page holder us)
+
+-- one child of the node with this number
+abbrev pub remarked_child : Page → ℕ → Tree → Tree
+remarked_child page holder u = if is_stable page holder u then remarked_in page u else unmarked u
+
+-- an edited tree, with the marks of its difference from a page's
+unfoldable pub remarked : Tree → Tree → Tree
+remarked t u = remarked_in (page_of t) u

@@ -1,0 +1,148 @@
+//! An edited tree with the marks of its difference, and no others.
+
+ghost use Rattle.std.specs.Prelude.{◌≡◌, IfOk};
+ghost use Rattle.wt_tree.specs.Tiling.{InPreorder};
+ghost use Rattle.wt_tree.specs.Tree.{label};
+ghost use Rattle.wt_tree.specs.View.{view, views};
+ghost use Rattle.wt_tree.specs.declared.kind.Kind.TheVariants as kind;
+ghost use Rattle.wt_tree.specs.declared.node.Node.{out-Node};
+ghost use Rattle.wt_checks.specs.View.{indexed};
+ghost use Rattle.wt_difference.specs.Remarked.{
+  all_remarked,
+  all_unmarked,
+  mark_between,
+  mark_of,
+  remarked,
+  remarked_child,
+  remarked_in,
+  unmarked,
+};
+
+use crate::differing::{same_children, same_inside, stays_in};
+use crate::insides::is_block_part;
+use std::alloc::Global;
+use wt_checks::{Visit, numbered_nodes, original};
+use wt_span::{List, NoMemory};
+use wt_tree::{Mark, Node};
+
+// ---- no marks
+
+#[cycle(unmarking)]
+fn unmarked<'a>(alloc: Global, node: Node<'a>) -> Result<Node<'a>, NoMemory>
+    ensures { IfOk result (λ n. view n ≡ unmarked (view node.entry)) }
+{
+    let children = all_unmarked(alloc, node.children)?;
+    let mark = Mark::Nothing;
+    Ok(Node {
+        mark,
+        children,
+        ..node
+    })
+}
+
+#[cycle(unmarking)]
+fn all_unmarked<'a>(alloc: Global, nodes: List<Node<'a>>) -> Result<List<Node<'a>>, NoMemory>
+    ensures { IfOk result (λ l. views l ≡ all_unmarked (views nodes.entry)) }
+{
+    let mut out = Vec::with_capacity(alloc, nodes.len())?;
+    for node in nodes.into_vec() {
+        let node = unmarked(alloc, node)?;
+        out.push(node)?;
+    }
+    Ok(List::from_vec(out))
+}
+
+// ---- the marks of the difference
+
+fn mark_between(
+    alloc: Global,
+    index: &[Visit<'_, '_>],
+    old: &Node<'_>,
+    new: &Node<'_>,
+) -> Result<Mark, NoMemory>
+    ensures { IfOk result (λ m. m ≡ mark_between (indexed index.now) (view old.now) (view new.now)) }
+{
+    if !same_inside(alloc, old, new)? {
+        return Ok(Mark::Content);
+    }
+    if !same_children(alloc, index, old, new)? {
+        return Ok(Mark::Children);
+    }
+    Ok(Mark::Nothing)
+}
+
+fn mark_of(alloc: Global, index: &[Visit<'_, '_>], node: &Node<'_>) -> Result<Mark, NoMemory>
+    ensures { IfOk result (λ m. m ≡ mark_of (indexed index.now) (view node.now) (indexed index.now (out-Node node.now).id)) }
+{
+    match original(index, node.id) {
+        None => Ok(Mark::Nothing),
+        Some(visit) => mark_between(alloc, index, visit.node, node),
+    }
+}
+
+#[cycle(remarking)]
+fn remarked_in<'a>(
+    alloc: Global,
+    index: &[Visit<'_, '_>],
+    node: Node<'a>,
+) -> Result<Node<'a>, NoMemory>
+    ensures { IfOk result (λ n. view n ≡ remarked_in (indexed index.now) (view node.entry)) }
+{
+    let mark = mark_of(alloc, index, &node)?;
+    let children = all_remarked(alloc, index, node.id, node.children)?;
+    Ok(Node {
+        mark,
+        children,
+        ..node
+    })
+}
+
+#[cycle(remarking)]
+fn remarked_child<'a>(
+    alloc: Global,
+    index: &[Visit<'_, '_>],
+    holder: u32,
+    node: Node<'a>,
+) -> Result<Node<'a>, NoMemory>
+    ensures { IfOk result (λ n. view n ≡ remarked_child (indexed index.now) holder (view node.entry)) }
+{
+    if is_block_part(node.kind) && stays_in(index, holder, &node) {
+        remarked_in(alloc, index, node)
+    } else {
+        unmarked(alloc, node)
+    }
+}
+
+#[cycle(remarking)]
+fn all_remarked<'a>(
+    alloc: Global,
+    index: &[Visit<'_, '_>],
+    holder: u32,
+    nodes: List<Node<'a>>,
+) -> Result<List<Node<'a>>, NoMemory>
+    ensures { IfOk result (λ l. views l ≡ all_remarked (indexed index.now) holder (views nodes.entry)) }
+{
+    let mut out = Vec::with_capacity(alloc, nodes.len())?;
+    for node in nodes.into_vec() {
+        let node = remarked_child(alloc, index, holder, node)?;
+        out.push(node)?;
+    }
+    Ok(List::from_vec(out))
+}
+
+/// An edited tree with the marks of its difference from a page's tree, and no others: a node whose inside
+/// was changed is marked `content`, one whose children alone were changed `children`. The marks that it
+/// had don't count.
+#[tactic(auto, unfolding(crate::specs::Remarked::remarked))]
+pub fn remark<'a>(
+    alloc: Global,
+    page: &Node<'_>,
+    edited: Node<'a>,
+) -> Result<Node<'a>, NoMemory>
+    requires body { (label (view page.now)).kind ≡ kind.Body }
+    requires numbered { ∥ InPreorder (view page.now) ∥₁ }
+    ensures { IfOk result (λ u. view u ≡ remarked (view page.now) (view edited.entry)) }
+{
+    let index = numbered_nodes(alloc, page)?;
+    remarked_in(alloc, index.as_slice(), edited)
+}
