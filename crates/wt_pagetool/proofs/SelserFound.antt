@@ -24,7 +24,7 @@ use Rattle.wt_tree.specs.View.{view}
 use Rattle.wt_pagetool.specs.declared.output.Output.{Output}
 use Rattle.wt_pagetool.specs.declared.refusal.Refusal.{Refusal}
 use Rattle.wt_pagetool.specs.declared.refusal.Refusal.TheVariants as refusal
-use Rattle.wt_pagetool.specs.declared.selser_command.Compared.{Compared}
+use Rattle.wt_pagetool.specs.declared.selser_command.Beside.{Beside}
 use Rattle.wt_pagetool.specs.declared.status.Status.{Status}
 use Rattle.wt_pagetool.specs.declared.status.Status.TheVariants as status
 use Rattle.wt_pagetool.specs.Answers.{Answer, done, refused, expanded_by, input_answer, nodes_answer, refusal_alone, refusal_of_page, remarked_of, selser_told, taken_answer, taken_from, taken_of, taken_to, title_answer, IsText}
@@ -32,7 +32,7 @@ use Rattle.wt_pagetool.specs.Causes.{Answered, Refuses, RefusesInput, RefusesTit
 use Rattle.wt_pagetool.specs.Inputs.{FedWhole}
 use Rattle.wt_pagetool.specs.Refusals.{status_of}
 use Rattle.wt_pagetool.specs.Selser.{are_none, AnswersSelser, Finds, FindsFor, FindsNew, FindsNone, FindsUnder, OrFound}
-use Rattle.wt_pagetool.specs.Tried.{IsCompared}
+use Rattle.wt_pagetool.specs.Tried.{IsBeside}
 use Rattle.wt_pagetool.proofs.AnswerLaws.{input_within}
 use Rattle.wt_pagetool.proofs.ExpandLaws.{fetched_as, refusal_is}
 use Rattle.wt_pagetool.proofs.PageLaws.{title_stands}
@@ -101,15 +101,15 @@ memory_found a pages items page t u same (Err r) is =
     (failed_or a (FindsNew pages items page t u same (failed refusal.NoMemory)) refusal.NoMemory tt tt)
 
 -- the edited tree beside the tree that was found
-beside_at : (pages : Pages) (items : Expanded) (page : List ℕ) (t edited : Tree) (c : Compared) (result : Result Output Refusal) → IsCompared t edited c
+beside_at : (pages : Pages) (items : Expanded) (page : List ℕ) (t edited : Tree) (c : Beside) (result : Result Output Refusal) → IsBeside t edited c
     → FindsNew pages items page t (view c.edited) c.same result
     → FindsNew pages items page t (remarked t edited) (are_none (difference t edited)) result
 beside_at pages items page t edited c result h f =
     subst (λ v. FindsNew pages items page t (remarked t edited) v result) h.same
     (subst (λ (u : Tree). FindsNew pages items page t u c.same result) h.marked f)
 
-pub beside_found : (pages : Pages) (items : Expanded) (page : List ℕ) (t v edited : Tree) (c : Compared) (result : Result Output Refusal) → v ≡ t
-    → IsCompared v edited c → c.refused ≡ None → FindsNew pages items page v (view c.edited) c.same result
+pub beside_found : (pages : Pages) (items : Expanded) (page : List ℕ) (t v edited : Tree) (c : Beside) (result : Result Output Refusal) → v ≡ t
+    → IsBeside v edited c → c.refused ≡ None → FindsNew pages items page v (view c.edited) c.same result
     → OrFound (nodes_answer page (nodes_checked t (remarked t edited)))
     (FindsNew pages items page t (remarked t edited) (are_none (difference t edited)) result) result
 beside_found pages items page t v edited c result is h none f =
@@ -119,8 +119,8 @@ beside_found pages items page t v edited c result is h none f =
     (FindsNew pages items page v (remarked v edited) (are_none (difference v edited)) result) result (sym h.refused ∙ none)
     (beside_at pages items page v edited c result h f))
 
-pub beside_refused : (pages : Pages) (items : Expanded) (page : List ℕ) (t v edited : Tree) (c : Compared) (check : Check) → v ≡ t
-    → IsCompared v edited c → c.refused ≡ Some check
+pub beside_refused : (pages : Pages) (items : Expanded) (page : List ℕ) (t v edited : Tree) (c : Beside) (check : Check) → v ≡ t
+    → IsBeside v edited c → c.refused ≡ Some check
     → OrFound (nodes_answer page (nodes_checked t (remarked t edited)))
     (FindsNew pages items page t (remarked t edited) (are_none (difference t edited)) (failed (refusal.Checked check))) (failed (refusal.Checked check))
 beside_refused pages items page t v edited c check is h some =

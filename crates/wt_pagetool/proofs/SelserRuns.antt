@@ -3,6 +3,7 @@ use Rattle.std.proofs.Common.{◌≡◌, ℕ, ◌≤◌, List, length, Bool, tru
 use Rattle.std.specs.Prelude.{◌⊎◌, Option, Some, None, IfSome, IfErr, OnOk, Result, Ok, Err}
 use Rattle.std.specs.Io.KnownBytes.{Appends, IsAtEnd}
 use Rattle.wt_checks.specs.Checked.{checked, nodes_checked}
+use Rattle.wt_checks.proofs.NodesAlone.{taken_alone}
 use Rattle.wt_checks.specs.declared.refusal.Check.{Check}
 use Rattle.wt_difference.specs.Difference.{difference}
 use Rattle.wt_expand.specs.PageCalls.{expanded_page}
@@ -39,7 +40,7 @@ use Rattle.wt_pagetool.proofs.AnswerLaws.{input_done, input_within}
 use Rattle.wt_pagetool.proofs.EditLaws.{answer_ok, new_done, unspelled_done}
 use Rattle.wt_pagetool.proofs.PageLaws.{expanded_done, page_text, title_made, title_stands}
 use Rattle.wt_pagetool.proofs.RunLaws.{FoundDone, ended_of, found_done}
-use Rattle.wt_pagetool.proofs.SelserShown.{nodes_pass, remarked_shown}
+use Rattle.wt_pagetool.proofs.SelserShown.{remarked_shown}
 use Rattle.wt_pagetool.proofs.ShownLaws.{same_shown, page_face, read_face}
 use Rattle.wt_pagetool.proofs.EditLaws.{restored_bare}
 use Rattle.wt_pagetool.proofs.StatusLaws.{is_done, is_edit_refused, IsUnansweredBy, unanswered}
@@ -257,7 +258,7 @@ as_edit pages page (as_page edited unsourced) found d o =
     let e = expanded_done (edit_from pages page u) d.0 (refusal_of_page pages page) d.1 in
     let allowed : checked false t u ≡ None = edit_allows pages page u (answer_of_edit pages page u) d.0 refl e.1 in
     let taken : taken_to pages page edited ≡ done page =
-    ap (expanded_by (taken_from pages page edited)) e.0 ∙ ap (nodes_answer page) (nodes_pass t u allowed) in
+    ap (expanded_by (taken_from pages page edited)) e.0 ∙ ap (nodes_answer page) (taken_alone t u allowed) in
     edited_finds pages (expanded_page pages page) page t u (are_none (difference t edited)) d.0 found e.1
     (subst (λ a. OrFound a (Finds pages page edited found) found) taken o)
 as_edit pages page (ill place why) found d o = absurd d

@@ -25,7 +25,7 @@ use Rattle.wt_pagetool.specs.declared.reading_back.Fault.{Fault}
 use Rattle.wt_pagetool.specs.declared.reading_back.Fault.TheVariants as fault
 use Rattle.wt_pagetool.specs.declared.proposing.Tried.{Tried}
 use Rattle.wt_pagetool.specs.declared.proposing.Tried.TheVariants as tried
-use Rattle.wt_pagetool.specs.declared.selser_command.Compared.{Compared}
+use Rattle.wt_pagetool.specs.declared.selser_command.Beside.{Beside}
 use Rattle.wt_pagetool.specs.declared.refusal.Refusal.{Refusal}
 use Rattle.wt_pagetool.specs.declared.refusal.Refusal.TheVariants.{BadContent, NewPageTooLong, NewExpansion, Unspelled, FolderFault, NoMemory}
 use Rattle.wt_pagetool.specs.Selser.{are_none, IsNewPage, IsProposed, PageMustDo, ReadsBack}
@@ -62,7 +62,7 @@ last_refusal of_edit.NoMemory first = NoMemory
 -- ---- an edited tree beside the page's
 
 -- it has the marks of the difference; whether there is none is told, and the first check that refuses a node
-pub record IsCompared (t edited : Tree) (c : Compared) : Type 0 where
+pub record IsBeside (t edited : Tree) (c : Beside) : Type 0 where
   pub marked : view c.edited ≡ remarked t edited
   pub same : c.same ≡ are_none (difference t edited)
   pub refused : c.refused ≡ nodes_checked t (remarked t edited)

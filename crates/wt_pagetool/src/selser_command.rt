@@ -20,7 +20,7 @@ ghost use Rattle.wt_pagetool.specs.Answers.{input_answer, nodes_answer, selser_t
 ghost use Rattle.wt_pagetool.specs.Causes.{Answered, IsKept, IsOfEdit};
 ghost use Rattle.wt_pagetool.specs.Inputs.{GivesAtMost};
 ghost use Rattle.wt_pagetool.specs.Selser.{are_none, AnswersSelser, Finds, FindsFor, FindsNew, OrFound};
-ghost use Rattle.wt_pagetool.specs.Tried.{IsCompared, KnowsOf};
+ghost use Rattle.wt_pagetool.specs.Tried.{IsBeside, KnowsOf};
 
 use crate::fetch::fetched_page;
 use crate::known_page::{KnownPage, known_page};
@@ -41,7 +41,7 @@ use wt_tree::Node;
 
 /// An edited tree beside the page's.
 #[derive(Drop)]
-struct Compared<'a> {
+struct Beside<'a> {
     /// The edited tree with the marks of its difference from the page's, and no others.
     edited: Node<'a>,
     /// Whether nothing differs.
@@ -70,19 +70,20 @@ fn is_same(alloc: Global, page: &Node<'_>, edited: &Node<'_>) -> Result<bool, No
     Ok(are_none(changed.as_slice()))
 }
 
-fn compared<'a>(
+/// Sets an edited tree beside a page's.
+fn set_beside<'a>(
     alloc: Global,
     page: &Node<'_>,
     edited: Node<'a>,
-) -> Result<Compared<'a>, NoMemory>
+) -> Result<Beside<'a>, NoMemory>
     requires body { (label (view page.now)).kind ≡ kind.Body }
     requires numbered { ∥ InPreorder (view page.now) ∥₁ }
-    ensures { IfOk result (λ c. IsCompared (view page.now) (view edited.entry) c) }
+    ensures { IfOk result (λ c. IsBeside (view page.now) (view edited.entry) c) }
 {
     let same = is_same(alloc, page, &edited)?;
     let edited = remark(alloc, page, edited)?;
     let refused = check_nodes(alloc, page, &edited)?;
-    Ok(Compared {
+    Ok(Beside {
         edited,
         same,
         refused,
@@ -116,7 +117,7 @@ fn page_of_found<'a, F: Folder>(
         expansion,
     } = found;
     let tree = annotated.body();
-    let beside = compared(alloc, tree, edited)?;
+    let beside = set_beside(alloc, tree, edited)?;
     match beside.refused {
         Some(check) => Err(Refusal::Checked(check)),
         None => {

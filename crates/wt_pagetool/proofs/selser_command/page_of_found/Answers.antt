@@ -10,8 +10,8 @@ use Rattle.wt_pagetool.specs.Selser.{are_none, FindsNew}
 use Rattle.wt_pagetool.proofs.SelserFound.{beside_found, beside_refused, memory_found}
 use Rattle.wt_pagetool.proofs.selser_command.page_of_found.Goals as goal
 
-pub compared-requires-clause-body : goal.compared-requires-clause-body
-compared-requires-clause-body g c = ap (λ t. (label t).kind) (ap view c.body-tree.ensures.body) ∙ c.requires.body
+pub set_beside-requires-clause-body : goal.set_beside-requires-clause-body
+set_beside-requires-clause-body g c = ap (λ t. (label t).kind) (ap view c.body-tree.ensures.body) ∙ c.requires.body
 
 pub new_page-requires-clause-body : goal.new_page-requires-clause-body
 new_page-requires-clause-body g c = ap (λ t. (label t).kind) (ap view c.body-tree.ensures.body) ∙ c.requires.body
