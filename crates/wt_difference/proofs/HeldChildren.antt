@@ -77,12 +77,12 @@ opened_section cs ds n b f g h =
     h ∙ ap (appended (child_views cs)) (sym (ap (λ t. opened_before t none) (view_out n) ∙ if_true (is_section (out-Node n).kind) _ _ (sym f ∙ g)))
 
 -- one node more as it stands
-pub all_turn : (cs ds : List Child) (ns : List Node) (i : ℕ) (c : Child) (all : Trees) → i < length ns → c.node.now ≡ get_or ns i c.node.now
-    → ds ≡ cs ++ c ∷ [] → appended (child_views cs) (views (drop i ns)) ≡ all → appended (child_views ds) (views (drop (i + 1) ns)) ≡ all
-all_turn cs ds ns i c all lt is e h =
-    ap (λ ts. appended ts (views (drop (i + 1) ns))) (ap child_views e ∙ children_push cs c)
-    ∙ appended_twice (child_views cs) (more (view c.node.now) none) (views (drop (i + 1) ns))
-    ∙ ap (λ zs. appended (child_views cs) (views zs)) (sym (drop_here ns i c.node.now lt is)) ∙ h
+pub all_turn : (cs ds : List Child) (ns : List Node) (i : ℕ) (n : Node) (c : Child) (all : Trees) → ds ≡ cs ++ c ∷ [] → c.node.now ≡ n
+    → i < length ns → n ≡ get_or ns i n → appended (child_views cs) (views (drop i ns)) ≡ all → appended (child_views ds) (views (drop (i + 1) ns)) ≡ all
+all_turn cs ds ns i n c all e f lt is h =
+    ap (λ ts. appended ts (views (drop (i + 1) ns))) (ap child_views e ∙ children_push cs c ∙ ap (λ m. appended (child_views cs) (more (view m) none)) f)
+    ∙ appended_twice (child_views cs) (more (view n) none) (views (drop (i + 1) ns))
+    ∙ ap (λ zs. appended (child_views cs) (views zs)) (sym (drop_here ns i n lt is)) ∙ h
 
 pub all_end : (cs : List Child) (ns : List Node) (i : ℕ) (all : Trees) → length ns ≤ i → appended (child_views cs) (views (drop i ns)) ≡ all → child_views cs ≡ all
 all_end cs ns i all ge h = sym (appended_none (child_views cs)) ∙ ap (λ zs. appended (child_views cs) (views zs)) (sym (drop_all i ns ge)) ∙ h

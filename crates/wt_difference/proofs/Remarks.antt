@@ -1,16 +1,24 @@
 -- Marks are taken off and set node by node; and they are all that is new in the remarked tree.
 use Rattle.std.proofs.Common.{◌≡◌, ℕ, Bool, true, false, List, [], ◌∷◌, ◌++◌, refl, sym, ap, ap₂, ◌∙◌}
-use Rattle.std.specs.Prelude.{if◌then◌else◌, Option}
+use Rattle.std.specs.Prelude.{◌&&◌, not, if◌then◌else◌, Option}
 use Rattle.wt_tree.specs.Recutting.{appended}
-use Rattle.wt_tree.specs.Tree.{Label, Tree, tree, Trees, none, more}
+use Rattle.wt_tree.specs.Tiling.{is_group}
+use Rattle.wt_tree.specs.Tree.{Label, Tree, tree, Trees, none, more, label}
 use Rattle.wt_tree.specs.View.{view, views, label_of}
+use Rattle.wt_tree.specs.declared.kind.Kind.{Kind}
+use Rattle.wt_tree.specs.declared.kind.Kind.TheVariants as kind
 use Rattle.wt_tree.specs.declared.kind.Mark.{Mark}
 use Rattle.wt_tree.specs.declared.kind.Mark.TheVariants as marks
 use Rattle.wt_tree.specs.declared.node.Node.{Node, out-Node}
 use Rattle.wt_tree.proofs.Views.{view_out}
 use Rattle.wt_checks.specs.Places.{Place, Page, page_of}
-use Rattle.wt_difference.specs.Difference.{is_stable}
-use Rattle.wt_difference.specs.Remarked.{unmarked, all_unmarked, mark_of, remarked_in, all_remarked, remarked_child, remarked}
+use Rattle.wt_checks.specs.Groups.{has_mark, have_mark}
+use Rattle.wt_checks.specs.Places.{is_body}
+use Rattle.wt_checks.specs.WithoutMarks.{unmarked, all_unmarked, groups_unmarked, all_groups_unmarked}
+use Rattle.wt_checks.proofs.NodesUnmarked.{no_mark_off}
+use Rattle.wt_difference.specs.Difference.{is_stable, stays_in}
+use Rattle.wt_difference.specs.Insides.{is_block_part}
+use Rattle.wt_difference.specs.Remarked.{mark_of, remarked_in, all_remarked, remarked_child, remarked}
 use Rattle.wt_difference.proofs.HeldChildren.{appended_none, appended_twice}
 
 views_push : (ns : List Node) (n : Node) → views (ns ++ n ∷ []) ≡ appended (views ns) (more (view n) none)
@@ -71,3 +79,59 @@ mutual
 pub marks_alone : (t u : Tree) → unmarked (remarked t u) ≡ unmarked u
 unfolding remarked
 marks_alone t u = marks_in (page_of t) u
+
+-- ---- groups
+
+and_left : (a b : Bool) → (a && b) ≡ true → a ≡ true
+and_left true b e = refl
+and_left false b e = absurd (cc)
+
+both_true : (a b : Bool) → a ≡ true → b ≡ true → (a && b) ≡ true
+both_true true b e f = f
+both_true false b e f = absurd (cc)
+
+pub block_no_group : (k : Kind) → is_block_part k ≡ true → is_group k ≡ false
+block_no_group kind.Group e = absurd (cc)
+block_no_group k e = refl
+
+body_no_group : (k : Kind) → is_body k ≡ true → is_group k ≡ false
+body_no_group kind.Group e = absurd (cc)
+body_no_group k e = refl
+
+free_by : (g h b : Bool) → h ≡ false → b ≡ true → (if g then not h else b) ≡ true
+free_by true h b e f = ap not e
+free_by false h b e f = f
+
+mutual
+  off_free : (t : Tree) → groups_unmarked (unmarked t) ≡ true
+  off_free (tree l ts) = free_by (is_group l.kind) (has_mark (unmarked (tree l ts))) (all_groups_unmarked (all_unmarked ts)) (no_mark_off (tree l ts)) (all_off_free ts)
+
+  all_off_free : (ts : Trees) → all_groups_unmarked (all_unmarked ts) ≡ true
+  all_off_free none = refl
+  all_off_free (more t ts) = both_true (groups_unmarked (unmarked t)) (all_groups_unmarked (all_unmarked ts)) (off_free t) (all_off_free ts)
+
+either_free : (b : Bool) (t u : Tree) → (b ≡ true → groups_unmarked t ≡ true) → groups_unmarked u ≡ true → groups_unmarked (if b then t else u) ≡ true
+either_free true t u e f = e refl
+either_free false t u e f = f
+
+no_group_free : (g h b : Bool) → g ≡ false → b ≡ true → (if g then not h else b) ≡ true
+no_group_free true h b e f = absurd (cc)
+no_group_free false h b e f = f
+
+mutual
+  free_in : (page : Page) (u : Tree) → is_group (label u).kind ≡ false → groups_unmarked (remarked_in page u) ≡ true
+  free_in page (tree m us) g =
+      no_group_free (is_group m.kind) (has_mark (remarked_in page (tree m us))) (all_groups_unmarked (all_remarked page m.id us)) g (all_free_in page m.id us)
+
+  all_free_in : (page : Page) (holder : ℕ) (us : Trees) → all_groups_unmarked (all_remarked page holder us) ≡ true
+  all_free_in page holder none = refl
+  all_free_in page holder (more u us) =
+      both_true (groups_unmarked (remarked_child page holder u)) (all_groups_unmarked (all_remarked page holder us))
+      (either_free (is_stable page holder u) (remarked_in page u) (unmarked u)
+      (λ e. free_in page u (block_no_group (label u).kind (and_left (is_block_part (label u).kind) (stays_in page holder u) e)))
+      (off_free u))
+      (all_free_in page holder us)
+
+pub groups_free : (t u : Tree) → is_body (label u).kind ≡ true → groups_unmarked (remarked t u) ≡ true
+unfolding remarked
+groups_free t u b = free_in (page_of t) u (body_no_group (label u).kind b)

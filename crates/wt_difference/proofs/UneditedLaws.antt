@@ -27,6 +27,7 @@ use Rattle.wt_difference.specs.declared.region.Region.{Region}
 use Rattle.wt_difference.specs.declared.region.Region.TheVariants.{Inside, Children}
 use Rattle.wt_difference.specs.Insides.{is_block_part, has_inside, is_separator, ends_inside, before_blocks, from_blocks, inside, held}
 use Rattle.wt_difference.specs.Tokens.{Token, characters, opens, closes, is_text, tokens, all_tokens, same_label, same_token, same_tokens}
+use Rattle.wt_difference.proofs.Remarks.{block_no_group}
 use Rattle.wt_difference.specs.Unedited.{SameLabel, GroupOr, IsUnedited, AreUnedited}
 
 -- ---- tests
@@ -276,9 +277,6 @@ unchanged page t u o q e f a b =
     ∙ ap (λ x. unless (same_inside x u) Inside x u ++ unless (same_children page x u) Children x u) f
     ∙ ap₂ (λ xs ys. xs ++ ys) (nothing_if (same_inside t u) Inside t u a) (nothing_if (same_children page t u) Children t u b)
 
-block_no_group : (k : Kind) → is_block_part k ≡ true → is_group k ≡ false
-block_no_group kind.Group e = absurd (cc)
-block_no_group k e = refl
 
 stable_number : (page : Page) (holder : ℕ) (u : Tree) (o : Option Place) → is_partner holder u o ≡ true → (label u).id ≢ 0
 stable_number page holder u None e = absurd (cc)

@@ -4,16 +4,8 @@ use Rattle.wt_tree.specs.declared.kind.Mark.{Mark}
 use Rattle.wt_tree.specs.declared.kind.Mark.TheVariants as marks
 use Rattle.wt_tree.specs.Tree.{Tree, tree, Trees, none, more}
 use Rattle.wt_checks.specs.Places.{Place, Page, page_of}
+use Rattle.wt_checks.specs.WithoutMarks.{unmarked}
 use Rattle.wt_difference.specs.Difference.{same_inside, same_children, is_stable}
-
--- a tree without any mark
-abbrev mutual
-  pub unmarked : Tree → Tree
-  unmarked (tree l ts) = tree (record l { mark = marks.Nothing }) (all_unmarked ts)
-
-  pub all_unmarked : Trees → Trees
-  all_unmarked none = none
-  all_unmarked (more t ts) = more (unmarked t) (all_unmarked ts)
 
 -- A node whose inside was changed is marked `content`, whatever else was changed of it; one whose children
 -- alone were changed is marked `children`.

@@ -7,15 +7,14 @@ ghost use Rattle.wt_tree.specs.View.{view, views};
 ghost use Rattle.wt_tree.specs.declared.kind.Kind.TheVariants as kind;
 ghost use Rattle.wt_tree.specs.declared.node.Node.{out-Node};
 ghost use Rattle.wt_checks.specs.View.{indexed};
+ghost use Rattle.wt_checks.specs.WithoutMarks.{all_unmarked, unmarked};
 ghost use Rattle.wt_difference.specs.Remarked.{
   all_remarked,
-  all_unmarked,
   mark_between,
   mark_of,
   remarked,
   remarked_child,
   remarked_in,
-  unmarked,
 };
 
 use crate::differing::{same_children, same_inside, stays_in};

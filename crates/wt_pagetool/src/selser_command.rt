@@ -60,7 +60,11 @@ fn are_none(changed: &[Changed<'_, '_>]) -> bool
 }
 
 /// Whether an edited tree doesn't differ from a page's.
-fn is_same(alloc: Global, page: &Node<'_>, edited: &Node<'_>) -> Result<bool, NoMemory>
+fn is_same<'t, 'a>(
+    alloc: Global,
+    page: &'t Node<'a>,
+    edited: &'t Node<'a>,
+) -> Result<bool, NoMemory>
     requires body { (label (view page.now)).kind ≡ kind.Body }
     requires numbered { ∥ InPreorder (view page.now) ∥₁ }
     ensures { IfOk result (λ b. b ≡ are_none (difference (view page.now) (view edited.now))) }
@@ -73,7 +77,7 @@ fn is_same(alloc: Global, page: &Node<'_>, edited: &Node<'_>) -> Result<bool, No
 /// Sets an edited tree beside a page's.
 fn set_beside<'a>(
     alloc: Global,
-    page: &Node<'_>,
+    page: &Node<'a>,
     edited: Node<'a>,
 ) -> Result<Beside<'a>, NoMemory>
     requires body { (label (view page.now)).kind ≡ kind.Body }
