@@ -178,6 +178,6 @@ pub fn read_back<'a, F: Folder>(
     let text = edit.arena.try_alloc_str(new)?;
     match text_of_page(text.as_bytes()) {
         Ok(page) => read_text(alloc, page, edit, folder, expansion),
-        Err(_) => Ok(ReadBack::Fails(Fault::TooLong, expansion)),
+        Err(_refusal) => Ok(ReadBack::Fails(Fault::TooLong, expansion)),
     }
 }

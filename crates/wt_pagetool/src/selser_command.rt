@@ -84,9 +84,9 @@ fn set_beside<'a>(
     requires numbered { ∥ InPreorder (view page.now) ∥₁ }
     ensures { IfOk result (λ c. IsBeside (view page.now) (view edited.entry) c) }
 {
-    let same = is_same(alloc, page, &edited)?;
-    let edited = remark(alloc, page, edited)?;
-    let refused = check_nodes(alloc, page, &edited)?;
+    let same = is_same(alloc, &*page, &edited)?;
+    let edited = remark(alloc, &*page, edited)?;
+    let refused = check_nodes(alloc, &*page, &edited)?;
     Ok(Beside {
         edited,
         same,

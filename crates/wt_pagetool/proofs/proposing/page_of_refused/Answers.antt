@@ -1,4 +1,4 @@
-use Rattle.std.proofs.Common.{◌≡◌, Err, rules}
+use Rattle.std.proofs.Common.{◌≡◌, false, Err, rules}
 use Rattle.wt_tree.specs.View.{view}
 use Rattle.wt_pagetool.proofs.SelserLaws.{fault_found, fault_of_edit, finds_refused, proposal_stands, refusal_of_edit_last}
 use Rattle.wt_pagetool.proofs.proposing.page_of_refused.Goals as goal
@@ -8,13 +8,13 @@ returns-in-Stands-clause-found g c = λ pages told knows.
     proposal_stands pages c.args.edit.now.items.now c.args.edit.now.page.now (view c.args.edit.now.tree.now) (view c.args.edit.now.edited.now) c.in-Stands.new
     c.in_ok-tried.tried c.in-Stands.is (c.in_ok-tried.ensures.tried pages told knows)
 
-pub returns-in-Fails-clause-found : goal.returns-in-Fails-clause-found
-returns-in-Fails-clause-found g c = λ pages told knows.
+pub returns-clause-found : goal.returns-clause-found
+returns-clause-found g c = λ pages told knows.
     finds_refused pages c.args.edit.now.items.now c.args.edit.now.page.now (view c.args.edit.now.tree.now) (view c.args.edit.now.edited.now)
     c.last_refusal.result c.args.refusal c.args.fault c.last_refusal.ensures c.requires.edited
 
-pub returns-in-Fails-clause-of_edit : goal.returns-in-Fails-clause-of_edit
-returns-in-Fails-clause-of_edit g c = refusal_of_edit_last _ _ c.args.refusal c.args.fault c.last_refusal.result c.last_refusal.ensures
+pub returns-clause-of_edit : goal.returns-clause-of_edit
+returns-clause-of_edit g c = refusal_of_edit_last _ _ c.args.refusal c.args.fault c.last_refusal.result c.last_refusal.ensures
 
 pub returns-in_err-tried-clause-found : goal.returns-in_err-tried-clause-found
 returns-in_err-tried-clause-found g c = λ pages told knows.

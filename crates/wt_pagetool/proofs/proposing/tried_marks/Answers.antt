@@ -12,7 +12,7 @@ returns-in-Shows-clause-holds g c =
     marks_hold (view c.args.edit.now.tree.now) (view c.args.edit.now.edited.now) c.args.new c.in_ok-back.back c.in-Shows.found
     c.in_ok-tried-in-Shows.tried c.in-Shows.is c.in_ok-back.ensures.holds c.in_ok-tried-in-Shows.ensures
 
-pub returns-in-Fails-clause-tried : goal.returns-in-Fails-clause-tried
-returns-in-Fails-clause-tried g c = λ pages told knows.
+pub returns-clause-tried : goal.returns-clause-tried
+returns-clause-tried g c = λ pages told knows.
     (page_fails pages (view c.args.edit.now.tree.now) (view c.args.edit.now.edited.now) c.args.new c.as_str.result.now c.in_ok-back.back _ _ c.in-Fails.is
     c.as_str.ensures (c.in_ok-back.ensures.read pages told knows)).1

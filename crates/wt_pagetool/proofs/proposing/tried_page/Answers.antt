@@ -10,7 +10,7 @@ returns-in-Shows-clause-tried g c = λ pages told knows. (
   c.as_str.ensures (c.in_ok-back.ensures.read pages told knows),
 )
 
-pub returns-in-Fails-clause-tried : goal.returns-in-Fails-clause-tried
-returns-in-Fails-clause-tried g c = λ pages told knows.
+pub returns-clause-tried : goal.returns-clause-tried
+returns-clause-tried g c = λ pages told knows.
     page_fails pages (view c.args.edit.now.tree.now) (view c.args.edit.now.edited.now) c.args.new c.as_str.result.now c.in_ok-back.back _ _ c.in-Fails.is
     c.as_str.ensures (c.in_ok-back.ensures.read pages told knows)

@@ -7,7 +7,7 @@ pub returns-in-None : goal.returns-in-None
 returns-in-None c =
     compared_shows c.args.found (view c.args.edit.now.tree.now) (view c.args.edit.now.edited.now) c.in_ok-child.child c.in-None.is c.in_ok-child.ensures
 
-pub returns-in-Some : goal.returns-in-Some
-returns-in-Some c =
+pub returns : goal.returns
+returns c =
     compared_fails c.args.found (view c.args.edit.now.tree.now) (view c.args.edit.now.edited.now) c.in_ok-child.child c.in-Some.child
     (fault.Block c.in-Some.child) c.in-Some.is c.in_ok-child.ensures

@@ -33,14 +33,14 @@ returns-in-Some-clause-count g c = λ answer.
     absurd (folder_unkept before after (status_of c.in-Some.fault)
     (fault_counted before after c.in-Err.refusal c.in-Some.fault (sym c.in-Some.ensures) c.in-Err.ensures.count) answer)
 
-pub returns-in-None-clause-read : goal.returns-in-None-clause-read
-returns-in-None-clause-read g c = λ pages told knows whole. (
+pub returns-clause-read : goal.returns-clause-read
+returns-clause-read g c = λ pages told knows whole. (
   unread_as pages (view c.args.edit.now.tree.now) (view c.args.edit.now.edited.now) c.args.new.now c.in-Err.refusal whole (sym c.in-None.ensures)
   (c.in-Err.ensures.refused pages knows.0 told knows.1),
   ([], c.new_expansion.ensures.free pages),
 )
 
-pub returns-in-None-clause-count : goal.returns-in-None-clause-count
-returns-in-None-clause-count g c = λ answer.
+pub returns-clause-count : goal.returns-clause-count
+returns-clause-count g c = λ answer.
     let d = g.F.Folder in
     uncounted (d.fault_count c.args.folder.now) (d.fault_count c.known_page.new.folder) c.in-Err.refusal (sym c.in-None.ensures) c.in-Err.ensures.count

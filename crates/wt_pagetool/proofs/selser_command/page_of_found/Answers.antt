@@ -28,8 +28,8 @@ returns-in-Some-clause-answered g c = λ pages told knows.
     beside_refused pages c.args.found.annotated.items c.args.page.now (view c.args.found.annotated.tree.body) (view c.body-tree.result.now)
     (view c.args.edited) c.in_ok-beside.beside c.in-Some.check (ap view c.body-tree.ensures.body) c.in_ok-beside.ensures c.in-Some.is
 
-pub returns-in-None-clause-answered : goal.returns-in-None-clause-answered
-returns-in-None-clause-answered g c = λ pages told knows.
+pub returns-clause-answered : goal.returns-clause-answered
+returns-clause-answered g c = λ pages told knows.
     let beside = c.in_ok-beside.beside in
     let v = view c.body-tree.result.now in
     beside_found pages c.args.found.annotated.items c.args.page.now (view c.args.found.annotated.tree.body) v
