@@ -3,7 +3,6 @@
 
 import { readAhead, save } from "../bughtiso.js";
 import { Ahead } from "./ahead.js";
-import { blocksOf } from "./blocks.js";
 import { ServerRefused, page as readPage, pageThen, revisionOf, store } from "./server.js";
 import { shownDiff } from "./diff.js";
 import { layOver } from "./overlay.js";
@@ -17,9 +16,6 @@ import { sentenceFor } from "./sentences.js";
 const byId = (id) => /** @type {T} */ (/** @type {unknown} */ (document.getElementById(id)));
 
 const WAITING = "The server is asked…";
-
-/** Blocks that an editor makes. */
-const CAN_BE_NEW = "p, h1, h2, h3, h4, h5, h6, hr, div, ul, ol, li";
 
 /**
  * @typedef {{title: string, root: HTMLElement, html: () => string, etag: () => string, say: (text: string) =>
@@ -56,7 +52,7 @@ export class Saving {
     this.isBusy = false;
     this.ahead = new Ahead(page.title, () => {
       if (this.isLocked) return null;
-      return { html: page.html(), etag: page.etag(), written: () => save(page.root, { marks: true }) };
+      return { html: page.html(), etag: page.etag(), written: () => save(page.root) };
     });
     /**
      * The element that a refusal is about.
@@ -86,7 +82,7 @@ export class Saving {
     if (this.isBusy || document.querySelector("dialog[open]") !== null) return;
     this.clear();
     this.restore = this.page.bookmark();
-    this.document = save(this.page.root, { marks: true });
+    this.document = save(this.page.root);
     if (this.document === this.page.html()) {
       this.page.say("Nothing was changed.");
       return;
@@ -184,11 +180,9 @@ export class Saving {
   /** @param {ServerRefused} refused */
   #showRefusal(refused) {
     const isStale = refused.status === 412;
-    const hasNewBlocks = /data-wt-edit="children"/.test(this.document);
-    const isNewBlock = hasNewBlocks && refused.error === "NotEditable";
-    this.place = (isNewBlock ? firstNew(this.page.root) : null) ?? this.#find(refused.node);
+    this.place = this.#find(refused.node);
     this.place?.setAttribute("data-refused", "");
-    byId("refusal-sentence").textContent = sentenceFor(refused, hasNewBlocks);
+    byId("refusal-sentence").textContent = sentenceFor(refused);
     byId("refusal-detail").textContent = refused.line || refused.error;
     byId("refusal-show").hidden = this.place === null;
     const newer = /** @type {HTMLAnchorElement} */ (byId("refusal-newer"));
@@ -235,21 +229,4 @@ function idle() {
     if ("requestIdleCallback" in window) requestIdleCallback(() => done(), { timeout: 500 });
     else setTimeout(done, 50);
   });
-}
-
-/**
- * The first block or item that the page hadn't.
- * @param {HTMLElement} root
- * @returns {Element | null}
- */
-function firstNew(root) {
-  /** @type {Set<string>} */
-  const seen = new Set();
-  const blocks = blocksOf(root).flatMap((block) => [block, ...block.querySelectorAll(":scope > li")]);
-  for (const element of blocks.filter((block) => block.matches(CAN_BE_NEW))) {
-    const id = element.getAttribute("id") ?? "";
-    if (id === "" || seen.has(id)) return element;
-    seen.add(id);
-  }
-  return null;
 }

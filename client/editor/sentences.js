@@ -27,20 +27,15 @@ const BY_NAME = {
   ElementDoesNotFit: "This can't stand here. " + UNDO,
 };
 
-const NO_NEW_BLOCKS =
-  "Paragraphs, headings and items can't be added, joined or taken out here yet. " +
-  "Undo takes this back (Ctrl+Z); other changes can be saved then.";
 const STALE =
   "This page was changed in the meantime. Your text is still here: " +
   "open the newer page in a new tab, and make your change there.";
 
 /**
  * @param {import("./server.js").ServerRefused} refused
- * @param {boolean} hasNewBlocks  whether blocks or items came or went
  * @returns {string}
  */
-export function sentenceFor(refused, hasNewBlocks) {
+export function sentenceFor(refused) {
   if (refused.status === 412) return STALE;
-  if (refused.error === "NotEditable" && hasNewBlocks) return NO_NEW_BLOCKS;
   return BY_NAME[`${refused.error} ${refused.why}`] ?? BY_NAME[refused.error] ?? refused.sentence;
 }

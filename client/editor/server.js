@@ -96,13 +96,13 @@ async function give(title, query, etag, body) {
 /**
  * Asks what an edit would change.
  * @param {string} title
- * @param {string} html
+ * @param {string} html  as `save` of the module writes it, without marks
  * @param {string} etag  of the page that was opened
  * @param {string} [instead]  the word of an edit that won't be stored
  * @returns {Promise<Preview>}
  */
 export function preview(title, html, etag, instead) {
-  return give(title, "?preview=1", etag, { html, instead });
+  return give(title, "?preview=1", etag, { html, mended: true, instead });
 }
 
 /**
@@ -145,7 +145,7 @@ export async function store(title, prepared, html, etag) {
     return (await give(title, "", etag, { prepared })).etag;
   } catch (error) {
     if (!(error instanceof ServerRefused) || error.error !== "NotPrepared") throw error;
-    return (await give(title, "", etag, { html })).etag;
+    return (await give(title, "", etag, { html, mended: true })).etag;
   }
 }
 

@@ -6,6 +6,7 @@ import shutil
 import subprocess
 import tempfile
 import threading
+from functools import cached_property
 from pathlib import Path
 from typing import Optional, Set
 
@@ -77,6 +78,17 @@ class Program:
     def edit(self, title: str, document: bytes) -> bytes:
         """The new page of an edit."""
         return self._run(["edit", title], document)
+
+    def selser(self, title: str, document: bytes) -> bytes:
+        """The new page of an edit without marks. Where the program `takes_unmarked`."""
+        return self._run(["selser", title], document)
+
+    @cached_property
+    def takes_unmarked(self) -> bool:
+        """Whether the program has the command `selser`, which an older one hasn't."""
+        with self._running:
+            _, line, _ = self._finish([], b"", self._room)
+        return " selser TITLE" in line
 
     def wikitext(self, document: bytes) -> bytes:
         """The page that an HTML is."""

@@ -238,22 +238,38 @@ class Site:
         return saved(found)
 
     def _edited(self, request: Request, name: str, fields: Dict[str, object]) -> Edit:
-        """The new page of an edit. HTML that bears a mark was made for `edit`, and is given on as it is while
-        the page's tag is looked at; other HTML is mended and marked first."""
+        """The new page of an edit. HTML that bears a mark was made for `edit`, and HTML that is told to be
+        mended for `selser`: both are given on as they are while the page's tag is looked at. Other HTML is
+        mended first."""
         document = bodies.encoded(bodies.text_field(fields, "html"))
         fingerprint = self.folder.fingerprint()
         with ThreadPoolExecutor(1) as pool:
-            early = pool.submit(self.program.edit, name, document) if MARK.search(document) else None
+            command = self._command_as_it_is(document, fields)
+            early = pool.submit(command, name, document) if command is not None else None
             page, state = self._taken(name)
             self._check_tag(request, state.tag)
+            if early is None or not MARK.search(document):
+                check_kept(document, state.document)
             if early is not None:
                 new = early.result()
             else:
                 check_length(document)
-                check_kept(document, state.document)
                 original = documents.in_form_of(document, state.document, page, unit_of(request, fields))
-                new = self.program.edit(name, marked(document.decode(), original.decode()).encode())
+                new = self._mended_edit(name, document.decode(), original.decode())
         return Edit(name, state.tag, page, new, sent_in(request, name, fields), fingerprint, state.html_hash)
+
+    def _command_as_it_is(self, document: bytes, fields: Dict[str, object]) -> Optional[Callable]:
+        """The command that takes an edit as it is, if one does."""
+        if MARK.search(document):
+            return self.program.edit
+        is_mended = bodies.flag(fields.get("mended")) and self.program.takes_unmarked
+        return self.program.selser if is_mended else None
+
+    def _mended_edit(self, name: str, document: str, original: str) -> bytes:
+        """The new page of HTML without marks. A program without `selser` gets the marks."""
+        if self.program.takes_unmarked:
+            return self.program.selser(name, mended(document, original).encode())
+        return self.program.edit(name, marked(document, original).encode())
 
     def _state_then(self, request: Request, edit: Edit, made: Optional[State]) -> State:
         """The state that the page has once its text is the new one; `made`: as it was made before. Refuses

@@ -41,6 +41,17 @@ class Places(unittest.TestCase):
             with self.subTest(line=line):
                 self.assertEqual(HTML[place_of(line, HTML) :][: len(start)], start)
 
+    def test_blocks_in_sections_are_counted(self) -> None:
+        html = (
+            b'<html><body><section data-mw-section-id="0"><p>one</p><meta typeof="mw:Comment"/></section>'
+            b'<section data-mw-section-id="1"><h2>two</h2><p>three <b>x</b></p>'
+            b'<section data-mw-section-id="2"><h3>four</h3></section></section>'
+            b'<section data-mw-section-id="3"><h2>five</h2></section><p>six</p></body></html>'
+        )
+        found = [html[place_of(f"edit refused: Unspelled {k}", html) :].split(b">")[1][:4] for k in range(1, 7)]
+        self.assertEqual(found, [b"one<", b"two<", b"thre", b"four", b"five", b"six<"])
+        self.assertIsNone(place_of("edit refused: Unspelled 7", html))
+
     def test_lines_and_columns(self) -> None:
         data = "ab\n日本 é\tx\n\n".encode()
         for place, wanted in {0: (1, 1), 2: (1, 3), 3: (2, 1), 9: (2, 3), 12: (2, 5), 14: (2, 7), 15: (3, 1), 16: (4, 1)}.items():
@@ -74,7 +85,7 @@ def bytes_of(field: str) -> bytes:
 class Lines(unittest.TestCase):
     def test_each_kind_of_refusal(self) -> None:
         lines = [
-            "usage: wtround html TITLE | wikitext | edit TITLE | ranges TITLE | expand TITLE | gen N | lint TITLE",
+            "usage: wtround html TITLE | wikitext | edit TITLE | ranges TITLE | expand TITLE | gen N | lint TITLE | selser TITLE",
             "no such page", "page too long", "page not UTF-8 at 7", "html too long", "input too long",
             "braces too deep at 300", "braces too deep at 3 in Template:A b", "expansion too large", "element 3 has no source",
             "Template:X not UTF-8 at 0", "Template:X too long", "Über not UTF-8 at 1", "read fault", "folder fault",

@@ -81,7 +81,7 @@ class Completion(unittest.TestCase):
         return done.stdout.decode().split("\n")[:-1]
 
     def test_commands(self) -> None:
-        self.assertEqual(self.complete(""), ["edit", "expand", "gen", "html", "lint", "ranges", "wikitext"])
+        self.assertEqual(self.complete(""), ["edit", "expand", "gen", "html", "lint", "ranges", "selser", "wikitext"])
         self.assertEqual(self.complete("w"), ["wikitext"])
 
     def test_titles(self) -> None:

@@ -1,5 +1,5 @@
 -- The numbers of children, and the difference of a node and of what it holds, one after another.
-use Rattle.std.proofs.Common.{◌≡◌, ◌<◌, ℕ, ◌+◌, Bool, true, false, List, [], ◌∷◌, ◌++◌, length, drop, get_or, refl, sym, ap, ◌∙◌}
+use Rattle.std.proofs.Common.{◌≡◌, ◌<◌, ℕ, ◌+◌, true, false, List, [], ◌∷◌, ◌++◌, length, drop, get_or, refl, sym, ap, ◌∙◌}
 use Rattle.std.specs.Prelude.{if◌then◌else◌}
 use Rattle.std.specs.List.{flat_map}
 use Rattle.std.proofs.lemmas.List.{at_drop_more}
@@ -11,7 +11,7 @@ use Rattle.wt_checks.specs.Places.{Page}
 use Rattle.wt_checks.specs.Unmarked.{is_compared}
 use Rattle.wt_checks.proofs.Firsts.{if_true, if_false}
 use Rattle.wt_difference.specs.declared.insides.Child.{Child}
-use Rattle.wt_difference.specs.Difference.{Changed, changed, differing, all_differing, differing_child, numbers, numbers_in, stays_in}
+use Rattle.wt_difference.specs.Difference.{changed, differing, all_differing, differing_child, numbers, numbers_in, stays_in}
 use Rattle.wt_difference.specs.Views.{child_views}
 
 -- ---- numbers

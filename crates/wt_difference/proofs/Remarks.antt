@@ -1,18 +1,17 @@
 -- Marks are taken off and set node by node; and they are all that is new in the remarked tree.
 use Rattle.std.proofs.Common.{◌≡◌, ℕ, Bool, true, false, List, [], ◌∷◌, ◌++◌, refl, sym, ap, ap₂, ◌∙◌}
-use Rattle.std.specs.Prelude.{◌&&◌, not, if◌then◌else◌, Option}
+use Rattle.std.specs.Prelude.{◌&&◌, not, if◌then◌else◌}
 use Rattle.wt_tree.specs.Recutting.{appended}
 use Rattle.wt_tree.specs.Tiling.{is_group}
-use Rattle.wt_tree.specs.Tree.{Label, Tree, tree, Trees, none, more, label}
+use Rattle.wt_tree.specs.Tree.{Tree, tree, Trees, none, more, label}
 use Rattle.wt_tree.specs.View.{view, views, label_of}
 use Rattle.wt_tree.specs.declared.kind.Kind.{Kind}
 use Rattle.wt_tree.specs.declared.kind.Kind.TheVariants as kind
-use Rattle.wt_tree.specs.declared.kind.Mark.{Mark}
 use Rattle.wt_tree.specs.declared.kind.Mark.TheVariants as marks
 use Rattle.wt_tree.specs.declared.node.Node.{Node, out-Node}
 use Rattle.wt_tree.proofs.Views.{view_out}
-use Rattle.wt_checks.specs.Places.{Place, Page, page_of}
-use Rattle.wt_checks.specs.Groups.{has_mark, have_mark}
+use Rattle.wt_checks.specs.Places.{Page, page_of}
+use Rattle.wt_checks.specs.Groups.{has_mark}
 use Rattle.wt_checks.specs.Places.{is_body}
 use Rattle.wt_checks.specs.WithoutMarks.{unmarked, all_unmarked, groups_unmarked, all_groups_unmarked}
 use Rattle.wt_checks.proofs.NodesUnmarked.{no_mark_off}

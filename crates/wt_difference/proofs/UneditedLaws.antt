@@ -1,5 +1,5 @@
 -- Where the edited tree is the page's own, there is no difference.
-use Rattle.std.proofs.Common.{◌≡◌, ◌≢◌, ℕ, Bool, true, false, List, [], ◌∷◌, ◌++◌, refl, sym, ap, ap₂, ◌∙◌, subst, arith}
+use Rattle.std.proofs.Common.{◌≡◌, ◌≢◌, ℕ, Bool, true, false, List, [], ◌∷◌, ◌++◌, refl, sym, ap, ap₂, ◌∙◌, subst}
 use Rattle.std.specs.Prelude.{◌==◌, ◌&&◌, ◌||◌, not, if◌then◌else◌, Option, Some, None}
 use Rattle.std.specs.List.{AllByRecursion}
 use Rattle.std.specs.Str.{bytes_eq}
@@ -13,7 +13,7 @@ use Rattle.wt_tree.specs.Tiling.{is_group, InPreorder}
 use Rattle.wt_tree.specs.Tree.{Label, Tree, tree, Trees, none, more, label}
 use Rattle.wt_checks.specs.Alike.{same_kind, same_attrs, same_data}
 use Rattle.wt_checks.specs.BareSections.{IsBareSection, AreBareSections, HasBareSections}
-use Rattle.wt_checks.specs.Places.{Place, placed, all_placed, places, number, is_content, is_body, Page, page_of, parent_below}
+use Rattle.wt_checks.specs.Places.{Place, placed, all_placed, places, is_content, is_body, Page, page_of, parent_below}
 use Rattle.wt_checks.specs.PutBack.{is_frame, has_frame, have_frame, IsOneBody}
 use Rattle.wt_checks.specs.Unmarked.{is_compared, own_character}
 use Rattle.wt_checks.proofs.Compares.{kinds_decide, attrs_decide, data_decide}
@@ -25,7 +25,7 @@ use Rattle.wt_checks.proofs.WhatIsKept.{increasing}
 use Rattle.wt_difference.specs.Difference.{Changed, is_partner, stays_in, is_stable, numbers, numbers_in, same_inside, same_children, unless, changed, differing, all_differing, difference}
 use Rattle.wt_difference.specs.declared.region.Region.{Region}
 use Rattle.wt_difference.specs.declared.region.Region.TheVariants.{Inside, Children}
-use Rattle.wt_difference.specs.Insides.{is_block_part, has_inside, is_separator, ends_inside, before_blocks, from_blocks, inside, held}
+use Rattle.wt_difference.specs.Insides.{is_block_part, has_inside, is_separator, ends_inside, before_blocks, from_blocks, held}
 use Rattle.wt_difference.specs.Tokens.{Token, characters, opens, closes, is_text, tokens, all_tokens, same_label, same_token, same_tokens}
 use Rattle.wt_difference.proofs.Remarks.{block_no_group}
 use Rattle.wt_difference.specs.Unedited.{SameLabel, GroupOr, IsUnedited, AreUnedited}
@@ -276,7 +276,6 @@ unchanged page t u o q e f a b =
     ap (changed page u) e
     ∙ ap (λ x. unless (same_inside x u) Inside x u ++ unless (same_children page x u) Children x u) f
     ∙ ap₂ (λ xs ys. xs ++ ys) (nothing_if (same_inside t u) Inside t u a) (nothing_if (same_children page t u) Children t u b)
-
 
 stable_number : (page : Page) (holder : ℕ) (u : Tree) (o : Option Place) → is_partner holder u o ≡ true → (label u).id ≢ 0
 stable_number page holder u None e = absurd (cc)

@@ -1,11 +1,10 @@
 -- The difference of an edited tree: the smallest places of the page in which something was changed.
-use Rattle.std.specs.Prelude.{ℕ, ◌==◌, ◌&&◌, ◌||◌, not, Bool, true, false, Option, Some, None, List, [], ◌∷◌, ◌++◌, if◌then◌else◌}
+use Rattle.std.specs.Prelude.{ℕ, ◌==◌, ◌&&◌, not, Bool, false, Option, Some, None, List, [], ◌∷◌, ◌++◌, if◌then◌else◌}
 use Rattle.std.specs.Str.{bytes_eq}
 use Rattle.wt_tree.specs.Kinds.{showing}
-use Rattle.wt_tree.specs.Tiling.{is_group}
 use Rattle.wt_tree.specs.Tree.{Tree, tree, Trees, none, more, label}
 use Rattle.wt_checks.specs.Alike.{same_kind, same_attrs}
-use Rattle.wt_checks.specs.Places.{Place, Page, page_of, number}
+use Rattle.wt_checks.specs.Places.{Place, Page, page_of}
 use Rattle.wt_checks.specs.Unmarked.{is_compared}
 use Rattle.wt_difference.specs.declared.region.Region.{Region}
 use Rattle.wt_difference.specs.declared.region.Region.TheVariants.{Inside, Children}

@@ -72,7 +72,11 @@ fn numbers(alloc: Global, children: &[Child<'_, '_>]) -> Result<Vec<u32>, NoMemo
 fn number_in(index: &[Visit<'_, '_>], holder: u32, node: &Node<'_>) -> u32
     ensures { result ≡ (if stays_in (indexed index.now) holder (view node.now) then (out-Node node.now).id else 0) }
 {
-    if stays_in(index, holder, node) { node.id } else { 0 }
+    if stays_in(index, holder, node) {
+        node.id
+    } else {
+        0
+    }
 }
 
 fn numbers_in(

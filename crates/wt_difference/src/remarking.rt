@@ -133,11 +133,7 @@ fn all_remarked<'a>(
 /// was changed is marked `content`, one whose children alone were changed `children`. The marks that it
 /// had don't count.
 #[tactic(auto, unfolding(crate::specs::Remarked::remarked))]
-pub fn remark<'a>(
-    alloc: Global,
-    page: &Node<'_>,
-    edited: Node<'a>,
-) -> Result<Node<'a>, NoMemory>
+pub fn remark<'a>(alloc: Global, page: &Node<'_>, edited: Node<'a>) -> Result<Node<'a>, NoMemory>
     requires body { (label (view page.now)).kind ≡ kind.Body }
     requires numbered { ∥ InPreorder (view page.now) ∥₁ }
     ensures { IfOk result (λ u. view u ≡ remarked (view page.now) (view edited.entry)) }

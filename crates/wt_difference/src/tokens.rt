@@ -120,10 +120,7 @@ fn push_all_tokens<'t, 'a>(
     Ok(())
 }
 
-fn tokens_of<'t, 'a>(
-    alloc: Global,
-    nodes: &'t [Node<'a>],
-) -> Result<Vec<Token<'t, 'a>>, NoMemory>
+fn tokens_of<'t, 'a>(alloc: Global, nodes: &'t [Node<'a>]) -> Result<Vec<Token<'t, 'a>>, NoMemory>
     ensures { IfOk result (λ ts. tokens_view ts.items ≡ all_tokens (views nodes.now)) }
 {
     let mut out = Vec::new(alloc);

@@ -3,6 +3,8 @@
 The rules are those of the module client/bughtiso.js ("What save mends" in client/README.md), file by file;
 both are tried with the documents of client/tests/documents. `mended` and `marked` are the calls for others.
 """
+from typing import Optional
+
 from .marks import add_marks
 from .markup import read_body, written
 from .mender import Mender
@@ -20,6 +22,8 @@ def marked(document: str, page: str) -> str:
     return written(body)
 
 
-def mended(document: str) -> str:
-    """The document of a page that isn't known, mended. Raises Refusal."""
-    return written(Mender(None).page(read_body(document)))
+def mended(document: str, page: Optional[str] = None) -> str:
+    """The document of a page, mended. `page` is its HTML as wtround wrote it, where that is known. Raises
+    Refusal."""
+    original = Original(read_body(page)) if page is not None else None
+    return written(Mender(original).page(read_body(document)))

@@ -1,0 +1,121 @@
+"""Edits without marks: by `selser`; with an older program, which hasn't that command, by `edit`."""
+import json
+import stat
+from urllib.parse import quote
+
+from serving_case import PROGRAM, ServingCase
+
+from serving.program import Program
+
+TRANSFORM = "/localhost/v3/transform/html/to/wikitext/"
+ROW = "</tr><tr><td>z</td></tr>"
+
+OLDER = """#!/bin/sh
+# The program without the command `selser`; it notes its commands.
+echo "$1" >>"{log}"
+if [ $# -eq 0 ] || [ "$1" = selser ]; then
+    echo "wtround: usage: wtround html TITLE | wikitext | edit TITLE" >&2
+    exit 1
+fi
+exec "{program}" "$@"
+"""
+
+
+class Unmarked(ServingCase):
+    def setUp(self) -> None:
+        super().setUp()
+        assert PROGRAM is not None
+        program = Program(PROGRAM, str(self.pages))
+        self.addCleanup(program.close)
+        if not program.takes_unmarked:
+            self.skipTest("this program has no command `selser`")
+
+    def new_page(self, title: str, page: str, before: str, after: str, **fields: object) -> str:
+        """What the transform answers for an edit of the page's HTML; nothing is stored."""
+        path = self.pages / f"{title}.wiki"
+        path.write_text(page)
+        html, _ = self.html(title)
+        self.assertIn(before, html)
+        body = json.dumps({"html": html.replace(before, after, 1), **fields}).encode()
+        status, _, answer = self.ask(
+            "POST", f"{TRANSFORM}{quote(title)}", body, Content_Type="application/json"
+        )
+        self.assertEqual((status, path.read_text()), (200, page), answer[:500])
+        return answer.decode()
+
+    def test_what_was_not_changed_keeps_its_bytes(self) -> None:
+        for page, before, after, wanted in [
+            ("[[Hugh Capet]]'s ] heirs", "heirs", "sons", "[[Hugh Capet]]'s ] sons"),
+            ("* a ]\n** b", ">a ]", ">c ]", "* c ]\n** b"),
+            ("a b<ref>c</ref>\n\nd", "a b", "a</p><p>b", "a\n\nb<ref>c</ref>\n\nd"),
+            ("{|\n|-\n| x ] || y\n|}", "</tr>", ROW, "{|\n|-\n| x ] || y\n|-\n| z\n|}"),
+        ]:
+            for fields in ({}, {"mended": True}):
+                with self.subTest(page=page, **fields):
+                    self.assertEqual(self.new_page("Short", page, before, after, **fields), wanted)
+
+    def test_what_a_browser_writes_is_mended(self) -> None:
+        made = self.new_page("Short", "a ] b", "a ] b", "a ] <strong>b</strong><br>")
+        self.assertEqual(made, "a ] '''b'''")
+
+    def test_a_page_is_saved(self) -> None:
+        before = self.page()
+        html, tag = self.html("Opava", "?data_parsoid=false")
+        sent = html.replace("its library", "its  own library")
+        status, told = self.save("Opava", sent, tag)
+        self.assertEqual((status, self.page()), (200, before.replace("its library", "its  own library")))
+        self.assertEqual(self.save("Opava", sent, tag)[1]["stored_before"], True)
+
+    def test_html_that_was_given_back_changes_nothing(self) -> None:
+        for title in ("Opava", "Salt road", "Help:Editing"):
+            html, tag = self.html(title)
+            status, told = self.save(title, html, tag)
+            self.assertEqual((status, told["changed"], told["diff"]), (200, False, ""))
+
+    def test_refusals_name_the_block(self) -> None:
+        html, tag = self.html("Opava")
+        for fields in ({}, {"mended": True}):
+            body = json.dumps({"html": html.replace(">Troppau<", ">Oppeln<"), **fields}).encode()
+            headers = {"Content_Type": "application/json", "If_Match": tag}
+            status, _, answer = self.ask("POST", "/save/Opava", body, **headers)
+            told = json.loads(answer)
+            self.assertEqual((status, told["error"], told["node"]), (422, "InTemplate", "mw5"))
+
+    def test_a_fragment_is_refused(self) -> None:
+        _, tag = self.html("Opava")
+        body = json.dumps({"html": "<html><body><p>x</p></body></html>", "mended": True}).encode()
+        headers = {"Content_Type": "application/json", "If_Match": tag}
+        status, _, answer = self.ask("POST", "/save/Opava", body, **headers)
+        self.assertEqual((status, json.loads(answer)["error"]), (422, "NothingKept"))
+
+
+class OlderProgram(ServingCase):
+    def start(self):  # type: ignore[no-untyped-def]
+        import serving_case
+
+        script, self.log = self.root / "older", self.root / "log"
+        script.write_text(OLDER.format(log=self.log, program=PROGRAM))
+        script.chmod(script.stat().st_mode | stat.S_IXUSR)
+        whole, serving_case.PROGRAM = serving_case.PROGRAM, str(script)
+        try:
+            return super().start()
+        finally:
+            serving_case.PROGRAM = whole
+
+    def test_edits_get_their_marks(self) -> None:
+        before = self.page()
+        html, tag = self.html("Opava")
+        for fields in ({}, {"mended": True}):
+            body = json.dumps({"html": html.replace("six hundred", "many hundred"), **fields}).encode()
+            status, _, answer = self.ask("POST", f"{TRANSFORM}Opava", body, Content_Type="application/json")
+            self.assertEqual((status, answer.decode()), (200, before.replace("six hundred", "many hundred")))
+        commands = self.log.read_text().split("\n")
+        self.assertEqual((commands.count("edit"), commands.count("selser")), (2, 0))
+
+    def test_it_is_asked_for_its_usage_once(self) -> None:
+        html, _ = self.html("Opava")
+        for word in ("many", "some"):
+            body = json.dumps({"html": html.replace("six hundred", f"{word} hundred")}).encode()
+            status, _, _ = self.ask("POST", f"{TRANSFORM}Opava", body, Content_Type="application/json")
+            self.assertEqual(status, 200)
+        self.assertEqual(self.log.read_text().split("\n")[:-1].count(""), 1)
