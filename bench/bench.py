@@ -3,7 +3,7 @@
 8 MiB and 64 MiB less a page's frame, of the HTML of pages with comments and entities, and of what `html`
 answers for pages of links, URLs, styles and tags (a third of the size for apostrophes); `html` on pages of
 lists and tables, and of templates; `expand` on pages of calls; both on calls of functions; `lint` on pages
-that are doubtful all over; `gen` of 100, 1,000 and 10,000 sections; `edit` on pages of which one word or a
+that are doubtful all over; `gen` of 100, 1,000 and 10,000 sections; `edit` and `selser` on pages of which one word or a
 word of each paragraph was changed, and of which paragraphs and items come and go.
 
   bench/bench.py PROGRAM [OTHER]
@@ -342,7 +342,8 @@ def main():
     for sections in (100, 1_000, 10_000):
         measure(programs, f"gen {sections}", ["gen", str(sections)], [67 * sections], lambda size: b"a" * size)
     for kind, (make, given, templates) in EDIT_KINDS.items():
-        measure(programs, f"edit, {kind}", ["edit", "Main"], SIZES, make, templates, given)
+        for command in ("edit", "selser"):  # for which the marks count for nothing
+            measure(programs, f"{command}, {kind}", [command, "Main"], SIZES, make, templates, given)
     for kind, make in HTML_KINDS.items():
         measure(programs, f"wikitext, {kind}", ["wikitext"], HTML_SIZES, make)
     for kind, make in INLINE_KINDS.items():

@@ -1,19 +1,23 @@
 #!/usr/bin/env python3
-"""Measures what becomes of edits of real texts: of each kind of edit how many change nothing but what was edited, how
-many spell more of the block anew, how many are refused, and how many change other blocks or show something else.
+"""Measures what becomes of edits of real texts: of each kind of edit how many change nothing but what was
+edited, how many spell more of the block anew, how many are refused, and how many change other blocks or show
+something else.
 
-  bench/selser.py PROGRAM [--command selser|edit] [--each N] [--seed S] [--small N] [--only WORDS] [--tell N] [FOLDER ..]
+  bench/selser.py PROGRAM [--command selser|edit] [--each N] [--seed S] [--small N] [--only WORDS] [--tell N]
+                  [FOLDER ..]
 
-PROGRAM is `wtround_cases` (crates/wtround_cases/out/wtround_cases), FOLDER a folder of pages as wtround takes them, with
-its templates (examples/pages without one). On each page each kind of edit is made at N places (12), which the seed
-chooses; with --small on that many small random pages instead, each kind at one place. --only takes the kinds whose names hold these words. The edits are made in the HTML
-that `html` writes, as text, and sent to `selser` as they are; `edit` gets those that stand in one block, with a mark.
+PROGRAM is `wtround_cases` (crates/wtround_cases/out/wtround_cases), FOLDER a folder of pages as wtround
+takes them, with its templates (examples/pages without one). On each page each kind of edit is made at N
+places (12), which the seed chooses; with --small on that many small random pages instead, each kind at one
+place. --only takes the kinds whose names hold these words. The edits are made in the HTML that `html`
+writes, as text, and sent to `selser` as they are; `edit` gets those that stand in one block, with a mark.
 Every answer is read by `html` again, and compared with what was sent by a reader that is not the program's
 (bench/edits/shown.py).
 
-`exact`: the source differs by what was edited alone. `in the block`: more of the touched blocks, or of the white space
-beside them, was written anew. `outside`: bytes of other blocks changed. `shows other`: the answer shows something else
-than what was sent. The last two must be 0. --tell prints that many of the edits that weren't exact.
+`exact`: the source differs by what was edited alone. `in the block`: more of the touched blocks, or of the
+white space beside them, was written anew. `outside`: bytes of other blocks changed. `shows other`: the answer
+shows something else than what was sent. The last two must be 0. --tell prints that many of the edits that
+weren't exact.
 """
 from __future__ import annotations
 
@@ -44,8 +48,8 @@ class Measure:
     def __init__(self, cases: Cases, given: argparse.Namespace, chance: random.Random) -> None:
         self._cases, self._command, self._chance, self._tell = cases, given.command, chance, given.tell
         self._each = 1 if given.small else given.each
-        is_asked = lambda kind: given.only in kind.name and (kind.is_in_block or given.command == "selser")  # noqa: E731
-        self._kinds = [kind for kind in KINDS if is_asked(kind)]
+        takes = [kind for kind in KINDS if kind.is_in_block or given.command == "selser"]
+        self._kinds = [kind for kind in takes if given.only in kind.name]
         self.counts: "Dict[str, Counter]" = defaultdict(Counter)
         self.unread: List[str] = []  # pages that `html` refuses
 
@@ -79,14 +83,17 @@ class Measure:
             self._tell -= 1
             start, end = edited.range
             block = page.text[start:end].decode("utf-8", "replace")
-            print(f"{kind.name}, {page.title}, {part.attributes.get('id')}: {what}\n  {block[:300]!r}\n  {why}")
+            print(f"{kind.name}, {page.title}, {part.attributes.get('id')}: {what}")
+            print(f"  {block[:300]!r}\n  {why}")
 
     def _outcome(self, page: Page, kind: Kind, edited: Edited) -> "tuple[str, str]":
         answer = page.ask(self._cases, self._command, edited.document)
         if answer.status != 0:
             return f"refused: {answer.refusal}", ""
         read = page.changed(answer.out).ask(self._cases, "html")
-        difference = first_difference(edited.document, read.out.decode()) if read.status == 0 else (read.line, "")
+        if read.status != 0:
+            return SHOWS_OTHER, read.line
+        difference = first_difference(edited.document, read.out.decode())
         if difference is not None:
             return SHOWS_OTHER, repr(difference)
         return judged(kind, edited, page.text, answer.out), repr(changed_text(edited, page.text, answer.out))
@@ -114,7 +121,8 @@ def print_row(name: str, count: Counter) -> None:
     n = sum(count.values())
     names = ", ".join(f"{n} `{why}`" for why, n in refused.items()) or "0"
     share = f"{count[EXACT]} ({100 * count[EXACT] / n:.1f} %)" if n else "0"
-    print(f"| {name} | {n} | {share} | {count[IN_BLOCK]} | {names} | {count[OUTSIDE]} | {count[SHOWS_OTHER]} |")
+    others = f"{count[IN_BLOCK]} | {names} | {count[OUTSIDE]} | {count[SHOWS_OTHER]}"
+    print(f"| {name} | {n} | {share} | {others} |")
 
 
 def main(words: Optional[List[str]] = None) -> int:
@@ -131,12 +139,14 @@ def main(words: Optional[List[str]] = None) -> int:
     chance = random.Random(given.seed)
     cases = Cases(given.program)
     measure = Measure(cases, given, chance)
-    pages = small_pages(given.small, chance) if given.small else [it for folder in given.folders for it in pages_of(folder)]
+    read = [page for folder in given.folders for page in pages_of(folder)]
+    pages = small_pages(given.small, chance) if given.small else read
     for page in pages:
         measure.page(page)
     print_table(measure.counts)
     seconds = cases.close()
-    print(f"\n{len(pages)} pages, {len(measure.unread)} of them refused {measure.unread or ''}; {seconds:.1f} s of the processor")
+    print(f"\n{len(pages)} pages, {len(measure.unread)} of them refused {measure.unread or ''}")
+    print(f"{seconds:.1f} seconds of the processor")
     wrong = sum(count[OUTSIDE] + count[SHOWS_OTHER] for count in measure.counts.values())
     return 1 if wrong else 0
 

@@ -1,1 +1,1 @@
-"""Edits of real texts, as a visual editor's user makes them, and what becomes of each: for bench/selser.py."""
+"""Edits of real texts, as a visual editor's user makes them, and what becomes of each."""

@@ -8,8 +8,8 @@ from html import unescape
 from typing import Dict, Iterator, List, Optional, Tuple
 
 TOKEN = re.compile(
-    r"<!DOCTYPE[^>]*>|<(?P<end>/?)(?P<name>[a-z][a-z0-9]*)(?P<attributes>(?:\s+[a-z0-9:-]+=(?:\"[^\"]*\"|'[^']*'))*)\s*/?>"
-    r"|[^<]+",
+    r"<!DOCTYPE[^>]*>|<(?P<end>/?)(?P<name>[a-z][a-z0-9]*)"
+    r"(?P<attributes>(?:\s+[a-z0-9:-]+=(?:\"[^\"]*\"|'[^']*'))*)\s*/?>|[^<]+",
     re.IGNORECASE,
 )
 ATTRIBUTE = re.compile(r"([a-z0-9:-]+)=(?:\"([^\"]*)\"|'([^']*)')")
@@ -19,8 +19,8 @@ NUMBER = re.compile(r"mw[1-9][0-9]*")
 
 @dataclass(eq=False)
 class Part:
-    """An element, or a text (its name is empty). Places are in characters of the document: `start` and `end` of all of
-    it, `inside` and `inside_end` of what it holds."""
+    """An element, or a text (its name is empty). Places are in characters of the document: `start` and `end`
+    of all of it, `inside` and `inside_end` of what it holds."""
 
     name: str
     start: int
@@ -61,14 +61,14 @@ class Part:
 
 
 def parsed(document: str) -> Part:
-    """The body of a document. What wtround writes is strict: every element that has an end tag is ended by it."""
+    """The body of a document that wtround wrote: each element that has an end tag is ended by it."""
     root = part = Part("", 0, 0)
     for found in TOKEN.finditer(document):
         name = (found["name"] or "").lower()
         if not name:
             if not found[0].startswith("<"):
-                text = Part("", found.start(), found.start(), found.end(), found.end(), unescape(found[0]), {}, part)
-                part.children.append(text)
+                start, end = found.span()
+                part.children.append(Part("", start, start, end, end, unescape(found[0]), {}, part))
         elif found["end"]:
             assert part.parent is not None and part.name == name, found[0]
             part.inside_end, part.end = found.start(), found.end()

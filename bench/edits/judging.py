@@ -7,7 +7,8 @@ from typing import Tuple
 from .kinds import Edited, Kind
 
 EXACT = "exact"  # nothing of the page is spelled anew
-IN_BLOCK = "in the block"  # other bytes changed, in the blocks that were touched and the white space beside them alone
+# Other bytes changed, in the blocks that were touched and the white space beside them alone.
+IN_BLOCK = "in the block"
 OUTSIDE = "OUTSIDE"  # bytes of other blocks changed
 BREAKS = re.compile(rb"[ \t\n]*[*#:;]*[ \t]*")
 
@@ -36,8 +37,8 @@ def changed_part(old: bytes, new: bytes) -> Tuple[bytes, bytes]:
 
 
 def is_exact(rule: str, edited: Edited, old: bytes, new: bytes) -> bool:
-    """same: the source has what was typed and no more. breaks: line breaks and the signs of an item came or went.
-    goes, comes: something in one place went, or came. length: it is as long as it was."""
+    """same: the source has what was typed and no more. breaks: line breaks and the signs of an item came or
+    went. goes, comes: something in one place went, or came. length: it is as long as it was."""
     gone, come = changed_part(old, new)
     if rule == "same":
         return is_replaced(edited, old, new)
@@ -66,5 +67,4 @@ def is_replaced(edited: Edited, old: bytes, new: bytes) -> bool:
 def without_heading_signs(old: bytes, new: bytes, edited: Edited) -> bool:
     """Whether the page is the old one again without the signs of one new heading."""
     start, end = edited.range
-    block = old[start:end]
-    return new[: len(old)].startswith(old[:start]) and new == old[:start] + b"== " + block + b" ==" + old[end:]
+    return new == old[:start] + b"== " + old[start:end] + b" ==" + old[end:]

@@ -11,8 +11,9 @@ from .documents import Part, parsed
 
 # A word in the text of a document, apart from its references.
 WORD = re.compile(r"(?<![&#\w;])[A-Za-zÀ-ɏ]{2,}(?![\w;])")
+LONE_SPACE = re.compile(r"(?<=[^\s<>]) (?=[^\s<>])")
 NEW_WORD = "Newword"
-SIGNS = ["'", "''", "]", "[", "[[", "|", "{{", "}}", "<b>", "&lt;", "__", "http://q.r", "*", "=", "é", ":", "#"]
+SIGNS = "' '' ] [ [[ | {{ }} <b> &lt; __ http://q.r * = é : #".split()
 MARK = ' data-wt-edit="content"'
 NOT_EDITED = re.compile("mw:(Transclusion|Extension|Param|Nowiki|Placeholder|Entity)")
 TEXT_BLOCKS = ("p", "h1", "h2", "h3", "h4", "h5", "h6", "li", "dt", "dd", "td", "th", "caption")
@@ -21,8 +22,9 @@ HEADINGS = ("h1", "h2", "h3", "h4", "h5", "h6")
 
 @dataclass(frozen=True)
 class Edited:
-    """A document after an edit. `first` and `last`: the ranges in the page, in bytes, of the first and the last block
-    that it touches; `gone` and `come`: what it takes out of the source and writes, where that can be said."""
+    """A document after an edit. `first` and `last`: the ranges in the page, in bytes, of the first and the
+    last block that it touches; `gone` and `come`: what it takes out of the source and what it writes, where
+    that can be said."""
 
     document: str
     first: Tuple[int, int]
@@ -67,7 +69,9 @@ class Document:
             at = end
         return "".join(out) + self.text[at:]
 
-    def edited(self, first: Part, last: Part, *changes: Tuple[int, int, str], gone: str = "", come: str = "") -> Edited:
+    def edited(
+        self, first: Part, last: Part, *changes: Tuple[int, int, str], gone: str = "", come: str = ""
+    ) -> Edited:
         return Edited(self.with_changes(*changes), first.range(), last.range(), gone, come)
 
 
@@ -127,20 +131,16 @@ def sign_typed(document: Document, part: Part, chance: random.Random) -> Optiona
 
 def split(document: Document, part: Part, chance: random.Random) -> Optional[Edited]:
     """Enter at a space of its text."""
-    places = [
-        at
-        for text in part.texts()
-        for at in range(text.start + 1, text.end - 1)
-        if document.text[at] == " " and document.text[at - 1] not in " \n" and document.text[at + 1] not in " \n"
-    ]
-    if not places:
+    texts = [(text.start, text.end) for text in part.texts()]
+    spaces = [found for start, end in texts for found in LONE_SPACE.finditer(document.text, start, end)]
+    if not spaces:
         return None
-    at = chance.choice(places)
+    at = chance.choice(spaces).start()
     return document.edited(part, part, (at, at + 1, f"</{part.name}><{part.name}>"), gone=" ")
 
 
 def joined(document: Document, part: Part, _: random.Random) -> Optional[Edited]:
-    """Backspace at the start of the next block of its kind; behind a list that an item holds no text may stand."""
+    """Backspace at the start of the next block of its kind. Behind an item's list no text may stand."""
     other = next_sibling(part)
     if other is None or other.name != part.name or not other.is_numbered or any(map(is_list, part.children)):
         return None
@@ -173,7 +173,7 @@ def made_heading(document: Document, part: Part, _: random.Random) -> Optional[E
 
 def added_behind(html: str) -> Edit:
     def added(document: Document, part: Part, _: random.Random) -> Optional[Edited]:
-        if part.name in ("p", *HEADINGS, "ul", "table"):
+        if part.name in BLOCKS:
             assert part.parent is not None
             if part.parent.name not in ("body", "section"):
                 return None
@@ -184,8 +184,8 @@ def added_behind(html: str) -> Edit:
 
 @dataclass(frozen=True)
 class Kind:
-    """A kind of edit, as the table names it, and of which parts. `exact`: what else may come or go for nothing of the
-    page to be respelled (see judging)."""
+    """A kind of edit, as the table names it, and of which parts. `exact`: the rule by which nothing of the
+    page was spelled anew (see judging)."""
 
     name: str
     parts: Tuple[str, ...]
@@ -206,6 +206,7 @@ class Kind:
 
 PARAGRAPHS = ("p",)
 WRITTEN = ("p", "li", "td", "dd")
+BLOCKS = ("p", *HEADINGS, "ul", "table")
 KINDS = [
     Kind("word typed in a paragraph", PARAGRAPHS, word_typed, "same", True),
     Kind("word typed in an item", ("li",), word_typed, "same", True),
@@ -221,7 +222,7 @@ KINDS = [
     Kind("paragraphs joined", PARAGRAPHS, joined, "breaks"),
     Kind("paragraph removed", PARAGRAPHS, removed, "goes"),
     Kind("heading removed", HEADINGS, removed, "goes"),
-    Kind("paragraph added", ("p", *HEADINGS, "ul", "table"), added_behind("<p>A new paragraph.</p>"), "comes"),
+    Kind("paragraph added", BLOCKS, added_behind("<p>A new paragraph.</p>"), "comes"),
     Kind("paragraphs exchanged", PARAGRAPHS, swapped, "length"),
     Kind("paragraph made a heading", PARAGRAPHS, made_heading, "comes"),
     Kind("item split", ("li",), split, "breaks"),

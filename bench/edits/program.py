@@ -74,6 +74,7 @@ def title_of(path: Path) -> str:
 
 def pages_of(folder: Path) -> List[Page]:
     """The pages of a folder that are no templates, with the line breaks that wikis store."""
-    texts = {title_of(path): path.read_bytes().replace(b"\r\n", b"\n") for path in sorted(folder.glob("*.wiki"))}
+    paths = sorted(folder.glob("*.wiki"))
+    texts = {title_of(path): path.read_bytes().replace(b"\r\n", b"\n") for path in paths}
     templates = {title: text for title, text in texts.items() if title.startswith("Template:")}
     return [Page(title, text, templates) for title, text in texts.items() if title not in templates]

@@ -1,7 +1,7 @@
 """What a document shows, for comparing two: written from docs/profile.md, and independent of the program.
 
-Numbers, places, sections, comments, include tags and skips show nothing; entities and `nowiki` show their text; of
-white space between blocks nothing is shown. Islands are what they are in the source.
+Numbers, places, sections, comments, include tags and skips show nothing; entities and `nowiki` show their
+text; of white space between blocks nothing is shown. Islands are what they are in the source.
 """
 from __future__ import annotations
 
@@ -11,10 +11,9 @@ from typing import List, Optional, Tuple, Union
 from .documents import Part, parsed
 
 HIDDEN_ATTRIBUTES = {"id", "about", "data-mw", "data-parsoid", "data-wt-edit"}
-BLOCKS = {
-    "p", "h1", "h2", "h3", "h4", "h5", "h6", "hr", "pre", "ul", "ol", "dl", "table", "section", "li", "dt", "dd", "tr", "td",
-    "th", "caption", "tbody",
-}  # fmt: skip
+BLOCKS = frozenset(
+    "p h1 h2 h3 h4 h5 h6 hr pre ul ol dl li dt dd table caption tbody tr td th section".split()
+)
 HOLDERS_OF_BLOCKS = {"body", "section", "ul", "ol", "dl", "table", "tbody", "tr"}
 HOLDERS_OF_BOTH = {"li", "dt", "dd", "td", "th", "caption"}
 TEXT_ALONE = {"mw:Entity", "mw:Nowiki"}
@@ -66,7 +65,7 @@ def contents(part: Part) -> List[Shown]:
 
 
 def flat(part: Part) -> "List[Union[str, Part, None]]":
-    """Its texts and elements; sections, entities and `nowiki` are opened. None: a mark, which shows nothing."""
+    """Its texts and elements; sections, entities and `nowiki` are opened. None: what shows nothing."""
     out: "List[Union[str, Part, None]]" = []
     for child in part.children:
         kind = child.attributes.get("typeof", "")
@@ -89,23 +88,37 @@ def own_kind(kind: str) -> str:
 
 
 def without_space_between(parts: "List[Union[str, Part, None]]") -> "List[Union[str, Part, None]]":
-    """Of an item or a cell: at the end of a text, white space from its first line break on is none of it; nor are
-    blanks behind which a block stands."""
+    """Of an item or a cell: without the separators among its texts."""
     joined: "List[Union[str, Part, None]]" = []
     for piece in parts:
         if isinstance(piece, str) and joined and isinstance(joined[-1], str):
             joined[-1] += piece
         else:
             joined.append(piece)
+    return without_blanks_before_blocks(without_separators(joined))
+
+
+def without_separators(parts: "List[Union[str, Part, None]]") -> "List[Union[str, Part, None]]":
+    """From the first line break or block on, white space alone is none of the text."""
+    out: "List[Union[str, Part, None]]" = []
+    is_behind = False
+    for piece in parts:
+        if isinstance(piece, str):
+            at = 0 if is_behind else piece.find("\n") % (len(piece) + 1)
+            is_behind = is_behind or at < len(piece)
+            out.append(piece if piece[at:].strip(" \t\n") else piece[:at])
+        else:
+            is_behind = is_behind or (piece is not None and piece.name in BLOCKS)
+            out.append(piece)
+    return out
+
+
+def without_blanks_before_blocks(parts: "List[Union[str, Part, None]]") -> "List[Union[str, Part, None]]":
     out: "List[Union[str, Part, None]]" = []
     is_before_block = False
-    for piece in reversed(joined):
+    for piece in reversed(parts):
         if isinstance(piece, str):
-            front, line_break, rest = piece.partition("\n")
-            if line_break and not rest.strip(" \t\n"):
-                piece = front
-            if not piece.strip(" \t") and is_before_block:
-                piece = ""
+            piece = "" if is_before_block and not piece.strip(" \t") else piece
             is_before_block = is_before_block and not piece
         elif piece is not None:
             is_before_block = piece.name in BLOCKS

@@ -7,8 +7,9 @@ from typing import List
 from .program import Page
 
 PIECES = [
-    "alpha", "beta ]", "[[Page]]s", "'''bold''' x", "''it''", "{{t}}", "a|b", "http://x.y/z.", "[http://a.b c]", "&nbsp;z",
-    "<ref>r</ref>", "it's", "<!-- c -->", "x_y", "[x]", "a=b", "<span>q</span>", "<nowiki>[[</nowiki>", "l'''amour''",
+    "alpha", "beta ]", "[[Page]]s", "'''bold''' x", "''it''", "{{t}}", "a|b", "http://x.y/z.",
+    "[http://a.b c]", "&nbsp;z", "<ref>r</ref>", "it's", "<!-- c -->", "x_y", "[x]", "a=b", "<span>q</span>",
+    "<nowiki>[[</nowiki>", "l'''amour''",
 ]  # fmt: skip
 ITEM_SIGNS = ["* ", "** ", "# ", "* ", "*# ", ": ", "; "]
 

@@ -4,4 +4,5 @@ pub mod HeldChildren
 pub mod InsideEnd
 pub mod OneByOne
 pub mod Remarks
+pub mod SameSeen
 pub mod UneditedLaws

@@ -13,7 +13,7 @@ mod tokens;
 pub use changed::Changed;
 pub use differing::{difference, same_children, same_inside, stays_in};
 pub use insides::{Child, ends_inside, has_inside, held, inside, is_block_part};
-pub use laws::{marks_alone, nothing_differs};
+pub use laws::{comparisons, marks_alone, nothing_differs};
 pub use region::Region;
 pub use remarking::remark;
 pub use tokens::{are_same, is_compared};

@@ -29,8 +29,8 @@ impl<'a> Edited<'a> {
         &self.body
     }
 
-    #[tactic(auto, unfolding(crate::specs::Answers::body_of))]
     /// The body by itself.
+    #[tactic(auto, unfolding(crate::specs::Answers::body_of))]
     pub fn into_body(self) -> Node<'a>
         ensures { view result ≡ body_of self.entry }
     {

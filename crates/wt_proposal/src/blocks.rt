@@ -1,13 +1,51 @@
 //! Blocks, items and rows as wikitext, where they are new, come from elsewhere or are of another kind now.
 
 use crate::inline::{Edges, Writing, edges_of, spelled};
-use crate::known::{Known, block_of, sign_of};
+use crate::known::{Block, Known, block_of, sign_of};
 use std::alloc::Global;
 use wt_checks::original;
-use wt_difference::{are_same, held, inside, is_block_part};
+use wt_difference::{are_same, inside, is_block_part};
 use wt_guards::Place;
 use wt_span::{NoMemory, Str};
 use wt_tree::{Kind, Node, flat, same_attrs, same_kind};
+
+/// What a block is written by: what is known of the page, whether texts keep their bytes, the signs of the item
+/// in which it stands (of an item its own), and the page's text at its end, where the block is the second half of
+/// one that stood there.
+#[derive(Clone, Copy)]
+pub struct Surroundings<'w, 't, 'a> {
+    pub known: &'w Known<'t, 'a>,
+    pub keeps: bool,
+    pub signs: &'w str,
+    pub tail: Option<&'t Node<'a>>,
+}
+
+impl<'w, 't, 'a> Surroundings<'w, 't, 'a> {
+    /// How the inside of a block of this kind is written; `block` is the one that stood in the page.
+    fn writing(self, block: Option<&'w Block<'t, 'a>>, kind: Kind) -> Writing<'w, 't, 'a> {
+        Writing::of(self.known, block, self.keeps, place_in(kind))
+    }
+
+    /// The same for what stands in the block.
+    fn within(self) -> Surroundings<'w, 't, 'a> {
+        Surroundings {
+            known: self.known,
+            keeps: self.keeps,
+            signs: self.signs,
+            tail: None,
+        }
+    }
+
+    /// The same for what stands in a part of a table, where lists begin anew.
+    fn in_table(self) -> Surroundings<'w, 't, 'a> {
+        Surroundings {
+            known: self.known,
+            keeps: self.keeps,
+            signs: "",
+            tail: None,
+        }
+    }
+}
 
 /// What an inside of this kind of block is written for.
 pub fn place_in(kind: Kind) -> Place {
@@ -21,91 +59,92 @@ pub fn place_in(kind: Kind) -> Place {
     }
 }
 
-/// The page's node of the same number, where this one is as it was.
-fn standing<'t, 'a>(
+// ---- blocks that stand
+
+/// Whether a node is the page's with its number, as it was. Of a group nothing can have been changed.
+fn is_as_it_was(alloc: Global, old: &Node<'_>, node: &Node<'_>) -> Result<bool, NoMemory> {
+    if !same_kind(old.kind, node.kind) || !same_attrs(&old.attrs, &node.attrs) {
+        return Ok(false);
+    }
+    if matches!(node.kind, Kind::Group) {
+        return Ok(true);
+    }
+    are_same(alloc, old.children.as_slice(), node.children.as_slice())
+}
+
+/// The page's source of a node that is as it was.
+fn source_standing(
     alloc: Global,
-    known: &Known<'t, 'a>,
+    known: &Known<'_, '_>,
     node: &Node<'_>,
-) -> Result<Option<&'t Node<'a>>, NoMemory> {
+) -> Result<Option<Str>, NoMemory> {
     if node.id == 0 {
         return Ok(None);
     }
     let Some(visit) = original(known.index.as_slice(), node.id) else {
         return Ok(None);
     };
-    let old = visit.node;
-    if !same_kind(old.kind, node.kind) || !same_attrs(&old.attrs, &node.attrs) {
+    if !is_as_it_was(alloc, visit.node, node)? {
         return Ok(None);
     }
-    if !matches!(node.kind, Kind::Group)
-        && !are_same(alloc, old.children.as_slice(), node.children.as_slice())?
-    {
-        return Ok(None);
-    }
-    Ok(Some(old))
+    let source = flat(alloc, visit.node)?;
+    Ok(Some(source))
 }
 
-/// Appends the inside of a block; `tail` is the page's text at its end, where the block is the second half of
-/// one that stood there.
-fn push_inside<'t, 'a>(
+// ---- what a block holds
+
+/// The inside of a block that the page has.
+fn kept_inside<'t, 'a>(
+    alloc: Global,
+    around: Surroundings<'_, 't, 'a>,
+    old: &'t Node<'a>,
+    node: &Node<'_>,
+) -> Result<Str, NoMemory> {
+    let block = block_of(alloc, old)?;
+    let writing = around.writing(Some(&block), node.kind);
+    spelled(alloc, writing, inside(node), edges_of(inside(old)))
+}
+
+/// The inside of a new block.
+fn new_inside(
+    alloc: Global,
+    around: Surroundings<'_, '_, '_>,
+    node: &Node<'_>,
+) -> Result<Str, NoMemory> {
+    let writing = around.writing(None, node.kind);
+    let edges = Edges {
+        first: None,
+        last: around.tail,
+    };
+    spelled(alloc, writing, inside(node), edges)
+}
+
+/// Appends the inside of a block.
+fn push_inside(
     alloc: Global,
     out: &mut Str,
-    known: &Known<'t, 'a>,
-    keeps: bool,
+    around: Surroundings<'_, '_, '_>,
     node: &Node<'_>,
-    tail: Option<&'t Node<'a>>,
 ) -> Result<(), NoMemory> {
-    let place = place_in(node.kind);
-    let old = original(known.index.as_slice(), node.id);
-    let found = match old {
-        Some(visit) if node.id != 0 => {
-            let block = block_of(alloc, visit.node)?;
-            let writing = Writing {
-                known,
-                block: Some(&block),
-                keeps,
-                place,
-            };
-            spelled(alloc, writing, inside(node), edges_of(inside(visit.node)))?
-        }
-        _ => {
-            let writing = Writing {
-                known,
-                block: None,
-                keeps,
-                place,
-            };
-            let edges = Edges {
-                first: None,
-                last: tail,
-            };
-            spelled(alloc, writing, inside(node), edges)?
-        }
+    let source = match original(around.known.index.as_slice(), node.id) {
+        Some(visit) if node.id != 0 => kept_inside(alloc, around, visit.node, node)?,
+        _ => new_inside(alloc, around, node)?,
     };
-    out.push_str(found.as_str())?;
-    Ok(())
-}
-
-fn push_equals(out: &mut Str, count: u8) -> Result<(), NoMemory> {
-    for _at in 0..count {
-        out.push_str("=")?;
-    }
-    Ok(())
+    out.push_str(source.as_str())
 }
 
 /// Appends all that a node holds behind its inside, each on a line of its own.
-fn push_held<'t, 'a>(
+#[cycle(blocks)]
+fn push_held(
     alloc: Global,
     out: &mut Str,
-    known: &Known<'t, 'a>,
-    keeps: bool,
-    signs: &str,
+    around: Surroundings<'_, '_, '_>,
     node: &Node<'_>,
 ) -> Result<(), NoMemory> {
-    for child in held(alloc, node)? {
-        if is_block_part(child.node.kind) {
+    for child in node.children.as_slice() {
+        if is_block_part(child.kind) {
             out.push_str("\n")?;
-            push_block(alloc, out, known, keeps, signs, child.node, None)?;
+            push_block(alloc, out, around.within(), child)?;
         }
     }
     Ok(())
@@ -122,36 +161,75 @@ fn begins_with(source: &[u8], signs: &[u8]) -> bool {
     }
 }
 
-/// Appends an item with these signs.
-pub fn push_item<'t, 'a>(
-    alloc: Global,
-    out: &mut Str,
-    known: &Known<'t, 'a>,
-    keeps: bool,
-    signs: &str,
-    node: &Node<'_>,
-    tail: Option<&'t Node<'a>>,
-) -> Result<(), NoMemory> {
-    if let Some(old) = standing(alloc, known, node)? {
-        let source = flat(alloc, old)?;
-        if begins_with(source.as_str().as_bytes(), signs.as_bytes()) {
-            out.push_str(source.as_str())?;
-            return Ok(());
-        }
+// ---- blocks
+
+fn push_equals(out: &mut Str, count: u8) -> Result<(), NoMemory> {
+    for _at in 0..count {
+        out.push_str("=")?;
     }
-    out.push_str(signs)?;
-    out.push_str(" ")?;
-    push_inside(alloc, out, known, keeps, node, tail)?;
-    push_held(alloc, out, known, keeps, signs, node)
+    Ok(())
 }
 
-/// Appends the items of a list that stands in an item with these signs.
-fn push_items<'t, 'a>(
+fn push_heading(
     alloc: Global,
     out: &mut Str,
-    known: &Known<'t, 'a>,
-    keeps: bool,
-    signs: &str,
+    around: Surroundings<'_, '_, '_>,
+    level: u8,
+    node: &Node<'_>,
+) -> Result<(), NoMemory> {
+    push_equals(out, level)?;
+    out.push_str(" ")?;
+    push_inside(alloc, out, around, node)?;
+    out.push_str(" ")?;
+    push_equals(out, level)
+}
+
+/// Appends an item with its signs: as it stood in the page, where it stood there with these.
+#[cycle(blocks)]
+fn push_item(
+    alloc: Global,
+    out: &mut Str,
+    around: Surroundings<'_, '_, '_>,
+    node: &Node<'_>,
+) -> Result<(), NoMemory> {
+    if let Some(source) = source_standing(alloc, around.known, node)? {
+        let source = source.as_str();
+        if begins_with(source.as_bytes(), around.signs.as_bytes()) {
+            return out.push_str(source);
+        }
+    }
+    out.push_str(around.signs)?;
+    out.push_str(" ")?;
+    push_inside(alloc, out, around, node)?;
+    push_held(alloc, out, around, node)
+}
+
+/// Appends an item of a list that stands in an item with these signs.
+#[cycle(blocks)]
+fn push_item_of(
+    alloc: Global,
+    out: &mut Str,
+    around: Surroundings<'_, '_, '_>,
+    list: Kind,
+    item: &Node<'_>,
+) -> Result<(), NoMemory> {
+    let mut signs = Str::copy_of(alloc, around.signs)?;
+    signs.push_str(sign_of(list, item.kind))?;
+    let own = Surroundings {
+        known: around.known,
+        keeps: around.keeps,
+        signs: signs.as_str(),
+        tail: None,
+    };
+    push_item(alloc, out, own, item)
+}
+
+/// Appends the items of a list, each on a line of its own.
+#[cycle(blocks)]
+fn push_items(
+    alloc: Global,
+    out: &mut Str,
+    around: Surroundings<'_, '_, '_>,
     list: &Node<'_>,
 ) -> Result<(), NoMemory> {
     let mut is_first = true;
@@ -161,70 +239,18 @@ fn push_items<'t, 'a>(
                 out.push_str("\n")?;
             }
             is_first = false;
-            let mut own = Str::copy_of(alloc, signs)?;
-            own.push_str(sign_of(list.kind, item.kind))?;
-            push_item(alloc, out, known, keeps, own.as_str(), item, None)?;
+            push_item_of(alloc, out, around, list.kind, item)?;
         }
     }
     Ok(())
 }
 
-fn is_item(kind: Kind) -> bool {
-    matches!(kind, Kind::Ul | Kind::Ol | Kind::Dl | Kind::Li | Kind::Dt | Kind::Dd)
-}
-
-/// Appends a block without a line break at its end. `signs` are those of the item in which it stands, or, where
-/// it is an item, its own.
-pub fn push_block<'t, 'a>(
+/// Appends the rows of a table, each on a line of its own.
+#[cycle(blocks)]
+fn push_rows(
     alloc: Global,
     out: &mut Str,
-    known: &Known<'t, 'a>,
-    keeps: bool,
-    signs: &str,
-    node: &Node<'_>,
-    tail: Option<&'t Node<'a>>,
-) -> Result<(), NoMemory> {
-    if !is_item(node.kind) || signs.is_empty() {
-        if let Some(old) = standing(alloc, known, node)? {
-            let source = flat(alloc, old)?;
-            out.push_str(source.as_str())?;
-            return Ok(());
-        }
-    }
-    match node.kind {
-        Kind::Para => push_inside(alloc, out, known, keeps, node, tail),
-        Kind::Heading(level) => {
-            push_equals(out, level)?;
-            out.push_str(" ")?;
-            push_inside(alloc, out, known, keeps, node, tail)?;
-            out.push_str(" ")?;
-            push_equals(out, level)
-        }
-        Kind::Rule => out.push_str("----"),
-        Kind::Ul | Kind::Ol | Kind::Dl => push_items(alloc, out, known, keeps, signs, node),
-        Kind::Li | Kind::Dt | Kind::Dd => push_item(alloc, out, known, keeps, signs, node, tail),
-        Kind::Table => {
-            out.push_str("{|")?;
-            push_held(alloc, out, known, keeps, "", node)?;
-            out.push_str("\n|}")
-        }
-        Kind::Tbody => push_rows(alloc, out, known, keeps, node),
-        Kind::Tr => {
-            out.push_str("|-")?;
-            push_held(alloc, out, known, keeps, "", node)
-        }
-        Kind::Td => push_cell(alloc, out, known, keeps, "| ", node),
-        Kind::Th => push_cell(alloc, out, known, keeps, "! ", node),
-        Kind::Caption => push_cell(alloc, out, known, keeps, "|+ ", node),
-        _ => Ok(()),
-    }
-}
-
-fn push_rows<'t, 'a>(
-    alloc: Global,
-    out: &mut Str,
-    known: &Known<'t, 'a>,
-    keeps: bool,
+    around: Surroundings<'_, '_, '_>,
     node: &Node<'_>,
 ) -> Result<(), NoMemory> {
     let mut is_first = true;
@@ -234,21 +260,89 @@ fn push_rows<'t, 'a>(
                 out.push_str("\n")?;
             }
             is_first = false;
-            push_block(alloc, out, known, keeps, "", child, None)?;
+            push_block(alloc, out, around.in_table(), child)?;
         }
     }
     Ok(())
 }
 
-fn push_cell<'t, 'a>(
+#[cycle(blocks)]
+fn push_cell(
     alloc: Global,
     out: &mut Str,
-    known: &Known<'t, 'a>,
-    keeps: bool,
+    around: Surroundings<'_, '_, '_>,
     opening: &str,
     node: &Node<'_>,
 ) -> Result<(), NoMemory> {
     out.push_str(opening)?;
-    push_inside(alloc, out, known, keeps, node, None)?;
-    push_held(alloc, out, known, keeps, "", node)
+    push_inside(alloc, out, around.in_table(), node)?;
+    push_held(alloc, out, around.in_table(), node)
+}
+
+/// Appends a table, or a row, with a line for each of its parts.
+#[cycle(blocks)]
+fn push_lines(
+    alloc: Global,
+    out: &mut Str,
+    around: Surroundings<'_, '_, '_>,
+    opening: &str,
+    node: &Node<'_>,
+) -> Result<(), NoMemory> {
+    out.push_str(opening)?;
+    push_held(alloc, out, around.in_table(), node)
+}
+
+fn is_item_or_list(kind: Kind) -> bool {
+    matches!(
+        kind,
+        Kind::Ul | Kind::Ol | Kind::Dl | Kind::Li | Kind::Dt | Kind::Dd
+    )
+}
+
+/// Appends a block as it stood in the page, where it stood there as it is; it says whether it does. An item
+/// stands so only with its signs.
+fn push_if_standing(
+    alloc: Global,
+    out: &mut Str,
+    around: Surroundings<'_, '_, '_>,
+    node: &Node<'_>,
+) -> Result<bool, NoMemory> {
+    if is_item_or_list(node.kind) && !around.signs.is_empty() {
+        return Ok(false);
+    }
+    let Some(source) = source_standing(alloc, around.known, node)? else {
+        return Ok(false);
+    };
+    out.push_str(source.as_str())?;
+    Ok(true)
+}
+
+/// Appends a block without a line break at its end.
+#[cycle(blocks)]
+pub fn push_block(
+    alloc: Global,
+    out: &mut Str,
+    around: Surroundings<'_, '_, '_>,
+    node: &Node<'_>,
+) -> Result<(), NoMemory> {
+    if push_if_standing(alloc, out, around, node)? {
+        return Ok(());
+    }
+    match node.kind {
+        Kind::Para => push_inside(alloc, out, around, node),
+        Kind::Heading(level) => push_heading(alloc, out, around, level, node),
+        Kind::Rule => out.push_str("----"),
+        Kind::Ul | Kind::Ol | Kind::Dl => push_items(alloc, out, around, node),
+        Kind::Li | Kind::Dt | Kind::Dd => push_item(alloc, out, around, node),
+        Kind::Table => {
+            push_lines(alloc, out, around, "{|", node)?;
+            out.push_str("\n|}")
+        }
+        Kind::Tbody => push_rows(alloc, out, around, node),
+        Kind::Tr => push_lines(alloc, out, around, "|-", node),
+        Kind::Td => push_cell(alloc, out, around, "| ", node),
+        Kind::Th => push_cell(alloc, out, around, "! ", node),
+        Kind::Caption => push_cell(alloc, out, around, "|+ ", node),
+        _ => Ok(()),
+    }
 }

@@ -1,35 +1,161 @@
 //! A list of children that is written anew: what goes, what comes, and the line breaks between.
 
-use crate::blocks::push_block;
+use crate::blocks::{Surroundings, push_block};
 use crate::known::{Known, last_text, signs_of};
-use crate::proposal::Rewrite;
+use crate::proposing::{Numbering, Plan};
+use crate::slot::Slot;
 use std::alloc::Global;
 use wt_difference::{Child, inside, is_compared};
+use wt_selser::Change;
 use wt_span::{NoMemory, Str};
 use wt_tree::{Kind, Node};
 
-/// Between two children that stay: the last before and the first behind, as the page has them, the children of
-/// the page that go, and those that come.
-#[derive(Drop)]
-pub struct Gap<'t, 'a> {
-    pub before: Option<Child<'t, 'a>>,
-    pub behind: Option<Child<'t, 'a>>,
-    pub gone: Vec<Child<'t, 'a>>,
-    pub new: Vec<Child<'t, 'a>>,
+/// A gap between two children that stay in their turn: where it is, these two as the page has them, the page's
+/// children between them, and the edited ones, with the number of the block of the first.
+#[derive(Clone, Copy)]
+pub struct Gap<'w, 't, 'a> {
+    pub place: Slot,
+    pub before: Option<&'t Node<'a>>,
+    pub behind: Option<&'t Node<'a>>,
+    pub gone: &'w [Child<'t, 'a>],
+    pub new: &'w [Node<'a>],
+    pub first: Numbering,
 }
 
-fn start_of(node: &Node<'_>) -> u32 {
+// ---- slices
+
+fn place_of(at: usize) -> Result<u32, NoMemory> {
+    if at > 4_294_967_295 {
+        return Err(NoMemory);
+    }
+    Ok(at as u32)
+}
+
+/// Appends a slice, by what stands there instead.
+pub fn push_change(out: &mut Vec<Change>, place: Slot, by: Str) -> Result<(), NoMemory> {
+    let start = place_of(place.start)?;
+    let end = place_of(place.end)?;
+    out.push(Change { start, end, by })?;
+    Ok(())
+}
+
+fn range_of(node: &Node<'_>) -> Slot {
     match node.ranges {
-        Some(ranges) => ranges.start,
-        None => 0,
+        Some(ranges) => Slot {
+            start: ranges.start as usize,
+            end: ranges.end as usize,
+        },
+        None => Slot { start: 0, end: 0 },
     }
 }
 
-fn end_of(node: &Node<'_>) -> u32 {
-    match node.ranges {
-        Some(ranges) => ranges.end,
-        None => 0,
+fn is_mark(kind: Kind) -> bool {
+    matches!(kind, Kind::Comment | Kind::Include)
+}
+
+/// A slice that goes on to the end of the next child.
+fn joined(slice: Option<Slot>, child: Slot) -> Slot {
+    match slice {
+        Some(slice) => Slot {
+            start: slice.start,
+            end: child.end,
+        },
+        None => child,
     }
+}
+
+fn push_slice(out: &mut Vec<Slot>, slice: Option<Slot>) -> Result<(), NoMemory> {
+    if let Some(slice) = slice {
+        out.push(slice)?;
+    }
+    Ok(())
+}
+
+/// The slices of the children that go: those that stand next to each other in one. A comment or an include tag
+/// between two of them stands.
+fn slices_of(alloc: Global, gone: &[Child<'_, '_>]) -> Result<Vec<Slot>, NoMemory> {
+    let mut out = Vec::new(alloc);
+    let mut slice = None;
+    for child in gone {
+        let kind = child.node.kind;
+        if is_mark(kind) {
+            push_slice(&mut out, slice)?;
+            slice = None;
+        } else if is_compared(kind) {
+            slice = Some(joined(slice, range_of(child.node)));
+        }
+    }
+    push_slice(&mut out, slice)?;
+    Ok(out)
+}
+
+// ---- blanks
+
+fn byte_at(page: &str, at: usize) -> u8 {
+    page.as_bytes().get(at).copied().unwrap_or(0)
+}
+
+fn is_space(byte: u8) -> bool {
+    byte == b' ' || byte == b'\t'
+}
+
+fn is_blank(byte: u8) -> bool {
+    byte == b'\n' || is_space(byte)
+}
+
+/// Past line breaks and blanks, up to `to` at most.
+fn past_blanks(page: &str, from: usize, to: usize) -> usize {
+    for at in from..to {
+        if !is_blank(byte_at(page, at)) {
+            return at;
+        }
+    }
+    from.max(to)
+}
+
+/// Past spaces and tabs, up to `to` at most.
+fn past_spaces(page: &str, from: usize, to: usize) -> usize {
+    for at in from..to {
+        if !is_space(byte_at(page, at)) {
+            return at;
+        }
+    }
+    from.max(to)
+}
+
+/// Back over line breaks and blanks, down to `least` at most.
+fn back_over_blanks(page: &str, least: usize, from: usize) -> usize {
+    let mut place = from;
+    for _step in least..from {
+        let at = place.saturating_sub(1);
+        if !is_blank(byte_at(page, at)) {
+            return place;
+        }
+        place = at;
+    }
+    place
+}
+
+/// The most line breaks that stand between two places with nothing but blanks between them.
+fn most_breaks(page: &str, from: usize, to: usize) -> usize {
+    let mut most = 0usize;
+    let mut count = 0usize;
+    for at in from..to {
+        let byte = byte_at(page, at);
+        if byte == b'\n' {
+            count = count.saturating_add(1);
+            most = most.max(count);
+        } else if !is_space(byte) {
+            count = 0;
+        }
+    }
+    most
+}
+
+// ---- line breaks
+
+fn is_cell(kind: Kind) -> bool {
+    matches!(kind, Kind::Td | Kind::Th)
 }
 
 fn is_part(kind: Kind) -> bool {
@@ -57,21 +183,19 @@ fn is_lined(kind: Kind) -> bool {
 
 /// How many line breaks two neighbours ask for at least.
 fn least_between(left: Kind, right: Kind) -> usize {
-    match left {
-        Kind::Td | Kind::Th => 0,
-        _ => {
-            if (is_lined(left) || is_lined(right)) && !(is_list(left) && is_list(right)) {
-                1
-            } else {
-                2
-            }
-        }
+    if is_cell(left) {
+        return 0;
+    }
+    if (is_lined(left) || is_lined(right)) && !(is_list(left) && is_list(right)) {
+        1
+    } else {
+        2
     }
 }
 
 /// How many line breaks are written between two neighbours one of which is new.
 fn between(left: Kind, right: Kind) -> usize {
-    if is_part(left) || is_part(right) || (is_list(left) && is_part(right)) {
+    if is_part(left) || is_part(right) {
         1
     } else {
         2
@@ -85,227 +209,353 @@ fn push_breaks(out: &mut Str, count: usize) -> Result<(), NoMemory> {
     Ok(())
 }
 
-/// The line breaks that stand in the page between two places.
-fn breaks_in(page: &str, from: u32, to: u32) -> usize {
-    let bytes = page.as_bytes();
-    let mut count = 0;
-    let mut at = from as usize;
-    while at < to as usize && at < bytes.len() {
-        if bytes[at] == b'\n' {
-            count += 1;
+fn breaks(alloc: Global, wanted: usize, standing: usize) -> Result<Str, NoMemory> {
+    let mut out = Str::new(alloc);
+    push_breaks(&mut out, wanted.saturating_sub(standing))?;
+    Ok(out)
+}
+
+// ---- what goes
+
+/// Where the last comment or include tag before a place ends, which may end with a line break of its own; the start
+/// of the gap, where there is none.
+fn behind_marks(gap: Gap<'_, '_, '_>, at: usize) -> usize {
+    let mut end = gap.place.start;
+    for child in gap.gone {
+        let mark = range_of(child.node);
+        if is_mark(child.node.kind) && mark.end <= at {
+            end = mark.end.max(end);
         }
-        at += 1;
+    }
+    end
+}
+
+/// A slice that goes, with the blanks behind it; at the end of its holder with those before it.
+fn with_blanks(page: &str, gap: Gap<'_, '_, '_>, slice: Slot) -> Slot {
+    let end = past_blanks(page, slice.end, gap.place.end);
+    if gap.behind.is_none() && end == gap.place.end {
+        return Slot {
+            start: back_over_blanks(page, behind_marks(gap, slice.start), slice.start),
+            end: slice.end,
+        };
+    }
+    Slot {
+        start: slice.start,
+        end,
+    }
+}
+
+/// Appends the slices that go. Where they leave fewer line breaks than are wanted between what stands before and
+/// behind them, the last one has the others.
+fn push_gone(
+    alloc: Global,
+    out: &mut Vec<Change>,
+    page: &str,
+    gap: Gap<'_, '_, '_>,
+    slices: &[Slot],
+    wanted: usize,
+) -> Result<(), NoMemory> {
+    let mut standing = 0;
+    let mut at = gap.place.start;
+    let mut left = slices.len();
+    for slice in slices {
+        left = left.saturating_sub(1);
+        let place = with_blanks(page, gap, *slice);
+        standing = most_breaks(page, at, place.start).max(standing);
+        at = place.end;
+        let behind = most_breaks(page, at, gap.place.end).max(standing);
+        let by = breaks(alloc, if left == 0 { wanted } else { 0 }, behind)?;
+        push_change(out, place, by)?;
+    }
+    Ok(())
+}
+
+/// The line breaks that are wanted between the two that stay.
+fn wanted_between(gap: Gap<'_, '_, '_>) -> usize {
+    match gap.before {
+        None => 0,
+        Some(before) => match gap.behind {
+            None => 0,
+            Some(behind) => least_between(before.kind, behind.kind),
+        },
+    }
+}
+
+// ---- what comes
+
+fn is_item(kind: Kind) -> bool {
+    matches!(kind, Kind::Li | Kind::Dt | Kind::Dd)
+}
+
+fn first_gone<'t, 'a>(gone: &[Child<'t, 'a>]) -> Option<&'t Node<'a>> {
+    for child in gone {
+        if is_compared(child.node.kind) {
+            return Some(child.node);
+        }
+    }
+    None
+}
+
+/// An item of the page that stands beside those that come.
+fn item_beside<'t, 'a>(gap: Gap<'_, 't, 'a>) -> Option<&'t Node<'a>> {
+    gap.before.or(gap.behind).or(first_gone(gap.gone))
+}
+
+/// All but the last byte of an item's signs, which are ASCII.
+fn outer_signs(signs: &str) -> &str {
+    let count = signs.len().saturating_sub(1);
+    if signs.is_char_boundary(count) {
+        &signs[..count]
+    } else {
+        signs
+    }
+}
+
+/// The signs of an item of this kind beside one with these.
+fn signs_like(alloc: Global, signs: &str, kind: Kind) -> Result<Str, NoMemory> {
+    match kind {
+        Kind::Dt | Kind::Dd => {
+            let mut out = Str::copy_of(alloc, outer_signs(signs))?;
+            out.push_str(if matches!(kind, Kind::Dt) { ";" } else { ":" })?;
+            Ok(out)
+        }
+        _ => Str::copy_of(alloc, signs),
+    }
+}
+
+/// The signs with which an item that comes begins: those of the items that stand there.
+fn signs_in(
+    alloc: Global,
+    known: &Known<'_, '_>,
+    gap: Gap<'_, '_, '_>,
+    kind: Kind,
+    outer: &str,
+) -> Result<Str, NoMemory> {
+    if !is_item(kind) {
+        return Str::copy_of(alloc, outer);
+    }
+    match item_beside(gap) {
+        None => Str::copy_of(alloc, outer),
+        Some(item) => {
+            let signs = signs_of(alloc, known, item)?;
+            signs_like(alloc, signs.as_str(), kind)
+        }
+    }
+}
+
+/// What comes: the kinds of the first and the last, and how it is written.
+#[derive(Drop)]
+struct Coming {
+    first: Kind,
+    last: Kind,
+    source: Str,
+}
+
+/// How many of these nodes count.
+fn count_of(nodes: &[Node<'_>]) -> usize {
+    let mut count = 0usize;
+    for node in nodes {
+        if is_compared(node.kind) {
+            count = count.saturating_add(1);
+        }
     }
     count
 }
 
-/// Past line breaks and blanks, up to `to` at most.
-fn past_breaks(page: &str, from: u32, to: u32) -> u32 {
-    let bytes = page.as_bytes();
-    let mut at = from;
-    while at < to
-        && (bytes[at as usize] == b'\n' || bytes[at as usize] == b' ' || bytes[at as usize] == b'\t')
-    {
-        at += 1;
+/// The text at the end of the block before, where the last of those that come may be its second half.
+fn tail_of<'t, 'a>(gap: Gap<'_, 't, 'a>, left: usize) -> Option<&'t Node<'a>> {
+    match gap.before {
+        Some(before) if left == 0 => last_text(inside(before)),
+        _ => None,
     }
-    at
 }
 
-fn missing(wanted: usize, standing: usize) -> usize {
-    if wanted > standing { wanted - standing } else { 0 }
-}
-
-/// The signs with which an item of this list begins: those of the items that stand there.
-fn signs_in<'t, 'a>(
+/// What comes, with line breaks between; nothing where nothing does.
+fn coming_of<'t, 'a>(
     alloc: Global,
-    known: &Known<'t, 'a>,
-    gap: &Gap<'t, 'a>,
+    plan: Plan<'_, 't, 'a>,
+    outer: &str,
+    gap: Gap<'_, 't, 'a>,
+) -> Result<Option<Coming>, NoMemory> {
+    let mut coming: Option<Coming> = None;
+    let mut left = count_of(gap.new);
+    let mut block = gap.first;
+    for node in gap.new {
+        if is_compared(node.kind) {
+            left = left.saturating_sub(1);
+            let signs = signs_in(alloc, plan.known, gap, node.kind, outer)?;
+            let around = Surroundings {
+                known: plan.known,
+                keeps: plan.keeps(block.number),
+                signs: signs.as_str(),
+                tail: tail_of(gap, left),
+            };
+            coming = Some(followed(alloc, coming, around, node)?);
+            block = block.next();
+        }
+    }
+    Ok(coming)
+}
+
+/// What came so far, and this one behind it.
+fn followed(
+    alloc: Global,
+    coming: Option<Coming>,
+    around: Surroundings<'_, '_, '_>,
     node: &Node<'_>,
-    outer: &str,
-) -> Result<Str, NoMemory> {
-    if !matches!(node.kind, Kind::Li | Kind::Dt | Kind::Dd) {
-        return Str::copy_of(alloc, outer);
-    }
-    let beside = match gap.before {
-        Some(child) => Some(child),
-        None => match gap.behind {
-            Some(child) => Some(child),
-            None => gap.gone.first().copied(),
+) -> Result<Coming, NoMemory> {
+    let mut all = match coming {
+        None => Coming {
+            first: node.kind,
+            last: node.kind,
+            source: Str::new(alloc),
         },
+        Some(before) => {
+            let Coming {
+                first,
+                last,
+                mut source,
+            } = before;
+            push_breaks(&mut source, between(last, node.kind))?;
+            Coming {
+                first,
+                last: node.kind,
+                source,
+            }
+        }
     };
-    match beside {
-        None => Str::copy_of(alloc, outer),
-        Some(child) => {
-            let signs = signs_of(alloc, known, child.node)?;
-            let front = signs.as_str();
-            let count = if front.is_empty() { 0 } else { front.len() - 1 };
-            let mut out = Str::copy_of(alloc, &front[..count])?;
-            match node.kind {
-                Kind::Dt => out.push_str(";")?,
-                Kind::Dd => out.push_str(":")?,
-                _ => out.push_str(&front[count..])?,
-            }
-            Ok(out)
-        }
-    }
+    push_block(alloc, &mut all.source, around, node)?;
+    Ok(all)
 }
 
-/// The new children, with line breaks between.
-fn new_source<'t, 'a>(
-    alloc: Global,
-    known: &Known<'t, 'a>,
-    keeps: bool,
-    gap: &Gap<'t, 'a>,
-    outer: &str,
-) -> Result<Str, NoMemory> {
-    let mut out = Str::new(alloc);
-    let new = gap.new.as_slice();
-    for at in 0..new.len() {
-        if at > 0 {
-            push_breaks(&mut out, between(new[at - 1].node.kind, new[at].node.kind))?;
-        }
-        let tail = match gap.before {
-            Some(child) if at + 1 == new.len() => last_text(inside(child.node)),
-            _ => None,
-        };
-        let signs = signs_in(alloc, known, gap, new[at].node, outer)?;
-        push_block(alloc, &mut out, known, keeps, signs.as_str(), new[at].node, tail)?;
-    }
-    Ok(out)
+/// Where those come that take no other's place: behind the child before, or before the one behind.
+fn place_between(gap: Gap<'_, '_, '_>) -> Slot {
+    let at = if gap.before.is_none() && gap.behind.is_some() {
+        gap.place.end
+    } else {
+        gap.place.start
+    };
+    Slot { start: at, end: at }
 }
 
-fn push_rewrite(
-    out: &mut Vec<Rewrite>,
-    start: u32,
-    end: u32,
-    by: Str,
-) -> Result<(), NoMemory> {
-    out.push(Rewrite { start, end, by })?;
-    Ok(())
-}
-
-/// Only some go.
-fn push_gone(
-    alloc: Global,
-    out: &mut Vec<Rewrite>,
+/// The line breaks before what comes.
+fn breaks_before(
     page: &str,
-    gap: &Gap<'_, '_>,
-    first: Child<'_, '_>,
-    last: Child<'_, '_>,
-    at: u32,
-) -> Result<(), NoMemory> {
-    let mut by = Str::new(alloc);
-    let mut start = start_of(first.node);
-    let mut end = end_of(last.node);
-    match gap.behind {
-        Some(behind) => {
-            end = past_breaks(page, end, start_of(behind.node));
-            if let Some(before) = gap.before {
-                let standing = breaks_in(page, end_of(before.node), start);
-                let wanted = least_between(before.node.kind, behind.node.kind);
-                push_breaks(&mut by, missing(wanted, standing))?;
-            }
-        }
-        None => {
-            if let Some(before) = gap.before {
-                start = past_breaks(page, end_of(before.node), start);
-                if start == start_of(first.node) {
-                    start = end_of(before.node);
-                }
-            } else if at < start {
-                start = at;
-            }
-        }
+    gap: Gap<'_, '_, '_>,
+    takes_place: bool,
+    first: Kind,
+    at: usize,
+) -> usize {
+    let standing = most_breaks(page, gap.place.start, at);
+    let wanted = match gap.before {
+        Some(before) if takes_place => least_between(before.kind, first),
+        Some(before) => between(before.kind, first),
+        None if takes_place || gap.behind.is_some() || gap.place.start == 0 => 0,
+        None => 1,
+    };
+    let missing = wanted.saturating_sub(standing);
+    let is_within_line = gap.place.start < at && byte_at(page, at.saturating_sub(1)) != b'\n';
+    if missing == 0 && is_within_line && is_lined(first) && !is_cell(first) {
+        1
+    } else {
+        missing
     }
-    push_rewrite(out, start, end, by)
 }
 
-/// Some come, and some may go in their place.
+/// Whether a cell of the page goes on in the line of the one before it, and may do so behind one of this kind.
+fn shares_line(page: &str, last: Kind, cell: &Node<'_>) -> bool {
+    let start = range_of(cell).start;
+    let sign = byte_at(page, start);
+    let is_doubled = (sign == b'|' || sign == b'!')
+        && sign == byte_at(page, start.saturating_add(1));
+    match last {
+        Kind::Td => is_doubled && matches!(cell.kind, Kind::Td),
+        Kind::Th => is_doubled && matches!(cell.kind, Kind::Th),
+        _ => false,
+    }
+}
+
+/// The line breaks behind it, up to what stands behind or to the next slice that goes.
+fn breaks_behind(page: &str, gap: Gap<'_, '_, '_>, last: Kind, from: usize, to: usize) -> usize {
+    let Some(behind) = gap.behind else {
+        return 0;
+    };
+    let standing = most_breaks(page, from, to);
+    let wanted = if standing == 0 && shares_line(page, last, behind) {
+        0
+    } else if standing == 0 {
+        between(last, behind.kind)
+    } else {
+        least_between(last, behind.kind)
+    };
+    wanted.saturating_sub(standing)
+}
+
+/// Appends what comes, in the place of the first slice that goes.
 fn push_new(
     alloc: Global,
-    out: &mut Vec<Rewrite>,
+    out: &mut Vec<Change>,
     page: &str,
-    gap: &Gap<'_, '_>,
-    source: Str,
-    at: u32,
+    gap: Gap<'_, '_, '_>,
+    slices: &[Slot],
+    coming: Coming,
 ) -> Result<(), NoMemory> {
-    let new = gap.new.as_slice();
-    let first = new[0].node.kind;
-    let last = new[new.len() - 1].node.kind;
-    let gone = gap.gone.as_slice();
-    let (start, end) = if gone.is_empty() {
-        match gap.before {
-            Some(before) => (end_of(before.node), end_of(before.node)),
-            None => match gap.behind {
-                Some(behind) => (start_of(behind.node), start_of(behind.node)),
-                None => (at, at),
-            },
-        }
-    } else {
-        (start_of(gone[0].node), end_of(gone[gone.len() - 1].node))
+    let place = slices.first().copied().unwrap_or(place_between(gap));
+    let to = match slices.get(1) {
+        Some(next) => next.start,
+        None => gap.place.end,
     };
+    let end = past_spaces(page, place.end, to);
+    let before = breaks_before(page, gap, !slices.is_empty(), coming.first, place.start);
+    let behind = breaks_behind(page, gap, coming.last, end, to);
     let mut by = Str::new(alloc);
-    match gap.before {
-        Some(before) => {
-            let standing = breaks_in(page, end_of(before.node), start);
-            let wanted = if gone.is_empty() {
-                between(before.node.kind, first)
-            } else {
-                least_between(before.node.kind, first)
-            };
-            push_breaks(&mut by, missing(wanted, standing))?;
-        }
-        None => {
-            if gone.is_empty() && gap.behind.is_none() && at > 0 {
-                push_breaks(&mut by, 1)?;
-            }
-        }
-    }
-    by.push_str(source.as_str())?;
-    if let Some(behind) = gap.behind {
-        let standing = breaks_in(page, end, start_of(behind.node));
-        let wanted = if standing == 0 {
-            between(last, behind.node.kind)
-        } else {
-            least_between(last, behind.node.kind)
-        };
-        push_breaks(&mut by, missing(wanted, standing))?;
-    }
-    push_rewrite(out, start, end, by)
+    push_breaks(&mut by, before)?;
+    by.push_str(coming.source.as_str())?;
+    push_breaks(&mut by, behind)?;
+    push_change(
+        out,
+        Slot {
+            start: place.start,
+            end,
+        },
+        by,
+    )
 }
 
-/// Appends what is written anew between two children that stay. `at` is where children begin, where there are
-/// none, and `outer` the signs of the item that holds them.
+// ---- a gap
+
+/// Appends what is written anew between two children that stay in their turn. `outer` are the signs of the item
+/// that holds them.
 pub fn push_gap<'t, 'a>(
     alloc: Global,
-    out: &mut Vec<Rewrite>,
-    known: &Known<'t, 'a>,
-    page: &str,
-    keeps: bool,
-    gap: &Gap<'t, 'a>,
+    out: &mut Vec<Change>,
+    plan: Plan<'_, 't, 'a>,
     outer: &str,
-    at: u32,
+    gap: Gap<'_, 't, 'a>,
 ) -> Result<(), NoMemory> {
-    if !gap.new.as_slice().is_empty() {
-        let source = new_source(alloc, known, keeps, gap, outer)?;
-        return push_new(alloc, out, page, gap, source, at);
-    }
-    let gone = gap.gone.as_slice();
-    if gone.is_empty() {
-        return Ok(());
-    }
-    push_gone(alloc, out, page, gap, gone[0], gone[gone.len() - 1], at)
-}
-
-/// Those of the children that count.
-pub fn push_compared<'t, 'a>(
-    out: &mut Vec<Child<'t, 'a>>,
-    children: &[Child<'t, 'a>],
-) -> Result<(), NoMemory> {
-    for child in children {
-        if is_compared(child.node.kind) {
-            out.push(*child)?;
+    let page = plan.known.page;
+    let slices = slices_of(alloc, gap.gone)?;
+    let coming = coming_of(alloc, plan, outer, gap)?;
+    match coming {
+        None => push_gone(
+            alloc,
+            out,
+            page,
+            gap,
+            slices.as_slice(),
+            wanted_between(gap),
+        ),
+        Some(coming) => {
+            push_new(alloc, out, page, gap, slices.as_slice(), coming)?;
+            push_gone(alloc, out, page, gap, behind_first(slices.as_slice()), 0)
         }
     }
-    Ok(())
+}
+
+fn behind_first(slices: &[Slot]) -> &[Slot] {
+    if slices.is_empty() {
+        slices
+    } else {
+        &slices[1..]
+    }
 }

@@ -1,38 +1,61 @@
 //! What two texts have in common at their fronts and at their backs, cut at a space.
 
-fn is_space(byte: u8) -> bool {
-    byte == b' ' || byte == b'\n' || byte == b'\t'
+fn is_space_at(text: &[u8], at: usize) -> bool {
+    match text.get(at) {
+        Some(byte) => *byte == b' ' || *byte == b'\n' || *byte == b'\t',
+        None => false,
+    }
 }
 
 /// Whether a text may be cut at a place: at its ends, and before and behind a space.
 fn is_cut(text: &[u8], at: usize) -> bool {
-    at == 0 || at >= text.len() || is_space(text[at - 1]) || is_space(text[at])
+    at == 0 || at >= text.len() || is_space_at(text, at - 1) || is_space_at(text, at)
+}
+
+fn has_at(text: &[u8], at: usize, byte: u8) -> bool {
+    match text.get(at) {
+        Some(found) => *found == byte,
+        None => false,
+    }
 }
 
 /// How many bytes of a new text are those at the front of an old one, up to a place where it may be cut.
 pub fn common_front(old: &[u8], new: &[u8]) -> usize {
-    let mut count = 0;
-    while count < old.len() && count < new.len() && old[count] == new[count] {
-        count += 1;
+    let mut cut = 0;
+    for at in 0..new.len() {
+        if is_cut(new, at) {
+            cut = at;
+        }
+        if !has_at(old, at, new[at]) {
+            return cut;
+        }
     }
-    while !is_cut(new, count) {
-        count -= 1;
+    new.len()
+}
+
+/// The byte with this many bytes behind it.
+fn from_end(text: &[u8], behind: usize) -> Option<u8> {
+    let place = text.len().checked_sub(behind)?.checked_sub(1)?;
+    text.get(place).copied()
+}
+
+fn ends_alike(old: &[u8], new: &[u8], behind: usize) -> bool {
+    match from_end(new, behind) {
+        Some(byte) => from_end(old, behind) == Some(byte),
+        None => false,
     }
-    count
 }
 
 /// The same at the back, of which `most` bytes may count.
 pub fn common_back(old: &[u8], new: &[u8], most: usize) -> usize {
-    let mut count = 0;
-    while count < most
-        && count < old.len()
-        && count < new.len()
-        && old[old.len() - 1 - count] == new[new.len() - 1 - count]
-    {
-        count += 1;
+    let mut cut = 0;
+    for count in 0..new.len() {
+        if is_cut(new, new.len() - count) {
+            cut = count;
+        }
+        if count >= most || !ends_alike(old, new, count) {
+            return cut;
+        }
     }
-    while !is_cut(new, new.len() - count) {
-        count -= 1;
-    }
-    count
+    new.len()
 }

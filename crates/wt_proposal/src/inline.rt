@@ -1,13 +1,13 @@
 //! Inline content as wikitext: what stood in the page as it stood, texts too, and what is new as `edit` spells it.
 
-use crate::common::{common_back, common_front};
 use crate::known::{Block, Known, first_text, last_text};
+use crate::texts::{push_letters, push_text};
 use std::alloc::Global;
 use wt_escape::{external_link_of, page_link_of};
 use wt_guards::{Place, Role, Setting, Stretch, Thing, Unit, spelling_of};
 use wt_kept::{Kept, Way, is_unchanged, shape, shown_text};
 use wt_span::{NoMemory, Str, Text};
-use wt_tree::{Kind, Node, flat, same_attrs};
+use wt_tree::{Kind, Node, flat, same_attrs, same_kind};
 
 /// How an inside is written: what is known of the page, the block in which it stands, whether texts keep their
 /// bytes, and what kind of block it is.
@@ -17,6 +17,22 @@ pub struct Writing<'w, 't, 'a> {
     pub block: Option<&'w Block<'t, 'a>>,
     pub keeps: bool,
     pub place: Place,
+}
+
+impl<'w, 't, 'a> Writing<'w, 't, 'a> {
+    pub fn of(
+        known: &'w Known<'t, 'a>,
+        block: Option<&'w Block<'t, 'a>>,
+        keeps: bool,
+        place: Place,
+    ) -> Writing<'w, 't, 'a> {
+        Writing {
+            known,
+            block,
+            keeps,
+            place,
+        }
+    }
 }
 
 /// The texts of the page at the two edges of what is written.
@@ -34,121 +50,17 @@ pub fn edges_of<'t, 'a>(nodes: &'t [Node<'a>]) -> Edges<'t, 'a> {
     }
 }
 
-// ---- texts
-
-/// The start in the page of a text that stands there as it is shown.
-fn start_of(text: &Node<'_>) -> Option<usize> {
-    match text.ranges {
-        None => None,
-        Some(ranges) => {
-            if (ranges.end - ranges.start) as usize == text.shown.as_str().len() {
-                Some(ranges.start as usize)
-            } else {
-                None
-            }
-        }
-    }
-}
-
-fn push_letters<'n>(out: &mut Vec<Unit<'n>>, text: &'n str) -> Result<(), NoMemory> {
-    if !text.is_empty() {
-        out.push(Unit::Text(text))?;
-    }
-    Ok(())
-}
-
-/// Appends characters that stand in the page as they stand.
-fn push_standing(
-    alloc: Global,
-    out: &mut Vec<Unit<'_>>,
-    text: &str,
-    start: usize,
-) -> Result<(), NoMemory> {
-    if text.is_empty() {
-        return Ok(());
-    }
-    let source = Str::copy_of(alloc, text)?;
-    out.push(Unit::Thing(Thing {
-        role: Role::Node,
-        source,
-        place: Some(Stretch {
-            start,
-            end: start + text.len(),
-        }),
-    }))?;
-    Ok(())
-}
-
-fn is_at(text: Option<&Node<'_>>, start: usize) -> bool {
-    match text {
-        None => false,
-        Some(text) => match start_of(text) {
-            None => false,
-            Some(found) => found == start,
+fn edges_in<'t, 'a>(kept: Option<Kept<'t, 'a>>) -> Edges<'t, 'a> {
+    match kept {
+        Some(kept) => edges_of(kept.node.children.as_slice()),
+        None => Edges {
+            first: None,
+            last: None,
         },
     }
 }
 
-/// The text without its last byte.
-fn shortened(text: &[u8]) -> &[u8] {
-    if text.is_empty() { text } else { &text[..text.len() - 1] }
-}
-
-/// How many bytes a text has in common with the front of one of the page, and where that one starts. Of the one
-/// text between two nodes the last character, where it stays, counts for the back.
-fn front_in(text: &str, old: Option<&Node<'_>>, right: Option<&Node<'_>>) -> (usize, usize) {
-    let Some(old) = old else {
-        return (0, 0);
-    };
-    let Some(start) = start_of(old) else {
-        return (0, 0);
-    };
-    let before = old.shown.as_str().as_bytes();
-    let after = text.as_bytes();
-    if before == after || !is_at(right, start) || before.last() != after.last() {
-        return (common_front(before, after), start);
-    }
-    (common_front(shortened(before), shortened(after)), start)
-}
-
-fn back_in(text: &str, old: Option<&Node<'_>>, from: usize, front: usize) -> (usize, usize) {
-    match old {
-        None => (0, 0),
-        Some(old) => match start_of(old) {
-            None => (0, 0),
-            Some(start) => {
-                let before = old.shown.as_str().as_bytes();
-                let most = if start == from && front > 0 {
-                    before.len() - front
-                } else {
-                    before.len()
-                };
-                let rest = &text.as_bytes()[front..];
-                let count = common_back(before, rest, most);
-                (count, start + before.len() - count)
-            }
-        },
-    }
-}
-
-/// Appends a text between two nodes: what it has in common with the page's texts next to these stands.
-fn push_text<'n>(
-    alloc: Global,
-    out: &mut Vec<Unit<'n>>,
-    text: &'n str,
-    left: Option<&Node<'_>>,
-    right: Option<&Node<'_>>,
-) -> Result<(), NoMemory> {
-    let (front, start) = front_in(text, left, right);
-    let (back, behind) = back_in(text, right, start, front);
-    let end = text.len() - back;
-    push_standing(alloc, out, &text[..front], start)?;
-    push_letters(out, &text[front..end])?;
-    push_standing(alloc, out, &text[end..], behind)?;
-    Ok(())
-}
-
-// ---- nodes
+// ---- one unit
 
 fn push_thing(
     out: &mut Vec<Unit<'_>>,
@@ -164,11 +76,16 @@ fn push_thing(
     Ok(())
 }
 
-fn joined(alloc: Global, texts: &[Text<'_>]) -> Result<Str, NoMemory> {
-    let mut out = Str::new(alloc);
+fn push_texts(out: &mut Str, texts: &[Text<'_>]) -> Result<(), NoMemory> {
     for text in texts {
         out.push_str(text.as_str())?;
     }
+    Ok(())
+}
+
+fn joined(alloc: Global, texts: &[Text<'_>]) -> Result<Str, NoMemory> {
+    let mut out = Str::new(alloc);
+    push_texts(&mut out, texts)?;
     Ok(out)
 }
 
@@ -179,151 +96,27 @@ fn place_of(kept: Option<Kept<'_, '_>>) -> Option<Stretch> {
     }
 }
 
-fn edges_in<'t, 'a>(kept: Option<Kept<'t, 'a>>) -> Edges<'t, 'a> {
-    match kept {
-        Some(kept) => edges_of(kept.node.children.as_slice()),
-        None => Edges {
-            first: None,
-            last: None,
-        },
-    }
-}
-
-fn is_of(kept: Option<Kept<'_, '_>>, kind: Kind) -> bool {
-    match kept {
-        Some(kept) => wt_tree::same_kind(kept.node.kind, kind),
-        None => false,
-    }
-}
-
-fn push_delimiter(
+/// Appends a node as it stood in the page.
+fn push_as_it_stood(
     alloc: Global,
     out: &mut Vec<Unit<'_>>,
-    sign: &str,
+    old: Kept<'_, '_>,
 ) -> Result<(), NoMemory> {
-    let source = Str::copy_of(alloc, sign)?;
-    push_thing(out, Role::Toggle, source, None)
+    let source = flat(alloc, old.node)?;
+    push_thing(out, old.role, source, Some(old.place))
 }
 
-/// Appends bold or italic: with its delimiters where the page has it.
-fn push_style<'n, 't, 'a>(
+/// The same of a node that may not have stood there. What a link skips is no part of its text.
+fn push_kept(
     alloc: Global,
-    out: &mut Vec<Unit<'n>>,
-    writing: Writing<'_, 't, 'a>,
-    sign: &str,
-    kept: Option<Kept<'t, 'a>>,
-    node: &'n Node<'_>,
-) -> Result<(), NoMemory> {
-    let stood = is_of(kept, node.kind) && writing.keeps;
-    if let Some(old) = kept {
-        if stood {
-            let opening = joined(alloc, old.node.opening.as_slice())?;
-            let closing = joined(alloc, old.node.closing.as_slice())?;
-            let open_end = old.place.start + opening.as_str().len();
-            let close_start = old.place.end - closing.as_str().len();
-            let opened = Stretch {
-                start: old.place.start,
-                end: open_end,
-            };
-            let closed = Stretch {
-                start: close_start,
-                end: old.place.end,
-            };
-            if !opening.as_str().is_empty() {
-                push_thing(out, Role::Node, opening, Some(opened))?;
-            }
-            push_units(alloc, out, writing, node.children.as_slice(), edges_in(kept))?;
-            if !closing.as_str().is_empty() {
-                push_thing(out, Role::Node, closing, Some(closed))?;
-            }
-            return Ok(());
-        }
-    }
-    push_delimiter(alloc, out, sign)?;
-    if node.children.as_slice().is_empty() {
-        let source = Str::copy_of(alloc, "<nowiki/>")?;
-        push_thing(out, Role::Node, source, None)?;
-    }
-    push_units(alloc, out, writing, node.children.as_slice(), edges_in(kept))?;
-    push_delimiter(alloc, out, sign)
-}
-
-/// Whether the page's link stands as it did but for its text, and has one of its own.
-fn keeps_target(old: &Node<'_>, node: &Node<'_>) -> bool {
-    if !wt_tree::same_kind(old.kind, node.kind) || !same_attrs(&old.attrs, &node.attrs) {
-        return false;
-    }
-    match old.opening.as_slice().last() {
-        None => false,
-        Some(text) => {
-            let bytes = text.as_str().as_bytes();
-            bytes.ends_with(b"|") || bytes.ends_with(b" ")
-        }
-    }
-}
-
-fn within(
-    alloc: Global,
-    writing: Writing<'_, '_, '_>,
-    nodes: &[Node<'_>],
-    edges: Edges<'_, '_>,
-) -> Result<String, NoMemory> {
-    let mut units = Vec::new(alloc);
-    push_units(alloc, &mut units, writing, nodes, edges)?;
-    let setting = Setting {
-        within: true,
-        place: writing.place,
-        source: writing.known.whole.source.as_bytes(),
-    };
-    let inside = spelling_of(alloc, setting, units.as_slice())?;
-    Ok(inside)
-}
-
-fn pair_round(alloc: Global, old: &Node<'_>, inside: &str) -> Result<Str, NoMemory> {
-    let mut out = joined(alloc, old.opening.as_slice())?;
-    out.push_str(inside)?;
-    let closing = joined(alloc, old.closing.as_slice())?;
-    out.push_str(closing.as_str())?;
-    Ok(out)
-}
-
-/// A link or tag, new or changed.
-fn element_source(
-    alloc: Global,
-    writing: Writing<'_, '_, '_>,
-    way: Way,
+    out: &mut Vec<Unit<'_>>,
     kept: Option<Kept<'_, '_>>,
-    node: &Node<'_>,
-) -> Result<Str, NoMemory> {
-    let inside = within(alloc, writing, node.children.as_slice(), edges_in(kept))?;
-    let inside = inside.as_str();
-    if let Some(old) = kept {
-        if matches!(way, Way::Tag) || (writing.keeps && !inside.is_empty() && keeps_target(old.node, node)) {
-            return pair_round(alloc, old.node, inside);
-        }
+    kind: Kind,
+) -> Result<(), NoMemory> {
+    match kept {
+        Some(old) if !matches!(kind, Kind::Skip) => push_as_it_stood(alloc, out, old),
+        _ => Ok(()),
     }
-    match way {
-        Way::PageLink => page_link_of(alloc, node, inside),
-        Way::ExternalLink => external_link_of(alloc, node, inside),
-        Way::Break => Str::copy_of(alloc, "<br>"),
-        _ => Str::copy_of(alloc, inside),
-    }
-}
-
-fn role_of(way: Way) -> Role {
-    match way {
-        Way::PageLink => Role::Link,
-        Way::ExternalLink => Role::External,
-        _ => Role::Node,
-    }
-}
-
-fn push_shown(alloc: Global, out: &mut Vec<Unit<'_>>, node: &Node<'_>) -> Result<(), NoMemory> {
-    let text = shown_text(alloc, node)?;
-    if !text.is_empty() {
-        out.push(Unit::Copied(Str::from_string(text)))?;
-    }
-    Ok(())
 }
 
 /// Appends a node as it stood in the page, where it shows what it showed; it says whether it does.
@@ -337,14 +130,252 @@ fn push_if_unchanged(
     let Some(old) = kept else {
         return Ok(false);
     };
-    let same = is_unchanged(alloc, &writing.known.whole, old, node)?;
-    if same {
-        let source = flat(alloc, old.node)?;
-        push_thing(out, old.role, source, Some(old.place))?;
+    let Some(groups) = writing.known.groups(writing.block) else {
+        return Ok(false);
+    };
+    if !is_unchanged(alloc, groups, old, node)? {
+        return Ok(false);
     }
-    Ok(same)
+    push_as_it_stood(alloc, out, old)?;
+    Ok(true)
 }
 
+fn push_shown(alloc: Global, out: &mut Vec<Unit<'_>>, node: &Node<'_>) -> Result<(), NoMemory> {
+    let text = shown_text(alloc, node)?;
+    if !text.is_empty() {
+        out.push(Unit::Copied(Str::from_string(text)))?;
+    }
+    Ok(())
+}
+
+// ---- bold and italic
+
+fn push_toggle(alloc: Global, out: &mut Vec<Unit<'_>>, sign: &str) -> Result<(), NoMemory> {
+    let source = Str::copy_of(alloc, sign)?;
+    push_thing(out, Role::Toggle, source, None)
+}
+
+fn push_nowiki(alloc: Global, out: &mut Vec<Unit<'_>>) -> Result<(), NoMemory> {
+    let source = Str::copy_of(alloc, "<nowiki/>")?;
+    push_thing(out, Role::Node, source, None)
+}
+
+/// Appends the opening delimiter of a node of the page.
+fn push_opening(alloc: Global, out: &mut Vec<Unit<'_>>, old: Kept<'_, '_>) -> Result<(), NoMemory> {
+    let source = joined(alloc, old.node.opening.as_slice())?;
+    let length = source.as_str().len();
+    if length == 0 {
+        return Ok(());
+    }
+    let start = old.place.start;
+    let end = start.saturating_add(length);
+    push_thing(out, Role::Node, source, Some(Stretch { start, end }))
+}
+
+/// Appends its closing delimiter; a style that is open to its line's end has none.
+fn push_closing(alloc: Global, out: &mut Vec<Unit<'_>>, old: Kept<'_, '_>) -> Result<(), NoMemory> {
+    let source = joined(alloc, old.node.closing.as_slice())?;
+    let length = source.as_str().len();
+    if length == 0 {
+        return Ok(());
+    }
+    let end = old.place.end;
+    let start = end.saturating_sub(length);
+    push_thing(out, Role::Node, source, Some(Stretch { start, end }))
+}
+
+/// The page's node, where it is of the same kind and its delimiters stay.
+fn with_delimiters<'t, 'a>(
+    writing: Writing<'_, '_, '_>,
+    kept: Option<Kept<'t, 'a>>,
+    kind: Kind,
+) -> Option<Kept<'t, 'a>> {
+    match kept {
+        Some(old) if writing.keeps && same_kind(old.node.kind, kind) => Some(old),
+        _ => None,
+    }
+}
+
+/// Appends bold or italic: with its delimiters where the page has it.
+#[cycle(units)]
+fn push_style<'n, 't, 'a>(
+    alloc: Global,
+    out: &mut Vec<Unit<'n>>,
+    writing: Writing<'_, 't, 'a>,
+    sign: &str,
+    kept: Option<Kept<'t, 'a>>,
+    node: &'n Node<'_>,
+) -> Result<(), NoMemory> {
+    let nodes = node.children.as_slice();
+    if let Some(old) = with_delimiters(writing, kept, node.kind) {
+        push_opening(alloc, out, old)?;
+        push_units(alloc, out, writing, nodes, edges_in(kept))?;
+        return push_closing(alloc, out, old);
+    }
+    push_toggle(alloc, out, sign)?;
+    if nodes.is_empty() {
+        push_nowiki(alloc, out)?;
+    }
+    push_units(alloc, out, writing, nodes, edges_in(kept))?;
+    push_toggle(alloc, out, sign)
+}
+
+// ---- links and tags
+
+/// A changed tag with its old delimiters.
+fn tag_round(alloc: Global, old: &Node<'_>, inside: &str) -> Result<Str, NoMemory> {
+    let mut out = joined(alloc, old.opening.as_slice())?;
+    out.push_str(inside)?;
+    push_texts(&mut out, old.closing.as_slice())?;
+    Ok(out)
+}
+
+/// Whether a link's opening delimiter has its target, and its text stands behind it.
+fn has_target(opening: &str) -> bool {
+    let bytes = opening.as_bytes();
+    bytes.ends_with(b"|") || bytes.ends_with(b" ")
+}
+
+/// Appends the target of a link that has no text of its own: what stands in it up to its brackets. It says
+/// whether that is the target alone.
+fn push_target(alloc: Global, out: &mut Str, nodes: &[Node<'_>]) -> Result<bool, NoMemory> {
+    for node in nodes {
+        match node.kind {
+            Kind::Text | Kind::Entity => {
+                let source = flat(alloc, node)?;
+                out.push_str(source.as_str())?;
+            }
+            Kind::Skip => return Ok(true),
+            _ => return Ok(false),
+        }
+    }
+    Ok(true)
+}
+
+/// What stands before the text of a link of the page; of one without a text its target and a new `|`. None where
+/// there is no such thing.
+fn target_of(alloc: Global, old: &Node<'_>) -> Result<Option<Str>, NoMemory> {
+    let mut out = joined(alloc, old.opening.as_slice())?;
+    if has_target(out.as_str()) {
+        return Ok(Some(out));
+    }
+    if !matches!(old.kind, Kind::WikiLink) {
+        return Ok(None);
+    }
+    if !push_target(alloc, &mut out, old.children.as_slice())? {
+        return Ok(None);
+    }
+    out.push_str("|")?;
+    Ok(Some(out))
+}
+
+/// Appends the closing delimiter of a link of the page; where letters behind its brackets were part of its text,
+/// these stand in it.
+fn push_link_end(out: &mut Str, old: &Node<'_>) -> Result<(), NoMemory> {
+    if matches!(old.kind, Kind::WikiLink) && old.closing.as_slice().is_empty() {
+        return out.push_str("]]");
+    }
+    push_texts(out, old.closing.as_slice())
+}
+
+/// A link of the page whose text alone was changed: its target stands as it was written. None where the target
+/// was changed, too, or no text is left.
+fn link_round(
+    alloc: Global,
+    old: &Node<'_>,
+    node: &Node<'_>,
+    inside: &str,
+) -> Result<Option<Str>, NoMemory> {
+    let is_same = same_kind(old.kind, node.kind) && same_attrs(&old.attrs, &node.attrs);
+    if !is_same || inside.is_empty() {
+        return Ok(None);
+    }
+    let Some(mut out) = target_of(alloc, old)? else {
+        return Ok(None);
+    };
+    out.push_str(inside)?;
+    push_link_end(&mut out, old)?;
+    Ok(Some(out))
+}
+
+fn new_source(alloc: Global, node: &Node<'_>, inside: &str) -> Result<Str, NoMemory> {
+    match shape(node.kind).way {
+        Way::PageLink => page_link_of(alloc, node, inside),
+        Way::ExternalLink => external_link_of(alloc, node, inside),
+        Way::Break => Str::copy_of(alloc, "<br>"),
+        Way::Nothing
+        | Way::Characters
+        | Way::Bold
+        | Way::Italic
+        | Way::Shown
+        | Way::Tag
+        | Way::AsItStood => Str::copy_of(alloc, inside),
+    }
+}
+
+/// The source of a link or tag round what it holds now.
+fn source_round(
+    alloc: Global,
+    keeps: bool,
+    kept: Option<Kept<'_, '_>>,
+    node: &Node<'_>,
+    inside: &str,
+) -> Result<Str, NoMemory> {
+    let Some(old) = kept else {
+        return new_source(alloc, node, inside);
+    };
+    if matches!(node.kind, Kind::Tag(_)) {
+        return tag_round(alloc, old.node, inside);
+    }
+    if keeps && let Some(source) = link_round(alloc, old.node, node, inside)? {
+        return Ok(source);
+    }
+    new_source(alloc, node, inside)
+}
+
+fn role_of(kind: Kind) -> Role {
+    match kind {
+        Kind::WikiLink => Role::Link,
+        Kind::ExtLink => Role::External,
+        _ => Role::Node,
+    }
+}
+
+/// Appends a link or tag that is new or changed.
+#[cycle(units)]
+fn push_element<'t, 'a>(
+    alloc: Global,
+    out: &mut Vec<Unit<'_>>,
+    writing: Writing<'_, 't, 'a>,
+    kept: Option<Kept<'t, 'a>>,
+    node: &Node<'_>,
+) -> Result<(), NoMemory> {
+    let inside = within(alloc, writing, node.children.as_slice(), edges_in(kept))?;
+    let source = source_round(alloc, writing.keeps, kept, node, inside.as_str())?;
+    push_thing(out, role_of(node.kind), source, place_of(kept))
+}
+
+/// The inside of a link or tag.
+#[cycle(units)]
+fn within<'t, 'a>(
+    alloc: Global,
+    writing: Writing<'_, 't, 'a>,
+    nodes: &[Node<'_>],
+    edges: Edges<'t, 'a>,
+) -> Result<String, NoMemory> {
+    let units = units_of(alloc, writing, nodes, edges)?;
+    let setting = Setting {
+        within: true,
+        place: writing.place,
+        source: writing.known.page.as_bytes(),
+    };
+    let inside = spelling_of(alloc, setting, units.as_slice())?;
+    Ok(inside)
+}
+
+// ---- all nodes
+
+#[cycle(units)]
 fn push_node<'n, 't, 'a>(
     alloc: Global,
     out: &mut Vec<Unit<'n>>,
@@ -352,40 +383,67 @@ fn push_node<'n, 't, 'a>(
     node: &'n Node<'_>,
 ) -> Result<(), NoMemory> {
     let kept = writing.known.find(writing.block, node.id);
-    let way = shape(node.kind).way;
-    match way {
+    match shape(node.kind).way {
         Way::Nothing => Ok(()),
         Way::Characters => push_letters(out, node.shown.as_str()),
         Way::Bold => push_style(alloc, out, writing, "'''", kept, node),
         Way::Italic => push_style(alloc, out, writing, "''", kept, node),
-        Way::AsItStood => {
-            // What a link skips is no part of its text.
-            if matches!(node.kind, Kind::Skip) {
+        Way::AsItStood => push_kept(alloc, out, kept, node.kind),
+        Way::Shown => {
+            if push_if_unchanged(alloc, out, writing, kept, node)? {
                 return Ok(());
             }
-            if let Some(old) = kept {
-                let source = flat(alloc, old.node)?;
-                push_thing(out, old.role, source, Some(old.place))?;
-            }
-            Ok(())
-        }
-        Way::Shown => {
-            if !push_if_unchanged(alloc, out, writing, kept, node)? {
-                push_shown(alloc, out, node)?;
-            }
-            Ok(())
+            push_shown(alloc, out, node)
         }
         Way::PageLink | Way::ExternalLink | Way::Tag | Way::Break => {
-            if !push_if_unchanged(alloc, out, writing, kept, node)? {
-                let source = element_source(alloc, writing, way, kept, node)?;
-                push_thing(out, role_of(way), source, place_of(kept))?;
+            if push_if_unchanged(alloc, out, writing, kept, node)? {
+                return Ok(());
             }
-            Ok(())
+            push_element(alloc, out, writing, kept, node)
         }
     }
 }
 
+fn is_text(node: &Node<'_>) -> bool {
+    matches!(node.kind, Kind::Text)
+}
+
+fn before<'n, 'a>(nodes: &'n [Node<'a>], at: usize) -> Option<&'n Node<'a>> {
+    nodes.get(at.checked_sub(1)?)
+}
+
+fn behind<'n, 'a>(nodes: &'n [Node<'a>], at: usize) -> Option<&'n Node<'a>> {
+    nodes.get(at.checked_add(1)?)
+}
+
+/// The page's text behind the node before a place, or at the edge.
+fn text_left<'t, 'a>(
+    writing: Writing<'_, 't, 'a>,
+    nodes: &[Node<'_>],
+    at: usize,
+    edges: Edges<'t, 'a>,
+) -> Option<&'t Node<'a>> {
+    match before(nodes, at) {
+        Some(node) => writing.known.behind(writing.block, node.id),
+        None => edges.first,
+    }
+}
+
+/// The page's text before the node behind a place, or at the edge.
+fn text_right<'t, 'a>(
+    writing: Writing<'_, 't, 'a>,
+    nodes: &[Node<'_>],
+    at: usize,
+    edges: Edges<'t, 'a>,
+) -> Option<&'t Node<'a>> {
+    match behind(nodes, at) {
+        Some(node) => writing.known.before(writing.block, node.id),
+        None => edges.last,
+    }
+}
+
 /// Appends the units of nodes between two edges.
+#[cycle(units)]
 fn push_units<'n, 't, 'a>(
     alloc: Global,
     out: &mut Vec<Unit<'n>>,
@@ -395,39 +453,42 @@ fn push_units<'n, 't, 'a>(
 ) -> Result<(), NoMemory> {
     for at in 0..nodes.len() {
         let node = &nodes[at];
-        let is_text = matches!(node.kind, Kind::Text);
-        if !is_text || !writing.keeps {
-            push_node(alloc, out, writing, node)?;
-        } else {
-            let left = if at == 0 {
-                edges.first
-            } else {
-                writing.known.behind(nodes[at - 1].id)
-            };
-            let right = if at + 1 == nodes.len() {
-                edges.last
-            } else {
-                writing.known.before(nodes[at + 1].id)
-            };
+        if is_text(node) && writing.keeps {
+            let left = text_left(writing, nodes, at, edges);
+            let right = text_right(writing, nodes, at, edges);
             push_text(alloc, out, node.shown.as_str(), left, right)?;
+        } else {
+            push_node(alloc, out, writing, node)?;
         }
     }
     Ok(())
 }
 
-/// Inline nodes as the inside of a block.
-pub fn spelled(
+/// The units of nodes between two edges.
+#[cycle(units)]
+fn units_of<'n, 't, 'a>(
     alloc: Global,
-    writing: Writing<'_, '_, '_>,
-    nodes: &[Node<'_>],
-    edges: Edges<'_, '_>,
-) -> Result<Str, NoMemory> {
+    writing: Writing<'_, 't, 'a>,
+    nodes: &'n [Node<'_>],
+    edges: Edges<'t, 'a>,
+) -> Result<Vec<Unit<'n>>, NoMemory> {
     let mut units = Vec::new(alloc);
     push_units(alloc, &mut units, writing, nodes, edges)?;
+    Ok(units)
+}
+
+/// Inline nodes as the inside of a block.
+pub fn spelled<'t, 'a>(
+    alloc: Global,
+    writing: Writing<'_, 't, 'a>,
+    nodes: &[Node<'_>],
+    edges: Edges<'t, 'a>,
+) -> Result<Str, NoMemory> {
+    let units = units_of(alloc, writing, nodes, edges)?;
     let setting = Setting {
         within: false,
         place: writing.place,
-        source: writing.known.whole.source.as_bytes(),
+        source: writing.known.page.as_bytes(),
     };
     let out = spelling_of(alloc, setting, units.as_slice())?;
     Ok(Str::from_string(out))

@@ -1,32 +1,27 @@
 //! What is known of the page: its nodes by their numbers, the texts next to each, and its source.
 
+ghost use Rattle.std.specs.Prelude.{◌≡◌};
+ghost use Rattle.wt_tree.specs.Tiling.{InPreorder};
+ghost use Rattle.wt_tree.specs.Tree.{label};
+ghost use Rattle.wt_tree.specs.View.{view};
+ghost use Rattle.wt_tree.specs.declared.kind.Kind.TheVariants as kind;
+
 use std::alloc::Global;
 use wt_checks::{Visit, numbered_nodes, original};
-use wt_guards::Stretch;
+use wt_difference::is_block_part;
+use wt_guards::{Role, Stretch};
 use wt_kept::{Kept, Page, page_of_block};
 use wt_span::{NoMemory, Str};
 use wt_tree::{Kind, Node};
 
-/// The texts directly before and behind a node of the page.
+// ---- texts beside nodes
+
+/// The texts directly before and behind a node of the page, and whether nothing stands behind it in what holds it.
 #[derive(Clone, Copy)]
 pub struct Sides<'t, 'a> {
     pub before: Option<&'t Node<'a>>,
     pub behind: Option<&'t Node<'a>>,
-}
-
-/// The page.
-#[derive(Drop)]
-pub struct Known<'t, 'a> {
-    pub index: Vec<Visit<'t, 'a>>,
-    pub sides: Vec<Sides<'t, 'a>>,
-    pub whole: Page<'t, 'a>,
-}
-
-/// A block of the page whose inside is written anew, and where it stands in the page.
-#[derive(Drop)]
-pub struct Block<'t, 'a> {
-    pub page: Page<'t, 'a>,
-    pub start: usize,
+    pub is_last: bool,
 }
 
 /// A node, where it is a text.
@@ -58,59 +53,211 @@ fn text_at<'t, 'a>(nodes: &'t [Node<'a>], at: usize) -> Option<&'t Node<'a>> {
     }
 }
 
-/// Appends the sides of all that a node holds, in preorder.
-fn push_sides<'t, 'a>(
-    out: &mut Vec<Sides<'t, 'a>>,
-    nodes: &'t [Node<'a>],
-) -> Result<(), NoMemory> {
+/// Appends the sides of all nodes with a number that these are and hold, in preorder.
+fn push_sides<'t, 'a>(out: &mut Vec<Sides<'t, 'a>>, nodes: &'t [Node<'a>]) -> Result<(), NoMemory> {
+    let mut before = None;
     for at in 0..nodes.len() {
         if nodes[at].id != 0 {
-            let before = if at == 0 { None } else { text_at(nodes, at - 1) };
+            let behind = text_at(nodes, at + 1);
+            let is_last = at + 1 == nodes.len();
             out.push(Sides {
                 before,
-                behind: text_at(nodes, at + 1),
+                behind,
+                is_last,
             })?;
         }
         push_sides(out, nodes[at].children.as_slice())?;
+        before = text_at(nodes, at);
     }
     Ok(())
 }
 
-impl<'t, 'a> Known<'t, 'a> {
-    /// What is known of the page of this body.
-    pub fn of(alloc: Global, body: &'t Node<'a>) -> Result<Known<'t, 'a>, NoMemory> {
-        let index = numbered_nodes(alloc, body)?;
-        let whole = page_of_block(alloc, body)?;
-        let mut sides = Vec::new(alloc);
-        sides.push(Sides {
-            before: None,
-            behind: None,
-        })?;
-        push_sides(&mut sides, body.children.as_slice())?;
-        Ok(Known {
-            index,
-            sides,
-            whole,
+// ---- a block
+
+/// A block of the page, or its body: its nodes with their texts beside them, in preorder, the number of the
+/// first, which is its own, and where it stands in the page, in bytes.
+#[derive(Drop)]
+pub struct Block<'t, 'a> {
+    pub page: Page<'t, 'a>,
+    pub sides: Vec<Sides<'t, 'a>>,
+    pub first: u32,
+    pub start: usize,
+}
+
+/// The sides of a node, which aren't asked for, and of all that it holds.
+fn sides_in<'t, 'a>(alloc: Global, node: &'t Node<'a>) -> Result<Vec<Sides<'t, 'a>>, NoMemory> {
+    let own: Sides<'t, 'a> = Sides {
+        before: None,
+        behind: None,
+        is_last: false,
+    };
+    let mut sides = Vec::new(alloc);
+    sides.push(own)?;
+    push_sides(&mut sides, node.children.as_slice())?;
+    Ok(sides)
+}
+
+/// The block as it stands in the page.
+pub fn block_of<'t, 'a>(alloc: Global, node: &'t Node<'a>) -> Result<Block<'t, 'a>, NoMemory> {
+    let page = page_of_block(alloc, node)?;
+    let sides = sides_in(alloc, node)?;
+    let start = match node.ranges {
+        Some(ranges) => ranges.start as usize,
+        None => 0,
+    };
+    Ok(Block {
+        page,
+        sides,
+        first: node.id,
+        start,
+    })
+}
+
+impl<'t, 'a> Block<'t, 'a> {
+    /// The block's node of this number, with its place in the page.
+    fn find(&self, number: u32) -> Option<Kept<'t, 'a>> {
+        let kept = self.page.find(number)?;
+        Some(Kept {
+            node: kept.node,
+            role: kept.role,
+            place: Stretch {
+                start: kept.place.start.saturating_add(self.start),
+                end: kept.place.end.saturating_add(self.start),
+            },
         })
     }
 
-    /// The text behind the page's node of this number.
-    pub fn behind(&self, number: u32) -> Option<&'t Node<'a>> {
+    /// The same where the block is the whole page: the node comes from a block of its own.
+    fn find_anywhere(&self, number: u32) -> Option<Kept<'t, 'a>> {
+        let kept = self.find(number)?;
+        match self.sides_of(number) {
+            Some(sides) if sides.is_last => Some(Kept {
+                node: kept.node,
+                role: at_end(kept.role),
+                place: kept.place,
+            }),
+            _ => Some(kept),
+        }
+    }
+
+    /// The texts beside the block's node of this number.
+    fn sides_of(&self, number: u32) -> Option<Sides<'t, 'a>> {
+        let place = number.checked_sub(self.first)?;
+        self.sides.get(place as usize).copied()
+    }
+}
+
+/// A node that ended what held it may end a block again.
+fn at_end(role: Role) -> Role {
+    match role {
+        Role::Group(mut group) => {
+            group.ended_content = true;
+            Role::Group(group)
+        }
+        other => other,
+    }
+}
+
+// ---- the page
+
+/// The page: its source, and its nodes by their numbers; all of it as one block only where nodes of the edited
+/// page come from other blocks.
+#[derive(Drop)]
+pub struct Known<'t, 'a> {
+    pub page: &'t str,
+    pub index: Vec<Visit<'t, 'a>>,
+    pub whole: Option<Block<'t, 'a>>,
+}
+
+/// Whether the page's node of this number is a child of the node `holder`.
+fn is_child_of(index: &[Visit<'_, '_>], holder: Option<u32>, number: u32) -> bool {
+    match original(index, number) {
+        Some(visit) => holder == Some(visit.parent),
+        None => false,
+    }
+}
+
+/// The number of what holds the children of a node; None of a new block.
+fn holder_in(holder: Option<u32>, node: &Node<'_>) -> Option<u32> {
+    if node.id != 0 {
+        Some(node.id)
+    } else if is_block_part(node.kind) {
+        None
+    } else {
+        holder
+    }
+}
+
+/// Whether an inline node among these, or in one of them, doesn't stand where the page has it.
+fn have_come(index: &[Visit<'_, '_>], holder: Option<u32>, nodes: &[Node<'_>]) -> bool {
+    for node in nodes {
+        let is_kept_inline = node.id != 0 && !is_block_part(node.kind);
+        if is_kept_inline && !is_child_of(index, holder, node.id) {
+            return true;
+        }
+        if have_come(index, holder_in(holder, node), node.children.as_slice()) {
+            return true;
+        }
+    }
+    false
+}
+
+fn whole_if<'t, 'a>(
+    alloc: Global,
+    body: &'t Node<'a>,
+    is_needed: bool,
+) -> Result<Option<Block<'t, 'a>>, NoMemory> {
+    if !is_needed {
+        return Ok(None);
+    }
+    let whole = block_of(alloc, body)?;
+    Ok(Some(whole))
+}
+
+impl<'t, 'a> Known<'t, 'a> {
+    /// What is known of the page of this body, for an edited one.
+    pub fn of(
+        alloc: Global,
+        page: &'t str,
+        body: &'t Node<'a>,
+        edited: &Node<'_>,
+    ) -> Result<Known<'t, 'a>, NoMemory>
+        requires body { (label (view body.now)).kind ≡ kind.Body }
+        requires numbered { ∥ InPreorder (view body.now) ∥₁ }
+    {
+        let index = numbered_nodes(alloc, body)?;
+        let is_needed = have_come(index.as_slice(), Some(0), edited.children.as_slice());
+        let whole = whole_if(alloc, body, is_needed)?;
+        Ok(Known { page, index, whole })
+    }
+
+    /// The texts beside the page's node of this number.
+    fn sides_of(&self, block: Option<&Block<'t, 'a>>, number: u32) -> Option<Sides<'t, 'a>> {
         if number == 0 {
             return None;
         }
-        match self.sides.get(number as usize) {
+        if let Some(block) = block
+            && let Some(sides) = block.sides_of(number)
+        {
+            return Some(sides);
+        }
+        match &self.whole {
+            Some(whole) => whole.sides_of(number),
+            None => None,
+        }
+    }
+
+    /// The text behind the page's node of this number.
+    pub fn behind(&self, block: Option<&Block<'t, 'a>>, number: u32) -> Option<&'t Node<'a>> {
+        match self.sides_of(block, number) {
             Some(sides) => sides.behind,
             None => None,
         }
     }
 
     /// The text before it.
-    pub fn before(&self, number: u32) -> Option<&'t Node<'a>> {
-        if number == 0 {
-            return None;
-        }
-        match self.sides.get(number as usize) {
+    pub fn before(&self, block: Option<&Block<'t, 'a>>, number: u32) -> Option<&'t Node<'a>> {
+        match self.sides_of(block, number) {
             Some(sides) => sides.before,
             None => None,
         }
@@ -119,31 +266,30 @@ impl<'t, 'a> Known<'t, 'a> {
     /// The page's node of this number, with its place in the page: as its neighbours in the block see it, where
     /// it stands in it.
     pub fn find(&self, block: Option<&Block<'t, 'a>>, number: u32) -> Option<Kept<'t, 'a>> {
-        if let Some(block) = block {
-            if let Some(kept) = block.page.find(number) {
-                return Some(Kept {
-                    node: kept.node,
-                    role: kept.role,
-                    place: Stretch {
-                        start: kept.place.start + block.start,
-                        end: kept.place.end + block.start,
-                    },
-                });
-            }
+        if let Some(block) = block
+            && let Some(kept) = block.find(number)
+        {
+            return Some(kept);
         }
-        self.whole.find(number)
+        match &self.whole {
+            Some(whole) => whole.find_anywhere(number),
+            None => None,
+        }
+    }
+
+    /// What is known of the groups of the page: of all, or of those in the block.
+    pub fn groups<'k>(&'k self, block: Option<&'k Block<'t, 'a>>) -> Option<&'k Page<'t, 'a>> {
+        match &self.whole {
+            Some(whole) => Some(&whole.page),
+            None => match block {
+                Some(block) => Some(&block.page),
+                None => None,
+            },
+        }
     }
 }
 
-/// The block as it stands in the page.
-pub fn block_of<'t, 'a>(alloc: Global, node: &'t Node<'a>) -> Result<Block<'t, 'a>, NoMemory> {
-    let page = page_of_block(alloc, node)?;
-    let start = match node.ranges {
-        Some(ranges) => ranges.start as usize,
-        None => 0,
-    };
-    Ok(Block { page, start })
-}
+// ---- items
 
 /// The sign of an item of a list.
 pub fn sign_of(list: Kind, item: Kind) -> &'static str {
@@ -165,22 +311,23 @@ fn is_item(kind: Kind) -> bool {
 /// node.
 pub fn signs_of(alloc: Global, known: &Known<'_, '_>, item: &Node<'_>) -> Result<Str, NoMemory> {
     let mut out = Str::new(alloc);
-    push_signs(&mut out, known, item)?;
+    push_signs(&mut out, known.index.as_slice(), item.id)?;
     Ok(out)
 }
 
-fn push_signs(out: &mut Str, known: &Known<'_, '_>, item: &Node<'_>) -> Result<(), NoMemory> {
-    if item.id == 0 || !is_item(item.kind) {
-        return Ok(());
-    }
-    let Some(visit) = original(known.index.as_slice(), item.id) else {
+/// Appends the signs of the page's node of this number. What holds a node has a number below its own.
+fn push_signs(out: &mut Str, index: &[Visit<'_, '_>], number: u32) -> Result<(), NoMemory> {
+    let Some(item) = original(index, number) else {
         return Ok(());
     };
-    let Some(list) = original(known.index.as_slice(), visit.parent) else {
+    if !is_item(item.node.kind) {
+        return Ok(());
+    }
+    let Some(list) = original(index, item.parent) else {
         return Ok(());
     };
-    if let Some(holder) = original(known.index.as_slice(), list.parent) {
-        push_signs(out, known, holder.node)?;
+    if list.parent < number {
+        push_signs(out, index, list.parent)?;
     }
-    out.push_str(sign_of(list.node.kind, item.kind))
+    out.push_str(sign_of(list.node.kind, item.node.kind))
 }

@@ -7,7 +7,13 @@ mod children;
 mod common;
 mod inline;
 mod known;
-mod proposal;
+mod proposing;
+mod reached;
+mod slot;
+mod slots;
+mod testing;
+mod texts;
 
-pub use known::Known;
-pub use proposal::{Keeping, propose};
+pub use proposing::{Keeping, proposal};
+pub use slot::Slot;
+pub use slots::places;

@@ -1,0 +1,368 @@
+//! A proposal: the page in which the places of the difference are written anew.
+
+ghost use Rattle.std.specs.Prelude.{◌≡◌, IfOk, IfSome};
+ghost use Rattle.wt_tree.specs.Tiling.{InPreorder};
+ghost use Rattle.wt_tree.specs.Tree.{label};
+ghost use Rattle.wt_tree.specs.View.{view};
+ghost use Rattle.wt_tree.specs.declared.kind.Kind.TheVariants as kind;
+ghost use Rattle.wt_proposal.specs.Rewritten.{IsRewritten};
+
+use crate::blocks::place_in;
+use crate::children::{Gap, push_change, push_gap};
+use crate::inline::{Writing, edges_of, spelled};
+use crate::known::{Known, block_of, signs_of};
+use crate::reached::Reached;
+use crate::slot::Slot;
+use crate::slots::{
+    Beside, begun, counts, inside_end, inside_start, inside_stop, next_turn, places,
+};
+use crate::testing::tested;
+use std::alloc::Global;
+use wt_checks::numbered_nodes;
+use wt_difference::{Child, held, inside, same_inside};
+use wt_selser::Change;
+use wt_span::{NoMemory, Str};
+use wt_tree::Node;
+
+/// Where texts keep their bytes: everywhere, everywhere but in the block with this number (from 1, among what
+/// the edited body shows), or nowhere.
+#[derive(Clone, Copy)]
+pub enum Keeping {
+    Everywhere,
+    ButIn(u32),
+    Nowhere,
+}
+
+impl Keeping {
+    fn keeps(self, block: u32) -> bool {
+        match self {
+            Keeping::Everywhere => true,
+            Keeping::ButIn(number) => number != block,
+            Keeping::Nowhere => false,
+        }
+    }
+}
+
+/// What a proposal is made by.
+#[derive(Clone, Copy)]
+pub struct Plan<'w, 't, 'a> {
+    pub known: &'w Known<'t, 'a>,
+    pub keeping: Keeping,
+}
+
+impl<'w, 't, 'a> Plan<'w, 't, 'a> {
+    /// Whether texts keep their bytes in the block with this number.
+    pub fn keeps(self, block: u32) -> bool {
+        self.keeping.keeps(block)
+    }
+}
+
+/// The number of a block of the body, and whether it grows with each child: it does in the body alone.
+#[derive(Clone, Copy)]
+pub struct Numbering {
+    pub number: u32,
+    pub grows: bool,
+}
+
+impl Numbering {
+    /// The number of the next child.
+    pub fn next(self) -> Numbering {
+        if !self.grows {
+            return self;
+        }
+        Numbering {
+            number: self.number.saturating_add(1),
+            grows: true,
+        }
+    }
+
+    /// Within this child.
+    fn inside(self) -> Numbering {
+        Numbering {
+            number: self.number,
+            grows: false,
+        }
+    }
+}
+
+// ---- insides
+
+/// Appends the inside of a node of the page, spelled as it was edited.
+fn push_inside<'t, 'a>(
+    alloc: Global,
+    out: &mut Vec<Change>,
+    plan: Plan<'_, 't, 'a>,
+    number: u32,
+    new: &'t Node<'a>,
+    old: &'t Node<'a>,
+) -> Result<(), NoMemory> {
+    if same_inside(alloc, old, new)? {
+        return Ok(());
+    }
+    let standing = block_of(alloc, old)?;
+    let keeps = plan.keeps(number);
+    let writing = Writing::of(plan.known, Some(&standing), keeps, place_in(old.kind));
+    let by = spelled(alloc, writing, inside(new), edges_of(inside(old)))?;
+    let place = Slot {
+        start: inside_start(old.ranges),
+        end: inside_end(alloc, old)?,
+    };
+    push_change(out, place, by)
+}
+
+// ---- children
+
+/// The children that a node of the page holds, the signs with which it begins where it is an item, its number, and
+/// where its children begin and end.
+#[derive(Clone, Copy)]
+struct Held<'w, 't, 'a> {
+    children: &'w [Child<'t, 'a>],
+    signs: &'w str,
+    number: u32,
+    begun: Reached,
+    stop: usize,
+}
+
+/// How far one has come along the edited children of a node: how many of the page's children are passed, the first
+/// edited child behind the last one that stayed in its turn, and the numbers of its block and of the one in hand.
+#[derive(Clone, Copy)]
+struct Line {
+    from: usize,
+    came_from: usize,
+    reached: Reached,
+    first: Numbering,
+    block: Numbering,
+}
+
+/// A gap, by how many of the page's children stand before it, and before what stands behind it.
+#[derive(Clone, Copy)]
+struct Span {
+    place: Slot,
+    from: usize,
+    to: usize,
+    is_last: bool,
+    first: Numbering,
+}
+
+impl Line {
+    fn of(reached: Reached, block: Numbering) -> Line {
+        Line {
+            from: 0,
+            came_from: 0,
+            reached,
+            first: block.next(),
+            block,
+        }
+    }
+
+    /// With the number of the child in hand.
+    fn at(self, child: &Node<'_>) -> Line {
+        let block = if counts(self.reached, child) {
+            self.block.next()
+        } else {
+            self.block
+        };
+        Line {
+            from: self.from,
+            came_from: self.came_from,
+            reached: self.reached,
+            first: self.first,
+            block,
+        }
+    }
+
+    /// Behind the child with this index, which passes so many of the page's children.
+    fn behind(self, passed: usize, reached: Reached, at: usize) -> Line {
+        let is_begun = passed > 0 || reached.inside;
+        Line {
+            from: self.from.saturating_add(passed),
+            came_from: if is_begun {
+                at.saturating_add(1)
+            } else {
+                self.came_from
+            },
+            reached,
+            first: if is_begun {
+                self.block.next()
+            } else {
+                self.first
+            },
+            block: self.block,
+        }
+    }
+
+    /// The gap before a child that passes so many of the page's children, itself the last of them.
+    fn span(self, place: Slot, passed: usize) -> Span {
+        Span {
+            place,
+            from: self.from,
+            to: self.from.saturating_add(passed).saturating_sub(1),
+            is_last: false,
+            first: self.first,
+        }
+    }
+
+    /// The gap behind the last child that stays in its turn.
+    fn last_span(self, held: Held<'_, '_, '_>) -> Span {
+        Span {
+            place: Slot {
+                start: self.reached.end,
+                end: held.stop,
+            },
+            from: self.from,
+            to: held.children.len(),
+            is_last: true,
+            first: self.first,
+        }
+    }
+}
+
+/// The children from one place up to another; none where there are none.
+fn children_between<'w, 't, 'a>(
+    children: &'w [Child<'t, 'a>],
+    from: usize,
+    to: usize,
+) -> &'w [Child<'t, 'a>] {
+    if from <= to && to <= children.len() {
+        &children[from..to]
+    } else {
+        &children[..0]
+    }
+}
+
+fn nodes_between<'w, 'a>(nodes: &'w [Node<'a>], from: usize, to: usize) -> &'w [Node<'a>] {
+    if from <= to && to <= nodes.len() {
+        &nodes[from..to]
+    } else {
+        &nodes[..0]
+    }
+}
+
+fn node_at<'t, 'a>(children: &[Child<'t, 'a>], at: Option<usize>) -> Option<&'t Node<'a>> {
+    let child = children.get(at?)?;
+    Some(child.node)
+}
+
+/// Appends what is written anew in a gap in which these children come.
+fn push_span<'t, 'a>(
+    alloc: Global,
+    out: &mut Vec<Change>,
+    plan: Plan<'_, 't, 'a>,
+    held: Held<'_, 't, 'a>,
+    new: &[Node<'a>],
+    span: Span,
+) -> Result<(), NoMemory> {
+    let behind = if span.is_last { None } else { Some(span.to) };
+    let gap = Gap {
+        place: span.place,
+        before: node_at(held.children, span.from.checked_sub(1)),
+        behind: node_at(held.children, behind),
+        gone: children_between(held.children, span.from, span.to),
+        new,
+        first: span.first,
+    };
+    push_gap(alloc, out, plan, held.signs, gap)
+}
+
+/// Appends what is written anew of a node's children.
+#[cycle(proposing)]
+fn push_children<'t, 'a>(
+    alloc: Global,
+    out: &mut Vec<Change>,
+    plan: Plan<'_, 't, 'a>,
+    nodes: &'t [Node<'a>],
+    held: Held<'_, 't, 'a>,
+    block: Numbering,
+) -> Result<(), NoMemory> {
+    let mut line = Line::of(held.begun, block);
+    for at in 0..nodes.len() {
+        let child = &nodes[at];
+        line = line.at(child);
+        let beside = Beside {
+            holder: held.number,
+            rest: children_between(held.children, line.from, held.children.len()),
+            reached: line.reached,
+        };
+        let turn = next_turn(plan.known.index.as_slice(), beside, child);
+        if let Some(place) = turn.gap {
+            let new = nodes_between(nodes, line.came_from, at);
+            push_span(alloc, out, plan, held, new, line.span(place, turn.passed))?;
+        }
+        if let Some(within) = turn.within {
+            push_node(alloc, out, plan, child, within, line.block.inside())?;
+        }
+        line = line.behind(turn.passed, turn.reached, at);
+    }
+    let new = nodes_between(nodes, line.came_from, nodes.len());
+    push_span(alloc, out, plan, held, new, line.last_span(held))
+}
+
+/// Appends what is written anew of a node of the page that stays.
+#[cycle(proposing)]
+fn push_node<'t, 'a>(
+    alloc: Global,
+    out: &mut Vec<Change>,
+    plan: Plan<'_, 't, 'a>,
+    new: &'t Node<'a>,
+    old: &'t Node<'a>,
+    block: Numbering,
+) -> Result<(), NoMemory> {
+    push_inside(alloc, out, plan, block.number, new, old)?;
+    let children = held(alloc, old)?;
+    let signs = signs_of(alloc, plan.known, old)?;
+    let begun = begun(alloc, old)?;
+    let held = Held {
+        children: children.as_slice(),
+        signs: signs.as_str(),
+        number: old.id,
+        begun,
+        stop: inside_stop(old.ranges),
+    };
+    push_children(alloc, out, plan, new.children.as_slice(), held, block)
+}
+
+// ---- a proposal
+
+/// What is written anew of a page.
+fn changes_of<'t, 'a>(
+    alloc: Global,
+    page: &'t str,
+    tree: &'t Node<'a>,
+    edited: &'t Node<'a>,
+    keeping: Keeping,
+) -> Result<Vec<Change>, NoMemory>
+    requires body { (label (view tree.now)).kind ≡ kind.Body }
+    requires numbered { ∥ InPreorder (view tree.now) ∥₁ }
+{
+    let known = Known::of(alloc, page, tree, edited)?;
+    let plan = Plan {
+        known: &known,
+        keeping,
+    };
+    let body = Numbering {
+        number: 0,
+        grows: true,
+    };
+    let mut out = Vec::new(alloc);
+    push_node(alloc, &mut out, plan, edited, tree, body)?;
+    Ok(out)
+}
+
+/// A new page for an edited one: the page written anew in the places in which the edited tree differs from its
+/// tree, and nowhere else. Whether it reads as it was edited isn't said. None where no new page was found.
+pub fn proposal<'t, 'a>(
+    alloc: Global,
+    page: &'t str,
+    tree: &'t Node<'a>,
+    edited: &'t Node<'a>,
+    keeping: Keeping,
+) -> Result<Option<Str>, NoMemory>
+    requires body { (label (view tree.now)).kind ≡ kind.Body }
+    requires numbered { ∥ InPreorder (view tree.now) ∥₁ }
+    ensures { IfOk result (λ o. IfSome o (λ new. IsRewritten page.now (view tree.now) (view edited.now) new)) }
+{
+    let changes = changes_of(alloc, page, tree, edited, keeping)?;
+    let index = numbered_nodes(alloc, tree)?;
+    let places = places(alloc, index.as_slice(), tree, edited)?;
+    tested(alloc, page, changes.as_slice(), places.as_slice())
+}

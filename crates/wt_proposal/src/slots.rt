@@ -1,0 +1,422 @@
+//! The places of a page that may be written anew.
+
+ghost use Rattle.std.specs.Prelude.{◌≡◌, ◌≤◌, ◌<◌, ◌+◌, ◌++◌, ◌||◌, true, false, length, take, drop, OnOk, IfOk, option_map};
+ghost use Rattle.wt_tree.specs.Source.{flat_of_all};
+ghost use Rattle.wt_tree.specs.Tiling.{end_of};
+ghost use Rattle.wt_tree.specs.Tree.{Tree, Trees, label, more};
+ghost use Rattle.wt_tree.specs.View.{view, views};
+ghost use Rattle.wt_tree.specs.declared.node.Node.{out-Node};
+ghost use Rattle.wt_checks.specs.Places.{Page, page_of};
+ghost use Rattle.wt_checks.specs.View.{indexed};
+ghost use Rattle.wt_difference.specs.Insides.{held, is_block_part};
+ghost use Rattle.wt_difference.specs.Views.{child_views};
+ghost use Rattle.wt_proposal.specs.Places.{
+  along,
+  before_number,
+  begun,
+  behind_number,
+  counts,
+  gap,
+  gap_before,
+  goes_on,
+  if_in_turn,
+  inside_end,
+  inside_place,
+  inside_start,
+  inside_stop,
+  is_in_turn,
+  partner,
+  places,
+  places_in,
+  arrived,
+  rest_behind,
+  some_count,
+  start_of,
+};
+ghost use Rattle.wt_proposal.specs.Views.{slots_of, places_within};
+
+use crate::reached::Reached;
+use crate::slot::Slot;
+use std::alloc::Global;
+use wt_checks::{Visit, original};
+use wt_difference::{
+    Child, ends_inside, has_inside, held, inside, is_block_part, is_compared, same_inside, stays_in,
+};
+use wt_span::{NoMemory, Str};
+use wt_tree::{Node, Ranges, flat};
+
+// ---- a node
+
+fn start_of(ranges: Option<Ranges>) -> usize
+    ensures { result ≡ start_of ranges }
+{
+    match ranges {
+        Some(ranges) => ranges.start as usize,
+        None => 0,
+    }
+}
+
+fn end_of(ranges: Option<Ranges>) -> usize
+    ensures { result ≡ end_of ranges }
+{
+    match ranges {
+        Some(ranges) => ranges.end as usize,
+        None => 0,
+    }
+}
+
+/// Where the opening delimiter of a node with these ranges ends.
+pub fn inside_start(ranges: Option<Ranges>) -> usize
+    ensures { result ≡ inside_start ranges }
+{
+    match ranges {
+        Some(ranges) => ranges.start as usize + ranges.open_w as usize,
+        None => 0,
+    }
+}
+
+/// Where its closing delimiter begins.
+pub fn inside_stop(ranges: Option<Ranges>) -> usize
+    ensures { result ≡ inside_stop ranges }
+{
+    match ranges {
+        Some(ranges) => ranges.end.saturating_sub(ranges.close_w) as usize,
+        None => 0,
+    }
+}
+
+/// The sources of nodes, joined.
+fn sources(alloc: Global, nodes: &[Node<'_>]) -> Result<Str, NoMemory>
+    ensures { IfOk result (λ s. s ≡ flat_of_all (views nodes.now)) }
+{
+    let mut out = Str::new(alloc);
+    for node in nodes {
+        let source = flat(alloc, node)?;
+        out.push_str(source.as_str())?;
+    }
+    Ok(out)
+}
+
+/// Where the inside of a node of the page ends.
+pub fn inside_end(alloc: Global, node: &Node<'_>) -> Result<usize, NoMemory>
+    ensures { IfOk result (λ n. n ≡ inside_end (view node.now)) }
+{
+    let source = sources(alloc, inside(node))?;
+    let start = inside_start(node.ranges);
+    match start.checked_add(source.as_str().len()) {
+        Some(end) => Ok(end),
+        None => Err(NoMemory),
+    }
+}
+
+/// Appends the inside of a node of the page, where it isn't as it was.
+fn push_inside_place(
+    alloc: Global,
+    out: &mut Vec<Slot>,
+    old: &Node<'_>,
+    new: &Node<'_>,
+) -> Result<(), NoMemory>
+    ensures { OnOk result (out.new.items ≡ out.old.items ++ inside_place (view old.now) (view new.now)) }
+{
+    let same = same_inside(alloc, old, new)?;
+    if same {
+        return Ok(());
+    }
+    let end = inside_end(alloc, old)?;
+    out.push(Slot {
+        start: inside_start(old.ranges),
+        end,
+    })?;
+    Ok(())
+}
+
+// ---- its children
+
+/// The place of the first child with this number, or the end.
+fn place_of(nodes: &[Child<'_, '_>], number: u32) -> usize
+    ensures fits { result ≤ length nodes.now }
+    ensures before { child_views (take result nodes.now) ≡ before_number number (child_views nodes.now) }
+    ensures behind { child_views (drop (result + 1) nodes.now) ≡ behind_number number (child_views nodes.now) }
+{
+    for at in 0..nodes.len() {
+        if nodes[at].node.id == number {
+            return at;
+        }
+    }
+    nodes.len()
+}
+
+/// Whether some of them count: separators, marks and skips don't.
+fn some_count(children: &[Child<'_, '_>]) -> bool
+    ensures { result ≡ some_count (child_views children.now) }
+{
+    for child in children {
+        if is_compared(child.node.kind) {
+            return true;
+        }
+    }
+    false
+}
+
+fn gap(differs: bool, start: usize, end: usize) -> Option<Slot>
+    ensures { slots_of result ≡ gap differs start end }
+{
+    if differs {
+        Some(Slot { start, end })
+    } else {
+        None
+    }
+}
+
+// ---- along its edited children
+
+/// Where the walk along the children of a node of the page begins.
+pub fn begun(alloc: Global, node: &Node<'_>) -> Result<Reached, NoMemory>
+    ensures { IfOk result (λ r. r ≡ begun (view node.now)) }
+{
+    let end = inside_end(alloc, node)?;
+    Ok(Reached {
+        end,
+        number: 0,
+        came: false,
+        inside: has_inside(node.kind),
+    })
+}
+
+fn goes_on(reached: Reached, child: &Node<'_>) -> bool
+    ensures { result ≡ goes_on reached (view child.now) }
+{
+    reached.inside && !ends_inside(child)
+}
+
+/// Whether a child counts: it shows something, and stands behind the inside.
+pub fn counts(reached: Reached, child: &Node<'_>) -> bool
+    ensures { result ≡ counts reached (view child.now) }
+{
+    is_compared(child.kind) && !goes_on(reached, child)
+}
+
+/// Whether an edited child of the node with this number stays in its turn.
+pub fn is_in_turn(index: &[Visit<'_, '_>], holder: u32, reached: Reached, child: &Node<'_>) -> bool
+    ensures { result ≡ is_in_turn (indexed index.now) holder reached (view child.now) }
+{
+    counts(reached, child) && stays_in(index, holder, child) && reached.number < child.id
+}
+
+/// The page's node with the number of an edited one; that one itself, where there is none.
+fn partner<'t, 'a>(index: &[Visit<'t, 'a>], node: &'t Node<'a>) -> Visit<'t, 'a>
+    ensures { view result.node.now ≡ partner (indexed index.now) (view node.now) }
+{
+    original(index, node.id).unwrap_or(Visit {
+        node,
+        parent: 0,
+        in_content: false,
+    })
+}
+
+/// Behind a child in its turn, which is this node of the page.
+pub fn reached_behind(old: &Node<'_>, reached: Reached, child: &Node<'_>) -> Reached
+    ensures { result ≡ arrived true (view old.now) reached (view child.now) }
+{
+    Reached {
+        end: end_of(old.ranges),
+        number: child.id,
+        came: false,
+        inside: false,
+    }
+}
+
+/// Behind any other child.
+pub fn reached_past(reached: Reached, child: &Node<'_>) -> Reached
+    ensures { (t : Tree) → result ≡ arrived false t reached (view child.now) }
+{
+    Reached {
+        end: reached.end,
+        number: reached.number,
+        came: reached.came || counts(reached, child),
+        inside: goes_on(reached, child),
+    }
+}
+
+// ---- one child
+
+/// Where the walk stands before a child: the number of the node whose children these are, those of the page's
+/// children that are still to come, and how far it has come.
+#[derive(Clone, Copy)]
+pub struct Beside<'w, 't, 'a> {
+    pub holder: u32,
+    pub rest: &'w [Child<'t, 'a>],
+    pub reached: Reached,
+}
+
+/// What a child gives: the gap before it, where that is a place; the page's node that it is, where it may have
+/// places of its own; how far one has come behind it; and how many of the page's children are passed then, which are
+/// none where it isn't in its turn.
+#[derive(Clone, Copy)]
+pub struct Turn<'t, 'a> {
+    pub gap: Option<Slot>,
+    pub within: Option<&'t Node<'a>>,
+    pub reached: Reached,
+    pub passed: usize,
+}
+
+/// The page's node, where a child of this kind may have places of its own.
+fn within<'t, 'a>(old: &'t Node<'a>, child: &Node<'_>) -> Option<&'t Node<'a>>
+    ensures { (page : Page) → places_within page (view child.now) (option_map (λ n. view n.now) result)
+        ≡ if_in_turn (is_block_part (label (view child.now)).kind) (places_in page (view old.now) (view child.now)) }
+{
+    if is_block_part(child.kind) {
+        Some(old)
+    } else {
+        None
+    }
+}
+
+/// A child that stays in its turn, which is this node of the page.
+fn turn_of<'t, 'a>(beside: Beside<'_, 't, 'a>, old: &'t Node<'a>, child: &Node<'_>) -> Turn<'t, 'a>
+    ensures gap { slots_of result.gap ≡ gap_before beside.entry.reached (child_views beside.entry.rest.now) (view old.now) (view child.now) }
+    ensures within { (page : Page) → places_within page (view child.now) (option_map (λ n. view n.now) result.within)
+        ≡ if_in_turn (is_block_part (label (view child.now)).kind) (places_in page (view old.now) (view child.now)) }
+    ensures reached { result.reached ≡ arrived true (view old.now) beside.entry.reached (view child.now) }
+    ensures fits { result.passed ≤ length beside.entry.rest.now }
+    ensures rest { child_views (drop result.passed beside.entry.rest.now) ≡ rest_behind true (view child.now) (child_views beside.entry.rest.now) }
+{
+    let place = place_of(beside.rest, child.id);
+    let differs = beside.reached.came || some_count(&beside.rest[..place]);
+    Turn {
+        gap: gap(differs, beside.reached.end, start_of(old.ranges)),
+        within: within(old, child),
+        reached: reached_behind(old, beside.reached, child),
+        passed: past(place, beside.rest.len()),
+    }
+}
+
+/// One more, but the whole at most.
+fn past(place: usize, whole: usize) -> usize
+    requires { place ≤ whole }
+    ensures fits { result ≤ whole }
+    ensures next { place < whole → result ≡ place + 1 }
+    ensures all { whole ≤ place → result ≡ whole }
+{
+    if place < whole { place + 1 } else { whole }
+}
+
+/// What the next child gives.
+pub fn next_turn<'t, 'a>(
+    index: &[Visit<'t, 'a>],
+    beside: Beside<'_, 't, 'a>,
+    child: &'t Node<'a>,
+) -> Turn<'t, 'a>
+    ensures fits { result.passed ≤ length beside.entry.rest.now }
+    ensures goes_on { (t : Tree) (us : Trees) → (label t).id ≡ beside.entry.holder
+        → slots_of result.gap ++ (places_within (indexed index.now) (view child.now) (option_map (λ n. view n.now) result.within)
+        ++ along (indexed index.now) t result.reached (child_views (drop result.passed beside.entry.rest.now)) us)
+        ≡ along (indexed index.now) t beside.entry.reached (child_views beside.entry.rest.now) (more (view child.now) us) }
+{
+    if !is_in_turn(index, beside.holder, beside.reached, child) {
+        return Turn {
+            gap: None,
+            within: None,
+            reached: reached_past(beside.reached, child),
+            passed: 0,
+        };
+    }
+    turn_of(beside, partner(index, child).node, child)
+}
+
+// ---- all of them
+
+fn push_gap(out: &mut Vec<Slot>, gap: Option<Slot>) -> Result<(), NoMemory>
+    ensures { OnOk result (out.new.items ≡ out.old.items ++ slots_of gap) }
+{
+    if let Some(slot) = gap {
+        out.push(slot)?;
+    }
+    Ok(())
+}
+
+/// Appends the gap behind the last child that stays in its turn, up to the end of the node's inside.
+fn push_last(
+    out: &mut Vec<Slot>,
+    reached: Reached,
+    rest: &[Child<'_, '_>],
+    stop: usize,
+) -> Result<(), NoMemory>
+    ensures { OnOk result (out.new.items ≡ out.old.items ++ gap (reached.came || some_count (child_views rest.now)) reached.end stop) }
+{
+    let differs = reached.came || some_count(rest);
+    push_gap(out, gap(differs, reached.end, stop))
+}
+
+/// Appends the gaps between the children of a node, and the places within them. `children` are those that the
+/// page's node holds.
+#[cycle(placing)]
+fn push_along<'t, 'a>(
+    alloc: Global,
+    out: &mut Vec<Slot>,
+    index: &[Visit<'t, 'a>],
+    nodes: &'t [Node<'a>],
+    old: &'t Node<'a>,
+    children: &[Child<'t, 'a>],
+) -> Result<(), NoMemory>
+    ensures { OnOk result (out.new.items ≡ out.old.items
+        ++ along (indexed index.now) (view old.now) (begun (view old.now)) (child_views children.now) (views nodes.now)) }
+{
+    let mut reached = begun(alloc, old)?;
+    let mut from = 0;
+    for child in nodes {
+        let beside = Beside {
+            holder: old.id,
+            rest: &children[from..],
+            reached,
+        };
+        let turn = next_turn(index, beside, child);
+        push_gap(out, turn.gap)?;
+        if let Some(standing) = turn.within {
+            push_places(alloc, out, index, child, standing)?;
+        }
+        from += turn.passed;
+        reached = turn.reached;
+    }
+    push_last(out, reached, &children[from..], inside_stop(old.ranges))
+}
+
+/// Appends the places of a node of the page, and within it.
+#[cycle(placing)]
+fn push_places<'t, 'a>(
+    alloc: Global,
+    out: &mut Vec<Slot>,
+    index: &[Visit<'t, 'a>],
+    new: &'t Node<'a>,
+    old: &'t Node<'a>,
+) -> Result<(), NoMemory>
+    ensures { OnOk result (out.new.items ≡ out.old.items ++ places_in (indexed index.now) (view old.now) (view new.now)) }
+{
+    push_inside_place(alloc, out, old, new)?;
+    let children = held(alloc, old)?;
+    push_along(
+        alloc,
+        out,
+        index,
+        new.children.as_slice(),
+        old,
+        children.as_slice(),
+    )?;
+    Ok(())
+}
+
+/// The places of a page in which an edited tree differs from it, in the order of the page. `index` are the body and
+/// the nodes of the page with numbers.
+pub fn places<'t, 'a>(
+    alloc: Global,
+    index: &[Visit<'t, 'a>],
+    tree: &'t Node<'a>,
+    edited: &'t Node<'a>,
+) -> Result<Vec<Slot>, NoMemory>
+    requires { indexed index.now ≡ page_of (view tree.now) }
+    ensures { IfOk result (λ ss. ss.items ≡ places (view tree.now) (view edited.now)) }
+{
+    let mut out = Vec::new(alloc);
+    push_places(alloc, &mut out, index, edited, tree)?;
+    Ok(out)
+}
