@@ -13,8 +13,8 @@ returns-in-Stands-clause-found g c = λ pages told knows.
     subst (TriedFirst pages c.args.edit.now.items.now c.args.edit.now.page.now (view c.args.edit.now.tree.now) (view c.args.edit.now.edited.now) c.args.edit.now.same)
     c.in-Stands.is (c.in_ok-tried.ensures.tried pages told knows)
 
-pub returns-clause-found : goal.returns-clause-found
-returns-clause-found g c = λ pages told knows.
+pub returns-in-Fails-clause-found : goal.returns-in-Fails-clause-found
+returns-in-Fails-clause-found g c = λ pages told knows.
     let t = view c.args.edit.now.tree.now in
     let u = view c.args.edit.now.edited.now in
     let first = subst (TriedFirst pages c.args.edit.now.items.now c.args.edit.now.page.now t u c.args.edit.now.same)
@@ -22,8 +22,8 @@ returns-clause-found g c = λ pages told knows.
     finds_same pages c.args.edit.now.items.now c.args.edit.now.page.now t u c.args.edit.now.same c.other_page.result first.0
     (c.other_page.ensures.found pages (c.in_ok-tried.ensures.kept ∙ told) first.1)
 
-pub returns-clause-asks : goal.returns-clause-asks
-returns-clause-asks g c =
+pub returns-in-Fails-clause-asks : goal.returns-in-Fails-clause-asks
+returns-in-Fails-clause-asks g c =
     let d = g.F.Folder in
     asks_then (d.answered c.args.folder.now) (d.answered c.tried_first.new.folder) (d.answered c.other_page.new.folder)
     (d.most_asked c.args.folder.now) (d.most_asked c.tried_first.new.folder) (d.most_asked c.other_page.new.folder)

@@ -13,14 +13,14 @@ returns-in-Stands-clause-found g c = λ pages told knows.
     proposal_stands pages c.args.edit.now.items.now c.args.edit.now.page.now (view c.args.edit.now.tree.now) (view c.args.edit.now.edited.now) c.in-Stands.new
     c.in_ok-tried.tried c.in-Stands.is (c.in_ok-tried.ensures.tried pages told knows)
 
-pub returns-clause-found : goal.returns-clause-found
-returns-clause-found g c = λ pages told knows.
+pub returns-in-Fails-clause-found : goal.returns-in-Fails-clause-found
+returns-in-Fails-clause-found g c = λ pages told knows.
     c.last_page.ensures.found pages (c.in_ok-tried.ensures.kept ∙ told)
     (subst (TriedProposal pages c.args.edit.now.page.now (view c.args.edit.now.tree.now) (view c.args.edit.now.edited.now)) c.in-Fails.is
     (c.in_ok-tried.ensures.tried pages told knows))
 
-pub returns-clause-asks : goal.returns-clause-asks
-returns-clause-asks g c =
+pub returns-in-Fails-clause-asks : goal.returns-in-Fails-clause-asks
+returns-in-Fails-clause-asks g c =
     let d = g.F.Folder in
     asks_then (d.answered c.args.folder.now) (d.answered c.tried_proposal.new.folder) (d.answered c.last_page.new.folder)
     (d.most_asked c.args.folder.now) (d.most_asked c.tried_proposal.new.folder) (d.most_asked c.last_page.new.folder)
