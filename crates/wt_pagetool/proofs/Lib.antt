@@ -23,4 +23,5 @@ pub mod StatusLaws
 pub mod UnchangedLaws
 pub mod UnchangedShown
 pub mod UnchangedTree
+pub mod UneditedRead
 pub mod WikitextLaws
