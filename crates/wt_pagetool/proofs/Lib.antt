@@ -18,6 +18,7 @@ pub mod SelserFound
 pub mod SelserLaws
 pub mod SelserRuns
 pub mod SelserShown
+pub mod SelserUnchanged
 pub mod ShownLaws
 pub mod StatusLaws
 pub mod UnchangedLaws
