@@ -5,7 +5,7 @@ use Rattle.wt_names.specs.Namespace.{prefix_of, full_name_of}
 use Rattle.wt_names.specs.Reading.{whole_in, cut_namespace, title_in}
 use Rattle.wt_names.specs.Good.{is_forbidden, is_allowed, has_signature, is_step, begins_with_step, holds_step, ends_with_step, is_good, read_text}
 use Rattle.wt_pagetool.specs.declared.command.PageCommand.TheVariants as pages
-use Rattle.wt_pagetool.specs.declared.command.Command.TheVariants.{Page, Edit, Gen, Wikitext}
+use Rattle.wt_pagetool.specs.declared.command.Command.TheVariants.{Page, Edit, Selser, Gen, Wikitext}
 use Rattle.wt_pagetool.specs.declared.refusal.Refusal.TheVariants.{Usage, Absent, NotUtf8, BracesTooDeep, HtmlTooLong, Html, Unfit, Unsourced, Checked, BadContent, Unspelled}
 use Rattle.wt_pagetool.specs.Words.{page_name, section_count, command_of}
 use Rattle.wt_expand.specs.Work.{Pages, braces_too_deep}
@@ -15,7 +15,7 @@ use Rattle.wt_fitting.specs.declared.why.FitWhy.TheVariants as fit_whys
 use Rattle.wt_fitting.specs.Read.{page as as_page, misfit}
 use Rattle.wt_checks.specs.declared.refusal.Check.TheVariants as checks
 use Rattle.wt_content.specs.declared.reason.ContentWhy.TheVariants as contents
-use Rattle.wt_pagetool.specs.Answers.{Answer, refused, title_answer, expanded_by, made, source_answer, unspelled_by, edited_answer, edit_of, answer_told}
+use Rattle.wt_pagetool.specs.Answers.{Answer, refused, title_answer, expanded_by, made, source_answer, unspelled_by, edited_answer, edit_of, nodes_answer, taken_answer, taken_of, refusal_alone, answer_told}
 use Rattle.wt_pagetool.specs.Refusals.{html_why, fit_why, content_why, check_name, text_of, line_of}
 
 -- the words
@@ -38,6 +38,11 @@ edit_main : command_of (codes "edit" ∷ codes "main page" ∷ []) ≡ Some (Edi
 unfolding command_of page_name read_text is_allowed is_forbidden title_in whole_in cut_namespace is_good full_name_of prefix_of
     has_signature is_step begins_with_step holds_step ends_with_step
 edit_main = refl
+
+selser_main : command_of (codes "selser" ∷ codes "main page" ∷ []) ≡ Some (Selser (codes "Main page"))
+unfolding command_of page_name read_text is_allowed is_forbidden title_in whole_in cut_namespace is_good full_name_of prefix_of
+    has_signature is_step begins_with_step holds_step ends_with_step
+selser_main = refl
 
 ranges_alone : command_of (codes "ranges" ∷ []) ≡ None
 unfolding command_of
@@ -91,6 +96,22 @@ edit_unfit pages page = refl
 edit_of_none : (pages : Pages) (input : List ℕ) → edit_of pages None input ≡ refused Absent
 unfolding title_answer
 edit_of_none pages input = refl
+
+-- `selser` of no page, of HTML that doesn't fit, and of a page whose edited tree has a number that the page hasn't; which new page it
+-- answers isn't told
+selser_of_none : (pages : Pages) (input : List ℕ) → taken_of pages None input ≡ refused Absent
+unfolding title_answer
+selser_of_none pages input = refl
+
+selser_unfit : (pages : Pages) (page : List ℕ) → taken_answer pages page (misfit 2 fit_whys.Place) ≡ refused (Unfit 2 fit_whys.Place)
+unfolding taken_answer
+selser_unfit pages page = refl
+
+selser_unknown : (page : List ℕ) → nodes_answer page (Some (checks.UnknownId 7)) ≡ refused (Checked (checks.UnknownId 7))
+selser_unknown page = refl
+
+selser_told_none : (page : List ℕ) → refusal_alone (nodes_answer page None) ≡ None
+selser_told_none page = refl
 
 -- a new page that shows in its third child something else than the edited tree
 edit_unspelled : (new : List ℕ) → unspelled_by new (Some 3) ≡ refused (Unspelled 3)

@@ -183,18 +183,18 @@ checked_ok : (o : Option Check) (p : Option EditRefusal) (text new : List ℕ)
 checked_ok None p text new e = (refl, unrefused_ok p text new e)
 checked_ok (Some c) p text new e = cc
 
-answer_ok : (items : Expanded) (page : List ℕ) (t edited : Tree) (new : List ℕ) → edit_answer same_node items page t edited ≡ Ok new
+pub answer_ok : (items : Expanded) (page : List ℕ) (t edited : Tree) (new : List ℕ) → edit_answer same_node items page t edited ≡ Ok new
     → (checked false t edited ≡ None) × (new ≡ spliced page (slices same_node t edited))
 unfolding edit_answer
 answer_ok items page t edited new e =
     checked_ok (checked false t edited) (refused_pairs same_node items page (marked t edited)) (spliced page (slices same_node t edited))
     new e
 
-unspelled_done : (new bytes : List ℕ) (o : Option ℕ) → unspelled_by new o ≡ done bytes → (bytes ≡ new) × (o ≡ None)
+pub unspelled_done : (new bytes : List ℕ) (o : Option ℕ) → unspelled_by new o ≡ done bytes → (bytes ≡ new) × (o ≡ None)
 unspelled_done new bytes None e = (cc, refl)
 unspelled_done new bytes (Some k) e = cc
 
-new_done : (answer : Answer) (bytes : List ℕ) (o : Option Refused) → new_by answer o ≡ done bytes → (o ≡ None) × (answer ≡ done bytes)
+pub new_done : (answer : Answer) (bytes : List ℕ) (o : Option Refused) → new_by answer o ≡ done bytes → (o ≡ None) × (answer ≡ done bytes)
 new_done answer bytes (Some r) e = cc
 new_done answer bytes None e = (refl, e)
 
@@ -240,7 +240,7 @@ edited_done pages page (as_page t unsourced) bytes e =
 edited_done pages page (ill place why) bytes e = cc
 edited_done pages page (misfit n why) bytes e = cc
 
-restored_bare : (page t : Tree) → IsBare t → IsBare (restored_from page t)
+pub restored_bare : (page t : Tree) → IsBare t → IsBare (restored_from page t)
 restored_bare page (tree l ts) h = h
 
 pub wrote_edit : (pages : Pages) (title input bytes : List ℕ) (left old new : Option (List ℕ))

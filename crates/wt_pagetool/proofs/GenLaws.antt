@@ -24,7 +24,7 @@ use Rattle.wt_pagetool.specs.declared.status.Status.TheVariants as status
 use Rattle.wt_pagetool.specs.declared.command.PageCommand.{PageCommand}
 use Rattle.wt_pagetool.specs.declared.command.PageCommand.TheVariants.{Html, Ranges, Lint}
 use Rattle.wt_pagetool.specs.declared.command.Command.{Command}
-use Rattle.wt_pagetool.specs.declared.command.Command.TheVariants.{Page, Expand, Edit, Gen, Wikitext}
+use Rattle.wt_pagetool.specs.declared.command.Command.TheVariants.{Page, Expand, Edit, Selser, Gen, Wikitext}
 use Rattle.wt_pagetool.specs.Answers.{done, refused, expanded_by, told_of_tree, gen_of, gen_answer, title_answer, answer_told, IsText}
 use Rattle.wt_pagetool.specs.Causes.{Answered, IsOfPage, IsOfTitle, IsPageStatus, IsTitleStatus}
 use Rattle.wt_pagetool.specs.Gen.{back, gen_line, gen_page, gen_pages}
@@ -50,6 +50,7 @@ HasFewSections None = ⊤
 HasFewSections (Some (Page command name)) = ⊤
 HasFewSections (Some (Expand name)) = ⊤
 HasFewSections (Some (Edit name)) = ⊤
+HasFewSections (Some (Selser name)) = ⊤
 HasFewSections (Some (Gen n)) = n ≤ 10000
 HasFewSections (Some Wikitext) = ⊤
 
@@ -64,6 +65,10 @@ few_expand (Some title) = tt
 few_edit : (name : Option (List ℕ)) → HasFewSections (option_map (λ title. Edit title) name)
 few_edit None = tt
 few_edit (Some title) = tt
+
+few_selser : (name : Option (List ℕ)) → HasFewSections (option_map (λ title. Selser title) name)
+few_selser None = tt
+few_selser (Some title) = tt
 
 few_within : (n : ℕ) (v : Bool) → nat_le n 10000 ≡ v → HasFewSections (option_map (λ count. Gen count) (cond v (Some n) None))
 few_within n true e = grind (arith, nat_tests)
@@ -84,7 +89,8 @@ either false x y few other = other
 few_two : (word title : List ℕ) → HasFewSections (page_command word title)
 few_two word title =
     let name = page_name title in
-    let lint = either (bytes_eq word (codes "lint")) (option_map (λ name. Page Lint name) name) None (few_page Lint name) tt in
+    let selser = either (bytes_eq word (codes "selser")) (option_map (λ name. Selser name) name) None (few_selser name) tt in
+    let lint = either (bytes_eq word (codes "lint")) (option_map (λ name. Page Lint name) name) _ (few_page Lint name) selser in
     let gen = either (bytes_eq word (codes "gen")) (option_map (λ n. Gen n) (section_count title)) _ (few_gen title) lint in
     let edit = either (bytes_eq word (codes "edit")) (option_map (λ name. Edit name) name) _ (few_edit name) gen in
     let expand = either (bytes_eq word (codes "expand")) (option_map (λ name. Expand name) name) _ (few_expand name) edit in

@@ -14,9 +14,15 @@ pub mod ReadGroups
 pub mod RefusalLines
 pub mod RunLaws
 pub mod SectionEdits
+pub mod SelserFound
+pub mod SelserLaws
+pub mod SelserRuns
+pub mod SelserShown
+pub mod SelserUnchanged
 pub mod ShownLaws
 pub mod StatusLaws
 pub mod UnchangedLaws
 pub mod UnchangedShown
 pub mod UnchangedTree
+pub mod UneditedRead
 pub mod WikitextLaws

@@ -111,7 +111,7 @@ record FoundDone (found : Result Output Refusal) (out err : SinkUse) : Type 0 wh
   pub wrote : Took out (output_bytes output)
   pub silent : Untouched err
 
-found_done : (words : List (List ℕ)) (input : SourceUse) (folder : FolderUse) (out err : SinkUse) (found : Result Output Refusal) (s : Status)
+pub found_done : (words : List (List ℕ)) (input : SourceUse) (folder : FolderUse) (out err : SinkUse) (found : Result Output Refusal) (s : Status)
     → IfErr found (IsDue words input folder) → Reported found s out err → s ≡ status.Done → FoundDone found out err
 found_done words input folder out err (Ok output) s due (inl r) e = record { output = output; is = refl; wrote = r.1; silent = r.2 }
 found_done words input folder out err (Ok output) s due (inr r) e = absurd (let h : status.WriteFault ≡ status.Done = sym r.0 ∙ e in cc)
@@ -384,7 +384,7 @@ run_page words input folder out err found s ended is a due r command title w e =
     (subst (λ x. IfSome x (λ y. Answered y found)) (told_page folder.pages_before input.left_before words command title w) a)
     (found_done words input folder out err found s due r (is_done s (sym is ∙ e)))
 
-ended_of : (found : Result Output Refusal) (left : Option (List ℕ)) (out err : SinkUse) → OnOk found (IsAtEnd left) → FoundDone found out err → IsAtEnd left
+pub ended_of : (found : Result Output Refusal) (left : Option (List ℕ)) (out err : SinkUse) → OnOk found (IsAtEnd left) → FoundDone found out err → IsAtEnd left
 ended_of found left out err h f = subst (λ x. OnOk x (IsAtEnd left)) f.is h
 
 pub run_wikitext : (words : List (List ℕ)) (input : SourceUse) (folder : FolderUse) (out err : SinkUse)

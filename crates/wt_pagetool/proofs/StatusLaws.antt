@@ -5,7 +5,7 @@ use Rattle.wt_pagetool.specs.declared.status.Status.{Status}
 use Rattle.wt_pagetool.specs.declared.status.Status.TheVariants.{Done, Usage, PageRefused, HtmlRefused, EditRefused, ReadFault, FolderFault, WriteFault, NoMemory}
 use Rattle.wt_pagetool.specs.declared.refusal.Refusal.{Refusal}
 use Rattle.wt_pagetool.specs.Statuses.{code, IsAnswer, IsDoneOrRefused, IsFaultOrNoMemory}
-use Rattle.wt_pagetool.specs.Answers.{done}
+use Rattle.wt_pagetool.specs.Answers.{Answer, done}
 use Rattle.wt_pagetool.specs.Causes.{RefusesAs, IsPageStatus, IsTitleStatus, IsHtmlStatus, IsInputStatus}
 
 -- ---- from the number to the status
@@ -42,6 +42,17 @@ is_folder_fault ReadFault e = absurd (omega (arith, e))
 is_folder_fault FolderFault e = refl
 is_folder_fault WriteFault e = absurd (omega (arith, e))
 is_folder_fault NoMemory e = absurd (omega (arith, e))
+
+pub is_edit_refused : (s : Status) → code s ≡ code EditRefused → s ≡ EditRefused
+is_edit_refused Done e = absurd (omega (arith, e))
+is_edit_refused Usage e = absurd (omega (arith, e))
+is_edit_refused PageRefused e = absurd (omega (arith, e))
+is_edit_refused HtmlRefused e = absurd (omega (arith, e))
+is_edit_refused EditRefused e = refl
+is_edit_refused ReadFault e = absurd (omega (arith, e))
+is_edit_refused FolderFault e = absurd (omega (arith, e))
+is_edit_refused WriteFault e = absurd (omega (arith, e))
+is_edit_refused NoMemory e = absurd (omega (arith, e))
 
 pub is_answer : (s : Status) → IsDoneOrRefused (code s) → IsAnswer s
 is_answer Done h = tt
@@ -80,6 +91,18 @@ past NoMemory h = (omega arith, omega arith)
 
 pub unanswered : (s : Status) (ended : ℕ) → ended ≡ code s → IsUnansweredBy s → IsFaultOrNoMemory ended
 unanswered s ended is h = subst IsFaultOrNoMemory (sym is) (past s h)
+
+-- such a refusal says nothing of an answer
+pub no_answer : (a : Answer) (r : Refusal) (s : Status) → IsUnansweredBy s → RefusesAs s r a
+no_answer a r Done h = h
+no_answer a r Usage h = absurd h
+no_answer a r PageRefused h = absurd h
+no_answer a r HtmlRefused h = absurd h
+no_answer a r EditRefused h = absurd h
+no_answer a r ReadFault h = tt
+no_answer a r FolderFault h = tt
+no_answer a r WriteFault h = tt
+no_answer a r NoMemory h = tt
 
 -- where the answer is done, no refusal but a fault or want of memory is found
 pub no_refusal : (bytes : List ℕ) (r : Refusal) (s : Status) → RefusesAs s r (done bytes) → IsUnansweredBy s

@@ -15,7 +15,8 @@ use Rattle.wt_expand.specs.PageCalls.{expanded_page}
 use Rattle.wt_fitting.specs.Read.{Read, page as as_page, ill, misfit, read}
 use Rattle.wt_page_round_trip.specs.PageTree.{page_tree}
 use Rattle.wt_checks.specs.declared.refusal.Check.{Check}
-use Rattle.wt_checks.specs.Checked.{checked}
+use Rattle.wt_checks.specs.Checked.{checked, nodes_checked}
+use Rattle.wt_difference.specs.Remarked.{remarked}
 use Rattle.wt_selser.specs.declared.refusal.EditRefusal.{EditRefusal}
 use Rattle.wt_shown.specs.Children.{shown_children, differing}
 use Rattle.wt_selser.specs.Edits.{edit_answer}
@@ -25,11 +26,11 @@ use Rattle.wt_span.specs.declared.limits.TheConstants.{HTML_BYTES, PAGE_BYTES}
 use Rattle.wt_pagetool.specs.declared.status.Status.{Status}
 use Rattle.wt_pagetool.specs.declared.status.Status.TheVariants.{Done}
 use Rattle.wt_pagetool.specs.declared.refusal.Refusal.{Refusal}
-use Rattle.wt_pagetool.specs.declared.refusal.Refusal.TheVariants.{Usage, Absent, TooLong, NotUtf8, BracesTooDeep, TooLarge, TemplateNotUtf8, TemplateTooLong, HtmlTooLong, InputTooLong, Html as html_refused, Unfit, Unsourced, NewExpansion, Unspelled}
+use Rattle.wt_pagetool.specs.declared.refusal.Refusal.TheVariants.{Usage, Absent, TooLong, NotUtf8, BracesTooDeep, TooLarge, TemplateNotUtf8, TemplateTooLong, HtmlTooLong, InputTooLong, Html as html_refused, Unfit, Unsourced, Checked, NewExpansion, Unspelled}
 use Rattle.wt_pagetool.specs.declared.command.PageCommand.{PageCommand}
 use Rattle.wt_pagetool.specs.declared.command.PageCommand.TheVariants.{Html, Ranges, Lint}
 use Rattle.wt_pagetool.specs.declared.command.Command.{Command}
-use Rattle.wt_pagetool.specs.declared.command.Command.TheVariants.{Page, Expand, Edit, Gen, Wikitext}
+use Rattle.wt_pagetool.specs.declared.command.Command.TheVariants.{Page, Expand, Edit, Selser, Gen, Wikitext}
 use Rattle.wt_pagetool.specs.Refusals.{status_of, refusal_of_edit}
 use Rattle.wt_pagetool.specs.Words.{command_of}
 use Rattle.wt_pagetool.specs.Gen.{gen_page, gen_pages, gen_line}
@@ -206,15 +207,56 @@ edit_of pages stands input = title_answer stands (λ page. input_answer (edited_
 abbrev pub edit_told : Option Pages → Option (List ℕ) → List ℕ → Option Answer
 edit_told pages input title = option_and_then (λ ps. option_map (λ bytes. edit_of ps (ps title) bytes) input) pages
 
+-- ---- what is made of an edit without marks
+
+-- The edited tree with the marks of its difference from the page's tree, and no others: the marks that it was read with count for
+-- nothing.
+abbrev pub remarked_of : Pages → List ℕ → Tree → Tree
+remarked_of pages page edited = remarked (page_tree pages page) edited
+
+-- the page, where no check of the edited tree's nodes refuses it
+abbrev pub nodes_answer : List ℕ → Option Check → Answer
+nodes_answer page None = done page
+nodes_answer page (Some c) = refused (Checked c)
+
+-- a page that is expanded, for this edited tree
+abbrev pub taken_from : Pages → List ℕ → Tree → Answer
+taken_from pages page edited = nodes_answer page (nodes_checked (page_tree pages page) (remarked_of pages page edited))
+
+abbrev pub taken_to : Pages → List ℕ → Tree → Answer
+taken_to pages page edited = expanded_by (taken_from pages page edited) (refusal_of_page pages page)
+
+-- a page, for what was read; elements may have no source
+unfoldable pub taken_answer : Pages → List ℕ → Read → Answer
+taken_answer pages page (as_page t unsourced) = taken_to pages page t
+taken_answer pages page (ill place why) = refused (html_refused place why)
+taken_answer pages page (misfit n why) = refused (Unfit n why)
+
+-- The page that `selser` changes, which stands under the title, for this input; or what refuses it before a new page is looked for:
+-- what stands under the title, the input, the page's expansion, and the nodes of the edited tree, in this order.
+abbrev pub taken_of : Pages → Option (List ℕ) → List ℕ → Answer
+taken_of pages stands input = title_answer stands (λ page. input_answer (taken_answer pages page) input)
+
+-- A refusal is told. Of a page that is taken no definition says which new page is found.
+abbrev pub refusal_alone : Answer → Option Answer
+refusal_alone (done page) = None
+refusal_alone (refused r) = Some (refused r)
+
+-- where both the pages and the input are told
+abbrev pub selser_told : Option Pages → Option (List ℕ) → List ℕ → Option Answer
+selser_told pages input title =
+    option_and_then (λ ps. option_and_then (λ bytes. refusal_alone (taken_of ps (ps title) bytes)) input) pages
+
 -- ---- commands
 
 -- A command needs what the folder tells of its pages, what the input tells, or both: it has no answer where that isn't
--- told.
+-- told. `selser` has one where it is refused before a new page is looked for.
 abbrev pub answer_to : Option Pages → Option (List ℕ) → Option Command → Option Answer
 answer_to pages input None = Some (refused Usage)
 answer_to pages input (Some (Page command title)) = option_map (λ ps. title_answer (ps title) (made command ps)) pages
 answer_to pages input (Some (Expand title)) = option_map (λ ps. title_answer (ps title) (expansion_of ps)) pages
 answer_to pages input (Some (Edit title)) = edit_told pages input title
+answer_to pages input (Some (Selser title)) = selser_told pages input title
 answer_to pages input (Some (Gen n)) = Some (gen_answer n)
 answer_to pages input (Some Wikitext) = option_map wikitext_answer input
 

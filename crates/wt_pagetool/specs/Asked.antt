@@ -10,7 +10,7 @@ use Rattle.wt_transclusion.specs.Stops.{AnswersFewer}
 use Rattle.wt_fitting.specs.Read.{Read, page as as_page, ill, misfit, read}
 use Rattle.wt_selser.specs.declared.refusal.EditRefusal.{EditRefusal}
 use Rattle.wt_pagetool.specs.declared.command.Command.{Command}
-use Rattle.wt_pagetool.specs.declared.command.Command.TheVariants.{Page, Expand, Edit, Gen, Wikitext}
+use Rattle.wt_pagetool.specs.declared.command.Command.TheVariants.{Page, Expand, Edit, Selser, Gen, Wikitext}
 use Rattle.wt_pagetool.specs.declared.refusal.Refusal.{Refusal}
 use Rattle.wt_pagetool.specs.declared.status.Status.{Status}
 use Rattle.wt_pagetool.specs.declared.status.Status.TheVariants as status
@@ -71,12 +71,14 @@ abbrev pub edit_names : Option Pages → Option (List ℕ) → List ℕ → Opti
 edit_names pages input name =
     option_and_then (λ ps. option_map (λ bytes. names_of name (edit_work ps (ps name) bytes)) input) pages
 
--- The names that a command asks for, where the devices tell what they depend on: up to its first refusal.
+-- The names that a command asks for, where the devices tell what they depend on: up to its first refusal. `selser` reads up to three
+-- new pages back, which no definition tells, so its names aren't told.
 abbrev pub names_for : Option Pages → Option (List ℕ) → Option Command → Option (List (List ℕ))
 names_for pages input None = Some []
 names_for pages input (Some (Page command name)) = option_map (λ ps. names_of name (title_work (ps name) (work_done ps))) pages
 names_for pages input (Some (Expand name)) = option_map (λ ps. names_of name (title_work (ps name) (work_done ps))) pages
 names_for pages input (Some (Edit name)) = edit_names pages input name
+names_for pages input (Some (Selser name)) = None
 names_for pages input (Some (Gen n)) = Some []
 names_for pages input (Some Wikitext) = Some []
 

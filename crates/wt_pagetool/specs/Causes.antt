@@ -176,6 +176,21 @@ IsEditStatus read_fault folder_fault status.NoMemory = ⊤
 abbrev pub IsOfEdit : Type 0 → Type 0 → Refusal → Type 0
 IsOfEdit read_fault folder_fault r = IsEditStatus read_fault folder_fault (status_of r)
 
+-- no more than that the folder failed, whose count rose, or that memory ran out
+abbrev pub IsFolderStatus : ℕ → ℕ → Status → Type 0
+IsFolderStatus before after status.Done = ⊥
+IsFolderStatus before after status.Usage = ⊥
+IsFolderStatus before after status.PageRefused = ⊥
+IsFolderStatus before after status.HtmlRefused = ⊥
+IsFolderStatus before after status.EditRefused = ⊥
+IsFolderStatus before after status.ReadFault = ⊥
+IsFolderStatus before after status.FolderFault = Rose before after
+IsFolderStatus before after status.WriteFault = ⊥
+IsFolderStatus before after status.NoMemory = ⊤
+
+abbrev pub IsOfFolder : ℕ → ℕ → Refusal → Type 0
+IsOfFolder before after r = IsFolderStatus before after (status_of r)
+
 -- ---- counts
 
 -- the count of a device is kept where a call is answered

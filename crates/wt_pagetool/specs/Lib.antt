@@ -9,6 +9,8 @@ pub mod Inputs
 pub mod Outputs
 pub mod Refusals
 pub mod Reports
+pub mod Selser
 pub mod Statuses
+pub mod Tried
 pub mod Unchanged
 pub mod Words

@@ -91,7 +91,7 @@ check_node (check.NotEditable n) = n
 check_node (check.UnmarkedChange n) = n
 
 unfoldable pub usage_text : List ℕ
-usage_text = codes "usage: wtround html TITLE | wikitext | edit TITLE | ranges TITLE | expand TITLE | gen N | lint TITLE"
+usage_text = codes "usage: wtround html TITLE | wikitext | edit TITLE | ranges TITLE | expand TITLE | gen N | lint TITLE | selser TITLE"
 
 -- the text in which braces are too deep, where it isn't the page's own
 abbrev pub in_template : Option (List ℕ) → List ℕ

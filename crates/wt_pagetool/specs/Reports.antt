@@ -12,6 +12,7 @@ use Rattle.wt_annotated.specs.Reached.{AreReachedSlices}
 use Rattle.wt_fitting.specs.Read.{page as as_page, read}
 use Rattle.wt_markup.specs.Html.{html_text}
 use Rattle.wt_page_round_trip.specs.PageTree.{page_tree}
+use Rattle.wt_checks.specs.Checked.{nodes_checked}
 use Rattle.wt_selser.specs.BodySlices.{slices}
 use Rattle.wt_shown.specs.Restored.{restored_from}
 use Rattle.wt_shown.specs.SameNodes.{same_node}
@@ -28,7 +29,8 @@ use Rattle.wt_pagetool.specs.Devices.{SinkUse, Untouched, Took, FailedAfter, Too
 use Rattle.wt_pagetool.specs.Gen.{back, gen_line, gen_page, gen_pages}
 use Rattle.wt_pagetool.specs.Statuses.{code}
 use Rattle.wt_pagetool.specs.Refusals.{status_of, line_of}
-use Rattle.wt_pagetool.specs.Answers.{done, answer_of_edit, checked_edit, page_output, refusal_of_page, IsUnrefused}
+use Rattle.wt_pagetool.specs.Answers.{done, answer_of_edit, checked_edit, page_output, refusal_of_page, remarked_of, IsUnrefused}
+use Rattle.wt_pagetool.specs.Selser.{IsMade}
 use Rattle.wt_pagetool.specs.Calls.{Call, known_answer, IsDue}
 
 -- ---- what was found goes to the sinks
@@ -145,3 +147,22 @@ pub record WroteEdit (pages : Pages) (title input : List ℕ) (left old new : Op
   pub outside : OutsideStands page (new_page pages page edited) (slices same_node (page_tree pages page) edited)
   pub answered : IsUnrefused pages (new_page pages page edited)
   pub shows : plain (page_tree pages (new_page pages page edited)) ≡ plain (restored_from (page_tree pages page) edited)
+
+-- A page stands under the title whose expansion nothing refuses, and the whole input for an edited tree none of whose nodes is
+-- refused; `out` took a new page, which is made of the page's edit by its difference. Nothing refuses the new page or its expansion,
+-- and the plain view of its tree is that of the edited tree, in which a kept group is what the page's group of its number holds.
+pub record WroteSelser (pages : Pages) (title input : List ℕ) (left old new : Option (List ℕ)) : Type 0 where
+  pub page : List ℕ
+  pub edited : Tree
+  pub unsourced : Option ℕ
+  pub changed : List ℕ
+  pub found : pages title ≡ Some page
+  pub within : length input ≤ HTML_BYTES
+  pub reads : read input ≡ as_page edited unsourced
+  pub ended : IsAtEnd left
+  pub expanded : refusal_of_page pages page ≡ None
+  pub allowed : nodes_checked (page_tree pages page) (remarked_of pages page edited) ≡ None
+  pub made : IsMade pages (expanded_page pages page) page (page_tree pages page) (remarked_of pages page edited) changed
+  pub wrote : Appends old new changed
+  pub answered : IsUnrefused pages changed
+  pub shows : plain (page_tree pages changed) ≡ plain (restored_from (page_tree pages page) edited)

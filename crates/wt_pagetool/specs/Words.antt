@@ -8,7 +8,7 @@ use Rattle.wt_names.specs.Good.{read_text}
 use Rattle.wt_names.specs.Namespace.{full_name_of}
 use Rattle.wt_pagetool.specs.declared.command.PageCommand.TheVariants.{Html, Ranges, Lint}
 use Rattle.wt_pagetool.specs.declared.command.Command.{Command}
-use Rattle.wt_pagetool.specs.declared.command.Command.TheVariants.{Page, Expand, Edit, Gen, Wikitext}
+use Rattle.wt_pagetool.specs.declared.command.Command.TheVariants.{Page, Expand, Edit, Selser, Gen, Wikitext}
 
 -- the full name of a title without a fragment
 abbrev pub whole_name : Title → Option (List ℕ)
@@ -34,6 +34,7 @@ page_command word title =
     else if bytes_eq word (codes "edit") then option_map (λ name. Edit name) (page_name title)
     else if bytes_eq word (codes "gen") then option_map (λ n. Gen n) (section_count title)
     else if bytes_eq word (codes "lint") then option_map (λ name. Page Lint name) (page_name title)
+    else if bytes_eq word (codes "selser") then option_map (λ name. Selser name) (page_name title)
     else None
 
 -- the command that the words name, or none
@@ -50,6 +51,7 @@ Fetches None = ⊥
 Fetches (Some (Page command title)) = ⊤
 Fetches (Some (Expand title)) = ⊤
 Fetches (Some (Edit title)) = ⊤
+Fetches (Some (Selser title)) = ⊤
 Fetches (Some (Gen n)) = ⊥
 Fetches (Some Wikitext) = ⊥
 
@@ -59,6 +61,7 @@ Reads None = ⊥
 Reads (Some (Page command title)) = ⊥
 Reads (Some (Expand title)) = ⊥
 Reads (Some (Edit title)) = ⊤
+Reads (Some (Selser title)) = ⊤
 Reads (Some (Gen n)) = ⊥
 Reads (Some Wikitext) = ⊤
 
@@ -68,5 +71,6 @@ HasPage None = ⊥
 HasPage (Some (Page command title)) = ⊤
 HasPage (Some (Expand title)) = ⊤
 HasPage (Some (Edit title)) = ⊤
+HasPage (Some (Selser title)) = ⊤
 HasPage (Some (Gen n)) = ⊤
 HasPage (Some Wikitext) = ⊥

@@ -26,7 +26,8 @@ pub enum Command {
     Expand(Str),
     /// The page of this full name, changed as its HTML, which is the input, was.
     Edit(Str),
-    /// The same by the difference of the input alone, without marks.
+    /// The page of this full name, changed as its HTML, which is the input, was, by the difference of the
+    /// two alone: marks count for nothing.
     Selser(Str),
     /// What is told of a page that is made with so many sections.
     Gen(u32),
@@ -86,7 +87,9 @@ fn edit_of(alloc: Global, title: &str) -> Result<Option<Command>, NoMemory>
     }
 }
 
-fn selser_of(alloc: Global, title: &str) -> Result<Option<Command>, NoMemory> {
+fn selser_of(alloc: Global, title: &str) -> Result<Option<Command>, NoMemory>
+    ensures { IfOk result (λ found. found ≡ option_map (λ name. Command.Selser name) (page_name title.now)) }
+{
     match page_name(alloc, title)? {
         Some(name) => Ok(Some(Command::Selser(name))),
         None => Ok(None),
@@ -118,14 +121,14 @@ fn page_command(alloc: Global, word: &str, title: &str) -> Result<Option<Command
     if word == "edit" {
         return edit_of(alloc, title);
     }
-    if word == "selser" {
-        return selser_of(alloc, title);
-    }
     if word == "gen" {
         return Ok(gen_of(title));
     }
     if word == "lint" {
         return of_page(alloc, PageCommand::Lint, title);
+    }
+    if word == "selser" {
+        return selser_of(alloc, title);
     }
     Ok(None)
 }

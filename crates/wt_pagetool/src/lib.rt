@@ -12,6 +12,8 @@ mod laws;
 mod output;
 mod page;
 mod page_command;
+mod proposing;
+mod reading_back;
 mod refusal;
 mod report;
 mod selser_command;

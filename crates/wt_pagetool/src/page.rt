@@ -1,6 +1,6 @@
 //! The tree of a page with its templates expanded.
 
-ghost use Rattle.std.specs.Prelude.{◌≡◌, ◌≤◌, ◌<◌, ◌^◌, length, OnOk, IfOk, IfErr, Some, None};
+ghost use Rattle.std.specs.Prelude.{◌≡◌, ◌≤◌, ◌<◌, ◌^◌, ℕ, List, length, OnOk, IfOk, IfErr, Some, None};
 ghost use Rattle.wt_annotated.specs.Reached.{AreReachedSlices};
 ghost use Rattle.wt_expand.specs.PageCalls.{expanded_page};
 ghost use Rattle.wt_expand.specs.Work.{Pages, names_asked};
@@ -10,7 +10,7 @@ ghost use Rattle.wt_page_round_trip.specs.PageTree.{expanded_tree, page_tree};
 ghost use Rattle.wt_span.specs.Cuts.{page_of};
 ghost use Rattle.wt_transclusion.specs.Asked.{Asks};
 ghost use Rattle.wt_tree.specs.View.{view};
-ghost use Rattle.wt_pagetool.specs.Answers.{refusal_of_page, IsText};
+ghost use Rattle.wt_pagetool.specs.Answers.{refused, refusal_of_page, title_answer, Answer, IsText};
 ghost use Rattle.wt_pagetool.specs.Asked.{AsksNames, work_done};
 ghost use Rattle.wt_pagetool.specs.Causes.{RefusesTitle, RefusesExpansion, IsOfPage, IsOfTitle, IsKept};
 
@@ -102,6 +102,8 @@ pub fn text_of_page(page: &[u8]) -> Result<&str, Refusal>
     ensures room { IfOk result (λ text. length text.now ≤ PAGE_BYTES) }
     ensures answered { OnOk result (IsText page.entry.now) }
     ensures refused { IfErr result (RefusesTitle (Some page.entry.now)) }
+    ensures exact { IfErr result (λ r. (made : List ℕ → Answer)
+        → title_answer (Some page.entry.now) made ≡ refused r) }
     ensures of_page { IfErr result IsOfPage }
 {
     if page.len() > PAGE_BYTES {

@@ -328,7 +328,7 @@ pub fn line_of(alloc: Global, refusal: &Refusal) -> Result<String, AllocError>
 {
     match refusal {
         Refusal::Usage => format!(in alloc;
-            "wtround: usage: wtround html TITLE | wikitext | edit TITLE | ranges TITLE | expand TITLE | gen N | lint TITLE\n"
+            "wtround: usage: wtround html TITLE | wikitext | edit TITLE | ranges TITLE | expand TITLE | gen N | lint TITLE | selser TITLE\n"
         ),
         Refusal::Absent => format!(in alloc; "wtround: no such page\n"),
         Refusal::TooLong => format!(in alloc; "wtround: page too long\n"),

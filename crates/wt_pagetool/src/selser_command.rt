@@ -1,95 +1,240 @@
-//! The command that changes a page as its HTML was changed, without marks: a new page is proposed, read back, and
-//! given only where it shows what the edited HTML shows. Not proved yet.
+//! The command that changes a page as its HTML was changed, without marks.
+
+ghost use Rattle.std.specs.Prelude.{◌≡◌, ◌≤◌, ◌+◌, ℕ, List, length, Some, IfSome, IfOk, IfErr, OnOk};
+ghost use Rattle.std.specs.Io.KnownBytes.{IsAtEnd};
+ghost use Rattle.wt_checks.specs.Checked.{nodes_checked};
+ghost use Rattle.wt_difference.specs.Difference.{difference};
+ghost use Rattle.wt_difference.specs.Remarked.{remarked};
+ghost use Rattle.wt_difference.specs.Views.{changes_view};
+ghost use Rattle.wt_expand.specs.Work.{Pages};
+ghost use Rattle.wt_expansion.specs.Known.{HoldsPages};
+ghost use Rattle.wt_fitting.specs.Read.{read};
+ghost use Rattle.wt_html_in.specs.Feeding.{IsFed};
+ghost use Rattle.wt_outer.specs.Device.{Rose};
+ghost use Rattle.wt_transclusion.specs.Asked.{Asks};
+ghost use Rattle.wt_tree.specs.Tiling.{InPreorder};
+ghost use Rattle.wt_tree.specs.Tree.{label};
+ghost use Rattle.wt_tree.specs.View.{view};
+ghost use Rattle.wt_tree.specs.declared.kind.Kind.TheVariants as kind;
+ghost use Rattle.wt_pagetool.specs.Answers.{input_answer, nodes_answer, selser_told, taken_answer, taken_to, IsNoText};
+ghost use Rattle.wt_pagetool.specs.Causes.{Answered, IsKept, IsOfEdit};
+ghost use Rattle.wt_pagetool.specs.Inputs.{GivesAtMost};
+ghost use Rattle.wt_pagetool.specs.Selser.{are_none, AnswersSelser, Finds, FindsFor, FindsNew, OrFound};
+ghost use Rattle.wt_pagetool.specs.Tried.{IsBeside, KnowsOf};
 
 use crate::fetch::fetched_page;
-use crate::known_page::known_page;
+use crate::known_page::{KnownPage, known_page};
 use crate::output::Output;
 use crate::page::text_of_page;
+use crate::proposing::new_page;
+use crate::reading_back::{EditedPage, new_expansion};
 use crate::refusal::Refusal;
-use crate::wikitext_command::read_all;
+use crate::wikitext_command::{PIECE, read_all};
 use bumpalo::Bump;
 use std::alloc::Global;
-use wt_checks::check_nodes;
-use wt_levels::Expansion;
+use wt_checks::{Check, check_nodes, numbered_nodes};
+use wt_difference::{Changed, difference, remark};
+use wt_html_in::Reader;
 use wt_outer::{Folder, Source};
-use wt_proposal::{Keeping, Known, propose};
-use wt_selser::{EditRefusal, first_differing};
-use wt_span::{PAGE_BYTES, Str};
+use wt_span::{HTML_BYTES, NoMemory, PAGE_BYTES};
 use wt_tree::Node;
 
-/// What reading a proposal back says.
+/// An edited tree beside the page's.
 #[derive(Drop)]
-struct ReadBack<'a> {
-    differing: Option<u32>,
-    expansion: Expansion<'a>,
+struct Beside<'a> {
+    /// The edited tree with the marks of its difference from the page's, and no others.
+    edited: Node<'a>,
+    /// Whether nothing differs.
+    same: bool,
+    /// The first check that refuses one of its nodes.
+    refused: Option<Check>,
 }
 
-/// Reads a proposal back: the first child in which it shows something else than the edited tree, or None.
-fn read_back<'a, F: Folder>(
-    alloc: Global,
-    proposal: &Str,
-    tree: &Node<'a>,
-    edited: &Node<'a>,
-    arena: &'a Bump<Global>,
-    folder: &mut F,
-    expansion: Expansion<'a>,
-) -> Result<ReadBack<'a>, Refusal> {
-    if proposal.as_str().len() > PAGE_BYTES {
-        return Err(Refusal::NewPageTooLong);
+fn are_none(changed: &[Changed<'_, '_>]) -> bool
+    ensures { result ≡ are_none (changes_view changed.now) }
+{
+    match changed {
+        [] => true,
+        [_, ..] => false,
     }
-    let text = arena.try_alloc_str(proposal.as_str())?;
-    let text = text_of_page(text.as_bytes())?;
-    let found = known_page(alloc, text, arena, folder, expansion)?;
-    let differing = first_differing(alloc, found.annotated.body(), tree, edited)?;
-    Ok(ReadBack {
-        differing,
-        expansion: found.expansion,
+}
+
+/// Whether an edited tree doesn't differ from a page's.
+fn is_same<'t, 'a>(
+    alloc: Global,
+    page: &'t Node<'a>,
+    edited: &'t Node<'a>,
+) -> Result<bool, NoMemory>
+    requires body { (label (view page.now)).kind ≡ kind.Body }
+    requires numbered { ∥ InPreorder (view page.now) ∥₁ }
+    ensures { IfOk result (λ b. b ≡ are_none (difference (view page.now) (view edited.now))) }
+{
+    let index = numbered_nodes(alloc, page)?;
+    let changed = difference(alloc, index.as_slice(), edited)?;
+    Ok(are_none(changed.as_slice()))
+}
+
+/// Sets an edited tree beside a page's.
+fn set_beside<'a>(
+    alloc: Global,
+    page: &Node<'a>,
+    edited: Node<'a>,
+) -> Result<Beside<'a>, NoMemory>
+    requires body { (label (view page.now)).kind ≡ kind.Body }
+    requires numbered { ∥ InPreorder (view page.now) ∥₁ }
+    ensures { IfOk result (λ c. IsBeside (view page.now) (view edited.entry) c) }
+{
+    let same = is_same(alloc, &*page, &edited)?;
+    let edited = remark(alloc, &*page, edited)?;
+    let refused = check_nodes(alloc, &*page, &edited)?;
+    Ok(Beside {
+        edited,
+        same,
+        refused,
     })
 }
 
-fn new_page<'a, F: Folder>(
+/// The new page of a page that was expanded, by the tree to which it was edited.
+fn page_of_found<'a, F: Folder>(
     alloc: Global,
-    page: &'a str,
-    edited: &Node<'a>,
+    page: &str,
+    found: KnownPage<'a>,
+    edited: Node<'a>,
     arena: &'a Bump<Global>,
     folder: &mut F,
-) -> Result<Output, Refusal> {
-    let found = known_page(alloc, page, arena, folder, Expansion::new(alloc, arena))?;
-    let tree = found.annotated.body();
-    let refused = check_nodes(alloc, tree, edited)?;
-    if let Some(check) = refused {
-        return Err(Refusal::Checked(check));
-    }
-    let known = Known::of(alloc, tree)?;
-    let first = propose(alloc, &known, page, edited, Keeping::Everywhere)?;
-    let read = read_back(alloc, &first, tree, edited, arena, folder, found.expansion)?;
-    let Some(block) = read.differing else {
-        return Ok(Output::Text(first));
-    };
-    let second = propose(alloc, &known, page, edited, Keeping::ButIn(block))?;
-    let read = read_back(alloc, &second, tree, edited, arena, folder, read.expansion)?;
-    if read.differing.is_none() {
-        return Ok(Output::Text(second));
-    }
-    let third = propose(alloc, &known, page, edited, Keeping::Nowhere)?;
-    let read = read_back(alloc, &third, tree, edited, arena, folder, read.expansion)?;
-    match read.differing {
-        None => Ok(Output::Text(third)),
-        Some(block) => Err(Refusal::Unspelled(block)),
+) -> Result<Output, Refusal>
+    requires body { (label (view found.annotated.tree.body)).kind ≡ kind.Body }
+    requires known { HoldsPages found.expansion }
+    ensures answered { (pages : Pages) → F.pages folder.old ≡ Some pages → KnowsOf pages found.entry.expansion
+        → let t = view found.entry.annotated.tree.body in
+        OrFound (nodes_answer page.now (nodes_checked t (remarked t (view edited.entry))))
+        (FindsNew pages found.entry.annotated.items page.now t (remarked t (view edited.entry))
+        (are_none (difference t (view edited.entry))) result) result }
+    ensures asks { Asks (F.answered folder.old) (F.answered folder.new) (F.most_asked folder.old)
+        (F.most_asked folder.new) }
+    ensures of_edit { IfErr result (IsOfEdit ⊥ (Rose (F.fault_count folder.old) (F.fault_count folder.new))) }
+    ensures count { IsKept result (F.fault_count folder.old) (F.fault_count folder.new) }
+    ensures kept { F.pages folder.new ≡ F.pages folder.old }
+{
+    let KnownPage {
+        annotated,
+        expansion,
+    } = found;
+    let tree = annotated.body();
+    let beside = set_beside(alloc, tree, edited)?;
+    match beside.refused {
+        Some(check) => Err(Refusal::Checked(check)),
+        None => {
+            let edit = EditedPage {
+                page,
+                tree,
+                items: annotated.items(),
+                edited: &beside.edited,
+                same: beside.same,
+                arena,
+            };
+            new_page(alloc, &edit, folder, expansion)
+        }
     }
 }
 
-/// The page under a title, changed as its HTML, which is the input, was.
+/// The new page of a page that is text, by the tree to which it was edited.
+fn page_to<'a, F: Folder>(
+    alloc: Global,
+    page: &'a str,
+    edited: Node<'a>,
+    arena: &'a Bump<Global>,
+    folder: &mut F,
+) -> Result<Output, Refusal>
+    requires room { length page.now ≤ PAGE_BYTES }
+    ensures answered { (pages : Pages) → F.pages folder.old ≡ Some pages
+        → OrFound (taken_to pages page.now (view edited.entry)) (Finds pages page.now (view edited.entry) result)
+        result }
+    ensures asks { Asks (F.answered folder.old) (F.answered folder.new) (F.most_asked folder.old)
+        (F.most_asked folder.new) }
+    ensures of_edit { IfErr result (IsOfEdit ⊥ (Rose (F.fault_count folder.old) (F.fault_count folder.new))) }
+    ensures count { IsKept result (F.fault_count folder.old) (F.fault_count folder.new) }
+    ensures kept { F.pages folder.new ≡ F.pages folder.old }
+{
+    let expansion = new_expansion(alloc, arena);
+    let found = known_page(alloc, page, arena, folder, expansion)?;
+    page_of_found(alloc, page, found, edited, arena, folder)
+}
+
+/// The new page of a page that is text, by the HTML that was fed.
+fn page_of_read<'a, F: Folder>(
+    alloc: Global,
+    page: &'a str,
+    reader: Reader<'a>,
+    arena: &'a Bump<Global>,
+    folder: &mut F,
+) -> Result<Output, Refusal>
+    requires room { length page.now ≤ PAGE_BYTES }
+    ensures answered { (pages : Pages) (bytes : List ℕ) → F.pages folder.old ≡ Some pages
+        → IsFed reader.entry bytes
+        → OrFound (taken_answer pages page.now (read bytes)) (FindsFor pages page.now (read bytes) result)
+        result }
+    ensures asks { Asks (F.answered folder.old) (F.answered folder.new) (F.most_asked folder.old)
+        (F.most_asked folder.new) }
+    ensures of_edit { IfErr result (IsOfEdit ⊥ (Rose (F.fault_count folder.old) (F.fault_count folder.new))) }
+    ensures count { IsKept result (F.fault_count folder.old) (F.fault_count folder.new) }
+    ensures kept { F.pages folder.new ≡ F.pages folder.old }
+{
+    let edited = reader.finish()?;
+    let body = edited.into_body();
+    page_to(alloc, page, body, arena, folder)
+}
+
+/// The new page of a page that is text, by the HTML that the input gives, which is read to its end first.
+fn page_of_text<S: Source, F: Folder>(
+    alloc: Global,
+    page: &str,
+    input: &mut S,
+    folder: &mut F,
+) -> Result<Output, Refusal>
+    requires room { length page.now ≤ PAGE_BYTES }
+    ensures answered { (pages : Pages) → F.pages folder.old ≡ Some pages → IfSome (S.left input.old)
+        (λ bytes. OrFound (input_answer (taken_answer pages page.now) bytes)
+        (FindsFor pages page.now (read bytes) result) result) }
+    ensures asks { Asks (F.answered folder.old) (F.answered folder.new) (F.most_asked folder.old)
+        (F.most_asked folder.new) }
+    ensures of_edit { IfErr result (IsOfEdit (Rose (S.fault_count input.old) (S.fault_count input.new))
+        (Rose (F.fault_count folder.old) (F.fault_count folder.new))) }
+    ensures ended { OnOk result (IsAtEnd (S.left input.new)) }
+    ensures input_kept { IsKept result (S.fault_count input.old) (S.fault_count input.new) }
+    ensures takes { GivesAtMost (HTML_BYTES + PIECE) (S.left input.old) (S.left input.new) }
+    ensures folder_kept { IsKept result (F.fault_count folder.old) (F.fault_count folder.new) }
+    ensures kept { F.pages folder.new ≡ F.pages folder.old }
+{
+    let arena = Bump::new(alloc);
+    let reader = read_all(alloc, &arena, input)?;
+    page_of_read(alloc, page, reader, &arena, folder)
+}
+
+/// The page under a title, changed as its HTML, which is the input, was changed: by the difference of the two,
+/// whatever marks the HTML has.
 pub fn selser_page<S: Source, F: Folder>(
     alloc: Global,
     title: &str,
     input: &mut S,
     folder: &mut F,
-) -> Result<Output, Refusal> {
+) -> Result<Output, Refusal>
+    ensures answered { IfSome (selser_told (F.pages folder.old) (S.left input.old) title.now)
+        (λ a. Answered a result) }
+    ensures found { IfSome (F.pages folder.old) (λ pages. IfSome (S.left input.old)
+        (λ bytes. AnswersSelser pages (pages title.now) bytes result)) }
+    ensures waits { IfSome (F.pages folder.old) (λ pages. IsNoText (pages title.now) → input.new ≡ input.old) }
+    ensures asks { Asks (F.answered folder.old) (F.answered folder.new) (F.most_asked folder.old)
+        (F.most_asked folder.new) }
+    ensures of_edit { IfErr result (IsOfEdit (Rose (S.fault_count input.old) (S.fault_count input.new))
+        (Rose (F.fault_count folder.old) (F.fault_count folder.new))) }
+    ensures ended { OnOk result (IsAtEnd (S.left input.new)) }
+    ensures input_kept { IsKept result (S.fault_count input.old) (S.fault_count input.new) }
+    ensures takes { GivesAtMost (HTML_BYTES + PIECE) (S.left input.old) (S.left input.new) }
+    ensures folder_kept { IsKept result (F.fault_count folder.old) (F.fault_count folder.new) }
+    ensures kept { F.pages folder.new ≡ F.pages folder.old }
+{
     let page = fetched_page(alloc, title, folder)?;
     let text = text_of_page(page.as_slice())?;
-    let arena = Bump::new(alloc);
-    let reader = read_all(alloc, &arena, input)?;
-    let edited = reader.finish()?;
-    new_page(alloc, text, edited.body(), &arena, folder)
+    page_of_text(alloc, text, input, folder)
 }

@@ -11,7 +11,8 @@ ghost use Rattle.wt_pagetool.specs.Devices.{read_from, fetched_from, written_to}
 ghost use Rattle.wt_pagetool.specs.GivenBack.{GaveBack};
 ghost use Rattle.wt_pagetool.specs.Inputs.{GivesAtMost};
 ghost use Rattle.wt_pagetool.specs.Reports.{WasDone, WasRefused, OutFailed, ErrFailed};
-ghost use Rattle.wt_pagetool.specs.Reports.{WrotePage, WroteExpansion, WroteEdit, WroteCounts, WroteSource};
+ghost use Rattle.wt_pagetool.specs.Reports.{WrotePage, WroteExpansion, WroteEdit, WroteSelser, WroteCounts, WroteSource};
+ghost use Rattle.wt_pagetool.specs.Selser.{AnswersSelser, DoneByEdit, RefusedSelser};
 ghost use Rattle.wt_pagetool.specs.Statuses.{code, IsDoneOrRefused, IsFaultOrNoMemory};
 ghost use Rattle.wt_pagetool.specs.Words.{command_of, Fetches, Reads};
 
@@ -52,6 +53,11 @@ fn find_answer<S: Source, F: Folder>(
     ensures takes { GivesAtMost (HTML_BYTES + PIECE) (S.left input.old) (S.left input.new) }
     ensures waits { (title : List ℕ) → command_of words.now ≡ Some (Command.Edit title)
         → IfSome (F.pages folder.old) (λ pages. IsNoText (pages title) → input.new ≡ input.old) }
+    ensures found { (title : List ℕ) → command_of words.now ≡ Some (Command.Selser title)
+        → IfSome (F.pages folder.old) (λ pages. IfSome (S.left input.old)
+        (λ bytes. AnswersSelser pages (pages title) bytes result)) }
+    ensures stays { (title : List ℕ) → command_of words.now ≡ Some (Command.Selser title)
+        → IfSome (F.pages folder.old) (λ pages. IsNoText (pages title) → input.new ≡ input.old) }
     ensures kept { F.pages folder.new ≡ F.pages folder.old }
     ensures unread { ¬ Reads (command_of words.now) → input.new ≡ input.old }
     ensures unasked { ¬ Fetches (command_of words.now) → folder.new ≡ folder.old }
@@ -80,7 +86,8 @@ fn find_answer<S: Source, F: Folder>(
 /// of `input` to its end and writes to `out` the source of the page for which it stands. `edit TITLE` reads
 /// the HTML of `input`, in which some elements of the page's HTML are marked as edited, and writes the new
 /// page: the inside of each marked block is written anew, blocks and items come and go where their parent is
-/// marked so, and nothing else is changed. Nothing goes to `out` before the whole answer is known, and each
+/// marked so, and nothing else is changed. `selser TITLE` reads such HTML without marks, finds what was changed,
+/// and writes a new page that shows what the HTML shows. Nothing goes to `out` before the whole answer is known, and each
 /// refusal has its one line on `err`.
 ///
 /// A title stands here for its full name. What is said of a device's pages or bytes holds where the device
@@ -131,6 +138,18 @@ pub fn run<S: Source, F: Folder, W: Sink, E: Sink>(
         → IfSome (F.pages folder.old) (λ pages. IfSome (S.left input.old)
         (λ bytes. WroteEdit pages title bytes (S.left input.new) (W.taken out.old) (W.taken out.new))) }
 
+    // `selser`, when it is done, read the input to its end and wrote a new page. It is the page with places of
+    // the difference of the two, and nothing else, written anew, in which the comments and include tags that
+    // the input still has stand; or the page as it is; or what `edit` makes of the marks of the difference.
+    // The marks that the input has count for nothing. No check refuses a node of the edited tree (an unknown
+    // or repeated number, a group that was changed). Nothing refuses the new page or its expansion, and the
+    // plain view of its tree is that of the edited tree, in which a kept group is what the page's group of its
+    // number holds. Which of such pages it is is said by no clause.
+    ensures selser { (title : List ℕ) → command_of words.now ≡ Some (Command.Selser title)
+        → result ≡ code Status.Done
+        → IfSome (F.pages folder.old) (λ pages. IfSome (S.left input.old)
+        (λ bytes. WroteSelser pages title bytes (S.left input.new) (W.taken out.old) (W.taken out.new))) }
+
     // `gen`, when it is done, wrote the line of the page that is made with so many sections: how many bytes
     // it has, how many of its nodes have numbers, how many groups it has, and how many bytes come back from
     // its HTML, which are as many as it has.
@@ -151,6 +170,27 @@ pub fn run<S: Source, F: Folder, W: Sink, E: Sink>(
         → IfSome (F.pages folder.old) (λ pages. IfSome (S.left input.old)
         (λ bytes. (page : List ℕ) → pages title ≡ Some page → html_answer pages (Some page) ≡ done bytes
         → GaveBack page result (W.taken out.old) (W.taken out.new))) }
+
+    // The same of `selser`, whatever marks the input has.
+    ensures selser_changes_nothing { (title : List ℕ) → command_of words.now ≡ Some (Command.Selser title)
+        → IfSome (F.pages folder.old) (λ pages. IfSome (S.left input.old)
+        (λ bytes. (page : List ℕ) → pages title ≡ Some page → html_answer pages (Some page) ≡ done bytes
+        → GaveBack page result (W.taken out.old) (W.taken out.new))) }
+
+    // Where `edit` of the input with the marks of the difference is done, `selser` of the input is done; or a
+    // device failed, or memory ran out.
+    ensures selser_as_edit { (title : List ℕ) → command_of words.now ≡ Some (Command.Selser title)
+        → IfSome (F.pages folder.old) (λ pages. IfSome (S.left input.old)
+        (λ bytes. DoneByEdit pages (pages title) bytes
+        → (result ≡ code Status.Done) ⊎ IsFaultOrNoMemory result)) }
+
+    // Where `selser` is refused as an edit, `err` took the line of a refusal that has its cause: that of the
+    // nodes of the edited tree; or else that of its content or of a new page, and `edit` refuses the input
+    // with the marks of the difference, too.
+    ensures selser_refused { (title : List ℕ) → command_of words.now ≡ Some (Command.Selser title)
+        → result ≡ code Status.EditRefused
+        → IfSome (F.pages folder.old) (λ pages. IfSome (S.left input.old)
+        (λ bytes. RefusedSelser pages (pages title) bytes (written_to E.Sink err.old err.new))) }
 
     // The call ends with the status of the answer to the words over the folder's pages and the input; or
     // with that of a device's fault or of want of memory.
@@ -190,7 +230,7 @@ pub fn run<S: Source, F: Folder, W: Sink, E: Sink>(
     // The folder answered the first of the names that the command asks for, in their order and no others.
     // The first is that of the page; then come those that its expansion fetches (the page's own again, where
     // a call names it), and with `edit` those that the expansion of the new page fetches, each once, in the
-    // order of their first fetch. The names end where the command is refused, and a call that is done or
+    // order of their first fetch. (Of `selser`, which may read three new pages, they aren't told.) The names end where the command is refused, and a call that is done or
     // refused has asked for all of them. Where a fetch failed, it is that of the next name: nothing that is done
     // before it is refused, and it was asked for in its turn.
     ensures first_names { IfSome (names_told (F.pages folder.old) (S.left input.old) words.now)
@@ -209,8 +249,10 @@ pub fn run<S: Source, F: Folder, W: Sink, E: Sink>(
     ensures takes { GivesAtMost (HTML_BYTES + PIECE) (S.left input.old) (S.left input.new) }
     ensures pages_kept { F.pages folder.new ≡ F.pages folder.old }
 
-    // `edit` leaves the input alone where no text stands under the title.
+    // `edit` and `selser` leave the input alone where no text stands under the title.
     ensures waits { (title : List ℕ) → command_of words.now ≡ Some (Command.Edit title)
+        → IfSome (F.pages folder.old) (λ pages. IsNoText (pages title) → input.new ≡ input.old) }
+    ensures stays { (title : List ℕ) → command_of words.now ≡ Some (Command.Selser title)
         → IfSome (F.pages folder.old) (λ pages. IsNoText (pages title) → input.new ≡ input.old) }
 
     // A command that doesn't read (`html`, `ranges`, `expand`, `gen`, `lint`) leaves the input as it was, and one

@@ -16,3 +16,9 @@ returns-in-Ok-clause-answered c = page_text c.args.page.now (omega (arith, c.if-
 
 pub returns-in-Err-clause-refused : goal.returns-in-Err-clause-refused
 returns-in-Err-clause-refused c = page_not_utf8 c.args.page.now c.in-Err.place (omega (arith, c.if-page-gt-PAGE_BYTES.false)) c.in-Err.ensures.place
+
+pub returns-then-page-gt-PAGE_BYTES-clause-exact : goal.returns-then-page-gt-PAGE_BYTES-clause-exact
+returns-then-page-gt-PAGE_BYTES-clause-exact c = page_too_long c.args.page.now (omega (arith, c.if-page-gt-PAGE_BYTES.true))
+
+pub returns-in-Err-clause-exact : goal.returns-in-Err-clause-exact
+returns-in-Err-clause-exact c = page_not_utf8 c.args.page.now c.in-Err.place (omega (arith, c.if-page-gt-PAGE_BYTES.false)) c.in-Err.ensures.place

@@ -1,5 +1,7 @@
 use Rattle.wt_pagetool.proofs.RunLaws.{run_page, run_wikitext, run_exact, run_done, run_refused, run_fault, run_complete, run_kept, run_all, run_asks, run_fewer, run_expansion, run_counts, run_edit}
 use Rattle.wt_pagetool.proofs.GivenBackLaws.{run_gives_back}
+use Rattle.wt_pagetool.proofs.SelserRuns.{run_selser, run_selser_as_edit, run_selser_refused}
+use Rattle.wt_pagetool.proofs.SelserUnchanged.{run_selser_changes_nothing}
 use Rattle.wt_pagetool.proofs.UnchangedLaws.{run_changes_nothing}
 use Rattle.wt_pagetool.specs.Answers.{answer_told}
 use Rattle.wt_pagetool.specs.Asked.{names_told}
@@ -37,6 +39,32 @@ returns-clause-edit g c title is e =
     (written_to g.W.Sink c.args.out.now c.report.new.out) (written_to g.E.Sink c.args.err.now c.report.new.err)
     c.find_answer-found.result c.report.result c.code.result c.code.ensures c.find_answer-found.ensures.answered
     c.find_answer-found.ensures.due c.find_answer-found.ensures.ended c.report.ensures title is e
+
+pub returns-clause-selser : goal.returns-clause-selser
+returns-clause-selser g c title is e =
+    run_selser c.args.words.now (read_from g.S.Source c.args.input.now c.find_answer-found.new.input)
+    (fetched_from g.F.Folder c.args.folder.now c.find_answer-found.new.folder)
+    (written_to g.W.Sink c.args.out.now c.report.new.out) (written_to g.E.Sink c.args.err.now c.report.new.err)
+    c.find_answer-found.result c.report.result c.code.result c.code.ensures c.find_answer-found.ensures.found
+    c.find_answer-found.ensures.due c.find_answer-found.ensures.ended c.report.ensures title is e
+
+pub returns-clause-selser_as_edit : goal.returns-clause-selser_as_edit
+returns-clause-selser_as_edit g c title is =
+    run_selser_as_edit (g.F.Folder.pages c.args.folder.now) (g.S.Source.left c.args.input.now) title
+    c.find_answer-found.result c.report.result c.code.result (written_to g.W.Sink c.args.out.now c.report.new.out)
+    (written_to g.E.Sink c.args.err.now c.report.new.err) c.code.ensures (c.find_answer-found.ensures.found title is) c.report.ensures
+
+pub returns-clause-selser_refused : goal.returns-clause-selser_refused
+returns-clause-selser_refused g c title is e =
+    run_selser_refused (g.F.Folder.pages c.args.folder.now) (g.S.Source.left c.args.input.now) title
+    c.find_answer-found.result c.report.result c.code.result (written_to g.W.Sink c.args.out.now c.report.new.out)
+    (written_to g.E.Sink c.args.err.now c.report.new.err) c.code.ensures (c.find_answer-found.ensures.found title is) c.report.ensures e
+
+pub returns-clause-selser_changes_nothing : goal.returns-clause-selser_changes_nothing
+returns-clause-selser_changes_nothing g c title is =
+    run_selser_changes_nothing (g.F.Folder.pages c.args.folder.now) (g.S.Source.left c.args.input.now) title
+    c.find_answer-found.result c.report.result c.code.result (written_to g.W.Sink c.args.out.now c.report.new.out)
+    (written_to g.E.Sink c.args.err.now c.report.new.err) c.code.ensures (c.find_answer-found.ensures.found title is) c.report.ensures
 
 pub returns-clause-counted : goal.returns-clause-counted
 returns-clause-counted g c count is e =

@@ -1,0 +1,62 @@
+use Rattle.std.proofs.Common.{◌≡◌, ◌∙◌, Err, refl, rules, subst}
+use Rattle.wt_pagetool.specs.Answers.{IsText}
+use Rattle.wt_transclusion.proofs.AskedLaws.{asks_then}
+use Rattle.wt_pagetool.proofs.AskedLaws.{reads_text, waits}
+use Rattle.wt_pagetool.proofs.SelserFound.{title_found, told_found, unfetched_found, untexted_title}
+use Rattle.wt_pagetool.proofs.selser_command.selser_page.Goals as goal
+
+pub returns-clause-found : goal.returns-clause-found
+returns-clause-found g c =
+    let d = g.F.Folder in
+    title_found (d.pages c.args.folder.now) (g.S.Source.left c.args.input.now) c.args.title.now c.in_ok-page.page c.in_ok-text.text.now
+    c.page_of_text.result c.in_ok-page.ensures.page (subst IsText c.as_slice.ensures c.in_ok-text.ensures.answered)
+    (c.in_ok-text.ensures.text ∙ c.as_slice.ensures)
+    (λ pages told. c.page_of_text.ensures.answered pages (c.in_ok-page.ensures.pages_kept ∙ told))
+
+pub returns-clause-answered : goal.returns-clause-answered
+returns-clause-answered g c =
+    told_found (g.F.Folder.pages c.args.folder.now) (g.S.Source.left c.args.input.now) c.args.title.now c.page_of_text.result
+    (returns-clause-found g c)
+
+pub returns-in_err-page-clause-found : goal.returns-in_err-page-clause-found
+returns-in_err-page-clause-found g c =
+    let e : c.from_residual.result ≡ Err c.in_err-page.field-0.0 = search rules in
+    unfetched_found (g.F.Folder.pages c.args.folder.now) (g.S.Source.left c.args.input.now) c.args.title.now c.from_residual.result
+    c.in_err-page.field-0.0 e c.in_err-page.ensures.page
+
+pub returns-in_err-page-clause-answered : goal.returns-in_err-page-clause-answered
+returns-in_err-page-clause-answered g c =
+    told_found (g.F.Folder.pages c.args.folder.now) (g.S.Source.left c.args.input.now) c.args.title.now c.from_residual.result
+    (returns-in_err-page-clause-found g c)
+
+pub returns-in_err-text-clause-found : goal.returns-in_err-text-clause-found
+returns-in_err-text-clause-found g c =
+    let d = g.F.Folder in
+    let e : c.from_residual-in_err-text.result ≡ Err c.in_err-text.field-0.0 = search rules in
+    unfetched_found (d.pages c.args.folder.now) (g.S.Source.left c.args.input.now) c.args.title.now c.from_residual-in_err-text.result
+    c.in_err-text.field-0.0 e
+    (untexted_title (d.pages c.args.folder.now) c.args.title.now c.in_ok-page.page c.as_slice.result.now c.in_err-text.field-0.0
+    c.in_ok-page.ensures.page c.as_slice.ensures c.in_err-text.ensures.refused)
+
+pub returns-in_err-text-clause-answered : goal.returns-in_err-text-clause-answered
+returns-in_err-text-clause-answered g c =
+    told_found (g.F.Folder.pages c.args.folder.now) (g.S.Source.left c.args.input.now) c.args.title.now c.from_residual-in_err-text.result
+    (returns-in_err-text-clause-found g c)
+
+pub returns-in_err-page-clause-waits : goal.returns-in_err-page-clause-waits
+returns-in_err-page-clause-waits g c = waits (g.F.Folder.pages c.args.folder.now) c.args.title.now refl
+
+pub returns-in_err-text-clause-waits : goal.returns-in_err-text-clause-waits
+returns-in_err-text-clause-waits g c = waits (g.F.Folder.pages c.args.folder.now) c.args.title.now refl
+
+pub returns-clause-waits : goal.returns-clause-waits
+returns-clause-waits g c =
+    reads_text _ (g.F.Folder.pages c.args.folder.now) c.args.title.now c.in_ok-page.page c.in_ok-page.ensures.page
+    (subst IsText c.as_slice.ensures c.in_ok-text.ensures.answered)
+
+pub returns-clause-asks : goal.returns-clause-asks
+returns-clause-asks g c =
+    let d = g.F.Folder in
+    asks_then (d.answered c.args.folder.now) (d.answered c.fetched_page.new.folder) (d.answered c.page_of_text.new.folder)
+    (d.most_asked c.args.folder.now) (d.most_asked c.fetched_page.new.folder) (d.most_asked c.page_of_text.new.folder)
+    c.in_ok-page.ensures.asks c.page_of_text.ensures.asks

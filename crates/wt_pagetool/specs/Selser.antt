@@ -1,0 +1,174 @@
+-- What `selser` finds for an edited tree: a new page that was read back, or why there is none.
+use Rattle.std.specs.Prelude.{◌≡◌, ◌≢◌, ◌≤◌, ◌⊎◌, ⊤, ℕ, length, Bool, true, false, List, [], ◌∷◌, Option, Some, None, Result, Ok, Err}
+use Rattle.wt_expand.specs.PageCalls.{expanded_page}
+use Rattle.wt_expand.specs.Work.{Pages}
+use Rattle.wt_fitting.specs.Read.{Read, page as as_page, ill, misfit, read}
+use Rattle.wt_page_round_trip.specs.PageTree.{page_tree}
+use Rattle.wt_difference.specs.Difference.{Changed, difference}
+use Rattle.wt_proposal.specs.Rewritten.{IsRewritten}
+use Rattle.wt_selser.specs.Edits.{edit_answer}
+use Rattle.wt_shown.specs.KeptMarks.{KeepsMarks}
+use Rattle.wt_shown.specs.SameNodes.{same_node}
+use Rattle.wt_span.specs.Origins.{Expanded}
+use Rattle.wt_span.specs.declared.limits.TheConstants.{HTML_BYTES}
+use Rattle.wt_tree.specs.Tree.{Tree}
+use Rattle.wt_pagetool.specs.declared.output.Output.{Output}
+use Rattle.wt_pagetool.specs.declared.refusal.Refusal.{Refusal}
+use Rattle.wt_pagetool.specs.declared.refusal.Refusal.TheVariants as refusal
+use Rattle.wt_pagetool.specs.declared.status.Status.{Status}
+use Rattle.wt_pagetool.specs.declared.status.Status.TheVariants as status
+use Rattle.wt_pagetool.specs.Answers.{Answer, done, refused, edit_by, edit_to, new_answer, remarked_of, taken_of, IsText}
+use Rattle.wt_pagetool.specs.Causes.{Answered}
+use Rattle.wt_pagetool.specs.Devices.{SinkUse, Took}
+use Rattle.wt_pagetool.specs.Outputs.{output_bytes}
+use Rattle.wt_pagetool.specs.Refusals.{line_of, status_of}
+
+-- ---- a new page
+
+-- A new page that was proposed: the page with places of the difference, and nothing else, written anew; and the comments and include
+-- tags that the edited tree still has stand in it.
+pub record IsProposed (pages : Pages) (page : List ℕ) (t u : Tree) (new : List ℕ) : Type 0 where
+  pub rewritten : IsRewritten page t u new
+  pub keeps : KeepsMarks (page_tree pages new) t u
+
+-- A new page is one that was proposed, the page as it is, or what `edit` makes of the marks of the difference.
+abbrev pub IsMade : Pages → Expanded → List ℕ → Tree → Tree → List ℕ → Type 0
+IsMade pages items page t u new = IsProposed pages page t u new ⊎ ((new ≡ page) ⊎ (edit_answer same_node items page t u ≡ Ok new))
+
+-- It is read back: nothing refuses it or its expansion, and it shows what the edited tree shows.
+abbrev pub ReadsBack : Pages → Tree → Tree → List ℕ → Type 0
+ReadsBack pages t u new = new_answer pages t u new ≡ done new
+
+-- ---- what is found
+
+-- a refusal of a new page
+abbrev pub IsOfNewPage : Refusal → Type 0
+IsOfNewPage refusal.Usage = ⊥
+IsOfNewPage refusal.Absent = ⊥
+IsOfNewPage refusal.TooLong = ⊥
+IsOfNewPage (refusal.NotUtf8 place) = ⊥
+IsOfNewPage (refusal.BracesTooDeep template place) = ⊥
+IsOfNewPage refusal.TooLarge = ⊥
+IsOfNewPage (refusal.TemplateNotUtf8 template place) = ⊥
+IsOfNewPage (refusal.TemplateTooLong template) = ⊥
+IsOfNewPage refusal.HtmlTooLong = ⊥
+IsOfNewPage refusal.InputTooLong = ⊥
+IsOfNewPage (refusal.Html place why) = ⊥
+IsOfNewPage (refusal.Unfit n why) = ⊥
+IsOfNewPage (refusal.Unsourced n) = ⊥
+IsOfNewPage (refusal.Checked c) = ⊥
+IsOfNewPage (refusal.BadContent n why) = ⊤
+IsOfNewPage (refusal.Tangled n) = ⊥
+IsOfNewPage refusal.NewPageTooLong = ⊤
+IsOfNewPage refusal.NewExpansion = ⊤
+IsOfNewPage (refusal.Unspelled k) = ⊤
+IsOfNewPage refusal.ReadFault = ⊥
+IsOfNewPage refusal.FolderFault = ⊥
+IsOfNewPage refusal.WriteFault = ⊥
+IsOfNewPage refusal.NoMemory = ⊥
+
+-- The page itself is the new page where nothing differs and it reads back.
+abbrev pub PageMustDo : Pages → List ℕ → Tree → Tree → Bool → Type 0
+PageMustDo pages page t u same = (same ≡ true) × ReadsBack pages t u page
+
+-- A new page: it is made by the page's edit, and it reads back.
+pub record IsNewPage (pages : Pages) (items : Expanded) (page : List ℕ) (t u : Tree) (same : Bool) (new : List ℕ) : Type 0 where
+  pub made : IsMade pages items page t u new
+  pub back : ReadsBack pages t u new
+  pub itself : PageMustDo pages page t u same → new ≡ page
+
+-- No new page: it is refused by its content, as too long, for its expansion or for what it shows; and `edit` refuses the marks of the
+-- difference, too, or its new page.
+pub record IsNoNewPage (pages : Pages) (items : Expanded) (page : List ℕ) (t u : Tree) (same : Bool) (r : Refusal) : Type 0 where
+  pub late : IsOfNewPage r
+  pub unedited : (new : List ℕ) → edit_by pages t u (edit_answer same_node items page t u) ≢ done new
+  pub itself : ¬ PageMustDo pages page t u same
+
+-- by how the call ends
+abbrev pub FindsNone : Pages → Expanded → List ℕ → Tree → Tree → Bool → Refusal → Status → Type 0
+FindsNone pages items page t u same r status.Done = ⊥
+FindsNone pages items page t u same r status.Usage = ⊥
+FindsNone pages items page t u same r status.PageRefused = ⊥
+FindsNone pages items page t u same r status.HtmlRefused = ⊥
+FindsNone pages items page t u same r status.EditRefused = IsNoNewPage pages items page t u same r
+FindsNone pages items page t u same r status.ReadFault = ⊤
+FindsNone pages items page t u same r status.FolderFault = ⊤
+FindsNone pages items page t u same r status.WriteFault = ⊤
+FindsNone pages items page t u same r status.NoMemory = ⊤
+
+-- Of an expanded page with this tree, for an edited tree with the marks of the difference; `same` tells that there is none.
+abbrev pub FindsNew : Pages → Expanded → List ℕ → Tree → Tree → Bool → Result Output Refusal → Type 0
+FindsNew pages items page t u same (Ok output) = IsNewPage pages items page t u same (output_bytes output)
+FindsNew pages items page t u same (Err r) = FindsNone pages items page t u same r (status_of r)
+
+-- ---- the answer
+
+-- nothing differs
+abbrev pub are_none : List Changed → Bool
+are_none [] = true
+are_none (c ∷ cs) = false
+
+-- of a page that is taken, for an edited tree
+abbrev pub Finds : Pages → List ℕ → Tree → Result Output Refusal → Type 0
+Finds pages page edited result =
+    FindsNew pages (expanded_page pages page) page (page_tree pages page) (remarked_of pages page edited)
+    (are_none (difference (page_tree pages page) edited)) result
+
+-- of a page that is taken, for what was read
+abbrev pub FindsFor : Pages → List ℕ → Read → Result Output Refusal → Type 0
+FindsFor pages page (as_page edited unsourced) result = Finds pages page edited result
+FindsFor pages page (ill place why) result = ⊤
+FindsFor pages page (misfit n why) result = ⊤
+
+abbrev pub FindsUnder : Pages → Option (List ℕ) → Read → Result Output Refusal → Type 0
+FindsUnder pages None r result = ⊤
+FindsUnder pages (Some page) r result = FindsFor pages page r result
+
+-- A refusal before a new page is looked for is the answer. Where the page is taken, this was found.
+abbrev pub OrFound : Answer → Type 0 → Result Output Refusal → Type 0
+OrFound (refused r) found result = Answered (refused r) result
+OrFound (done page) found result = found
+
+-- `selser` of what stands under the title, for this input
+abbrev pub AnswersSelser : Pages → Option (List ℕ) → List ℕ → Result Output Refusal → Type 0
+AnswersSelser pages stands input result = OrFound (taken_of pages stands input) (FindsUnder pages stands (read input) result) result
+
+-- ---- `edit` of the difference
+
+-- `edit` of the edited tree with the marks of its difference is done
+abbrev pub EditIsDone : Pages → List ℕ → Read → Type 0
+EditIsDone pages page (as_page edited unsourced) = (new : List ℕ) × (edit_to pages page (remarked_of pages page edited) ≡ done new)
+EditIsDone pages page (ill place why) = ⊥
+EditIsDone pages page (misfit n why) = ⊥
+
+-- of what stands under a title, for an input that may be taken
+pub record DoneByEdit (pages : Pages) (stands : Option (List ℕ)) (input : List ℕ) : Type 0 where
+  pub page : List ℕ
+  pub found : stands ≡ Some page
+  pub text : IsText page
+  pub within : length input ≤ HTML_BYTES
+  pub done : EditIsDone pages page (read input)
+
+-- ---- a refusal
+
+-- no new page, for this reason, of what was read
+abbrev pub NoneFor : Pages → List ℕ → Read → Refusal → Type 0
+NoneFor pages page (as_page edited unsourced) r = IsNoNewPage pages (expanded_page pages page) page (page_tree pages page)
+    (remarked_of pages page edited) (are_none (difference (page_tree pages page) edited)) r
+NoneFor pages page (ill place why) r = ⊤
+NoneFor pages page (misfit n why) r = ⊤
+
+abbrev pub NoneUnder : Pages → Option (List ℕ) → Read → Refusal → Type 0
+NoneUnder pages None read r = ⊤
+NoneUnder pages (Some page) read r = NoneFor pages page read r
+
+-- it refuses before a new page is looked for, or there is none for this reason
+abbrev pub RefusesSelser : Answer → Type 0 → Refusal → Type 0
+RefusesSelser (refused before) none r = before ≡ r
+RefusesSelser (done page) none r = none
+
+-- the line of such a refusal was written
+pub record RefusedSelser (pages : Pages) (stands : Option (List ℕ)) (input : List ℕ) (err : SinkUse) : Type 0 where
+  pub refusal : Refusal
+  pub cause : RefusesSelser (taken_of pages stands input) (NoneUnder pages stands (read input) refusal) refusal
+  pub line : Took err (line_of refusal)

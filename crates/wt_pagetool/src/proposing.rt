@@ -1,0 +1,364 @@
+//! The new pages that are tried for an edited tree, one after another, each by reading it back.
+
+ghost use Rattle.std.specs.Prelude.{◌≡◌, false, Some, Ok, Err, IfOk, IfErr};
+ghost use Rattle.wt_expand.specs.Work.{Pages};
+ghost use Rattle.wt_expansion.specs.Known.{HoldsPages};
+ghost use Rattle.wt_outer.specs.Device.{Rose};
+ghost use Rattle.wt_transclusion.specs.Asked.{Asks};
+ghost use Rattle.wt_tree.specs.Tiling.{InPreorder};
+ghost use Rattle.wt_tree.specs.Tree.{label};
+ghost use Rattle.wt_tree.specs.View.{view};
+ghost use Rattle.wt_tree.specs.declared.kind.Kind.TheVariants as kind;
+ghost use Rattle.wt_selser.specs.Edits.{edit_answer, AnswersEdit};
+ghost use Rattle.wt_shown.specs.SameNodes.{same_node};
+ghost use Rattle.wt_pagetool.specs.Causes.{IsKept, IsOfEdit, IsOfFolder};
+ghost use Rattle.wt_pagetool.specs.Selser.{FindsNew};
+ghost use Rattle.wt_pagetool.specs.Tried.{last_refusal, refusal_of_fault, HoldsTried, KnowsOf, MarkedAs, TriedFirst, TriedMarks, TriedPage, TriedProposal};
+
+use crate::known_page::KnownPage;
+use crate::output::Output;
+use crate::reading_back::{EditedPage, Fault, ReadBack, read_back};
+use crate::refusal::Refusal;
+use std::alloc::Global;
+use wt_levels::Expansion;
+use wt_outer::Folder;
+use wt_proposal::{Keeping, proposal};
+use wt_selser::{EditRefusal, edit as edit_by_marks};
+use wt_shown::keeps_marks;
+use wt_span::{NoMemory, Str};
+
+/// A new page that was tried.
+#[derive(Drop)]
+pub enum Tried<'a> {
+    /// It is the answer.
+    Stands(Str),
+    /// It isn't, for this reason. Here is the expansion for what is read next.
+    Fails(Fault, Expansion<'a>),
+}
+
+/// Why a fault refuses an edit.
+fn refusal_of(fault: Fault) -> Refusal
+    ensures { result ≡ refusal_of_fault fault }
+{
+    match fault {
+        Fault::TooLong => Refusal::NewPageTooLong,
+        Fault::Expansion => Refusal::NewExpansion,
+        Fault::Block(child) => Refusal::Unspelled(child),
+    }
+}
+
+/// Why an edit is refused whose marks `edit` refuses: what the content can't be, or else the fault of the first new page.
+fn last_refusal(refusal: EditRefusal, fault: Fault) -> Refusal
+    ensures { result ≡ last_refusal refusal fault }
+{
+    match refusal {
+        EditRefusal::Check(_) => refusal_of(fault),
+        EditRefusal::BadContent(node, why) => Refusal::BadContent { node, why },
+        EditRefusal::Tangled(_) => refusal_of(fault),
+        EditRefusal::NewPageTooLong => Refusal::NewPageTooLong,
+        EditRefusal::NoMemory => Refusal::NoMemory,
+    }
+}
+
+// ---- one new page
+
+/// Tries this page.
+fn tried_page<'a, F: Folder>(
+    alloc: Global,
+    new: Str,
+    edit: &EditedPage<'_, 'a>,
+    folder: &mut F,
+    expansion: Expansion<'a>,
+) -> Result<Tried<'a>, Refusal>
+    requires body { (label (view edit.now.tree.now)).kind ≡ kind.Body }
+    requires numbered { ∥ InPreorder (view edit.now.tree.now) ∥₁ }
+    requires known { HoldsPages expansion }
+    ensures tried { (pages : Pages) → F.pages folder.old ≡ Some pages → KnowsOf pages expansion.entry
+        → IfOk result (TriedPage pages (view edit.now.tree.now) (view edit.now.edited.now) new) }
+    ensures holds { IfOk result HoldsTried }
+    ensures asks { Asks (F.answered folder.old) (F.answered folder.new) (F.most_asked folder.old)
+        (F.most_asked folder.new) }
+    ensures of_folder { IfErr result (IsOfFolder (F.fault_count folder.old) (F.fault_count folder.new)) }
+    ensures count { IsKept result (F.fault_count folder.old) (F.fault_count folder.new) }
+    ensures kept { F.pages folder.new ≡ F.pages folder.old }
+{
+    let back = read_back(alloc, new.as_str(), edit, folder, expansion)?;
+    match back {
+        ReadBack::Shows(_) => Ok(Tried::Stands(new)),
+        ReadBack::Fails(fault, expansion) => Ok(Tried::Fails(fault, expansion)),
+    }
+}
+
+/// Asks what was found of a new page for the comments and include tags that the edited tree still has.
+fn marked<'a>(
+    alloc: Global,
+    new: Str,
+    found: KnownPage<'a>,
+    edit: &EditedPage<'_, 'a>,
+) -> Result<Tried<'a>, NoMemory>
+    requires body { (label (view edit.now.tree.now)).kind ≡ kind.Body }
+    requires numbered { ∥ InPreorder (view edit.now.tree.now) ∥₁ }
+    ensures { IfOk result (MarkedAs found.entry (view edit.now.tree.now) (view edit.now.edited.now) new) }
+{
+    let keeps = keeps_marks(alloc, found.annotated.body(), edit.tree, edit.edited)?;
+    if keeps {
+        return Ok(Tried::Stands(new));
+    }
+    Ok(Tried::Fails(Fault::Block(0), found.expansion))
+}
+
+/// Tries this page, which has to keep the comments and include tags that the edited tree still has.
+fn tried_marks<'a, F: Folder>(
+    alloc: Global,
+    new: Str,
+    edit: &EditedPage<'_, 'a>,
+    folder: &mut F,
+    expansion: Expansion<'a>,
+) -> Result<Tried<'a>, Refusal>
+    requires body { (label (view edit.now.tree.now)).kind ≡ kind.Body }
+    requires numbered { ∥ InPreorder (view edit.now.tree.now) ∥₁ }
+    requires known { HoldsPages expansion }
+    ensures tried { (pages : Pages) → F.pages folder.old ≡ Some pages → KnowsOf pages expansion.entry
+        → IfOk result (TriedMarks pages (view edit.now.tree.now) (view edit.now.edited.now) new) }
+    ensures holds { IfOk result HoldsTried }
+    ensures asks { Asks (F.answered folder.old) (F.answered folder.new) (F.most_asked folder.old)
+        (F.most_asked folder.new) }
+    ensures of_folder { IfErr result (IsOfFolder (F.fault_count folder.old) (F.fault_count folder.new)) }
+    ensures count { IsKept result (F.fault_count folder.old) (F.fault_count folder.new) }
+    ensures kept { F.pages folder.new ≡ F.pages folder.old }
+{
+    let back = read_back(alloc, new.as_str(), edit, folder, expansion)?;
+    match back {
+        ReadBack::Shows(found) => {
+            let tried = marked(alloc, new, found, edit)?;
+            Ok(tried)
+        }
+        ReadBack::Fails(fault, expansion) => Ok(Tried::Fails(fault, expansion)),
+    }
+}
+
+/// Tries what is proposed, where texts keep their bytes as this says.
+fn tried_proposal<'a, F: Folder>(
+    alloc: Global,
+    keeping: Keeping,
+    edit: &EditedPage<'_, 'a>,
+    folder: &mut F,
+    expansion: Expansion<'a>,
+) -> Result<Tried<'a>, Refusal>
+    requires body { (label (view edit.now.tree.now)).kind ≡ kind.Body }
+    requires numbered { ∥ InPreorder (view edit.now.tree.now) ∥₁ }
+    requires known { HoldsPages expansion }
+    ensures tried { (pages : Pages) → F.pages folder.old ≡ Some pages → KnowsOf pages expansion.entry
+        → IfOk result (TriedProposal pages edit.now.page.now (view edit.now.tree.now) (view edit.now.edited.now)) }
+    ensures holds { IfOk result HoldsTried }
+    ensures asks { Asks (F.answered folder.old) (F.answered folder.new) (F.most_asked folder.old)
+        (F.most_asked folder.new) }
+    ensures of_folder { IfErr result (IsOfFolder (F.fault_count folder.old) (F.fault_count folder.new)) }
+    ensures count { IsKept result (F.fault_count folder.old) (F.fault_count folder.new) }
+    ensures kept { F.pages folder.new ≡ F.pages folder.old }
+{
+    let proposed = proposal(alloc, edit.page, edit.tree, edit.edited, keeping)?;
+    match proposed {
+        Some(new) => tried_marks(alloc, new, edit, folder, expansion),
+        None => Ok(Tried::Fails(Fault::Block(0), expansion)),
+    }
+}
+
+/// Tries the first new page: the page itself, where nothing differs, or what is proposed.
+fn tried_first<'a, F: Folder>(
+    alloc: Global,
+    edit: &EditedPage<'_, 'a>,
+    folder: &mut F,
+    expansion: Expansion<'a>,
+) -> Result<Tried<'a>, Refusal>
+    requires body { (label (view edit.now.tree.now)).kind ≡ kind.Body }
+    requires numbered { ∥ InPreorder (view edit.now.tree.now) ∥₁ }
+    requires known { HoldsPages expansion }
+    ensures tried { (pages : Pages) → F.pages folder.old ≡ Some pages → KnowsOf pages expansion.entry
+        → IfOk result (TriedFirst pages edit.now.items.now edit.now.page.now (view edit.now.tree.now) (view edit.now.edited.now) edit.now.same) }
+    ensures holds { IfOk result HoldsTried }
+    ensures asks { Asks (F.answered folder.old) (F.answered folder.new) (F.most_asked folder.old)
+        (F.most_asked folder.new) }
+    ensures of_folder { IfErr result (IsOfFolder (F.fault_count folder.old) (F.fault_count folder.new)) }
+    ensures count { IsKept result (F.fault_count folder.old) (F.fault_count folder.new) }
+    ensures kept { F.pages folder.new ≡ F.pages folder.old }
+{
+    let same = edit.same;
+    if same {
+        let page = Str::copy_of(alloc, edit.page)?;
+        return tried_page(alloc, page, edit, folder, expansion);
+    }
+    tried_proposal(alloc, Keeping::Everywhere, edit, folder, expansion)
+}
+
+// ---- the last new page
+
+/// The new page that `edit` makes, where it reads back.
+fn page_of_edit<'a, F: Folder>(
+    alloc: Global,
+    new: Str,
+    fault: Fault,
+    edit: &EditedPage<'_, 'a>,
+    folder: &mut F,
+    expansion: Expansion<'a>,
+) -> Result<Output, Refusal>
+    requires body { (label (view edit.now.tree.now)).kind ≡ kind.Body }
+    requires numbered { ∥ InPreorder (view edit.now.tree.now) ∥₁ }
+    requires known { HoldsPages expansion }
+    requires edited { edit_answer same_node edit.now.items.now edit.now.page.now (view edit.now.tree.now) (view edit.now.edited.now) ≡ Ok new }
+    ensures found { (pages : Pages) → F.pages folder.old ≡ Some pages → KnowsOf pages expansion.entry
+        → FindsNew pages edit.now.items.now edit.now.page.now (view edit.now.tree.now)
+        (view edit.now.edited.now) false result }
+    ensures asks { Asks (F.answered folder.old) (F.answered folder.new) (F.most_asked folder.old)
+        (F.most_asked folder.new) }
+    ensures of_edit { IfErr result (IsOfEdit ⊥ (Rose (F.fault_count folder.old) (F.fault_count folder.new))) }
+    ensures count { IsKept result (F.fault_count folder.old) (F.fault_count folder.new) }
+    ensures kept { F.pages folder.new ≡ F.pages folder.old }
+{
+    let tried = tried_page(alloc, new, edit, folder, expansion)?;
+    match tried {
+        Tried::Stands(new) => Ok(Output::Text(new)),
+        Tried::Fails(_, _) => Err(refusal_of(fault)),
+    }
+}
+
+/// The new page that is proposed with `edit`'s own spelling, where `edit` itself is refused.
+fn page_of_refused<'a, F: Folder>(
+    alloc: Global,
+    refusal: EditRefusal,
+    fault: Fault,
+    edit: &EditedPage<'_, 'a>,
+    folder: &mut F,
+    expansion: Expansion<'a>,
+) -> Result<Output, Refusal>
+    requires body { (label (view edit.now.tree.now)).kind ≡ kind.Body }
+    requires numbered { ∥ InPreorder (view edit.now.tree.now) ∥₁ }
+    requires known { HoldsPages expansion }
+    requires edited { AnswersEdit (edit_answer same_node edit.now.items.now edit.now.page.now (view edit.now.tree.now) (view edit.now.edited.now)) (Err refusal) }
+    ensures found { (pages : Pages) → F.pages folder.old ≡ Some pages → KnowsOf pages expansion.entry
+        → FindsNew pages edit.now.items.now edit.now.page.now (view edit.now.tree.now)
+        (view edit.now.edited.now) false result }
+    ensures asks { Asks (F.answered folder.old) (F.answered folder.new) (F.most_asked folder.old)
+        (F.most_asked folder.new) }
+    ensures of_edit { IfErr result (IsOfEdit ⊥ (Rose (F.fault_count folder.old) (F.fault_count folder.new))) }
+    ensures count { IsKept result (F.fault_count folder.old) (F.fault_count folder.new) }
+    ensures kept { F.pages folder.new ≡ F.pages folder.old }
+{
+    let tried = tried_proposal(alloc, Keeping::Nowhere, edit, folder, expansion)?;
+    match tried {
+        Tried::Stands(new) => Ok(Output::Text(new)),
+        Tried::Fails(_, _) => Err(last_refusal(refusal, fault)),
+    }
+}
+
+/// The last new page: what `edit` makes of the marks, or, where it is refused, what is proposed with its
+/// spelling. The fault is that of the first new page.
+fn last_page<'a, F: Folder>(
+    alloc: Global,
+    fault: Fault,
+    edit: &EditedPage<'_, 'a>,
+    folder: &mut F,
+    expansion: Expansion<'a>,
+) -> Result<Output, Refusal>
+    requires body { (label (view edit.now.tree.now)).kind ≡ kind.Body }
+    requires numbered { ∥ InPreorder (view edit.now.tree.now) ∥₁ }
+    requires known { HoldsPages expansion }
+    ensures found { (pages : Pages) → F.pages folder.old ≡ Some pages → KnowsOf pages expansion.entry
+        → FindsNew pages edit.now.items.now edit.now.page.now (view edit.now.tree.now)
+        (view edit.now.edited.now) false result }
+    ensures asks { Asks (F.answered folder.old) (F.answered folder.new) (F.most_asked folder.old)
+        (F.most_asked folder.new) }
+    ensures of_edit { IfErr result (IsOfEdit ⊥ (Rose (F.fault_count folder.old) (F.fault_count folder.new))) }
+    ensures count { IsKept result (F.fault_count folder.old) (F.fault_count folder.new) }
+    ensures kept { F.pages folder.new ≡ F.pages folder.old }
+{
+    match edit_by_marks(alloc, edit.items, edit.page, edit.tree, edit.edited) {
+        Ok(new) => page_of_edit(alloc, new, fault, edit, folder, expansion),
+        Err(refusal) => page_of_refused(alloc, refusal, fault, edit, folder, expansion),
+    }
+}
+
+// ---- one after another
+
+/// The new page with the spelling of `edit` in this block alone, or else the last one.
+fn page_but_in<'a, F: Folder>(
+    alloc: Global,
+    block: u32,
+    edit: &EditedPage<'_, 'a>,
+    folder: &mut F,
+    expansion: Expansion<'a>,
+) -> Result<Output, Refusal>
+    requires body { (label (view edit.now.tree.now)).kind ≡ kind.Body }
+    requires numbered { ∥ InPreorder (view edit.now.tree.now) ∥₁ }
+    requires known { HoldsPages expansion }
+    ensures found { (pages : Pages) → F.pages folder.old ≡ Some pages → KnowsOf pages expansion.entry
+        → FindsNew pages edit.now.items.now edit.now.page.now (view edit.now.tree.now)
+        (view edit.now.edited.now) false result }
+    ensures asks { Asks (F.answered folder.old) (F.answered folder.new) (F.most_asked folder.old)
+        (F.most_asked folder.new) }
+    ensures of_edit { IfErr result (IsOfEdit ⊥ (Rose (F.fault_count folder.old) (F.fault_count folder.new))) }
+    ensures count { IsKept result (F.fault_count folder.old) (F.fault_count folder.new) }
+    ensures kept { F.pages folder.new ≡ F.pages folder.old }
+{
+    let tried = tried_proposal(alloc, Keeping::ButIn(block), edit, folder, expansion)?;
+    match tried {
+        Tried::Stands(new) => Ok(Output::Text(new)),
+        Tried::Fails(_, expansion) => {
+            last_page(alloc, Fault::Block(block), edit, folder, expansion)
+        }
+    }
+}
+
+/// The new page after the first, which had this fault.
+fn other_page<'a, F: Folder>(
+    alloc: Global,
+    fault: Fault,
+    edit: &EditedPage<'_, 'a>,
+    folder: &mut F,
+    expansion: Expansion<'a>,
+) -> Result<Output, Refusal>
+    requires body { (label (view edit.now.tree.now)).kind ≡ kind.Body }
+    requires numbered { ∥ InPreorder (view edit.now.tree.now) ∥₁ }
+    requires known { HoldsPages expansion }
+    ensures found { (pages : Pages) → F.pages folder.old ≡ Some pages → KnowsOf pages expansion.entry
+        → FindsNew pages edit.now.items.now edit.now.page.now (view edit.now.tree.now)
+        (view edit.now.edited.now) false result }
+    ensures asks { Asks (F.answered folder.old) (F.answered folder.new) (F.most_asked folder.old)
+        (F.most_asked folder.new) }
+    ensures of_edit { IfErr result (IsOfEdit ⊥ (Rose (F.fault_count folder.old) (F.fault_count folder.new))) }
+    ensures count { IsKept result (F.fault_count folder.old) (F.fault_count folder.new) }
+    ensures kept { F.pages folder.new ≡ F.pages folder.old }
+{
+    match fault {
+        Fault::Block(block) if block != 0 => page_but_in(alloc, block, edit, folder, expansion),
+        _ => last_page(alloc, fault, edit, folder, expansion),
+    }
+}
+
+/// The new page of an edited page. At most three are read back: in the first, texts that weren't changed keep
+/// their bytes; in the second the block in which it differed is spelled as `edit` spells; the third is what
+/// `edit` answers to the marks of the difference.
+pub fn new_page<'a, F: Folder>(
+    alloc: Global,
+    edit: &EditedPage<'_, 'a>,
+    folder: &mut F,
+    expansion: Expansion<'a>,
+) -> Result<Output, Refusal>
+    requires body { (label (view edit.now.tree.now)).kind ≡ kind.Body }
+    requires numbered { ∥ InPreorder (view edit.now.tree.now) ∥₁ }
+    requires known { HoldsPages expansion }
+    ensures found { (pages : Pages) → F.pages folder.old ≡ Some pages → KnowsOf pages expansion.entry
+        → FindsNew pages edit.now.items.now edit.now.page.now (view edit.now.tree.now)
+        (view edit.now.edited.now) edit.now.same result }
+    ensures asks { Asks (F.answered folder.old) (F.answered folder.new) (F.most_asked folder.old)
+        (F.most_asked folder.new) }
+    ensures of_edit { IfErr result (IsOfEdit ⊥ (Rose (F.fault_count folder.old) (F.fault_count folder.new))) }
+    ensures count { IsKept result (F.fault_count folder.old) (F.fault_count folder.new) }
+    ensures kept { F.pages folder.new ≡ F.pages folder.old }
+{
+    let tried = tried_first(alloc, edit, folder, expansion)?;
+    match tried {
+        Tried::Stands(new) => Ok(Output::Text(new)),
+        Tried::Fails(fault, expansion) => other_page(alloc, fault, edit, folder, expansion),
+    }
+}
