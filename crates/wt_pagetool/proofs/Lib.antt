@@ -18,9 +18,11 @@ pub mod SelserFound
 pub mod SelserLaws
 pub mod SelserRuns
 pub mod SelserShown
+pub mod SelserUnchanged
 pub mod ShownLaws
 pub mod StatusLaws
 pub mod UnchangedLaws
 pub mod UnchangedShown
 pub mod UnchangedTree
+pub mod UneditedRead
 pub mod WikitextLaws

@@ -62,7 +62,7 @@ unchanged_edit items page t le w i =
     unmarked_stands same_node items page t (unranged t) (unchanged_unmarked t w i) (unchanged_checked t w i) (within_most page le)
 
 -- where the new page shows what the edited tree shows, no child differs
-none_differs : (xs ys : List Plain) (new : List ℕ) → xs ≡ ys → unspelled_by new (differing 1 xs ys) ≡ done new
+pub none_differs : (xs ys : List Plain) (new : List ℕ) → xs ≡ ys → unspelled_by new (differing 1 xs ys) ≡ done new
 none_differs xs ys new e = ap (unspelled_by new) (sym (differing_is xs ys None e))
 
 -- ---- the answer
@@ -76,7 +76,7 @@ shown_gathered : (t : Tree) → shown_children (with_sections t) ≡ shown_child
 shown_gathered (tree l ts) = ap listed (plains_stay ts nothing_more)
 
 -- What is read is the tree u, which the page's tree t has in sections.
-record IsInSections (t u : Tree) : Type 0 where
+pub record IsInSections (t u : Tree) : Type 0 where
   pub bare : HasBareSections t
   pub opened : without_sections t ≡ u
   pub gathered : t ≡ with_sections u
@@ -91,7 +91,7 @@ sections_edit items page t u le h =
     ∙ ap (λ x. edit_answer same_node items page x (unranged u)) h.opened
     ∙ unchanged_edit items page u le h.written h.numbered
 
-sections_shown : (t u : Tree) → IsInSections t u → shown_children t ≡ shown_children (restored_from t (unranged u))
+pub sections_shown : (t u : Tree) → IsInSections t u → shown_children t ≡ shown_children (restored_from t (unranged u))
 sections_shown t u h =
     ap shown_children h.gathered ∙ shown_gathered u ∙ sym (unchanged_shown u h.written h.numbered)
     ∙ ap (λ x. shown_children (restored_from x (unranged u))) (sym h.opened)

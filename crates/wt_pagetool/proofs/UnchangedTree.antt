@@ -114,16 +114,16 @@ same_node l ts h = record {
 
 -- ---- nodes by how they are written
 
-text_kind : (k : Kind) → writing k ≡ AsText → (is_group k ≡ false) × (is_body k ≡ false)
+pub text_kind : (k : Kind) → writing k ≡ AsText → (is_group k ≡ false) × (is_body k ≡ false)
 text_kind kind.Body e = absurd cc
 text_kind kind.Group e = absurd cc
 text_kind k e = (refl, refl)
 
-no_group : (k : Kind) → is_somewhere (shape k).class ≡ true → is_group k ≡ false
+pub no_group : (k : Kind) → is_somewhere (shape k).class ≡ true → is_group k ≡ false
 no_group kind.Group e = absurd cc
 no_group k e = refl
 
-group_no_body : (k : Kind) → k ≡ kind.Group → (is_group k ≡ true) × (is_body k ≡ false)
+pub group_no_body : (k : Kind) → k ≡ kind.Group → (is_group k ≡ true) × (is_body k ≡ false)
 group_no_body k e = (ap is_group e, ap is_body e)
 
 either_left : (a b : Bool) → b ≡ false → (a || b) ≡ true → a ≡ true
@@ -177,7 +177,7 @@ element_again l ts page n within w h s alone i =
       unmarked = h.mark;
     }) i
 
-group_held : (l : Label) (ts : Trees) → is_group l.kind ≡ true → unranged (tree l ts) ≡ tree (label_read l) (group_nodes ts)
+pub group_held : (l : Label) (ts : Trees) → is_group l.kind ≡ true → unranged (tree l ts) ≡ tree (label_read l) (group_nodes ts)
 group_held l ts e = ap (λ x. tree (label_read l) (if x then group_nodes ts else unranged_all ts)) e
 
 unmarked_is : (m : Mark) → m ≡ mark.Nothing → is_marked m ≡ false

@@ -1,0 +1,174 @@
+-- What `selser` finds for the HTML of a page, given back unchanged: the page.
+use Rattle.std.proofs.Common.{◌≡◌, ℕ, ◌<◌, ◌^◌, Bool, true, false, List, length, arith, refl, sym, ap, ◌∙◌, subst}
+use Rattle.std.specs.Prelude.{◌&&◌, not, if◌then◌else◌, Option, Some, None, IfSome, Result, Ok, Err}
+use Rattle.wt_span.specs.Origins.{Expanded}
+use Rattle.wt_tree.specs.Opened.{without_sections}
+use Rattle.wt_tree.specs.Tiling.{is_group, InPreorder}
+use Rattle.wt_tree.specs.Tree.{Tree, tree, Trees, none, more, label}
+use Rattle.wt_tree.specs.declared.kind.Kind.TheVariants as kind
+use Rattle.wt_checks.specs.Checked.{checked, nodes_checked}
+use Rattle.wt_checks.specs.Groups.{has_mark, have_mark}
+use Rattle.wt_checks.specs.Places.{is_body}
+use Rattle.wt_checks.specs.WithoutMarks.{unmarked, groups_unmarked, all_groups_unmarked}
+use Rattle.wt_checks.proofs.NodesAlone.{taken_alone}
+use Rattle.wt_checks.proofs.NodesUnmarked.{checked_unmarked}
+use Rattle.wt_checks.proofs.Repeated.{or_false}
+use Rattle.wt_checks.proofs.Sections.{no_difference}
+use Rattle.wt_difference.specs.Difference.{difference}
+use Rattle.wt_difference.specs.Remarked.{remarked}
+use Rattle.wt_difference.specs.Unedited.{IsUnedited}
+use Rattle.wt_difference.proofs.Remarks.{marks_alone, groups_free}
+use Rattle.wt_difference.proofs.UneditedLaws.{nothing_differs}
+use Rattle.wt_expand.specs.PageCalls.{expanded_page}
+use Rattle.wt_expand.specs.Work.{Pages}
+use Rattle.wt_fitting.specs.Read.{page as as_page, read}
+use Rattle.wt_html_laws.proofs.OneBody.{read_is_one_body}
+use Rattle.wt_markup.specs.Html.{html_text}
+use Rattle.wt_page_round_trip.specs.PageTree.{page_tree}
+use Rattle.wt_page_round_trip.proofs.Pages.{body_written, page_is_read, page_opened}
+use Rattle.wt_page_round_trip.proofs.PageTrees.{page_numbered, ungathered_numbered}
+use Rattle.wt_round_trip.specs.Written.{unranged}
+use Rattle.wt_shown.specs.Children.{shown_children}
+use Rattle.wt_pagetool.specs.declared.command.PageCommand.TheVariants.{Html}
+use Rattle.wt_pagetool.specs.declared.output.Output.{Output}
+use Rattle.wt_pagetool.specs.declared.refusal.Refusal.{Refusal}
+use Rattle.wt_pagetool.specs.declared.status.Status.{Status}
+use Rattle.wt_pagetool.specs.declared.status.Status.TheVariants as status
+use Rattle.wt_pagetool.specs.Answers.{Answer, done, refused, IsText, refusal_of_page, made, expanded_by, html_answer, input_answer, new_answer, new_by, new_expanded, unspelled_answer, nodes_answer, taken_from, taken_to, taken_answer, taken_of}
+use Rattle.wt_pagetool.specs.Causes.{RefusesAs, Answered}
+use Rattle.wt_pagetool.specs.Devices.{SinkUse}
+use Rattle.wt_pagetool.specs.GivenBack.{GaveBack}
+use Rattle.wt_pagetool.specs.Refusals.{status_of}
+use Rattle.wt_pagetool.specs.Reports.{Reported}
+use Rattle.wt_pagetool.specs.Selser.{PageMustDo, FindsNone, FindsNew, FindsFor, FindsUnder, OrFound, AnswersSelser, are_none}
+use Rattle.wt_pagetool.specs.Statuses.{code}
+use Rattle.wt_pagetool.proofs.AnswerLaws.{input_within}
+use Rattle.wt_pagetool.proofs.GivenBackLaws.{written, gave_step}
+use Rattle.wt_pagetool.proofs.PageLaws.{title_made, page_text}
+use Rattle.wt_pagetool.proofs.SectionEdits.{plain_page, page_bare}
+use Rattle.wt_pagetool.proofs.SelserShown.{remarked_shown}
+use Rattle.wt_pagetool.proofs.ShownLaws.{page_body}
+use Rattle.wt_pagetool.proofs.UnchangedLaws.{IsInSections, sections_shown, none_differs}
+use Rattle.wt_pagetool.proofs.UnchangedShown.{unchanged_unmarked}
+use Rattle.wt_pagetool.proofs.UnchangedTree.{unchanged_checked}
+use Rattle.wt_pagetool.proofs.UneditedRead.{unedited_read}
+
+-- ---- without a mark, groups have none
+
+free_by : (g h b : Bool) → h ≡ false → b ≡ true → (if g then not h else b) ≡ true
+free_by true h b e f = ap not e
+free_by false h b e f = f
+
+both_true : (a b : Bool) → a ≡ true → b ≡ true → (a && b) ≡ true
+both_true true b e f = f
+both_true false b e f = absurd (cc)
+
+mutual
+  none_in_groups : (t : Tree) → has_mark t ≡ false → groups_unmarked t ≡ true
+  none_in_groups (tree l ts) h =
+      free_by (is_group l.kind) (has_mark (tree l ts)) (all_groups_unmarked ts) h (none_in_any ts (or_false _ (have_mark ts) h).1)
+
+  none_in_any : (ts : Trees) → have_mark ts ≡ false → all_groups_unmarked ts ≡ true
+  none_in_any none h = refl
+  none_in_any (more t ts) h =
+      let s = or_false (has_mark t) (have_mark ts) h in
+      both_true (groups_unmarked t) (all_groups_unmarked ts) (none_in_groups t s.0) (none_in_any ts s.1)
+
+-- ---- the nodes of what is read, with the marks of the difference, are taken
+
+pub nodes_taken : (t u : Tree) → IsInSections t u → is_body (label (unranged u)).kind ≡ true → nodes_checked t (remarked t (unranged u)) ≡ None
+nodes_taken t u h b =
+    let e : Tree = unranged u in
+    let c : checked false t e ≡ None =
+    no_difference false t e h.bare ∙ ap (λ x. checked false x e) h.opened ∙ unchanged_checked u h.written h.numbered in
+    checked_unmarked t (remarked t e) (groups_free t e b) ∙ ap (nodes_checked t) (marks_alone t e)
+    ∙ sym (checked_unmarked t e (none_in_groups e (unchanged_unmarked u h.written h.numbered))) ∙ taken_alone t e c
+
+-- ---- nothing differs
+
+pub none_found : (t u : Tree) → IsInSections t u → (label t).kind ≡ kind.Body → InPreorder t → are_none (difference t (unranged u)) ≡ true
+none_found t u h b i =
+    ap are_none (nothing_differs t (unranged u) b i h.bare h.one
+    (subst (λ x. IsUnedited x (unranged u)) (sym h.opened) (unedited_read u h.written)))
+
+-- ---- the page is read back
+
+pub page_back : (pages : Pages) (page : List ℕ) (t u : Tree) → page_tree pages page ≡ t → IsText page → refusal_of_page pages page ≡ None
+    → IsInSections t u → new_answer pages t (remarked t (unranged u)) page ≡ done page
+page_back pages page t u is text unrefused h =
+    let e : Tree = remarked t (unranged u) in
+    text (new_expanded pages t e) ∙ ap (new_by (unspelled_answer pages t e page)) unrefused
+    ∙ none_differs (shown_children (page_tree pages page)) (shown_children _) page
+    (ap shown_children is ∙ sections_shown t u h ∙ sym (remarked_shown t (unranged u)))
+
+-- ---- what is found
+
+refused_by : (pages : Pages) (items : Expanded) (page : List ℕ) (t u : Tree) (same : Bool) (r : Refusal) (s : Status)
+    → PageMustDo pages page t u same → FindsNone pages items page t u same r s → RefusesAs s r (done page)
+refused_by pages items page t u same r status.Done m f = f
+refused_by pages items page t u same r status.Usage m f = absurd f
+refused_by pages items page t u same r status.PageRefused m f = absurd f
+refused_by pages items page t u same r status.HtmlRefused m f = absurd f
+refused_by pages items page t u same r status.EditRefused m f = absurd (f.itself m)
+refused_by pages items page t u same r status.ReadFault m f = tt
+refused_by pages items page t u same r status.FolderFault m f = tt
+refused_by pages items page t u same r status.WriteFault m f = tt
+refused_by pages items page t u same r status.NoMemory m f = tt
+
+found_page : (pages : Pages) (items : Expanded) (page : List ℕ) (t u : Tree) (same : Bool) (found : Result Output Refusal)
+    → PageMustDo pages page t u same → FindsNew pages items page t u same found → Answered (done page) found
+found_page pages items page t u same (Ok output) m f = ap done (sym (f.itself m))
+found_page pages items page t u same (Err r) m f = refused_by pages items page t u same r (status_of r) m f
+
+taken_read : (pages : Pages) (page : List ℕ) (u : Tree) (o : Option ℕ) → taken_answer pages page (as_page u o) ≡ taken_to pages page u
+unfolding taken_answer
+taken_read pages page u o = refl
+
+or_found : (a : Answer) (page : List ℕ) (F : Type 0) (found : Result Output Refusal) → a ≡ done page → OrFound a F found → F
+or_found (done p) page F found e f = f
+or_found (refused r) page F found e f = absurd (cc)
+
+body_read : (u : Tree) → is_body (label u).kind ≡ true → is_body (label (unranged u)).kind ≡ true
+body_read (tree l ts) e = e
+
+found_itself : (pages : Pages) (page bytes : List ℕ) (found : Result Output Refusal) → html_answer pages (Some page) ≡ done bytes
+    → AnswersSelser pages (Some page) bytes found → Answered (done page) found
+found_itself pages page bytes found e a =
+    let m = title_made page bytes (made Html pages) e in
+    let w = written pages page bytes e in
+    let t : Tree = page_tree pages page in
+    let u : Tree = plain_page pages page in
+    let x : Tree = unranged u in
+    let text : IsText page = page_text page m.within m.text in
+    let opened : without_sections t ≡ u = page_opened pages page w.text w.unrefused in
+    let few : length page < 2 ^ 30 = let le = w.within in omega (arith, le) in
+    let reads : read (html_text t) ≡ as_page x None =
+    page_is_read pages page w.text few w.unrefused ∙ ap (λ y. as_page (unranged y) None) opened in
+    let h : IsInSections t u = record {
+      bare = page_bare pages page w.text w.unrefused;
+      opened = opened;
+      gathered = refl;
+      written = body_written pages page w.text few w.unrefused;
+      numbered = ungathered_numbered (expanded_page pages page).outer (expanded_page pages page).items;
+      one = read_is_one_body (html_text t) x None reads;
+    } in
+    let taken : taken_of pages (Some page) bytes ≡ done page =
+    text (λ bs. input_answer (taken_answer pages bs) bytes) ∙ input_within (taken_answer pages page) bytes w.few
+    ∙ ap (λ bs. taken_answer pages page (read bs)) w.is ∙ ap (taken_answer pages page) reads ∙ taken_read pages page x None
+    ∙ ap (expanded_by (taken_from pages page x)) w.unrefused ∙ ap (nodes_answer page) (nodes_taken t u h h.one.root) in
+    let must : PageMustDo pages page t (remarked t x) (are_none (difference t x)) =
+    (none_found t u h (page_body pages page) (page_numbered pages page), page_back pages page t u refl text w.unrefused h) in
+    let f : FindsFor pages page (read bytes) found =
+    or_found (taken_of pages (Some page) bytes) page (FindsUnder pages (Some page) (read bytes) found) found taken a in
+    found_page pages (expanded_page pages page) page t (remarked t x) (are_none (difference t x)) found must
+    (subst (λ r. FindsFor pages page r found) (ap read w.is ∙ reads) f)
+
+pub run_selser_changes_nothing : (told : Option Pages) (left : Option (List ℕ)) (title : List ℕ) (found : Result Output Refusal)
+    (s : Status) (ended : ℕ) (out err : SinkUse) → ended ≡ code s
+    → IfSome told (λ pages. IfSome left (λ bytes. AnswersSelser pages (pages title) bytes found)) → Reported found s out err
+    → IfSome told (λ pages. IfSome left (λ bytes. (page : List ℕ) → pages title ≡ Some page → html_answer pages (Some page) ≡ done bytes
+    → GaveBack page ended out.taken_before out.taken_after))
+run_selser_changes_nothing None left title found s ended out err is a r = tt
+run_selser_changes_nothing (Some ps) None title found s ended out err is a r = tt
+run_selser_changes_nothing (Some ps) (Some bytes) title found s ended out err is a r = λ page stands h. gave_step page found s ended out err is
+    (found_itself ps page bytes found h (subst (λ st. AnswersSelser ps st bytes found) stands a)) r
