@@ -29,6 +29,7 @@ use Rattle.wt_page_round_trip.proofs.Pages.{body_written, page_is_read, page_ope
 use Rattle.wt_page_round_trip.proofs.PageTrees.{page_numbered, ungathered_numbered}
 use Rattle.wt_round_trip.specs.Written.{unranged}
 use Rattle.wt_shown.specs.Children.{shown_children}
+use Rattle.wt_shown.specs.Restored.{restored_from}
 use Rattle.wt_pagetool.specs.declared.command.PageCommand.TheVariants.{Html}
 use Rattle.wt_pagetool.specs.declared.output.Output.{Output}
 use Rattle.wt_pagetool.specs.declared.refusal.Refusal.{Refusal}
@@ -98,7 +99,7 @@ pub page_back : (pages : Pages) (page : List ℕ) (t u : Tree) → page_tree pag
 page_back pages page t u is text unrefused h =
     let e : Tree = remarked t (unranged u) in
     text (new_expanded pages t e) ∙ ap (new_by (unspelled_answer pages t e page)) unrefused
-    ∙ none_differs (shown_children (page_tree pages page)) (shown_children _) page
+    ∙ none_differs (shown_children (page_tree pages page)) (shown_children (restored_from t e)) page
     (ap shown_children is ∙ sections_shown t u h ∙ sym (remarked_shown t (unranged u)))
 
 -- ---- what is found
