@@ -9,7 +9,7 @@ use Rattle.wt_tree.specs.declared.kind.Kind.TheVariants as kind
 use Rattle.wt_checks.specs.Checked.{checked, nodes_checked}
 use Rattle.wt_checks.specs.Groups.{has_mark, have_mark}
 use Rattle.wt_checks.specs.Places.{is_body}
-use Rattle.wt_checks.specs.WithoutMarks.{unmarked, groups_unmarked, all_groups_unmarked}
+use Rattle.wt_checks.specs.WithoutMarks.{groups_unmarked, all_groups_unmarked}
 use Rattle.wt_checks.proofs.NodesAlone.{taken_alone}
 use Rattle.wt_checks.proofs.NodesUnmarked.{checked_unmarked}
 use Rattle.wt_checks.proofs.Repeated.{or_false}
