@@ -1,15 +1,14 @@
 -- What `selser` finds for the HTML of a page, given back unchanged: the page.
-use Rattle.std.proofs.Common.{◌≡◌, ℕ, ◌<◌, ◌^◌, Bool, true, false, List, length, arith, refl, sym, ap, ◌∙◌, subst}
+use Rattle.std.proofs.Common.{◌≡◌, ℕ, Bool, true, false, List, refl, sym, ap, ◌∙◌, subst}
 use Rattle.std.specs.Prelude.{◌&&◌, not, if◌then◌else◌, Option, Some, None, IfSome, Result, Ok, Err}
 use Rattle.wt_span.specs.Origins.{Expanded}
-use Rattle.wt_tree.specs.Opened.{without_sections}
 use Rattle.wt_tree.specs.Tiling.{is_group, InPreorder}
 use Rattle.wt_tree.specs.Tree.{Tree, tree, Trees, none, more, label}
 use Rattle.wt_tree.specs.declared.kind.Kind.TheVariants as kind
 use Rattle.wt_checks.specs.Checked.{checked, nodes_checked}
 use Rattle.wt_checks.specs.Groups.{has_mark, have_mark}
 use Rattle.wt_checks.specs.Places.{is_body}
-use Rattle.wt_checks.specs.WithoutMarks.{unmarked, groups_unmarked, all_groups_unmarked}
+use Rattle.wt_checks.specs.WithoutMarks.{groups_unmarked, all_groups_unmarked}
 use Rattle.wt_checks.proofs.NodesAlone.{taken_alone}
 use Rattle.wt_checks.proofs.NodesUnmarked.{checked_unmarked}
 use Rattle.wt_checks.proofs.Repeated.{or_false}
@@ -22,19 +21,16 @@ use Rattle.wt_difference.proofs.UneditedLaws.{nothing_differs}
 use Rattle.wt_expand.specs.PageCalls.{expanded_page}
 use Rattle.wt_expand.specs.Work.{Pages}
 use Rattle.wt_fitting.specs.Read.{page as as_page, read}
-use Rattle.wt_html_laws.proofs.OneBody.{read_is_one_body}
-use Rattle.wt_markup.specs.Html.{html_text}
 use Rattle.wt_page_round_trip.specs.PageTree.{page_tree}
-use Rattle.wt_page_round_trip.proofs.Pages.{body_written, page_is_read, page_opened}
-use Rattle.wt_page_round_trip.proofs.PageTrees.{page_numbered, ungathered_numbered}
+use Rattle.wt_page_round_trip.proofs.PageTrees.{page_numbered}
 use Rattle.wt_round_trip.specs.Written.{unranged}
 use Rattle.wt_shown.specs.Children.{shown_children}
-use Rattle.wt_pagetool.specs.declared.command.PageCommand.TheVariants.{Html}
+use Rattle.wt_shown.specs.Restored.{restored_from}
 use Rattle.wt_pagetool.specs.declared.output.Output.{Output}
 use Rattle.wt_pagetool.specs.declared.refusal.Refusal.{Refusal}
 use Rattle.wt_pagetool.specs.declared.status.Status.{Status}
 use Rattle.wt_pagetool.specs.declared.status.Status.TheVariants as status
-use Rattle.wt_pagetool.specs.Answers.{Answer, done, refused, IsText, refusal_of_page, made, expanded_by, html_answer, input_answer, new_answer, new_by, new_expanded, unspelled_answer, nodes_answer, taken_from, taken_to, taken_answer, taken_of}
+use Rattle.wt_pagetool.specs.Answers.{Answer, done, refused, IsText, refusal_of_page, expanded_by, html_answer, input_answer, new_answer, new_by, new_expanded, unspelled_answer, nodes_answer, taken_from, taken_to, taken_answer, taken_of}
 use Rattle.wt_pagetool.specs.Causes.{RefusesAs, Answered}
 use Rattle.wt_pagetool.specs.Devices.{SinkUse}
 use Rattle.wt_pagetool.specs.GivenBack.{GaveBack}
@@ -43,12 +39,11 @@ use Rattle.wt_pagetool.specs.Reports.{Reported}
 use Rattle.wt_pagetool.specs.Selser.{PageMustDo, FindsNone, FindsNew, FindsFor, FindsUnder, OrFound, AnswersSelser, are_none}
 use Rattle.wt_pagetool.specs.Statuses.{code}
 use Rattle.wt_pagetool.proofs.AnswerLaws.{input_within}
-use Rattle.wt_pagetool.proofs.GivenBackLaws.{written, gave_step}
-use Rattle.wt_pagetool.proofs.PageLaws.{title_made, page_text}
-use Rattle.wt_pagetool.proofs.SectionEdits.{plain_page, page_bare}
+use Rattle.wt_pagetool.proofs.GivenBackLaws.{gave_step}
+use Rattle.wt_pagetool.proofs.SectionEdits.{plain_page}
 use Rattle.wt_pagetool.proofs.SelserShown.{remarked_shown}
 use Rattle.wt_pagetool.proofs.ShownLaws.{page_body}
-use Rattle.wt_pagetool.proofs.UnchangedLaws.{IsInSections, sections_shown, none_differs}
+use Rattle.wt_pagetool.proofs.UnchangedLaws.{IsInSections, sections_shown, none_differs, read_again}
 use Rattle.wt_pagetool.proofs.UnchangedShown.{unchanged_unmarked}
 use Rattle.wt_pagetool.proofs.UnchangedTree.{unchanged_checked}
 use Rattle.wt_pagetool.proofs.UneditedRead.{unedited_read}
@@ -98,7 +93,7 @@ pub page_back : (pages : Pages) (page : List ℕ) (t u : Tree) → page_tree pag
 page_back pages page t u is text unrefused h =
     let e : Tree = remarked t (unranged u) in
     text (new_expanded pages t e) ∙ ap (new_by (unspelled_answer pages t e page)) unrefused
-    ∙ none_differs (shown_children (page_tree pages page)) (shown_children _) page
+    ∙ none_differs (shown_children (page_tree pages page)) (shown_children (restored_from t e)) page
     (ap shown_children is ∙ sections_shown t u h ∙ sym (remarked_shown t (unranged u)))
 
 -- ---- what is found
@@ -128,40 +123,23 @@ or_found : (a : Answer) (page : List ℕ) (F : Type 0) (found : Result Output Re
 or_found (done p) page F found e f = f
 or_found (refused r) page F found e f = absurd (cc)
 
-body_read : (u : Tree) → is_body (label u).kind ≡ true → is_body (label (unranged u)).kind ≡ true
-body_read (tree l ts) e = e
-
 found_itself : (pages : Pages) (page bytes : List ℕ) (found : Result Output Refusal) → html_answer pages (Some page) ≡ done bytes
     → AnswersSelser pages (Some page) bytes found → Answered (done page) found
 found_itself pages page bytes found e a =
-    let m = title_made page bytes (made Html pages) e in
-    let w = written pages page bytes e in
+    let r = read_again pages page bytes e in
     let t : Tree = page_tree pages page in
     let u : Tree = plain_page pages page in
     let x : Tree = unranged u in
-    let text : IsText page = page_text page m.within m.text in
-    let opened : without_sections t ≡ u = page_opened pages page w.text w.unrefused in
-    let few : length page < 2 ^ 30 = let le = w.within in omega (arith, le) in
-    let reads : read (html_text t) ≡ as_page x None =
-    page_is_read pages page w.text few w.unrefused ∙ ap (λ y. as_page (unranged y) None) opened in
-    let h : IsInSections t u = record {
-      bare = page_bare pages page w.text w.unrefused;
-      opened = opened;
-      gathered = refl;
-      written = body_written pages page w.text few w.unrefused;
-      numbered = ungathered_numbered (expanded_page pages page).outer (expanded_page pages page).items;
-      one = read_is_one_body (html_text t) x None reads;
-    } in
     let taken : taken_of pages (Some page) bytes ≡ done page =
-    text (λ bs. input_answer (taken_answer pages bs) bytes) ∙ input_within (taken_answer pages page) bytes w.few
-    ∙ ap (λ bs. taken_answer pages page (read bs)) w.is ∙ ap (taken_answer pages page) reads ∙ taken_read pages page x None
-    ∙ ap (expanded_by (taken_from pages page x)) w.unrefused ∙ ap (nodes_answer page) (nodes_taken t u h h.one.root) in
+    r.text (λ bs. input_answer (taken_answer pages bs) bytes) ∙ input_within (taken_answer pages page) bytes r.few
+    ∙ ap (taken_answer pages page) r.reads ∙ taken_read pages page x None
+    ∙ ap (expanded_by (taken_from pages page x)) r.unrefused ∙ ap (nodes_answer page) (nodes_taken t u r.held r.held.one.root) in
     let must : PageMustDo pages page t (remarked t x) (are_none (difference t x)) =
-    (none_found t u h (page_body pages page) (page_numbered pages page), page_back pages page t u refl text w.unrefused h) in
+    (none_found t u r.held (page_body pages page) (page_numbered pages page), page_back pages page t u refl r.text r.unrefused r.held) in
     let f : FindsFor pages page (read bytes) found =
     or_found (taken_of pages (Some page) bytes) page (FindsUnder pages (Some page) (read bytes) found) found taken a in
     found_page pages (expanded_page pages page) page t (remarked t x) (are_none (difference t x)) found must
-    (subst (λ r. FindsFor pages page r found) (ap read w.is ∙ reads) f)
+    (subst (λ y. FindsFor pages page y found) r.reads f)
 
 pub run_selser_changes_nothing : (told : Option Pages) (left : Option (List ℕ)) (title : List ℕ) (found : Result Output Refusal)
     (s : Status) (ended : ℕ) (out err : SinkUse) → ended ≡ code s

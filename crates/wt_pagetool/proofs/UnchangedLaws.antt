@@ -111,32 +111,53 @@ unchanged_by : (pages : Pages) (page : List ℕ) (t u : Tree) → page_tree page
 unchanged_by pages page t u is le text unrefused h =
     ap (edit_by pages t (unranged u)) (sections_edit (expanded_page pages page) page t u le h) ∙ unchanged_new pages page t u is text unrefused h
 
-pub stays_unchanged : (pages : Pages) (page : List ℕ) → StaysUnchanged pages page
-stays_unchanged pages page bytes e =
+-- What is read of the HTML that `html` answers for a page: the page's tree, without sections.
+pub record IsReadAgain (pages : Pages) (page bytes : List ℕ) (t u : Tree) : Type 0 where
+  pub within : length page ≤ 2097152
+  pub text : IsText page
+  pub unrefused : refusal_of_page pages page ≡ None
+  pub few : length bytes ≤ 67108864
+  pub reads : read bytes ≡ as_page (unranged u) None
+  pub held : IsInSections t u
+
+pub read_again : (pages : Pages) (page bytes : List ℕ) → html_answer pages (Some page) ≡ done bytes
+    → IsReadAgain pages page bytes (page_tree pages page) (plain_page pages page)
+read_again pages page bytes e =
     let m = title_made page bytes (made Html pages) e in
     let w = written pages page bytes e in
     let t : Tree = page_tree pages page in
     let u : Tree = plain_page pages page in
-    let text : IsText page = page_text page m.within m.text in
     let opened : without_sections t ≡ u = page_opened pages page w.text w.unrefused in
     let few : length page < 2 ^ 30 = let le = w.within in omega (arith, le) in
     let reads : read (html_text t) ≡ as_page (unranged u) None =
     page_is_read pages page w.text few w.unrefused ∙ ap (λ x. as_page (unranged x) None) opened in
-    let h : IsInSections t u = record {
-      bare = page_bare pages page w.text w.unrefused;
-      opened = opened;
-      gathered = refl;
-      written = body_written pages page w.text few w.unrefused;
-      numbered = ungathered_numbered (expanded_page pages page).outer (expanded_page pages page).items;
-      one = read_is_one_body (html_text t) (unranged u) None reads;
-    } in
-    text (λ bs. input_answer (edited_answer pages bs) bytes)
-    ∙ input_within (edited_answer pages page) bytes w.few
-    ∙ ap (λ bs. edited_answer pages page (read bs)) w.is
-    ∙ ap (edited_answer pages page) reads
+    record {
+      within = w.within;
+      text = page_text page m.within m.text;
+      unrefused = w.unrefused;
+      few = w.few;
+      reads = ap read w.is ∙ reads;
+      held = record {
+        bare = page_bare pages page w.text w.unrefused;
+        opened = opened;
+        gathered = refl;
+        written = body_written pages page w.text few w.unrefused;
+        numbered = ungathered_numbered (expanded_page pages page).outer (expanded_page pages page).items;
+        one = read_is_one_body (html_text t) (unranged u) None reads;
+      };
+    }
+
+pub stays_unchanged : (pages : Pages) (page : List ℕ) → StaysUnchanged pages page
+stays_unchanged pages page bytes e =
+    let r = read_again pages page bytes e in
+    let t : Tree = page_tree pages page in
+    let u : Tree = plain_page pages page in
+    r.text (λ bs. input_answer (edited_answer pages bs) bytes)
+    ∙ input_within (edited_answer pages page) bytes r.few
+    ∙ ap (edited_answer pages page) r.reads
     ∙ edited_read pages page (unranged u) None
-    ∙ ap (expanded_by (edit_from pages page (unranged u))) w.unrefused
-    ∙ unchanged_by pages page t u refl w.within text w.unrefused h
+    ∙ ap (expanded_by (edit_from pages page (unranged u))) r.unrefused
+    ∙ unchanged_by pages page t u refl r.within r.text r.unrefused r.held
 
 -- ---- the clause
 
