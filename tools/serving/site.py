@@ -248,12 +248,13 @@ class Site:
             early = pool.submit(command, name, document) if command is not None else None
             page, state = self._taken(name)
             self._check_tag(request, state.tag)
-            if early is None or not MARK.search(document):
+            if early is None:
+                check_length(document)
+            if not MARK.search(document):
                 check_kept(document, state.document)
             if early is not None:
                 new = early.result()
             else:
-                check_length(document)
                 original = documents.in_form_of(document, state.document, page, unit_of(request, fields))
                 new = self._mended_edit(name, document.decode(), original.decode())
         return Edit(name, state.tag, page, new, sent_in(request, name, fields), fingerprint, state.html_hash)
