@@ -105,7 +105,7 @@ due_not_fault : (s : Status) (words : List (List ℕ)) (input : SourceUse) (fold
 due_not_fault s words input folder r e due = subst (λ v. IsDueAs v words input folder r) e due
 
 -- a call that is done found an answer, and `out` took it
-record FoundDone (found : Result Output Refusal) (out err : SinkUse) : Type 0 where
+pub record FoundDone (found : Result Output Refusal) (out err : SinkUse) : Type 0 where
   pub output : Output
   pub is : found ≡ Ok output
   pub wrote : Took out (output_bytes output)

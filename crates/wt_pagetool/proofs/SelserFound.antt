@@ -137,9 +137,9 @@ pub expanded_found : (pages : Pages) (page : List ℕ) (items : Expanded) (t edi
     → OrFound (taken_to pages page edited) (Finds pages page edited result) result
 expanded_found pages page items t edited result unrefused is same found =
     let by_items = subst (λ (x : Expanded). OrFound (nodes_answer page (nodes_checked t (remarked t edited)))
-        (FindsNew pages x page t (remarked t edited) (are_none (difference t edited)) result) result) is found in
+    (FindsNew pages x page t (remarked t edited) (are_none (difference t edited)) result) result) is found in
     let by_tree = subst (λ (x : Tree). OrFound (nodes_answer page (nodes_checked x (remarked x edited)))
-        (FindsNew pages (expanded_page pages page) page x (remarked x edited) (are_none (difference x edited)) result) result) same by_items in
+    (FindsNew pages (expanded_page pages page) page x (remarked x edited) (are_none (difference x edited)) result) result) same by_items in
     subst (λ o. OrFound (expanded_by (taken_from pages page edited) o) (Finds pages page edited result) result) (sym unrefused) by_tree
 
 pub unexpanded_found : (pages : Pages) (page : List ℕ) (edited : Tree) (e : ExpandRefusal) (result : Result Output Refusal)

@@ -75,11 +75,7 @@ fn is_same<'t, 'a>(
 }
 
 /// Sets an edited tree beside a page's.
-fn set_beside<'a>(
-    alloc: Global,
-    page: &Node<'a>,
-    edited: Node<'a>,
-) -> Result<Beside<'a>, NoMemory>
+fn set_beside<'a>(alloc: Global, page: &Node<'a>, edited: Node<'a>) -> Result<Beside<'a>, NoMemory>
     requires body { (label (view page.now)).kind ≡ kind.Body }
     requires numbered { ∥ InPreorder (view page.now) ∥₁ }
     ensures { IfOk result (λ c. IsBeside (view page.now) (view edited.entry) c) }

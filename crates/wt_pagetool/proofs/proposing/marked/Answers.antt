@@ -8,5 +8,5 @@ pub returns-then-keeps : goal.returns-then-keeps
 returns-then-keeps c = (
   refl,
   subst (λ (n : Node). KeepsMarks (view n) (view c.args.edit.now.tree.now) (view c.args.edit.now.edited.now)) c.body.ensures.body
-  (c.in_ok-keeps.ensures.0 c.if-keeps.true),
+      (c.in_ok-keeps.ensures.0 c.if-keeps.true),
 )

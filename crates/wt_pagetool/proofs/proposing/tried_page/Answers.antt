@@ -7,7 +7,7 @@ pub returns-in-Shows-clause-tried : goal.returns-in-Shows-clause-tried
 returns-in-Shows-clause-tried g c = λ pages told knows. (
   refl,
   page_stands pages (view c.args.edit.now.tree.now) (view c.args.edit.now.edited.now) c.args.new c.as_str.result.now c.in_ok-back.back _ c.in-Shows.is
-  c.as_str.ensures (c.in_ok-back.ensures.read pages told knows),
+      c.as_str.ensures (c.in_ok-back.ensures.read pages told knows),
 )
 
 pub returns-clause-tried : goal.returns-clause-tried

@@ -15,6 +15,6 @@ returns-in-Ok-clause-read g c = λ pages told knows.
 pub returns-in-Err-clause-read : goal.returns-in-Err-clause-read
 returns-in-Err-clause-read g c = λ pages told knows. (
   untexted_back pages (view c.args.edit.now.tree.now) (view c.args.edit.now.edited.now) c.args.new.now c.as_bytes.result.now _
-  (c.as_bytes.ensures.value ∙ c.in_ok-text.ensures) c.in-Err.ensures.exact,
+      (c.as_bytes.ensures.value ∙ c.in_ok-text.ensures) c.in-Err.ensures.exact,
   knows,
 )

@@ -36,7 +36,7 @@ returns-in-Some-clause-count g c = λ answer.
 pub returns-clause-read : goal.returns-clause-read
 returns-clause-read g c = λ pages told knows whole. (
   unread_as pages (view c.args.edit.now.tree.now) (view c.args.edit.now.edited.now) c.args.new.now c.in-Err.refusal whole (sym c.in-None.ensures)
-  (c.in-Err.ensures.refused pages knows.0 told knows.1),
+      (c.in-Err.ensures.refused pages knows.0 told knows.1),
   ([], c.new_expansion.ensures.free pages),
 )
 
