@@ -1,7 +1,7 @@
 //! `wtround` answers one command over the pages of the directory `pages`, a page TITLE in the file
 //! `TITLE.wiki`: `wtround html TITLE` writes the page's HTML to standard output, `wtround wikitext` the
 //! source of the page whose HTML it reads from standard input, and `wtround selser TITLE` the page, changed
-//! as this HTML was; `wtround edit TITLE` likewise, of what is marked alone. README.md has the other commands.
+//! as this HTML was (`wtround edit TITLE` where it is marked). README.md has the other commands.
 #![tactic(auto)]
 
 use std::env;
