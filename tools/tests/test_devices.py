@@ -19,10 +19,14 @@ class Answer(NamedTuple):
     err: bytes
 
 
+# The page of the example, and the templates that it takes.
+TITLES = ("Opava", "Template:Infobox row", "Template:Infobox town", "Template:Lang")
+
+
 def pages() -> Dict[str, bytes]:
-    """The pages of the example, by their titles."""
-    files = sorted(FOLDER.glob("*.wiki"))
-    return {urllib.parse.unquote(it.stem).replace("_", " "): it.read_bytes() for it in files}
+    """These pages, by their titles."""
+    files = ((title, FOLDER / (urllib.parse.quote(title.replace(" ", "_"), safe="") + ".wiki")) for title in TITLES)
+    return {title: file.read_bytes() for title, file in files}
 
 
 def case(words: List[str], data: bytes = b"", devices: str = "") -> str:
