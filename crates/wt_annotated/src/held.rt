@@ -8,7 +8,8 @@ ghost use Rattle.wt_inline.specs.View.{item_tree, item_trees};
 
 use std::alloc::Global;
 use wt_inline::{PieceTree, with_room};
-use wt_span::{List, NoMemory, Piece, Text};
+use wt_span::{List, NoMemory, Piece};
+use wt_tree::Slices;
 
 fn push_held<'a>(out: &mut List<Piece<'a>>, tree: &PieceTree<'a>) -> Result<(), NoMemory>
     ensures { OnOk result (items out.new ≡ items out.old ++ tree_items (item_tree tree.now)) }
@@ -63,12 +64,18 @@ pub fn own_pieces<'a>(
 }
 
 /// The texts of pieces, as they were expanded.
-pub fn source_texts<'a>(alloc: Global, pieces: &[Piece<'a>]) -> Result<List<Text<'a>>, NoMemory>
+pub fn source_texts<'a>(alloc: Global, pieces: &[Piece<'a>]) -> Result<Slices<'a>, NoMemory>
     ensures { IfOk result (λ l. texts_of l ≡ sources (items pieces.now)) }
 {
-    let mut texts = with_room(alloc, pieces.len())?;
-    for piece in pieces {
-        texts.push(piece.text)?;
+    match pieces {
+        [] => Ok(Slices::none()),
+        [piece] => Ok(Slices::one(piece.text)),
+        _ => {
+            let mut texts = with_room(alloc, pieces.len())?;
+            for piece in pieces {
+                texts.push(piece.text)?;
+            }
+            Ok(Slices::of_list(texts))
+        }
     }
-    Ok(texts)
 }

@@ -8,22 +8,20 @@ ghost use Rattle.wt_inline.specs.View.{head_of};
 ghost use Rattle.wt_annotated.specs.Labels.{leaf_open};
 ghost use Rattle.wt_annotated.specs.Nodes.{node_label};
 
-use std::alloc::Global;
 use wt_inline::NodeHead;
-use wt_span::{List, Text};
-use wt_tree::{Kind, Mark, Node, Ranges};
+use wt_span::List;
+use wt_tree::{Kind, Node, Ranges, Slices, Source};
 
 /// What a node has of the page: its delimiters, or the source of a leaf.
 #[derive(Drop)]
-pub struct Sources<'a> {
-    pub opening: List<Text<'a>>,
-    pub closing: List<Text<'a>>,
-    pub own: List<Text<'a>>,
+pub enum Sources<'a> {
+    Leaf(Slices<'a>),
+    Round(Slices<'a>, Slices<'a>),
 }
 
 /// A node without a number.
 pub fn unnumbered_node<'a>(
-    head: NodeHead,
+    head: NodeHead<'a>,
     ranges: Option<Ranges>,
     sources: Sources<'a>,
     children: List<Node<'a>>,
@@ -31,36 +29,25 @@ pub fn unnumbered_node<'a>(
     ensures { view result ≡ tree (node_label (head_of head) ranges (texts_of sources.entry.opening) (texts_of sources.entry.closing)
         (texts_of sources.entry.own)) (views children.entry) }
 {
-    let Sources {
-        opening,
-        closing,
-        own,
-    } = sources;
+    let source = match sources {
+        Sources::Leaf(own) => Source::leaf(own, head.shown),
+        Sources::Round(opening, closing) => Source::round(opening, closing),
+    };
     Node {
         kind: head.kind,
         id: 0,
         ranges,
-        opening,
-        closing,
-        own,
-        shown: head.shown,
-        attrs: head.attrs,
-        origin: None,
-        mark: Mark::Nothing,
-        mw: head.mw,
+        source,
+        more: head.more,
         children,
     }
 }
 
 /// The sources of a leaf.
-pub fn leaf_sources<'a>(alloc: Global, own: List<Text<'a>>) -> Sources<'a>
+pub fn leaf_sources<'a>(own: Slices<'a>) -> Sources<'a>
     ensures { result ≡ record { opening = []; closing = []; own = own.entry } }
 {
-    Sources {
-        opening: List::new(alloc),
-        closing: List::new(alloc),
-        own,
-    }
+    Sources::Leaf(own)
 }
 
 /// The open width of a leaf with so many bytes.

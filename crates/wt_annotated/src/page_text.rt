@@ -12,6 +12,7 @@ use crate::seam::{call_of, is_hollow, is_parted, last_of_piece};
 use std::alloc::Global;
 use wt_inline::with_room;
 use wt_span::{List, NoMemory, Outer, Piece, Text};
+use wt_tree::Slices;
 
 /// How far a walk over pieces has come: the call of the last item, and how many bytes of the page
 /// stand for what was read.
@@ -111,14 +112,23 @@ pub fn page_texts<'a>(
     calls: &[Outer<'a>],
     before: Option<u32>,
     pieces: &[Piece<'a>],
-) -> Result<List<Text<'a>>, NoMemory>
+) -> Result<Slices<'a>, NoMemory>
     ensures { IfOk result (λ l. texts_of l ≡ text_from (outer_calls calls.now) before (items pieces.now)) }
 {
+    if pieces.is_empty() {
+        return Ok(Slices::none());
+    }
+    if let [piece] = pieces {
+        return match page_text(calls, before, *piece) {
+            None => Ok(Slices::none()),
+            Some(text) => Ok(Slices::one(text)),
+        };
+    }
     let mut texts = with_room(alloc, pieces.len())?;
     let mut last = before;
     for piece in pieces {
         push_text(&mut texts, page_text(calls, last, *piece))?;
         last = last_of_piece(last, *piece);
     }
-    Ok(texts)
+    Ok(Slices::of_list(texts))
 }

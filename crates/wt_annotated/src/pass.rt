@@ -58,7 +58,7 @@ fn leaf<'a>(alloc: Global, tree: PieceTree<'a>, at: Cursor) -> Result<Made<'a>, 
 /// A node round the children that are made.
 fn node_round<'a>(
     alloc: Global,
-    head: NodeHead,
+    head: NodeHead<'a>,
     at: Cursor,
     opening: List<Piece<'a>>,
     children: AllMade<'a>,

@@ -14,51 +14,32 @@ use crate::piece::width;
 use std::alloc::Global;
 use wt_inline::NodeHead;
 use wt_span::{List, NoMemory, Piece};
-use wt_tree::{Mark, Node, Ranges};
-
-/// A node that holds nothing yet.
-fn bare_node<'a>(alloc: Global, head: NodeHead, id: u32, ranges: Ranges) -> Node<'a>
-    ensures { out-Node result ≡ bare head id ranges.start ranges.end ranges.open_w ranges.close_w }
-{
-    Node {
-        kind: head.kind,
-        id,
-        ranges: Some(ranges),
-        opening: List::new(alloc),
-        closing: List::new(alloc),
-        own: List::new(alloc),
-        shown: head.shown,
-        attrs: head.attrs,
-        origin: None,
-        mark: Mark::Nothing,
-        mw: head.mw,
-        children: List::new(alloc),
-    }
-}
+use wt_tree::{Node, Ranges, Source};
 
 /// A leaf that holds these pieces.
-#[tactic(auto, unfolding(crate::specs::Labels::label_at))]
 pub fn leaf_node<'a>(
     alloc: Global,
-    head: NodeHead,
+    head: NodeHead<'a>,
     at: Cursor,
     own: &[Piece<'a>],
 ) -> Result<Node<'a>, NoMemory>
     requires { at.place + width (items own.now) < 2 ^ 32 }
     ensures { IfOk result (λ n. view n ≡ tree (leaf_label at.place at.next (head_of head) (items own.now)) none) }
 {
-    let id = at.number(head.kind);
-    let ranges = leaf_ranges(head.kind, at.place, width(own));
     Ok(Node {
-        own: source_texts(alloc, own)?,
-        ..bare_node(alloc, head, id, ranges)
+        kind: head.kind,
+        id: at.number(head.kind),
+        ranges: Some(leaf_ranges(head.kind, at.place, width(own))),
+        source: Source::leaf(source_texts(alloc, own)?, head.shown),
+        more: head.more,
+        children: List::new(alloc),
     })
 }
 
 /// A node of these delimiters and children, which ends at a place.
 pub fn inner_node<'a>(
     alloc: Global,
-    head: NodeHead,
+    head: NodeHead<'a>,
     at: Cursor,
     end: u32,
     opening: &[Piece<'a>],
@@ -70,7 +51,6 @@ pub fn inner_node<'a>(
     ensures { IfOk result (λ n. view n ≡ tree (inner_label at.place at.next (head_of head) end (items opening.now) (items closing.now))
         (views children.entry)) }
 {
-    let id = at.number(head.kind);
     let ranges = Ranges {
         start: at.place,
         end,
@@ -78,9 +58,11 @@ pub fn inner_node<'a>(
         close_w: width(closing),
     };
     Ok(Node {
-        opening: source_texts(alloc, opening)?,
-        closing: source_texts(alloc, closing)?,
+        kind: head.kind,
+        id: at.number(head.kind),
+        ranges: Some(ranges),
+        source: Source::round(source_texts(alloc, opening)?, source_texts(alloc, closing)?),
+        more: head.more,
         children,
-        ..bare_node(alloc, head, id, ranges)
     })
 }

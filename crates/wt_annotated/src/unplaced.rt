@@ -30,14 +30,14 @@ fn unplaced_leaf<'a>(alloc: Global, tree: PieceTree<'a>) -> Result<Node<'a>, NoM
     } = tree;
     let held = own_pieces(opening, children, closing)?;
     let own = source_texts(alloc, held.as_slice())?;
-    let sources = leaf_sources(alloc, own);
+    let sources = leaf_sources(own);
     Ok(unnumbered_node(head, None, sources, List::new(alloc)))
 }
 
 /// A node round its children.
 fn unplaced_inner<'a>(
     alloc: Global,
-    head: NodeHead,
+    head: NodeHead<'a>,
     opening: &[Piece<'a>],
     children: List<Node<'a>>,
     closing: &[Piece<'a>],
@@ -45,11 +45,7 @@ fn unplaced_inner<'a>(
     ensures { IfOk result (λ n. view n ≡ tree (node_label (head_of head) None (sources (items opening.now)) (sources (items closing.now)) [])
         (views children.entry)) }
 {
-    let sources = Sources {
-        opening: source_texts(alloc, opening)?,
-        closing: source_texts(alloc, closing)?,
-        own: List::new(alloc),
-    };
+    let sources = Sources::Round(source_texts(alloc, opening)?, source_texts(alloc, closing)?);
     Ok(unnumbered_node(head, None, sources, children))
 }
 

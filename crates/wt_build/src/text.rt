@@ -27,7 +27,7 @@ fn plain_leaf<'a>(alloc: Global, kind: Kind, own: List<Piece<'a>>) -> PieceTree<
     ensures { item_tree result ≡ leaf (plain kind) (items own.entry) }
 {
     PieceTree {
-        head: NodeHead::plain(alloc, kind),
+        head: NodeHead::plain(kind),
         opening: own,
         children: List::new(alloc),
         closing: List::new(alloc),
@@ -44,7 +44,7 @@ pub fn plain_node<'a>(
     ensures { item_tree result ≡ inner (plain kind) (items opening.entry) (forest (item_trees children.entry)) [] }
 {
     PieceTree {
-        head: NodeHead::plain(alloc, kind),
+        head: NodeHead::plain(kind),
         opening,
         children,
         closing: List::new(alloc),

@@ -34,7 +34,7 @@ pub fn same_attrs(a: &[Attr], b: &[Attr]) -> bool
 }
 
 #[tactic(auto, unfolding(crate::specs::Alike::same_data))]
-pub fn same_data(a: &Option<DataMw>, b: &Option<DataMw>) -> bool
+pub fn same_data(a: Option<&DataMw>, b: Option<&DataMw>) -> bool
     ensures { result ≡ same_data a.now b.now }
 {
     a == b

@@ -51,7 +51,7 @@ fn own_text<'n>(node: &'n Node<'_>) -> &'n str
     ensures { result.now ≡ own_character (writing (out-Node node.now).kind) (out-Node node.now).shown }
 {
     match node.kind.writing() {
-        Writing::RoundCharacter => node.shown.as_str(),
+        Writing::RoundCharacter => node.shown(),
         Writing::AsText | Writing::AsVoid | Writing::RoundChildren => "",
         Writing::AsSection(_) | Writing::Unwritten => "",
     }
@@ -61,7 +61,7 @@ fn push_leaf(out: &mut Vec<Read<'_, '_>>, node: &Node<'_>) -> Result<(), NoMemor
     ensures { OnOk result (read_signs out.new.items ≡ read_signs out.old.items ++ leaf_signs (showing (out-Node node.now).kind) (out-Node node.now).shown) }
 {
     if shows_characters(node.kind.showing()) {
-        push_text(out, node.shown.as_str())?;
+        push_text(out, node.shown())?;
     }
     Ok(())
 }

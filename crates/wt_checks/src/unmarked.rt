@@ -28,7 +28,7 @@ fn is_compared(node: &Node<'_>) -> bool
 fn same_text(a: &Node<'_>, b: &Node<'_>) -> bool
     ensures { result ≡ bytes_eq (out-Node a.now).shown (out-Node b.now).shown }
 {
-    a.shown.as_str() == b.shown.as_str()
+    a.shown() == b.shown()
 }
 
 fn same_entry(a: &Node<'_>, b: &Node<'_>) -> bool
@@ -109,7 +109,7 @@ fn own_character<'n>(node: &'n Node<'_>) -> &'n str
     ensures { result.now ≡ own_character (writing (out-Node node.now).kind) (out-Node node.now).shown }
 {
     match node.kind.writing() {
-        Writing::RoundCharacter => node.shown.as_str(),
+        Writing::RoundCharacter => node.shown(),
         Writing::AsText | Writing::AsVoid | Writing::RoundChildren => "",
         Writing::AsSection(_) | Writing::Unwritten => "",
     }
@@ -129,7 +129,7 @@ fn holds_same(original: &Node<'_>, node: &Node<'_>) -> bool
         && same_children(original.children.as_slice(), node.children.as_slice())
 }
 
-fn keeps_data(original: &Option<DataMw>, node: &Option<DataMw>) -> bool
+fn keeps_data(original: Option<&DataMw>, node: Option<&DataMw>) -> bool
     ensures { result ≡ keeps_data original.now node.now }
 {
     match original {
@@ -144,16 +144,16 @@ fn keeps_face(original: &Node<'_>, node: &Node<'_>) -> bool
     if !same_kind(original.kind, node.kind) {
         return false;
     }
-    if !same_attrs(original.attrs.as_slice(), node.attrs.as_slice()) {
+    if !same_attrs(original.attrs(), node.attrs()) {
         return false;
     }
-    keeps_data(&original.mw, &node.mw)
+    keeps_data(original.mw(), node.mw())
 }
 
 fn keeps_children(original: &Node<'_>, node: &Node<'_>) -> bool
     ensures { result ≡ keeps_children (view original.now) (view node.now) }
 {
-    is_marked(node.mark) || holds_same(original, node)
+    is_marked(node.mark()) || holds_same(original, node)
 }
 
 fn is_other(original: Option<Visit<'_, '_>>, node: &Node<'_>) -> bool

@@ -64,17 +64,23 @@ fn attributes_of(
     }
 }
 
-fn named(alloc: Global, name: TagName, opening: &[Piece<'_>]) -> Result<NodeHead, NoMemory>
+fn named<'a>(
+    alloc: Global,
+    name: TagName,
+    opening: &[Piece<'a>],
+) -> Result<NodeHead<'a>, NoMemory>
     requires { All IsSoundPiece opening.now }
     ensures { IfOk result (λ h. head_of h ≡ pair_by_name (Name.Paired name) (items opening.now)) }
 {
-    Ok(NodeHead {
-        attrs: attributes_of(alloc, name, opening)?,
-        ..NodeHead::plain(alloc, Kind::Tag(name))
-    })
+    let attrs = attributes_of(alloc, name, opening)?;
+    NodeHead::with_attrs(alloc, Kind::Tag(name), attrs)
 }
 
-fn pair_by(alloc: Global, tag: Option<Tag>, opening: &[Piece<'_>]) -> Result<NodeHead, NoMemory>
+fn pair_by<'a>(
+    alloc: Global,
+    tag: Option<Tag>,
+    opening: &[Piece<'a>],
+) -> Result<NodeHead<'a>, NoMemory>
     requires { All IsSoundPiece opening.now }
     ensures { IfOk result (λ h. head_of h ≡ pair_by tag (items opening.now)) }
 {
@@ -91,7 +97,7 @@ fn pair_by(alloc: Global, tag: Option<Tag>, opening: &[Piece<'_>]) -> Result<Nod
 
 /// The head of a pair of tags with this open delimiter.
 #[tactic(auto, unfolding(crate::specs::Heads::pair_head))]
-pub fn pair_head(alloc: Global, opening: &[Piece<'_>]) -> Result<NodeHead, NoMemory>
+pub fn pair_head<'a>(alloc: Global, opening: &[Piece<'a>]) -> Result<NodeHead<'a>, NoMemory>
     requires { All IsSoundPiece opening.now }
     ensures { IfOk result (λ h. head_of h ≡ pair_head (items opening.now)) }
 {

@@ -42,7 +42,7 @@ fn is_partner(holder: u32, node: &Node<'_>, original: Option<Visit<'_, '_>>) -> 
                 return false;
             }
             same_kind(visit.node.kind, node.kind)
-                && same_attrs(visit.node.attrs.as_slice(), node.attrs.as_slice())
+                && same_attrs(visit.node.attrs(), node.attrs())
         }
     }
 }

@@ -59,7 +59,7 @@ fn heading_by<'a>(
     let (inside, closing) = split_before(alloc, rest.as_slice(), cuts.inside_len)?;
     let children = inside_children(alloc, inside.as_slice())?;
     Ok(PieceTree {
-        head: NodeHead::plain(alloc, Kind::Heading(cuts.level)),
+        head: NodeHead::plain(Kind::Heading(cuts.level)),
         opening,
         children,
         closing,

@@ -13,59 +13,48 @@ use std::alloc::Global;
 use wt_datamw::Sync;
 use wt_html_heads::{Head, holds_text, shows_text, text_of};
 use wt_span::{List, NoMemory, Str, Text};
-use wt_tree::{Kind, Mark, Node, Ranges, Texts, recut_texts};
+use wt_tree::{Kind, More, Node, Ranges, Shown, Slices, Source, Texts, recut_texts};
 
 /// A text in the arena; nothing where it is empty. One of 2^32 - 1 bytes or more is answered as want
 /// of memory.
-fn kept<'a>(alloc: Global, arena: &'a Bump<Global>, text: &str) -> Result<List<Text<'a>>, NoMemory>
+fn kept<'a>(arena: &'a Bump<Global>, text: &str) -> Result<Slices<'a>, NoMemory>
     ensures { IfOk result (λ l. texts_of l ≡ text.now) }
 {
     match text.as_bytes() {
-        [] => Ok(List::new(alloc)),
+        [] => Ok(Slices::none()),
         [_, ..] => {
             let text = arena.try_alloc_str(text)?;
             if 4294967295 <= text.len() {
                 return Err(NoMemory);
             }
-            let texts = Vec::from_array(alloc, [Text::new(text, 0)])?;
-            Ok(List::from_vec(texts))
+            Ok(Slices::one(Text::new(text, 0)))
         }
     }
 }
 
 /// A leaf without number, ranges and delimiters.
-fn leaf<'a>(alloc: Global, kind: Kind, own: List<Text<'a>>, shown: Str) -> Node<'a>
+fn leaf<'a>(alloc: Global, kind: Kind, own: Slices<'a>, shown: Shown<'a>) -> Node<'a>
     ensures { view result ≡ tree (leaf_label kind None (texts_of own.entry) shown) no_trees }
 {
-    Node {
-        kind,
-        id: 0,
-        ranges: None,
-        opening: List::new(alloc),
-        closing: List::new(alloc),
-        own,
-        shown,
-        attrs: List::new(alloc),
-        origin: None,
-        mark: Mark::Nothing,
-        mw: None,
-        children: List::new(alloc),
-    }
+    Node::leaf(alloc, kind, None, own, shown)
 }
 
 fn text_leaf<'a>(alloc: Global, arena: &'a Bump<Global>, text: &str) -> Result<Node<'a>, NoMemory>
     ensures { IfOk result (λ n. view n ≡ text_leaf None text.now) }
 {
-    let own = kept(alloc, arena, text)?;
-    let shown = Str::copy_of(alloc, text)?;
+    let own = kept(arena, text)?;
+    let shown = match own.as_slice() {
+        [text] => Shown::written(text.as_str()),
+        _ => Shown::none(),
+    };
     Ok(leaf(alloc, Kind::Text, own, shown))
 }
 
 fn sep_leaf<'a>(alloc: Global, arena: &'a Bump<Global>, text: &str) -> Result<Node<'a>, NoMemory>
     ensures { IfOk result (λ n. view n ≡ sep_leaf None text.now) }
 {
-    let own = kept(alloc, arena, text)?;
-    Ok(leaf(alloc, Kind::Sep, own, Str::new(alloc)))
+    let own = kept(arena, text)?;
+    Ok(leaf(alloc, Kind::Sep, own, Shown::none()))
 }
 
 /// What a text is that stands directly in an element of the kind `outer`: no node where it is the
@@ -94,48 +83,46 @@ pub fn leaf_in<'a>(
 
 /// What `data-parsoid` says of a node, with its texts in the arena.
 #[derive(Drop)]
-struct Source<'a> {
+struct Read<'a> {
     ranges: Option<Ranges>,
-    opening: List<Text<'a>>,
-    closing: List<Text<'a>>,
-    own: List<Text<'a>>,
+    opening: Slices<'a>,
+    closing: Slices<'a>,
+    own: Slices<'a>,
 }
 
-fn no_source<'a>(alloc: Global) -> Source<'a>
+fn no_source<'a>() -> Read<'a>
     ensures { source_view result ≡ source_told None }
 {
-    Source {
+    Read {
         ranges: None,
-        opening: List::new(alloc),
-        closing: List::new(alloc),
-        own: List::new(alloc),
+        opening: Slices::none(),
+        closing: Slices::none(),
+        own: Slices::none(),
     }
 }
 
 fn own_of<'a>(
-    alloc: Global,
     arena: &'a Bump<Global>,
     src: &Option<Str>,
-) -> Result<List<Text<'a>>, NoMemory>
+) -> Result<Slices<'a>, NoMemory>
     ensures { IfOk result (λ l. texts_of l ≡ source_of src.now) }
 {
     match src {
-        None => Ok(List::new(alloc)),
-        Some(text) => kept(alloc, arena, text.as_str()),
+        None => Ok(Slices::none()),
+        Some(text) => kept(arena, text.as_str()),
     }
 }
 
 fn source_in<'a>(
-    alloc: Global,
     arena: &'a Bump<Global>,
     sync: &Sync,
-) -> Result<Source<'a>, NoMemory>
+) -> Result<Read<'a>, NoMemory>
     ensures { IfOk result (λ s. source_view s ≡ source_told (Some sync.now)) }
 {
-    let opening = kept(alloc, arena, sync.opening.as_str())?;
-    let closing = kept(alloc, arena, sync.closing.as_str())?;
-    let own = own_of(alloc, arena, &sync.src)?;
-    Ok(Source {
+    let opening = kept(arena, sync.opening.as_str())?;
+    let closing = kept(arena, sync.closing.as_str())?;
+    let own = own_of(arena, &sync.src)?;
+    Ok(Read {
         ranges: Some(sync.dsr),
         opening,
         closing,
@@ -144,23 +131,27 @@ fn source_in<'a>(
 }
 
 fn source_for<'a>(
-    alloc: Global,
     arena: &'a Bump<Global>,
     sync: &Option<Sync>,
-) -> Result<Source<'a>, NoMemory>
+) -> Result<Read<'a>, NoMemory>
     ensures { IfOk result (λ s. source_view s ≡ source_told sync.now) }
 {
     match sync {
-        None => Ok(no_source(alloc)),
-        Some(sync) => source_in(alloc, arena, sync),
+        None => Ok(no_source()),
+        Some(sync) => source_in(arena, sync),
     }
 }
 
 /// The node with this source.
-fn sourced<'a>(head: Head, source: Source<'a>, children: List<Node<'a>>) -> Node<'a>
+fn sourced<'a>(
+    alloc: Global,
+    head: Head,
+    source: Read<'a>,
+    children: List<Node<'a>>,
+) -> Result<Node<'a>, NoMemory>
     ensures { view result ≡ tree (sourced_label head (source_view source.entry)) (views children.entry) }
 {
-    let Source {
+    let Read {
         ranges,
         opening,
         closing,
@@ -175,20 +166,19 @@ fn sourced<'a>(head: Head, source: Source<'a>, children: List<Node<'a>>) -> Node
         mw,
         sync: _,
     } = head;
-    Node {
+    let shown = if shown.as_str().is_empty() {
+        Shown::none()
+    } else {
+        Shown::made(shown)
+    };
+    Ok(Node {
         kind,
         id,
         ranges,
-        opening,
-        closing,
-        own,
-        shown,
-        attrs,
-        origin: None,
-        mark,
-        mw,
+        source: Source::of(alloc, opening, closing, own, shown)?,
+        more: More::of(alloc, attrs, mark, mw)?,
         children,
-    }
+    })
 }
 
 /// What an element of this kind holds, when the nodes that stand in it are these: in an item, a cell or
@@ -223,7 +213,7 @@ pub fn node_of<'a>(
 ) -> Result<Node<'a>, NoMemory>
     ensures { IfOk result (λ n. view n ≡ tree (label_of_head head) (held_in inside head.kind (views nodes.entry))) }
 {
-    let source = source_for(alloc, arena, &head.sync)?;
+    let source = source_for(arena, &head.sync)?;
     let children = children_in(alloc, inside, head.kind, nodes)?;
-    Ok(sourced(head, source, children))
+    sourced(alloc, head, source, children)
 }

@@ -92,7 +92,7 @@ fn push_mw_escaped(alloc: Global, out: &mut Vec<u8>, mw: &DataMw) -> Result<(), 
 }
 
 #[tactic(auto, unfolding(wt_markup::specs::Html::mw_attribute))]
-fn push_mw(alloc: Global, out: &mut Vec<u8>, mw: &Option<DataMw>) -> Result<(), NoMemory>
+fn push_mw(alloc: Global, out: &mut Vec<u8>, mw: Option<&DataMw>) -> Result<(), NoMemory>
     ensures { OnOk result (out.new.items ≡ out.old.items ++ mw_attribute mw.now) }
 {
     let Some(value) = mw else {
@@ -118,7 +118,7 @@ fn joined(alloc: Global, texts: &[Text<'_>]) -> Result<Str, NoMemory>
 fn sync_of_leaf(alloc: Global, node: &Node<'_>, dsr: Ranges) -> Result<Sync, NoMemory>
     ensures { IfOk result (λ s. s ≡ leaf_sync (label_of (out-Node node.now)) dsr) }
 {
-    let src = joined(alloc, node.own.as_slice())?;
+    let src = joined(alloc, node.own())?;
     Ok(Sync {
         dsr,
         opening: Str::new(alloc),
@@ -130,8 +130,8 @@ fn sync_of_leaf(alloc: Global, node: &Node<'_>, dsr: Ranges) -> Result<Sync, NoM
 fn sync_of_inner(alloc: Global, node: &Node<'_>, dsr: Ranges) -> Result<Sync, NoMemory>
     ensures { IfOk result (λ s. s ≡ inner_sync (label_of (out-Node node.now)) dsr) }
 {
-    let opening = joined(alloc, node.opening.as_slice())?;
-    let closing = joined(alloc, node.closing.as_slice())?;
+    let opening = joined(alloc, node.opening())?;
+    let closing = joined(alloc, node.closing())?;
     Ok(Sync {
         dsr,
         opening,
@@ -195,7 +195,7 @@ pub fn push_carried(alloc: Global, out: &mut Vec<u8>, node: &Node<'_>) -> Result
     ensures { OnOk result (out.new.items ≡ out.old.items ++ carried_attributes (label_of (out-Node node.now))) }
 {
     push_id(out, node.id)?;
-    push_mw(alloc, out, &node.mw)?;
+    push_mw(alloc, out, node.mw())?;
     push_sync(alloc, out, node)?;
     Ok(())
 }
@@ -206,7 +206,7 @@ pub fn push_attributes(alloc: Global, out: &mut Vec<u8>, node: &Node<'_>) -> Res
     ensures { OnOk result (out.new.items ≡ out.old.items ++ attributes_of (label_of (out-Node node.now))) }
 {
     push_fixed(out, node.kind)?;
-    push_own(out, node.attrs.as_slice())?;
+    push_own(out, node.attrs())?;
     push_carried(alloc, out, node)?;
     Ok(())
 }

@@ -148,7 +148,7 @@ fn push_group_element(
     ensures { OnOk result (out.new.items ≡ out.old.items ++ group_element first number (label_of (out-Node group.now)) (out-Node node.now).kind
         (fixed_attributes (out-Node node.now).kind ++ attrs_of (out-Node node.now).attrs) (shown_html_of_all (views (out-Node node.now).children))) }
 {
-    let attrs = node.attrs.as_slice();
+    let attrs = node.attrs();
     match node.kind.writing() {
         Writing::AsVoid => push_group_tag(
             alloc, out, first, number, group, node.kind, attrs, b"/>",
@@ -183,7 +183,7 @@ fn push_part(
                 progress,
                 number,
                 group,
-                node.shown.as_str().as_bytes(),
+                node.shown().as_bytes(),
             )
         }
         Showing::Inside => push_parts(

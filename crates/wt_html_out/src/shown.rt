@@ -23,7 +23,7 @@ fn push_tag(out: &mut Vec<u8>, node: &Node<'_>, end: &[u8]) -> Result<(), NoMemo
     push(out, b"<")?;
     push_name(out, node.kind)?;
     push_fixed(out, node.kind)?;
-    push_own(out, node.attrs.as_slice())?;
+    push_own(out, node.attrs())?;
     push(out, end)?;
     Ok(())
 }
@@ -51,7 +51,7 @@ fn push_shown(out: &mut Vec<u8>, node: &Node<'_>) -> Result<(), NoMemory>
     ensures { OnOk result (out.new.items ≡ out.old.items ++ shown_html (view node.now)) }
 {
     match node.kind.showing() {
-        Showing::Characters => push_escaped(out, node.shown.as_str().as_bytes()),
+        Showing::Characters => push_escaped(out, node.shown().as_bytes()),
         Showing::Inside => push_shown_all(out, node.children.as_slice()),
         Showing::Nothing => Ok(()),
         Showing::Element => push_element(out, node),

@@ -63,7 +63,7 @@ pub fn place_in(kind: Kind) -> Place {
 
 /// Whether a node is the page's with its number, as it was. Of a group nothing can have been changed.
 fn is_as_it_was(alloc: Global, old: &Node<'_>, node: &Node<'_>) -> Result<bool, NoMemory> {
-    if !same_kind(old.kind, node.kind) || !same_attrs(&old.attrs, &node.attrs) {
+    if !same_kind(old.kind, node.kind) || !same_attrs(old.attrs(), node.attrs()) {
         return Ok(false);
     }
     if matches!(node.kind, Kind::Group) {

@@ -16,7 +16,7 @@ struct PageText<'t> {
 fn page_text<'t>(text: Option<&'t Node<'_>>) -> Option<PageText<'t>> {
     let node = text?;
     let ranges = node.ranges?;
-    let bytes = node.shown.as_str().as_bytes();
+    let bytes = node.shown().as_bytes();
     if ranges.end.saturating_sub(ranges.start) as usize != bytes.len() {
         return None;
     }

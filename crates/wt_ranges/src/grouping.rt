@@ -34,7 +34,7 @@ use wt_tree::Node;
 #[derive(Drop)]
 struct Opened<'a> {
     frame: Frame<'a>,
-    head: NodeHead,
+    head: NodeHead<'a>,
     runs: List<Run<'a>>,
 }
 

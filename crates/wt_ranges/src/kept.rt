@@ -60,7 +60,7 @@ pub fn kept_leaf<'a>(
     let width = page_width(calls, before, held.as_slice());
     let own = page_texts(alloc, calls, before, held.as_slice())?;
     let ranges = leaf_ranges(head.kind, byte, width);
-    let sources = leaf_sources(alloc, own);
+    let sources = leaf_sources(own);
     Ok(unnumbered_node(head, Some(ranges), sources, List::new(alloc)))
 }
 
@@ -91,11 +91,7 @@ fn inner_sources<'a>(
 {
     let opening = page_texts(alloc, calls, child.before, child.tree.opening.as_slice())?;
     let closing = page_texts(alloc, calls, filled, child.tree.closing.as_slice())?;
-    Ok(Sources {
-        opening,
-        closing,
-        own: List::new(alloc),
-    })
+    Ok(Sources::Round(opening, closing))
 }
 
 /// What a node round its children takes from the page.
@@ -120,7 +116,7 @@ pub fn inner_frame<'a>(
 }
 
 /// The node round these children, in its frame.
-pub fn kept_inner<'a>(frame: Frame<'a>, head: NodeHead, children: List<Node<'a>>) -> Node<'a>
+pub fn kept_inner<'a>(frame: Frame<'a>, head: NodeHead<'a>, children: List<Node<'a>>) -> Node<'a>
     ensures { view result ≡ tree (node_label (head_of head) (Some frame.entry.ranges) (texts_of frame.entry.sources.opening)
         (texts_of frame.entry.sources.closing) (texts_of frame.entry.sources.own)) (views children.entry) }
 {

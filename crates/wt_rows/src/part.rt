@@ -18,7 +18,7 @@ use crate::row::{RowAt, between};
 use crate::stretch::{StretchAt, before, opened_by, with_separators, with_stretches};
 use std::alloc::Global;
 use wt_inline::{Children, NodeHead, PieceTree};
-use wt_span::{List, NoMemory, Piece, Str, front_of, rest_of};
+use wt_span::{List, NoMemory, Piece, front_of, rest_of};
 use wt_tree::{Attr, Kind};
 
 /// A row of a table with the lines that open it, and its cells.
@@ -39,12 +39,7 @@ pub fn opened_row<'a>(
     let first = rows[0];
     let attrs = row_attrs(alloc, between(pieces, first.from, first.to))?;
     let own = Vec::from_slice(alloc, between(pieces, delimiter.from, delimiter.to))?;
-    let head = NodeHead {
-        kind: Kind::Tr,
-        shown: Str::new(alloc),
-        attrs,
-        mw: None,
-    };
+    let head = NodeHead::with_attrs(alloc, Kind::Tr, attrs)?;
     let opening = List::from_vec(own);
     let node = opened_by(alloc, head, opening, Children::new(alloc), pieces, after)?;
     let lead = StretchAt::Gap {
@@ -57,7 +52,7 @@ pub fn opened_row<'a>(
 /// The node of a table.
 fn table_node<'a>(
     alloc: Global,
-    attrs: List<Attr>,
+    head: NodeHead<'a>,
     opening: List<Piece<'a>>,
     children: List<PieceTree<'a>>,
     closing: List<Piece<'a>>,
@@ -66,12 +61,7 @@ fn table_node<'a>(
         (items closing.entry) }
 {
     PieceTree {
-        head: NodeHead {
-            kind: Kind::Table,
-            shown: Str::new(alloc),
-            attrs,
-            mw: None,
-        },
+        head,
         opening,
         children,
         closing,
@@ -93,7 +83,7 @@ fn table_tree<'a>(
     let last = Vec::from_slice(alloc, closing)?;
     let tree = table_node(
         alloc,
-        attrs,
+        NodeHead::with_attrs(alloc, Kind::Table, attrs)?,
         List::from_vec(first),
         children,
         List::from_vec(last),

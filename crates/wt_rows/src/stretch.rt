@@ -135,7 +135,7 @@ fn joined<'a>(
 /// A node with an open delimiter and an empty close delimiter.
 fn ended_by_last<'a>(
     alloc: Global,
-    head: NodeHead,
+    head: NodeHead<'a>,
     opening: List<Piece<'a>>,
     children: List<PieceTree<'a>>,
 ) -> PieceTree<'a>
@@ -152,7 +152,7 @@ fn ended_by_last<'a>(
 /// A node with an open delimiter that holds these children and then these stretches.
 fn node_round<'a>(
     alloc: Global,
-    head: NodeHead,
+    head: NodeHead<'a>,
     opening: List<Piece<'a>>,
     children: Children<'a>,
     pieces: &[Piece<'a>],
@@ -172,7 +172,7 @@ fn node_round<'a>(
 /// node; gaps at the end lie outside.
 pub fn opened_by<'a>(
     alloc: Global,
-    head: NodeHead,
+    head: NodeHead<'a>,
     opening: List<Piece<'a>>,
     children: Children<'a>,
     pieces: &[Piece<'a>],
@@ -190,7 +190,7 @@ pub fn opened_by<'a>(
 /// A node without delimiters round these stretches; gaps at both ends lie outside.
 pub fn enclosed<'a>(
     alloc: Global,
-    head: NodeHead,
+    head: NodeHead<'a>,
     pieces: &[Piece<'a>],
     stretches: List<StretchAt<'a>>,
 ) -> Result<List<StretchAt<'a>>, NoMemory>
@@ -228,7 +228,7 @@ pub fn before<'a>(
 /// stretches up to the last node.
 pub fn opened_line<'a>(
     alloc: Global,
-    head: NodeHead,
+    head: NodeHead<'a>,
     opening: List<Piece<'a>>,
     line: &[Piece<'a>],
     pieces: &[Piece<'a>],

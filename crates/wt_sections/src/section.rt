@@ -6,8 +6,8 @@ ghost use Rattle.wt_sections.specs.Gathering.{section_of, span_of};
 ghost use Rattle.wt_sections.specs.Sections.{last_ranges, spanned};
 
 use std::alloc::Global;
-use wt_span::{List, Str};
-use wt_tree::{Kind, Mark, Node, Ranges};
+use wt_span::List;
+use wt_tree::{Kind, More, Node, Ranges, Source};
 
 fn joined(first: Option<Ranges>, last: Option<Ranges>) -> Option<Ranges>
     ensures { result ≡ spanned first last }
@@ -53,14 +53,8 @@ pub fn section_of<'a>(alloc: Global, number: u32, nodes: Vec<Node<'a>>) -> Node<
         kind: Kind::Section(number),
         id: 0,
         ranges,
-        opening: List::new(alloc),
-        closing: List::new(alloc),
-        own: List::new(alloc),
-        shown: Str::new(alloc),
-        attrs: List::new(alloc),
-        origin: None,
-        mark: Mark::Nothing,
-        mw: None,
+        source: Source::none(),
+        more: More::none(),
         children: List::from_vec(nodes),
     }
 }

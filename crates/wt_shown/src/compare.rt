@@ -20,10 +20,10 @@ fn same_face(a: &Node<'_>, b: &Node<'_>) -> bool
     if !same_kind(a.kind, b.kind) {
         return false;
     }
-    if !same_attrs(&a.attrs, &b.attrs) {
+    if !same_attrs(a.attrs(), b.attrs()) {
         return false;
     }
-    same_data(&a.mw, &b.mw)
+    same_data(a.mw(), b.mw())
 }
 
 fn same_text(a: &[u8], b: &[u8]) -> bool

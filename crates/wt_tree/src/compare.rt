@@ -9,7 +9,7 @@ ghost use Rattle.wt_tree.specs.declared.node.Node.{out-Node};
 use crate::kind::{Kind, Showing};
 use crate::node::{Attr, DataMw, Node};
 use std::alloc::Global;
-use wt_span::{List, NoMemory};
+use wt_span::NoMemory;
 
 /// Where an element opens or closes, by the number of characters (bytes) shown before.
 #[derive(Drop)]
@@ -53,7 +53,7 @@ fn show<'t, 'a>(shown: &mut Shown<'t, 'a>, node: &'t Node<'a>) -> Result<(), NoM
     ensures { OnOk result (Adds shown.old shown.new (signs (view node.now))) }
 {
     match node.kind.showing() {
-        Showing::Characters => push_text(shown, node.shown.as_str()),
+        Showing::Characters => push_text(shown, node.shown()),
         Showing::Inside => show_all(shown, node.children.as_slice()),
         Showing::Nothing => Ok(()),
         Showing::Element => {
@@ -94,14 +94,14 @@ pub fn same_kind(a: Kind, b: Kind) -> bool
 }
 
 /// Whether two nodes have the same attributes in the same order, each with its name and its value.
-pub fn same_attrs(a: &List<Attr>, b: &List<Attr>) -> bool
+pub fn same_attrs(a: &[Attr], b: &[Attr]) -> bool
     ensures { Decides result (a.now ≡ b.now) }
 {
     a == b
 }
 
 /// Whether what an extension has in `data-mw` is the same value.
-pub fn same_data(a: &Option<DataMw>, b: &Option<DataMw>) -> bool
+pub fn same_data(a: Option<&DataMw>, b: Option<&DataMw>) -> bool
     ensures { Decides result (a.now ≡ b.now) }
 {
     a == b
@@ -113,10 +113,10 @@ fn same_face(a: &Node<'_>, b: &Node<'_>) -> bool
     if !same_kind(a.kind, b.kind) {
         return false;
     }
-    if !same_attrs(&a.attrs, &b.attrs) {
+    if !same_attrs(a.attrs(), b.attrs()) {
         return false;
     }
-    same_data(&a.mw, &b.mw)
+    same_data(a.mw(), b.mw())
 }
 
 fn same_bracket(a: &Bracket<'_, '_>, b: &Bracket<'_, '_>) -> bool

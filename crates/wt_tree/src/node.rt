@@ -1,5 +1,8 @@
 use crate::kind::{AttrName, Kind, Mark, Ranges};
-use wt_span::{List, Origin, Str, Text};
+use crate::more::More;
+use crate::slices::{Shown, Slices, Source};
+use std::alloc::Global;
+use wt_span::{List, Str, Text};
 
 /// An attribute of an element, with its value as characters (not escaped).
 #[derive(Debug, Drop, PartialEq)]
@@ -42,23 +45,70 @@ pub enum DataMw {
 
 /// A node of a page's tree, or of an edited one.
 ///
-/// `id` is its number, 0 where it has none. `opening` and `closing` are its delimiters as slices of
-/// the page, and `own` the source of a leaf. `shown` has the characters of a text or an entity.
-/// `attrs` holds the attributes that its kind alone does not tell, in the order of `AttrName`,
-/// without `about`, `id`, `data-mw` and `data-parsoid`, which have fields of their own here.
-/// `origin` tells where a leaf's items come from, where the layer that made it keeps this.
+/// `id` is its number, 0 where it has none. What it has of its source, and what few nodes have, is
+/// read by the methods.
 #[derive(Drop)]
 pub struct Node<'a> {
     pub kind: Kind,
     pub id: u32,
     pub ranges: Option<Ranges>,
-    pub opening: List<Text<'a>>,
-    pub closing: List<Text<'a>>,
-    pub own: List<Text<'a>>,
-    pub shown: Str,
-    pub attrs: List<Attr>,
-    pub origin: Option<Origin>,
-    pub mark: Mark,
-    pub mw: Option<DataMw>,
+    pub source: Source<'a>,
+    pub more: More,
     pub children: List<Node<'a>>,
+}
+
+impl<'a> Node<'a> {
+    /// A leaf without a number that has a source and nothing else.
+    pub fn leaf(
+        alloc: Global,
+        kind: Kind,
+        ranges: Option<Ranges>,
+        own: Slices<'a>,
+        shown: Shown<'a>,
+    ) -> Node<'a> {
+        Node {
+            kind,
+            id: 0,
+            ranges,
+            source: Source::leaf(own, shown),
+            more: More::none(),
+            children: List::new(alloc),
+        }
+    }
+
+    /// The opening delimiter, as slices of the page.
+    pub fn opening(&self) -> &[Text<'a>] {
+        self.source.opening()
+    }
+
+    /// The closing delimiter, as slices of the page.
+    pub fn closing(&self) -> &[Text<'a>] {
+        self.source.closing()
+    }
+
+    /// The source of a leaf.
+    pub fn own(&self) -> &[Text<'a>] {
+        self.source.own()
+    }
+
+    /// The characters of a text or an entity.
+    pub fn shown(&self) -> &str {
+        self.source.shown()
+    }
+
+    /// The attributes that its kind alone does not tell, in the order of `AttrName`, without
+    /// `about`, `id`, `data-mw` and `data-parsoid`.
+    pub fn attrs(&self) -> &[Attr] {
+        self.more.attrs()
+    }
+
+    /// What an editor said of it.
+    pub fn mark(&self) -> Mark {
+        self.more.mark()
+    }
+
+    /// What `data-mw` holds.
+    pub fn mw(&self) -> Option<&DataMw> {
+        self.more.mw()
+    }
 }
