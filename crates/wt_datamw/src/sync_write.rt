@@ -1,6 +1,6 @@
 //! The text of `data-parsoid`, written piece by piece.
 
-ghost use Rattle.std.specs.Prelude.{◌≡◌, ◌++◌, OnOk, option_map};
+ghost use Rattle.std.specs.Prelude.{◌≡◌, ◌++◌, option_copied, OnOk};
 ghost use Rattle.wt_datamw.specs.Sync.{sync_text};
 ghost use Rattle.wt_datamw.specs.SyncPieces.{closing_text, next_text, dsr_text, opening_text, source_text, sync_pieces};
 ghost use Rattle.wt_datamw.specs.SyncTexts.{told_by};
@@ -64,7 +64,7 @@ fn push_opening(out: &mut Vec<u8>, text: &str) -> Result<(), NoMemory>
 
 #[tactic(auto, unfolding(json::specs::Print::escape_byte))]
 fn push_source(out: &mut Vec<u8>, source: Option<&str>) -> Result<(), NoMemory>
-    ensures { OnOk result (out.new.items ≡ out.old.items ++ source_text (option_map (λ v. v.now) source.entry)) }
+    ensures { OnOk result (out.new.items ≡ out.old.items ++ source_text (option_copied source.entry)) }
 {
     match source {
         None => Ok(()),
