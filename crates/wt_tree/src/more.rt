@@ -71,8 +71,11 @@ impl More {
         match self.fields {
             None => More::of(alloc, List::new(alloc), mark, None),
             Some(fields) => {
-                let Fields { attrs, mw, .. } = Box::into_inner(fields);
-                More::of(alloc, attrs, mark, mw)
+                let mut fields = fields;
+                fields.mark = mark;
+                Ok(More {
+                    fields: Some(fields),
+                })
             }
         }
     }
