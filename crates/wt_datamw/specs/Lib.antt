@@ -6,3 +6,4 @@ pub mod MwValues
 pub mod Sync
 pub mod SyncPieces
 pub mod SyncRead
+pub mod SyncTexts

@@ -97,7 +97,7 @@ pub fn read_as_written(alloc: Global, text: &str) -> Result<Option<Sync>, NoMemo
     };
     let _places = places_of(&sync);
     let mut again = Vec::with_capacity(alloc, text.len())?;
-    push_sync_text(&mut again, &sync)?;
+    push_sync_text(&mut again, sync.texts())?;
     if again.as_slice() != text.as_bytes() {
         return Ok(None);
     }

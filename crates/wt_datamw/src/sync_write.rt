@@ -1,13 +1,14 @@
 //! The text of `data-parsoid`, written piece by piece.
 
-ghost use Rattle.std.specs.Prelude.{◌≡◌, ◌++◌, OnOk};
+ghost use Rattle.std.specs.Prelude.{◌≡◌, ◌++◌, option_copied, OnOk};
 ghost use Rattle.wt_datamw.specs.Sync.{sync_text};
 ghost use Rattle.wt_datamw.specs.SyncPieces.{closing_text, next_text, dsr_text, opening_text, source_text, sync_pieces};
+ghost use Rattle.wt_datamw.specs.SyncTexts.{told_by};
 
 use crate::json_text::push_quoted;
-use crate::sync::Sync;
+use crate::sync::SyncTexts;
 use wt_outer::{push, push_number};
-use wt_span::{NoMemory, Str};
+use wt_span::NoMemory;
 use wt_tree::Ranges;
 
 #[tactic(auto, unfolding(json::specs::Print::escape_byte))]
@@ -62,27 +63,27 @@ fn push_opening(out: &mut Vec<u8>, text: &str) -> Result<(), NoMemory>
 }
 
 #[tactic(auto, unfolding(json::specs::Print::escape_byte))]
-fn push_source(out: &mut Vec<u8>, source: &Option<Str>) -> Result<(), NoMemory>
-    ensures { OnOk result (out.new.items ≡ out.old.items ++ source_text source.now) }
+fn push_source(out: &mut Vec<u8>, source: Option<&str>) -> Result<(), NoMemory>
+    ensures { OnOk result (out.new.items ≡ out.old.items ++ source_text (option_copied source.entry)) }
 {
     match source {
         None => Ok(()),
         Some(text) => {
             push(out, b",\"src\":")?;
-            push_quoted(out, text.as_str().as_bytes())?;
+            push_quoted(out, text.as_bytes())?;
             Ok(())
         }
     }
 }
 
-fn push_pieces(out: &mut Vec<u8>, sync: &Sync) -> Result<(), NoMemory>
-    ensures { OnOk result (out.new.items ≡ out.old.items ++ sync_pieces sync.now) }
+fn push_pieces(out: &mut Vec<u8>, texts: SyncTexts<'_>) -> Result<(), NoMemory>
+    ensures { OnOk result (out.new.items ≡ out.old.items ++ sync_pieces (told_by texts.entry)) }
 {
     push(out, b"{")?;
-    push_closing(out, sync.closing.as_str())?;
-    push_dsr(out, sync.dsr)?;
-    push_opening(out, sync.opening.as_str())?;
-    push_source(out, &sync.src)?;
+    push_closing(out, texts.closing)?;
+    push_dsr(out, texts.dsr)?;
+    push_opening(out, texts.opening)?;
+    push_source(out, texts.src)?;
     push(out, b"}")?;
     Ok(())
 }
@@ -90,8 +91,8 @@ fn push_pieces(out: &mut Vec<u8>, sync: &Sync) -> Result<(), NoMemory>
 /// Appends the text of `data-parsoid`, as compact JSON with its keys in byte order. (It is not
 /// escaped for the attribute.)
 #[tactic(auto, using(crate::proofs::SyncPieces::sync_text_pieces))]
-pub fn push_sync_text(out: &mut Vec<u8>, sync: &Sync) -> Result<(), NoMemory>
-    ensures { OnOk result (out.new.items ≡ out.old.items ++ sync_text sync.now) }
+pub fn push_sync_text(out: &mut Vec<u8>, texts: SyncTexts<'_>) -> Result<(), NoMemory>
+    ensures { OnOk result (out.new.items ≡ out.old.items ++ sync_text (told_by texts.entry)) }
 {
-    push_pieces(out, sync)
+    push_pieces(out, texts)
 }
