@@ -6,4 +6,3 @@ pub mod MwValues
 pub mod Sync
 pub mod SyncPieces
 pub mod SyncRead
-pub mod SyncTexts

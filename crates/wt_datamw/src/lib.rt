@@ -20,6 +20,6 @@ pub use mw::to_text;
 pub use mw_read::read;
 pub use mw_write::push_mw_text;
 pub use refusal::{DataRefusal, DataWhy};
-pub use sync::{Sync, SyncTexts, sync_to_text};
+pub use sync::{Sync, sync_to_text};
 pub use sync_read::read_sync;
 pub use sync_write::push_sync_text;

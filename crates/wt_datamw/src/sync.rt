@@ -1,9 +1,8 @@
 ghost use Rattle.std.specs.Prelude.{◌≡◌, ◌<◌, ◌^◌, IfOk, Ok};
 ghost use Rattle.wt_datamw.specs.Sync.{sync_text};
 ghost use Rattle.wt_datamw.specs.SyncRead.{IsSmall, sync_told};
-ghost use Rattle.wt_datamw.specs.SyncTexts.{told_by};
 
-use crate::sync_write::push_sync_text;
+use crate::sync_write::push_sync;
 use crate::texts::{check_text, check_text_if_any, text_of};
 use std::alloc::Global;
 use wt_span::{NoMemory, Str};
@@ -17,32 +16,6 @@ pub struct Sync {
     pub opening: Str,
     pub closing: Str,
     pub src: Option<Str>,
-}
-
-/// The same by texts that stand elsewhere, as in the page.
-#[derive(Clone, Copy)]
-pub struct SyncTexts<'t> {
-    pub dsr: Ranges,
-    pub opening: &'t str,
-    pub closing: &'t str,
-    pub src: Option<&'t str>,
-}
-
-impl Sync {
-    /// The same by its own texts.
-    pub fn texts(&self) -> SyncTexts<'_>
-        ensures { told_by result ≡ self.now }
-    {
-        SyncTexts {
-            dsr: self.dsr,
-            opening: self.opening.as_str(),
-            closing: self.closing.as_str(),
-            src: match &self.src {
-                None => None,
-                Some(text) => Some(text.as_str()),
-            },
-        }
-    }
 }
 
 /// A place, which is below 2^32 as every `u32` is.
@@ -78,6 +51,6 @@ pub fn sync_to_text(alloc: Global, s: &Sync) -> Result<Str, NoMemory>
     check_text(&s.closing);
     check_text_if_any(&s.src);
     let mut bytes = Vec::new(alloc);
-    push_sync_text(&mut bytes, s.texts())?;
+    push_sync(&mut bytes, s)?;
     Ok(text_of(bytes))
 }

@@ -3,10 +3,9 @@
 ghost use Rattle.std.specs.Prelude.{◌≡◌, ◌++◌, option_copied, OnOk};
 ghost use Rattle.wt_datamw.specs.Sync.{sync_text};
 ghost use Rattle.wt_datamw.specs.SyncPieces.{closing_text, next_text, dsr_text, opening_text, source_text, sync_pieces};
-ghost use Rattle.wt_datamw.specs.SyncTexts.{told_by};
 
 use crate::json_text::push_quoted;
-use crate::sync::SyncTexts;
+use crate::sync::Sync;
 use wt_outer::{push, push_number};
 use wt_span::NoMemory;
 use wt_tree::Ranges;
@@ -76,23 +75,59 @@ fn push_source(out: &mut Vec<u8>, source: Option<&str>) -> Result<(), NoMemory>
     }
 }
 
-fn push_pieces(out: &mut Vec<u8>, texts: SyncTexts<'_>) -> Result<(), NoMemory>
-    ensures { OnOk result (out.new.items ≡ out.old.items ++ sync_pieces (told_by texts.entry)) }
+fn push_pieces(
+    out: &mut Vec<u8>,
+    dsr: Ranges,
+    opening: &str,
+    closing: &str,
+    src: Option<&str>,
+) -> Result<(), NoMemory>
+    ensures { OnOk result (out.new.items ≡ out.old.items
+        ++ sync_pieces (record { dsr = dsr; opening = opening.now; closing = closing.now; src = option_copied src.entry })) }
 {
     push(out, b"{")?;
-    push_closing(out, texts.closing)?;
-    push_dsr(out, texts.dsr)?;
-    push_opening(out, texts.opening)?;
-    push_source(out, texts.src)?;
+    push_closing(out, closing)?;
+    push_dsr(out, dsr)?;
+    push_opening(out, opening)?;
+    push_source(out, src)?;
     push(out, b"}")?;
     Ok(())
 }
 
-/// Appends the text of `data-parsoid`, as compact JSON with its keys in byte order. (It is not
-/// escaped for the attribute.)
+/// Appends the text of `data-parsoid` that says these places, delimiters and this source, as compact
+/// JSON with its keys in byte order. (It is not escaped for the attribute.)
 #[tactic(auto, using(crate::proofs::SyncPieces::sync_text_pieces))]
-pub fn push_sync_text(out: &mut Vec<u8>, texts: SyncTexts<'_>) -> Result<(), NoMemory>
-    ensures { OnOk result (out.new.items ≡ out.old.items ++ sync_text (told_by texts.entry)) }
+pub fn push_sync_text(
+    out: &mut Vec<u8>,
+    dsr: Ranges,
+    opening: &str,
+    closing: &str,
+    src: Option<&str>,
+) -> Result<(), NoMemory>
+    ensures { OnOk result (out.new.items ≡ out.old.items
+        ++ sync_text (record { dsr = dsr; opening = opening.now; closing = closing.now; src = option_copied src.entry })) }
 {
-    push_pieces(out, texts)
+    push_pieces(out, dsr, opening, closing, src)
+}
+
+fn source_in(sync: &Sync) -> Option<&str>
+    ensures { option_copied result ≡ sync.now.src }
+{
+    match &sync.src {
+        None => None,
+        Some(text) => Some(text.as_str()),
+    }
+}
+
+/// The same of what holds its texts itself.
+pub fn push_sync(out: &mut Vec<u8>, sync: &Sync) -> Result<(), NoMemory>
+    ensures { OnOk result (out.new.items ≡ out.old.items ++ sync_text sync.now) }
+{
+    push_sync_text(
+        out,
+        sync.dsr,
+        sync.opening.as_str(),
+        sync.closing.as_str(),
+        source_in(sync),
+    )
 }
