@@ -4,20 +4,26 @@ use Rattle.std.specs.Prelude.{◌||◌}
 use Rattle.std.specs.List.{flat_map}
 use Rattle.std.specs.Bool.{Decides}
 use Rattle.wt_tree.specs.declared.node.Node.{Node, out-Node}
-use Rattle.wt_tree.specs.Plain.{plain}
+use Rattle.wt_tree.specs.Plain.{Face, plain}
 use Rattle.wt_tree.specs.declared.kind.Kind.{Kind}
 use Rattle.wt_tree.specs.Tiling.{is_group}
 use Rattle.wt_tree.specs.Tree.{Tree, label}
 use Rattle.wt_tree.proofs.Views.{view_out}
 use Rattle.wt_tree.specs.Stream.{Sign, signs, signs_of_all}
 use Rattle.wt_tree.specs.View.{view, views}
+use Rattle.wt_tree.proofs.Adding.{attrs_one}
 use Rattle.wt_tree.proofs.Streams.{same_plain, same_signs}
+use Rattle.wt_kept.specs.declared.same.Face.{Face as Pointed}
 use Rattle.wt_kept.specs.Kept.{Kept}
 use Rattle.wt_kept.specs.Page.{Page, TellsSame, restored, restored_all, is_unchanged}
+use Rattle.wt_kept.specs.PageViews.{face_of}
 
 pub restored_views : (ks : List Kept) (ns : List Node) → signs_of_all (restored_all ks (views ns)) ≡ flat_map (λ n. signs (restored ks (view n))) ns
 restored_views ks [] = refl
 restored_views ks (n ∷ ns) = ap (λ s. signs (restored ks (view n)) ++ s) (restored_views ks ns)
+
+pub face_attrs : (a b : Pointed) → face_of a ≡ face_of b → a.attrs.now ≡ b.attrs.now
+face_attrs a b e = attrs_one a.attrs.now b.attrs.now (ap (λ (f : Face). f.attrs) e)
 
 -- ---- unchanged nodes
 

@@ -1,11 +1,11 @@
 -- What the code's page and its comparison of plain views stand for.
-use Rattle.std.specs.Prelude.{◌≡◌, ℕ, Bool, List, map, string_bytes}
+use Rattle.std.specs.Prelude.{◌≡◌, ℕ, Bool, List, map, option_copied, string_bytes}
 use Rattle.wt_tree.specs.Tree.{Tree}
-use Rattle.wt_tree.specs.View.{label_of}
-use Rattle.wt_tree.specs.declared.node.Node.{out-Node}
-use Rattle.wt_tree.specs.Plain.{face}
+use Rattle.wt_tree.specs.View.{attrs_of}
+use Rattle.wt_tree.specs.Plain.{Face}
 use Rattle.wt_tree.specs.Stream.{Sign as Mark, byte, bracket, opens, closes}
 use Rattle.wt_kept.specs.declared.page.Page.{Page as Known}
+use Rattle.wt_kept.specs.declared.same.Face.{Face as Pointed}
 use Rattle.wt_kept.specs.declared.same.Shown.{Shown}
 use Rattle.wt_kept.specs.declared.same.Shown.TheVariants as read
 use Rattle.wt_kept.specs.Kept.{Kept}
@@ -25,9 +25,12 @@ pub record IsPageOf (kept : List Kept) (source : List ℕ) (p : Known) : Type 0 
 
 -- ---- the comparison of plain views, read from left to right
 
+abbrev pub face_of : Pointed → Face
+face_of f = record { kind = f.kind; attrs = attrs_of f.attrs.now; mw = option_copied f.mw }
+
 abbrev pub mark_of : Shown → Mark
 mark_of (read.Byte b) = byte b
-mark_of (read.Open n) = bracket (opens (face (label_of (out-Node n.now))))
+mark_of (read.Open f) = bracket (opens (face_of f))
 mark_of read.Close = bracket closes
 
 abbrev pub marks_of : List Shown → List Mark

@@ -11,20 +11,38 @@ ghost use Rattle.wt_tree.specs.View.{view, views, label_of};
 ghost use Rattle.wt_tree.specs.declared.node.Node.{out-Node};
 ghost use Rattle.wt_kept.specs.Gathered.{kept_view};
 ghost use Rattle.wt_kept.specs.Page.{TellsSame, node_or, restored, restored_all, is_unchanged};
-ghost use Rattle.wt_kept.specs.PageViews.{kept_in, page_view, mark_of, marks_of};
+ghost use Rattle.wt_kept.specs.PageViews.{kept_in, page_view, face_of, mark_of, marks_of};
 
 use crate::kept::Kept;
 use crate::page::Page;
 use std::alloc::{AllocError, Global};
-use wt_tree::{Kind, Node, Showing, same_face, same_kind};
+use wt_tree::{Attr, DataMw, Kind, Node, Showing, same_attrs, same_data, same_kind};
+
+/// An element's kind with its attributes, and what an extension has beside.
+#[derive(Clone, Copy)]
+pub struct Face<'n> {
+    pub kind: Kind,
+    pub attrs: &'n [Attr],
+    pub mw: Option<&'n DataMw>,
+}
 
 /// A plain view as it is read from left to right: a byte of its characters, and where an element
 /// opens or closes.
 #[derive(Clone, Copy)]
 pub enum Shown<'n> {
     Byte(u8),
-    Open(&'n Node<'n>),
+    Open(Face<'n>),
     Close,
+}
+
+fn face_in<'n>(node: &'n Node<'_>) -> Face<'n>
+    ensures { face_of result ≡ face (label_of (out-Node node.now)) }
+{
+    Face {
+        kind: node.kind,
+        attrs: node.attrs(),
+        mw: node.mw(),
+    }
 }
 
 fn push_bytes(out: &mut Vec<Shown<'_>>, bytes: &[u8]) -> Result<(), AllocError>
@@ -39,7 +57,8 @@ fn push_bytes(out: &mut Vec<Shown<'_>>, bytes: &[u8]) -> Result<(), AllocError>
 fn open<'n>(out: &mut Vec<Shown<'n>>, node: &'n Node<'_>) -> Result<(), AllocError>
     ensures { OnOk result (marks_of out.new.items ≡ marks_of out.old.items ++ bracket (opens (face (label_of (out-Node node.now)))) ∷ []) }
 {
-    out.push(Shown::Open(node))?;
+    let face = face_in(node);
+    out.push(Shown::Open(face))?;
     Ok(())
 }
 
@@ -157,6 +176,18 @@ fn show_all_restored<'n>(
 }
 
 // ---- two plain views
+
+fn same_face(a: Face<'_>, b: Face<'_>) -> bool
+    ensures { Decides result (face_of a.entry ≡ face_of b.entry) }
+{
+    if !same_kind(a.kind, b.kind) {
+        return false;
+    }
+    if !same_attrs(a.attrs, b.attrs) {
+        return false;
+    }
+    same_data(a.mw, b.mw)
+}
 
 fn same_byte(a: u8, b: u8) -> bool
     ensures { Decides result (a ≡ b) }
