@@ -2,7 +2,8 @@ ghost use Rattle.std.specs.Prelude.{◌≡◌, true, Some, None, option_map, IfO
 ghost use Rattle.std.specs.Str.{is_utf8};
 ghost use Rattle.wt_tree.specs.Tree.{tree, none as no_trees};
 ghost use Rattle.wt_tree.specs.View.{view, views, texts_of};
-ghost use Rattle.wt_tree.specs.Recut.{leaf_label, text_leaf, sep_leaf};
+ghost use Rattle.wt_tree.specs.Recut.{text_leaf, sep_leaf};
+ghost use Rattle.wt_span.specs.Slice.{bytes_of};
 ghost use Rattle.wt_fitting.specs.Fit.{leaf_in, source_of};
 ghost use Rattle.wt_html_heads.specs.Heads.{label_of_head};
 ghost use Rattle.wt_html_in.specs.Fits.{held_in};
@@ -15,46 +16,44 @@ use wt_html_heads::{Head, holds_text, shows_text, text_of};
 use wt_span::{List, NoMemory, Str, Text};
 use wt_tree::{Kind, More, Node, Ranges, Shown, Slices, Source, Texts, recut_texts};
 
-/// A text in the arena; nothing where it is empty. One of 2^32 - 1 bytes or more is answered as want
-/// of memory.
+/// A text in the arena. One of 2^32 - 1 bytes or more is answered as want of memory.
+fn stored<'a>(arena: &'a Bump<Global>, text: &str) -> Result<Text<'a>, NoMemory>
+    ensures { IfOk result (λ t. bytes_of t ≡ text.now) }
+{
+    let text = arena.try_alloc_str(text)?;
+    if 4294967295 <= text.len() {
+        return Err(NoMemory);
+    }
+    Ok(Text::new(text, 0))
+}
+
+/// A text in the arena; nothing where it is empty.
 fn kept<'a>(arena: &'a Bump<Global>, text: &str) -> Result<Slices<'a>, NoMemory>
     ensures { IfOk result (λ l. texts_of l ≡ text.now) }
 {
     match text.as_bytes() {
         [] => Ok(Slices::none()),
         [_, ..] => {
-            let text = arena.try_alloc_str(text)?;
-            if 4294967295 <= text.len() {
-                return Err(NoMemory);
-            }
-            Ok(Slices::one(Text::new(text, 0)))
+            let text = stored(arena, text)?;
+            Ok(Slices::one(text))
         }
     }
-}
-
-/// A leaf without number, ranges and delimiters.
-fn leaf<'a>(alloc: Global, kind: Kind, own: Slices<'a>, shown: Shown<'a>) -> Node<'a>
-    ensures { view result ≡ tree (leaf_label kind None (texts_of own.entry) shown) no_trees }
-{
-    Node::leaf(alloc, kind, None, own, shown)
 }
 
 fn text_leaf<'a>(alloc: Global, arena: &'a Bump<Global>, text: &str) -> Result<Node<'a>, NoMemory>
     ensures { IfOk result (λ n. view n ≡ text_leaf None text.now) }
 {
-    let own = kept(arena, text)?;
-    let shown = match own.as_slice() {
-        [text] => Shown::written(text.as_str()),
-        _ => Shown::none(),
-    };
-    Ok(leaf(alloc, Kind::Text, own, shown))
+    let text = stored(arena, text)?;
+    let own = Slices::one(text);
+    let shown = Shown::written(text.as_str());
+    Ok(Node::leaf(alloc, Kind::Text, None, own, shown))
 }
 
 fn sep_leaf<'a>(alloc: Global, arena: &'a Bump<Global>, text: &str) -> Result<Node<'a>, NoMemory>
     ensures { IfOk result (λ n. view n ≡ sep_leaf None text.now) }
 {
     let own = kept(arena, text)?;
-    Ok(leaf(alloc, Kind::Sep, own, Shown::none()))
+    Ok(Node::leaf(alloc, Kind::Sep, None, own, Shown::none()))
 }
 
 /// What a text is that stands directly in an element of the kind `outer`: no node where it is the
@@ -83,17 +82,17 @@ pub fn leaf_in<'a>(
 
 /// What `data-parsoid` says of a node, with its texts in the arena.
 #[derive(Drop)]
-struct Read<'a> {
+struct ReadSource<'a> {
     ranges: Option<Ranges>,
     opening: Slices<'a>,
     closing: Slices<'a>,
     own: Slices<'a>,
 }
 
-fn no_source<'a>() -> Read<'a>
+fn no_source<'a>() -> ReadSource<'a>
     ensures { source_view result ≡ source_told None }
 {
-    Read {
+    ReadSource {
         ranges: None,
         opening: Slices::none(),
         closing: Slices::none(),
@@ -101,10 +100,7 @@ fn no_source<'a>() -> Read<'a>
     }
 }
 
-fn own_of<'a>(
-    arena: &'a Bump<Global>,
-    src: &Option<Str>,
-) -> Result<Slices<'a>, NoMemory>
+fn own_of<'a>(arena: &'a Bump<Global>, src: &Option<Str>) -> Result<Slices<'a>, NoMemory>
     ensures { IfOk result (λ l. texts_of l ≡ source_of src.now) }
 {
     match src {
@@ -113,16 +109,13 @@ fn own_of<'a>(
     }
 }
 
-fn source_in<'a>(
-    arena: &'a Bump<Global>,
-    sync: &Sync,
-) -> Result<Read<'a>, NoMemory>
+fn source_in<'a>(arena: &'a Bump<Global>, sync: &Sync) -> Result<ReadSource<'a>, NoMemory>
     ensures { IfOk result (λ s. source_view s ≡ source_told (Some sync.now)) }
 {
     let opening = kept(arena, sync.opening.as_str())?;
     let closing = kept(arena, sync.closing.as_str())?;
     let own = own_of(arena, &sync.src)?;
-    Ok(Read {
+    Ok(ReadSource {
         ranges: Some(sync.dsr),
         opening,
         closing,
@@ -130,10 +123,7 @@ fn source_in<'a>(
     })
 }
 
-fn source_for<'a>(
-    arena: &'a Bump<Global>,
-    sync: &Option<Sync>,
-) -> Result<Read<'a>, NoMemory>
+fn source_for<'a>(arena: &'a Bump<Global>, sync: &Option<Sync>) -> Result<ReadSource<'a>, NoMemory>
     ensures { IfOk result (λ s. source_view s ≡ source_told sync.now) }
 {
     match sync {
@@ -146,12 +136,12 @@ fn source_for<'a>(
 fn sourced<'a>(
     alloc: Global,
     head: Head,
-    source: Read<'a>,
+    source: ReadSource<'a>,
     children: List<Node<'a>>,
 ) -> Result<Node<'a>, NoMemory>
-    ensures { view result ≡ tree (sourced_label head (source_view source.entry)) (views children.entry) }
+    ensures { IfOk result (λ n. view n ≡ tree (sourced_label head (source_view source.entry)) (views children.entry)) }
 {
-    let Read {
+    let ReadSource {
         ranges,
         opening,
         closing,
@@ -166,17 +156,14 @@ fn sourced<'a>(
         mw,
         sync: _,
     } = head;
-    let shown = if shown.as_str().is_empty() {
-        Shown::none()
-    } else {
-        Shown::made(shown)
-    };
+    let source = Source::of(alloc, opening, closing, own, Shown::made(shown))?;
+    let more = More::of(alloc, attrs, mark, mw)?;
     Ok(Node {
         kind,
         id,
         ranges,
-        source: Source::of(alloc, opening, closing, own, shown)?,
-        more: More::of(alloc, attrs, mark, mw)?,
+        source,
+        more,
         children,
     })
 }
