@@ -2,10 +2,9 @@ ghost use Rattle.std.specs.Prelude.{◌≡◌, ◌+◌, ◌^◌, ◌<◌, IfOk};
 ghost use Rattle.wt_span.specs.Items.{items};
 ghost use Rattle.wt_tree.specs.Tree.{tree, none};
 ghost use Rattle.wt_tree.specs.View.{view, views};
-ghost use Rattle.wt_tree.specs.declared.node.Node.{out-Node};
 ghost use Rattle.wt_inline.specs.View.{head_of};
 ghost use Rattle.wt_annotated.specs.Labels.{width};
-ghost use Rattle.wt_annotated.specs.PassNodes.{bare, leaf_label, inner_label};
+ghost use Rattle.wt_annotated.specs.PassNodes.{leaf_label, inner_label};
 
 use crate::cursor::Cursor;
 use crate::held::source_texts;
@@ -14,7 +13,7 @@ use crate::piece::width;
 use std::alloc::Global;
 use wt_inline::NodeHead;
 use wt_span::{List, NoMemory, Piece};
-use wt_tree::{Node, Ranges, Source};
+use wt_tree::{Mark, Node, Ranges, Slices, Source};
 
 /// A leaf that holds these pieces.
 pub fn leaf_node<'a>(
@@ -31,7 +30,7 @@ pub fn leaf_node<'a>(
         id: at.number(head.kind),
         ranges: Some(leaf_ranges(head.kind, at.place, width(own))),
         source: Source::leaf(source_texts(alloc, own)?, head.shown),
-        more: head.more,
+        more: head.more.with_mark(alloc, Mark::Nothing)?,
         children: List::new(alloc),
     })
 }
@@ -57,12 +56,14 @@ pub fn inner_node<'a>(
         open_w: width(opening),
         close_w: width(closing),
     };
+    let opening = source_texts(alloc, opening)?;
+    let closing = source_texts(alloc, closing)?;
     Ok(Node {
         kind: head.kind,
         id: at.number(head.kind),
         ranges: Some(ranges),
-        source: Source::round(source_texts(alloc, opening)?, source_texts(alloc, closing)?),
-        more: head.more,
+        source: Source::of(alloc, opening, closing, Slices::none(), head.shown)?,
+        more: head.more.with_mark(alloc, Mark::Nothing)?,
         children,
     })
 }
