@@ -1,4 +1,4 @@
-ghost use Rattle.std.specs.Prelude.{◌≡◌, [], ◌∷◌, map, IfOk, OnOk};
+ghost use Rattle.std.specs.Prelude.{◌≡◌, Option, option_copied, [], ◌∷◌, map, IfOk, OnOk};
 ghost use Rattle.std.specs.Bool.{Decides};
 ghost use Rattle.wt_tree.specs.Plain.{plain, face};
 ghost use Rattle.wt_tree.specs.Shown.{Adds, IsShownOf, bracket_of, brackets_of};
@@ -102,7 +102,7 @@ pub fn same_attrs(a: &[Attr], b: &[Attr]) -> bool
 
 /// Whether what an extension has in `data-mw` is the same value.
 pub fn same_data(a: Option<&DataMw>, b: Option<&DataMw>) -> bool
-    ensures { Decides result (a.now ≡ b.now) }
+    ensures { Decides result (option_copied a ≡ option_copied b) }
 {
     a == b
 }
