@@ -40,6 +40,10 @@ sources_by form.EmptyCall o bs = append-nil bs
 pub sources_piece : (p : Piece) → sources (items_of p) ≡ bytes_of p.text
 sources_piece p = sources_by p.form (call_of_origin p.origin) (bytes_of p.text)
 
+-- one piece and its one text
+pub one_source : (p : Piece) → texts_of (p.text ∷ []) ≡ sources (items (p ∷ []))
+one_source p = append-nil (bytes_of p.text) ∙ sym (sources_piece p) ∙ ap sources (sym (append-nil (items_of p)))
+
 texts_more : (ts : List Text) (t : Text) → texts_of (ts ++ t ∷ []) ≡ texts_of ts ++ bytes_of t
 texts_more ts t = flat_map-append bytes_of ts (t ∷ []) ∙ ap (λ xs. texts_of ts ++ xs) (append-nil (bytes_of t))
 

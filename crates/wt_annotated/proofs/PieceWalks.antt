@@ -20,6 +20,9 @@ use Rattle.wt_annotated.proofs.Seams.{either, last_append, found_append, text_ap
 
 -- ---- one piece
 
+pub one_piece : (p : Piece) → items_of p ≡ items (p ∷ [])
+one_piece p = sym (append-nil (items_of p))
+
 abbrev pub hollow_by : Form → List ℕ → Bool
 hollow_by f bs = is_characters f && length bs == 0
 

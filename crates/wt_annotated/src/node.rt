@@ -29,7 +29,7 @@ pub fn unnumbered_node<'a>(
     sources: Sources<'a>,
     children: List<Node<'a>>,
 ) -> Result<Node<'a>, NoMemory>
-    ensures { IfOk result (λ n. view n ≡ tree (node_label (head_of head) ranges (texts_of sources.entry.opening)
+    ensures { IfOk result (λ n. view n ≡ tree (node_label (head_of head.entry) ranges (texts_of sources.entry.opening)
         (texts_of sources.entry.closing) (texts_of sources.entry.own)) (views children.entry)) }
 {
     let Sources {

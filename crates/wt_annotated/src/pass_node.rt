@@ -23,7 +23,7 @@ pub fn leaf_node<'a>(
     own: &[Piece<'a>],
 ) -> Result<Node<'a>, NoMemory>
     requires { at.place + width (items own.now) < 2 ^ 32 }
-    ensures { IfOk result (λ n. view n ≡ tree (leaf_label at.place at.next (head_of head) (items own.now)) none) }
+    ensures { IfOk result (λ n. view n ≡ tree (leaf_label at.place at.next (head_of head.entry) (items own.now)) none) }
 {
     Ok(Node {
         kind: head.kind,
@@ -47,7 +47,7 @@ pub fn inner_node<'a>(
 ) -> Result<Node<'a>, NoMemory>
     requires opening { width (items opening.now) < 2 ^ 32 }
     requires closing { width (items closing.now) < 2 ^ 32 }
-    ensures { IfOk result (λ n. view n ≡ tree (inner_label at.place at.next (head_of head) end (items opening.now) (items closing.now))
+    ensures { IfOk result (λ n. view n ≡ tree (inner_label at.place at.next (head_of head.entry) end (items opening.now) (items closing.now))
         (views children.entry)) }
 {
     let ranges = Ranges {

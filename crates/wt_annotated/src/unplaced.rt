@@ -41,7 +41,7 @@ fn unplaced_inner<'a>(
     children: List<Node<'a>>,
     closing: &[Piece<'a>],
 ) -> Result<Node<'a>, NoMemory>
-    ensures { IfOk result (λ n. view n ≡ tree (node_label (head_of head) None (sources (items opening.now)) (sources (items closing.now)) [])
+    ensures { IfOk result (λ n. view n ≡ tree (node_label (head_of head.entry) None (sources (items opening.now)) (sources (items closing.now)) [])
         (views children.entry)) }
 {
     let sources = Sources {

@@ -125,7 +125,7 @@ pub fn kept_inner<'a>(
     head: NodeHead<'a>,
     children: List<Node<'a>>,
 ) -> Result<Node<'a>, NoMemory>
-    ensures { IfOk result (λ n. view n ≡ tree (node_label (head_of head) (Some frame.entry.ranges) (texts_of frame.entry.sources.opening)
+    ensures { IfOk result (λ n. view n ≡ tree (node_label (head_of head.entry) (Some frame.entry.ranges) (texts_of frame.entry.sources.opening)
         (texts_of frame.entry.sources.closing) (texts_of frame.entry.sources.own)) (views children.entry)) }
 {
     unnumbered_node(alloc, head, Some(frame.ranges), frame.sources, children)

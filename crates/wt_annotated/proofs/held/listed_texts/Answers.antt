@@ -1,5 +1,5 @@
 use Rattle.wt_annotated.proofs.HeldPieces.{texts_step}
-use Rattle.wt_annotated.proofs.held.source_texts.Goals as goal
+use Rattle.wt_annotated.proofs.held.listed_texts.Goals as goal
 
 pub loop-piece-preserved : goal.loop-piece-preserved
 loop-piece-preserved c =

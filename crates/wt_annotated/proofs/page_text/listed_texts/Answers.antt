@@ -1,7 +1,7 @@
 use Rattle.wt_tree.specs.View.{texts_of}
 use Rattle.wt_annotated.specs.Pieces.{bytes_if_any, outer_calls}
 use Rattle.wt_annotated.proofs.PieceWalks.{bytes_step, call_step}
-use Rattle.wt_annotated.proofs.page_text.page_texts.Goals as goal
+use Rattle.wt_annotated.proofs.page_text.listed_texts.Goals as goal
 
 pub loop-piece-preserved : goal.loop-piece-preserved
 loop-piece-preserved c =
