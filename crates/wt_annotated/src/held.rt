@@ -75,7 +75,6 @@ fn listed_texts<'a>(alloc: Global, pieces: &[Piece<'a>]) -> Result<List<Text<'a>
 }
 
 /// The texts of pieces, as they were expanded.
-#[tactic(auto, using(crate::proofs::HeldPieces::one_source))]
 pub fn source_texts<'a>(alloc: Global, pieces: &[Piece<'a>]) -> Result<Slices<'a>, NoMemory>
     ensures { IfOk result (λ l. texts_of l ≡ sources (items pieces.now)) }
 {

@@ -135,7 +135,6 @@ fn listed_texts<'a>(
 }
 
 /// What stands on the page for pieces, behind an item of the call `before`.
-#[tactic(auto, using(crate::proofs::PieceWalks::one_piece))]
 pub fn page_texts<'a>(
     alloc: Global,
     calls: &[Outer<'a>],

@@ -16,6 +16,7 @@ use wt_span::{List, NoMemory, Piece};
 use wt_tree::{Mark, Node, Ranges, Slices, Source};
 
 /// A leaf that holds these pieces.
+#[tactic(auto, unfolding(crate::specs::Labels::label_at))]
 pub fn leaf_node<'a>(
     alloc: Global,
     head: NodeHead<'a>,
