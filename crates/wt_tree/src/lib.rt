@@ -18,7 +18,7 @@ mod source;
 mod table;
 
 pub use annotated::Annotated;
-pub use compare::{plain_eq, same_attrs, same_data, same_kind};
+pub use compare::{plain_eq, same_attrs, same_data, same_face, same_kind};
 pub use kind::{AttrName, Kind, Mark, Ranges, Showing, TagName};
 pub use laws::{joining_once, plain_forgets, recut_once};
 pub use look::{find, walk};

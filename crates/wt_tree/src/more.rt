@@ -41,7 +41,7 @@ impl More {
 
     /// Attributes alone.
     pub fn with_attrs(alloc: Global, attrs: List<Attr>) -> Result<More, NoMemory>
-        ensures { IfOk result (λ m. m ≡ rare_attrs attrs.entry) }
+        ensures { IfOk result (λ m. m ≡ rare_attrs attrs) }
     {
         More::of(alloc, attrs, Mark::Nothing, None)
     }
@@ -53,7 +53,7 @@ impl More {
         mark: Mark,
         mw: Option<DataMw>,
     ) -> Result<More, NoMemory>
-        ensures { IfOk result (λ m. m ≡ record { attrs = attrs.entry; mark = mark; mw = mw.entry }) }
+        ensures { IfOk result (λ m. m ≡ record { attrs = attrs; mark = mark; mw = mw }) }
     {
         if attrs.len() == 0 && mw.is_none() && matches!(mark, Mark::Nothing) {
             return Ok(More::none());
@@ -66,13 +66,16 @@ impl More {
 
     /// The same with this mark.
     pub fn with_mark(self, alloc: Global, mark: Mark) -> Result<More, NoMemory>
-        ensures { IfOk result (λ m. m ≡ record self.entry { mark = mark }) }
+        ensures { IfOk result (λ m. m ≡ record self { mark = mark }) }
     {
         match self.fields {
             None => More::of(alloc, List::new(alloc), mark, None),
             Some(fields) => {
-                let Fields { attrs, mw, .. } = Box::into_inner(fields);
-                More::of(alloc, attrs, mark, mw)
+                let mut fields = fields;
+                fields.mark = mark;
+                Ok(More {
+                    fields: Some(fields),
+                })
             }
         }
     }

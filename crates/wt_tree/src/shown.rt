@@ -47,7 +47,7 @@ impl<'a> Shown<'a> {
 
     /// Characters that were put together.
     pub fn made(text: Str) -> Shown<'a>
-        ensures { result ≡ text.entry }
+        ensures { result ≡ text }
     {
         Shown {
             characters: Characters::Made(text),
