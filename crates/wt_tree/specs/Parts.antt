@@ -1,6 +1,4 @@
 -- What a `Source` says, whichever of its parts are there.
-use Rattle.std.specs.Prelude.{Box}
-use Rattle.std.specs.declared.alloc.Global.{Global}
 use Rattle.wt_tree.specs.declared.node_source.All.{All}
 use Rattle.wt_tree.specs.declared.node_source.Parts.{Parts}
 use Rattle.wt_tree.specs.declared.node_source.Parts.TheVariants as parts

@@ -1,4 +1,4 @@
-ghost use Rattle.std.specs.Prelude.{◌≡◌, Option, option_copied, [], ◌∷◌, map, IfOk, OnOk};
+ghost use Rattle.std.specs.Prelude.{◌≡◌, option_copied, [], ◌∷◌, map, IfOk, OnOk};
 ghost use Rattle.std.specs.Bool.{Decides};
 ghost use Rattle.wt_tree.specs.Plain.{plain, face};
 ghost use Rattle.wt_tree.specs.Shown.{Adds, IsShownOf, bracket_of, brackets_of};

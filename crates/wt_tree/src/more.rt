@@ -1,6 +1,6 @@
 //! What few nodes have.
 
-ghost use Rattle.std.specs.Prelude.{◌≡◌, Option, option_copied, true, IfOk};
+ghost use Rattle.std.specs.Prelude.{◌≡◌, option_copied, true, IfOk};
 ghost use Rattle.wt_tree.specs.Rare.{rare_none, rare_attrs};
 
 use crate::kind::Mark;
