@@ -1,6 +1,6 @@
 ghost use Rattle.std.specs.Prelude.{◌≡◌};
 ghost use Rattle.wt_span.specs.Items.{items};
-ghost use Rattle.wt_inline.specs.ItemTree.{plain, leaf};
+ghost use Rattle.wt_inline.specs.ItemTree.{plain, with_attrs, leaf};
 ghost use Rattle.wt_inline.specs.View.{head_of, item_tree};
 
 use std::alloc::Global;
@@ -30,7 +30,9 @@ impl<'a> NodeHead<'a> {
     }
 
     /// The head of a node that has attributes beside its kind.
-    pub fn with_attrs(alloc: Global, kind: Kind, attrs: List<Attr>) -> Result<NodeHead<'a>, NoMemory> {
+    pub fn with_attrs(alloc: Global, kind: Kind, attrs: List<Attr>) -> Result<NodeHead<'a>, NoMemory>
+        ensures { IfOk result (λ h. head_of h ≡ with_attrs kind (attrs_of attrs)) }
+    {
         Ok(NodeHead {
             kind,
             shown: Shown::none(),

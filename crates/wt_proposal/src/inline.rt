@@ -1,7 +1,7 @@
 //! Inline content as wikitext: what stood in the page as it stood, texts too, and what is new as `edit` spells it.
 
 use crate::known::{Block, Known, first_text, last_text};
-use crate::texts::{push_letters, push_text};
+use crate::texts::{ends_with_apostrophe, push_letters, push_nowiki, push_text};
 use std::alloc::Global;
 use wt_escape::{external_link_of, page_link_of};
 use wt_guards::{Place, Role, Setting, Stretch, Thing, Unit, spelling_of};
@@ -150,14 +150,13 @@ fn push_shown(alloc: Global, out: &mut Vec<Unit<'_>>, node: &Node<'_>) -> Result
 
 // ---- bold and italic
 
+/// Appends a delimiter that is written anew, apart from an apostrophe before it that would lengthen `''`.
 fn push_toggle(alloc: Global, out: &mut Vec<Unit<'_>>, sign: &str) -> Result<(), NoMemory> {
+    if sign.len() == 2 && ends_with_apostrophe(out.as_slice()) {
+        push_nowiki(alloc, out)?;
+    }
     let source = Str::copy_of(alloc, sign)?;
     push_thing(out, Role::Toggle, source, None)
-}
-
-fn push_nowiki(alloc: Global, out: &mut Vec<Unit<'_>>) -> Result<(), NoMemory> {
-    let source = Str::copy_of(alloc, "<nowiki/>")?;
-    push_thing(out, Role::Node, source, None)
 }
 
 /// Appends the opening delimiter of a node of the page.

@@ -1,4 +1,4 @@
-ghost use Rattle.std.specs.Prelude.{◌≡◌, [], ◌∷◌, map, IfOk, OnOk};
+ghost use Rattle.std.specs.Prelude.{◌≡◌, option_copied, [], ◌∷◌, map, IfOk, OnOk};
 ghost use Rattle.std.specs.Bool.{Decides};
 ghost use Rattle.wt_tree.specs.Plain.{plain, face};
 ghost use Rattle.wt_tree.specs.Shown.{Adds, IsShownOf, bracket_of, brackets_of};
@@ -102,12 +102,13 @@ pub fn same_attrs(a: &[Attr], b: &[Attr]) -> bool
 
 /// Whether what an extension has in `data-mw` is the same value.
 pub fn same_data(a: Option<&DataMw>, b: Option<&DataMw>) -> bool
-    ensures { Decides result (a.now ≡ b.now) }
+    ensures { Decides result (option_copied a.entry ≡ option_copied b.entry) }
 {
     a == b
 }
 
-fn same_face(a: &Node<'_>, b: &Node<'_>) -> bool
+/// Whether two nodes are the same element: of one kind, with the same attributes and data.
+pub fn same_face(a: &Node<'_>, b: &Node<'_>) -> bool
     ensures { Decides result (face (label_of (out-Node a.now)) ≡ face (label_of (out-Node b.now))) }
 {
     if !same_kind(a.kind, b.kind) {

@@ -1,6 +1,14 @@
+ghost use Rattle.std.specs.Prelude.{◌≡◌, option_copied};
+ghost use Rattle.wt_tree.specs.Recut.{leaf_label};
+ghost use Rattle.wt_tree.specs.Tree.{tree, none};
+ghost use Rattle.wt_tree.specs.View.{texts_of, view};
+ghost use Rattle.wt_tree.specs.declared.node.Node.{out-Node};
+
 use crate::kind::{AttrName, Kind, Mark, Ranges};
 use crate::more::More;
-use crate::slices::{Shown, Slices, Source};
+use crate::node_source::Source;
+use crate::shown::Shown;
+use crate::slices::Slices;
 use std::alloc::Global;
 use wt_span::{List, Str, Text};
 
@@ -65,7 +73,9 @@ impl<'a> Node<'a> {
         ranges: Option<Ranges>,
         own: Slices<'a>,
         shown: Shown<'a>,
-    ) -> Node<'a> {
+    ) -> Node<'a>
+        ensures { view result ≡ tree (leaf_label kind ranges (texts_of own.entry) shown.entry) none }
+    {
         Node {
             kind,
             id: 0,
@@ -77,38 +87,52 @@ impl<'a> Node<'a> {
     }
 
     /// The opening delimiter, as slices of the page.
-    pub fn opening(&self) -> &[Text<'a>] {
+    pub fn opening(&self) -> &[Text<'a>]
+        ensures { result.now ≡ (out-Node self.now).source.opening }
+    {
         self.source.opening()
     }
 
     /// The closing delimiter, as slices of the page.
-    pub fn closing(&self) -> &[Text<'a>] {
+    pub fn closing(&self) -> &[Text<'a>]
+        ensures { result.now ≡ (out-Node self.now).source.closing }
+    {
         self.source.closing()
     }
 
     /// The source of a leaf.
-    pub fn own(&self) -> &[Text<'a>] {
+    pub fn own(&self) -> &[Text<'a>]
+        ensures { result.now ≡ (out-Node self.now).source.own }
+    {
         self.source.own()
     }
 
     /// The characters of a text or an entity.
-    pub fn shown(&self) -> &str {
+    pub fn shown(&self) -> &str
+        ensures { result.now ≡ (out-Node self.now).source.shown }
+    {
         self.source.shown()
     }
 
     /// The attributes that its kind alone does not tell, in the order of `AttrName`, without
     /// `about`, `id`, `data-mw` and `data-parsoid`.
-    pub fn attrs(&self) -> &[Attr] {
+    pub fn attrs(&self) -> &[Attr]
+        ensures { result.now ≡ (out-Node self.now).more.attrs }
+    {
         self.more.attrs()
     }
 
     /// What an editor said of it.
-    pub fn mark(&self) -> Mark {
+    pub fn mark(&self) -> Mark
+        ensures { result ≡ (out-Node self.now).more.mark }
+    {
         self.more.mark()
     }
 
     /// What `data-mw` holds.
-    pub fn mw(&self) -> Option<&DataMw> {
+    pub fn mw(&self) -> Option<&DataMw>
+        ensures { option_copied result ≡ (out-Node self.now).more.mw }
+    {
         self.more.mw()
     }
 }

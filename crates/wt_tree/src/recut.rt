@@ -67,7 +67,8 @@ ghost use Rattle.wt_span.specs.Slice.{bytes_of};
 use crate::kind::{Kind, Ranges};
 use crate::node::Node;
 use crate::row::Writing;
-use crate::slices::{Shown, Slices};
+use crate::shown::Shown;
+use crate::slices::Slices;
 use crate::source::push_texts;
 use std::alloc::Global;
 use wt_span::{List, NoMemory, Str, Text};
@@ -213,7 +214,7 @@ fn leaf<'a>(
     own: List<Text<'a>>,
     shown: Shown<'a>,
 ) -> Node<'a>
-    ensures { view result ≡ tree (leaf_label kind ranges (texts_of own.entry) shown) none }
+    ensures { view result ≡ tree (leaf_label kind ranges (texts_of own.entry) shown.entry) none }
 {
     Node::leaf(alloc, kind, ranges, Slices::of_list(own), shown)
 }
@@ -224,7 +225,10 @@ fn sep_leaf<'a>(alloc: Global, ranges: Option<Ranges>, own: List<Text<'a>>) -> N
     leaf(alloc, Kind::Sep, ranges, own, Shown::none())
 }
 
-fn shown_of<'a>(alloc: Global, own: &[Text<'a>]) -> Result<Shown<'a>, NoMemory> {
+/// What the texts show: all their characters.
+fn shown_of<'a>(alloc: Global, own: &[Text<'a>]) -> Result<Shown<'a>, NoMemory>
+    ensures { IfOk result (λ s. s ≡ texts_of own.now) }
+{
     match own {
         [text] => Ok(Shown::written(text.as_str())),
         _ => {
