@@ -12,7 +12,8 @@ use Rattle.wt_tree.specs.declared.node.DataMw.{DataMw}
 use Rattle.wt_tree.specs.Kinds.{order}
 use Rattle.wt_tree.specs.Plain.{Face}
 use Rattle.wt_tree.specs.Stream.{Bracket, opens, closes, Sign, byte, bracket}
-use Rattle.wt_tree.proofs.Same.{kind_decides, mw_same}
+use Rattle.wt_tree.specs.contracts.node.DataMwPartialEq.TheImpl as data_eq
+use Rattle.wt_tree.proofs.Same.{data_same, kind_decides, option_decides}
 use Rattle.wt_checks.specs.Alike.{same_kind, same_attrs, same_data}
 use Rattle.wt_checks.specs.Groups.{same_face, same_bracket, same_sign, same_signs}
 use Rattle.wt_checks.specs.Unmarked.{Entry, text, child, same_entry, same_entries}
@@ -23,7 +24,7 @@ kinds_decide a b = kind_decides a b
 
 pub data_decide : (a b : Option DataMw) → Decides (same_data a b) (a ≡ b)
 unfolding same_data
-data_decide a b = mw_same a b
+data_decide a b = option_decides data_eq.eq-value.it data_same a b
 
 -- the name with a place in the order
 abbrev name_at : ℕ → AttrName

@@ -36,7 +36,7 @@ pub fn same_attrs(a: &[Attr], b: &[Attr]) -> bool
 
 #[tactic(auto, unfolding(crate::specs::Alike::same_data))]
 pub fn same_data(a: Option<&DataMw>, b: Option<&DataMw>) -> bool
-    ensures { result ≡ same_data (option_copied a) (option_copied b) }
+    ensures { result ≡ same_data (option_copied a.entry) (option_copied b.entry) }
 {
     a == b
 }

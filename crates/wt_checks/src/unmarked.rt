@@ -1,4 +1,5 @@
 ghost use Rattle.std.specs.Prelude.{◌≡◌, ◌≤◌, ◌<◌, ◌&&◌, ◌||◌, [], not, option_map, length, drop};
+ghost use Rattle.std.specs.Option.{option_copied};
 ghost use Rattle.std.specs.Str.{bytes_eq};
 ghost use Rattle.wt_tree.specs.Kinds.{showing, writing};
 ghost use Rattle.wt_tree.specs.Opened.{opened, opened_before};
@@ -130,7 +131,7 @@ fn holds_same(original: &Node<'_>, node: &Node<'_>) -> bool
 }
 
 fn keeps_data(original: Option<&DataMw>, node: Option<&DataMw>) -> bool
-    ensures { result ≡ keeps_data (option_copied original) (option_copied node) }
+    ensures { result ≡ keeps_data (option_copied original.entry) (option_copied node.entry) }
 {
     match original {
         Some(_) => same_data(original, node),
