@@ -141,7 +141,7 @@ part_same (part.Literal t) (part.Function n u qs j) = (λ e. cc, λ e. cc)
 part_same (part.Literal t) (part.Param u) = (λ e. cc, λ e. cc)
 part_same (part.Literal t) (part.Literal u) = Decides-like (pointwise nat_eq t u) (λ e. ap part.Literal e) (λ e. cc) (bytes_same t u)
 
-pub data_same : (a b : DataMw) → Decides (data_eq.it a b) (a ≡ b)
+data_same : (a b : DataMw) → Decides (data_eq.it a b) (a ≡ b)
 data_same (data_mw.Parts xs) (data_mw.Parts ys) =
     Decides-like (pointwise part_eq.it xs ys) (λ e. ap data_mw.Parts e) (λ e. cc) (slice_eq-Decides part_same xs ys (pointwise part_eq.it xs ys) refl)
 data_same (data_mw.Parts xs) (data_mw.Extension n b) = (λ e. cc, λ e. cc)
