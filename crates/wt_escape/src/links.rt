@@ -189,7 +189,7 @@ fn push_texts(out: &mut Str, texts: &[Text<'_>]) -> Result<(), NoMemory>
 }
 
 fn push_pair(out: &mut Str, old: &Node<'_>, inside: &str) -> Result<(), NoMemory>
-    ensures { OnOk result (out.new ≡ out.old ++ (texts_of (out-Node old.now).opening ++ (inside.now ++ texts_of (out-Node old.now).closing))) }
+    ensures { OnOk result (out.new ≡ out.old ++ (texts_of (out-Node old.now).source.opening ++ (inside.now ++ texts_of (out-Node old.now).source.closing))) }
 {
     push_texts(out, old.opening())?;
     out.push_str(inside)?;

@@ -52,21 +52,40 @@ fn push_all_shown(out: &mut Str, own: &[Piece<'_>]) -> Result<(), NoMemory>
     Ok(())
 }
 
+/// What a piece shows: characters as they are written, where it is such.
+fn piece_shown<'a>(alloc: Global, piece: &Piece<'a>) -> Result<Shown<'a>, NoMemory>
+    ensures { IfOk result (λ s. s ≡ flat_map shown_item (items_of piece.now)) }
+{
+    match piece.form {
+        Form::Chars => Ok(Shown::written(piece.text.as_str())),
+        _ => {
+            let mut shown = Str::new(alloc);
+            push_shown(&mut shown, piece)?;
+            Ok(Shown::made(shown))
+        }
+    }
+}
+
+/// What pieces show, one after another.
+fn pieces_shown<'a>(alloc: Global, own: &[Piece<'a>]) -> Result<Shown<'a>, NoMemory>
+    ensures { IfOk result (λ s. s ≡ flat_map shown_item (items own.now)) }
+{
+    match own {
+        [piece] => piece_shown(alloc, piece),
+        _ => {
+            let mut shown = Str::new(alloc);
+            push_all_shown(&mut shown, own)?;
+            Ok(Shown::made(shown))
+        }
+    }
+}
+
 /// The characters that a leaf of such characters shows.
 fn loose_shown<'a>(alloc: Global, loose: Loose, own: &[Piece<'a>]) -> Result<Shown<'a>, NoMemory>
     ensures { IfOk result (λ s. s ≡ (loose_head loose (items own.now)).shown) }
 {
     match loose {
-        Loose::Text => {
-            if let [piece] = own
-                && matches!(piece.form, Form::Chars)
-            {
-                return Ok(Shown::written(piece.text.as_str()));
-            }
-            let mut shown = Str::new(alloc);
-            push_all_shown(&mut shown, own)?;
-            Ok(Shown::made(shown))
-        }
+        Loose::Text => pieces_shown(alloc, own),
         Loose::Sep => Ok(Shown::none()),
     }
 }
@@ -189,10 +208,11 @@ fn extension_head<'a>(alloc: Global, text: Text<'a>) -> Result<NodeHead<'a>, NoM
     let name = lower_name(alloc, raw.name)?;
     let attrs = typeof_attr(alloc, "mw:Extension/", name.as_str())?;
     let data = extension_data(alloc, name, raw)?;
+    let more = More::of(alloc, attrs, Mark::Nothing, Some(data))?;
     Ok(NodeHead {
         kind: Kind::Island,
         shown,
-        more: More::of(alloc, attrs, Mark::Nothing, Some(data))?,
+        more,
     })
 }
 

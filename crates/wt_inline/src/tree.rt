@@ -1,5 +1,6 @@
-ghost use Rattle.std.specs.Prelude.{◌≡◌};
+ghost use Rattle.std.specs.Prelude.{◌≡◌, IfOk};
 ghost use Rattle.wt_span.specs.Items.{items};
+ghost use Rattle.wt_tree.specs.View.{attrs_of};
 ghost use Rattle.wt_inline.specs.ItemTree.{plain, with_attrs, leaf};
 ghost use Rattle.wt_inline.specs.View.{head_of, item_tree};
 
@@ -30,7 +31,11 @@ impl<'a> NodeHead<'a> {
     }
 
     /// The head of a node that has attributes beside its kind.
-    pub fn with_attrs(alloc: Global, kind: Kind, attrs: List<Attr>) -> Result<NodeHead<'a>, NoMemory>
+    pub fn with_attrs(
+        alloc: Global,
+        kind: Kind,
+        attrs: List<Attr>,
+    ) -> Result<NodeHead<'a>, NoMemory>
         ensures { IfOk result (λ h. head_of h ≡ with_attrs kind (attrs_of attrs)) }
     {
         Ok(NodeHead {
@@ -53,7 +58,7 @@ pub struct PieceTree<'a> {
 
 /// A leaf of these pieces.
 pub fn leaf<'a>(alloc: Global, head: NodeHead<'a>, own: List<Piece<'a>>) -> PieceTree<'a>
-    ensures { item_tree result ≡ leaf (head_of head) (items own.entry) }
+    ensures { item_tree result ≡ leaf (head_of head.entry) (items own.entry) }
 {
     PieceTree {
         head,

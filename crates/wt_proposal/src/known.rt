@@ -6,6 +6,7 @@ ghost use Rattle.wt_tree.specs.Tree.{label};
 ghost use Rattle.wt_tree.specs.View.{view};
 ghost use Rattle.wt_tree.specs.declared.kind.Kind.TheVariants as kind;
 
+use crate::kinds::is_item;
 use std::alloc::Global;
 use wt_checks::{Visit, numbered_nodes, original};
 use wt_difference::is_block_part;
@@ -301,10 +302,6 @@ pub fn sign_of(list: Kind, item: Kind) -> &'static str {
             _ => "*",
         },
     }
-}
-
-fn is_item(kind: Kind) -> bool {
-    matches!(kind, Kind::Li | Kind::Dt | Kind::Dd)
 }
 
 /// The signs with which an item of the page begins its line, by the lists in which it stands; nothing of another

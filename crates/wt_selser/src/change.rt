@@ -35,7 +35,7 @@ pub struct Change {
 }
 
 /// What the content of a node of this kind stands in.
-fn place_in(kind: Kind) -> Place
+pub fn place_in(kind: Kind) -> Place
     ensures { result ≡ place_in kind }
 {
     match kind {
