@@ -8,7 +8,7 @@ ghost use Rattle.wt_inline.specs.View.{item_tree, item_trees};
 
 use std::alloc::Global;
 use wt_inline::{PieceTree, with_room};
-use wt_span::{List, NoMemory, Piece};
+use wt_span::{List, NoMemory, Piece, Text};
 use wt_tree::Slices;
 
 fn push_held<'a>(out: &mut List<Piece<'a>>, tree: &PieceTree<'a>) -> Result<(), NoMemory>
@@ -63,6 +63,17 @@ pub fn own_pieces<'a>(
     with_held(opening, children.as_slice(), closing.as_slice())
 }
 
+/// The texts of pieces in a list.
+fn listed_texts<'a>(alloc: Global, pieces: &[Piece<'a>]) -> Result<List<Text<'a>>, NoMemory>
+    ensures { IfOk result (λ l. texts_of l ≡ sources (items pieces.now)) }
+{
+    let mut texts = with_room(alloc, pieces.len())?;
+    for piece in pieces {
+        texts.push(piece.text)?;
+    }
+    Ok(texts)
+}
+
 /// The texts of pieces, as they were expanded.
 pub fn source_texts<'a>(alloc: Global, pieces: &[Piece<'a>]) -> Result<Slices<'a>, NoMemory>
     ensures { IfOk result (λ l. texts_of l ≡ sources (items pieces.now)) }
@@ -71,10 +82,7 @@ pub fn source_texts<'a>(alloc: Global, pieces: &[Piece<'a>]) -> Result<Slices<'a
         [] => Ok(Slices::none()),
         [piece] => Ok(Slices::one(piece.text)),
         _ => {
-            let mut texts = with_room(alloc, pieces.len())?;
-            for piece in pieces {
-                texts.push(piece.text)?;
-            }
+            let texts = listed_texts(alloc, pieces)?;
             Ok(Slices::of_list(texts))
         }
     }

@@ -1,6 +1,6 @@
 //! Nodes of trees, made of their heads and texts.
 
-ghost use Rattle.std.specs.Prelude.{◌≡◌, ◌+◌, ◌^◌, ◌<◌, []};
+ghost use Rattle.std.specs.Prelude.{◌≡◌, ◌+◌, ◌^◌, ◌<◌, [], IfOk};
 ghost use Rattle.wt_tree.specs.Tiling.{is_group};
 ghost use Rattle.wt_tree.specs.Tree.{tree};
 ghost use Rattle.wt_tree.specs.View.{texts_of, view, views};
@@ -8,46 +8,54 @@ ghost use Rattle.wt_inline.specs.View.{head_of};
 ghost use Rattle.wt_annotated.specs.Labels.{leaf_open};
 ghost use Rattle.wt_annotated.specs.Nodes.{node_label};
 
+use std::alloc::Global;
 use wt_inline::NodeHead;
-use wt_span::List;
-use wt_tree::{Kind, Node, Ranges, Slices, Source};
+use wt_span::{List, NoMemory};
+use wt_tree::{Kind, Mark, Node, Ranges, Slices, Source};
 
 /// What a node has of the page: its delimiters, or the source of a leaf.
 #[derive(Drop)]
-pub enum Sources<'a> {
-    Leaf(Slices<'a>),
-    Round(Slices<'a>, Slices<'a>),
+pub struct Sources<'a> {
+    pub opening: Slices<'a>,
+    pub closing: Slices<'a>,
+    pub own: Slices<'a>,
 }
 
 /// A node without a number.
 pub fn unnumbered_node<'a>(
+    alloc: Global,
     head: NodeHead<'a>,
     ranges: Option<Ranges>,
     sources: Sources<'a>,
     children: List<Node<'a>>,
-) -> Node<'a>
-    ensures { view result ≡ tree (node_label (head_of head) ranges (texts_of sources.entry.opening) (texts_of sources.entry.closing)
-        (texts_of sources.entry.own)) (views children.entry) }
+) -> Result<Node<'a>, NoMemory>
+    ensures { IfOk result (λ n. view n ≡ tree (node_label (head_of head.entry) ranges (texts_of sources.entry.opening)
+        (texts_of sources.entry.closing) (texts_of sources.entry.own)) (views children.entry)) }
 {
-    let source = match sources {
-        Sources::Leaf(own) => Source::leaf(own, head.shown),
-        Sources::Round(opening, closing) => Source::round(opening, closing),
-    };
-    Node {
+    let Sources {
+        opening,
+        closing,
+        own,
+    } = sources;
+    Ok(Node {
         kind: head.kind,
         id: 0,
         ranges,
-        source,
-        more: head.more,
+        source: Source::of(alloc, opening, closing, own, head.shown)?,
+        more: head.more.with_mark(alloc, Mark::Nothing)?,
         children,
-    }
+    })
 }
 
 /// The sources of a leaf.
 pub fn leaf_sources<'a>(own: Slices<'a>) -> Sources<'a>
     ensures { result ≡ record { opening = []; closing = []; own = own.entry } }
 {
-    Sources::Leaf(own)
+    Sources {
+        opening: Slices::none(),
+        closing: Slices::none(),
+        own,
+    }
 }
 
 /// The open width of a leaf with so many bytes.

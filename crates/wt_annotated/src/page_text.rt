@@ -106,6 +106,34 @@ fn push_text<'a>(texts: &mut List<Text<'a>>, text: Option<Text<'a>>) -> Result<(
     Ok(())
 }
 
+/// The one text, or none.
+fn one_or_none<'a>(text: Option<Text<'a>>) -> Slices<'a>
+    ensures { texts_of result ≡ bytes_if_any text.entry }
+{
+    match text {
+        None => Slices::none(),
+        Some(text) => Slices::one(text),
+    }
+}
+
+/// What stands on the page for pieces, in a list.
+fn listed_texts<'a>(
+    alloc: Global,
+    calls: &[Outer<'a>],
+    before: Option<u32>,
+    pieces: &[Piece<'a>],
+) -> Result<List<Text<'a>>, NoMemory>
+    ensures { IfOk result (λ l. texts_of l ≡ text_from (outer_calls calls.now) before (items pieces.now)) }
+{
+    let mut texts = with_room(alloc, pieces.len())?;
+    let mut last = before;
+    for piece in pieces {
+        push_text(&mut texts, page_text(calls, last, *piece))?;
+        last = last_of_piece(last, *piece);
+    }
+    Ok(texts)
+}
+
 /// What stands on the page for pieces, behind an item of the call `before`.
 pub fn page_texts<'a>(
     alloc: Global,
@@ -115,20 +143,12 @@ pub fn page_texts<'a>(
 ) -> Result<Slices<'a>, NoMemory>
     ensures { IfOk result (λ l. texts_of l ≡ text_from (outer_calls calls.now) before (items pieces.now)) }
 {
-    if pieces.is_empty() {
-        return Ok(Slices::none());
+    match pieces {
+        [] => Ok(Slices::none()),
+        [piece] => Ok(one_or_none(page_text(calls, before, *piece))),
+        _ => {
+            let texts = listed_texts(alloc, calls, before, pieces)?;
+            Ok(Slices::of_list(texts))
+        }
     }
-    if let [piece] = pieces {
-        return match page_text(calls, before, *piece) {
-            None => Ok(Slices::none()),
-            Some(text) => Ok(Slices::one(text)),
-        };
-    }
-    let mut texts = with_room(alloc, pieces.len())?;
-    let mut last = before;
-    for piece in pieces {
-        push_text(&mut texts, page_text(calls, last, *piece))?;
-        last = last_of_piece(last, *piece);
-    }
-    Ok(Slices::of_list(texts))
 }

@@ -2,10 +2,9 @@ ghost use Rattle.std.specs.Prelude.{◌≡◌, ◌+◌, ◌^◌, ◌<◌, IfOk};
 ghost use Rattle.wt_span.specs.Items.{items};
 ghost use Rattle.wt_tree.specs.Tree.{tree, none};
 ghost use Rattle.wt_tree.specs.View.{view, views};
-ghost use Rattle.wt_tree.specs.declared.node.Node.{out-Node};
 ghost use Rattle.wt_inline.specs.View.{head_of};
 ghost use Rattle.wt_annotated.specs.Labels.{width};
-ghost use Rattle.wt_annotated.specs.PassNodes.{bare, leaf_label, inner_label};
+ghost use Rattle.wt_annotated.specs.PassNodes.{leaf_label, inner_label};
 
 use crate::cursor::Cursor;
 use crate::held::source_texts;
@@ -14,9 +13,10 @@ use crate::piece::width;
 use std::alloc::Global;
 use wt_inline::NodeHead;
 use wt_span::{List, NoMemory, Piece};
-use wt_tree::{Node, Ranges, Source};
+use wt_tree::{Mark, Node, Ranges, Slices, Source};
 
 /// A leaf that holds these pieces.
+#[tactic(auto, unfolding(crate::specs::Labels::label_at))]
 pub fn leaf_node<'a>(
     alloc: Global,
     head: NodeHead<'a>,
@@ -24,14 +24,14 @@ pub fn leaf_node<'a>(
     own: &[Piece<'a>],
 ) -> Result<Node<'a>, NoMemory>
     requires { at.place + width (items own.now) < 2 ^ 32 }
-    ensures { IfOk result (λ n. view n ≡ tree (leaf_label at.place at.next (head_of head) (items own.now)) none) }
+    ensures { IfOk result (λ n. view n ≡ tree (leaf_label at.place at.next (head_of head.entry) (items own.now)) none) }
 {
     Ok(Node {
         kind: head.kind,
         id: at.number(head.kind),
         ranges: Some(leaf_ranges(head.kind, at.place, width(own))),
         source: Source::leaf(source_texts(alloc, own)?, head.shown),
-        more: head.more,
+        more: head.more.with_mark(alloc, Mark::Nothing)?,
         children: List::new(alloc),
     })
 }
@@ -48,7 +48,7 @@ pub fn inner_node<'a>(
 ) -> Result<Node<'a>, NoMemory>
     requires opening { width (items opening.now) < 2 ^ 32 }
     requires closing { width (items closing.now) < 2 ^ 32 }
-    ensures { IfOk result (λ n. view n ≡ tree (inner_label at.place at.next (head_of head) end (items opening.now) (items closing.now))
+    ensures { IfOk result (λ n. view n ≡ tree (inner_label at.place at.next (head_of head.entry) end (items opening.now) (items closing.now))
         (views children.entry)) }
 {
     let ranges = Ranges {
@@ -57,12 +57,14 @@ pub fn inner_node<'a>(
         open_w: width(opening),
         close_w: width(closing),
     };
+    let opening = source_texts(alloc, opening)?;
+    let closing = source_texts(alloc, closing)?;
     Ok(Node {
         kind: head.kind,
         id: at.number(head.kind),
         ranges: Some(ranges),
-        source: Source::round(source_texts(alloc, opening)?, source_texts(alloc, closing)?),
-        more: head.more,
+        source: Source::of(alloc, opening, closing, Slices::none(), head.shown)?,
+        more: head.more.with_mark(alloc, Mark::Nothing)?,
         children,
     })
 }

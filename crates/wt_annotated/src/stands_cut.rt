@@ -117,7 +117,7 @@ fn has_none<T>(items: &[T]) -> bool
 /// Whether a node has nothing beside its kind, its place, its source and what it shows.
 fn is_bare(node: &Node<'_>) -> bool
     ensures { result ≡ true → view node.now ≡ tree (leaf_label (out-Node node.now).kind (out-Node node.now).ranges
-        (texts_of (out-Node node.now).own) (out-Node node.now).shown) none }
+        (texts_of (out-Node node.now).source.own) (out-Node node.now).source.shown) none }
 {
     node.id == 0
         && node.more.is_none()
@@ -143,15 +143,13 @@ fn is_one_text(shown: &str, own: &[Text<'_>]) -> bool
 }
 
 fn is_text_leaf(node: &Node<'_>) -> bool
-    ensures { result ≡ true → view node.now ≡ text_leaf (out-Node node.now).ranges (texts_of (out-Node node.now).own) }
+    ensures { result ≡ true → view node.now ≡ text_leaf (out-Node node.now).ranges (texts_of (out-Node node.now).source.own) }
 {
-    matches!(node.kind, Kind::Text)
-        && is_one_text(node.shown(), node.own())
-        && is_bare(node)
+    matches!(node.kind, Kind::Text) && is_one_text(node.shown(), node.own()) && is_bare(node)
 }
 
 fn is_sep_leaf(node: &Node<'_>) -> bool
-    ensures { result ≡ true → view node.now ≡ sep_leaf (out-Node node.now).ranges (texts_of (out-Node node.now).own) }
+    ensures { result ≡ true → view node.now ≡ sep_leaf (out-Node node.now).ranges (texts_of (out-Node node.now).source.own) }
 {
     matches!(node.kind, Kind::Sep) && node.shown().is_empty() && is_bare(node)
 }

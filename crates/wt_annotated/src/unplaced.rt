@@ -16,7 +16,7 @@ use crate::node::{Sources, leaf_sources, unnumbered_node};
 use std::alloc::Global;
 use wt_inline::{NodeHead, PieceTree, with_room};
 use wt_span::{List, NoMemory, Piece};
-use wt_tree::Node;
+use wt_tree::{Node, Slices};
 
 fn unplaced_leaf<'a>(alloc: Global, tree: PieceTree<'a>) -> Result<Node<'a>, NoMemory>
     requires { is_leaf (out-PieceTree tree).head.kind ≡ true }
@@ -30,8 +30,7 @@ fn unplaced_leaf<'a>(alloc: Global, tree: PieceTree<'a>) -> Result<Node<'a>, NoM
     } = tree;
     let held = own_pieces(opening, children, closing)?;
     let own = source_texts(alloc, held.as_slice())?;
-    let sources = leaf_sources(own);
-    Ok(unnumbered_node(head, None, sources, List::new(alloc)))
+    unnumbered_node(alloc, head, None, leaf_sources(own), List::new(alloc))
 }
 
 /// A node round its children.
@@ -42,11 +41,15 @@ fn unplaced_inner<'a>(
     children: List<Node<'a>>,
     closing: &[Piece<'a>],
 ) -> Result<Node<'a>, NoMemory>
-    ensures { IfOk result (λ n. view n ≡ tree (node_label (head_of head) None (sources (items opening.now)) (sources (items closing.now)) [])
+    ensures { IfOk result (λ n. view n ≡ tree (node_label (head_of head.entry) None (sources (items opening.now)) (sources (items closing.now)) [])
         (views children.entry)) }
 {
-    let sources = Sources::Round(source_texts(alloc, opening)?, source_texts(alloc, closing)?);
-    Ok(unnumbered_node(head, None, sources, children))
+    let sources = Sources {
+        opening: source_texts(alloc, opening)?,
+        closing: source_texts(alloc, closing)?,
+        own: Slices::none(),
+    };
+    unnumbered_node(alloc, head, None, sources, children)
 }
 
 /// The nodes of trees in a group.

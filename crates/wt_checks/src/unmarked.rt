@@ -1,4 +1,5 @@
 ghost use Rattle.std.specs.Prelude.{◌≡◌, ◌≤◌, ◌<◌, ◌&&◌, ◌||◌, [], not, option_map, length, drop};
+ghost use Rattle.std.specs.Option.{option_copied};
 ghost use Rattle.std.specs.Str.{bytes_eq};
 ghost use Rattle.wt_tree.specs.Kinds.{showing, writing};
 ghost use Rattle.wt_tree.specs.Opened.{opened, opened_before};
@@ -26,7 +27,7 @@ fn is_compared(node: &Node<'_>) -> bool
 }
 
 fn same_text(a: &Node<'_>, b: &Node<'_>) -> bool
-    ensures { result ≡ bytes_eq (out-Node a.now).shown (out-Node b.now).shown }
+    ensures { result ≡ bytes_eq (out-Node a.now).source.shown (out-Node b.now).source.shown }
 {
     a.shown() == b.shown()
 }
@@ -106,7 +107,7 @@ fn same_children(page: &[Node<'_>], edited: &[Node<'_>]) -> bool
 }
 
 fn own_character<'n>(node: &'n Node<'_>) -> &'n str
-    ensures { result.now ≡ own_character (writing (out-Node node.now).kind) (out-Node node.now).shown }
+    ensures { result.now ≡ own_character (writing (out-Node node.now).kind) (out-Node node.now).source.shown }
 {
     match node.kind.writing() {
         Writing::RoundCharacter => node.shown(),
@@ -116,8 +117,8 @@ fn own_character<'n>(node: &'n Node<'_>) -> &'n str
 }
 
 fn same_character(a: &Node<'_>, b: &Node<'_>) -> bool
-    ensures { result ≡ bytes_eq (own_character (writing (out-Node a.now).kind) (out-Node a.now).shown)
-        (own_character (writing (out-Node b.now).kind) (out-Node b.now).shown) }
+    ensures { result ≡ bytes_eq (own_character (writing (out-Node a.now).kind) (out-Node a.now).source.shown)
+        (own_character (writing (out-Node b.now).kind) (out-Node b.now).source.shown) }
 {
     own_character(a) == own_character(b)
 }
@@ -130,7 +131,7 @@ fn holds_same(original: &Node<'_>, node: &Node<'_>) -> bool
 }
 
 fn keeps_data(original: Option<&DataMw>, node: Option<&DataMw>) -> bool
-    ensures { result ≡ keeps_data original.now node.now }
+    ensures { result ≡ keeps_data (option_copied original.entry) (option_copied node.entry) }
 {
     match original {
         Some(_) => same_data(original, node),

@@ -39,7 +39,7 @@ fn push_visits<'t, 'a>(
 }
 
 fn is_inside(node: &Node<'_>, in_content: bool) -> bool
-    ensures { result ≡ in_content || is_content (out-Node node.now).mark }
+    ensures { result ≡ in_content || is_content (out-Node node.now).more.mark }
 {
     in_content || is_content(node.mark())
 }

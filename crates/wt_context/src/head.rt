@@ -8,8 +8,9 @@ ghost use Rattle.wt_tiles.specs.Glyphs.{glyph_of};
 ghost use Rattle.wt_tiles.specs.Links.{has_pipe};
 ghost use Rattle.wt_span.specs.Origins.{IsSoundPiece};
 ghost use Rattle.wt_tree.specs.View.{attrs_of};
+ghost use Rattle.wt_inline.specs.ItemTree.{with_attrs};
 ghost use Rattle.wt_inline.specs.View.{head_of};
-ghost use Rattle.wt_context.specs.Heads.{with_attrs, with_href, placeholder, target_size, target, href_to, link_head, key_after, key, href_with, category_head, behind_bracket, before_blank, bracketed_url, ext_link_head, bare_url_head, switch_property, switch_names, named, switch_head};
+ghost use Rattle.wt_context.specs.Heads.{with_href, placeholder, target_size, target, href_to, link_head, key_after, key, href_with, category_head, behind_bracket, before_blank, bracketed_url, ext_link_head, bare_url_head, switch_property, switch_names, named, switch_head};
 
 use crate::text::{source_of, text_of, visible_source};
 use std::alloc::Global;

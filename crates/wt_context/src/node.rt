@@ -39,7 +39,7 @@ pub enum Leaf {
 }
 
 fn leaf_of<'a>(alloc: Global, head: NodeHead<'a>, own: List<Piece<'a>>) -> PieceTree<'a>
-    ensures { item_tree result ≡ leaf (head_of head) (items own.entry) }
+    ensures { item_tree result ≡ leaf (head_of head.entry) (items own.entry) }
 {
     PieceTree {
         head,
@@ -101,7 +101,7 @@ fn round<'a>(
     children: Children<'a>,
     closing: List<Piece<'a>>,
 ) -> Result<PieceTree<'a>, NoMemory>
-    ensures { IfOk result (λ t. item_tree t ≡ inner (head_of head) (items opening.entry) (forest (made (growth children.entry) [])) (items closing.entry)) }
+    ensures { IfOk result (λ t. item_tree t ≡ inner (head_of head.entry) (items opening.entry) (forest (made (growth children.entry) [])) (items closing.entry)) }
 {
     Ok(PieceTree {
         head,
@@ -134,7 +134,7 @@ fn link<'a>(
     children: Children<'a>,
 ) -> Result<PieceTree<'a>, NoMemory>
     ensures { IfOk result (λ t. (ps : Inside) → IsMade (growth children.entry) ps
-        → item_tree t ≡ link_by (head_of head) trail (items parts.entry.opening) (items parts.entry.closing)
+        → item_tree t ≡ link_by (head_of head.entry) trail (items parts.entry.opening) (items parts.entry.closing)
         (items parts.entry.trail) ps) }
 {
     let TileParts {

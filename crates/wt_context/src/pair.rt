@@ -5,7 +5,7 @@ ghost use Rattle.wt_span.specs.Items.{items};
 ghost use Rattle.wt_span.specs.Origins.{IsSoundPiece};
 ghost use Rattle.wt_tree.specs.View.{attrs_of};
 ghost use Rattle.wt_inline.specs.View.{head_of};
-ghost use Rattle.wt_context.specs.Heads.{with_attrs, name_end, attribute_items, attributes_of, pair_by_name, pair_by, pair_head};
+ghost use Rattle.wt_context.specs.Heads.{name_end, attribute_items, attributes_of, pair_by_name, pair_by, pair_head};
 
 use crate::head::placeholder;
 use crate::parts::take_some;
@@ -64,11 +64,7 @@ fn attributes_of(
     }
 }
 
-fn named<'a>(
-    alloc: Global,
-    name: TagName,
-    opening: &[Piece<'a>],
-) -> Result<NodeHead<'a>, NoMemory>
+fn named<'a>(alloc: Global, name: TagName, opening: &[Piece<'a>]) -> Result<NodeHead<'a>, NoMemory>
     requires { All IsSoundPiece opening.now }
     ensures { IfOk result (λ h. head_of h ≡ pair_by_name (Name.Paired name) (items opening.now)) }
 {

@@ -131,7 +131,7 @@ fn tokens_of<'t, 'a>(alloc: Global, nodes: &'t [Node<'a>]) -> Result<Vec<Token<'
 // ---- comparisons
 
 fn own_character<'n>(node: &'n Node<'_>) -> &'n str
-    ensures { result.now ≡ own_character (writing (out-Node node.now).kind) (out-Node node.now).shown }
+    ensures { result.now ≡ own_character (writing (out-Node node.now).kind) (out-Node node.now).source.shown }
 {
     match node.kind.writing() {
         Writing::RoundCharacter => node.shown(),
@@ -141,8 +141,8 @@ fn own_character<'n>(node: &'n Node<'_>) -> &'n str
 }
 
 fn same_character(a: &Node<'_>, b: &Node<'_>) -> bool
-    ensures { result ≡ bytes_eq (own_character (writing (out-Node a.now).kind) (out-Node a.now).shown)
-        (own_character (writing (out-Node b.now).kind) (out-Node b.now).shown) }
+    ensures { result ≡ bytes_eq (own_character (writing (out-Node a.now).kind) (out-Node a.now).source.shown)
+        (own_character (writing (out-Node b.now).kind) (out-Node b.now).source.shown) }
 {
     own_character(a) == own_character(b)
 }

@@ -85,8 +85,7 @@ fn group_leaf<'a>(
         open_w: 0,
         close_w: 0,
     };
-    let sources = leaf_sources(own);
-    Ok(unnumbered_node(head, Some(ranges), sources, children))
+    unnumbered_node(alloc, head, Some(ranges), leaf_sources(own), children)
 }
 
 /// A group of trees that begins there and holds these pieces.

@@ -5,7 +5,6 @@ ghost use Rattle.wt_tree.specs.View.{view, views};
 ghost use Rattle.wt_sections.specs.Gathering.{section_of, span_of};
 ghost use Rattle.wt_sections.specs.Sections.{last_ranges, spanned};
 
-use std::alloc::Global;
 use wt_span::List;
 use wt_tree::{Kind, More, Node, Ranges, Source};
 
@@ -45,7 +44,7 @@ fn span_of(nodes: &[Node<'_>]) -> Option<Ranges>
 }
 
 /// The section of this number that holds these nodes.
-pub fn section_of<'a>(alloc: Global, number: u32, nodes: Vec<Node<'a>>) -> Node<'a>
+pub fn section_of<'a>(number: u32, nodes: Vec<Node<'a>>) -> Node<'a>
     ensures { view result ≡ section_of number (views nodes.entry.items) }
 {
     let ranges = span_of(nodes.as_slice());

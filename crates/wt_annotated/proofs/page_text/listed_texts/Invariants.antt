@@ -3,7 +3,7 @@ use Rattle.wt_span.specs.Items.{items}
 use Rattle.wt_tree.specs.View.{texts_of}
 use Rattle.wt_annotated.specs.Pieces.{outer_calls}
 use Rattle.wt_annotated.specs.Seams.{last_of, text_from}
-use Rattle.wt_annotated.proofs.page_text.page_texts.Given as goal
+use Rattle.wt_annotated.proofs.page_text.listed_texts.Given as goal
 
 abbrev pub invariant-loop-piece : goal.invariant-loop-piece
 invariant-loop-piece l = record {

@@ -1,4 +1,5 @@
--- A line of plain characters is text: no form begins in it, so that it is one run of characters, and no style is switched.
+-- Characters with which nothing begins are text in every context: no form begins among them, so that they are one run, and no style
+-- is switched.
 use Rattle.std.proofs.Common.{◌≡◌, ℕ, zero, suc, ◌+◌, ◌<◌, ◌==◌, Bool, true, false, Option, Some, None, List, [], ◌∷◌, ◌++◌, length, take, drop, map, codes, refl, sym, ap, ◌∙◌, arith, append-nil, take_all}
 use Rattle.std.specs.Prelude.{◌&&◌, ◌||◌, not, cond, if◌then◌else◌, option_map, nat_lt}
 use Rattle.std.specs.List.{list_all, list_any, flat_map}
@@ -22,7 +23,6 @@ use Rattle.wt_tiles.specs.Glyphs.{glyph_of, begins, begins_like}
 use Rattle.wt_tiles.specs.Links.{link_at}
 use Rattle.wt_tiles.specs.Urls.{scheme_len, bare_url_of, bare_url_at, ext_link_at, kept_len, url_items}
 use Rattle.wt_tiles.specs.Tags.{opening_tag, closing_tag, tag_at}
-use Rattle.wt_tiles.specs.Contexts.{in_line}
 use Rattle.wt_tiles.specs.Tiles.{shape_of_tag, tag_tile, switch_at, outside, link_or_url, form_at, chars, closed, shapes, tiles, size, parts as tile_parts}
 use Rattle.wt_tiles.specs.Reading.{tile_at, word_before, AreTiles}
 use Rattle.wt_tiles.proofs.Readings.{shapes_only}
@@ -33,8 +33,8 @@ use Rattle.wt_context.specs.Segments.{Segment, one_stretch, is_first_quote, loos
 use Rattle.wt_context.specs.Chunks.{chunks}
 use Rattle.wt_context.specs.Styled.{with_styles}
 use Rattle.wt_context.specs.Nodes.{Reading, tile_segments, segments}
-use Rattle.wt_context.specs.Line.{within, context_parts, line_parts}
-use Rattle.wt_headings.specs.Plain.{is_plain, are_plain}
+use Rattle.wt_context.specs.Line.{within}
+use Rattle.wt_context.specs.Inert.{is_inert, are_inert}
 
 -- ---- characters
 
@@ -54,7 +54,7 @@ none_by b false false false true z d e f g h p = cc
 none_by b false false false false true d e f g h p = cc
 none_by b false false false false false d e f g h p = record { quote = d; colon = e; angle = f; bracket = g; underscore = h }
 
-none_of : (b : ℕ) → is_plain b ≡ true → IsNone b
+none_of : (b : ℕ) → is_inert b ≡ true → IsNone b
 none_of b p = none_by b (b == 39) (b == 58) (b == 60) (b == 91) (b == 95) refl refl refl refl refl p
 
 left_of : (a b : Bool) → (a && b) ≡ true → a ≡ true
@@ -75,25 +75,25 @@ no_right false b e = refl
 
 -- ---- the same as glyphs
 
-abbrev ArePlain : List Glyph → Type 0
-ArePlain [] = Unit {0}
-ArePlain (glyph.Byte b ∷ gs) = IsNone b × ArePlain gs
-ArePlain (glyph.Entity c ∷ gs) = ⊥
-ArePlain (glyph.Atom ∷ gs) = ⊥
-ArePlain (glyph.Mark ∷ gs) = ⊥
+abbrev AreInert : List Glyph → Type 0
+AreInert [] = Unit {0}
+AreInert (glyph.Byte b ∷ gs) = IsNone b × AreInert gs
+AreInert (glyph.Entity c ∷ gs) = ⊥
+AreInert (glyph.Atom ∷ gs) = ⊥
+AreInert (glyph.Mark ∷ gs) = ⊥
 
-plain_glyphs : (xs : List Item) → are_plain xs ≡ true → ArePlain (map glyph_of xs)
-plain_glyphs [] e = tt
-plain_glyphs (char o b ∷ xs) e = (none_of b (left_of (is_plain b) (are_plain xs) e), plain_glyphs xs (right_of (is_plain b) (are_plain xs) e))
-plain_glyphs (whole f o bs ∷ xs) e = cc
+inert_glyphs : (xs : List Item) → are_inert xs ≡ true → AreInert (map glyph_of xs)
+inert_glyphs [] e = tt
+inert_glyphs (char o b ∷ xs) e = (none_of b (left_of (is_inert b) (are_inert xs) e), inert_glyphs xs (right_of (is_inert b) (are_inert xs) e))
+inert_glyphs (whole f o bs ∷ xs) e = cc
 
-plain_drop : (k : ℕ) (gs : List Glyph) → ArePlain gs → ArePlain (drop k gs)
-plain_drop zero gs h = h
-plain_drop (suc k) [] h = tt
-plain_drop (suc k) (glyph.Byte b ∷ gs) h = plain_drop k gs h.1
-plain_drop (suc k) (glyph.Entity c ∷ gs) h = absurd h
-plain_drop (suc k) (glyph.Atom ∷ gs) h = absurd h
-plain_drop (suc k) (glyph.Mark ∷ gs) h = absurd h
+inert_drop : (k : ℕ) (gs : List Glyph) → AreInert gs → AreInert (drop k gs)
+inert_drop zero gs h = h
+inert_drop (suc k) [] h = tt
+inert_drop (suc k) (glyph.Byte b ∷ gs) h = inert_drop k gs h.1
+inert_drop (suc k) (glyph.Entity c ∷ gs) h = absurd h
+inert_drop (suc k) (glyph.Atom ∷ gs) h = absurd h
+inert_drop (suc k) (glyph.Mark ∷ gs) h = absurd h
 
 -- ---- no form begins
 
@@ -136,7 +136,7 @@ word_by : (c b : ℕ) (word : List ℕ) (gs : List Glyph) (v : Bool) → (c == 5
 word_by c b word gs true i j h next = no_left (to_ascii_lowercase b == c) (begins_like word gs) (no_colon c b true i refl h)
 word_by c b word gs false i j h next = no_right (to_ascii_lowercase b == c) (begins_like word gs) (next j)
 
-no_word : (word : List ℕ) (gs : List Glyph) → list_any (λ c. c == 58) word ≡ true → ArePlain gs → begins_like word gs ≡ false
+no_word : (word : List ℕ) (gs : List Glyph) → list_any (λ c. c == 58) word ≡ true → AreInert gs → begins_like word gs ≡ false
 no_word [] gs e h = cc
 no_word (c ∷ word) [] e h = refl
 no_word (c ∷ word) (glyph.Byte b ∷ gs) e h = word_by c b word gs (c == 58) refl e h.0.colon (λ f. no_word word gs f h.1)
@@ -150,7 +150,7 @@ scheme_by true v w e f g = cc
 scheme_by false true w e f g = cc
 scheme_by false false true e f g = cc
 
-no_scheme : (gs : List Glyph) → ArePlain gs → scheme_len gs ≡ 0
+no_scheme : (gs : List Glyph) → AreInert gs → scheme_len gs ≡ 0
 unfolding scheme_len
 no_scheme gs h =
     scheme_by (begins_like (codes "http://") gs) (begins_like (codes "https://") gs) (begins_like (codes "ftp://") gs)
@@ -160,7 +160,7 @@ no_url_by : (after : Bool) (o : Option Shape) → o ≡ None → (if after then 
 no_url_by true o e = refl
 no_url_by false o e = e
 
-no_url : (after : Bool) (gs : List Glyph) → ArePlain gs → bare_url_at after gs ≡ None
+no_url : (after : Bool) (gs : List Glyph) → AreInert gs → bare_url_at after gs ≡ None
 unfolding bare_url_at
 no_url after gs h = no_url_by after _ (ap (λ n. bare_url_of n (kept_len (url_items gs))) (no_scheme gs h))
 
@@ -174,7 +174,7 @@ no_switch : (b : ℕ) (gs : List Glyph) → IsNone b → switch_at (glyph.Byte b
 unfolding switch_at
 no_switch b gs h = if_none (begins (codes "__") (glyph.Byte b ∷ gs)) _ (no_left (b == 95) _ h.underscore)
 
-no_form : (cx : Context) (after : Bool) (b : ℕ) (gs : List Glyph) → IsNone b → ArePlain gs → form_at cx after (glyph.Byte b ∷ gs) ≡ None
+no_form : (cx : Context) (after : Bool) (b : ℕ) (gs : List Glyph) → IsNone b → AreInert gs → form_at cx after (glyph.Byte b ∷ gs) ≡ None
 unfolding form_at link_or_url tag_tile
 no_form cx after b gs h p =
     let all = glyph.Byte b ∷ gs in
@@ -184,7 +184,7 @@ no_form cx after b gs h p =
     (or_none (tag_tile cx.pairs all) (switch_at all)
     (map_none (λ t. shape_of_tag cx.pairs t.name t.shape t.len all) (tag_at all) (no_tag b gs h)) (no_switch b gs h))
 
-no_tile : (cx : Context) (after : Bool) (gs : List Glyph) → ArePlain gs → tile_at cx after gs ≡ None
+no_tile : (cx : Context) (after : Bool) (gs : List Glyph) → AreInert gs → tile_at cx after gs ≡ None
 no_tile cx after [] h = refl
 no_tile cx after (glyph.Byte b ∷ gs) h = no_form cx after b gs h.0 h.1
 no_tile cx after (glyph.Entity c ∷ gs) h = absurd h
@@ -193,13 +193,13 @@ no_tile cx after (glyph.Mark ∷ gs) h = absurd h
 
 -- ---- one run of characters
 
-one_tile : (cx : Context) (gs : List Glyph) → 0 < length gs → ArePlain gs → AreTiles cx false (chars (length gs) ∷ []) gs
+one_tile : (cx : Context) (gs : List Glyph) → 0 < length gs → AreInert gs → AreTiles cx false (chars (length gs) ∷ []) gs
 one_tile cx gs s h =
     let w = chars (length gs) in
     let n : size w ≡ length gs = omega arith in (
       omega (arith, n, s),
       omega (arith, n),
-      (ap chars (sym n), λ k l. no_tile cx (word_before false gs k) (drop k gs) (plain_drop k gs h)),
+      (ap chars (sym n), λ k l. no_tile cx (word_before false gs k) (drop k gs) (inert_drop k gs h)),
       tt,
       drop_all (size w) gs (omega (arith, n)),
     )
@@ -210,12 +210,12 @@ one_part xs gs e =
     let ys : take (size (chars (length gs))) xs ≡ xs = take_all (size (chars (length gs))) xs (omega (arith, e, n)) in
     ap (λ zs. (chars (length gs), zs) ∷ []) ys
 
-plain_tiles : (cx : Context) (xs : List Item) → 0 < length xs → are_plain xs ≡ true → tiles cx xs ≡ (chars (length (map glyph_of xs)), xs) ∷ []
-plain_tiles cx xs s e =
+inert_tiles : (cx : Context) (xs : List Item) → 0 < length xs → are_inert xs ≡ true → tiles cx xs ≡ (chars (length (map glyph_of xs)), xs) ∷ []
+inert_tiles cx xs s e =
     let gs = map glyph_of xs in
     let n : length gs ≡ length xs = length-map xs glyph_of in
     tiles_are cx xs
-    ∙ ap (λ ws. tile_parts ws xs) (sym (shapes_only cx (chars (length gs) ∷ []) gs (one_tile cx gs (omega (arith, n, s)) (plain_glyphs xs e))))
+    ∙ ap (λ ws. tile_parts ws xs) (sym (shapes_only cx (chars (length gs) ∷ []) gs (one_tile cx gs (omega (arith, n, s)) (inert_glyphs xs e))))
     ∙ one_part xs gs n
 
 -- ---- one segment
@@ -225,62 +225,62 @@ joined_pair false false e f = refl
 joined_pair true b e f = cc
 joined_pair false true e f = cc
 
-one_run : (xs : List Item) → 0 < length xs → are_plain xs ≡ true → IsRun one_stretch xs []
+one_run : (xs : List Item) → 0 < length xs → are_inert xs ≡ true → IsRun one_stretch xs []
 one_run [] s e = absurd (omega arith)
 one_run (x ∷ []) s e = tt
 one_run (whole f o bs ∷ y ∷ ys) s e = cc
-one_run (char o b ∷ whole f p bs ∷ ys) s e = let r = right_of (is_plain b) (are_plain (whole f p bs ∷ ys)) e in cc
+one_run (char o b ∷ whole f p bs ∷ ys) s e = let r = right_of (is_inert b) (are_inert (whole f p bs ∷ ys)) e in cc
 one_run (char o b ∷ char p c ∷ ys) s e =
-    let f = left_of (is_plain b) (are_plain (char p c ∷ ys)) e in
-    let r = right_of (is_plain b) (are_plain (char p c ∷ ys)) e in
-    let g = left_of (is_plain c) (are_plain ys) r in
+    let f = left_of (is_inert b) (are_inert (char p c ∷ ys)) e in
+    let r = right_of (is_inert b) (are_inert (char p c ∷ ys)) e in
+    let g = left_of (is_inert c) (are_inert ys) r in
     (joined_pair (b == 39) (c == 39) (none_of b f).quote (none_of c g).quote, one_run (char p c ∷ ys) (omega arith) r)
 
-no_quote : (xs : List Item) → are_plain xs ≡ true → is_first_quote xs ≡ false
+no_quote : (xs : List Item) → are_inert xs ≡ true → is_first_quote xs ≡ false
 no_quote [] e = refl
-no_quote (char o b ∷ xs) e = (none_of b (left_of (is_plain b) (are_plain xs) e)).quote
+no_quote (char o b ∷ xs) e = (none_of b (left_of (is_inert b) (are_inert xs) e)).quote
 no_quote (whole f o bs ∷ xs) e = cc
 
-abbrev plain_segment : List Item → Segment
-plain_segment xs = record { quote = false; items = xs; parts = parts Text xs }
+abbrev text_segment : List Item → Segment
+text_segment xs = record { quote = false; items = xs; parts = parts Text xs }
 
-one_segment : (xs : List Item) → 0 < length xs → are_plain xs ≡ true → loose_segments xs ≡ plain_segment xs ∷ []
+one_segment : (xs : List Item) → 0 < length xs → are_inert xs ≡ true → loose_segments xs ≡ text_segment xs ∷ []
 unfolding loose_segments
 one_segment xs s e =
     ap (map loose_segment) (ap (runs one_stretch) (sym (append-nil xs)) ∙ runs_cut one_stretch xs [] (one_run xs s e))
     ∙ ap (λ (q : Bool). record { quote = q; items = xs; parts = parts Text xs } ∷ []) (no_quote xs e)
 
-unstyled : (xs : List Item) → with_styles (plain_segment xs ∷ []) ≡ parts Text xs ++ []
+unstyled : (xs : List Item) → with_styles (text_segment xs ∷ []) ≡ parts Text xs ++ []
 unfolding with_styles chunks style_tree_of toggles_of toggle_at
 unstyled xs = refl
 
--- ---- the line
+-- ---- a context
 
-nothing_read : (read : Reading) → with_styles (segments read in_line []) ≡ []
+nothing_read : (read : Reading) (cx : Context) → with_styles (segments read cx []) ≡ []
 unfolding segments tiles shapes closed with_styles chunks style_tree_of toggles_of
-nothing_read read = refl
+nothing_read read cx = refl
 
-some_read : (read : Reading) (xs : List Item) → 0 < length xs → are_plain xs ≡ true → with_styles (segments read in_line xs) ≡ parts Text xs
+some_read : (read : Reading) (cx : Context) (xs : List Item) → 0 < length xs → are_inert xs ≡ true → with_styles (segments read cx xs) ≡ parts Text xs
 unfolding segments
-some_read read xs s e =
-    ap (λ ts. with_styles (flat_map (tile_segments read in_line) ts)) (plain_tiles in_line xs s e)
+some_read read cx xs s e =
+    ap (λ ts. with_styles (flat_map (tile_segments read cx) ts)) (inert_tiles cx xs s e)
     ∙ ap with_styles (append-nil (loose_segments xs) ∙ one_segment xs s e) ∙ unstyled xs ∙ append-nil (parts Text xs)
 
-plain_read : (read : Reading) (xs : List Item) → are_plain xs ≡ true → with_styles (segments read in_line xs) ≡ parts Text xs
-plain_read read [] e = nothing_read read
-plain_read read (x ∷ xs) e = some_read read (x ∷ xs) (omega arith) e
+inert_read : (read : Reading) (cx : Context) (xs : List Item) → are_inert xs ≡ true → with_styles (segments read cx xs) ≡ parts Text xs
+inert_read read cx [] e = nothing_read read cx
+inert_read read cx (x ∷ xs) e = some_read read cx (x ∷ xs) (omega arith) e
 
-pub plain_line : (xs : List Item) → are_plain xs ≡ true → line_parts xs ≡ parts Text xs
-unfolding context_parts
-plain_line xs e = plain_read (within 17) xs e
+pub inert_within : (n : ℕ) (cx : Context) (xs : List Item) → are_inert xs ≡ true → within n cx xs ≡ parts Text xs
+inert_within zero cx xs e = refl
+inert_within (suc n) cx xs e = inert_read (within n) cx xs e
 
 -- ---- bytes and items
 
-plain_bytes : (o : Option ℕ) (bs : List ℕ) → list_all is_plain bs ≡ true → are_plain (map (char o) bs) ≡ true
-plain_bytes o [] e = refl
-plain_bytes o (b ∷ bs) e =
-    let p = left_of (is_plain b) (list_all is_plain bs) e in
-    let q = plain_bytes o bs (right_of (is_plain b) (list_all is_plain bs) e) in
+inert_bytes : (o : Option ℕ) (bs : List ℕ) → list_all is_inert bs ≡ true → are_inert (map (char o) bs) ≡ true
+inert_bytes o [] e = refl
+inert_bytes o (b ∷ bs) e =
+    let p = left_of (is_inert b) (list_all is_inert bs) e in
+    let q = inert_bytes o bs (right_of (is_inert b) (list_all is_inert bs) e) in
     rw (p, q) refl
 
 chars_form : (f : Form) → is_chars f ≡ true → f ≡ form.Chars
@@ -294,5 +294,5 @@ chars_form form.Include e = cc
 chars_form form.Hidden e = cc
 chars_form form.EmptyCall e = cc
 
-pub plain_form : (f : Form) (o : Option ℕ) (bs : List ℕ) → is_chars f ≡ true → list_all is_plain bs ≡ true → are_plain (items_by f o bs) ≡ true
-plain_form f o bs e h = ap (λ g. are_plain (items_by g o bs)) (chars_form f e) ∙ plain_bytes o bs h
+pub inert_form : (f : Form) (o : Option ℕ) (bs : List ℕ) → is_chars f ≡ true → list_all is_inert bs ≡ true → are_inert (items_by f o bs) ≡ true
+inert_form f o bs e h = ap (λ g. are_inert (items_by g o bs)) (chars_form f e) ∙ inert_bytes o bs h
