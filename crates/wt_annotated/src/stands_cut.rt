@@ -145,9 +145,7 @@ fn is_one_text(shown: &str, own: &[Text<'_>]) -> bool
 fn is_text_leaf(node: &Node<'_>) -> bool
     ensures { result ≡ true → view node.now ≡ text_leaf (out-Node node.now).ranges (texts_of (out-Node node.now).source.own) }
 {
-    matches!(node.kind, Kind::Text)
-        && is_one_text(node.shown(), node.own())
-        && is_bare(node)
+    matches!(node.kind, Kind::Text) && is_one_text(node.shown(), node.own()) && is_bare(node)
 }
 
 fn is_sep_leaf(node: &Node<'_>) -> bool

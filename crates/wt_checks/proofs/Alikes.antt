@@ -1,14 +1,10 @@
--- Lists of attributes of other lengths aren't the same. Data is compared behind references.
-use Rattle.std.proofs.Common.{◌≡◌, ℕ, Bool, true, false, List, [], ◌∷◌, length, refl, sym, ap, ◌∙◌, suc, Option, Some, None}
-use denote.Ref.{Bor}
-use Rattle.std.specs.Prelude.{◌&&◌, ◌==◌, option_copied}
-use Rattle.std.specs.Option.{option_eq}
+-- Lists of attributes of other lengths aren't the same.
+use Rattle.std.proofs.Common.{◌≡◌, ℕ, Bool, true, false, List, [], ◌∷◌, length, refl, sym, ap, ◌∙◌, suc}
+use Rattle.std.specs.Prelude.{◌&&◌, ◌==◌}
 use Rattle.std.specs.Str.{bytes_eq}
 use Rattle.std.proofs.lemmas.List.{length-map}
 use Rattle.wt_tree.specs.declared.kind.AttrName.{AttrName}
 use Rattle.wt_tree.specs.declared.node.Attr.{Attr}
-use Rattle.wt_tree.specs.declared.node.DataMw.{DataMw}
-use Rattle.wt_tree.specs.contracts.node.DataMwPartialEq.TheImpl.{eq-value as data_eq}
 use Rattle.wt_tree.specs.Kinds.{order}
 use Rattle.wt_tree.specs.View.{attrs_of}
 use Rattle.wt_checks.specs.Alike.{same_attrs}
@@ -30,9 +26,3 @@ pub attrs_long : (xs ys : List Attr) → (length xs ≡ length ys → ⊥) → f
 attrs_long xs ys h =
     sym (pairs_long (attrs_of xs) (attrs_of ys) (λ e. h
     (sym (length-map xs (λ (a : Attr). (a.name, a.value))) ∙ e ∙ length-map ys (λ (a : Attr). (a.name, a.value)))))
-
-pub data_behind : (a b : Option (Bor DataMw)) → option_eq (λ x y. data_eq.it x.now y.now) a b ≡ option_eq data_eq.it (option_copied a) (option_copied b)
-data_behind None None = refl
-data_behind None (Some y) = refl
-data_behind (Some x) None = refl
-data_behind (Some x) (Some y) = refl

@@ -132,7 +132,11 @@ fn is_wrongly_marked(index: &[Visit<'_, '_>], visit: Visit<'_, '_>) -> bool
     if node.id == 0 && !is_body(node.kind) {
         return true;
     }
-    !allows(Editing::of(node.kind), node.mark(), original(index, node.id))
+    !allows(
+        Editing::of(node.kind),
+        node.mark(),
+        original(index, node.id),
+    )
 }
 
 /// The first node with a mark where it may not stand.

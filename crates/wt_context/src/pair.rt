@@ -64,11 +64,7 @@ fn attributes_of(
     }
 }
 
-fn named<'a>(
-    alloc: Global,
-    name: TagName,
-    opening: &[Piece<'a>],
-) -> Result<NodeHead<'a>, NoMemory>
+fn named<'a>(alloc: Global, name: TagName, opening: &[Piece<'a>]) -> Result<NodeHead<'a>, NoMemory>
     requires { All IsSoundPiece opening.now }
     ensures { IfOk result (λ h. head_of h ≡ pair_by_name (Name.Paired name) (items opening.now)) }
 {

@@ -41,8 +41,7 @@ fn is_partner(holder: u32, node: &Node<'_>, original: Option<Visit<'_, '_>>) -> 
             if node.id == 0 || visit.parent != holder {
                 return false;
             }
-            same_kind(visit.node.kind, node.kind)
-                && same_attrs(visit.node.attrs(), node.attrs())
+            same_kind(visit.node.kind, node.kind) && same_attrs(visit.node.attrs(), node.attrs())
         }
     }
 }

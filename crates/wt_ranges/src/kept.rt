@@ -60,7 +60,13 @@ pub fn kept_leaf<'a>(
     let width = page_width(calls, before, held.as_slice());
     let own = page_texts(alloc, calls, before, held.as_slice())?;
     let ranges = leaf_ranges(head.kind, byte, width);
-    unnumbered_node(alloc, head, Some(ranges), leaf_sources(own), List::new(alloc))
+    unnumbered_node(
+        alloc,
+        head,
+        Some(ranges),
+        leaf_sources(own),
+        List::new(alloc),
+    )
 }
 
 /// The ranges of a node round its children that begins there, by a walk through it.

@@ -6,7 +6,7 @@ ghost use Rattle.wt_span.specs.Items.{items};
 ghost use Rattle.wt_tree.specs.View.{attrs_of};
 ghost use Rattle.wt_tree.specs.declared.kind.Kind.TheVariants as node_kind;
 ghost use Rattle.wt_inline.specs.ItemTree.{inner, forest};
-ghost use Rattle.wt_inline.specs.View.{item_tree, item_trees};
+ghost use Rattle.wt_inline.specs.View.{head_of, item_tree, item_trees};
 ghost use Rattle.wt_body.specs.Rows.{signs};
 ghost use Rattle.wt_body.specs.Tables.{with_attrs, first_items, row_by};
 ghost use Rattle.wt_rows.specs.Ready.{AreReadyRows};
@@ -51,14 +51,12 @@ pub fn opened_row<'a>(
 
 /// The node of a table.
 fn table_node<'a>(
-    alloc: Global,
     head: NodeHead<'a>,
     opening: List<Piece<'a>>,
     children: List<PieceTree<'a>>,
     closing: List<Piece<'a>>,
 ) -> PieceTree<'a>
-    ensures { item_tree result ≡ inner (with_attrs node_kind.Table (attrs_of attrs)) (items opening.entry) (forest (item_trees children.entry))
-        (items closing.entry) }
+    ensures { item_tree result ≡ inner (head_of head.entry) (items opening.entry) (forest (item_trees children.entry)) (items closing.entry) }
 {
     PieceTree {
         head,
@@ -79,15 +77,10 @@ fn table_tree<'a>(
     ensures { IfOk result (λ t. item_tree t ≡ inner (with_attrs node_kind.Table (attrs_of attrs))
         (items opening.now) (forest (item_trees children.entry)) (items closing.now)) }
 {
+    let head = NodeHead::with_attrs(alloc, Kind::Table, attrs)?;
     let first = Vec::from_slice(alloc, opening)?;
     let last = Vec::from_slice(alloc, closing)?;
-    let tree = table_node(
-        alloc,
-        NodeHead::with_attrs(alloc, Kind::Table, attrs)?,
-        List::from_vec(first),
-        children,
-        List::from_vec(last),
-    );
+    let tree = table_node(head, List::from_vec(first), children, List::from_vec(last));
     Ok(tree)
 }
 
