@@ -1,11 +1,13 @@
 -- Worked cases: comments and include tags that an edited tree still has.
-use Rattle.std.proofs.Common.{arith, ◌≡◌, ◌≤◌, ℕ, List, [], ◌∷◌, refl, codes, inl, inr}
+use Rattle.std.proofs.Common.{arith, ◌≡◌, ◌≤◌, ◌+◌, ℕ, Bool, true, false, List, [], ◌∷◌, ◌++◌, map, refl, codes, inl}
+use Rattle.std.specs.Prelude.{cond}
+use Rattle.std.specs.Str.{bytes_eq}
 use Rattle.wt_tree.specs.Tree.{Tree, tree, none}
 use Rattle.wt_tree.specs.declared.kind.Kind.TheVariants as kind
 use Rattle.wt_checks.specs.Places.{places, page_of}
 use Rattle.wt_checks.proofs.Cases.{blank, body, node, words, group}
 use Rattle.wt_shown.specs.KeptMarks.{sources, still, KeepsMarks}
-use Rattle.wt_shown.specs.Tally.{times, StandAmong}
+use Rattle.wt_shown.specs.Tally.{times, trimmed, StandAmong}
 
 abbrev comment : ℕ → List ℕ → Tree
 comment n bs = tree (record (blank kind.Comment n) { own = bs }) none
@@ -45,13 +47,40 @@ other_node = refl
 twice : times (codes "<!--x-->") (codes "<!--x-->" ∷ codes "<!--y-->" ∷ codes "<!--x-->" ∷ []) ≡ 2
 twice = refl
 
+-- a comment line, and the same comment at the page's start
+line : trimmed (codes " <!--x--> " ++ 10 ∷ []) ≡ codes "<!--x-->"
+line = refl
+
 -- ---- what is kept
 
 at_least : (texts : List (List ℕ)) → StandAmong [] texts
 at_least texts = λ text. omega (arith)
 
 kept : KeepsMarks page page edited
-kept = (at_least (sources kind.Comment (places page)), inl (refl, tt))
+kept = (at_least (map trimmed (sources kind.Comment (places page))), inl (refl, tt))
+
+-- the first comment is a line of its own in the page, and begins the new one; they change their order
+abbrev lines : Tree
+lines = body (node kind.Para 1 (words (codes "a") ∷ []) ∷ comment 2 (codes "<!--x-->" ++ 10 ∷ []) ∷ comment 3 (codes "<!--y-->" ++ 10 ∷ []) ∷ [])
+
+abbrev exchanged : Tree
+exchanged = body (comment 1 (codes "<!--y-->") ∷ comment 2 (codes "<!--x-->" ++ 10 ∷ []) ∷ node kind.Para 3 (words (codes "a") ∷ []) ∷ [])
+
+either_order : (x y : List ℕ) → StandAmong (x ∷ y ∷ []) (y ∷ x ∷ [])
+either_order x y = λ text. by (bytes_eq x text) (bytes_eq y text)
+  where
+    by : (a b : Bool) → (0 + cond a 1 0) + cond b 1 0 ≤ (0 + cond b 1 0) + cond a 1 0
+    by true true = omega arith
+    by true false = omega arith
+    by false true = omega arith
+    by false false = omega arith
+
+kept_lines : KeepsMarks exchanged lines lines
+kept_lines = (either_order (codes "<!--x-->") (codes "<!--y-->"), tt)
+
+-- a comment that stood twice stands once
+once_more : StandAmong (codes "x" ∷ codes "x" ∷ []) (codes "x" ∷ []) → ⊥
+once_more h = let t : 2 ≤ 1 = h (codes "x") in omega (arith, t)
 
 -- a new page without the tag
 lost : KeepsMarks (body (node kind.Para 1 (words (codes "c") ∷ []) ∷ [])) page edited → ⊥
