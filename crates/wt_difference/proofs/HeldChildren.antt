@@ -90,3 +90,18 @@ all_end cs ns i all ge h = sym (appended_none (child_views cs)) ∙ ap (λ zs. a
 -- what a node holds
 pub held_out : (n : Node) → held (view n) ≡ (if has_inside (out-Node n).kind then from_blocks (views (out-Node n).children) else opened (views (out-Node n).children))
 held_out n = rw (view_out n)
+
+-- all behind the inside
+pub held_behind : (n : Node) (b : Bool) (cs old : List Child) (ns : List Node) (k : ℕ) → b ≡ has_inside (out-Node n).kind → b ≡ true
+    → ns ≡ (out-Node n).children → old ≡ [] → views (drop k ns) ≡ from_blocks (views ns) → child_views cs ≡ appended (child_views old) (views (drop k ns))
+    → child_views cs ≡ held (view n)
+held_behind n b cs old ns k h t same new behind e =
+    e ∙ ap (λ ds. appended (child_views ds) (views (drop k ns))) new
+    ∙ behind ∙ ap (λ ms. from_blocks (views ms)) same ∙ sym (held_out n ∙ if_true (has_inside (out-Node n).kind) _ _ (sym h ∙ t))
+
+-- all of it, where there is no inside
+pub held_opened : (n : Node) (b : Bool) (cs old : List Child) (ns : List Node) → b ≡ has_inside (out-Node n).kind → b ≡ false
+    → ns ≡ (out-Node n).children → old ≡ [] → child_views cs ≡ appended (child_views old) (opened (views ns)) → child_views cs ≡ held (view n)
+held_opened n b cs old ns h f same new e =
+    e ∙ ap (λ ds. appended (child_views ds) (opened (views ns))) new
+    ∙ ap (λ ms. opened (views ms)) same ∙ sym (held_out n ∙ if_false (has_inside (out-Node n).kind) _ _ (sym h ∙ f))
