@@ -270,6 +270,10 @@ inert_read : (read : Reading) (cx : Context) (xs : List Item) → are_inert xs �
 inert_read read cx [] e = nothing_read read cx
 inert_read read cx (x ∷ xs) e = some_read read cx (x ∷ xs) (omega arith) e
 
+pub none_within : (n : ℕ) (cx : Context) (xs : List Item) → n ≡ 0 → within n cx xs ≡ parts Text xs
+none_within zero cx xs e = refl
+none_within (suc n) cx xs e = absurd (omega arith)
+
 pub inert_within : (n : ℕ) (cx : Context) (xs : List Item) → are_inert xs ≡ true → within n cx xs ≡ parts Text xs
 inert_within zero cx xs e = refl
 inert_within (suc n) cx xs e = inert_read (within n) cx xs e
