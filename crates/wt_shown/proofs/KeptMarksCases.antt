@@ -4,6 +4,7 @@ use Rattle.std.specs.Prelude.{cond}
 use Rattle.std.specs.Str.{bytes_eq}
 use Rattle.wt_tree.specs.Tree.{Tree, tree, none}
 use Rattle.wt_tree.specs.declared.kind.Kind.TheVariants as kind
+use Rattle.wt_checks.specs.Alike.{same_kind}
 use Rattle.wt_checks.specs.Places.{places, page_of}
 use Rattle.wt_checks.proofs.Cases.{blank, body, node, words, group}
 use Rattle.wt_shown.specs.KeptMarks.{sources, still, KeepsMarks}
@@ -20,9 +21,11 @@ abbrev page : Tree
 page = body (node kind.Para 1 (words (codes "a") ∷ comment 2 (codes "<!--x-->") ∷ []) ∷ tag 3 (codes "<noinclude>") ∷ node kind.Para 4 (words (codes "b") ∷ []) ∷ [])
 
 comments : sources kind.Comment (places page) ≡ codes "<!--x-->" ∷ []
+unfolding same_kind
 comments = refl
 
 tags : sources kind.Include (places page) ≡ codes "<noinclude>" ∷ []
+unfolding same_kind
 tags = refl
 
 -- the comment has gone, a new one has come, and an edited tag's source is the page's
@@ -30,17 +33,21 @@ abbrev edited : Tree
 edited = body (tag 3 (codes "?") ∷ comment 0 (codes "<!--new-->") ∷ node kind.Para 1 (words (codes "c") ∷ []) ∷ [])
 
 no_comment : still kind.Comment (page_of page) (places edited) ≡ []
+unfolding same_kind
 no_comment = refl
 
 one_tag : still kind.Include (page_of page) (places edited) ≡ codes "<noinclude>" ∷ []
+unfolding same_kind
 one_tag = refl
 
 -- what stands in a group has no number
 in_group : sources kind.Comment (places (body (group 1 (comment 0 (codes "<!--x-->") ∷ []) ∷ []))) ≡ []
+unfolding same_kind
 in_group = refl
 
 -- another node of the page isn't a mark that it has
 other_node : still kind.Comment (page_of page) (places (body (comment 4 (codes "b") ∷ []))) ≡ []
+unfolding same_kind
 other_node = refl
 
 -- how often a comment stands among some
@@ -57,6 +64,7 @@ at_least : (texts : List (List ℕ)) → StandAmong [] texts
 at_least texts = λ text. omega (arith)
 
 kept : KeepsMarks page page edited
+unfolding same_kind
 kept = (at_least (map trimmed (sources kind.Comment (places page))), inl (refl, tt))
 
 -- the first comment is a line of its own in the page, and begins the new one; they change their order
@@ -76,6 +84,7 @@ either_order x y = λ text. by (bytes_eq x text) (bytes_eq y text)
     by false false = omega arith
 
 kept_lines : KeepsMarks exchanged lines lines
+unfolding same_kind
 kept_lines = (either_order (codes "<!--x-->") (codes "<!--y-->"), tt)
 
 -- a comment that stood twice stands once
@@ -84,4 +93,5 @@ once_more h = let t : 2 ≤ 1 = h (codes "x") in omega (arith, t)
 
 -- a new page without the tag
 lost : KeepsMarks (body (node kind.Para 1 (words (codes "c") ∷ []) ∷ [])) page edited → ⊥
+unfolding same_kind
 lost h = h.1
