@@ -5,7 +5,7 @@ use Rattle.std.specs.Io.KnownBytes.{Appends, IsAtEnd}
 use Rattle.wt_checks.specs.Checked.{checked, nodes_checked}
 use Rattle.wt_checks.proofs.NodesAlone.{taken_alone}
 use Rattle.wt_checks.specs.declared.refusal.Check.{Check}
-use Rattle.wt_difference.specs.Difference.{difference}
+use Rattle.wt_difference.specs.Difference.{are_none, difference}
 use Rattle.wt_expand.specs.PageCalls.{expanded_page}
 use Rattle.wt_expand.specs.Work.{Pages}
 use Rattle.wt_fitting.specs.Read.{Read, page as as_page, ill, misfit, read}
@@ -33,7 +33,7 @@ use Rattle.wt_pagetool.specs.Devices.{SourceUse, FolderUse, SinkUse}
 use Rattle.wt_pagetool.specs.Outputs.{output_bytes}
 use Rattle.wt_pagetool.specs.Refusals.{status_of}
 use Rattle.wt_pagetool.specs.Reports.{Reported, WroteSelser}
-use Rattle.wt_pagetool.specs.Selser.{are_none, AnswersSelser, DoneByEdit, EditIsDone, Finds, FindsFor, FindsNew, FindsNone, FindsUnder, IsNewPage, IsNoNewPage, NoneFor, NoneUnder, OrFound, PageMustDo, ReadsBack, RefusedSelser, RefusesSelser}
+use Rattle.wt_pagetool.specs.Selser.{AnswersSelser, DoneByEdit, EditIsDone, Finds, FindsFor, FindsNew, FindsNone, FindsUnder, IsNewPage, IsNoNewPage, NoneFor, NoneUnder, OrFound, PageMustDo, ReadsBack, RefusedSelser, RefusesSelser}
 use Rattle.wt_pagetool.specs.Statuses.{code, IsFaultOrNoMemory}
 use Rattle.wt_pagetool.specs.Words.{command_of, Reads}
 use Rattle.wt_pagetool.proofs.AnswerLaws.{input_done, input_within}

@@ -13,7 +13,7 @@ use Rattle.wt_checks.proofs.NodesAlone.{taken_alone}
 use Rattle.wt_checks.proofs.NodesUnmarked.{checked_unmarked}
 use Rattle.wt_checks.proofs.Repeated.{or_false}
 use Rattle.wt_checks.proofs.Sections.{no_difference}
-use Rattle.wt_difference.specs.Difference.{difference}
+use Rattle.wt_difference.specs.Difference.{are_none, difference}
 use Rattle.wt_difference.specs.Remarked.{remarked}
 use Rattle.wt_difference.specs.Unedited.{IsUnedited}
 use Rattle.wt_difference.proofs.Remarks.{marks_alone, groups_free}
@@ -36,7 +36,7 @@ use Rattle.wt_pagetool.specs.Devices.{SinkUse}
 use Rattle.wt_pagetool.specs.GivenBack.{GaveBack}
 use Rattle.wt_pagetool.specs.Refusals.{status_of}
 use Rattle.wt_pagetool.specs.Reports.{Reported}
-use Rattle.wt_pagetool.specs.Selser.{PageMustDo, FindsNone, FindsNew, FindsFor, FindsUnder, OrFound, AnswersSelser, are_none}
+use Rattle.wt_pagetool.specs.Selser.{PageMustDo, FindsNone, FindsNew, FindsFor, FindsUnder, OrFound, AnswersSelser}
 use Rattle.wt_pagetool.specs.Statuses.{code}
 use Rattle.wt_pagetool.proofs.AnswerLaws.{input_within}
 use Rattle.wt_pagetool.proofs.GivenBackLaws.{gave_step}

@@ -4,7 +4,7 @@ use Rattle.wt_expand.specs.PageCalls.{expanded_page}
 use Rattle.wt_expand.specs.Work.{Pages}
 use Rattle.wt_fitting.specs.Read.{Read, page as as_page, ill, misfit, read}
 use Rattle.wt_page_round_trip.specs.PageTree.{page_tree}
-use Rattle.wt_difference.specs.Difference.{Changed, difference}
+use Rattle.wt_difference.specs.Difference.{are_none, difference}
 use Rattle.wt_proposal.specs.Rewritten.{IsRewritten}
 use Rattle.wt_selser.specs.Edits.{edit_answer}
 use Rattle.wt_shown.specs.KeptMarks.{KeepsMarks}
@@ -102,11 +102,6 @@ FindsNew pages items page t u same (Ok output) = IsNewPage pages items page t u 
 FindsNew pages items page t u same (Err r) = FindsNone pages items page t u same r (status_of r)
 
 -- ---- the answer
-
--- nothing differs
-abbrev pub are_none : List Changed → Bool
-are_none [] = true
-are_none (c ∷ cs) = false
 
 -- of a page that is taken, for an edited tree
 abbrev pub Finds : Pages → List ℕ → Tree → Result Output Refusal → Type 0

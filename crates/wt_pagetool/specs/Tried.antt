@@ -1,7 +1,7 @@
 -- What reading a new page back says, and what trying a proposal does.
 use Rattle.std.specs.Prelude.{◌≡◌, ⊤, ℕ, Bool, true, List, Option, Some, None}
 use Rattle.wt_checks.specs.Checked.{nodes_checked}
-use Rattle.wt_difference.specs.Difference.{difference}
+use Rattle.wt_difference.specs.Difference.{are_none, difference}
 use Rattle.wt_difference.specs.Remarked.{remarked}
 use Rattle.wt_expand.specs.Work.{Pages}
 use Rattle.wt_expansion.specs.Known.{HoldsPages}
@@ -28,7 +28,7 @@ use Rattle.wt_pagetool.specs.declared.proposing.Tried.TheVariants as tried
 use Rattle.wt_pagetool.specs.declared.selser_command.Beside.{Beside}
 use Rattle.wt_pagetool.specs.declared.refusal.Refusal.{Refusal}
 use Rattle.wt_pagetool.specs.declared.refusal.Refusal.TheVariants.{BadContent, NewPageTooLong, NewExpansion, Unspelled, FolderFault, NoMemory}
-use Rattle.wt_pagetool.specs.Selser.{are_none, IsNewPage, IsProposed, PageMustDo, ReadsBack}
+use Rattle.wt_pagetool.specs.Selser.{IsNewPage, IsProposed, PageMustDo, ReadsBack}
 
 -- ---- an expansion
 

@@ -1,6 +1,8 @@
 //! The new pages that are tried for an edited tree, one after another, each by reading it back.
 
 ghost use Rattle.std.specs.Prelude.{◌≡◌, false, Some, Ok, Err, IfOk, IfErr};
+ghost use Rattle.wt_checks.specs.Places.{page_of};
+ghost use Rattle.wt_checks.specs.View.{indexed};
 ghost use Rattle.wt_expand.specs.Work.{Pages};
 ghost use Rattle.wt_expansion.specs.Known.{HoldsPages};
 ghost use Rattle.wt_outer.specs.Device.{Rose};
@@ -147,6 +149,7 @@ fn tried_proposal<'a, F: Folder>(
 ) -> Result<Tried<'a>, Refusal>
     requires body { (label (view edit.now.tree.now)).kind ≡ kind.Body }
     requires numbered { ∥ InPreorder (view edit.now.tree.now) ∥₁ }
+    requires index { indexed edit.now.index.now ≡ page_of (view edit.now.tree.now) }
     requires known { HoldsPages expansion }
     ensures tried { (pages : Pages) → F.pages folder.old ≡ Some pages → KnowsOf pages expansion.entry
         → IfOk result (TriedProposal pages edit.now.page.now (view edit.now.tree.now) (view edit.now.edited.now)) }
@@ -157,7 +160,14 @@ fn tried_proposal<'a, F: Folder>(
     ensures count { IsKept result (F.fault_count folder.old) (F.fault_count folder.new) }
     ensures kept { F.pages folder.new ≡ F.pages folder.old }
 {
-    let proposed = proposal(alloc, edit.page, edit.tree, edit.edited, keeping)?;
+    let proposed = proposal(
+        alloc,
+        edit.page,
+        edit.index,
+        edit.tree,
+        edit.edited,
+        keeping,
+    )?;
     match proposed {
         Some(new) => tried_marks(alloc, new, edit, folder, expansion),
         None => Ok(Tried::Fails(Fault::Block(0), expansion)),
@@ -173,6 +183,7 @@ fn tried_first<'a, F: Folder>(
 ) -> Result<Tried<'a>, Refusal>
     requires body { (label (view edit.now.tree.now)).kind ≡ kind.Body }
     requires numbered { ∥ InPreorder (view edit.now.tree.now) ∥₁ }
+    requires index { indexed edit.now.index.now ≡ page_of (view edit.now.tree.now) }
     requires known { HoldsPages expansion }
     ensures tried { (pages : Pages) → F.pages folder.old ≡ Some pages → KnowsOf pages expansion.entry
         → IfOk result (TriedFirst pages edit.now.items.now edit.now.page.now (view edit.now.tree.now) (view edit.now.edited.now) edit.now.same) }
@@ -233,6 +244,7 @@ fn page_of_refused<'a, F: Folder>(
 ) -> Result<Output, Refusal>
     requires body { (label (view edit.now.tree.now)).kind ≡ kind.Body }
     requires numbered { ∥ InPreorder (view edit.now.tree.now) ∥₁ }
+    requires index { indexed edit.now.index.now ≡ page_of (view edit.now.tree.now) }
     requires known { HoldsPages expansion }
     requires edited { AnswersEdit (edit_answer same_node edit.now.items.now edit.now.page.now (view edit.now.tree.now) (view edit.now.edited.now)) (Err refusal) }
     ensures found { (pages : Pages) → F.pages folder.old ≡ Some pages → KnowsOf pages expansion.entry
@@ -262,6 +274,7 @@ fn last_page<'a, F: Folder>(
 ) -> Result<Output, Refusal>
     requires body { (label (view edit.now.tree.now)).kind ≡ kind.Body }
     requires numbered { ∥ InPreorder (view edit.now.tree.now) ∥₁ }
+    requires index { indexed edit.now.index.now ≡ page_of (view edit.now.tree.now) }
     requires known { HoldsPages expansion }
     ensures found { (pages : Pages) → F.pages folder.old ≡ Some pages → KnowsOf pages expansion.entry
         → FindsNew pages edit.now.items.now edit.now.page.now (view edit.now.tree.now)
@@ -290,6 +303,7 @@ fn page_but_in<'a, F: Folder>(
 ) -> Result<Output, Refusal>
     requires body { (label (view edit.now.tree.now)).kind ≡ kind.Body }
     requires numbered { ∥ InPreorder (view edit.now.tree.now) ∥₁ }
+    requires index { indexed edit.now.index.now ≡ page_of (view edit.now.tree.now) }
     requires known { HoldsPages expansion }
     ensures found { (pages : Pages) → F.pages folder.old ≡ Some pages → KnowsOf pages expansion.entry
         → FindsNew pages edit.now.items.now edit.now.page.now (view edit.now.tree.now)
@@ -319,6 +333,7 @@ fn other_page<'a, F: Folder>(
 ) -> Result<Output, Refusal>
     requires body { (label (view edit.now.tree.now)).kind ≡ kind.Body }
     requires numbered { ∥ InPreorder (view edit.now.tree.now) ∥₁ }
+    requires index { indexed edit.now.index.now ≡ page_of (view edit.now.tree.now) }
     requires known { HoldsPages expansion }
     ensures found { (pages : Pages) → F.pages folder.old ≡ Some pages → KnowsOf pages expansion.entry
         → FindsNew pages edit.now.items.now edit.now.page.now (view edit.now.tree.now)
@@ -346,6 +361,7 @@ pub fn new_page<'a, F: Folder>(
 ) -> Result<Output, Refusal>
     requires body { (label (view edit.now.tree.now)).kind ≡ kind.Body }
     requires numbered { ∥ InPreorder (view edit.now.tree.now) ∥₁ }
+    requires index { indexed edit.now.index.now ≡ page_of (view edit.now.tree.now) }
     requires known { HoldsPages expansion }
     ensures found { (pages : Pages) → F.pages folder.old ≡ Some pages → KnowsOf pages expansion.entry
         → FindsNew pages edit.now.items.now edit.now.page.now (view edit.now.tree.now)
