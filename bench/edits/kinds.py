@@ -110,7 +110,9 @@ def word_made_bold(document: Document, part: Part, chance: random.Random) -> Opt
         return None
     word = chance.choice(words)
     change = (word.start(), word.end(), f"<b>{word[0]}</b>")
-    return document.edited(part, part, change, gone=word[0], come=f"'''{word[0]}'''")
+    # Four apostrophes would show one of them in bold.
+    apart = "<nowiki/>" if document.text.startswith("'", word.end()) else ""
+    return document.edited(part, part, change, gone=word[0], come=f"'''{word[0]}'''{apart}")
 
 
 def word_erased(document: Document, part: Part, chance: random.Random) -> Optional[Edited]:

@@ -1,5 +1,5 @@
 -- Pieces of trees.
-use Rattle.std.proofs.Common.{◌≡◌, ℕ, ◌+◌, ◌<◌, List, [], ◌∷◌, ◌++◌, length, map, take, get_or, refl, sym, ap, ◌∙◌, append-nil}
+use Rattle.std.proofs.Common.{◌≡◌, ℕ, ◌+◌, ◌<◌, ◌≤◌, List, [], ◌∷◌, ◌++◌, length, map, take, get_or, refl, sym, ap, ◌∙◌, append-nil}
 use Rattle.std.specs.List.{flat_map}
 use Rattle.std.proofs.lemmas.Grind.{flat_map-append}
 use Rattle.std.proofs.lemmas.List.{take_more}
@@ -14,7 +14,7 @@ use Rattle.wt_tree.specs.View.{texts_of}
 use Rattle.wt_inline.specs.ItemTree.{ItemTree, inner, forest, tree_items, held_by_all}
 use Rattle.wt_inline.specs.View.{head_of, view_step, item_tree, item_trees}
 use Rattle.wt_inline.specs.declared.tree.PieceTree.{PieceTree, out-PieceTree, fold_out-PieceTree}
-use Rattle.wt_annotated.proofs.PieceWalks.{items_more}
+use Rattle.wt_annotated.proofs.PieceWalks.{items_more, only_piece}
 
 -- ---- their texts
 
@@ -39,6 +39,10 @@ sources_by form.EmptyCall o bs = append-nil bs
 -- the items of a piece have its text as source
 pub sources_piece : (p : Piece) → sources (items_of p) ≡ bytes_of p.text
 sources_piece p = sources_by p.form (call_of_origin p.origin) (bytes_of p.text)
+
+-- the only one of these pieces has their source
+pub only_source : (ps : List Piece) (p : Piece) → 1 ≤ length ps → length ps < 2 → p ≡ get_or ps 0 p → texts_of (p.text ∷ []) ≡ sources (items ps)
+only_source ps p l m e = append-nil (bytes_of p.text) ∙ sym (sources_piece p) ∙ ap sources (only_piece ps p l m e)
 
 texts_more : (ts : List Text) (t : Text) → texts_of (ts ++ t ∷ []) ≡ texts_of ts ++ bytes_of t
 texts_more ts t = flat_map-append bytes_of ts (t ∷ []) ∙ ap (λ xs. texts_of ts ++ xs) (append-nil (bytes_of t))

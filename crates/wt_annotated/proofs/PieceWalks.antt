@@ -1,5 +1,5 @@
 -- Items of pieces: those of one piece come from one call.
-use Rattle.std.proofs.Common.{◌≡◌, ℕ, suc, ◌+◌, ◌<◌, Bool, true, false, Option, None, Some, List, [], ◌∷◌, ◌++◌, ◌⊎◌, inl, inr, length, map, take, drop, get_or, refl, sym, ap, ◌∙◌, subst, cond, arith, append-nil}
+use Rattle.std.proofs.Common.{◌≡◌, ℕ, suc, ◌+◌, ◌<◌, ◌≤◌, Bool, true, false, Option, None, Some, List, [], ◌∷◌, ◌++◌, ◌⊎◌, inl, inr, length, map, take, drop, get_or, refl, sym, ap, ◌∙◌, subst, cond, arith, append-nil}
 use Rattle.std.specs.Prelude.{slice_get, not, ◌&&◌, ◌||◌, ◌==◌}
 use Rattle.std.specs.List.{list_all, list_any}
 use Rattle.std.proofs.lemmas.Grind.{flat_map-append}
@@ -19,6 +19,12 @@ use Rattle.wt_annotated.specs.Seams.{first_found, last_of, parted, text_from}
 use Rattle.wt_annotated.proofs.Seams.{either, last_append, found_append, text_append_from}
 
 -- ---- one piece
+
+-- the only one of these pieces
+pub only_piece : (ps : List Piece) (p : Piece) → 1 ≤ length ps → length ps < 2 → p ≡ get_or ps 0 p → items_of p ≡ items ps
+only_piece [] p l m e = absurd (omega (arith, l))
+only_piece (q ∷ []) p l m e = ap items_of e ∙ sym (append-nil (items_of q))
+only_piece (q ∷ r ∷ rs) p l m e = absurd (omega (arith, m))
 
 abbrev pub hollow_by : Form → List ℕ → Bool
 hollow_by f bs = is_characters f && length bs == 0

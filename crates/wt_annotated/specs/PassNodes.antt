@@ -1,30 +1,11 @@
 -- Nodes as the pass makes them: a leaf by the pieces that it holds, and any other node by its delimiters and its children.
 use Rattle.std.specs.Prelude.{ℕ, true, Some, None, List, []}
 use Rattle.wt_tree.specs.declared.kind.Mark.TheVariants as marks
-use Rattle.wt_tree.specs.declared.node.Node.{Node, Node-F}
 use Rattle.wt_tree.specs.Tree.{Label}
 use Rattle.wt_span.specs.Items.{Item, sources}
 use Rattle.wt_inline.specs.ItemTree.{Head}
-use Rattle.wt_inline.specs.declared.tree.NodeHead.{NodeHead}
 use Rattle.wt_annotated.specs.Labels.{width, label_at}
 use Rattle.wt_annotated.specs.Numbering.{number_of}
-
--- a node that holds nothing yet, from this place up to the second, with these widths of its delimiters
-abbrev pub bare : NodeHead → ℕ → ℕ → ℕ → ℕ → ℕ → Node-F Node
-bare h id start end open_w close_w = record {
-  kind = h.kind;
-  id = id;
-  ranges = Some (record { start = start; end = end; open_w = open_w; close_w = close_w });
-  opening = [];
-  closing = [];
-  own = [];
-  shown = h.shown;
-  attrs = h.attrs;
-  origin = None;
-  mark = marks.Nothing;
-  mw = h.mw;
-  children = [];
-}
 
 -- the label of a leaf that holds these items
 abbrev pub leaf_label : ℕ → ℕ → Head → List Item → Label

@@ -9,6 +9,7 @@ ghost use Rattle.wt_inline.specs.View.{item_tree, item_trees};
 use std::alloc::Global;
 use wt_inline::{PieceTree, with_room};
 use wt_span::{List, NoMemory, Piece, Text};
+use wt_tree::Slices;
 
 fn push_held<'a>(out: &mut List<Piece<'a>>, tree: &PieceTree<'a>) -> Result<(), NoMemory>
     ensures { OnOk result (items out.new ≡ items out.old ++ tree_items (item_tree tree.now)) }
@@ -62,8 +63,8 @@ pub fn own_pieces<'a>(
     with_held(opening, children.as_slice(), closing.as_slice())
 }
 
-/// The texts of pieces, as they were expanded.
-pub fn source_texts<'a>(alloc: Global, pieces: &[Piece<'a>]) -> Result<List<Text<'a>>, NoMemory>
+/// The texts of pieces in a list.
+fn listed_texts<'a>(alloc: Global, pieces: &[Piece<'a>]) -> Result<List<Text<'a>>, NoMemory>
     ensures { IfOk result (λ l. texts_of l ≡ sources (items pieces.now)) }
 {
     let mut texts = with_room(alloc, pieces.len())?;
@@ -71,4 +72,18 @@ pub fn source_texts<'a>(alloc: Global, pieces: &[Piece<'a>]) -> Result<List<Text
         texts.push(piece.text)?;
     }
     Ok(texts)
+}
+
+/// The texts of pieces, as they were expanded.
+pub fn source_texts<'a>(alloc: Global, pieces: &[Piece<'a>]) -> Result<Slices<'a>, NoMemory>
+    ensures { IfOk result (λ l. texts_of l ≡ sources (items pieces.now)) }
+{
+    match pieces {
+        [] => Ok(Slices::none()),
+        [piece] => Ok(Slices::one(piece.text)),
+        _ => {
+            let texts = listed_texts(alloc, pieces)?;
+            Ok(Slices::of_list(texts))
+        }
+    }
 }

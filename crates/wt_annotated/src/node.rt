@@ -1,6 +1,6 @@
 //! Nodes of trees, made of their heads and texts.
 
-ghost use Rattle.std.specs.Prelude.{◌≡◌, ◌+◌, ◌^◌, ◌<◌, []};
+ghost use Rattle.std.specs.Prelude.{◌≡◌, ◌+◌, ◌^◌, ◌<◌, [], IfOk};
 ghost use Rattle.wt_tree.specs.Tiling.{is_group};
 ghost use Rattle.wt_tree.specs.Tree.{tree};
 ghost use Rattle.wt_tree.specs.View.{texts_of, view, views};
@@ -10,55 +10,50 @@ ghost use Rattle.wt_annotated.specs.Nodes.{node_label};
 
 use std::alloc::Global;
 use wt_inline::NodeHead;
-use wt_span::{List, Text};
-use wt_tree::{Kind, Mark, Node, Ranges};
+use wt_span::{List, NoMemory};
+use wt_tree::{Kind, Mark, Node, Ranges, Slices, Source};
 
 /// What a node has of the page: its delimiters, or the source of a leaf.
 #[derive(Drop)]
 pub struct Sources<'a> {
-    pub opening: List<Text<'a>>,
-    pub closing: List<Text<'a>>,
-    pub own: List<Text<'a>>,
+    pub opening: Slices<'a>,
+    pub closing: Slices<'a>,
+    pub own: Slices<'a>,
 }
 
 /// A node without a number.
 pub fn unnumbered_node<'a>(
-    head: NodeHead,
+    alloc: Global,
+    head: NodeHead<'a>,
     ranges: Option<Ranges>,
     sources: Sources<'a>,
     children: List<Node<'a>>,
-) -> Node<'a>
-    ensures { view result ≡ tree (node_label (head_of head) ranges (texts_of sources.entry.opening) (texts_of sources.entry.closing)
-        (texts_of sources.entry.own)) (views children.entry) }
+) -> Result<Node<'a>, NoMemory>
+    ensures { IfOk result (λ n. view n ≡ tree (node_label (head_of head.entry) ranges (texts_of sources.entry.opening)
+        (texts_of sources.entry.closing) (texts_of sources.entry.own)) (views children.entry)) }
 {
     let Sources {
         opening,
         closing,
         own,
     } = sources;
-    Node {
+    Ok(Node {
         kind: head.kind,
         id: 0,
         ranges,
-        opening,
-        closing,
-        own,
-        shown: head.shown,
-        attrs: head.attrs,
-        origin: None,
-        mark: Mark::Nothing,
-        mw: head.mw,
+        source: Source::of(alloc, opening, closing, own, head.shown)?,
+        more: head.more.with_mark(alloc, Mark::Nothing)?,
         children,
-    }
+    })
 }
 
 /// The sources of a leaf.
-pub fn leaf_sources<'a>(alloc: Global, own: List<Text<'a>>) -> Sources<'a>
+pub fn leaf_sources<'a>(own: Slices<'a>) -> Sources<'a>
     ensures { result ≡ record { opening = []; closing = []; own = own.entry } }
 {
     Sources {
-        opening: List::new(alloc),
-        closing: List::new(alloc),
+        opening: Slices::none(),
+        closing: Slices::none(),
         own,
     }
 }

@@ -12,6 +12,7 @@ use crate::seam::{call_of, is_hollow, is_parted, last_of_piece};
 use std::alloc::Global;
 use wt_inline::with_room;
 use wt_span::{List, NoMemory, Outer, Piece, Text};
+use wt_tree::Slices;
 
 /// How far a walk over pieces has come: the call of the last item, and how many bytes of the page
 /// stand for what was read.
@@ -105,8 +106,18 @@ fn push_text<'a>(texts: &mut List<Text<'a>>, text: Option<Text<'a>>) -> Result<(
     Ok(())
 }
 
-/// What stands on the page for pieces, behind an item of the call `before`.
-pub fn page_texts<'a>(
+/// The one text, or none.
+fn one_or_none<'a>(text: Option<Text<'a>>) -> Slices<'a>
+    ensures { texts_of result ≡ bytes_if_any text.entry }
+{
+    match text {
+        None => Slices::none(),
+        Some(text) => Slices::one(text),
+    }
+}
+
+/// What stands on the page for pieces, in a list.
+fn listed_texts<'a>(
     alloc: Global,
     calls: &[Outer<'a>],
     before: Option<u32>,
@@ -121,4 +132,23 @@ pub fn page_texts<'a>(
         last = last_of_piece(last, *piece);
     }
     Ok(texts)
+}
+
+/// What stands on the page for pieces, behind an item of the call `before`.
+pub fn page_texts<'a>(
+    alloc: Global,
+    calls: &[Outer<'a>],
+    before: Option<u32>,
+    pieces: &[Piece<'a>],
+) -> Result<Slices<'a>, NoMemory>
+    ensures { IfOk result (λ l. texts_of l ≡ text_from (outer_calls calls.now) before (items pieces.now)) }
+{
+    match pieces {
+        [] => Ok(Slices::none()),
+        [piece] => Ok(one_or_none(page_text(calls, before, *piece))),
+        _ => {
+            let texts = listed_texts(alloc, calls, before, pieces)?;
+            Ok(Slices::of_list(texts))
+        }
+    }
 }

@@ -58,7 +58,7 @@ fn leaf<'a>(alloc: Global, tree: PieceTree<'a>, at: Cursor) -> Result<Made<'a>, 
 /// A node round the children that are made.
 fn node_round<'a>(
     alloc: Global,
-    head: NodeHead,
+    head: NodeHead<'a>,
     at: Cursor,
     opening: List<Piece<'a>>,
     children: AllMade<'a>,
@@ -67,8 +67,8 @@ fn node_round<'a>(
     requires opening { width (items opening) < 2 ^ 32 }
     requires closing { children.behind.place + width (items closing) < 2 ^ 32 }
     ensures node { IfOk result (λ m. view m.node
-        ≡ tree (inner_label at.place at.next (head_of head) (children.entry.behind.place + width (items closing.entry)) (items opening.entry)
-        (items closing.entry)) (cut_as (texts_of_kind head.kind) (views children.entry.nodes))) }
+        ≡ tree (inner_label at.place at.next (head_of head.entry) (children.entry.behind.place + width (items closing.entry)) (items opening.entry)
+        (items closing.entry)) (cut_as (texts_of_kind head.entry.kind) (views children.entry.nodes))) }
     ensures place { IfOk result (λ m. m.behind.place ≡ children.entry.behind.place + width (items closing.entry)) }
     ensures number { IfOk result (λ m. m.behind.next ≡ children.entry.behind.next) }
 {

@@ -2,10 +2,9 @@ ghost use Rattle.std.specs.Prelude.{◌≡◌, ◌+◌, ◌^◌, ◌<◌, IfOk};
 ghost use Rattle.wt_span.specs.Items.{items};
 ghost use Rattle.wt_tree.specs.Tree.{tree, none};
 ghost use Rattle.wt_tree.specs.View.{view, views};
-ghost use Rattle.wt_tree.specs.declared.node.Node.{out-Node};
 ghost use Rattle.wt_inline.specs.View.{head_of};
 ghost use Rattle.wt_annotated.specs.Labels.{width};
-ghost use Rattle.wt_annotated.specs.PassNodes.{bare, leaf_label, inner_label};
+ghost use Rattle.wt_annotated.specs.PassNodes.{leaf_label, inner_label};
 
 use crate::cursor::Cursor;
 use crate::held::source_texts;
@@ -14,51 +13,33 @@ use crate::piece::width;
 use std::alloc::Global;
 use wt_inline::NodeHead;
 use wt_span::{List, NoMemory, Piece};
-use wt_tree::{Mark, Node, Ranges};
-
-/// A node that holds nothing yet.
-fn bare_node<'a>(alloc: Global, head: NodeHead, id: u32, ranges: Ranges) -> Node<'a>
-    ensures { out-Node result ≡ bare head id ranges.start ranges.end ranges.open_w ranges.close_w }
-{
-    Node {
-        kind: head.kind,
-        id,
-        ranges: Some(ranges),
-        opening: List::new(alloc),
-        closing: List::new(alloc),
-        own: List::new(alloc),
-        shown: head.shown,
-        attrs: head.attrs,
-        origin: None,
-        mark: Mark::Nothing,
-        mw: head.mw,
-        children: List::new(alloc),
-    }
-}
+use wt_tree::{Mark, Node, Ranges, Slices, Source};
 
 /// A leaf that holds these pieces.
 #[tactic(auto, unfolding(crate::specs::Labels::label_at))]
 pub fn leaf_node<'a>(
     alloc: Global,
-    head: NodeHead,
+    head: NodeHead<'a>,
     at: Cursor,
     own: &[Piece<'a>],
 ) -> Result<Node<'a>, NoMemory>
     requires { at.place + width (items own.now) < 2 ^ 32 }
-    ensures { IfOk result (λ n. view n ≡ tree (leaf_label at.place at.next (head_of head) (items own.now)) none) }
+    ensures { IfOk result (λ n. view n ≡ tree (leaf_label at.place at.next (head_of head.entry) (items own.now)) none) }
 {
-    let id = at.number(head.kind);
-    let ranges = leaf_ranges(head.kind, at.place, width(own));
     Ok(Node {
-        own: source_texts(alloc, own)?,
-        ..bare_node(alloc, head, id, ranges)
+        kind: head.kind,
+        id: at.number(head.kind),
+        ranges: Some(leaf_ranges(head.kind, at.place, width(own))),
+        source: Source::leaf(source_texts(alloc, own)?, head.shown),
+        more: head.more.with_mark(alloc, Mark::Nothing)?,
+        children: List::new(alloc),
     })
 }
 
 /// A node of these delimiters and children, which ends at a place.
 pub fn inner_node<'a>(
     alloc: Global,
-    head: NodeHead,
+    head: NodeHead<'a>,
     at: Cursor,
     end: u32,
     opening: &[Piece<'a>],
@@ -67,20 +48,23 @@ pub fn inner_node<'a>(
 ) -> Result<Node<'a>, NoMemory>
     requires opening { width (items opening.now) < 2 ^ 32 }
     requires closing { width (items closing.now) < 2 ^ 32 }
-    ensures { IfOk result (λ n. view n ≡ tree (inner_label at.place at.next (head_of head) end (items opening.now) (items closing.now))
+    ensures { IfOk result (λ n. view n ≡ tree (inner_label at.place at.next (head_of head.entry) end (items opening.now) (items closing.now))
         (views children.entry)) }
 {
-    let id = at.number(head.kind);
     let ranges = Ranges {
         start: at.place,
         end,
         open_w: width(opening),
         close_w: width(closing),
     };
+    let opening = source_texts(alloc, opening)?;
+    let closing = source_texts(alloc, closing)?;
     Ok(Node {
-        opening: source_texts(alloc, opening)?,
-        closing: source_texts(alloc, closing)?,
+        kind: head.kind,
+        id: at.number(head.kind),
+        ranges: Some(ranges),
+        source: Source::of(alloc, opening, closing, Slices::none(), head.shown)?,
+        more: head.more.with_mark(alloc, Mark::Nothing)?,
         children,
-        ..bare_node(alloc, head, id, ranges)
     })
 }

@@ -32,7 +32,7 @@ ghost use Rattle.wt_annotated.specs.StandsCut.{
 };
 
 use wt_span::{Text, rest_of};
-use wt_tree::{Kind, Mark, Node, Ranges, Writing};
+use wt_tree::{Kind, Node, Ranges, Writing};
 
 // ---- characters
 
@@ -117,15 +117,12 @@ fn has_none<T>(items: &[T]) -> bool
 /// Whether a node has nothing beside its kind, its place, its source and what it shows.
 fn is_bare(node: &Node<'_>) -> bool
     ensures { result ≡ true → view node.now ≡ tree (leaf_label (out-Node node.now).kind (out-Node node.now).ranges
-        (texts_of (out-Node node.now).own) (out-Node node.now).shown) none }
+        (texts_of (out-Node node.now).source.own) (out-Node node.now).source.shown) none }
 {
     node.id == 0
-        && node.origin.is_none()
-        && node.mw.is_none()
-        && matches!(node.mark, Mark::Nothing)
-        && has_none(node.opening.as_slice())
-        && has_none(node.closing.as_slice())
-        && has_none(node.attrs.as_slice())
+        && node.more.is_none()
+        && has_none(node.opening())
+        && has_none(node.closing())
         && has_none(node.children.as_slice())
 }
 
@@ -146,17 +143,15 @@ fn is_one_text(shown: &str, own: &[Text<'_>]) -> bool
 }
 
 fn is_text_leaf(node: &Node<'_>) -> bool
-    ensures { result ≡ true → view node.now ≡ text_leaf (out-Node node.now).ranges (texts_of (out-Node node.now).own) }
+    ensures { result ≡ true → view node.now ≡ text_leaf (out-Node node.now).ranges (texts_of (out-Node node.now).source.own) }
 {
-    matches!(node.kind, Kind::Text)
-        && is_one_text(node.shown.as_str(), node.own.as_slice())
-        && is_bare(node)
+    matches!(node.kind, Kind::Text) && is_one_text(node.shown(), node.own()) && is_bare(node)
 }
 
 fn is_sep_leaf(node: &Node<'_>) -> bool
-    ensures { result ≡ true → view node.now ≡ sep_leaf (out-Node node.now).ranges (texts_of (out-Node node.now).own) }
+    ensures { result ≡ true → view node.now ≡ sep_leaf (out-Node node.now).ranges (texts_of (out-Node node.now).source.own) }
 {
-    matches!(node.kind, Kind::Sep) && node.shown.as_str().is_empty() && is_bare(node)
+    matches!(node.kind, Kind::Sep) && node.shown().is_empty() && is_bare(node)
 }
 
 #[tactic(auto, using(wt_tree::proofs::Views::view_out))]
@@ -192,7 +187,7 @@ fn are_neighbours(first: Option<Ranges>, second: Option<Ranges>, width: usize) -
 fn is_gap(node: &Node<'_>) -> bool
     ensures { result ≡ true → IsGap (view node.now) }
 {
-    let own = node.own.as_slice();
+    let own = node.own();
     begins_with_break(own) && is_blank(own) && is_sep_leaf(node)
 }
 
@@ -201,7 +196,7 @@ fn is_gap(node: &Node<'_>) -> bool
 fn is_words(node: &Node<'_>) -> bool
     ensures { result ≡ true → IsWords (view node.now) }
 {
-    let own = node.own.as_slice();
+    let own = node.own();
     !has_break(own) && !are_spaces(own) && is_text_leaf(node)
 }
 
@@ -259,7 +254,7 @@ fn found_front(behind: bool, first: &Node<'_>, next: &Node<'_>) -> Option<bool>
     if behind || !is_words(first) || !is_gap(next) {
         return None;
     }
-    if !are_neighbours(first.ranges, next.ranges, first.shown.as_str().len()) {
+    if !are_neighbours(first.ranges, next.ranges, first.shown().len()) {
         return None;
     }
     Some(false)

@@ -16,7 +16,7 @@ use crate::node::{Sources, leaf_sources, unnumbered_node};
 use std::alloc::Global;
 use wt_inline::{NodeHead, PieceTree, with_room};
 use wt_span::{List, NoMemory, Piece};
-use wt_tree::Node;
+use wt_tree::{Node, Slices};
 
 fn unplaced_leaf<'a>(alloc: Global, tree: PieceTree<'a>) -> Result<Node<'a>, NoMemory>
     requires { is_leaf (out-PieceTree tree).head.kind ≡ true }
@@ -30,27 +30,26 @@ fn unplaced_leaf<'a>(alloc: Global, tree: PieceTree<'a>) -> Result<Node<'a>, NoM
     } = tree;
     let held = own_pieces(opening, children, closing)?;
     let own = source_texts(alloc, held.as_slice())?;
-    let sources = leaf_sources(alloc, own);
-    Ok(unnumbered_node(head, None, sources, List::new(alloc)))
+    unnumbered_node(alloc, head, None, leaf_sources(own), List::new(alloc))
 }
 
 /// A node round its children.
 fn unplaced_inner<'a>(
     alloc: Global,
-    head: NodeHead,
+    head: NodeHead<'a>,
     opening: &[Piece<'a>],
     children: List<Node<'a>>,
     closing: &[Piece<'a>],
 ) -> Result<Node<'a>, NoMemory>
-    ensures { IfOk result (λ n. view n ≡ tree (node_label (head_of head) None (sources (items opening.now)) (sources (items closing.now)) [])
+    ensures { IfOk result (λ n. view n ≡ tree (node_label (head_of head.entry) None (sources (items opening.now)) (sources (items closing.now)) [])
         (views children.entry)) }
 {
     let sources = Sources {
         opening: source_texts(alloc, opening)?,
         closing: source_texts(alloc, closing)?,
-        own: List::new(alloc),
+        own: Slices::none(),
     };
-    Ok(unnumbered_node(head, None, sources, children))
+    unnumbered_node(alloc, head, None, sources, children)
 }
 
 /// The nodes of trees in a group.

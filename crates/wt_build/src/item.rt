@@ -46,7 +46,7 @@ fn term<'a>(
 {
     let children = line_children(alloc, line)?;
     Ok(PieceTree {
-        head: NodeHead::plain(alloc, Kind::Dt),
+        head: NodeHead::plain(Kind::Dt),
         opening,
         children,
         closing: List::new(alloc),
@@ -73,7 +73,7 @@ fn term_and_definition<'a>(
     let behind = rest.as_slice();
     let len = with_blanks(behind, 1)?;
     let (colon, content) = cut(alloc, behind, len)?;
-    let head = NodeHead::plain(alloc, Kind::Dd);
+    let head = NodeHead::plain(Kind::Dd);
     let definition = opened_line(alloc, head, colon, content.as_slice(), pieces, after)?;
     before(alloc, StretchAt::Tree(node), definition)
 }
@@ -93,7 +93,7 @@ fn item_by<'a>(
 {
     match term_len(alloc, sign, line)? {
         None => {
-            let head = NodeHead::plain(alloc, item_kind(sign));
+            let head = NodeHead::plain(item_kind(sign));
             opened_line(alloc, head, opening, line, pieces, after)
         }
         Some(n) => term_and_definition(alloc, n, opening, line, pieces, after),

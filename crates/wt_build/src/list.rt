@@ -73,7 +73,7 @@ fn item_stretches<'a>(
         ≡ node_by (rows_view pieces.now rows.now) true sign line own (stretches_view pieces.now inside.entry)) }
 {
     if own {
-        let head = NodeHead::plain(alloc, item_kind(sign));
+        let head = NodeHead::plain(item_kind(sign));
         return enclosed(alloc, head, pieces, inside);
     }
     line_item(alloc, pieces, row_at(rows, line), sign, inside)
@@ -97,7 +97,7 @@ fn node_stretches<'a>(
     if item {
         return item_stretches(alloc, pieces, rows, sign, line, own, inside);
     }
-    let head = NodeHead::plain(alloc, list_kind(sign));
+    let head = NodeHead::plain(list_kind(sign));
     enclosed(alloc, head, pieces, inside)
 }
 

@@ -108,7 +108,7 @@ fn table_row<'a>(
         return opened_row(alloc, pieces, first.rows(rows), cells);
     }
     let cells = all_cells(alloc, pieces, rows, groups, false, depth)?;
-    enclosed(alloc, NodeHead::plain(alloc, Kind::Tr), pieces, cells)
+    enclosed(alloc, NodeHead::plain(Kind::Tr), pieces, cells)
 }
 
 /// The rows of the table.
@@ -154,7 +154,7 @@ fn body<'a>(
         return Ok(List::new(alloc));
     }
     let found = all_rows(alloc, pieces, rows, groups, depth)?;
-    enclosed(alloc, NodeHead::plain(alloc, Kind::Tbody), pieces, found)
+    enclosed(alloc, NodeHead::plain(Kind::Tbody), pieces, found)
 }
 
 /// What stands in a table behind its open delimiter: captions, and rows.

@@ -16,7 +16,7 @@ ghost use Rattle.wt_rows.specs.Ready.{IsReadyRow, AreReadyRows};
 ghost use Rattle.wt_build.specs.declared.text.TextKind.TheVariants as text_kind;
 
 use std::alloc::Global;
-use wt_headings::with_content;
+use wt_context::with_line;
 use wt_inline::{Children, Loose, NodeHead, PieceTree};
 use wt_rows::{RowAt, between, cut};
 use wt_span::{List, NoMemory, Piece};
@@ -27,7 +27,7 @@ fn plain_leaf<'a>(alloc: Global, kind: Kind, own: List<Piece<'a>>) -> PieceTree<
     ensures { item_tree result ≡ leaf (plain kind) (items own.entry) }
 {
     PieceTree {
-        head: NodeHead::plain(alloc, kind),
+        head: NodeHead::plain(kind),
         opening: own,
         children: List::new(alloc),
         closing: List::new(alloc),
@@ -44,7 +44,7 @@ pub fn plain_node<'a>(
     ensures { item_tree result ≡ inner (plain kind) (items opening.entry) (forest (item_trees children.entry)) [] }
 {
     PieceTree {
-        head: NodeHead::plain(alloc, kind),
+        head: NodeHead::plain(kind),
         opening,
         children,
         closing: List::new(alloc),
@@ -71,7 +71,7 @@ fn with_later_line<'a>(
     requires order { IsOrdered row.now }
     ensures { IfOk result (λ c. Grows (growth children.entry) (later_line (row_view pieces.now row.now)) (growth c)) }
 {
-    with_content(alloc, children, between(pieces, row.start, row.to))
+    with_line(alloc, children, between(pieces, row.start, row.to))
 }
 
 /// The children of preformatted text with a later line, whose space is a leaf by itself.
@@ -90,7 +90,7 @@ fn with_later_pre<'a>(
     let (space, rest) = cut(alloc, line, 1)?;
     let before = children.with_pieces(alloc, Loose::Text, lead)?;
     let behind = before.with_tree(alloc, plain_leaf(alloc, Kind::Skip, space))?;
-    with_content(alloc, behind, rest.as_slice())
+    with_line(alloc, behind, rest.as_slice())
 }
 
 /// What lines of text make.
@@ -158,7 +158,7 @@ fn text_children<'a>(
     requires kind { AreOf kind rows.now }
     ensures { IfOk result (λ l. item_trees l ≡ children (line_parts (items content.now) ++ later_from kind (rows_view pieces.now rows.now))) }
 {
-    let first = with_content(alloc, Children::new(alloc), content)?;
+    let first = with_line(alloc, Children::new(alloc), content)?;
     let all = with_later_rows(alloc, first, pieces, kind, rows)?;
     all.finish(alloc)
 }

@@ -1,7 +1,9 @@
 -- Each comparison decides whether its two sides are one.
 use Rattle.std.proofs.Common.{◌≡◌, ℕ, Bool, true, false, List, [], ◌∷◌, refl, sym, ap, ◌∙◌}
-use Rattle.std.specs.Prelude.{◌==◌, ◌&&◌, if◌then◌else◌, Option}
+use denote.Ref.{Bor}
+use Rattle.std.specs.Prelude.{◌==◌, ◌&&◌, if◌then◌else◌, Option, Some, None}
 use Rattle.std.specs.Bool.{Decides}
+use Rattle.std.specs.Option.{option_eq}
 use Rattle.std.specs.Str.{bytes_eq}
 use Rattle.std.proofs.lemmas.Bool.Decides.{Decides-eqb, Decides-like, Decides-and}
 use Rattle.std.proofs.lemmas.Slice.Eq.{bytes_eq-Decides}
@@ -12,6 +14,7 @@ use Rattle.wt_tree.specs.declared.node.DataMw.{DataMw}
 use Rattle.wt_tree.specs.Kinds.{order}
 use Rattle.wt_tree.specs.Plain.{Face}
 use Rattle.wt_tree.specs.Stream.{Bracket, opens, closes, Sign, byte, bracket}
+use Rattle.wt_tree.specs.contracts.node.DataMwPartialEq.TheImpl.{eq-value as data_eq}
 use Rattle.wt_tree.proofs.Same.{kind_decides, mw_same}
 use Rattle.wt_checks.specs.Alike.{same_kind, same_attrs, same_data}
 use Rattle.wt_checks.specs.Groups.{same_face, same_bracket, same_sign, same_signs}
@@ -21,9 +24,19 @@ pub kinds_decide : (a b : Kind) → Decides (same_kind a b) (a ≡ b)
 unfolding same_kind
 kinds_decide a b = kind_decides a b
 
+-- some reference to it: where it points doesn't count
+abbrev behind : DataMw → Bor DataMw
+behind d = record { ref_ptr = (0, 0); now = d }
+
+pub values_decide : (a b : Option DataMw) → Decides (option_eq data_eq.it a b) (a ≡ b)
+values_decide None None = mw_same None None
+values_decide None (Some y) = mw_same None (Some (behind y))
+values_decide (Some x) None = mw_same (Some (behind x)) None
+values_decide (Some x) (Some y) = mw_same (Some (behind x)) (Some (behind y))
+
 pub data_decide : (a b : Option DataMw) → Decides (same_data a b) (a ≡ b)
 unfolding same_data
-data_decide a b = mw_same a b
+data_decide a b = values_decide a b
 
 -- the name with a place in the order
 abbrev name_at : ℕ → AttrName

@@ -42,10 +42,10 @@ inner_turn a b c ns i n lt is h k =
     ∙ ap (λ ss. a ++ ss) (sym (ap (λ ms. all_bare_signs (signs_of_all (views ms))) (take_turn ns i n lt is)
     ∙ ap all_bare_signs (signs_push (take i ns) n) ∙ map-append bare_sign (signs_of_all (views (take i ns))) (signs (view n))))
 
-pub inner_text : (n : Node) → showing (out-Node n).kind ≡ Characters → all_bare_signs (signs (view n)) ≡ map byte (out-Node n).shown
+pub inner_text : (n : Node) → showing (out-Node n).kind ≡ Characters → all_bare_signs (signs (view n)) ≡ map byte (out-Node n).source.shown
 inner_text n e = ap all_bare_signs (signs_out n)
     ∙ ap (λ s. all_bare_signs (signs_by s (label_of (out-Node n)) (signs_of_all (views (out-Node n).children)))) e
-    ∙ bare_text (out-Node n).shown
+    ∙ bare_text (out-Node n).source.shown
 
 pub inner_inside : (n : Node) → showing (out-Node n).kind ≡ Inside → all_bare_signs (signs (view n))
     ≡ all_bare_signs (signs_of_all (views (out-Node n).children))
@@ -128,7 +128,7 @@ node_by Unwritten s l held = append-nil (bracket (opens (face l)) ∷ (signs_in 
 -- one node
 pub read_out : (n : Node)
     → signs_in (read_before (view n) ended) ≡ (if is_text (writing (out-Node n).kind) then
-    leaf_signs (showing (out-Node n).kind) (out-Node n).shown else
+    leaf_signs (showing (out-Node n).kind) (out-Node n).source.shown else
     element_signs (label_of (out-Node n)) (signs_in (all_read (views (out-Node n).children))))
 read_out n =
     ap (λ (t : Tree). signs_in (read_before t ended)) (view_out n)
@@ -167,12 +167,12 @@ read_turn a b c ns i n lt is h k =
 
 -- an element is opened, its text and what it holds are added, and it is closed
 pub read_element : (a b c d e : List Sign) (n : Node) → b ≡ a ++ bracket (opens (face (label_of (out-Node n)))) ∷ []
-    → c ≡ b ++ map byte (own_character (writing (out-Node n).kind) (out-Node n).shown)
+    → c ≡ b ++ map byte (own_character (writing (out-Node n).kind) (out-Node n).source.shown)
     → d ≡ c ++ signs_in (all_read (views (out-Node n).children)) → e ≡ d ++ bracket closes ∷ []
     → e ≡ a ++ element_signs (label_of (out-Node n)) (signs_in (all_read (views (out-Node n).children)))
 read_element a b c d e n f g h k =
     let o : List Sign = bracket (opens (face (label_of (out-Node n)))) ∷ [] in
-    let s : List Sign = map byte (own_character (writing (out-Node n).kind) (out-Node n).shown) in
+    let s : List Sign = map byte (own_character (writing (out-Node n).kind) (out-Node n).source.shown) in
     let r : List Sign = signs_in (all_read (views (out-Node n).children)) in
     k ∙ ap (λ ss. ss ++ bracket closes ∷ []) (h ∙ ap (λ ss. ss ++ r) (g ∙ ap (λ ss. ss ++ s) f) ∙ append_assoc (a ++ o) s r
     ∙ append_assoc a o (s ++ r)) ∙ append_assoc a (o ++ (s ++ r)) (bracket closes ∷ [])

@@ -13,7 +13,7 @@ abbrev pub elements_same : Node → Node → Bool
 elements_same q u = same_signs (signs_in (written_for (views (out-Node q).children))) (signs_in (all_read (views (out-Node u).children)))
 
 shows_out : (q u : Node) → shows_same (view q) (view u)
-    ≡ (is_group (out-Node u).kind && (same_attrs (attrs_of (out-Node q).attrs) (attrs_of (out-Node u).attrs) && elements_same q u))
+    ≡ (is_group (out-Node u).kind && (same_attrs (attrs_of (out-Node q).more.attrs) (attrs_of (out-Node u).more.attrs) && elements_same q u))
 shows_out q u = rw (view_out q, view_out u)
 
 both_true : (a b c : Bool) → a ≡ true → b ≡ true → (a && (b && c)) ≡ c
@@ -22,6 +22,6 @@ both_true true false c e f = absurd (cc)
 both_true false b c e f = absurd (cc)
 
 pub shows_when : (q u : Node) → is_group (out-Node u).kind ≡ true
-    → same_attrs (attrs_of (out-Node q).attrs) (attrs_of (out-Node u).attrs) ≡ true → elements_same q u ≡ shows_same (view q) (view u)
+    → same_attrs (attrs_of (out-Node q).more.attrs) (attrs_of (out-Node u).more.attrs) ≡ true → elements_same q u ≡ shows_same (view q) (view u)
 shows_when q u g a = sym (shows_out q u ∙ both_true (is_group (out-Node u).kind)
-    (same_attrs (attrs_of (out-Node q).attrs) (attrs_of (out-Node u).attrs)) (elements_same q u) g a)
+    (same_attrs (attrs_of (out-Node q).more.attrs) (attrs_of (out-Node u).more.attrs)) (elements_same q u) g a)

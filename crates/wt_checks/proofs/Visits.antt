@@ -12,6 +12,6 @@ placed_views parent within (n ∷ ns) = ap (λ s. placed parent within (view n) 
 
 pub placed_out : (parent : ℕ) (within : Bool) (n : Node)
     → placed parent within (view n) ≡ record { node = view n; parent = parent; in_content = within }
-    ∷ flat_map (λ m. placed (parent_below parent (out-Node n).id) (within || is_content (out-Node n).mark) (view m))
+    ∷ flat_map (λ m. placed (parent_below parent (out-Node n).id) (within || is_content (out-Node n).more.mark) (view m))
     (out-Node n).children
-placed_out parent within n = rw (view_out n, placed_views (parent_below parent (out-Node n).id) (within || is_content (out-Node n).mark) (out-Node n).children)
+placed_out parent within n = rw (view_out n, placed_views (parent_below parent (out-Node n).id) (within || is_content (out-Node n).more.mark) (out-Node n).children)

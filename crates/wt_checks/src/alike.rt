@@ -1,4 +1,5 @@
 ghost use Rattle.std.specs.Prelude.{◌≡◌, ◌==◌, ◌&&◌};
+ghost use Rattle.std.specs.Option.{option_copied};
 ghost use Rattle.std.specs.Str.{bytes_eq};
 ghost use Rattle.wt_tree.specs.Kinds.{order};
 ghost use Rattle.wt_tree.specs.View.{attrs_of};
@@ -34,8 +35,8 @@ pub fn same_attrs(a: &[Attr], b: &[Attr]) -> bool
 }
 
 #[tactic(auto, unfolding(crate::specs::Alike::same_data))]
-pub fn same_data(a: &Option<DataMw>, b: &Option<DataMw>) -> bool
-    ensures { result ≡ same_data a.now b.now }
+pub fn same_data(a: Option<&DataMw>, b: Option<&DataMw>) -> bool
+    ensures { result ≡ same_data (option_copied a.entry) (option_copied b.entry) }
 {
     a == b
 }

@@ -23,7 +23,7 @@ use wt_tree::{Kind, Node, TagName};
 fn has_mark(node: &Node<'_>) -> bool
     ensures { result ≡ has_mark (view node.now) }
 {
-    is_marked(node.mark) || have_mark(node.children.as_slice())
+    is_marked(node.mark()) || have_mark(node.children.as_slice())
 }
 
 #[cycle(marked)]
@@ -45,10 +45,10 @@ fn same_element(written: &Node<'_>, read: &Node<'_>) -> bool
     if !same_kind(written.kind, read.kind) {
         return false;
     }
-    if !same_attrs(written.attrs.as_slice(), read.attrs.as_slice()) {
+    if !same_attrs(written.attrs(), read.attrs()) {
         return false;
     }
-    same_data(&None, &read.mw)
+    same_data(None, read.mw())
 }
 
 fn is_span(read: &Node<'_>) -> bool
@@ -57,10 +57,10 @@ fn is_span(read: &Node<'_>) -> bool
     if !same_kind(Kind::Tag(TagName::Span), read.kind) {
         return false;
     }
-    if !same_attrs(&[], read.attrs.as_slice()) {
+    if !same_attrs(&[], read.attrs()) {
         return false;
     }
-    same_data(&None, &read.mw)
+    same_data(None, read.mw())
 }
 
 fn same_part(written: Written<'_, '_>, read: Read<'_, '_>) -> bool
@@ -103,7 +103,7 @@ fn shows_same(alloc: Global, original: &Node<'_>, node: &Node<'_>) -> Result<boo
     if !is_group(node.kind) {
         return Ok(false);
     }
-    if !same_attrs(original.attrs.as_slice(), node.attrs.as_slice()) {
+    if !same_attrs(original.attrs(), node.attrs()) {
         return Ok(false);
     }
     let same = same_elements(
@@ -117,7 +117,7 @@ fn shows_same(alloc: Global, original: &Node<'_>, node: &Node<'_>) -> Result<boo
 fn carries_same(values: bool, original: &Node<'_>, node: &Node<'_>) -> bool
     ensures { result ≡ carries_same values (view original.now) (view node.now) }
 {
-    values || same_data(&original.mw, &node.mw)
+    values || same_data(original.mw(), node.mw())
 }
 
 fn is_changed_group(

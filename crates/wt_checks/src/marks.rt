@@ -123,7 +123,7 @@ fn is_wrongly_marked(index: &[Visit<'_, '_>], visit: Visit<'_, '_>) -> bool
     ensures { result ≡ is_wrongly_marked (indexed index.now) [] (seen visit.entry) [] }
 {
     let node = visit.node;
-    if !is_marked(node.mark) {
+    if !is_marked(node.mark()) {
         return false;
     }
     if visit.in_content {
@@ -132,7 +132,11 @@ fn is_wrongly_marked(index: &[Visit<'_, '_>], visit: Visit<'_, '_>) -> bool
     if node.id == 0 && !is_body(node.kind) {
         return true;
     }
-    !allows(Editing::of(node.kind), node.mark, original(index, node.id))
+    !allows(
+        Editing::of(node.kind),
+        node.mark(),
+        original(index, node.id),
+    )
 }
 
 /// The first node with a mark where it may not stand.

@@ -48,20 +48,20 @@ fn shows_characters(showing: Showing) -> bool
 
 /// The text in an element before its children.
 fn own_text<'n>(node: &'n Node<'_>) -> &'n str
-    ensures { result.now ≡ own_character (writing (out-Node node.now).kind) (out-Node node.now).shown }
+    ensures { result.now ≡ own_character (writing (out-Node node.now).kind) (out-Node node.now).source.shown }
 {
     match node.kind.writing() {
-        Writing::RoundCharacter => node.shown.as_str(),
+        Writing::RoundCharacter => node.shown(),
         Writing::AsText | Writing::AsVoid | Writing::RoundChildren => "",
         Writing::AsSection(_) | Writing::Unwritten => "",
     }
 }
 
 fn push_leaf(out: &mut Vec<Read<'_, '_>>, node: &Node<'_>) -> Result<(), NoMemory>
-    ensures { OnOk result (read_signs out.new.items ≡ read_signs out.old.items ++ leaf_signs (showing (out-Node node.now).kind) (out-Node node.now).shown) }
+    ensures { OnOk result (read_signs out.new.items ≡ read_signs out.old.items ++ leaf_signs (showing (out-Node node.now).kind) (out-Node node.now).source.shown) }
 {
     if shows_characters(node.kind.showing()) {
-        push_text(out, node.shown.as_str())?;
+        push_text(out, node.shown())?;
     }
     Ok(())
 }

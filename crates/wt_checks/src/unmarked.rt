@@ -1,4 +1,5 @@
 ghost use Rattle.std.specs.Prelude.{◌≡◌, ◌≤◌, ◌<◌, ◌&&◌, ◌||◌, [], not, option_map, length, drop};
+ghost use Rattle.std.specs.Option.{option_copied};
 ghost use Rattle.std.specs.Str.{bytes_eq};
 ghost use Rattle.wt_tree.specs.Kinds.{showing, writing};
 ghost use Rattle.wt_tree.specs.Opened.{opened, opened_before};
@@ -26,9 +27,9 @@ fn is_compared(node: &Node<'_>) -> bool
 }
 
 fn same_text(a: &Node<'_>, b: &Node<'_>) -> bool
-    ensures { result ≡ bytes_eq (out-Node a.now).shown (out-Node b.now).shown }
+    ensures { result ≡ bytes_eq (out-Node a.now).source.shown (out-Node b.now).source.shown }
 {
-    a.shown.as_str() == b.shown.as_str()
+    a.shown() == b.shown()
 }
 
 fn same_entry(a: &Node<'_>, b: &Node<'_>) -> bool
@@ -106,18 +107,18 @@ fn same_children(page: &[Node<'_>], edited: &[Node<'_>]) -> bool
 }
 
 fn own_character<'n>(node: &'n Node<'_>) -> &'n str
-    ensures { result.now ≡ own_character (writing (out-Node node.now).kind) (out-Node node.now).shown }
+    ensures { result.now ≡ own_character (writing (out-Node node.now).kind) (out-Node node.now).source.shown }
 {
     match node.kind.writing() {
-        Writing::RoundCharacter => node.shown.as_str(),
+        Writing::RoundCharacter => node.shown(),
         Writing::AsText | Writing::AsVoid | Writing::RoundChildren => "",
         Writing::AsSection(_) | Writing::Unwritten => "",
     }
 }
 
 fn same_character(a: &Node<'_>, b: &Node<'_>) -> bool
-    ensures { result ≡ bytes_eq (own_character (writing (out-Node a.now).kind) (out-Node a.now).shown)
-        (own_character (writing (out-Node b.now).kind) (out-Node b.now).shown) }
+    ensures { result ≡ bytes_eq (own_character (writing (out-Node a.now).kind) (out-Node a.now).source.shown)
+        (own_character (writing (out-Node b.now).kind) (out-Node b.now).source.shown) }
 {
     own_character(a) == own_character(b)
 }
@@ -129,8 +130,8 @@ fn holds_same(original: &Node<'_>, node: &Node<'_>) -> bool
         && same_children(original.children.as_slice(), node.children.as_slice())
 }
 
-fn keeps_data(original: &Option<DataMw>, node: &Option<DataMw>) -> bool
-    ensures { result ≡ keeps_data original.now node.now }
+fn keeps_data(original: Option<&DataMw>, node: Option<&DataMw>) -> bool
+    ensures { result ≡ keeps_data (option_copied original.entry) (option_copied node.entry) }
 {
     match original {
         Some(_) => same_data(original, node),
@@ -144,16 +145,16 @@ fn keeps_face(original: &Node<'_>, node: &Node<'_>) -> bool
     if !same_kind(original.kind, node.kind) {
         return false;
     }
-    if !same_attrs(original.attrs.as_slice(), node.attrs.as_slice()) {
+    if !same_attrs(original.attrs(), node.attrs()) {
         return false;
     }
-    keeps_data(&original.mw, &node.mw)
+    keeps_data(original.mw(), node.mw())
 }
 
 fn keeps_children(original: &Node<'_>, node: &Node<'_>) -> bool
     ensures { result ≡ keeps_children (view original.now) (view node.now) }
 {
-    is_marked(node.mark) || holds_same(original, node)
+    is_marked(node.mark()) || holds_same(original, node)
 }
 
 fn is_other(original: Option<Visit<'_, '_>>, node: &Node<'_>) -> bool

@@ -39,9 +39,9 @@ fn push_visits<'t, 'a>(
 }
 
 fn is_inside(node: &Node<'_>, in_content: bool) -> bool
-    ensures { result ≡ in_content || is_content (out-Node node.now).mark }
+    ensures { result ≡ in_content || is_content (out-Node node.now).more.mark }
 {
-    in_content || is_content(node.mark)
+    in_content || is_content(node.mark())
 }
 
 fn parent_below(node: &Node<'_>, parent: u32) -> u32

@@ -40,7 +40,7 @@ fn push_inner<'t, 'a>(out: &mut Vec<Written<'t, 'a>>, node: &'t Node<'a>) -> Res
 {
     match node.kind.showing() {
         Showing::Characters => {
-            push_text(out, node.shown.as_str())?;
+            push_text(out, node.shown())?;
             Ok(())
         }
         Showing::Inside => {
@@ -116,7 +116,7 @@ fn push_top<'t, 'a>(
 {
     match node.kind.showing() {
         Showing::Characters => {
-            let within = push_top_text(out, in_span, node.shown.as_str())?;
+            let within = push_top_text(out, in_span, node.shown())?;
             Ok(within)
         }
         Showing::Inside => {

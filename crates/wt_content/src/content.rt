@@ -285,14 +285,14 @@ fn own_fault(
     match way {
         Way::Nothing => Ok(None),
         Way::Characters => {
-            if !spot.in_paragraph && has_break(node.shown.as_str().as_bytes()) {
+            if !spot.in_paragraph && has_break(node.shown().as_bytes()) {
                 Ok(Some(ContentWhy::LineBreak))
             } else {
                 Ok(None)
             }
         }
         Way::Bold | Way::Italic => Ok(replaced_fault(standing)),
-        Way::Shown => Ok(shown_fault(standing, node.shown.as_str().as_bytes())),
+        Way::Shown => Ok(shown_fault(standing, node.shown().as_bytes())),
         Way::Tag => Ok(new_fault(standing)),
         Way::Break => Ok(changed_fault(standing)),
         Way::AsItStood => Ok(unless_same(standing)),

@@ -7,6 +7,7 @@ pub mod ContextReads
 pub mod ContextStyles
 pub mod ForestPlaces
 pub mod Forests
+pub mod InertItems
 pub mod LineHolding
 pub mod Loosening
 pub mod NestedContexts

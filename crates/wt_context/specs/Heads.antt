@@ -23,14 +23,11 @@ use Rattle.wt_tiles.specs.Glyphs.{glyph_of, run_len}
 use Rattle.wt_tiles.specs.Tags.{tag_at, name_len}
 use Rattle.wt_tiles.specs.Links.{target_len, target_of, has_pipe, to_close}
 use Rattle.wt_inline.specs.Carried.{shown_item, typeof, placeholder_typeof}
-use Rattle.wt_inline.specs.ItemTree.{Head}
+use Rattle.wt_inline.specs.ItemTree.{Head, with_attrs}
 use Rattle.wt_context.specs.Chunks.{visible}
 
 abbrev pub glyphs : List Item → List Glyph
 glyphs xs = map glyph_of xs
-
-abbrev pub with_attrs : Kind → List (AttrName × List ℕ) → Head
-with_attrs k attrs = record { kind = k; shown = []; attrs = attrs; mw = None }
 
 abbrev pub with_href : Kind → List ℕ → Head
 with_href k href = with_attrs k ((attr.Href, href) ∷ [])

@@ -1,6 +1,7 @@
 pub mod Chunking
 pub mod Chunks
 pub mod Heads
+pub mod Inert
 pub mod Line
 pub mod Loosened
 pub mod Made

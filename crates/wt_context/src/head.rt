@@ -8,8 +8,9 @@ ghost use Rattle.wt_tiles.specs.Glyphs.{glyph_of};
 ghost use Rattle.wt_tiles.specs.Links.{has_pipe};
 ghost use Rattle.wt_span.specs.Origins.{IsSoundPiece};
 ghost use Rattle.wt_tree.specs.View.{attrs_of};
+ghost use Rattle.wt_inline.specs.ItemTree.{with_attrs};
 ghost use Rattle.wt_inline.specs.View.{head_of};
-ghost use Rattle.wt_context.specs.Heads.{with_attrs, with_href, placeholder, target_size, target, href_to, link_head, key_after, key, href_with, category_head, behind_bracket, before_blank, bracketed_url, ext_link_head, bare_url_head, switch_property, switch_names, named, switch_head};
+ghost use Rattle.wt_context.specs.Heads.{with_href, placeholder, target_size, target, href_to, link_head, key_after, key, href_with, category_head, behind_bracket, before_blank, bracketed_url, ext_link_head, bare_url_head, switch_property, switch_names, named, switch_head};
 
 use crate::text::{source_of, text_of, visible_source};
 use std::alloc::Global;
@@ -20,18 +21,20 @@ use wt_tiles::{Glyph, Rest, Target, close_len, glyphs_of, take_items, target_len
 use wt_tree::{Attr, AttrName, Kind};
 
 /// A head with one attribute.
-fn with_attr(alloc: Global, kind: Kind, name: AttrName, value: Str) -> Result<NodeHead, NoMemory>
+fn with_attr<'a>(
+    alloc: Global,
+    kind: Kind,
+    name: AttrName,
+    value: Str,
+) -> Result<NodeHead<'a>, NoMemory>
     ensures { IfOk result (λ h. head_of h ≡ with_attrs kind ((name, value) ∷ [])) }
 {
     let mut attrs = List::new(alloc);
     attrs.push(Attr { name, value })?;
-    Ok(NodeHead {
-        attrs,
-        ..NodeHead::plain(alloc, kind)
-    })
+    NodeHead::with_attrs(alloc, kind, attrs)
 }
 
-fn with_href(alloc: Global, kind: Kind, href: Str) -> Result<NodeHead, NoMemory>
+fn with_href<'a>(alloc: Global, kind: Kind, href: Str) -> Result<NodeHead<'a>, NoMemory>
     ensures { IfOk result (λ h. head_of h ≡ with_href kind href) }
 {
     with_attr(alloc, kind, AttrName::Href, href)
@@ -39,7 +42,7 @@ fn with_href(alloc: Global, kind: Kind, href: Str) -> Result<NodeHead, NoMemory>
 
 /// The head of what is kept and not read into.
 #[tactic(auto, unfolding(crate::specs::Heads::placeholder, wt_inline::specs::Carried::placeholder_typeof))]
-pub fn placeholder(alloc: Global) -> Result<NodeHead, NoMemory>
+pub fn placeholder<'a>(alloc: Global) -> Result<NodeHead<'a>, NoMemory>
     ensures { IfOk result (λ h. head_of h ≡ placeholder) }
 {
     let value = Str::copy_of(alloc, "mw:Placeholder")?;
@@ -81,7 +84,7 @@ fn href_to(alloc: Global, target: &Option<Target>) -> Result<Str, NoMemory>
 
 /// The head of a link with these pieces.
 #[tactic(auto, unfolding(crate::specs::Heads::link_head))]
-pub fn link_head(alloc: Global, pieces: &[Piece<'_>]) -> Result<NodeHead, NoMemory>
+pub fn link_head<'a>(alloc: Global, pieces: &[Piece<'a>]) -> Result<NodeHead<'a>, NoMemory>
     ensures { IfOk result (λ h. head_of h ≡ link_head (items pieces.now)) }
 {
     let glyphs = glyphs_of(alloc, pieces)?;
@@ -154,7 +157,7 @@ fn href_with(alloc: Global, target: Option<Target>, key: Option<Str>) -> Result<
 
 /// The head of a category with these pieces.
 #[tactic(auto, unfolding(crate::specs::Heads::category_head))]
-pub fn category_head(alloc: Global, pieces: &[Piece<'_>]) -> Result<NodeHead, NoMemory>
+pub fn category_head<'a>(alloc: Global, pieces: &[Piece<'a>]) -> Result<NodeHead<'a>, NoMemory>
     requires { All IsSoundPiece pieces.now }
     ensures { IfOk result (λ h. head_of h ≡ category_head (items pieces.now)) }
 {
@@ -208,7 +211,7 @@ fn bracketed_url(text: &str) -> &str
 
 /// The head of an external link with this open delimiter.
 #[tactic(auto, unfolding(crate::specs::Heads::ext_link_head))]
-pub fn ext_link_head(alloc: Global, opening: &[Piece<'_>]) -> Result<NodeHead, NoMemory>
+pub fn ext_link_head<'a>(alloc: Global, opening: &[Piece<'a>]) -> Result<NodeHead<'a>, NoMemory>
     ensures { IfOk result (λ h. head_of h ≡ ext_link_head (items opening.now)) }
 {
     let text = text_of(alloc, opening)?;
@@ -218,7 +221,7 @@ pub fn ext_link_head(alloc: Global, opening: &[Piece<'_>]) -> Result<NodeHead, N
 
 /// The head of a bare URL of these pieces.
 #[tactic(auto, unfolding(crate::specs::Heads::bare_url_head))]
-pub fn bare_url_head(alloc: Global, pieces: &[Piece<'_>]) -> Result<NodeHead, NoMemory>
+pub fn bare_url_head<'a>(alloc: Global, pieces: &[Piece<'a>]) -> Result<NodeHead<'a>, NoMemory>
     ensures { IfOk result (λ h. head_of h ≡ bare_url_head (items pieces.now)) }
 {
     let href = text_of(alloc, pieces)?;
@@ -255,7 +258,7 @@ fn switch_property(alloc: Global, written: &str) -> Result<Str, NoMemory>
 
 /// The head of a switch of these pieces.
 #[tactic(auto, unfolding(crate::specs::Heads::switch_head))]
-pub fn switch_head(alloc: Global, pieces: &[Piece<'_>]) -> Result<NodeHead, NoMemory>
+pub fn switch_head<'a>(alloc: Global, pieces: &[Piece<'a>]) -> Result<NodeHead<'a>, NoMemory>
     ensures { IfOk result (λ h. head_of h ≡ switch_head (items pieces.now)) }
 {
     let written = source_of(alloc, pieces)?;

@@ -3,6 +3,7 @@
 
 mod chunk;
 mod head;
+mod inert;
 pub mod laws;
 mod line;
 mod loose;

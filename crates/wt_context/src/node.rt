@@ -38,8 +38,8 @@ pub enum Leaf {
     Placeholder,
 }
 
-fn leaf_of<'a>(alloc: Global, head: NodeHead, own: List<Piece<'a>>) -> PieceTree<'a>
-    ensures { item_tree result ≡ leaf (head_of head) (items own.entry) }
+fn leaf_of<'a>(alloc: Global, head: NodeHead<'a>, own: List<Piece<'a>>) -> PieceTree<'a>
+    ensures { item_tree result ≡ leaf (head_of head.entry) (items own.entry) }
 {
     PieceTree {
         head,
@@ -49,14 +49,14 @@ fn leaf_of<'a>(alloc: Global, head: NodeHead, own: List<Piece<'a>>) -> PieceTree
     }
 }
 
-fn leaf_head(alloc: Global, kind: Leaf, pieces: &[Piece<'_>]) -> Result<NodeHead, NoMemory>
+fn leaf_head<'a>(alloc: Global, kind: Leaf, pieces: &[Piece<'a>]) -> Result<NodeHead<'a>, NoMemory>
     requires { All IsSoundPiece pieces.now }
     ensures { IfOk result (λ h. head_of h ≡ leaf_head kind (items pieces.now)) }
 {
     match kind {
         Leaf::Category => category_head(alloc, pieces),
         Leaf::Switch => switch_head(alloc, pieces),
-        Leaf::Break => Ok(NodeHead::plain(alloc, Kind::Br)),
+        Leaf::Break => Ok(NodeHead::plain(Kind::Br)),
         Leaf::Placeholder => placeholder(alloc),
     }
 }
@@ -96,12 +96,12 @@ pub fn bare_url<'a>(alloc: Global, tile: &Tile<'a>) -> Result<PieceTree<'a>, NoM
 /// A node with these children between the delimiters of a tile.
 fn round<'a>(
     alloc: Global,
-    head: NodeHead,
+    head: NodeHead<'a>,
     opening: List<Piece<'a>>,
     children: Children<'a>,
     closing: List<Piece<'a>>,
 ) -> Result<PieceTree<'a>, NoMemory>
-    ensures { IfOk result (λ t. item_tree t ≡ inner (head_of head) (items opening.entry) (forest (made (growth children.entry) [])) (items closing.entry)) }
+    ensures { IfOk result (λ t. item_tree t ≡ inner (head_of head.entry) (items opening.entry) (forest (made (growth children.entry) [])) (items closing.entry)) }
 {
     Ok(PieceTree {
         head,
@@ -120,7 +120,7 @@ fn with_trail<'a>(
 ) -> Result<Children<'a>, NoMemory>
     ensures { IfOk result (λ c. Grows (growth children.entry) (trail_parts (items closing.entry) (items trail.now)) (growth c)) }
 {
-    let skip = leaf_of(alloc, NodeHead::plain(alloc, Kind::Skip), closing);
+    let skip = leaf_of(alloc, NodeHead::plain(Kind::Skip), closing);
     let children = children.with_tree(alloc, skip)?;
     children.with_pieces(alloc, Loose::Text, trail)
 }
@@ -128,13 +128,13 @@ fn with_trail<'a>(
 /// The node of a link with these children.
 fn link<'a>(
     alloc: Global,
-    head: NodeHead,
+    head: NodeHead<'a>,
     trail: usize,
     parts: TileParts<'a>,
     children: Children<'a>,
 ) -> Result<PieceTree<'a>, NoMemory>
     ensures { IfOk result (λ t. (ps : Inside) → IsMade (growth children.entry) ps
-        → item_tree t ≡ link_by (head_of head) trail (items parts.entry.opening) (items parts.entry.closing)
+        → item_tree t ≡ link_by (head_of head.entry) trail (items parts.entry.opening) (items parts.entry.closing)
         (items parts.entry.trail) ps) }
 {
     let TileParts {
@@ -150,12 +150,12 @@ fn link<'a>(
     round(alloc, head, opening, children, List::new(alloc))
 }
 
-fn nested_head(
+fn nested_head<'a>(
     alloc: Global,
     kind: Nested,
-    pieces: &[Piece<'_>],
-    opening: &[Piece<'_>],
-) -> Result<NodeHead, NoMemory>
+    pieces: &[Piece<'a>],
+    opening: &[Piece<'a>],
+) -> Result<NodeHead<'a>, NoMemory>
     requires { All IsSoundPiece opening.now }
     ensures { IfOk result (λ h. head_of h ≡ nested_head kind (items pieces.now) (items opening.now)) }
 {

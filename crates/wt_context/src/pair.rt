@@ -5,7 +5,7 @@ ghost use Rattle.wt_span.specs.Items.{items};
 ghost use Rattle.wt_span.specs.Origins.{IsSoundPiece};
 ghost use Rattle.wt_tree.specs.View.{attrs_of};
 ghost use Rattle.wt_inline.specs.View.{head_of};
-ghost use Rattle.wt_context.specs.Heads.{with_attrs, name_end, attribute_items, attributes_of, pair_by_name, pair_by, pair_head};
+ghost use Rattle.wt_context.specs.Heads.{name_end, attribute_items, attributes_of, pair_by_name, pair_by, pair_head};
 
 use crate::head::placeholder;
 use crate::parts::take_some;
@@ -64,17 +64,19 @@ fn attributes_of(
     }
 }
 
-fn named(alloc: Global, name: TagName, opening: &[Piece<'_>]) -> Result<NodeHead, NoMemory>
+fn named<'a>(alloc: Global, name: TagName, opening: &[Piece<'a>]) -> Result<NodeHead<'a>, NoMemory>
     requires { All IsSoundPiece opening.now }
     ensures { IfOk result (λ h. head_of h ≡ pair_by_name (Name.Paired name) (items opening.now)) }
 {
-    Ok(NodeHead {
-        attrs: attributes_of(alloc, name, opening)?,
-        ..NodeHead::plain(alloc, Kind::Tag(name))
-    })
+    let attrs = attributes_of(alloc, name, opening)?;
+    NodeHead::with_attrs(alloc, Kind::Tag(name), attrs)
 }
 
-fn pair_by(alloc: Global, tag: Option<Tag>, opening: &[Piece<'_>]) -> Result<NodeHead, NoMemory>
+fn pair_by<'a>(
+    alloc: Global,
+    tag: Option<Tag>,
+    opening: &[Piece<'a>],
+) -> Result<NodeHead<'a>, NoMemory>
     requires { All IsSoundPiece opening.now }
     ensures { IfOk result (λ h. head_of h ≡ pair_by tag (items opening.now)) }
 {
@@ -91,7 +93,7 @@ fn pair_by(alloc: Global, tag: Option<Tag>, opening: &[Piece<'_>]) -> Result<Nod
 
 /// The head of a pair of tags with this open delimiter.
 #[tactic(auto, unfolding(crate::specs::Heads::pair_head))]
-pub fn pair_head(alloc: Global, opening: &[Piece<'_>]) -> Result<NodeHead, NoMemory>
+pub fn pair_head<'a>(alloc: Global, opening: &[Piece<'a>]) -> Result<NodeHead<'a>, NoMemory>
     requires { All IsSoundPiece opening.now }
     ensures { IfOk result (λ h. head_of h ≡ pair_head (items opening.now)) }
 {

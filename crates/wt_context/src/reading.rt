@@ -13,6 +13,7 @@ ghost use Rattle.wt_context.specs.Nodes.{inside_of, nested_tree, tile_tree, tile
 ghost use Rattle.wt_context.specs.TileParts.{shape_of, HasCuts, IsCutTile};
 ghost use Rattle.wt_context.specs.Tokens.{segments_of};
 
+use crate::inert::are_inert;
 use crate::loose::with_loose;
 use crate::node::{Leaf, Nested, bare_url, leaf_tree, nested_tree};
 use crate::parts::parts_of;
@@ -152,7 +153,7 @@ fn tokens_of<'a>(
 }
 
 /// The children of a node with what stands in a context, where so many more contexts may stand one
-/// inside the other.
+/// inside the other. What holds no sign of a tile or a style is text.
 #[cycle(reading)]
 pub fn with_context<'a>(
     alloc: Global,
@@ -165,7 +166,7 @@ pub fn with_context<'a>(
     requires room { context.pairs + levels < 2 ^ 32 }
     ensures { IfOk result (λ c. Grows (growth children.entry) (within levels context (items pieces.now)) (growth c)) }
 {
-    if levels == 0 {
+    if levels == 0 || are_inert(pieces) {
         return children.with_line(alloc, pieces);
     }
     let tiles = tiles_in(alloc, context, pieces)?;

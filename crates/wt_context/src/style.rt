@@ -66,7 +66,7 @@ fn style_node<'a>(
     ensures { item_tree result ≡ inner (plain (style_kind bold)) (items opening.entry) (forest (item_trees children.entry)) (items closing.entry) }
 {
     PieceTree {
-        head: NodeHead::plain(alloc, style_kind(bold)),
+        head: NodeHead::plain(style_kind(bold)),
         opening,
         children,
         closing,

@@ -2,7 +2,7 @@ ghost use Rattle.std.specs.Prelude.{◌≡◌, ◌<◌, ◌^◌, IfOk, Ok};
 ghost use Rattle.wt_datamw.specs.Sync.{sync_text};
 ghost use Rattle.wt_datamw.specs.SyncRead.{IsSmall, sync_told};
 
-use crate::sync_write::push_sync_text;
+use crate::sync_write::push_sync;
 use crate::texts::{check_text, check_text_if_any, text_of};
 use std::alloc::Global;
 use wt_span::{NoMemory, Str};
@@ -51,6 +51,6 @@ pub fn sync_to_text(alloc: Global, s: &Sync) -> Result<Str, NoMemory>
     check_text(&s.closing);
     check_text_if_any(&s.src);
     let mut bytes = Vec::new(alloc);
-    push_sync_text(&mut bytes, s)?;
+    push_sync(&mut bytes, s)?;
     Ok(text_of(bytes))
 }

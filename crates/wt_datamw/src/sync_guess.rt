@@ -4,7 +4,7 @@ ghost use Rattle.std.specs.Prelude.{◌≡◌, Ok, IfOk, IfSome};
 ghost use Rattle.wt_datamw.specs.SyncRead.{sync_told};
 
 use crate::sync::{Sync, places_of};
-use crate::sync_write::push_sync_text;
+use crate::sync_write::push_sync;
 use std::alloc::Global;
 use std::str::FromStr;
 use wt_span::{NoMemory, Str};
@@ -97,7 +97,7 @@ pub fn read_as_written(alloc: Global, text: &str) -> Result<Option<Sync>, NoMemo
     };
     let _places = places_of(&sync);
     let mut again = Vec::with_capacity(alloc, text.len())?;
-    push_sync_text(&mut again, &sync)?;
+    push_sync(&mut again, &sync)?;
     if again.as_slice() != text.as_bytes() {
         return Ok(None);
     }

@@ -24,7 +24,7 @@ element_tokens n = opens (label_of (out-Node n)) ∷ (all_tokens (views (out-Nod
 
 pub tokens_out : (n : Node)
     → tokens (view n) ≡ (if is_compared (showing (out-Node n).kind) then
-    (if is_text (writing (out-Node n).kind) then characters (out-Node n).shown ∷ [] else
+    (if is_text (writing (out-Node n).kind) then characters (out-Node n).source.shown ∷ [] else
     if is_group (out-Node n).kind then opens (label_of (out-Node n)) ∷ closes ∷ [] else element_tokens n) else [])
 tokens_out n = rw (view_out n)
 
@@ -32,7 +32,7 @@ pub no_tokens : (n : Node) → is_compared (showing (out-Node n).kind) ≡ false
 no_tokens n c = tokens_out n ∙ if_false (is_compared (showing (out-Node n).kind)) _ _ c
 
 pub text_tokens : (n : Node) → is_compared (showing (out-Node n).kind) ≡ true → is_text (writing (out-Node n).kind) ≡ true
-    → tokens (view n) ≡ characters (out-Node n).shown ∷ []
+    → tokens (view n) ≡ characters (out-Node n).source.shown ∷ []
 text_tokens n c t = tokens_out n ∙ if_true (is_compared (showing (out-Node n).kind)) _ _ c ∙ if_true (is_text (writing (out-Node n).kind)) _ _ t
 
 pub group_tokens : (n : Node) → is_compared (showing (out-Node n).kind) ≡ true → is_text (writing (out-Node n).kind) ≡ false

@@ -33,8 +33,7 @@ fn is_partner(holder: u32, node: &Node<'_>, original: Option<Visit<'_, '_>>) -> 
             if node.id == 0 || visit.parent != holder {
                 return false;
             }
-            same_kind(visit.node.kind, node.kind)
-                && same_attrs(visit.node.attrs.as_slice(), node.attrs.as_slice())
+            same_kind(visit.node.kind, node.kind) && same_attrs(visit.node.attrs(), node.attrs())
         }
     }
 }

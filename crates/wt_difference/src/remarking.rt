@@ -58,9 +58,9 @@ fn unmarked<'a>(alloc: Global, node: Node<'a>) -> Result<Node<'a>, NoMemory>
     ensures { IfOk result (λ n. view n ≡ unmarked (view node.entry)) }
 {
     let children = all_unmarked(alloc, node.children)?;
-    let mark = Mark::Nothing;
+    let more = node.more.with_mark(alloc, Mark::Nothing)?;
     Ok(Node {
-        mark,
+        more,
         children,
         ..node
     })
@@ -126,8 +126,9 @@ fn remarked_in<'a>(
 {
     let mark = mark_of(alloc, index, &node)?;
     let children = all_remarked(alloc, index, node.id, node.children)?;
+    let more = node.more.with_mark(alloc, mark)?;
     Ok(Node {
-        mark,
+        more,
         children,
         ..node
     })

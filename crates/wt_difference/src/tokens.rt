@@ -99,7 +99,7 @@ fn push_tokens<'t, 'a>(out: &mut Vec<Token<'t, 'a>>, node: &'t Node<'a>) -> Resu
         return Ok(());
     }
     if is_text(node.kind) {
-        return push_token(out, Token::Characters(node.shown.as_str()));
+        return push_token(out, Token::Characters(node.shown()));
     }
     if is_group(node.kind) {
         return push_group(out, node);
@@ -131,18 +131,18 @@ fn tokens_of<'t, 'a>(alloc: Global, nodes: &'t [Node<'a>]) -> Result<Vec<Token<'
 // ---- comparisons
 
 fn own_character<'n>(node: &'n Node<'_>) -> &'n str
-    ensures { result.now ≡ own_character (writing (out-Node node.now).kind) (out-Node node.now).shown }
+    ensures { result.now ≡ own_character (writing (out-Node node.now).kind) (out-Node node.now).source.shown }
 {
     match node.kind.writing() {
-        Writing::RoundCharacter => node.shown.as_str(),
+        Writing::RoundCharacter => node.shown(),
         Writing::AsText | Writing::AsVoid | Writing::RoundChildren => "",
         Writing::AsSection(_) | Writing::Unwritten => "",
     }
 }
 
 fn same_character(a: &Node<'_>, b: &Node<'_>) -> bool
-    ensures { result ≡ bytes_eq (own_character (writing (out-Node a.now).kind) (out-Node a.now).shown)
-        (own_character (writing (out-Node b.now).kind) (out-Node b.now).shown) }
+    ensures { result ≡ bytes_eq (own_character (writing (out-Node a.now).kind) (out-Node a.now).source.shown)
+        (own_character (writing (out-Node b.now).kind) (out-Node b.now).source.shown) }
 {
     own_character(a) == own_character(b)
 }
@@ -153,10 +153,10 @@ fn same_label(a: &Node<'_>, b: &Node<'_>) -> bool
     if a.id != b.id || !same_kind(a.kind, b.kind) {
         return false;
     }
-    if !same_attrs(a.attrs.as_slice(), b.attrs.as_slice()) {
+    if !same_attrs(a.attrs(), b.attrs()) {
         return false;
     }
-    same_data(&a.mw, &b.mw) && same_character(a, b)
+    same_data(a.mw(), b.mw()) && same_character(a, b)
 }
 
 fn same_text(a: &str, b: &str) -> bool

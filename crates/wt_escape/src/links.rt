@@ -32,14 +32,14 @@ fn value_of(attrs: &[Attr]) -> &str
 pub fn href_of<'n>(node: &'n Node<'_>) -> &'n str
     ensures { result.now ≡ href_of (label_of (out-Node node.now)) }
 {
-    value_of(node.attrs.as_slice())
+    value_of(node.attrs())
 }
 
 fn text_by<'n>(node: &'n Node<'_>) -> Option<&'n str>
     ensures { option_map (λ s. s.now) result ≡ text_by (shape (label_of (out-Node node.now)).kind).way (label_of (out-Node node.now)).shown }
 {
     match shape(node.kind).way {
-        Way::Characters => Some(node.shown.as_str()),
+        Way::Characters => Some(node.shown()),
         Way::Nothing
         | Way::Bold
         | Way::Italic
@@ -189,11 +189,11 @@ fn push_texts(out: &mut Str, texts: &[Text<'_>]) -> Result<(), NoMemory>
 }
 
 fn push_pair(out: &mut Str, old: &Node<'_>, inside: &str) -> Result<(), NoMemory>
-    ensures { OnOk result (out.new ≡ out.old ++ (texts_of (out-Node old.now).opening ++ (inside.now ++ texts_of (out-Node old.now).closing))) }
+    ensures { OnOk result (out.new ≡ out.old ++ (texts_of (out-Node old.now).source.opening ++ (inside.now ++ texts_of (out-Node old.now).source.closing))) }
 {
-    push_texts(out, old.opening.as_slice())?;
+    push_texts(out, old.opening())?;
     out.push_str(inside)?;
-    push_texts(out, old.closing.as_slice())?;
+    push_texts(out, old.closing())?;
     Ok(())
 }
 

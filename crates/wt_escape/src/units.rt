@@ -197,7 +197,7 @@ fn opening_place(alloc: Global, kept: Option<Kept<'_, '_>>) -> Result<Option<Str
     if !is_style(shape(kept.node.kind).way) {
         return Ok(None);
     }
-    let length = text_len(alloc, kept.node.opening.as_slice())?;
+    let length = text_len(alloc, kept.node.opening())?;
     // No block that is in memory is so long.
     let Some(end) = kept.place.start.checked_add(length) else {
         return Err(NoMemory);
@@ -214,7 +214,7 @@ fn closing_place(alloc: Global, kept: Option<Kept<'_, '_>>) -> Result<Option<Str
     if !is_style(shape(kept.node.kind).way) {
         return Ok(None);
     }
-    let length = text_len(alloc, kept.node.closing.as_slice())?;
+    let length = text_len(alloc, kept.node.closing())?;
     Ok(stretch(kept.place.end.saturating_sub(length), kept.place.end))
 }
 
@@ -307,7 +307,7 @@ fn push_signs<'t>(
     match shape(node.kind).way {
         Way::Nothing => Ok(()),
         Way::Characters => {
-            push_text(out, node.shown.as_str())?;
+            push_text(out, node.shown())?;
             Ok(())
         }
         Way::Bold => {

@@ -1,4 +1,3 @@
 pub mod Ends
 pub mod HeadingCuts
 pub mod Pieces
-pub mod PlainLines

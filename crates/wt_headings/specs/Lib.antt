@@ -1,4 +1,3 @@
 pub mod Cuts
 pub mod Headings
 pub mod Lines
-pub mod Plain

@@ -6,7 +6,7 @@ use Rattle.wt_tree.specs.View.{texts_of, attrs_of}
 use Rattle.wt_datamw.specs.declared.sync.Sync.{Sync}
 use Rattle.wt_fitting.specs.Fit.{source_of}
 use Rattle.wt_html_heads.specs.declared.head.Head.{Head}
-use Rattle.wt_html_in.specs.declared.nodes.Source.{Source}
+use Rattle.wt_html_in.specs.declared.nodes.ReadSource.{ReadSource}
 
 pub record Told : Type 0 where
   pub ranges : Option Ranges
@@ -14,7 +14,7 @@ pub record Told : Type 0 where
   pub closing : List ℕ
   pub own : List ℕ
 
-abbrev pub source_view : Source → Told
+abbrev pub source_view : ReadSource → Told
 source_view s = record { ranges = s.ranges; opening = texts_of s.opening; closing = texts_of s.closing; own = texts_of s.own }
 
 abbrev pub source_told : Option Sync → Told

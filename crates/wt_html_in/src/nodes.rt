@@ -2,7 +2,8 @@ ghost use Rattle.std.specs.Prelude.{◌≡◌, true, Some, None, option_map, IfO
 ghost use Rattle.std.specs.Str.{is_utf8};
 ghost use Rattle.wt_tree.specs.Tree.{tree, none as no_trees};
 ghost use Rattle.wt_tree.specs.View.{view, views, texts_of};
-ghost use Rattle.wt_tree.specs.Recut.{leaf_label, text_leaf, sep_leaf};
+ghost use Rattle.wt_tree.specs.Recut.{text_leaf, sep_leaf};
+ghost use Rattle.wt_span.specs.Slice.{bytes_of};
 ghost use Rattle.wt_fitting.specs.Fit.{leaf_in, source_of};
 ghost use Rattle.wt_html_heads.specs.Heads.{label_of_head};
 ghost use Rattle.wt_html_in.specs.Fits.{held_in};
@@ -13,59 +14,46 @@ use std::alloc::Global;
 use wt_datamw::Sync;
 use wt_html_heads::{Head, holds_text, shows_text, text_of};
 use wt_span::{List, NoMemory, Str, Text};
-use wt_tree::{Kind, Mark, Node, Ranges, Texts, recut_texts};
+use wt_tree::{Kind, More, Node, Ranges, Shown, Slices, Source, Texts, recut_texts};
 
-/// A text in the arena; nothing where it is empty. One of 2^32 - 1 bytes or more is answered as want
-/// of memory.
-fn kept<'a>(alloc: Global, arena: &'a Bump<Global>, text: &str) -> Result<List<Text<'a>>, NoMemory>
+/// A text in the arena. One of 2^32 - 1 bytes or more is answered as want of memory.
+fn stored<'a>(arena: &'a Bump<Global>, text: &str) -> Result<Text<'a>, NoMemory>
+    ensures { IfOk result (λ t. bytes_of t ≡ text.now) }
+{
+    let text = arena.try_alloc_str(text)?;
+    if 4294967295 <= text.len() {
+        return Err(NoMemory);
+    }
+    Ok(Text::new(text, 0))
+}
+
+/// A text in the arena; nothing where it is empty.
+fn kept<'a>(arena: &'a Bump<Global>, text: &str) -> Result<Slices<'a>, NoMemory>
     ensures { IfOk result (λ l. texts_of l ≡ text.now) }
 {
     match text.as_bytes() {
-        [] => Ok(List::new(alloc)),
+        [] => Ok(Slices::none()),
         [_, ..] => {
-            let text = arena.try_alloc_str(text)?;
-            if 4294967295 <= text.len() {
-                return Err(NoMemory);
-            }
-            let texts = Vec::from_array(alloc, [Text::new(text, 0)])?;
-            Ok(List::from_vec(texts))
+            let text = stored(arena, text)?;
+            Ok(Slices::one(text))
         }
-    }
-}
-
-/// A leaf without number, ranges and delimiters.
-fn leaf<'a>(alloc: Global, kind: Kind, own: List<Text<'a>>, shown: Str) -> Node<'a>
-    ensures { view result ≡ tree (leaf_label kind None (texts_of own.entry) shown) no_trees }
-{
-    Node {
-        kind,
-        id: 0,
-        ranges: None,
-        opening: List::new(alloc),
-        closing: List::new(alloc),
-        own,
-        shown,
-        attrs: List::new(alloc),
-        origin: None,
-        mark: Mark::Nothing,
-        mw: None,
-        children: List::new(alloc),
     }
 }
 
 fn text_leaf<'a>(alloc: Global, arena: &'a Bump<Global>, text: &str) -> Result<Node<'a>, NoMemory>
     ensures { IfOk result (λ n. view n ≡ text_leaf None text.now) }
 {
-    let own = kept(alloc, arena, text)?;
-    let shown = Str::copy_of(alloc, text)?;
-    Ok(leaf(alloc, Kind::Text, own, shown))
+    let text = stored(arena, text)?;
+    let own = Slices::one(text);
+    let shown = Shown::written(text.as_str());
+    Ok(Node::leaf(alloc, Kind::Text, None, own, shown))
 }
 
 fn sep_leaf<'a>(alloc: Global, arena: &'a Bump<Global>, text: &str) -> Result<Node<'a>, NoMemory>
     ensures { IfOk result (λ n. view n ≡ sep_leaf None text.now) }
 {
-    let own = kept(alloc, arena, text)?;
-    Ok(leaf(alloc, Kind::Sep, own, Str::new(alloc)))
+    let own = kept(arena, text)?;
+    Ok(Node::leaf(alloc, Kind::Sep, None, own, Shown::none()))
 }
 
 /// What a text is that stands directly in an element of the kind `outer`: no node where it is the
@@ -94,48 +82,40 @@ pub fn leaf_in<'a>(
 
 /// What `data-parsoid` says of a node, with its texts in the arena.
 #[derive(Drop)]
-struct Source<'a> {
+struct ReadSource<'a> {
     ranges: Option<Ranges>,
-    opening: List<Text<'a>>,
-    closing: List<Text<'a>>,
-    own: List<Text<'a>>,
+    opening: Slices<'a>,
+    closing: Slices<'a>,
+    own: Slices<'a>,
 }
 
-fn no_source<'a>(alloc: Global) -> Source<'a>
+fn no_source<'a>() -> ReadSource<'a>
     ensures { source_view result ≡ source_told None }
 {
-    Source {
+    ReadSource {
         ranges: None,
-        opening: List::new(alloc),
-        closing: List::new(alloc),
-        own: List::new(alloc),
+        opening: Slices::none(),
+        closing: Slices::none(),
+        own: Slices::none(),
     }
 }
 
-fn own_of<'a>(
-    alloc: Global,
-    arena: &'a Bump<Global>,
-    src: &Option<Str>,
-) -> Result<List<Text<'a>>, NoMemory>
+fn own_of<'a>(arena: &'a Bump<Global>, src: &Option<Str>) -> Result<Slices<'a>, NoMemory>
     ensures { IfOk result (λ l. texts_of l ≡ source_of src.now) }
 {
     match src {
-        None => Ok(List::new(alloc)),
-        Some(text) => kept(alloc, arena, text.as_str()),
+        None => Ok(Slices::none()),
+        Some(text) => kept(arena, text.as_str()),
     }
 }
 
-fn source_in<'a>(
-    alloc: Global,
-    arena: &'a Bump<Global>,
-    sync: &Sync,
-) -> Result<Source<'a>, NoMemory>
+fn source_in<'a>(arena: &'a Bump<Global>, sync: &Sync) -> Result<ReadSource<'a>, NoMemory>
     ensures { IfOk result (λ s. source_view s ≡ source_told (Some sync.now)) }
 {
-    let opening = kept(alloc, arena, sync.opening.as_str())?;
-    let closing = kept(alloc, arena, sync.closing.as_str())?;
-    let own = own_of(alloc, arena, &sync.src)?;
-    Ok(Source {
+    let opening = kept(arena, sync.opening.as_str())?;
+    let closing = kept(arena, sync.closing.as_str())?;
+    let own = own_of(arena, &sync.src)?;
+    Ok(ReadSource {
         ranges: Some(sync.dsr),
         opening,
         closing,
@@ -143,24 +123,25 @@ fn source_in<'a>(
     })
 }
 
-fn source_for<'a>(
-    alloc: Global,
-    arena: &'a Bump<Global>,
-    sync: &Option<Sync>,
-) -> Result<Source<'a>, NoMemory>
+fn source_for<'a>(arena: &'a Bump<Global>, sync: &Option<Sync>) -> Result<ReadSource<'a>, NoMemory>
     ensures { IfOk result (λ s. source_view s ≡ source_told sync.now) }
 {
     match sync {
-        None => Ok(no_source(alloc)),
-        Some(sync) => source_in(alloc, arena, sync),
+        None => Ok(no_source()),
+        Some(sync) => source_in(arena, sync),
     }
 }
 
 /// The node with this source.
-fn sourced<'a>(head: Head, source: Source<'a>, children: List<Node<'a>>) -> Node<'a>
-    ensures { view result ≡ tree (sourced_label head (source_view source.entry)) (views children.entry) }
+fn sourced<'a>(
+    alloc: Global,
+    head: Head,
+    source: ReadSource<'a>,
+    children: List<Node<'a>>,
+) -> Result<Node<'a>, NoMemory>
+    ensures { IfOk result (λ n. view n ≡ tree (sourced_label head (source_view source.entry)) (views children.entry)) }
 {
-    let Source {
+    let ReadSource {
         ranges,
         opening,
         closing,
@@ -175,20 +156,16 @@ fn sourced<'a>(head: Head, source: Source<'a>, children: List<Node<'a>>) -> Node
         mw,
         sync: _,
     } = head;
-    Node {
+    let source = Source::of(alloc, opening, closing, own, Shown::made(shown))?;
+    let more = More::of(alloc, attrs, mark, mw)?;
+    Ok(Node {
         kind,
         id,
         ranges,
-        opening,
-        closing,
-        own,
-        shown,
-        attrs,
-        origin: None,
-        mark,
-        mw,
+        source,
+        more,
         children,
-    }
+    })
 }
 
 /// What an element of this kind holds, when the nodes that stand in it are these: in an item, a cell or
@@ -223,7 +200,7 @@ pub fn node_of<'a>(
 ) -> Result<Node<'a>, NoMemory>
     ensures { IfOk result (λ n. view n ≡ tree (label_of_head head) (held_in inside head.kind (views nodes.entry))) }
 {
-    let source = source_for(alloc, arena, &head.sync)?;
+    let source = source_for(arena, &head.sync)?;
     let children = children_in(alloc, inside, head.kind, nodes)?;
-    Ok(sourced(head, source, children))
+    sourced(alloc, head, source, children)
 }

@@ -1,4 +1,4 @@
-ghost use Rattle.std.specs.Prelude.{◌≡◌, ◌≤◌, ◌++◌, take, drop, length, IfOk, OnOk};
+ghost use Rattle.std.specs.Prelude.{◌≡◌, ◌≤◌, ◌++◌, take, drop, length, option_copied, IfOk, OnOk};
 ghost use Rattle.wt_markup.specs.Escapes.{escaped_single};
 ghost use Rattle.wt_markup.specs.Html.{attribute, attributes, id_attribute, mw_attribute, leaf_sync, inner_sync, sync_of, sync_start, sync_value, sync_attribute, carried_attributes, attributes_of};
 ghost use Rattle.wt_datamw.specs.Mw.{mw_text};
@@ -9,10 +9,10 @@ ghost use Rattle.wt_tree.specs.declared.node.Node.{out-Node};
 
 use crate::bytes::{plain_len, push_escaped_double, push_escaped_single};
 use std::alloc::Global;
-use wt_datamw::{Sync, push_mw_text, push_sync_text};
+use wt_datamw::{push_mw_text, push_sync_text};
 use wt_outer::{push, push_number};
 use wt_span::{NoMemory, Str, Text, rest_of};
-use wt_tree::{Attr, AttrName, DataMw, Fixed, Kind, Node, Ranges};
+use wt_tree::{Attr, AttrName, DataMw, Fixed, Kind, Node, Ranges, Shown};
 
 #[tactic(auto, unfolding(wt_markup::specs::Html::attribute))]
 pub fn push_attribute(out: &mut Vec<u8>, name: AttrName, value: &[u8]) -> Result<(), NoMemory>
@@ -92,8 +92,8 @@ fn push_mw_escaped(alloc: Global, out: &mut Vec<u8>, mw: &DataMw) -> Result<(), 
 }
 
 #[tactic(auto, unfolding(wt_markup::specs::Html::mw_attribute))]
-fn push_mw(alloc: Global, out: &mut Vec<u8>, mw: &Option<DataMw>) -> Result<(), NoMemory>
-    ensures { OnOk result (out.new.items ≡ out.old.items ++ mw_attribute mw.now) }
+fn push_mw(alloc: Global, out: &mut Vec<u8>, mw: Option<&DataMw>) -> Result<(), NoMemory>
+    ensures { OnOk result (out.new.items ≡ out.old.items ++ mw_attribute (option_copied mw.entry)) }
 {
     let Some(value) = mw else {
         return Ok(());
@@ -104,50 +104,76 @@ fn push_mw(alloc: Global, out: &mut Vec<u8>, mw: &Option<DataMw>) -> Result<(), 
     Ok(())
 }
 
-/// Texts as one.
-fn joined(alloc: Global, texts: &[Text<'_>]) -> Result<Str, NoMemory>
+/// Texts as one: a single text where it stands, several put together.
+fn joined<'t>(alloc: Global, texts: &'t [Text<'_>]) -> Result<Shown<'t>, NoMemory>
     ensures { IfOk result (λ s. s ≡ texts_of texts.now) }
 {
+    if let [text] = texts {
+        return Ok(Shown::written(text.as_str()));
+    }
     let mut all = Str::new(alloc);
     for text in texts {
         all.push_str(text.as_str())?;
     }
-    Ok(all)
+    Ok(Shown::made(all))
 }
 
-fn sync_of_leaf(alloc: Global, node: &Node<'_>, dsr: Ranges) -> Result<Sync, NoMemory>
-    ensures { IfOk result (λ s. s ≡ leaf_sync (label_of (out-Node node.now)) dsr) }
+/// What `data-parsoid` says of a leaf with these ranges.
+fn push_leaf_sync(
+    alloc: Global,
+    out: &mut Vec<u8>,
+    node: &Node<'_>,
+    dsr: Ranges,
+) -> Result<(), NoMemory>
+    ensures { OnOk result (out.new.items ≡ out.old.items ++ sync_text (leaf_sync (label_of (out-Node node.now)) dsr)) }
 {
-    let src = joined(alloc, node.own.as_slice())?;
-    Ok(Sync {
-        dsr,
-        opening: Str::new(alloc),
-        closing: Str::new(alloc),
-        src: Some(src),
-    })
+    let source = joined(alloc, node.own())?;
+    push_sync_text(out, dsr, "", "", Some(source.as_str()))
 }
 
-fn sync_of_inner(alloc: Global, node: &Node<'_>, dsr: Ranges) -> Result<Sync, NoMemory>
-    ensures { IfOk result (λ s. s ≡ inner_sync (label_of (out-Node node.now)) dsr) }
+/// What `data-parsoid` says of a node with these ranges that is no leaf.
+fn push_inner_sync(
+    alloc: Global,
+    out: &mut Vec<u8>,
+    node: &Node<'_>,
+    dsr: Ranges,
+) -> Result<(), NoMemory>
+    ensures { OnOk result (out.new.items ≡ out.old.items ++ sync_text (inner_sync (label_of (out-Node node.now)) dsr)) }
 {
-    let opening = joined(alloc, node.opening.as_slice())?;
-    let closing = joined(alloc, node.closing.as_slice())?;
-    Ok(Sync {
-        dsr,
-        opening,
-        closing,
-        src: None,
-    })
+    let opening = joined(alloc, node.opening())?;
+    let closing = joined(alloc, node.closing())?;
+    push_sync_text(out, dsr, opening.as_str(), closing.as_str(), None)
 }
 
+/// What `data-parsoid` says of a node with these ranges.
 #[tactic(auto, unfolding(wt_markup::specs::Html::sync_of))]
-fn sync_of(alloc: Global, node: &Node<'_>, dsr: Ranges) -> Result<Sync, NoMemory>
-    ensures { IfOk result (λ s. s ≡ sync_of (label_of (out-Node node.now)) dsr) }
+fn push_sync_of(
+    alloc: Global,
+    out: &mut Vec<u8>,
+    node: &Node<'_>,
+    dsr: Ranges,
+) -> Result<(), NoMemory>
+    ensures { OnOk result (out.new.items ≡ out.old.items ++ sync_text (sync_of (label_of (out-Node node.now)) dsr)) }
 {
     if node.kind.is_leaf() {
-        return sync_of_leaf(alloc, node, dsr);
+        return push_leaf_sync(alloc, out, node, dsr);
     }
-    sync_of_inner(alloc, node, dsr)
+    push_inner_sync(alloc, out, node, dsr)
+}
+
+/// The same as a value that stands in `'`.
+fn push_sync_escaped(
+    alloc: Global,
+    out: &mut Vec<u8>,
+    node: &Node<'_>,
+    dsr: Ranges,
+) -> Result<(), NoMemory>
+    ensures { OnOk result (out.new.items ≡ out.old.items ++ escaped_single (sync_text (sync_of (label_of (out-Node node.now)) dsr))) }
+{
+    let at = out.len();
+    push_sync_of(alloc, out, node, dsr)?;
+    escape_behind(alloc, out, at)?;
+    Ok(())
 }
 
 #[tactic(auto, unfolding(wt_markup::specs::Html::sync_start))]
@@ -158,22 +184,17 @@ fn push_sync_start(out: &mut Vec<u8>) -> Result<(), NoMemory>
     Ok(())
 }
 
-/// The text of `data-parsoid`, as a value that stands in `'`.
-fn push_sync_escaped(alloc: Global, out: &mut Vec<u8>, sync: &Sync) -> Result<(), NoMemory>
-    ensures { OnOk result (out.new.items ≡ out.old.items ++ escaped_single (sync_text sync.now)) }
-{
-    let at = out.len();
-    push_sync_text(out, sync)?;
-    escape_behind(alloc, out, at)?;
-    Ok(())
-}
-
 #[tactic(auto, unfolding(wt_markup::specs::Html::sync_value))]
-fn push_sync_value(alloc: Global, out: &mut Vec<u8>, sync: &Sync) -> Result<(), NoMemory>
-    ensures { OnOk result (out.new.items ≡ out.old.items ++ sync_value (sync_text sync.now)) }
+fn push_sync_value(
+    alloc: Global,
+    out: &mut Vec<u8>,
+    node: &Node<'_>,
+    dsr: Ranges,
+) -> Result<(), NoMemory>
+    ensures { OnOk result (out.new.items ≡ out.old.items ++ sync_value (sync_text (sync_of (label_of (out-Node node.now)) dsr))) }
 {
     push_sync_start(out)?;
-    push_sync_escaped(alloc, out, sync)?;
+    push_sync_escaped(alloc, out, node, dsr)?;
     push(out, b"'")?;
     Ok(())
 }
@@ -185,8 +206,7 @@ fn push_sync(alloc: Global, out: &mut Vec<u8>, node: &Node<'_>) -> Result<(), No
     let Some(dsr) = node.ranges else {
         return Ok(());
     };
-    let sync = sync_of(alloc, node, dsr)?;
-    push_sync_value(alloc, out, &sync)?;
+    push_sync_value(alloc, out, node, dsr)?;
     Ok(())
 }
 
@@ -195,7 +215,7 @@ pub fn push_carried(alloc: Global, out: &mut Vec<u8>, node: &Node<'_>) -> Result
     ensures { OnOk result (out.new.items ≡ out.old.items ++ carried_attributes (label_of (out-Node node.now))) }
 {
     push_id(out, node.id)?;
-    push_mw(alloc, out, &node.mw)?;
+    push_mw(alloc, out, node.mw())?;
     push_sync(alloc, out, node)?;
     Ok(())
 }
@@ -206,7 +226,7 @@ pub fn push_attributes(alloc: Global, out: &mut Vec<u8>, node: &Node<'_>) -> Res
     ensures { OnOk result (out.new.items ≡ out.old.items ++ attributes_of (label_of (out-Node node.now))) }
 {
     push_fixed(out, node.kind)?;
-    push_own(out, node.attrs.as_slice())?;
+    push_own(out, node.attrs())?;
     push_carried(alloc, out, node)?;
     Ok(())
 }

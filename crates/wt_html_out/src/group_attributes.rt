@@ -128,7 +128,7 @@ fn push_first(
         (fixed_attributes kind ++ attrs_of attrs.now)) }
 {
     push_about(out, number)?;
-    push_typed(out, group.attrs.as_slice(), kind, attrs)?;
+    push_typed(out, group.attrs(), kind, attrs)?;
     push_carried(alloc, out, group)?;
     Ok(())
 }

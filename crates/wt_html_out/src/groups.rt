@@ -146,9 +146,9 @@ fn push_group_element(
     node: &Node<'_>,
 ) -> Result<(), NoMemory>
     ensures { OnOk result (out.new.items ≡ out.old.items ++ group_element first number (label_of (out-Node group.now)) (out-Node node.now).kind
-        (fixed_attributes (out-Node node.now).kind ++ attrs_of (out-Node node.now).attrs) (shown_html_of_all (views (out-Node node.now).children))) }
+        (fixed_attributes (out-Node node.now).kind ++ attrs_of (out-Node node.now).more.attrs) (shown_html_of_all (views (out-Node node.now).children))) }
 {
-    let attrs = node.attrs.as_slice();
+    let attrs = node.attrs();
     match node.kind.writing() {
         Writing::AsVoid => push_group_tag(
             alloc, out, first, number, group, node.kind, attrs, b"/>",
@@ -177,14 +177,7 @@ fn push_part(
 {
     match node.kind.showing() {
         Showing::Characters => {
-            push_text(
-                alloc,
-                out,
-                progress,
-                number,
-                group,
-                node.shown.as_str().as_bytes(),
-            )
+            push_text(alloc, out, progress, number, group, node.shown().as_bytes())
         }
         Showing::Inside => push_parts(
             alloc,

@@ -71,11 +71,11 @@ fn push_html(
         return Ok(number);
     }
     match node.kind.writing() {
-        Writing::AsText => push_source(out, node.own.as_slice())?,
+        Writing::AsText => push_source(out, node.own())?,
         Writing::AsVoid => push_void(alloc, out, node)?,
         Writing::RoundCharacter => {
             push_start(alloc, out, node)?;
-            push_escaped(out, node.shown.as_str().as_bytes())?;
+            push_escaped(out, node.shown().as_bytes())?;
             push_end(out, node)?;
         }
         Writing::RoundChildren => {

@@ -18,12 +18,12 @@ use wt_tree::{Node, Showing, Writing};
 /// The tag of a node's element, with this end; it has neither number nor data.
 fn push_tag(out: &mut Vec<u8>, node: &Node<'_>, end: &[u8]) -> Result<(), NoMemory>
     ensures { OnOk result (out.new.items ≡ out.old.items ++ tag_of (out-Node node.now).kind
-        (attributes (fixed_attributes (out-Node node.now).kind ++ attrs_of (out-Node node.now).attrs)) end.now) }
+        (attributes (fixed_attributes (out-Node node.now).kind ++ attrs_of (out-Node node.now).more.attrs)) end.now) }
 {
     push(out, b"<")?;
     push_name(out, node.kind)?;
     push_fixed(out, node.kind)?;
-    push_own(out, node.attrs.as_slice())?;
+    push_own(out, node.attrs())?;
     push(out, end)?;
     Ok(())
 }
@@ -32,7 +32,7 @@ fn push_tag(out: &mut Vec<u8>, node: &Node<'_>, end: &[u8]) -> Result<(), NoMemo
 #[cycle(shown)]
 fn push_element(out: &mut Vec<u8>, node: &Node<'_>) -> Result<(), NoMemory>
     ensures { OnOk result (out.new.items ≡ out.old.items ++ element_by (writing (out-Node node.now).kind) (out-Node node.now).kind
-        (attributes (fixed_attributes (out-Node node.now).kind ++ attrs_of (out-Node node.now).attrs))
+        (attributes (fixed_attributes (out-Node node.now).kind ++ attrs_of (out-Node node.now).more.attrs))
         (shown_html_of_all (views (out-Node node.now).children))) }
 {
     match node.kind.writing() {
@@ -51,7 +51,7 @@ fn push_shown(out: &mut Vec<u8>, node: &Node<'_>) -> Result<(), NoMemory>
     ensures { OnOk result (out.new.items ≡ out.old.items ++ shown_html (view node.now)) }
 {
     match node.kind.showing() {
-        Showing::Characters => push_escaped(out, node.shown.as_str().as_bytes()),
+        Showing::Characters => push_escaped(out, node.shown().as_bytes()),
         Showing::Inside => push_shown_all(out, node.children.as_slice()),
         Showing::Nothing => Ok(()),
         Showing::Element => push_element(out, node),

@@ -17,6 +17,10 @@ pub record Head : Type 0 where
 abbrev pub plain : Kind → Head
 plain k = record { kind = k; shown = []; attrs = []; mw = None }
 
+-- attributes beside the kind
+abbrev pub with_attrs : Kind → List (AttrName × List ℕ) → Head
+with_attrs k attrs = record { kind = k; shown = []; attrs = attrs; mw = None }
+
 mutual
   pub data ItemTree : Type 0 where
     inner : Head → List Item → ItemTrees → List Item → ItemTree

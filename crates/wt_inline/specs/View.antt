@@ -7,7 +7,7 @@ use Rattle.wt_inline.specs.declared.tree.NodeHead.{NodeHead}
 use Rattle.wt_inline.specs.declared.tree.PieceTree.{PieceTree, PieceTree-F, fold-PieceTree}
 
 abbrev pub head_of : NodeHead → Head
-head_of h = record { kind = h.kind; shown = h.shown; attrs = attrs_of h.attrs; mw = h.mw }
+head_of h = record { kind = h.kind; shown = h.shown; attrs = attrs_of h.more.attrs; mw = h.more.mw }
 
 abbrev pub view_step : PieceTree-F ItemTree → ItemTree
 view_step n = inner (head_of n.head) (items n.opening) (forest n.children) (items n.closing)

@@ -20,7 +20,7 @@ use crate::tree::NodeHead;
 use std::alloc::Global;
 use wt_lex::{closing_tag, is_same_name, opening_tag};
 use wt_span::{Form, List, NoMemory, Piece, Str, Text};
-use wt_tree::{Attr, AttrName, DataMw, Kind};
+use wt_tree::{Attr, AttrName, DataMw, Kind, Mark, More, Shown};
 
 fn push_char(out: &mut Str, character: char) -> Result<(), NoMemory>
     ensures { OnOk result (out.new ≡ out.old ++ encode_utf8 character) }
@@ -52,28 +52,56 @@ fn push_all_shown(out: &mut Str, own: &[Piece<'_>]) -> Result<(), NoMemory>
     Ok(())
 }
 
+/// What a piece shows: characters as they are written, where it is such.
+fn piece_shown<'a>(alloc: Global, piece: &Piece<'a>) -> Result<Shown<'a>, NoMemory>
+    ensures { IfOk result (λ s. s ≡ flat_map shown_item (items_of piece.now)) }
+{
+    match piece.form {
+        Form::Chars => Ok(Shown::written(piece.text.as_str())),
+        _ => {
+            let mut shown = Str::new(alloc);
+            push_shown(&mut shown, piece)?;
+            Ok(Shown::made(shown))
+        }
+    }
+}
+
+/// What pieces show, one after another.
+fn pieces_shown<'a>(alloc: Global, own: &[Piece<'a>]) -> Result<Shown<'a>, NoMemory>
+    ensures { IfOk result (λ s. s ≡ flat_map shown_item (items own.now)) }
+{
+    match own {
+        [piece] => piece_shown(alloc, piece),
+        _ => {
+            let mut shown = Str::new(alloc);
+            push_all_shown(&mut shown, own)?;
+            Ok(Shown::made(shown))
+        }
+    }
+}
+
 /// The characters that a leaf of such characters shows.
-fn loose_shown(alloc: Global, loose: Loose, own: &[Piece<'_>]) -> Result<Str, NoMemory>
+fn loose_shown<'a>(alloc: Global, loose: Loose, own: &[Piece<'a>]) -> Result<Shown<'a>, NoMemory>
     ensures { IfOk result (λ s. s ≡ (loose_head loose (items own.now)).shown) }
 {
-    let mut shown = Str::new(alloc);
     match loose {
-        Loose::Text => {
-            push_all_shown(&mut shown, own)?;
-            Ok(shown)
-        }
-        Loose::Sep => Ok(shown),
+        Loose::Text => pieces_shown(alloc, own),
+        Loose::Sep => Ok(Shown::none()),
     }
 }
 
 /// The head of a text or of a separator.
-pub fn loose_head(alloc: Global, loose: Loose, own: &[Piece<'_>]) -> Result<NodeHead, NoMemory>
+pub fn loose_head<'a>(
+    alloc: Global,
+    loose: Loose,
+    own: &[Piece<'a>],
+) -> Result<NodeHead<'a>, NoMemory>
     ensures { IfOk result (λ h. head_of h ≡ loose_head loose (items own.now)) }
 {
     let shown = loose_shown(alloc, loose, own)?;
     Ok(NodeHead {
         shown,
-        ..NodeHead::plain(alloc, loose.kind())
+        ..NodeHead::plain(loose.kind())
     })
 }
 
@@ -172,7 +200,7 @@ fn extension_data(alloc: Global, name: Str, raw: RawTag<'_>) -> Result<DataMw, N
 }
 
 /// The head of the island of an extension with this source, whose opening tag is read once.
-fn extension_head(alloc: Global, text: Text<'_>) -> Result<NodeHead, NoMemory>
+fn extension_head<'a>(alloc: Global, text: Text<'a>) -> Result<NodeHead<'a>, NoMemory>
     ensures { IfOk result (λ h. head_of h ≡ form_head form.Extension (bytes_of text.entry)) }
 {
     let raw = RawTag::of(text);
@@ -180,25 +208,25 @@ fn extension_head(alloc: Global, text: Text<'_>) -> Result<NodeHead, NoMemory>
     let name = lower_name(alloc, raw.name)?;
     let attrs = typeof_attr(alloc, "mw:Extension/", name.as_str())?;
     let data = extension_data(alloc, name, raw)?;
+    let more = More::of(alloc, attrs, Mark::Nothing, Some(data))?;
     Ok(NodeHead {
         kind: Kind::Island,
         shown,
-        attrs,
-        mw: Some(data),
+        more,
     })
 }
 
 /// The characters that a form shows: an entity the character that it stands for.
-fn form_shown(alloc: Global, form: Form) -> Result<Str, NoMemory>
+fn form_shown<'a>(alloc: Global, form: Form) -> Result<Shown<'a>, NoMemory>
     ensures { IfOk result (λ s. s ≡ shown_whole form) }
 {
-    let mut shown = Str::new(alloc);
     match form {
         Form::Entity(character) => {
+            let mut shown = Str::new(alloc);
             push_char(&mut shown, character)?;
-            Ok(shown)
+            Ok(Shown::made(shown))
         }
-        _ => Ok(shown),
+        _ => Ok(Shown::none()),
     }
 }
 
@@ -219,20 +247,19 @@ fn form_kind(form: Form) -> Kind
 
 /// The head of the node of a piece that is one item and no extension.
 #[tactic(auto, using(crate::proofs::Carrying::no_data))]
-fn other_head(alloc: Global, piece: &Piece<'_>) -> Result<NodeHead, NoMemory>
+fn other_head<'a>(alloc: Global, piece: &Piece<'a>) -> Result<NodeHead<'a>, NoMemory>
     requires { piece.now.form ≢ form.Extension }
     ensures { IfOk result (λ h. head_of h ≡ form_head piece.now.form (bytes_of piece.now.text)) }
 {
     Ok(NodeHead {
         kind: form_kind(piece.form),
         shown: form_shown(alloc, piece.form)?,
-        attrs: attrs(alloc, piece)?,
-        mw: None,
+        more: More::with_attrs(alloc, attrs(alloc, piece)?)?,
     })
 }
 
 /// The head of the node of a piece that is one item.
-pub fn form_head(alloc: Global, piece: &Piece<'_>) -> Result<NodeHead, NoMemory>
+pub fn form_head<'a>(alloc: Global, piece: &Piece<'a>) -> Result<NodeHead<'a>, NoMemory>
     ensures { IfOk result (λ h. head_of h ≡ form_head piece.now.form (bytes_of piece.now.text)) }
 {
     match piece.form {

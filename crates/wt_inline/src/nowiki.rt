@@ -85,7 +85,7 @@ pub fn nowiki<'a>(alloc: Global, text: Text<'a>, origin: Origin) -> Result<Piece
     let children = inside(alloc, raw.inside, origin)?;
     let closing = chars(alloc, raw.closing, origin)?;
     Ok(PieceTree {
-        head: NodeHead::plain(alloc, Kind::Nowiki),
+        head: NodeHead::plain(Kind::Nowiki),
         opening,
         children,
         closing,

@@ -1,34 +1,48 @@
-ghost use Rattle.std.specs.Prelude.{◌≡◌};
+ghost use Rattle.std.specs.Prelude.{◌≡◌, IfOk};
 ghost use Rattle.wt_span.specs.Items.{items};
-ghost use Rattle.wt_inline.specs.ItemTree.{plain, leaf};
+ghost use Rattle.wt_tree.specs.View.{attrs_of};
+ghost use Rattle.wt_inline.specs.ItemTree.{plain, with_attrs, leaf};
 ghost use Rattle.wt_inline.specs.View.{head_of, item_tree};
 
 use std::alloc::Global;
-use wt_span::{List, Piece, Str};
-use wt_tree::{Attr, DataMw, Kind};
+use wt_span::{List, NoMemory, Piece};
+use wt_tree::{Attr, Kind, More, Shown};
 
 /// What a node is, and what its element has beside its source and children: the characters that it
 /// shows (a text's and an entity's), the attributes that its kind doesn't tell, and the data of an
 /// extension. It is given where the node is made.
 #[derive(Drop)]
-pub struct NodeHead {
+pub struct NodeHead<'a> {
     pub kind: Kind,
-    pub shown: Str,
-    pub attrs: List<Attr>,
-    pub mw: Option<DataMw>,
+    pub shown: Shown<'a>,
+    pub more: More,
 }
 
-impl NodeHead {
+impl<'a> NodeHead<'a> {
     /// The head of a node that has nothing beside its kind.
-    pub fn plain(alloc: Global, kind: Kind) -> NodeHead
+    pub fn plain(kind: Kind) -> NodeHead<'a>
         ensures { head_of result ≡ plain kind }
     {
         NodeHead {
             kind,
-            shown: Str::new(alloc),
-            attrs: List::new(alloc),
-            mw: None,
+            shown: Shown::none(),
+            more: More::none(),
         }
+    }
+
+    /// The head of a node that has attributes beside its kind.
+    pub fn with_attrs(
+        alloc: Global,
+        kind: Kind,
+        attrs: List<Attr>,
+    ) -> Result<NodeHead<'a>, NoMemory>
+        ensures { IfOk result (λ h. head_of h ≡ with_attrs kind (attrs_of attrs)) }
+    {
+        Ok(NodeHead {
+            kind,
+            shown: Shown::none(),
+            more: More::with_attrs(alloc, attrs)?,
+        })
     }
 }
 
@@ -36,15 +50,15 @@ impl NodeHead {
 /// opening and of its closing delimiter; a leaf is all opening, and has no children.
 #[derive(Drop)]
 pub struct PieceTree<'a> {
-    pub head: NodeHead,
+    pub head: NodeHead<'a>,
     pub opening: List<Piece<'a>>,
     pub children: List<PieceTree<'a>>,
     pub closing: List<Piece<'a>>,
 }
 
 /// A leaf of these pieces.
-pub fn leaf<'a>(alloc: Global, head: NodeHead, own: List<Piece<'a>>) -> PieceTree<'a>
-    ensures { item_tree result ≡ leaf (head_of head) (items own.entry) }
+pub fn leaf<'a>(alloc: Global, head: NodeHead<'a>, own: List<Piece<'a>>) -> PieceTree<'a>
+    ensures { item_tree result ≡ leaf (head_of head.entry) (items own.entry) }
 {
     PieceTree {
         head,

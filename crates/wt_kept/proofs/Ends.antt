@@ -74,8 +74,8 @@ ends_inside xs block n e f =
     ap (λ (ys : List Item). blank_ends (take (length xs - n) ys)) e ∙ ap (λ (m : ℕ). blank_ends (take (m - n) (seen block))) l
     ∙ ap (λ (m : ℕ). blank_ends (take (length (seen block) - m) (seen block))) f
 
-pub block_opening : (n : Node) → length (texts_of (out-Node n).opening) ≡ length (label (view n)).opening
+pub block_opening : (n : Node) → length (texts_of (out-Node n).source.opening) ≡ length (label (view n)).opening
 block_opening n = sym (ap (λ (t : Tree). length (label t).opening) (view_out n))
 
-pub block_closing : (n : Node) → length (texts_of (out-Node n).closing) ≡ length (label (view n)).closing
+pub block_closing : (n : Node) → length (texts_of (out-Node n).source.closing) ≡ length (label (view n)).closing
 block_closing n = sym (ap (λ (t : Tree). length (label t).closing) (view_out n))

@@ -1,5 +1,5 @@
 -- What the code's page and its comparison of plain views stand for.
-use Rattle.std.specs.Prelude.{◌≡◌, ℕ, Bool, List, map, string_bytes}
+use Rattle.std.specs.Prelude.{◌≡◌, ℕ, Bool, List, map, option_copied, string_bytes}
 use Rattle.wt_tree.specs.Tree.{Tree}
 use Rattle.wt_tree.specs.View.{attrs_of}
 use Rattle.wt_tree.specs.Plain.{Face}
@@ -26,7 +26,7 @@ pub record IsPageOf (kept : List Kept) (source : List ℕ) (p : Known) : Type 0 
 -- ---- the comparison of plain views, read from left to right
 
 abbrev pub face_of : Pointed → Face
-face_of f = record { kind = f.kind; attrs = attrs_of f.attrs.now; mw = f.mw.now }
+face_of f = record { kind = f.kind; attrs = attrs_of f.attrs.now; mw = option_copied f.mw }
 
 abbrev pub mark_of : Shown → Mark
 mark_of (read.Byte b) = byte b

@@ -244,9 +244,9 @@ fn gather_delimited<'t, 'a>(
     ensures { OnOk result (Adds out.old out.new (flat (view node.now)) (visible (items (view node.now)))
         (inside_found out.old (label_of (out-Node node.now)) (views (out-Node node.now).children))) }
 {
-    gather_texts(out, node.opening.as_slice())?;
+    gather_texts(out, node.opening())?;
     gather_all(alloc, out, node.children.as_slice())?;
-    gather_texts(out, node.closing.as_slice())?;
+    gather_texts(out, node.closing())?;
     Ok(())
 }
 

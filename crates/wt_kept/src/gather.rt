@@ -53,9 +53,9 @@ fn push_delimited(out: &mut Vec<Item>, node: &Node<'_>) -> Result<(), AllocError
     ensures { OnOk result (items_seen out.new.items
         ≡ items_seen out.old.items ++ items_by item.Delimited (label_of (out-Node node.now)) (items_of_all (views (out-Node node.now).children))) }
 {
-    push_texts(out, node.opening.as_slice())?;
+    push_texts(out, node.opening())?;
     push_items_of_all(out, node.children.as_slice())?;
-    push_texts(out, node.closing.as_slice())?;
+    push_texts(out, node.closing())?;
     Ok(())
 }
 
@@ -66,7 +66,7 @@ pub fn push_items(out: &mut Vec<Item>, node: &Node<'_>) -> Result<(), AllocError
 {
     match shape(node.kind).items {
         ItemsOf::Delimited => push_delimited(out, node)?,
-        ItemsOf::Characters => push_texts(out, node.own.as_slice())?,
+        ItemsOf::Characters => push_texts(out, node.own())?,
         ItemsOf::Opaque => push_item(out, Item::Opaque)?,
         ItemsOf::Invisible => push_item(out, Item::Invisible)?,
         ItemsOf::Nodes => push_items_of_all(out, node.children.as_slice())?,
@@ -90,7 +90,7 @@ pub fn push_shown(out: &mut String, node: &Node<'_>) -> Result<(), AllocError>
     ensures { OnOk result (string_bytes out.new ≡ string_bytes out.old ++ shown (view node.now)) }
 {
     match node.kind.showing() {
-        Showing::Characters => out.push_str(node.shown.as_str())?,
+        Showing::Characters => out.push_str(node.shown())?,
         Showing::Inside => push_shown_in(out, node.children.as_slice())?,
         Showing::Nothing => {}
         Showing::Element => push_shown_in(out, node.children.as_slice())?,

@@ -274,7 +274,7 @@ fn island(source: &str) -> Role
 fn url_of(alloc: Global, node: &Node<'_>) -> Result<Role, AllocError>
     ensures { IfOk result (λ r. r ≡ url (label_of (out-Node node.now)).opening (shown (view node.now))) }
 {
-    let opening = text_of(alloc, node.opening.as_slice())?;
+    let opening = text_of(alloc, node.opening())?;
     let text = shown_text(alloc, node)?;
     Ok(url(opening.as_str(), text.as_str()))
 }
@@ -372,8 +372,8 @@ pub fn kept_nodes<'t, 'a>(
     requires { IsGatheredOf (view block.now) gathered.now }
     ensures { IfOk result (λ v. map kept_view v.items ≡ kept_nodes (view block.now)) }
 {
-    let opening = text_len(alloc, block.opening.as_slice())?;
-    let closing = text_len(alloc, block.closing.as_slice())?;
+    let opening = text_len(alloc, block.opening())?;
+    let closing = text_len(alloc, block.closing())?;
     let seen = gathered.seen.as_slice();
     let ends = content_ends(alloc, seen, closing)?;
     let facts = Facts {

@@ -16,15 +16,14 @@ ghost use Rattle.wt_kept.specs.PageViews.{kept_in, page_view, face_of, mark_of, 
 use crate::kept::Kept;
 use crate::page::Page;
 use std::alloc::{AllocError, Global};
-use wt_span::List;
 use wt_tree::{Attr, DataMw, Kind, Node, Showing, same_attrs, same_data, same_kind};
 
 /// An element's kind with its attributes, and what an extension has beside.
 #[derive(Clone, Copy)]
 pub struct Face<'n> {
     pub kind: Kind,
-    pub attrs: &'n List<Attr>,
-    pub mw: &'n Option<DataMw>,
+    pub attrs: &'n [Attr],
+    pub mw: Option<&'n DataMw>,
 }
 
 /// A plain view as it is read from left to right: a byte of its characters, and where an element
@@ -41,8 +40,8 @@ fn face_in<'n>(node: &'n Node<'_>) -> Face<'n>
 {
     Face {
         kind: node.kind,
-        attrs: &node.attrs,
-        mw: &node.mw,
+        attrs: node.attrs(),
+        mw: node.mw(),
     }
 }
 
@@ -76,7 +75,7 @@ fn show<'n>(out: &mut Vec<Shown<'n>>, node: &'n Node<'_>) -> Result<(), AllocErr
     ensures { OnOk result (marks_of out.new.items ≡ marks_of out.old.items ++ signs (view node.now)) }
 {
     match node.kind.showing() {
-        Showing::Characters => push_bytes(out, node.shown.as_str().as_bytes())?,
+        Showing::Characters => push_bytes(out, node.shown().as_bytes())?,
         Showing::Inside => show_all(out, node.children.as_slice())?,
         Showing::Nothing => {}
         Showing::Element => {
@@ -150,7 +149,7 @@ fn show_restored_inside<'n>(
         ≡ marks_of out.old.items ++ signs (tree (label_of (out-Node node.now)) (restored_all (kept_in page.now) (views (out-Node node.now).children)))) }
 {
     match node.kind.showing() {
-        Showing::Characters => push_bytes(out, node.shown.as_str().as_bytes())?,
+        Showing::Characters => push_bytes(out, node.shown().as_bytes())?,
         Showing::Inside => show_all_restored(out, page, node.children.as_slice())?,
         Showing::Nothing => {}
         Showing::Element => {

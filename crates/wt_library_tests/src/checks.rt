@@ -4,8 +4,8 @@ use std::alloc::Global;
 use std::test::Fail;
 use wt_checks::{Check, check};
 use wt_html_in::read_html;
-use wt_span::{List, NoMemory, Str};
-use wt_tree::{Kind, Mark, Node};
+use wt_span::{List, NoMemory};
+use wt_tree::{Kind, More, Node, Source};
 
 /// The first refusal of an edited page, against the page without bytes.
 fn refusal_of(alloc: Global, edited: &Node<'_>) -> Result<Option<Check>, NoMemory> {
@@ -13,14 +13,8 @@ fn refusal_of(alloc: Global, edited: &Node<'_>) -> Result<Option<Check>, NoMemor
         kind: Kind::Body,
         id: 0,
         ranges: None,
-        opening: List::new(alloc),
-        closing: List::new(alloc),
-        own: List::new(alloc),
-        shown: Str::new(alloc),
-        attrs: List::new(alloc),
-        origin: None,
-        mark: Mark::Nothing,
-        mw: None,
+        source: Source::none(),
+        more: More::none(),
         children: List::new(alloc),
     };
     check(alloc, &page, edited, false)

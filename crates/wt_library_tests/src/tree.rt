@@ -1,50 +1,31 @@
 use std::alloc::Global;
 use std::process::Abort;
 use wt_span::{List, NoMemory, Str, Text};
-use wt_tree::{Attr, AttrName, DataMw, Kind, Mark, Node, Part, Ranges, find, flat, plain_eq, walk};
+use wt_tree::{
+    Attr, AttrName, DataMw, Kind, Mark, More, Node, Part, Ranges, Shown, Slices, Source, find,
+    flat, plain_eq, walk,
+};
 
-/// A node of this kind and number with these delimiters, without ranges and children.
-fn between<'a>(
-    alloc: Global,
-    kind: Kind,
-    id: u32,
-    opening: List<Text<'a>>,
-    closing: List<Text<'a>>,
-) -> Node<'a> {
+/// A node of this kind and number that has nothing else.
+fn node<'a>(alloc: Global, kind: Kind, id: u32) -> Node<'a> {
     Node {
         kind,
         id,
         ranges: None,
-        opening,
-        closing,
-        own: List::new(alloc),
-        shown: Str::new(alloc),
-        attrs: List::new(alloc),
-        origin: None,
-        mark: Mark::Nothing,
-        mw: None,
+        source: Source::none(),
+        more: More::none(),
         children: List::new(alloc),
     }
 }
 
-/// The same without delimiters.
-fn node<'a>(alloc: Global, kind: Kind, id: u32) -> Node<'a> {
-    between(alloc, kind, id, List::new(alloc), List::new(alloc))
-}
-
-fn list_of<'a>(alloc: Global, text: Text<'a>) -> Result<List<Text<'a>>, NoMemory> {
-    let mut texts = List::new(alloc);
-    texts.push(text)?;
-    Ok(texts)
-}
-
-fn leaf<'a>(alloc: Global, kind: Kind, text: &'a str) -> Result<Node<'a>, NoMemory> {
-    let mut leaf = node(alloc, kind, 0);
-    if text.len() < 1000 {
-        leaf.own.push(Text::new(text, 0))?;
-    }
-    leaf.shown.push_str(text)?;
-    Ok(leaf)
+/// A leaf that shows its source; of a long text it shows all and has no source.
+fn leaf<'a>(alloc: Global, kind: Kind, text: &'a str) -> Node<'a> {
+    let own = if text.len() < 1000 {
+        Slices::one(Text::new(text, 0))
+    } else {
+        Slices::none()
+    };
+    Node::leaf(alloc, kind, None, own, Shown::written(text))
 }
 
 /// A node with a further child.
@@ -60,28 +41,29 @@ fn with_leaf<'a>(
     kind: Kind,
     text: &'a str,
 ) -> Result<Node<'a>, NoMemory> {
-    let leaf = leaf(alloc, kind, text)?;
-    with_child(outer, leaf)
+    with_child(outer, leaf(alloc, kind, text))
 }
 
 /// A heading `==  ==` without its text.
-fn empty_heading<'a>(alloc: Global) -> Result<Node<'a>, NoMemory> {
-    let opening = list_of(alloc, Text::new("== ", 1))?;
-    let closing = list_of(alloc, Text::new(" ==", 5))?;
-    let mut heading = between(alloc, Kind::Heading(2), 1, opening, closing);
-    heading.ranges = Some(Ranges {
+fn empty_heading<'a>(alloc: Global) -> Node<'a> {
+    let opening = Slices::one(Text::new("== ", 1));
+    let closing = Slices::one(Text::new(" ==", 5));
+    let ranges = Ranges {
         start: 1,
         end: 8,
         open_w: 3,
         close_w: 3,
-    });
-    Ok(heading)
+    };
+    Node {
+        ranges: Some(ranges),
+        source: Source::round(opening, closing),
+        ..node(alloc, Kind::Heading(2), 1)
+    }
 }
 
 /// A heading `== A ==` with the given text.
 fn heading<'a>(alloc: Global, text: &'a str) -> Result<Node<'a>, NoMemory> {
-    let heading = empty_heading(alloc)?;
-    with_leaf(alloc, heading, Kind::Text, text)
+    with_leaf(alloc, empty_heading(alloc), Kind::Text, text)
 }
 
 /// Such a heading after a separator, in a body.
@@ -126,30 +108,36 @@ fn plain_page<'a>(alloc: Global) -> Result<Node<'a>, NoMemory> {
 
 fn link<'a>(alloc: Global, href: &str) -> Result<Node<'a>, NoMemory> {
     let value = Str::copy_of(alloc, href)?;
-    let mut link = node(alloc, Kind::WikiLink, 1);
-    link.attrs.push(Attr {
+    let mut attrs = List::new(alloc);
+    attrs.push(Attr {
         name: AttrName::Href,
         value,
     })?;
-    Ok(link)
+    let more = More::with_attrs(alloc, attrs)?;
+    Ok(Node {
+        more,
+        ..node(alloc, Kind::WikiLink, 1)
+    })
 }
 
-fn island<'a>(alloc: Global, data: DataMw) -> Node<'a> {
-    let mut island = node(alloc, Kind::Island, 2);
-    island.mw = Some(data);
-    island
+fn island<'a>(alloc: Global, data: DataMw) -> Result<Node<'a>, NoMemory> {
+    let more = More::of(alloc, List::new(alloc), Mark::Nothing, Some(data))?;
+    Ok(Node {
+        more,
+        ..node(alloc, Kind::Island, 2)
+    })
 }
 
 fn extension<'a>(alloc: Global, name: &str) -> Result<Node<'a>, NoMemory> {
     let name = Str::copy_of(alloc, name)?;
-    Ok(island(alloc, DataMw::Extension { name, body: None }))
+    island(alloc, DataMw::Extension { name, body: None })
 }
 
 fn literal<'a>(alloc: Global, text: &str) -> Result<Node<'a>, NoMemory> {
     let mut parts = List::new(alloc);
     let text = Str::copy_of(alloc, text)?;
     parts.push(Part::Literal(text))?;
-    Ok(island(alloc, DataMw::Parts(parts)))
+    island(alloc, DataMw::Parts(parts))
 }
 
 /// Whether pages of these headings show the same.

@@ -46,5 +46,5 @@ fn title_in(href: &[u8]) -> &[u8]
 pub fn title_of<'n>(node: &'n Node<'_>) -> &'n [u8]
     ensures { result.now ≡ title_of (label_of (out-Node node.now)) }
 {
-    title_in(href_in(node.attrs.as_slice()))
+    title_in(href_in(node.attrs()))
 }

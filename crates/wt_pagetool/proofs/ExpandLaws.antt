@@ -7,16 +7,13 @@ use Rattle.wt_span.specs.Cuts.{page_of}
 use Rattle.wt_span.specs.Items.{Item}
 use Rattle.wt_span.specs.Origins.{OuterCall, Expanded}
 use Rattle.wt_tree.specs.Tree.{Tree}
-use Rattle.wt_inline.specs.ItemTree.{ItemTree, tree_items}
+use Rattle.wt_inline.specs.ItemTree.{tree_items}
 use Rattle.wt_body.specs.Body.{meaning}
 use Rattle.wt_annotated.specs.Annotated.{annotated}
-use Rattle.wt_annotated.specs.Clean.{is_clean}
-use Rattle.wt_annotated.specs.GroupData.{group_data}
-use Rattle.wt_sections.specs.Sections.{with_sections}
 use Rattle.wt_annotated.specs.Reached.{AreReachedSlices}
 use Rattle.wt_page_round_trip.specs.PageTree.{expanded_tree, page_tree}
 use Rattle.wt_page_round_trip.proofs.HeldPages.{its_page}
-use Rattle.wt_page_round_trip.proofs.PageTrees.{clean_meaning, page_reached}
+use Rattle.wt_page_round_trip.proofs.PageTrees.{page_reached}
 use Rattle.wt_expand.specs.Texts.{shown_text}
 use Rattle.wt_expand.specs.PageCalls.{expanded_page}
 use Rattle.wt_expand.specs.Work.{Refused}
@@ -114,15 +111,3 @@ pub tree_sliced : (pages : Pages) (page : List ℕ) (t : Tree) (e : Expanded) �
     → e ≡ expanded_page pages page → AreReachedSlices page t
 tree_sliced pages page t e text unrefused is same =
     subst (AreReachedSlices page) (sym (tree_expanded pages page t e is same)) (page_reached pages page (its_page pages page text unrefused))
-
--- the tree of items is made of the meaning that was built
-pub meaning_small : (calls : List OuterCall) (xs : List Item) (t : ItemTree) → t ≡ meaning xs
-    → length (page_of calls (tree_items (meaning xs))) < 2 ^ 32 → length (page_of calls (tree_items t)) < 2 ^ 32
-meaning_small calls xs t is small = subst (λ u. length (page_of calls (tree_items u)) < 2 ^ 32) (sym is) small
-
-pub meaning_clean : (xs : List Item) (t : ItemTree) → t ≡ meaning xs → is_clean (tree_items t) 0 t ≡ true
-meaning_clean xs t is = ap (λ u. is_clean (tree_items u) 0 u) is ∙ clean_meaning xs
-
-pub meaning_tree : (t : Tree) (e : Expanded) (m : ItemTree) → m ≡ meaning e.items → t ≡ with_sections (annotated e.outer (group_data e.outer) m)
-    → t ≡ expanded_tree e
-meaning_tree t e m is made = made ∙ ap (λ u. with_sections (annotated e.outer (group_data e.outer) u)) is

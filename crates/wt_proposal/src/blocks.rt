@@ -1,11 +1,12 @@
 //! Blocks, items and rows as wikitext, where they are new, come from elsewhere or are of another kind now.
 
 use crate::inline::{Edges, Writing, edges_of, spelled};
+use crate::kinds::{is_item, is_list};
 use crate::known::{Block, Known, block_of, sign_of};
 use std::alloc::Global;
 use wt_checks::original;
 use wt_difference::{are_same, inside, is_block_part};
-use wt_guards::Place;
+use wt_selser::place_in;
 use wt_span::{NoMemory, Str};
 use wt_tree::{Kind, Node, flat, same_attrs, same_kind};
 
@@ -47,23 +48,11 @@ impl<'w, 't, 'a> Surroundings<'w, 't, 'a> {
     }
 }
 
-/// What an inside of this kind of block is written for.
-pub fn place_in(kind: Kind) -> Place {
-    match kind {
-        Kind::Heading(_) => Place::Heading,
-        Kind::Li | Kind::Dd => Place::Item,
-        Kind::Dt => Place::Term,
-        Kind::Td | Kind::Caption => Place::Cell,
-        Kind::Th => Place::Header,
-        _ => Place::Paragraph,
-    }
-}
-
 // ---- blocks that stand
 
 /// Whether a node is the page's with its number, as it was. Of a group nothing can have been changed.
 fn is_as_it_was(alloc: Global, old: &Node<'_>, node: &Node<'_>) -> Result<bool, NoMemory> {
-    if !same_kind(old.kind, node.kind) || !same_attrs(&old.attrs, &node.attrs) {
+    if !same_kind(old.kind, node.kind) || !same_attrs(old.attrs(), node.attrs()) {
         return Ok(false);
     }
     if matches!(node.kind, Kind::Group) {
@@ -292,13 +281,6 @@ fn push_lines(
     push_held(alloc, out, around.in_table(), node)
 }
 
-fn is_item_or_list(kind: Kind) -> bool {
-    matches!(
-        kind,
-        Kind::Ul | Kind::Ol | Kind::Dl | Kind::Li | Kind::Dt | Kind::Dd
-    )
-}
-
 /// Appends a block as it stood in the page, where it stood there as it is; it says whether it does. An item
 /// stands so only with its signs.
 fn push_if_standing(
@@ -307,7 +289,8 @@ fn push_if_standing(
     around: Surroundings<'_, '_, '_>,
     node: &Node<'_>,
 ) -> Result<bool, NoMemory> {
-    if is_item_or_list(node.kind) && !around.signs.is_empty() {
+    let is_of_list = is_list(node.kind) || is_item(node.kind);
+    if is_of_list && !around.signs.is_empty() {
         return Ok(false);
     }
     let Some(source) = source_standing(alloc, around.known, node)? else {

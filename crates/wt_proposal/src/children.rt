@@ -1,6 +1,7 @@
 //! A list of children that is written anew: what goes, what comes, and the line breaks between.
 
 use crate::blocks::{Surroundings, push_block};
+use crate::kinds::{is_cell, is_item, is_lined, is_list, is_part};
 use crate::known::{Known, last_text, signs_of};
 use crate::proposing::{Numbering, Plan};
 use crate::slot::Slot;
@@ -49,10 +50,6 @@ fn range_of(node: &Node<'_>) -> Slot {
     }
 }
 
-fn is_mark(kind: Kind) -> bool {
-    matches!(kind, Kind::Comment | Kind::Include)
-}
-
 /// A slice that goes on to the end of the next child.
 fn joined(slice: Option<Slot>, child: Slot) -> Slot {
     match slice {
@@ -78,7 +75,7 @@ fn slices_of(alloc: Global, gone: &[Child<'_, '_>]) -> Result<Vec<Slot>, NoMemor
     let mut slice = None;
     for child in gone {
         let kind = child.node.kind;
-        if is_mark(kind) {
+        if kind.is_mark() {
             push_slice(&mut out, slice)?;
             slice = None;
         } else if is_compared(kind) {
@@ -154,33 +151,6 @@ fn most_breaks(page: &str, from: usize, to: usize) -> usize {
 
 // ---- line breaks
 
-fn is_cell(kind: Kind) -> bool {
-    matches!(kind, Kind::Td | Kind::Th)
-}
-
-fn is_part(kind: Kind) -> bool {
-    matches!(
-        kind,
-        Kind::Li
-            | Kind::Dt
-            | Kind::Dd
-            | Kind::Tbody
-            | Kind::Tr
-            | Kind::Td
-            | Kind::Th
-            | Kind::Caption
-    )
-}
-
-fn is_list(kind: Kind) -> bool {
-    matches!(kind, Kind::Ul | Kind::Ol | Kind::Dl)
-}
-
-/// Whether a block is told by the signs at its line's start or end.
-fn is_lined(kind: Kind) -> bool {
-    is_part(kind) || is_list(kind) || matches!(kind, Kind::Heading(_) | Kind::Rule | Kind::Table)
-}
-
 /// How many line breaks two neighbours ask for at least.
 fn least_between(left: Kind, right: Kind) -> usize {
     if is_cell(left) {
@@ -223,7 +193,7 @@ fn behind_marks(gap: Gap<'_, '_, '_>, at: usize) -> usize {
     let mut end = gap.place.start;
     for child in gap.gone {
         let mark = range_of(child.node);
-        if is_mark(child.node.kind) && mark.end <= at {
+        if child.node.kind.is_mark() && mark.end <= at {
             end = mark.end.max(end);
         }
     }
@@ -282,10 +252,6 @@ fn wanted_between(gap: Gap<'_, '_, '_>) -> usize {
 }
 
 // ---- what comes
-
-fn is_item(kind: Kind) -> bool {
-    matches!(kind, Kind::Li | Kind::Dt | Kind::Dd)
-}
 
 fn first_gone<'t, 'a>(gone: &[Child<'t, 'a>]) -> Option<&'t Node<'a>> {
     for child in gone {

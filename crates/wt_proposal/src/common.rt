@@ -1,15 +1,20 @@
-//! What two texts have in common at their fronts and at their backs, cut at a space.
+//! What two texts have in common at their fronts and at their backs, cut where a word ends or begins.
 
-fn is_space_at(text: &[u8], at: usize) -> bool {
+/// Whether a byte is of a word: a letter, a digit, or no character of ASCII.
+fn is_of_word(byte: u8) -> bool {
+    byte.is_ascii_alphanumeric() || byte >= 128
+}
+
+fn is_of_word_at(text: &[u8], at: usize) -> bool {
     match text.get(at) {
-        Some(byte) => *byte == b' ' || *byte == b'\n' || *byte == b'\t',
+        Some(byte) => is_of_word(*byte),
         None => false,
     }
 }
 
-/// Whether a text may be cut at a place: at its ends, and before and behind a space.
+/// Whether a text may be cut at a place: everywhere but inside a word.
 fn is_cut(text: &[u8], at: usize) -> bool {
-    at == 0 || at >= text.len() || is_space_at(text, at - 1) || is_space_at(text, at)
+    at == 0 || at >= text.len() || !is_of_word_at(text, at - 1) || !is_of_word_at(text, at)
 }
 
 fn has_at(text: &[u8], at: usize, byte: u8) -> bool {

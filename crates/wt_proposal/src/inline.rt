@@ -1,7 +1,7 @@
 //! Inline content as wikitext: what stood in the page as it stood, texts too, and what is new as `edit` spells it.
 
 use crate::known::{Block, Known, first_text, last_text};
-use crate::texts::{push_letters, push_text};
+use crate::texts::{ends_with_apostrophe, push_letters, push_nowiki, push_text};
 use std::alloc::Global;
 use wt_escape::{external_link_of, page_link_of};
 use wt_guards::{Place, Role, Setting, Stretch, Thing, Unit, spelling_of};
@@ -150,19 +150,18 @@ fn push_shown(alloc: Global, out: &mut Vec<Unit<'_>>, node: &Node<'_>) -> Result
 
 // ---- bold and italic
 
+/// Appends a delimiter that is written anew, apart from an apostrophe before it that would lengthen `''`.
 fn push_toggle(alloc: Global, out: &mut Vec<Unit<'_>>, sign: &str) -> Result<(), NoMemory> {
+    if sign.len() == 2 && ends_with_apostrophe(out.as_slice()) {
+        push_nowiki(alloc, out)?;
+    }
     let source = Str::copy_of(alloc, sign)?;
     push_thing(out, Role::Toggle, source, None)
 }
 
-fn push_nowiki(alloc: Global, out: &mut Vec<Unit<'_>>) -> Result<(), NoMemory> {
-    let source = Str::copy_of(alloc, "<nowiki/>")?;
-    push_thing(out, Role::Node, source, None)
-}
-
 /// Appends the opening delimiter of a node of the page.
 fn push_opening(alloc: Global, out: &mut Vec<Unit<'_>>, old: Kept<'_, '_>) -> Result<(), NoMemory> {
-    let source = joined(alloc, old.node.opening.as_slice())?;
+    let source = joined(alloc, old.node.opening())?;
     let length = source.as_str().len();
     if length == 0 {
         return Ok(());
@@ -174,7 +173,7 @@ fn push_opening(alloc: Global, out: &mut Vec<Unit<'_>>, old: Kept<'_, '_>) -> Re
 
 /// Appends its closing delimiter; a style that is open to its line's end has none.
 fn push_closing(alloc: Global, out: &mut Vec<Unit<'_>>, old: Kept<'_, '_>) -> Result<(), NoMemory> {
-    let source = joined(alloc, old.node.closing.as_slice())?;
+    let source = joined(alloc, old.node.closing())?;
     let length = source.as_str().len();
     if length == 0 {
         return Ok(());
@@ -224,9 +223,9 @@ fn push_style<'n, 't, 'a>(
 
 /// A changed tag with its old delimiters.
 fn tag_round(alloc: Global, old: &Node<'_>, inside: &str) -> Result<Str, NoMemory> {
-    let mut out = joined(alloc, old.opening.as_slice())?;
+    let mut out = joined(alloc, old.opening())?;
     out.push_str(inside)?;
-    push_texts(&mut out, old.closing.as_slice())?;
+    push_texts(&mut out, old.closing())?;
     Ok(out)
 }
 
@@ -255,7 +254,7 @@ fn push_target(alloc: Global, out: &mut Str, nodes: &[Node<'_>]) -> Result<bool,
 /// What stands before the text of a link of the page; of one without a text its target and a new `|`. None where
 /// there is no such thing.
 fn target_of(alloc: Global, old: &Node<'_>) -> Result<Option<Str>, NoMemory> {
-    let mut out = joined(alloc, old.opening.as_slice())?;
+    let mut out = joined(alloc, old.opening())?;
     if has_target(out.as_str()) {
         return Ok(Some(out));
     }
@@ -272,10 +271,10 @@ fn target_of(alloc: Global, old: &Node<'_>) -> Result<Option<Str>, NoMemory> {
 /// Appends the closing delimiter of a link of the page; where letters behind its brackets were part of its text,
 /// these stand in it.
 fn push_link_end(out: &mut Str, old: &Node<'_>) -> Result<(), NoMemory> {
-    if matches!(old.kind, Kind::WikiLink) && old.closing.as_slice().is_empty() {
+    if matches!(old.kind, Kind::WikiLink) && old.closing().is_empty() {
         return out.push_str("]]");
     }
-    push_texts(out, old.closing.as_slice())
+    push_texts(out, old.closing())
 }
 
 /// A link of the page whose text alone was changed: its target stands as it was written. None where the target
@@ -286,7 +285,7 @@ fn link_round(
     node: &Node<'_>,
     inside: &str,
 ) -> Result<Option<Str>, NoMemory> {
-    let is_same = same_kind(old.kind, node.kind) && same_attrs(&old.attrs, &node.attrs);
+    let is_same = same_kind(old.kind, node.kind) && same_attrs(old.attrs(), node.attrs());
     if !is_same || inside.is_empty() {
         return Ok(None);
     }
@@ -385,7 +384,7 @@ fn push_node<'n, 't, 'a>(
     let kept = writing.known.find(writing.block, node.id);
     match shape(node.kind).way {
         Way::Nothing => Ok(()),
-        Way::Characters => push_letters(out, node.shown.as_str()),
+        Way::Characters => push_letters(out, node.shown()),
         Way::Bold => push_style(alloc, out, writing, "'''", kept, node),
         Way::Italic => push_style(alloc, out, writing, "''", kept, node),
         Way::AsItStood => push_kept(alloc, out, kept, node.kind),
@@ -456,7 +455,7 @@ fn push_units<'n, 't, 'a>(
         if is_text(node) && writing.keeps {
             let left = text_left(writing, nodes, at, edges);
             let right = text_right(writing, nodes, at, edges);
-            push_text(alloc, out, node.shown.as_str(), left, right)?;
+            push_text(alloc, out, node.shown(), left, right)?;
         } else {
             push_node(alloc, out, writing, node)?;
         }

@@ -1,5 +1,6 @@
 //! What is known of the page: its nodes by their numbers, the texts next to each, and its source.
 
+use crate::kinds::is_item;
 use std::alloc::Global;
 use wt_checks::{Visit, original};
 use wt_difference::is_block_part;
@@ -292,10 +293,6 @@ pub fn sign_of(list: Kind, item: Kind) -> &'static str {
             _ => "*",
         },
     }
-}
-
-fn is_item(kind: Kind) -> bool {
-    matches!(kind, Kind::Li | Kind::Dt | Kind::Dd)
 }
 
 /// The signs with which an item of the page begins its line, by the lists in which it stands; nothing of another

@@ -6,6 +6,7 @@ mod blocks;
 mod children;
 mod common;
 mod inline;
+mod kinds;
 mod known;
 mod proposing;
 mod reached;

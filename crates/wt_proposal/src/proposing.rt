@@ -6,7 +6,6 @@ ghost use Rattle.wt_checks.specs.View.{indexed};
 ghost use Rattle.wt_tree.specs.View.{view};
 ghost use Rattle.wt_proposal.specs.Rewritten.{IsRewritten};
 
-use crate::blocks::place_in;
 use crate::children::{Gap, push_change, push_gap};
 use crate::inline::{Writing, edges_of, spelled};
 use crate::known::{Known, block_of, signs_of};
@@ -19,7 +18,7 @@ use crate::testing::tested;
 use std::alloc::Global;
 use wt_checks::Visit;
 use wt_difference::{Child, held, inside, same_inside};
-use wt_selser::Change;
+use wt_selser::{Change, place_in};
 use wt_span::{NoMemory, Str};
 use wt_tree::Node;
 

@@ -16,7 +16,7 @@ struct PageText<'t> {
 fn page_text<'t>(text: Option<&'t Node<'_>>) -> Option<PageText<'t>> {
     let node = text?;
     let ranges = node.ranges?;
-    let bytes = node.shown.as_str().as_bytes();
+    let bytes = node.shown().as_bytes();
     if ranges.end.saturating_sub(ranges.start) as usize != bytes.len() {
         return None;
     }
@@ -100,7 +100,47 @@ pub fn push_letters<'n>(out: &mut Vec<Unit<'n>>, text: &'n str) -> Result<(), No
     Ok(())
 }
 
-/// Appends characters that stand in the page as they stand.
+// ---- apostrophes beside delimiters
+
+/// Appends what keeps two signs apart.
+pub fn push_nowiki(alloc: Global, out: &mut Vec<Unit<'_>>) -> Result<(), NoMemory> {
+    let source = Str::copy_of(alloc, "<nowiki/>")?;
+    out.push(Unit::Thing(Thing {
+        role: Role::Node,
+        source,
+        place: None,
+    }))?;
+    Ok(())
+}
+
+fn is_new_toggle(unit: &Unit<'_>) -> bool {
+    match unit {
+        Unit::Thing(thing) => matches!(thing.role, Role::Toggle) && thing.place.is_none(),
+        Unit::Text(_) | Unit::Copied(_) => false,
+    }
+}
+
+/// Whether what was appended last is a text of the page that ends with an apostrophe.
+pub fn ends_with_apostrophe(out: &[Unit<'_>]) -> bool {
+    match out.last() {
+        Some(Unit::Thing(thing)) => {
+            thing.place.is_some() && thing.source.as_str().as_bytes().last() == Some(&b'\'')
+        }
+        _ => false,
+    }
+}
+
+fn is_behind_new_toggle(out: &[Unit<'_>]) -> bool {
+    match out.last() {
+        Some(unit) => is_new_toggle(unit),
+        None => false,
+    }
+}
+
+// ---- what stands
+
+/// Appends characters that stand in the page as they stand, apart from a delimiter before them that an
+/// apostrophe would lengthen.
 fn push_standing(
     alloc: Global,
     out: &mut Vec<Unit<'_>>,
@@ -109,6 +149,9 @@ fn push_standing(
 ) -> Result<(), NoMemory> {
     if text.is_empty() {
         return Ok(());
+    }
+    if text.as_bytes().first() == Some(&b'\'') && is_behind_new_toggle(out.as_slice()) {
+        push_nowiki(alloc, out)?;
     }
     let source = Str::copy_of(alloc, text)?;
     let end = start.saturating_add(text.len());

@@ -23,8 +23,8 @@ use wt_annotated::{
     leaf_sources, page_texts, page_width, pieces_of_all, unnumbered_node, unplaced_nodes,
 };
 use wt_inline::{NodeHead, PieceTree, with_room};
-use wt_span::{List, NoMemory, Outer, Piece, Str, Text};
-use wt_tree::{DataMw, Kind, Node, Ranges};
+use wt_span::{List, NoMemory, Outer, Piece};
+use wt_tree::{DataMw, Kind, Mark, More, Node, Ranges, Shown, Slices};
 
 /// Where a group begins: behind an item of which call, and at which byte of the page.
 #[derive(Clone, Copy)]
@@ -65,7 +65,7 @@ fn group_leaf<'a>(
     alloc: Global,
     byte: u32,
     width: u32,
-    own: List<Text<'a>>,
+    own: Slices<'a>,
     mw: Option<DataMw>,
     children: List<Node<'a>>,
 ) -> Result<Node<'a>, NoMemory>
@@ -76,9 +76,8 @@ fn group_leaf<'a>(
     let attrs = group_attrs(alloc, &mw)?;
     let head = NodeHead {
         kind: Kind::Group,
-        shown: Str::new(alloc),
-        attrs,
-        mw,
+        shown: Shown::none(),
+        more: More::of(alloc, attrs, Mark::Nothing, mw)?,
     };
     let ranges = Ranges {
         start: byte,
@@ -86,8 +85,7 @@ fn group_leaf<'a>(
         open_w: 0,
         close_w: 0,
     };
-    let sources = leaf_sources(alloc, own);
-    Ok(unnumbered_node(head, Some(ranges), sources, children))
+    unnumbered_node(alloc, head, Some(ranges), leaf_sources(own), children)
 }
 
 /// A group of trees that begins there and holds these pieces.

@@ -34,7 +34,7 @@ use wt_tree::Node;
 #[derive(Drop)]
 struct Opened<'a> {
     frame: Frame<'a>,
-    head: NodeHead,
+    head: NodeHead<'a>,
     runs: List<Run<'a>>,
 }
 
@@ -122,7 +122,7 @@ fn kept_node<'a>(alloc: Global, calls: &[Outer<'a>], child: Child<'a>) -> Result
     }
     let Opened { frame, head, runs } = open_child(alloc, calls, child)?;
     let nodes = run_nodes(alloc, calls, runs)?;
-    Ok(kept_inner(frame, head, nodes))
+    kept_inner(alloc, frame, head, nodes)
 }
 
 /// The annotated tree where some nodes may be groups: these first, then cut texts, then numbers.

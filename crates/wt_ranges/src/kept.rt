@@ -21,7 +21,7 @@ use wt_annotated::{
 };
 use wt_inline::{NodeHead, PieceTree};
 use wt_span::{List, NoMemory, Outer};
-use wt_tree::{Kind, Node, Ranges};
+use wt_tree::{Kind, Node, Ranges, Slices};
 
 /// What a kept node takes from the page beside its children: its ranges and delimiters, and the
 /// call before its first child, the byte at which that begins, and the call behind its last.
@@ -60,8 +60,13 @@ pub fn kept_leaf<'a>(
     let width = page_width(calls, before, held.as_slice());
     let own = page_texts(alloc, calls, before, held.as_slice())?;
     let ranges = leaf_ranges(head.kind, byte, width);
-    let sources = leaf_sources(alloc, own);
-    Ok(unnumbered_node(head, Some(ranges), sources, List::new(alloc)))
+    unnumbered_node(
+        alloc,
+        head,
+        Some(ranges),
+        leaf_sources(own),
+        List::new(alloc),
+    )
 }
 
 /// The ranges of a node round its children that begins there, by a walk through it.
@@ -94,7 +99,7 @@ fn inner_sources<'a>(
     Ok(Sources {
         opening,
         closing,
-        own: List::new(alloc),
+        own: Slices::none(),
     })
 }
 
@@ -120,9 +125,14 @@ pub fn inner_frame<'a>(
 }
 
 /// The node round these children, in its frame.
-pub fn kept_inner<'a>(frame: Frame<'a>, head: NodeHead, children: List<Node<'a>>) -> Node<'a>
-    ensures { view result ≡ tree (node_label (head_of head) (Some frame.entry.ranges) (texts_of frame.entry.sources.opening)
-        (texts_of frame.entry.sources.closing) (texts_of frame.entry.sources.own)) (views children.entry) }
+pub fn kept_inner<'a>(
+    alloc: Global,
+    frame: Frame<'a>,
+    head: NodeHead<'a>,
+    children: List<Node<'a>>,
+) -> Result<Node<'a>, NoMemory>
+    ensures { IfOk result (λ n. view n ≡ tree (node_label (head_of head.entry) (Some frame.entry.ranges) (texts_of frame.entry.sources.opening)
+        (texts_of frame.entry.sources.closing) (texts_of frame.entry.sources.own)) (views children.entry)) }
 {
-    unnumbered_node(head, Some(frame.ranges), frame.sources, children)
+    unnumbered_node(alloc, head, Some(frame.ranges), frame.sources, children)
 }

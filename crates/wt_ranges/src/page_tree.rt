@@ -1,14 +1,14 @@
 //! The annotated tree of a page, with the items that it comes from.
 
-ghost use Rattle.std.specs.Prelude.{◌≡◌, ◌^◌, ◌<◌, All, IfOk, length, map, true};
+ghost use Rattle.std.specs.Prelude.{◌≡◌, ◌^◌, ◌<◌, All, IfOk, length, map};
 ghost use Rattle.wt_span.specs.Cuts.{page_of};
 ghost use Rattle.wt_span.specs.Origins.{IsSoundCall, span_of};
 ghost use Rattle.wt_tree.specs.Tiling.{InPreorder, Tiled};
 ghost use Rattle.wt_tree.specs.View.{view};
 ghost use Rattle.wt_inline.specs.ItemTree.{tree_items};
 ghost use Rattle.wt_inline.specs.View.{item_tree};
+ghost use Rattle.wt_body.specs.Body.{meaning};
 ghost use Rattle.wt_annotated.specs.Annotated.{annotated};
-ghost use Rattle.wt_annotated.specs.Clean.{is_clean};
 ghost use Rattle.wt_annotated.specs.GroupData.{group_data};
 ghost use Rattle.wt_annotated.specs.Pieces.{outer_calls};
 ghost use Rattle.wt_sections.specs.Sections.{with_sections};
@@ -21,19 +21,21 @@ use wt_sections::gather_sections;
 use wt_span::{Items, NoMemory, Outer, Range};
 use wt_tree::Node;
 
-/// The annotated tree of a page, with the page's items. Its ranges, in bytes of the page, tile it,
+/// The annotated tree of a page, with the items of which it is made. Its ranges, in bytes of the page, tile it,
 /// and its numbers are in preorder.
 #[derive(Drop)]
 pub struct Annotated<'a> {
     tree: wt_tree::Annotated<'a>,
     items: Items<'a>,
     ghost numbered: { InPreorder (view tree.body) } by { InPreorder-prop (view tree.body) },
+    ghost meant: { ∥ view tree.body ≡ with_sections (annotated items.outer (group_data items.outer) (meaning items.items)) ∥₁ },
 }
 
 impl<'a> Annotated<'a> {
     fn of(body: Node<'a>, items: Items<'a>) -> Annotated<'a>
         requires tiled { Tiled (view body) }
         requires numbered { InPreorder (view body) }
+        requires meant { view body ≡ with_sections (annotated items.outer (group_data items.outer) (meaning items.items)) }
         ensures body { result.tree.body ≡ body.entry }
         ensures items { result.items ≡ items.entry }
     {
@@ -46,6 +48,7 @@ impl<'a> Annotated<'a> {
         ensures body { result.now ≡ self.now.tree.body }
         ensures tiled { ∥ Tiled (view result.now) ∥₁ }
         ensures numbered { InPreorder (view result.now) }
+        ensures meant { ∥ view result.now ≡ with_sections (annotated self.now.items.outer (group_data self.now.items.outer) (meaning self.now.items.items)) ∥₁ }
     {
         self.tree.body()
     }
@@ -89,6 +92,7 @@ fn in_sections<'a>(
 ) -> Result<Annotated<'a>, NoMemory>
     requires tiled { Tiled (view body) }
     requires numbered { InPreorder (view body) }
+    requires meant { view body ≡ annotated items.outer (group_data items.outer) (meaning items.items) }
     ensures tree { IfOk result (λ a. view a.tree.body ≡ with_sections (view body.entry)) }
     ensures items { IfOk result (λ a. a.items ≡ items.entry) }
 {
@@ -96,20 +100,18 @@ fn in_sections<'a>(
     Ok(Annotated::of(gathered, items))
 }
 
-/// The annotated tree of a tree over a page's items: its groups and the nodes that are kept, each
-/// with its place in bytes of the page, its source as it stands there, and its number; each group
-/// carries its parts; the texts and separators of items and cells are cut anew; the body's children stand in
-/// sections.
-///
-/// The root of the tree is clean: so is each body of a page (`body_is_clean`).
+/// The annotated tree of a page by its items and their meaning, the tree over them: its groups and the nodes
+/// that are kept, each with its place in bytes of the page, its source as it stands there, and its number; each
+/// group carries its parts; the texts and separators of items and cells are cut anew; the body's children stand
+/// in sections. The items are kept beside the tree.
 pub fn group<'a>(
     alloc: Global,
     items: Items<'a>,
     tree: PieceTree<'a>,
 ) -> Result<Annotated<'a>, NoMemory>
-    requires clean { is_clean (tree_items (item_tree tree)) 0 (item_tree tree) ≡ true }
-    requires bytes { length (page_of items.outer (tree_items (item_tree tree))) < 2 ^ 32 }
-    ensures tree { IfOk result (λ a. view a.tree.body ≡ with_sections (annotated items.entry.outer (group_data items.entry.outer) (item_tree tree.entry))) }
+    requires meant { item_tree tree ≡ meaning items.items }
+    requires bytes { length (page_of items.outer (tree_items (meaning items.items))) < 2 ^ 32 }
+    ensures tree { IfOk result (λ a. view a.tree.body ≡ with_sections (annotated items.entry.outer (group_data items.entry.outer) (meaning items.entry.items))) }
     ensures items { IfOk result (λ a. a.items ≡ items.entry) }
 {
     let body = group_tree(alloc, sound_calls(&items), tree)?;

@@ -1,9 +1,7 @@
 -- Rows of tables, and tables, with the lines that open them.
 use Rattle.std.proofs.Common.{◌≡◌, ◌<◌, ℕ, None, List, [], ◌∷◌, ◌++◌, length, take, drop, get_or, refl, sym, ap, ◌∙◌, arith}
 use Rattle.std.proofs.lemmas.List.{take-map, drop-map, map-append}
-use Rattle.wt_tree.specs.declared.kind.Kind.{Kind}
 use Rattle.wt_tree.specs.declared.kind.Kind.TheVariants as kind
-use Rattle.wt_attributes.specs.Attributes.{Named}
 use Rattle.wt_span.specs.declared.form.Piece.{Piece}
 use Rattle.wt_span.specs.Items.{Item}
 use Rattle.wt_lines.specs.Lines.{content}
@@ -48,12 +46,6 @@ row_form : (ps : List Piece) (rs : List RowAt) (cs : List Stretch) → 0 < lengt
     ∷ opened_by (with_attrs kind.Tr (row_attributes (first_items (rows_view ps rs)))) (delimiter (rows_view ps rs)) (behind_delimiter (rows_view ps rs) ++ cs)
 row_form ps [] cs h = absurd (omega arith)
 row_form ps (r ∷ rs) cs h = refl
-
-abbrev pub head_with : Kind → List ℕ → List Named → Head
-head_with k s a = record { kind = k; shown = s; attrs = a; mw = None }
-
-pub head_is : (k : Kind) (s : List ℕ) (a b : List Named) → s ≡ [] → a ≡ b → head_with k s a ≡ with_attrs k b
-head_is k s a b es ea = ap (λ t. head_with k t a) es ∙ ap (λ c. with_attrs k c) ea
 
 opened_is : (h : Head) (o : List Item) (g : Grown) (ss ls : List Stretch) → g ≡ record { trees = []; run = None } → IsOpenedBy h o g ss ls
     → ls ≡ opened_by h o ss

@@ -17,7 +17,7 @@ use crate::stretch::{StretchAt, before, opened_line};
 use std::alloc::Global;
 use wt_inline::NodeHead;
 use wt_lines::Line;
-use wt_span::{List, NoMemory, Piece, Str};
+use wt_span::{List, NoMemory, Piece};
 use wt_tables::{CellAt, cells};
 use wt_tree::Kind;
 
@@ -51,12 +51,7 @@ fn cell_by<'a>(
         attrs,
         rest,
     } = cell;
-    let head = NodeHead {
-        kind: cell_kind(caption, header),
-        shown: Str::new(alloc),
-        attrs,
-        mw: None,
-    };
+    let head = NodeHead::with_attrs(alloc, cell_kind(caption, header), attrs)?;
     opened_line(alloc, head, opening, rest.pieces.as_slice(), pieces, after)
 }
 

@@ -6,7 +6,7 @@ ghost use Rattle.wt_span.specs.Items.{items};
 ghost use Rattle.wt_tree.specs.View.{attrs_of};
 ghost use Rattle.wt_tree.specs.declared.kind.Kind.TheVariants as node_kind;
 ghost use Rattle.wt_inline.specs.ItemTree.{inner, forest};
-ghost use Rattle.wt_inline.specs.View.{item_tree, item_trees};
+ghost use Rattle.wt_inline.specs.View.{head_of, item_tree, item_trees};
 ghost use Rattle.wt_body.specs.Rows.{signs};
 ghost use Rattle.wt_body.specs.Tables.{with_attrs, first_items, row_by};
 ghost use Rattle.wt_rows.specs.Ready.{AreReadyRows};
@@ -18,7 +18,7 @@ use crate::row::{RowAt, between};
 use crate::stretch::{StretchAt, before, opened_by, with_separators, with_stretches};
 use std::alloc::Global;
 use wt_inline::{Children, NodeHead, PieceTree};
-use wt_span::{List, NoMemory, Piece, Str, front_of, rest_of};
+use wt_span::{List, NoMemory, Piece, front_of, rest_of};
 use wt_tree::{Attr, Kind};
 
 /// A row of a table with the lines that open it, and its cells.
@@ -39,12 +39,7 @@ pub fn opened_row<'a>(
     let first = rows[0];
     let attrs = row_attrs(alloc, between(pieces, first.from, first.to))?;
     let own = Vec::from_slice(alloc, between(pieces, delimiter.from, delimiter.to))?;
-    let head = NodeHead {
-        kind: Kind::Tr,
-        shown: Str::new(alloc),
-        attrs,
-        mw: None,
-    };
+    let head = NodeHead::with_attrs(alloc, Kind::Tr, attrs)?;
     let opening = List::from_vec(own);
     let node = opened_by(alloc, head, opening, Children::new(alloc), pieces, after)?;
     let lead = StretchAt::Gap {
@@ -56,22 +51,15 @@ pub fn opened_row<'a>(
 
 /// The node of a table.
 fn table_node<'a>(
-    alloc: Global,
-    attrs: List<Attr>,
+    head: NodeHead<'a>,
     opening: List<Piece<'a>>,
     children: List<PieceTree<'a>>,
     closing: List<Piece<'a>>,
 ) -> PieceTree<'a>
-    ensures { item_tree result ≡ inner (with_attrs node_kind.Table (attrs_of attrs)) (items opening.entry) (forest (item_trees children.entry))
-        (items closing.entry) }
+    ensures { item_tree result ≡ inner (head_of head.entry) (items opening.entry) (forest (item_trees children.entry)) (items closing.entry) }
 {
     PieceTree {
-        head: NodeHead {
-            kind: Kind::Table,
-            shown: Str::new(alloc),
-            attrs,
-            mw: None,
-        },
+        head,
         opening,
         children,
         closing,
@@ -89,15 +77,10 @@ fn table_tree<'a>(
     ensures { IfOk result (λ t. item_tree t ≡ inner (with_attrs node_kind.Table (attrs_of attrs))
         (items opening.now) (forest (item_trees children.entry)) (items closing.now)) }
 {
+    let head = NodeHead::with_attrs(alloc, Kind::Table, attrs)?;
     let first = Vec::from_slice(alloc, opening)?;
     let last = Vec::from_slice(alloc, closing)?;
-    let tree = table_node(
-        alloc,
-        attrs,
-        List::from_vec(first),
-        children,
-        List::from_vec(last),
-    );
+    let tree = table_node(head, List::from_vec(first), children, List::from_vec(last));
     Ok(tree)
 }
 

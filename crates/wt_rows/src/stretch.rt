@@ -13,7 +13,7 @@ ghost use Rattle.wt_rows.specs.Views.{stretch_view, stretches_view, is_gap_at, I
 
 use crate::row::{RowAt, between};
 use std::alloc::Global;
-use wt_headings::with_content;
+use wt_context::with_line;
 use wt_inline::{Children, Loose, NodeHead, PieceTree};
 use wt_span::{List, NoMemory, Piece};
 
@@ -135,11 +135,11 @@ fn joined<'a>(
 /// A node with an open delimiter and an empty close delimiter.
 fn ended_by_last<'a>(
     alloc: Global,
-    head: NodeHead,
+    head: NodeHead<'a>,
     opening: List<Piece<'a>>,
     children: List<PieceTree<'a>>,
 ) -> PieceTree<'a>
-    ensures { item_tree result ≡ inner (head_of head) (items opening.entry) (forest (item_trees children.entry)) [] }
+    ensures { item_tree result ≡ inner (head_of head.entry) (items opening.entry) (forest (item_trees children.entry)) [] }
 {
     PieceTree {
         head,
@@ -152,14 +152,14 @@ fn ended_by_last<'a>(
 /// A node with an open delimiter that holds these children and then these stretches.
 fn node_round<'a>(
     alloc: Global,
-    head: NodeHead,
+    head: NodeHead<'a>,
     opening: List<Piece<'a>>,
     children: Children<'a>,
     pieces: &[Piece<'a>],
     inside: List<StretchAt<'a>>,
 ) -> Result<PieceTree<'a>, NoMemory>
     ensures { IfOk result (λ t. item_tree t
-        ≡ inner (head_of head) (items opening.entry)
+        ≡ inner (head_of head.entry) (items opening.entry)
         (forest (made (growth children.entry) (stretches_parts (stretches_view pieces.now inside.entry)))) []) }
 {
     let made = with_stretches(alloc, children, pieces, inside)?;
@@ -172,13 +172,13 @@ fn node_round<'a>(
 /// node; gaps at the end lie outside.
 pub fn opened_by<'a>(
     alloc: Global,
-    head: NodeHead,
+    head: NodeHead<'a>,
     opening: List<Piece<'a>>,
     children: Children<'a>,
     pieces: &[Piece<'a>],
     stretches: List<StretchAt<'a>>,
 ) -> Result<List<StretchAt<'a>>, NoMemory>
-    ensures { IfOk result (λ l. IsOpenedBy (head_of head) (items opening.entry) (growth children.entry) (stretches_view pieces.now stretches.entry)
+    ensures { IfOk result (λ l. IsOpenedBy (head_of head.entry) (items opening.entry) (growth children.entry) (stretches_view pieces.now stretches.entry)
         (stretches_view pieces.now l)) }
 {
     let n = block_len(stretches.as_slice());
@@ -190,11 +190,11 @@ pub fn opened_by<'a>(
 /// A node without delimiters round these stretches; gaps at both ends lie outside.
 pub fn enclosed<'a>(
     alloc: Global,
-    head: NodeHead,
+    head: NodeHead<'a>,
     pieces: &[Piece<'a>],
     stretches: List<StretchAt<'a>>,
 ) -> Result<List<StretchAt<'a>>, NoMemory>
-    ensures { IfOk result (λ l. stretches_view pieces.now l ≡ enclosed (head_of head) (stretches_view pieces.now stretches.entry)) }
+    ensures { IfOk result (λ l. stretches_view pieces.now l ≡ enclosed (head_of head.entry) (stretches_view pieces.now stretches.entry)) }
 {
     let n = front_len(stretches.as_slice());
     let (front, rest) = split_at(stretches, n)?;
@@ -228,7 +228,7 @@ pub fn before<'a>(
 /// stretches up to the last node.
 pub fn opened_line<'a>(
     alloc: Global,
-    head: NodeHead,
+    head: NodeHead<'a>,
     opening: List<Piece<'a>>,
     line: &[Piece<'a>],
     pieces: &[Piece<'a>],
@@ -236,9 +236,9 @@ pub fn opened_line<'a>(
 ) -> Result<List<StretchAt<'a>>, NoMemory>
     requires { All IsSoundPiece line.now }
     ensures { IfOk result (λ l. stretches_view pieces.now l
-        ≡ opened_by (head_of head) (items opening.entry) (block (line_parts (items line.now)) ∷ stretches_view pieces.now after.entry)) }
+        ≡ opened_by (head_of head.entry) (items opening.entry) (block (line_parts (items line.now)) ∷ stretches_view pieces.now after.entry)) }
 {
-    let children = with_content(alloc, Children::new(alloc), line)?;
+    let children = with_line(alloc, Children::new(alloc), line)?;
     opened_by(alloc, head, opening, children, pieces, after)
 }
 

@@ -71,7 +71,7 @@ fn put_section<'a>(
 {
     let mut nodes = Vec::from_array(alloc, [heading])?;
     take_before(parts, &mut nodes, Some(level))?;
-    push_part(parts, Some(level), section_of(alloc, number, nodes))
+    push_part(parts, Some(level), section_of(number, nodes))
 }
 
 /// Puts a child of the body before the parts. A heading opens the section of this number.
@@ -130,17 +130,13 @@ fn parts_of<'a>(alloc: Global, nodes: Vec<Node<'a>>) -> Result<Vec<Part<'a>>, No
 }
 
 /// Puts the lead, if there is one, behind what stands there.
-fn push_lead<'a>(
-    alloc: Global,
-    out: &mut Vec<Node<'a>>,
-    nodes: Vec<Node<'a>>,
-) -> Result<(), NoMemory>
+fn push_lead<'a>(out: &mut Vec<Node<'a>>, nodes: Vec<Node<'a>>) -> Result<(), NoMemory>
     ensures { OnOk result (views out.new.items ≡ appended (views out.old.items) (section_if_any (views nodes.entry.items))) }
 {
     if nodes.is_empty() {
         return Ok(());
     }
-    out.push(section_of(alloc, 0, nodes))?;
+    out.push(section_of(0, nodes))?;
     Ok(())
 }
 
@@ -162,7 +158,7 @@ fn gather<'a>(alloc: Global, nodes: List<Node<'a>>) -> Result<List<Node<'a>>, No
     let mut lead = Vec::new(alloc);
     take_before(&mut parts, &mut lead, None)?;
     let mut out = Vec::new(alloc);
-    push_lead(alloc, &mut out, lead)?;
+    push_lead(&mut out, lead)?;
     push_parts(&mut out, parts)?;
     Ok(List::from_vec(out))
 }

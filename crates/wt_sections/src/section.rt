@@ -5,9 +5,8 @@ ghost use Rattle.wt_tree.specs.View.{view, views};
 ghost use Rattle.wt_sections.specs.Gathering.{section_of, span_of};
 ghost use Rattle.wt_sections.specs.Sections.{last_ranges, spanned};
 
-use std::alloc::Global;
-use wt_span::{List, Str};
-use wt_tree::{Kind, Mark, Node, Ranges};
+use wt_span::List;
+use wt_tree::{Kind, More, Node, Ranges, Source};
 
 fn joined(first: Option<Ranges>, last: Option<Ranges>) -> Option<Ranges>
     ensures { result ≡ spanned first last }
@@ -45,7 +44,7 @@ fn span_of(nodes: &[Node<'_>]) -> Option<Ranges>
 }
 
 /// The section of this number that holds these nodes.
-pub fn section_of<'a>(alloc: Global, number: u32, nodes: Vec<Node<'a>>) -> Node<'a>
+pub fn section_of<'a>(number: u32, nodes: Vec<Node<'a>>) -> Node<'a>
     ensures { view result ≡ section_of number (views nodes.entry.items) }
 {
     let ranges = span_of(nodes.as_slice());
@@ -53,14 +52,8 @@ pub fn section_of<'a>(alloc: Global, number: u32, nodes: Vec<Node<'a>>) -> Node<
         kind: Kind::Section(number),
         id: 0,
         ranges,
-        opening: List::new(alloc),
-        closing: List::new(alloc),
-        own: List::new(alloc),
-        shown: Str::new(alloc),
-        attrs: List::new(alloc),
-        origin: None,
-        mark: Mark::Nothing,
-        mw: None,
+        source: Source::none(),
+        more: More::none(),
         children: List::from_vec(nodes),
     }
 }

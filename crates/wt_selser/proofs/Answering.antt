@@ -41,16 +41,16 @@ id_seen n = rw (view_out n)
 
 -- ---- one pair
 
-mark_seen : (n : Node) → (label (view n)).mark ≡ (out-Node n).mark
+mark_seen : (n : Node) → (label (view n)).mark ≡ (out-Node n).more.mark
 mark_seen n = rw (view_out n)
 
-pub why_children : (same : Tree → Tree → Bool) (p : Found) (b : Bool) (o : Option ContentWhy) → b ≡ is_children (out-Node p.new.now).mark → b ≡ true
+pub why_children : (same : Tree → Tree → Bool) (p : Found) (b : Bool) (o : Option ContentWhy) → b ≡ is_children (out-Node p.new.now).more.mark → b ≡ true
     → o ≡ bad_children same (view p.new.now) → o ≡ why_bad same (pair_of p)
 why_children same p b o e t is =
     is ∙ ap (λ c. if c then bad_children same (view p.new.now) else bad_content same (view p.old.now) (view p.new.now))
     (sym t ∙ e ∙ ap is_children (sym (mark_seen p.new.now)))
 
-pub why_content : (same : Tree → Tree → Bool) (p : Found) (b : Bool) (o : Option ContentWhy) → b ≡ is_children (out-Node p.new.now).mark → b ≡ false
+pub why_content : (same : Tree → Tree → Bool) (p : Found) (b : Bool) (o : Option ContentWhy) → b ≡ is_children (out-Node p.new.now).more.mark → b ≡ false
     → o ≡ bad_content same (view p.old.now) (view p.new.now) → o ≡ why_bad same (pair_of p)
 why_content same p b o e t is =
     is ∙ ap (λ c. if c then bad_children same (view p.new.now) else bad_content same (view p.old.now) (view p.new.now))
@@ -92,26 +92,26 @@ touches_any items page n b e t =
     or_first (call || tag) rest (sym e ∙ t) ∙ or_joined call tag rest ∙ sym (tangled_out items page n)
 
 -- of a content that is tangled or isn't, by the two tests
-tangled_by : (items : Expanded) (page : List ℕ) (p : Found) (m b : Bool) → m ≡ is_content (out-Node p.new.now).mark → b ≡ is_tangled items page (view p.old.now)
+tangled_by : (items : Expanded) (page : List ℕ) (p : Found) (m b : Bool) → m ≡ is_content (out-Node p.new.now).more.mark → b ≡ is_tangled items page (view p.old.now)
     → (if m && b then Some (refusal.Tangled (label (view p.new.now)).id) else None) ≡ tangled_pair items page (pair_of p)
 tangled_by items page p m b d e =
     ap (λ c. if c && b then Some (refusal.Tangled (label (view p.new.now)).id) else None) (d ∙ ap is_content (sym (mark_seen p.new.now)))
     ∙ ap (λ c. if is_content (label (view p.new.now)).mark && c then Some (refusal.Tangled (label (view p.new.now)).id) else None) e
 
-pub tangled_some : (items : Expanded) (page : List ℕ) (p : Found) (m b : Bool) → m ≡ is_content (out-Node p.new.now).mark → m ≡ true
+pub tangled_some : (items : Expanded) (page : List ℕ) (p : Found) (m b : Bool) → m ≡ is_content (out-Node p.new.now).more.mark → m ≡ true
     → b ≡ is_tangled items page (view p.old.now) → b ≡ true → Some (refusal.Tangled (out-Node p.new.now).id) ≡ tangled_pair items page (pair_of p)
 tangled_some items page p m b d i e t =
     ap (λ n. Some (refusal.Tangled n)) (sym (id_seen p.new.now))
     ∙ ap (λ c. if c && true then Some (refusal.Tangled (label (view p.new.now)).id) else None) (sym i)
     ∙ ap (λ c. if m && c then Some (refusal.Tangled (label (view p.new.now)).id) else None) (sym t) ∙ tangled_by items page p m b d e
 
-pub tangled_none : (items : Expanded) (page : List ℕ) (p : Found) (m b : Bool) → m ≡ is_content (out-Node p.new.now).mark → m ≡ true
+pub tangled_none : (items : Expanded) (page : List ℕ) (p : Found) (m b : Bool) → m ≡ is_content (out-Node p.new.now).more.mark → m ≡ true
     → b ≡ is_tangled items page (view p.old.now) → b ≡ false → None ≡ tangled_pair items page (pair_of p)
 tangled_none items page p m b d i e t =
     ap (λ c. if c && false then Some (refusal.Tangled (label (view p.new.now)).id) else None) (sym i)
     ∙ ap (λ c. if m && c then Some (refusal.Tangled (label (view p.new.now)).id) else None) (sym t) ∙ tangled_by items page p m b d e
 
-pub no_content : (items : Expanded) (page : List ℕ) (p : Found) (m : Bool) → m ≡ is_content (out-Node p.new.now).mark → m ≡ false
+pub no_content : (items : Expanded) (page : List ℕ) (p : Found) (m : Bool) → m ≡ is_content (out-Node p.new.now).more.mark → m ≡ false
     → None ≡ tangled_pair items page (pair_of p)
 no_content items page p m d i =
     ap (λ c. if c && is_tangled items page (view p.old.now) then Some (refusal.Tangled (label (view p.new.now)).id) else None) (sym i)

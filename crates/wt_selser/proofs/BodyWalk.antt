@@ -230,14 +230,14 @@ list_pushed same page v ts ms sign xs ys e are f =
     ∙ ap (λ (t : Tree). xs ++ list_slices same page (sign_of (label (view v.node.now)).kind) (children t) (views ms)) (sym (view_out v.node.now))
 
 child_out : (same : Tree → Tree → Bool) (page : Page) (n : Node) → child_slices same page (view n)
-    ≡ (if is_children (out-Node n).mark then list_at same page (page (out-Node n).id) (views (out-Node n).children) else insides same page (view n))
+    ≡ (if is_children (out-Node n).more.mark then list_at same page (page (out-Node n).id) (views (out-Node n).children) else insides same page (view n))
 child_out same page n =
     ap (child_slices same page) (view_out n)
-    ∙ ap (λ (t : Tree). if is_children (out-Node n).mark then list_at same page (page (out-Node n).id) (views (out-Node n).children) else insides same page t)
+    ∙ ap (λ (t : Tree). if is_children (out-Node n).more.mark then list_at same page (page (out-Node n).id) (views (out-Node n).children) else insides same page t)
     (sym (view_out n))
 
 pub list_child : (same : Tree → Tree → Bool) (page : Page) (n : Node) (b : Bool) (o : Option Place) (ns : List Node) (xs ys : List Change)
-    → b ≡ is_children (out-Node n).mark → b ≡ true → o ≡ page (out-Node n).id → ns ≡ (out-Node n).children → ys ≡ xs ++ list_at same page o (views ns)
+    → b ≡ is_children (out-Node n).more.mark → b ≡ true → o ≡ page (out-Node n).id → ns ≡ (out-Node n).children → ys ≡ xs ++ list_at same page o (views ns)
     → ys ≡ xs ++ child_slices same page (view n)
 list_child same page n b o ns xs ys e t is are f =
     f ∙ ap (λ (p : Option Place). xs ++ list_at same page p (views ns)) is
@@ -245,7 +245,7 @@ list_child same page n b o ns xs ys e t is are f =
     ∙ ap (λ (c : Bool). xs ++ (if c then list_at same page (page (out-Node n).id) (views (out-Node n).children) else insides same page (view n))) (sym t ∙ e)
     ∙ ap (λ (cs : List Change). xs ++ cs) (sym (child_out same page n))
 
-pub other_child : (same : Tree → Tree → Bool) (page : Page) (n : Node) (b : Bool) (xs ys : List Change) → b ≡ is_children (out-Node n).mark → b ≡ false
+pub other_child : (same : Tree → Tree → Bool) (page : Page) (n : Node) (b : Bool) (xs ys : List Change) → b ≡ is_children (out-Node n).more.mark → b ≡ false
     → ys ≡ xs ++ insides same page (view n) → ys ≡ xs ++ child_slices same page (view n)
 other_child same page n b xs ys e t f =
     f ∙ ap (λ (c : Bool). xs ++ (if c then list_at same page (page (out-Node n).id) (views (out-Node n).children) else insides same page (view n))) (sym t ∙ e)
@@ -307,12 +307,12 @@ children_views same page [] = refl
 children_views same page (n ∷ ns) = ap (λ (cs : List Change). child_slices same page (view n) ++ cs) (children_views same page ns)
 
 slices_out : (same : Tree → Tree → Bool) (page : Page) (ts : Trees) (n : Node) → slices_of same page ts (view n)
-    ≡ (if is_children (out-Node n).mark then body_slices same page start (steps holder.Body ts (views (out-Node n).children))
+    ≡ (if is_children (out-Node n).more.mark then body_slices same page start (steps holder.Body ts (views (out-Node n).children))
     else all_child_slices same page (views (out-Node n).children))
 slices_out same page ts n = ap (slices_of same page ts) (view_out n)
 
 pub kept_body : (same : Tree → Tree → Bool) (page : Page) (ts : Trees) (n : Node) (b : Bool) (ns : List Node) (xs ys : List Change)
-    → b ≡ is_children (out-Node n).mark → b ≡ false → ns ≡ (out-Node n).children → ys ≡ xs ++ all_child_slices same page (views ns)
+    → b ≡ is_children (out-Node n).more.mark → b ≡ false → ns ≡ (out-Node n).children → ys ≡ xs ++ all_child_slices same page (views ns)
     → ys ≡ xs ++ slices_of same page ts (view n)
 kept_body same page ts n b ns xs ys e t are k =
     let all = views (out-Node n).children in
@@ -321,7 +321,7 @@ kept_body same page ts n b ns xs ys e t are k =
     ∙ ap (λ (cs : List Change). xs ++ cs) (sym (slices_out same page ts n))
 
 pub changed_body : (same : Tree → Tree → Bool) (page : Page) (ts : Trees) (n : Node) (b : Bool) (ns : List Node) (ss : List Step) (xs ys : List Change)
-    → b ≡ is_children (out-Node n).mark → b ≡ true → ns ≡ (out-Node n).children → ss ≡ steps holder.Body ts (views ns)
+    → b ≡ is_children (out-Node n).more.mark → b ≡ true → ns ≡ (out-Node n).children → ss ≡ steps holder.Body ts (views ns)
     → ys ≡ xs ++ body_slices same page start ss → ys ≡ xs ++ slices_of same page ts (view n)
 changed_body same page ts n b ns ss xs ys e t are is k =
     let all = views (out-Node n).children in

@@ -34,14 +34,14 @@ inside_made same v u xs ys by place d e f =
     ∙ ap (λ r. xs ++ change_with r (inline_spelling same t u (place_in (label t).kind))) (sym (ranges_seen v.node.now))
 
 insides_out : (same : Tree → Tree → Bool) (page : Page) (n : Node) → insides same page (view n)
-    ≡ (if is_content (out-Node n).mark then inside_of same (page (out-Node n).id) (view n) else all_insides same page (views (out-Node n).children))
+    ≡ (if is_content (out-Node n).more.mark then inside_of same (page (out-Node n).id) (view n) else all_insides same page (views (out-Node n).children))
 insides_out same page n =
     ap (insides same page) (view_out n)
-    ∙ ap (λ (t : Tree). if is_content (out-Node n).mark then inside_of same (page (out-Node n).id) t else all_insides same page (views (out-Node n).children))
+    ∙ ap (λ (t : Tree). if is_content (out-Node n).more.mark then inside_of same (page (out-Node n).id) t else all_insides same page (views (out-Node n).children))
     (sym (view_out n))
 
 pub content_pushed : (same : Tree → Tree → Bool) (page : Page) (n : Node) (xs ys : List Change) (b : Bool) (o : Option Place)
-    → b ≡ is_content (out-Node n).mark → b ≡ true → o ≡ page (out-Node n).id → ys ≡ xs ++ inside_of same o (view n)
+    → b ≡ is_content (out-Node n).more.mark → b ≡ true → o ≡ page (out-Node n).id → ys ≡ xs ++ inside_of same o (view n)
     → ys ≡ xs ++ insides same page (view n)
 content_pushed same page n xs ys b o e t is f =
     let held = all_insides same page (views (out-Node n).children) in
@@ -50,7 +50,7 @@ content_pushed same page n xs ys b o e t is f =
     ∙ ap (λ (cs : List Change). xs ++ cs) (sym (insides_out same page n))
 
 pub held_pushed : (same : Tree → Tree → Bool) (page : Page) (n : Node) (ns : List Node) (xs ys : List Change) (b : Bool)
-    → b ≡ is_content (out-Node n).mark → b ≡ false → ns ≡ (out-Node n).children → ys ≡ xs ++ all_insides same page (views ns)
+    → b ≡ is_content (out-Node n).more.mark → b ≡ false → ns ≡ (out-Node n).children → ys ≡ xs ++ all_insides same page (views ns)
     → ys ≡ xs ++ insides same page (view n)
 held_pushed same page n ns xs ys b e t are f =
     f ∙ ap (λ (ms : List Node). xs ++ all_insides same page (views ms)) are

@@ -423,7 +423,7 @@ pub fn push_child<'t, 'a>(
     ensures { (same : Tree → Tree → Bool) → TellsSame same → OnOk result (changes_view found.new.items
         ≡ changes_view found.old.items ++ child_slices same (indexed index.now) (view node.now)) }
 {
-    if is_children(node.mark) {
+    if is_children(node.mark()) {
         let old = original(index, node.id);
         push_list_at(alloc, found, index, old, node.children.as_slice())?;
         return Ok(());

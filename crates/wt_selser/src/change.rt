@@ -35,7 +35,7 @@ pub struct Change {
 }
 
 /// What the content of a node of this kind stands in.
-fn place_in(kind: Kind) -> Place
+pub fn place_in(kind: Kind) -> Place
     ensures { result ≡ place_in kind }
 {
     match kind {
@@ -70,7 +70,7 @@ fn push_pair<'t, 'a>(
 ) -> Result<(), NoMemory>
     ensures { OnOk result (pairs_of pairs.new.items ≡ pairs_of pairs.old.items ++ pair_at (indexed index.now) (seen visit.entry)) }
 {
-    if !is_edited(visit.node.mark) {
+    if !is_edited(visit.node.mark()) {
         return Ok(());
     }
     if let Some(old) = original(index, visit.node.id) {
@@ -158,7 +158,7 @@ pub fn push_insides(
     ensures { (same : Tree → Tree → Bool) → TellsSame same
         → OnOk result (changes_view found.new.items ≡ changes_view found.old.items ++ insides same (indexed index.now) (view node.now)) }
 {
-    if is_content(node.mark) {
+    if is_content(node.mark()) {
         push_inside_of(alloc, found, original(index, node.id), node)?;
         return Ok(());
     }

@@ -30,7 +30,7 @@ use wt_tree::Node;
 fn why_bad(alloc: Global, pair: Pair<'_, '_>) -> Result<Option<ContentWhy>, NoMemory>
     ensures { (same : Tree → Tree → Bool) → TellsSame same → IfOk result (λ w. w ≡ why_bad same (pair_of pair.entry)) }
 {
-    if is_children(pair.new.mark) {
+    if is_children(pair.new.mark()) {
         return bad_children(alloc, pair.new);
     }
     bad_content(alloc, pair.old, pair.new)
@@ -70,7 +70,7 @@ fn tangled_pair(
     ensures value { IfOk result (λ r. r ≡ tangled_pair items.now page.now (pair_of pair.entry)) }
     ensures passes { AreOf items.now page.now passes.new }
 {
-    if !is_content(pair.new.mark) {
+    if !is_content(pair.new.mark()) {
         return Ok(None);
     }
     let tangled = is_tangled(alloc, items, page, passes, pair.old)?;

@@ -43,11 +43,11 @@ fn is_paragraph(node: &Node<'_>) -> bool
     if !para {
         return false;
     }
-    let bare = node.attrs.as_slice().is_empty();
+    let bare = node.attrs().is_empty();
     if !bare {
         return false;
     }
-    same_data(&node.mw, &None)
+    same_data(node.mw(), None)
 }
 
 /// Whether the only thing that is shown is a paragraph that shows what a group does.

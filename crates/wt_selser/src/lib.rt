@@ -15,7 +15,7 @@ mod slices;
 mod steps;
 mod tangled_block;
 
-pub use change::{Change, spliced};
+pub use change::{Change, place_in, spliced};
 pub use differing::first_differing;
 pub use editing::edit;
 pub use laws::{

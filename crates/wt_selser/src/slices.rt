@@ -47,7 +47,7 @@ fn push_slices<'t, 'a>(
         ≡ changes_view found.old.items ++ slices_of same (indexed index.now) (child_views old.now) (view edited.now)) }
 {
     let new = edited.children.as_slice();
-    if !is_children(edited.mark) {
+    if !is_children(edited.mark()) {
         push_children(alloc, found, index, new)?;
         return Ok(());
     }

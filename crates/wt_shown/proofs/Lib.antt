@@ -5,4 +5,6 @@ pub mod ShownChildren
 pub mod RestoredShown
 pub mod MarksShowNothing
 pub mod Within
+pub mod Tallies
+pub mod Decided
 mod KeptMarksCases

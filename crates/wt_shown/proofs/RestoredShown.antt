@@ -58,7 +58,7 @@ restored_as p n s rest e =
     ∙ sym (ap (λ t. plain_before (restored p t) rest) (view_out n)
     ∙ ap (λ k. shown_before k (label_of (out-Node n)) (λ ps. plains_before (restored_held p (tree (label_of (out-Node n)) (views (out-Node n).children))) ps) rest) e)
 
-pub restored_characters : (p : Page) (a b : ShownSoFar) (n : Node) (bs : List ℕ) → showing (out-Node n).kind ≡ Characters → bs ≡ (out-Node n).shown
+pub restored_characters : (p : Page) (a b : ShownSoFar) (n : Node) (bs : List ℕ) → showing (out-Node n).kind ≡ Characters → bs ≡ (out-Node n).source.shown
     → Adds a b (text_before bs) → Adds a b (plain_before (restored p (view n)))
 restored_characters p a b n bs e is h = λ rest.
     h rest ∙ ap (λ (xs : List ℕ). so_far a (text_before xs rest)) is ∙ ap (so_far a) (restored_as p n Characters rest e)

@@ -16,8 +16,9 @@ use Rattle.wt_tree.specs.Plain.{Face, plain}
 use Rattle.wt_tree.specs.Stream.{Bracket, opens, closes, Sign, byte, bracket, signs}
 use Rattle.wt_tree.specs.Tree.{Tree, label}
 use Rattle.wt_tree.specs.View.{attrs_of}
-use Rattle.wt_tree.proofs.Same.{kind_decides, attrs_same, mw_same}
+use Rattle.wt_tree.proofs.Same.{kind_decides, attrs_same}
 use Rattle.wt_tree.proofs.Streams.{same_plain, same_signs}
+use Rattle.wt_checks.proofs.Compares.{values_decide}
 use Rattle.wt_kept.specs.Page.{TellsSame}
 use Rattle.wt_shown.specs.SameNodes.{as_attr, same_face, same_bracket, same_sign, same_node}
 
@@ -45,7 +46,7 @@ face_told f g =
     let d = both (kinds.eq-value.it f.kind g.kind)
     (pointwise attrs.eq-value.it (map as_attr f.attrs) (map as_attr g.attrs) && option_eq data_of.eq-value.it f.mw g.mw) (kind_decides f.kind g.kind)
     (both (pointwise attrs.eq-value.it (map as_attr f.attrs) (map as_attr g.attrs)) (option_eq data_of.eq-value.it f.mw g.mw)
-    (attrs_told f.attrs g.attrs) (mw_same f.mw g.mw)) in (
+    (attrs_told f.attrs g.attrs) (values_decide f.mw g.mw)) in (
       λ h. one_face f g (d.0 h).0 (d.0 h).1.0 (d.0 h).1.1,
       λ e. d.1 (ap (λ (x : Face). x.kind) e, (ap (λ (x : Face). x.attrs) e, ap (λ (x : Face). x.mw) e)),
     )

@@ -75,7 +75,7 @@ element_added a b s f g = λ rest.
     ∙ ap (λ bs. followed (closed (children_view a.done.items) a.text.items ++ node_view s ∷ []) (text_before bs rest)) g
     ∙ closed_before (children_view a.done.items) a.text.items s rest
 
-pub adds_characters : (a b : ShownSoFar) (n : Node) (bs : List ℕ) → showing (out-Node n).kind ≡ Characters → bs ≡ (out-Node n).shown → Adds a b (text_before bs)
+pub adds_characters : (a b : ShownSoFar) (n : Node) (bs : List ℕ) → showing (out-Node n).kind ≡ Characters → bs ≡ (out-Node n).source.shown → Adds a b (text_before bs)
     → Adds a b (plain_before (view n))
 adds_characters a b n bs e is h = λ rest. h rest ∙ ap (λ xs. so_far a (text_before xs rest)) is ∙ ap (so_far a) (shown_as n Characters rest e)
 

@@ -5,32 +5,40 @@ use Rattle.std.specs.List.{flat_map}
 use Rattle.wt_tree.specs.Kinds.{is_mark}
 use Rattle.wt_tree.specs.Source.{flat}
 use Rattle.wt_tree.specs.Tree.{Tree}
+use Rattle.wt_tree.specs.declared.kind.Kind.{Kind}
+use Rattle.wt_tree.specs.declared.kind.Kind.TheVariants as kind
+use Rattle.wt_checks.specs.Alike.{same_kind}
 use Rattle.wt_checks.specs.Places.{Place, number, kind_at, is_kept, places, Page, page_of}
+use Rattle.wt_shown.specs.Tally.{StandAmong}
 
--- a comment or an include tag outside groups: in a group nothing has a number
+-- a node of a kind outside groups: in a group nothing has a number
+abbrev pub is_own : Kind → Place → Bool
+is_own k p = is_kept p && same_kind (kind_at p) k
+
+-- a comment or an include tag outside groups
 abbrev pub is_own_mark : Place → Bool
 is_own_mark p = is_kept p && is_mark (kind_at p)
 
--- the source of such a mark
-abbrev pub mark_at : Place → List (List ℕ)
-mark_at p = if is_own_mark p then flat p.node ∷ [] else []
+-- the source of a node of a kind
+abbrev pub source_at : Kind → Place → List (List ℕ)
+source_at k p = if is_own k p then flat p.node ∷ [] else []
 
 -- of all of them, in the order of a page
-abbrev pub mark_sources : List Place → List (List ℕ)
-mark_sources ps = flat_map mark_at ps
+abbrev pub sources : Kind → List Place → List (List ℕ)
+sources k ps = flat_map (source_at k) ps
 
--- what the page has for a number
-abbrev pub mark_there : Option Place → List (List ℕ)
-mark_there None = []
-mark_there (Some q) = mark_at q
+-- what the page has of a kind for a number
+abbrev pub there : Kind → Option Place → List (List ℕ)
+there k None = []
+there k (Some q) = source_at k q
 
 -- An edited mark is the page's mark of its number, with the page's source; a new one isn't counted.
-abbrev pub mark_still_at : Page → Place → List (List ℕ)
-mark_still_at page p = if is_own_mark p then mark_there (page (number p)) else []
+abbrev pub still_at : Kind → Page → Place → List (List ℕ)
+still_at k page p = if is_own_mark p then there k (page (number p)) else []
 
--- the sources of the marks that an edited tree still has, in its order
-abbrev pub marks_still : Page → List Place → List (List ℕ)
-marks_still page ps = flat_map (mark_still_at page) ps
+-- the sources of the marks of a kind that an edited tree still has, in its order
+abbrev pub still : Kind → Page → List Place → List (List ℕ)
+still k page ps = flat_map (still_at k page) ps
 
 -- the first list is what is left of the second one where some members are left out
 abbrev pub IsWithin : List (List ℕ) → List (List ℕ) → Type 0
@@ -38,6 +46,16 @@ IsWithin [] ys = Unit {0}
 IsWithin (x ∷ xs) [] = ⊥
 IsWithin (x ∷ xs) (y ∷ ys) = ((x ≡ y) × IsWithin xs ys) ⊎ IsWithin (x ∷ xs) ys
 
--- The marks of the page that the edited tree still has stand in the new page, in the order of the edited tree.
+-- Each comment of the page that the edited tree still has stands in the new page as often as there, in whatever order.
+abbrev pub KeepsComments : Page → List Place → List Place → Type 0
+KeepsComments page edited new = StandAmong (still kind.Comment page edited) (sources kind.Comment new)
+
+-- The include tags of the page that the edited tree still has stand in the new page in the order of the edited tree: it says what the
+-- page gives to others, and nothing that is shown tells two exchanged ones.
+abbrev pub KeepsTags : Page → List Place → List Place → Type 0
+KeepsTags page edited new = IsWithin (still kind.Include page edited) (sources kind.Include new)
+
+-- the marks of the page that the edited tree still has stand in the new page
 abbrev pub KeepsMarks : Tree → Tree → Tree → Type 0
-KeepsMarks new page edited = IsWithin (marks_still (page_of page) (places edited)) (mark_sources (places new))
+KeepsMarks new page edited =
+    KeepsComments (page_of page) (places edited) (places new) × KeepsTags (page_of page) (places edited) (places new)

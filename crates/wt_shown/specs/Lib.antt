@@ -3,3 +3,4 @@ pub mod Children
 pub mod Restored
 pub mod Views
 pub mod KeptMarks
+pub mod Tally

@@ -76,7 +76,7 @@ fn push_shown<'p, 't, 'a>(
 {
     match node.kind.showing() {
         Showing::Characters => {
-            push_text(shown, node.shown.as_str())?;
+            push_text(shown, node.shown())?;
             Ok(())
         }
         Showing::Inside => {
@@ -142,7 +142,7 @@ fn push_restored<'p, 't, 'a>(
 {
     match node.kind.showing() {
         Showing::Characters => {
-            push_text(shown, node.shown.as_str())?;
+            push_text(shown, node.shown())?;
             Ok(())
         }
         Showing::Inside => {

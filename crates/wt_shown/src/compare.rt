@@ -3,8 +3,8 @@
 ghost use Rattle.std.specs.Prelude.{◌≡◌, suc, IfOk};
 ghost use Rattle.std.specs.Bool.{Decides};
 ghost use Rattle.wt_tree.specs.declared.node.Node.{out-Node};
-ghost use Rattle.wt_tree.specs.Plain.{ended, face, plains_before};
-ghost use Rattle.wt_tree.specs.View.{label_of, views};
+ghost use Rattle.wt_tree.specs.Plain.{ended, plains_before};
+ghost use Rattle.wt_tree.specs.View.{views};
 ghost use Rattle.wt_shown.specs.Children.{IsCommonLen, IsFirstDiffering};
 ghost use Rattle.wt_shown.specs.Views.{child_view, children_view, held_view, node_view};
 
@@ -12,19 +12,7 @@ use crate::children::{Child, held_by, shown_nodes};
 use crate::shown_node::ShownNode;
 use std::alloc::Global;
 use wt_span::NoMemory;
-use wt_tree::{Node, same_attrs, same_data, same_kind};
-
-fn same_face(a: &Node<'_>, b: &Node<'_>) -> bool
-    ensures { Decides result (face (label_of (out-Node a.now)) ≡ face (label_of (out-Node b.now))) }
-{
-    if !same_kind(a.kind, b.kind) {
-        return false;
-    }
-    if !same_attrs(&a.attrs, &b.attrs) {
-        return false;
-    }
-    same_data(&a.mw, &b.mw)
-}
+use wt_tree::{Node, same_face};
 
 fn same_text(a: &[u8], b: &[u8]) -> bool
     ensures { Decides result (a.now ≡ b.now) }

@@ -7,12 +7,14 @@ ghost use Rattle.wt_tree.specs.Tiling.{InPreorder};
 ghost use Rattle.wt_tree.specs.Tree.{label};
 ghost use Rattle.wt_tree.specs.View.{view};
 ghost use Rattle.wt_checks.specs.View.{all_seen, indexed, seen};
-ghost use Rattle.wt_shown.specs.KeptMarks.{is_own_mark, mark_at, mark_sources, mark_there, mark_still_at, marks_still, IsWithin, KeepsMarks};
+ghost use Rattle.wt_shown.specs.KeptMarks.{is_own, is_own_mark, source_at, sources, still, still_at, there, IsWithin, KeepsComments, KeepsMarks, KeepsTags};
+ghost use Rattle.wt_shown.specs.Tally.{StandAmong};
 
+use crate::tally::Tally;
 use std::alloc::Global;
-use wt_checks::{Visit, numbered_nodes, original, preorder};
+use wt_checks::{Visit, numbered_nodes, original, preorder, same_kind};
 use wt_span::{NoMemory, Str};
-use wt_tree::{Node, flat};
+use wt_tree::{Kind, Node, flat};
 
 /// Whether a node is a comment or an include tag outside groups.
 fn is_own_mark(visit: Visit<'_, '_>) -> bool
@@ -21,11 +23,23 @@ fn is_own_mark(visit: Visit<'_, '_>) -> bool
     visit.node.id != 0 && visit.node.kind.is_mark()
 }
 
-/// Appends the source of a node that is a mark.
-fn push_mark(alloc: Global, out: &mut Vec<Str>, visit: Visit<'_, '_>) -> Result<(), NoMemory>
-    ensures { OnOk result (out.new.items ≡ out.old.items ++ mark_at (seen visit.entry)) }
+/// Whether a node is of this kind and stands outside groups.
+fn is_own(kind: Kind, visit: Visit<'_, '_>) -> bool
+    ensures { result ≡ is_own kind (seen visit.entry) }
 {
-    if !is_own_mark(visit) {
+    visit.node.id != 0 && same_kind(visit.node.kind, kind)
+}
+
+/// Appends the source of a node that is of this kind.
+fn push_source(
+    alloc: Global,
+    out: &mut Vec<Str>,
+    kind: Kind,
+    visit: Visit<'_, '_>,
+) -> Result<(), NoMemory>
+    ensures { OnOk result (out.new.items ≡ out.old.items ++ source_at kind (seen visit.entry)) }
+{
+    if !is_own(kind, visit) {
         return Ok(());
     }
     let source = flat(alloc, visit.node)?;
@@ -37,14 +51,15 @@ fn push_mark(alloc: Global, out: &mut Vec<Str>, visit: Visit<'_, '_>) -> Result<
 fn push_there(
     alloc: Global,
     out: &mut Vec<Str>,
+    kind: Kind,
     original: Option<Visit<'_, '_>>,
 ) -> Result<(), NoMemory>
-    ensures { OnOk result (out.new.items ≡ out.old.items ++ mark_there (option_map seen original.entry)) }
+    ensures { OnOk result (out.new.items ≡ out.old.items ++ there kind (option_map seen original.entry)) }
 {
     match original {
         None => Ok(()),
         Some(visit) => {
-            push_mark(alloc, out, visit)?;
+            push_source(alloc, out, kind, visit)?;
             Ok(())
         }
     }
@@ -53,42 +68,58 @@ fn push_there(
 fn push_still(
     alloc: Global,
     out: &mut Vec<Str>,
+    kind: Kind,
     index: &[Visit<'_, '_>],
     visit: Visit<'_, '_>,
 ) -> Result<(), NoMemory>
-    ensures { OnOk result (out.new.items ≡ out.old.items ++ mark_still_at (indexed index.now) (seen visit.entry)) }
+    ensures { OnOk result (out.new.items ≡ out.old.items ++ still_at kind (indexed index.now) (seen visit.entry)) }
 {
     if !is_own_mark(visit) {
         return Ok(());
     }
-    push_there(alloc, out, original(index, visit.node.id))?;
+    push_there(alloc, out, kind, original(index, visit.node.id))?;
     Ok(())
 }
 
-/// The sources of a page's comments and include tags.
-fn mark_sources(alloc: Global, page: &[Visit<'_, '_>]) -> Result<Vec<Str>, NoMemory>
-    ensures { IfOk result (λ xs. xs.items ≡ mark_sources (all_seen page.now)) }
+/// The sources of a page's nodes of this kind.
+fn sources(alloc: Global, kind: Kind, page: &[Visit<'_, '_>]) -> Result<Vec<Str>, NoMemory>
+    ensures { IfOk result (λ xs. xs.items ≡ sources kind (all_seen page.now)) }
 {
     let mut out = Vec::new(alloc);
     for visit in page {
-        push_mark(alloc, &mut out, *visit)?;
+        push_source(alloc, &mut out, kind, *visit)?;
     }
     Ok(out)
 }
 
-/// The sources of the comments and include tags that an edited tree still has.
-fn marks_still(
+/// The sources of the page's nodes of this kind that an edited tree still has.
+fn still(
     alloc: Global,
+    kind: Kind,
     index: &[Visit<'_, '_>],
     edited: &[Visit<'_, '_>],
 ) -> Result<Vec<Str>, NoMemory>
-    ensures { IfOk result (λ xs. xs.items ≡ marks_still (indexed index.now) (all_seen edited.now)) }
+    ensures { IfOk result (λ xs. xs.items ≡ still kind (indexed index.now) (all_seen edited.now)) }
 {
     let mut out = Vec::new(alloc);
     for visit in edited {
-        push_still(alloc, &mut out, index, *visit)?;
+        push_still(alloc, &mut out, kind, index, *visit)?;
     }
     Ok(out)
+}
+
+/// Whether each of these texts stands among the others at least as often.
+fn stand_among(alloc: Global, texts: &[Str], others: &[Str]) -> Result<bool, NoMemory>
+    ensures { IfOk result (λ among. Decides among (StandAmong texts.now others.now)) }
+{
+    let mut tally = Tally::of(alloc, others)?;
+    for text in texts {
+        let taken = tally.take(text.as_str().as_bytes())?;
+        if !taken {
+            return Ok(false);
+        }
+    }
+    Ok(true)
 }
 
 /// How many of them are found, where so many were before this one.
@@ -117,8 +148,35 @@ fn is_within(kept: &[Str], there: &[Str]) -> bool
     found == kept.len()
 }
 
+fn keeps_comments(
+    alloc: Global,
+    index: &[Visit<'_, '_>],
+    edited: &[Visit<'_, '_>],
+    new: &[Visit<'_, '_>],
+) -> Result<bool, NoMemory>
+    ensures { IfOk result (λ kept. Decides kept (KeepsComments (indexed index.now) (all_seen edited.now) (all_seen new.now))) }
+{
+    let kept = still(alloc, Kind::Comment, index, edited)?;
+    let there = sources(alloc, Kind::Comment, new)?;
+    let among = stand_among(alloc, kept.as_slice(), there.as_slice())?;
+    Ok(among)
+}
+
+fn keeps_tags(
+    alloc: Global,
+    index: &[Visit<'_, '_>],
+    edited: &[Visit<'_, '_>],
+    new: &[Visit<'_, '_>],
+) -> Result<bool, NoMemory>
+    ensures { IfOk result (λ kept. Decides kept (KeepsTags (indexed index.now) (all_seen edited.now) (all_seen new.now))) }
+{
+    let kept = still(alloc, Kind::Include, index, edited)?;
+    let there = sources(alloc, Kind::Include, new)?;
+    Ok(is_within(kept.as_slice(), there.as_slice()))
+}
+
 /// Whether the comments and include tags of a page that an edited tree still has by their numbers stand in
-/// a new page, with the page's source and in the order of the edited tree.
+/// a new page, with the page's source: each comment as often as in the edited tree, and the tags in its order.
 pub fn keeps_marks(
     alloc: Global,
     new: &Node<'_>,
@@ -131,8 +189,11 @@ pub fn keeps_marks(
 {
     let index = numbered_nodes(alloc, page)?;
     let edited = preorder(alloc, edited)?;
-    let kept = marks_still(alloc, index.as_slice(), edited.as_slice())?;
     let new = preorder(alloc, new)?;
-    let there = mark_sources(alloc, new.as_slice())?;
-    Ok(is_within(kept.as_slice(), there.as_slice()))
+    let comments = keeps_comments(alloc, index.as_slice(), edited.as_slice(), new.as_slice())?;
+    if !comments {
+        return Ok(false);
+    }
+    let tags = keeps_tags(alloc, index.as_slice(), edited.as_slice(), new.as_slice())?;
+    Ok(tags)
 }

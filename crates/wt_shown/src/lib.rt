@@ -7,6 +7,7 @@ mod compare;
 mod kept_marks;
 mod laws;
 mod shown_node;
+mod tally;
 
 pub use children::{Child, held_nodes, is_group, shown_nodes};
 pub use compare::{first_of_children, shows_same};

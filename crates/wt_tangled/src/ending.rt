@@ -78,11 +78,11 @@ impl Ending {
         ensures { (text : List ℕ) → self ≡ ending_of text → result ≡ ending_of (text ++ flat (view node.now)) }
     {
         if node.kind.is_leaf() {
-            return self.behind_texts(node.own.as_slice());
+            return self.behind_texts(node.own());
         }
-        let opened = self.behind_texts(node.opening.as_slice());
+        let opened = self.behind_texts(node.opening());
         let filled = opened.behind_nodes(node.children.as_slice());
-        filled.behind_texts(node.closing.as_slice())
+        filled.behind_texts(node.closing())
     }
 
     #[cycle(sources)]

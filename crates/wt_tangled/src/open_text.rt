@@ -108,7 +108,7 @@ fn follow(alloc: Global, text: &mut Vec<u8>, node: &Node<'_>) -> Result<bool, No
 {
     let way = shape(node.kind).way;
     if is_text(way) {
-        text.extend_from_slice(node.shown.as_str().as_bytes())?;
+        text.extend_from_slice(node.shown().as_bytes())?;
         return Ok(false);
     }
     ends_open(alloc, text, way, node.children.as_slice())

@@ -107,11 +107,11 @@ attrs_one (x ∷ xs) (y ∷ ys) e =
 
 -- the parts of a face
 pub face_parts : (m n : Node) → face (label_of (out-Node m)) ≡ face (label_of (out-Node n))
-    → ((out-Node m).kind ≡ (out-Node n).kind) × ((out-Node m).attrs ≡ (out-Node n).attrs) × ((out-Node m).mw ≡ (out-Node n).mw)
-face_parts m n e = (ap (λ (f : Face). f.kind) e, attrs_one (out-Node m).attrs (out-Node n).attrs (ap (λ (f : Face). f.attrs) e), ap (λ (f : Face). f.mw) e)
+    → ((out-Node m).kind ≡ (out-Node n).kind) × ((out-Node m).more.attrs ≡ (out-Node n).more.attrs) × ((out-Node m).more.mw ≡ (out-Node n).more.mw)
+face_parts m n e = (ap (λ (f : Face). f.kind) e, attrs_one (out-Node m).more.attrs (out-Node n).more.attrs (ap (λ (f : Face). f.attrs) e), ap (λ (f : Face). f.mw) e)
 
-pub face_whole : (m n : Node) → (out-Node m).kind ≡ (out-Node n).kind → (out-Node m).attrs ≡ (out-Node n).attrs
-    → (out-Node m).mw ≡ (out-Node n).mw → face (label_of (out-Node m)) ≡ face (label_of (out-Node n))
+pub face_whole : (m n : Node) → (out-Node m).kind ≡ (out-Node n).kind → (out-Node m).more.attrs ≡ (out-Node n).more.attrs
+    → (out-Node m).more.mw ≡ (out-Node n).more.mw → face (label_of (out-Node m)) ≡ face (label_of (out-Node n))
 face_whole m n k a w = λ i. record { kind = k i; attrs = attrs_of (a i); mw = w i }
 
 -- what decides the rest decides both, where the first is known

@@ -10,7 +10,8 @@ use Rattle.wt_tree.specs.contracts.kind.KindPartialEq.TheImpl.{eq-value}
 use Rattle.wt_tree.specs.contracts.kind.TagNamePartialEq.TheImpl as tag
 use Rattle.wt_tree.specs.contracts.kind.Kind.{the_parts, as_values, the_make, the_eta}
 use Rattle.wt_tree.specs.contracts.kind.TagName.{the_type}
-use Rattle.std.specs.Prelude.{Option, Some, None}
+use Rattle.std.specs.Prelude.{Option, Some, None, option_copied}
+use denote.Ref.{Bor}
 use Rattle.std.specs.Option.{option_eq}
 use Rattle.wt_tree.specs.declared.node.Attr.{Attr}
 use Rattle.wt_tree.specs.declared.node.Part.{Part}
@@ -149,5 +150,9 @@ data_same (data_mw.Extension m a) (data_mw.Extension n b) =
     Decides-like (pointwise nat_eq m n && option_eq (pointwise nat_eq) a b) (λ e. cc (e.0, e.1)) (λ e. (cc, cc))
     (Decides-and (pointwise nat_eq m n) (option_eq (pointwise nat_eq) a b) (bytes_same m n) (option_decides (pointwise nat_eq) bytes_same a b))
 
-pub mw_same : (a b : Option DataMw) → Decides (option_eq data_eq.it a b) (a ≡ b)
-mw_same a b = option_decides data_eq.it data_same a b
+-- the same behind references
+pub mw_same : (a b : Option (Bor DataMw)) → Decides (option_eq (λ x y. data_eq.it x.now y.now) a b) (option_copied a ≡ option_copied b)
+mw_same None None = (λ e. refl, λ e. refl)
+mw_same None (Some y) = (λ e. cc, λ e. cc)
+mw_same (Some x) None = (λ e. cc, λ e. cc)
+mw_same (Some x) (Some y) = (λ e. ap Some ((data_same x.now y.now).0 e), λ e. (data_same x.now y.now).1 (cc e))

@@ -11,11 +11,11 @@ use Rattle.wt_tree.specs.declared.node.Node.{Node, out-Node, fold_out-Node}
 pub view_out : (n : Node) → view n ≡ tree (label_of (out-Node n)) (views (out-Node n).children)
 view_out n = fold_out-Node Tree view_step n
 
-pub flat_leaf : (n : Node) → is_leaf (out-Node n).kind ≡ true → flat (view n) ≡ texts_of (out-Node n).own
+pub flat_leaf : (n : Node) → is_leaf (out-Node n).kind ≡ true → flat (view n) ≡ texts_of (out-Node n).source.own
 flat_leaf n e = rw (view_out n, e)
 
-pub flat_inner : (n : Node) → is_leaf (out-Node n).kind ≡ false → flat (view n) ≡ texts_of (out-Node n).opening
-    ++ flat_of_all (views (out-Node n).children) ++ texts_of (out-Node n).closing
+pub flat_inner : (n : Node) → is_leaf (out-Node n).kind ≡ false → flat (view n) ≡ texts_of (out-Node n).source.opening
+    ++ flat_of_all (views (out-Node n).children) ++ texts_of (out-Node n).source.closing
 flat_inner n e = rw (view_out n, e)
 
 -- the sources of several nodes are joined

@@ -1,5 +1,5 @@
 -- The tree that a node stands for.
-use Rattle.std.specs.Prelude.{ℕ, List, map}
+use Rattle.std.specs.Prelude.{ℕ, List, None, map}
 use Rattle.std.specs.List.{flat_map}
 use Rattle.wt_span.specs.declared.text.Text.{Text}
 use Rattle.wt_span.specs.Slice.{bytes_of}
@@ -22,14 +22,14 @@ label_of n = record {
   kind = n.kind;
   id = n.id;
   ranges = n.ranges;
-  opening = texts_of n.opening;
-  closing = texts_of n.closing;
-  own = texts_of n.own;
-  shown = n.shown;
-  attrs = attrs_of n.attrs;
-  origin = n.origin;
-  mark = n.mark;
-  mw = n.mw;
+  opening = texts_of n.source.opening;
+  closing = texts_of n.source.closing;
+  own = texts_of n.source.own;
+  shown = n.source.shown;
+  attrs = attrs_of n.more.attrs;
+  origin = None;
+  mark = n.more.mark;
+  mw = n.more.mw;
 }
 
 abbrev pub view_step : Node-F Tree → Tree

@@ -1,4 +1,4 @@
-ghost use Rattle.std.specs.Prelude.{◌≡◌, [], ◌∷◌, map, IfOk, OnOk};
+ghost use Rattle.std.specs.Prelude.{◌≡◌, option_copied, [], ◌∷◌, map, IfOk, OnOk};
 ghost use Rattle.std.specs.Bool.{Decides};
 ghost use Rattle.wt_tree.specs.Plain.{plain, face};
 ghost use Rattle.wt_tree.specs.Shown.{Adds, IsShownOf, bracket_of, brackets_of};
@@ -9,7 +9,7 @@ ghost use Rattle.wt_tree.specs.declared.node.Node.{out-Node};
 use crate::kind::{Kind, Showing};
 use crate::node::{Attr, DataMw, Node};
 use std::alloc::Global;
-use wt_span::{List, NoMemory};
+use wt_span::NoMemory;
 
 /// Where an element opens or closes, by the number of characters (bytes) shown before.
 #[derive(Drop)]
@@ -53,7 +53,7 @@ fn show<'t, 'a>(shown: &mut Shown<'t, 'a>, node: &'t Node<'a>) -> Result<(), NoM
     ensures { OnOk result (Adds shown.old shown.new (signs (view node.now))) }
 {
     match node.kind.showing() {
-        Showing::Characters => push_text(shown, node.shown.as_str()),
+        Showing::Characters => push_text(shown, node.shown()),
         Showing::Inside => show_all(shown, node.children.as_slice()),
         Showing::Nothing => Ok(()),
         Showing::Element => {
@@ -94,29 +94,30 @@ pub fn same_kind(a: Kind, b: Kind) -> bool
 }
 
 /// Whether two nodes have the same attributes in the same order, each with its name and its value.
-pub fn same_attrs(a: &List<Attr>, b: &List<Attr>) -> bool
+pub fn same_attrs(a: &[Attr], b: &[Attr]) -> bool
     ensures { Decides result (a.now ≡ b.now) }
 {
     a == b
 }
 
 /// Whether what an extension has in `data-mw` is the same value.
-pub fn same_data(a: &Option<DataMw>, b: &Option<DataMw>) -> bool
-    ensures { Decides result (a.now ≡ b.now) }
+pub fn same_data(a: Option<&DataMw>, b: Option<&DataMw>) -> bool
+    ensures { Decides result (option_copied a.entry ≡ option_copied b.entry) }
 {
     a == b
 }
 
-fn same_face(a: &Node<'_>, b: &Node<'_>) -> bool
+/// Whether two nodes are the same element: of one kind, with the same attributes and data.
+pub fn same_face(a: &Node<'_>, b: &Node<'_>) -> bool
     ensures { Decides result (face (label_of (out-Node a.now)) ≡ face (label_of (out-Node b.now))) }
 {
     if !same_kind(a.kind, b.kind) {
         return false;
     }
-    if !same_attrs(&a.attrs, &b.attrs) {
+    if !same_attrs(a.attrs(), b.attrs()) {
         return false;
     }
-    same_data(&a.mw, &b.mw)
+    same_data(a.mw(), b.mw())
 }
 
 fn same_bracket(a: &Bracket<'_, '_>, b: &Bracket<'_, '_>) -> bool

@@ -64,9 +64,11 @@ ghost use Rattle.wt_tree.specs.Tree.{tree, none, label};
 ghost use Rattle.wt_tree.specs.View.{texts_of, view, views};
 ghost use Rattle.wt_span.specs.Slice.{bytes_of};
 
-use crate::kind::{Kind, Mark, Ranges};
+use crate::kind::{Kind, Ranges};
 use crate::node::Node;
 use crate::row::Writing;
+use crate::shown::Shown;
+use crate::slices::Slices;
 use crate::source::push_texts;
 use std::alloc::Global;
 use wt_span::{List, NoMemory, Str, Text};
@@ -186,7 +188,7 @@ fn is_border(node: &Node<'_>) -> bool
     ensures { result ≡ is_border (view node.now) }
 {
     if is_text(node) {
-        has_break(node.own.as_slice())
+        has_break(node.own())
     } else {
         shows_block(node)
     }
@@ -196,7 +198,7 @@ fn is_passed(node: &Node<'_>) -> bool
     ensures { result ≡ is_passed (view node.now) }
 {
     if is_text(node) {
-        are_spaces(node.own.as_slice())
+        are_spaces(node.own())
     } else {
         node.kind.is_mark()
     }
@@ -210,30 +212,31 @@ fn leaf<'a>(
     kind: Kind,
     ranges: Option<Ranges>,
     own: List<Text<'a>>,
-    shown: Str,
+    shown: Shown<'a>,
 ) -> Node<'a>
-    ensures { view result ≡ tree (leaf_label kind ranges (texts_of own.entry) shown) none }
+    ensures { view result ≡ tree (leaf_label kind ranges (texts_of own.entry) shown.entry) none }
 {
-    Node {
-        kind,
-        id: 0,
-        ranges,
-        opening: List::new(alloc),
-        closing: List::new(alloc),
-        own,
-        shown,
-        attrs: List::new(alloc),
-        origin: None,
-        mark: Mark::Nothing,
-        mw: None,
-        children: List::new(alloc),
-    }
+    Node::leaf(alloc, kind, ranges, Slices::of_list(own), shown)
 }
 
 fn sep_leaf<'a>(alloc: Global, ranges: Option<Ranges>, own: List<Text<'a>>) -> Node<'a>
     ensures { view result ≡ sep_leaf ranges (texts_of own.entry) }
 {
-    leaf(alloc, Kind::Sep, ranges, own, Str::new(alloc))
+    leaf(alloc, Kind::Sep, ranges, own, Shown::none())
+}
+
+/// What the texts show: all their characters.
+fn shown_of<'a>(alloc: Global, own: &[Text<'a>]) -> Result<Shown<'a>, NoMemory>
+    ensures { IfOk result (λ s. s ≡ texts_of own.now) }
+{
+    match own {
+        [text] => Ok(Shown::written(text.as_str())),
+        _ => {
+            let mut shown = Str::new(alloc);
+            push_texts(&mut shown, own)?;
+            Ok(Shown::made(shown))
+        }
+    }
 }
 
 fn text_leaf<'a>(
@@ -243,8 +246,7 @@ fn text_leaf<'a>(
 ) -> Result<Node<'a>, NoMemory>
     ensures { IfOk result (λ n. view n ≡ text_leaf ranges (texts_of own.entry)) }
 {
-    let mut shown = Str::new(alloc);
-    push_texts(&mut shown, own.as_slice())?;
+    let shown = shown_of(alloc, own.as_slice())?;
     Ok(leaf(alloc, Kind::Text, ranges, own, shown))
 }
 
@@ -284,7 +286,8 @@ fn joined_ranges(first: Option<Ranges>, second: Option<Ranges>) -> Option<Ranges
 fn bare<'a>(alloc: Global, node: Node<'a>) -> Node<'a>
     ensures { view result ≡ bare (view node.entry) }
 {
-    sep_leaf(alloc, node.ranges, node.own)
+    let own = node.source.into_own();
+    Node::leaf(alloc, Kind::Sep, node.ranges, own, Shown::none())
 }
 
 /// Two leaves that are texts or separators as one.
@@ -292,7 +295,10 @@ fn join<'a>(alloc: Global, first: Node<'a>, second: Node<'a>) -> Result<Node<'a>
     ensures { IfOk result (λ n. view n ≡ joined_pair (view first.entry) (view second.entry)) }
 {
     let ranges = joined_ranges(first.ranges, second.ranges);
-    let own = append(first.own, second.own)?;
+    let own = append(
+        first.source.into_own().into_list(alloc)?,
+        second.source.into_own().into_list(alloc)?,
+    )?;
     Ok(sep_leaf(alloc, ranges, own))
 }
 
@@ -322,7 +328,7 @@ fn push_joined<'a>(alloc: Global, nodes: &mut Vec<Node<'a>>, node: Node<'a>) -> 
         nodes.push(node)?;
         return Ok(());
     }
-    if is_empty(node.own.as_slice()) {
+    if is_empty(node.own()) {
         return Ok(());
     }
     push_text(alloc, nodes, node)
@@ -495,8 +501,7 @@ fn text_and_sep<'a>(
 ) -> Result<Parts<'a>, NoMemory>
     ensures { IfOk result (λ p. parts_view p ≡ text_and_sep ranges (texts_of front.entry) (texts_of rest.entry) none) }
 {
-    let mut shown = Str::new(alloc);
-    push_texts(&mut shown, front.as_slice())?;
+    let shown = shown_of(alloc, front.as_slice())?;
     let len = shown.as_str().len();
     let first = leaf(alloc, Kind::Text, front_ranges(len, ranges), front, shown);
     let second = sep_leaf(alloc, rest_ranges(len, ranges), rest);
@@ -548,8 +553,8 @@ fn cut<'a>(alloc: Global, node: Node<'a>, behind: bool, leads: bool) -> Result<P
             second: None,
         });
     }
-    let all = behind || (leads && are_spaces(node.own.as_slice()));
-    let halves = halves_of(alloc, all, node.own)?;
+    let all = behind || (leads && are_spaces(node.own()));
+    let halves = halves_of(alloc, all, node.source.into_own().into_list(alloc)?)?;
     parts_of(alloc, node.ranges, halves)
 }
 

@@ -19,14 +19,14 @@ fn push_flat(out: &mut Str, node: &Node<'_>) -> Result<(), NoMemory>
     ensures { OnOk result (out.new ≡ out.old ++ flat (view node.now)) }
 {
     if node.kind.is_leaf() {
-        push_texts(out, node.own.as_slice())?;
+        push_texts(out, node.own())?;
         return Ok(());
     }
-    push_texts(out, node.opening.as_slice())?;
+    push_texts(out, node.opening())?;
     for child in node.children.as_slice() {
         push_flat(out, child)?;
     }
-    push_texts(out, node.closing.as_slice())?;
+    push_texts(out, node.closing())?;
     Ok(())
 }
 

@@ -10,8 +10,8 @@ use Rattle.wt_context.specs.Line.{line_parts}
 use Rattle.wt_build.proofs.LaterLines.{whole_line}
 use Rattle.wt_build.proofs.text.with_later_line.Goals as goal
 
-pub with_content-requires : goal.with_content-requires
-with_content-requires c =
+pub with_line-requires : goal.with_line-requires
+with_line-requires c =
     subst (λ (qs : List Piece). All IsSoundPiece qs) (sym c.between.ensures) (All-take IsSoundPiece _ _ (All-drop IsSoundPiece _ _ c.requires.sound))
 
 pub returns : goal.returns
@@ -19,4 +19,4 @@ returns c =
     let row = c.args.row.now in
     let whole = whole_line c.args.pieces.now c.between.result.now row.start row.from row.to c.requires.order.lead c.requires.order.items c.between.ensures in
     let same = ap line_parts whole in
-    IfOk-weaker c.with_content.result _ _ (λ d e. subst (λ (ps : List Part). Grows (growth c.args.children) ps (growth d)) same e) c.with_content.ensures
+    IfOk-weaker c.with_line.result _ _ (λ d e. subst (λ (ps : List Part). Grows (growth c.args.children) ps (growth d)) same e) c.with_line.ensures

@@ -18,11 +18,11 @@ cut-requires-clause-edge c some =
 
 pub returns : goal.returns
 returns c =
-    IfOk-weaker c.with_content.result _ _
+    IfOk-weaker c.with_line.result _ _
     (λ d e. grows_pre (row_view c.args.pieces.now c.args.row.now) (items c.between-lead.result.now) (items c.as_slice.result.now)
     (item_tree c.plain_leaf.result) (growth c.args.children) (growth c.in_ok-before.before) (growth c.in_ok-behind.behind) (growth d)
     (ap items c.between-lead.ensures)
     (c.plain_leaf.ensures ∙ ap (leaf (plain kind.Skip)) (c.in_ok-space.ensures.front ∙ ap (λ qs. take 1 (items qs)) c.between-line.ensures))
     (ap items c.as_slice.ensures ∙ c.in_ok-space.ensures.back ∙ ap (λ qs. drop 1 (items qs)) c.between-line.ensures)
     c.in_ok-before.ensures c.in_ok-behind.ensures e)
-    c.with_content.ensures
+    c.with_line.ensures

@@ -14,11 +14,11 @@ returns c =
     let q = c.args.original.now in
     let u = c.args.node.now in
     let g : is_group (out-Node u).kind ≡ true = sym c.is_group.ensures ∙ c.if-not-is_group.false in
-    let a : same_attrs (attrs_of (out-Node q).attrs) (attrs_of (out-Node u).attrs) ≡ true =
-    ap (λ (xs : List Attr). same_attrs (attrs_of xs) (attrs_of (out-Node u).attrs)) (sym c.as_slice.ensures)
-    ∙ ap (λ (xs : List Attr). same_attrs (attrs_of c.as_slice.result.now) (attrs_of xs)) (sym c.as_slice-2.ensures)
+    let a : same_attrs (attrs_of (out-Node q).more.attrs) (attrs_of (out-Node u).more.attrs) ≡ true =
+    ap (λ (xs : List Attr). same_attrs (attrs_of xs) (attrs_of (out-Node u).more.attrs)) (sym c.attrs.ensures)
+    ∙ ap (λ (xs : List Attr). same_attrs (attrs_of c.attrs.result.now) (attrs_of xs)) (sym c.attrs-2.ensures)
     ∙ sym c.same_attrs.ensures ∙ c.if-not-same_attrs.false in
     c.in_ok-same.ensures
-    ∙ ap (λ (ns : List Node). same_signs (signs_in (written_for (views ns))) (signs_in (all_read (views c.as_slice-4.result.now)))) c.as_slice-3.ensures
+    ∙ ap (λ (ns : List Node). same_signs (signs_in (written_for (views ns))) (signs_in (all_read (views c.as_slice-2.result.now)))) c.as_slice.ensures
     ∙ ap (λ (ns : List Node). same_signs (signs_in (written_for (views (out-Node q).children))) (signs_in (all_read (views ns))))
-    c.as_slice-4.ensures ∙ shows_when q u g a
+    c.as_slice-2.ensures ∙ shows_when q u g a

@@ -15,7 +15,7 @@ push_all_inner-loop-node-preserved t c =
 pub push_inner-returns-in_ok-push_text-in-Characters : goal.push_inner-returns-in_ok-push_text-in-Characters
 push_inner-returns-in_ok-push_text-in-Characters t c =
     c.in_ok-push_text-in-Characters.ensures ∙ ap (λ ss. written_signs c.args.out.now.items ++ ss)
-    (ap (map byte) c.as_str.ensures ∙ sym (inner_text c.args.node.now (sym c.showing.ensures ∙ c.in-Characters.is)))
+    (ap (map byte) c.shown.ensures ∙ sym (inner_text c.args.node.now (sym c.showing.ensures ∙ c.in-Characters.is)))
 
 pub push_inner-returns-in_ok-push_part-in-Element-2 : goal.push_inner-returns-in_ok-push_part-in-Element-2
 push_inner-returns-in_ok-push_part-in-Element-2 t c =

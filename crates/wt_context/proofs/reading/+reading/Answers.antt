@@ -1,11 +1,12 @@
-use Rattle.std.proofs.Common.{List, ap, subst, arith}
+use Rattle.std.proofs.Common.{◌≡◌, List, ap, sym, subst, arith}
 use Rattle.std.specs.Prelude.{All}
 use Rattle.std.specs.Vec.Iter.{into_iter_items}
 use Rattle.std.proofs.lemmas.Result.{IfOk-weaker}
 use Rattle.std.proofs.lemmas.List.Elements.{All-tail}
 use Rattle.wt_tiles.specs.declared.tile.Tile.{Tile}
 use Rattle.wt_span.specs.Items.{items}
-use Rattle.wt_inline.specs.Parts.{Part}
+use Rattle.wt_inline.specs.declared.loose.Loose.TheVariants.{Text}
+use Rattle.wt_inline.specs.Parts.{Part, parts}
 use Rattle.wt_inline.specs.View.{item_tree}
 use Rattle.wt_inline.specs.Grown.{growth, Grows}
 use Rattle.wt_context.specs.Line.{within}
@@ -14,7 +15,9 @@ use Rattle.wt_context.specs.Tokens.{segments_of}
 use Rattle.wt_context.proofs.NestedTrees.{nested_made}
 use Rattle.wt_context.proofs.TileCuts.{tiles_cut}
 use Rattle.wt_context.proofs.ContextReads.{context_read, tiles_step}
+use Rattle.wt_context.proofs.InertItems.{none_within, inert_within}
 use Rattle.wt_context.proofs.reading.+reading.Goals as goal
+use Rattle.wt_context.proofs.reading.+reading.Goals.{with_context-then-levels-eq0-via-then-levels-eq0, with_context-then-levels-eq0-via-else-levels-eq0+then-are_inert}
 
 pub nested-returns : goal.nested-returns
 nested-returns t c =
@@ -48,6 +51,16 @@ with_context-tokens_of-requires t c =
             (arith, some, c.requires.room),
       ),
     )
+
+pub with_context-returns-then-levels-eq0 : goal.with_context-returns-then-levels-eq0
+with_context-returns-then-levels-eq0 t c =
+    let n = c.args.levels in
+    let xs = items c.args.pieces.now in
+    let is : within n c.args.context xs ≡ parts Text xs = elim c.then-levels-eq0.branch [
+      | with_context-then-levels-eq0-via-then-levels-eq0 w ↦ none_within n c.args.context xs (omega (arith, w.if-levels-eq0.true))
+      | with_context-then-levels-eq0-via-else-levels-eq0+then-are_inert w ↦ inert_within n c.args.context xs (w.are_inert.ensures w.if-are_inert.true)
+    ] in
+    IfOk-weaker c.with_line.result _ _ (λ d a. subst (λ (ps : List Part). Grows (growth c.args.children) ps (growth d)) (sym is) a) c.with_line.ensures
 
 pub with_context-returns : goal.with_context-returns
 with_context-returns t c =

@@ -11,8 +11,8 @@ use Rattle.wt_kept.proofs.block.+gathering.Goals as goal
 pub gather_delimited-returns : goal.gather_delimited-returns
 gather_delimited-returns t c =
     delimited_node c.args.node.now c.args.out.now c.gather_texts.new.out c.gather_all.new.out c.gather_texts-2.new.out c.requires
-    (rw c.as_slice.ensures at c.in_ok-gather_texts.ensures) (rw c.as_slice-2.ensures at c.in_ok-gather_all.ensures)
-    (rw c.as_slice-3.ensures at c.in_ok-gather_texts-2.ensures)
+    (rw c.opening.ensures at c.in_ok-gather_texts.ensures) (rw c.as_slice.ensures at c.in_ok-gather_all.ensures)
+    (rw c.closing.ensures at c.in_ok-gather_texts-2.ensures)
 
 pub gather_numbered-returns : goal.gather_numbered-returns
 gather_numbered-returns t c =

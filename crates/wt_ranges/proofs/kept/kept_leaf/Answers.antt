@@ -1,4 +1,5 @@
 use Rattle.std.proofs.Common.{ap, ◌∙◌, arith}
+use Rattle.std.proofs.lemmas.Result.{IfOk-weaker}
 use Rattle.std.specs.Prelude.{length}
 use Rattle.wt_span.specs.Items.{items}
 use Rattle.wt_tree.specs.View.{view}
@@ -33,8 +34,10 @@ returns c =
     let calls = outer_calls c.args.calls.now in
     let o = c.args.child.before in
     let all = own_held c.args.child.tree c.in_ok-held.held c.in_ok-held.ensures in
-    leaf_kept calls c.args.child (view c.unnumbered_node.result) c.leaf_sources-sources.result c.in_ok-own.own c.in_ok-held.held c.as_slice-2.result.now c.new.result
-    c.leaf_ranges-ranges.result c.page_width-width.result c.requires.leaf c.unnumbered_node.ensures c.leaf_sources-sources.ensures c.new.ensures
+    IfOk-weaker c.unnumbered_node.result _ _
+    (λ n e. leaf_kept calls c.args.child (view n) c.leaf_sources.result c.in_ok-own.own c.in_ok-held.held c.as_slice-2.result.now c.new.result
+    c.leaf_ranges-ranges.result c.page_width-width.result c.requires.leaf e c.leaf_sources.ensures c.new.ensures
     c.in_ok-own.ensures (ap items c.as_slice-2.ensures) all
     (c.page_width-width.ensures ∙ ap (λ ps. length (text_from calls o (items ps))) c.as_slice.ensures ∙ ap (λ xs. length (text_from calls o xs)) all)
-    c.leaf_ranges-ranges.ensures
+    c.leaf_ranges-ranges.ensures)
+    c.unnumbered_node.ensures

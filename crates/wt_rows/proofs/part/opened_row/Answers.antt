@@ -6,15 +6,14 @@ use Rattle.wt_span.specs.declared.form.Piece.{Piece}
 use Rattle.wt_span.specs.Items.{Item, items}
 use Rattle.wt_span.specs.Origins.{IsSoundPiece}
 use Rattle.wt_inline.specs.Grown.{growth}
-use Rattle.wt_tree.specs.View.{attrs_of}
+use Rattle.wt_inline.specs.View.{head_of}
 use Rattle.wt_tree.specs.declared.kind.Kind.TheVariants as kind
 use Rattle.wt_tables.specs.Cells.{row_attributes}
-use Rattle.wt_body.specs.Tables.{first_items}
-use Rattle.wt_rows.specs.Views.{rows_view}
+use Rattle.wt_body.specs.Tables.{with_attrs}
 use Rattle.std.proofs.lemmas.Result.{IfOk-weaker}
 use Rattle.wt_body.specs.Rows.{signs}
 use Rattle.wt_rows.proofs.Straying.{ready_front, ready_rest}
-use Rattle.wt_rows.proofs.OpenedParts.{first_of, is_delimiter, head_with, head_is, opened_row_is}
+use Rattle.wt_rows.proofs.OpenedParts.{first_of, is_delimiter, opened_row_is}
 use Rattle.wt_rows.proofs.part.opened_row.Goals as goal
 
 pub joined_row-delimiter-requires : goal.joined_row-delimiter-requires
@@ -41,10 +40,9 @@ returns c =
     let is = is_delimiter ps rows c.front_of.result.now c.rest_of.result.now d c.stray_len-n.result c.stray_len-n.ensures.value c.front_of.ensures
     c.rest_of.ensures
     c.joined_row-delimiter.ensures in
-    let head = head_is kind.Tr c.new.result (attrs_of c.in_ok-attrs.attrs) (row_attributes (first_items (rows_view ps rows))) c.new.ensures
-    (c.in_ok-attrs.ensures ∙ ap row_attributes first) in
+    let head = c.in_ok-head.ensures ∙ ap (with_attrs kind.Tr) (c.in_ok-attrs.ensures ∙ ap row_attributes first) in
     IfOk-weaker c.before-2.result _ _ (λ l e.
-    opened_row_is ps rows c.rest_of.result.now d (head_with kind.Tr c.new.result (attrs_of c.in_ok-attrs.attrs)) (items c.from_vec-opening.result)
-    (growth c.new-2.result)
+    opened_row_is ps rows c.rest_of.result.now d (head_of c.in_ok-head.head) (items c.from_vec-opening.result)
+    (growth c.new.result)
     c.in_ok-after.after c.in_ok-node.node l c.args.cells c.requires.some is c.in_ok-after.ensures head
-    (ap items (c.from_vec-opening.ensures ∙ c.in_ok-own.ensures.items ∙ c.between-2.ensures)) c.new-2.ensures c.in_ok-node.ensures e) c.before-2.ensures
+    (ap items (c.from_vec-opening.ensures ∙ c.in_ok-own.ensures.items ∙ c.between-2.ensures)) c.new.ensures c.in_ok-node.ensures e) c.before-2.ensures

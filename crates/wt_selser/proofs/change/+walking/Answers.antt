@@ -6,18 +6,19 @@ use Rattle.wt_selser.specs.Changes.{insides}
 use Rattle.wt_selser.specs.Views.{changes_view}
 use Rattle.wt_selser.proofs.Pushing.{next_pushed, all_pushed}
 use Rattle.wt_selser.proofs.Splicing.{content_pushed, held_pushed, insides_views}
+use Rattle.wt_checks.specs.Places.{is_content}
 use Rattle.wt_selser.proofs.change.+walking.Goals as goal
 
 pub push_insides-returns-then-is_content : goal.push_insides-returns-then-is_content
 push_insides-returns-then-is_content t c = λ same tells.
     content_pushed same (indexed c.args.index.now) c.args.node.now (changes_view c.args.found.now.items) (changes_view c.push_inside_of.new.found.items)
-    c.is_content.result (option_map seen c.original.result) c.is_content.ensures c.if-is_content.true c.original.ensures
+    c.is_content.result (option_map seen c.original.result) (c.is_content.ensures ∙ ap is_content c.mark.ensures) c.if-is_content.true c.original.ensures
     (c.in_ok-push_inside_of.ensures same tells)
 
 pub push_insides-returns : goal.push_insides-returns
 push_insides-returns t c = λ same tells.
     held_pushed same (indexed c.args.index.now) c.args.node.now c.as_slice.result.now (changes_view c.args.found.now.items)
-    (changes_view c.push_all_insides.new.found.items) c.is_content.result c.is_content.ensures c.if-is_content.false c.as_slice.ensures
+    (changes_view c.push_all_insides.new.found.items) c.is_content.result (c.is_content.ensures ∙ ap is_content c.mark.ensures) c.if-is_content.false c.as_slice.ensures
     (c.in_ok-push_all_insides.ensures same tells)
 
 pub push_all_insides-loop-node-preserved : goal.push_all_insides-loop-node-preserved

@@ -9,8 +9,8 @@ use Rattle.wt_shown.proofs.children.+restoring.Goals as goal
 
 pub push_restored-returns-in_ok-push_text-in-Characters : goal.push_restored-returns-in_ok-push_text-in-Characters
 push_restored-returns-in_ok-push_text-in-Characters t c =
-    restored_characters (indexed c.args.page.now) c.args.shown.now c.push_text.new.shown c.args.node.now c.as_str.result.now
-    (sym c.showing.ensures ∙ c.in-Characters.is) c.as_str.ensures c.in_ok-push_text-in-Characters.ensures
+    restored_characters (indexed c.args.page.now) c.args.shown.now c.push_text.new.shown c.args.node.now c.shown.result.now
+    (sym c.showing.ensures ∙ c.in-Characters.is) c.shown.ensures c.in_ok-push_text-in-Characters.ensures
 
 pub push_restored-returns-then-group : goal.push_restored-returns-then-group
 push_restored-returns-then-group t c =

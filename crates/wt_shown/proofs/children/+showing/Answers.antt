@@ -6,8 +6,8 @@ use Rattle.wt_shown.proofs.children.+showing.Goals as goal
 
 pub push_shown-returns-in_ok-push_text-in-Characters : goal.push_shown-returns-in_ok-push_text-in-Characters
 push_shown-returns-in_ok-push_text-in-Characters t c =
-    adds_characters c.args.shown.now c.push_text.new.shown c.args.node.now c.as_str.result.now (sym c.showing.ensures ∙ c.in-Characters.is)
-    c.as_str.ensures c.in_ok-push_text-in-Characters.ensures
+    adds_characters c.args.shown.now c.push_text.new.shown c.args.node.now c.shown.result.now (sym c.showing.ensures ∙ c.in-Characters.is)
+    c.shown.ensures c.in_ok-push_text-in-Characters.ensures
 
 pub push_shown-returns-in_ok-push_all_shown-in-Inside : goal.push_shown-returns-in_ok-push_all_shown-in-Inside
 push_shown-returns-in_ok-push_all_shown-in-Inside t c =

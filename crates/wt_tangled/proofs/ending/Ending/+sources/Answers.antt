@@ -8,8 +8,8 @@ use Rattle.wt_tangled.proofs.ending.Ending.+sources.Goals as goal
 
 pub behind_node-returns : goal.behind_node-returns
 behind_node-returns t c = λ text at.
-    let opened = text ++ texts_of c.as_slice-2.result.now in
-    let filled = opened ++ flat_map (λ m. flat (view m)) c.as_slice-3.result.now in
+    let opened = text ++ texts_of c.opening.result.now in
+    let filled = opened ++ flat_map (λ m. flat (view m)) c.as_slice.result.now in
     c.behind_texts-2.ensures filled (c.behind_nodes-filled.ensures opened (c.behind_texts-opened.ensures text at))
-    ∙ ap ending_of (source_behind text c.args.node.now c.as_slice-2.result.now c.as_slice-4.result.now c.as_slice-3.result.now c.as_slice-2.ensures
-    c.as_slice-3.ensures c.as_slice-4.ensures (sym c.is_leaf.ensures ∙ c.if-is_leaf.false))
+    ∙ ap ending_of (source_behind text c.args.node.now c.opening.result.now c.closing.result.now c.as_slice.result.now c.opening.ensures
+    c.as_slice.ensures c.closing.ensures (sym c.is_leaf.ensures ∙ c.if-is_leaf.false))

@@ -1,0 +1,35 @@
+//! What the kinds of blocks are to their neighbours, by the table of kinds.
+
+use wt_tree::{Class, Kind};
+
+/// Whether it is a list.
+pub fn is_list(kind: Kind) -> bool {
+    matches!(kind.shape().class, Class::List)
+}
+
+/// Whether it is an item of a list.
+pub fn is_item(kind: Kind) -> bool {
+    matches!(kind.shape().class, Class::Item | Class::Term)
+}
+
+/// Whether it is a cell of a row.
+pub fn is_cell(kind: Kind) -> bool {
+    matches!(kind.shape().class, Class::Cell)
+}
+
+/// Whether it stands in a list or a table alone.
+pub fn is_part(kind: Kind) -> bool {
+    matches!(
+        kind.shape().class,
+        Class::Item | Class::Term | Class::TablePart | Class::TableRow | Class::Cell
+    )
+}
+
+/// Whether a block is told by the signs at its line's start or end.
+pub fn is_lined(kind: Kind) -> bool {
+    match kind.shape().class {
+        Class::Block => !matches!(kind, Kind::Para | Kind::Pre),
+        Class::List => true,
+        _ => is_part(kind),
+    }
+}
