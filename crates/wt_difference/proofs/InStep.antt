@@ -44,10 +44,10 @@ neither_compared a b e f = by_tokens a b [] [] (no_tokens a e) (no_tokens b f) r
 
 pub both_texts : (a b : Node) → is_compared (showing (out-Node a).kind) ≡ true → is_compared (showing (out-Node b).kind) ≡ true
     → is_text (writing (out-Node a).kind) ≡ true → is_text (writing (out-Node b).kind) ≡ true
-    → bytes_eq (out-Node a).shown (out-Node b).shown ≡ true → same_tokens (tokens (view a)) (tokens (view b)) ≡ true
+    → bytes_eq (out-Node a).source.shown (out-Node b).source.shown ≡ true → same_tokens (tokens (view a)) (tokens (view b)) ≡ true
 both_texts a b ca cb ta tb e =
-    by_tokens a b (characters (out-Node a).shown ∷ []) (characters (out-Node b).shown ∷ []) (text_tokens a ca ta) (text_tokens b cb tb)
-    (both (bytes_eq (out-Node a).shown (out-Node b).shown) true e refl)
+    by_tokens a b (characters (out-Node a).source.shown ∷ []) (characters (out-Node b).source.shown ∷ []) (text_tokens a ca ta) (text_tokens b cb tb)
+    (both (bytes_eq (out-Node a).source.shown (out-Node b).source.shown) true e refl)
 
 pub both_groups : (a b : Node) → is_compared (showing (out-Node a).kind) ≡ true → is_compared (showing (out-Node b).kind) ≡ true
     → is_text (writing (out-Node a).kind) ≡ false → is_text (writing (out-Node b).kind) ≡ false

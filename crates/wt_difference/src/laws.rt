@@ -22,8 +22,8 @@ pub fn nothing_differs()
         → IsOneBody edited → IsUnedited (without_sections page) edited → difference page edited ≡ [] }
 {}
 
-/// The remarked tree is the edited one but for its marks, no mark of it stands on a group or inside one, and it
-/// has none exactly where nothing differs.
+/// The remarked tree is the edited one but for its marks, no mark of it stands on a group or inside one, and
+/// it has none exactly where nothing differs.
 pub fn marks_alone()
     ensures same { (page edited : Tree) → unmarked (remarked page edited) ≡ unmarked edited }
     ensures groups { (page edited : Tree) → is_body (label edited).kind ≡ true

@@ -38,7 +38,7 @@ fn is_marked(mark: Mark) -> bool
 pub fn has_mark(node: &Node<'_>) -> bool
     ensures { result ≡ has_mark (view node.now) }
 {
-    is_marked(node.mark) || have_mark(node.children.as_slice())
+    is_marked(node.mark()) || have_mark(node.children.as_slice())
 }
 
 #[cycle(marked)]

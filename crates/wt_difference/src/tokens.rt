@@ -203,7 +203,7 @@ fn same_in_step(old: &Node<'_>, new: &Node<'_>) -> bool
     if is_text(old.kind) || is_text(new.kind) {
         return is_text(old.kind)
             && is_text(new.kind)
-            && same_text(old.shown.as_str(), new.shown.as_str());
+            && same_text(old.shown(), new.shown());
     }
     if is_group(old.kind) || is_group(new.kind) {
         return is_group(old.kind) && is_group(new.kind) && same_label(old, new);
@@ -211,8 +211,8 @@ fn same_in_step(old: &Node<'_>, new: &Node<'_>) -> bool
     same_label(old, new) && all_same_in_step(old.children.as_slice(), new.children.as_slice())
 }
 
-/// Whether two lists of as many nodes are told to be the same one by one. Most of a page wasn't changed, and is
-/// told so here.
+/// Whether two lists of as many nodes are told to be the same one by one. Most of a page wasn't changed,
+/// and is told so here.
 #[cycle(in_step)]
 fn all_same_in_step(old: &[Node<'_>], new: &[Node<'_>]) -> bool
     ensures { result ≡ true → same_tokens (all_tokens (views old.now)) (all_tokens (views new.now)) ≡ true }

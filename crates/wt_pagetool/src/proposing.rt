@@ -14,7 +14,7 @@ ghost use Rattle.wt_tree.specs.declared.kind.Kind.TheVariants as kind;
 ghost use Rattle.wt_selser.specs.Edits.{edit_answer, AnswersEdit};
 ghost use Rattle.wt_shown.specs.SameNodes.{same_node};
 ghost use Rattle.wt_pagetool.specs.Causes.{IsKept, IsOfEdit, IsOfFolder};
-ghost use Rattle.wt_pagetool.specs.Selser.{FindsNew};
+ghost use Rattle.wt_pagetool.specs.Selser.{FindsNew, FirstFails};
 ghost use Rattle.wt_pagetool.specs.Tried.{last_refusal, refusal_of_fault, HoldsTried, KnowsOf, MarkedAs, TriedFirst, TriedMarks, TriedPage, TriedProposal};
 
 use crate::known_page::KnownPage;
@@ -49,7 +49,8 @@ fn refusal_of(fault: Fault) -> Refusal
     }
 }
 
-/// Why an edit is refused whose marks `edit` refuses: what the content can't be, or else the fault of the first new page.
+/// Why an edit is refused whose marks `edit` refuses: what the content can't be, or else the fault of the first
+/// new page.
 fn last_refusal(refusal: EditRefusal, fault: Fault) -> Refusal
     ensures { result ≡ last_refusal refusal fault }
 {
@@ -218,6 +219,7 @@ fn page_of_edit<'a, F: Folder>(
     requires known { HoldsPages expansion }
     requires edited { edit_answer same_node edit.now.items.now edit.now.page.now (view edit.now.tree.now) (view edit.now.edited.now) ≡ Ok new }
     ensures found { (pages : Pages) → F.pages folder.old ≡ Some pages → KnowsOf pages expansion.entry
+        → FirstFails pages edit.now.page.now (view edit.now.tree.now) (view edit.now.edited.now) (refusal_of_fault fault)
         → FindsNew pages edit.now.items.now edit.now.page.now (view edit.now.tree.now)
         (view edit.now.edited.now) false result }
     ensures asks { Asks (F.answered folder.old) (F.answered folder.new) (F.most_asked folder.old)
@@ -248,6 +250,7 @@ fn page_of_refused<'a, F: Folder>(
     requires known { HoldsPages expansion }
     requires edited { AnswersEdit (edit_answer same_node edit.now.items.now edit.now.page.now (view edit.now.tree.now) (view edit.now.edited.now)) (Err refusal) }
     ensures found { (pages : Pages) → F.pages folder.old ≡ Some pages → KnowsOf pages expansion.entry
+        → FirstFails pages edit.now.page.now (view edit.now.tree.now) (view edit.now.edited.now) (refusal_of_fault fault)
         → FindsNew pages edit.now.items.now edit.now.page.now (view edit.now.tree.now)
         (view edit.now.edited.now) false result }
     ensures asks { Asks (F.answered folder.old) (F.answered folder.new) (F.most_asked folder.old)
@@ -277,6 +280,7 @@ fn last_page<'a, F: Folder>(
     requires index { indexed edit.now.index.now ≡ page_of (view edit.now.tree.now) }
     requires known { HoldsPages expansion }
     ensures found { (pages : Pages) → F.pages folder.old ≡ Some pages → KnowsOf pages expansion.entry
+        → FirstFails pages edit.now.page.now (view edit.now.tree.now) (view edit.now.edited.now) (refusal_of_fault fault)
         → FindsNew pages edit.now.items.now edit.now.page.now (view edit.now.tree.now)
         (view edit.now.edited.now) false result }
     ensures asks { Asks (F.answered folder.old) (F.answered folder.new) (F.most_asked folder.old)
@@ -306,6 +310,7 @@ fn page_but_in<'a, F: Folder>(
     requires index { indexed edit.now.index.now ≡ page_of (view edit.now.tree.now) }
     requires known { HoldsPages expansion }
     ensures found { (pages : Pages) → F.pages folder.old ≡ Some pages → KnowsOf pages expansion.entry
+        → FirstFails pages edit.now.page.now (view edit.now.tree.now) (view edit.now.edited.now) (refusal_of_fault (Fault.Block block))
         → FindsNew pages edit.now.items.now edit.now.page.now (view edit.now.tree.now)
         (view edit.now.edited.now) false result }
     ensures asks { Asks (F.answered folder.old) (F.answered folder.new) (F.most_asked folder.old)
@@ -336,6 +341,7 @@ fn other_page<'a, F: Folder>(
     requires index { indexed edit.now.index.now ≡ page_of (view edit.now.tree.now) }
     requires known { HoldsPages expansion }
     ensures found { (pages : Pages) → F.pages folder.old ≡ Some pages → KnowsOf pages expansion.entry
+        → FirstFails pages edit.now.page.now (view edit.now.tree.now) (view edit.now.edited.now) (refusal_of_fault fault)
         → FindsNew pages edit.now.items.now edit.now.page.now (view edit.now.tree.now)
         (view edit.now.edited.now) false result }
     ensures asks { Asks (F.answered folder.old) (F.answered folder.new) (F.most_asked folder.old)

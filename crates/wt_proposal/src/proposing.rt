@@ -344,9 +344,9 @@ fn changes_of<'t, 'a>(
     Ok(out)
 }
 
-/// A new page for an edited one: the page written anew in the places in which the edited tree differs from its
-/// tree, and nowhere else. Whether it reads as it was edited isn't said. None where no new page was found. `index` are
-/// the body and the nodes of the page with numbers (`numbered_nodes`).
+/// A new page for an edited one: the page written anew in the places in which the edited tree differs from
+/// its tree, and nowhere else. Whether it reads as it was edited isn't said. None where no new page was found.
+/// `index` are the body and the nodes of the page with numbers (`numbered_nodes`).
 pub fn proposal<'t, 'a>(
     alloc: Global,
     page: &'t str,

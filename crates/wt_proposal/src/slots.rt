@@ -112,11 +112,11 @@ fn source_len(node: &Node<'_>) -> Result<usize, NoMemory>
     ensures { IfOk result (λ n. n ≡ length (flat (view node.now))) }
 {
     if node.kind.is_leaf() {
-        return texts_len(node.own.as_slice());
+        return texts_len(node.own());
     }
-    let open = texts_len(node.opening.as_slice())?;
+    let open = texts_len(node.opening())?;
     let inside = sources_len(node.children.as_slice())?;
-    let close = texts_len(node.closing.as_slice())?;
+    let close = texts_len(node.closing())?;
     sum_of(sum_of(open, inside)?, close)
 }
 

@@ -10,3 +10,11 @@ returns-then-keeps c = (
   subst (λ (n : Node). KeepsMarks (view n) (view c.args.edit.now.tree.now) (view c.args.edit.now.edited.now)) c.body.ensures.body
       (c.in_ok-keeps.ensures.0 c.if-keeps.true),
 )
+
+pub returns : goal.returns
+returns c = (
+  refl,
+  refl,
+  subst (λ (n : Node). ¬ KeepsMarks (view n) (view c.args.edit.now.tree.now) (view c.args.edit.now.edited.now)) c.body.ensures.body
+      (c.in_ok-keeps.ensures.1 c.if-keeps.false),
+)
