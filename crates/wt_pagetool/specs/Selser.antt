@@ -27,6 +27,7 @@ use Rattle.wt_pagetool.specs.Causes.{Answered}
 use Rattle.wt_pagetool.specs.Devices.{SinkUse, Took}
 use Rattle.wt_pagetool.specs.Outputs.{output_bytes}
 use Rattle.wt_pagetool.specs.Refusals.{line_of, status_of}
+use Rattle.wt_pagetool.specs.Statuses.{code}
 
 -- ---- a new page
 
@@ -215,8 +216,9 @@ abbrev pub RefusesSelser : Answer → Type 0 → Refusal → Type 0
 RefusesSelser (refused before) none r = before ≡ r
 RefusesSelser (done page) none r = none
 
--- the line of such a refusal was written
-pub record RefusedSelser (pages : Pages) (stands : Option (List ℕ)) (input : List ℕ) (err : SinkUse) : Type 0 where
+-- the line of such a refusal was written, and the call ended with its status
+pub record RefusedSelser (pages : Pages) (stands : Option (List ℕ)) (input : List ℕ) (ended : ℕ) (err : SinkUse) : Type 0 where
   pub refusal : Refusal
   pub cause : RefusesSelser (taken_of pages stands input) (NoneUnder pages stands (read input) refusal) refusal
+  pub named : ended ≡ code (status_of refusal)
   pub line : Took err (line_of refusal)

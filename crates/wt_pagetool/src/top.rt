@@ -191,13 +191,15 @@ pub fn run<S: Source, F: Folder, W: Sink, E: Sink>(
         (λ bytes. DoneByEdit pages (pages title) bytes
         → (result ≡ code Status.Done) ⊎ IsFaultOrNoMemory result)) }
 
-    // Where `selser` is refused as an edit, `err` took the line of a refusal that has its cause: that of the
-    // nodes of the edited tree; or else that of its content or of a new page, and `edit` refuses the input
-    // with the marks of the difference, too.
+    // Where `selser` is refused for what it was given, the call ends with the status of a refusal that has its
+    // cause, and `err` took its line: that of what stands under the title, of the input, of the page's expansion
+    // or of the nodes of the edited tree; or else `edit` refuses the input with the marks of the difference, too,
+    // or its new page, and the refusal is what `edit` says of the content or of its new page's length, or what
+    // the first new page that was tried, by its definition, is refused for.
     ensures selser_refused { (title : List ℕ) → command_of words.now ≡ Some (Command.Selser title)
-        → result ≡ code Status.EditRefused
+        → IsDoneOrRefused result → result ≢ code Status.Done
         → IfSome (F.pages folder.old) (λ pages. IfSome (S.left input.old)
-        (λ bytes. RefusedSelser pages (pages title) bytes (written_to E.Sink err.old err.new))) }
+        (λ bytes. RefusedSelser pages (pages title) bytes result (written_to E.Sink err.old err.new))) }
 
     // The call ends with the status of the answer to the words over the folder's pages and the input; or
     // with that of a device's fault or of want of memory.

@@ -55,10 +55,10 @@ returns-clause-selser_as_edit g c title is =
     (written_to g.E.Sink c.args.err.now c.report.new.err) c.code.ensures (c.find_answer-found.ensures.found title is) c.report.ensures
 
 pub returns-clause-selser_refused : goal.returns-clause-selser_refused
-returns-clause-selser_refused g c title is e =
+returns-clause-selser_refused g c title is e n =
     run_selser_refused (g.F.Folder.pages c.args.folder.now) (g.S.Source.left c.args.input.now) title
     c.find_answer-found.result c.report.result c.code.result (written_to g.W.Sink c.args.out.now c.report.new.out)
-    (written_to g.E.Sink c.args.err.now c.report.new.err) c.code.ensures (c.find_answer-found.ensures.found title is) c.report.ensures e
+    (written_to g.E.Sink c.args.err.now c.report.new.err) c.code.ensures (c.find_answer-found.ensures.found title is) c.report.ensures e n
 
 pub returns-clause-selser_changes_nothing : goal.returns-clause-selser_changes_nothing
 returns-clause-selser_changes_nothing g c title is =
