@@ -201,9 +201,7 @@ fn same_in_step(old: &Node<'_>, new: &Node<'_>) -> bool
         return !is_compared(old.kind) && !is_compared(new.kind);
     }
     if is_text(old.kind) || is_text(new.kind) {
-        return is_text(old.kind)
-            && is_text(new.kind)
-            && same_text(old.shown(), new.shown());
+        return is_text(old.kind) && is_text(new.kind) && same_text(old.shown(), new.shown());
     }
     if is_group(old.kind) || is_group(new.kind) {
         return is_group(old.kind) && is_group(new.kind) && same_label(old, new);
