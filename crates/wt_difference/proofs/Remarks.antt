@@ -19,7 +19,7 @@ use Rattle.wt_checks.proofs.NodesUnmarked.{no_mark_off}
 use Rattle.wt_checks.proofs.Repeated.{or_false}
 use Rattle.wt_difference.specs.Difference.{Inside, Children, Changed, are_none, changed, differing, all_differing, difference, is_stable, same_children, same_inside, stays_in, unless}
 use Rattle.wt_difference.specs.Insides.{is_block_part}
-use Rattle.wt_difference.specs.Remarked.{are_left, mark_between, mark_of, remarked_in, all_remarked, remarked_child, remarked}
+use Rattle.wt_difference.specs.Remarked.{are_left, mark_of, remarked_in, all_remarked, remarked_child, remarked}
 use Rattle.wt_difference.proofs.HeldChildren.{appended_none, appended_twice}
 
 views_push : (ns : List Node) (n : Node) → views (ns ++ n ∷ []) ≡ appended (views ns) (more (view n) none)

@@ -1,6 +1,6 @@
 -- `selser`: from a new page that is read back to what is found.
 use Rattle.std.proofs.Common.{◌≡◌, ℕ, List, Bool, true, false, refl, sym, ap, ◌∙◌, subst, inl, inr}
-use Rattle.std.specs.Prelude.{◌⊎◌, ◌≢◌, Option, Some, None, IfErr, IfOk, Result, Ok, Err}
+use Rattle.std.specs.Prelude.{◌≢◌, Option, Some, None, IfErr, IfOk, Result, Ok, Err}
 use Rattle.wt_expand.specs.Work.{Pages}
 use Rattle.wt_expansion.specs.Known.{HoldsPages}
 use Rattle.wt_levels.specs.declared.expansion.Expansion.{Expansion}

@@ -1,5 +1,5 @@
 -- What `run` says of `selser`: from what was found and what was reported.
-use Rattle.std.proofs.Common.{◌≡◌, ℕ, ◌≤◌, List, length, Bool, true, false, refl, sym, ap, ◌∙◌, subst, inl, inr}
+use Rattle.std.proofs.Common.{◌≡◌, ℕ, ◌≤◌, List, length, Bool, false, refl, sym, ap, ◌∙◌, subst, inl, inr}
 use Rattle.std.specs.Prelude.{◌⊎◌, ◌≢◌, Option, Some, None, IfSome, IfErr, OnOk, Result, Ok, Err}
 use Rattle.std.specs.Io.KnownBytes.{Appends, IsAtEnd}
 use Rattle.wt_checks.specs.Checked.{checked, nodes_checked}
@@ -25,15 +25,14 @@ use Rattle.wt_pagetool.specs.declared.output.Output.{Output}
 use Rattle.wt_pagetool.specs.declared.refusal.Refusal.{Refusal}
 use Rattle.wt_pagetool.specs.declared.status.Status.{Status}
 use Rattle.wt_pagetool.specs.declared.status.Status.TheVariants as status
-use Rattle.wt_pagetool.specs.Answers.{Answer, done, refused, answer_of_edit, edit_by, edit_from, edit_to, expanded_by, input_answer, new_answer, new_expanded, nodes_answer, refusal_of_page, remarked_of, taken_answer, taken_from, taken_of, taken_to, title_answer, unspelled_answer, IsText, IsUnrefused}
-use Rattle.wt_pagetool.specs.Asked.{names_told}
-use Rattle.wt_pagetool.specs.Causes.{Answered, RefusesAs}
+use Rattle.wt_pagetool.specs.Answers.{Answer, done, refused, answer_of_edit, edit_by, edit_from, expanded_by, input_answer, new_expanded, nodes_answer, refusal_of_page, remarked_of, taken_answer, taken_from, taken_of, taken_to, title_answer, unspelled_answer, IsText, IsUnrefused}
+use Rattle.wt_pagetool.specs.Causes.{RefusesAs}
 use Rattle.wt_pagetool.specs.Calls.{IsDue}
 use Rattle.wt_pagetool.specs.Devices.{SourceUse, FolderUse, SinkUse}
 use Rattle.wt_pagetool.specs.Outputs.{output_bytes}
 use Rattle.wt_pagetool.specs.Refusals.{status_of}
 use Rattle.wt_pagetool.specs.Reports.{Reported, WroteSelser}
-use Rattle.wt_pagetool.specs.Selser.{AnswersSelser, DoneByEdit, EditIsDone, Finds, FindsFor, FindsNew, FindsNone, FindsUnder, IsNewPage, IsNoNewPage, NoneFor, NoneUnder, OrFound, PageMustDo, ReadsBack, RefusedSelser, RefusesSelser}
+use Rattle.wt_pagetool.specs.Selser.{AnswersSelser, DoneByEdit, EditIsDone, Finds, FindsFor, FindsNew, FindsNone, FindsUnder, IsNoNewPage, NoneFor, NoneUnder, OrFound, ReadsBack, RefusedSelser, RefusesSelser}
 use Rattle.wt_pagetool.specs.Statuses.{code, IsAnswer, IsDoneOrRefused, IsFaultOrNoMemory}
 use Rattle.wt_pagetool.specs.Words.{command_of, Reads}
 use Rattle.wt_pagetool.proofs.AnswerLaws.{input_done, input_within}

@@ -1,5 +1,5 @@
 -- What reading a new page back says, and what trying a proposal does.
-use Rattle.std.specs.Prelude.{◌≡◌, ⊤, ℕ, Bool, true, List, Option, Some, None}
+use Rattle.std.specs.Prelude.{◌≡◌, ⊤, ℕ, Bool, List, Option, Some, None}
 use Rattle.wt_checks.specs.Checked.{nodes_checked}
 use Rattle.wt_difference.specs.Difference.{are_none, difference}
 use Rattle.wt_difference.specs.Remarked.{remarked}
