@@ -1,8 +1,8 @@
--- Worked cases: comments and include tags that an edited tree still has.
-use Rattle.std.proofs.Common.{arith, ◌≡◌, ◌≤◌, ◌+◌, ℕ, Bool, true, false, List, [], ◌∷◌, ◌++◌, map, refl, codes, inl}
+-- Worked cases: comments, include tags, calls and islands that an edited tree still has.
+use Rattle.std.proofs.Common.{arith, ◌≡◌, ◌≤◌, ◌+◌, ℕ, Bool, true, false, List, [], ◌∷◌, ◌++◌, refl, codes, inl}
 use Rattle.std.specs.Prelude.{cond}
 use Rattle.std.specs.Str.{bytes_eq}
-use Rattle.wt_tree.specs.Tree.{Tree, tree, none}
+use Rattle.wt_tree.specs.Tree.{Tree, tree, none, more}
 use Rattle.wt_tree.specs.declared.kind.Kind.TheVariants as kind
 use Rattle.wt_checks.specs.Alike.{same_kind}
 use Rattle.wt_checks.specs.Places.{places, page_of}
@@ -63,9 +63,18 @@ line = refl
 at_least : (texts : List (List ℕ)) → StandAmong [] texts
 at_least texts = λ text. omega (arith)
 
+each_of : (texts : List (List ℕ)) → StandAmong texts texts
+each_of texts = λ text. omega (arith)
+
 kept : KeepsMarks page page edited
 unfolding same_kind
-kept = (at_least (map trimmed (sources kind.Comment (places page))), inl (refl, tt))
+kept = record {
+  comments = (at_least (codes "<!--x-->" ∷ []), each_of (codes "<!--x-->" ∷ []));
+  tags = (each_of (codes "<noinclude>" ∷ []), each_of (codes "<noinclude>" ∷ []));
+  calls = (each_of [], each_of []);
+  islands = (each_of [], each_of []);
+  order = inl (refl, tt);
+}
 
 -- the first comment is a line of its own in the page, and begins the new one; they change their order
 abbrev lines : Tree
@@ -85,7 +94,15 @@ either_order x y = λ text. by (bytes_eq x text) (bytes_eq y text)
 
 kept_lines : KeepsMarks exchanged lines lines
 unfolding same_kind
-kept_lines = (either_order (codes "<!--x-->") (codes "<!--y-->"), tt)
+kept_lines = record {
+  comments = (either_order (codes "<!--x-->") (codes "<!--y-->"), either_order (codes "<!--y-->") (codes "<!--x-->"));
+  tags = (each_of [], each_of []);
+  calls = (each_of [], each_of []);
+  islands = (each_of [], each_of []);
+  order = tt;
+}
+
+-- ---- what isn't
 
 -- a comment that stood twice stands once
 once_more : StandAmong (codes "x" ∷ codes "x" ∷ []) (codes "x" ∷ []) → ⊥
@@ -94,4 +111,27 @@ once_more h = let t : 2 ≤ 1 = h (codes "x") in omega (arith, t)
 -- a new page without the tag
 lost : KeepsMarks (body (node kind.Para 1 (words (codes "c") ∷ []) ∷ [])) page edited → ⊥
 unfolding same_kind
-lost h = h.1
+lost h = h.order
+
+-- the page `a{{t}}`, whose call shows `b`
+abbrev calls : Tree
+calls = body (node kind.Para 1 (words (codes "a") ∷ tree (record (blank kind.Group 2) { own = codes "{{t}}" }) (more (words (codes "b")) none) ∷ []) ∷ [])
+
+-- what the call shows stands in its place
+call_gone : KeepsMarks (body (node kind.Para 1 (words (codes "ab") ∷ []) ∷ [])) calls calls → ⊥
+unfolding same_kind
+call_gone h = let t : 1 ≤ 0 = h.calls.0 (codes "{{t}}") in omega (arith, t)
+
+-- another file
+abbrev file : List ℕ → Tree
+file bs = body (node kind.Para 1 (tree (record (blank kind.Island 2) { own = bs }) none ∷ []) ∷ [])
+
+file_changed : KeepsMarks (file (codes "[[File:b]]")) (file (codes "[[File:a]]")) (file (codes "[[File:a]]")) → ⊥
+unfolding same_kind
+file_changed h = let t : 1 ≤ 0 = h.islands.0 (codes "[[File:a]]") in omega (arith, t)
+
+-- a new comment
+comment_new : KeepsMarks (body (node kind.Para 1 (words (codes "c") ∷ comment 2 (codes "<!--y-->") ∷ []) ∷ [])) (body (node kind.Para 1 (words (codes "b") ∷ []) ∷ []))
+    (body (node kind.Para 1 (words (codes "c") ∷ []) ∷ [])) → ⊥
+unfolding same_kind
+comment_new h = let t : 1 ≤ 0 = h.comments.1 (codes "<!--y-->") in omega (arith, t)

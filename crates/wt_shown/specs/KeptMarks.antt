@@ -1,8 +1,8 @@
--- Comments and include tags show nothing, so no comparison of what is shown finds one that was lost. Those that
--- an edited tree still has stand in a new page, too.
+-- Comments and include tags show nothing, and of a call and an island (an extension, a file) a new page could show the same by other
+-- bytes; so no comparison of what is shown finds one that was lost, or another in its place. Those that an edited tree still has stand in
+-- a new page, too, and no others.
 use Rattle.std.specs.Prelude.{◌≡◌, ◌⊎◌, ◌&&◌, ℕ, Bool, Option, Some, None, List, [], ◌∷◌, map, if◌then◌else◌}
 use Rattle.std.specs.List.{flat_map}
-use Rattle.wt_tree.specs.Kinds.{is_mark}
 use Rattle.wt_tree.specs.Source.{flat}
 use Rattle.wt_tree.specs.Tree.{Tree}
 use Rattle.wt_tree.specs.declared.kind.Kind.{Kind}
@@ -14,10 +14,6 @@ use Rattle.wt_shown.specs.Tally.{trimmed, StandAmong}
 -- a node of a kind outside groups: in a group nothing has a number
 abbrev pub is_own : Kind → Place → Bool
 is_own k p = is_kept p && same_kind (kind_at p) k
-
--- a comment or an include tag outside groups
-abbrev pub is_own_mark : Place → Bool
-is_own_mark p = is_kept p && is_mark (kind_at p)
 
 -- the source of a node of a kind
 abbrev pub source_at : Kind → Place → List (List ℕ)
@@ -32,11 +28,11 @@ abbrev pub there : Kind → Option Place → List (List ℕ)
 there k None = []
 there k (Some q) = source_at k q
 
--- An edited mark is the page's mark of its number, with the page's source; a new one isn't counted.
+-- An edited node is the page's node of its number, with the page's source; a new one isn't counted.
 abbrev pub still_at : Kind → Page → Place → List (List ℕ)
-still_at k page p = if is_own_mark p then there k (page (number p)) else []
+still_at k page p = if is_own k p then there k (page (number p)) else []
 
--- the sources of the marks of a kind that an edited tree still has, in its order
+-- the sources of the nodes of a kind that an edited tree still has, in its order
 abbrev pub still : Kind → Page → List Place → List (List ℕ)
 still k page ps = flat_map (still_at k page) ps
 
@@ -46,17 +42,30 @@ IsWithin [] ys = Unit {0}
 IsWithin (x ∷ xs) [] = ⊥
 IsWithin (x ∷ xs) (y ∷ ys) = ((x ≡ y) × IsWithin xs ys) ⊎ IsWithin (x ∷ xs) ys
 
--- Each comment of the page that the edited tree still has stands in the new page as often as there, in whatever order. White space round
--- it doesn't count: a comment on a line of its own has a line break of its own, but for the one that begins a page.
-abbrev pub KeepsComments : Page → List Place → List Place → Type 0
-KeepsComments page edited new = StandAmong (map trimmed (still kind.Comment page edited)) (map trimmed (sources kind.Comment new))
+-- Those of a kind that the edited tree still has stand in the new page as often as there, in whatever order. White space round a source
+-- doesn't count: a comment on a line of its own has a line break of its own, but for the one that begins a page.
+abbrev pub Keeps : Kind → Page → List Place → List Place → Type 0
+Keeps k page edited new = StandAmong (map trimmed (still k page edited)) (map trimmed (sources k new))
 
--- The include tags of the page that the edited tree still has stand in the new page in the order of the edited tree: it says what the
--- page gives to others, and nothing that is shown tells two exchanged ones.
-abbrev pub KeepsTags : Page → List Place → List Place → Type 0
-KeepsTags page edited new = IsWithin (still kind.Include page edited) (sources kind.Include new)
+-- none of a kind stands in the new page more often than in the page
+abbrev pub HasNoMore : Kind → List Place → List Place → Type 0
+HasNoMore k old new = StandAmong (map trimmed (sources k new)) (map trimmed (sources k old))
 
--- the marks of the page that the edited tree still has stand in the new page
+abbrev pub KeepsKind : Kind → Page → List Place → List Place → List Place → Type 0
+KeepsKind k page old edited new = Keeps k page edited new × HasNoMore k old new
+
+-- The include tags that the edited tree still has stand in the new page in the order of the edited tree: it says what the page gives to
+-- others, and nothing that is shown tells two exchanged ones.
+abbrev pub KeepsOrder : Page → List Place → List Place → Type 0
+KeepsOrder page edited new = IsWithin (still kind.Include page edited) (sources kind.Include new)
+
+-- of a page by its numbers, its nodes, those of the edited tree, and those of the new page
+pub record KeepsEach (page : Page) (old edited new : List Place) : Type 0 where
+  pub comments : KeepsKind kind.Comment page old edited new
+  pub tags : KeepsKind kind.Include page old edited new
+  pub calls : KeepsKind kind.Group page old edited new
+  pub islands : KeepsKind kind.Island page old edited new
+  pub order : KeepsOrder page edited new
+
 abbrev pub KeepsMarks : Tree → Tree → Tree → Type 0
-KeepsMarks new page edited =
-    KeepsComments (page_of page) (places edited) (places new) × KeepsTags (page_of page) (places edited) (places new)
+KeepsMarks new page edited = KeepsEach (page_of page) (places page) (places edited) (places new)

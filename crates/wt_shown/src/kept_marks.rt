@@ -1,4 +1,5 @@
-//! Comments and include tags that an edited tree still has, looked for in a new page.
+//! Comments, include tags, calls and islands that an edited tree still has, looked for in a new page, in which no
+//! other may stand.
 
 ghost use Rattle.std.specs.Prelude.{◌≡◌, ◌≤◌, ◌↔◌, ◌∷◌, ◌++◌, ℕ, List, drop, length, map, option_map, IfOk, OnOk};
 ghost use Rattle.std.specs.Bool.{Decides};
@@ -7,7 +8,7 @@ ghost use Rattle.wt_tree.specs.Tiling.{InPreorder};
 ghost use Rattle.wt_tree.specs.Tree.{label};
 ghost use Rattle.wt_tree.specs.View.{view};
 ghost use Rattle.wt_checks.specs.View.{all_seen, indexed, seen};
-ghost use Rattle.wt_shown.specs.KeptMarks.{is_own, is_own_mark, source_at, sources, still, still_at, there, IsWithin, KeepsComments, KeepsMarks, KeepsTags};
+ghost use Rattle.wt_shown.specs.KeptMarks.{is_own, source_at, sources, still, still_at, there, HasNoMore, IsWithin, Keeps, KeepsEach, KeepsKind, KeepsMarks, KeepsOrder};
 ghost use Rattle.wt_shown.specs.Tally.{trimmed, StandAmong};
 
 use crate::tally::{Tally, trimmed};
@@ -15,13 +16,6 @@ use std::alloc::Global;
 use wt_checks::{Visit, numbered_nodes, original, preorder, same_kind};
 use wt_span::{NoMemory, Str};
 use wt_tree::{Kind, Node, flat};
-
-/// Whether a node is a comment or an include tag outside groups.
-fn is_own_mark(visit: Visit<'_, '_>) -> bool
-    ensures { result ≡ is_own_mark (seen visit.entry) }
-{
-    visit.node.id != 0 && visit.node.kind.is_mark()
-}
 
 /// Whether a node is of this kind and stands outside groups.
 fn is_own(kind: Kind, visit: Visit<'_, '_>) -> bool
@@ -47,7 +41,7 @@ fn push_source(
     Ok(())
 }
 
-/// Appends the source of the page's node that an edited mark is.
+/// Appends the source of the page's node of this kind that an edited one is.
 fn push_there(
     alloc: Global,
     out: &mut Vec<Str>,
@@ -74,7 +68,7 @@ fn push_still(
 ) -> Result<(), NoMemory>
     ensures { OnOk result (out.new.items ≡ out.old.items ++ still_at kind (indexed index.now) (seen visit.entry)) }
 {
-    if !is_own_mark(visit) {
+    if !is_own(kind, visit) {
         return Ok(());
     }
     push_there(alloc, out, kind, original(index, visit.node.id))?;
@@ -148,36 +142,100 @@ fn is_within(kept: &[Str], there: &[Str]) -> bool
     found == kept.len()
 }
 
-fn keeps_comments(
+fn keeps(
     alloc: Global,
+    kind: Kind,
     index: &[Visit<'_, '_>],
     edited: &[Visit<'_, '_>],
     new: &[Visit<'_, '_>],
 ) -> Result<bool, NoMemory>
-    ensures { IfOk result (λ kept. Decides kept (KeepsComments (indexed index.now) (all_seen edited.now) (all_seen new.now))) }
+    ensures { IfOk result (λ kept. Decides kept (Keeps kind (indexed index.now) (all_seen edited.now) (all_seen new.now))) }
 {
-    let kept = still(alloc, Kind::Comment, index, edited)?;
-    let there = sources(alloc, Kind::Comment, new)?;
+    let kept = still(alloc, kind, index, edited)?;
+    let there = sources(alloc, kind, new)?;
     let among = stand_among(alloc, kept.as_slice(), there.as_slice())?;
     Ok(among)
 }
 
-fn keeps_tags(
+fn has_no_more(
+    alloc: Global,
+    kind: Kind,
+    old: &[Visit<'_, '_>],
+    new: &[Visit<'_, '_>],
+) -> Result<bool, NoMemory>
+    ensures { IfOk result (λ none. Decides none (HasNoMore kind (all_seen old.now) (all_seen new.now))) }
+{
+    let there = sources(alloc, kind, new)?;
+    let were = sources(alloc, kind, old)?;
+    let among = stand_among(alloc, there.as_slice(), were.as_slice())?;
+    Ok(among)
+}
+
+/// Whether a new page has the nodes of this kind that the edited tree still has, and no others.
+fn keeps_kind(
+    alloc: Global,
+    kind: Kind,
+    index: &[Visit<'_, '_>],
+    old: &[Visit<'_, '_>],
+    edited: &[Visit<'_, '_>],
+    new: &[Visit<'_, '_>],
+) -> Result<bool, NoMemory>
+    ensures { IfOk result (λ kept. Decides kept (KeepsKind kind (indexed index.now) (all_seen old.now) (all_seen edited.now) (all_seen new.now))) }
+{
+    let kept = keeps(alloc, kind, index, edited, new)?;
+    if !kept {
+        return Ok(false);
+    }
+    let no_more = has_no_more(alloc, kind, old, new)?;
+    Ok(no_more)
+}
+
+fn keeps_order(
     alloc: Global,
     index: &[Visit<'_, '_>],
     edited: &[Visit<'_, '_>],
     new: &[Visit<'_, '_>],
 ) -> Result<bool, NoMemory>
-    ensures { IfOk result (λ kept. Decides kept (KeepsTags (indexed index.now) (all_seen edited.now) (all_seen new.now))) }
+    ensures { IfOk result (λ kept. Decides kept (KeepsOrder (indexed index.now) (all_seen edited.now) (all_seen new.now))) }
 {
     let kept = still(alloc, Kind::Include, index, edited)?;
     let there = sources(alloc, Kind::Include, new)?;
     Ok(is_within(kept.as_slice(), there.as_slice()))
 }
 
-/// Whether the comments and include tags of a page that an edited tree still has by their numbers stand in
-/// a new page, with the page's source: each comment as often as in the edited tree, without the white space
-/// round it, and the tags in its order.
+fn keeps_each(
+    alloc: Global,
+    index: &[Visit<'_, '_>],
+    old: &[Visit<'_, '_>],
+    edited: &[Visit<'_, '_>],
+    new: &[Visit<'_, '_>],
+) -> Result<bool, NoMemory>
+    ensures { IfOk result (λ kept. Decides kept (KeepsEach (indexed index.now) (all_seen old.now) (all_seen edited.now) (all_seen new.now))) }
+{
+    let comments = keeps_kind(alloc, Kind::Comment, index, old, edited, new)?;
+    if !comments {
+        return Ok(false);
+    }
+    let tags = keeps_kind(alloc, Kind::Include, index, old, edited, new)?;
+    if !tags {
+        return Ok(false);
+    }
+    let calls = keeps_kind(alloc, Kind::Group, index, old, edited, new)?;
+    if !calls {
+        return Ok(false);
+    }
+    let islands = keeps_kind(alloc, Kind::Island, index, old, edited, new)?;
+    if !islands {
+        return Ok(false);
+    }
+    let order = keeps_order(alloc, index, edited, new)?;
+    Ok(order)
+}
+
+/// Whether a new page keeps what an edited tree shows least of: the comments, include tags, calls and islands of
+/// the page that it still has by their numbers. Each stands in the new page with the page's source, without the
+/// white space round it, as often as in the edited tree, and the tags in its order; and none stands there more
+/// often than in the page.
 pub fn keeps_marks(
     alloc: Global,
     new: &Node<'_>,
@@ -189,12 +247,15 @@ pub fn keeps_marks(
     ensures { IfOk result (λ kept. Decides kept (KeepsMarks (view new.now) (view page.now) (view edited.now))) }
 {
     let index = numbered_nodes(alloc, page)?;
+    let old = preorder(alloc, page)?;
     let edited = preorder(alloc, edited)?;
     let new = preorder(alloc, new)?;
-    let comments = keeps_comments(alloc, index.as_slice(), edited.as_slice(), new.as_slice())?;
-    if !comments {
-        return Ok(false);
-    }
-    let tags = keeps_tags(alloc, index.as_slice(), edited.as_slice(), new.as_slice())?;
-    Ok(tags)
+    let kept = keeps_each(
+        alloc,
+        index.as_slice(),
+        old.as_slice(),
+        edited.as_slice(),
+        new.as_slice(),
+    )?;
+    Ok(kept)
 }

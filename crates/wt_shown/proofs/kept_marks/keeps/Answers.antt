@@ -1,7 +1,7 @@
 use Rattle.std.proofs.Common.{map, ◌∙◌}
 use Rattle.wt_shown.specs.Tally.{trimmed, StandAmong}
 use Rattle.wt_shown.proofs.Decided.{of_texts}
-use Rattle.wt_shown.proofs.kept_marks.keeps_comments.Goals as goal
+use Rattle.wt_shown.proofs.kept_marks.keeps.Goals as goal
 
 pub returns : goal.returns
 returns c =
