@@ -1,4 +1,4 @@
-use Rattle.std.proofs.Common.{refl, ap, sym, ◌∙◌}
+use Rattle.std.proofs.Common.{refl, ap, ◌∙◌}
 use Rattle.std.proofs.lemmas.Str.Ascii.{trim_ascii_is}
 use Rattle.wt_shown.specs.Tally.{trimmed, without_lead}
 use Rattle.wt_shown.proofs.tally.trimmed.Goals as goal
