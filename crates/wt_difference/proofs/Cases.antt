@@ -7,9 +7,7 @@ use Rattle.wt_tree.specs.declared.kind.Mark.{Mark}
 use Rattle.wt_tree.specs.declared.kind.Mark.TheVariants as marks
 use Rattle.wt_tree.specs.Tree.{Label, Tree, tree, none, trees, label}
 use Rattle.wt_checks.specs.Alike.{same_kind, same_data}
-use Rattle.wt_difference.specs.declared.region.Region.{Region}
-use Rattle.wt_difference.specs.declared.region.Region.TheVariants.{Inside, Children}
-use Rattle.wt_difference.specs.Difference.{Changed, difference}
+use Rattle.wt_difference.specs.Difference.{Region, Inside, Children, Changed, difference}
 use Rattle.wt_difference.specs.Remarked.{remarked}
 
 -- ---- trees

@@ -1,7 +1,7 @@
 -- What stands behind the inside, child by child.
-use Rattle.std.proofs.Common.{◌≡◌, ◌≤◌, ◌<◌, ℕ, ◌+◌, Bool, true, false, List, [], ◌∷◌, ◌++◌, length, drop, get_or, refl, sym, ap, ◌∙◌}
+use Rattle.std.proofs.Common.{arith, ◌≡◌, ◌≤◌, ◌<◌, ℕ, ◌+◌, ◌-◌, Bool, true, false, List, [], ◌∷◌, ◌++◌, length, take, drop, get_or, refl, sym, ap, ◌∙◌}
 use Rattle.std.specs.Prelude.{if◌then◌else◌}
-use Rattle.std.proofs.lemmas.List.{drop_more, drop_all}
+use Rattle.std.proofs.lemmas.List.{drop_more, drop_all, length-drop, take_all}
 use Rattle.wt_tree.specs.Kinds.{is_section}
 use Rattle.wt_tree.specs.Opened.{opened_before, all_opened_before, opened}
 use Rattle.wt_tree.specs.Recutting.{appended}
@@ -90,3 +90,20 @@ all_end cs ns i all ge h = sym (appended_none (child_views cs)) ∙ ap (λ zs. a
 -- what a node holds
 pub held_out : (n : Node) → held (view n) ≡ (if has_inside (out-Node n).kind then from_blocks (views (out-Node n).children) else opened (views (out-Node n).children))
 held_out n = rw (view_out n)
+
+-- all behind the inside
+pub held_behind : (n : Node) (b : Bool) (cs old : List Child) (ns : List Node) (k : ℕ) → b ≡ has_inside (out-Node n).kind → b ≡ true
+    → ns ≡ (out-Node n).children → old ≡ [] → views (drop k ns) ≡ from_blocks (views ns)
+    → child_views cs ≡ appended (child_views old) (views (take (length ns - k) (drop k ns))) → child_views cs ≡ held (view n)
+held_behind n b cs old ns k h t same new behind e =
+    let l = length-drop k ns in
+    e ∙ ap (λ ds. appended (child_views ds) (views (take (length ns - k) (drop k ns)))) new
+    ∙ ap views (take_all (length ns - k) (drop k ns) (omega (arith, l)))
+    ∙ behind ∙ ap (λ ms. from_blocks (views ms)) same ∙ sym (held_out n ∙ if_true (has_inside (out-Node n).kind) _ _ (sym h ∙ t))
+
+-- all of it, where there is no inside
+pub held_opened : (n : Node) (b : Bool) (cs old : List Child) (ns : List Node) → b ≡ has_inside (out-Node n).kind → b ≡ false
+    → ns ≡ (out-Node n).children → old ≡ [] → child_views cs ≡ appended (child_views old) (opened (views ns)) → child_views cs ≡ held (view n)
+held_opened n b cs old ns h f same new e =
+    e ∙ ap (λ ds. appended (child_views ds) (opened (views ns))) new
+    ∙ ap (λ ms. opened (views ms)) same ∙ sym (held_out n ∙ if_false (has_inside (out-Node n).kind) _ _ (sym h ∙ f))

@@ -1,6 +1,7 @@
 mod Cases
 pub mod Gathered
 pub mod HeldChildren
+pub mod InStep
 pub mod InsideEnd
 pub mod OneByOne
 pub mod Remarks

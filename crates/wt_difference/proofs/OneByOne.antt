@@ -1,17 +1,16 @@
--- The numbers of children, and the difference of a node and of what it holds, one after another.
-use Rattle.std.proofs.Common.{◌≡◌, ◌<◌, ℕ, ◌+◌, true, false, List, [], ◌∷◌, ◌++◌, length, drop, get_or, refl, sym, ap, ◌∙◌}
+-- The numbers of children, one after another.
+use Rattle.std.proofs.Common.{◌≡◌, ◌<◌, ℕ, ◌+◌, true, false, List, ◌∷◌, length, drop, get_or, sym, ap, ◌∙◌}
 use Rattle.std.specs.Prelude.{if◌then◌else◌}
-use Rattle.std.specs.List.{flat_map}
 use Rattle.std.proofs.lemmas.List.{at_drop_more}
 use Rattle.wt_tree.specs.Kinds.{showing}
-use Rattle.wt_tree.specs.View.{view, views}
+use Rattle.wt_tree.specs.View.{view}
 use Rattle.wt_tree.specs.declared.node.Node.{Node, out-Node}
 use Rattle.wt_tree.proofs.Views.{view_out}
 use Rattle.wt_checks.specs.Places.{Page}
 use Rattle.wt_checks.specs.Unmarked.{is_compared}
 use Rattle.wt_checks.proofs.Firsts.{if_true, if_false}
 use Rattle.wt_difference.specs.declared.insides.Child.{Child}
-use Rattle.wt_difference.specs.Difference.{changed, differing, all_differing, differing_child, numbers, numbers_in, stays_in}
+use Rattle.wt_difference.specs.Difference.{numbers, numbers_in, stays_in}
 use Rattle.wt_difference.specs.Views.{child_views}
 
 -- ---- numbers
@@ -57,16 +56,3 @@ numbers_in_past page holder cs i c lt is e =
     at_drop_more (λ ds. numbers_in page holder (child_views ds)) cs i c lt
     ∙ ap (λ d. numbers_in page holder (child_views (d ∷ drop (i + 1) cs))) (sym is)
     ∙ numbers_in_node page holder c (drop (i + 1) cs) ∙ if_false (is_compared (showing (out-Node c.node.now).kind)) _ _ e
-
--- ---- the difference
-
-pub differing_views : (page : Page) (holder : ℕ) (ns : List Node)
-    → all_differing page holder (views ns) ≡ flat_map (λ n. differing_child page holder (view n)) ns
-differing_views page holder [] = refl
-differing_views page holder (n ∷ ns) = ap (λ cs. differing_child page holder (view n) ++ cs) (differing_views page holder ns)
-
-pub differing_out : (page : Page) (n : Node)
-    → differing page (view n) ≡ changed page (view n) (page (out-Node n).id) ++ all_differing page (out-Node n).id (views (out-Node n).children)
-differing_out page n =
-    ap (differing page) (view_out n)
-    ∙ ap (λ t. changed page t (page (out-Node n).id) ++ all_differing page (out-Node n).id (views (out-Node n).children)) (sym (view_out n))

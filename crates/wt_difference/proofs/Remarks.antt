@@ -1,23 +1,25 @@
 -- Marks are taken off and set node by node; and they are all that is new in the remarked tree.
 use Rattle.std.proofs.Common.{◌≡◌, ℕ, Bool, true, false, List, [], ◌∷◌, ◌++◌, refl, sym, ap, ap₂, ◌∙◌}
-use Rattle.std.specs.Prelude.{◌&&◌, not, if◌then◌else◌}
+use Rattle.std.specs.Prelude.{◌&&◌, ◌||◌, not, if◌then◌else◌, Option, Some, None}
 use Rattle.wt_tree.specs.Recutting.{appended}
 use Rattle.wt_tree.specs.Tiling.{is_group}
-use Rattle.wt_tree.specs.Tree.{Tree, tree, Trees, none, more, label}
+use Rattle.wt_tree.specs.Tree.{Label, Tree, tree, Trees, none, more, label}
 use Rattle.wt_tree.specs.View.{view, views, label_of}
 use Rattle.wt_tree.specs.declared.kind.Kind.{Kind}
 use Rattle.wt_tree.specs.declared.kind.Kind.TheVariants as kind
+use Rattle.wt_tree.specs.declared.kind.Mark.{Mark}
 use Rattle.wt_tree.specs.declared.kind.Mark.TheVariants as marks
 use Rattle.wt_tree.specs.declared.node.Node.{Node, out-Node}
 use Rattle.wt_tree.proofs.Views.{view_out}
-use Rattle.wt_checks.specs.Places.{Page, page_of}
-use Rattle.wt_checks.specs.Groups.{has_mark}
+use Rattle.wt_checks.specs.Places.{Page, Place, page_of}
+use Rattle.wt_checks.specs.Groups.{is_marked, has_mark, have_mark}
 use Rattle.wt_checks.specs.Places.{is_body}
 use Rattle.wt_checks.specs.WithoutMarks.{unmarked, all_unmarked, groups_unmarked, all_groups_unmarked}
 use Rattle.wt_checks.proofs.NodesUnmarked.{no_mark_off}
-use Rattle.wt_difference.specs.Difference.{is_stable, stays_in}
+use Rattle.wt_checks.proofs.Repeated.{or_false}
+use Rattle.wt_difference.specs.Difference.{Inside, Children, Changed, are_none, changed, differing, all_differing, difference, is_stable, same_children, same_inside, stays_in, unless}
 use Rattle.wt_difference.specs.Insides.{is_block_part}
-use Rattle.wt_difference.specs.Remarked.{mark_of, remarked_in, all_remarked, remarked_child, remarked}
+use Rattle.wt_difference.specs.Remarked.{are_left, mark_of, remarked_in, all_remarked, remarked_child, remarked}
 use Rattle.wt_difference.proofs.HeldChildren.{appended_none, appended_twice}
 
 views_push : (ns : List Node) (n : Node) → views (ns ++ n ∷ []) ≡ appended (views ns) (more (view n) none)
@@ -134,3 +136,90 @@ mutual
 pub groups_free : (t u : Tree) → is_body (label u).kind ≡ true → groups_unmarked (remarked t u) ≡ true
 unfolding remarked
 groups_free t u b = free_in (page_of t) u (body_no_group (label u).kind b)
+
+-- ---- what has no mark stays as it is
+
+no_mark : (m : Mark) → is_marked m ≡ false → m ≡ marks.Nothing
+no_mark marks.Nothing e = refl
+no_mark marks.Content e = absurd (cc)
+no_mark marks.Children e = absurd (cc)
+no_mark marks.Other e = absurd (cc)
+
+bare_label : (l : Label) → is_marked l.mark ≡ false → record l { mark = marks.Nothing } ≡ l
+bare_label l e = ap (λ (m : Mark). record l { mark = m }) (sym (no_mark l.mark e))
+
+mutual
+  pub bare_stays : (t : Tree) → has_mark t ≡ false → unmarked t ≡ t
+  bare_stays (tree l ts) e =
+      let h = or_false (is_marked l.mark) (have_mark ts) e in ap₂ tree (bare_label l h.0) (all_bare_stay ts h.1)
+
+  all_bare_stay : (ts : Trees) → have_mark ts ≡ false → all_unmarked ts ≡ ts
+  all_bare_stay none e = refl
+  all_bare_stay (more t ts) e =
+      let h = or_false (has_mark t) (have_mark ts) e in ap₂ more (bare_stays t h.0) (all_bare_stay ts h.1)
+
+not_true : (b : Bool) → not b ≡ true → b ≡ false
+not_true true e = sym e
+not_true false e = refl
+
+and_right : (a b : Bool) → (a && b) ≡ true → b ≡ true
+and_right true b e = e
+and_right false b e = absurd (cc)
+
+no_part : (page : Page) (holder : ℕ) (u : Tree) → is_block_part (label u).kind ≡ false → is_stable page holder u ≡ false
+no_part page holder u e = ap (λ b. b && stays_in page holder u) e
+
+left_child : (page : Page) (holder : ℕ) (u : Tree) (b : Bool) → b ≡ false → has_mark u ≡ false → (if b then remarked_in page u else unmarked u) ≡ u
+left_child page holder u true e h = absurd (cc)
+left_child page holder u false e h = bare_stays u h
+
+pub left_remarked : (page : Page) (holder : ℕ) (us : Trees) → are_left us ≡ true → all_remarked page holder us ≡ us
+left_remarked page holder none e = refl
+left_remarked page holder (more u us) e =
+    let part = not_true (is_block_part (label u).kind) (and_left (not (is_block_part (label u).kind)) (not (has_mark u) && are_left us) e) in
+    let rest = and_right (not (is_block_part (label u).kind)) (not (has_mark u) && are_left us) e in
+    let bare = not_true (has_mark u) (and_left (not (has_mark u)) (are_left us) rest) in
+    ap₂ more (left_child page holder u (is_stable page holder u) (no_part page holder u part) bare)
+    (left_remarked page holder us (and_right (not (has_mark u)) (are_left us) rest))
+
+-- ---- nothing differs where nothing is marked
+
+none_joined : (xs ys : List Changed) (a b : Bool) → are_none xs ≡ not a → are_none ys ≡ not b → are_none (xs ++ ys) ≡ not (a || b)
+none_joined [] ys true b e f = absurd (cc)
+none_joined [] ys false b e f = f
+none_joined (x ∷ xs) ys true b e f = refl
+none_joined (x ∷ xs) ys false b e f = absurd (cc)
+
+between_marked : (same kept : Bool) (t u : Tree)
+    → are_none (unless same Inside t u ++ unless kept Children t u)
+    ≡ not (is_marked (if same then (if kept then marks.Nothing else marks.Children) else marks.Content))
+between_marked true true t u = refl
+between_marked true false t u = refl
+between_marked false true t u = refl
+between_marked false false t u = refl
+
+changed_marked : (page : Page) (u : Tree) (o : Option Place) → are_none (changed page u o) ≡ not (is_marked (mark_of page u o))
+changed_marked page u None = refl
+changed_marked page u (Some q) = between_marked (same_inside q.node u) (same_children page q.node u) q.node u
+
+child_marked : (page : Page) (u : Tree) (b : Bool) → are_none (differing page u) ≡ not (has_mark (remarked_in page u))
+    → are_none (if b then differing page u else []) ≡ not (has_mark (if b then remarked_in page u else unmarked u))
+child_marked page u true e = e
+child_marked page u false e = sym (ap not (no_mark_off u))
+
+mutual
+  none_in : (page : Page) (u : Tree) → are_none (differing page u) ≡ not (has_mark (remarked_in page u))
+  none_in page (tree m us) =
+      none_joined (changed page (tree m us) (page m.id)) (all_differing page m.id us) (is_marked (mark_of page (tree m us) (page m.id)))
+      (have_mark (all_remarked page m.id us)) (changed_marked page (tree m us) (page m.id)) (none_in_all page m.id us)
+
+  none_in_all : (page : Page) (holder : ℕ) (us : Trees) → are_none (all_differing page holder us) ≡ not (have_mark (all_remarked page holder us))
+  none_in_all page holder none = refl
+  none_in_all page holder (more u us) =
+      none_joined (if is_stable page holder u then differing page u else []) (all_differing page holder us)
+      (has_mark (remarked_child page holder u)) (have_mark (all_remarked page holder us))
+      (child_marked page u (is_stable page holder u) (none_in page u)) (none_in_all page holder us)
+
+pub none_marked : (t u : Tree) → are_none (difference t u) ≡ not (has_mark (remarked t u))
+unfolding remarked
+none_marked t u = none_in (page_of t) u

@@ -22,9 +22,7 @@ use Rattle.wt_checks.proofs.InOrder.{not_zero_kept, test_equal, zero_of, kept_no
 use Rattle.wt_checks.proofs.Lookups.{each_split}
 use Rattle.wt_checks.proofs.Repeated.{or_false}
 use Rattle.wt_checks.proofs.WhatIsKept.{increasing}
-use Rattle.wt_difference.specs.Difference.{Changed, is_partner, stays_in, is_stable, numbers, numbers_in, same_inside, same_children, unless, changed, differing, all_differing, difference}
-use Rattle.wt_difference.specs.declared.region.Region.{Region}
-use Rattle.wt_difference.specs.declared.region.Region.TheVariants.{Inside, Children}
+use Rattle.wt_difference.specs.Difference.{Region, Inside, Children, Changed, is_partner, stays_in, is_stable, numbers, numbers_in, same_inside, same_children, unless, changed, differing, all_differing, difference}
 use Rattle.wt_difference.specs.Insides.{is_block_part, has_inside, is_separator, ends_inside, before_blocks, from_blocks, held}
 use Rattle.wt_difference.specs.Tokens.{Token, characters, opens, closes, is_text, tokens, all_tokens, same_label, same_token, same_tokens}
 use Rattle.wt_difference.proofs.Remarks.{block_no_group}

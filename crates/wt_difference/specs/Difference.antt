@@ -1,18 +1,21 @@
 -- The difference of an edited tree: the smallest places of the page in which something was changed.
-use Rattle.std.specs.Prelude.{ℕ, ◌==◌, ◌&&◌, not, Bool, false, Option, Some, None, List, [], ◌∷◌, ◌++◌, if◌then◌else◌}
+use Rattle.std.specs.Prelude.{ℕ, ◌==◌, ◌&&◌, not, Bool, true, false, Option, Some, None, List, [], ◌∷◌, ◌++◌, if◌then◌else◌}
 use Rattle.std.specs.Str.{bytes_eq}
 use Rattle.wt_tree.specs.Kinds.{showing}
 use Rattle.wt_tree.specs.Tree.{Tree, tree, Trees, none, more, label}
 use Rattle.wt_checks.specs.Alike.{same_kind, same_attrs}
 use Rattle.wt_checks.specs.Places.{Place, Page, page_of}
 use Rattle.wt_checks.specs.Unmarked.{is_compared}
-use Rattle.wt_difference.specs.declared.region.Region.{Region}
-use Rattle.wt_difference.specs.declared.region.Region.TheVariants.{Inside, Children}
 use Rattle.wt_difference.specs.Insides.{inside, held, is_block_part}
 use Rattle.wt_difference.specs.Tokens.{all_tokens, same_tokens}
 
--- what of a node of the page is written anew: its inside, or its list of children; with the node as it was and
--- as it was edited
+-- what of a node of the page is written anew: the text and inline elements that it begins with, or the list of its
+-- children, which are blocks, items, rows or cells
+pub data Region : Type 0 where
+  Inside : Region
+  Children : Region
+
+-- a place of the page that is written anew: the node as it was, as it was edited, and what of it
 pub record Changed : Type 0 where
   pub old : Tree
   pub new : Tree
@@ -74,10 +77,11 @@ abbrev mutual
   all_differing page holder none = []
   all_differing page holder (more u us) = (if is_stable page holder u then differing page u else []) ++ all_differing page holder us
 
--- of one child of the node with this number
-abbrev pub differing_child : Page → ℕ → Tree → List Changed
-differing_child page holder u = if is_stable page holder u then differing page u else []
-
 -- the difference of a page's body and an edited one
 abbrev pub difference : Tree → Tree → List Changed
 difference t u = differing (page_of t) u
+
+-- nothing differs
+abbrev pub are_none : List Changed → Bool
+are_none [] = true
+are_none (c ∷ cs) = false

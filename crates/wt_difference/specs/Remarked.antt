@@ -1,11 +1,13 @@
 -- The edited tree with the marks of the difference and no others: what `edit` is told of it.
-use Rattle.std.specs.Prelude.{ℕ, Option, Some, None, if◌then◌else◌}
+use Rattle.std.specs.Prelude.{ℕ, ◌&&◌, not, Bool, true, Option, Some, None, if◌then◌else◌}
 use Rattle.wt_tree.specs.declared.kind.Mark.{Mark}
 use Rattle.wt_tree.specs.declared.kind.Mark.TheVariants as marks
-use Rattle.wt_tree.specs.Tree.{Tree, tree, Trees, none, more}
+use Rattle.wt_tree.specs.Tree.{Tree, tree, Trees, none, more, label}
+use Rattle.wt_checks.specs.Groups.{has_mark}
 use Rattle.wt_checks.specs.Places.{Place, Page, page_of}
 use Rattle.wt_checks.specs.WithoutMarks.{unmarked}
 use Rattle.wt_difference.specs.Difference.{same_inside, same_children, is_stable}
+use Rattle.wt_difference.specs.Insides.{is_block_part}
 
 -- A node whose inside was changed is marked `content`, whatever else was changed of it; one whose children
 -- alone were changed is marked `children`.
@@ -29,6 +31,11 @@ abbrev mutual
 -- one child of the node with this number
 abbrev pub remarked_child : Page → ℕ → Tree → Tree
 remarked_child page holder u = if is_stable page holder u then remarked_in page u else unmarked u
+
+-- None of them is a block or a part of one, and none has a mark: they stay as they are.
+abbrev pub are_left : Trees → Bool
+are_left none = true
+are_left (more u us) = not (is_block_part (label u).kind) && (not (has_mark u) && are_left us)
 
 -- an edited tree, with the marks of its difference from a page's
 unfoldable pub remarked : Tree → Tree → Tree

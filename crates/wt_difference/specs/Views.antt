@@ -3,11 +3,9 @@ use Rattle.std.specs.Prelude.{List, map}
 use Rattle.wt_tree.specs.Tree.{Trees, trees}
 use Rattle.wt_tree.specs.View.{view, label_of}
 use Rattle.wt_tree.specs.declared.node.Node.{out-Node}
-use Rattle.wt_difference.specs.declared.changed.Changed.{Changed as Found}
 use Rattle.wt_difference.specs.declared.insides.Child.{Child}
 use Rattle.wt_difference.specs.declared.tokens.Token.{Token as Seen}
 use Rattle.wt_difference.specs.declared.tokens.Token.TheVariants as seen
-use Rattle.wt_difference.specs.Difference.{Changed}
 use Rattle.wt_difference.specs.Tokens.{Token, characters, opens, closes}
 
 abbrev pub token_view : Seen → Token
@@ -20,9 +18,3 @@ tokens_view ts = map token_view ts
 
 abbrev pub child_views : List Child → Trees
 child_views cs = trees (map (λ c. view c.node.now) cs)
-
-abbrev pub changed_view : Found → Changed
-changed_view c = record { old = view c.old.now; new = view c.new.now; region = c.region }
-
-abbrev pub changes_view : List Found → List Changed
-changes_view cs = map changed_view cs

@@ -1,14 +1,15 @@
-ghost use Rattle.std.specs.Prelude.{◌≡◌, [], true};
+ghost use Rattle.std.specs.Prelude.{◌≡◌, [], not, true};
 ghost use Rattle.std.specs.Bool.{Decides};
 ghost use Rattle.wt_tree.specs.Opened.{without_sections};
 ghost use Rattle.wt_tree.specs.Tiling.{InPreorder};
 ghost use Rattle.wt_tree.specs.Tree.{Tree, label};
 ghost use Rattle.wt_tree.specs.declared.kind.Kind.TheVariants as kind;
 ghost use Rattle.wt_checks.specs.BareSections.{HasBareSections};
+ghost use Rattle.wt_checks.specs.Groups.{has_mark};
 ghost use Rattle.wt_checks.specs.Places.{Page, is_body};
 ghost use Rattle.wt_checks.specs.PutBack.{IsOneBody};
 ghost use Rattle.wt_checks.specs.WithoutMarks.{groups_unmarked, unmarked};
-ghost use Rattle.wt_difference.specs.Difference.{difference, numbers, numbers_in, same_children, same_inside};
+ghost use Rattle.wt_difference.specs.Difference.{are_none, difference, numbers, numbers_in, same_children, same_inside};
 ghost use Rattle.wt_difference.specs.Insides.{held, inside};
 ghost use Rattle.wt_difference.specs.Remarked.{remarked};
 ghost use Rattle.wt_difference.specs.Seen.{all_seen};
@@ -21,11 +22,13 @@ pub fn nothing_differs()
         → IsOneBody edited → IsUnedited (without_sections page) edited → difference page edited ≡ [] }
 {}
 
-/// The remarked tree is the edited one but for its marks, and no mark of it stands on a group or inside one.
+/// The remarked tree is the edited one but for its marks, no mark of it stands on a group or inside one, and
+/// it has none exactly where nothing differs.
 pub fn marks_alone()
     ensures same { (page edited : Tree) → unmarked (remarked page edited) ≡ unmarked edited }
     ensures groups { (page edited : Tree) → is_body (label edited).kind ≡ true
         → groups_unmarked (remarked page edited) ≡ true }
+    ensures none { (page edited : Tree) → are_none (difference page edited) ≡ not (has_mark (remarked page edited)) }
 {}
 
 /// The tests of two nodes say whether all that is seen of their insides is one (the texts by their

@@ -1,18 +1,16 @@
 //! An edited tree with the marks of its difference, and no others.
 
 ghost use Rattle.std.specs.Prelude.{◌≡◌, IfOk};
-ghost use Rattle.wt_tree.specs.Tiling.{InPreorder};
-ghost use Rattle.wt_tree.specs.Tree.{label};
 ghost use Rattle.wt_tree.specs.View.{view, views};
-ghost use Rattle.wt_tree.specs.declared.kind.Kind.TheVariants as kind;
 ghost use Rattle.wt_tree.specs.declared.node.Node.{out-Node};
+ghost use Rattle.wt_checks.specs.Groups.{has_mark, have_mark, is_marked};
 ghost use Rattle.wt_checks.specs.View.{indexed};
 ghost use Rattle.wt_checks.specs.WithoutMarks.{all_unmarked, unmarked};
 ghost use Rattle.wt_difference.specs.Remarked.{
   all_remarked,
+  are_left,
   mark_between,
   mark_of,
-  remarked,
   remarked_child,
   remarked_in,
 };
@@ -20,11 +18,40 @@ ghost use Rattle.wt_difference.specs.Remarked.{
 use crate::differing::{same_children, same_inside, stays_in};
 use crate::insides::is_block_part;
 use std::alloc::Global;
-use wt_checks::{Visit, numbered_nodes, original};
+use wt_checks::{Visit, original};
 use wt_span::{List, NoMemory};
 use wt_tree::{Mark, Node};
 
 // ---- no marks
+
+fn is_marked(mark: Mark) -> bool
+    ensures { result ≡ is_marked mark }
+{
+    match mark {
+        Mark::Nothing => false,
+        Mark::Content | Mark::Children | Mark::Other => true,
+    }
+}
+
+/// Whether a mark stands on a node or inside it. A remarked tree has one exactly where something differs.
+#[cycle(marked)]
+pub fn has_mark(node: &Node<'_>) -> bool
+    ensures { result ≡ has_mark (view node.now) }
+{
+    is_marked(node.mark()) || have_mark(node.children.as_slice())
+}
+
+#[cycle(marked)]
+fn have_mark(nodes: &[Node<'_>]) -> bool
+    ensures { result ≡ have_mark (views nodes.now) }
+{
+    for node in nodes {
+        if has_mark(node) {
+            return true;
+        }
+    }
+    false
+}
 
 #[cycle(unmarking)]
 fn unmarked<'a>(alloc: Global, node: Node<'a>) -> Result<Node<'a>, NoMemory>
@@ -49,6 +76,16 @@ fn all_unmarked<'a>(alloc: Global, nodes: List<Node<'a>>) -> Result<List<Node<'a
         out.push(node)?;
     }
     Ok(List::from_vec(out))
+}
+
+/// Without its marks, a node that mostly has none.
+fn without_marks<'a>(alloc: Global, node: Node<'a>) -> Result<Node<'a>, NoMemory>
+    ensures { IfOk result (λ n. view n ≡ unmarked (view node.entry)) }
+{
+    if !has_mark(&node) {
+        return Ok(node);
+    }
+    unmarked(alloc, node)
 }
 
 // ---- the marks of the difference
@@ -109,8 +146,20 @@ fn remarked_child<'a>(
     if is_block_part(node.kind) && stays_in(index, holder, &node) {
         remarked_in(alloc, index, node)
     } else {
-        unmarked(alloc, node)
+        without_marks(alloc, node)
     }
+}
+
+/// Whether none of these nodes is a block or a part of one, and none has a mark: they stay as they are.
+fn are_left(nodes: &[Node<'_>]) -> bool
+    ensures { result ≡ are_left (views nodes.now) }
+{
+    for node in nodes {
+        if is_block_part(node.kind) || has_mark(node) {
+            return false;
+        }
+    }
+    true
 }
 
 #[cycle(remarking)]
@@ -122,6 +171,9 @@ fn all_remarked<'a>(
 ) -> Result<List<Node<'a>>, NoMemory>
     ensures { IfOk result (λ l. views l ≡ all_remarked (indexed index.now) holder (views nodes.entry)) }
 {
+    if are_left(nodes.as_slice()) {
+        return Ok(nodes);
+    }
     let mut out = Vec::with_capacity(alloc, nodes.len())?;
     for node in nodes.into_vec() {
         let node = remarked_child(alloc, index, holder, node)?;
@@ -132,13 +184,13 @@ fn all_remarked<'a>(
 
 /// An edited tree with the marks of its difference from a page's tree, and no others: a node whose inside
 /// was changed is marked `content`, one whose children alone were changed `children`. The marks that it
-/// had don't count.
-#[tactic(auto, unfolding(crate::specs::Remarked::remarked))]
-pub fn remark<'a>(alloc: Global, page: &Node<'_>, edited: Node<'a>) -> Result<Node<'a>, NoMemory>
-    requires body { (label (view page.now)).kind ≡ kind.Body }
-    requires numbered { ∥ InPreorder (view page.now) ∥₁ }
-    ensures { IfOk result (λ u. view u ≡ remarked (view page.now) (view edited.entry)) }
+/// had don't count. `index` has the page's nodes by their numbers (`numbered_nodes`).
+pub fn remark<'a>(
+    alloc: Global,
+    index: &[Visit<'_, '_>],
+    edited: Node<'a>,
+) -> Result<Node<'a>, NoMemory>
+    ensures { IfOk result (λ u. view u ≡ remarked_in (indexed index.now) (view edited.entry)) }
 {
-    let index = numbered_nodes(alloc, page)?;
-    remarked_in(alloc, index.as_slice(), edited)
+    remarked_in(alloc, index, edited)
 }

@@ -1,6 +1,6 @@
 //! An inside from left to right, as an editor sees it: texts, and elements by their numbers.
 
-ghost use Rattle.std.specs.Prelude.{◌≡◌, ◌++◌, ◌∷◌, [], IfOk, OnOk};
+ghost use Rattle.std.specs.Prelude.{◌≡◌, ◌++◌, ◌∷◌, [], true, IfOk, OnOk};
 ghost use Rattle.std.specs.Str.{bytes_eq};
 ghost use Rattle.wt_tree.specs.Kinds.{showing, writing};
 ghost use Rattle.wt_tree.specs.Tiling.{is_group};
@@ -190,11 +190,50 @@ fn same_tokens(old: &[Token<'_, '_>], new: &[Token<'_, '_>]) -> bool
     true
 }
 
+// ---- node by node
+
+/// Whether two nodes are told to be the same by themselves, without their tokens.
+#[cycle(in_step)]
+fn same_in_step(old: &Node<'_>, new: &Node<'_>) -> bool
+    ensures { result ≡ true → same_tokens (tokens (view old.now)) (tokens (view new.now)) ≡ true }
+{
+    if !is_compared(old.kind) || !is_compared(new.kind) {
+        return !is_compared(old.kind) && !is_compared(new.kind);
+    }
+    if is_text(old.kind) || is_text(new.kind) {
+        return is_text(old.kind) && is_text(new.kind) && same_text(old.shown(), new.shown());
+    }
+    if is_group(old.kind) || is_group(new.kind) {
+        return is_group(old.kind) && is_group(new.kind) && same_label(old, new);
+    }
+    same_label(old, new) && all_same_in_step(old.children.as_slice(), new.children.as_slice())
+}
+
+/// Whether two lists of as many nodes are told to be the same one by one. Most of a page wasn't changed,
+/// and is told so here.
+#[cycle(in_step)]
+fn all_same_in_step(old: &[Node<'_>], new: &[Node<'_>]) -> bool
+    ensures { result ≡ true → same_tokens (all_tokens (views old.now)) (all_tokens (views new.now)) ≡ true }
+{
+    if old.len() != new.len() {
+        return false;
+    }
+    for at in 0..old.len() {
+        if !same_in_step(&old[at], &new[at]) {
+            return false;
+        }
+    }
+    true
+}
+
 /// Whether two lists of nodes are the same to an editor: texts by their characters, elements by their numbers,
 /// kinds, attributes and data, and groups by these alone.
 pub fn are_same(alloc: Global, old: &[Node<'_>], new: &[Node<'_>]) -> Result<bool, NoMemory>
     ensures { IfOk result (λ same. same ≡ same_tokens (all_tokens (views old.now)) (all_tokens (views new.now))) }
 {
+    if all_same_in_step(old, new) {
+        return Ok(true);
+    }
     let old = tokens_of(alloc, old)?;
     let new = tokens_of(alloc, new)?;
     Ok(same_tokens(old.as_slice(), new.as_slice()))

@@ -1,15 +1,13 @@
 -- `expand`: from what the expansion of a page answers to the answer of the program.
-use Rattle.std.proofs.Common.{◌≡◌, ◌<◌, ◌≤◌, ◌^◌, ℕ, List, true, length, IsUtf8, refl, sym, ap, ◌∙◌, subst, arith}
+use Rattle.std.proofs.Common.{◌≡◌, ◌<◌, ◌≤◌, ◌^◌, ℕ, List, length, IsUtf8, refl, sym, ap, ◌∙◌, subst, arith}
 use Rattle.std.specs.Prelude.{Option, Some, None, option_map, Result, Ok, Err}
 use Rattle.std.specs.Io.KnownBytes.{Appends}
 use Rattle.wt_outer.specs.Device.{Pages}
 use Rattle.wt_span.specs.Cuts.{page_of}
-use Rattle.wt_span.specs.Items.{Item}
-use Rattle.wt_span.specs.Origins.{OuterCall, Expanded}
+use Rattle.wt_span.specs.Origins.{Expanded}
 use Rattle.wt_tree.specs.Tree.{Tree}
 use Rattle.wt_inline.specs.ItemTree.{tree_items}
 use Rattle.wt_body.specs.Body.{meaning}
-use Rattle.wt_annotated.specs.Annotated.{annotated}
 use Rattle.wt_annotated.specs.Reached.{AreReachedSlices}
 use Rattle.wt_page_round_trip.specs.PageTree.{expanded_tree, page_tree}
 use Rattle.wt_page_round_trip.proofs.HeldPages.{its_page}

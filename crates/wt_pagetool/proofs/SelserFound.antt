@@ -3,10 +3,10 @@ use Rattle.std.proofs.Common.{◌≡◌, ℕ, ◌≤◌, List, length, Bool, ref
 use Rattle.std.specs.Prelude.{Option, Some, None, IfSome, IsErrAnd, Result, Ok, Err}
 use Rattle.wt_checks.specs.Checked.{nodes_checked}
 use Rattle.wt_checks.specs.declared.refusal.Check.{Check}
-use Rattle.wt_difference.specs.Difference.{difference}
+use Rattle.wt_difference.specs.Difference.{are_none, difference}
 use Rattle.wt_difference.specs.Remarked.{remarked}
 use Rattle.wt_expand.specs.PageCalls.{expanded_page}
-use Rattle.wt_expand.specs.Work.{Pages, Refused}
+use Rattle.wt_expand.specs.Work.{Pages}
 use Rattle.wt_fitting.specs.Read.{Read, page as as_page, ill, misfit, read}
 use Rattle.wt_html_in.specs.Answers.{body_of, Answers}
 use Rattle.wt_html_in.specs.Feeding.{IsFed}
@@ -31,7 +31,7 @@ use Rattle.wt_pagetool.specs.Answers.{Answer, done, refused, expanded_by, input_
 use Rattle.wt_pagetool.specs.Causes.{Answered, Refuses, RefusesInput, RefusesTitle, IsFetched, refusal_of, refusal_of_expansion}
 use Rattle.wt_pagetool.specs.Inputs.{FedWhole}
 use Rattle.wt_pagetool.specs.Refusals.{status_of}
-use Rattle.wt_pagetool.specs.Selser.{are_none, AnswersSelser, Finds, FindsFor, FindsNew, FindsNone, FindsUnder, OrFound}
+use Rattle.wt_pagetool.specs.Selser.{AnswersSelser, Finds, FindsFor, FindsNew, FindsNone, FindsUnder, OrFound}
 use Rattle.wt_pagetool.specs.Tried.{IsBeside}
 use Rattle.wt_pagetool.proofs.AnswerLaws.{input_within}
 use Rattle.wt_pagetool.proofs.ExpandLaws.{fetched_as, refusal_is}

@@ -1,6 +1,6 @@
 -- `selser`: from a new page that is read back to what is found.
 use Rattle.std.proofs.Common.{◌≡◌, ℕ, List, Bool, true, false, refl, sym, ap, ◌∙◌, subst, inl, inr}
-use Rattle.std.specs.Prelude.{◌⊎◌, ◌≢◌, Option, Some, None, IfErr, IfOk, Result, Ok, Err}
+use Rattle.std.specs.Prelude.{◌≢◌, Option, Some, None, IfErr, IfOk, Result, Ok, Err}
 use Rattle.wt_expand.specs.Work.{Pages}
 use Rattle.wt_expansion.specs.Known.{HoldsPages}
 use Rattle.wt_levels.specs.declared.expansion.Expansion.{Expansion}
@@ -33,12 +33,12 @@ use Rattle.wt_pagetool.specs.declared.refusal.Refusal.{Refusal}
 use Rattle.wt_pagetool.specs.declared.refusal.Refusal.TheVariants.{FolderFault, NewExpansion, NoMemory, Unspelled}
 use Rattle.wt_pagetool.specs.declared.status.Status.{Status}
 use Rattle.wt_pagetool.specs.declared.status.Status.TheVariants as status
-use Rattle.wt_pagetool.specs.Answers.{Answer, done, refused, edit_by, new_answer, new_expanded, refusal_of_page, title_answer, unspelled_answer, IsText}
+use Rattle.wt_pagetool.specs.Answers.{Answer, done, refused, edit_by, new_answer, new_expanded, refusal_of_page, title_answer, unspelled_answer, IsNoText, IsText}
 use Rattle.wt_pagetool.specs.Causes.{Refuses, IsEditStatus, IsFolderStatus, IsOfEdit, IsOfFolder, refusal_of_new}
 use Rattle.wt_pagetool.specs.Refusals.{refusal_of_edit, status_of}
-use Rattle.wt_pagetool.specs.Selser.{FindsNew, FindsNone, IsMade, IsNewPage, IsNoNewPage, IsOfNewPage, IsProposed, PageMustDo, ReadsBack}
+use Rattle.wt_pagetool.specs.Selser.{late_refusal, FailsAs, FindsNew, FindsNone, FirstFails, IsNewPage, IsNoNewPage, IsOfNewPage, PageMustDo, ReadsBack}
 use Rattle.wt_pagetool.specs.Statuses.{IsAnswer}
-use Rattle.wt_pagetool.specs.Tried.{device_fault, last_refusal, refusal_of_fault, ComparedAs, HoldsRead, HoldsTried, KnowsOf, MarkedAs, ReadAs, TriedFirst, TriedMarks, TriedPage, TriedProposal}
+use Rattle.wt_pagetool.specs.Tried.{device_fault, last_refusal, refusal_of_fault, ComparedAs, HoldsRead, HoldsTried, IsFaultOf, KnowsOf, MarkedAs, ReadAs, TriedFirst, TriedMarks, TriedPage, TriedProposal}
 use Rattle.wt_pagetool.proofs.EditLaws.{meant, new_done, new_refused, unspelled_done}
 use Rattle.wt_pagetool.proofs.PageLaws.{title_made}
 
@@ -61,8 +61,10 @@ read_as pages t u new found (back.Shows shown) whole unrefused is knows c = (
   subst (λ (f : KnownPage). KnowsOf pages f.expansion) (sym c.0) knows,
 )
 read_as pages t u new found (back.Fails why x) whole unrefused is knows c = (
-  differs_back pages t u (view found.annotated.tree.body) new c.1.0 whole unrefused is c.1.1,
+  differs_back pages t u (view found.annotated.tree.body) new c.1.0 whole unrefused is c.1.1.1,
   subst (KnowsOf pages) (sym c.0) knows,
+  subst (IsFaultOf pages t u new) (sym c.1.1.0)
+      (meant pages t u (view found.annotated.tree.body) new new (Some c.1.0) whole refl unrefused is c.1.1.1),
 )
 
 pub holds_read : (found : KnownPage) (t u : Tree) (b : ReadBack) → HoldsPages found.expansion → ComparedAs found t u b → HoldsRead b
@@ -74,11 +76,11 @@ pub compared_shows : (found : KnownPage) (t u : Tree) (o : Option ℕ) → o ≡
 compared_shows found t u o is h =
     (refl, subst (IsFirstDiffering (shown_children (view found.annotated.tree.body)) (shown_children (restored_from t u))) is h)
 
-pub compared_fails : (found : KnownPage) (t u : Tree) (o : Option ℕ) (k : ℕ) (why : Fault) → o ≡ Some k
+pub compared_fails : (found : KnownPage) (t u : Tree) (o : Option ℕ) (k : ℕ) → o ≡ Some k
     → IsFirstDiffering (shown_children (view found.annotated.tree.body)) (shown_children (restored_from t u)) o
-    → ComparedAs found t u (back.Fails why found.expansion)
-compared_fails found t u o k why is h =
-    (refl, (k, subst (IsFirstDiffering (shown_children (view found.annotated.tree.body)) (shown_children (restored_from t u))) is h))
+    → ComparedAs found t u (back.Fails (fault.Block k) found.expansion)
+compared_fails found t u o k is h =
+    (refl, (k, (refl, subst (IsFirstDiffering (shown_children (view found.annotated.tree.body)) (shown_children (restored_from t u))) is h)))
 
 -- a new page that is no text
 pub untexted_back : (pages : Pages) (t u : Tree) (new text : List ℕ) (r : Refusal) → text ≡ new
@@ -87,20 +89,30 @@ untexted_back pages t u new text r same refuses h =
     let made : List ℕ → Answer = new_expanded pages t u in
     let e : refused r ≡ done new = sym (refuses made) ∙ ap (λ bs. title_answer (Some bs) made) same ∙ h in cc
 
+pub untexted : (new text : List ℕ) (r : Refusal) → text ≡ new → ((made : List ℕ → Answer) → title_answer (Some text) made ≡ refused r)
+    → IsNoText (Some new)
+untexted new text r same refuses = (r, λ made. ap (λ bs. title_answer (Some bs) made) (sym same) ∙ refuses made)
+
 -- ---- an expansion that is refused
 
 -- no device failed: the new page's expansion is refused
+pub unread_fault : (pages : Pages) (t u : Tree) (new : List ℕ) (e : ExpandRefusal) → IsText new → device_fault e ≡ None
+    → IsRefused (refusal_of_page pages new) e → new_answer pages t u new ≡ refused NewExpansion
+unread_fault pages t u new e whole none is = by e none (new_refused pages t u new new e (refusal_of_new e) whole refl refl is)
+  where
+    by : (e : ExpandRefusal) → device_fault e ≡ None → Refuses (refusal_of_new e) (new_answer pages t u new)
+        → new_answer pages t u new ≡ refused NewExpansion
+    by (of_expansion.BracesTooDeep title place) n r = r
+    by of_expansion.TooLarge n r = r
+    by of_expansion.FolderFault n r = absurd cc
+    by (of_expansion.TemplateNotUtf8 title place) n r = r
+    by (of_expansion.TemplateTooLong title) n r = r
+    by of_expansion.NoMemory n r = absurd cc
+
 pub unread_as : (pages : Pages) (t u : Tree) (new : List ℕ) (e : ExpandRefusal) → IsText new → device_fault e ≡ None
     → IsRefused (refusal_of_page pages new) e → ¬ ReadsBack pages t u new
-unread_as pages t u new e whole none is h = by e none (new_refused pages t u new new e (refusal_of_new e) whole refl refl is)
-  where
-    by : (e : ExpandRefusal) → device_fault e ≡ None → Refuses (refusal_of_new e) (new_answer pages t u new) → ⊥
-    by (of_expansion.BracesTooDeep title place) n r = let x : refused NewExpansion ≡ done new = sym r ∙ h in cc
-    by of_expansion.TooLarge n r = let x : refused NewExpansion ≡ done new = sym r ∙ h in cc
-    by of_expansion.FolderFault n r = cc
-    by (of_expansion.TemplateNotUtf8 title place) n r = let x : refused NewExpansion ≡ done new = sym r ∙ h in cc
-    by (of_expansion.TemplateTooLong title) n r = let x : refused NewExpansion ≡ done new = sym r ∙ h in cc
-    by of_expansion.NoMemory n r = cc
+unread_as pages t u new e whole none is h =
+    let x : refused NewExpansion ≡ done new = sym (unread_fault pages t u new e whole none is) ∙ h in cc
 
 pub uncounted : (before after : ℕ) (e : ExpandRefusal) → device_fault e ≡ None → IsCountedErr before after e → after ≡ before
 uncounted before after (of_expansion.BracesTooDeep title place) n h = h
@@ -150,10 +162,21 @@ pub page_stands : (pages : Pages) (t u : Tree) (new text : List ℕ) (b : ReadBa
 page_stands pages t u new text b found is same h = subst (ReadsBack pages t u) same (subst (ReadAs pages t u text) is h).0
 
 pub page_fails : (pages : Pages) (t u : Tree) (new text : List ℕ) (b : ReadBack) (why : Fault) (x : Expansion) → b ≡ back.Fails why x → text ≡ new
-    → ReadAs pages t u text b → (¬ ReadsBack pages t u new) × KnowsOf pages x
+    → ReadAs pages t u text b → (¬ ReadsBack pages t u new) × KnowsOf pages x × IsFaultOf pages t u new why
 page_fails pages t u new text b why x is same h =
     let r : ReadAs pages t u text (back.Fails why x) = subst (ReadAs pages t u text) is h in
-    (subst (λ bs. ¬ ReadsBack pages t u bs) same r.0, r.1)
+    (subst (λ bs. ¬ ReadsBack pages t u bs) same r.0, r.1, subst (λ bs. IsFaultOf pages t u bs why) same r.2)
+
+fails_as : (pages : Pages) (t u : Tree) (new : List ℕ) (why : Fault) → IsFaultOf pages t u new why
+    → FailsAs pages t u (Some new) (refusal_of_fault why)
+fails_as pages t u new fault.TooLong h = inl (h, refl)
+fails_as pages t u new fault.Expansion h = inr (inl h)
+fails_as pages t u new (fault.Block k) h = inr (inl h)
+
+pub marks_unread : (pages : Pages) (t u : Tree) (new text : List ℕ) (b : ReadBack) (why : Fault) (x : Expansion) → b ≡ back.Fails why x → text ≡ new
+    → ReadAs pages t u text b → TriedMarks pages t u new (tried.Fails why x)
+marks_unread pages t u new text b why x is same h =
+    let p = page_fails pages t u new text b why x is same h in (p.1, fails_as pages t u new why p.2)
 
 -- where it reads back, it is asked for its marks
 pub marks_tried : (pages : Pages) (t u : Tree) (new text : List ℕ) (b : ReadBack) (found : KnownPage) (r : Tried) → b ≡ back.Shows found → text ≡ new
@@ -162,13 +185,15 @@ marks_tried pages t u new text b found (tried.Stands given) is same h m =
     let s : ReadAs pages t u text (back.Shows found) = subst (ReadAs pages t u text) is h in
     (m.0, subst (ReadsBack pages t u) same s.0, subst (λ (v : Tree). KeepsMarks v t u) (s.1 ∙ ap (page_tree pages) same) m.1)
 marks_tried pages t u new text b found (tried.Fails why x) is same h m =
-    let s : ReadAs pages t u text (back.Shows found) = subst (ReadAs pages t u text) is h in subst (KnowsOf pages) (sym m) s.2
+    let s : ReadAs pages t u text (back.Shows found) = subst (ReadAs pages t u text) is h in
+    let lost : ¬ KeepsMarks (page_tree pages new) t u = subst (λ (v : Tree). ¬ KeepsMarks v t u) (s.1 ∙ ap (page_tree pages) same) m.2 in
+    (subst (KnowsOf pages) (sym m.0) s.2, inr (inr (lost, ap refusal_of_fault m.1)))
 
 pub marks_hold : (t u : Tree) (new : List ℕ) (b : ReadBack) (found : KnownPage) (r : Tried) → b ≡ back.Shows found → HoldsRead b
     → MarkedAs found t u new r → HoldsTried r
 marks_hold t u new b found (tried.Stands given) is h m = tt
 marks_hold t u new b found (tried.Fails why x) is h m =
-    let s : HoldsRead (back.Shows found) = subst HoldsRead is h in subst HoldsPages (sym m) s
+    let s : HoldsRead (back.Shows found) = subst HoldsRead is h in subst HoldsPages (sym m.0) s
 
 pub proposal_tried : (pages : Pages) (page : List ℕ) (t u : Tree) (new : List ℕ) (r : Result Tried Refusal) → IsRewritten page t u new
     → IfOk r (TriedMarks pages t u new) → IfOk r (TriedProposal pages page t u)
@@ -179,7 +204,7 @@ proposal_tried pages page t u new (Ok (tried.Stands given)) w h = (
   },
   subst (ReadsBack pages t u) (sym h.0) h.1,
 )
-proposal_tried pages page t u new (Ok (tried.Fails why x)) w h = h
+proposal_tried pages page t u new (Ok (tried.Fails why x)) w h = (h.0, record { first = Some new; made = inr w; fails = h.1 })
 proposal_tried pages page t u new (Err e) w h = tt
 
 -- ---- the first new page
@@ -194,7 +219,11 @@ first_same pages items page t u same new (Ok (tried.Stands given)) is h = record
   back = subst (ReadsBack pages t u) (sym h.0) h.1;
   itself = λ m. h.0 ∙ is;
 }
-first_same pages items page t u same new (Ok (tried.Fails why x)) is h = (λ m. h.0 (subst (ReadsBack pages t u) (sym is) m.1), h.1)
+first_same pages items page t u same new (Ok (tried.Fails why x)) is h = (
+  λ m. h.0 (subst (ReadsBack pages t u) (sym is) m.1),
+  h.1,
+  record { first = Some new; made = inl is; fails = fails_as pages t u new why h.2 },
+)
 first_same pages items page t u same new (Err e) is h = tt
 
 pub first_proposed : (pages : Pages) (items : Expanded) (page : List ℕ) (t u : Tree) (same : Bool) (r : Result Tried Refusal) → same ≡ false
@@ -204,7 +233,7 @@ first_proposed pages items page t u same (Ok (tried.Stands new)) none h = record
   back = h.1;
   itself = λ m. absurd (not_same pages page t u same none m);
 }
-first_proposed pages items page t u same (Ok (tried.Fails why x)) none h = (not_same pages page t u same none, h)
+first_proposed pages items page t u same (Ok (tried.Fails why x)) none h = (not_same pages page t u same none, h.0, h.1)
 first_proposed pages items page t u same (Err e) none h = tt
 
 -- ---- what is found
@@ -224,13 +253,28 @@ finds_fault pages items page t u same before after r status.NoMemory h = tt
 
 pub finds_none : (pages : Pages) (items : Expanded) (page : List ℕ) (t u : Tree) (r : Refusal) (f : Fault) → r ≡ refusal_of_fault f
     → ((new : List ℕ) → edit_by pages t u (edit_answer same_node items page t u) ≢ done new)
+    → FirstFails pages page t u (refusal_of_fault f) → late_refusal (edit_answer same_node items page t u) (refusal_of_fault f) ≡ refusal_of_fault f
     → FindsNone pages items page t u false r (status_of r)
-finds_none pages items page t u r f is unedited = subst (λ (x : Refusal). FindsNone pages items page t u false x (status_of x)) (sym is) (by f)
+finds_none pages items page t u r f is unedited first late =
+    subst (λ (x : Refusal). FindsNone pages items page t u false x (status_of x)) (sym is) (by f (record {
+      late = of_new f;
+      fault = refusal_of_fault f;
+      first = first;
+      is = sym late;
+      unedited = unedited;
+      itself = not_same pages page t u false refl;
+    }))
   where
-    by : (f : Fault) → FindsNone pages items page t u false (refusal_of_fault f) (status_of (refusal_of_fault f))
-    by fault.TooLong = record { late = tt; unedited = unedited; itself = not_same pages page t u false refl }
-    by fault.Expansion = record { late = tt; unedited = unedited; itself = not_same pages page t u false refl }
-    by (fault.Block k) = record { late = tt; unedited = unedited; itself = not_same pages page t u false refl }
+    of_new : (f : Fault) → IsOfNewPage (refusal_of_fault f)
+    of_new fault.TooLong = tt
+    of_new fault.Expansion = tt
+    of_new (fault.Block k) = tt
+
+    by : (f : Fault) → IsNoNewPage pages items page t u false (refusal_of_fault f)
+        → FindsNone pages items page t u false (refusal_of_fault f) (status_of (refusal_of_fault f))
+    by fault.TooLong h = h
+    by fault.Expansion h = h
+    by (fault.Block k) h = h
 
 -- a new page that is answered is this one
 done_is_new : (pages : Pages) (t u : Tree) (new given : List ℕ) → new_answer pages t u new ≡ done given → given ≡ new
@@ -253,24 +297,33 @@ edit_refuses pages t u answer e given is d =
     let x : refused (refusal_of_edit e) ≡ done given = sym (ap (edit_by pages t u) is) ∙ d in cc
 
 pub finds_refused : (pages : Pages) (items : Expanded) (page : List ℕ) (t u : Tree) (r : Refusal) (e : EditRefusal) (f : Fault) → r ≡ last_refusal e f
-    → AnswersEdit (edit_answer same_node items page t u) (Err e) → FindsNone pages items page t u false r (status_of r)
-finds_refused pages items page t u r (of_edit.Check c) f is h = finds_none pages items page t u r f is
-    (λ given. edit_refuses pages t u (edit_answer same_node items page t u) (of_edit.Check c) given h)
-finds_refused pages items page t u r (of_edit.BadContent n why) f is h =
+    → AnswersEdit (edit_answer same_node items page t u) (Err e) → FirstFails pages page t u (refusal_of_fault f)
+    → FindsNone pages items page t u false r (status_of r)
+finds_refused pages items page t u r (of_edit.Check c) f is h first = finds_none pages items page t u r f is
+    (λ given. edit_refuses pages t u (edit_answer same_node items page t u) (of_edit.Check c) given h) first
+    (ap (λ a. late_refusal a (refusal_of_fault f)) h)
+finds_refused pages items page t u r (of_edit.BadContent n why) f is h first =
     subst (λ (x : Refusal). FindsNone pages items page t u false x (status_of x)) (sym is) (record {
       late = tt;
+      fault = refusal_of_fault f;
+      first = first;
+      is = sym (ap (λ a. late_refusal a (refusal_of_fault f)) h);
       unedited = λ given. edit_refuses pages t u (edit_answer same_node items page t u) (of_edit.BadContent n why) given h;
       itself = not_same pages page t u false refl;
     })
-finds_refused pages items page t u r (of_edit.Tangled n) f is h = finds_none pages items page t u r f is
-    (λ given. edit_refuses pages t u (edit_answer same_node items page t u) (of_edit.Tangled n) given h)
-finds_refused pages items page t u r of_edit.NewPageTooLong f is h =
+finds_refused pages items page t u r (of_edit.Tangled n) f is h first = finds_none pages items page t u r f is
+    (λ given. edit_refuses pages t u (edit_answer same_node items page t u) (of_edit.Tangled n) given h) first
+    (ap (λ a. late_refusal a (refusal_of_fault f)) h)
+finds_refused pages items page t u r of_edit.NewPageTooLong f is h first =
     subst (λ (x : Refusal). FindsNone pages items page t u false x (status_of x)) (sym is) (record {
       late = tt;
+      fault = refusal_of_fault f;
+      first = first;
+      is = sym (ap (λ a. late_refusal a (refusal_of_fault f)) h);
       unedited = λ given. edit_refuses pages t u (edit_answer same_node items page t u) of_edit.NewPageTooLong given h;
       itself = not_same pages page t u false refl;
     })
-finds_refused pages items page t u r of_edit.NoMemory f is h =
+finds_refused pages items page t u r of_edit.NoMemory f is h first =
     subst (λ (x : Refusal). FindsNone pages items page t u false x (status_of x)) (sym is) tt
 
 -- what `edit` makes, as it is read back
@@ -286,10 +339,12 @@ edit_stands pages items page t u new given r is answer h =
 
 pub edit_fails : (pages : Pages) (items : Expanded) (page : List ℕ) (t u : Tree) (new : List ℕ) (r : Tried) (why first : Fault) (x : Expansion)
     (refusal : Refusal) → r ≡ tried.Fails why x → refusal ≡ refusal_of_fault first → edit_answer same_node items page t u ≡ Ok new
-    → TriedPage pages t u new r → FindsNone pages items page t u false refusal (status_of refusal)
-edit_fails pages items page t u new r why first x refusal is same answer h =
+    → TriedPage pages t u new r → FirstFails pages page t u (refusal_of_fault first)
+    → FindsNone pages items page t u false refusal (status_of refusal)
+edit_fails pages items page t u new r why first x refusal is same answer h failed =
     let s : TriedPage pages t u new (tried.Fails why x) = subst (TriedPage pages t u new) is h in
-    finds_none pages items page t u refusal first same (edit_unread pages items page t u new answer s.0)
+    finds_none pages items page t u refusal first same (edit_unread pages items page t u new answer s.0) failed
+    (ap (λ a. late_refusal a (refusal_of_fault first)) answer)
 
 -- a proposal, as it is read back
 pub proposal_stands : (pages : Pages) (items : Expanded) (page : List ℕ) (t u : Tree) (given : List ℕ) (r : Tried) → r ≡ tried.Stands given
@@ -336,7 +391,7 @@ finds_same pages items page t u same (Err r) n h = by (status_of r) h
     by status.Usage h = h
     by status.PageRefused h = h
     by status.HtmlRefused h = h
-    by status.EditRefused h = record { late = h.late; unedited = h.unedited; itself = n }
+    by status.EditRefused h = record { late = h.late; fault = h.fault; first = h.first; is = h.is; unedited = h.unedited; itself = n }
     by status.ReadFault h = h
     by status.FolderFault h = h
     by status.WriteFault h = h

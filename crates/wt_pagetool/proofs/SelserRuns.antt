@@ -1,11 +1,11 @@
 -- What `run` says of `selser`: from what was found and what was reported.
-use Rattle.std.proofs.Common.{◌≡◌, ℕ, ◌≤◌, List, length, Bool, true, false, refl, sym, ap, ◌∙◌, subst, inl, inr}
-use Rattle.std.specs.Prelude.{◌⊎◌, Option, Some, None, IfSome, IfErr, OnOk, Result, Ok, Err}
+use Rattle.std.proofs.Common.{◌≡◌, ℕ, ◌≤◌, List, length, Bool, false, refl, sym, ap, ◌∙◌, subst, inl, inr}
+use Rattle.std.specs.Prelude.{◌⊎◌, ◌≢◌, Option, Some, None, IfSome, IfErr, OnOk, Result, Ok, Err}
 use Rattle.std.specs.Io.KnownBytes.{Appends, IsAtEnd}
 use Rattle.wt_checks.specs.Checked.{checked, nodes_checked}
 use Rattle.wt_checks.proofs.NodesAlone.{taken_alone}
 use Rattle.wt_checks.specs.declared.refusal.Check.{Check}
-use Rattle.wt_difference.specs.Difference.{difference}
+use Rattle.wt_difference.specs.Difference.{are_none, difference}
 use Rattle.wt_expand.specs.PageCalls.{expanded_page}
 use Rattle.wt_expand.specs.Work.{Pages}
 use Rattle.wt_fitting.specs.Read.{Read, page as as_page, ill, misfit, read}
@@ -25,16 +25,15 @@ use Rattle.wt_pagetool.specs.declared.output.Output.{Output}
 use Rattle.wt_pagetool.specs.declared.refusal.Refusal.{Refusal}
 use Rattle.wt_pagetool.specs.declared.status.Status.{Status}
 use Rattle.wt_pagetool.specs.declared.status.Status.TheVariants as status
-use Rattle.wt_pagetool.specs.Answers.{Answer, done, refused, answer_of_edit, edit_by, edit_from, edit_to, expanded_by, input_answer, new_answer, new_expanded, nodes_answer, refusal_of_page, remarked_of, taken_answer, taken_from, taken_of, taken_to, title_answer, unspelled_answer, IsText, IsUnrefused}
-use Rattle.wt_pagetool.specs.Asked.{names_told}
-use Rattle.wt_pagetool.specs.Causes.{Answered, RefusesAs}
+use Rattle.wt_pagetool.specs.Answers.{Answer, done, refused, answer_of_edit, edit_by, edit_from, expanded_by, input_answer, new_expanded, nodes_answer, refusal_of_page, remarked_of, taken_answer, taken_from, taken_of, taken_to, title_answer, unspelled_answer, IsText, IsUnrefused}
+use Rattle.wt_pagetool.specs.Causes.{RefusesAs}
 use Rattle.wt_pagetool.specs.Calls.{IsDue}
 use Rattle.wt_pagetool.specs.Devices.{SourceUse, FolderUse, SinkUse}
 use Rattle.wt_pagetool.specs.Outputs.{output_bytes}
 use Rattle.wt_pagetool.specs.Refusals.{status_of}
 use Rattle.wt_pagetool.specs.Reports.{Reported, WroteSelser}
-use Rattle.wt_pagetool.specs.Selser.{are_none, AnswersSelser, DoneByEdit, EditIsDone, Finds, FindsFor, FindsNew, FindsNone, FindsUnder, IsNewPage, IsNoNewPage, NoneFor, NoneUnder, OrFound, PageMustDo, ReadsBack, RefusedSelser, RefusesSelser}
-use Rattle.wt_pagetool.specs.Statuses.{code, IsFaultOrNoMemory}
+use Rattle.wt_pagetool.specs.Selser.{AnswersSelser, DoneByEdit, EditIsDone, Finds, FindsFor, FindsNew, FindsNone, FindsUnder, IsNoNewPage, NoneFor, NoneUnder, OrFound, ReadsBack, RefusedSelser, RefusesSelser}
+use Rattle.wt_pagetool.specs.Statuses.{code, IsAnswer, IsDoneOrRefused, IsFaultOrNoMemory}
 use Rattle.wt_pagetool.specs.Words.{command_of, Reads}
 use Rattle.wt_pagetool.proofs.AnswerLaws.{input_done, input_within}
 use Rattle.wt_pagetool.proofs.EditLaws.{answer_ok, new_done, unspelled_done}
@@ -43,7 +42,7 @@ use Rattle.wt_pagetool.proofs.RunLaws.{FoundDone, ended_of, found_done}
 use Rattle.wt_pagetool.proofs.SelserShown.{remarked_shown}
 use Rattle.wt_pagetool.proofs.ShownLaws.{same_shown, page_face, read_face}
 use Rattle.wt_pagetool.proofs.EditLaws.{restored_bare}
-use Rattle.wt_pagetool.proofs.StatusLaws.{is_done, is_edit_refused, IsUnansweredBy, unanswered}
+use Rattle.wt_pagetool.proofs.StatusLaws.{is_answer, is_done, IsUnansweredBy, unanswered}
 
 -- ---- a page that is taken
 
@@ -170,47 +169,70 @@ run_selser words input folder out err found s ended is a due ends r title w e =
 
 -- ---- refused
 
--- a refusal with the status of a refused edit is the answer
-refused_edit : (r x : Refusal) (s : Status) → s ≡ status.EditRefused → RefusesAs s r (refused x) → x ≡ r
-refused_edit r x s e h = let same : refused x ≡ refused r = subst (λ (v : Status). RefusesAs v r (refused x)) e h in cc
+-- a refusal that isn't a fault and no want of memory is the answer
+refused_for : (r x : Refusal) (s : Status) → IsAnswer s → RefusesAs s r (refused x) → x ≡ r
+refused_for r x status.Done a h = absurd h
+refused_for r x status.Usage a h = let e : refused x ≡ refused r = h in cc
+refused_for r x status.PageRefused a h = let e : refused x ≡ refused r = h in cc
+refused_for r x status.HtmlRefused a h = let e : refused x ≡ refused r = h in cc
+refused_for r x status.EditRefused a h = let e : refused x ≡ refused r = h in cc
+refused_for r x status.ReadFault a h = absurd a
+refused_for r x status.FolderFault a h = absurd a
+refused_for r x status.WriteFault a h = absurd a
+refused_for r x status.NoMemory a h = absurd a
 
-none_for : (pages : Pages) (page : List ℕ) (x : Read) (r : Refusal) → status_of r ≡ status.EditRefused → FindsFor pages page x (Err r) → NoneFor pages page x r
-none_for pages page (as_page edited unsourced) r e h =
-    subst (λ (v : Status). FindsNone pages (expanded_page pages page) page (page_tree pages page) (remarked_of pages page edited)
-    (are_none (difference (page_tree pages page) edited)) r v) e h
-none_for pages page (ill place why) r e h = tt
-none_for pages page (misfit n why) r e h = tt
+none_by : (pages : Pages) (items : Expanded) (page : List ℕ) (t u : Tree) (same : Bool) (r : Refusal) (s : Status) → IsAnswer s
+    → FindsNone pages items page t u same r s → IsNoNewPage pages items page t u same r
+none_by pages items page t u same r status.Done a h = absurd h
+none_by pages items page t u same r status.Usage a h = absurd h
+none_by pages items page t u same r status.PageRefused a h = absurd h
+none_by pages items page t u same r status.HtmlRefused a h = absurd h
+none_by pages items page t u same r status.EditRefused a h = h
+none_by pages items page t u same r status.ReadFault a h = absurd a
+none_by pages items page t u same r status.FolderFault a h = absurd a
+none_by pages items page t u same r status.WriteFault a h = absurd a
+none_by pages items page t u same r status.NoMemory a h = absurd a
 
-none_under : (pages : Pages) (stands : Option (List ℕ)) (x : Read) (r : Refusal) → status_of r ≡ status.EditRefused → FindsUnder pages stands x (Err r)
+none_for : (pages : Pages) (page : List ℕ) (x : Read) (r : Refusal) → IsAnswer (status_of r) → FindsFor pages page x (Err r) → NoneFor pages page x r
+none_for pages page (as_page edited unsourced) r a h =
+    none_by pages (expanded_page pages page) page (page_tree pages page) (remarked_of pages page edited)
+    (are_none (difference (page_tree pages page) edited)) r (status_of r) a h
+none_for pages page (ill place why) r a h = tt
+none_for pages page (misfit n why) r a h = tt
+
+none_under : (pages : Pages) (stands : Option (List ℕ)) (x : Read) (r : Refusal) → IsAnswer (status_of r) → FindsUnder pages stands x (Err r)
     → NoneUnder pages stands x r
-none_under pages None x r e h = tt
-none_under pages (Some page) x r e h = none_for pages page x r e h
+none_under pages None x r a h = tt
+none_under pages (Some page) x r a h = none_for pages page x r a h
 
-refuses_by : (pages : Pages) (stands : Option (List ℕ)) (input : List ℕ) (a : Answer) (r : Refusal) → status_of r ≡ status.EditRefused
+refuses_by : (pages : Pages) (stands : Option (List ℕ)) (input : List ℕ) (a : Answer) (r : Refusal) → IsAnswer (status_of r)
     → OrFound a (FindsUnder pages stands (read input) (Err r)) (Err r) → RefusesSelser a (NoneUnder pages stands (read input) r) r
-refuses_by pages stands input (refused x) r e h = refused_edit r x (status_of r) e h
+refuses_by pages stands input (refused x) r e h = refused_for r x (status_of r) e h
 refuses_by pages stands input (done page) r e h = none_under pages stands (read input) r e h
 
-selser_refused : (pages : Pages) (stands : Option (List ℕ)) (input : List ℕ) (found : Result Output Refusal) (s : Status) (out err : SinkUse)
-    → s ≡ status.EditRefused → AnswersSelser pages stands input found → Reported found s out err → RefusedSelser pages stands input err
-selser_refused pages stands input (Ok output) s out err e a (inl r) = absurd (let h : status.Done ≡ status.EditRefused = sym r.0 ∙ e in cc)
-selser_refused pages stands input (Ok output) s out err e a (inr r) = absurd (let h : status.WriteFault ≡ status.EditRefused = sym r.0 ∙ e in cc)
-selser_refused pages stands input (Err refusal) s out err e a (u, inl (inl t)) = record {
+selser_refused : (pages : Pages) (stands : Option (List ℕ)) (input : List ℕ) (found : Result Output Refusal) (s : Status) (ended : ℕ) (out err : SinkUse)
+    → ended ≡ code s → IsAnswer s → s ≢ status.Done → AnswersSelser pages stands input found → Reported found s out err
+    → RefusedSelser pages stands input ended err
+selser_refused pages stands input (Ok output) s ended out err is e n a (inl r) = absurd (n r.0)
+selser_refused pages stands input (Ok output) s ended out err is e n a (inr r) = absurd (subst IsAnswer r.0 e)
+selser_refused pages stands input (Err refusal) s ended out err is e n a (u, inl (inl t)) = record {
   refusal = refusal;
-  cause = refuses_by pages stands input (taken_of pages stands input) refusal (sym t.0 ∙ e) a;
+  cause = refuses_by pages stands input (taken_of pages stands input) refusal (subst IsAnswer t.0 e) a;
+  named = is ∙ ap code t.0;
   line = t.1;
 }
-selser_refused pages stands input (Err refusal) s out err e a (u, inl (inr t)) = absurd (let h : status.WriteFault ≡ status.EditRefused = sym t.0 ∙ e in cc)
-selser_refused pages stands input (Err refusal) s out err e a (u, inr (inl t)) = absurd (let h : status.NoMemory ≡ status.EditRefused = sym t.0 ∙ e in cc)
-selser_refused pages stands input (Err refusal) s out err e a (u, inr (inr t)) = absurd (let h : status.WriteFault ≡ status.EditRefused = sym t.0 ∙ e in cc)
+selser_refused pages stands input (Err refusal) s ended out err is e n a (u, inl (inr t)) = absurd (subst IsAnswer t.0 e)
+selser_refused pages stands input (Err refusal) s ended out err is e n a (u, inr (inl t)) = absurd (subst IsAnswer t.0 e)
+selser_refused pages stands input (Err refusal) s ended out err is e n a (u, inr (inr t)) = absurd (subst IsAnswer t.0 e)
 
 pub run_selser_refused : (told : Option Pages) (left : Option (List ℕ)) (title : List ℕ) (found : Result Output Refusal) (s : Status) (ended : ℕ) (out err : SinkUse)
     → ended ≡ code s → IfSome told (λ pages. IfSome left (λ bytes. AnswersSelser pages (pages title) bytes found)) → Reported found s out err
-    → ended ≡ code status.EditRefused → IfSome told (λ pages. IfSome left (λ bytes. RefusedSelser pages (pages title) bytes err))
-run_selser_refused None left title found s ended out err is a r e = tt
-run_selser_refused (Some pages) None title found s ended out err is a r e = tt
-run_selser_refused (Some pages) (Some bytes) title found s ended out err is a r e =
-    selser_refused pages (pages title) bytes found s out err (is_edit_refused s (sym is ∙ e)) a r
+    → IsDoneOrRefused ended → ended ≢ code status.Done
+    → IfSome told (λ pages. IfSome left (λ bytes. RefusedSelser pages (pages title) bytes ended err))
+run_selser_refused None left title found s ended out err is a r e n = tt
+run_selser_refused (Some pages) None title found s ended out err is a r e n = tt
+run_selser_refused (Some pages) (Some bytes) title found s ended out err is a r e n =
+    selser_refused pages (pages title) bytes found s ended out err is (is_answer s (subst IsDoneOrRefused is e)) (λ d. n (is ∙ ap code d)) a r
 
 -- ---- where `edit` is done
 

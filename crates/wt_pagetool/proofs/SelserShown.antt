@@ -1,6 +1,5 @@
 -- Marks count for nothing in what an edited tree shows.
 use Rattle.std.proofs.Common.{◌≡◌, sym, ap, ◌∙◌}
-use Rattle.wt_checks.specs.WithoutMarks.{unmarked}
 use Rattle.wt_difference.specs.Remarked.{remarked}
 use Rattle.wt_difference.proofs.Remarks.{marks_alone}
 use Rattle.wt_shown.proofs.MarksShowNothing.{marks_unseen}

@@ -1,5 +1,5 @@
--- What `selser` finds for the HTML of a page, given back unchanged: the page.
-use Rattle.std.proofs.Common.{◌≡◌, ℕ, Bool, true, false, List, refl, sym, ap, ◌∙◌, subst}
+-- What `selser` finds for the HTML of a page, given back unchanged or with changes that aren't compared: the page.
+use Rattle.std.proofs.Common.{◌≡◌, ℕ, Bool, true, false, List, [], refl, sym, ap, ◌∙◌, subst}
 use Rattle.std.specs.Prelude.{◌&&◌, not, if◌then◌else◌, Option, Some, None, IfSome, Result, Ok, Err}
 use Rattle.wt_span.specs.Origins.{Expanded}
 use Rattle.wt_tree.specs.Tiling.{is_group, InPreorder}
@@ -13,7 +13,7 @@ use Rattle.wt_checks.proofs.NodesAlone.{taken_alone}
 use Rattle.wt_checks.proofs.NodesUnmarked.{checked_unmarked}
 use Rattle.wt_checks.proofs.Repeated.{or_false}
 use Rattle.wt_checks.proofs.Sections.{no_difference}
-use Rattle.wt_difference.specs.Difference.{difference}
+use Rattle.wt_difference.specs.Difference.{are_none, difference}
 use Rattle.wt_difference.specs.Remarked.{remarked}
 use Rattle.wt_difference.specs.Unedited.{IsUnedited}
 use Rattle.wt_difference.proofs.Remarks.{marks_alone, groups_free}
@@ -30,19 +30,20 @@ use Rattle.wt_pagetool.specs.declared.output.Output.{Output}
 use Rattle.wt_pagetool.specs.declared.refusal.Refusal.{Refusal}
 use Rattle.wt_pagetool.specs.declared.status.Status.{Status}
 use Rattle.wt_pagetool.specs.declared.status.Status.TheVariants as status
-use Rattle.wt_pagetool.specs.Answers.{Answer, done, refused, IsText, refusal_of_page, expanded_by, html_answer, input_answer, new_answer, new_by, new_expanded, unspelled_answer, nodes_answer, taken_from, taken_to, taken_answer, taken_of}
+use Rattle.wt_pagetool.specs.Answers.{Answer, done, refused, IsUnrefused, expanded_by, html_answer, input_answer, new_answer, new_by, new_expanded, unspelled_answer, nodes_answer, remarked_of, taken_from, taken_to, taken_answer, taken_of}
 use Rattle.wt_pagetool.specs.Causes.{RefusesAs, Answered}
 use Rattle.wt_pagetool.specs.Devices.{SinkUse}
 use Rattle.wt_pagetool.specs.GivenBack.{GaveBack}
 use Rattle.wt_pagetool.specs.Refusals.{status_of}
 use Rattle.wt_pagetool.specs.Reports.{Reported}
-use Rattle.wt_pagetool.specs.Selser.{PageMustDo, FindsNone, FindsNew, FindsFor, FindsUnder, OrFound, AnswersSelser, are_none}
+use Rattle.wt_pagetool.specs.Selser.{PageMustDo, FindsNone, FindsNew, FindsFor, FindsUnder, IsUnchanged, OrFound, AnswersSelser}
 use Rattle.wt_pagetool.specs.Statuses.{code}
 use Rattle.wt_pagetool.proofs.AnswerLaws.{input_within}
 use Rattle.wt_pagetool.proofs.GivenBackLaws.{gave_step}
 use Rattle.wt_pagetool.proofs.SectionEdits.{plain_page}
 use Rattle.wt_pagetool.proofs.SelserShown.{remarked_shown}
-use Rattle.wt_pagetool.proofs.ShownLaws.{page_body}
+use Rattle.wt_pagetool.proofs.EditLaws.{restored_bare}
+use Rattle.wt_pagetool.proofs.ShownLaws.{page_body, page_face, read_face, same_shown, shown_same}
 use Rattle.wt_pagetool.proofs.UnchangedLaws.{IsInSections, sections_shown, none_differs, read_again}
 use Rattle.wt_pagetool.proofs.UnchangedShown.{unchanged_unmarked}
 use Rattle.wt_pagetool.proofs.UnchangedTree.{unchanged_checked}
@@ -81,20 +82,20 @@ nodes_taken t u h b =
 
 -- ---- nothing differs
 
-pub none_found : (t u : Tree) → IsInSections t u → (label t).kind ≡ kind.Body → InPreorder t → are_none (difference t (unranged u)) ≡ true
+none_found : (t u : Tree) → IsInSections t u → (label t).kind ≡ kind.Body → InPreorder t → difference t (unranged u) ≡ []
 none_found t u h b i =
-    ap are_none (nothing_differs t (unranged u) b i h.bare h.one
-    (subst (λ x. IsUnedited x (unranged u)) (sym h.opened) (unedited_read u h.written)))
+    nothing_differs t (unranged u) b i h.bare h.one (subst (λ x. IsUnedited x (unranged u)) (sym h.opened) (unedited_read u h.written))
 
 -- ---- the page is read back
 
-pub page_back : (pages : Pages) (page : List ℕ) (t u : Tree) → page_tree pages page ≡ t → IsText page → refusal_of_page pages page ≡ None
-    → IsInSections t u → new_answer pages t (remarked t (unranged u)) page ≡ done page
-page_back pages page t u is text unrefused h =
-    let e : Tree = remarked t (unranged u) in
-    text (new_expanded pages t e) ∙ ap (new_by (unspelled_answer pages t e page)) unrefused
-    ∙ none_differs (shown_children (page_tree pages page)) (shown_children (restored_from t e)) page
-    (ap shown_children is ∙ sections_shown t u h ∙ sym (remarked_shown t (unranged u)))
+page_back : (pages : Pages) (page : List ℕ) (edited : Tree) → IsUnrefused pages page
+    → shown_children (page_tree pages page) ≡ shown_children (restored_from (page_tree pages page) edited)
+    → new_answer pages (page_tree pages page) (remarked_of pages page edited) page ≡ done page
+page_back pages page edited h shown =
+    let t : Tree = page_tree pages page in
+    let e : Tree = remarked_of pages page edited in
+    h.text (new_expanded pages t e) ∙ ap (new_by (unspelled_answer pages t e page)) h.unrefused
+    ∙ none_differs (shown_children t) (shown_children (restored_from t e)) page (shown ∙ sym (remarked_shown t edited))
 
 -- ---- what is found
 
@@ -123,23 +124,53 @@ or_found : (a : Answer) (page : List ℕ) (F : Type 0) (found : Result Output Re
 or_found (done p) page F found e f = f
 or_found (refused r) page F found e f = absurd (cc)
 
-found_itself : (pages : Pages) (page bytes : List ℕ) (found : Result Output Refusal) → html_answer pages (Some page) ≡ done bytes
+found_itself : (pages : Pages) (page bytes : List ℕ) (found : Result Output Refusal) → IsUnchanged pages page bytes
     → AnswersSelser pages (Some page) bytes found → Answered (done page) found
-found_itself pages page bytes found e a =
-    let r = read_again pages page bytes e in
+found_itself pages page bytes found h a =
     let t : Tree = page_tree pages page in
-    let u : Tree = plain_page pages page in
-    let x : Tree = unranged u in
+    let x : Tree = h.edited in
     let taken : taken_of pages (Some page) bytes ≡ done page =
-    r.text (λ bs. input_answer (taken_answer pages bs) bytes) ∙ input_within (taken_answer pages page) bytes r.few
-    ∙ ap (taken_answer pages page) r.reads ∙ taken_read pages page x None
-    ∙ ap (expanded_by (taken_from pages page x)) r.unrefused ∙ ap (nodes_answer page) (nodes_taken t u r.held r.held.one.root) in
+    h.answered.text (λ bs. input_answer (taken_answer pages bs) bytes) ∙ input_within (taken_answer pages page) bytes h.within
+    ∙ ap (taken_answer pages page) h.reads ∙ taken_read pages page x h.unsourced
+    ∙ ap (expanded_by (taken_from pages page x)) h.answered.unrefused ∙ ap (nodes_answer page) h.allowed in
+    let shown : shown_children t ≡ shown_children (restored_from t x) =
+    shown_same t (restored_from t x) (page_face pages page) (restored_bare t x (read_face bytes x h.unsourced h.reads)) h.shows in
     let must : PageMustDo pages page t (remarked t x) (are_none (difference t x)) =
-    (none_found t u r.held (page_body pages page) (page_numbered pages page), page_back pages page t u refl r.text r.unrefused r.held) in
+    (ap are_none h.same, page_back pages page x h.answered shown) in
     let f : FindsFor pages page (read bytes) found =
     or_found (taken_of pages (Some page) bytes) page (FindsUnder pages (Some page) (read bytes) found) found taken a in
     found_page pages (expanded_page pages page) page t (remarked t x) (are_none (difference t x)) found must
-    (subst (λ y. FindsFor pages page y found) r.reads f)
+    (subst (λ y. FindsFor pages page y found) h.reads f)
+
+-- what `html` answers for the page differs from it in nothing
+html_unchanged : (pages : Pages) (page bytes : List ℕ) → html_answer pages (Some page) ≡ done bytes → IsUnchanged pages page bytes
+html_unchanged pages page bytes e =
+    let r = read_again pages page bytes e in
+    let t : Tree = page_tree pages page in
+    let u : Tree = plain_page pages page in
+    record {
+      edited = unranged u;
+      unsourced = None;
+      answered = record { text = r.text; unrefused = r.unrefused };
+      within = r.few;
+      reads = r.reads;
+      allowed = nodes_taken t u r.held r.held.one.root;
+      same = none_found t u r.held (page_body pages page) (page_numbered pages page);
+      shows = same_shown t (restored_from t (unranged u)) (page_face pages page)
+          (restored_bare t (unranged u) (read_face bytes (unranged u) None r.reads)) (sections_shown t u r.held);
+    }
+
+-- ---- the clauses
+
+pub run_selser_keeps : (told : Option Pages) (left : Option (List ℕ)) (title : List ℕ) (found : Result Output Refusal)
+    (s : Status) (ended : ℕ) (out err : SinkUse) → ended ≡ code s
+    → IfSome told (λ pages. IfSome left (λ bytes. AnswersSelser pages (pages title) bytes found)) → Reported found s out err
+    → IfSome told (λ pages. IfSome left (λ bytes. (page : List ℕ) → pages title ≡ Some page → IsUnchanged pages page bytes
+    → GaveBack page ended out.taken_before out.taken_after))
+run_selser_keeps None left title found s ended out err is a r = tt
+run_selser_keeps (Some ps) None title found s ended out err is a r = tt
+run_selser_keeps (Some ps) (Some bytes) title found s ended out err is a r = λ page stands h. gave_step page found s ended out err is
+    (found_itself ps page bytes found h (subst (λ st. AnswersSelser ps st bytes found) stands a)) r
 
 pub run_selser_changes_nothing : (told : Option Pages) (left : Option (List ℕ)) (title : List ℕ) (found : Result Output Refusal)
     (s : Status) (ended : ℕ) (out err : SinkUse) → ended ≡ code s
@@ -149,4 +180,4 @@ pub run_selser_changes_nothing : (told : Option Pages) (left : Option (List ℕ)
 run_selser_changes_nothing None left title found s ended out err is a r = tt
 run_selser_changes_nothing (Some ps) None title found s ended out err is a r = tt
 run_selser_changes_nothing (Some ps) (Some bytes) title found s ended out err is a r = λ page stands h. gave_step page found s ended out err is
-    (found_itself ps page bytes found h (subst (λ st. AnswersSelser ps st bytes found) stands a)) r
+    (found_itself ps page bytes found (html_unchanged ps page bytes h) (subst (λ st. AnswersSelser ps st bytes found) stands a)) r

@@ -61,6 +61,15 @@ same_shown (tree l ts) (tree m us) f g e =
     ∙ ap (λ x. along (element x (plains_before us ended)) ended) (f ∙ sym g)
     ∙ sym (body_plain m us j)
 
+pub shown_same : (t u : Tree) → IsBare t → IsBare u → plain t ≡ plain u → shown_children t ≡ shown_children u
+shown_same (tree l ts) (tree m us) f g e =
+    let k : l.kind ≡ kind.Body = ap (λ (x : Face). x.kind) f in
+    let j : m.kind ≡ kind.Body = ap (λ (x : Face). x.kind) g in
+    let one : along (element (face l) (plains_before ts ended)) ended ≡ along (element (face m) (plains_before us ended)) ended =
+    sym (body_plain l ts k) ∙ e ∙ body_plain m us j in
+    let inside : plains_before ts ended ≡ plains_before us ended = cc in
+    ap listed inside
+
 -- ---- the body of a page
 
 pub page_face : (pages : Pages) (page : List ℕ) → IsBare (page_tree pages page)

@@ -1,27 +1,33 @@
 -- What `selser` finds for an edited tree: a new page that was read back, or why there is none.
-use Rattle.std.specs.Prelude.{◌≡◌, ◌≢◌, ◌≤◌, ◌⊎◌, ⊤, ℕ, length, Bool, true, false, List, [], ◌∷◌, Option, Some, None, Result, Ok, Err}
+use Rattle.std.specs.Prelude.{◌≡◌, ◌≢◌, ◌≤◌, ◌⊎◌, ⊤, ℕ, length, Bool, true, List, [], Option, Some, None, Result, Ok, Err}
 use Rattle.wt_expand.specs.PageCalls.{expanded_page}
 use Rattle.wt_expand.specs.Work.{Pages}
 use Rattle.wt_fitting.specs.Read.{Read, page as as_page, ill, misfit, read}
 use Rattle.wt_page_round_trip.specs.PageTree.{page_tree}
-use Rattle.wt_difference.specs.Difference.{Changed, difference}
+use Rattle.wt_checks.specs.Checked.{nodes_checked}
+use Rattle.wt_difference.specs.Difference.{are_none, difference}
 use Rattle.wt_proposal.specs.Rewritten.{IsRewritten}
 use Rattle.wt_selser.specs.Edits.{edit_answer}
+use Rattle.wt_selser.specs.declared.refusal.EditRefusal.{EditRefusal}
+use Rattle.wt_selser.specs.declared.refusal.EditRefusal.TheVariants as of_edit
 use Rattle.wt_shown.specs.KeptMarks.{KeepsMarks}
+use Rattle.wt_shown.specs.Restored.{restored_from}
 use Rattle.wt_shown.specs.SameNodes.{same_node}
 use Rattle.wt_span.specs.Origins.{Expanded}
 use Rattle.wt_span.specs.declared.limits.TheConstants.{HTML_BYTES}
+use Rattle.wt_tree.specs.Plain.{plain}
 use Rattle.wt_tree.specs.Tree.{Tree}
 use Rattle.wt_pagetool.specs.declared.output.Output.{Output}
 use Rattle.wt_pagetool.specs.declared.refusal.Refusal.{Refusal}
 use Rattle.wt_pagetool.specs.declared.refusal.Refusal.TheVariants as refusal
 use Rattle.wt_pagetool.specs.declared.status.Status.{Status}
 use Rattle.wt_pagetool.specs.declared.status.Status.TheVariants as status
-use Rattle.wt_pagetool.specs.Answers.{Answer, done, refused, edit_by, edit_to, new_answer, remarked_of, taken_of, IsText}
+use Rattle.wt_pagetool.specs.Answers.{Answer, done, refused, edit_by, edit_to, new_answer, remarked_of, taken_of, IsNoText, IsText, IsUnrefused}
 use Rattle.wt_pagetool.specs.Causes.{Answered}
 use Rattle.wt_pagetool.specs.Devices.{SinkUse, Took}
 use Rattle.wt_pagetool.specs.Outputs.{output_bytes}
 use Rattle.wt_pagetool.specs.Refusals.{line_of, status_of}
+use Rattle.wt_pagetool.specs.Statuses.{code}
 
 -- ---- a new page
 
@@ -77,10 +83,42 @@ pub record IsNewPage (pages : Pages) (items : Expanded) (page : List ℕ) (t u :
   pub back : ReadsBack pages t u new
   pub itself : PageMustDo pages page t u same → new ≡ page
 
--- No new page: it is refused by its content, as too long, for its expansion or for what it shows; and `edit` refuses the marks of the
--- difference, too, or its new page.
+-- Why a new page isn't the answer: it is none that a page may be; or reading it back refuses it so; or it shows the same, and has lost a
+-- comment or an include tag. Where none was found to try, that is told as the last.
+abbrev pub FailsAs : Pages → Tree → Tree → Option (List ℕ) → Refusal → Type 0
+FailsAs pages t u None r = r ≡ refusal.Unspelled 0
+FailsAs pages t u (Some new) r = (IsNoText (Some new) × (r ≡ refusal.NewPageTooLong))
+    ⊎ ((new_answer pages t u new ≡ refused r) ⊎ ((¬ KeepsMarks (page_tree pages new) t u) × (r ≡ refusal.Unspelled 0)))
+
+-- the first new page that is tried: the page as it is; or the page with places of the difference, and nothing else, written anew; or
+-- none was found
+abbrev pub IsFirst : List ℕ → Tree → Tree → Option (List ℕ) → Type 0
+IsFirst page t u None = ⊤
+IsFirst page t u (Some new) = (new ≡ page) ⊎ IsRewritten page t u new
+
+-- it isn't the answer, for this reason
+pub record FirstFails (pages : Pages) (page : List ℕ) (t u : Tree) (r : Refusal) : Type 0 where
+  pub first : Option (List ℕ)
+  pub made : IsFirst page t u first
+  pub fails : FailsAs pages t u first r
+
+-- The refusal, by what `edit` answers to the marks of the difference and why the first new page isn't the answer: what of its content can't
+-- be, or that `edit`'s new page is too long; else what the first new page is refused for.
+abbrev pub late_refusal : Result (List ℕ) EditRefusal → Refusal → Refusal
+late_refusal (Ok new) first = first
+late_refusal (Err (of_edit.Check c)) first = first
+late_refusal (Err (of_edit.BadContent n why)) first = refusal.BadContent n why
+late_refusal (Err (of_edit.Tangled n)) first = first
+late_refusal (Err of_edit.NewPageTooLong) first = refusal.NewPageTooLong
+late_refusal (Err of_edit.NoMemory) first = refusal.NoMemory
+
+-- No new page: it is refused by its content, as too long, for its expansion or for what it shows, as `edit` and the first new page have it;
+-- and `edit` refuses the marks of the difference, too, or its new page.
 pub record IsNoNewPage (pages : Pages) (items : Expanded) (page : List ℕ) (t u : Tree) (same : Bool) (r : Refusal) : Type 0 where
   pub late : IsOfNewPage r
+  pub fault : Refusal
+  pub first : FirstFails pages page t u fault
+  pub is : r ≡ late_refusal (edit_answer same_node items page t u) fault
   pub unedited : (new : List ℕ) → edit_by pages t u (edit_answer same_node items page t u) ≢ done new
   pub itself : ¬ PageMustDo pages page t u same
 
@@ -102,11 +140,6 @@ FindsNew pages items page t u same (Ok output) = IsNewPage pages items page t u 
 FindsNew pages items page t u same (Err r) = FindsNone pages items page t u same r (status_of r)
 
 -- ---- the answer
-
--- nothing differs
-abbrev pub are_none : List Changed → Bool
-are_none [] = true
-are_none (c ∷ cs) = false
 
 -- of a page that is taken, for an edited tree
 abbrev pub Finds : Pages → List ℕ → Tree → Result Output Refusal → Type 0
@@ -149,6 +182,22 @@ pub record DoneByEdit (pages : Pages) (stands : Option (List ℕ)) (input : List
   pub within : length input ≤ HTML_BYTES
   pub done : EditIsDone pages page (read input)
 
+-- ---- nothing is changed
+
+-- An input that differs from the page's own HTML only in what isn't compared, as marks, separators, comments that were taken out, and
+-- sources are. It stands for an edited tree none of whose nodes is refused, in which nothing differs from the page's tree, and which shows
+-- what the page shows. (Of a text behind a block in an item or a cell the difference sees only that one stands there, so what is shown
+-- is asked, too.)
+pub record IsUnchanged (pages : Pages) (page input : List ℕ) : Type 0 where
+  pub edited : Tree
+  pub unsourced : Option ℕ
+  pub answered : IsUnrefused pages page
+  pub within : length input ≤ HTML_BYTES
+  pub reads : read input ≡ as_page edited unsourced
+  pub allowed : nodes_checked (page_tree pages page) (remarked_of pages page edited) ≡ None
+  pub same : difference (page_tree pages page) edited ≡ []
+  pub shows : plain (page_tree pages page) ≡ plain (restored_from (page_tree pages page) edited)
+
 -- ---- a refusal
 
 -- no new page, for this reason, of what was read
@@ -167,8 +216,9 @@ abbrev pub RefusesSelser : Answer → Type 0 → Refusal → Type 0
 RefusesSelser (refused before) none r = before ≡ r
 RefusesSelser (done page) none r = none
 
--- the line of such a refusal was written
-pub record RefusedSelser (pages : Pages) (stands : Option (List ℕ)) (input : List ℕ) (err : SinkUse) : Type 0 where
+-- the line of such a refusal was written, and the call ended with its status
+pub record RefusedSelser (pages : Pages) (stands : Option (List ℕ)) (input : List ℕ) (ended : ℕ) (err : SinkUse) : Type 0 where
   pub refusal : Refusal
   pub cause : RefusesSelser (taken_of pages stands input) (NoneUnder pages stands (read input) refusal) refusal
+  pub named : ended ≡ code (status_of refusal)
   pub line : Took err (line_of refusal)

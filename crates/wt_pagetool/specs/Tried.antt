@@ -1,7 +1,7 @@
 -- What reading a new page back says, and what trying a proposal does.
-use Rattle.std.specs.Prelude.{◌≡◌, ⊤, ℕ, Bool, true, List, Option, Some, None}
+use Rattle.std.specs.Prelude.{◌≡◌, ⊤, ℕ, Bool, List, Option, Some, None}
 use Rattle.wt_checks.specs.Checked.{nodes_checked}
-use Rattle.wt_difference.specs.Difference.{difference}
+use Rattle.wt_difference.specs.Difference.{are_none, difference}
 use Rattle.wt_difference.specs.Remarked.{remarked}
 use Rattle.wt_expand.specs.Work.{Pages}
 use Rattle.wt_expansion.specs.Known.{HoldsPages}
@@ -28,7 +28,8 @@ use Rattle.wt_pagetool.specs.declared.proposing.Tried.TheVariants as tried
 use Rattle.wt_pagetool.specs.declared.selser_command.Beside.{Beside}
 use Rattle.wt_pagetool.specs.declared.refusal.Refusal.{Refusal}
 use Rattle.wt_pagetool.specs.declared.refusal.Refusal.TheVariants.{BadContent, NewPageTooLong, NewExpansion, Unspelled, FolderFault, NoMemory}
-use Rattle.wt_pagetool.specs.Selser.{are_none, IsNewPage, IsProposed, PageMustDo, ReadsBack}
+use Rattle.wt_pagetool.specs.Answers.{new_answer, refused, IsNoText}
+use Rattle.wt_pagetool.specs.Selser.{FailsAs, FirstFails, IsNewPage, IsProposed, PageMustDo, ReadsBack}
 
 -- ---- an expansion
 
@@ -78,13 +79,20 @@ abbrev pub ComparedAs : KnownPage → Tree → Tree → ReadBack → Type 0
 ComparedAs found t u (back.Shows shown) =
     (shown ≡ found) × IsFirstDiffering (shown_children (view found.annotated.tree.body)) (shown_children (restored_from t u)) None
 ComparedAs found t u (back.Fails why x) = (x ≡ found.expansion)
-    × ((k : ℕ) × IsFirstDiffering (shown_children (view found.annotated.tree.body)) (shown_children (restored_from t u)) (Some k))
+    × ((k : ℕ) × ((why ≡ fault.Block k)
+    × IsFirstDiffering (shown_children (view found.annotated.tree.body)) (shown_children (restored_from t u)) (Some k)))
+
+-- why a new page doesn't read back
+abbrev pub IsFaultOf : Pages → Tree → Tree → List ℕ → Fault → Type 0
+IsFaultOf pages t u new fault.TooLong = IsNoText (Some new)
+IsFaultOf pages t u new fault.Expansion = new_answer pages t u new ≡ refused NewExpansion
+IsFaultOf pages t u new (fault.Block child) = new_answer pages t u new ≡ refused (Unspelled child)
 
 -- it reads back, or it doesn't; what is known after it is of this folder
 abbrev pub ReadAs : Pages → Tree → Tree → List ℕ → ReadBack → Type 0
 ReadAs pages t u new (back.Shows found) =
     ReadsBack pages t u new × (view found.annotated.tree.body ≡ page_tree pages new) × KnowsOf pages found.expansion
-ReadAs pages t u new (back.Fails why x) = (¬ ReadsBack pages t u new) × KnowsOf pages x
+ReadAs pages t u new (back.Fails why x) = (¬ ReadsBack pages t u new) × KnowsOf pages x × IsFaultOf pages t u new why
 
 -- ---- a new page that is tried
 
@@ -95,24 +103,26 @@ HoldsTried (tried.Fails why x) = HoldsPages x
 -- this page, as it is
 abbrev pub TriedPage : Pages → Tree → Tree → List ℕ → Tried → Type 0
 TriedPage pages t u new (tried.Stands given) = (given ≡ new) × ReadsBack pages t u new
-TriedPage pages t u new (tried.Fails why x) = (¬ ReadsBack pages t u new) × KnowsOf pages x
+TriedPage pages t u new (tried.Fails why x) = (¬ ReadsBack pages t u new) × KnowsOf pages x × IsFaultOf pages t u new why
 
 -- what was found of this page is asked for the marks that the edited tree still has
 abbrev pub MarkedAs : KnownPage → Tree → Tree → List ℕ → Tried → Type 0
 MarkedAs found t u new (tried.Stands given) = (given ≡ new) × KeepsMarks (view found.annotated.tree.body) t u
-MarkedAs found t u new (tried.Fails why x) = x ≡ found.expansion
+MarkedAs found t u new (tried.Fails why x) =
+    (x ≡ found.expansion) × (why ≡ fault.Block 0) × (¬ KeepsMarks (view found.annotated.tree.body) t u)
 
 -- this page, which has to keep these marks
 abbrev pub TriedMarks : Pages → Tree → Tree → List ℕ → Tried → Type 0
 TriedMarks pages t u new (tried.Stands given) = (given ≡ new) × ReadsBack pages t u new × KeepsMarks (page_tree pages new) t u
-TriedMarks pages t u new (tried.Fails why x) = KnowsOf pages x
+TriedMarks pages t u new (tried.Fails why x) = KnowsOf pages x × FailsAs pages t u (Some new) (refusal_of_fault why)
 
 -- a proposal
 abbrev pub TriedProposal : Pages → List ℕ → Tree → Tree → Tried → Type 0
 TriedProposal pages page t u (tried.Stands new) = IsProposed pages page t u new × ReadsBack pages t u new
-TriedProposal pages page t u (tried.Fails why x) = KnowsOf pages x
+TriedProposal pages page t u (tried.Fails why x) = KnowsOf pages x × FirstFails pages page t u (refusal_of_fault why)
 
 -- the first of all
 abbrev pub TriedFirst : Pages → Expanded → List ℕ → Tree → Tree → Bool → Tried → Type 0
 TriedFirst pages items page t u same (tried.Stands new) = IsNewPage pages items page t u same new
-TriedFirst pages items page t u same (tried.Fails why x) = (¬ PageMustDo pages page t u same) × KnowsOf pages x
+TriedFirst pages items page t u same (tried.Fails why x) =
+    (¬ PageMustDo pages page t u same) × KnowsOf pages x × FirstFails pages page t u (refusal_of_fault why)

@@ -1,6 +1,8 @@
 //! The new pages that are tried for an edited tree, one after another, each by reading it back.
 
 ghost use Rattle.std.specs.Prelude.{◌≡◌, false, Some, Ok, Err, IfOk, IfErr};
+ghost use Rattle.wt_checks.specs.Places.{page_of};
+ghost use Rattle.wt_checks.specs.View.{indexed};
 ghost use Rattle.wt_expand.specs.Work.{Pages};
 ghost use Rattle.wt_expansion.specs.Known.{HoldsPages};
 ghost use Rattle.wt_outer.specs.Device.{Rose};
@@ -12,7 +14,7 @@ ghost use Rattle.wt_tree.specs.declared.kind.Kind.TheVariants as kind;
 ghost use Rattle.wt_selser.specs.Edits.{edit_answer, AnswersEdit};
 ghost use Rattle.wt_shown.specs.SameNodes.{same_node};
 ghost use Rattle.wt_pagetool.specs.Causes.{IsKept, IsOfEdit, IsOfFolder};
-ghost use Rattle.wt_pagetool.specs.Selser.{FindsNew};
+ghost use Rattle.wt_pagetool.specs.Selser.{FindsNew, FirstFails};
 ghost use Rattle.wt_pagetool.specs.Tried.{last_refusal, refusal_of_fault, HoldsTried, KnowsOf, MarkedAs, TriedFirst, TriedMarks, TriedPage, TriedProposal};
 
 use crate::known_page::KnownPage;
@@ -47,7 +49,8 @@ fn refusal_of(fault: Fault) -> Refusal
     }
 }
 
-/// Why an edit is refused whose marks `edit` refuses: what the content can't be, or else the fault of the first new page.
+/// Why an edit is refused whose marks `edit` refuses: what the content can't be, or else the fault of the first
+/// new page.
 fn last_refusal(refusal: EditRefusal, fault: Fault) -> Refusal
     ensures { result ≡ last_refusal refusal fault }
 {
@@ -147,6 +150,7 @@ fn tried_proposal<'a, F: Folder>(
 ) -> Result<Tried<'a>, Refusal>
     requires body { (label (view edit.now.tree.now)).kind ≡ kind.Body }
     requires numbered { ∥ InPreorder (view edit.now.tree.now) ∥₁ }
+    requires index { indexed edit.now.index.now ≡ page_of (view edit.now.tree.now) }
     requires known { HoldsPages expansion }
     ensures tried { (pages : Pages) → F.pages folder.old ≡ Some pages → KnowsOf pages expansion.entry
         → IfOk result (TriedProposal pages edit.now.page.now (view edit.now.tree.now) (view edit.now.edited.now)) }
@@ -157,7 +161,14 @@ fn tried_proposal<'a, F: Folder>(
     ensures count { IsKept result (F.fault_count folder.old) (F.fault_count folder.new) }
     ensures kept { F.pages folder.new ≡ F.pages folder.old }
 {
-    let proposed = proposal(alloc, edit.page, edit.tree, edit.edited, keeping)?;
+    let proposed = proposal(
+        alloc,
+        edit.page,
+        edit.index,
+        edit.tree,
+        edit.edited,
+        keeping,
+    )?;
     match proposed {
         Some(new) => tried_marks(alloc, new, edit, folder, expansion),
         None => Ok(Tried::Fails(Fault::Block(0), expansion)),
@@ -173,6 +184,7 @@ fn tried_first<'a, F: Folder>(
 ) -> Result<Tried<'a>, Refusal>
     requires body { (label (view edit.now.tree.now)).kind ≡ kind.Body }
     requires numbered { ∥ InPreorder (view edit.now.tree.now) ∥₁ }
+    requires index { indexed edit.now.index.now ≡ page_of (view edit.now.tree.now) }
     requires known { HoldsPages expansion }
     ensures tried { (pages : Pages) → F.pages folder.old ≡ Some pages → KnowsOf pages expansion.entry
         → IfOk result (TriedFirst pages edit.now.items.now edit.now.page.now (view edit.now.tree.now) (view edit.now.edited.now) edit.now.same) }
@@ -207,6 +219,7 @@ fn page_of_edit<'a, F: Folder>(
     requires known { HoldsPages expansion }
     requires edited { edit_answer same_node edit.now.items.now edit.now.page.now (view edit.now.tree.now) (view edit.now.edited.now) ≡ Ok new }
     ensures found { (pages : Pages) → F.pages folder.old ≡ Some pages → KnowsOf pages expansion.entry
+        → FirstFails pages edit.now.page.now (view edit.now.tree.now) (view edit.now.edited.now) (refusal_of_fault fault)
         → FindsNew pages edit.now.items.now edit.now.page.now (view edit.now.tree.now)
         (view edit.now.edited.now) false result }
     ensures asks { Asks (F.answered folder.old) (F.answered folder.new) (F.most_asked folder.old)
@@ -233,9 +246,11 @@ fn page_of_refused<'a, F: Folder>(
 ) -> Result<Output, Refusal>
     requires body { (label (view edit.now.tree.now)).kind ≡ kind.Body }
     requires numbered { ∥ InPreorder (view edit.now.tree.now) ∥₁ }
+    requires index { indexed edit.now.index.now ≡ page_of (view edit.now.tree.now) }
     requires known { HoldsPages expansion }
     requires edited { AnswersEdit (edit_answer same_node edit.now.items.now edit.now.page.now (view edit.now.tree.now) (view edit.now.edited.now)) (Err refusal) }
     ensures found { (pages : Pages) → F.pages folder.old ≡ Some pages → KnowsOf pages expansion.entry
+        → FirstFails pages edit.now.page.now (view edit.now.tree.now) (view edit.now.edited.now) (refusal_of_fault fault)
         → FindsNew pages edit.now.items.now edit.now.page.now (view edit.now.tree.now)
         (view edit.now.edited.now) false result }
     ensures asks { Asks (F.answered folder.old) (F.answered folder.new) (F.most_asked folder.old)
@@ -262,8 +277,10 @@ fn last_page<'a, F: Folder>(
 ) -> Result<Output, Refusal>
     requires body { (label (view edit.now.tree.now)).kind ≡ kind.Body }
     requires numbered { ∥ InPreorder (view edit.now.tree.now) ∥₁ }
+    requires index { indexed edit.now.index.now ≡ page_of (view edit.now.tree.now) }
     requires known { HoldsPages expansion }
     ensures found { (pages : Pages) → F.pages folder.old ≡ Some pages → KnowsOf pages expansion.entry
+        → FirstFails pages edit.now.page.now (view edit.now.tree.now) (view edit.now.edited.now) (refusal_of_fault fault)
         → FindsNew pages edit.now.items.now edit.now.page.now (view edit.now.tree.now)
         (view edit.now.edited.now) false result }
     ensures asks { Asks (F.answered folder.old) (F.answered folder.new) (F.most_asked folder.old)
@@ -290,8 +307,10 @@ fn page_but_in<'a, F: Folder>(
 ) -> Result<Output, Refusal>
     requires body { (label (view edit.now.tree.now)).kind ≡ kind.Body }
     requires numbered { ∥ InPreorder (view edit.now.tree.now) ∥₁ }
+    requires index { indexed edit.now.index.now ≡ page_of (view edit.now.tree.now) }
     requires known { HoldsPages expansion }
     ensures found { (pages : Pages) → F.pages folder.old ≡ Some pages → KnowsOf pages expansion.entry
+        → FirstFails pages edit.now.page.now (view edit.now.tree.now) (view edit.now.edited.now) (refusal_of_fault (Fault.Block block))
         → FindsNew pages edit.now.items.now edit.now.page.now (view edit.now.tree.now)
         (view edit.now.edited.now) false result }
     ensures asks { Asks (F.answered folder.old) (F.answered folder.new) (F.most_asked folder.old)
@@ -319,8 +338,10 @@ fn other_page<'a, F: Folder>(
 ) -> Result<Output, Refusal>
     requires body { (label (view edit.now.tree.now)).kind ≡ kind.Body }
     requires numbered { ∥ InPreorder (view edit.now.tree.now) ∥₁ }
+    requires index { indexed edit.now.index.now ≡ page_of (view edit.now.tree.now) }
     requires known { HoldsPages expansion }
     ensures found { (pages : Pages) → F.pages folder.old ≡ Some pages → KnowsOf pages expansion.entry
+        → FirstFails pages edit.now.page.now (view edit.now.tree.now) (view edit.now.edited.now) (refusal_of_fault fault)
         → FindsNew pages edit.now.items.now edit.now.page.now (view edit.now.tree.now)
         (view edit.now.edited.now) false result }
     ensures asks { Asks (F.answered folder.old) (F.answered folder.new) (F.most_asked folder.old)
@@ -346,6 +367,7 @@ pub fn new_page<'a, F: Folder>(
 ) -> Result<Output, Refusal>
     requires body { (label (view edit.now.tree.now)).kind ≡ kind.Body }
     requires numbered { ∥ InPreorder (view edit.now.tree.now) ∥₁ }
+    requires index { indexed edit.now.index.now ≡ page_of (view edit.now.tree.now) }
     requires known { HoldsPages expansion }
     ensures found { (pages : Pages) → F.pages folder.old ≡ Some pages → KnowsOf pages expansion.entry
         → FindsNew pages edit.now.items.now edit.now.page.now (view edit.now.tree.now)

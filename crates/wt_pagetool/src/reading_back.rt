@@ -20,6 +20,7 @@ use crate::page::text_of_page;
 use crate::refusal::Refusal;
 use bumpalo::Bump;
 use std::alloc::Global;
+use wt_checks::Visit;
 use wt_levels::Expansion;
 use wt_outer::Folder;
 use wt_selser::first_differing;
@@ -34,6 +35,8 @@ pub struct EditedPage<'p, 'a> {
     pub page: &'p str,
     /// Its tree.
     pub tree: &'p Node<'a>,
+    /// The body, and behind it the nodes of its tree by their numbers.
+    pub index: &'p [Visit<'p, 'a>],
     /// Its items.
     pub items: &'p Items<'a>,
     /// The tree to which it was edited, with the marks of its difference from the page's tree, and no others.

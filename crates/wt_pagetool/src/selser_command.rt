@@ -3,9 +3,10 @@
 ghost use Rattle.std.specs.Prelude.{◌≡◌, ◌≤◌, ◌+◌, ℕ, List, length, Some, IfSome, IfOk, IfErr, OnOk};
 ghost use Rattle.std.specs.Io.KnownBytes.{IsAtEnd};
 ghost use Rattle.wt_checks.specs.Checked.{nodes_checked};
-ghost use Rattle.wt_difference.specs.Difference.{difference};
+ghost use Rattle.wt_checks.specs.Places.{page_of};
+ghost use Rattle.wt_checks.specs.View.{indexed};
+ghost use Rattle.wt_difference.specs.Difference.{are_none, difference};
 ghost use Rattle.wt_difference.specs.Remarked.{remarked};
-ghost use Rattle.wt_difference.specs.Views.{changes_view};
 ghost use Rattle.wt_expand.specs.Work.{Pages};
 ghost use Rattle.wt_expansion.specs.Known.{HoldsPages};
 ghost use Rattle.wt_fitting.specs.Read.{read};
@@ -19,7 +20,7 @@ ghost use Rattle.wt_tree.specs.declared.kind.Kind.TheVariants as kind;
 ghost use Rattle.wt_pagetool.specs.Answers.{input_answer, nodes_answer, selser_told, taken_answer, taken_to, IsNoText};
 ghost use Rattle.wt_pagetool.specs.Causes.{Answered, IsKept, IsOfEdit};
 ghost use Rattle.wt_pagetool.specs.Inputs.{GivesAtMost};
-ghost use Rattle.wt_pagetool.specs.Selser.{are_none, AnswersSelser, Finds, FindsFor, FindsNew, OrFound};
+ghost use Rattle.wt_pagetool.specs.Selser.{AnswersSelser, Finds, FindsFor, FindsNew, OrFound};
 ghost use Rattle.wt_pagetool.specs.Tried.{IsBeside, KnowsOf};
 
 use crate::fetch::fetched_page;
@@ -32,8 +33,8 @@ use crate::refusal::Refusal;
 use crate::wikitext_command::{PIECE, read_all};
 use bumpalo::Bump;
 use std::alloc::Global;
-use wt_checks::{Check, check_nodes, numbered_nodes};
-use wt_difference::{Changed, difference, remark};
+use wt_checks::{Check, Visit, check_nodes, numbered_nodes};
+use wt_difference::{has_mark, remark};
 use wt_html_in::Reader;
 use wt_outer::{Folder, Source};
 use wt_span::{HTML_BYTES, NoMemory, PAGE_BYTES};
@@ -50,38 +51,20 @@ struct Beside<'a> {
     refused: Option<Check>,
 }
 
-fn are_none(changed: &[Changed<'_, '_>]) -> bool
-    ensures { result ≡ are_none (changes_view changed.now) }
-{
-    match changed {
-        [] => true,
-        [_, ..] => false,
-    }
-}
-
-/// Whether an edited tree doesn't differ from a page's.
-fn is_same<'t, 'a>(
+/// Sets an edited tree beside a page's, whose nodes `index` has by their numbers.
+fn set_beside<'a>(
     alloc: Global,
-    page: &'t Node<'a>,
-    edited: &'t Node<'a>,
-) -> Result<bool, NoMemory>
+    page: &Node<'a>,
+    index: &[Visit<'_, 'a>],
+    edited: Node<'a>,
+) -> Result<Beside<'a>, NoMemory>
     requires body { (label (view page.now)).kind ≡ kind.Body }
     requires numbered { ∥ InPreorder (view page.now) ∥₁ }
-    ensures { IfOk result (λ b. b ≡ are_none (difference (view page.now) (view edited.now))) }
-{
-    let index = numbered_nodes(alloc, page)?;
-    let changed = difference(alloc, index.as_slice(), edited)?;
-    Ok(are_none(changed.as_slice()))
-}
-
-/// Sets an edited tree beside a page's.
-fn set_beside<'a>(alloc: Global, page: &Node<'a>, edited: Node<'a>) -> Result<Beside<'a>, NoMemory>
-    requires body { (label (view page.now)).kind ≡ kind.Body }
-    requires numbered { ∥ InPreorder (view page.now) ∥₁ }
+    requires index { indexed index.now ≡ page_of (view page.now) }
     ensures { IfOk result (λ c. IsBeside (view page.now) (view edited.entry) c) }
 {
-    let same = is_same(alloc, &*page, &edited)?;
-    let edited = remark(alloc, &*page, edited)?;
+    let edited = remark(alloc, index, edited)?;
+    let same = !has_mark(&edited);
     let refused = check_nodes(alloc, &*page, &edited)?;
     Ok(Beside {
         edited,
@@ -117,13 +100,15 @@ fn page_of_found<'a, F: Folder>(
         expansion,
     } = found;
     let tree = annotated.body();
-    let beside = set_beside(alloc, tree, edited)?;
+    let index = numbered_nodes(alloc, tree)?;
+    let beside = set_beside(alloc, tree, index.as_slice(), edited)?;
     match beside.refused {
         Some(check) => Err(Refusal::Checked(check)),
         None => {
             let edit = EditedPage {
                 page,
                 tree,
+                index: index.as_slice(),
                 items: annotated.items(),
                 edited: &beside.edited,
                 same: beside.same,

@@ -12,7 +12,7 @@ ghost use Rattle.wt_pagetool.specs.GivenBack.{GaveBack};
 ghost use Rattle.wt_pagetool.specs.Inputs.{GivesAtMost};
 ghost use Rattle.wt_pagetool.specs.Reports.{WasDone, WasRefused, OutFailed, ErrFailed};
 ghost use Rattle.wt_pagetool.specs.Reports.{WrotePage, WroteExpansion, WroteEdit, WroteSelser, WroteCounts, WroteSource};
-ghost use Rattle.wt_pagetool.specs.Selser.{AnswersSelser, DoneByEdit, RefusedSelser};
+ghost use Rattle.wt_pagetool.specs.Selser.{AnswersSelser, DoneByEdit, IsUnchanged, RefusedSelser};
 ghost use Rattle.wt_pagetool.specs.Statuses.{code, IsDoneOrRefused, IsFaultOrNoMemory};
 ghost use Rattle.wt_pagetool.specs.Words.{command_of, Fetches, Reads};
 
@@ -79,16 +79,16 @@ fn find_answer<S: Source, F: Folder>(
 /// (`Status::code`).
 ///
 /// `html TITLE` writes to `out` the HTML of the page that stands in `folder` under the title, with its
-/// templates, whose pages stand in `folder`, too, and its functions expanded; `ranges TITLE` a line for each
-/// of its nodes that has a number, `mwN KIND START END OPEN CLOSE`, in bytes; `lint TITLE` a line for each
-/// doubtful place, `KIND LINE COLUMN START END`; `expand TITLE` the items of the expanded page. `gen N` makes
-/// a page of N sections and its HTML, reads this back and writes what it counted. `wikitext` reads the HTML
-/// of `input` to its end and writes to `out` the source of the page for which it stands. `edit TITLE` reads
-/// the HTML of `input`, in which some elements of the page's HTML are marked as edited, and writes the new
-/// page: the inside of each marked block is written anew, blocks and items come and go where their parent is
-/// marked so, and nothing else is changed. `selser TITLE` reads such HTML without marks, finds what was changed,
-/// and writes a new page that shows what the HTML shows. Nothing goes to `out` before the whole answer is known, and each
-/// refusal has its one line on `err`.
+/// templates, whose pages stand in `folder`, too, and its functions expanded; `ranges TITLE` a line for
+/// each of its nodes that has a number, `mwN KIND START END OPEN CLOSE`, in bytes; `lint TITLE` a line
+/// for each doubtful place, `KIND LINE COLUMN START END`; `expand TITLE` the items of the expanded page.
+/// `gen N` makes a page of N sections and its HTML, reads this back and writes what it counted.
+/// `wikitext` reads the HTML of `input` to its end and writes to `out` the source of the page for which
+/// it stands. `edit TITLE` reads the HTML of `input`, in which some elements of the page's HTML are
+/// marked as edited, and writes the new page: the inside of each marked block is written anew, blocks and
+/// items come and go where their parent is marked so, and nothing else is changed. `selser TITLE` reads
+/// such HTML without marks, finds what was changed, and writes a new page that shows what the HTML shows.
+/// Nothing goes to `out` before the whole answer is known, and each refusal has its one line on `err`.
 ///
 /// A title stands here for its full name. What is said of a device's pages or bytes holds where the device
 /// tells them (`IfSome`), as those in memory do; the directory and the standard streams of the program tell
@@ -138,13 +138,13 @@ pub fn run<S: Source, F: Folder, W: Sink, E: Sink>(
         → IfSome (F.pages folder.old) (λ pages. IfSome (S.left input.old)
         (λ bytes. WroteEdit pages title bytes (S.left input.new) (W.taken out.old) (W.taken out.new))) }
 
-    // `selser`, when it is done, read the input to its end and wrote a new page. It is the page with places of
-    // the difference of the two, and nothing else, written anew, in which the comments and include tags that
-    // the input still has stand; or the page as it is; or what `edit` makes of the marks of the difference.
-    // The marks that the input has count for nothing. No check refuses a node of the edited tree (an unknown
-    // or repeated number, a group that was changed). Nothing refuses the new page or its expansion, and the
-    // plain view of its tree is that of the edited tree, in which a kept group is what the page's group of its
-    // number holds. Which of such pages it is is said by no clause.
+    // `selser`, when it is done, read the input to its end and wrote a new page. It is the page with
+    // places of the difference of the two, and nothing else, written anew, in which the comments and
+    // include tags that the input still has stand; or the page as it is; or what `edit` makes of the
+    // marks of the difference. The marks that the input has count for nothing. No check refuses a node of
+    // the edited tree (an unknown or repeated number, a group that was changed). Nothing refuses the new
+    // page or its expansion, and the plain view of its tree is that of the edited tree, in which a kept
+    // group is what the page's group of its number holds. Which of such pages it is is said by no clause.
     ensures selser { (title : List ℕ) → command_of words.now ≡ Some (Command.Selser title)
         → result ≡ code Status.Done
         → IfSome (F.pages folder.old) (λ pages. IfSome (S.left input.old)
@@ -171,10 +171,17 @@ pub fn run<S: Source, F: Folder, W: Sink, E: Sink>(
         (λ bytes. (page : List ℕ) → pages title ≡ Some page → html_answer pages (Some page) ≡ done bytes
         → GaveBack page result (W.taken out.old) (W.taken out.new))) }
 
-    // The same of `selser`, whatever marks the input has.
+    // The same of `selser`.
     ensures selser_changes_nothing { (title : List ℕ) → command_of words.now ≡ Some (Command.Selser title)
         → IfSome (F.pages folder.old) (λ pages. IfSome (S.left input.old)
         (λ bytes. (page : List ℕ) → pages title ≡ Some page → html_answer pages (Some page) ≡ done bytes
+        → GaveBack page result (W.taken out.old) (W.taken out.new))) }
+
+    // And of any input that differs from that only in what isn't compared: it stands for a tree none of whose
+    // nodes is refused, in which nothing differs from the page's, and which shows what the page shows.
+    ensures selser_keeps { (title : List ℕ) → command_of words.now ≡ Some (Command.Selser title)
+        → IfSome (F.pages folder.old) (λ pages. IfSome (S.left input.old)
+        (λ bytes. (page : List ℕ) → pages title ≡ Some page → IsUnchanged pages page bytes
         → GaveBack page result (W.taken out.old) (W.taken out.new))) }
 
     // Where `edit` of the input with the marks of the difference is done, `selser` of the input is done; or a
@@ -184,13 +191,15 @@ pub fn run<S: Source, F: Folder, W: Sink, E: Sink>(
         (λ bytes. DoneByEdit pages (pages title) bytes
         → (result ≡ code Status.Done) ⊎ IsFaultOrNoMemory result)) }
 
-    // Where `selser` is refused as an edit, `err` took the line of a refusal that has its cause: that of the
-    // nodes of the edited tree; or else that of its content or of a new page, and `edit` refuses the input
-    // with the marks of the difference, too.
+    // Where `selser` is refused for what it was given, the call ends with the status of a refusal that has its
+    // cause, and `err` took its line: that of what stands under the title, of the input, of the page's expansion
+    // or of the nodes of the edited tree; or else `edit` refuses the input with the marks of the difference, too,
+    // or its new page, and the refusal is what `edit` says of the content or of its new page's length, or what
+    // the first new page that was tried, by its definition, is refused for.
     ensures selser_refused { (title : List ℕ) → command_of words.now ≡ Some (Command.Selser title)
-        → result ≡ code Status.EditRefused
+        → IsDoneOrRefused result → result ≢ code Status.Done
         → IfSome (F.pages folder.old) (λ pages. IfSome (S.left input.old)
-        (λ bytes. RefusedSelser pages (pages title) bytes (written_to E.Sink err.old err.new))) }
+        (λ bytes. RefusedSelser pages (pages title) bytes result (written_to E.Sink err.old err.new))) }
 
     // The call ends with the status of the answer to the words over the folder's pages and the input; or
     // with that of a device's fault or of want of memory.
@@ -228,11 +237,12 @@ pub fn run<S: Source, F: Folder, W: Sink, E: Sink>(
         (written_to W.Sink out.old out.new) (written_to E.Sink err.old err.new)) }
 
     // The folder answered the first of the names that the command asks for, in their order and no others.
-    // The first is that of the page; then come those that its expansion fetches (the page's own again, where
-    // a call names it), and with `edit` those that the expansion of the new page fetches, each once, in the
-    // order of their first fetch. (Of `selser`, which may read three new pages, they aren't told.) The names end where the command is refused, and a call that is done or
-    // refused has asked for all of them. Where a fetch failed, it is that of the next name: nothing that is done
-    // before it is refused, and it was asked for in its turn.
+    // The first is that of the page; then come those that its expansion fetches (the page's own again,
+    // where a call names it), and with `edit` those that the expansion of the new page fetches, each
+    // once, in the order of their first fetch. (Of `selser`, which may read three new pages, they aren't
+    // told.) The names end where the command is refused, and a call that is done or refused has asked for
+    // all of them. Where a fetch failed, it is that of the next name: nothing that is done before it is
+    // refused, and it was asked for in its turn.
     ensures first_names { IfSome (names_told (F.pages folder.old) (S.left input.old) words.now)
         (λ names. AnswersFirst names (F.answered folder.old) (F.answered folder.new)) }
     ensures all_names { IsDoneOrRefused result
@@ -255,8 +265,8 @@ pub fn run<S: Source, F: Folder, W: Sink, E: Sink>(
     ensures stays { (title : List ℕ) → command_of words.now ≡ Some (Command.Selser title)
         → IfSome (F.pages folder.old) (λ pages. IsNoText (pages title) → input.new ≡ input.old) }
 
-    // A command that doesn't read (`html`, `ranges`, `expand`, `gen`, `lint`) leaves the input as it was, and one
-    // that doesn't fetch (`wikitext`, `gen`) the folder; words that are no command leave both.
+    // A command that doesn't read (`html`, `ranges`, `expand`, `gen`, `lint`) leaves the input as it was,
+    // and one that doesn't fetch (`wikitext`, `gen`) the folder; words that are no command leave both.
     ensures unread { ¬ Reads (command_of words.now) → input.new ≡ input.old }
     ensures unasked { ¬ Fetches (command_of words.now) → folder.new ≡ folder.old }
 {

@@ -1,8 +1,7 @@
 -- The walk along the edited children of a node, child by child.
-use Rattle.std.proofs.Common.{◌≡◌, ◌≤◌, ◌<◌, ℕ, ◌+◌, ◌-◌, Bool, true, false, List, ◌++◌, length, take, drop, get_or, sym, ap, ◌∙◌, arith, append_assoc, append-nil, ◌||◌}
+use Rattle.std.proofs.Common.{◌≡◌, ◌≤◌, ◌<◌, ℕ, ◌+◌, ◌-◌, Bool, true, false, List, ◌++◌, length, take, drop, get_or, sym, ap, ◌∙◌, arith, append_assoc, ◌||◌}
 use Rattle.std.proofs.lemmas.List.{drop_all, take_all, drop-drop, length-drop}
 use Rattle.wt_tree.specs.declared.node.Node.{Node, out-Node}
-use Rattle.wt_tree.specs.Source.{flat, flat_of_all}
 use Rattle.wt_tree.specs.Tree.{Tree, Trees, more, label}
 use Rattle.wt_tree.specs.View.{view, views}
 use Rattle.wt_tree.proofs.Views.{view_out}
@@ -17,17 +16,6 @@ use Rattle.wt_proposal.proofs.Passing.{from_place}
 
 pub ranges_seen : (n : Node) → (label (view n)).ranges ≡ (out-Node n).ranges
 ranges_seen n = rw (view_out n)
-
-pub sources_turn : (ns : List Node) (i : ℕ) (n : Node) (xs ys bs zs : List ℕ) → i < length ns → n ≡ get_or ns i n → bs ≡ flat (view n)
-    → ys ≡ xs ++ bs → xs ++ flat_of_all (views (drop i ns)) ≡ zs → ys ++ flat_of_all (views (drop (i + 1) ns)) ≡ zs
-sources_turn ns i n xs ys bs zs lt is b e inv =
-    let rest = flat_of_all (views (drop (i + 1) ns)) in
-    ap (λ (s : List ℕ). s ++ rest) (e ∙ ap (λ (s : List ℕ). xs ++ s) b) ∙ append_assoc xs (flat (view n)) rest
-    ∙ sym (ap (λ (ms : List Node). xs ++ flat_of_all (views ms)) (from_place ns i n lt is)) ∙ inv
-
-pub sources_end : (ns : List Node) (i : ℕ) (xs zs : List ℕ) → length ns ≤ i → xs ++ flat_of_all (views (drop i ns)) ≡ zs → xs ≡ zs
-sources_end ns i xs zs l inv =
-    sym (append-nil xs) ∙ sym (ap (λ (ms : List Node). xs ++ flat_of_all (views ms)) (drop_all i ns l)) ∙ inv
 
 -- ---- one child
 

@@ -70,7 +70,7 @@ fn source_standing(
     if node.id == 0 {
         return Ok(None);
     }
-    let Some(visit) = original(known.index.as_slice(), node.id) else {
+    let Some(visit) = original(known.index, node.id) else {
         return Ok(None);
     };
     if !is_as_it_was(alloc, visit.node, node)? {
@@ -115,7 +115,7 @@ fn push_inside(
     around: Surroundings<'_, '_, '_>,
     node: &Node<'_>,
 ) -> Result<(), NoMemory> {
-    let source = match original(around.known.index.as_slice(), node.id) {
+    let source = match original(around.known.index, node.id) {
         Some(visit) if node.id != 0 => kept_inside(alloc, around, visit.node, node)?,
         _ => new_inside(alloc, around, node)?,
     };

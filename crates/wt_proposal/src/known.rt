@@ -1,14 +1,8 @@
 //! What is known of the page: its nodes by their numbers, the texts next to each, and its source.
 
-ghost use Rattle.std.specs.Prelude.{◌≡◌};
-ghost use Rattle.wt_tree.specs.Tiling.{InPreorder};
-ghost use Rattle.wt_tree.specs.Tree.{label};
-ghost use Rattle.wt_tree.specs.View.{view};
-ghost use Rattle.wt_tree.specs.declared.kind.Kind.TheVariants as kind;
-
 use crate::kinds::is_item;
 use std::alloc::Global;
-use wt_checks::{Visit, numbered_nodes, original};
+use wt_checks::{Visit, original};
 use wt_difference::is_block_part;
 use wt_guards::{Role, Stretch};
 use wt_kept::{Kept, Page, page_of_block};
@@ -166,7 +160,7 @@ fn at_end(role: Role) -> Role {
 #[derive(Drop)]
 pub struct Known<'t, 'a> {
     pub page: &'t str,
-    pub index: Vec<Visit<'t, 'a>>,
+    pub index: &'t [Visit<'t, 'a>],
     pub whole: Option<Block<'t, 'a>>,
 }
 
@@ -220,14 +214,11 @@ impl<'t, 'a> Known<'t, 'a> {
     pub fn of(
         alloc: Global,
         page: &'t str,
+        index: &'t [Visit<'t, 'a>],
         body: &'t Node<'a>,
         edited: &Node<'_>,
-    ) -> Result<Known<'t, 'a>, NoMemory>
-        requires body { (label (view body.now)).kind ≡ kind.Body }
-        requires numbered { ∥ InPreorder (view body.now) ∥₁ }
-    {
-        let index = numbered_nodes(alloc, body)?;
-        let is_needed = have_come(index.as_slice(), Some(0), edited.children.as_slice());
+    ) -> Result<Known<'t, 'a>, NoMemory> {
+        let is_needed = have_come(index, Some(0), edited.children.as_slice());
         let whole = whole_if(alloc, body, is_needed)?;
         Ok(Known { page, index, whole })
     }
@@ -308,7 +299,7 @@ pub fn sign_of(list: Kind, item: Kind) -> &'static str {
 /// node.
 pub fn signs_of(alloc: Global, known: &Known<'_, '_>, item: &Node<'_>) -> Result<Str, NoMemory> {
     let mut out = Str::new(alloc);
-    push_signs(&mut out, known.index.as_slice(), item.id)?;
+    push_signs(&mut out, known.index, item.id)?;
     Ok(out)
 }
 

@@ -1,10 +1,9 @@
 //! A proposal: the page in which the places of the difference are written anew.
 
 ghost use Rattle.std.specs.Prelude.{◌≡◌, IfOk, IfSome};
-ghost use Rattle.wt_tree.specs.Tiling.{InPreorder};
-ghost use Rattle.wt_tree.specs.Tree.{label};
+ghost use Rattle.wt_checks.specs.Places.{page_of};
+ghost use Rattle.wt_checks.specs.View.{indexed};
 ghost use Rattle.wt_tree.specs.View.{view};
-ghost use Rattle.wt_tree.specs.declared.kind.Kind.TheVariants as kind;
 ghost use Rattle.wt_proposal.specs.Rewritten.{IsRewritten};
 
 use crate::children::{Gap, push_change, push_gap};
@@ -17,7 +16,7 @@ use crate::slots::{
 };
 use crate::testing::tested;
 use std::alloc::Global;
-use wt_checks::numbered_nodes;
+use wt_checks::Visit;
 use wt_difference::{Child, held, inside, same_inside};
 use wt_selser::{Change, place_in};
 use wt_span::{NoMemory, Str};
@@ -104,7 +103,7 @@ fn push_inside<'t, 'a>(
     let by = spelled(alloc, writing, inside(new), edges_of(inside(old)))?;
     let place = Slot {
         start: inside_start(old.ranges),
-        end: inside_end(alloc, old)?,
+        end: inside_end(old)?,
     };
     push_change(out, place, by)
 }
@@ -282,7 +281,7 @@ fn push_children<'t, 'a>(
             rest: children_between(held.children, line.from, held.children.len()),
             reached: line.reached,
         };
-        let turn = next_turn(plan.known.index.as_slice(), beside, child);
+        let turn = next_turn(plan.known.index, beside, child);
         if let Some(place) = turn.gap {
             let new = nodes_between(nodes, line.came_from, at);
             push_span(alloc, out, plan, held, new, line.span(place, turn.passed))?;
@@ -309,7 +308,7 @@ fn push_node<'t, 'a>(
     push_inside(alloc, out, plan, block.number, new, old)?;
     let children = held(alloc, old)?;
     let signs = signs_of(alloc, plan.known, old)?;
-    let begun = begun(alloc, old)?;
+    let begun = begun(old)?;
     let held = Held {
         children: children.as_slice(),
         signs: signs.as_str(),
@@ -326,14 +325,12 @@ fn push_node<'t, 'a>(
 fn changes_of<'t, 'a>(
     alloc: Global,
     page: &'t str,
+    index: &'t [Visit<'t, 'a>],
     tree: &'t Node<'a>,
     edited: &'t Node<'a>,
     keeping: Keeping,
-) -> Result<Vec<Change>, NoMemory>
-    requires body { (label (view tree.now)).kind ≡ kind.Body }
-    requires numbered { ∥ InPreorder (view tree.now) ∥₁ }
-{
-    let known = Known::of(alloc, page, tree, edited)?;
+) -> Result<Vec<Change>, NoMemory> {
+    let known = Known::of(alloc, page, index, tree, edited)?;
     let plan = Plan {
         known: &known,
         keeping,
@@ -347,21 +344,21 @@ fn changes_of<'t, 'a>(
     Ok(out)
 }
 
-/// A new page for an edited one: the page written anew in the places in which the edited tree differs from its
-/// tree, and nowhere else. Whether it reads as it was edited isn't said. None where no new page was found.
+/// A new page for an edited one: the page written anew in the places in which the edited tree differs from
+/// its tree, and nowhere else. Whether it reads as it was edited isn't said. None where no new page was found.
+/// `index` are the body and the nodes of the page with numbers (`numbered_nodes`).
 pub fn proposal<'t, 'a>(
     alloc: Global,
     page: &'t str,
+    index: &'t [Visit<'t, 'a>],
     tree: &'t Node<'a>,
     edited: &'t Node<'a>,
     keeping: Keeping,
 ) -> Result<Option<Str>, NoMemory>
-    requires body { (label (view tree.now)).kind ≡ kind.Body }
-    requires numbered { ∥ InPreorder (view tree.now) ∥₁ }
+    requires { indexed index.now ≡ page_of (view tree.now) }
     ensures { IfOk result (λ o. IfSome o (λ new. IsRewritten page.now (view tree.now) (view edited.now) new)) }
 {
-    let changes = changes_of(alloc, page, tree, edited, keeping)?;
-    let index = numbered_nodes(alloc, tree)?;
-    let places = places(alloc, index.as_slice(), tree, edited)?;
+    let changes = changes_of(alloc, page, index, tree, edited, keeping)?;
+    let places = places(alloc, index, tree, edited)?;
     tested(alloc, page, changes.as_slice(), places.as_slice())
 }

@@ -1,10 +1,10 @@
 //! The places of a page that may be written anew.
 
 ghost use Rattle.std.specs.Prelude.{◌≡◌, ◌≤◌, ◌<◌, ◌+◌, ◌++◌, ◌||◌, true, false, length, take, drop, OnOk, IfOk, option_map};
-ghost use Rattle.wt_tree.specs.Source.{flat_of_all};
+ghost use Rattle.wt_tree.specs.Source.{flat, flat_of_all};
 ghost use Rattle.wt_tree.specs.Tiling.{end_of};
 ghost use Rattle.wt_tree.specs.Tree.{Tree, Trees, label, more};
-ghost use Rattle.wt_tree.specs.View.{view, views};
+ghost use Rattle.wt_tree.specs.View.{texts_of, view, views};
 ghost use Rattle.wt_tree.specs.declared.node.Node.{out-Node};
 ghost use Rattle.wt_checks.specs.Places.{Page, page_of};
 ghost use Rattle.wt_checks.specs.View.{indexed};
@@ -42,8 +42,8 @@ use wt_checks::{Visit, original};
 use wt_difference::{
     Child, ends_inside, has_inside, held, inside, is_block_part, is_compared, same_inside, stays_in,
 };
-use wt_span::{NoMemory, Str};
-use wt_tree::{Node, Ranges, flat};
+use wt_span::{NoMemory, Text};
+use wt_tree::{Node, Ranges};
 
 // ---- a node
 
@@ -85,28 +85,60 @@ pub fn inside_stop(ranges: Option<Ranges>) -> usize
     }
 }
 
-/// The sources of nodes, joined.
-fn sources(alloc: Global, nodes: &[Node<'_>]) -> Result<Str, NoMemory>
-    ensures { IfOk result (λ s. s ≡ flat_of_all (views nodes.now)) }
+/// A sum; one that is past 64 bits is answered as want of memory.
+fn sum_of(left: usize, right: usize) -> Result<usize, NoMemory>
+    ensures { IfOk result (λ n. n ≡ left + right) }
 {
-    let mut out = Str::new(alloc);
-    for node in nodes {
-        let source = flat(alloc, node)?;
-        out.push_str(source.as_str())?;
+    match left.checked_add(right) {
+        Some(sum) => Ok(sum),
+        None => Err(NoMemory),
     }
-    Ok(out)
+}
+
+/// How many bytes texts have.
+fn texts_len(texts: &[Text<'_>]) -> Result<usize, NoMemory>
+    ensures { IfOk result (λ n. n ≡ length (texts_of texts.now)) }
+{
+    let mut size: usize = 0;
+    for text in texts {
+        size = sum_of(size, text.as_str().len())?;
+    }
+    Ok(size)
+}
+
+/// How many bytes the source of a node has.
+#[cycle(source_len)]
+fn source_len(node: &Node<'_>) -> Result<usize, NoMemory>
+    ensures { IfOk result (λ n. n ≡ length (flat (view node.now))) }
+{
+    if node.kind.is_leaf() {
+        return texts_len(node.own());
+    }
+    let open = texts_len(node.opening())?;
+    let inside = sources_len(node.children.as_slice())?;
+    let close = texts_len(node.closing())?;
+    sum_of(sum_of(open, inside)?, close)
+}
+
+/// How many bytes the sources of nodes have.
+#[cycle(source_len)]
+fn sources_len(nodes: &[Node<'_>]) -> Result<usize, NoMemory>
+    ensures { IfOk result (λ n. n ≡ length (flat_of_all (views nodes.now))) }
+{
+    let mut size: usize = 0;
+    for node in nodes {
+        let source = source_len(node)?;
+        size = sum_of(size, source)?;
+    }
+    Ok(size)
 }
 
 /// Where the inside of a node of the page ends.
-pub fn inside_end(alloc: Global, node: &Node<'_>) -> Result<usize, NoMemory>
+pub fn inside_end(node: &Node<'_>) -> Result<usize, NoMemory>
     ensures { IfOk result (λ n. n ≡ inside_end (view node.now)) }
 {
-    let source = sources(alloc, inside(node))?;
-    let start = inside_start(node.ranges);
-    match start.checked_add(source.as_str().len()) {
-        Some(end) => Ok(end),
-        None => Err(NoMemory),
-    }
+    let size = sources_len(inside(node))?;
+    sum_of(inside_start(node.ranges), size)
 }
 
 /// Appends the inside of a node of the page, where it isn't as it was.
@@ -122,7 +154,7 @@ fn push_inside_place(
     if same {
         return Ok(());
     }
-    let end = inside_end(alloc, old)?;
+    let end = inside_end(old)?;
     out.push(Slot {
         start: inside_start(old.ranges),
         end,
@@ -171,10 +203,10 @@ fn gap(differs: bool, start: usize, end: usize) -> Option<Slot>
 // ---- along its edited children
 
 /// Where the walk along the children of a node of the page begins.
-pub fn begun(alloc: Global, node: &Node<'_>) -> Result<Reached, NoMemory>
+pub fn begun(node: &Node<'_>) -> Result<Reached, NoMemory>
     ensures { IfOk result (λ r. r ≡ begun (view node.now)) }
 {
-    let end = inside_end(alloc, node)?;
+    let end = inside_end(node)?;
     Ok(Reached {
         end,
         number: 0,
@@ -362,7 +394,7 @@ fn push_along<'t, 'a>(
     ensures { OnOk result (out.new.items ≡ out.old.items
         ++ along (indexed index.now) (view old.now) (begun (view old.now)) (child_views children.now) (views nodes.now)) }
 {
-    let mut reached = begun(alloc, old)?;
+    let mut reached = begun(old)?;
     let mut from = 0;
     for child in nodes {
         let beside = Beside {

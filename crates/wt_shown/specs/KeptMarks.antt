@@ -1,6 +1,6 @@
 -- Comments and include tags show nothing, so no comparison of what is shown finds one that was lost. Those that
 -- an edited tree still has stand in a new page, too.
-use Rattle.std.specs.Prelude.{◌≡◌, ◌⊎◌, ◌&&◌, ℕ, Bool, Option, Some, None, List, [], ◌∷◌, if◌then◌else◌}
+use Rattle.std.specs.Prelude.{◌≡◌, ◌⊎◌, ◌&&◌, ℕ, Bool, Option, Some, None, List, [], ◌∷◌, map, if◌then◌else◌}
 use Rattle.std.specs.List.{flat_map}
 use Rattle.wt_tree.specs.Kinds.{is_mark}
 use Rattle.wt_tree.specs.Source.{flat}
@@ -9,7 +9,7 @@ use Rattle.wt_tree.specs.declared.kind.Kind.{Kind}
 use Rattle.wt_tree.specs.declared.kind.Kind.TheVariants as kind
 use Rattle.wt_checks.specs.Alike.{same_kind}
 use Rattle.wt_checks.specs.Places.{Place, number, kind_at, is_kept, places, Page, page_of}
-use Rattle.wt_shown.specs.Tally.{StandAmong}
+use Rattle.wt_shown.specs.Tally.{trimmed, StandAmong}
 
 -- a node of a kind outside groups: in a group nothing has a number
 abbrev pub is_own : Kind → Place → Bool
@@ -46,9 +46,10 @@ IsWithin [] ys = Unit {0}
 IsWithin (x ∷ xs) [] = ⊥
 IsWithin (x ∷ xs) (y ∷ ys) = ((x ≡ y) × IsWithin xs ys) ⊎ IsWithin (x ∷ xs) ys
 
--- Each comment of the page that the edited tree still has stands in the new page as often as there, in whatever order.
+-- Each comment of the page that the edited tree still has stands in the new page as often as there, in whatever order. White space round
+-- it doesn't count: a comment on a line of its own has a line break of its own, but for the one that begins a page.
 abbrev pub KeepsComments : Page → List Place → List Place → Type 0
-KeepsComments page edited new = StandAmong (still kind.Comment page edited) (sources kind.Comment new)
+KeepsComments page edited new = StandAmong (map trimmed (still kind.Comment page edited)) (map trimmed (sources kind.Comment new))
 
 -- The include tags of the page that the edited tree still has stand in the new page in the order of the edited tree: it says what the
 -- page gives to others, and nothing that is shown tells two exchanged ones.

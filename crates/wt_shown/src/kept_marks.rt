@@ -1,6 +1,6 @@
 //! Comments and include tags that an edited tree still has, looked for in a new page.
 
-ghost use Rattle.std.specs.Prelude.{◌≡◌, ◌≤◌, ◌↔◌, ◌∷◌, ◌++◌, ℕ, List, drop, length, option_map, IfOk, OnOk};
+ghost use Rattle.std.specs.Prelude.{◌≡◌, ◌≤◌, ◌↔◌, ◌∷◌, ◌++◌, ℕ, List, drop, length, map, option_map, IfOk, OnOk};
 ghost use Rattle.std.specs.Bool.{Decides};
 ghost use Rattle.wt_tree.specs.declared.kind.Kind.TheVariants as kind;
 ghost use Rattle.wt_tree.specs.Tiling.{InPreorder};
@@ -8,9 +8,9 @@ ghost use Rattle.wt_tree.specs.Tree.{label};
 ghost use Rattle.wt_tree.specs.View.{view};
 ghost use Rattle.wt_checks.specs.View.{all_seen, indexed, seen};
 ghost use Rattle.wt_shown.specs.KeptMarks.{is_own, is_own_mark, source_at, sources, still, still_at, there, IsWithin, KeepsComments, KeepsMarks, KeepsTags};
-ghost use Rattle.wt_shown.specs.Tally.{StandAmong};
+ghost use Rattle.wt_shown.specs.Tally.{trimmed, StandAmong};
 
-use crate::tally::Tally;
+use crate::tally::{Tally, trimmed};
 use std::alloc::Global;
 use wt_checks::{Visit, numbered_nodes, original, preorder, same_kind};
 use wt_span::{NoMemory, Str};
@@ -108,13 +108,13 @@ fn still(
     Ok(out)
 }
 
-/// Whether each of these texts stands among the others at least as often.
+/// Whether each of these texts, trimmed, stands among the others at least as often.
 fn stand_among(alloc: Global, texts: &[Str], others: &[Str]) -> Result<bool, NoMemory>
-    ensures { IfOk result (λ among. Decides among (StandAmong texts.now others.now)) }
+    ensures { IfOk result (λ among. Decides among (StandAmong (map trimmed texts.now) (map trimmed others.now))) }
 {
     let mut tally = Tally::of(alloc, others)?;
     for text in texts {
-        let taken = tally.take(text.as_str().as_bytes())?;
+        let taken = tally.take(trimmed(text))?;
         if !taken {
             return Ok(false);
         }
@@ -176,7 +176,8 @@ fn keeps_tags(
 }
 
 /// Whether the comments and include tags of a page that an edited tree still has by their numbers stand in
-/// a new page, with the page's source: each comment as often as in the edited tree, and the tags in its order.
+/// a new page, with the page's source: each comment as often as in the edited tree, without the white space
+/// round it, and the tags in its order.
 pub fn keeps_marks(
     alloc: Global,
     new: &Node<'_>,

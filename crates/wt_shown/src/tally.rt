@@ -1,11 +1,18 @@
 //! How often each text stands among some.
 
-ghost use Rattle.std.specs.Prelude.{◌≡◌, ◌+◌, ◌<◌, ◌^◌, [], ◌∷◌, ℕ, List, true, false, IfOk, OnOk};
-ghost use Rattle.wt_shown.specs.Tally.{counted, times};
+ghost use Rattle.std.specs.Prelude.{◌≡◌, ◌+◌, ◌<◌, ◌^◌, [], ◌∷◌, ℕ, List, map, true, false, IfOk, OnOk};
+ghost use Rattle.wt_shown.specs.Tally.{counted, times, trimmed};
 
 use std::alloc::Global;
 use std::collections::BTreeMap;
 use wt_span::{NoMemory, Str};
+
+/// A text without the white space at its ends.
+pub fn trimmed(text: &Str) -> &[u8]
+    ensures { result.now ≡ trimmed text.now }
+{
+    text.as_str().as_bytes().trim_ascii()
+}
 
 /// How often each of some texts was counted.
 #[derive(Drop)]
@@ -58,13 +65,13 @@ impl<'s> Tally<'s> {
         Ok(true)
     }
 
-    /// Of these texts.
+    /// Of these texts, trimmed.
     pub fn of(alloc: Global, texts: &'s [Str]) -> Result<Tally<'s>, NoMemory>
-        ensures { IfOk result (λ tally. (text : List ℕ) → counted tally text ≡ times text texts.now) }
+        ensures { IfOk result (λ tally. (text : List ℕ) → counted tally text ≡ times text (map trimmed texts.now)) }
     {
         let mut tally = Tally::new(alloc);
         for text in texts {
-            tally.add(text.as_str().as_bytes())?;
+            tally.add(trimmed(text))?;
         }
         Ok(tally)
     }

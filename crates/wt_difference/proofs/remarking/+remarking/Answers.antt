@@ -1,10 +1,11 @@
-use Rattle.std.proofs.Common.{◌≡◌, rules, [], ◌∷◌, refl, sym, ap, ◌∙◌}
+use Rattle.std.proofs.Common.{◌≡◌, rules, List, [], ◌∷◌, refl, sym, ap, ◌∙◌}
 use Rattle.std.specs.Vec.Iter.{into_iter_items}
 use Rattle.wt_tree.specs.View.{views}
 use Rattle.wt_tree.proofs.Recuts.{no_items}
 use Rattle.wt_checks.specs.View.{indexed}
-use Rattle.wt_difference.specs.Remarked.{remarked_child, all_remarked}
-use Rattle.wt_difference.proofs.Remarks.{made_on, made_end}
+use Rattle.wt_tree.specs.declared.node.Node.{Node}
+use Rattle.wt_difference.specs.Remarked.{are_left, remarked_child, all_remarked}
+use Rattle.wt_difference.proofs.Remarks.{made_on, made_end, left_remarked}
 use Rattle.wt_difference.proofs.remarking.+remarking.Goals as goal
 
 pub all_remarked-loop-node-preserved : goal.all_remarked-loop-node-preserved
@@ -21,3 +22,8 @@ all_remarked-returns t c =
     ap views c.from_vec.ensures
     ∙ made_end (all_remarked (indexed c.args.index.now) c.args.holder) refl c.loop-node.out.items (into_iter_items c.loop-node.node-iterator) _ s c.loop-node.invariant
     ∙ ap (λ xs. all_remarked (indexed c.args.index.now) c.args.holder (views xs)) (b ∙ c.into_vec-node-items.ensures)
+
+pub all_remarked-returns-then-are_left : goal.all_remarked-returns-then-are_left
+all_remarked-returns-then-are_left t c =
+    sym (left_remarked (indexed c.args.index.now) c.args.holder (views c.args.nodes)
+    (ap (λ (ns : List Node). are_left (views ns)) (sym c.as_slice.ensures) ∙ sym c.are_left.ensures ∙ c.if-are_left.true))

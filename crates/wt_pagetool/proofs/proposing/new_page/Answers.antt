@@ -20,7 +20,7 @@ returns-in-Fails-clause-found g c = λ pages told knows.
     let first = subst (TriedFirst pages c.args.edit.now.items.now c.args.edit.now.page.now t u c.args.edit.now.same)
     c.in-Fails.is (c.in_ok-tried.ensures.tried pages told knows) in
     finds_same pages c.args.edit.now.items.now c.args.edit.now.page.now t u c.args.edit.now.same c.other_page.result first.0
-    (c.other_page.ensures.found pages (c.in_ok-tried.ensures.kept ∙ told) first.1)
+    (c.other_page.ensures.found pages (c.in_ok-tried.ensures.kept ∙ told) first.1 first.2)
 
 pub returns-in-Fails-clause-asks : goal.returns-in-Fails-clause-asks
 returns-in-Fails-clause-asks g c =

@@ -9,15 +9,16 @@ pub last_page-requires-clause-known : goal.last_page-requires-clause-known
 last_page-requires-clause-known g c = subst HoldsTried c.in-Fails.is c.in_ok-tried.ensures.holds
 
 pub returns-in-Stands-clause-found : goal.returns-in-Stands-clause-found
-returns-in-Stands-clause-found g c = λ pages told knows.
+returns-in-Stands-clause-found g c = λ pages told knows first.
     proposal_stands pages c.args.edit.now.items.now c.args.edit.now.page.now (view c.args.edit.now.tree.now) (view c.args.edit.now.edited.now) c.in-Stands.new
     c.in_ok-tried.tried c.in-Stands.is (c.in_ok-tried.ensures.tried pages told knows)
 
 pub returns-in-Fails-clause-found : goal.returns-in-Fails-clause-found
-returns-in-Fails-clause-found g c = λ pages told knows.
-    c.last_page.ensures.found pages (c.in_ok-tried.ensures.kept ∙ told)
-    (subst (TriedProposal pages c.args.edit.now.page.now (view c.args.edit.now.tree.now) (view c.args.edit.now.edited.now)) c.in-Fails.is
-    (c.in_ok-tried.ensures.tried pages told knows))
+returns-in-Fails-clause-found g c = λ pages told knows first.
+    let tried : TriedProposal pages c.args.edit.now.page.now (view c.args.edit.now.tree.now) (view c.args.edit.now.edited.now) _ =
+    subst (TriedProposal pages c.args.edit.now.page.now (view c.args.edit.now.tree.now) (view c.args.edit.now.edited.now)) c.in-Fails.is
+    (c.in_ok-tried.ensures.tried pages told knows) in
+    c.last_page.ensures.found pages (c.in_ok-tried.ensures.kept ∙ told) tried.0 first
 
 pub returns-in-Fails-clause-asks : goal.returns-in-Fails-clause-asks
 returns-in-Fails-clause-asks g c =
@@ -27,7 +28,7 @@ returns-in-Fails-clause-asks g c =
     c.in_ok-tried.ensures.asks c.last_page.ensures.asks
 
 pub returns-in_err-tried-clause-found : goal.returns-in_err-tried-clause-found
-returns-in_err-tried-clause-found g c = λ pages told knows.
+returns-in_err-tried-clause-found g c = λ pages told knows first.
     let d = g.F.Folder in
     let e : c.from_residual.result ≡ Err c.in_err-tried.field-0.0 = search rules in
     fault_found pages c.args.edit.now.items.now c.args.edit.now.page.now (view c.args.edit.now.tree.now) (view c.args.edit.now.edited.now) false

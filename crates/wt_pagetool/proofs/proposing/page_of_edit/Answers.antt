@@ -4,21 +4,21 @@ use Rattle.wt_pagetool.proofs.SelserLaws.{edit_fails, edit_stands, fault_found, 
 use Rattle.wt_pagetool.proofs.proposing.page_of_edit.Goals as goal
 
 pub returns-in-Stands-clause-found : goal.returns-in-Stands-clause-found
-returns-in-Stands-clause-found g c = λ pages told knows.
+returns-in-Stands-clause-found g c = λ pages told knows first.
     edit_stands pages c.args.edit.now.items.now c.args.edit.now.page.now (view c.args.edit.now.tree.now) (view c.args.edit.now.edited.now) c.args.new c.in-Stands.new
     c.in_ok-tried.tried c.in-Stands.is c.requires.edited (c.in_ok-tried.ensures.tried pages told knows)
 
 pub returns-clause-found : goal.returns-clause-found
-returns-clause-found g c = λ pages told knows.
+returns-clause-found g c = λ pages told knows first.
     edit_fails pages c.args.edit.now.items.now c.args.edit.now.page.now (view c.args.edit.now.tree.now) (view c.args.edit.now.edited.now) c.args.new
     c.in_ok-tried.tried _ c.args.fault _ c.refusal_of.result c.in-Fails.is c.refusal_of.ensures c.requires.edited
-    (c.in_ok-tried.ensures.tried pages told knows)
+    (c.in_ok-tried.ensures.tried pages told knows) first
 
 pub returns-clause-of_edit : goal.returns-clause-of_edit
 returns-clause-of_edit g c = refusal_of_edit_fault _ _ c.args.fault c.refusal_of.result c.refusal_of.ensures
 
 pub returns-in_err-tried-clause-found : goal.returns-in_err-tried-clause-found
-returns-in_err-tried-clause-found g c = λ pages told knows.
+returns-in_err-tried-clause-found g c = λ pages told knows first.
     let d = g.F.Folder in
     let e : c.from_residual.result ≡ Err c.in_err-tried.field-0.0 = search rules in
     fault_found pages c.args.edit.now.items.now c.args.edit.now.page.now (view c.args.edit.now.tree.now) (view c.args.edit.now.edited.now) false

@@ -4,20 +4,20 @@ use Rattle.wt_pagetool.proofs.SelserLaws.{fault_found, fault_of_edit, finds_refu
 use Rattle.wt_pagetool.proofs.proposing.page_of_refused.Goals as goal
 
 pub returns-in-Stands-clause-found : goal.returns-in-Stands-clause-found
-returns-in-Stands-clause-found g c = λ pages told knows.
+returns-in-Stands-clause-found g c = λ pages told knows first.
     proposal_stands pages c.args.edit.now.items.now c.args.edit.now.page.now (view c.args.edit.now.tree.now) (view c.args.edit.now.edited.now) c.in-Stands.new
     c.in_ok-tried.tried c.in-Stands.is (c.in_ok-tried.ensures.tried pages told knows)
 
 pub returns-clause-found : goal.returns-clause-found
-returns-clause-found g c = λ pages told knows.
+returns-clause-found g c = λ pages told knows first.
     finds_refused pages c.args.edit.now.items.now c.args.edit.now.page.now (view c.args.edit.now.tree.now) (view c.args.edit.now.edited.now)
-    c.last_refusal.result c.args.refusal c.args.fault c.last_refusal.ensures c.requires.edited
+    c.last_refusal.result c.args.refusal c.args.fault c.last_refusal.ensures c.requires.edited first
 
 pub returns-clause-of_edit : goal.returns-clause-of_edit
 returns-clause-of_edit g c = refusal_of_edit_last _ _ c.args.refusal c.args.fault c.last_refusal.result c.last_refusal.ensures
 
 pub returns-in_err-tried-clause-found : goal.returns-in_err-tried-clause-found
-returns-in_err-tried-clause-found g c = λ pages told knows.
+returns-in_err-tried-clause-found g c = λ pages told knows first.
     let d = g.F.Folder in
     let e : c.from_residual.result ≡ Err c.in_err-tried.field-0.0 = search rules in
     fault_found pages c.args.edit.now.items.now c.args.edit.now.page.now (view c.args.edit.now.tree.now) (view c.args.edit.now.edited.now) false

@@ -1,5 +1,5 @@
 use Rattle.wt_tree.specs.View.{view}
-use Rattle.wt_pagetool.proofs.SelserLaws.{marks_hold, marks_tried, page_fails}
+use Rattle.wt_pagetool.proofs.SelserLaws.{marks_hold, marks_tried, marks_unread}
 use Rattle.wt_pagetool.proofs.proposing.tried_marks.Goals as goal
 
 pub returns-in-Shows-clause-tried : goal.returns-in-Shows-clause-tried
@@ -14,5 +14,5 @@ returns-in-Shows-clause-holds g c =
 
 pub returns-clause-tried : goal.returns-clause-tried
 returns-clause-tried g c = λ pages told knows.
-    (page_fails pages (view c.args.edit.now.tree.now) (view c.args.edit.now.edited.now) c.args.new c.as_str.result.now c.in_ok-back.back _ _ c.in-Fails.is
-    c.as_str.ensures (c.in_ok-back.ensures.read pages told knows)).1
+    marks_unread pages (view c.args.edit.now.tree.now) (view c.args.edit.now.edited.now) c.args.new c.as_str.result.now c.in_ok-back.back _ _ c.in-Fails.is
+    c.as_str.ensures (c.in_ok-back.ensures.read pages told knows)

@@ -1,4 +1,4 @@
-use Rattle.std.proofs.Common.{subst}
+use Rattle.std.proofs.Common.{None, refl, subst}
 use Rattle.std.specs.Prelude.{IfSome}
 use Rattle.wt_proposal.specs.Rewritten.{IsRewritten}
 use Rattle.wt_tree.specs.View.{view}
@@ -10,3 +10,6 @@ returns-in-Some-clause-tried g c = λ pages told knows.
     proposal_tried pages c.args.edit.now.page.now (view c.args.edit.now.tree.now) (view c.args.edit.now.edited.now) c.in-Some.new c.tried_marks.result
     (subst (λ o. IfSome o (IsRewritten c.args.edit.now.page.now (view c.args.edit.now.tree.now) (view c.args.edit.now.edited.now))) c.in-Some.is
     c.in_ok-proposed.ensures) (c.tried_marks.ensures.tried pages told knows)
+
+pub returns-clause-tried : goal.returns-clause-tried
+returns-clause-tried g c = λ pages told knows. (knows, record { first = None; made = tt; fails = refl })

@@ -1,5 +1,4 @@
 use Rattle.wt_tree.specs.View.{view}
-use Rattle.wt_pagetool.specs.declared.reading_back.Fault.TheVariants as fault
 use Rattle.wt_pagetool.proofs.SelserLaws.{compared_fails, compared_shows}
 use Rattle.wt_pagetool.proofs.reading_back.compared.Goals as goal
 
@@ -10,4 +9,4 @@ returns-in-None c =
 pub returns : goal.returns
 returns c =
     compared_fails c.args.found (view c.args.edit.now.tree.now) (view c.args.edit.now.edited.now) c.in_ok-child.child c.in-Some.child
-    (fault.Block c.in-Some.child) c.in-Some.is c.in_ok-child.ensures
+    c.in-Some.is c.in_ok-child.ensures

@@ -4,7 +4,7 @@ use Rattle.wt_expand.specs.Fronts.{known_after}
 use Rattle.wt_expand.specs.Work.{fetches}
 use Rattle.wt_tree.specs.View.{view}
 use Rattle.wt_pagetool.specs.Refusals.{status_of}
-use Rattle.wt_pagetool.proofs.SelserLaws.{fault_counted, folder_unkept, holds_read, read_as, uncounted, unread_as}
+use Rattle.wt_pagetool.proofs.SelserLaws.{fault_counted, folder_unkept, holds_read, read_as, uncounted, unread_as, unread_fault}
 use Rattle.wt_pagetool.proofs.reading_back.read_text.Goals as goal
 
 pub returns-in-Ok-clause-read : goal.returns-in-Ok-clause-read
@@ -38,6 +38,8 @@ returns-clause-read g c = λ pages told knows whole. (
   unread_as pages (view c.args.edit.now.tree.now) (view c.args.edit.now.edited.now) c.args.new.now c.in-Err.refusal whole (sym c.in-None.ensures)
       (c.in-Err.ensures.refused pages knows.0 told knows.1),
   ([], c.new_expansion.ensures.free pages),
+  unread_fault pages (view c.args.edit.now.tree.now) (view c.args.edit.now.edited.now) c.args.new.now c.in-Err.refusal whole (sym c.in-None.ensures)
+      (c.in-Err.ensures.refused pages knows.0 told knows.1),
 )
 
 pub returns-clause-count : goal.returns-clause-count

@@ -1,12 +1,12 @@
-use Rattle.std.proofs.Common.{◌≡◌, ap, ◌∙◌, subst}
+use Rattle.std.proofs.Common.{ap, ◌∙◌, subst}
 use Rattle.wt_checks.specs.Checked.{nodes_checked}
-use Rattle.wt_difference.specs.Difference.{difference}
+use Rattle.wt_difference.specs.Difference.{are_none, difference}
 use Rattle.wt_difference.specs.Remarked.{remarked}
 use Rattle.wt_span.specs.Origins.{Expanded}
 use Rattle.wt_tree.specs.Tree.{label}
 use Rattle.wt_tree.specs.View.{view}
 use Rattle.wt_pagetool.specs.Answers.{nodes_answer}
-use Rattle.wt_pagetool.specs.Selser.{are_none, FindsNew}
+use Rattle.wt_pagetool.specs.Selser.{FindsNew}
 use Rattle.wt_pagetool.proofs.SelserFound.{beside_found, beside_refused, memory_found}
 use Rattle.wt_pagetool.proofs.selser_command.page_of_found.Goals as goal
 

@@ -1,7 +1,7 @@
 use Rattle.wt_pagetool.proofs.RunLaws.{run_page, run_wikitext, run_exact, run_done, run_refused, run_fault, run_complete, run_kept, run_all, run_asks, run_fewer, run_expansion, run_counts, run_edit}
 use Rattle.wt_pagetool.proofs.GivenBackLaws.{run_gives_back}
 use Rattle.wt_pagetool.proofs.SelserRuns.{run_selser, run_selser_as_edit, run_selser_refused}
-use Rattle.wt_pagetool.proofs.SelserUnchanged.{run_selser_changes_nothing}
+use Rattle.wt_pagetool.proofs.SelserUnchanged.{run_selser_changes_nothing, run_selser_keeps}
 use Rattle.wt_pagetool.proofs.UnchangedLaws.{run_changes_nothing}
 use Rattle.wt_pagetool.specs.Answers.{answer_told}
 use Rattle.wt_pagetool.specs.Asked.{names_told}
@@ -55,14 +55,20 @@ returns-clause-selser_as_edit g c title is =
     (written_to g.E.Sink c.args.err.now c.report.new.err) c.code.ensures (c.find_answer-found.ensures.found title is) c.report.ensures
 
 pub returns-clause-selser_refused : goal.returns-clause-selser_refused
-returns-clause-selser_refused g c title is e =
+returns-clause-selser_refused g c title is e n =
     run_selser_refused (g.F.Folder.pages c.args.folder.now) (g.S.Source.left c.args.input.now) title
     c.find_answer-found.result c.report.result c.code.result (written_to g.W.Sink c.args.out.now c.report.new.out)
-    (written_to g.E.Sink c.args.err.now c.report.new.err) c.code.ensures (c.find_answer-found.ensures.found title is) c.report.ensures e
+    (written_to g.E.Sink c.args.err.now c.report.new.err) c.code.ensures (c.find_answer-found.ensures.found title is) c.report.ensures e n
 
 pub returns-clause-selser_changes_nothing : goal.returns-clause-selser_changes_nothing
 returns-clause-selser_changes_nothing g c title is =
     run_selser_changes_nothing (g.F.Folder.pages c.args.folder.now) (g.S.Source.left c.args.input.now) title
+    c.find_answer-found.result c.report.result c.code.result (written_to g.W.Sink c.args.out.now c.report.new.out)
+    (written_to g.E.Sink c.args.err.now c.report.new.err) c.code.ensures (c.find_answer-found.ensures.found title is) c.report.ensures
+
+pub returns-clause-selser_keeps : goal.returns-clause-selser_keeps
+returns-clause-selser_keeps g c title is =
+    run_selser_keeps (g.F.Folder.pages c.args.folder.now) (g.S.Source.left c.args.input.now) title
     c.find_answer-found.result c.report.result c.code.result (written_to g.W.Sink c.args.out.now c.report.new.out)
     (written_to g.E.Sink c.args.err.now c.report.new.err) c.code.ensures (c.find_answer-found.ensures.found title is) c.report.ensures
 
