@@ -180,8 +180,8 @@ pub fn held<'t, 'a>(alloc: Global, node: &'t Node<'a>) -> Result<Vec<Child<'t, '
     let mut out = Vec::new(alloc);
     if has_inside(node.kind) {
         push_all(&mut out, &nodes[inside_len(nodes)..])?;
-        return Ok(out);
+    } else {
+        push_all_opened(&mut out, nodes)?;
     }
-    push_all_opened(&mut out, nodes)?;
     Ok(out)
 }

@@ -387,7 +387,13 @@ fn push_node<'n, 't, 'a>(
         Way::Characters => push_letters(out, node.shown()),
         Way::Bold => push_style(alloc, out, writing, "'''", kept, node),
         Way::Italic => push_style(alloc, out, writing, "''", kept, node),
-        Way::AsItStood => push_kept(alloc, out, kept, node.kind),
+        Way::AsItStood => {
+            let is_mark = node.kind.is_mark();
+            if is_mark && node.id != 0 && writing.known.is_left(writing.block, node.id) {
+                return Ok(());
+            }
+            push_kept(alloc, out, kept, node.kind)
+        }
         Way::Shown => {
             if push_if_unchanged(alloc, out, writing, kept, node)? {
                 return Ok(());
