@@ -1,4 +1,4 @@
--- Worked cases: comments, include tags, hidden parts, calls and islands that an edited tree still has.
+-- Worked cases: comments, include tags, calls and islands that an edited tree still has.
 use Rattle.std.proofs.Common.{arith, ◌≡◌, ◌≤◌, ◌+◌, ℕ, Bool, true, false, List, [], ◌∷◌, ◌++◌, refl, codes, inl}
 use Rattle.std.specs.Prelude.{cond}
 use Rattle.std.specs.Str.{bytes_eq}
@@ -71,7 +71,6 @@ unfolding same_kind
 kept = record {
   comments = (at_least (codes "<!--x-->" ∷ []), each_of (codes "<!--x-->" ∷ []));
   tags = (each_of (codes "<noinclude>" ∷ []), each_of (codes "<noinclude>" ∷ []));
-  hidden = (each_of [], each_of []);
   calls = (each_of [], each_of []);
   islands = (each_of [], each_of []);
   order = inl (refl, tt);
@@ -98,7 +97,6 @@ unfolding same_kind
 kept_lines = record {
   comments = (either_order (codes "<!--x-->") (codes "<!--y-->"), either_order (codes "<!--y-->") (codes "<!--x-->"));
   tags = (each_of [], each_of []);
-  hidden = (each_of [], each_of []);
   calls = (each_of [], each_of []);
   islands = (each_of [], each_of []);
   order = tt;
@@ -132,19 +130,8 @@ file_changed : KeepsMarks (file (codes "[[File:b]]")) (file (codes "[[File:a]]")
 unfolding same_kind
 file_changed h = let t : 1 ≤ 0 = h.islands.0 (codes "[[File:a]]") in omega (arith, t)
 
-abbrev hidden : ℕ → Tree
-hidden n = tree (record (blank kind.Skip n) { own = codes "<includeonly>x</includeonly>" }) none
-
-abbrev hides : List Tree → Tree
-hides ts = body (node kind.Para 1 (hidden 2 ∷ ts) ∷ [])
-
 -- a new comment
 comment_new : KeepsMarks (body (node kind.Para 1 (words (codes "c") ∷ comment 2 (codes "<!--y-->") ∷ []) ∷ [])) (body (node kind.Para 1 (words (codes "b") ∷ []) ∷ []))
     (body (node kind.Para 1 (words (codes "c") ∷ []) ∷ [])) → ⊥
 unfolding same_kind
 comment_new h = let t : 1 ≤ 0 = h.comments.1 (codes "<!--y-->") in omega (arith, t)
-
--- a hidden part that stands twice
-hidden_twice : KeepsMarks (hides (hidden 3 ∷ [])) (hides []) (hides []) → ⊥
-unfolding same_kind
-hidden_twice h = let t : 2 ≤ 1 = h.hidden.1 (codes "<includeonly>x</includeonly>") in omega (arith, t)

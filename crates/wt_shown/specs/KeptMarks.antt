@@ -1,4 +1,4 @@
--- Comments, include tags and hidden parts show nothing, and of a call and an island (an extension, a file) a new page could show the same by other
+-- Comments and include tags show nothing, and of a call and an island (an extension, a file) a new page could show the same by other
 -- bytes; so no comparison of what is shown finds one that was lost, or another in its place. Those that an edited tree still has stand in
 -- a new page, too, and no others.
 use Rattle.std.specs.Prelude.{◌≡◌, ◌⊎◌, ◌&&◌, ℕ, Bool, Option, Some, None, List, [], ◌∷◌, map, if◌then◌else◌}
@@ -63,7 +63,6 @@ KeepsOrder page edited new = IsWithin (still kind.Include page edited) (sources 
 pub record KeepsEach (page : Page) (old edited new : List Place) : Type 0 where
   pub comments : KeepsKind kind.Comment page old edited new
   pub tags : KeepsKind kind.Include page old edited new
-  pub hidden : KeepsKind kind.Skip page old edited new
   pub calls : KeepsKind kind.Group page old edited new
   pub islands : KeepsKind kind.Island page old edited new
   pub order : KeepsOrder page edited new

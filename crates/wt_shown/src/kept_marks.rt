@@ -1,5 +1,5 @@
-//! What an edited tree still has and a comparison of what is shown doesn't tell: comments, include tags, hidden parts,
-//! calls and islands. They are looked for in a new page, in which no other may stand.
+//! Comments, include tags, calls and islands that an edited tree still has, looked for in a new page, in which no
+//! other may stand.
 
 ghost use Rattle.std.specs.Prelude.{◌≡◌, ◌≤◌, ◌↔◌, ◌∷◌, ◌++◌, ℕ, List, drop, length, map, option_map, IfOk, OnOk};
 ghost use Rattle.std.specs.Bool.{Decides};
@@ -220,10 +220,6 @@ fn keeps_each(
     if !tags {
         return Ok(false);
     }
-    let hidden = keeps_kind(alloc, Kind::Skip, index, old, edited, new)?;
-    if !hidden {
-        return Ok(false);
-    }
     let calls = keeps_kind(alloc, Kind::Group, index, old, edited, new)?;
     if !calls {
         return Ok(false);
@@ -236,10 +232,10 @@ fn keeps_each(
     Ok(order)
 }
 
-/// Whether a new page keeps what a comparison of what is shown doesn't tell: the comments, include tags, hidden
-/// parts, calls and islands of the page that the edited tree still has by their numbers. Each stands in the new page
-/// with the page's source, without the white space round it, as often as in the edited tree, and the tags in its
-/// order; and none stands there more often than in the page.
+/// Whether a new page keeps what an edited tree shows least of: the comments, include tags, calls and islands of
+/// the page that it still has by their numbers. Each stands in the new page with the page's source, without the
+/// white space round it, as often as in the edited tree, and the tags in its order; and none stands there more
+/// often than in the page.
 pub fn keeps_marks(
     alloc: Global,
     new: &Node<'_>,

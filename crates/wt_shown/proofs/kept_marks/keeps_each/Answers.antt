@@ -7,9 +7,6 @@ returns-then-not-comments c = not_all c.in_ok-comments.comments c.in_ok-comments
 pub returns-then-not-tags : goal.returns-then-not-tags
 returns-then-not-tags c = not_all c.in_ok-tags.tags c.in_ok-tags.ensures c.if-not-tags.true (λ h. h.tags)
 
-pub returns-then-not-hidden : goal.returns-then-not-hidden
-returns-then-not-hidden c = not_all c.in_ok-hidden.hidden c.in_ok-hidden.ensures c.if-not-hidden.true (λ h. h.hidden)
-
 pub returns-then-not-calls : goal.returns-then-not-calls
 returns-then-not-calls c = not_all c.in_ok-calls.calls c.in_ok-calls.ensures c.if-not-calls.true (λ h. h.calls)
 
@@ -21,7 +18,6 @@ returns c = (
   λ e. record {
     comments = c.in_ok-comments.ensures.0 c.if-not-comments.false;
     tags = c.in_ok-tags.ensures.0 c.if-not-tags.false;
-    hidden = c.in_ok-hidden.ensures.0 c.if-not-hidden.false;
     calls = c.in_ok-calls.ensures.0 c.if-not-calls.false;
     islands = c.in_ok-islands.ensures.0 c.if-not-islands.false;
     order = c.in_ok-order.ensures.0 e;
