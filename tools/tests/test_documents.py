@@ -1,4 +1,4 @@
-"""The documents: their links lead somewhere, their examples answer as they say, and the README stays short."""
+"""The documents: links lead somewhere, examples answer as they say, and the README stays short."""
 import re
 import subprocess
 import unittest
@@ -15,7 +15,8 @@ PROMPT = "    $ "
 
 
 def documents() -> List[Path]:
-    return [path for path in REPOSITORY.rglob("*.md") if not MADE.intersection(path.relative_to(REPOSITORY).parts)]
+    found = REPOSITORY.rglob("*.md")
+    return [path for path in found if not MADE.intersection(path.relative_to(REPOSITORY).parts)]
 
 
 def anchor(heading: str) -> str:
@@ -39,6 +40,10 @@ def stripped(lines: List[str]) -> str:
     return "\n".join(line.rstrip() for line in lines).strip("\n")
 
 
+def is_output(line: str) -> bool:
+    return not line or (line.startswith("    ") and not line.startswith(PROMPT))
+
+
 def examples(text: str) -> Iterator[Tuple[str, str]]:
     """The command and the output of each example that runs the program from the folder `examples`."""
     lines = text.split("\n")
@@ -53,7 +58,7 @@ def examples(text: str) -> Iterator[Tuple[str, str]]:
             command = command[:-1] + lines[at].strip()
             at += 1
         start = at
-        while at < len(lines) and (not lines[at] or lines[at].startswith("    ")) and not lines[at].startswith(PROMPT):
+        while at < len(lines) and is_output(lines[at]):
             at += 1
         if LAUNCHER in command:
             yield command, stripped([line[4:] for line in lines[start:at]])
