@@ -10,6 +10,7 @@ pub mod KindSigns
 pub mod LineCuts
 pub mod LineKinds
 pub mod LineRows
+pub mod LinesBehind
 pub mod LowSigns
 pub mod Making
 pub mod OpenedLines

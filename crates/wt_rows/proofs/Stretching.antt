@@ -47,6 +47,13 @@ opened_is ps h o g ss inside after l n t en ei ea el tree =
     ∙ ap (λ u. tree_block u ∷ stretches_view ps after) (tree ∙ ap (λ us. inner h o (forest (made g (stretches_parts us))) []) front)
     ∙ ap (λ us. tree_block (inner h o (forest (made g (stretches_parts (before_end vs)))) []) ∷ us) back
 
+pub opened_none : (ps : List Piece) (h : Head) (o : List Item) (g : Grown) (ss l : List StretchAt) (n : ℕ) (t : PieceTree) (ts : List ItemTree)
+    → n ≡ length ss - prefix_len is_gap_at (reverse ss) → n ≡ 0 → IsBehindTree t ss l → ts ≡ made g [] → item_tree t ≡ inner h o (forest ts) []
+    → IsOpenedBy h o g (stretches_view ps ss) (stretches_view ps l)
+opened_none ps h o g ss l n t ts en none el et tree =
+    opened_is ps h o g ss [] ss l n t en (sym (ap (λ k. take k ss) none)) (sym (ap (λ k. drop k ss) none)) el
+    (tree ∙ ap (λ us. inner h o (forest us) []) et)
+
 pub enclosed_is : (ps : List Piece) (h : Head) (g : Grown) (ss front rest node l : List StretchAt) (n : ℕ) → g ≡ record { trees = []; run = None }
     → n ≡ prefix_len is_gap_at ss → front ≡ take n ss → rest ≡ drop n ss → IsOpenedBy h [] g (stretches_view ps rest) (stretches_view ps node)
     → l ≡ front ++ node → stretches_view ps l ≡ enclosed h (stretches_view ps ss)

@@ -1,12 +1,12 @@
 -- Rows while they are made, line by line, from pieces.
-use Rattle.std.specs.Prelude.{◌≡◌, ◌<◌, ℕ, false, List, [], ◌∷◌, ◌++◌, length, take, drop, All, if◌then◌else◌}
+use Rattle.std.specs.Prelude.{◌≡◌, ◌≤◌, ◌<◌, ℕ, false, List, [], ◌∷◌, ◌++◌, length, take, drop, All, if◌then◌else◌}
 use Rattle.wt_span.specs.declared.form.Piece.{Piece}
 use Rattle.wt_span.specs.Items.{Item, sign, is_mark, items}
 use Rattle.wt_span.specs.Origins.{IsSoundPiece}
 use Rattle.wt_lines.specs.declared.kind.LineKind.{LineKind}
 use Rattle.wt_lines.specs.declared.kind.LineKind.TheVariants as line
 use Rattle.wt_lines.specs.Kinds.{is_mark_sign, is_idle_all}
-use Rattle.wt_lines.specs.Lines.{full_lines}
+use Rattle.wt_lines.specs.Lines.{IsUnbroken, content, full_lines}
 use Rattle.wt_lines.specs.Pieces.{AllParted}
 use Rattle.wt_tiles.specs.Cutting.{IsEdgeIn}
 use Rattle.wt_headings.specs.Lines.{kind_at}
@@ -77,6 +77,20 @@ rule_rows content end =
 -- this is the kind of a line, where so many tables are open
 abbrev pub IsKindAt : LineKind → List Item → Type 0
 IsKindAt k l = (tables : ℕ) × (k ≡ kind_at tables l)
+
+-- ---- rows before a line that stands behind them already
+
+-- the rows of the pieces before a place
+abbrev pub rows_before : ℕ → PageRows → List Row
+rows_before start r = rows_view (take start r.pieces) r.rows
+
+-- the rows are those of the pieces before a place, from which on a whole line of this kind stands
+pub record HasLine (start : ℕ) (k : LineKind) (r : PageRows) : Type 0 where
+  pub place : start ≤ length r.pieces
+  pub made : AreMade (take start r.pieces) r.rows
+  pub line : AreWhole (drop start r.pieces)
+  pub unbroken : IsUnbroken (content (items (drop start r.pieces)))
+  pub kind : IsKindAt k (items (drop start r.pieces))
 
 -- no character lies on both sides of a cut behind blanks and marks
 abbrev pub IsIdleCut : List Item → Type 0

@@ -1,5 +1,5 @@
 -- What is not yet read of the pieces of a page, and the line breaks at its front.
-use Rattle.std.specs.Prelude.{◌≡◌, ℕ, Bool, true, false, Option, Some, None, List, [], ◌∷◌}
+use Rattle.std.specs.Prelude.{◌≡◌, ℕ, Bool, true, false, Option, Some, None, List, [], ◌∷◌, ◌++◌, length, drop}
 use Rattle.std.specs.List.{AllByRecursion, list_all}
 use Rattle.wt_span.specs.Bytes.{is_break}
 use Rattle.wt_span.specs.declared.form.Piece.{Piece}
@@ -24,3 +24,7 @@ AreBreaks xs = AllByRecursion (λ x. is_break_item x ≡ true) xs
 abbrev pub begins_break : List Item → Bool
 begins_break [] = false
 begins_break (x ∷ xs) = is_break_item x
+
+-- the second pieces are the first, and others behind them
+abbrev pub IsBehind : List Piece → List Piece → Type 0
+IsBehind before all = all ≡ before ++ drop (length before) all

@@ -1,6 +1,6 @@
 //! The rows of a page, made from its pieces.
 
-ghost use Rattle.std.specs.Prelude.{◌≡◌, ◌≤◌, ◌<◌, ℕ, ◌∷◌, [], ◌++◌, List, All, length, drop, replicate, slice_index, IfOk};
+ghost use Rattle.std.specs.Prelude.{◌≡◌, ◌≤◌, ◌<◌, ◌+◌, ℕ, ◌∷◌, [], ◌++◌, List, All, length, take, drop, replicate, slice_index, IfOk};
 ghost use Rattle.wt_span.specs.Items.{items, items_of};
 ghost use Rattle.wt_span.specs.Origins.{IsSoundPiece};
 ghost use Rattle.wt_lines.specs.Kinds.{past, is_idle, is_mark_sign};
@@ -10,7 +10,7 @@ ghost use Rattle.wt_headings.specs.Lines.{kind_at};
 ghost use Rattle.wt_tiles.specs.Cutting.{IsEdgeIn};
 ghost use Rattle.wt_body.specs.Rows.{signs, marks_len, idle_len, dashes, line_rows, unwritten_end, rows};
 ghost use Rattle.wt_rows.specs.Ready.{Begins};
-ghost use Rattle.wt_rows.specs.Building.{AreWhole, IsRowOf, row_of, ArePageRows, made_rows, cut_row, signed_rows, table_end_rows, rule_rows, IsKindAt, IsIdleCut, IsSeenFirst};
+ghost use Rattle.wt_rows.specs.Building.{AreWhole, IsRowOf, row_of, AreMade, ArePageRows, made_rows, rows_before, HasLine, IsTextLine, cut_row, signed_rows, table_end_rows, rule_rows, IsKindAt, IsIdleCut, IsSeenFirst};
 
 use crate::cuts::cut;
 use crate::row::RowAt;
@@ -310,6 +310,98 @@ impl<'a> PageRows<'a> {
             LineKind::Heading | LineKind::List | LineKind::Pre | LineKind::Text => {
                 self.with_marked(kind, content, ending)
             }
+        }
+    }
+
+    /// One more row, of what stands from a place on: so many pieces as its lead, and so many before
+    /// its end.
+    fn with_row_from(
+        self,
+        kind: LineKind,
+        start: usize,
+        lead: usize,
+        len: usize,
+    ) -> Result<PageRows<'a>, NoMemory>
+        requires made { AreMade (take start self.pieces) self.rows }
+        requires lead { lead ≤ len }
+        requires within { start + len ≤ length self.pieces }
+        requires row { let line = drop start self.pieces in IsRowOf kind (take lead line) (drop lead (take len line)) (drop len line) }
+        ensures rows { IfOk result (λ r. let line = drop start self.entry.pieces in
+            made_rows r ≡ rows_before start self.entry ++ row_of kind (take lead line) (drop lead (take len line)) (drop len line) ∷ []) }
+        ensures made_after { IfOk result (λ r. ArePageRows r) }
+    {
+        let PageRows { pieces, mut rows } = self;
+        let end = pieces.len();
+        rows.push(RowAt {
+            kind,
+            start,
+            from: start + lead,
+            to: start + len,
+            end,
+        })?;
+        Ok(PageRows { pieces, rows })
+    }
+
+    /// The row of a line of text from a place on, whose lead are the marks at its front.
+    fn with_text_from(self, start: usize, kind: LineKind) -> Result<PageRows<'a>, NoMemory>
+        requires line { HasLine start kind self }
+        requires text { IsTextLine kind }
+        ensures rows { IfOk result (λ r. made_rows r ≡ rows_before start self.entry ++ line_rows kind (items (drop start self.entry.pieces))) }
+        ensures made_after { IfOk result (λ r. ArePageRows r) }
+    {
+        let line = rest_of(self.pieces.as_slice(), start);
+        let len = content_len(line);
+        let lead = lead_len(front_of(line, len));
+        self.with_row_from(kind, start, lead, len)
+    }
+
+    /// The rows of a line from a place on, which is cut where these begin and end.
+    fn with_cut_from(
+        self,
+        alloc: Global,
+        start: usize,
+        kind: LineKind,
+    ) -> Result<PageRows<'a>, NoMemory>
+        requires line { HasLine start kind self }
+        ensures rows { IfOk result (λ r. made_rows r ≡ rows_before start self.entry ++ line_rows kind (items (drop start self.entry.pieces))) }
+        ensures made_after { IfOk result (λ r. ArePageRows r) }
+    {
+        let PageRows { pieces, rows } = self;
+        let mut before = pieces.into_vec();
+        let line = before.split_off(start)?;
+        let made = PageRows {
+            pieces: List::from_vec(before),
+            rows,
+        };
+        made.with_line(alloc, kind, line.as_slice())
+    }
+
+    /// The rows of the line of this kind that stands from a place on.
+    pub fn with_line_from(
+        self,
+        alloc: Global,
+        start: usize,
+        kind: LineKind,
+    ) -> Result<PageRows<'a>, NoMemory>
+        requires line { HasLine start kind self }
+        ensures rows { IfOk result (λ r. made_rows r ≡ rows_before start self.entry ++ line_rows kind (items (drop start self.entry.pieces))) }
+        ensures made_after { IfOk result (λ r. ArePageRows r) }
+    {
+        match kind {
+            LineKind::Blank => {
+                let len = self.pieces.len() - start;
+                self.with_row_from(kind, start, 0, len)
+            }
+            LineKind::Heading | LineKind::List | LineKind::Pre | LineKind::Text => {
+                self.with_text_from(start, kind)
+            }
+            LineKind::TableOpen
+            | LineKind::TableEnd
+            | LineKind::Caption
+            | LineKind::Row
+            | LineKind::Cell
+            | LineKind::Header
+            | LineKind::Rule => self.with_cut_from(alloc, start, kind),
         }
     }
 

@@ -12,7 +12,7 @@ ghost use Rattle.wt_rows.specs.Sections.{IsSection, IsSectionOf, IsEnd, AreFirst
 use crate::rows::{PageRows, line_kind};
 use crate::unread::Unread;
 use std::alloc::Global;
-use wt_span::NoMemory;
+use wt_span::{NoMemory, rest_of};
 use wt_tables::behind;
 
 /// The rows of lines that are read, how many tables are open behind them, and what is not yet read.
@@ -47,9 +47,12 @@ impl<'p, 'a> Section<'p, 'a> {
         ensures fewer { IfOk result (λ s. length (items (left s.rest)) < length (items (left self.entry.rest))) }
     {
         let Section { made, tables, rest } = self;
-        let (line, after) = rest.split_line(alloc)?;
-        let kind = line_kind(line.as_slice(), tables);
-        let made = made.with_line(alloc, kind, line.as_slice())?;
+        let PageRows { pieces, rows } = made;
+        let start = pieces.len();
+        let (pieces, after) = rest.push_line(pieces)?;
+        let kind = line_kind(rest_of(pieces.as_slice(), start), tables);
+        let page = PageRows { pieces, rows };
+        let made = page.with_line_from(alloc, start, kind)?;
         Ok(Section {
             made,
             tables: behind(tables, kind),

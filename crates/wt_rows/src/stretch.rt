@@ -182,6 +182,11 @@ pub fn opened_by<'a>(
         (stretches_view pieces.now l)) }
 {
     let n = block_len(stretches.as_slice());
+    if n == 0 {
+        let nodes = children.finish(alloc)?;
+        let tree = ended_by_last(alloc, head, opening, nodes);
+        return behind_tree(alloc, tree, stretches);
+    }
     let (inside, after) = split_at(stretches, n)?;
     let tree = node_round(alloc, head, opening, children, pieces, inside)?;
     behind_tree(alloc, tree, after)

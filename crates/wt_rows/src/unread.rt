@@ -1,6 +1,6 @@
 //! What is not yet read of the pieces of a page.
 
-ghost use Rattle.std.specs.Prelude.{◌≡◌, ◌<◌, ◌≤◌, ◌==◌, ◌++◌, [], ◌∷◌, not, All, true, IfOk, IfSome, MatchOption, length, take};
+ghost use Rattle.std.specs.Prelude.{◌≡◌, ◌<◌, ◌≤◌, ◌==◌, ◌++◌, [], ◌∷◌, not, All, true, IfOk, IfSome, MatchOption, length, take, drop};
 ghost use Rattle.std.specs.List.{prefix_len};
 ghost use Rattle.std.specs.Str.{IsCharBoundary};
 ghost use Rattle.wt_span.specs.Bytes.{is_break};
@@ -10,7 +10,7 @@ ghost use Rattle.wt_span.specs.Origins.{IsSoundPiece};
 ghost use Rattle.wt_lines.specs.Lines.{full_lines};
 ghost use Rattle.wt_lines.specs.Pieces.{is_chars, starts_break, IsParted, ArePartedBytes};
 ghost use Rattle.wt_rows.specs.Building.{AreWhole};
-ghost use Rattle.wt_rows.specs.Unread.{left, all_breaks, AreBreaks, begins_break};
+ghost use Rattle.wt_rows.specs.Unread.{left, IsBehind, all_breaks, AreBreaks, begins_break};
 
 use std::alloc::Global;
 use wt_lines::{chars_piece, is_break, is_chars, unbroken_len};
@@ -162,24 +162,28 @@ impl<'p, 'a> Unread<'p, 'a> {
         Some(Unread::cut(piece, n, self.others))
     }
 
-    /// The next line, with its line break, and what is left behind it.
-    pub fn split_line(self, alloc: Global) -> Result<(List<Piece<'a>>, Unread<'p, 'a>), NoMemory>
+    /// The next line, with its line break, put behind these pieces; and what is left behind it.
+    pub fn push_line(
+        self,
+        pieces: List<Piece<'a>>,
+    ) -> Result<(List<Piece<'a>>, Unread<'p, 'a>), NoMemory>
         requires sound { All IsSoundPiece (left self) }
         requires some { 0 < length (left self) }
-        ensures cut { IfOk result (λ r. full_lines (items (left self.entry)) ≡ items r.0 ∷ full_lines (items (left r.1))) }
-        ensures whole { IfOk result (λ r. AreWhole r.0) }
+        ensures kept { IfOk result (λ r. IsBehind pieces.entry r.0) }
+        ensures cut { IfOk result (λ r. full_lines (items (left self.entry)) ≡ items (drop (length pieces.entry) r.0) ∷ full_lines (items (left r.1))) }
+        ensures whole { IfOk result (λ r. AreWhole (drop (length pieces.entry) r.0)) }
         ensures sound_after { IfOk result (λ r. All IsSoundPiece (left r.1)) }
         ensures fewer { IfOk result (λ r. length (items (left r.1)) < length (items (left self.entry))) }
     {
-        let mut line = List::new(alloc);
+        let mut pieces = pieces;
         let mut rest = self;
         while let Some((piece, after)) = rest.split_first() {
-            line.push(piece)?;
+            pieces.push(piece)?;
             rest = after;
             if is_break(&piece) {
-                return Ok((line, rest));
+                return Ok((pieces, rest));
             }
         }
-        Ok((line, rest))
+        Ok((pieces, rest))
     }
 }
