@@ -1,5 +1,9 @@
 //! Blocks, items and rows as wikitext, where they are new, come from elsewhere or are of another kind now.
 
+use crate::delimiters::{
+    push_begun, push_closing, push_heading_end, push_heading_start, push_opening, push_signs,
+    shares_line,
+};
 use crate::inline::{Edges, Writing, edges_of, spelled};
 use crate::kinds::{is_item, is_list};
 use crate::known::{Block, Known, block_of, sign_of};
@@ -122,7 +126,7 @@ fn push_inside(
     out.push_str(source.as_str())
 }
 
-/// Appends all that a node holds behind its inside, each on a line of its own.
+/// Appends all that a node holds behind its inside, each on a line of its own but a cell that shared one.
 #[cycle(blocks)]
 fn push_held(
     alloc: Global,
@@ -130,10 +134,14 @@ fn push_held(
     around: Surroundings<'_, '_, '_>,
     node: &Node<'_>,
 ) -> Result<(), NoMemory> {
+    let mut before = None;
     for child in node.children.as_slice() {
         if is_block_part(child.kind) {
-            out.push_str("\n")?;
+            if !shares_line(alloc, around.known, before, child)? {
+                out.push_str("\n")?;
+            }
             push_block(alloc, out, around.within(), child)?;
+            before = Some(child);
         }
     }
     Ok(())
@@ -152,13 +160,6 @@ fn begins_with(source: &[u8], signs: &[u8]) -> bool {
 
 // ---- blocks
 
-fn push_equals(out: &mut Str, count: u8) -> Result<(), NoMemory> {
-    for _at in 0..count {
-        out.push_str("=")?;
-    }
-    Ok(())
-}
-
 fn push_heading(
     alloc: Global,
     out: &mut Str,
@@ -166,11 +167,9 @@ fn push_heading(
     level: u8,
     node: &Node<'_>,
 ) -> Result<(), NoMemory> {
-    push_equals(out, level)?;
-    out.push_str(" ")?;
+    push_heading_start(alloc, out, around.known, node.id, level)?;
     push_inside(alloc, out, around, node)?;
-    out.push_str(" ")?;
-    push_equals(out, level)
+    push_heading_end(alloc, out, around.known, node.id, level)
 }
 
 /// Appends an item with its signs: as it stood in the page, where it stood there with these.
@@ -187,8 +186,7 @@ fn push_item(
             return out.push_str(source);
         }
     }
-    out.push_str(around.signs)?;
-    out.push_str(" ")?;
+    push_signs(alloc, out, around.known, node, around.signs)?;
     push_inside(alloc, out, around, node)?;
     push_held(alloc, out, around, node)
 }
@@ -260,10 +258,10 @@ fn push_cell(
     alloc: Global,
     out: &mut Str,
     around: Surroundings<'_, '_, '_>,
-    opening: &str,
+    sign: &str,
     node: &Node<'_>,
 ) -> Result<(), NoMemory> {
-    out.push_str(opening)?;
+    push_opening(alloc, out, around.known, node, sign)?;
     push_inside(alloc, out, around.in_table(), node)?;
     push_held(alloc, out, around.in_table(), node)
 }
@@ -274,10 +272,10 @@ fn push_lines(
     alloc: Global,
     out: &mut Str,
     around: Surroundings<'_, '_, '_>,
-    opening: &str,
+    sign: &str,
     node: &Node<'_>,
 ) -> Result<(), NoMemory> {
-    out.push_str(opening)?;
+    push_opening(alloc, out, around.known, node, sign)?;
     push_held(alloc, out, around.in_table(), node)
 }
 
@@ -296,7 +294,7 @@ fn push_if_standing(
     let Some(source) = source_standing(alloc, around.known, node)? else {
         return Ok(false);
     };
-    out.push_str(source.as_str())?;
+    push_begun(out, node.kind, source.as_str())?;
     Ok(true)
 }
 
@@ -319,7 +317,8 @@ pub fn push_block(
         Kind::Li | Kind::Dt | Kind::Dd => push_item(alloc, out, around, node),
         Kind::Table => {
             push_lines(alloc, out, around, "{|", node)?;
-            out.push_str("\n|}")
+            out.push_str("\n")?;
+            push_closing(alloc, out, around.known, node, "|}")
         }
         Kind::Tbody => push_rows(alloc, out, around, node),
         Kind::Tr => push_lines(alloc, out, around, "|-", node),

@@ -83,7 +83,8 @@ fn push_texts(out: &mut Str, texts: &[Text<'_>]) -> Result<(), NoMemory> {
     Ok(())
 }
 
-fn joined(alloc: Global, texts: &[Text<'_>]) -> Result<Str, NoMemory> {
+/// Texts that follow one another in one.
+pub fn joined(alloc: Global, texts: &[Text<'_>]) -> Result<Str, NoMemory> {
     let mut out = Str::new(alloc);
     push_texts(&mut out, texts)?;
     Ok(out)

@@ -5,6 +5,7 @@
 mod blocks;
 mod children;
 mod common;
+mod delimiters;
 mod inline;
 mod kinds;
 mod known;
