@@ -353,6 +353,12 @@ proposal_stands pages items page t u given r is h =
     let s : TriedProposal pages page t u (tried.Stands given) = subst (TriedProposal pages page t u) is h in
     record { made = inl s.0; back = s.1; itself = λ m. absurd (not_same pages page t u false refl m) }
 
+-- what is known after a proposal that isn't the answer is of this folder
+pub failed_knows : (pages : Pages) (page : List ℕ) (t u : Tree) (r : Tried) (why : Fault) (x : Expansion) → r ≡ tried.Fails why x
+    → TriedProposal pages page t u r → KnowsOf pages x
+failed_knows pages page t u r why x is h =
+    let s : TriedProposal pages page t u (tried.Fails why x) = subst (TriedProposal pages page t u) is h in s.0
+
 -- ---- faults of the folder, and want of memory
 
 pub fault_found : (pages : Pages) (items : Expanded) (page : List ℕ) (t u : Tree) (same : Bool) (before after : ℕ) (result : Result Output Refusal) (r : Refusal)

@@ -1,8 +1,8 @@
 use Rattle.std.proofs.Common.{◌≡◌, ◌∙◌, false, Err, rules, subst}
 use Rattle.wt_transclusion.proofs.AskedLaws.{asks_then}
 use Rattle.wt_tree.specs.View.{view}
-use Rattle.wt_pagetool.specs.Tried.{HoldsTried, TriedProposal}
-use Rattle.wt_pagetool.proofs.SelserLaws.{fault_found, fault_of_edit, proposal_stands}
+use Rattle.wt_pagetool.specs.Tried.{HoldsTried}
+use Rattle.wt_pagetool.proofs.SelserLaws.{failed_knows, fault_found, fault_of_edit, proposal_stands}
 use Rattle.wt_pagetool.proofs.proposing.page_but_in.Goals as goal
 
 pub last_page-requires-clause-known : goal.last_page-requires-clause-known
@@ -15,10 +15,9 @@ returns-in-Stands-clause-found g c = λ pages told knows first.
 
 pub returns-in-Fails-clause-found : goal.returns-in-Fails-clause-found
 returns-in-Fails-clause-found g c = λ pages told knows first.
-    let tried : TriedProposal pages c.args.edit.now.page.now (view c.args.edit.now.tree.now) (view c.args.edit.now.edited.now) _ =
-    subst (TriedProposal pages c.args.edit.now.page.now (view c.args.edit.now.tree.now) (view c.args.edit.now.edited.now)) c.in-Fails.is
-    (c.in_ok-tried.ensures.tried pages told knows) in
-    c.last_page.ensures.found pages (c.in_ok-tried.ensures.kept ∙ told) tried.0 first
+    c.last_page.ensures.found pages (c.in_ok-tried.ensures.kept ∙ told)
+    (failed_knows pages c.args.edit.now.page.now (view c.args.edit.now.tree.now) (view c.args.edit.now.edited.now) c.in_ok-tried.tried _ _ c.in-Fails.is
+    (c.in_ok-tried.ensures.tried pages told knows)) first
 
 pub returns-in-Fails-clause-asks : goal.returns-in-Fails-clause-asks
 returns-in-Fails-clause-asks g c =

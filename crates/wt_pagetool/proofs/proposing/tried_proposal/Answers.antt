@@ -11,5 +11,5 @@ returns-in-Some-clause-tried g c = λ pages told knows.
     (subst (λ o. IfSome o (IsRewritten c.args.edit.now.page.now (view c.args.edit.now.tree.now) (view c.args.edit.now.edited.now))) c.in-Some.is
     c.in_ok-proposed.ensures) (c.tried_marks.ensures.tried pages told knows)
 
-pub returns-clause-tried : goal.returns-clause-tried
-returns-clause-tried g c = λ pages told knows. (knows, record { first = None; made = tt; fails = refl })
+pub returns-in-None-clause-tried : goal.returns-in-None-clause-tried
+returns-in-None-clause-tried g c = λ pages told knows. (knows, record { first = None; made = tt; fails = refl })

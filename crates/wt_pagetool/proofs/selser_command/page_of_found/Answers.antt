@@ -16,12 +16,22 @@ set_beside-requires-clause-body g c = ap (λ t. (label t).kind) (ap view c.body-
 pub new_page-requires-clause-body : goal.new_page-requires-clause-body
 new_page-requires-clause-body g c = ap (λ t. (label t).kind) (ap view c.body-tree.ensures.body) ∙ c.requires.body
 
+pub numbered_nodes-requires-clause-body : goal.numbered_nodes-requires-clause-body
+numbered_nodes-requires-clause-body g c = ap (λ t. (label t).kind) (ap view c.body-tree.ensures.body) ∙ c.requires.body
+
+pub returns-in_err-index-clause-answered : goal.returns-in_err-index-clause-answered
+returns-in_err-index-clause-answered g c = λ pages told knows.
+    let t = view c.args.found.annotated.tree.body in
+    let edited = view c.args.edited in
+    memory_found (nodes_answer c.args.page.now (nodes_checked t (remarked t edited))) pages c.args.found.annotated.items c.args.page.now t
+    (remarked t edited) (are_none (difference t edited)) c.from_residual.result c.from_residual.ensures.1
+
 pub returns-in_err-beside-clause-answered : goal.returns-in_err-beside-clause-answered
 returns-in_err-beside-clause-answered g c = λ pages told knows.
     let t = view c.args.found.annotated.tree.body in
     let edited = view c.args.edited in
     memory_found (nodes_answer c.args.page.now (nodes_checked t (remarked t edited))) pages c.args.found.annotated.items c.args.page.now t
-    (remarked t edited) (are_none (difference t edited)) c.from_residual.result c.from_residual.ensures.1
+    (remarked t edited) (are_none (difference t edited)) c.from_residual-in_err-beside.result c.from_residual-in_err-beside.ensures.1
 
 pub returns-in-Some-clause-answered : goal.returns-in-Some-clause-answered
 returns-in-Some-clause-answered g c = λ pages told knows.
