@@ -565,7 +565,7 @@ class Limits(BatchCase):
 
     def test_want_of_memory(self) -> None:
         self.program = PROGRAM
-        self.write("Letters", "a\n\n" * 400_000)
+        self.write("Letters", "a\n\n" * 690_000)
         for k in range(50):
             self.write(f"P{k}", "text")
         report = self.report("html", "--memory-limit", "60")
