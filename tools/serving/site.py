@@ -5,6 +5,7 @@ import json
 import os
 import re
 import secrets
+import shutil
 import tempfile
 import threading
 from concurrent.futures import ThreadPoolExecutor
@@ -375,8 +376,12 @@ class TextRoom:
         self._linked: tuple = (None, set())  # the folder's state, and the names of its files then
 
     def close(self) -> None:
-        if self._room is not None:
+        if self._room is None:
+            return
+        try:
             self._room.cleanup()
+        except OSError:  # an answer that is still being made has put its text there
+            shutil.rmtree(self._room.name, ignore_errors=True)
 
     def page(self, text: bytes) -> "TextPage":
         """A page of this text, with a title of its own that no call names."""
