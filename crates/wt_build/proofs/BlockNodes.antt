@@ -3,7 +3,7 @@ use Rattle.std.proofs.Common.{◌≡◌, ◌<◌, ◌≤◌, ◌⊎◌, inl, inr
 use Rattle.std.proofs.lemmas.List.{drop-drop, map-append, take_more}
 use Rattle.std.proofs.lemmas.Grind.{flat_map-append}
 use Rattle.wt_span.specs.declared.form.Piece.{Piece}
-use Rattle.wt_span.specs.Items.{items, items_of, source, sources, call_of_origin}
+use Rattle.wt_span.specs.Items.{Item, items, items_of, source, sources, call_of_origin}
 use Rattle.wt_span.specs.Slice.{bytes_of}
 use Rattle.wt_context.proofs.Texts.{source_by}
 use Rattle.wt_lines.specs.declared.kind.LineKind.{LineKind}
@@ -37,14 +37,20 @@ first_is : (ps : List Piece) (rs : List RowAt) (r : RowAt) → 0 < length rs →
 first_is ps [] r l e = absurd (omega arith)
 first_is ps (q ∷ qs) r l e = ap (λ (t : RowAt). (row_view ps t).lead) (sym e)
 
+-- what stands before a node, the node, and what stands behind it
+pub separated : (ps : List Piece) (rs : List RowAt) (first last : RowAt) (before after : List Item) (t u : ItemTree) → 0 < length rs
+    → first ≡ get_or rs 0 first → last ≡ get_or rs (length rs - 1) last → before ≡ (row_view ps first).lead → after ≡ (row_view ps last).ending → t ≡ u
+    → gap before ∷ tree_block t ∷ gap after ∷ [] ≡ with_separators u (rows_view ps rs)
+separated ps rs first last before after t u s ef el eb ea e =
+    ap (λ v. gap before ∷ tree_block v ∷ gap after ∷ []) e
+    ∙ ap (λ xs. gap xs ∷ tree_block u ∷ gap after ∷ []) (eb ∙ sym (first_is ps rs first s ef))
+    ∙ ap (λ xs. gap (first_lead (rows_view ps rs)) ∷ tree_block u ∷ gap xs ∷ []) (ea ∙ sym (last_is ps rs (length rs - 1) last (omega arith) el))
+
 pub between_is : (ps : List Piece) (rs : List RowAt) (first last : RowAt) (t u : ItemTree) (ss : List StretchAt) → 0 < length rs
     → first ≡ get_or rs 0 first → last ≡ get_or rs (length rs - 1) last → IsBetween t first last ss → t ≡ u
     → stretches_view ps ss ≡ with_separators u (rows_view ps rs)
 between_is ps rs first last t u ss s ef el b e =
-    b ps
-    ∙ ap (λ v. gap (row_view ps first).lead ∷ tree_block v ∷ gap (row_view ps last).ending ∷ []) e
-    ∙ ap (λ xs. gap xs ∷ tree_block u ∷ gap (row_view ps last).ending ∷ []) (sym (first_is ps rs first s ef))
-    ∙ ap (λ xs. gap (first_lead (rows_view ps rs)) ∷ tree_block u ∷ gap xs ∷ []) (sym (last_is ps rs (length rs - 1) last (omega arith) el))
+    b ps ∙ separated ps rs first last (row_view ps first).lead (row_view ps last).ending t u s ef el refl refl e
 
 one_row : (rs : List RowAt) (r : RowAt) → length rs ≡ 1 → r ≡ get_or rs 0 r → rs ≡ r ∷ []
 one_row [] r l e = absurd (omega arith)
@@ -130,31 +136,39 @@ within_is (suc n) vs = refl
 abbrev pub IsSoFar : ℕ → List Piece → List RowAt → List StretchAt → List RowAt → Type 0
 IsSoFar depth ps rs out left = stretches_view ps out ++ within depth (rows_view ps left) ≡ within depth (rows_view ps rs)
 
+-- the blocks of the rows from a place on are the first one, and those of the rows behind it
+pub blocks_next : (depth : ℕ) (ps : List Piece) (rs rest front : List RowAt) (at n : ℕ) (k : LineKind) → rest ≡ drop at rs → front ≡ take n rest
+    → IsBlockLen rest n → AreOneBlock k front
+    → within depth (rows_view ps (drop at rs))
+    ≡ block_stretches (reading_at depth) k (rows_view ps front) ++ within depth (rows_view ps (drop (at + n) rs))
+blocks_next depth ps rs rest front at n k er ef cut block =
+    let read = reading_at depth in
+    let next : drop n rest ≡ drop (at + n) rs = ap (drop n) er ∙ drop-drop n at rs in
+    let own : run_of read (rows_view ps (take n rest)) ≡ block_stretches read k (rows_view ps front) =
+    ap (λ qs. run_of read (rows_view ps qs)) (sym ef)
+    ∙ ap (λ (j : LineKind). block_stretches read j (rows_view ps front)) (kind_viewed ps front ∙ block.kind) in
+    ap (λ qs. within depth (rows_view ps qs)) (sym er)
+    ∙ within_is depth (rows_view ps rest)
+    ∙ cut read ps
+    ∙ ap (λ vs. vs ++ blocks_by read (rows_view ps (drop n rest))) own
+    ∙ ap (λ vs. block_stretches read k (rows_view ps front) ++ vs) (sym (within_is depth (rows_view ps (drop n rest))))
+    ∙ ap (λ qs. block_stretches read k (rows_view ps front) ++ within depth (rows_view ps qs)) next
+
 pub blocks_step : (depth : ℕ) (ps : List Piece) (rs rest front : List RowAt) (at n : ℕ) (k : LineKind) (out made news : List StretchAt)
     → rest ≡ drop at rs → front ≡ take n rest → IsBlockLen rest n → AreOneBlock k front
     → stretches_view ps made ≡ block_stretches (reading_at depth) k (rows_view ps front) → news ≡ out ++ made
     → IsSoFar depth ps rs out (drop at rs) → IsSoFar depth ps rs news (drop (at + n) rs)
 blocks_step depth ps rs rest front at n k out made news er ef cut block em en so_far =
-    let read = reading_at depth in
-    let next : drop n rest ≡ drop (at + n) rs = ap (drop n) er ∙ drop-drop n at rs in
-    let own : run_of read (rows_view ps (take n rest)) ≡ stretches_view ps made =
-    ap (λ qs. run_of read (rows_view ps qs)) (sym ef)
-    ∙ ap (λ (j : LineKind). block_stretches read j (rows_view ps front)) (kind_viewed ps front ∙ block.kind)
-    ∙ sym em in
     let all : within depth (rows_view ps (drop at rs)) ≡ stretches_view ps made ++ within depth (rows_view ps (drop (at + n) rs)) =
-    ap (λ qs. within depth (rows_view ps qs)) (sym er)
-    ∙ within_is depth (rows_view ps rest)
-    ∙ cut read ps
-    ∙ ap (λ vs. vs ++ blocks_by read (rows_view ps (drop n rest))) own
-    ∙ ap (λ vs. stretches_view ps made ++ vs) (sym (within_is depth (rows_view ps (drop n rest))))
-    ∙ ap (λ qs. stretches_view ps made ++ within depth (rows_view ps qs)) next in
+    blocks_next depth ps rs rest front at n k er ef cut block
+    ∙ ap (λ vs. vs ++ within depth (rows_view ps (drop (at + n) rs))) (sym em) in
     ap (λ ss. stretches_view ps ss ++ within depth (rows_view ps (drop (at + n) rs))) en
     ∙ ap (λ vs. vs ++ within depth (rows_view ps (drop (at + n) rs))) (map-append (stretch_view ps) out made)
     ∙ append_assoc (stretches_view ps out) (stretches_view ps made) (within depth (rows_view ps (drop (at + n) rs)))
     ∙ ap (λ vs. stretches_view ps out ++ vs) (sym all)
     ∙ so_far
 
-nothing : (depth : ℕ) → within depth [] ≡ []
+pub nothing : (depth : ℕ) → within depth [] ≡ []
 nothing zero = refl
 nothing (suc n) = refl
 

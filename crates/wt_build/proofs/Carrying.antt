@@ -13,8 +13,7 @@ use Rattle.wt_body.specs.Rows.{rows}
 use Rattle.wt_body.specs.Stretches.{stretches_parts}
 use Rattle.wt_body.specs.Body.{within, blocks, body_parts, meaning}
 use Rattle.wt_rows.specs.declared.row.RowAt.{RowAt}
-use Rattle.wt_rows.specs.declared.stretch.StretchAt.{StretchAt}
-use Rattle.wt_rows.specs.Views.{rows_view, stretches_view}
+use Rattle.wt_rows.specs.Views.{rows_view}
 use Rattle.wt_rows.specs.Unread.{AreBreaks}
 use Rattle.wt_rows.specs.Sections.{AreFirst}
 use Rattle.wt_build.specs.Carrying.{Carries}
@@ -37,18 +36,15 @@ none_left [] e = refl
 none_left (p ∷ ps) e = let z : length (p ∷ ps) ≡ 0 = grind (arith, nat_tests) in absurd (omega (arith, z))
 
 -- what the blocks of rows give are the parts of a body
-pub parts_are : (ps qs : List Piece) (rs ts : List RowAt) (ss : List StretchAt) → ps ≡ qs → rs ≡ ts → stretches_view ps ss ≡ within 16 (rows_view ps rs)
-    → stretches_parts (stretches_view ps ss) ≡ body_parts (rows_view qs ts)
+pub parts_are : (ps qs : List Piece) (rs ts : List RowAt) → ps ≡ qs → rs ≡ ts → stretches_parts (within 16 (rows_view ps rs)) ≡ body_parts (rows_view qs ts)
 unfolding blocks
-parts_are ps qs rs ts ss ep er e =
-    ap stretches_parts (e ∙ ap (λ us. within 16 (rows_view us rs)) ep ∙ ap (λ us. within 16 (rows_view qs us)) er)
+parts_are ps qs rs ts ep er = ap stretches_parts (ap (λ us. within 16 (rows_view us rs)) ep ∙ ap (λ us. within 16 (rows_view qs us)) er)
 
-pub carries_section : (g h : Grown) (xs ys : List Item) (ps qs : List Piece) (rs ts : List RowAt) (ss : List StretchAt) → ps ≡ qs → rs ≡ ts
-    → stretches_view ps ss ≡ within 16 (rows_view ps rs) → Grows g (stretches_parts (stretches_view ps ss)) h → AreFirst (rows_view qs ts) xs ys
-    → Carries g xs h ys
-carries_section g h xs ys ps qs rs ts ss ep er e grows first =
-    carries_by g h xs ys (stretches_parts (stretches_view ps ss))
-    (first ∙ ap (λ us. us ++ body_parts (rows ys)) (sym (parts_are ps qs rs ts ss ep er e))) grows
+pub carries_section : (g h : Grown) (xs ys : List Item) (ps qs : List Piece) (rs ts : List RowAt) → ps ≡ qs → rs ≡ ts
+    → Grows g (stretches_parts (within 16 (rows_view ps rs))) h → AreFirst (rows_view qs ts) xs ys → Carries g xs h ys
+carries_section g h xs ys ps qs rs ts ep er grows first =
+    carries_by g h xs ys (stretches_parts (within 16 (rows_view ps rs)))
+    (first ∙ ap (λ us. us ++ body_parts (rows ys)) (sym (parts_are ps qs rs ts ep er))) grows
 
 pub carries_breaks : (g h : Grown) (xs ys : List Item) (p : Piece) → xs ≡ items_of p ++ ys → AreBreaks (items_of p) → Grows g (parts Sep (items (p ∷ []))) h
     → Carries g xs h ys

@@ -2,6 +2,7 @@ pub mod BlockNodes
 pub mod BlockRuns
 pub mod Carrying
 pub mod Colons
+pub mod GrowingBlocks
 pub mod Items
 pub mod LaterLines
 pub mod ListNodes

@@ -8,7 +8,9 @@ ghost use Rattle.wt_blocks.specs.Paragraphs.{is_text};
 ghost use Rattle.wt_tables.specs.Extents.{is_open};
 ghost use Rattle.wt_tables.specs.Parts.{unit_kind};
 ghost use Rattle.wt_inline.specs.View.{item_tree};
+ghost use Rattle.wt_inline.specs.Grown.{growth, Grows};
 ghost use Rattle.wt_headings.specs.Headings.{heading};
+ghost use Rattle.wt_body.specs.Stretches.{stretches_parts};
 ghost use Rattle.wt_body.specs.Tables.{Reading, gaps};
 ghost use Rattle.wt_body.specs.Body.{is_list_line, is_pre_line, one_block, block_stretches, within};
 ghost use Rattle.wt_rows.specs.Views.{row_view, rows_view, stretches_view};
@@ -21,9 +23,9 @@ use crate::table::table;
 use crate::text::{paragraph, preformatted, rule_tree};
 use std::alloc::Global;
 use wt_headings::heading;
-use wt_inline::PieceTree;
+use wt_inline::{Children, Loose, PieceTree};
 use wt_lines::LineKind;
-use wt_rows::{RowAt, StretchAt, between, unit_len, with_separators};
+use wt_rows::{RowAt, StretchAt, between, unit_len, with_separators, with_stretches};
 use wt_span::{List, NoMemory, Piece, front_of, rest_of};
 
 fn is_text(kind: LineKind) -> bool
@@ -230,4 +232,91 @@ pub fn blocks<'a>(
         at += n;
     }
     Ok(List::from_vec(out))
+}
+
+/// The children of a body with a block that is one node, and the separators round it.
+fn with_node_block<'a>(
+    alloc: Global,
+    children: Children<'a>,
+    pieces: &[Piece<'a>],
+    kind: LineKind,
+    rows: &[RowAt],
+) -> Result<Children<'a>, NoMemory>
+    requires ready { AreReadyRows pieces.now rows.now }
+    requires block { AreOneBlock kind rows.now }
+    requires node { IsNodeKind kind }
+    ensures { (read : Reading) → IfOk result (λ c. Grows (growth children.entry)
+        (stretches_parts (block_stretches read kind (rows_view pieces.now rows.now))) (growth c)) }
+{
+    let first = rows[0];
+    let last = rows[rows.len() - 1];
+    let tree = block_tree(alloc, pieces, kind, rows)?;
+    let before = children.with_pieces(alloc, Loose::Sep, first.lead(pieces))?;
+    let behind = before.with_tree(alloc, tree)?;
+    behind.with_pieces(alloc, Loose::Sep, last.ending(pieces))
+}
+
+/// The children of a body with a block, in which so many tables may stand one inside the other.
+fn with_block<'a>(
+    alloc: Global,
+    children: Children<'a>,
+    pieces: &[Piece<'a>],
+    kind: LineKind,
+    rows: &[RowAt],
+    depth: usize,
+) -> Result<Children<'a>, NoMemory>
+    requires ready { AreReadyRows pieces.now rows.now }
+    requires block { AreOneBlock kind rows.now }
+    ensures { IfOk result (λ c. Grows (growth children.entry)
+        (stretches_parts (block_stretches (reading_at depth) kind (rows_view pieces.now rows.now))) (growth c)) }
+{
+    match kind {
+        LineKind::Blank => {
+            let row = rows[0];
+            children.with_pieces(alloc, Loose::Sep, between(pieces, row.start, row.end))
+        }
+        LineKind::TableOpen | LineKind::List => {
+            let made = block(alloc, pieces, kind, rows, depth)?;
+            with_stretches(alloc, children, pieces, made)
+        }
+        LineKind::TableEnd
+        | LineKind::Caption
+        | LineKind::Row
+        | LineKind::Cell
+        | LineKind::Header
+        | LineKind::Heading
+        | LineKind::Rule
+        | LineKind::Pre
+        | LineKind::Text => with_node_block(alloc, children, pieces, kind, rows),
+    }
+}
+
+/// The children of a body with the blocks of rows, in which so many tables may stand one inside the
+/// other.
+pub fn with_blocks<'a>(
+    alloc: Global,
+    children: Children<'a>,
+    pieces: &[Piece<'a>],
+    rows: &[RowAt],
+    depth: usize,
+) -> Result<Children<'a>, NoMemory>
+    requires { AreReadyRows pieces.now rows.now }
+    ensures { IfOk result (λ c. Grows (growth children.entry) (stretches_parts (within depth (rows_view pieces.now rows.now))) (growth c)) }
+{
+    let mut children = children;
+    let mut at = 0;
+    while at < rows.len() {
+        let rest = rest_of(rows, at);
+        let n = block_len(rest);
+        children = with_block(
+            alloc,
+            children,
+            pieces,
+            rest[0].kind,
+            front_of(rest, n),
+            depth,
+        )?;
+        at += n;
+    }
+    Ok(children)
 }

@@ -9,12 +9,12 @@ ghost use Rattle.wt_body.specs.Body.{meaning};
 ghost use Rattle.wt_rows.specs.Unread.{left};
 ghost use Rattle.wt_build.specs.Carrying.{Carries};
 
-use crate::block::blocks;
+use crate::block::with_blocks;
 use crate::text::plain_node;
 use std::alloc::Global;
 use wt_inline::{Children, Loose, PieceTree};
 use wt_lines::MOST_TABLES;
-use wt_rows::{Unread, next_section, with_stretches};
+use wt_rows::{Unread, next_section};
 use wt_span::{Items, List, NoMemory, Piece};
 use wt_tree::Kind;
 
@@ -54,8 +54,8 @@ fn with_section<'p, 'a>(
 {
     let (page, after) = next_section(alloc, rest)?;
     let pieces = page.pieces.as_slice();
-    let stretches = blocks(alloc, pieces, page.rows.as_slice(), MOST_TABLES as usize)?;
-    let grown = with_stretches(alloc, children, pieces, stretches)?;
+    let rows = page.rows.as_slice();
+    let grown = with_blocks(alloc, children, pieces, rows, MOST_TABLES as usize)?;
     Ok((grown, after))
 }
 

@@ -1,17 +1,23 @@
 //! The innermost item that a line of a list begins.
 
-ghost use Rattle.std.specs.Prelude.{◌≡◌, Some, All, IfOk};
+ghost use Rattle.std.specs.Prelude.{◌≡◌, ◌==◌, [], true, false, Some, All, IfOk};
 ghost use Rattle.wt_span.specs.Items.{items};
 ghost use Rattle.wt_span.specs.Origins.{IsSoundPiece};
+ghost use Rattle.wt_inline.specs.ItemTree.{plain, inner, forest};
+ghost use Rattle.wt_inline.specs.Parts.{children};
 ghost use Rattle.wt_inline.specs.View.{item_tree};
+ghost use Rattle.wt_context.specs.Line.{line_parts};
 ghost use Rattle.wt_body.specs.Lists.{item_opening_len, item_kind, item_by, term_len, term, line_item};
-ghost use Rattle.wt_rows.specs.Views.{row_view, stretches_view};
+ghost use Rattle.wt_rows.specs.Views.{row_view, stretches_view, IsBetween};
 
 use crate::colon::term_len;
+use crate::text::plain_node;
 use std::alloc::Global;
-use wt_context::line_children;
-use wt_inline::{NodeHead, PieceTree};
-use wt_rows::{RowAt, StretchAt, before, between, cut, opened_line, prefix_of, with_blanks};
+use wt_context::{line_children, with_line};
+use wt_inline::{Children, NodeHead, PieceTree};
+use wt_rows::{
+    RowAt, StretchAt, before, between, cut, opened_line, prefix_of, with_blanks, with_separators,
+};
 use wt_span::{List, NoMemory, Piece};
 use wt_tree::Kind;
 
@@ -100,6 +106,31 @@ fn item_by<'a>(
     }
 }
 
+/// Whether an item holds nothing but what stands on its line, in which no `:` is looked for.
+fn is_plain(sign: char, inside: &[StretchAt<'_>]) -> bool
+    ensures none { result ≡ true → inside.now ≡ [] }
+    ensures no_term { result ≡ true → (sign == 59) ≡ false }
+{
+    inside.is_empty() && sign != ';'
+}
+
+/// An item with an open delimiter that holds nothing but what stands on its line.
+fn plain_item<'a>(
+    alloc: Global,
+    row: RowAt,
+    sign: char,
+    opening: List<Piece<'a>>,
+    line: &[Piece<'a>],
+) -> Result<List<StretchAt<'a>>, NoMemory>
+    requires { All IsSoundPiece line.now }
+    ensures { IfOk result (λ l. IsBetween (inner (plain (item_kind sign)) (items opening.entry) (forest (children (line_parts (items line.now)))) []) row row l) }
+{
+    let children = with_line(alloc, Children::new(alloc), line)?;
+    let nodes = children.finish(alloc)?;
+    let node = plain_node(alloc, item_kind(sign), opening, nodes);
+    with_separators(alloc, node, row, row)
+}
+
 /// The innermost item that a line begins, with these lists in it.
 #[tactic(auto, unfolding(wt_body::specs::Lists::line_item))]
 pub fn line_item<'a>(
@@ -115,6 +146,9 @@ pub fn line_item<'a>(
     let line = between(pieces, row.from, row.to);
     let n = item_opening_len(alloc, line)?;
     let (opening, rest) = cut(alloc, line, n)?;
+    if is_plain(sign, inside.as_slice()) {
+        return plain_item(alloc, row, sign, opening, rest.as_slice());
+    }
     let ending = StretchAt::Gap {
         from: row.to,
         to: row.end,

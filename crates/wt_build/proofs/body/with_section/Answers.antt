@@ -8,5 +8,5 @@ pub returns-clause-grown : goal.returns-clause-grown
 returns-clause-grown c =
     let page = c.in_ok-page.page in
     carries_section (growth c.args.children) (growth c.in_ok-grown.grown) (items (left c.args.rest)) (items (left c.in_ok-page.after))
-    c.as_slice-pieces.result.now page.pieces c.as_slice.result.now page.rows c.in_ok-stretches.stretches c.as_slice-pieces.ensures c.as_slice.ensures
-    c.in_ok-stretches.ensures c.in_ok-grown.ensures c.in_ok-page.ensures.first
+    c.as_slice-pieces.result.now page.pieces c.as_slice-rows.result.now page.rows c.as_slice-pieces.ensures c.as_slice-rows.ensures c.in_ok-grown.ensures
+    c.in_ok-page.ensures.first
