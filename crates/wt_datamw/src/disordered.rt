@@ -8,7 +8,7 @@ ghost use Rattle.wt_datamw.specs.Mw.{wt_data, params_data};
 
 use serde_json::{Map, Value, json};
 use std::alloc::{AllocError, Global};
-use wt_outer::push;
+use wt_devices::push;
 use wt_span::{NoMemory, Str};
 
 fn wt_value(alloc: Global, text: &Str) -> Result<Value, AllocError>

@@ -6,7 +6,7 @@ ghost use Rattle.std.specs.List.{list_all};
 ghost use Rattle.json.specs.Print.{escape, escape_byte, quoted};
 ghost use Rattle.wt_datamw.specs.JsonText.{stands_for_itself};
 
-use wt_outer::push;
+use wt_devices::push;
 use wt_span::{NoMemory, front_of, rest_of};
 
 /// The hexadecimal digit of a number.

@@ -12,7 +12,7 @@ ghost use Rattle.wt_datamw.specs.MwPieces.{value_start, param_text, later_param,
 use crate::disordered::push_disordered_params;
 use crate::json_text::push_quoted;
 use std::alloc::Global;
-use wt_outer::{push, push_number};
+use wt_devices::{push, push_number};
 use wt_span::{NoMemory, Str};
 use wt_tree::{DataMw, Part};
 

@@ -6,7 +6,7 @@ ghost use Rattle.wt_datamw.specs.SyncPieces.{closing_text, next_text, dsr_text, 
 
 use crate::json_text::push_quoted;
 use crate::sync::Sync;
-use wt_outer::{push, push_number};
+use wt_devices::{push, push_number};
 use wt_span::NoMemory;
 use wt_tree::Ranges;
 

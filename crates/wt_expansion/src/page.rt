@@ -13,7 +13,7 @@ use crate::walk::{MOST_NESTED, Walk};
 use bumpalo::Bump;
 use std::alloc::Global;
 use wt_levels::{Expansion, Reader, read_page};
-use wt_outer::Folder;
+use wt_devices::Folder;
 use wt_span::{Items, List};
 use wt_transclusion::ExpandRefusal;
 

@@ -24,7 +24,7 @@ use wt_braces::PartAt;
 use wt_expand::{MOST_TEMPLATES, form_of};
 use wt_levels::{Expansion, Reader};
 use wt_names::{Title, href_of};
-use wt_outer::Folder;
+use wt_devices::Folder;
 use wt_span::{Form, LexKind, Mode, NoMemory};
 use wt_transclusion::{
     Braces, ExpandRefusal, Next, Values, function_named, is_function, title_of_target,

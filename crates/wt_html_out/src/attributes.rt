@@ -10,7 +10,7 @@ ghost use Rattle.wt_tree.specs.declared.node.Node.{out-Node};
 use crate::bytes::{plain_len, push_escaped_double, push_escaped_single};
 use std::alloc::Global;
 use wt_datamw::{push_mw_text, push_sync_text};
-use wt_outer::{push, push_number};
+use wt_devices::{push, push_number};
 use wt_span::{NoMemory, Str, Text, rest_of};
 use wt_tree::{Attr, AttrName, DataMw, Fixed, Kind, Node, Ranges, Shown};
 

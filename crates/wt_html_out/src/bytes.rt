@@ -3,7 +3,7 @@ ghost use Rattle.std.specs.List.{list_all};
 ghost use Rattle.wt_html_out.specs.Runs.{is_plain};
 ghost use Rattle.wt_markup.specs.Escapes.{escape, escape_double, escape_single, escaped, escaped_double, escaped_single, is_control};
 
-use wt_outer::{push, push_number};
+use wt_devices::{push, push_number};
 use wt_span::{NoMemory, front_of, rest_of};
 
 fn is_control(byte: u8) -> bool

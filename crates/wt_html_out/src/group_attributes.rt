@@ -10,7 +10,7 @@ ghost use Rattle.wt_tree.specs.declared.node.Node.{out-Node};
 use crate::attributes::{push_attribute, push_carried, push_fixed, push_own};
 use crate::bytes::push_escaped_double;
 use std::alloc::Global;
-use wt_outer::{push, push_number};
+use wt_devices::{push, push_number};
 use wt_span::NoMemory;
 use wt_tree::{Attr, AttrName, Fixed, Kind, Node};
 

@@ -15,7 +15,7 @@ use crate::names::push_name;
 use crate::shown::push_shown_all;
 use crate::tags::push_end_of;
 use std::alloc::Global;
-use wt_outer::push;
+use wt_devices::push;
 use wt_span::{List, NoMemory};
 use wt_tree::{Attr, Kind, Node, Showing, TagName, Writing};
 

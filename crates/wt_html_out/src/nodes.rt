@@ -10,7 +10,7 @@ use crate::groups::push_group;
 use crate::refusal::LengthRefusal;
 use crate::tags::{push_end, push_section_start, push_start, push_void};
 use std::alloc::Global;
-use wt_outer::push;
+use wt_devices::push;
 use wt_span::{List, NoMemory, Text};
 use wt_tree::{Annotated, Kind, Node, Writing};
 

@@ -11,7 +11,7 @@ use crate::attributes::{push_fixed, push_own};
 use crate::bytes::push_escaped;
 use crate::names::push_name;
 use crate::tags::push_end_of;
-use wt_outer::push;
+use wt_devices::push;
 use wt_span::NoMemory;
 use wt_tree::{Node, Showing, Writing};
 

@@ -6,7 +6,7 @@ ghost use Rattle.wt_tree.specs.declared.node.Node.{out-Node};
 use crate::attributes::push_attributes;
 use crate::names::push_name;
 use std::alloc::Global;
-use wt_outer::{push, push_number};
+use wt_devices::{push, push_number};
 use wt_span::NoMemory;
 use wt_tree::{Kind, Node};
 

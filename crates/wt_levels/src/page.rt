@@ -16,7 +16,7 @@ use bumpalo::Bump;
 use std::alloc::Global;
 use wt_braces::BraceRefusal;
 use wt_expand::{MOST_TEMPLATES, text_shown};
-use wt_outer::Folder;
+use wt_devices::Folder;
 use wt_span::{Mode, Piece, Str};
 use wt_transclusion::{ExpandRefusal, ReadText, Values, read_in};
 

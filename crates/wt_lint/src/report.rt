@@ -6,7 +6,7 @@ ghost use Rattle.wt_lint.specs.Report.{finding_lines, line, next_number};
 
 use crate::finding::Finding;
 use std::alloc::Global;
-use wt_outer::{push, push_number};
+use wt_devices::{push, push_number};
 use wt_span::{List, NoMemory};
 
 /// Appends a blank and a number.

@@ -2,7 +2,7 @@ ghost use Rattle.std.specs.Prelude.{◌≡◌, ◌++◌, OnOk};
 ghost use Rattle.wt_listing.specs.Listing.{line, line_of, next_number, place_numbers};
 
 use crate::word::push_word;
-use wt_outer::{push, push_number};
+use wt_devices::{push, push_number};
 use wt_span::NoMemory;
 use wt_tree::{Kind, Ranges};
 

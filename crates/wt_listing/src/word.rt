@@ -1,7 +1,7 @@
 ghost use Rattle.std.specs.Prelude.{◌≡◌, ◌++◌, OnOk, decimal};
 ghost use Rattle.wt_tree.specs.Kinds.{level_digits, word};
 
-use wt_outer::{push, push_number};
+use wt_devices::{push, push_number};
 use wt_span::NoMemory;
 use wt_tree::Kind;
 

@@ -3,9 +3,9 @@ use Rattle.std.proofs.Common.{◌≡◌, ℕ, ◌≤◌, Bool, true, List, [], �
 use Rattle.std.specs.Prelude.{nat_lt, Option, Some, None, IfSome, IfErr, IsErrAnd, Result, Ok, Err, if◌then◌else◌}
 use Rattle.std.proofs.lemmas.Bool.Decides.{nat_tests}
 use Rattle.std.proofs.lemmas.List.{append_cancel_left, take-append-le, take_all}
-use Rattle.wt_outer.specs.Device.{Pages}
-use Rattle.wt_outer.specs.declared.device.FetchRefusal.{FetchRefusal}
-use Rattle.wt_outer.specs.declared.device.FetchRefusal.TheVariants as of_fetch
+use Rattle.wt_devices.specs.Device.{Pages}
+use Rattle.wt_devices.specs.declared.device.FetchRefusal.{FetchRefusal}
+use Rattle.wt_devices.specs.declared.device.FetchRefusal.TheVariants as of_fetch
 use Rattle.wt_span.specs.declared.limits.TheConstants.{HTML_BYTES, PAGE_BYTES}
 use Rattle.wt_utf8.specs.Places.{not_utf8_place}
 use Rattle.wt_expand.specs.Expansion.{page_work}

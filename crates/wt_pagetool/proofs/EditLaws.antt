@@ -2,7 +2,7 @@
 use Rattle.std.proofs.Common.{◌≡◌, ℕ, List, Bool, true, false, cond, refl, sym, ap, ◌∙◌, subst}
 use Rattle.std.specs.Prelude.{nat_lt, length, Option, Some, None, option_map, IfSome, IsErrAnd, Result, Ok, Err}
 use Rattle.std.specs.Io.KnownBytes.{Appends, IsAtEnd}
-use Rattle.wt_outer.specs.Device.{Pages}
+use Rattle.wt_devices.specs.Device.{Pages}
 use Rattle.wt_span.specs.Origins.{Expanded}
 use Rattle.wt_tree.specs.Tree.{Tree, tree}
 use Rattle.wt_expand.specs.PageCalls.{expanded_page}

@@ -1,7 +1,7 @@
 -- An edit of a page whose expansion is refused.
 use Rattle.std.proofs.Common.{◌≡◌, ℕ, List, ap, sym, subst}
 use Rattle.std.specs.Prelude.{Option, IsErrAnd, Result, Ok, Err}
-use Rattle.wt_outer.specs.Device.{Pages}
+use Rattle.wt_devices.specs.Device.{Pages}
 use Rattle.wt_tree.specs.Tree.{Tree}
 use Rattle.wt_expand.specs.Work.{Refused}
 use Rattle.wt_transclusion.specs.declared.refusal.ExpandRefusal.{ExpandRefusal}

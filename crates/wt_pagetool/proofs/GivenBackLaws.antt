@@ -3,7 +3,7 @@ use Rattle.std.proofs.Common.{◌≡◌, ℕ, ◌≤◌, List, length, true, fal
 use Rattle.std.specs.Prelude.{IsUtf8, nat_lt, Option, Some, None, option_map, IfSome, Result, Ok, Err}
 use Rattle.std.specs.Io.KnownBytes.{Appends}
 use Rattle.std.proofs.lemmas.Bool.Decides.{nat_tests}
-use Rattle.wt_outer.specs.Device.{Pages}
+use Rattle.wt_devices.specs.Device.{Pages}
 use Rattle.wt_tree.specs.Opened.{without_sections}
 use Rattle.wt_markup.specs.Html.{html_text}
 use Rattle.wt_fitting.specs.Read.{read}

@@ -4,9 +4,9 @@ use Rattle.std.specs.Prelude.{◌⊎◌, IsUtf8, nat_lt, Option, Some, None, opt
 use Rattle.std.proofs.lemmas.Bool.Decides.{nat_tests}
 use Rattle.std.proofs.lemmas.List.{take_all}
 use Rattle.std.proofs.str.Laws.{order}
-use Rattle.wt_outer.specs.Device.{Pages, Gives, page_of}
-use Rattle.wt_outer.specs.declared.device.Fetched.{Fetched}
-use Rattle.wt_outer.specs.declared.device.Fetched.TheVariants as fetched
+use Rattle.wt_devices.specs.Device.{Pages, Gives, page_of}
+use Rattle.wt_devices.specs.declared.device.Fetched.{Fetched}
+use Rattle.wt_devices.specs.declared.device.Fetched.TheVariants as fetched
 use Rattle.wt_tree.specs.Tree.{Tree}
 use Rattle.wt_expand.specs.Work.{Refused}
 use Rattle.wt_utf8.specs.Places.{IsPlace, not_utf8_place}

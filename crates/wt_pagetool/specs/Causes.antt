@@ -1,8 +1,8 @@
 -- When each refusal may come.
 use Rattle.std.specs.Prelude.{◌≡◌, ⊤, ℕ, List, Option, Some, Result, Ok, Err}
-use Rattle.wt_outer.specs.Device.{Rose}
-use Rattle.wt_outer.specs.declared.device.FetchRefusal.{FetchRefusal}
-use Rattle.wt_outer.specs.declared.device.FetchRefusal.TheVariants as of_fetch
+use Rattle.wt_devices.specs.Device.{Rose}
+use Rattle.wt_devices.specs.declared.device.FetchRefusal.{FetchRefusal}
+use Rattle.wt_devices.specs.declared.device.FetchRefusal.TheVariants as of_fetch
 use Rattle.wt_expand.specs.Work.{Refused}
 use Rattle.wt_transclusion.specs.declared.refusal.ExpandRefusal.{ExpandRefusal}
 use Rattle.wt_transclusion.specs.declared.refusal.ExpandRefusal.TheVariants as of_expansion

@@ -1,10 +1,10 @@
 -- What a call did to a device: what the device held before and after, where it tells that, and how often it had failed.
 use Rattle.std.specs.Prelude.{◌≡◌, ℕ, List, take, Option, ◌⊎◌}
 use Rattle.std.specs.Io.KnownBytes.{Appends, Keeps}
-use Rattle.wt_outer.specs.Device.{Pages, Rose}
-use Rattle.wt_outer.specs.declared.device.Source.{Ghosts as OfSource}
-use Rattle.wt_outer.specs.declared.device.Folder.{Ghosts as OfFolder}
-use Rattle.wt_outer.specs.declared.device.Sink.{Ghosts as OfSink}
+use Rattle.wt_devices.specs.Device.{Pages, Rose}
+use Rattle.wt_devices.specs.declared.device.Source.{Ghosts as OfSource}
+use Rattle.wt_devices.specs.declared.device.Folder.{Ghosts as OfFolder}
+use Rattle.wt_devices.specs.declared.device.Sink.{Ghosts as OfSink}
 
 -- a source: what it had left
 pub record SourceUse : Type 0 where

@@ -1,7 +1,7 @@
 -- What `gen` tells of the page that it makes from a number.
 use Rattle.std.specs.Prelude.{ℕ, suc, ◌++◌, ◌==◌, if◌then◌else◌, List, [], ◌∷◌, Option, codes, length}
 use Rattle.std.specs.Fmt.{decimal}
-use Rattle.wt_outer.specs.Shelf.{look_up}
+use Rattle.wt_devices.specs.Shelf.{look_up}
 use Rattle.wt_tree.specs.declared.kind.Kind.{Kind}
 use Rattle.wt_tree.specs.declared.kind.Ranges.{Ranges}
 use Rattle.wt_tree.specs.Look.{rows}

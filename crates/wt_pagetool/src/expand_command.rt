@@ -12,7 +12,7 @@ use crate::refusal::Refusal;
 use bumpalo::Bump;
 use std::alloc::Global;
 use wt_levels::expanded_text;
-use wt_outer::Folder;
+use wt_devices::Folder;
 use wt_span::PAGE_BYTES;
 
 /// What a page that is text shows with its templates expanded.

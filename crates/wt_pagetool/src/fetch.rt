@@ -5,7 +5,7 @@ ghost use Rattle.wt_pagetool.specs.Causes.{IsFetched, IsOfTitle, IsKept};
 
 use crate::refusal::Refusal;
 use std::alloc::Global;
-use wt_outer::{Fetched, Folder};
+use wt_devices::{Fetched, Folder};
 use wt_span::{List, PAGE_BYTES};
 
 /// The bytes of the page of this full name. Of a page that is too long they are a front that is too

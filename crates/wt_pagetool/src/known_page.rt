@@ -18,7 +18,7 @@ use bumpalo::Bump;
 use std::alloc::Global;
 use wt_expansion::expand_knowing;
 use wt_levels::Expansion;
-use wt_outer::Folder;
+use wt_devices::Folder;
 use wt_ranges::Annotated;
 use wt_span::PAGE_BYTES;
 use wt_transclusion::ExpandRefusal;

@@ -19,7 +19,7 @@ use bumpalo::Bump;
 use std::alloc::Global;
 use wt_build::build;
 use wt_expansion::expand;
-use wt_outer::Folder;
+use wt_devices::Folder;
 use wt_ranges::{Annotated, group};
 use wt_span::{Items, NoMemory, PAGE_BYTES};
 use wt_tree::Annotated as Tree;

@@ -20,7 +20,7 @@ use std::alloc::Global;
 use wt_html_out::{LengthRefusal, html_bytes_within};
 use wt_lint::{finding_lines, lint};
 use wt_listing::listing;
-use wt_outer::Folder;
+use wt_devices::Folder;
 use wt_span::{HTML_BYTES, List, NoMemory, PAGE_BYTES};
 use wt_tree::Annotated;
 

@@ -22,7 +22,7 @@ use bumpalo::Bump;
 use std::alloc::Global;
 use wt_checks::Visit;
 use wt_levels::Expansion;
-use wt_outer::Folder;
+use wt_devices::Folder;
 use wt_selser::first_differing;
 use wt_span::{Items, NoMemory, PAGE_BYTES};
 use wt_transclusion::ExpandRefusal;

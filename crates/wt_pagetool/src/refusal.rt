@@ -6,7 +6,7 @@ use crate::status::Status;
 use std::alloc::{AllocError, Global};
 use wt_checks::Check;
 use wt_html_in::{FitWhy, HtmlRefusal, HtmlWhy};
-use wt_outer::FetchRefusal;
+use wt_devices::FetchRefusal;
 use wt_selser::{ContentWhy, EditRefusal};
 use wt_span::{NoMemory, Str};
 use wt_transclusion::ExpandRefusal;

@@ -7,7 +7,7 @@ use crate::refusal::{Refusal, line_of, no_memory_line, write_fault_line};
 use crate::status::Status;
 use crate::write::write_all;
 use std::alloc::Global;
-use wt_outer::Sink;
+use wt_devices::Sink;
 
 /// Writes an answer to `out`, and the line of a write fault to `err` where `out` fails.
 fn give<W: Sink, E: Sink>(bytes: &[u8], out: &mut W, err: &mut E) -> Status

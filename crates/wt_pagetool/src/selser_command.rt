@@ -11,7 +11,7 @@ ghost use Rattle.wt_expand.specs.Work.{Pages};
 ghost use Rattle.wt_expansion.specs.Known.{HoldsPages};
 ghost use Rattle.wt_fitting.specs.Read.{read};
 ghost use Rattle.wt_html_in.specs.Feeding.{IsFed};
-ghost use Rattle.wt_outer.specs.Device.{Rose};
+ghost use Rattle.wt_devices.specs.Device.{Rose};
 ghost use Rattle.wt_transclusion.specs.Asked.{Asks};
 ghost use Rattle.wt_tree.specs.Tiling.{InPreorder};
 ghost use Rattle.wt_tree.specs.Tree.{label};
@@ -36,7 +36,7 @@ use std::alloc::Global;
 use wt_checks::{Check, Visit, check_nodes, numbered_nodes};
 use wt_difference::{has_mark, remark};
 use wt_html_in::Reader;
-use wt_outer::{Folder, Source};
+use wt_devices::{Folder, Source};
 use wt_span::{HTML_BYTES, NoMemory, PAGE_BYTES};
 use wt_tree::Node;
 

@@ -28,7 +28,7 @@ use crate::selser_command::selser_page;
 use crate::status::Status;
 use crate::wikitext_command::{PIECE, wikitext_of_input};
 use std::alloc::Global;
-use wt_outer::{Folder, Sink, Source};
+use wt_devices::{Folder, Sink, Source};
 use wt_span::{HTML_BYTES, List, PAGE_BYTES, Str};
 
 /// What the words ask for, or why it isn't to be had.

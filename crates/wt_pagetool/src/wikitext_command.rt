@@ -12,7 +12,7 @@ use crate::refusal::Refusal;
 use bumpalo::Bump;
 use std::alloc::Global;
 use wt_html_in::{Edited, Reader, unsourced};
-use wt_outer::Source;
+use wt_devices::Source;
 use wt_span::{HTML_BYTES, front_of};
 use wt_tree::flat;
 

@@ -5,8 +5,8 @@ use Rattle.std.proofs.lemmas.Bool.{cases_lt}
 use Rattle.std.proofs.lemmas.List.{take_all}
 use Rattle.std.proofs.lemmas.Slice.Eq.{bytes_eq-Decides}
 use Rattle.wt_span.specs.declared.form.Mode.TheVariants as mode
-use Rattle.wt_outer.specs.declared.device.Fetched.{Fetched}
-use Rattle.wt_outer.specs.Device.{Gives, page_of}
+use Rattle.wt_devices.specs.declared.device.Fetched.{Fetched}
+use Rattle.wt_devices.specs.Device.{Gives, page_of}
 use Rattle.wt_expand.specs.Templates.{template_text}
 use Rattle.wt_expand.specs.Work.{Pages, Refused, most_bytes, template_refusal, found_refusal, is_among}
 use Rattle.wt_expand.proofs.TextLaws.{cut_page_refused}

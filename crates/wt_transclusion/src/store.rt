@@ -13,7 +13,7 @@ use bumpalo::Bump;
 use std::alloc::Global;
 use std::collections::HashMap;
 use wt_braces::BraceRefusal;
-use wt_outer::{FetchRefusal, Fetched, Folder};
+use wt_devices::{FetchRefusal, Fetched, Folder};
 use wt_span::{Mode, NoMemory, PAGE_BYTES, Str};
 use wt_utf8::read_text;
 

@@ -17,7 +17,7 @@ use crate::store::Store;
 use bumpalo::Bump;
 use std::alloc::Global;
 use wt_names::{Title, full_name};
-use wt_outer::Folder;
+use wt_devices::Folder;
 use wt_span::{Form, List, NoMemory, Piece, Str, Text};
 
 /// What is taken for a title.

@@ -8,7 +8,7 @@ use std::env;
 use std::io::ErrorKind;
 use std::process::ExitCode;
 use std::rt::Env;
-use wt_outer::{DirFolder, StdSink, StdSource};
+use wt_devices::{DirFolder, StdSink, StdSource};
 use wt_pagetool::{run, tell_no_memory};
 use wt_span::{List, NoMemory, Str};
 

@@ -2,7 +2,7 @@
 use Rattle.std.proofs.Common.{◌≡◌, ℕ, List, [], ap, subst}
 use Rattle.std.specs.Prelude.{Option, Some, None, IfSome}
 use Rattle.wtround_c.specs.declared.source.BufferSource.{BufferSource}
-use Rattle.wt_outer.specs.Device.{Pages}
+use Rattle.wt_devices.specs.Device.{Pages}
 use Rattle.wt_pagetool.specs.Calls.{call}
 use Rattle.wt_pagetool.specs.Devices.{SourceUse, FolderUse, SinkUse}
 use Rattle.wtround_c.specs.Runs.{Ran, Answers, from_buffer, from_table, to_memory}

@@ -3,7 +3,7 @@ use Rattle.std.specs.Prelude.{ℕ, zero, suc, List, [], ◌∷◌, ◌++◌, Opt
 use Rattle.std.specs.List.{flat_map}
 use Rattle.std.specs.Option.{option_or}
 use Rattle.std.specs.Str.{bytes_eq}
-use Rattle.wt_outer.specs.Device.{Pages}
+use Rattle.wt_devices.specs.Device.{Pages}
 use Rattle.wtround_c.specs.declared.table.Page.{Page}
 
 -- what a table has under each name: an entry, or none

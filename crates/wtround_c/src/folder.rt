@@ -1,11 +1,11 @@
 ghost use Rattle.std.specs.Prelude.{◌≡◌, [], ◌∷◌, ◌++◌, Some, max, option_map, take, IfOk, OnOk, OnErr};
-ghost use Rattle.wt_outer.specs.Device.{page_of};
+ghost use Rattle.wt_devices.specs.Device.{page_of};
 ghost use Rattle.wtround_c.specs.Indexes.{entries_of};
 ghost use Rattle.wtround_c.specs.Tables.{pages_of, stands};
 
 use crate::index::Index;
 use std::alloc::Global;
-use wt_outer::{FetchRefusal, Fetched, Folder};
+use wt_devices::{FetchRefusal, Fetched, Folder};
 use wt_span::{List, NoMemory, Str, front_of};
 
 /// A folder of the pages of a table. A name that the table hasn't is an absent page.

@@ -1,6 +1,6 @@
 ghost use Rattle.std.specs.Prelude.{◌≡◌, Some};
 
-use wt_outer::{Failed, Source};
+use wt_devices::{Failed, Source};
 use wt_span::{front_of, rest_of};
 
 /// A source over bytes of the caller, which never fails.

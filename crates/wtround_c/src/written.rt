@@ -1,7 +1,7 @@
 ghost use Rattle.std.specs.Prelude.{◌≡◌, [], Some};
 
 use std::alloc::Global;
-use wt_outer::{Failed, Sink};
+use wt_devices::{Failed, Sink};
 use wt_span::List;
 
 /// A sink that keeps what it takes. It fails where there is no memory for that.

@@ -3,7 +3,7 @@
 use crate::case::Case;
 use crate::device::Devices;
 use std::alloc::{AllocError, Global};
-use wt_outer::{MemFolder, MemSink, MemSource};
+use wt_devices::{MemFolder, MemSink, MemSource};
 use wt_pagetool::run;
 use wt_span::Str;
 

@@ -1,5 +1,5 @@
 use Rattle.std.proofs.Common.{◌∷◌, ◌++◌, Some, [], inl, option_map}
-use Rattle.wt_outer.specs.declared.device.Fetched.TheVariants.{Found, Absent}
+use Rattle.wt_devices.specs.declared.device.Fetched.TheVariants.{Found, Absent}
 use Rattle.wt_transclusion.proofs.AskedLaws.{asks_one}
 use Rattle.wt_transclusion.proofs.StoreLaws.{given_page, found_read, found_refused, absent_read, told_refused}
 use Rattle.wt_transclusion.proofs.store.fetch_template.Goals as goal

@@ -1,0 +1,119 @@
+ghost use Rattle.std.specs.Prelude.{◌≡◌, None};
+ghost use Rattle.wt_devices.specs.File.{IsWithin};
+
+use crate::device::{FetchRefusal, Fetched, Folder};
+use std::alloc::Global;
+use std::fs;
+use std::io::{ErrorKind, Read};
+use std::rt::Files;
+use wt_names::file_name;
+use wt_span::List;
+
+/// A directory of the machine, in which each page is the file that `wt_names::file_name` gives for
+/// its full name. Such a name has no `/` and is neither `.` nor `..`, so no full name leads out of the
+/// directory. It tells nothing of its pages.
+///
+/// A file that isn't there is an absent page, and every other error is a fault, also that a name is
+/// longer than the file system allows.
+#[derive(Drop)]
+pub struct DirFolder<'r, R> {
+    rt: &'r R,
+    directory: &'r str,
+    faults: u64,
+}
+
+impl<'r, R: Files> DirFolder<'r, R> {
+    /// The directory of this path.
+    pub fn new(rt: &'r R, directory: &'r str) -> DirFolder<'r, R>
+        ensures { ⟦<DirFolder<'r, R> as Folder>⟧.fault_count result ≡ 0 }
+    {
+        DirFolder {
+            rt,
+            directory,
+            faults: 0,
+        }
+    }
+}
+
+/// What came of an attempt to read a file.
+#[derive(Drop)]
+enum FileRead {
+    Read(Vec<u8>),
+    Absent,
+    Failed,
+    NoMemory,
+}
+
+/// Reads what is left of a file, at most `most` bytes of it, piece by piece.
+fn read_most<F: Read>(alloc: Global, file: &mut F, most: usize) -> FileRead
+    ensures { IsWithin most result }
+{
+    let mut bytes = Vec::new(alloc);
+    let mut piece = [0u8; 4096];
+    for _ in 0..u64::MAX {
+        let room = (most - bytes.len()).min(4096);
+        if room == 0 {
+            break;
+        }
+        match file.read(&mut piece[..room]) {
+            Ok(0) => break,
+            Ok(count) => {
+                if bytes.extend_from_slice(&piece[..count]).is_err() {
+                    return FileRead::NoMemory;
+                }
+            }
+            Err(_) => return FileRead::Failed,
+        }
+    }
+    FileRead::Read(bytes)
+}
+
+fn read_file<R: Files>(alloc: Global, rt: &R, path: &str, most: usize) -> FileRead
+    ensures { IsWithin most result }
+{
+    match fs::open(rt, path) {
+        Ok(file) => {
+            let mut file = file;
+            read_most(alloc, &mut file, most)
+        }
+        Err(e) => {
+            if e.kind() == ErrorKind::NotFound {
+                FileRead::Absent
+            } else {
+                FileRead::Failed
+            }
+        }
+    }
+}
+
+impl<R: Files> Folder for DirFolder<'_, R> {
+    ghost pages = { λ _. None };
+
+    ghost answered = { λ _. None };
+
+    ghost most_asked = { λ _. None };
+
+    ghost fault_count = { λ f. f.faults };
+
+    fn fetch(&mut self, alloc: Global, name: &str, most: u32) -> Result<Fetched, FetchRefusal> {
+        let Ok(file) = file_name(alloc, name) else {
+            return Err(FetchRefusal::NoMemory);
+        };
+        let Ok(path) = format!(in alloc; "{}/{}", self.directory, file.as_str()) else {
+            return Err(FetchRefusal::NoMemory);
+        };
+        match read_file(alloc, self.rt, path.as_str(), most as usize) {
+            FileRead::Read(bytes) => Ok(Fetched::Found(List::from_vec(bytes))),
+            FileRead::Absent => Ok(Fetched::Absent),
+            FileRead::NoMemory => Err(FetchRefusal::NoMemory),
+            FileRead::Failed => {
+                self.faults = self.faults.saturating_add(1);
+                Err(FetchRefusal::Failed)
+            }
+        }
+    }
+
+    fn faults(&self) -> u64 {
+        self.faults
+    }
+}

@@ -1,5 +1,0 @@
-use Rattle.wt_outer.proofs.Shelves.{pages_of}
-use Rattle.wt_outer.proofs.shelf.NeverFailsFolder.new.Goals as goal
-
-pub returns-clause-map : goal.returns-clause-map
-returns-clause-map c = pages_of c.args.pages c.requires
