@@ -7,13 +7,13 @@ use Rattle.wt_tree.specs.declared.node.Node.{Node, out-Node}
 use Rattle.wt_tree.specs.Tree.{Tree, label}
 use Rattle.wt_tree.specs.View.{view, views}
 use Rattle.wt_tree.proofs.Views.{view_out}
-use Rattle.wt_kept.specs.declared.kinds.BlockForm.{BlockForm}
-use Rattle.wt_kept.specs.declared.kinds.Spelled.{Spelled}
-use Rattle.wt_kept.specs.declared.page.Page.{Page as Known}
-use Rattle.wt_kept.specs.Kept.{Kept}
-use Rattle.wt_kept.specs.Kinds.{shape}
-use Rattle.wt_kept.specs.Page.{Page, no_page}
-use Rattle.wt_kept.specs.PageViews.{IsPageOf, page_view}
+use Rattle.wt_original.specs.declared.kinds.BlockForm.{BlockForm}
+use Rattle.wt_original.specs.declared.kinds.Spelled.{Spelled}
+use Rattle.wt_original.specs.declared.page.Page.{Page as Known}
+use Rattle.wt_original.specs.Kept.{Kept}
+use Rattle.wt_original.specs.Kinds.{shape}
+use Rattle.wt_original.specs.Page.{Page, no_page}
+use Rattle.wt_original.specs.PageViews.{IsPageOf, page_view}
 use Rattle.wt_content.specs.declared.children.Holder.{Holder}
 use Rattle.wt_content.specs.declared.content.Faults.{Faults}
 use Rattle.wt_content.specs.declared.content.Spot.{Spot}

@@ -14,8 +14,8 @@ use Rattle.wt_tree.specs.declared.kind.AttrName.TheVariants as attr
 use Rattle.wt_tree.specs.declared.kind.Mark.TheVariants as mark
 use Rattle.wt_tree.specs.Tree.{Label, Tree, tree, none, trees}
 use Rattle.wt_tiles.specs.Urls.{scheme_len, is_url_char}
-use Rattle.wt_kept.specs.Kinds.{shape}
-use Rattle.wt_kept.specs.Kept.{kept_with}
+use Rattle.wt_original.specs.Kinds.{shape}
+use Rattle.wt_original.specs.Kept.{kept_with}
 use Rattle.wt_content.specs.declared.reason.ContentWhy.TheVariants.{Element, Href, LineBreak, Nested, EmptyList}
 use Rattle.wt_content.specs.Content.{bad_content, is_url}
 use Rattle.wt_content.specs.Children.{bad_children}

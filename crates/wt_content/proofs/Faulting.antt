@@ -8,12 +8,12 @@ use Rattle.wt_tree.specs.Source.{flat}
 use Rattle.wt_tree.specs.Tree.{Tree}
 use Rattle.wt_tree.specs.View.{label_of, view, views}
 use Rattle.wt_tree.proofs.Views.{view_out}
-use Rattle.wt_kept.specs.declared.kinds.Way.{Way}
-use Rattle.wt_kept.specs.declared.page.Page.{Page as Known}
-use Rattle.wt_kept.specs.Kinds.{shape}
-use Rattle.wt_kept.specs.Kept.{Kept, kept_nodes}
-use Rattle.wt_kept.specs.Page.{Page, page_of}
-use Rattle.wt_kept.specs.PageViews.{IsPageOf, page_view}
+use Rattle.wt_original.specs.declared.kinds.Way.{Way}
+use Rattle.wt_original.specs.declared.page.Page.{Page as Known}
+use Rattle.wt_original.specs.Kinds.{shape}
+use Rattle.wt_original.specs.Kept.{Kept, kept_nodes}
+use Rattle.wt_original.specs.Page.{Page, page_of}
+use Rattle.wt_original.specs.PageViews.{IsPageOf, page_view}
 use Rattle.wt_content.specs.declared.content.Faults.{Faults}
 use Rattle.wt_content.specs.declared.content.Spot.{Spot}
 use Rattle.wt_content.specs.declared.content.Standing.{Standing}

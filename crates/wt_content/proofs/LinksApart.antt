@@ -3,8 +3,8 @@ use Rattle.std.proofs.Common.{◌≡◌, Bool, true, false, List, [], ◌∷◌,
 use Rattle.std.specs.Prelude.{◌&&◌, ◌||◌, not, if◌then◌else◌}
 use Rattle.wt_tree.specs.Tiling.{is_group}
 use Rattle.wt_tree.specs.Tree.{Tree, tree, Trees, none, more}
-use Rattle.wt_kept.specs.Kinds.{shape}
-use Rattle.wt_kept.specs.Page.{Page}
+use Rattle.wt_original.specs.Kinds.{shape}
+use Rattle.wt_original.specs.Page.{Page}
 use Rattle.wt_content.specs.declared.content.Spot.{Spot}
 use Rattle.wt_content.specs.declared.reason.ContentWhy.{ContentWhy}
 use Rattle.wt_content.specs.Content.{all_faults, any_holds_link, below, brings_link, faults, holds_link, is_link, is_open, nested_fault, own_faults, standing}

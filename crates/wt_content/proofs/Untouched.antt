@@ -4,9 +4,9 @@ use Rattle.std.specs.Prelude.{◌||◌, if◌then◌else◌, List}
 use Rattle.wt_tree.specs.Plain.{plain}
 use Rattle.wt_tree.specs.Tiling.{is_group, HasNoGroup, NoneIsGroup}
 use Rattle.wt_tree.specs.Tree.{Tree, tree, Trees, none, more, label}
-use Rattle.wt_kept.specs.Kinds.{shape}
-use Rattle.wt_kept.specs.Kept.{Kept, kept_with}
-use Rattle.wt_kept.specs.Page.{TellsSame, node_or, page_of, restored, restored_all}
+use Rattle.wt_original.specs.Kinds.{shape}
+use Rattle.wt_original.specs.Kept.{Kept, kept_with}
+use Rattle.wt_original.specs.Page.{TellsSame, node_or, page_of, restored, restored_all}
 use Rattle.wt_content.specs.declared.content.Standing.TheVariants as stands
 use Rattle.wt_content.specs.Content.{changed_from, standing, standing_of}
 use Rattle.wt_content.specs.Typed.{IsUntouched}

@@ -3,10 +3,10 @@ use Rattle.std.specs.Prelude.{◌==◌, ◌&&◌, ◌||◌, not, Bool, true, fal
 use Rattle.wt_tree.specs.declared.kind.Kind.{Kind}
 use Rattle.wt_tree.specs.declared.kind.Kind.TheVariants as kind
 use Rattle.wt_tree.specs.Tree.{Tree, Trees, none, more, label}
-use Rattle.wt_kept.specs.declared.kinds.BlockForm.{BlockForm}
-use Rattle.wt_kept.specs.declared.kinds.BlockForm.TheVariants as form
-use Rattle.wt_kept.specs.Kinds.{shape}
-use Rattle.wt_kept.specs.Page.{no_page}
+use Rattle.wt_original.specs.declared.kinds.BlockForm.{BlockForm}
+use Rattle.wt_original.specs.declared.kinds.BlockForm.TheVariants as form
+use Rattle.wt_original.specs.Kinds.{shape}
+use Rattle.wt_original.specs.Page.{no_page}
 use Rattle.wt_content.specs.declared.children.Holder.{Holder}
 use Rattle.wt_content.specs.declared.children.Holder.TheVariants as holder
 use Rattle.wt_content.specs.declared.reason.ContentWhy.{ContentWhy}

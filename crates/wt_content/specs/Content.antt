@@ -6,13 +6,13 @@ use Rattle.wt_tree.specs.Tiling.{is_group}
 use Rattle.wt_tree.specs.Tree.{Label, Tree, tree, Trees, none, more, label}
 use Rattle.wt_tiles.specs.Glyphs.{byte_glyphs}
 use Rattle.wt_tiles.specs.Urls.{scheme_len, url_items}
-use Rattle.wt_kept.specs.declared.kinds.BlockForm.{BlockForm}
-use Rattle.wt_kept.specs.declared.kinds.BlockForm.TheVariants as form
-use Rattle.wt_kept.specs.declared.kinds.Way.{Way}
-use Rattle.wt_kept.specs.declared.kinds.Way.TheVariants as way
-use Rattle.wt_kept.specs.Kinds.{shape}
-use Rattle.wt_kept.specs.Kept.{Kept, kept_with}
-use Rattle.wt_kept.specs.Page.{Page, page_of, is_unchanged}
+use Rattle.wt_original.specs.declared.kinds.BlockForm.{BlockForm}
+use Rattle.wt_original.specs.declared.kinds.BlockForm.TheVariants as form
+use Rattle.wt_original.specs.declared.kinds.Way.{Way}
+use Rattle.wt_original.specs.declared.kinds.Way.TheVariants as way
+use Rattle.wt_original.specs.Kinds.{shape}
+use Rattle.wt_original.specs.Kept.{Kept, kept_with}
+use Rattle.wt_original.specs.Page.{Page, page_of, is_unchanged}
 use Rattle.wt_escape.specs.Spelling.{href_of}
 use Rattle.wt_content.specs.declared.reason.ContentWhy.{ContentWhy}
 use Rattle.wt_content.specs.declared.reason.ContentWhy.TheVariants as why

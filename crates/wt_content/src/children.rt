@@ -4,9 +4,9 @@
 ghost use Rattle.std.specs.Prelude.{◌≡◌, ◌++◌, Bool, List, [], IfOk, OnOk};
 ghost use Rattle.wt_tree.specs.Tree.{Tree, label};
 ghost use Rattle.wt_tree.specs.View.{view, views};
-ghost use Rattle.wt_kept.specs.Kinds.{shape};
-ghost use Rattle.wt_kept.specs.Page.{TellsSame};
-ghost use Rattle.wt_kept.specs.PageViews.{IsPageOf};
+ghost use Rattle.wt_original.specs.Kinds.{shape};
+ghost use Rattle.wt_original.specs.Page.{TellsSame};
+ghost use Rattle.wt_original.specs.PageViews.{IsPageOf};
 ghost use Rattle.wt_content.specs.Children.{all_child_faults, any_kept_child, bad_children, child_faults, empty_fault, holder_of, if_any_held, inside_faults, is_child, is_rule, is_kept_child, is_mark, is_separator, is_space, may_come, new_faults};
 ghost use Rattle.wt_content.specs.Content.{if_any};
 ghost use Rattle.wt_content.specs.Views.{HasFaults};
@@ -14,7 +14,7 @@ ghost use Rattle.wt_content.specs.Views.{HasFaults};
 use crate::content::{Faults, outermost, visit_all};
 use crate::reason::ContentWhy;
 use std::alloc::Global;
-use wt_kept::{BlockForm, Page, no_page, shape};
+use wt_original::{BlockForm, Page, no_page, shape};
 use wt_span::NoMemory;
 use wt_tree::{Kind, Node};
 

@@ -3,7 +3,7 @@
 ghost use Rattle.std.specs.Prelude.{◌≡◌, ℕ, Bool, true, false, List, [], None};
 ghost use Rattle.wt_tree.specs.Tree.{Tree, Trees, label};
 ghost use Rattle.wt_tree.specs.Tiling.{HasNoGroup};
-ghost use Rattle.wt_kept.specs.Page.{Page, TellsSame, page_of};
+ghost use Rattle.wt_original.specs.Page.{Page, TellsSame, page_of};
 ghost use Rattle.wt_content.specs.declared.content.Spot.{Spot};
 ghost use Rattle.wt_content.specs.declared.content.Standing.TheVariants as stands;
 ghost use Rattle.wt_content.specs.Children.{bad_children, children_faults, holder_of};

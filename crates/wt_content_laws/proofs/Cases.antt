@@ -5,8 +5,8 @@ use Rattle.wt_tree.specs.declared.kind.Kind.{Kind}
 use Rattle.wt_tree.specs.declared.kind.Kind.TheVariants as kind
 use Rattle.wt_tree.specs.declared.kind.Mark.TheVariants as mark
 use Rattle.wt_tree.specs.Tree.{Label, Tree, tree, trees, none}
-use Rattle.wt_kept.specs.Kinds.{shape}
-use Rattle.wt_kept.specs.Kept.{found_at, kept_of, kept_with}
+use Rattle.wt_original.specs.Kinds.{shape}
+use Rattle.wt_original.specs.Kept.{found_at, kept_of, kept_with}
 use Rattle.wt_content.specs.declared.children.Holder.TheVariants as holder
 use Rattle.wt_content_laws.specs.NewChildren.{AreChildren, IsNewBlock}
 use Rattle.wt_content_laws.specs.TextEdits.{AreTextEdits, IsAsItWas}

@@ -8,9 +8,9 @@ use Rattle.wt_tree.specs.declared.kind.Mark.TheVariants as mark
 use Rattle.wt_tree.specs.Kinds.{is_leaf}
 use Rattle.wt_tree.specs.Source.{flat}
 use Rattle.wt_tree.specs.Tree.{Label, Tree, tree, Trees, none, more, label}
-use Rattle.wt_kept.specs.Kinds.{shape}
-use Rattle.wt_kept.specs.Kept.{Kept, holds_kept, kept_nodes, kept_of}
-use Rattle.wt_kept.specs.Page.{Page, no_page, page_of}
+use Rattle.wt_original.specs.Kinds.{shape}
+use Rattle.wt_original.specs.Kept.{Kept, holds_kept, kept_nodes, kept_of}
+use Rattle.wt_original.specs.Page.{Page, no_page, page_of}
 use Rattle.wt_content.specs.declared.children.Holder.{Holder}
 use Rattle.wt_content.specs.declared.children.Holder.TheVariants as holder
 use Rattle.wt_content.specs.declared.reason.ContentWhy.{ContentWhy}

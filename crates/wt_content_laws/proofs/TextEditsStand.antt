@@ -3,11 +3,11 @@ use Rattle.std.proofs.Common.{◌≡◌, inl, Bool, true, false, Option, Some, N
 use Rattle.std.specs.Prelude.{◌||◌, if◌then◌else◌, List}
 use Rattle.wt_tree.specs.Tiling.{is_group}
 use Rattle.wt_tree.specs.Tree.{Label, Tree, tree, Trees, none, more, label}
-use Rattle.wt_kept.specs.declared.kinds.Way.{Way}
-use Rattle.wt_kept.specs.declared.kinds.Way.TheVariants as way
-use Rattle.wt_kept.specs.Kinds.{shape}
-use Rattle.wt_kept.specs.Kept.{Kept, kept_nodes, kept_with}
-use Rattle.wt_kept.specs.Page.{Page, TellsSame, is_unchanged, node_or, page_of, restored, restored_all}
+use Rattle.wt_original.specs.declared.kinds.Way.{Way}
+use Rattle.wt_original.specs.declared.kinds.Way.TheVariants as way
+use Rattle.wt_original.specs.Kinds.{shape}
+use Rattle.wt_original.specs.Kept.{Kept, kept_nodes, kept_with}
+use Rattle.wt_original.specs.Page.{Page, TellsSame, is_unchanged, node_or, page_of, restored, restored_all}
 use Rattle.wt_content.specs.declared.content.Spot.{Spot}
 use Rattle.wt_content.specs.declared.content.Standing.{Standing}
 use Rattle.wt_content.specs.declared.content.Standing.TheVariants as stands

@@ -4,9 +4,9 @@ use Rattle.std.specs.Prelude.{◌≡◌, Bool, false, Some}
 use Rattle.wt_tree.specs.Plain.{plain}
 use Rattle.wt_tree.specs.Tiling.{is_group}
 use Rattle.wt_tree.specs.Tree.{Tree, tree, Trees, none, more, label}
-use Rattle.wt_kept.specs.Kinds.{shape}
-use Rattle.wt_kept.specs.Kept.{Kept, kept_nodes, kept_with}
-use Rattle.wt_kept.specs.Page.{restored}
+use Rattle.wt_original.specs.Kinds.{shape}
+use Rattle.wt_original.specs.Kept.{Kept, kept_nodes, kept_with}
+use Rattle.wt_original.specs.Page.{restored}
 use Rattle.wt_content.specs.Typed.{IsTypedBy, TakesNoPlace}
 
 -- The page has a node of its kind with its number. A group is this one whatever it shows; any other node has its plain view,

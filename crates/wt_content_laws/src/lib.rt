@@ -3,7 +3,7 @@
 
 ghost use Rattle.std.specs.Prelude.{◌≡◌, ◌↔◌, Bool, None};
 ghost use Rattle.wt_tree.specs.Tree.{Tree, label};
-ghost use Rattle.wt_kept.specs.Page.{TellsSame};
+ghost use Rattle.wt_original.specs.Page.{TellsSame};
 ghost use Rattle.wt_content.specs.Children.{bad_children, holder_of};
 ghost use Rattle.wt_content.specs.Content.{bad_content, held, outermost};
 ghost use Rattle.wt_content_laws.specs.NewChildren.{AreChildren};

@@ -9,17 +9,17 @@ use Rattle.wt_tree.specs.Tree.{Label, Tree, tree, Trees, none, more, label}
 use Rattle.wt_tree.specs.Kinds.{is_leaf}
 use Rattle.wt_tree.specs.Source.{flat, flat_of_all}
 use Rattle.wt_tree.specs.Tiling.{is_group}
-use Rattle.wt_kept.specs.declared.kinds.Way.{Way}
-use Rattle.wt_kept.specs.declared.kinds.Way.TheVariants as way
+use Rattle.wt_original.specs.declared.kinds.Way.{Way}
+use Rattle.wt_original.specs.declared.kinds.Way.TheVariants as way
 use Rattle.wt_guards.specs.declared.side.Place.{Place}
-use Rattle.wt_kept.specs.Kinds.{shape}
-use Rattle.wt_kept.specs.Kept.{Kept, Found, kept_with, first_with, kept_of, kept_nodes, items, visible, is_delimited, holds_kept, found_at, found_if, found_from, found_in}
-use Rattle.wt_kept.specs.Numbers.{counts_up}
-use Rattle.wt_kept.specs.Page.{Page, page_of, TellsSame, node_or, restored, restored_all}
+use Rattle.wt_original.specs.Kinds.{shape}
+use Rattle.wt_original.specs.Kept.{Kept, Found, kept_with, first_with, kept_of, kept_nodes, items, visible, is_delimited, holds_kept, found_at, found_if, found_from, found_in}
+use Rattle.wt_original.specs.Numbers.{counts_up}
+use Rattle.wt_original.specs.Page.{Page, page_of, TellsSame, node_or, restored, restored_all}
 use Rattle.wt_escape.specs.Spelling.{inline_spelling, signs_of_all, children_of}
 use Rattle.wt_escape.specs.OwnContent.{IsStyle, IsPlainBy, IsPlain, ArePlain, IsBare, AreBare, IsPlainBlock}
 use Rattle.wt_guards.specs.Content.{Sign}
-use Rattle.wt_kept.proofs.Numbers.{first_is, pass, stop}
+use Rattle.wt_original.proofs.Numbers.{first_is, pass, stop}
 use Rattle.wt_escape.proofs.SpelledBack.{IsFound, IsOwnBy, IsOwn, AreOwn, own_spelling}
 
 abbrev Every : {A : Type 0} → (A → Type 0) → List A → Type 0

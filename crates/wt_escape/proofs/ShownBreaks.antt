@@ -19,11 +19,11 @@ use Rattle.wt_guards.specs.Content.{Sign, letters}
 use Rattle.wt_guards.specs.Guards.{nowiki}
 use Rattle.wt_guards.specs.WrittenLaws.{itself, breaks}
 use Rattle.wt_guards.proofs.Breaks.{same_breaks}
-use Rattle.wt_kept.specs.declared.kinds.Way.{Way}
-use Rattle.wt_kept.specs.declared.kinds.Way.TheVariants as way
-use Rattle.wt_kept.specs.Kinds.{shape}
-use Rattle.wt_kept.specs.Kept.{Kept, kept_with, shown}
-use Rattle.wt_kept.specs.Page.{Page, page_of, is_unchanged}
+use Rattle.wt_original.specs.declared.kinds.Way.{Way}
+use Rattle.wt_original.specs.declared.kinds.Way.TheVariants as way
+use Rattle.wt_original.specs.Kinds.{shape}
+use Rattle.wt_original.specs.Kept.{Kept, kept_with, shown}
+use Rattle.wt_original.specs.Page.{Page, page_of, is_unchanged}
 use Rattle.wt_escape.specs.Spelling.{kept_thing, new_thing, as_it_stood, unless_kept, closing_place, toggle, or_nowiki, style, spelled_within, href_of, only_text, is_text, colon, link_text, page_link, after_space, external_link, tag_pair, break_tag, signs_by, signs_of, signs_of_all, children_of, inline_spelling}
 use Rattle.wt_escape.specs.LineBreaks.{breaks_as_it_stood, breaks_unless_kept, breaks_of_link_text, breaks_of_link, breaks_of_tag, breaks_by, breaks_in, breaks_in_all, IsTextBy, HasTexts, HaveTexts}
 use Rattle.wt_escape.proofs.SpelledBack.{written_text}

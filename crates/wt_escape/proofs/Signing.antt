@@ -6,12 +6,12 @@ use Rattle.wt_tree.specs.declared.node.Node.{Node, out-Node}
 use Rattle.wt_tree.specs.Tree.{Tree, tree}
 use Rattle.wt_tree.specs.View.{label_of, view, views}
 use Rattle.wt_tree.proofs.Views.{view_out}
-use Rattle.wt_kept.specs.declared.kinds.Way.{Way}
+use Rattle.wt_original.specs.declared.kinds.Way.{Way}
 use Rattle.wt_guards.specs.declared.side.Place.{Place}
-use Rattle.wt_kept.specs.Kinds.{shape}
+use Rattle.wt_original.specs.Kinds.{shape}
 use Rattle.wt_guards.specs.Content.{Sign}
-use Rattle.wt_kept.specs.Kept.{Kept, kept_with}
-use Rattle.wt_kept.specs.Page.{Page, is_unchanged}
+use Rattle.wt_original.specs.Kept.{Kept, kept_with}
+use Rattle.wt_original.specs.Page.{Page, is_unchanged}
 use Rattle.wt_escape.specs.Spelling.{kept_thing, unless_kept, signs_by, signs_of, signs_of_all}
 use Rattle.wt_escape.specs.Units.{Leaves}
 

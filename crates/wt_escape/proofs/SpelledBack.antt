@@ -10,13 +10,13 @@ use Rattle.wt_tree.specs.Tree.{Label, Tree, tree, Trees, none, more, label}
 use Rattle.wt_tree.specs.Plain.{plain}
 use Rattle.wt_tree.specs.Source.{flat, flat_of_all}
 use Rattle.wt_tree.specs.Tiling.{is_group}
-use Rattle.wt_kept.specs.declared.kinds.Way.{Way}
-use Rattle.wt_kept.specs.declared.kinds.Way.TheVariants as way
+use Rattle.wt_original.specs.declared.kinds.Way.{Way}
+use Rattle.wt_original.specs.declared.kinds.Way.TheVariants as way
 use Rattle.wt_guards.specs.declared.side.Place.{Place}
-use Rattle.wt_kept.specs.Kinds.{shape}
+use Rattle.wt_original.specs.Kinds.{shape}
 use Rattle.wt_guards.specs.Content.{Sign, letter, letters}
-use Rattle.wt_kept.specs.Kept.{Kept, kept_with}
-use Rattle.wt_kept.specs.Page.{Page, page_of, TellsSame, restored, is_unchanged}
+use Rattle.wt_original.specs.Kept.{Kept, kept_with}
+use Rattle.wt_original.specs.Page.{Page, page_of, TellsSame, restored, is_unchanged}
 use Rattle.wt_escape.specs.Spelling.{kept_thing, unless_kept, as_it_stood, toggle, or_nowiki, style, opening_place, closing_place, signs_by, signs_of, signs_of_all, children_of, inline_spelling}
 use Rattle.wt_guards.specs.WrittenLaws.{itself, IsQuiet}
 use Rattle.wt_escape.specs.OwnContent.{IsStyle, HasSigns, setting_in}

@@ -8,11 +8,11 @@ use Rattle.wt_names.specs.Written.{read_link}
 use Rattle.wt_tree.specs.Tree.{Label, Tree, tree, Trees, none, more, label}
 use Rattle.wt_tree.specs.Source.{flat}
 use Rattle.wt_guards.specs.WrittenLaws.{breaks}
-use Rattle.wt_kept.specs.declared.kinds.Way.{Way}
-use Rattle.wt_kept.specs.declared.kinds.Way.TheVariants as way
-use Rattle.wt_kept.specs.Kinds.{shape}
-use Rattle.wt_kept.specs.Kept.{Kept, kept_with, shown}
-use Rattle.wt_kept.specs.Page.{Page, is_unchanged}
+use Rattle.wt_original.specs.declared.kinds.Way.{Way}
+use Rattle.wt_original.specs.declared.kinds.Way.TheVariants as way
+use Rattle.wt_original.specs.Kinds.{shape}
+use Rattle.wt_original.specs.Kept.{Kept, kept_with, shown}
+use Rattle.wt_original.specs.Page.{Page, is_unchanged}
 use Rattle.wt_escape.specs.Spelling.{is_text, only_text, href_of}
 
 -- as many as stand in the page, if it is kept

@@ -9,12 +9,12 @@ use Rattle.wt_guards.specs.declared.side.Place.{Place}
 use Rattle.wt_guards.specs.Content.{Sign}
 use Rattle.wt_guards.specs.Guards.{Setting}
 use Rattle.wt_guards.specs.WrittenLaws.{IsQuiet}
-use Rattle.wt_kept.specs.declared.kinds.Way.{Way}
-use Rattle.wt_kept.specs.declared.kinds.Way.TheVariants as way
-use Rattle.wt_kept.specs.Kinds.{shape}
-use Rattle.wt_kept.specs.Kept.{kept_nodes}
-use Rattle.wt_kept.specs.Numbers.{counts_up}
-use Rattle.wt_kept.specs.Page.{Page, page_of}
+use Rattle.wt_original.specs.declared.kinds.Way.{Way}
+use Rattle.wt_original.specs.declared.kinds.Way.TheVariants as way
+use Rattle.wt_original.specs.Kinds.{shape}
+use Rattle.wt_original.specs.Kept.{kept_nodes}
+use Rattle.wt_original.specs.Numbers.{counts_up}
+use Rattle.wt_original.specs.Page.{Page, page_of}
 use Rattle.wt_escape.specs.Spelling.{signs_of_all, children_of}
 
 abbrev pub HasSigns : List Sign → Type 0

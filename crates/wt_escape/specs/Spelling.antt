@@ -12,20 +12,20 @@ use Rattle.wt_tree.specs.declared.kind.AttrName.TheVariants as attr
 use Rattle.wt_tree.specs.Kinds.{order}
 use Rattle.wt_tree.specs.Tree.{Label, Tree, tree, Trees, none, more, label}
 use Rattle.wt_tree.specs.Source.{flat}
-use Rattle.wt_kept.specs.declared.kinds.Way.{Way}
-use Rattle.wt_kept.specs.declared.kinds.Way.TheVariants as way
-use Rattle.wt_kept.specs.declared.kinds.BlockForm.{BlockForm}
-use Rattle.wt_kept.specs.declared.kinds.BlockForm.TheVariants as form
+use Rattle.wt_original.specs.declared.kinds.Way.{Way}
+use Rattle.wt_original.specs.declared.kinds.Way.TheVariants as way
+use Rattle.wt_original.specs.declared.kinds.BlockForm.{BlockForm}
+use Rattle.wt_original.specs.declared.kinds.BlockForm.TheVariants as form
 use Rattle.wt_guards.specs.declared.role.Role.{Role}
 use Rattle.wt_guards.specs.declared.role.Role.TheVariants as role
 use Rattle.wt_guards.specs.declared.role.Stretch.{Stretch}
 use Rattle.wt_guards.specs.declared.side.Place.{Place}
 use Rattle.wt_guards.specs.declared.side.Place.TheVariants as place
-use Rattle.wt_kept.specs.Kinds.{shape}
+use Rattle.wt_original.specs.Kinds.{shape}
 use Rattle.wt_guards.specs.Content.{Sign, thing, letters}
 use Rattle.wt_guards.specs.Guards.{nowiki, spelled}
-use Rattle.wt_kept.specs.Kept.{Kept, kept_with, shown}
-use Rattle.wt_kept.specs.Page.{Page, page_of, no_page, is_unchanged}
+use Rattle.wt_original.specs.Kept.{Kept, kept_with, shown}
+use Rattle.wt_original.specs.Page.{Page, page_of, no_page, is_unchanged}
 
 -- ---- nodes
 

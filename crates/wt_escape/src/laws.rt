@@ -2,7 +2,7 @@
 
 ghost use Rattle.std.specs.Prelude.{◌≡◌, Bool};
 ghost use Rattle.wt_guards.specs.declared.side.Place.{Place};
-ghost use Rattle.wt_kept.specs.Page.{TellsSame, page_of};
+ghost use Rattle.wt_original.specs.Page.{TellsSame, page_of};
 ghost use Rattle.wt_escape.specs.Spelling.{children_of, inline_spelling};
 ghost use Rattle.wt_escape.specs.LineBreaks.{breaks_in_all, HaveTexts};
 ghost use Rattle.wt_escape.specs.OwnContent.{IsPlainBlock};

@@ -6,13 +6,13 @@ ghost use Rattle.wt_names.specs.Written.{read_link};
 ghost use Rattle.wt_tree.specs.View.{texts_of, views, attrs_of, label_of};
 ghost use Rattle.wt_tree.specs.declared.node.Node.{out-Node};
 ghost use Rattle.wt_tree.specs.declared.kind.AttrName.TheVariants as attr;
-ghost use Rattle.wt_kept.specs.Kinds.{shape};
-ghost use Rattle.wt_kept.specs.Gathered.{kept_view};
+ghost use Rattle.wt_original.specs.Kinds.{shape};
+ghost use Rattle.wt_original.specs.Gathered.{kept_view};
 ghost use Rattle.wt_escape.specs.Spelling.{value_of, href_of, text_by, only_text, is_text, colon, link_text, nowiki_or, page_link, after_space, external_link, tag_pair};
 
 use std::alloc::{AllocError, Global};
 use wt_guards::push_nowiki;
-use wt_kept::{Kept, Way, shape};
+use wt_original::{Kept, Way, shape};
 use wt_names::{Ns, Title, full_name, title_of_href};
 use wt_span::{NoMemory, Str, Text};
 use wt_tree::{Attr, AttrName, Node};

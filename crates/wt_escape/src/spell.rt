@@ -3,15 +3,15 @@
 ghost use Rattle.std.specs.Prelude.{◌≡◌, ◌++◌, IfOk, OnOk, Bool, string_bytes};
 ghost use Rattle.wt_tree.specs.Tree.{Tree};
 ghost use Rattle.wt_tree.specs.View.{view};
-ghost use Rattle.wt_kept.specs.Page.{TellsSame};
+ghost use Rattle.wt_original.specs.Page.{TellsSame};
 ghost use Rattle.wt_escape.specs.Spelling.{content, inline_spelling, equals, place_in, framed, form_of, block_spelling};
-ghost use Rattle.wt_kept.specs.PageViews.{page_view};
-ghost use Rattle.wt_kept.specs.declared.kinds.BlockForm.TheVariants as form;
+ghost use Rattle.wt_original.specs.PageViews.{page_view};
+ghost use Rattle.wt_original.specs.declared.kinds.BlockForm.TheVariants as form;
 
 use crate::units::units_of;
 use std::alloc::{AllocError, Global};
 use wt_guards::{Place, Setting, spelling_of};
-use wt_kept::{BlockForm, Page, no_page, page_of_block, shape};
+use wt_original::{BlockForm, Page, no_page, page_of_block, shape};
 use wt_span::{NoMemory, Str};
 use wt_tree::Node;
 

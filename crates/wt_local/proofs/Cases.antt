@@ -5,8 +5,8 @@ use Rattle.wt_tree.specs.declared.kind.Kind.{Kind}
 use Rattle.wt_tree.specs.declared.kind.Kind.TheVariants as kind
 use Rattle.wt_tree.specs.declared.kind.Mark.TheVariants as mark
 use Rattle.wt_tree.specs.Tree.{Label, Tree, tree, none, Trees, trees}
-use Rattle.wt_kept.specs.Kinds.{shape}
-use Rattle.wt_kept.specs.Kept.{kept_nodes, kept_with}
+use Rattle.wt_original.specs.Kinds.{shape}
+use Rattle.wt_original.specs.Kept.{kept_nodes, kept_with}
 use Rattle.wt_local.specs.Contents.{element, italic, end, borders, texts}
 use Rattle.wt_local.specs.Replaced.{with_inside}
 use Rattle.wt_local.specs.TextEdits.{element_at, is_line_mark, are_tied}

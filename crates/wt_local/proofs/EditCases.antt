@@ -6,8 +6,8 @@ use Rattle.wt_span.specs.declared.form.Form.TheVariants as form
 use Rattle.wt_span.specs.Origins.{Expanded}
 use Rattle.wt_tree.specs.declared.kind.Kind.TheVariants as kind
 use Rattle.wt_tree.specs.Tree.{Tree}
-use Rattle.wt_kept.specs.Kinds.{shape}
-use Rattle.wt_kept.specs.Kept.{kept_with}
+use Rattle.wt_original.specs.Kinds.{shape}
+use Rattle.wt_original.specs.Kept.{kept_with}
 use Rattle.wt_selser.specs.Changes.{Pair}
 use Rattle.wt_local.specs.TextEdits.{IsRetyped, holds_unclosed}
 use Rattle.wt_local.proofs.Sources.{untrue}

@@ -24,7 +24,7 @@ use Rattle.wt_tree.specs.declared.kind.Ranges.{Ranges}
 use Rattle.wt_tree.specs.Source.{flat}
 use Rattle.wt_tree.specs.Tiling.{is_group}
 use Rattle.wt_tree.specs.Tree.{Tree, tree, Trees, none, more, label}
-use Rattle.wt_kept.specs.Kept.{Kept, kept_nodes, kept_with}
+use Rattle.wt_original.specs.Kept.{Kept, kept_nodes, kept_with}
 use Rattle.wt_expand.specs.Expansion.{opens_block}
 use Rattle.wt_expand.specs.PageItems.{page_items}
 use Rattle.wt_tangled.specs.GroupItems.{items_in}

@@ -14,11 +14,11 @@ use Rattle.wt_tree.specs.Tiling.{is_group, numbers}
 use Rattle.wt_guards.specs.declared.role.Role.{Role}
 use Rattle.wt_guards.specs.declared.role.Role.TheVariants as role
 use Rattle.wt_guards.specs.Content.{ends_line}
-use Rattle.wt_kept.specs.declared.kinds.BlockForm.{BlockForm}
-use Rattle.wt_kept.specs.declared.kinds.BlockForm.TheVariants as block
-use Rattle.wt_kept.specs.Kinds.{shape}
-use Rattle.wt_kept.specs.Kept.{Kept, kept_nodes, kept_with}
-use Rattle.wt_kept.specs.Page.{Page, page_of, is_unchanged}
+use Rattle.wt_original.specs.declared.kinds.BlockForm.{BlockForm}
+use Rattle.wt_original.specs.declared.kinds.BlockForm.TheVariants as block
+use Rattle.wt_original.specs.Kinds.{shape}
+use Rattle.wt_original.specs.Kept.{Kept, kept_nodes, kept_with}
+use Rattle.wt_original.specs.Page.{Page, page_of, is_unchanged}
 use Rattle.wt_escape.specs.Spelling.{children_of}
 use Rattle.wt_checks.specs.Checked.{checked}
 use Rattle.wt_content.specs.Content.{has_break}

@@ -5,7 +5,7 @@ use std::alloc::Global;
 use wt_checks::{Visit, is_content, original};
 use wt_difference::{is_block_part, stays_in};
 use wt_guards::{Role, Stretch};
-use wt_kept::{Kept, Page, page_of_block};
+use wt_original::{Kept, Page, page_of_block};
 use wt_span::{NoMemory, Str};
 use wt_tree::{Kind, Node};
 

@@ -7,9 +7,9 @@ use Rattle.wt_tree.specs.Tree.{Label, Tree, tree, Trees, none, more}
 use Rattle.wt_tree.specs.View.{view, views}
 use Rattle.wt_tree.specs.declared.node.Node.{Node, out-Node}
 use Rattle.wt_tree.proofs.Views.{view_out}
-use Rattle.wt_kept.specs.declared.kinds.Way.{Way}
-use Rattle.wt_kept.specs.declared.kinds.Way.TheVariants as way
-use Rattle.wt_kept.specs.Kinds.{shape}
+use Rattle.wt_original.specs.declared.kinds.Way.{Way}
+use Rattle.wt_original.specs.declared.kinds.Way.TheVariants as way
+use Rattle.wt_original.specs.Kinds.{shape}
 use Rattle.wt_selser.specs.Edits.{is_tangled}
 use Rattle.wt_selser.specs.GroupFaults.{faulty_at, has_faulty_group, is_faulty_node}
 use Rattle.wt_tangled.specs.OpenTags.{before, touches_open_tag}

@@ -11,7 +11,7 @@ use Rattle.wt_span.specs.Origins.{Expanded}
 use Rattle.wt_inline.specs.ItemTree.{ItemTree, inner, ItemTrees}
 use Rattle.wt_body.specs.Body.{meaning}
 use Rattle.wt_annotated.specs.Annotated.{all_unplaced}
-use Rattle.wt_kept.specs.Kinds.{shape}
+use Rattle.wt_original.specs.Kinds.{shape}
 use Rattle.wt_shown.specs.Children.{differing, listed}
 use Rattle.wt_tangled.specs.GroupItems.{items_alone}
 use Rattle.wt_tangled.specs.OpenTexts.{has_open_text, in_style}

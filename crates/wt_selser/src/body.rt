@@ -5,7 +5,7 @@ ghost use Rattle.std.specs.List.{ends_with};
 ghost use Rattle.wt_tree.specs.Source.{flat};
 ghost use Rattle.wt_tree.specs.Tree.{Tree};
 ghost use Rattle.wt_tree.specs.View.{view, views};
-ghost use Rattle.wt_kept.specs.Page.{TellsSame};
+ghost use Rattle.wt_original.specs.Page.{TellsSame};
 ghost use Rattle.wt_escape.specs.Spelling.{block_spelling};
 ghost use Rattle.wt_checks.specs.View.{indexed, seen};
 ghost use Rattle.wt_content.specs.Content.{has_break};

@@ -5,7 +5,7 @@ ghost use Rattle.wt_tree.specs.Tiling.{InPreorder};
 ghost use Rattle.wt_tree.specs.Tree.{Tree, label};
 ghost use Rattle.wt_tree.specs.View.{view};
 ghost use Rattle.wt_tree.specs.declared.kind.Kind.TheVariants as kind;
-ghost use Rattle.wt_kept.specs.Page.{TellsSame};
+ghost use Rattle.wt_original.specs.Page.{TellsSame};
 ghost use Rattle.wt_checks.specs.Places.{page_of};
 ghost use Rattle.wt_checks.specs.View.{indexed};
 ghost use Rattle.wt_tangled.specs.Passes.{AreOf};

@@ -17,7 +17,7 @@ use std::alloc::Global;
 use wt_annotated::unplaced_nodes;
 use wt_build::build_pieces;
 use wt_inline::PieceTree;
-use wt_kept::{Way, shape};
+use wt_original::{Way, shape};
 use wt_shown::{Child, is_group, shown_nodes, shows_same};
 use wt_span::{Items, List, NoMemory, Piece};
 use wt_tangled::{has_odd_line, has_open_text, pieces_alone};

@@ -3,7 +3,7 @@
 ghost use Rattle.std.specs.Prelude.{◌≡◌, ◌++◌, Bool, IfOk, OnOk};
 ghost use Rattle.wt_tree.specs.Tree.{Tree};
 ghost use Rattle.wt_tree.specs.View.{view, views};
-ghost use Rattle.wt_kept.specs.Page.{TellsSame};
+ghost use Rattle.wt_original.specs.Page.{TellsSame};
 ghost use Rattle.wt_checks.specs.View.{indexed};
 ghost use Rattle.wt_checks.specs.Places.{page_of};
 ghost use Rattle.wt_selser.specs.BodySlices.{all_child_slices, slices, slices_of};

@@ -19,7 +19,7 @@ use Rattle.wt_tree.specs.View.{attrs_of}
 use Rattle.wt_tree.proofs.Same.{kind_decides, attrs_same}
 use Rattle.wt_tree.proofs.Streams.{same_plain, same_signs}
 use Rattle.wt_checks.proofs.Compares.{values_decide}
-use Rattle.wt_kept.specs.Page.{TellsSame}
+use Rattle.wt_original.specs.Page.{TellsSame}
 use Rattle.wt_shown.specs.SameNodes.{as_attr, same_face, same_bracket, same_sign, same_node}
 
 pub both : {P Q : Type 0} (a b : Bool) → Decides a P → Decides b Q → Decides (a && b) (P × Q)

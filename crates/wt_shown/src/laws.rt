@@ -2,7 +2,7 @@
 
 ghost use Rattle.std.specs.Prelude.{◌≡◌, ℕ, List, Option, None};
 ghost use Rattle.wt_tree.specs.Plain.{Plain};
-ghost use Rattle.wt_kept.specs.Page.{TellsSame};
+ghost use Rattle.wt_original.specs.Page.{TellsSame};
 ghost use Rattle.wt_tree.specs.Tree.{Tree};
 ghost use Rattle.wt_checks.specs.WithoutMarks.{unmarked};
 ghost use Rattle.wt_shown.specs.Children.{IsFirstDiffering, differing, shown_children};

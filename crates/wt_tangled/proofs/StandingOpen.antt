@@ -5,9 +5,9 @@ use Rattle.std.specs.Prelude.{◌||◌, ◌&&◌, if◌then◌else◌, reverse}
 use Rattle.std.specs.List.{list_all}
 use Rattle.std.proofs.lemmas.List.{reverse-append}
 use Rattle.wt_tree.specs.Tree.{Tree, tree, Trees, none, more, Label, label, listed, trees}
-use Rattle.wt_kept.specs.declared.kinds.Way.{Way}
-use Rattle.wt_kept.specs.declared.kinds.Way.TheVariants as way
-use Rattle.wt_kept.specs.Kinds.{shape}
+use Rattle.wt_original.specs.declared.kinds.Way.{Way}
+use Rattle.wt_original.specs.declared.kinds.Way.TheVariants as way
+use Rattle.wt_original.specs.Kinds.{shape}
 use Rattle.wt_tangled.specs.OpenTexts.{begins_bracket, begins_open, ended_by, ends_with_bracket, has_open_text, holds_open, in_style}
 use Rattle.wt_tangled.specs.OpenTexts.{is_open_before, is_text, open_text_at}
 use Rattle.wt_tangled.specs.TangledLaws.{AreTexts, HasOpenStyle, HasOpenText, IsOpenStyle, StandsOpen, first_way, is_text_node, shown_in}

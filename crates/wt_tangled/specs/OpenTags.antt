@@ -6,9 +6,9 @@ use Rattle.std.specs.List.{list_any, prefix_len}
 use Rattle.wt_tree.specs.declared.kind.Ranges.{Ranges}
 use Rattle.wt_tree.specs.Source.{flat}
 use Rattle.wt_tree.specs.Tree.{Tree, tree, Trees, none, more}
-use Rattle.wt_kept.specs.declared.kinds.Way.{Way}
-use Rattle.wt_kept.specs.declared.kinds.Way.TheVariants as way
-use Rattle.wt_kept.specs.Kinds.{shape}
+use Rattle.wt_original.specs.declared.kinds.Way.{Way}
+use Rattle.wt_original.specs.declared.kinds.Way.TheVariants as way
+use Rattle.wt_original.specs.Kinds.{shape}
 
 abbrev pub is_stop : ℕ → Bool
 is_stop b = b == 60 || (b == 62 || b == 10)

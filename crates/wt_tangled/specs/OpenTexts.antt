@@ -3,9 +3,9 @@ use Rattle.std.specs.Prelude.{ℕ, ◌==◌, ◌&&◌, ◌||◌, Bool, false, Li
 use Rattle.wt_tree.specs.Tree.{Tree, tree, Trees, none, more}
 use Rattle.wt_tiles.specs.Glyphs.{byte_glyphs}
 use Rattle.wt_tiles.specs.Urls.{scheme_len}
-use Rattle.wt_kept.specs.declared.kinds.Way.{Way}
-use Rattle.wt_kept.specs.declared.kinds.Way.TheVariants as way
-use Rattle.wt_kept.specs.Kinds.{shape}
+use Rattle.wt_original.specs.declared.kinds.Way.{Way}
+use Rattle.wt_original.specs.declared.kinds.Way.TheVariants as way
+use Rattle.wt_original.specs.Kinds.{shape}
 
 abbrev pub begins_bracket : List ℕ → Bool
 begins_bracket [] = false

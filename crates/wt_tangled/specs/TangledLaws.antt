@@ -6,9 +6,9 @@ use Rattle.wt_tree.specs.declared.kind.Ranges.{Ranges}
 use Rattle.wt_tiles.specs.declared.glyph.Glyph.{Glyph}
 use Rattle.wt_tiles.specs.declared.glyph.Glyph.TheVariants as glyph
 use Rattle.wt_tree.specs.Tree.{Tree, tree, Trees, none, more, label, listed}
-use Rattle.wt_kept.specs.declared.kinds.Way.{Way}
-use Rattle.wt_kept.specs.declared.kinds.Way.TheVariants as way
-use Rattle.wt_kept.specs.Kinds.{shape}
+use Rattle.wt_original.specs.declared.kinds.Way.{Way}
+use Rattle.wt_original.specs.declared.kinds.Way.TheVariants as way
+use Rattle.wt_original.specs.Kinds.{shape}
 use Rattle.wt_tangled.specs.OpenTexts.{begins_open, in_style, is_open_before, is_text}
 use Rattle.wt_tangled.specs.Toggles.{is_break_glyph, is_quote}
 

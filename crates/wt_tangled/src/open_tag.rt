@@ -10,7 +10,7 @@ ghost use Rattle.wt_tangled.specs.Passes.{IsReadTo};
 
 use crate::ending::Ending;
 use crate::tag_pass::TagPass;
-use wt_kept::{Way, shape};
+use wt_original::{Way, shape};
 use wt_tree::Node;
 
 /// Whether the source of a node ends inside an open tag.

@@ -6,7 +6,7 @@ ghost use Rattle.wt_tangled.specs.OpenTexts.{begins_bracket, begins_open, ends_w
 
 use crate::scheme::scheme_len;
 use std::alloc::Global;
-use wt_kept::{Way, shape};
+use wt_original::{Way, shape};
 use wt_span::NoMemory;
 use wt_tree::Node;
 

@@ -2,7 +2,7 @@ use Rattle.std.proofs.Common.{Bool, List, ◌++◌, take}
 use Rattle.std.specs.List.{flat_map}
 use Rattle.wt_tree.specs.Tree.{Tree}
 use Rattle.wt_tree.specs.View.{view}
-use Rattle.wt_kept.specs.Page.{TellsSame}
+use Rattle.wt_original.specs.Page.{TellsSame}
 use Rattle.wt_content.specs.declared.reason.ContentWhy.{ContentWhy}
 use Rattle.wt_content.specs.Children.{child_faults}
 use Rattle.wt_content.specs.Views.{HasFaults}

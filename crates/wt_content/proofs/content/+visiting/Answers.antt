@@ -1,6 +1,6 @@
 use Rattle.std.proofs.Common.{arith, List, ◌++◌, sym, ap, ◌∙◌, subst}
-use Rattle.wt_kept.specs.declared.kinds.Spelled.{Spelled}
-use Rattle.wt_kept.specs.PageViews.{page_view}
+use Rattle.wt_original.specs.declared.kinds.Spelled.{Spelled}
+use Rattle.wt_original.specs.PageViews.{page_view}
 use Rattle.wt_content.specs.declared.reason.ContentWhy.{ContentWhy}
 use Rattle.wt_content.specs.Views.{HasFaults}
 use Rattle.wt_content.proofs.Faulting.{closed_visit, open_visit, next_visit, all_visited}

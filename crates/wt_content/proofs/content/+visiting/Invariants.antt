@@ -2,8 +2,8 @@ use Rattle.std.proofs.Common.{Bool, List, ◌++◌, take}
 use Rattle.std.specs.List.{flat_map}
 use Rattle.wt_tree.specs.Tree.{Tree}
 use Rattle.wt_tree.specs.View.{view}
-use Rattle.wt_kept.specs.Page.{TellsSame}
-use Rattle.wt_kept.specs.PageViews.{page_view}
+use Rattle.wt_original.specs.Page.{TellsSame}
+use Rattle.wt_original.specs.PageViews.{page_view}
 use Rattle.wt_content.specs.declared.reason.ContentWhy.{ContentWhy}
 use Rattle.wt_content.specs.Content.{faults}
 use Rattle.wt_content.specs.Views.{HasFaults}

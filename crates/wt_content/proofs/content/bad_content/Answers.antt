@@ -1,6 +1,6 @@
 use Rattle.std.proofs.Common.{[], ◌∙◌}
 use Rattle.wt_tree.specs.View.{view, views}
-use Rattle.wt_kept.specs.PageViews.{page_view}
+use Rattle.wt_original.specs.PageViews.{page_view}
 use Rattle.wt_content.specs.Content.{all_faults, bad_content}
 use Rattle.wt_content.proofs.Faulting.{content_is}
 use Rattle.wt_content.proofs.content.bad_content.Goals as goal

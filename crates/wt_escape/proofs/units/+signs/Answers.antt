@@ -4,12 +4,12 @@ use Rattle.std.proofs.lemmas.Grind.{common_steps}
 use Rattle.wt_tree.specs.declared.node.Node.{out-Node}
 use Rattle.wt_tree.specs.View.{label_of, view, views}
 use Rattle.wt_names.specs.Written.{read_link}
-use Rattle.wt_kept.specs.declared.kinds.Way.TheVariants as way
-use Rattle.wt_kept.specs.declared.kinds.Spelled.{Spelled}
+use Rattle.wt_original.specs.declared.kinds.Way.TheVariants as way
+use Rattle.wt_original.specs.declared.kinds.Spelled.{Spelled}
 use Rattle.wt_guards.specs.declared.role.Role.TheVariants as role
-use Rattle.wt_kept.specs.Gathered.{kept_view}
+use Rattle.wt_original.specs.Gathered.{kept_view}
 use Rattle.wt_escape.specs.Spelling.{unless_kept, new_thing, page_link, external_link, tag_pair, href_of, spelled_within, signs_of_all}
-use Rattle.wt_kept.specs.PageViews.{page_view}
+use Rattle.wt_original.specs.PageViews.{page_view}
 use Rattle.wt_guards.specs.Views.{all_signs}
 use Rattle.wt_escape.proofs.Signing.{signs_pushed, unless_seen, signs_views, leaves_done, leaves_then}
 use Rattle.wt_escape.proofs.units.+signs.Goals as goal

@@ -2,9 +2,9 @@ use Rattle.std.proofs.Common.{◌++◌, ap, ◌∙◌}
 use Rattle.std.specs.Prelude.{option_map}
 use Rattle.wt_tree.specs.View.{view}
 use Rattle.wt_guards.specs.declared.role.Role.TheVariants as role
-use Rattle.wt_kept.specs.Gathered.{kept_view}
+use Rattle.wt_original.specs.Gathered.{kept_view}
 use Rattle.wt_escape.specs.Spelling.{unless_kept, new_thing, break_tag}
-use Rattle.wt_kept.specs.PageViews.{page_view}
+use Rattle.wt_original.specs.PageViews.{page_view}
 use Rattle.wt_guards.specs.Views.{all_signs}
 use Rattle.wt_escape.proofs.Signing.{leaves_done, leaves_then}
 use Rattle.wt_escape.proofs.units.push_break.Goals as goal

@@ -1,6 +1,6 @@
 use Rattle.wt_tree.specs.View.{view}
-use Rattle.wt_kept.specs.Gathered.{kept_view}
-use Rattle.wt_kept.specs.PageViews.{page_view}
+use Rattle.wt_original.specs.Gathered.{kept_view}
+use Rattle.wt_original.specs.PageViews.{page_view}
 use Rattle.wt_guards.specs.Views.{all_signs}
 use Rattle.wt_escape.proofs.Signing.{leaves_changed, leaves_kept}
 use Rattle.wt_escape.proofs.units.push_old.Goals as goal

@@ -1,10 +1,10 @@
 use Rattle.std.specs.Prelude.{option_map}
 use Rattle.wt_tree.specs.View.{view}
 use Rattle.wt_guards.specs.Content.{letters}
-use Rattle.wt_kept.specs.Kept.{shown}
-use Rattle.wt_kept.specs.Gathered.{kept_view}
+use Rattle.wt_original.specs.Kept.{shown}
+use Rattle.wt_original.specs.Gathered.{kept_view}
 use Rattle.wt_escape.specs.Spelling.{unless_kept}
-use Rattle.wt_kept.specs.PageViews.{page_view}
+use Rattle.wt_original.specs.PageViews.{page_view}
 use Rattle.wt_guards.specs.Views.{all_signs}
 use Rattle.wt_escape.proofs.Signing.{leaves_done, leaves_then}
 use Rattle.wt_escape.proofs.units.push_shown_unless.Goals as goal

@@ -1,6 +1,6 @@
 use Rattle.std.proofs.Common.{◌≡◌, Bool, drop}
 use Rattle.wt_tree.specs.Tree.{Tree}
-use Rattle.wt_kept.specs.Page.{TellsSame}
+use Rattle.wt_original.specs.Page.{TellsSame}
 use Rattle.wt_selser.specs.Edits.{first_of, bad_pair}
 use Rattle.wt_selser.specs.Views.{pairs_of}
 use Rattle.wt_selser.proofs.editing.first_bad.Given as goal

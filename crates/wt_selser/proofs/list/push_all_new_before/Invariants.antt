@@ -1,7 +1,7 @@
 use Rattle.std.proofs.Common.{◌≡◌, ◌++◌, drop, Bool}
 use Rattle.wt_tree.specs.Tree.{Tree}
 use Rattle.wt_tree.specs.View.{views}
-use Rattle.wt_kept.specs.Page.{TellsSame}
+use Rattle.wt_original.specs.Page.{TellsSame}
 use Rattle.wt_selser.specs.ListSlices.{new_before}
 use Rattle.wt_selser.specs.Views.{changes_view}
 use Rattle.wt_selser.proofs.list.push_all_new_before.Given as goal

@@ -1,6 +1,6 @@
 use Rattle.std.proofs.Common.{◌≡◌, ◌++◌, drop, Bool}
 use Rattle.wt_tree.specs.Tree.{Tree}
-use Rattle.wt_kept.specs.Page.{TellsSame}
+use Rattle.wt_original.specs.Page.{TellsSame}
 use Rattle.wt_checks.specs.View.{indexed}
 use Rattle.wt_selser.specs.ListSlices.{item_slices}
 use Rattle.wt_selser.specs.Views.{changes_view, steps_view}

@@ -2,7 +2,7 @@ use Rattle.std.proofs.Common.{◌≡◌, ◌++◌, take, Bool}
 use Rattle.std.specs.List.{flat_map}
 use Rattle.wt_tree.specs.Tree.{Tree}
 use Rattle.wt_tree.specs.View.{view}
-use Rattle.wt_kept.specs.Page.{TellsSame}
+use Rattle.wt_original.specs.Page.{TellsSame}
 use Rattle.wt_checks.specs.View.{indexed}
 use Rattle.wt_selser.specs.BodySlices.{child_slices}
 use Rattle.wt_selser.specs.Views.{changes_view}

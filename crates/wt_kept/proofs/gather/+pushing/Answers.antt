@@ -1,8 +1,0 @@
-use Rattle.std.proofs.Common.{arith}
-use Rattle.std.proofs.lemmas.Grind.{common_steps}
-use Rattle.wt_kept.specs.declared.kinds.ItemsOf.TheVariants as item
-use Rattle.wt_kept.proofs.Nodes.{items_views}
-use Rattle.wt_kept.proofs.gather.+pushing.Goals as goal
-
-pub push_items_of_all-returns : goal.push_items_of_all-returns
-push_items_of_all-returns t c = rw (items_views c.args.nodes.now) (grind (arith, common_steps))
