@@ -12,7 +12,7 @@ use Rattle.wt_tiles.specs.Glyphs.{is_in, like_byte, begins, begins_like, byte_gl
 use Rattle.wt_tiles.specs.Urls.{is_url_char, is_url_glyph, url_run, url_items, scheme_len}
 use Rattle.wt_content.specs.Content.{is_url}
 use Rattle.wt_content.specs.ContentLaws.{IsReadWhole}
-use Rattle.wt_tangled.proofs.Schemes.{word_fits}
+use Rattle.wt_isolation.proofs.Schemes.{word_fits}
 
 -- ---- the beginning of a URL
 

@@ -6,7 +6,7 @@ ghost use Rattle.wt_tiles.specs.Urls.{is_url_char, url_run};
 ghost use Rattle.wt_content.specs.Content.{is_url};
 
 use wt_span::rest_of;
-use wt_tangled::scheme_len;
+use wt_isolation::scheme_len;
 
 #[tactic(auto, unfolding(wt_tiles::specs::Urls::is_url_char))]
 fn is_url_byte(byte: u8) -> bool

@@ -7,7 +7,7 @@ use Rattle.wt_span.specs.Lexemes.{Word, form_at}
 use Rattle.wt_span.specs.Tags.{is_raw_name, to_closing}
 use Rattle.wt_guards.specs.Guards.{has_brace_last}
 use Rattle.wt_scans.specs.Scans.{Scanner, after_all, Passes}
-use Rattle.wt_tangled.specs.OpenTags.{ends_open}
+use Rattle.wt_isolation.specs.OpenTags.{ends_open}
 use Rattle.wt_local.specs.TextEdits.{ends_in_break}
 
 -- ---- lexemes without braces, whose runs may go over an edge

@@ -27,9 +27,9 @@ use Rattle.wt_tree.specs.Tree.{Tree, tree, Trees, none, more, label}
 use Rattle.wt_original.specs.Kept.{Kept, kept_nodes, kept_with}
 use Rattle.wt_expand.specs.Expansion.{opens_block}
 use Rattle.wt_expand.specs.PageItems.{page_items}
-use Rattle.wt_tangled.specs.GroupItems.{items_in}
-use Rattle.wt_tangled.specs.OpenTags.{before, touches_open_tag}
-use Rattle.wt_tangled.specs.TextCalls.{touches_text_call}
+use Rattle.wt_isolation.specs.GroupItems.{items_in}
+use Rattle.wt_isolation.specs.OpenTags.{before, touches_open_tag}
+use Rattle.wt_isolation.specs.TextCalls.{touches_text_call}
 use Rattle.wt_selser.specs.Splice.{between}
 
 -- ---- kept slices

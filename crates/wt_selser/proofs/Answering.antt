@@ -30,8 +30,8 @@ use Rattle.wt_content.specs.Children.{bad_children}
 use Rattle.wt_content.specs.Content.{bad_content}
 use Rattle.wt_selser.specs.Edits.{first_with, first_of, bad_pair, is_tangled, tangled_pair, most_bytes, if_short, unless_refused, pairs_answer, edit_answer, why_bad, AnswersEdit}
 use Rattle.wt_selser.specs.GroupFaults.{has_faulty_group}
-use Rattle.wt_tangled.specs.OpenTags.{before, touches_open_tag}
-use Rattle.wt_tangled.specs.TextCalls.{touches_text_call}
+use Rattle.wt_isolation.specs.OpenTags.{before, touches_open_tag}
+use Rattle.wt_isolation.specs.TextCalls.{touches_text_call}
 use Rattle.wt_selser.specs.Steps.{steps}
 use Rattle.wt_selser.specs.Views.{pair_of, pairs_of}
 use Rattle.wt_selser.proofs.Outside.{nothing_changes}

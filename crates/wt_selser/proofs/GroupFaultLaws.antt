@@ -22,8 +22,8 @@ use Rattle.wt_shown.specs.declared.children.Child.{Child}
 use Rattle.wt_shown.specs.declared.shown_node.ShownNode.{ShownNode}
 use Rattle.wt_shown.specs.Children.{differing}
 use Rattle.wt_selser.specs.GroupFaults.{is_faulty, one_paragraph, paragraph_face, shows_other, trees_in}
-use Rattle.wt_tangled.specs.OpenTexts.{has_open_text}
-use Rattle.wt_tangled.specs.Toggles.{has_odd_line}
+use Rattle.wt_isolation.specs.OpenTexts.{has_open_text}
+use Rattle.wt_isolation.specs.Toggles.{has_odd_line}
 use Rattle.wt_shown.specs.Views.{child_view, children_view, held_view, node_view}
 use Rattle.wt_shown.proofs.DifferingLaws.{none_same, same_none}
 use Rattle.wt_shown.proofs.ShownChildren.{views_long}

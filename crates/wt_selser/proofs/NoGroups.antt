@@ -12,9 +12,9 @@ use Rattle.wt_original.specs.declared.kinds.Way.TheVariants as way
 use Rattle.wt_original.specs.Kinds.{shape}
 use Rattle.wt_selser.specs.Edits.{is_tangled}
 use Rattle.wt_selser.specs.GroupFaults.{faulty_at, has_faulty_group, is_faulty_node}
-use Rattle.wt_tangled.specs.OpenTags.{before, touches_open_tag}
-use Rattle.wt_tangled.specs.OpenTexts.{in_style}
-use Rattle.wt_tangled.specs.TextCalls.{touches_text_call}
+use Rattle.wt_isolation.specs.OpenTags.{before, touches_open_tag}
+use Rattle.wt_isolation.specs.OpenTexts.{in_style}
+use Rattle.wt_isolation.specs.TextCalls.{touches_text_call}
 
 style_fine : (w : Way) → in_style w false ≡ false
 style_fine way.Nothing = refl

@@ -14,9 +14,9 @@ use Rattle.wt_content.specs.Children.{bad_children}
 use Rattle.wt_content.specs.Content.{bad_content}
 use Rattle.wt_selser.specs.BodySlices.{slices}
 use Rattle.wt_selser.specs.GroupFaults.{has_faulty_group}
-use Rattle.wt_tangled.specs.OpenTags.{before, touches_open_tag}
+use Rattle.wt_isolation.specs.OpenTags.{before, touches_open_tag}
 use Rattle.wt_selser.specs.Splice.{Change, spliced}
-use Rattle.wt_tangled.specs.TextCalls.{touches_text_call}
+use Rattle.wt_isolation.specs.TextCalls.{touches_text_call}
 
 abbrev pub first_with : {B : Type 0} → Option B → Option B → Option B
 first_with None rest = rest

@@ -8,7 +8,7 @@ ghost use Rattle.wt_tree.specs.declared.kind.Kind.TheVariants as kind;
 ghost use Rattle.wt_original.specs.Page.{TellsSame};
 ghost use Rattle.wt_checks.specs.Places.{page_of};
 ghost use Rattle.wt_checks.specs.View.{indexed};
-ghost use Rattle.wt_tangled.specs.Passes.{AreOf};
+ghost use Rattle.wt_isolation.specs.Passes.{AreOf};
 ghost use Rattle.wt_selser.specs.BodySlices.{slices};
 ghost use Rattle.wt_selser.specs.Changes.{marked};
 ghost use Rattle.wt_selser.specs.Splice.{spliced};
@@ -23,7 +23,7 @@ use std::alloc::Global;
 use wt_checks::{Visit, check, is_children, is_content, numbered_nodes};
 use wt_content::{ContentWhy, bad_children, bad_content};
 use wt_span::{Items, NoMemory, PAGE_BYTES, Str};
-use wt_tangled::Passes;
+use wt_isolation::Passes;
 use wt_tree::Node;
 
 /// Why what stands in a marked node can't be written.

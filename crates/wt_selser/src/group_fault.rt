@@ -20,7 +20,7 @@ use wt_inline::PieceTree;
 use wt_original::{Way, shape};
 use wt_shown::{Child, is_group, shown_nodes, shows_same};
 use wt_span::{Items, List, NoMemory, Piece};
-use wt_tangled::{has_odd_line, has_open_text, pieces_alone};
+use wt_isolation::{has_odd_line, has_open_text, pieces_alone};
 use wt_tiles::glyphs_of;
 use wt_tree::{Kind, Node, Ranges, same_data, same_kind};
 

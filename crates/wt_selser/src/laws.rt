@@ -16,9 +16,9 @@ ghost use Rattle.wt_selser.specs.BodySlices.{slices};
 ghost use Rattle.wt_selser.specs.Changes.{inside_at, AllStay};
 ghost use Rattle.wt_selser.specs.Edits.{edit_answer, is_tangled, most_bytes};
 ghost use Rattle.wt_selser.specs.Leaves.{LeavesHoldNoNumber, HoldsNoFrame};
-ghost use Rattle.wt_tangled.specs.OpenTags.{before, touches_open_tag};
+ghost use Rattle.wt_isolation.specs.OpenTags.{before, touches_open_tag};
 ghost use Rattle.wt_selser.specs.Splice.{Change, spliced, AreApart, OutsideStands};
-ghost use Rattle.wt_tangled.specs.TextCalls.{touches_text_call};
+ghost use Rattle.wt_isolation.specs.TextCalls.{touches_text_call};
 
 /// Where the slices stand in the page one after the other, what stands outside them stands in the
 /// new page byte for byte and in its order, and between it what was written for each slice.

@@ -4,15 +4,15 @@ ghost use Rattle.std.specs.Prelude.{◌≡◌, false, IfOk, Ok};
 ghost use Rattle.wt_tree.specs.Tiling.{NoneIsGroup};
 ghost use Rattle.wt_tree.specs.View.{view, views};
 ghost use Rattle.wt_tree.specs.declared.node.Node.{out-Node};
-ghost use Rattle.wt_tangled.specs.OpenTags.{before, touches_open_tag};
-ghost use Rattle.wt_tangled.specs.Passes.{AreOf};
-ghost use Rattle.wt_tangled.specs.TextCalls.{touches_text_call};
+ghost use Rattle.wt_isolation.specs.OpenTags.{before, touches_open_tag};
+ghost use Rattle.wt_isolation.specs.Passes.{AreOf};
+ghost use Rattle.wt_isolation.specs.TextCalls.{touches_text_call};
 ghost use Rattle.wt_selser.specs.Edits.{is_tangled};
 
 use crate::group_fault::has_faulty_group;
 use std::alloc::Global;
 use wt_span::{Items, NoMemory};
-use wt_tangled::Passes;
+use wt_isolation::Passes;
 use wt_tree::Node;
 
 /// Whether a block of a page with these items can't be read by itself.

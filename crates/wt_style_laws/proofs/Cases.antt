@@ -9,7 +9,7 @@ use Rattle.wt_quotes.specs.Runs.{place_of}
 use Rattle.wt_quotes.specs.Toggles.{toggle_at, toggles_of, toggles_by_length, width_of}
 use Rattle.wt_quotes.specs.Turns.{since, next, bold_ends_later, effect_on, is_bold_outside_at, turn_at}
 use Rattle.wt_quotes.specs.Styles.{style_tree_of}
-use Rattle.wt_tangled.specs.Toggles.{switches_bold, switches_italic}
+use Rattle.wt_isolation.specs.Toggles.{switches_bold, switches_italic}
 use Rattle.wt_style_laws.specs.InnerStyles.{is_bold_inside}
 use Rattle.wt_style_laws.specs.RunCounts.{run_lengths}
 

@@ -14,7 +14,7 @@ use Rattle.wt_quotes.specs.declared.toggle.Toggle.{Toggle}
 use Rattle.wt_quotes.specs.Runs.{run_length}
 use Rattle.wt_quotes.specs.Turns.{is_of}
 use Rattle.wt_quotes.specs.Toggles.{toggle_of, toggle_at}
-use Rattle.wt_tangled.specs.Toggles.{switches_bold, switches_italic}
+use Rattle.wt_isolation.specs.Toggles.{switches_bold, switches_italic}
 use Rattle.wt_style_laws.specs.RunCounts.{run_lengths, CountsAgree}
 
 -- a run of a length switches the style

@@ -3,7 +3,7 @@ use Rattle.std.specs.Prelude.{◌≡◌, ℕ, Some, List, count_by, map}
 use Rattle.wt_quotes.specs.declared.chunk.Chunk.{Chunk}
 use Rattle.wt_quotes.specs.Runs.{run_length}
 use Rattle.wt_quotes.specs.Toggles.{toggles_by_length}
-use Rattle.wt_tangled.specs.Toggles.{switches_bold, switches_italic}
+use Rattle.wt_isolation.specs.Toggles.{switches_bold, switches_italic}
 
 -- the lengths of the runs, and 0 for each other chunk
 abbrev pub run_lengths : List Chunk → List ℕ

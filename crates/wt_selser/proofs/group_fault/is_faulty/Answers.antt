@@ -3,8 +3,8 @@ use Rattle.std.specs.List.{list_any}
 use Rattle.wt_span.specs.Items.{items}
 use Rattle.wt_tree.specs.View.{views}
 use Rattle.wt_tree.specs.declared.node.Node.{out-Node}
-use Rattle.wt_tangled.specs.OpenTexts.{has_open_text}
-use Rattle.wt_tangled.specs.Toggles.{is_odd_line, lines}
+use Rattle.wt_isolation.specs.OpenTexts.{has_open_text}
+use Rattle.wt_isolation.specs.Toggles.{is_odd_line, lines}
 use Rattle.wt_selser.proofs.GroupFaultLaws.{odd_fault, shows_fault, text_fault}
 use Rattle.wt_selser.proofs.group_fault.is_faulty.Goals as goal
 

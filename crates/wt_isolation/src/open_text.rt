@@ -1,0 +1,130 @@
+//! Texts that could go on behind their end: one that holds the beginning of a tag or of a link.
+
+ghost use Rattle.std.specs.Prelude.{◌≡◌, ◌||◌, ◌∷◌, [], List, ℕ, Bool, IfOk};
+ghost use Rattle.wt_tree.specs.View.{view, views};
+ghost use Rattle.wt_isolation.specs.OpenTexts.{begins_bracket, begins_open, ends_with_bracket, has_open_text, holds_open, in_style, is_open_before, is_text, open_text_at};
+
+use crate::scheme::scheme_len;
+use std::alloc::Global;
+use wt_original::{Way, shape};
+use wt_span::NoMemory;
+use wt_tree::Node;
+
+fn begins_bracket(text: &[u8]) -> bool
+    ensures { result ≡ begins_bracket text.now }
+{
+    match text.split_first() {
+        Some((byte, _)) => *byte == b'[',
+        None => false,
+    }
+}
+
+/// Whether `<`, `[[`, or `[` and the beginning of a URL stand first.
+fn begins_open(byte: u8, rest: &[u8]) -> bool
+    ensures { result ≡ begins_open (byte ∷ rest.now) }
+{
+    byte == b'<' || byte == b'[' && (begins_bracket(rest) || 0 < scheme_len(rest))
+}
+
+/// Whether such bytes stand somewhere in a text.
+fn holds_open(text: &[u8]) -> bool
+    ensures { result ≡ holds_open text.now }
+{
+    let mut rest = text;
+    while let Some((byte, after)) = rest.split_first() {
+        if begins_open(*byte, after) {
+            return true;
+        }
+        rest = after;
+    }
+    false
+}
+
+fn ends_with_bracket(text: &[u8]) -> bool
+    ensures { result ≡ ends_with_bracket text.now }
+{
+    match text.last() {
+        Some(byte) => *byte == b'[',
+        None => false,
+    }
+}
+
+/// Whether a text that ends before a node of this kind could go on behind its end.
+fn is_open_before(way: Way, text: &[u8]) -> bool
+    ensures { result ≡ is_open_before way text.now }
+{
+    match way {
+        Way::ExternalLink => holds_open(text) || ends_with_bracket(text),
+        Way::Nothing | Way::Characters | Way::Bold | Way::Italic | Way::Shown => holds_open(text),
+        Way::PageLink | Way::Tag | Way::Break | Way::AsItStood => holds_open(text),
+    }
+}
+
+fn is_text(way: Way) -> bool
+    ensures { result ≡ is_text way }
+{
+    match way {
+        Way::Characters => true,
+        Way::Nothing | Way::Bold | Way::Italic | Way::Shown | Way::PageLink => false,
+        Way::ExternalLink | Way::Tag | Way::Break | Way::AsItStood => false,
+    }
+}
+
+/// Whether there is such a text in a bold or an italic node, where it holds these.
+#[cycle(texts)]
+fn in_style(alloc: Global, way: Way, held: &[Node<'_>]) -> Result<bool, NoMemory>
+    ensures { IfOk result (λ b. b ≡ in_style way (has_open_text [] (views held.now))) }
+{
+    match way {
+        Way::Bold | Way::Italic => has_open_text(alloc, held),
+        Way::Nothing | Way::Characters | Way::Shown | Way::PageLink => Ok(false),
+        Way::ExternalLink | Way::Tag | Way::Break | Way::AsItStood => Ok(false),
+    }
+}
+
+/// Ends the text before a node: whether it could go on behind its end, or one in the node could.
+#[cycle(texts)]
+fn ends_open(
+    alloc: Global,
+    text: &mut Vec<u8>,
+    way: Way,
+    held: &[Node<'_>],
+) -> Result<bool, NoMemory>
+    ensures open { IfOk result (λ b. b ≡ (is_open_before way text.old.items || in_style way (has_open_text [] (views held.now)))) }
+    ensures ended { IfOk result (λ b. text.new.items ≡ []) }
+{
+    let open = is_open_before(way, text.as_slice());
+    *text = Vec::new(alloc);
+    if open {
+        return Ok(true);
+    }
+    in_style(alloc, way, held)
+}
+
+/// Reads one more node behind a text: whether the text ends there and could go on, or one in the node could.
+#[cycle(texts)]
+fn follow(alloc: Global, text: &mut Vec<u8>, node: &Node<'_>) -> Result<bool, NoMemory>
+    ensures { IfOk result (λ b. (rest : List ℕ → Bool) → open_text_at text.old.items (view node.now) rest ≡ (b || rest text.new.items)) }
+{
+    let way = shape(node.kind).way;
+    if is_text(way) {
+        text.extend_from_slice(node.shown().as_bytes())?;
+        return Ok(false);
+    }
+    ends_open(alloc, text, way, node.children.as_slice())
+}
+
+/// Whether a text directly among these nodes, or in their bold and italic nodes, could go on behind its end.
+#[cycle(texts)]
+pub fn has_open_text(alloc: Global, nodes: &[Node<'_>]) -> Result<bool, NoMemory>
+    ensures { IfOk result (λ b. b ≡ has_open_text [] (views nodes.now)) }
+{
+    let mut text: Vec<u8> = Vec::new(alloc);
+    for node in nodes {
+        let open = follow(alloc, &mut text, node)?;
+        if open {
+            return Ok(true);
+        }
+    }
+    Ok(holds_open(text.as_slice()))
+}

@@ -1,9 +1,0 @@
-use Rattle.wt_tangled.proofs.Endings.{not_told, told}
-use Rattle.wt_tangled.proofs.ending.Ending.is_in_tag.Goals as goal
-use Rattle.wt_tangled.specs.declared.ending.Ending.TheVariants as ending
-
-pub returns-in-Outside : goal.returns-in-Outside
-returns-in-Outside c = λ text at. not_told text c.args.self c.in-Outside.is at
-
-pub returns-in-InTag : goal.returns-in-InTag
-returns-in-InTag c = λ text at. told text ending.InTag c.args.self c.in-InTag.is at
