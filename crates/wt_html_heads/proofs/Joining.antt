@@ -1,7 +1,7 @@
 -- Texts of an element, joined one after another.
 use Rattle.std.proofs.Common.{◌≡◌, ℕ, true, List, ◌++◌}
 use Rattle.wt_html_grammar.specs.Markup.{Markups}
-use Rattle.wt_fitting.specs.Fit.{texts_in}
+use Rattle.wt_schema.specs.Fit.{texts_in}
 use Rattle.wt_html_heads.specs.Texts.{are_utf8_markups}
 
 -- some are joined, and the rest is still to come

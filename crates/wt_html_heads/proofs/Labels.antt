@@ -8,13 +8,13 @@ use Rattle.wt_html_grammar.specs.Markup.{Pair, Markups}
 use Rattle.wt_html_elements.specs.declared.content.Content.{Content}
 use Rattle.wt_html_elements.specs.Built.{views}
 use Rattle.wt_html_grammar.proofs.Steps.{if_true}
-use Rattle.wt_fitting.specs.declared.why.FitWhy.TheVariants as why
-use Rattle.wt_fitting.specs.declared.standing.Standing.{Standing}
-use Rattle.wt_fitting.specs.declared.standing.Standing.TheVariants as stands
-use Rattle.wt_fitting.specs.Groups.{Piece, begun, is_grouped, is_none, own_pairs, pairs_for}
-use Rattle.wt_fitting.specs.Rows.{row}
-use Rattle.wt_fitting.specs.Data.{Data, no_data, data_for}
-use Rattle.wt_fitting.specs.Fit.{Misfit, Spot as Place, texts_in, label_for, label_as, group_label, piece_as, with_children, one_piece, row_as, fits_place, text_fits, fit_told, fit_as, fit_row, fit_body_told, body_data}
+use Rattle.wt_schema.specs.declared.why.FitWhy.TheVariants as why
+use Rattle.wt_schema.specs.declared.standing.Standing.{Standing}
+use Rattle.wt_schema.specs.declared.standing.Standing.TheVariants as stands
+use Rattle.wt_schema.specs.Groups.{Piece, begun, is_grouped, is_none, own_pairs, pairs_for}
+use Rattle.wt_schema.specs.Rows.{row}
+use Rattle.wt_schema.specs.Data.{Data, no_data, data_for}
+use Rattle.wt_schema.specs.Fit.{Misfit, Spot as Place, texts_in, label_for, label_as, group_label, piece_as, with_children, one_piece, row_as, fits_place, text_fits, fit_told, fit_as, fit_row, fit_body_told, body_data}
 use Rattle.wt_html_heads.specs.declared.fault.FitFault.{FitFault}
 use Rattle.wt_html_heads.specs.declared.fault.FitFault.TheVariants as faults
 use Rattle.wt_html_heads.specs.declared.head.Head.{Head}

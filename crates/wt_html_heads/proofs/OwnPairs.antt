@@ -7,7 +7,7 @@ use Rattle.std.proofs.lemmas.Str.{IsUtf8-drop, IsCharBoundary-after_ascii, IsUtf
 use Rattle.wt_span.specs.Bytes.{begins}
 use Rattle.wt_html_grammar.specs.Markup.{Pair}
 use Rattle.wt_html_grammar.proofs.Reading.{and_true}
-use Rattle.wt_fitting.specs.Groups.{transclusion, param, spaced, is_word_of, behind_word, own_type, is_groups, own_pair, own_pairs}
+use Rattle.wt_schema.specs.Groups.{transclusion, param, spaced, is_word_of, behind_word, own_type, is_groups, own_pair, own_pairs}
 use Rattle.wt_html_heads.specs.Texts.{are_utf8_values}
 use Rattle.wt_html_heads.proofs.Values.{and_left, and_right}
 

@@ -4,8 +4,8 @@ use Rattle.std.specs.Prelude.{◌&&◌, IfOk, if◌then◌else◌}
 use Rattle.std.specs.Str.{bytes_eq, is_utf8}
 use Rattle.wt_tree.specs.declared.kind.Kind.{Kind}
 use Rattle.wt_html_grammar.specs.Markup.{Pair}
-use Rattle.wt_fitting.specs.Attributes.{value_of}
-use Rattle.wt_fitting.specs.Data.{sync_fits}
+use Rattle.wt_schema.specs.Attributes.{value_of}
+use Rattle.wt_schema.specs.Data.{sync_fits}
 use Rattle.wt_html_heads.specs.Texts.{are_utf8_values}
 use Rattle.wt_html_heads.specs.Told.{sync_said}
 use Rattle.wt_html_heads.specs.declared.data.SyncData.{SyncData}

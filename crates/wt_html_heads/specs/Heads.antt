@@ -5,11 +5,11 @@ use Rattle.wt_tree.specs.declared.kind.Kind.{Kind}
 use Rattle.wt_tree.specs.Tree.{Label, Tree}
 use Rattle.wt_tree.specs.View.{attrs_of}
 use Rattle.wt_html_grammar.specs.Markup.{Pair}
-use Rattle.wt_fitting.specs.declared.standing.Standing.{Standing}
-use Rattle.wt_fitting.specs.declared.standing.Standing.TheVariants as stands
-use Rattle.wt_fitting.specs.Groups.{Piece, single, begun, further}
-use Rattle.wt_fitting.specs.Data.{Data}
-use Rattle.wt_fitting.specs.Fit.{Misfit, Spot as Place, with_sync, label_for, label_as, group_label, with_children}
+use Rattle.wt_schema.specs.declared.standing.Standing.{Standing}
+use Rattle.wt_schema.specs.declared.standing.Standing.TheVariants as stands
+use Rattle.wt_schema.specs.Groups.{Piece, single, begun, further}
+use Rattle.wt_schema.specs.Data.{Data}
+use Rattle.wt_schema.specs.Fit.{Misfit, Spot as Place, with_sync, label_for, label_as, group_label, with_children}
 use Rattle.wt_html_heads.specs.declared.fault.FitFault.{FitFault}
 use Rattle.wt_html_heads.specs.declared.fault.FitFault.TheVariants as faults
 use Rattle.wt_html_heads.specs.declared.head.Head.{Head}

@@ -3,7 +3,7 @@ use Rattle.std.specs.Prelude.{ℕ, Bool, true, Option, Some, None, List, []}
 use Rattle.wt_tree.specs.declared.node.DataMw.{DataMw}
 use Rattle.wt_datamw.specs.declared.sync.Sync.{Sync}
 use Rattle.wt_html_grammar.specs.Markup.{Markup, text, node}
-use Rattle.wt_fitting.specs.Data.{Data as NodeData}
+use Rattle.wt_schema.specs.Data.{Data as NodeData}
 use Rattle.wt_tree.specs.Recut.{is_blank}
 use Rattle.wt_html_heads.specs.declared.data.SyncData.{SyncData}
 use Rattle.wt_html_heads.specs.declared.data.SyncData.TheVariants as syncs

@@ -2,7 +2,7 @@
 use Rattle.std.specs.Prelude.{ℕ, Option, Some, None, List, [], ◌∷◌, length, drop, codes, if◌then◌else◌}
 use Rattle.std.specs.Str.{bytes_eq}
 use Rattle.wt_html_grammar.specs.Markup.{Pair}
-use Rattle.wt_fitting.specs.Groups.{transclusion, param, spaced, is_word_of}
+use Rattle.wt_schema.specs.Groups.{transclusion, param, spaced, is_word_of}
 
 abbrev pub behind : List ℕ → List ℕ → Option (List ℕ)
 behind w t = if bytes_eq t w then None else Some (drop (length (spaced w)) t)

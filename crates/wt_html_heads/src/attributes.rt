@@ -1,8 +1,8 @@
 ghost use Rattle.std.specs.Prelude.{◌≡◌, true, option_map};
 ghost use Rattle.std.specs.Str.{is_utf8};
 ghost use Rattle.wt_html_elements.specs.Built.{pairs};
-ghost use Rattle.wt_fitting.specs.Attributes.{value_of, has, is_typed, mark_of, mark_of_value};
-ghost use Rattle.wt_fitting.specs.Unsourced.{is_marked, is_unsourced};
+ghost use Rattle.wt_schema.specs.Attributes.{value_of, has, is_typed, mark_of, mark_of_value};
+ghost use Rattle.wt_schema.specs.Unsourced.{is_marked, is_unsourced};
 ghost use Rattle.wt_html_heads.specs.Texts.{are_utf8_values};
 
 use wt_html_elements::Attribute;

@@ -3,8 +3,8 @@
 ghost use Rattle.std.specs.Prelude.{◌≡◌, ◌++◌, true, option_map, IfOk, OnOk, if◌then◌else◌, []};
 ghost use Rattle.wt_tree.specs.View.{attrs_of};
 ghost use Rattle.wt_html_elements.specs.Built.{view_content, views, pairs};
-ghost use Rattle.wt_fitting.specs.Rows.{shows_text, link_read, read_as, own_told, attrs_for};
-ghost use Rattle.wt_fitting.specs.Fit.{texts_in};
+ghost use Rattle.wt_schema.specs.Rows.{shows_text, link_read, read_as, own_told, attrs_for};
+ghost use Rattle.wt_schema.specs.Fit.{texts_in};
 ghost use Rattle.wt_html_heads.specs.Texts.{is_utf8_markup, are_utf8_markups, are_utf8_values};
 ghost use Rattle.wt_html_heads.specs.Told.{text_in};
 

@@ -1,7 +1,7 @@
 ghost use Rattle.std.specs.Prelude.{◌≡◌};
 
 use std::alloc::AllocError;
-use wt_fitting::FitWhy;
+use wt_schema::FitWhy;
 use wt_span::NoMemory;
 
 /// Why a tree of elements is no page.

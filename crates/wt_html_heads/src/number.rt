@@ -1,7 +1,7 @@
 ghost use Rattle.std.specs.Prelude.{◌≡◌, Some};
 ghost use Rattle.wt_html_elements.specs.Built.{pairs};
-ghost use Rattle.wt_fitting.specs.Attributes.{decimal_from, decimal_of, number_of, id_of};
-ghost use Rattle.wt_fitting.specs.Data.{id_for};
+ghost use Rattle.wt_schema.specs.Attributes.{decimal_from, decimal_of, number_of, id_of};
+ghost use Rattle.wt_schema.specs.Data.{id_for};
 
 use crate::attributes::value_of;
 use wt_html_elements::Attribute;

@@ -4,7 +4,7 @@ ghost use Rattle.std.specs.Prelude.{◌≡◌, ◌++◌, [], ◌∷◌, true, op
 ghost use Rattle.wt_span.specs.Bytes.{begins};
 ghost use Rattle.wt_tree.specs.View.{attrs_of};
 ghost use Rattle.wt_html_elements.specs.Built.{pair, pairs};
-ghost use Rattle.wt_fitting.specs.Groups.{transclusion, param, spaced, is_word_of, word_in, word_of, word_attribute, group_attributes, is_groups, own_pair, own_pairs};
+ghost use Rattle.wt_schema.specs.Groups.{transclusion, param, spaced, is_word_of, word_in, word_of, word_attribute, group_attributes, is_groups, own_pair, own_pairs};
 ghost use Rattle.wt_html_heads.specs.Words.{behind, own_value, type_pairs};
 
 use crate::attributes::value_of;
@@ -14,14 +14,14 @@ use wt_html_elements::Attribute;
 use wt_span::{List, NoMemory, Str, rest_of};
 use wt_tree::{Attr, AttrName};
 
-#[tactic(auto, unfolding(wt_fitting::specs::Groups::transclusion))]
+#[tactic(auto, unfolding(wt_schema::specs::Groups::transclusion))]
 fn transclusion() -> &'static str
     ensures { result.now ≡ transclusion }
 {
     "mw:Transclusion"
 }
 
-#[tactic(auto, unfolding(wt_fitting::specs::Groups::param))]
+#[tactic(auto, unfolding(wt_schema::specs::Groups::param))]
 fn param() -> &'static str
     ensures { result.now ≡ param }
 {

@@ -2,10 +2,10 @@ ghost use Rattle.std.specs.Prelude.{◌≡◌, option_map};
 ghost use Rattle.std.specs.Str.{bytes_eq};
 ghost use Rattle.wt_html_elements.specs.Built.{pairs, view_content, views};
 ghost use Rattle.wt_tree.specs.Kinds.{fixed_of, level_digits};
-ghost use Rattle.wt_fitting.specs.Rows.{values_at, agrees, is_value, agrees_by, tells, is_named, is_row, row_by, row, holds_text, shows_text};
-ghost use Rattle.wt_fitting.specs.Sections.{is_section_name};
+ghost use Rattle.wt_schema.specs.Rows.{values_at, agrees, is_value, agrees_by, tells, is_named, is_row, row_by, row, holds_text, shows_text};
+ghost use Rattle.wt_schema.specs.Sections.{is_section_name};
 ghost use Rattle.wt_tree.specs.Recut.{is_blank};
-ghost use Rattle.wt_fitting.specs.Fit.{are_blank, text_fits};
+ghost use Rattle.wt_schema.specs.Fit.{are_blank, text_fits};
 ghost use Rattle.wt_html_heads.specs.Told.{is_blank_or_element};
 
 use crate::attributes::value_of;

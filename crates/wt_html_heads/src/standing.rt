@@ -1,8 +1,8 @@
 ghost use Rattle.std.specs.Prelude.{◌≡◌};
-ghost use Rattle.wt_fitting.specs.Groups.{is_grouped};
+ghost use Rattle.wt_schema.specs.Groups.{is_grouped};
 ghost use Rattle.wt_html_heads.specs.Heads.{is_first};
 
-use wt_fitting::Standing;
+use wt_schema::Standing;
 
 /// Whether an element that stands so is the first one of a group.
 pub fn is_first(standing: Standing) -> bool

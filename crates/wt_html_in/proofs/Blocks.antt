@@ -9,14 +9,14 @@ use Rattle.wt_tree.specs.Tree.{Label, Tree, label}
 use Rattle.wt_tree.specs.Recut.{text_leaf, sep_leaf}
 use Rattle.wt_datamw.specs.declared.sync.Sync.{Sync}
 use Rattle.wt_html_grammar.specs.Markup.{Pair, Markup, Markups, text, node}
-use Rattle.wt_fitting.specs.declared.why.FitWhy.TheVariants as why
-use Rattle.wt_fitting.specs.declared.standing.Standing.{Standing}
-use Rattle.wt_fitting.specs.declared.standing.Standing.TheVariants as stands
-use Rattle.wt_fitting.specs.Attributes.{value_of, has}
-use Rattle.wt_fitting.specs.Groups.{Piece, single, begun, further, standing, standing_by, open_by, open_after, is_dropped}
-use Rattle.wt_fitting.specs.Rows.{shows_text, holds_text}
-use Rattle.wt_fitting.specs.Data.{Data, data_for}
-use Rattle.wt_fitting.specs.Fit.{Misfit, Spot as Place, within, with_sync, label_as, piece_as, texts_in, leaf_in, is_block_row, is_block_element, row_as, fits_place, is_inside, with_children, one_piece, text_fits, fit_told, fit_as, fit_row, fit_text, fit_node, fit_nodes}
+use Rattle.wt_schema.specs.declared.why.FitWhy.TheVariants as why
+use Rattle.wt_schema.specs.declared.standing.Standing.{Standing}
+use Rattle.wt_schema.specs.declared.standing.Standing.TheVariants as stands
+use Rattle.wt_schema.specs.Attributes.{value_of, has}
+use Rattle.wt_schema.specs.Groups.{Piece, single, begun, further, standing, standing_by, open_by, open_after, is_dropped}
+use Rattle.wt_schema.specs.Rows.{shows_text, holds_text}
+use Rattle.wt_schema.specs.Data.{Data, data_for}
+use Rattle.wt_schema.specs.Fit.{Misfit, Spot as Place, within, with_sync, label_as, piece_as, texts_in, leaf_in, is_block_row, is_block_element, row_as, fits_place, is_inside, with_children, one_piece, text_fits, fit_told, fit_as, fit_row, fit_text, fit_node, fit_nodes}
 use Rattle.wt_html_in.specs.Fits.{is_block_piece}
 
 -- ---- blocks

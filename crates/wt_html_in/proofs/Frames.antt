@@ -13,9 +13,9 @@ use Rattle.wt_html_elements.specs.declared.content.Content.{Content}
 use Rattle.wt_html_elements.specs.Built.{view_content, pairs, views as markups}
 use Rattle.wt_html_grammar.specs.Events.{append}
 use Rattle.wt_html_in.specs.declared.frame.Found.{Found}
-use Rattle.wt_fitting.specs.Groups.{Piece}
-use Rattle.wt_fitting.specs.Fit.{Misfit, within, with_children, elements, elements_of_all, fit_body_told, body_data, fit_nodes, elements_in, body_in, body_of, Found as FoundBody}
-use Rattle.wt_fitting.specs.Unsourced.{is_marked, unsourced_nodes}
+use Rattle.wt_schema.specs.Groups.{Piece}
+use Rattle.wt_schema.specs.Fit.{Misfit, within, with_children, elements, elements_of_all, fit_body_told, body_data, fit_nodes, elements_in, body_in, body_of, Found as FoundBody}
+use Rattle.wt_schema.specs.Unsourced.{is_marked, unsourced_nodes}
 use Rattle.wt_html_heads.specs.Texts.{are_utf8_values, is_utf8_markup, are_utf8_markups}
 use Rattle.wt_html_heads.specs.declared.fault.FitFault.{FitFault}
 use Rattle.wt_html_heads.specs.declared.fault.FitFault.TheVariants as faults
@@ -28,7 +28,7 @@ use Rattle.wt_html_in.specs.Fits.{held_in, FitsNodes}
 use Rattle.wt_html_in.specs.Frame.{found_of, found_if_any, is_element, number_behind_one, number_behind, body_as, is_root, marked_here, FitsBody}
 use Rattle.wt_html_heads.proofs.Values.{and_left, and_right}
 use Rattle.wt_tree.specs.Opened.{without_sections}
-use Rattle.wt_fitting.specs.Sections.{all_bared, opened_if_fit}
+use Rattle.wt_schema.specs.Sections.{all_bared, opened_if_fit}
 use Rattle.wt_html_in.proofs.Bared.{count_bared, utf8_bared, append_push, append_empty}
 use Rattle.wt_html_in.proofs.Walking.{here_or}
 

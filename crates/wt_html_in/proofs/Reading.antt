@@ -12,10 +12,10 @@ use Rattle.wt_html_elements.specs.declared.reader.Reader.{Reader as ElementsRead
 use Rattle.wt_html_elements.specs.Built.{view_content}
 use Rattle.wt_html_elements.specs.Fed.{FedAs}
 use Rattle.wt_html_elements.specs.Answer.{IsFed as IsFedElements, IsIll as IsIllElements, IsAtLeast as IsAtLeastElements, answer_of, RefusedFor as ElementsRefusedFor}
-use Rattle.wt_fitting.specs.declared.why.FitWhy.{FitWhy}
-use Rattle.wt_fitting.specs.Fit.{elements, body_of}
-use Rattle.wt_fitting.specs.Read.{page, ill, misfit, read}
-use Rattle.wt_fitting.proofs.OneReading.{in_words, one_read}
+use Rattle.wt_schema.specs.declared.why.FitWhy.{FitWhy}
+use Rattle.wt_schema.specs.Fit.{elements, body_of}
+use Rattle.wt_schema.specs.Read.{page, ill, misfit, read}
+use Rattle.wt_schema.proofs.OneReading.{in_words, one_read}
 use Rattle.wt_html_heads.specs.Texts.{is_utf8_markup}
 use Rattle.wt_html_in.specs.declared.edited.Edited.{Edited}
 use Rattle.wt_html_heads.specs.declared.fault.FitFault.TheVariants as faults

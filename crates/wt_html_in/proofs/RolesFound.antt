@@ -4,7 +4,7 @@ use Rattle.std.specs.Prelude.{if◌then◌else◌}
 use Rattle.wt_html_grammar.specs.Markup.{Markup, Markups, text, node}
 use Rattle.wt_html_elements.specs.declared.content.Content.{Content}
 use Rattle.wt_html_elements.specs.Built.{view_content, views}
-use Rattle.wt_fitting.specs.Groups.{is_dropped, open_after}
+use Rattle.wt_schema.specs.Groups.{is_dropped, open_after}
 use Rattle.wt_html_in.specs.declared.roles.Role.{Role}
 use Rattle.wt_html_in.specs.declared.roles.Role.TheVariants as are
 use Rattle.wt_html_in.specs.Roles.{role_at, roles, open_behind}

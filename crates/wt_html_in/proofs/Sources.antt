@@ -1,7 +1,7 @@
 -- The label of an element with what `data-parsoid` tells of its source.
 use Rattle.std.proofs.Common.{◌≡◌, Option, Some, None, refl}
 use Rattle.wt_datamw.specs.declared.sync.Sync.{Sync}
-use Rattle.wt_fitting.specs.Fit.{with_sync}
+use Rattle.wt_schema.specs.Fit.{with_sync}
 use Rattle.wt_html_heads.specs.declared.head.Head.{Head}
 use Rattle.wt_html_heads.specs.Heads.{bare_label}
 use Rattle.wt_html_in.specs.Sources.{source_told, sourced_label}

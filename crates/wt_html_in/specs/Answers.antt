@@ -2,7 +2,7 @@
 use Rattle.std.specs.Prelude.{◌≡◌, ℕ, Option, Result, Ok, Err, List}
 use Rattle.wt_tree.specs.Tree.{Tree}
 use Rattle.wt_tree.specs.View.{view}
-use Rattle.wt_fitting.specs.Read.{page, ill, misfit, read}
+use Rattle.wt_schema.specs.Read.{page, ill, misfit, read}
 use Rattle.wt_html_in.specs.declared.edited.Edited.{Edited}
 use Rattle.wt_html_in.specs.declared.refusal.HtmlRefusal.{HtmlRefusal}
 use Rattle.wt_html_in.specs.declared.refusal.HtmlRefusal.TheVariants as refusals

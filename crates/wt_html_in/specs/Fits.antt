@@ -7,11 +7,11 @@ use Rattle.wt_tree.specs.Tree.{Trees, label}
 use Rattle.wt_tree.specs.View.{view, views}
 use Rattle.wt_tree.specs.declared.node.Node.{Node}
 use Rattle.wt_html_grammar.specs.Markup.{Pair, Markup, Markups}
-use Rattle.wt_fitting.specs.declared.standing.Standing.{Standing}
-use Rattle.wt_fitting.specs.declared.standing.Standing.TheVariants as stands
-use Rattle.wt_fitting.specs.Groups.{Piece, single, begun, further, gathered}
-use Rattle.wt_fitting.specs.Fit.{within, held_as, elements, elements_of_all, fit_node, fit_nodes}
-use Rattle.wt_fitting.specs.Unsourced.{lacks_source, unsourced_node, unsourced_nodes}
+use Rattle.wt_schema.specs.declared.standing.Standing.{Standing}
+use Rattle.wt_schema.specs.declared.standing.Standing.TheVariants as stands
+use Rattle.wt_schema.specs.Groups.{Piece, single, begun, further, gathered}
+use Rattle.wt_schema.specs.Fit.{within, held_as, elements, elements_of_all, fit_node, fit_nodes}
+use Rattle.wt_schema.specs.Unsourced.{lacks_source, unsourced_node, unsourced_nodes}
 use Rattle.wt_html_heads.specs.declared.fault.FitFault.{FitFault}
 use Rattle.wt_html_heads.specs.declared.fault.FitFault.TheVariants as faults
 use Rattle.wt_html_heads.specs.declared.head.Spot.{Spot}

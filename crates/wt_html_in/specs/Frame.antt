@@ -3,9 +3,9 @@ use Rattle.std.specs.Prelude.{◌≡◌, ℕ, ◌+◌, ◌&&◌, Bool, true, fal
 use Rattle.std.specs.Str.{bytes_eq}
 use Rattle.wt_html_grammar.specs.Markup.{Pair, Markup, Markups, text, node, empty, more}
 use Rattle.wt_html_elements.specs.Built.{pairs, views}
-use Rattle.wt_fitting.specs.Fit.{elements_of_all, is_marked_root, fit_body, Found as FoundBody}
-use Rattle.wt_fitting.specs.Sections.{all_bared}
-use Rattle.wt_fitting.specs.Unsourced.{is_marked, unsourced_body}
+use Rattle.wt_schema.specs.Fit.{elements_of_all, is_marked_root, fit_body, Found as FoundBody}
+use Rattle.wt_schema.specs.Sections.{all_bared}
+use Rattle.wt_schema.specs.Unsourced.{is_marked, unsourced_body}
 use Rattle.wt_html_in.specs.declared.frame.Found.{Found}
 use Rattle.wt_html_in.specs.declared.edited.Edited.{Edited}
 use Rattle.wt_html_heads.specs.declared.fault.FitFault.{FitFault}

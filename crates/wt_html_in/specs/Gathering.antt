@@ -3,7 +3,7 @@
 use Rattle.std.specs.Prelude.{Option, Some, None}
 use Rattle.wt_tree.specs.Tree.{Tree, tree, Trees, none, more}
 use Rattle.wt_tree.specs.Recutting.{appended}
-use Rattle.wt_fitting.specs.Groups.{Piece, single, begun, further}
+use Rattle.wt_schema.specs.Groups.{Piece, single, begun, further}
 
 abbrev pub with_child : Tree → Tree → Tree
 with_child (tree l ts) t = tree l (appended ts (more t none))

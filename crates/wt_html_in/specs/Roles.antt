@@ -3,11 +3,11 @@ use Rattle.std.specs.Prelude.{ℕ, Option, None, List, [], ◌∷◌, codes, if�
 use Rattle.std.specs.Option.{option_map}
 use Rattle.wt_tree.specs.declared.kind.Kind.{Kind}
 use Rattle.wt_html_grammar.specs.Markup.{Markup, Markups, text, node, empty, more}
-use Rattle.wt_fitting.specs.declared.standing.Standing.{Standing}
-use Rattle.wt_fitting.specs.declared.standing.Standing.TheVariants as stands
-use Rattle.wt_fitting.specs.Attributes.{value_of}
-use Rattle.wt_fitting.specs.Groups.{Piece, single, standing, is_dropped, open_by, open_after}
-use Rattle.wt_fitting.specs.Fit.{leaf_in}
+use Rattle.wt_schema.specs.declared.standing.Standing.{Standing}
+use Rattle.wt_schema.specs.declared.standing.Standing.TheVariants as stands
+use Rattle.wt_schema.specs.Attributes.{value_of}
+use Rattle.wt_schema.specs.Groups.{Piece, single, standing, is_dropped, open_by, open_after}
+use Rattle.wt_schema.specs.Fit.{leaf_in}
 use Rattle.wt_html_in.specs.declared.roles.Role.{Role}
 use Rattle.wt_html_in.specs.declared.roles.Role.TheVariants as are
 

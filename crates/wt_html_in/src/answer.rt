@@ -1,7 +1,7 @@
 ghost use Rattle.std.specs.Prelude.{◌≡◌, ℕ, ◌+◌, ◌<◌, ◌^◌, List, true};
 ghost use Rattle.wt_html_grammar.specs.Markup.{Stands};
 ghost use Rattle.wt_html_elements.specs.Built.{view_content};
-ghost use Rattle.wt_fitting.specs.Fit.{elements};
+ghost use Rattle.wt_schema.specs.Fit.{elements};
 ghost use Rattle.wt_html_in.specs.Answers.{Answers};
 ghost use Rattle.wt_html_in.specs.Feeding.{refusal_told};
 ghost use Rattle.wt_html_heads.specs.Texts.{is_utf8_markup};

@@ -4,7 +4,7 @@ ghost use Rattle.wt_tree.specs.Tree.{tree, none as no_trees};
 ghost use Rattle.wt_tree.specs.View.{view, views, texts_of};
 ghost use Rattle.wt_tree.specs.Recut.{text_leaf, sep_leaf};
 ghost use Rattle.wt_span.specs.Slice.{bytes_of};
-ghost use Rattle.wt_fitting.specs.Fit.{leaf_in, source_of};
+ghost use Rattle.wt_schema.specs.Fit.{leaf_in, source_of};
 ghost use Rattle.wt_html_heads.specs.Heads.{label_of_head};
 ghost use Rattle.wt_html_in.specs.Fits.{held_in};
 ghost use Rattle.wt_html_in.specs.Sources.{source_view, source_told, sourced_label};

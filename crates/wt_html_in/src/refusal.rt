@@ -1,6 +1,6 @@
 ghost use Rattle.std.specs.Prelude.{◌≡◌};
 
-use wt_fitting::FitWhy;
+use wt_schema::FitWhy;
 use wt_html_grammar::HtmlWhy;
 use wt_span::NoMemory;
 

@@ -2,11 +2,11 @@
 
 ghost use Rattle.std.specs.Prelude.{◌≡◌, ◌<◌, Some, None, length, slice_get, option_map, IfOk};
 ghost use Rattle.wt_html_elements.specs.Built.{pairs, view_content, views};
-ghost use Rattle.wt_fitting.specs.Groups.{goes_on, is_further, is_gap, is_open, open_by, standing, standing_by};
+ghost use Rattle.wt_schema.specs.Groups.{goes_on, is_further, is_gap, is_open, open_by, standing, standing_by};
 ghost use Rattle.wt_html_in.specs.Roles.{about_of, open_behind, role_at, roles, standing_in, text_role};
 
 use std::alloc::Global;
-use wt_fitting::Standing;
+use wt_schema::Standing;
 use wt_html_elements::{Attribute, Content};
 use wt_html_heads::{has, value_of};
 use wt_span::{NoMemory, rest_of};

@@ -7,7 +7,7 @@ ghost use Rattle.wt_tree.specs.Recutting.{appended};
 ghost use Rattle.wt_tree.specs.Tree.{none as no_trees};
 ghost use Rattle.wt_tree.specs.View.{view, views as trees};
 ghost use Rattle.wt_html_elements.specs.Built.{pair, pairs, view_content, views};
-ghost use Rattle.wt_fitting.specs.Sections.{all_bared, bared, is_mark_pair};
+ghost use Rattle.wt_schema.specs.Sections.{all_bared, bared, is_mark_pair};
 
 use std::alloc::Global;
 use wt_html_elements::{Attribute, Content};

@@ -4,9 +4,9 @@ ghost use Rattle.wt_tree.specs.Tree.{tree, none as no_trees, more as one_more};
 ghost use Rattle.wt_tree.specs.View.{view, views as trees};
 ghost use Rattle.wt_tree.specs.Recutting.{appended};
 ghost use Rattle.wt_html_elements.specs.Built.{view_content, pairs, views};
-ghost use Rattle.wt_fitting.specs.Groups.{is_grouped, single};
-ghost use Rattle.wt_fitting.specs.Fit.{leaf_in, row_as, fit_row, elements, elements_of_all};
-ghost use Rattle.wt_fitting.specs.Unsourced.{lacks_source};
+ghost use Rattle.wt_schema.specs.Groups.{is_grouped, single};
+ghost use Rattle.wt_schema.specs.Fit.{leaf_in, row_as, fit_row, elements, elements_of_all};
+ghost use Rattle.wt_schema.specs.Unsourced.{lacks_source};
 ghost use Rattle.wt_html_heads.specs.Texts.{are_utf8_values, is_utf8_markup, are_utf8_markups};
 ghost use Rattle.wt_html_heads.specs.Heads.{RowFits, spot_with, label_of_head, piece_by};
 ghost use Rattle.wt_html_in.specs.Roles.{text_piece};
@@ -17,7 +17,7 @@ use crate::nodes::{leaf_in, node_of};
 use crate::roles::{Role, role_in, roles, standing_in};
 use bumpalo::Bump;
 use std::alloc::Global;
-use wt_fitting::Standing;
+use wt_schema::Standing;
 use wt_html_elements::{Attribute, Content};
 use wt_html_heads::{
     FitFault, Head, Headed, Spot, headed_by, is_grouped, is_section_name, is_unsourced,

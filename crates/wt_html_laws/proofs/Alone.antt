@@ -7,13 +7,13 @@ use Rattle.std.proofs.lemmas.Bool.{and_right}
 use Rattle.wt_tree.specs.declared.kind.Kind.{Kind}
 use Rattle.wt_tree.specs.Tree.{Tree, none as no_trees}
 use Rattle.wt_html_grammar.specs.Markup.{Pair, Markups, text, node, empty, more}
-use Rattle.wt_fitting.specs.declared.why.FitWhy.TheVariants as why
-use Rattle.wt_fitting.specs.declared.standing.Standing.{Standing}
-use Rattle.wt_fitting.specs.declared.standing.Standing.TheVariants as stands
-use Rattle.wt_fitting.specs.Attributes.{value_of, has}
-use Rattle.wt_fitting.specs.Data.{Data, data_for}
-use Rattle.wt_fitting.specs.Fit.{Misfit, leaf_in, label_as, elements_of_all, texts_in, onto_told, with_children, one_piece, text_fits, within, is_block_row, row_as, fits_place, fit_told, fit_as, fit_row, fit_nodes}
-use Rattle.wt_fitting.specs.Groups.{standing_by, open_by, is_further, is_grouped, is_gap, goes_on, Piece, single, begun, further, furthers}
+use Rattle.wt_schema.specs.declared.why.FitWhy.TheVariants as why
+use Rattle.wt_schema.specs.declared.standing.Standing.{Standing}
+use Rattle.wt_schema.specs.declared.standing.Standing.TheVariants as stands
+use Rattle.wt_schema.specs.Attributes.{value_of, has}
+use Rattle.wt_schema.specs.Data.{Data, data_for}
+use Rattle.wt_schema.specs.Fit.{Misfit, leaf_in, label_as, elements_of_all, texts_in, onto_told, with_children, one_piece, text_fits, within, is_block_row, row_as, fits_place, fit_told, fit_as, fit_row, fit_nodes}
+use Rattle.wt_schema.specs.Groups.{standing_by, open_by, is_further, is_grouped, is_gap, goes_on, Piece, single, begun, further, furthers}
 use Rattle.wt_html_laws.proofs.Numbers.{SameOk, same_self, spot}
 
 -- where no group is open none goes on

@@ -12,8 +12,8 @@ use Rattle.wt_tree.specs.Tree.{Tree, tree, Trees, none, more}
 use Rattle.wt_tree.specs.Values.{placeholder, switch_prefix, is_switch}
 use Rattle.wt_datamw.specs.MwRead.{is_mw_shape, has_small_numbers, mw_of_data, mw_told}
 use Rattle.wt_html_grammar.specs.Markup.{Pair, Markup, Markups, text, node, empty, more as one}
-use Rattle.wt_fitting.specs.Groups.{transclusion, param}
-use Rattle.wt_fitting.specs.Read.{page, read_tree, read}
+use Rattle.wt_schema.specs.Groups.{transclusion, param}
+use Rattle.wt_schema.specs.Read.{page, read_tree, read}
 use Rattle.wt_checks.specs.PutBack.{have_frame}
 use Rattle.wt_html_laws.specs.SameBodies.{IsSameDocument}
 use Rattle.wt_html_laws.specs.OpenedBodies.{sections_opened}

@@ -11,14 +11,14 @@ use Rattle.wt_tree.specs.Tree.{Label, Tree, tree}
 use Rattle.wt_tree.specs.Recut.{text_leaf, sep_leaf}
 use Rattle.wt_datamw.specs.declared.sync.Sync.{Sync}
 use Rattle.wt_html_grammar.specs.Markup.{Pair, Markup, Markups, text, node, empty, more}
-use Rattle.wt_fitting.specs.declared.why.FitWhy.TheVariants as why
-use Rattle.wt_fitting.specs.declared.standing.Standing.{Standing}
-use Rattle.wt_fitting.specs.declared.standing.Standing.TheVariants as stands
-use Rattle.wt_fitting.specs.Data.{Data, no_data, data_for}
-use Rattle.wt_fitting.specs.Fit.{Misfit, leaf_in, label_for, label_as, piece_as, elements, texts_in, onto, onto_told, children_in, with_children, one_piece, text_fits, Spot, within, row_as, behind_it, has_place, fits_place, is_inside, fit_told, fit_as, fit_row, fit_text, fit_node, fit_nodes}
-use Rattle.wt_fitting.specs.Groups.{standing, is_grouped, is_dropped, own_pairs, pairs_for, is_none, Piece, single}
-use Rattle.wt_fitting.specs.Rows.{holds_text, shows_text}
-use Rattle.wt_fitting.specs.Sections.{is_section_name}
+use Rattle.wt_schema.specs.declared.why.FitWhy.TheVariants as why
+use Rattle.wt_schema.specs.declared.standing.Standing.{Standing}
+use Rattle.wt_schema.specs.declared.standing.Standing.TheVariants as stands
+use Rattle.wt_schema.specs.Data.{Data, no_data, data_for}
+use Rattle.wt_schema.specs.Fit.{Misfit, leaf_in, label_for, label_as, piece_as, elements, texts_in, onto, onto_told, children_in, with_children, one_piece, text_fits, Spot, within, row_as, behind_it, has_place, fits_place, is_inside, fit_told, fit_as, fit_row, fit_text, fit_node, fit_nodes}
+use Rattle.wt_schema.specs.Groups.{standing, is_grouped, is_dropped, own_pairs, pairs_for, is_none, Piece, single}
+use Rattle.wt_schema.specs.Rows.{holds_text, shows_text}
+use Rattle.wt_schema.specs.Sections.{is_section_name}
 use Rattle.wt_checks.specs.PutBack.{is_frame, has_frame, have_frame}
 use Rattle.wt_html_laws.proofs.RowKinds.{holds_sections, is_plain, is_plain_row, no_frame, no_section, section_row, plain_row}
 use Rattle.wt_html_laws.proofs.Opens.{frameless}

@@ -9,9 +9,9 @@ use Rattle.wt_tree.specs.declared.row.Holding.TheVariants.{Blocks}
 use Rattle.wt_tree.specs.Kinds.{shape, is_class, is_anywhere, admits, may_hold, is_inline}
 use Rattle.wt_tree.specs.Recut.{sep_leaf}
 use Rattle.wt_html_grammar.specs.Markup.{Markups}
-use Rattle.wt_fitting.specs.declared.standing.Standing.{Standing}
-use Rattle.wt_fitting.specs.Fit.{leaf_in, fits_place}
-use Rattle.wt_fitting.specs.Groups.{is_grouped, is_span, is_none}
+use Rattle.wt_schema.specs.declared.standing.Standing.{Standing}
+use Rattle.wt_schema.specs.Fit.{leaf_in, fits_place}
+use Rattle.wt_schema.specs.Groups.{is_grouped, is_span, is_none}
 
 class_held : (c : Class) → (is_anywhere c || admits Blocks c) ≡ true → (is_class c class.Inline || is_class c class.Character) ≡ false
 class_held class.Nowhere e = refl

@@ -4,11 +4,11 @@ use Rattle.std.specs.Prelude.{◌||◌, if◌then◌else◌}
 use Rattle.wt_tree.specs.declared.kind.Kind.{Kind}
 use Rattle.wt_tree.specs.Tree.{Label, Tree}
 use Rattle.wt_html_grammar.specs.Markup.{Pair, Markup, Markups, text, node, empty, more}
-use Rattle.wt_fitting.specs.declared.why.FitWhy.TheVariants as why
-use Rattle.wt_fitting.specs.declared.standing.Standing.{Standing}
-use Rattle.wt_fitting.specs.Data.{Data, data_for}
-use Rattle.wt_fitting.specs.Fit.{Misfit, label_as, elements, texts_in, onto, onto_told, with_children, one_piece, text_fits, Spot, within, row_as, behind_it, fits_place, is_inside, fit_told, fit_row, fit_node, fit_nodes}
-use Rattle.wt_fitting.specs.Groups.{standing, is_grouped, Piece}
+use Rattle.wt_schema.specs.declared.why.FitWhy.TheVariants as why
+use Rattle.wt_schema.specs.declared.standing.Standing.{Standing}
+use Rattle.wt_schema.specs.Data.{Data, data_for}
+use Rattle.wt_schema.specs.Fit.{Misfit, label_as, elements, texts_in, onto, onto_told, with_children, one_piece, text_fits, Spot, within, row_as, behind_it, fits_place, is_inside, fit_told, fit_row, fit_node, fit_nodes}
+use Rattle.wt_schema.specs.Groups.{standing, is_grouped, Piece}
 
 -- where the first fits, the second fits to the same
 abbrev pub SameOk : {A : Type 0} → Result A Misfit → Result A Misfit → Type 0

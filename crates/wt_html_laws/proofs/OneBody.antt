@@ -5,13 +5,13 @@ use Rattle.std.specs.Str.{bytes_eq}
 use Rattle.wt_tree.specs.declared.kind.Kind.TheVariants as kind
 use Rattle.wt_tree.specs.Tree.{Tree}
 use Rattle.wt_html_grammar.specs.Markup.{Pair, Markup, Markups, text, node, empty, more}
-use Rattle.wt_fitting.specs.declared.why.FitWhy.TheVariants as why
-use Rattle.wt_fitting.specs.Data.{Data}
-use Rattle.wt_fitting.specs.Fit.{Misfit, label_for, elements_of_all, texts_in, with_children, text_fits, within, fit_nodes, is_marked_root, elements_in, Found, body_in, body_of, fit_body_told, body_data, fit_body, fit}
-use Rattle.wt_fitting.specs.Groups.{Piece}
-use Rattle.wt_fitting.specs.Read.{page, read, IsRead}
-use Rattle.wt_fitting.specs.Sections.{all_bared, opened_if_fit}
-use Rattle.wt_fitting.proofs.OneReading.{reads}
+use Rattle.wt_schema.specs.declared.why.FitWhy.TheVariants as why
+use Rattle.wt_schema.specs.Data.{Data}
+use Rattle.wt_schema.specs.Fit.{Misfit, label_for, elements_of_all, texts_in, with_children, text_fits, within, fit_nodes, is_marked_root, elements_in, Found, body_in, body_of, fit_body_told, body_data, fit_body, fit}
+use Rattle.wt_schema.specs.Groups.{Piece}
+use Rattle.wt_schema.specs.Read.{page, read, IsRead}
+use Rattle.wt_schema.specs.Sections.{all_bared, opened_if_fit}
+use Rattle.wt_schema.proofs.OneReading.{reads}
 use Rattle.wt_checks.specs.Places.{is_body}
 use Rattle.wt_checks.specs.PutBack.{IsOneBody}
 use Rattle.wt_html_laws.proofs.Pieces.{gathered_kept}

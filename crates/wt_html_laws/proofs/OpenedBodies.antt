@@ -7,11 +7,11 @@ use Rattle.wt_tree.specs.declared.kind.Kind.TheVariants as kind
 use Rattle.wt_tree.specs.Opened.{opened}
 use Rattle.wt_tree.specs.Tree.{Label, Tree, tree, Trees, none as no_trees, more as one_more}
 use Rattle.wt_html_grammar.specs.Markup.{Pair, Markup, Markups, text, node, empty, more}
-use Rattle.wt_fitting.specs.declared.why.FitWhy.TheVariants as why
-use Rattle.wt_fitting.specs.Data.{Data}
-use Rattle.wt_fitting.specs.Fit.{Misfit, label_for, elements_of_all, texts_in, are_blank, with_children, within, fit_nodes, is_marked_root, elements_in, Found, body_in, fit_body_told, body_data, fit_body, fit}
-use Rattle.wt_fitting.specs.Groups.{Piece, gathered}
-use Rattle.wt_fitting.specs.Sections.{is_section_name, is_mark_pair, all_bared, opened_if_fit}
+use Rattle.wt_schema.specs.declared.why.FitWhy.TheVariants as why
+use Rattle.wt_schema.specs.Data.{Data}
+use Rattle.wt_schema.specs.Fit.{Misfit, label_for, elements_of_all, texts_in, are_blank, with_children, within, fit_nodes, is_marked_root, elements_in, Found, body_in, fit_body_told, body_data, fit_body, fit}
+use Rattle.wt_schema.specs.Groups.{Piece, gathered}
+use Rattle.wt_schema.specs.Sections.{is_section_name, is_mark_pair, all_bared, opened_if_fit}
 use Rattle.wt_checks.specs.PutBack.{has_frame, have_frame}
 use Rattle.wt_html_laws.specs.SameBodies.{is_body_name}
 use Rattle.wt_html_laws.specs.OpenedBodies.{opened_before, all_opened_before, child_opened, children_opened, sections_opened}

@@ -10,14 +10,14 @@ use Rattle.wt_tree.specs.Opened.{opened_before as tree_opened_before, all_opened
 use Rattle.wt_tree.specs.Recut.{is_blank, sep_leaf}
 use Rattle.wt_tree.specs.Tree.{Label, Tree, tree, Trees, none as no_trees, more as one_more}
 use Rattle.wt_html_grammar.specs.Markup.{Pair, Markups, text, node, empty, more}
-use Rattle.wt_fitting.specs.declared.why.FitWhy.TheVariants as why
-use Rattle.wt_fitting.specs.declared.standing.Standing.{Standing}
-use Rattle.wt_fitting.specs.declared.standing.Standing.TheVariants as stands
-use Rattle.wt_fitting.specs.Attributes.{value_of}
-use Rattle.wt_fitting.specs.Data.{Data, data_for}
-use Rattle.wt_fitting.specs.Fit.{Misfit, leaf_in, label_as, elements_of_all, texts_in, are_blank, onto, onto_told, with_children, one_piece, within, is_block_row, row_as, fits_place, fit_told, fit_as, fit_row, fit_nodes}
-use Rattle.wt_fitting.specs.Groups.{standing, open_by, is_further, is_grouped, is_gap, goes_on, is_dropped, Piece, single, begun, further, furthers, gathered}
-use Rattle.wt_fitting.specs.Sections.{is_section_name, is_mark_pair, all_bared}
+use Rattle.wt_schema.specs.declared.why.FitWhy.TheVariants as why
+use Rattle.wt_schema.specs.declared.standing.Standing.{Standing}
+use Rattle.wt_schema.specs.declared.standing.Standing.TheVariants as stands
+use Rattle.wt_schema.specs.Attributes.{value_of}
+use Rattle.wt_schema.specs.Data.{Data, data_for}
+use Rattle.wt_schema.specs.Fit.{Misfit, leaf_in, label_as, elements_of_all, texts_in, are_blank, onto, onto_told, with_children, one_piece, within, is_block_row, row_as, fits_place, fit_told, fit_as, fit_row, fit_nodes}
+use Rattle.wt_schema.specs.Groups.{standing, open_by, is_further, is_grouped, is_gap, goes_on, is_dropped, Piece, single, begun, further, furthers, gathered}
+use Rattle.wt_schema.specs.Sections.{is_section_name, is_mark_pair, all_bared}
 use Rattle.wt_checks.specs.Places.{is_body}
 use Rattle.wt_checks.specs.PutBack.{is_frame, have_frame}
 use Rattle.wt_html_laws.specs.OpenedBodies.{all_opened_before}

@@ -8,8 +8,8 @@ use Rattle.wt_tree.specs.declared.row.Texts.{Texts}
 use Rattle.wt_tree.specs.declared.row.Texts.TheVariants.{Separators, Page, Bordered, OwnCharacter}
 use Rattle.wt_tree.specs.Kinds.{texts_of_kind}
 use Rattle.wt_tree.specs.Tree.{Tree, tree, Trees, none, more}
-use Rattle.wt_fitting.specs.Fit.{held_as, children_in}
-use Rattle.wt_fitting.specs.Groups.{Piece, single, begun, further, furthers, gathered}
+use Rattle.wt_schema.specs.Fit.{held_as, children_in}
+use Rattle.wt_schema.specs.Groups.{Piece, single, begun, further, furthers, gathered}
 use Rattle.wt_checks.specs.PutBack.{is_frame, has_frame, have_frame}
 use Rattle.wt_html_laws.proofs.Opens.{opened_if, onto_frameless, frameless}
 use Rattle.wt_html_laws.proofs.Recuts.{recut_kept}

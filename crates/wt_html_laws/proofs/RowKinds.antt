@@ -8,9 +8,9 @@ use Rattle.wt_tree.specs.declared.kind.Kind.TheVariants as kind
 use Rattle.wt_tree.specs.declared.kind.AttrName.TheVariants as attr
 use Rattle.wt_tree.specs.Kinds.{attribute_name, may_hold}
 use Rattle.wt_html_grammar.specs.Markup.{Pair}
-use Rattle.wt_fitting.specs.Attributes.{value_of}
-use Rattle.wt_fitting.specs.Rows.{read_kinds, is_row, row_by, row}
-use Rattle.wt_fitting.specs.Sections.{is_section_name}
+use Rattle.wt_schema.specs.Attributes.{value_of}
+use Rattle.wt_schema.specs.Rows.{read_kinds, is_row, row_by, row}
+use Rattle.wt_schema.specs.Sections.{is_section_name}
 use Rattle.wt_checks.specs.PutBack.{is_frame}
 
 -- a section may stand directly in an element of this kind

@@ -4,8 +4,8 @@ use Rattle.std.specs.Prelude.{◌&&◌, filter, if◌then◌else◌, not}
 use Rattle.std.specs.Str.{bytes_eq}
 use Rattle.std.proofs.lemmas.Slice.Eq.{bytes_eq-Decides}
 use Rattle.wt_html_grammar.specs.Markup.{Pair, Markup, Markups, text, node, empty, more}
-use Rattle.wt_fitting.specs.Fit.{elements_of_all, elements_in, is_marked_root, Found, body_in, body_of, fit_body, fit}
-use Rattle.wt_fitting.specs.Sections.{is_section_name, is_mark_pair, bared, all_bared}
+use Rattle.wt_schema.specs.Fit.{elements_of_all, elements_in, is_marked_root, Found, body_in, body_of, fit_body, fit}
+use Rattle.wt_schema.specs.Sections.{is_section_name, is_mark_pair, bared, all_bared}
 use Rattle.wt_html_laws.specs.SameBodies.{AreSamePairs, AreSameInside, IsSamePart, AreSameParts, is_body_name, AreSameChildren, IsSameDocument}
 
 -- ---- what stands in a body

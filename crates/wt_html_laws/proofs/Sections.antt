@@ -9,14 +9,14 @@ use Rattle.wt_tree.specs.Kinds.{is_section}
 use Rattle.wt_tree.specs.Opened.{opened}
 use Rattle.wt_tree.specs.Tree.{Label}
 use Rattle.wt_html_grammar.specs.Markup.{Pair, Markup, Markups, text, node, empty, more}
-use Rattle.wt_fitting.specs.declared.why.FitWhy.TheVariants as why
-use Rattle.wt_fitting.specs.declared.standing.Standing.{Standing}
-use Rattle.wt_fitting.specs.declared.standing.Standing.TheVariants as stands
-use Rattle.wt_fitting.specs.Attributes.{value_of, has}
-use Rattle.wt_fitting.specs.Data.{Data, data_for}
-use Rattle.wt_fitting.specs.Fit.{Misfit, label_as, elements, texts_in, children_in, with_children, one_piece, text_fits, Spot, within, row_as, behind_it, fits_place, is_inside, fit_told, fit_as, fit_row, fit_node, fit_nodes}
-use Rattle.wt_fitting.specs.Groups.{standing_by, standing, Piece}
-use Rattle.wt_fitting.specs.Sections.{is_section_name, is_mark_pair, bared, all_bared}
+use Rattle.wt_schema.specs.declared.why.FitWhy.TheVariants as why
+use Rattle.wt_schema.specs.declared.standing.Standing.{Standing}
+use Rattle.wt_schema.specs.declared.standing.Standing.TheVariants as stands
+use Rattle.wt_schema.specs.Attributes.{value_of, has}
+use Rattle.wt_schema.specs.Data.{Data, data_for}
+use Rattle.wt_schema.specs.Fit.{Misfit, label_as, elements, texts_in, children_in, with_children, one_piece, text_fits, Spot, within, row_as, behind_it, fits_place, is_inside, fit_told, fit_as, fit_row, fit_node, fit_nodes}
+use Rattle.wt_schema.specs.Groups.{standing_by, standing, Piece}
+use Rattle.wt_schema.specs.Sections.{is_section_name, is_mark_pair, bared, all_bared}
 use Rattle.wt_checks.specs.PutBack.{have_frame}
 use Rattle.wt_html_laws.proofs.RowKinds.{no_section, section_row, plain_row}
 use Rattle.wt_html_laws.proofs.Opens.{section_opens}

@@ -1,7 +1,7 @@
 -- A document whose sections are taken out: what they hold stands in their place.
 use Rattle.std.specs.Prelude.{if◌then◌else◌}
 use Rattle.wt_html_grammar.specs.Markup.{Markup, Markups, text, node, empty, more}
-use Rattle.wt_fitting.specs.Sections.{is_section_name}
+use Rattle.wt_schema.specs.Sections.{is_section_name}
 use Rattle.wt_html_laws.specs.SameBodies.{is_body_name}
 
 -- a text or an element before others, and several of these before others

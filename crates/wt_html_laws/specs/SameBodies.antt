@@ -2,7 +2,7 @@
 use Rattle.std.specs.Prelude.{◌≡◌, ℕ, Bool, true, false, List, filter, codes}
 use Rattle.std.specs.Str.{bytes_eq}
 use Rattle.wt_html_grammar.specs.Markup.{Pair, Markup, Markups, text, node, empty, more}
-use Rattle.wt_fitting.specs.Sections.{is_section_name, is_mark_pair}
+use Rattle.wt_schema.specs.Sections.{is_section_name, is_mark_pair}
 
 -- The attributes of two elements: of two sections the mark of an edit alone is the same, of others all.
 abbrev pub AreSamePairs : Bool → List Pair → List Pair → Type 0

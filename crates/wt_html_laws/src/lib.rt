@@ -1,11 +1,11 @@
-//! Laws of what HTML is read as (`wt_fitting`), in other words than the definitions that the reader follows.
+//! Laws of what HTML is read as (`wt_schema`), in other words than the definitions that the reader follows.
 #![tactic(auto)]
 
 ghost use Rattle.std.specs.Prelude.{◌≡◌, ℕ, List, Ok, Option};
 ghost use Rattle.wt_tree.specs.Tree.{Tree};
 ghost use Rattle.wt_html_grammar.specs.Markup.{Markup};
-ghost use Rattle.wt_fitting.specs.Fit.{fit};
-ghost use Rattle.wt_fitting.specs.Read.{page, read};
+ghost use Rattle.wt_schema.specs.Fit.{fit};
+ghost use Rattle.wt_schema.specs.Read.{page, read};
 ghost use Rattle.wt_checks.specs.PutBack.{IsOneBody};
 ghost use Rattle.wt_html_laws.specs.SameBodies.{IsSameDocument};
 ghost use Rattle.wt_html_laws.specs.OpenedBodies.{sections_opened};

@@ -13,7 +13,7 @@ use Rattle.wt_tree.specs.Elements.{span}
 use Rattle.wt_tree.specs.Recut.{is_as_text}
 use Rattle.wt_tree.specs.Tiling.{is_group}
 use Rattle.wt_tree.specs.Tree.{Label, Tree, tree, Trees, none, more, label, trees}
-use Rattle.wt_fitting.specs.Rows.{holds_text}
+use Rattle.wt_schema.specs.Rows.{holds_text}
 use Rattle.wt_markup.specs.Html.{groups}
 use Rattle.wt_span.specs.Cuts.{page_of}
 use Rattle.wt_span.specs.Items.{Item, sources}

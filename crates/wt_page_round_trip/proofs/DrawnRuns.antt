@@ -17,7 +17,7 @@ use Rattle.wt_tree.specs.Kinds.{writing, may_hold, texts_of_kind, is_block, is_i
 use Rattle.wt_tree.specs.Recut.{is_as_text, is_text, shows_block, any_shows_block}
 use Rattle.wt_tree.specs.Tiling.{is_group}
 use Rattle.wt_tree.specs.Tree.{Label, Tree, tree, Trees, none, more, label, trees}
-use Rattle.wt_fitting.specs.Rows.{holds_text}
+use Rattle.wt_schema.specs.Rows.{holds_text}
 use Rattle.wt_span.specs.Origins.{OuterCall}
 use Rattle.wt_span.specs.Runs.{IsRun, AreRuns}
 use Rattle.wt_round_trip.specs.Written.{leaf_kind, HasLeafKind, joins, goes_behind, are_ordered, is_childless}

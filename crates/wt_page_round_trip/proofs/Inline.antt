@@ -22,7 +22,7 @@ use Rattle.wt_tree.specs.declared.row.Holding.TheVariants.{Inlines}
 use Rattle.wt_tree.specs.Kinds.{shape, admits, may_hold, spelling, texts_of_kind, is_anywhere}
 use Rattle.wt_tree.specs.declared.row.Texts.{Texts}
 use Rattle.wt_tree.specs.declared.row.Texts.TheVariants.{Separators, Page, Bordered, OwnCharacter}
-use Rattle.wt_fitting.specs.Rows.{holds_text}
+use Rattle.wt_schema.specs.Rows.{holds_text}
 use Rattle.wt_round_trip.specs.Written.{leaf_kind, may_stand, HasLeafKind}
 use Rattle.wt_inline.specs.declared.loose.Loose.{Loose}
 use Rattle.wt_inline.specs.declared.loose.Loose.TheVariants.{Text, Sep}

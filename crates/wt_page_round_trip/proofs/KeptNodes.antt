@@ -13,7 +13,7 @@ use Rattle.wt_tree.specs.declared.row.Writing.TheVariants.{AsText, AsVoid, Round
 use Rattle.wt_tree.specs.Elements.{span}
 use Rattle.wt_tree.specs.Kinds.{is_leaf, may_hold}
 use Rattle.wt_tree.specs.Tree.{Label}
-use Rattle.wt_fitting.specs.Rows.{holds_text}
+use Rattle.wt_schema.specs.Rows.{holds_text}
 use Rattle.wt_span.specs.Items.{Item, call_of, source, sources}
 use Rattle.wt_span.specs.Cuts.{text_by}
 use Rattle.wt_span.specs.Origins.{OuterCall}

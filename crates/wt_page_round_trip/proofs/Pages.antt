@@ -7,7 +7,7 @@ use Rattle.wt_tree.specs.Opened.{without_sections}
 use Rattle.wt_tree.specs.Source.{flat}
 use Rattle.wt_tree.specs.Tree.{Tree}
 use Rattle.wt_markup.specs.Html.{groups, html_text}
-use Rattle.wt_fitting.specs.Read.{read, page as read_page}
+use Rattle.wt_schema.specs.Read.{read, page as read_page}
 use Rattle.wt_round_trip.specs.Written.{unranged, IsWritten}
 use Rattle.wt_round_trip.proofs.Again.{same_source}
 use Rattle.wt_round_trip.proofs.Whole.{written_read}

@@ -22,7 +22,7 @@ use Rattle.wt_tree.specs.Plain.{Plain, text, element, face, Plains, ended, along
 use Rattle.wt_tree.specs.Recut.{shows_block, any_shows_block}
 use Rattle.wt_tree.specs.Tiling.{is_group}
 use Rattle.wt_tree.specs.Tree.{Label, Tree, tree, Trees, none, more}
-use Rattle.wt_fitting.specs.Rows.{holds_page_text, holds_text, shows_text}
+use Rattle.wt_schema.specs.Rows.{holds_page_text, holds_text, shows_text}
 use Rattle.wt_round_trip.specs.GroupNodes.{elements_for, group_nodes, inner_nodes, is_empty_span, is_block_face, in_order, all_follow}
 use Rattle.wt_round_trip.specs.Written.{shown_of, leaf_kind, HasLeafKind, IsTextIn, IsShown, IsFace, PlainsIn, TopsIn, is_childless}
 use Rattle.wt_round_trip.proofs.Faces.{is_element}

@@ -13,7 +13,7 @@ use Rattle.wt_tree.specs.Elements.{span}
 use Rattle.wt_tree.specs.Kinds.{shape, showing, texts_of_kind, is_class, admits, is_anywhere, is_block, spelling}
 use Rattle.wt_tree.specs.Plain.{ended, plains_before}
 use Rattle.wt_tree.specs.Tree.{Trees, none, more}
-use Rattle.wt_fitting.specs.Rows.{shows_text}
+use Rattle.wt_schema.specs.Rows.{shows_text}
 use Rattle.wt_round_trip.specs.GroupNodes.{is_ended}
 use Rattle.wt_round_trip.specs.Written.{IsFace, is_childless}
 

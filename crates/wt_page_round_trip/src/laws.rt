@@ -6,7 +6,7 @@ ghost use Rattle.wt_tree.specs.Opened.{without_sections};
 ghost use Rattle.wt_tree.specs.Source.{flat};
 ghost use Rattle.wt_tree.specs.Tiling.{Tiled, Covers, InPreorder, HasNoGroup};
 ghost use Rattle.wt_markup.specs.Html.{html_text};
-ghost use Rattle.wt_fitting.specs.Read.{read, page as as_page};
+ghost use Rattle.wt_schema.specs.Read.{read, page as as_page};
 ghost use Rattle.wt_round_trip.specs.Written.{unranged, IsWritten};
 ghost use Rattle.wt_expand.specs.PageCalls.{expanded_page};
 ghost use Rattle.wt_expand.specs.Expansion.{page_work};

@@ -3,7 +3,7 @@ use Rattle.std.proofs.Common.{◌≡◌, ℕ, ◌<◌, ◌≤◌, List, length, 
 use Rattle.std.specs.Prelude.{nat_lt, Option, Some, None, IfSome, Result}
 use Rattle.std.specs.Io.KnownBytes.{Consumes}
 use Rattle.std.proofs.lemmas.Bool.Decides.{nat_tests}
-use Rattle.wt_fitting.specs.Read.{Read, read}
+use Rattle.wt_schema.specs.Read.{Read, read}
 use Rattle.wt_span.specs.declared.limits.TheConstants.{HTML_BYTES}
 use Rattle.wt_pagetool.specs.Answers.{Answer, done, refused, input_answer}
 use Rattle.wt_pagetool.specs.Causes.{Answered, RefusesInput}

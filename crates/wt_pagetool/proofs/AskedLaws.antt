@@ -23,8 +23,8 @@ use Rattle.wt_transclusion.proofs.StopLaws.{stops_fetching, stops_page, stops_to
 use Rattle.wt_levels.specs.declared.expansion.Expansion.{Expansion}
 use Rattle.wt_expansion.specs.Known.{KnowsMore}
 use Rattle.wt_html_grammar.specs.declared.why.HtmlWhy.{HtmlWhy}
-use Rattle.wt_fitting.specs.declared.why.FitWhy.{FitWhy}
-use Rattle.wt_fitting.specs.Read.{Read, page as as_page, ill, misfit, read}
+use Rattle.wt_schema.specs.declared.why.FitWhy.{FitWhy}
+use Rattle.wt_schema.specs.Read.{Read, page as as_page, ill, misfit, read}
 use Rattle.wt_html_in.specs.Answers.{body_of, Answers}
 use Rattle.wt_html_in.specs.declared.edited.Edited.{Edited}
 use Rattle.wt_html_in.specs.declared.reader.Reader.{Reader}

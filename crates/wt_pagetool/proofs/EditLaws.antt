@@ -10,7 +10,7 @@ use Rattle.wt_expand.specs.Work.{Refused}
 use Rattle.wt_transclusion.specs.declared.refusal.ExpandRefusal.{ExpandRefusal}
 use Rattle.wt_transclusion.specs.declared.refusal.ExpandRefusal.TheVariants as of_expansion
 use Rattle.wt_transclusion.specs.Answers.{IsRefused}
-use Rattle.wt_fitting.specs.Read.{Read, page as as_page, ill, misfit, read}
+use Rattle.wt_schema.specs.Read.{Read, page as as_page, ill, misfit, read}
 use Rattle.wt_html_in.specs.Answers.{body_of, Answers}
 use Rattle.wt_html_in.specs.declared.edited.Edited.{Edited}
 use Rattle.wt_html_in.specs.declared.refusal.HtmlRefusal.{HtmlRefusal}

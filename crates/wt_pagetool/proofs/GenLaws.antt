@@ -7,13 +7,13 @@ use Rattle.std.proofs.lemmas.Bool.Decides.{nat_tests}
 use Rattle.wt_tree.specs.Source.{flat}
 use Rattle.wt_tree.specs.Tree.{Tree}
 use Rattle.wt_expand.specs.Work.{Pages, Refused}
-use Rattle.wt_fitting.specs.Attributes.{decimal_of}
-use Rattle.wt_fitting.specs.Read.{read}
+use Rattle.wt_schema.specs.Attributes.{decimal_of}
+use Rattle.wt_schema.specs.Read.{read}
 use Rattle.wt_html_in.specs.Answers.{body_of, Answers, RefusedFor}
 use Rattle.wt_html_in.specs.declared.edited.Edited.{Edited}
 use Rattle.wt_html_in.specs.declared.refusal.HtmlRefusal.TheVariants as refusals
 use Rattle.wt_html_grammar.specs.declared.why.HtmlWhy.{HtmlWhy}
-use Rattle.wt_fitting.specs.declared.why.FitWhy.{FitWhy}
+use Rattle.wt_schema.specs.declared.why.FitWhy.{FitWhy}
 use Rattle.wt_markup.specs.Html.{html_text}
 use Rattle.wt_page_round_trip.specs.PageTree.{page_tree}
 use Rattle.wt_pagetool.specs.declared.output.Output.{Output}

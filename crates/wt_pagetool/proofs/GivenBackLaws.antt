@@ -6,7 +6,7 @@ use Rattle.std.proofs.lemmas.Bool.Decides.{nat_tests}
 use Rattle.wt_devices.specs.Device.{Pages}
 use Rattle.wt_tree.specs.Opened.{without_sections}
 use Rattle.wt_markup.specs.Html.{html_text}
-use Rattle.wt_fitting.specs.Read.{read}
+use Rattle.wt_schema.specs.Read.{read}
 use Rattle.wt_pagetool.specs.declared.output.Output.{Output}
 use Rattle.wt_pagetool.specs.declared.status.Status.{Status}
 use Rattle.wt_pagetool.specs.declared.refusal.Refusal.{Refusal}

@@ -21,7 +21,7 @@ use Rattle.wt_expand.specs.Templates.{begins_only, ends_only, template_text}
 use Rattle.wt_expand.specs.Work.{Pages, deep_place, template_refusal, most_bytes, most_cost, names_asked}
 use Rattle.wt_expand.specs.Expansion.{text_members, most_templates, absent_text, loop_text, depth_text, page_work}
 use Rattle.wt_expand.specs.Fronts.{allowed_work}
-use Rattle.wt_fitting.specs.Read.{ill}
+use Rattle.wt_schema.specs.Read.{ill}
 use Rattle.wt_pagetool.specs.Asked.{edited_work, names_of, title_work, work_done}
 
 -- the page `M`, which calls itself and then `Template:A`, the byte FF, and `Template:B`, which isn't there

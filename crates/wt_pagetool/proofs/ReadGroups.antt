@@ -10,7 +10,7 @@ use Rattle.wt_tree.specs.Elements.{span, as_elements, or_empty_span}
 use Rattle.wt_tree.specs.Kinds.{shape, showing, writing}
 use Rattle.wt_tree.specs.Plain.{face, Plain, text, element, Plains, ended, along, plains_before}
 use Rattle.wt_tree.specs.Tree.{Label, Trees, label}
-use Rattle.wt_fitting.specs.Rows.{shows_text}
+use Rattle.wt_schema.specs.Rows.{shows_text}
 use Rattle.wt_round_trip.specs.GroupNodes.{elements_for, element_label, inner_node, inner_nodes, group_nodes, is_ended}
 use Rattle.wt_round_trip.specs.Written.{PlainIn, PlainsIn, TopsIn}
 use Rattle.wt_round_trip.proofs.Faces.{held_somewhere}

@@ -3,7 +3,7 @@ use Rattle.std.proofs.Common.{◌≡◌, ℕ, ◌++◌, List, append_assoc, rule
 use Rattle.std.specs.Prelude.{Some, None, codes}
 use Rattle.std.specs.Fmt.{decimal}
 use Rattle.wt_html_grammar.specs.declared.why.HtmlWhy.{HtmlWhy}
-use Rattle.wt_fitting.specs.declared.why.FitWhy.{FitWhy}
+use Rattle.wt_schema.specs.declared.why.FitWhy.{FitWhy}
 use Rattle.wt_pagetool.specs.declared.refusal.Refusal.TheVariants.{BracesTooDeep, TemplateNotUtf8, TemplateTooLong, Html, Unfit, Unsourced, Checked, BadContent}
 use Rattle.wt_checks.specs.declared.refusal.Check.{Check}
 use Rattle.wt_content.specs.declared.reason.ContentWhy.{ContentWhy}

@@ -20,7 +20,7 @@ use Rattle.wt_difference.proofs.Remarks.{marks_alone, groups_free}
 use Rattle.wt_difference.proofs.UneditedLaws.{nothing_differs}
 use Rattle.wt_expand.specs.PageCalls.{expanded_page}
 use Rattle.wt_expand.specs.Work.{Pages}
-use Rattle.wt_fitting.specs.Read.{page as as_page, read}
+use Rattle.wt_schema.specs.Read.{page as as_page, read}
 use Rattle.wt_page_round_trip.specs.PageTree.{page_tree}
 use Rattle.wt_page_round_trip.proofs.PageTrees.{page_numbered}
 use Rattle.wt_round_trip.specs.Written.{unranged}

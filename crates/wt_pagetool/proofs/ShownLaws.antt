@@ -21,14 +21,14 @@ use Rattle.wt_html_grammar.specs.Events.{built}
 use Rattle.wt_html_grammar.specs.Machine.{State, start, run}
 use Rattle.wt_html_grammar.specs.Markup.{Pair, Markup, Markups, empty, more}
 use Rattle.wt_html_grammar.specs.Places.{is_accepted}
-use Rattle.wt_fitting.specs.declared.why.FitWhy.TheVariants as why
-use Rattle.wt_fitting.specs.Attributes.{value_of}
-use Rattle.wt_fitting.specs.Data.{Data, data_of, both, sync_fits, mw_for, mw_fits}
-use Rattle.wt_fitting.specs.Fit.{Misfit, label_for, texts_in, text_fits, with_children, children_in, within, fit_nodes, Found, body_of, fit_body_told, body_data, fit_body, fit}
-use Rattle.wt_fitting.specs.Groups.{Piece}
-use Rattle.wt_fitting.specs.Read.{page as as_page, ill, read_fit, read_tree, read_root, read_run, read}
-use Rattle.wt_fitting.specs.Sections.{opened_if_fit}
-use Rattle.wt_fitting.specs.Unsourced.{unsourced}
+use Rattle.wt_schema.specs.declared.why.FitWhy.TheVariants as why
+use Rattle.wt_schema.specs.Attributes.{value_of}
+use Rattle.wt_schema.specs.Data.{Data, data_of, both, sync_fits, mw_for, mw_fits}
+use Rattle.wt_schema.specs.Fit.{Misfit, label_for, texts_in, text_fits, with_children, children_in, within, fit_nodes, Found, body_of, fit_body_told, body_data, fit_body, fit}
+use Rattle.wt_schema.specs.Groups.{Piece}
+use Rattle.wt_schema.specs.Read.{page as as_page, ill, read_fit, read_tree, read_root, read_run, read}
+use Rattle.wt_schema.specs.Sections.{opened_if_fit}
+use Rattle.wt_schema.specs.Unsourced.{unsourced}
 use Rattle.wt_shown.specs.Children.{listed, shown_children}
 
 -- ---- from children to plain views

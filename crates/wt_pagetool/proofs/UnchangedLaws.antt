@@ -6,7 +6,7 @@ use Rattle.wt_tree.specs.Opened.{without_sections}
 use Rattle.wt_tree.specs.Plain.{Plain, ended as nothing_more}
 use Rattle.wt_tree.specs.Tiling.{InPreorder}
 use Rattle.wt_tree.specs.Tree.{Tree, tree}
-use Rattle.wt_fitting.specs.Read.{page as as_page, read}
+use Rattle.wt_schema.specs.Read.{page as as_page, read}
 use Rattle.wt_html_laws.proofs.OneBody.{read_is_one_body}
 use Rattle.wt_markup.specs.Html.{html_text}
 use Rattle.wt_round_trip.specs.Written.{unranged}

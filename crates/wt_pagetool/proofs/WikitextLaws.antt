@@ -6,7 +6,7 @@ use Rattle.std.proofs.KnownBytes.{Consumes-trans}
 use Rattle.wt_expand.specs.Work.{Pages}
 use Rattle.wt_tree.specs.Tree.{Tree}
 use Rattle.wt_tree.specs.Source.{flat}
-use Rattle.wt_fitting.specs.Read.{Read, page as as_page, read}
+use Rattle.wt_schema.specs.Read.{Read, page as as_page, read}
 use Rattle.wt_html_in.specs.Answers.{body_of, unsourced_of, Answers}
 use Rattle.wt_html_in.specs.Feeding.{IsFed}
 use Rattle.wt_html_in.specs.declared.edited.Edited.{Edited}

@@ -12,7 +12,7 @@ use Rattle.wt_expand.specs.Texts.{shown_text}
 use Rattle.wt_expand.specs.Work.{Refused, braces_too_deep, too_large, not_utf8, too_long, first_refusal}
 use Rattle.wt_expand.specs.Expansion.{page_work}
 use Rattle.wt_expand.specs.PageCalls.{expanded_page}
-use Rattle.wt_fitting.specs.Read.{Read, page as as_page, ill, misfit, read}
+use Rattle.wt_schema.specs.Read.{Read, page as as_page, ill, misfit, read}
 use Rattle.wt_page_round_trip.specs.PageTree.{page_tree}
 use Rattle.wt_checks.specs.declared.refusal.Check.{Check}
 use Rattle.wt_checks.specs.Checked.{checked, nodes_checked}

@@ -7,7 +7,7 @@ use Rattle.wt_expand.specs.Fronts.{allowed_work}
 use Rattle.wt_expand.specs.Work.{Pages, Entry, Refused, names_asked}
 use Rattle.wt_transclusion.specs.Asked.{AreFirst}
 use Rattle.wt_transclusion.specs.Stops.{AnswersFewer}
-use Rattle.wt_fitting.specs.Read.{Read, page as as_page, ill, misfit, read}
+use Rattle.wt_schema.specs.Read.{Read, page as as_page, ill, misfit, read}
 use Rattle.wt_selser.specs.declared.refusal.EditRefusal.{EditRefusal}
 use Rattle.wt_pagetool.specs.declared.command.Command.{Command}
 use Rattle.wt_pagetool.specs.declared.command.Command.TheVariants.{Page, Expand, Edit, Selser, Gen, Wikitext}

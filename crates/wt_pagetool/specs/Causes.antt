@@ -16,7 +16,7 @@ use Rattle.wt_pagetool.specs.declared.output.Output.{Output}
 use Rattle.wt_pagetool.specs.Outputs.{output_bytes}
 use Rattle.wt_pagetool.specs.Statuses.{IsAnswer}
 use Rattle.wt_pagetool.specs.Refusals.{status_of}
-use Rattle.wt_fitting.specs.Read.{Read}
+use Rattle.wt_schema.specs.Read.{Read}
 use Rattle.wt_pagetool.specs.Answers.{Answer, done, refused, title_answer, expanded_by, input_answer}
 
 -- ---- of an answer

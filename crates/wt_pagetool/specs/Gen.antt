@@ -9,7 +9,7 @@ use Rattle.wt_tree.specs.Source.{flat}
 use Rattle.wt_tree.specs.Tiling.{is_group}
 use Rattle.wt_tree.specs.Tree.{Tree}
 use Rattle.wt_expand.specs.Work.{Pages}
-use Rattle.wt_fitting.specs.Read.{Read, page as as_page, ill, misfit, read}
+use Rattle.wt_schema.specs.Read.{Read, page as as_page, ill, misfit, read}
 use Rattle.wt_gen.specs.Gen.{sections, template}
 use Rattle.wt_markup.specs.Html.{html_text}
 

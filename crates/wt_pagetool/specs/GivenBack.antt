@@ -5,7 +5,7 @@ use Rattle.wt_expand.specs.Work.{Pages}
 use Rattle.wt_tree.specs.Tree.{Tree}
 use Rattle.wt_tree.specs.Source.{flat}
 use Rattle.wt_markup.specs.Html.{html_text}
-use Rattle.wt_fitting.specs.Read.{page as as_page, read}
+use Rattle.wt_schema.specs.Read.{page as as_page, read}
 use Rattle.wt_page_round_trip.specs.PageTree.{page_tree}
 use Rattle.wt_pagetool.specs.declared.status.Status.TheVariants.{Done}
 use Rattle.wt_pagetool.specs.Statuses.{code, IsFaultOrNoMemory}

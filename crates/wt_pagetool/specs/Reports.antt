@@ -9,7 +9,7 @@ use Rattle.wt_tree.specs.Plain.{plain}
 use Rattle.wt_tree.specs.Source.{flat}
 use Rattle.wt_tree.specs.Tiling.{Tiled, Covers, InPreorder}
 use Rattle.wt_annotated.specs.Reached.{AreReachedSlices}
-use Rattle.wt_fitting.specs.Read.{page as as_page, read}
+use Rattle.wt_schema.specs.Read.{page as as_page, read}
 use Rattle.wt_markup.specs.Html.{html_text}
 use Rattle.wt_page_round_trip.specs.PageTree.{page_tree}
 use Rattle.wt_checks.specs.Checked.{nodes_checked}

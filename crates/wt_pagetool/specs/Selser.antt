@@ -2,7 +2,7 @@
 use Rattle.std.specs.Prelude.{◌≡◌, ◌≢◌, ◌≤◌, ◌⊎◌, ⊤, ℕ, length, Bool, true, List, [], Option, Some, None, Result, Ok, Err}
 use Rattle.wt_expand.specs.PageCalls.{expanded_page}
 use Rattle.wt_expand.specs.Work.{Pages}
-use Rattle.wt_fitting.specs.Read.{Read, page as as_page, ill, misfit, read}
+use Rattle.wt_schema.specs.Read.{Read, page as as_page, ill, misfit, read}
 use Rattle.wt_page_round_trip.specs.PageTree.{page_tree}
 use Rattle.wt_checks.specs.Checked.{nodes_checked}
 use Rattle.wt_difference.specs.Difference.{are_none, difference}

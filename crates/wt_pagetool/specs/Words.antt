@@ -1,7 +1,7 @@
 -- What the words of a call ask for.
 use Rattle.std.specs.Prelude.{ℕ, List, [], ◌∷◌, Option, Some, None, ⊤, codes, is_none, nat_le, option_map, option_and_then, if◌then◌else◌}
 use Rattle.std.specs.Str.{bytes_eq}
-use Rattle.wt_fitting.specs.Attributes.{decimal_of}
+use Rattle.wt_schema.specs.Attributes.{decimal_of}
 use Rattle.wt_gen.specs.declared.page.TheConstants.{MOST_SECTIONS}
 use Rattle.wt_names.specs.declared.title.Title.{Title}
 use Rattle.wt_names.specs.Good.{read_text}

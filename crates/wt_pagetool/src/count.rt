@@ -1,7 +1,7 @@
 //! The number that a word of `gen` tells.
 
 ghost use Rattle.std.specs.Prelude.{◌≡◌, Some};
-ghost use Rattle.wt_fitting.specs.Attributes.{decimal_from, decimal_of};
+ghost use Rattle.wt_schema.specs.Attributes.{decimal_from, decimal_of};
 ghost use Rattle.wt_pagetool.specs.Words.{section_count};
 
 use wt_gen::MOST_SECTIONS;

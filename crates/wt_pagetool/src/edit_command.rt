@@ -6,7 +6,7 @@ ghost use Rattle.wt_expand.specs.PageCalls.{expanded_page};
 ghost use Rattle.wt_expand.specs.Work.{Pages, fetches, firsts_after, names_asked};
 ghost use Rattle.wt_expansion.specs.Known.{HoldsPages};
 ghost use Rattle.wt_expansion.specs.Walks.{IsFree};
-ghost use Rattle.wt_fitting.specs.Read.{read};
+ghost use Rattle.wt_schema.specs.Read.{read};
 ghost use Rattle.wt_html_in.specs.Feeding.{IsFed};
 ghost use Rattle.wt_devices.specs.Device.{Rose};
 ghost use Rattle.wt_page_round_trip.specs.PageTree.{page_tree};

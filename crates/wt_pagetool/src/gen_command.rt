@@ -1,7 +1,7 @@
 //! The command that makes a page from a number and its HTML, and reads this back.
 
 ghost use Rattle.std.specs.Prelude.{◌≡◌, ◌≤◌, length, string_bytes, [], ◌∷◌, IfOk, IfErr, Some};
-ghost use Rattle.wt_fitting.specs.Read.{read};
+ghost use Rattle.wt_schema.specs.Read.{read};
 ghost use Rattle.wt_markup.specs.Html.{html_text};
 ghost use Rattle.wt_tree.specs.Tiling.{is_group};
 ghost use Rattle.wt_tree.specs.View.{view};

@@ -1,7 +1,7 @@
 ghost use Rattle.std.specs.Prelude.{◌≡◌, ◌++◌, [], ℕ, List, Option as OptionOf, Some, None, Ok, Err, length};
 ghost use Rattle.wt_expand.specs.Expansion.{page_work};
 ghost use Rattle.wt_expand.specs.Work.{Entry, Pages, Refused};
-ghost use Rattle.wt_fitting.specs.Read.{Read, page as as_page};
+ghost use Rattle.wt_schema.specs.Read.{Read, page as as_page};
 ghost use Rattle.wt_selser.specs.declared.refusal.EditRefusal.{EditRefusal as EditRefusalOf};
 ghost use Rattle.wt_tree.specs.Tree.{Tree};
 ghost use Rattle.wt_pagetool.specs.declared.refusal.Refusal.{Refusal as RefusalOf};

@@ -9,7 +9,7 @@ ghost use Rattle.wt_difference.specs.Difference.{are_none, difference};
 ghost use Rattle.wt_difference.specs.Remarked.{remarked};
 ghost use Rattle.wt_expand.specs.Work.{Pages};
 ghost use Rattle.wt_expansion.specs.Known.{HoldsPages};
-ghost use Rattle.wt_fitting.specs.Read.{read};
+ghost use Rattle.wt_schema.specs.Read.{read};
 ghost use Rattle.wt_html_in.specs.Feeding.{IsFed};
 ghost use Rattle.wt_devices.specs.Device.{Rose};
 ghost use Rattle.wt_transclusion.specs.Asked.{Asks};

@@ -1,7 +1,7 @@
 -- Pieces are gathered by their places among their siblings.
 use Rattle.std.proofs.Common.{◌≡◌, refl, sym, ap, subst, true, false, List, [], ◌∷◌, ◌++◌, map}
 use Rattle.wt_tree.specs.Tree.{Tree, tree, more as one_more}
-use Rattle.wt_fitting.specs.Groups.{Piece, single, begun, further, furthers, gathered}
+use Rattle.wt_schema.specs.Groups.{Piece, single, begun, further, furthers, gathered}
 use Rattle.wt_reading_laws.specs.Gathering.{trees, IsPlaced, BeginsAnew, AreGathered, nothing, alone, together}
 
 record Split (xs : List Piece) : Type 0 where

@@ -1,7 +1,7 @@
 -- Which elements of a group stand together: pieces among siblings, and the trees that they make.
 use Rattle.std.specs.Prelude.{◌≡◌, Bool, true, false, List, [], ◌∷◌, ◌++◌, map}
 use Rattle.wt_tree.specs.Tree.{Label, Tree, tree, Trees, none as no_trees, more as one_more}
-use Rattle.wt_fitting.specs.Groups.{Piece, single, begun, further}
+use Rattle.wt_schema.specs.Groups.{Piece, single, begun, further}
 
 abbrev pub trees : List Tree → Trees
 trees [] = no_trees

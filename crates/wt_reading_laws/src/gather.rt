@@ -1,6 +1,6 @@
 //! Which elements are one group.
 ghost use Rattle.std.specs.Prelude.{List, false};
-ghost use Rattle.wt_fitting.specs.Groups.{Piece as Sibling, gathered};
+ghost use Rattle.wt_schema.specs.Groups.{Piece as Sibling, gathered};
 ghost use Rattle.wt_reading_laws.specs.Gathering.{AreGathered, IsPlaced};
 
 /// The first element of a group and the further ones that stand behind it, up to the first sibling that

@@ -23,8 +23,8 @@ use Rattle.wt_tree.specs.Kinds.{spelling, tag_name, attribute_name}
 use Rattle.wt_markup.specs.Escapes.{escape, escape_double, escape_single}
 use Rattle.wt_markup.specs.Html.{attribute, id_attribute, mw_attribute, sync_of, sync_start, sync_value, sync_attribute, attributes_of, start_tag, void_tag, end_tag, about_attribute, first_attributes, next_attributes, frame_start, frame_end, section_start, html_text}
 use Rattle.wt_tree.specs.Values.{placeholder, extension_prefix, no_include, no_include_end, only_include, only_include_end, include_only}
-use Rattle.wt_fitting.specs.Groups.{transclusion, param}
-use Rattle.wt_fitting.specs.Read.{read, read_tree, page}
+use Rattle.wt_schema.specs.Groups.{transclusion, param}
+use Rattle.wt_schema.specs.Read.{read, read_tree, page}
 use Rattle.wt_round_trip.specs.Written.{unranged, IsWritten}
 
 abbrev blank : Kind → ℕ → ℕ → ℕ → Label

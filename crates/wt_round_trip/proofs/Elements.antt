@@ -15,7 +15,7 @@ use Rattle.wt_html_grammar.specs.Grammar.{spell_attributes, Element, Items, none
 use Rattle.wt_html_grammar.specs.Markup.{Markup, Markups, empty, more, flush, meaning, contents}
 use Rattle.std.specs.Prelude.{if◌then◌else◌}
 use Rattle.wt_html_grammar.proofs.Steps.{if_false}
-use Rattle.wt_fitting.specs.Rows.{shows_text}
+use Rattle.wt_schema.specs.Rows.{shows_text}
 use Rattle.wt_round_trip.specs.GroupNodes.{elements_for}
 use Rattle.wt_round_trip.specs.Written.{IsShown, IsElementLabel, IsCutIn, IsWrittenGroup, is_childless, NodeIsWritten, WrittenIn, AllWrittenIn}
 use Rattle.wt_round_trip.proofs.Pieces.{spells_text, pieces_spelled, pieces_stand, pieces_good}

@@ -14,11 +14,11 @@ use Rattle.wt_tree.specs.Tiling.{is_group}
 use Rattle.wt_markup.specs.Html.{face_attributes}
 use Rattle.wt_html_grammar.specs.Markup.{Pair}
 use Rattle.wt_html_grammar.proofs.Steps.{if_false}
-use Rattle.wt_fitting.specs.Attributes.{value_of, has, id_of, id_of_value, mark_of_value}
-use Rattle.wt_fitting.specs.Rows.{row, shows_text, own_of}
-use Rattle.wt_fitting.specs.Data.{Data, is_extension_of, no_data, no_data_if_good, mw_given, inner_data, id_for}
-use Rattle.wt_fitting.specs.Groups.{is_span}
-use Rattle.wt_fitting.specs.Fit.{label_for}
+use Rattle.wt_schema.specs.Attributes.{value_of, has, id_of, id_of_value, mark_of_value}
+use Rattle.wt_schema.specs.Rows.{row, shows_text, own_of}
+use Rattle.wt_schema.specs.Data.{Data, is_extension_of, no_data, no_data_if_good, mw_given, inner_data, id_for}
+use Rattle.wt_schema.specs.Groups.{is_span}
+use Rattle.wt_schema.specs.Fit.{label_for}
 use Rattle.wt_round_trip.specs.GroupNodes.{element_label}
 use Rattle.wt_round_trip.specs.Written.{value_at, IsFace}
 use Rattle.wt_round_trip.proofs.Json.{ascii_then}

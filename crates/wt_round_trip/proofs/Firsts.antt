@@ -18,12 +18,12 @@ use Rattle.wt_datamw.specs.Mw.{mw_text}
 use Rattle.wt_datamw.specs.Sync.{sync_text}
 use Rattle.wt_markup.specs.Html.{sync_of, face_attributes, with_type}
 use Rattle.wt_html_grammar.specs.Markup.{Pair}
-use Rattle.wt_fitting.specs.declared.standing.Standing.TheVariants as stands
-use Rattle.wt_fitting.specs.Attributes.{value_of, id_of_value, mark_of_value}
-use Rattle.wt_fitting.specs.Groups.{standing, standing_by, transclusion, param, word_in, word_of, word_attribute, own_type, own_pair, own_pairs}
-use Rattle.wt_fitting.specs.Data.{Data, is_for, sync_fits, both, parts_in, parts_of, group_data}
-use Rattle.wt_fitting.specs.Fit.{group_label}
-use Rattle.wt_fitting.specs.Unsourced.{is_unsourced}
+use Rattle.wt_schema.specs.declared.standing.Standing.TheVariants as stands
+use Rattle.wt_schema.specs.Attributes.{value_of, id_of_value, mark_of_value}
+use Rattle.wt_schema.specs.Groups.{standing, standing_by, transclusion, param, word_in, word_of, word_attribute, own_type, own_pair, own_pairs}
+use Rattle.wt_schema.specs.Data.{Data, is_for, sync_fits, both, parts_in, parts_of, group_data}
+use Rattle.wt_schema.specs.Fit.{group_label}
+use Rattle.wt_schema.specs.Unsourced.{is_unsourced}
 use Rattle.wt_round_trip.specs.Written.{label_read, ranges_read, HasPlaces, HasSource, IsUtf8IfAny, value_at, IsWord, HasParts, IsGroupLabel}
 use Rattle.wt_datamw.proofs.SyncTold.{sync_read}
 use Rattle.wt_round_trip.proofs.Json.{sync_utf8}

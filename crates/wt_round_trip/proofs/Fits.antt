@@ -17,14 +17,14 @@ use Rattle.wt_markup.specs.Html.{groups, groups_of_all}
 use Rattle.wt_html_grammar.specs.Markup.{Pair, Markups, text, node, empty, more, flush}
 use Rattle.wt_html_grammar.proofs.Steps.{if_true, if_false}
 use Rattle.wt_html_grammar.proofs.Reading.{and_true}
-use Rattle.wt_fitting.specs.declared.standing.Standing.TheVariants as stands
-use Rattle.wt_fitting.specs.Attributes.{value_of}
-use Rattle.wt_fitting.specs.Rows.{holds_text, shows_text}
-use Rattle.wt_fitting.specs.Data.{is_empty}
-use Rattle.wt_fitting.specs.Groups.{standing, open_by, is_span, is_none, is_dropped, Piece, single}
-use Rattle.wt_fitting.specs.Fit.{elements, label_for, texts_in, are_blank, onto_told, held_as, text_fits, within, fit_nodes}
-use Rattle.wt_fitting.specs.Unsourced.{is_unsourced, lacks_source, unsourced_as, unsourced_nodes}
-use Rattle.wt_fitting.specs.Sections.{is_section_name}
+use Rattle.wt_schema.specs.declared.standing.Standing.TheVariants as stands
+use Rattle.wt_schema.specs.Attributes.{value_of}
+use Rattle.wt_schema.specs.Rows.{holds_text, shows_text}
+use Rattle.wt_schema.specs.Data.{is_empty}
+use Rattle.wt_schema.specs.Groups.{standing, open_by, is_span, is_none, is_dropped, Piece, single}
+use Rattle.wt_schema.specs.Fit.{elements, label_for, texts_in, are_blank, onto_told, held_as, text_fits, within, fit_nodes}
+use Rattle.wt_schema.specs.Unsourced.{is_unsourced, lacks_source, unsourced_as, unsourced_nodes}
+use Rattle.wt_schema.specs.Sections.{is_section_name}
 use Rattle.wt_round_trip.specs.GroupNodes.{elements_for, group_nodes, all_follow}
 use Rattle.wt_round_trip.specs.Written.{label_read, unranged, unranged_all, leaf_kind, goes_behind, are_ordered, IsCutIn, IsShown, IsElementLabel, IsWrittenGroup, is_childless, NodeIsWritten, WrittenIn, AllWrittenIn}
 use Rattle.wt_round_trip.proofs.Bare.{others_read}

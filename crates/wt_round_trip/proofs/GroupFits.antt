@@ -14,14 +14,14 @@ use Rattle.wt_tree.specs.Tree.{Label, tree, none as no_trees}
 use Rattle.wt_markup.specs.Html.{face_attributes}
 use Rattle.wt_html_grammar.specs.Markup.{Pair, Markups, text, node, more}
 use Rattle.wt_html_grammar.proofs.Steps.{if_false}
-use Rattle.wt_fitting.specs.declared.standing.Standing.TheVariants as stands
-use Rattle.wt_fitting.specs.Attributes.{value_of, has}
-use Rattle.wt_fitting.specs.Rows.{row, holds_text, shows_text}
-use Rattle.wt_fitting.specs.Data.{is_empty, no_data}
-use Rattle.wt_fitting.specs.Groups.{standing, standing_by, open_by, is_span, is_none, Piece, single, begun, further, gathered}
-use Rattle.wt_fitting.specs.Fit.{elements, texts_in, are_blank, label_for, text_fits, fit_nodes}
-use Rattle.wt_fitting.specs.Sections.{is_section_name}
-use Rattle.wt_fitting.specs.Unsourced.{is_unsourced, lacks_source, unsourced_as, unsourced_nodes}
+use Rattle.wt_schema.specs.declared.standing.Standing.TheVariants as stands
+use Rattle.wt_schema.specs.Attributes.{value_of, has}
+use Rattle.wt_schema.specs.Rows.{row, holds_text, shows_text}
+use Rattle.wt_schema.specs.Data.{is_empty, no_data}
+use Rattle.wt_schema.specs.Groups.{standing, standing_by, open_by, is_span, is_none, Piece, single, begun, further, gathered}
+use Rattle.wt_schema.specs.Fit.{elements, texts_in, are_blank, label_for, text_fits, fit_nodes}
+use Rattle.wt_schema.specs.Sections.{is_section_name}
+use Rattle.wt_schema.specs.Unsourced.{is_unsourced, lacks_source, unsourced_as, unsourced_nodes}
 use Rattle.wt_round_trip.specs.GroupNodes.{element_label, inner_node, inner_nodes, is_ended, is_empty_span, is_block_face, in_order, all_follow}
 use Rattle.wt_round_trip.specs.Written.{label_read, shown_of, begins_with_characters, PlainIn, PlainsIn, TopsIn, IsGroupLabel}
 use Rattle.wt_round_trip.proofs.Said.{about_value, face_said, next_said, first_said}

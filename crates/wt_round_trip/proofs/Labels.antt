@@ -22,13 +22,13 @@ use Rattle.wt_datamw.specs.SyncRead.{sync_told}
 use Rattle.wt_markup.specs.Html.{leaf_sync, inner_sync, sync_of}
 use Rattle.wt_html_grammar.specs.Markup.{Pair}
 use Rattle.wt_html_grammar.proofs.Steps.{if_true, if_false}
-use Rattle.wt_fitting.specs.Sections.{is_section_name}
-use Rattle.wt_fitting.proofs.SectionNames.{no_section}
-use Rattle.wt_fitting.specs.Attributes.{value_of, has, or_zero, id_of_value, id_of, mark_of_value}
-use Rattle.wt_fitting.specs.Rows.{row_by, row, shows_text, own_of, attrs_for}
-use Rattle.wt_fitting.specs.Data.{Data, is_for, sync_for, some_sync, sync_fits, is_extension_of, mw_for, mw_fits, both, data_of, id_for}
-use Rattle.wt_fitting.specs.Fit.{source_of, label_for}
-use Rattle.wt_fitting.specs.Unsourced.{is_marked, is_unsourced}
+use Rattle.wt_schema.specs.Sections.{is_section_name}
+use Rattle.wt_schema.proofs.SectionNames.{no_section}
+use Rattle.wt_schema.specs.Attributes.{value_of, has, or_zero, id_of_value, id_of, mark_of_value}
+use Rattle.wt_schema.specs.Rows.{row_by, row, shows_text, own_of, attrs_for}
+use Rattle.wt_schema.specs.Data.{Data, is_for, sync_for, some_sync, sync_fits, is_extension_of, mw_for, mw_fits, both, data_of, id_for}
+use Rattle.wt_schema.specs.Fit.{source_of, label_for}
+use Rattle.wt_schema.specs.Unsourced.{is_marked, is_unsourced}
 use Rattle.wt_round_trip.specs.Written.{label_read, HasPlaces, IsNumber, IsLeafSource, IsInnerSource, HasSource, IsUtf8IfAny, HasData, value_at, is_extension_label, IsElementLabel}
 use Rattle.wt_datamw.proofs.SyncTold.{sync_read}
 use Rattle.wt_round_trip.proofs.Json.{ascii_then, sync_utf8, extension_utf8, extension_read}

@@ -12,7 +12,7 @@ use Rattle.wt_tree.specs.declared.row.Texts.TheVariants.{Separators, Page, Borde
 use Rattle.wt_tree.specs.declared.row.Writing.{Writing}
 use Rattle.wt_tree.specs.declared.row.Writing.TheVariants.{AsText, AsVoid, RoundCharacter, RoundChildren, AsSection, Unwritten}
 use Rattle.wt_html_grammar.proofs.Steps.{if_true, if_false}
-use Rattle.wt_fitting.specs.Fit.{held_as}
+use Rattle.wt_schema.specs.Fit.{held_as}
 use Rattle.wt_round_trip.specs.Written.{ranges_read, label_read, unranged, unranged_all, shown_of, leaf_kind, HasLeafKind, IsTextIn, joins, IsCutIn, IsWrittenGroup, is_childless, NodeIsWritten, WrittenIn, AllWrittenIn}
 use Rattle.wt_round_trip.proofs.Bare.{SameBlocks, AllSame, others_read, recut_same}
 use Rattle.wt_round_trip.proofs.Elements.{is_written, not_group, Inside}

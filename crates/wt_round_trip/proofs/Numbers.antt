@@ -10,7 +10,7 @@ use Rattle.std.proofs.lemmas.Str.Parse.{digit_from_value}
 use Rattle.wt_html_grammar.specs.Signs.{is_digit}
 use Rattle.wt_html_grammar.proofs.Steps.{if_true, if_false}
 use Rattle.wt_html_grammar.proofs.Reading.{and_true}
-use Rattle.wt_fitting.specs.Attributes.{decimal_from, decimal_of}
+use Rattle.wt_schema.specs.Attributes.{decimal_from, decimal_of}
 
 value_le : (ds : List ℕ) (n : ℕ) → n ≤ digits_value_after 10 n ds
 value_le [] n = omega arith

@@ -11,8 +11,8 @@ use Rattle.wt_tree.specs.Kinds.{attribute_name, order}
 use Rattle.wt_html_grammar.specs.Signs.{is_among}
 use Rattle.wt_html_grammar.specs.Markup.{Pair}
 use Rattle.wt_html_grammar.proofs.Steps.{if_true, if_false}
-use Rattle.wt_fitting.specs.Attributes.{value_of}
-use Rattle.wt_fitting.specs.Rows.{own_told, own_of}
+use Rattle.wt_schema.specs.Attributes.{value_of}
+use Rattle.wt_schema.specs.Rows.{own_told, own_of}
 use Rattle.wt_round_trip.specs.Written.{AreOwn, value_at}
 use Rattle.wt_round_trip.proofs.Names.{names_eq, good_name, not_edit}
 use Rattle.wt_round_trip.proofs.Said.{Said, double, single, pair_said, own_said, said_name, said_value, AreGood}

@@ -20,10 +20,10 @@ use Rattle.wt_markup.specs.Html.{groups}
 use Rattle.wt_html_grammar.specs.Markup.{Markups, text, node, empty, more}
 use Rattle.wt_html_grammar.proofs.Steps.{if_false}
 use Rattle.wt_html_grammar.proofs.Reading.{and_true}
-use Rattle.wt_fitting.specs.Rows.{holds_text}
-use Rattle.wt_fitting.specs.Groups.{is_span}
+use Rattle.wt_schema.specs.Rows.{holds_text}
+use Rattle.wt_schema.specs.Groups.{is_span}
 use Rattle.std.proofs.lemmas.List.Folds.{list_all-append}
-use Rattle.wt_fitting.specs.Fit.{are_blank, text_fits}
+use Rattle.wt_schema.specs.Fit.{are_blank, text_fits}
 use Rattle.wt_round_trip.specs.GroupNodes.{elements_for, inner_nodes, is_ended, is_empty_span, all_follow}
 use Rattle.wt_round_trip.specs.Written.{goes_behind, are_ordered, IsCutIn, IsWrittenGroup, TopsIn, is_childless, NodeIsWritten, WrittenIn, AllWrittenIn}
 use Rattle.wt_round_trip.proofs.Faces.{or_held}

@@ -22,7 +22,7 @@ use Rattle.wt_tree.specs.Kinds.{shape, writing, is_numbered, is_section, is_clas
 use Rattle.wt_tree.specs.Values.{placeholder, extension_prefix, is_island_type, no_include, no_include_end, only_include, only_include_end, include_only, is_include_type, switch_prefix, is_switch_name}
 use Rattle.wt_tree.specs.Tree.{Label}
 use Rattle.wt_html_grammar.specs.Signs.{is_void, IsName}
-use Rattle.wt_fitting.specs.Rows.{row_by, shows_text}
+use Rattle.wt_schema.specs.Rows.{row_by, shows_text}
 use Rattle.wt_round_trip.specs.Written.{ranges_read, has_level, HasAttributes, value_at, IsElementLabel}
 use Rattle.wt_round_trip.proofs.Order.{rises, names_of, names_in, AllUtf8, value_front, own_before}
 use Rattle.wt_round_trip.proofs.Types.{other_text}

@@ -13,11 +13,11 @@ use Rattle.wt_tree.specs.Tree.{Label, Tree, tree, Trees, none as no_trees, more 
 use Rattle.wt_markup.specs.Html.{groups, groups_of_all}
 use Rattle.wt_html_grammar.specs.Markup.{Pair, Markup, Markups, text, node, empty, more, flush}
 use Rattle.wt_html_grammar.proofs.Steps.{if_false}
-use Rattle.wt_fitting.specs.Data.{is_empty}
-use Rattle.wt_fitting.specs.Fit.{are_blank}
-use Rattle.wt_fitting.specs.Rows.{holds_text}
-use Rattle.wt_fitting.specs.Sections.{is_section_name, is_mark_pair, all_bared}
-use Rattle.wt_fitting.proofs.SectionNames.{no_section}
+use Rattle.wt_schema.specs.Data.{is_empty}
+use Rattle.wt_schema.specs.Fit.{are_blank}
+use Rattle.wt_schema.specs.Rows.{holds_text}
+use Rattle.wt_schema.specs.Sections.{is_section_name, is_mark_pair, all_bared}
+use Rattle.wt_schema.proofs.SectionNames.{no_section}
 use Rattle.wt_round_trip.specs.GroupNodes.{elements_for, is_ended}
 use Rattle.wt_round_trip.specs.Written.{value_at, IsElementLabel, IsWrittenGroup, is_childless, NodeIsWritten, TopIn, TopsIn, WrittenIn, PartIn, PartsIn}
 use Rattle.wt_round_trip.proofs.Said.{said_of}

@@ -17,13 +17,13 @@ use Rattle.wt_tree.specs.Tree.{Label, Tree, tree, Trees, none as no_trees, more 
 use Rattle.wt_markup.specs.Html.{groups, groups_of_all}
 use Rattle.wt_html_grammar.specs.Markup.{Markups, text, more}
 use Rattle.wt_html_grammar.proofs.Reading.{and_true}
-use Rattle.wt_fitting.specs.declared.standing.Standing.TheVariants as stands
-use Rattle.wt_fitting.specs.Rows.{holds_text, shows_text}
-use Rattle.wt_fitting.specs.Data.{is_empty, no_data}
-use Rattle.wt_fitting.specs.Groups.{is_span, is_none, single}
-use Rattle.wt_fitting.specs.Fit.{label_for, are_blank, elements, fit_nodes}
-use Rattle.wt_fitting.specs.Unsourced.{unsourced_nodes}
-use Rattle.wt_fitting.specs.Sections.{all_bared}
+use Rattle.wt_schema.specs.declared.standing.Standing.TheVariants as stands
+use Rattle.wt_schema.specs.Rows.{holds_text, shows_text}
+use Rattle.wt_schema.specs.Data.{is_empty, no_data}
+use Rattle.wt_schema.specs.Groups.{is_span, is_none, single}
+use Rattle.wt_schema.specs.Fit.{label_for, are_blank, elements, fit_nodes}
+use Rattle.wt_schema.specs.Unsourced.{unsourced_nodes}
+use Rattle.wt_schema.specs.Sections.{all_bared}
 use Rattle.wt_round_trip.specs.GroupNodes.{elements_for, group_nodes}
 use Rattle.wt_round_trip.specs.Written.{unranged, unranged_all, leaf_kind, IsWrittenGroup, is_childless, NodeIsWritten, WrittenIn, PartIn, PartsIn}
 use Rattle.wt_round_trip.proofs.Bare.{others_read}

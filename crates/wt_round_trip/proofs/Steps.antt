@@ -11,14 +11,14 @@ use Rattle.wt_tree.specs.Tiling.{is_group}
 use Rattle.wt_tree.specs.Tree.{Label, Tree, tree, Trees, none as no_trees, more as one_more}
 use Rattle.wt_html_grammar.specs.Markup.{Pair, Markups, text, node, empty, more}
 use Rattle.wt_html_grammar.proofs.Steps.{if_true, if_false}
-use Rattle.wt_fitting.specs.declared.standing.Standing.{Standing}
-use Rattle.wt_fitting.specs.declared.standing.Standing.TheVariants as stands
-use Rattle.wt_fitting.specs.Attributes.{value_of, has}
-use Rattle.wt_fitting.specs.Rows.{holds_text, shows_text}
-use Rattle.wt_fitting.specs.Data.{Data, data_for}
-use Rattle.wt_fitting.specs.Groups.{standing, standing_by, open_by, open_after, is_gap, is_further, goes_on, is_dropped, Piece, single, begun, further, furthers, gathered}
-use Rattle.wt_fitting.specs.Fit.{Misfit, Spot, within, elements, leaf_in, texts_in, label_as, piece_as, onto_told, children_in, with_children, one_piece, text_fits, is_block_row, row_as, behind_it, fits_place, is_inside, fit_told, fit_row, fit_node, fit_nodes}
-use Rattle.wt_fitting.specs.Unsourced.{lacks_source, unsourced_as, unsourced_nodes}
+use Rattle.wt_schema.specs.declared.standing.Standing.{Standing}
+use Rattle.wt_schema.specs.declared.standing.Standing.TheVariants as stands
+use Rattle.wt_schema.specs.Attributes.{value_of, has}
+use Rattle.wt_schema.specs.Rows.{holds_text, shows_text}
+use Rattle.wt_schema.specs.Data.{Data, data_for}
+use Rattle.wt_schema.specs.Groups.{standing, standing_by, open_by, open_after, is_gap, is_further, goes_on, is_dropped, Piece, single, begun, further, furthers, gathered}
+use Rattle.wt_schema.specs.Fit.{Misfit, Spot, within, elements, leaf_in, texts_in, label_as, piece_as, onto_told, children_in, with_children, one_piece, text_fits, is_block_row, row_as, behind_it, fits_place, is_inside, fit_told, fit_row, fit_node, fit_nodes}
+use Rattle.wt_schema.specs.Unsourced.{lacks_source, unsourced_as, unsourced_nodes}
 use Rattle.wt_round_trip.specs.Written.{shown_of, leaf_kind}
 
 -- ---- where something stands

@@ -16,14 +16,14 @@ use Rattle.wt_html_grammar.specs.Events.{Building}
 use Rattle.wt_html_grammar.proofs.Steps.{if_true, if_false}
 use Rattle.wt_html_grammar.proofs.Reading.{well_read}
 use Rattle.wt_html_grammar.proofs.Telling.{stands_told}
-use Rattle.wt_fitting.specs.Attributes.{value_of, has}
-use Rattle.wt_fitting.specs.Groups.{Piece}
-use Rattle.wt_fitting.specs.Data.{Data, data_of}
-use Rattle.wt_fitting.specs.Rows.{shows_text}
-use Rattle.wt_fitting.specs.Fit.{Misfit, Found, texts_in, label_for, held_as, with_children, text_fits, within, fit_nodes, fit_body_told, body_data, fit_body, body_of, fit}
-use Rattle.wt_fitting.specs.Sections.{all_bared, opened_if_fit}
-use Rattle.wt_fitting.specs.Unsourced.{is_marked, unsourced_body, unsourced}
-use Rattle.wt_fitting.specs.Read.{page, read_fit, read_tree, read_root, read_run, read}
+use Rattle.wt_schema.specs.Attributes.{value_of, has}
+use Rattle.wt_schema.specs.Groups.{Piece}
+use Rattle.wt_schema.specs.Data.{Data, data_of}
+use Rattle.wt_schema.specs.Rows.{shows_text}
+use Rattle.wt_schema.specs.Fit.{Misfit, Found, texts_in, label_for, held_as, with_children, text_fits, within, fit_nodes, fit_body_told, body_data, fit_body, body_of, fit}
+use Rattle.wt_schema.specs.Sections.{all_bared, opened_if_fit}
+use Rattle.wt_schema.specs.Unsourced.{is_marked, unsourced_body, unsourced}
+use Rattle.wt_schema.specs.Read.{page, read_fit, read_tree, read_root, read_run, read}
 use Rattle.wt_round_trip.specs.Written.{unranged, unranged_all, IsShown, IsElementLabel, PartsIn, IsWritten}
 use Rattle.wt_round_trip.proofs.Said.{said_of}
 use Rattle.wt_round_trip.proofs.Rows.{is_as_void, IsElementKind, body_is_kind}

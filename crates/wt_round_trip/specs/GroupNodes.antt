@@ -5,7 +5,7 @@ use Rattle.wt_tree.specs.Kinds.{may_follow, is_block}
 use Rattle.wt_tree.specs.Plain.{Face, Plain, text, element, Plains, ended, along, plains_before}
 use Rattle.wt_tree.specs.Recut.{leaf_label, text_leaf}
 use Rattle.wt_tree.specs.Tree.{Label, Tree, tree, Trees, none, more}
-use Rattle.wt_fitting.specs.Groups.{is_span}
+use Rattle.wt_schema.specs.Groups.{is_span}
 
 -- ---- the elements that are written for what a group shows: a text at the top is in a `span`, and
 -- where nothing is shown there is one empty `span`

@@ -9,9 +9,9 @@ ghost use Rattle.wt_tree.specs.Plain.{plain};
 ghost use Rattle.wt_tree.specs.Tiling.{numbers};
 ghost use Rattle.wt_markup.specs.Html.{groups, html_text};
 ghost use Rattle.wt_html_grammar.specs.Markup.{Markup, Stands};
-ghost use Rattle.wt_fitting.specs.Fit.{fit};
-ghost use Rattle.wt_fitting.specs.Unsourced.{unsourced};
-ghost use Rattle.wt_fitting.specs.Read.{read, page};
+ghost use Rattle.wt_schema.specs.Fit.{fit};
+ghost use Rattle.wt_schema.specs.Unsourced.{unsourced};
+ghost use Rattle.wt_schema.specs.Read.{read, page};
 ghost use Rattle.wt_round_trip.specs.Written.{unranged, WrittenIn, PartIn, IsWritten};
 
 /// What is written for a page's tree is well-formed HTML. It stands for this very tree, but for its

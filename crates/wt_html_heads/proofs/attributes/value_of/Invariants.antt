@@ -1,6 +1,6 @@
 use Rattle.std.proofs.Common.{◌≡◌, drop}
 use Rattle.wt_html_elements.specs.Built.{pairs}
-use Rattle.wt_fitting.specs.Attributes.{value_of}
+use Rattle.wt_schema.specs.Attributes.{value_of}
 use Rattle.wt_html_heads.proofs.attributes.value_of.Given as goal
 
 abbrev pub invariant-loop-attribute : goal.invariant-loop-attribute

@@ -1,6 +1,6 @@
 use Rattle.std.proofs.Common.{ap, ◌∙◌}
 use Rattle.wt_html_elements.specs.Built.{pairs}
-use Rattle.wt_fitting.specs.Attributes.{value_of}
+use Rattle.wt_schema.specs.Attributes.{value_of}
 use Rattle.wt_html_heads.proofs.Values.{sync_at}
 use Rattle.wt_html_heads.proofs.data.sync_data.Goals as goal
 

@@ -1,5 +1,5 @@
 use Rattle.std.proofs.Common.{sym, ◌∙◌}
-use Rattle.wt_fitting.specs.Rows.{row}
+use Rattle.wt_schema.specs.Rows.{row}
 use Rattle.wt_html_elements.specs.Built.{pairs, views}
 use Rattle.wt_html_heads.proofs.Labels.{row_good}
 use Rattle.wt_html_heads.proofs.head.headed_in.Goals as goal

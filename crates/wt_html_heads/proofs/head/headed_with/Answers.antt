@@ -1,6 +1,6 @@
 use Rattle.std.proofs.Common.{Some, refl, sym, ◌∙◌}
 use Rattle.wt_html_elements.specs.Built.{pairs, views}
-use Rattle.wt_fitting.specs.Fit.{texts_in}
+use Rattle.wt_schema.specs.Fit.{texts_in}
 use Rattle.wt_html_heads.specs.Told.{data_both}
 use Rattle.wt_html_heads.proofs.Labels.{first_headed}
 use Rattle.wt_html_heads.proofs.head.headed_with.Goals as goal

@@ -1,5 +1,5 @@
 use Rattle.std.proofs.Common.{◌≡◌, drop}
-use Rattle.wt_fitting.specs.Attributes.{decimal_from}
+use Rattle.wt_schema.specs.Attributes.{decimal_from}
 use Rattle.wt_html_heads.proofs.number.decimal.Given as goal
 
 abbrev pub invariant-loop-digit : goal.invariant-loop-digit

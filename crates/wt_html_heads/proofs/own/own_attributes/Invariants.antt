@@ -1,6 +1,6 @@
 use Rattle.std.proofs.Common.{◌≡◌, ◌++◌, drop}
 use Rattle.wt_html_elements.specs.Built.{pairs}
-use Rattle.wt_fitting.specs.Groups.{own_pairs}
+use Rattle.wt_schema.specs.Groups.{own_pairs}
 use Rattle.wt_html_heads.proofs.own.own_attributes.Given as goal
 
 abbrev pub invariant-loop-attribute : goal.invariant-loop-attribute

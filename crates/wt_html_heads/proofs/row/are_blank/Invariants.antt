@@ -1,6 +1,6 @@
 use Rattle.std.proofs.Common.{◌≡◌, drop}
 use Rattle.wt_html_elements.specs.Built.{views}
-use Rattle.wt_fitting.specs.Fit.{are_blank}
+use Rattle.wt_schema.specs.Fit.{are_blank}
 use Rattle.wt_html_heads.proofs.row.are_blank.Given as goal
 
 abbrev pub invariant-loop-content : goal.invariant-loop-content

@@ -1,5 +1,5 @@
 use Rattle.std.proofs.Common.{◌≡◌, drop}
-use Rattle.wt_fitting.specs.Rows.{values_at}
+use Rattle.wt_schema.specs.Rows.{values_at}
 use Rattle.wt_html_heads.proofs.row.values_at.Given as goal
 
 abbrev pub invariant-loop-one : goal.invariant-loop-one

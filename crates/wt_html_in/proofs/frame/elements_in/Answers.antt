@@ -1,7 +1,7 @@
 use Rattle.std.proofs.Common.{◌≡◌, rules, [], ◌∷◌, sym, ap, ◌∙◌}
 use Rattle.std.specs.Vec.Iter.{into_iter_items}
 use Rattle.wt_html_elements.specs.Built.{views}
-use Rattle.wt_fitting.specs.Fit.{elements_in}
+use Rattle.wt_schema.specs.Fit.{elements_in}
 use Rattle.wt_html_in.proofs.Walking.{no_items}
 use Rattle.wt_html_in.proofs.Frames.{element_on, elements_end}
 use Rattle.wt_html_in.proofs.frame.elements_in.Goals as goal

@@ -2,7 +2,7 @@ use Rattle.std.proofs.Common.{◌≡◌}
 use Rattle.std.specs.Vec.Iter.{into_iter_items}
 use Rattle.wt_html_grammar.specs.Events.{append}
 use Rattle.wt_html_elements.specs.Built.{views}
-use Rattle.wt_fitting.specs.Fit.{elements_in}
+use Rattle.wt_schema.specs.Fit.{elements_in}
 use Rattle.wt_html_in.proofs.frame.elements_in.Given as goal
 
 abbrev pub invariant-loop-content : goal.invariant-loop-content

@@ -1,6 +1,6 @@
 use Rattle.std.proofs.Common.{◌≡◌, drop, option_map}
 use Rattle.wt_html_elements.specs.Built.{views}
-use Rattle.wt_fitting.specs.Groups.{goes_on}
+use Rattle.wt_schema.specs.Groups.{goes_on}
 use Rattle.wt_html_in.proofs.roles.goes_on.Given as goal
 
 abbrev pub invariant-loop-content : goal.invariant-loop-content

@@ -1,7 +1,7 @@
 use Rattle.std.proofs.Common.{◌≡◌, rules, [], ◌∷◌, sym, ap, ◌∙◌}
 use Rattle.std.specs.Vec.Iter.{into_iter_items}
 use Rattle.wt_html_elements.specs.Built.{views}
-use Rattle.wt_fitting.specs.Sections.{all_bared}
+use Rattle.wt_schema.specs.Sections.{all_bared}
 use Rattle.wt_html_in.proofs.Walking.{no_items}
 use Rattle.wt_html_in.proofs.Bared.{bared_on, bared_end}
 use Rattle.wt_html_in.proofs.sections.+baring.Goals as goal

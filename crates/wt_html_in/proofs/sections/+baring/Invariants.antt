@@ -2,7 +2,7 @@ use Rattle.std.proofs.Common.{◌≡◌}
 use Rattle.std.specs.Vec.Iter.{into_iter_items}
 use Rattle.wt_html_grammar.specs.Events.{append}
 use Rattle.wt_html_elements.specs.Built.{views}
-use Rattle.wt_fitting.specs.Sections.{all_bared}
+use Rattle.wt_schema.specs.Sections.{all_bared}
 use Rattle.wt_html_in.proofs.sections.+baring.Given as goal
 
 abbrev pub invariant-all_bared-loop-content : goal.invariant-all_bared-loop-content

@@ -2,7 +2,7 @@ use Rattle.std.proofs.Common.{◌≡◌, rules, [], ◌∷◌, sym, ap, ◌∙�
 use Rattle.std.specs.Prelude.{filter}
 use Rattle.std.specs.Vec.Iter.{into_iter_items}
 use Rattle.wt_html_elements.specs.Built.{pairs}
-use Rattle.wt_fitting.specs.Sections.{is_mark_pair}
+use Rattle.wt_schema.specs.Sections.{is_mark_pair}
 use Rattle.wt_html_in.proofs.Walking.{no_items}
 use Rattle.wt_html_in.proofs.Bared.{mark_on, mark_off, marks_end}
 use Rattle.wt_html_in.proofs.sections.marks_in.Goals as goal

@@ -5,13 +5,13 @@ use Rattle.std.specs.Option.{option_or}
 use Rattle.wt_tree.specs.declared.kind.Kind.{Kind}
 use Rattle.wt_tree.specs.declared.kind.Kind.TheVariants as kind
 use Rattle.wt_html_grammar.specs.Markup.{Pair, Markup, Markups, text, node, empty, more}
-use Rattle.wt_fitting.specs.declared.standing.Standing.{Standing}
-use Rattle.wt_fitting.specs.declared.standing.Standing.TheVariants as stands
-use Rattle.wt_fitting.specs.Groups.{standing, open_after, is_grouped, pairs_for}
-use Rattle.wt_fitting.specs.Fit.{Found, elements, row_as, is_block_element, body_of}
-use Rattle.wt_fitting.specs.Unsourced.{is_marked, is_unsourced, unsourced_as, unsourced_node, unsourced_nodes, lacks_source, unsourced_body, unsourced}
-use Rattle.wt_fitting.specs.Misfits.{Place, place, places, places_of_all, is_asked, is_section_row, source_at, sources_of_body, first_unsourced}
-use Rattle.wt_fitting.proofs.SectionRows.{section_by_name}
+use Rattle.wt_schema.specs.declared.standing.Standing.{Standing}
+use Rattle.wt_schema.specs.declared.standing.Standing.TheVariants as stands
+use Rattle.wt_schema.specs.Groups.{standing, open_after, is_grouped, pairs_for}
+use Rattle.wt_schema.specs.Fit.{Found, elements, row_as, is_block_element, body_of}
+use Rattle.wt_schema.specs.Unsourced.{is_marked, is_unsourced, unsourced_as, unsourced_node, unsourced_nodes, lacks_source, unsourced_body, unsourced}
+use Rattle.wt_schema.specs.Misfits.{Place, place, places, places_of_all, is_asked, is_section_row, source_at, sources_of_body, first_unsourced}
+use Rattle.wt_schema.proofs.SectionRows.{section_by_name}
 
 -- an element of this row, with these attributes
 abbrev lacks : Option Kind → List Pair → Bool

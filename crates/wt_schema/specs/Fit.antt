@@ -8,19 +8,19 @@ use Rattle.wt_tree.specs.declared.kind.Kind.TheVariants as kind
 use Rattle.wt_tree.specs.Tree.{Label, Tree, tree, Trees}
 use Rattle.wt_datamw.specs.declared.sync.Sync.{Sync}
 use Rattle.wt_html_grammar.specs.Markup.{Pair, Markup, Markups, text, node, empty, more}
-use Rattle.wt_fitting.specs.declared.why.FitWhy.{FitWhy}
-use Rattle.wt_fitting.specs.declared.why.FitWhy.TheVariants as why
-use Rattle.wt_fitting.specs.declared.standing.Standing.{Standing}
-use Rattle.wt_fitting.specs.declared.standing.Standing.TheVariants as stands
-use Rattle.wt_fitting.specs.Groups.{standing, open_after, is_grouped, is_dropped, group_attributes, own_pairs, pairs_for, is_span, is_none, Piece, single, begun, further, gathered}
-use Rattle.wt_fitting.specs.Attributes.{has, is_typed, id_of, mark_of}
+use Rattle.wt_schema.specs.declared.why.FitWhy.{FitWhy}
+use Rattle.wt_schema.specs.declared.why.FitWhy.TheVariants as why
+use Rattle.wt_schema.specs.declared.standing.Standing.{Standing}
+use Rattle.wt_schema.specs.declared.standing.Standing.TheVariants as stands
+use Rattle.wt_schema.specs.Groups.{standing, open_after, is_grouped, is_dropped, group_attributes, own_pairs, pairs_for, is_span, is_none, Piece, single, begun, further, gathered}
+use Rattle.wt_schema.specs.Attributes.{has, is_typed, id_of, mark_of}
 use Rattle.wt_tree.specs.declared.row.Texts.{Texts}
 use Rattle.wt_tree.specs.declared.row.Texts.TheVariants.{Separators, Page, Bordered, OwnCharacter}
 use Rattle.wt_tree.specs.Kinds.{may_hold, may_follow, is_block, texts_of_kind}
 use Rattle.wt_tree.specs.Recut.{is_blank, text_leaf, sep_leaf, recut}
-use Rattle.wt_fitting.specs.Rows.{row, holds_text, shows_text, attrs_for}
-use Rattle.wt_fitting.specs.Data.{Data, no_data, data_of, data_for, id_for}
-use Rattle.wt_fitting.specs.Sections.{all_bared, opened_if_fit}
+use Rattle.wt_schema.specs.Rows.{row, holds_text, shows_text, attrs_for}
+use Rattle.wt_schema.specs.Data.{Data, no_data, data_of, data_for, id_for}
+use Rattle.wt_schema.specs.Sections.{all_bared, opened_if_fit}
 
 -- ---- labels
 

@@ -8,7 +8,7 @@ use Rattle.wt_tree.specs.declared.kind.Mark.{Mark}
 use Rattle.wt_tree.specs.declared.kind.Mark.TheVariants as mark
 use Rattle.wt_tree.specs.Tree.{Label, Tree, tree, Trees, none as no_trees, more as one_more}
 use Rattle.wt_html_grammar.specs.declared.why.HtmlWhy.TheVariants as html_why
-use Rattle.wt_fitting.specs.declared.why.FitWhy.TheVariants as why
+use Rattle.wt_schema.specs.declared.why.FitWhy.TheVariants as why
 use Rattle.wt_tree.specs.Kinds.{spelling, tag_name, attribute_name}
 use Rattle.wt_tree.specs.Values.{extension_prefix, placeholder, no_include, no_include_end, only_include, only_include_end, include_only, switch_prefix, is_switch}
 use Rattle.std.specs.Fmt.{digits}
@@ -16,10 +16,10 @@ use Rattle.wt_tree.specs.declared.kind.TagName.TheVariants as tag
 use Rattle.wt_tree.specs.declared.node.DataMw.TheVariants as parts
 use Rattle.serde_json.proofs.OnLiterals.{serde_json_on_literals}
 use Rattle.wt_datamw.specs.MwRead.{is_mw_shape, has_small_numbers, mw_of_data, mw_told}
-use Rattle.wt_fitting.specs.Groups.{transclusion, param}
-use Rattle.wt_fitting.specs.Rows.{link_read}
+use Rattle.wt_schema.specs.Groups.{transclusion, param}
+use Rattle.wt_schema.specs.Rows.{link_read}
 use Rattle.wt_tree.specs.Recut.{leaf_label, text_leaf, sep_leaf}
-use Rattle.wt_fitting.specs.Read.{page, ill, misfit, read_tree, read}
+use Rattle.wt_schema.specs.Read.{page, ill, misfit, read_tree, read}
 
 -- a node without data
 abbrev label_with : Kind → ℕ → Mark → Label

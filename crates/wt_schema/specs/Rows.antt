@@ -19,8 +19,8 @@ use Rattle.wt_tree.specs.declared.row.Values.TheVariants.{IslandType, IncludeTyp
 use Rattle.wt_tree.specs.Kinds.{spelling, level_digits, attribute_name, order, texts_of_kind}
 use Rattle.wt_tree.specs.Values.{passes, is_needed}
 use Rattle.wt_html_grammar.specs.Markup.{Pair}
-use Rattle.wt_fitting.specs.Attributes.{value_of}
-use Rattle.wt_fitting.specs.Sections.{is_section_name}
+use Rattle.wt_schema.specs.Attributes.{value_of}
+use Rattle.wt_schema.specs.Sections.{is_section_name}
 
 -- ---- which element is which kind
 

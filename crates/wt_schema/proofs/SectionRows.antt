@@ -7,10 +7,10 @@ use Rattle.wt_tree.specs.declared.kind.Kind.TheVariants as kind
 use Rattle.wt_tree.specs.declared.kind.AttrName.TheVariants as attr
 use Rattle.wt_tree.specs.Kinds.{attribute_name, is_section}
 use Rattle.wt_html_grammar.specs.Markup.{Pair}
-use Rattle.wt_fitting.specs.Attributes.{value_of}
-use Rattle.wt_fitting.specs.Misfits.{is_section_row}
-use Rattle.wt_fitting.specs.Rows.{read_kinds, is_row, row_by, row}
-use Rattle.wt_fitting.specs.Sections.{is_section_name}
+use Rattle.wt_schema.specs.Attributes.{value_of}
+use Rattle.wt_schema.specs.Misfits.{is_section_row}
+use Rattle.wt_schema.specs.Rows.{read_kinds, is_row, row_by, row}
+use Rattle.wt_schema.specs.Sections.{is_section_name}
 
 abbrev none_is_section : List Kind → Bool
 none_is_section [] = true

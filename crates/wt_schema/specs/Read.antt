@@ -9,9 +9,9 @@ use Rattle.wt_html_grammar.specs.Places.{IsPlace, taken, is_accepted}
 use Rattle.wt_html_reasons.specs.Reasons.{Holds, comes_before}
 use Rattle.wt_html_grammar.specs.Markup.{Markup, Markups, empty, more, Stands}
 use Rattle.wt_html_grammar.specs.Events.{built}
-use Rattle.wt_fitting.specs.declared.why.FitWhy.{FitWhy}
-use Rattle.wt_fitting.specs.Fit.{Misfit, fit}
-use Rattle.wt_fitting.specs.Unsourced.{unsourced}
+use Rattle.wt_schema.specs.declared.why.FitWhy.{FitWhy}
+use Rattle.wt_schema.specs.Fit.{Misfit, fit}
+use Rattle.wt_schema.specs.Unsourced.{unsourced}
 
 pub data Read : Type 0 where
   page : Tree → Option ℕ → Read

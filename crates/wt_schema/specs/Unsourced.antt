@@ -4,12 +4,12 @@
 use Rattle.std.specs.Prelude.{ℕ, suc, ◌+◌, ◌&&◌, ◌||◌, Bool, not, Option, Some, None, List, codes, if◌then◌else◌}
 use Rattle.std.specs.Option.{option_or}
 use Rattle.wt_html_grammar.specs.Markup.{Pair, Markup, Markups, text, node, empty, more}
-use Rattle.wt_fitting.specs.declared.standing.Standing.{Standing}
-use Rattle.wt_fitting.specs.declared.standing.Standing.TheVariants as stands
-use Rattle.wt_fitting.specs.Attributes.{has}
-use Rattle.wt_fitting.specs.Groups.{standing, open_after}
-use Rattle.wt_fitting.specs.Fit.{Found, elements, body_of}
-use Rattle.wt_fitting.specs.Sections.{is_section_name}
+use Rattle.wt_schema.specs.declared.standing.Standing.{Standing}
+use Rattle.wt_schema.specs.declared.standing.Standing.TheVariants as stands
+use Rattle.wt_schema.specs.Attributes.{has}
+use Rattle.wt_schema.specs.Groups.{standing, open_after}
+use Rattle.wt_schema.specs.Fit.{Found, elements, body_of}
+use Rattle.wt_schema.specs.Sections.{is_section_name}
 
 abbrev pub is_marked : List Pair → Bool
 is_marked ps = has (codes "data-wt-edit") ps

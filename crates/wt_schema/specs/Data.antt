@@ -14,9 +14,9 @@ use Rattle.wt_datamw.specs.declared.refusal.DataWhy.{DataWhy}
 use Rattle.wt_datamw.specs.SyncRead.{sync_told}
 use Rattle.wt_datamw.specs.MwRead.{mw_told}
 use Rattle.wt_html_grammar.specs.Markup.{Pair}
-use Rattle.wt_fitting.specs.declared.standing.Standing.{Standing}
-use Rattle.wt_fitting.specs.declared.standing.Standing.TheVariants as stands
-use Rattle.wt_fitting.specs.Attributes.{value_of, has, id_of}
+use Rattle.wt_schema.specs.declared.standing.Standing.{Standing}
+use Rattle.wt_schema.specs.declared.standing.Standing.TheVariants as stands
+use Rattle.wt_schema.specs.Attributes.{value_of, has, id_of}
 
 abbrev pub is_empty : List ℕ → Bool
 is_empty [] = true

@@ -7,14 +7,14 @@ use Rattle.wt_tree.specs.declared.kind.Kind.{Kind}
 use Rattle.wt_tree.specs.declared.kind.Kind.TheVariants as kind
 use Rattle.wt_tree.specs.Kinds.{is_section}
 use Rattle.wt_html_grammar.specs.Markup.{Pair, Markup, Markups, text, node, empty, more}
-use Rattle.wt_fitting.specs.declared.why.FitWhy.{FitWhy}
-use Rattle.wt_fitting.specs.declared.why.FitWhy.TheVariants as why
-use Rattle.wt_fitting.specs.declared.standing.Standing.{Standing}
-use Rattle.wt_fitting.specs.declared.standing.Standing.TheVariants as stands
-use Rattle.wt_fitting.specs.Groups.{standing, open_after, is_grouped}
-use Rattle.wt_fitting.specs.Data.{Data, data_for}
-use Rattle.wt_fitting.specs.Unsourced.{is_marked, is_unsourced}
-use Rattle.wt_fitting.specs.Fit.{Found, elements, row_as, is_block_element, fits_place, body_data, text_fits}
+use Rattle.wt_schema.specs.declared.why.FitWhy.{FitWhy}
+use Rattle.wt_schema.specs.declared.why.FitWhy.TheVariants as why
+use Rattle.wt_schema.specs.declared.standing.Standing.{Standing}
+use Rattle.wt_schema.specs.declared.standing.Standing.TheVariants as stands
+use Rattle.wt_schema.specs.Groups.{standing, open_after, is_grouped}
+use Rattle.wt_schema.specs.Data.{Data, data_for}
+use Rattle.wt_schema.specs.Unsourced.{is_marked, is_unsourced}
+use Rattle.wt_schema.specs.Fit.{Found, elements, row_as, is_block_element, fits_place, body_data, text_fits}
 
 -- An element with its number, its parent's kind and its own, whether it is in a group and behind a block,
 -- and how it stands. The body's parent has no kind, and neither has an element that is no row.

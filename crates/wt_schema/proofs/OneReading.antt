@@ -14,10 +14,10 @@ use Rattle.wt_html_grammar.proofs.Reading.{well_read}
 use Rattle.wt_html_grammar.proofs.Spaces.{one_place}
 use Rattle.wt_html_grammar.proofs.Telling.{stands_told}
 use Rattle.wt_html_reasons.proofs.First.{holds, first_reason, only}
-use Rattle.wt_fitting.specs.declared.why.FitWhy.{FitWhy}
-use Rattle.wt_fitting.specs.Fit.{Misfit, fit}
-use Rattle.wt_fitting.specs.Unsourced.{unsourced}
-use Rattle.wt_fitting.specs.Read.{Read, page, ill, misfit, read_fit, read_tree, read_root, read_run, read, IsRead}
+use Rattle.wt_schema.specs.declared.why.FitWhy.{FitWhy}
+use Rattle.wt_schema.specs.Fit.{Misfit, fit}
+use Rattle.wt_schema.specs.Unsourced.{unsourced}
+use Rattle.wt_schema.specs.Read.{Read, page, ill, misfit, read_fit, read_tree, read_root, read_run, read, IsRead}
 
 -- the three ways in which the machine ends
 read_err : (bytes : List ℕ) (w : HtmlWhy) → run start bytes ≡ Err w → read bytes ≡ ill (taken start bytes) w

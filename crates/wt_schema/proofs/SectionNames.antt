@@ -7,8 +7,8 @@ use Rattle.std.proofs.lemmas.Slice.Eq.{bytes_eq-Decides}
 use Rattle.wt_tree.specs.declared.kind.Kind.{Kind}
 use Rattle.wt_tree.specs.declared.kind.AttrName.TheVariants as attr
 use Rattle.wt_tree.specs.Kinds.{spelling, tag_name}
-use Rattle.wt_fitting.specs.Rows.{read_kinds, is_named, tells, is_row, row_by}
-use Rattle.wt_fitting.specs.Sections.{is_section_name}
+use Rattle.wt_schema.specs.Rows.{read_kinds, is_named, tells, is_row, row_by}
+use Rattle.wt_schema.specs.Sections.{is_section_name}
 
 abbrev are_named_otherwise : List ℕ → List Kind → Bool
 are_named_otherwise name [] = true

@@ -2,12 +2,12 @@ ghost use Rattle.std.specs.Prelude.{◌≡◌, ℕ, List, Some, None, Ok, Err};
 ghost use Rattle.std.specs.List.{AllByRecursion};
 ghost use Rattle.wt_tree.specs.Tree.{Tree};
 ghost use Rattle.wt_html_grammar.specs.Markup.{Markup};
-ghost use Rattle.wt_fitting.specs.declared.why.FitWhy.{FitWhy};
-ghost use Rattle.wt_fitting.specs.declared.why.FitWhy.TheVariants as why;
-ghost use Rattle.wt_fitting.specs.Fit.{Found, body_of, fit};
-ghost use Rattle.wt_fitting.specs.Misfits.{places_of_body, FitsAlone, FirstMisfit, sources_of_body, first_unsourced};
-ghost use Rattle.wt_fitting.specs.Unsourced.{unsourced};
-ghost use Rattle.wt_fitting.specs.Read.{Read, read, IsRead};
+ghost use Rattle.wt_schema.specs.declared.why.FitWhy.{FitWhy};
+ghost use Rattle.wt_schema.specs.declared.why.FitWhy.TheVariants as why;
+ghost use Rattle.wt_schema.specs.Fit.{Found, body_of, fit};
+ghost use Rattle.wt_schema.specs.Misfits.{places_of_body, FitsAlone, FirstMisfit, sources_of_body, first_unsourced};
+ghost use Rattle.wt_schema.specs.Unsourced.{unsourced};
+ghost use Rattle.wt_schema.specs.Read.{Read, read, IsRead};
 
 /// What is read by the machine is what the grammar says: an input is the page of the tree of elements
 /// for which it stands, or that tree's first misfit, or it is refused at the place and for the reason

@@ -8,14 +8,14 @@ use Rattle.wt_tree.specs.declared.kind.Kind.TheVariants as kind
 use Rattle.wt_tree.specs.Tree.{Label, Tree}
 use Rattle.wt_html_grammar.specs.Markup.{Pair, Markup, Markups, text, node, empty, more}
 use Rattle.wt_html_grammar.proofs.Steps.{if_true, if_false}
-use Rattle.wt_fitting.specs.declared.why.FitWhy.{FitWhy}
-use Rattle.wt_fitting.specs.declared.why.FitWhy.TheVariants as why
-use Rattle.wt_fitting.specs.declared.standing.Standing.{Standing}
-use Rattle.wt_fitting.specs.Groups.{standing, open_after, Piece}
-use Rattle.wt_fitting.specs.Data.{Data, data_for}
-use Rattle.wt_fitting.specs.Fit.{Misfit, Found, elements, label_for, label_as, texts_in, onto, onto_told, with_children, one_piece, Spot, within, row_as, is_block_element, behind_it, fits_place, is_inside, text_fits, fit_told, fit_as, fit_row, fit_node, fit_nodes, fit_body_told, body_data, fit_body, fit, body_of}
-use Rattle.wt_fitting.specs.Sections.{opened_if_fit}
-use Rattle.wt_fitting.specs.Misfits.{Place, place, places, places_of_all, places_of_body, is_wrong, IsReason, FitsAlone, FirstMisfit}
+use Rattle.wt_schema.specs.declared.why.FitWhy.{FitWhy}
+use Rattle.wt_schema.specs.declared.why.FitWhy.TheVariants as why
+use Rattle.wt_schema.specs.declared.standing.Standing.{Standing}
+use Rattle.wt_schema.specs.Groups.{standing, open_after, Piece}
+use Rattle.wt_schema.specs.Data.{Data, data_for}
+use Rattle.wt_schema.specs.Fit.{Misfit, Found, elements, label_for, label_as, texts_in, onto, onto_told, with_children, one_piece, Spot, within, row_as, is_block_element, behind_it, fits_place, is_inside, text_fits, fit_told, fit_as, fit_row, fit_node, fit_nodes, fit_body_told, body_data, fit_body, fit, body_of}
+use Rattle.wt_schema.specs.Sections.{opened_if_fit}
+use Rattle.wt_schema.specs.Misfits.{Place, place, places, places_of_all, places_of_body, is_wrong, IsReason, FitsAlone, FirstMisfit}
 
 -- ---- the first in a list
 

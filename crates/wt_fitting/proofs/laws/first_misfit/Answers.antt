@@ -1,5 +1,0 @@
-use Rattle.wt_fitting.proofs.FirstMisfits.{first_told, told_first, fit_told_all, no_root}
-use Rattle.wt_fitting.proofs.laws.first_misfit.Goals as goal
-
-pub returns : goal.returns
-returns c = record { told = first_told; only = told_first; all = fit_told_all; root = no_root }
