@@ -9,8 +9,8 @@ use Rattle.wt_html_elements.specs.declared.content.Content.{Content}
 use Rattle.wt_html_elements.specs.Built.{pair, pairs, view_content, views as markups}
 use Rattle.wt_schema.specs.Fit.{elements, elements_of_all}
 use Rattle.wt_schema.specs.Sections.{is_section_name, is_mark_pair, bared, all_bared}
-use Rattle.wt_html_heads.specs.Texts.{are_utf8_values, is_utf8_markup, are_utf8_markups}
-use Rattle.wt_html_heads.proofs.Values.{and_left, and_right}
+use Rattle.wt_html_nodes.specs.Texts.{are_utf8_values, is_utf8_markup, are_utf8_markups}
+use Rattle.wt_html_nodes.proofs.Values.{and_left, and_right}
 
 -- ---- how many elements
 

@@ -16,17 +16,17 @@ use Rattle.wt_html_in.specs.declared.frame.Found.{Found}
 use Rattle.wt_schema.specs.Groups.{Piece}
 use Rattle.wt_schema.specs.Fit.{Misfit, within, with_children, elements, elements_of_all, fit_body_told, body_data, fit_nodes, elements_in, body_in, body_of, Found as FoundBody}
 use Rattle.wt_schema.specs.Unsourced.{is_marked, unsourced_nodes}
-use Rattle.wt_html_heads.specs.Texts.{are_utf8_values, is_utf8_markup, are_utf8_markups}
-use Rattle.wt_html_heads.specs.declared.fault.FitFault.{FitFault}
-use Rattle.wt_html_heads.specs.declared.fault.FitFault.TheVariants as faults
-use Rattle.wt_html_heads.specs.declared.head.Head.{Head}
+use Rattle.wt_html_nodes.specs.Texts.{are_utf8_values, is_utf8_markup, are_utf8_markups}
+use Rattle.wt_html_nodes.specs.declared.fault.FitFault.{FitFault}
+use Rattle.wt_html_nodes.specs.declared.fault.FitFault.TheVariants as faults
+use Rattle.wt_html_nodes.specs.declared.head.Head.{Head}
 use Rattle.wt_html_in.specs.declared.walk.Walk.{Walk}
 use Rattle.wt_html_in.specs.declared.edited.Edited.{Edited}
 use Rattle.wt_html_in.specs.Answers.{body_of as body_told, unsourced_of}
-use Rattle.wt_html_heads.specs.Heads.{label_of_head, BodyFits}
+use Rattle.wt_html_nodes.specs.Heads.{label_of_head, BodyFits}
 use Rattle.wt_html_in.specs.Fits.{held_in, FitsNodes}
 use Rattle.wt_html_in.specs.Frame.{found_of, found_if_any, is_element, number_behind_one, number_behind, body_as, is_root, marked_here, FitsBody}
-use Rattle.wt_html_heads.proofs.Values.{and_left, and_right}
+use Rattle.wt_html_nodes.proofs.Values.{and_left, and_right}
 use Rattle.wt_tree.specs.Opened.{without_sections}
 use Rattle.wt_schema.specs.Sections.{all_bared, opened_if_fit}
 use Rattle.wt_html_in.proofs.Bared.{count_bared, utf8_bared, append_push, append_empty}

@@ -16,9 +16,9 @@ use Rattle.wt_schema.specs.declared.why.FitWhy.{FitWhy}
 use Rattle.wt_schema.specs.Fit.{elements, body_of}
 use Rattle.wt_schema.specs.Read.{page, ill, misfit, read}
 use Rattle.wt_schema.proofs.OneReading.{in_words, one_read}
-use Rattle.wt_html_heads.specs.Texts.{is_utf8_markup}
+use Rattle.wt_html_nodes.specs.Texts.{is_utf8_markup}
 use Rattle.wt_html_in.specs.declared.edited.Edited.{Edited}
-use Rattle.wt_html_heads.specs.declared.fault.FitFault.TheVariants as faults
+use Rattle.wt_html_nodes.specs.declared.fault.FitFault.TheVariants as faults
 use Rattle.wt_html_in.specs.declared.refusal.HtmlRefusal.{HtmlRefusal}
 use Rattle.wt_html_in.specs.Answers.{body_of as body_told, unsourced_of, RefusedFor}
 use Rattle.wt_html_in.specs.Feeding.{refusal_told, failure_told, IsIll, IsAtLeast}

@@ -13,7 +13,7 @@ use Rattle.wt_html_grammar.specs.Signs.{in_text, in_value, character_of, number_
 use Rattle.wt_html_grammar.specs.Grammar.{Piece, plain, named, number, IsPiece, ArePieces, Attribute, AreAttributes, spell_piece, spell_attributes, Slash, bare, slash, spell_slash, Element, Items, element, void, none, sign, child, spell, spell_items, IsElement, AreItems, spell_head}
 use Rattle.wt_html_grammar.specs.Markup.{Markup, Markups, empty, more, unit_of, pair_of, flush, meaning, contents, Stands}
 use Rattle.wt_schema.specs.Fit.{elements, elements_of_all}
-use Rattle.wt_html_heads.specs.Texts.{are_utf8_values, is_utf8_markup, are_utf8_markups}
+use Rattle.wt_html_nodes.specs.Texts.{are_utf8_values, is_utf8_markup, are_utf8_markups}
 
 -- ---- elements and bytes
 

@@ -14,22 +14,22 @@ use Rattle.wt_schema.specs.declared.standing.Standing.TheVariants as stands
 use Rattle.wt_schema.specs.Groups.{Piece, single, gathered, standing, is_grouped, is_dropped, open_after}
 use Rattle.wt_schema.specs.Fit.{Misfit, Spot as Place, within, onto, onto_told, with_children, is_block_element, behind_it, elements, elements_of_all, row_as, leaf_in, fit_row, fit_text, fit_node, fit_nodes}
 use Rattle.wt_schema.specs.Unsourced.{lacks_source, unsourced_as, unsourced_nodes}
-use Rattle.wt_html_heads.specs.Texts.{is_utf8_markup, are_utf8_markups}
-use Rattle.wt_html_heads.specs.declared.fault.FitFault.{FitFault}
-use Rattle.wt_html_heads.specs.declared.fault.FitFault.TheVariants as faults
-use Rattle.wt_html_heads.specs.declared.head.Headed.{Headed}
-use Rattle.wt_html_heads.specs.declared.head.Spot.{Spot}
+use Rattle.wt_html_nodes.specs.Texts.{is_utf8_markup, are_utf8_markups}
+use Rattle.wt_html_nodes.specs.declared.fault.FitFault.{FitFault}
+use Rattle.wt_html_nodes.specs.declared.fault.FitFault.TheVariants as faults
+use Rattle.wt_html_nodes.specs.declared.head.Headed.{Headed}
+use Rattle.wt_html_nodes.specs.declared.head.Spot.{Spot}
 use Rattle.wt_html_in.specs.declared.walk.Walk.{Walk}
 use Rattle.wt_html_in.specs.declared.walk.Made.{Made}
 use Rattle.wt_html_in.specs.declared.roles.Role.{Role}
 use Rattle.wt_html_in.specs.declared.roles.Role.TheVariants as are
 use Rattle.wt_html_in.specs.Roles.{text_role, role_at, roles, standing_in, text_piece}
 use Rattle.wt_html_in.specs.Gathering.{gathered_with}
-use Rattle.wt_html_heads.specs.Heads.{label_of_head, piece_by, made_by, RowFits, spot_with}
+use Rattle.wt_html_nodes.specs.Heads.{label_of_head, piece_by, made_by, RowFits, spot_with}
 use Rattle.wt_html_in.specs.Fits.{held_in, unsourced_here, unsourced_among, unsourced_one, Passed, piece_of, is_block_piece, FitsPiece, FitsNodes}
 use Rattle.wt_html_in.proofs.Blocks.{block_made, node_moves}
 use Rattle.wt_html_in.proofs.Pieces.{listed, ends_open, append_none, gathered_add, follows, stays_open}
-use Rattle.wt_html_heads.proofs.Values.{and_right}
+use Rattle.wt_html_nodes.proofs.Values.{and_right}
 
 -- pieces that were made, before what is still to come
 abbrev pub ontos : List Piece → Result (List Piece) Misfit → Result (List Piece) Misfit

@@ -12,10 +12,10 @@ use Rattle.wt_schema.specs.declared.standing.Standing.TheVariants as stands
 use Rattle.wt_schema.specs.Groups.{Piece, single, begun, further, gathered}
 use Rattle.wt_schema.specs.Fit.{within, held_as, elements, elements_of_all, fit_node, fit_nodes}
 use Rattle.wt_schema.specs.Unsourced.{lacks_source, unsourced_node, unsourced_nodes}
-use Rattle.wt_html_heads.specs.declared.fault.FitFault.{FitFault}
-use Rattle.wt_html_heads.specs.declared.fault.FitFault.TheVariants as faults
-use Rattle.wt_html_heads.specs.declared.head.Spot.{Spot}
-use Rattle.wt_html_heads.specs.Heads.{label_of_head, spot_with}
+use Rattle.wt_html_nodes.specs.declared.fault.FitFault.{FitFault}
+use Rattle.wt_html_nodes.specs.declared.fault.FitFault.TheVariants as faults
+use Rattle.wt_html_nodes.specs.declared.head.Spot.{Spot}
+use Rattle.wt_html_nodes.specs.Heads.{label_of_head, spot_with}
 use Rattle.wt_html_in.specs.declared.walk.Walk.{Walk}
 use Rattle.wt_html_in.specs.declared.walk.Made.{Made}
 use Rattle.wt_html_in.specs.declared.walk.Made.TheVariants as are

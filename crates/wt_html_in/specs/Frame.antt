@@ -8,8 +8,8 @@ use Rattle.wt_schema.specs.Sections.{all_bared}
 use Rattle.wt_schema.specs.Unsourced.{is_marked, unsourced_body}
 use Rattle.wt_html_in.specs.declared.frame.Found.{Found}
 use Rattle.wt_html_in.specs.declared.edited.Edited.{Edited}
-use Rattle.wt_html_heads.specs.declared.fault.FitFault.{FitFault}
-use Rattle.wt_html_heads.specs.declared.fault.FitFault.TheVariants as faults
+use Rattle.wt_html_nodes.specs.declared.fault.FitFault.{FitFault}
+use Rattle.wt_html_nodes.specs.declared.fault.FitFault.TheVariants as faults
 use Rattle.wt_html_in.specs.Answers.{body_of, unsourced_of}
 
 abbrev pub found_of : ℕ → List Pair → Markups → FoundBody

@@ -5,7 +5,7 @@ use Rattle.wt_tree.specs.Tree.{Label}
 use Rattle.wt_tree.specs.View.{texts_of, attrs_of}
 use Rattle.wt_datamw.specs.declared.sync.Sync.{Sync}
 use Rattle.wt_schema.specs.Fit.{source_of}
-use Rattle.wt_html_heads.specs.declared.head.Head.{Head}
+use Rattle.wt_html_nodes.specs.declared.head.Head.{Head}
 use Rattle.wt_html_in.specs.declared.nodes.ReadSource.{ReadSource}
 
 pub record Told : Type 0 where

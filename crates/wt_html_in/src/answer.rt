@@ -4,7 +4,7 @@ ghost use Rattle.wt_html_elements.specs.Built.{view_content};
 ghost use Rattle.wt_schema.specs.Fit.{elements};
 ghost use Rattle.wt_html_in.specs.Answers.{Answers};
 ghost use Rattle.wt_html_in.specs.Feeding.{refusal_told};
-ghost use Rattle.wt_html_heads.specs.Texts.{is_utf8_markup};
+ghost use Rattle.wt_html_nodes.specs.Texts.{is_utf8_markup};
 
 use crate::edited::Edited;
 use crate::frame::page;
@@ -12,7 +12,7 @@ use crate::refusal::HtmlRefusal;
 use bumpalo::Bump;
 use std::alloc::Global;
 use wt_html_elements::{Content, HtmlRefusal as ElementRefusal};
-use wt_html_heads::FitFault;
+use wt_html_nodes::FitFault;
 
 /// The refusal of a reader of elements.
 pub fn refusal_of(refusal: ElementRefusal) -> HtmlRefusal

@@ -1,7 +1,7 @@
 ghost use Rattle.std.specs.Prelude.{◌≡◌, ◌+◌, ◌<◌, ◌^◌, true, IfOk, Some};
 ghost use Rattle.wt_html_elements.specs.Built.{view_content, pairs, views};
 ghost use Rattle.wt_schema.specs.Fit.{elements, elements_of_all, elements_in, is_marked_root, body_in, body_of};
-ghost use Rattle.wt_html_heads.specs.Texts.{is_utf8_markup, are_utf8_markups, are_utf8_values};
+ghost use Rattle.wt_html_nodes.specs.Texts.{is_utf8_markup, are_utf8_markups, are_utf8_values};
 ghost use Rattle.wt_html_in.specs.Frame.{found_of, found_if_any, is_element, number_behind_one, number_behind, body_as, is_root, marked_here, FitsBody};
 
 use crate::edited::Edited;
@@ -12,7 +12,7 @@ use bumpalo::Bump;
 use std::alloc::Global;
 use wt_schema::FitWhy;
 use wt_html_elements::{Attribute, Content};
-use wt_html_heads::{FitFault, body_head, has, id_of, is_marked, is_typed};
+use wt_html_nodes::{FitFault, body_head, has, id_of, is_marked, is_typed};
 use wt_span::NoMemory;
 use wt_tree::Kind;
 

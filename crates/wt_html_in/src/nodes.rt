@@ -5,14 +5,14 @@ ghost use Rattle.wt_tree.specs.View.{view, views, texts_of};
 ghost use Rattle.wt_tree.specs.Recut.{text_leaf, sep_leaf};
 ghost use Rattle.wt_span.specs.Slice.{bytes_of};
 ghost use Rattle.wt_schema.specs.Fit.{leaf_in, source_of};
-ghost use Rattle.wt_html_heads.specs.Heads.{label_of_head};
+ghost use Rattle.wt_html_nodes.specs.Heads.{label_of_head};
 ghost use Rattle.wt_html_in.specs.Fits.{held_in};
 ghost use Rattle.wt_html_in.specs.Sources.{source_view, source_told, sourced_label};
 
 use bumpalo::Bump;
 use std::alloc::Global;
 use wt_datamw::Sync;
-use wt_html_heads::{Head, holds_text, shows_text, text_of};
+use wt_html_nodes::{Head, holds_text, shows_text, text_of};
 use wt_span::{List, NoMemory, Str, Text};
 use wt_tree::{Kind, More, Node, Ranges, Shown, Slices, Source, Texts, recut_texts};
 

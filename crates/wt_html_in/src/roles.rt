@@ -8,7 +8,7 @@ ghost use Rattle.wt_html_in.specs.Roles.{about_of, open_behind, role_at, roles, 
 use std::alloc::Global;
 use wt_schema::Standing;
 use wt_html_elements::{Attribute, Content};
-use wt_html_heads::{has, value_of};
+use wt_html_nodes::{has, value_of};
 use wt_span::{NoMemory, rest_of};
 
 /// What a text or an element is: white space between two elements of a group, which is nothing, another

@@ -11,7 +11,7 @@ ghost use Rattle.wt_schema.specs.Sections.{all_bared, bared, is_mark_pair};
 
 use std::alloc::Global;
 use wt_html_elements::{Attribute, Content};
-use wt_html_heads::is_section_name;
+use wt_html_nodes::is_section_name;
 use wt_span::{List, NoMemory};
 use wt_tree::Node;
 

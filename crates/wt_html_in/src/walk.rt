@@ -7,8 +7,8 @@ ghost use Rattle.wt_html_elements.specs.Built.{view_content, pairs, views};
 ghost use Rattle.wt_schema.specs.Groups.{is_grouped, single};
 ghost use Rattle.wt_schema.specs.Fit.{leaf_in, row_as, fit_row, elements, elements_of_all};
 ghost use Rattle.wt_schema.specs.Unsourced.{lacks_source};
-ghost use Rattle.wt_html_heads.specs.Texts.{are_utf8_values, is_utf8_markup, are_utf8_markups};
-ghost use Rattle.wt_html_heads.specs.Heads.{RowFits, spot_with, label_of_head, piece_by};
+ghost use Rattle.wt_html_nodes.specs.Texts.{are_utf8_values, is_utf8_markup, are_utf8_markups};
+ghost use Rattle.wt_html_nodes.specs.Heads.{RowFits, spot_with, label_of_head, piece_by};
 ghost use Rattle.wt_html_in.specs.Roles.{text_piece};
 ghost use Rattle.wt_html_in.specs.Gathering.{with_child, into_last, gathered_with};
 ghost use Rattle.wt_html_in.specs.Fits.{held_in, is_block_piece, piece_of, FitsPiece, FitsNodes, Passed, is_asked, unsourced_here};
@@ -19,7 +19,7 @@ use bumpalo::Bump;
 use std::alloc::Global;
 use wt_schema::Standing;
 use wt_html_elements::{Attribute, Content};
-use wt_html_heads::{
+use wt_html_nodes::{
     FitFault, Head, Headed, Spot, headed_by, is_grouped, is_section_name, is_unsourced,
 };
 use wt_span::{List, NoMemory};
