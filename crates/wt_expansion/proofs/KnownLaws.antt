@@ -20,10 +20,10 @@ use Rattle.wt_transclusion.specs.Steps.{given_from}
 use Rattle.wt_transclusion.specs.Stores.{Agrees, IsKept, IsKnown, IsStore}
 use Rattle.wt_transclusion.proofs.GrowthLaws.{agrees_before}
 use Rattle.wt_transclusion.proofs.StopLaws.{stops_page}
-use Rattle.wt_levels.specs.declared.expansion.Expansion.{Expansion}
-use Rattle.wt_levels.specs.Ledgers.{Comes, Ledger, Refuses, ledger}
-use Rattle.wt_levels.proofs.LedgerLaws.{comes_refusal}
-use Rattle.wt_levels.proofs.PageLaws.{entered_first, reading_is, text_stops}
+use Rattle.wt_template_stack.specs.declared.expansion.Expansion.{Expansion}
+use Rattle.wt_template_stack.specs.Ledgers.{Comes, Ledger, Refuses, ledger}
+use Rattle.wt_template_stack.proofs.LedgerLaws.{comes_refusal}
+use Rattle.wt_template_stack.proofs.PageLaws.{entered_first, reading_is, text_stops}
 use Rattle.wt_expansion.specs.declared.found.Found.{Found}
 use Rattle.wt_expansion.specs.Known.{HoldsPages, KnowsMore}
 use Rattle.wt_expansion.specs.Walks.{IsFree, Walked, at_page}

@@ -14,8 +14,8 @@ use Rattle.wt_expand.specs.PageCalls.{all_stretches, expanded_page, outer_calls,
 use Rattle.wt_expand.specs.Work.{Pages}
 use Rattle.wt_transclusion.specs.Steps.{IsStretchOf, given_from}
 use Rattle.wt_transclusion.proofs.StretchCuts.{whole_stretch}
-use Rattle.wt_levels.proofs.PageLaws.{reading_is}
-use Rattle.wt_levels.proofs.StepLaws.{drop_none}
+use Rattle.wt_template_stack.proofs.PageLaws.{reading_is}
+use Rattle.wt_template_stack.proofs.StepLaws.{drop_none}
 use Rattle.wt_expansion.specs.declared.found.Found.{Found}
 use Rattle.wt_expansion.specs.Made.{AreAlike, Give}
 use Rattle.wt_expansion.specs.Walks.{Finds, at_page}

@@ -12,9 +12,9 @@ use Rattle.wt_transclusion.specs.declared.read.Braces.{Braces}
 use Rattle.wt_transclusion.specs.declared.refusal.ExpandRefusal.{ExpandRefusal}
 use Rattle.wt_transclusion.specs.declared.refusal.ExpandRefusal.TheVariants as answer
 use Rattle.wt_transclusion.specs.declared.store.Store.{Store}
-use Rattle.wt_levels.specs.Calls.{IsCallOf}
-use Rattle.wt_levels.specs.Ledgers.{AnswersOutput, Comes, Ledger, Refuses, ledger}
-use Rattle.wt_levels.proofs.LedgerLaws.{comes_refused, memory_refused}
+use Rattle.wt_template_stack.specs.Calls.{IsCallOf}
+use Rattle.wt_template_stack.specs.Ledgers.{AnswersOutput, Comes, Ledger, Refuses, ledger}
+use Rattle.wt_template_stack.proofs.LedgerLaws.{comes_refused, memory_refused}
 use Rattle.wt_expansion.specs.declared.found.Found.{Found}
 use Rattle.wt_expansion.specs.Walks.{AnswersStep, AnswersTarget, AnswersWalk, target_output}
 

@@ -24,11 +24,11 @@ use Rattle.wt_transclusion.specs.declared.store.Store.{Store}
 use Rattle.wt_transclusion.specs.Steps.{given_from}
 use Rattle.wt_transclusion.specs.Stores.{IsStore}
 use Rattle.wt_transclusion.proofs.PartLaws.{call_places}
-use Rattle.wt_levels.specs.declared.reader.Reader.{Reader}
-use Rattle.wt_levels.specs.Calls.{IsCallOf, source_of, first_end}
-use Rattle.wt_levels.specs.Ledgers.{Ledger, AnswersOutput, Refuses, ledger}
-use Rattle.wt_levels.specs.Runs.{page_called}
-use Rattle.wt_levels.proofs.LedgerLaws.{comes_none}
+use Rattle.wt_template_stack.specs.declared.reader.Reader.{Reader}
+use Rattle.wt_template_stack.specs.Calls.{IsCallOf, source_of, first_end}
+use Rattle.wt_template_stack.specs.Ledgers.{Ledger, AnswersOutput, Refuses, ledger}
+use Rattle.wt_template_stack.specs.Runs.{page_called}
+use Rattle.wt_template_stack.proofs.LedgerLaws.{comes_none}
 use Rattle.wt_expansion.specs.declared.found.Found.{Found}
 use Rattle.wt_expansion.specs.Calls.{outer_of}
 use Rattle.wt_expansion.specs.Walks.{at_page, Adds, Works, Walked, IsCallNext, call_stretches_at, call_work, is_by_source, page_stretch, page_work_at}

@@ -18,11 +18,11 @@ use Rattle.wt_transclusion.specs.Cursors.{starts}
 use Rattle.wt_transclusion.specs.Steps.{IsStretchOf, AnswersNext, given_from}
 use Rattle.wt_transclusion.specs.Stores.{IsStore}
 use Rattle.wt_transclusion.proofs.StretchCuts.{stretch_front, stretch_back}
-use Rattle.wt_levels.specs.declared.reader.Reader.{Reader}
-use Rattle.wt_levels.specs.Ledgers.{Ledger, Comes, Refuses, ledger}
-use Rattle.wt_levels.specs.Readers.{IsReading}
-use Rattle.wt_levels.proofs.CallLaws.{call_is}
-use Rattle.wt_levels.proofs.LedgerLaws.{comes_none, comes_then, comes_before, comes_refused, refused_before}
+use Rattle.wt_template_stack.specs.declared.reader.Reader.{Reader}
+use Rattle.wt_template_stack.specs.Ledgers.{Ledger, Comes, Refuses, ledger}
+use Rattle.wt_template_stack.specs.Readers.{IsReading}
+use Rattle.wt_template_stack.proofs.CallLaws.{call_is}
+use Rattle.wt_template_stack.proofs.LedgerLaws.{comes_none, comes_then, comes_before, comes_refused, refused_before}
 use Rattle.wt_expansion.specs.declared.found.Found.{Found}
 use Rattle.wt_expansion.specs.Made.{AreAlike}
 use Rattle.wt_expansion.specs.Walks.{at_page, Adds, Works, Walked, Going, AnswersStep, IsCallNext, call_stretches_at, call_work}

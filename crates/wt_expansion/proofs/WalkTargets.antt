@@ -19,9 +19,9 @@ use Rattle.wt_transclusion.specs.Steps.{IsStretchOf, given_from}
 use Rattle.wt_transclusion.specs.Stretch.{AreFull}
 use Rattle.wt_transclusion.proofs.PartLaws.{call_parts}
 use Rattle.wt_transclusion.proofs.StretchLaws.{full_members, members_listed}
-use Rattle.wt_levels.specs.Calls.{ArePartsAt, IsCallOf, source_of, parts_of_call, first_end}
-use Rattle.wt_levels.specs.Runs.{page_called}
-use Rattle.wt_levels.proofs.CallLaws.{joined_width, some_is}
+use Rattle.wt_template_stack.specs.Calls.{ArePartsAt, IsCallOf, source_of, parts_of_call, first_end}
+use Rattle.wt_template_stack.specs.Runs.{page_called}
+use Rattle.wt_template_stack.proofs.CallLaws.{joined_width, some_is}
 use Rattle.wt_expansion.specs.Made.{AreAlike}
 use Rattle.wt_expansion.specs.Walks.{at_page, call_stretches_at, call_work, page_stretch, page_work_at, target_members, target_output}
 use Rattle.wt_expansion.proofs.WalkCalls.{call_parts_at, what, called_title, stretches_is, output_is, output_by}

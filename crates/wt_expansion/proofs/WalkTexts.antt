@@ -26,11 +26,11 @@ use Rattle.wt_transclusion.specs.Steps.{IsStretchOf, given_from}
 use Rattle.wt_transclusion.specs.Stretch.{AllFull}
 use Rattle.wt_transclusion.proofs.PartLaws.{outs, outs_append}
 use Rattle.wt_transclusion.proofs.StretchLaws.{full_front, members_listed}
-use Rattle.wt_levels.specs.Calls.{IsCallOf, source_of, first_end, members_behind}
-use Rattle.wt_levels.specs.Ledgers.{Ledger, Refuses, ledger}
-use Rattle.wt_levels.proofs.CallLaws.{behind_same, behind_stands}
-use Rattle.wt_levels.proofs.LedgerLaws.{comes_then, comes_before, comes_refused, refused_before}
-use Rattle.wt_levels.proofs.StepLaws.{joined_append}
+use Rattle.wt_template_stack.specs.Calls.{IsCallOf, source_of, first_end, members_behind}
+use Rattle.wt_template_stack.specs.Ledgers.{Ledger, Refuses, ledger}
+use Rattle.wt_template_stack.proofs.CallLaws.{behind_same, behind_stands}
+use Rattle.wt_template_stack.proofs.LedgerLaws.{comes_then, comes_before, comes_refused, refused_before}
+use Rattle.wt_template_stack.proofs.StepLaws.{joined_append}
 use Rattle.wt_expansion.specs.declared.found.Found.{Found}
 use Rattle.wt_expansion.specs.Walks.{at_page, Adds, Works, Walked, AnswersWalk, TargetRead, call_stretches_at, call_work, page_stretch, page_work_at, target_members, target_output, front_stretches, behind_stretches, behind_work}
 use Rattle.wt_expansion.proofs.FoundLaws.{adds_then, adds_marked}

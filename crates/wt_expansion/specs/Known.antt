@@ -3,7 +3,7 @@ use Rattle.std.specs.Prelude.{◌≡◌, ℕ, Option, List}
 use Rattle.wt_expand.specs.Work.{Pages, Entry, fetches}
 use Rattle.wt_expand.specs.Fronts.{known_after}
 use Rattle.wt_transclusion.specs.Stops.{told_with}
-use Rattle.wt_levels.specs.declared.expansion.Expansion.{Expansion}
+use Rattle.wt_template_stack.specs.declared.expansion.Expansion.{Expansion}
 use Rattle.wt_expansion.specs.Walks.{IsFree}
 
 -- nothing is being expanded, and the pages of some names are known, and no others, as some folder may have them

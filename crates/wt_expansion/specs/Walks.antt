@@ -19,12 +19,12 @@ use Rattle.wt_transclusion.specs.declared.store.Store.{Store}
 use Rattle.wt_transclusion.specs.Cursors.{starts}
 use Rattle.wt_transclusion.specs.Steps.{IsStretchOf, given_from}
 use Rattle.wt_transclusion.specs.Stores.{IsStore}
-use Rattle.wt_levels.specs.declared.expansion.Expansion.{Expansion}
-use Rattle.wt_levels.specs.declared.reader.Reader.{Reader}
-use Rattle.wt_levels.specs.Calls.{IsCallOf, source_of, first_end, members_behind, behind_given}
-use Rattle.wt_levels.specs.Ledgers.{Ledger, Comes, Refuses, ledger, reading_of}
-use Rattle.wt_levels.specs.Readers.{IsReading}
-use Rattle.wt_levels.specs.Runs.{page_called}
+use Rattle.wt_template_stack.specs.declared.expansion.Expansion.{Expansion}
+use Rattle.wt_template_stack.specs.declared.reader.Reader.{Reader}
+use Rattle.wt_template_stack.specs.Calls.{IsCallOf, source_of, first_end, members_behind, behind_given}
+use Rattle.wt_template_stack.specs.Ledgers.{Ledger, Comes, Refuses, ledger, reading_of}
+use Rattle.wt_template_stack.specs.Readers.{IsReading}
+use Rattle.wt_template_stack.specs.Runs.{page_called}
 use Rattle.wt_expansion.specs.declared.found.Found.{Found}
 use Rattle.wt_expansion.specs.Made.{AreAlike, Give}
 

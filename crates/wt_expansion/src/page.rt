@@ -12,7 +12,7 @@ ghost use Rattle.wt_expansion.specs.Walks.{IsFree};
 use crate::walk::{MOST_NESTED, Walk};
 use bumpalo::Bump;
 use std::alloc::Global;
-use wt_levels::{Expansion, Reader, read_page};
+use wt_template_stack::{Expansion, Reader, read_page};
 use wt_devices::Folder;
 use wt_span::{Items, List};
 use wt_transclusion::ExpandRefusal;

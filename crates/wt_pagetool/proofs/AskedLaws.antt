@@ -20,7 +20,7 @@ use Rattle.wt_transclusion.specs.Asked.{AreFirst}
 use Rattle.wt_transclusion.specs.Stops.{AnswersFewer, Stops}
 use Rattle.wt_transclusion.proofs.AskedLaws.{first_all, first_some, first_then}
 use Rattle.wt_transclusion.proofs.StopLaws.{stops_fetching, stops_page, stops_told, stops_within}
-use Rattle.wt_levels.specs.declared.expansion.Expansion.{Expansion}
+use Rattle.wt_template_stack.specs.declared.expansion.Expansion.{Expansion}
 use Rattle.wt_expansion.specs.Known.{KnowsMore}
 use Rattle.wt_html_grammar.specs.declared.why.HtmlWhy.{HtmlWhy}
 use Rattle.wt_schema.specs.declared.why.FitWhy.{FitWhy}

@@ -3,7 +3,7 @@ use Rattle.std.proofs.Common.{◌≡◌, ℕ, List, Bool, true, false, refl, sym
 use Rattle.std.specs.Prelude.{◌≢◌, Option, Some, None, IfErr, IfOk, Result, Ok, Err}
 use Rattle.wt_expand.specs.Work.{Pages}
 use Rattle.wt_expansion.specs.Known.{HoldsPages}
-use Rattle.wt_levels.specs.declared.expansion.Expansion.{Expansion}
+use Rattle.wt_template_stack.specs.declared.expansion.Expansion.{Expansion}
 use Rattle.wt_devices.specs.Device.{Rose}
 use Rattle.wt_page_round_trip.specs.PageTree.{page_tree}
 use Rattle.wt_proposal.specs.Rewritten.{IsRewritten}

@@ -6,7 +6,7 @@ use Rattle.wt_difference.specs.Remarked.{remarked}
 use Rattle.wt_expand.specs.Work.{Pages}
 use Rattle.wt_expansion.specs.Known.{HoldsPages}
 use Rattle.wt_expansion.specs.Walks.{IsFree}
-use Rattle.wt_levels.specs.declared.expansion.Expansion.{Expansion}
+use Rattle.wt_template_stack.specs.declared.expansion.Expansion.{Expansion}
 use Rattle.wt_page_round_trip.specs.PageTree.{page_tree}
 use Rattle.wt_selser.specs.declared.refusal.EditRefusal.{EditRefusal}
 use Rattle.wt_selser.specs.declared.refusal.EditRefusal.TheVariants as of_edit

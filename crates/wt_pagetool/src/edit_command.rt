@@ -33,7 +33,7 @@ use crate::wikitext_command::{PIECE, read_all};
 use bumpalo::Bump;
 use std::alloc::Global;
 use wt_html_in::Reader;
-use wt_levels::Expansion;
+use wt_template_stack::Expansion;
 use wt_devices::{Folder, Source};
 use wt_ranges::Annotated;
 use wt_selser::{edit, first_differing};

@@ -11,7 +11,7 @@ use crate::page::text_of_page;
 use crate::refusal::Refusal;
 use bumpalo::Bump;
 use std::alloc::Global;
-use wt_levels::expanded_text;
+use wt_template_stack::expanded_text;
 use wt_devices::Folder;
 use wt_span::PAGE_BYTES;
 

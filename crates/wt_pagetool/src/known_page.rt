@@ -17,7 +17,7 @@ use crate::page::annotated_of_items;
 use bumpalo::Bump;
 use std::alloc::Global;
 use wt_expansion::expand_knowing;
-use wt_levels::Expansion;
+use wt_template_stack::Expansion;
 use wt_devices::Folder;
 use wt_ranges::Annotated;
 use wt_span::PAGE_BYTES;

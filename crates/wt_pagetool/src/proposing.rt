@@ -22,7 +22,7 @@ use crate::output::Output;
 use crate::reading_back::{EditedPage, Fault, ReadBack, read_back};
 use crate::refusal::Refusal;
 use std::alloc::Global;
-use wt_levels::Expansion;
+use wt_template_stack::Expansion;
 use wt_devices::Folder;
 use wt_proposal::{Keeping, proposal};
 use wt_selser::{EditRefusal, edit as edit_by_marks};

@@ -9,7 +9,7 @@ use Rattle.wt_expand.specs.Work.{fetches, first_refusal}
 use Rattle.wt_transclusion.specs.Answers.{IsRefused}
 use Rattle.wt_transclusion.specs.Stops.{Stops}
 use Rattle.wt_transclusion.proofs.GrowthLaws.{agrees_known, has_known}
-use Rattle.wt_levels.specs.declared.expansion.Expansion.{Expansion}
+use Rattle.wt_template_stack.specs.declared.expansion.Expansion.{Expansion}
 use Rattle.wt_expansion.proofs.PageWalk.{page_members, page_stands}
 use Rattle.wt_expansion.proofs.KnownLaws.{found_refused, found_stops, free_by_agreeing, free_still, page_is_found}
 use Rattle.wt_expansion.proofs.page.expand_knowing.Goals as goal

@@ -12,9 +12,9 @@ use Rattle.wt_transclusion.specs.Steps.{given_from}
 use Rattle.wt_transclusion.specs.Stores.{Concerns, Grows}
 use Rattle.wt_transclusion.proofs.AskedLaws.{asks_none, asks_then}
 use Rattle.wt_transclusion.proofs.GrowthLaws.{agrees_before, agrees_known, grows_none, grows_then}
-use Rattle.wt_levels.specs.Calls.{first_end, members_behind}
-use Rattle.wt_levels.specs.Ledgers.{Refuses, ledger}
-use Rattle.wt_levels.proofs.LedgerLaws.{memory_refused}
+use Rattle.wt_template_stack.specs.Calls.{first_end, members_behind}
+use Rattle.wt_template_stack.specs.Ledgers.{Refuses, ledger}
+use Rattle.wt_template_stack.proofs.LedgerLaws.{memory_refused}
 use Rattle.wt_expansion.specs.Walks.{AnswersStep, AnswersTarget, AnswersWalk, TargetRead, at_page, behind_stretches, behind_work, call_stretches_at, call_work, target_members, target_output}
 use Rattle.wt_expansion.proofs.Refusals.{none_stepped, none_targeted, none_walked, some_left}
 use Rattle.wt_expansion.proofs.WalkCalls.{function_walked, source_same, target_first}

@@ -5,8 +5,8 @@ use Rattle.wt_expand.specs.Work.{Pages}
 use Rattle.wt_transclusion.specs.Asked.{Asks}
 use Rattle.wt_transclusion.specs.Steps.{IsStretchOf, given_from}
 use Rattle.wt_transclusion.specs.Stores.{Agrees, Grows}
-use Rattle.wt_levels.specs.Ledgers.{ledger}
-use Rattle.wt_levels.specs.Readers.{IsReading}
+use Rattle.wt_template_stack.specs.Ledgers.{ledger}
+use Rattle.wt_template_stack.specs.Readers.{IsReading}
 use Rattle.wt_expansion.specs.Walks.{Going, IsFree, at_page}
 use Rattle.wt_expansion.proofs.WalkLaws.{strs}
 use Rattle.wt_expansion.proofs.walk.Walk.+walking.Given as goal

@@ -9,8 +9,8 @@ use Rattle.wt_transclusion.specs.declared.refusal.ExpandRefusal.TheVariants as a
 use Rattle.wt_transclusion.specs.Stores.{Concerns}
 use Rattle.wt_transclusion.proofs.AskedLaws.{asks_none}
 use Rattle.wt_transclusion.proofs.GrowthLaws.{agrees_known}
-use Rattle.wt_levels.specs.Ledgers.{AnswersOutput, Refuses, ledger, reading_of}
-use Rattle.wt_levels.specs.Runs.{page_called}
+use Rattle.wt_template_stack.specs.Ledgers.{AnswersOutput, Refuses, ledger, reading_of}
+use Rattle.wt_template_stack.specs.Runs.{page_called}
 use Rattle.wt_expansion.specs.Calls.{outer_of}
 use Rattle.wt_expansion.specs.Walks.{Adds, AnswersWalk, page_stretch, page_work_at}
 use Rattle.wt_expansion.proofs.Refusals.{given_stops, none_walked}

@@ -11,7 +11,7 @@ use Rattle.wt_transclusion.specs.Steps.{given_from}
 use Rattle.wt_transclusion.specs.Stores.{Concerns}
 use Rattle.wt_transclusion.proofs.AskedLaws.{asks_none}
 use Rattle.wt_transclusion.proofs.GrowthLaws.{agrees_known}
-use Rattle.wt_levels.specs.Ledgers.{AnswersOutput, Refuses, ledger, reading_of}
+use Rattle.wt_template_stack.specs.Ledgers.{AnswersOutput, Refuses, ledger, reading_of}
 use Rattle.wt_expansion.specs.Calls.{outer_of}
 use Rattle.wt_expansion.specs.Walks.{Adds, AnswersWalk, call_stretches_at, call_work}
 use Rattle.wt_expansion.proofs.Refusals.{given_stops, none_walked}

@@ -1,9 +1,0 @@
-use Rattle.std.proofs.Common.{ap, ◌∙◌}
-use Rattle.wt_functions.specs.Choice.{asked, is_tell}
-use Rattle.wt_levels.proofs.FirstAsked.{first_asked}
-use Rattle.wt_levels.proofs.choosing.Choosing.start.Goals as goal
-
-pub invariant_of-result : goal.invariant_of-result
-invariant_of-result c = record {
-  asks = ap (λ x. is_tell (asked x)) c.in_ok-start.ensures ∙ ap is_tell (first_asked c.args.function c.in_ok-equals.equals);
-}

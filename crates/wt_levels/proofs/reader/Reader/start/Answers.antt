@@ -1,4 +1,0 @@
-use Rattle.wt_levels.proofs.reader.Reader.start.Goals as goal
-
-pub returns : goal.returns
-returns c = λ mode bytes h. record { read = h; at = c.start.ensures.at mode bytes c.args.text h; starts = c.start.ensures.at_start }

@@ -1,7 +1,0 @@
-use Rattle.std.proofs.Common.{refl}
-use Rattle.wt_levels.proofs.reader.Reader.within.Goals as goal
-
-pub returns : goal.returns
-returns c = λ mode bytes p s h before.
-    let x = c.in_ok-reader.ensures mode bytes p s h before in
-    record { read = x.read; at = record { at_is = x.at.at_is; lexeme_is = x.at.lexeme_is; call_is = x.at.call_is }; starts = refl }

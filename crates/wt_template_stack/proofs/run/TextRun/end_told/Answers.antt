@@ -1,0 +1,46 @@
+use Rattle.std.proofs.Common.{ap, refl, sym, ◌∙◌}
+use Rattle.wt_span.specs.Items.{items}
+use Rattle.wt_functions.specs.Choice.{asked}
+use Rattle.wt_expand.specs.Texts.{name_text}
+use Rattle.wt_template_stack.proofs.ChoiceSteps.{told_begins, given_again, given_begins, none_of, nothing_returns}
+use Rattle.wt_template_stack.specs.ToldParts.{name_end}
+use Rattle.wt_template_stack.proofs.RestLaws.{spends_none}
+use Rattle.wt_template_stack.proofs.run.TextRun.end_told.Goals as goal
+
+pub returns-in-Tell-clause-answer : goal.returns-in-Tell-clause-answer
+returns-in-Tell-clause-answer c = λ r t total h s.
+    let text = c.as_str.ensures.value ∙ c.in_ok-text.ensures ∙ ap (λ ps. name_text (items ps)) c.as_slice.ensures in (
+      total,
+      spends_none c.args.spent.now total,
+      c.in_ok-begin_level-in-Tell.ensures r t total
+          (told_begins r t c.args.self.now c.args.choosing _ c.args.out c.as_str.result.now c.in-Tell.number c.in_ok-part-in-Tell.part
+          c.told_end-end.result c.args.spent.now total s h text
+          (record { call_is = refl; at_start_is = refl; function_is = refl; begun_is = refl; number_is = refl; spent_is = refl; chooser_is = c.in_ok-told.ensures.ok })
+          (sym c.ask.ensures ∙ c.in-Tell.is) c.in_ok-part-in-Tell.ensures c.told_end-end.ensures),
+    )
+
+pub returns-in-Give-clause-answer : goal.returns-in-Give-clause-answer
+returns-in-Give-clause-answer c = λ r t total h s.
+    let text = c.as_str.ensures.value ∙ c.in_ok-text.ensures ∙ ap (λ ps. name_text (items ps)) c.as_slice.ensures in (
+      total,
+      spends_none c.args.spent.now total,
+      c.in_ok-begin_level-in-Give.ensures r t total
+          (given_begins r t c.args.self.now _ c.args.choosing c.args.out c.as_str.result.now c.in-Give.number c.in_ok-part-in-Give.part
+          c.in_ok-start-in-Give.start total h text (ap asked (sym c.in_ok-told.ensures.ok) ∙ sym c.ask.ensures ∙ c.in-Give.is)
+          c.in_ok-part-in-Give.ensures c.in_ok-start-in-Give.ensures refl refl refl),
+    )
+
+pub returns-clause-answer : goal.returns-clause-answer
+returns-clause-answer c = λ r t total h s.
+    let text = c.as_str.ensures.value ∙ c.in_ok-text.ensures ∙ ap (λ ps. name_text (items ps)) c.as_slice.ensures in
+    c.give.ensures.answer r t total
+    (nothing_returns r t c.args.self.now c.args.choosing c.args.out c.as_str.result.now total h text
+    (ap asked (sym c.in_ok-told.ensures.ok) ∙ sym c.ask.ensures ∙ c.in-Nothing.is))
+
+pub returns-then-is_whole-clause-answer : goal.returns-then-is_whole-clause-answer
+returns-then-is_whole-clause-answer c = λ r t total h s.
+    let text = c.as_str.ensures.value ∙ c.in_ok-text.ensures ∙ ap (λ ps. name_text (items ps)) c.as_slice.ensures in
+    c.give_again.ensures.answer r t total
+    (given_again r t c.args.self.now c.args.choosing c.args.out c.as_str.result.now c.in-Give.number c.in_ok-part-in-Give.part total h text
+    (ap asked (sym c.in_ok-told.ensures.ok) ∙ sym c.ask.ensures ∙ c.in-Give.is) c.in_ok-part-in-Give.ensures c.if-number-told.true
+    (none_of (name_end c.args.choosing.function c.in_ok-part-in-Give.part.equals) (sym c.is_whole.ensures ∙ c.if-is_whole.true))) s

@@ -1,0 +1,10 @@
+use Rattle.std.proofs.Common.{refl}
+use Rattle.wt_transclusion.specs.Cursors.{starts}
+use Rattle.wt_template_stack.specs.Stacks.{stack}
+use Rattle.wt_template_stack.proofs.StepLaws.{holds}
+use Rattle.wt_template_stack.proofs.run.TextRun.resume.Goals as goal
+
+pub returns : goal.returns
+returns c = λ r t total p s running before h.
+    holds r t _ c.args.to (starts t c.args.to) (stack c.args.self.now.levels) total
+    (c.in_ok-self.ensures r.mode t p s running.reading before) running.mode_is refl h

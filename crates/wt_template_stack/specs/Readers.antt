@@ -1,0 +1,12 @@
+-- A text that is read up to a place.
+use Rattle.std.specs.Prelude.{◌≡◌, ℕ, Bool, List}
+use Rattle.wt_span.specs.declared.form.Mode.{Mode}
+use Rattle.wt_transclusion.specs.Cursors.{IsAt}
+use Rattle.wt_transclusion.specs.Reads.{IsRead}
+use Rattle.wt_template_stack.specs.declared.reader.Reader.{Reader}
+
+-- the text is read in this mode up to this place, at which a line starts or doesn't
+pub record IsReading (mode : Mode) (text : List ℕ) (r : Reader) (p : ℕ) (at_start : Bool) : Type 0 where
+  pub read : IsRead mode text r.text
+  pub at : IsAt r.text p r.cursor
+  pub starts : r.cursor.at_start ≡ at_start

@@ -1,0 +1,34 @@
+-- Levels, the innermost first.
+use Rattle.std.specs.Prelude.{◌≡◌, ℕ, Option, Some, None, List, [], ◌∷◌, ◌++◌, reverse}
+use Rattle.wt_span.specs.declared.form.Piece.{Piece}
+use Rattle.wt_template_stack.specs.declared.level.Level.{Level}
+use Rattle.wt_template_stack.specs.declared.level.Levels.{Levels}
+use Rattle.wt_template_stack.specs.declared.level.Task.TheVariants as task
+
+-- from the innermost on
+abbrev pub stack : Levels → List Level
+stack ls = reverse ls.items.items
+
+-- a text, or a stretch of one, of which nothing is read
+abbrev pub whole_level : ℕ → Level
+whole_level end = record { end = end; out = []; task = task.Whole }
+
+-- the innermost level is taken, where there is one
+abbrev pub TakesLevel : Option Level → List Level → List Level → Type 0
+TakesLevel None old new = (old ≡ []) × (new ≡ [])
+TakesLevel (Some l) old new = old ≡ l ∷ new
+
+-- where the innermost level ends
+abbrev pub innermost_end : List Level → Option ℕ
+innermost_end [] = None
+innermost_end (l ∷ ls) = Some l.end
+
+-- the innermost level has given these pieces, too
+abbrev pub with_given : List Piece → List Level → List Level
+with_given ps [] = []
+with_given ps (l ∷ ls) = record { end = l.end; out = l.out ++ ps; task = l.task } ∷ ls
+
+-- the pieces of one that is there or not
+abbrev pub one_or_none : Option Piece → List Piece
+one_or_none None = []
+one_or_none (Some p) = p ∷ []

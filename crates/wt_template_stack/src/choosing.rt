@@ -1,0 +1,122 @@
+//! A function by text of which the parts are told one after the other.
+ghost use Rattle.std.specs.Prelude.{◌≡◌, true, IfOk, is_some, not, slice_get};
+ghost use Rattle.wt_functions.specs.Choice.{asked, is_tell};
+ghost use Rattle.wt_template_stack.specs.ToldParts.{have_equals, name_end, told_end, given_start};
+
+use crate::reader::{MOST_BYTES, Reader};
+use std::alloc::Global;
+use wt_braces::PartAt;
+use wt_functions::Chooser;
+use wt_span::{Function, List, NoMemory, rest_of};
+use wt_transclusion::Braces;
+
+/// A function by text of which a part is being told.
+#[derive(Drop)]
+pub struct Choosing<'a> {
+    pub call: Braces<'a>,
+    /// Whether the call stands at the start of a line.
+    pub at_start: bool,
+    pub function: Function,
+    pub chooser: Chooser,
+    /// The text where the call begins: a part may be given that was told before.
+    pub begun: Reader<'a>,
+    /// The part that is being told.
+    pub number: u32,
+    /// What the expansion had cost when this part began.
+    pub spent: u64,
+    pub ghost asks: { is_tell (asked chooser) ≡ true },
+}
+
+impl<'a> Choosing<'a> {
+    ghost use Rattle.wt_template_stack.specs.Choosings.{IsStarted};
+
+    /// A call of which nothing is told. The reader stands where it begins.
+    pub fn start(
+        alloc: Global,
+        call: Braces<'a>,
+        function: Function,
+        begun: Reader<'a>,
+        spent: u64,
+    ) -> Result<Choosing<'a>, NoMemory>
+        ensures { IfOk result (λ k. IsStarted k call.entry function begun.entry) }
+    {
+        let equals = have_equals(alloc, call.parts)?;
+        if equals.len() > MOST_BYTES {
+            return Err(NoMemory);
+        }
+        Ok(Choosing {
+            call,
+            at_start: begun.cursor.at_start,
+            function,
+            chooser: Chooser::start(alloc, function, &equals)?,
+            begun,
+            number: 0,
+            spent,
+        })
+    }
+}
+
+/// Which parts behind the target have a `=`.
+fn have_equals(alloc: Global, parts: &[PartAt]) -> Result<List<bool>, NoMemory>
+    ensures { IfOk result (λ equals. equals ≡ have_equals parts.now) }
+{
+    let mut equals = List::new(alloc);
+    if parts.is_empty() {
+        return Ok(equals);
+    }
+    let later = rest_of(parts, 1);
+    for part in later {
+        equals.push(part.equals.is_some())?;
+    }
+    Ok(equals)
+}
+
+/// The part of a number.
+pub fn part_at(call: Braces<'_>, number: u32) -> Result<PartAt, NoMemory>
+    ensures { IfOk result (λ part. slice_get call.entry.parts.now number ≡ Some part) }
+{
+    match call.parts.get(number as usize) {
+        Some(part) => Ok(*part),
+        None => Err(NoMemory),
+    }
+}
+
+/// Where a part ends its name by its `=`, if names count.
+fn name_end(function: Function, part: PartAt) -> Option<u32>
+    ensures { result ≡ name_end function part.equals }
+{
+    match function {
+        Function::If | Function::IfEq => None,
+        Function::Switch => part.equals,
+    }
+}
+
+/// Whether a part has no name, so that what is told of it is what is given.
+pub fn is_whole(function: Function, part: PartAt) -> bool
+    ensures { result ≡ not (is_some (name_end function part.equals)) }
+{
+    name_end(function, part).is_none()
+}
+
+/// Where what is told of a part ends: with its name, or with all of it.
+pub fn told_end(function: Function, part: PartAt) -> u32
+    ensures { result ≡ told_end function part }
+{
+    match name_end(function, part) {
+        Some(equals) => equals,
+        None => part.at.end,
+    }
+}
+
+/// Where what is given of a part begins: behind its name, or with all of it.
+pub fn given_start(function: Function, part: PartAt) -> Result<u32, NoMemory>
+    ensures { IfOk result (λ at. at ≡ given_start function part) }
+{
+    match name_end(function, part) {
+        Some(equals) => match equals.checked_add(1) {
+            Some(at) => Ok(at),
+            None => Err(NoMemory),
+        },
+        None => Ok(part.at.start),
+    }
+}

@@ -1,0 +1,173 @@
+//! What is being read of one text: its levels.
+ghost use Rattle.std.specs.Prelude.{◌≡◌, ◌∷◌, [], OnOk};
+ghost use Rattle.wt_transclusion.specs.Frames.{AreValues};
+ghost use Rattle.wt_template_stack.specs.Stacks.{TakesLevel, innermost_end, one_or_none, stack, with_given};
+
+use crate::choosing::Choosing;
+use std::alloc::Global;
+use wt_names::Title;
+use wt_span::{List, NoMemory, Piece};
+use wt_transclusion::{Braces, Handed};
+
+/// A call of a page whose values are being read.
+#[derive(Drop)]
+pub struct Handing<'a> {
+    pub call: Braces<'a>,
+    /// Whether the call stands at the start of a line.
+    pub at_start: bool,
+    pub title: Title,
+    /// How many of its parts are read, or are being read.
+    pub part: usize,
+    pub handed: Handed<'a>,
+}
+
+impl<'a> Handing<'a> {
+    /// A call of which the target alone is read.
+    pub fn new(alloc: Global, call: Braces<'a>, at_start: bool, title: Title) -> Handing<'a>
+        ensures call { result.call ≡ call.entry }
+        ensures at_start { result.at_start ≡ at_start }
+        ensures title { result.title ≡ title }
+        ensures part { result.part ≡ 1 }
+        ensures number { result.handed.number ≡ 1 }
+        ensures values { AreValues result.handed.values [] }
+    {
+        Handing {
+            call,
+            at_start,
+            title,
+            part: 1,
+            handed: Handed::new(alloc),
+        }
+    }
+}
+
+/// What is done where a level ends.
+#[derive(Drop)]
+pub enum Task<'a> {
+    /// The text ends.
+    Whole,
+    /// The name of an argument.
+    Argument {
+        call: Braces<'a>,
+    },
+    /// The default of an argument.
+    Default {
+        call: Braces<'a>,
+    },
+    /// The target of a call of two braces.
+    Target {
+        call: Braces<'a>,
+        at_start: bool,
+    },
+    /// The target of a function, which has its part 0 behind so many bytes.
+    First {
+        choosing: Choosing<'a>,
+        part_0: u32,
+    },
+    /// A later part of a function that is told.
+    Told {
+        choosing: Choosing<'a>,
+    },
+    /// The part that a function gives.
+    Given {
+        call: Braces<'a>,
+        at_start: bool,
+    },
+    /// The name of a value that ends at a place.
+    Name {
+        handing: Handing<'a>,
+        end: u32,
+    },
+    /// A value, with its name where it has one.
+    Value {
+        handing: Handing<'a>,
+        name: Option<String>,
+    },
+    /// What stands behind the target of a call that is text.
+    Text {
+        call: Braces<'a>,
+    },
+}
+
+/// A stretch of a text that is being read, up to a place.
+#[derive(Drop)]
+pub struct Level<'a> {
+    pub end: u32,
+    /// What it has given.
+    pub out: List<Piece<'a>>,
+    pub task: Task<'a>,
+}
+
+/// Levels, each but the first within the one before.
+#[derive(Drop)]
+pub struct Levels<'a> {
+    items: Vec<Level<'a>>,
+}
+
+impl<'a> Levels<'a> {
+    pub fn new(alloc: Global) -> Levels<'a>
+        ensures { stack result ≡ [] }
+    {
+        Levels {
+            items: Vec::new(alloc),
+        }
+    }
+
+    #[tactic(auto, using(wt_braces::proofs::Ends::reverse_push))]
+    pub fn push(&mut self, level: Level<'a>) -> Result<(), NoMemory>
+        ensures { OnOk result (stack self.new ≡ level.entry ∷ stack self.old) }
+    {
+        self.items.push(level)?;
+        Ok(())
+    }
+
+    #[tactic(auto, using(wt_braces::proofs::Ends::reverse_push))]
+    pub fn pop(&mut self) -> Option<Level<'a>>
+        ensures { TakesLevel result (stack self.old) (stack self.new) }
+    {
+        self.items.pop()
+    }
+
+    /// Where the innermost level ends.
+    pub fn end(&self) -> Option<u32>
+        ensures { result ≡ innermost_end (stack self.now) }
+    {
+        let count = self.items.len();
+        if count == 0 {
+            return None;
+        }
+        Some(self.items[count - 1].end)
+    }
+
+    /// The innermost level gives these pieces, too.
+    pub fn give(&mut self, pieces: &[Piece<'a>]) -> Result<(), NoMemory>
+        ensures { OnOk result (stack self.new ≡ with_given pieces.now (stack self.old)) }
+    {
+        let count = self.items.len();
+        if count == 0 {
+            return Err(NoMemory);
+        }
+        self.items[count - 1].out.extend_from_slice(pieces)
+    }
+
+    /// The innermost level gives this piece, too.
+    pub fn give_one(&mut self, piece: Piece<'a>) -> Result<(), NoMemory>
+        ensures { OnOk result (stack self.new ≡ with_given (piece.entry ∷ []) (stack self.old)) }
+    {
+        let count = self.items.len();
+        if count == 0 {
+            return Err(NoMemory);
+        }
+        self.items[count - 1].out.push(piece)
+    }
+
+    /// The same of a piece that is there or not.
+    pub fn give_some(&mut self, piece: Option<Piece<'a>>) -> Result<(), NoMemory>
+        ensures { OnOk result (stack self.new ≡ with_given (one_or_none piece.entry) (stack self.old)) }
+    {
+        match piece {
+            Some(piece) => self.give_one(piece),
+            None => Ok(()),
+        }
+    }
+}

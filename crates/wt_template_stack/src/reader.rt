@@ -1,0 +1,104 @@
+//! A text with the place up to which it is read.
+ghost use Rattle.std.specs.Prelude.{◌≡◌, ◌≤◌, ◌<◌, ℕ, List, Bool, Some, true, false, IfOk, length, slice_range, slice_get};
+ghost use Rattle.wt_span.specs.Slice.{bytes_of, end_of, start_of};
+ghost use Rattle.wt_span.specs.declared.form.Mode.{Mode as TextMode};
+ghost use Rattle.wt_span.specs.Braces.{Member as TextMember};
+ghost use Rattle.wt_transclusion.specs.Cursors.{IsOn, starts};
+ghost use Rattle.wt_transclusion.specs.Reads.{IsRead};
+ghost use Rattle.wt_transclusion.specs.Steps.{IsStretchOf, AnswersNext};
+
+use wt_span::{NoMemory, Range, Text};
+use wt_transclusion::{Braces, Cursor, Next, ReadText};
+
+/// The most bytes of a text, whose places are of 32 bits.
+pub const MOST_BYTES: usize = 4_294_967_295;
+
+/// A text and a place of it.
+#[derive(Clone, Copy, Debug)]
+pub struct Reader<'a> {
+    pub text: ReadText<'a>,
+    pub cursor: Cursor,
+    ghost on: { IsOn text cursor },
+}
+
+impl<'a> Reader<'a> {
+    ghost use Rattle.wt_template_stack.specs.Readers.{IsReading};
+
+    /// The start of a text.
+    pub fn start(text: ReadText<'a>) -> Reader<'a>
+        ensures { (mode : TextMode) (bytes : List ℕ) → IsRead mode bytes text.entry → IsReading mode bytes result 0 true }
+    {
+        Reader {
+            text,
+            cursor: Cursor::start(),
+        }
+    }
+
+    /// A later place, behind the first byte. A place that the text hasn't is answered as want of
+    /// memory.
+    pub fn seek(self, to: u32) -> Result<Reader<'a>, NoMemory>
+        ensures { IfOk result (λ x. (mode : TextMode) (bytes : List ℕ) (p : ℕ) (s : Bool) → IsReading mode bytes self.entry p s → p ≤ to
+            → IsReading mode bytes x to (starts bytes to)) }
+    {
+        if to == 0 || to as usize > self.text.text.len() {
+            return Err(NoMemory);
+        }
+        Ok(Reader {
+            text: self.text,
+            cursor: self.cursor.seek(self.text, to),
+        })
+    }
+
+    /// A later place that stands behind braces, and so at no start of a line.
+    pub fn within(self, to: u32) -> Result<Reader<'a>, NoMemory>
+        ensures { IfOk result (λ x. (mode : TextMode) (bytes : List ℕ) (p : ℕ) (s : Bool) → IsReading mode bytes self.entry p s → p ≤ to
+            → IsReading mode bytes x to false) }
+    {
+        let reader = self.seek(to)?;
+        let mut cursor = reader.cursor;
+        cursor.at_start = false;
+        Ok(Reader {
+            text: reader.text,
+            cursor,
+        })
+    }
+
+    /// What stands here in front of the place `end`.
+    pub fn next(self, end: u32) -> Next
+        requires { self.cursor.at < end }
+        ensures { (mode : TextMode) (bytes : List ℕ) (p : ℕ) (s : Bool) (xs : List TextMember) → IsReading mode bytes self.entry p s
+            → IsStretchOf mode bytes p end xs → AnswersNext mode bytes p end xs result }
+    {
+        self.cursor.next(self.text, end)
+    }
+
+    /// The call of a number.
+    pub fn call(self, number: usize) -> Result<Braces<'a>, NoMemory>
+        ensures { IfOk result (λ b. slice_get self.entry.text.calls.now number ≡ Some b) }
+    {
+        match self.text.calls.get(number) {
+            Some(call) => Ok(*call),
+            None => Err(NoMemory),
+        }
+    }
+
+    /// The bytes between two places at which the text can be cut.
+    pub fn slice(self, from: u32, to: u32) -> Result<Text<'a>, NoMemory>
+        ensures bytes { IfOk result (λ x. bytes_of x ≡ slice_range self.entry.text.text.now from to) }
+        ensures start { IfOk result (λ x. start_of x ≡ from) }
+        ensures end { IfOk result (λ x. end_of x ≡ to) }
+        ensures within { IfOk result (λ x. to ≤ length self.entry.text.text.now) }
+    {
+        let text = self.text.text;
+        if from > to || to as usize > text.len() || text.len() > MOST_BYTES {
+            return Err(NoMemory);
+        }
+        if !text.is_char_boundary(from as usize) || !text.is_char_boundary(to as usize) {
+            return Err(NoMemory);
+        }
+        Ok(Text::new(text, 0).slice(Range {
+            start: from,
+            end: to,
+        }))
+    }
+}
