@@ -38,7 +38,7 @@ use Rattle.wt_span.specs.Origins.{Expanded}
 use Rattle.wt_expand.specs.PageCalls.{expanded_page}
 use Rattle.wt_page_round_trip.specs.PageTree.{page_tree}
 use Rattle.wt_selser.specs.Edits.{AnswersEdit, edit_answer}
-use Rattle.wt_shown.specs.SameNodes.{same_node}
+use Rattle.wt_visible.specs.SameNodes.{same_node}
 use Rattle.wt_pagetool.specs.declared.refusal.Refusal.{Refusal}
 use Rattle.wt_pagetool.specs.declared.refusal.Refusal.TheVariants.{TooLong, InputTooLong, NoMemory}
 use Rattle.wt_pagetool.specs.declared.status.Status.{Status}

@@ -11,7 +11,7 @@ use Rattle.wt_sections.specs.SectionLaws.{NoneIsSection}
 use Rattle.wt_checks.specs.BareSections.{IsBareSection, AreBareSections, HasBareSections}
 use Rattle.wt_checks.specs.Places.{Page}
 use Rattle.wt_checks.proofs.Sections.{AreAlike, are_alike}
-use Rattle.wt_shown.specs.Restored.{held_there, group_held, held_by, restored, all_restored, restored_from}
+use Rattle.wt_visible.specs.Restored.{held_there, group_held, held_by, restored, all_restored, restored_from}
 use Rattle.wt_page_round_trip.proofs.DrawnPages.{HoldsNoSection}
 
 -- ---- its sections are bare

@@ -20,7 +20,7 @@ use Rattle.wt_selser.specs.BodySlices.{slices}
 use Rattle.wt_selser.specs.Splice.{OutsideStands}
 use Rattle.wt_selser.proofs.EditChains.{edit_stands, new_page}
 use Rattle.wt_selser.proofs.Sections.{answers_same, slices_same}
-use Rattle.wt_shown.specs.SameNodes.{same_node}
+use Rattle.wt_visible.specs.SameNodes.{same_node}
 use Rattle.wt_pagetool.specs.Answers.{answer_of_edit, refusal_of_page}
 use Rattle.wt_pagetool.proofs.LeavesLaws.{page_bodiless, page_leaves}
 use Rattle.wt_pagetool.proofs.PageSections.{sections_bare}

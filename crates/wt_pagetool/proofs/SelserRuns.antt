@@ -12,10 +12,10 @@ use Rattle.wt_schema.specs.Read.{Read, page as as_page, ill, misfit, read}
 use Rattle.wt_page_round_trip.specs.PageTree.{page_tree}
 use Rattle.wt_selser.specs.declared.refusal.EditRefusal.{EditRefusal}
 use Rattle.wt_selser.specs.Edits.{edit_answer}
-use Rattle.wt_shown.specs.Children.{shown_children, differing}
-use Rattle.wt_shown.specs.Restored.{restored_from}
-use Rattle.wt_shown.specs.SameNodes.{same_node}
-use Rattle.wt_shown.proofs.DifferingLaws.{none_same}
+use Rattle.wt_visible.specs.Children.{shown_children, differing}
+use Rattle.wt_visible.specs.Restored.{restored_from}
+use Rattle.wt_visible.specs.SameNodes.{same_node}
+use Rattle.wt_visible.proofs.DifferingLaws.{none_same}
 use Rattle.wt_span.specs.Origins.{Expanded}
 use Rattle.wt_span.specs.declared.limits.TheConstants.{HTML_BYTES}
 use Rattle.wt_tree.specs.Plain.{plain}

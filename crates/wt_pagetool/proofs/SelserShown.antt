@@ -2,9 +2,9 @@
 use Rattle.std.proofs.Common.{◌≡◌, sym, ap, ◌∙◌}
 use Rattle.wt_difference.specs.Remarked.{remarked}
 use Rattle.wt_difference.proofs.Remarks.{marks_alone}
-use Rattle.wt_shown.proofs.MarksShowNothing.{marks_unseen}
-use Rattle.wt_shown.specs.Children.{shown_children}
-use Rattle.wt_shown.specs.Restored.{restored_from}
+use Rattle.wt_visible.proofs.MarksShowNothing.{marks_unseen}
+use Rattle.wt_visible.specs.Children.{shown_children}
+use Rattle.wt_visible.specs.Restored.{restored_from}
 use Rattle.wt_tree.specs.Tree.{Tree}
 
 -- with the marks of the difference an edited tree shows what it shows with its own

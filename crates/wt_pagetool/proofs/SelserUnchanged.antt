@@ -24,8 +24,8 @@ use Rattle.wt_schema.specs.Read.{page as as_page, read}
 use Rattle.wt_page_round_trip.specs.PageTree.{page_tree}
 use Rattle.wt_page_round_trip.proofs.PageTrees.{page_numbered}
 use Rattle.wt_round_trip.specs.Written.{unranged}
-use Rattle.wt_shown.specs.Children.{shown_children}
-use Rattle.wt_shown.specs.Restored.{restored_from}
+use Rattle.wt_visible.specs.Children.{shown_children}
+use Rattle.wt_visible.specs.Restored.{restored_from}
 use Rattle.wt_pagetool.specs.declared.output.Output.{Output}
 use Rattle.wt_pagetool.specs.declared.refusal.Refusal.{Refusal}
 use Rattle.wt_pagetool.specs.declared.status.Status.{Status}

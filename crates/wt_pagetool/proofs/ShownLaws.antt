@@ -29,7 +29,7 @@ use Rattle.wt_schema.specs.Groups.{Piece}
 use Rattle.wt_schema.specs.Read.{page as as_page, ill, read_fit, read_tree, read_root, read_run, read}
 use Rattle.wt_schema.specs.Sections.{opened_if_fit}
 use Rattle.wt_schema.specs.Unsourced.{unsourced}
-use Rattle.wt_shown.specs.Children.{listed, shown_children}
+use Rattle.wt_visible.specs.Children.{listed, shown_children}
 
 -- ---- from children to plain views
 

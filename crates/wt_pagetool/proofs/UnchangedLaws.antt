@@ -20,13 +20,13 @@ use Rattle.wt_sections.specs.Sections.{with_sections}
 use Rattle.wt_sections.proofs.Kept.{plains_stay}
 use Rattle.wt_checks.specs.BareSections.{HasBareSections}
 use Rattle.wt_checks.specs.PutBack.{IsOneBody}
-use Rattle.wt_shown.specs.Children.{listed, shown_children, differing}
+use Rattle.wt_visible.specs.Children.{listed, shown_children, differing}
 use Rattle.wt_selser.specs.Edits.{most_bytes, edit_answer}
-use Rattle.wt_shown.specs.Restored.{restored_from}
-use Rattle.wt_shown.specs.SameNodes.{same_node}
+use Rattle.wt_visible.specs.Restored.{restored_from}
+use Rattle.wt_visible.specs.SameNodes.{same_node}
 use Rattle.wt_selser.proofs.Answering.{unmarked_stands}
 use Rattle.wt_selser.proofs.Sections.{answers_same}
-use Rattle.wt_shown.proofs.DifferingLaws.{differing_is}
+use Rattle.wt_visible.proofs.DifferingLaws.{differing_is}
 use Rattle.wt_pagetool.specs.declared.command.Command.TheVariants.{Edit}
 use Rattle.wt_pagetool.specs.declared.command.PageCommand.TheVariants.{Html}
 use Rattle.wt_pagetool.specs.declared.output.Output.{Output}

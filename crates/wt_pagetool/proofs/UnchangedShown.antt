@@ -22,8 +22,8 @@ use Rattle.wt_checks.proofs.Found.{Itself, each_itself}
 use Rattle.wt_checks.proofs.InOrder.{not_zero_kept, test_other}
 use Rattle.wt_checks.proofs.Lookups.{each_split}
 use Rattle.wt_checks.proofs.WhatIsKept.{increasing}
-use Rattle.wt_shown.specs.Children.{listed, shown_children}
-use Rattle.wt_shown.specs.Restored.{held_there, group_held, held_by, restored, all_restored, restored_from}
+use Rattle.wt_visible.specs.Children.{listed, shown_children}
+use Rattle.wt_visible.specs.Restored.{held_there, group_held, held_by, restored, all_restored, restored_from}
 use Rattle.wt_pagetool.proofs.UnchangedTree.{IsAgain, page_again, true_is}
 
 -- ---- nothing is marked

@@ -18,10 +18,10 @@ use Rattle.wt_checks.specs.declared.refusal.Check.{Check}
 use Rattle.wt_checks.specs.Checked.{checked, nodes_checked}
 use Rattle.wt_difference.specs.Remarked.{remarked}
 use Rattle.wt_selser.specs.declared.refusal.EditRefusal.{EditRefusal}
-use Rattle.wt_shown.specs.Children.{shown_children, differing}
+use Rattle.wt_visible.specs.Children.{shown_children, differing}
 use Rattle.wt_selser.specs.Edits.{edit_answer}
-use Rattle.wt_shown.specs.Restored.{restored_from}
-use Rattle.wt_shown.specs.SameNodes.{same_node}
+use Rattle.wt_visible.specs.Restored.{restored_from}
+use Rattle.wt_visible.specs.SameNodes.{same_node}
 use Rattle.wt_span.specs.declared.limits.TheConstants.{HTML_BYTES, PAGE_BYTES}
 use Rattle.wt_pagetool.specs.declared.status.Status.{Status}
 use Rattle.wt_pagetool.specs.declared.status.Status.TheVariants.{Done}

@@ -10,9 +10,9 @@ use Rattle.wt_proposal.specs.Rewritten.{IsRewritten}
 use Rattle.wt_selser.specs.Edits.{edit_answer}
 use Rattle.wt_selser.specs.declared.refusal.EditRefusal.{EditRefusal}
 use Rattle.wt_selser.specs.declared.refusal.EditRefusal.TheVariants as of_edit
-use Rattle.wt_shown.specs.KeptMarks.{KeepsMarks}
-use Rattle.wt_shown.specs.Restored.{restored_from}
-use Rattle.wt_shown.specs.SameNodes.{same_node}
+use Rattle.wt_visible.specs.KeptMarks.{KeepsMarks}
+use Rattle.wt_visible.specs.Restored.{restored_from}
+use Rattle.wt_visible.specs.SameNodes.{same_node}
 use Rattle.wt_span.specs.Origins.{Expanded}
 use Rattle.wt_span.specs.declared.limits.TheConstants.{HTML_BYTES}
 use Rattle.wt_tree.specs.Plain.{plain}

@@ -10,9 +10,9 @@ use Rattle.wt_template_stack.specs.declared.expansion.Expansion.{Expansion}
 use Rattle.wt_page_round_trip.specs.PageTree.{page_tree}
 use Rattle.wt_selser.specs.declared.refusal.EditRefusal.{EditRefusal}
 use Rattle.wt_selser.specs.declared.refusal.EditRefusal.TheVariants as of_edit
-use Rattle.wt_shown.specs.Children.{IsFirstDiffering, shown_children}
-use Rattle.wt_shown.specs.KeptMarks.{KeepsMarks}
-use Rattle.wt_shown.specs.Restored.{restored_from}
+use Rattle.wt_visible.specs.Children.{IsFirstDiffering, shown_children}
+use Rattle.wt_visible.specs.KeptMarks.{KeepsMarks}
+use Rattle.wt_visible.specs.Restored.{restored_from}
 use Rattle.wt_span.specs.Origins.{Expanded}
 use Rattle.wt_transclusion.specs.declared.refusal.ExpandRefusal.{ExpandRefusal}
 use Rattle.wt_transclusion.specs.declared.refusal.ExpandRefusal.TheVariants as of_expansion

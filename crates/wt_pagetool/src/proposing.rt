@@ -12,7 +12,7 @@ ghost use Rattle.wt_tree.specs.Tree.{label};
 ghost use Rattle.wt_tree.specs.View.{view};
 ghost use Rattle.wt_tree.specs.declared.kind.Kind.TheVariants as kind;
 ghost use Rattle.wt_selser.specs.Edits.{edit_answer, AnswersEdit};
-ghost use Rattle.wt_shown.specs.SameNodes.{same_node};
+ghost use Rattle.wt_visible.specs.SameNodes.{same_node};
 ghost use Rattle.wt_pagetool.specs.Causes.{IsKept, IsOfEdit, IsOfFolder};
 ghost use Rattle.wt_pagetool.specs.Selser.{FindsNew, FirstFails};
 ghost use Rattle.wt_pagetool.specs.Tried.{last_refusal, refusal_of_fault, HoldsTried, KnowsOf, MarkedAs, TriedFirst, TriedMarks, TriedPage, TriedProposal};
@@ -26,7 +26,7 @@ use wt_template_stack::Expansion;
 use wt_devices::Folder;
 use wt_proposal::{Keeping, proposal};
 use wt_selser::{EditRefusal, edit as edit_by_marks};
-use wt_shown::keeps_marks;
+use wt_visible::keeps_marks;
 use wt_span::{NoMemory, Str};
 
 /// A new page that was tried.

@@ -4,8 +4,8 @@ ghost use Rattle.std.specs.Prelude.{◌≡◌, ◌≤◌, [], length, Some, IfOk
 ghost use Rattle.wt_expand.specs.Work.{Pages};
 ghost use Rattle.wt_expansion.specs.Known.{HoldsPages};
 ghost use Rattle.wt_expansion.specs.Walks.{IsFree};
-ghost use Rattle.wt_shown.specs.Children.{IsFirstDiffering, shown_children};
-ghost use Rattle.wt_shown.specs.Restored.{restored_from};
+ghost use Rattle.wt_visible.specs.Children.{IsFirstDiffering, shown_children};
+ghost use Rattle.wt_visible.specs.Restored.{restored_from};
 ghost use Rattle.wt_transclusion.specs.Asked.{Asks};
 ghost use Rattle.wt_tree.specs.Tiling.{InPreorder};
 ghost use Rattle.wt_tree.specs.Tree.{label};

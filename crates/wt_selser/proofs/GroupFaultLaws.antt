@@ -18,15 +18,15 @@ use Rattle.wt_inline.specs.declared.tree.PieceTree.{PieceTree, out-PieceTree}
 use Rattle.wt_body.specs.Body.{meaning}
 use Rattle.wt_annotated.specs.Annotated.{all_unplaced}
 use Rattle.wt_annotated.proofs.HeldPieces.{item_tree_out}
-use Rattle.wt_shown.specs.declared.children.Child.{Child}
-use Rattle.wt_shown.specs.declared.shown_node.ShownNode.{ShownNode}
-use Rattle.wt_shown.specs.Children.{differing}
+use Rattle.wt_visible.specs.declared.children.Child.{Child}
+use Rattle.wt_visible.specs.declared.shown_node.ShownNode.{ShownNode}
+use Rattle.wt_visible.specs.Children.{differing}
 use Rattle.wt_selser.specs.GroupFaults.{is_faulty, one_paragraph, paragraph_face, shows_other, trees_in}
 use Rattle.wt_isolation.specs.OpenTexts.{has_open_text}
 use Rattle.wt_isolation.specs.Toggles.{has_odd_line}
-use Rattle.wt_shown.specs.Views.{child_view, children_view, held_view, node_view}
-use Rattle.wt_shown.proofs.DifferingLaws.{none_same, same_none}
-use Rattle.wt_shown.proofs.ShownChildren.{views_long}
+use Rattle.wt_visible.specs.Views.{child_view, children_view, held_view, node_view}
+use Rattle.wt_visible.proofs.DifferingLaws.{none_same, same_none}
+use Rattle.wt_visible.proofs.ShownChildren.{views_long}
 
 -- ---- what pieces mean
 

@@ -12,7 +12,7 @@ use Rattle.wt_inline.specs.ItemTree.{ItemTree, inner, ItemTrees}
 use Rattle.wt_body.specs.Body.{meaning}
 use Rattle.wt_annotated.specs.Annotated.{all_unplaced}
 use Rattle.wt_original.specs.Kinds.{shape}
-use Rattle.wt_shown.specs.Children.{differing, listed}
+use Rattle.wt_visible.specs.Children.{differing, listed}
 use Rattle.wt_isolation.specs.GroupItems.{items_alone}
 use Rattle.wt_isolation.specs.OpenTexts.{has_open_text, in_style}
 use Rattle.wt_isolation.specs.Toggles.{has_odd_line}

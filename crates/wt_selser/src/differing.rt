@@ -5,12 +5,12 @@ ghost use Rattle.wt_tree.specs.declared.kind.Kind.TheVariants as kind;
 ghost use Rattle.wt_tree.specs.Tiling.{InPreorder};
 ghost use Rattle.wt_tree.specs.Tree.{label};
 ghost use Rattle.wt_tree.specs.View.{view};
-ghost use Rattle.wt_shown.specs.Children.{IsFirstDiffering, shown_children};
-ghost use Rattle.wt_shown.specs.Restored.{restored_from};
+ghost use Rattle.wt_visible.specs.Children.{IsFirstDiffering, shown_children};
+ghost use Rattle.wt_visible.specs.Restored.{restored_from};
 
 use std::alloc::Global;
 use wt_checks::numbered_nodes;
-use wt_shown::{first_of_children, held_nodes, shown_nodes};
+use wt_visible::{first_of_children, held_nodes, shown_nodes};
 use wt_span::NoMemory;
 use wt_tree::Node;
 

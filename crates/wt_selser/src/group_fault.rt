@@ -11,14 +11,14 @@ ghost use Rattle.wt_tree.specs.View.{label_of, view, views};
 ghost use Rattle.wt_body.specs.Body.{meaning};
 ghost use Rattle.wt_annotated.specs.Annotated.{all_unplaced};
 ghost use Rattle.wt_selser.specs.GroupFaults.{faulty_at, has_faulty_group, is_faulty, is_faulty_node, one_paragraph, paragraph_face, shows_other, trees_in};
-ghost use Rattle.wt_shown.specs.Views.{children_view};
+ghost use Rattle.wt_visible.specs.Views.{children_view};
 
 use std::alloc::Global;
 use wt_annotated::unplaced_nodes;
 use wt_build::build_pieces;
 use wt_inline::PieceTree;
 use wt_original::{Way, shape};
-use wt_shown::{Child, is_group, shown_nodes, shows_same};
+use wt_visible::{Child, is_group, shown_nodes, shows_same};
 use wt_span::{Items, List, NoMemory, Piece};
 use wt_isolation::{has_odd_line, has_open_text, pieces_alone};
 use wt_tiles::glyphs_of;

@@ -8,8 +8,8 @@ use Rattle.wt_tree.specs.Tree.{Tree, label}
 use Rattle.wt_tree.specs.View.{view}
 use Rattle.wt_expand.specs.Work.{fetches, firsts_after}
 use Rattle.wt_selser.specs.Edits.{edit_answer, AnswersEdit}
-use Rattle.wt_shown.specs.SameNodes.{same_node}
-use Rattle.wt_shown.proofs.SameTells.{tells_same}
+use Rattle.wt_visible.specs.SameNodes.{same_node}
+use Rattle.wt_visible.proofs.SameTells.{tells_same}
 use Rattle.wt_pagetool.specs.Answers.{done, new_answer}
 use Rattle.wt_pagetool.specs.Asked.{new_work, title_work, work_done}
 use Rattle.wt_pagetool.specs.Causes.{Refuses}

@@ -1,5 +1,5 @@
-use Rattle.wt_shown.specs.SameNodes.{same_node}
-use Rattle.wt_shown.proofs.SameTells.{tells_same}
+use Rattle.wt_visible.specs.SameNodes.{same_node}
+use Rattle.wt_visible.proofs.SameTells.{tells_same}
 use Rattle.wt_pagetool.proofs.proposing.last_page.Goals as goal
 
 pub page_of_edit-requires-clause-edited : goal.page_of_edit-requires-clause-edited

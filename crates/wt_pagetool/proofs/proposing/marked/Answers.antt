@@ -1,5 +1,5 @@
 use Rattle.std.proofs.Common.{◌≡◌, false, true, refl, subst, sym, ◌∙◌}
-use Rattle.wt_shown.specs.KeptMarks.{KeepsMarks}
+use Rattle.wt_visible.specs.KeptMarks.{KeepsMarks}
 use Rattle.wt_tree.specs.View.{view}
 use Rattle.wt_tree.specs.declared.node.Node.{Node}
 use Rattle.wt_pagetool.proofs.proposing.marked.Goals as goal

@@ -3,10 +3,10 @@ use Rattle.wt_tree.specs.Plain.{Plain}
 use Rattle.wt_tree.specs.View.{view}
 use Rattle.wt_checks.specs.Places.{page_of}
 use Rattle.wt_checks.specs.View.{indexed}
-use Rattle.wt_shown.specs.Children.{IsFirstDiffering, shown_children}
-use Rattle.wt_shown.specs.Restored.{restored_from}
-use Rattle.wt_shown.specs.Views.{children_view}
-use Rattle.wt_shown.proofs.RestoredShown.{body_restored, body_shown}
+use Rattle.wt_visible.specs.Children.{IsFirstDiffering, shown_children}
+use Rattle.wt_visible.specs.Restored.{restored_from}
+use Rattle.wt_visible.specs.Views.{children_view}
+use Rattle.wt_visible.proofs.RestoredShown.{body_restored, body_shown}
 use Rattle.wt_selser.proofs.differing.first_differing.Goals as goal
 
 pub returns : goal.returns

@@ -1,7 +1,7 @@
 use Rattle.std.proofs.Common.{arith, ap}
 use Rattle.wt_tree.specs.View.{views}
 use Rattle.wt_tree.specs.declared.node.Node.{out-Node}
-use Rattle.wt_shown.specs.Views.{child_view}
+use Rattle.wt_visible.specs.Views.{child_view}
 use Rattle.wt_selser.proofs.GroupFaultLaws.{not_one, one_decided, other_element, text_alone}
 use Rattle.wt_selser.proofs.group_fault.is_one_paragraph.Goals as goal
 

@@ -4,12 +4,12 @@ use Rattle.wt_tree.specs.Plain.{ended, plains_before}
 use Rattle.wt_tree.specs.View.{views}
 use Rattle.wt_tree.specs.declared.node.Node.{out-Node}
 use Rattle.wt_checks.specs.View.{indexed}
-use Rattle.wt_shown.specs.Children.{listed}
+use Rattle.wt_visible.specs.Children.{listed}
 use Rattle.wt_selser.specs.GroupFaults.{one_paragraph, shown_alone}
-use Rattle.wt_shown.specs.Restored.{all_restored}
-use Rattle.wt_shown.specs.Views.{children_view}
+use Rattle.wt_visible.specs.Restored.{all_restored}
+use Rattle.wt_visible.specs.Views.{children_view}
 use Rattle.wt_selser.proofs.GroupFaultLaws.{other_told}
-use Rattle.wt_shown.proofs.RestoredShown.{all_restored_none, decided_of}
+use Rattle.wt_visible.proofs.RestoredShown.{all_restored_none, decided_of}
 use Rattle.wt_selser.proofs.group_fault.shows_other.Goals as goal
 
 pub returns : goal.returns
