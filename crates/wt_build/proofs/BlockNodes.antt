@@ -12,12 +12,12 @@ use Rattle.wt_tables.specs.Parts.{unit_kind}
 use Rattle.wt_inline.specs.ItemTree.{ItemTree}
 use Rattle.wt_rows.specs.declared.row.RowAt.{RowAt}
 use Rattle.wt_rows.specs.declared.stretch.StretchAt.{StretchAt}
-use Rattle.wt_body.specs.Rows.{Row, kind_of, first_lead, last_ending}
-use Rattle.wt_body.specs.Stretches.{gap, tree_block}
-use Rattle.wt_body.specs.Lists.{lists}
-use Rattle.wt_body.specs.Texts.{with_separators}
-use Rattle.wt_body.specs.Tables.{Reading, gaps, table}
-use Rattle.wt_body.specs.Body.{block_stretches, blocks_by, within}
+use Rattle.wt_page.specs.Rows.{Row, kind_of, first_lead, last_ending}
+use Rattle.wt_page.specs.Stretches.{gap, tree_block}
+use Rattle.wt_page.specs.Lists.{lists}
+use Rattle.wt_page.specs.Texts.{with_separators}
+use Rattle.wt_page.specs.Tables.{Reading, gaps, table}
+use Rattle.wt_page.specs.Body.{block_stretches, blocks_by, within}
 use Rattle.wt_rows.specs.Views.{row_view, rows_view, stretch_view, stretches_view, IsBetween}
 use Rattle.wt_rows.specs.Units.{kind_at}
 use Rattle.wt_rows.specs.Ready.{AreInOrder, AreReadyRows}

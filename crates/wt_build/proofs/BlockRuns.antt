@@ -14,9 +14,9 @@ use Rattle.wt_blocks.specs.Paragraphs.{is_text}
 use Rattle.wt_tables.specs.Extents.{is_open, inner_len}
 use Rattle.wt_tables.specs.Parts.{joined, taken_len, units, unit_kind}
 use Rattle.wt_rows.specs.declared.row.RowAt.{RowAt}
-use Rattle.wt_body.specs.Rows.{Row, kind_of}
-use Rattle.wt_body.specs.Tables.{Reading}
-use Rattle.wt_body.specs.Body.{is_list_line, is_pre_line, one_block, same_block, run_stretches, blocks_by}
+use Rattle.wt_page.specs.Rows.{Row, kind_of}
+use Rattle.wt_page.specs.Tables.{Reading}
+use Rattle.wt_page.specs.Body.{is_list_line, is_pre_line, one_block, same_block, run_stretches, blocks_by}
 use Rattle.wt_rows.specs.Views.{row_view, rows_view}
 use Rattle.wt_rows.specs.Units.{kind_at, unit_len}
 use Rattle.wt_build.specs.Blocks.{joined_len, run_of, IsBlockLen, is_lone, AreOneBlock}

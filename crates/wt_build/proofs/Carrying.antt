@@ -9,9 +9,9 @@ use Rattle.wt_inline.specs.declared.loose.Loose.TheVariants.{Sep}
 use Rattle.wt_inline.specs.Parts.{Part, parts}
 use Rattle.wt_inline.specs.Grown.{Grown, Grows, made}
 use Rattle.wt_inline.specs.ItemTree.{ItemTree, plain, inner, forest}
-use Rattle.wt_body.specs.Rows.{rows}
-use Rattle.wt_body.specs.Stretches.{stretches_parts}
-use Rattle.wt_body.specs.Body.{within, blocks, body_parts, meaning}
+use Rattle.wt_page.specs.Rows.{rows}
+use Rattle.wt_page.specs.Stretches.{stretches_parts}
+use Rattle.wt_page.specs.Body.{within, blocks, body_parts, meaning}
 use Rattle.wt_rows.specs.declared.row.RowAt.{RowAt}
 use Rattle.wt_rows.specs.Views.{rows_view}
 use Rattle.wt_rows.specs.Unread.{AreBreaks}

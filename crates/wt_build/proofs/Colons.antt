@@ -16,8 +16,8 @@ use Rattle.wt_lines.specs.declared.sign.Sign.{Sign}
 use Rattle.wt_tables.specs.Views.{numbers}
 use Rattle.wt_tables.proofs.Numbers.{numbers_len}
 use Rattle.wt_tiles.specs.declared.tile.Tile.{Tile}
-use Rattle.wt_body.specs.Rows.{signs}
-use Rattle.wt_body.specs.Lists.{is_bare, seen_signs, colon_at, term_len, with_blanks}
+use Rattle.wt_page.specs.Rows.{signs}
+use Rattle.wt_page.specs.Lists.{is_bare, seen_signs, colon_at, term_len, with_blanks}
 use Rattle.wt_build.specs.SeenSigns.{seen_sign, seen_by}
 use Rattle.wt_rows.proofs.LowSigns.{low_sign}
 use Rattle.wt_build.proofs.Items.{blanks_cut}

@@ -8,8 +8,8 @@ use Rattle.wt_inline.specs.declared.loose.Loose.TheVariants.{Sep}
 use Rattle.wt_inline.specs.ItemTree.{ItemTree}
 use Rattle.wt_inline.specs.Parts.{Part, node, parts}
 use Rattle.wt_inline.specs.Grown.{Grown, Grows, made}
-use Rattle.wt_body.specs.Stretches.{gap, tree_block, stretch_parts, stretches_parts}
-use Rattle.wt_body.specs.Body.{block_stretches, within}
+use Rattle.wt_page.specs.Stretches.{gap, tree_block, stretch_parts, stretches_parts}
+use Rattle.wt_page.specs.Body.{block_stretches, within}
 use Rattle.wt_rows.specs.declared.row.RowAt.{RowAt}
 use Rattle.wt_rows.specs.Ready.{IsReadyRow, AreInOrder}
 use Rattle.wt_rows.specs.Views.{rows_view, IsRest}

@@ -14,9 +14,9 @@ use Rattle.wt_tiles.proofs.Words.{edge_after}
 use Rattle.wt_inline.specs.ItemTree.{Head, plain, inner, forest}
 use Rattle.wt_inline.specs.Parts.{Part, children}
 use Rattle.wt_context.specs.Line.{line_parts}
-use Rattle.wt_body.specs.Rows.{Row, signs}
-use Rattle.wt_body.specs.Stretches.{gap, block, tree_block, opened_by}
-use Rattle.wt_body.specs.Lists.{prefix_of, with_blanks, item_opening_len, term_len, item_kind, item_by, line_item}
+use Rattle.wt_page.specs.Rows.{Row, signs}
+use Rattle.wt_page.specs.Stretches.{gap, block, tree_block, opened_by}
+use Rattle.wt_page.specs.Lists.{prefix_of, with_blanks, item_opening_len, term_len, item_kind, item_by, line_item}
 use Rattle.wt_rows.proofs.LowSigns.{low_sign}
 
 -- ---- where an open delimiter ends

@@ -11,8 +11,8 @@ use Rattle.wt_inline.specs.ItemTree.{ItemTree}
 use Rattle.wt_inline.specs.Parts.{node, parts}
 use Rattle.wt_inline.specs.Grown.{Grown, Grows, made}
 use Rattle.wt_context.specs.Line.{line_parts}
-use Rattle.wt_body.specs.Rows.{Row, signs}
-use Rattle.wt_body.specs.Texts.{skipped, later_pre}
+use Rattle.wt_page.specs.Rows.{Row, signs}
+use Rattle.wt_page.specs.Texts.{skipped, later_pre}
 use Rattle.wt_rows.specs.Views.{slice}
 use Rattle.wt_rows.proofs.LowSigns.{form_low}
 use Rattle.wt_rows.proofs.Straying.{slices_join}

@@ -15,9 +15,9 @@ use Rattle.wt_blocks.specs.View.{view_step, list_tree, list_trees}
 use Rattle.wt_inline.specs.ItemTree.{plain}
 use Rattle.wt_rows.specs.declared.row.RowAt.{RowAt}
 use Rattle.wt_rows.specs.declared.stretch.StretchAt.{StretchAt}
-use Rattle.wt_body.specs.Rows.{Row, signs, unwritten_end}
-use Rattle.wt_body.specs.Stretches.{Stretch, enclosed}
-use Rattle.wt_body.specs.Lists.{item_kind, line_item, begins_at, row_at, list_stretches, all_lists, prefixes, prefix_of}
+use Rattle.wt_page.specs.Rows.{Row, signs, unwritten_end}
+use Rattle.wt_page.specs.Stretches.{Stretch, enclosed}
+use Rattle.wt_page.specs.Lists.{item_kind, line_item, begins_at, row_at, list_stretches, all_lists, prefixes, prefix_of}
 use Rattle.wt_rows.specs.Prefixes.{list_signs}
 use Rattle.wt_build.specs.Nodes.{node_by}
 use Rattle.wt_rows.specs.Ready.{Begins, AreInOrder}

@@ -6,9 +6,9 @@ use Rattle.std.proofs.lemmas.Grind.{flat_map-append}
 use Rattle.wt_tree.specs.declared.kind.Kind.TheVariants as kind
 use Rattle.wt_tables.specs.Parts.{joined, units, unit_kind, groups, group_kind, plain_len, stray_len, is_row, is_caption, captions_len, row_by, row_of, rows_of, table_of}
 use Rattle.wt_inline.specs.ItemTree.{plain}
-use Rattle.wt_body.specs.Rows.{Row, kind_of}
-use Rattle.wt_body.specs.Stretches.{enclosed}
-use Rattle.wt_body.specs.Tables.{Reading, cell_stretches, row_by as row_stretches_by, row_stretches, rows_stretches, table_inside}
+use Rattle.wt_page.specs.Rows.{Row, kind_of}
+use Rattle.wt_page.specs.Stretches.{enclosed}
+use Rattle.wt_page.specs.Tables.{Reading, cell_stretches, row_by as row_stretches_by, row_stretches, rows_stretches, table_inside}
 use Rattle.wt_rows.specs.Units.{plain_count}
 use Rattle.wt_rows.specs.Groups.{group_rows, goes_on, captions_count}
 use Rattle.wt_build.specs.RowGroups.{row_with, row_of_groups, rows_of_groups, body_of_groups, inside_groups}

@@ -13,11 +13,11 @@ use Rattle.wt_tables.specs.Parts.{unit_kind, taken_len, is_row, is_caption, begi
 use Rattle.wt_rows.specs.declared.row.RowAt.{RowAt}
 use Rattle.wt_rows.specs.declared.group.Group.{Group}
 use Rattle.wt_rows.specs.declared.stretch.StretchAt.{StretchAt}
-use Rattle.wt_body.specs.Rows.{signs, kind_of}
+use Rattle.wt_page.specs.Rows.{signs, kind_of}
 use Rattle.wt_tree.specs.declared.kind.Kind.TheVariants as kind
 use Rattle.wt_inline.specs.ItemTree.{plain}
-use Rattle.wt_body.specs.Stretches.{Stretch, enclosed}
-use Rattle.wt_body.specs.Tables.{Reading, cell_stretches, first_items}
+use Rattle.wt_page.specs.Stretches.{Stretch, enclosed}
+use Rattle.wt_page.specs.Tables.{Reading, cell_stretches, first_items}
 use Rattle.wt_rows.specs.Ready.{Begins, BeginsCell, IsReadyRow, AreInOrder}
 use Rattle.wt_rows.specs.Units.{kind_at, plain_count}
 use Rattle.wt_rows.specs.Groups.{group_rows, captions_count}

@@ -11,9 +11,9 @@ use Rattle.wt_inline.specs.ItemTree.{plain}
 use Rattle.wt_rows.specs.declared.row.RowAt.{RowAt}
 use Rattle.wt_rows.specs.declared.group.Group.{Group}
 use Rattle.wt_rows.specs.declared.stretch.StretchAt.{StretchAt}
-use Rattle.wt_body.specs.Rows.{Row, signs, kind_of}
-use Rattle.wt_body.specs.Stretches.{Stretch, enclosed}
-use Rattle.wt_body.specs.Tables.{Reading, cell_stretches, first_items, row_by}
+use Rattle.wt_page.specs.Rows.{Row, signs, kind_of}
+use Rattle.wt_page.specs.Stretches.{Stretch, enclosed}
+use Rattle.wt_page.specs.Tables.{Reading, cell_stretches, first_items, row_by}
 use Rattle.wt_rows.specs.Units.{kind_at}
 use Rattle.wt_rows.specs.Groups.{goes_on}
 use Rattle.wt_build.specs.RowGroups.{row_groups, row_with, row_of_groups, rows_of_groups}

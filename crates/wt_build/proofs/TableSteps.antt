@@ -7,10 +7,10 @@ use Rattle.wt_tables.specs.Cells.{cells_from}
 use Rattle.wt_rows.specs.declared.row.RowAt.{RowAt}
 use Rattle.wt_rows.specs.declared.group.Group.{Group}
 use Rattle.wt_rows.specs.declared.stretch.StretchAt.{StretchAt}
-use Rattle.wt_body.specs.Rows.{Row, signs}
-use Rattle.wt_body.specs.Stretches.{Stretch, gap}
-use Rattle.wt_body.specs.Tables.{Reading, gaps, cells_by, cell_stretches}
-use Rattle.wt_body.specs.Body.{within}
+use Rattle.wt_page.specs.Rows.{Row, signs}
+use Rattle.wt_page.specs.Stretches.{Stretch, gap}
+use Rattle.wt_page.specs.Tables.{Reading, gaps, cells_by, cell_stretches}
+use Rattle.wt_page.specs.Body.{within}
 use Rattle.wt_rows.specs.Ready.{BeginsCell, AreReadyRows}
 use Rattle.wt_build.specs.Blocks.{reading_at}
 use Rattle.wt_rows.specs.GroupViews.{group_view}

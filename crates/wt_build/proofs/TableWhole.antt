@@ -4,9 +4,9 @@ use Rattle.std.proofs.lemmas.List.{take-map, drop-map, length-map, length-take}
 use Rattle.wt_span.specs.declared.form.Piece.{Piece}
 use Rattle.wt_tables.specs.Parts.{table_of}
 use Rattle.wt_rows.specs.declared.row.RowAt.{RowAt}
-use Rattle.wt_body.specs.Rows.{Row, kind_of}
-use Rattle.wt_body.specs.Stretches.{Stretch}
-use Rattle.wt_body.specs.Tables.{Reading, gaps, table_by, table_inside, last_of, without_last, table}
+use Rattle.wt_page.specs.Rows.{Row, kind_of}
+use Rattle.wt_page.specs.Stretches.{Stretch}
+use Rattle.wt_page.specs.Tables.{Reading, gaps, table_by, table_inside, last_of, without_last, table}
 use Rattle.wt_rows.specs.Units.{kind_at, plain_count}
 use Rattle.wt_rows.specs.Groups.{group_rows}
 use Rattle.wt_build.specs.RowGroups.{inside_groups}

@@ -17,8 +17,8 @@ use Rattle.wt_context.specs.Line.{line_parts}
 use Rattle.wt_rows.specs.declared.row.RowAt.{RowAt}
 use Rattle.wt_build.specs.declared.text.TextKind.{TextKind}
 use Rattle.wt_build.specs.declared.text.TextKind.TheVariants as text
-use Rattle.wt_body.specs.Rows.{Row, signs}
-use Rattle.wt_body.specs.Texts.{para, pre}
+use Rattle.wt_page.specs.Rows.{Row, signs}
+use Rattle.wt_page.specs.Texts.{para, pre}
 use Rattle.wt_rows.specs.Views.{row_view, rows_view, IsRest}
 use Rattle.wt_rows.specs.Ready.{Begins, IsReadyRow, AreInOrder}
 use Rattle.wt_build.specs.Blocks.{later_of, later_from}

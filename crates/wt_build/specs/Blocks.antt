@@ -11,11 +11,11 @@ use Rattle.wt_span.specs.declared.form.Piece.{Piece}
 use Rattle.wt_tables.specs.Parts.{unit_kind}
 use Rattle.wt_inline.specs.ItemTree.{ItemTree}
 use Rattle.wt_headings.specs.Headings.{heading}
-use Rattle.wt_body.specs.Rows.{Row, kind_of, signs}
-use Rattle.wt_body.specs.Stretches.{Stretch}
-use Rattle.wt_body.specs.Texts.{later_parts, later_line, later_pre, para, pre, rule}
-use Rattle.wt_body.specs.Tables.{Reading, first_items, gaps}
-use Rattle.wt_body.specs.Body.{one_block, block_stretches, blocks_by, within}
+use Rattle.wt_page.specs.Rows.{Row, kind_of, signs}
+use Rattle.wt_page.specs.Stretches.{Stretch}
+use Rattle.wt_page.specs.Texts.{later_parts, later_line, later_pre, para, pre, rule}
+use Rattle.wt_page.specs.Tables.{Reading, first_items, gaps}
+use Rattle.wt_page.specs.Body.{one_block, block_stretches, blocks_by, within}
 use Rattle.wt_rows.specs.Views.{rows_view}
 use Rattle.wt_rows.specs.Units.{kind_at}
 use Rattle.wt_span.specs.Bytes.{begins}

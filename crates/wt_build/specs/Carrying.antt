@@ -4,8 +4,8 @@ use Rattle.std.specs.Prelude.{◌≡◌, List, ◌++◌}
 use Rattle.wt_span.specs.Items.{Item}
 use Rattle.wt_inline.specs.Parts.{Part}
 use Rattle.wt_inline.specs.Grown.{Grown, made}
-use Rattle.wt_body.specs.Rows.{rows}
-use Rattle.wt_body.specs.Body.{body_parts}
+use Rattle.wt_page.specs.Rows.{rows}
+use Rattle.wt_page.specs.Body.{body_parts}
 
 abbrev pub Carries : Grown → List Item → Grown → List Item → Type 0
 Carries g xs h ys = (qs : List Part) → made h (body_parts (rows ys) ++ qs) ≡ made g (body_parts (rows xs) ++ qs)

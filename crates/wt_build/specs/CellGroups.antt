@@ -6,7 +6,7 @@ use Rattle.wt_span.specs.declared.form.Piece.{Piece}
 use Rattle.wt_tables.specs.Parts.{is_row, is_caption, begins_part}
 use Rattle.wt_rows.specs.declared.row.RowAt.{RowAt}
 use Rattle.wt_rows.specs.declared.group.Group.{Group}
-use Rattle.wt_body.specs.Rows.{Row, signs}
+use Rattle.wt_page.specs.Rows.{Row, signs}
 use Rattle.wt_rows.specs.Ready.{BeginsCell}
 use Rattle.wt_rows.specs.GroupViews.{groups_view}
 use Rattle.wt_rows.specs.Views.{rows_view}

@@ -6,9 +6,9 @@ use Rattle.wt_span.specs.Runs.{runs}
 use Rattle.wt_lines.specs.declared.kind.LineKind.{LineKind}
 use Rattle.wt_tables.specs.Parts.{unit_kind, is_row}
 use Rattle.wt_inline.specs.ItemTree.{plain}
-use Rattle.wt_body.specs.Rows.{Row, kind_of}
-use Rattle.wt_body.specs.Stretches.{Stretch, enclosed}
-use Rattle.wt_body.specs.Tables.{Reading, cell_stretches, row_by}
+use Rattle.wt_page.specs.Rows.{Row, kind_of}
+use Rattle.wt_page.specs.Stretches.{Stretch, enclosed}
+use Rattle.wt_page.specs.Tables.{Reading, cell_stretches, row_by}
 use Rattle.wt_rows.specs.Groups.{goes_on, captions_count}
 
 abbrev pub row_groups : {A : Type 0} → (A → LineKind) → List (List A) → List (List (List A))

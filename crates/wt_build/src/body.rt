@@ -5,7 +5,7 @@ ghost use Rattle.wt_span.specs.Items.{items};
 ghost use Rattle.wt_span.specs.Origins.{IsSoundPiece};
 ghost use Rattle.wt_inline.specs.Grown.{growth};
 ghost use Rattle.wt_inline.specs.View.{item_tree};
-ghost use Rattle.wt_body.specs.Body.{meaning};
+ghost use Rattle.wt_page.specs.Body.{meaning};
 ghost use Rattle.wt_rows.specs.Unread.{left};
 ghost use Rattle.wt_build.specs.Carrying.{Carries};
 

@@ -9,7 +9,7 @@ ghost use Rattle.wt_tables.specs.Views.{numbers};
 ghost use Rattle.wt_tiles.specs.Tiles.{tiles};
 ghost use Rattle.wt_tiles.specs.Contexts.{in_line};
 ghost use Rattle.wt_tiles.specs.Cutting.{tile_of};
-ghost use Rattle.wt_body.specs.Lists.{is_bare, seen_signs, term_len};
+ghost use Rattle.wt_page.specs.Lists.{is_bare, seen_signs, term_len};
 ghost use Rattle.wt_build.specs.SeenSigns.{seen_by, seen_sign};
 
 use std::alloc::Global;

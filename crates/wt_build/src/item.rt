@@ -7,7 +7,7 @@ ghost use Rattle.wt_inline.specs.ItemTree.{plain, inner, forest};
 ghost use Rattle.wt_inline.specs.Parts.{children};
 ghost use Rattle.wt_inline.specs.View.{item_tree};
 ghost use Rattle.wt_context.specs.Line.{line_parts};
-ghost use Rattle.wt_body.specs.Lists.{item_opening_len, item_kind, item_by, term_len, term, line_item};
+ghost use Rattle.wt_page.specs.Lists.{item_opening_len, item_kind, item_by, term_len, term, line_item};
 ghost use Rattle.wt_rows.specs.Views.{row_view, stretches_view, IsBetween};
 
 use crate::colon::term_len;
@@ -132,7 +132,7 @@ fn plain_item<'a>(
 }
 
 /// The innermost item that a line begins, with these lists in it.
-#[tactic(auto, unfolding(wt_body::specs::Lists::line_item))]
+#[tactic(auto, unfolding(wt_page::specs::Lists::line_item))]
 pub fn line_item<'a>(
     alloc: Global,
     pieces: &[Piece<'a>],

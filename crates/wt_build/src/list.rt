@@ -5,7 +5,7 @@ ghost use Rattle.wt_span.specs.declared.form.Piece.{Piece as PieceOf};
 ghost use Rattle.wt_span.specs.Origins.{IsSoundPiece};
 ghost use Rattle.wt_blocks.specs.View.{list_tree, list_trees};
 ghost use Rattle.wt_blocks.specs.ListTree.{forest};
-ghost use Rattle.wt_body.specs.Lists.{list_kind, begins_at, row_at, list_stretches, all_lists, prefixes, lists};
+ghost use Rattle.wt_page.specs.Lists.{list_kind, begins_at, row_at, list_stretches, all_lists, prefixes, lists};
 ghost use Rattle.wt_rows.specs.Ready.{AreReadyRows};
 ghost use Rattle.wt_build.specs.Blocks.{AreListRows};
 ghost use Rattle.wt_build.specs.Nodes.{node_by};
@@ -157,7 +157,7 @@ fn prefixes(alloc: Global, pieces: &[Piece<'_>], rows: &[RowAt]) -> Result<List<
 
 /// The stretches of the lists that these rows are. More than 2^32 rows are answered as want of
 /// memory.
-#[tactic(auto, unfolding(wt_body::specs::Lists::lists))]
+#[tactic(auto, unfolding(wt_page::specs::Lists::lists))]
 pub fn lists<'a>(
     alloc: Global,
     pieces: &[Piece<'a>],

@@ -4,8 +4,8 @@ ghost use Rattle.std.specs.Prelude.{◌≡◌, ◌<◌, true, false, take, drop,
 ghost use Rattle.std.specs.List.{flat_map};
 ghost use Rattle.wt_tables.specs.Extents.{is_open};
 ghost use Rattle.wt_tables.specs.Parts.{unit_kind};
-ghost use Rattle.wt_body.specs.Rows.{kind_of};
-ghost use Rattle.wt_body.specs.Tables.{cell_stretches, table};
+ghost use Rattle.wt_page.specs.Rows.{kind_of};
+ghost use Rattle.wt_page.specs.Tables.{cell_stretches, table};
 ghost use Rattle.wt_rows.specs.Ready.{AreReadyRows};
 ghost use Rattle.wt_build.specs.Blocks.{reading_at};
 ghost use Rattle.wt_rows.specs.Units.{kind_at};

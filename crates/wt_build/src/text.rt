@@ -9,7 +9,7 @@ ghost use Rattle.wt_inline.specs.Grown.{growth, Grows};
 ghost use Rattle.wt_inline.specs.declared.loose.Loose.TheVariants.{Text};
 ghost use Rattle.wt_inline.specs.Parts.{parts, children};
 ghost use Rattle.wt_context.specs.Line.{line_parts};
-ghost use Rattle.wt_body.specs.Texts.{later_line, later_pre, para, pre, rule};
+ghost use Rattle.wt_page.specs.Texts.{later_line, later_pre, para, pre, rule};
 ghost use Rattle.wt_rows.specs.Views.{row_view, rows_view};
 ghost use Rattle.wt_build.specs.Blocks.{IsOrdered, IsSpaced, later_of, IsOf, AreOf, later_from};
 ghost use Rattle.wt_rows.specs.Ready.{IsReadyRow, AreReadyRows};
@@ -52,7 +52,7 @@ pub fn plain_node<'a>(
 }
 
 /// The node of a rule, by its run of `-`.
-#[tactic(auto, unfolding(wt_body::specs::Texts::rule))]
+#[tactic(auto, unfolding(wt_page::specs::Texts::rule))]
 pub fn rule_tree<'a>(alloc: Global, run: &[Piece<'a>]) -> Result<PieceTree<'a>, NoMemory>
     ensures { IfOk result (λ t. item_tree t ≡ rule (items run.now)) }
 {

@@ -6,9 +6,9 @@ use Rattle.wt_lines.specs.declared.kind.LineKind.{LineKind}
 use Rattle.wt_lines.specs.declared.kind.LineKind.TheVariants as line
 use Rattle.wt_tables.specs.Extents.{is_open}
 use Rattle.wt_tables.specs.Parts.{begins_part}
-use Rattle.wt_body.specs.Rows.{Row, row_items, all_items}
-use Rattle.wt_body.specs.Lists.{prefix_of}
-use Rattle.wt_body.specs.Body.{is_list_line}
+use Rattle.wt_page.specs.Rows.{Row, row_items, all_items}
+use Rattle.wt_page.specs.Lists.{prefix_of}
+use Rattle.wt_page.specs.Body.{is_list_line}
 use Rattle.wt_numbers.specs.Numbers.{makes_all}
 use Rattle.wt_numbers.proofs.Makes.{makes_append}
 

@@ -11,11 +11,11 @@ use Rattle.wt_lines.specs.declared.kind.TheConstants.{MOST_TABLES}
 use Rattle.wt_lines.specs.Lines.{full_lines, goes_on}
 use Rattle.wt_tables.specs.Extents.{is_open, inner_len}
 use Rattle.wt_tables.specs.Parts.{joined, taken_len, put_first, units_from, units, unit_kind}
-use Rattle.wt_body.specs.Rows.{Row, kind_of, rows}
-use Rattle.wt_body.specs.Stretches.{stretches_parts}
-use Rattle.wt_body.specs.Tables.{Reading, gaps}
-use Rattle.wt_body.specs.Body.{is_list_line, one_block, same_block, block_stretches, run_stretches, blocks_by, within, blocks, meaning}
-use Rattle.wt_body.proofs.HeldBody.{units_joined}
+use Rattle.wt_page.specs.Rows.{Row, kind_of, rows}
+use Rattle.wt_page.specs.Stretches.{stretches_parts}
+use Rattle.wt_page.specs.Tables.{Reading, gaps}
+use Rattle.wt_page.specs.Body.{is_list_line, one_block, same_block, block_stretches, run_stretches, blocks_by, within, blocks, meaning}
+use Rattle.wt_page.proofs.HeldBody.{units_joined}
 use Rattle.wt_annotated.specs.Counted.{numbered}
 use Rattle.wt_numbers.specs.Numbers.{makes_all}
 use Rattle.wt_numbers.proofs.Makes.{children_count}

@@ -14,11 +14,11 @@ use Rattle.wt_blocks.specs.ListTree.{forest as list_forest}
 use Rattle.wt_blocks.specs.Nesting.{ListLine, numbered as numbered_lines, is_list_sign, sign_of, one_list, goes_on, one_item, without_sign, node_of, item_by as nested_item, items_by, list_by, lists as nested_lists, nested}
 use Rattle.wt_inline.specs.ItemTree.{plain}
 use Rattle.wt_context.specs.Line.{line_parts}
-use Rattle.wt_body.specs.Rows.{Row, row_items, unwritten_end, signs}
-use Rattle.wt_body.specs.Stretches.{Stretch, gap, block, opened_by, enclosed}
-use Rattle.wt_body.specs.Lists.{prefix_of, with_blanks, item_opening_len, colon_at, term_len, item_kind, list_kind, term, item_by, line_item, begins_at, row_at, list_stretches, all_lists, prefixes, lists}
-use Rattle.wt_body.specs.Body.{is_list_line}
-use Rattle.wt_body.proofs.HeldLists.{Fits, fits_front, fits_back, AllGoOn, run_goes_on, all_stay, fits_inner, begins_here, fits_all}
+use Rattle.wt_page.specs.Rows.{Row, row_items, unwritten_end, signs}
+use Rattle.wt_page.specs.Stretches.{Stretch, gap, block, opened_by, enclosed}
+use Rattle.wt_page.specs.Lists.{prefix_of, with_blanks, item_opening_len, colon_at, term_len, item_kind, list_kind, term, item_by, line_item, begins_at, row_at, list_stretches, all_lists, prefixes, lists}
+use Rattle.wt_page.specs.Body.{is_list_line}
+use Rattle.wt_page.proofs.HeldLists.{Fits, fits_front, fits_back, AllGoOn, run_goes_on, all_stay, fits_inner, begins_here, fits_all}
 use Rattle.wt_annotated.specs.Counted.{numbered}
 use Rattle.wt_numbers.specs.Numbers.{makes_all}
 use Rattle.wt_numbers.proofs.Makes.{makes_cut}

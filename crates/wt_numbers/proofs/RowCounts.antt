@@ -17,10 +17,10 @@ use Rattle.wt_blocks.specs.Nesting.{is_list_sign}
 use Rattle.wt_tables.specs.Extents.{behind, is_open}
 use Rattle.wt_headings.specs.Lines.{kind_at, ending}
 use Rattle.wt_headings.proofs.Ends.{content_ending}
-use Rattle.wt_body.specs.Rows.{Row, row_items, signs, marks_len, idle_len, whole_row, sign_row, behind_sign, is_unseen, dashes, line_rows, unwritten_end, rows_from}
-use Rattle.wt_body.specs.Lists.{prefix_of}
-use Rattle.wt_body.specs.Body.{is_list_line}
-use Rattle.wt_body.proofs.HeldRows.{of_whole, of_sign}
+use Rattle.wt_page.specs.Rows.{Row, row_items, signs, marks_len, idle_len, whole_row, sign_row, behind_sign, is_unseen, dashes, line_rows, unwritten_end, rows_from}
+use Rattle.wt_page.specs.Lists.{prefix_of}
+use Rattle.wt_page.specs.Body.{is_list_line}
+use Rattle.wt_page.proofs.HeldRows.{of_whole, of_sign}
 use Rattle.wt_numbers.specs.Numbers.{makes_all}
 use Rattle.wt_numbers.proofs.Makes.{makes_append}
 use Rattle.wt_numbers.proofs.Allowances.{own, twice, allowed_all, allowed_append, IsFit, AreFit, fit_both}

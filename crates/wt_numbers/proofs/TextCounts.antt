@@ -11,10 +11,10 @@ use Rattle.wt_inline.specs.ItemTree.{plain, ItemTree}
 use Rattle.wt_inline.specs.Parts.{Part, node, parts}
 use Rattle.wt_context.specs.Line.{line_parts}
 use Rattle.wt_headings.specs.Headings.{heading}
-use Rattle.wt_body.specs.Rows.{Row, first_lead, last_ending}
-use Rattle.wt_body.specs.Stretches.{gap, tree_block}
-use Rattle.wt_body.specs.Texts.{with_separators, later_parts, later_line, para_parts, para, skipped, later_pre, pre_opening, pre_parts, pre, rule}
-use Rattle.wt_body.specs.Body.{rule_row, heading_row}
+use Rattle.wt_page.specs.Rows.{Row, first_lead, last_ending}
+use Rattle.wt_page.specs.Stretches.{gap, tree_block}
+use Rattle.wt_page.specs.Texts.{with_separators, later_parts, later_line, para_parts, para, skipped, later_pre, pre_opening, pre_parts, pre, rule}
+use Rattle.wt_page.specs.Body.{rule_row, heading_row}
 use Rattle.wt_annotated.specs.Counted.{numbered}
 use Rattle.wt_numbers.specs.Numbers.{makes_all}
 use Rattle.wt_numbers.proofs.Makes.{makes_append, makes_cut, counts, counts_append, parts_count}

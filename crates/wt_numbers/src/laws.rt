@@ -2,7 +2,7 @@
 
 ghost use Rattle.std.specs.Prelude.{◌≤◌, ◌+◌, ◌*◌, List, length};
 ghost use Rattle.wt_span.specs.Items.{Item};
-ghost use Rattle.wt_body.specs.Body.{meaning};
+ghost use Rattle.wt_page.specs.Body.{meaning};
 ghost use Rattle.wt_annotated.specs.Counted.{numbered};
 ghost use Rattle.wt_annotated.specs.Labels.{width};
 ghost use Rattle.wt_numbers.specs.Numbers.{makes_all};

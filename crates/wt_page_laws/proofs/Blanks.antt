@@ -13,9 +13,9 @@ use Rattle.wt_blocks.specs.Nesting.{is_list_sign}
 use Rattle.wt_inline.specs.ItemTree.{inner, plain, forest}
 use Rattle.wt_inline.specs.Parts.{children}
 use Rattle.wt_context.specs.Line.{line_parts}
-use Rattle.wt_body.specs.Rows.{Row, signs}
-use Rattle.wt_body.specs.Stretches.{Stretch, gap, block, stretches_parts, opened_by}
-use Rattle.wt_body.specs.Lists.{prefix_of, with_blanks, item_opening_len, term_len, item_kind, item_by, line_item}
+use Rattle.wt_page.specs.Rows.{Row, signs}
+use Rattle.wt_page.specs.Stretches.{Stretch, gap, block, stretches_parts, opened_by}
+use Rattle.wt_page.specs.Lists.{prefix_of, with_blanks, item_opening_len, term_len, item_kind, item_by, line_item}
 use Rattle.wt_page_laws.specs.Roles.{is_of_list}
 use Rattle.wt_page_laws.specs.Members.{of_each}
 use Rattle.wt_page_laws.specs.Delimiters.{begins_blank, TakesBlanks, delimiter_of, AreDelimiters}

@@ -37,11 +37,11 @@ use Rattle.wt_tables.specs.Extents.{inner_len}
 use Rattle.wt_inline.specs.ItemTree.{ItemTree, plain, leaf, inner, forest}
 use Rattle.wt_inline.specs.Parts.{loose_leaf, form_leaf, children, nowiki}
 use Rattle.wt_inline.specs.declared.loose.Loose.TheVariants.{Sep}
-use Rattle.wt_body.specs.Rows.{rows}
-use Rattle.wt_body.specs.Texts.{para, pre, rule}
-use Rattle.wt_body.specs.Lists.{colon_at, line_item, lists}
-use Rattle.wt_body.specs.Tables.{cell_stretches, row_stretches, table_by}
-use Rattle.wt_body.specs.Body.{blocks, meaning}
+use Rattle.wt_page.specs.Rows.{rows}
+use Rattle.wt_page.specs.Texts.{para, pre, rule}
+use Rattle.wt_page.specs.Lists.{colon_at, line_item, lists}
+use Rattle.wt_page.specs.Tables.{cell_stretches, row_stretches, table_by}
+use Rattle.wt_page.specs.Body.{blocks, meaning}
 
 -- characters of the page
 abbrev page : List ℕ → List Item

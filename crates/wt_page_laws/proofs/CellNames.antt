@@ -8,9 +8,9 @@ use Rattle.wt_tables.specs.Cells.{Cell, signs, splits_at, onto, parts as line_cu
 use Rattle.wt_inline.specs.ItemTree.{inner, forest}
 use Rattle.wt_inline.specs.Parts.{children}
 use Rattle.wt_context.specs.Line.{line_parts}
-use Rattle.wt_body.specs.Rows.{Row}
-use Rattle.wt_body.specs.Stretches.{Stretch, gap, block, stretches_parts}
-use Rattle.wt_body.specs.Tables.{Reading, with_attrs, cell_kind, cell_by, cells_by, cell_stretches}
+use Rattle.wt_page.specs.Rows.{Row}
+use Rattle.wt_page.specs.Stretches.{Stretch, gap, block, stretches_parts}
+use Rattle.wt_page.specs.Tables.{Reading, with_attrs, cell_kind, cell_by, cells_by, cell_stretches}
 use Rattle.wt_page_laws.specs.Roles.{role, is_cell}
 use Rattle.wt_page_laws.specs.Members.{cell_of, cells_among, cell_name}
 use Rattle.wt_page_laws.proofs.Told.{TellsNone, told_in, children_told, in_both, behind_gap, of_opened}

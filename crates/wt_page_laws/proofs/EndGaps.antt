@@ -9,7 +9,7 @@ use Rattle.std.proofs.lemmas.List.Folds.{prefix_len-append}
 use Rattle.std.proofs.lemmas.List.Sums.{prefix_len-le-length}
 use Rattle.wt_span.specs.Items.{Item}
 use Rattle.wt_inline.specs.Parts.{Part}
-use Rattle.wt_body.specs.Stretches.{Stretch, gap, block, is_gap, front_gaps, block_len, end_gaps}
+use Rattle.wt_page.specs.Stretches.{Stretch, gap, block, is_gap, front_gaps, block_len, end_gaps}
 
 if_true : (t : Bool) (m n : ℕ) → t ≡ true → (if t then m else n) ≡ m
 if_true true m n e = refl

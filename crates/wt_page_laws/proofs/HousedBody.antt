@@ -12,11 +12,11 @@ use Rattle.wt_tables.specs.Parts.{joined, RowOf, TableOf, table_of, units, unit_
 use Rattle.wt_inline.specs.ItemTree.{ItemTree, plain}
 use Rattle.wt_inline.specs.Parts.{Part, loose, node}
 use Rattle.wt_headings.specs.Headings.{heading}
-use Rattle.wt_body.specs.Rows.{Row, kind_of, rows}
-use Rattle.wt_body.specs.Stretches.{Stretch, gap, block, stretches_parts, node_of}
-use Rattle.wt_body.specs.Texts.{with_separators, para, pre, rule}
-use Rattle.wt_body.specs.Tables.{Reading, with_attrs, gaps, cell_kind, cell_by, cells_by, cell_stretches, stray_len, delimiter, behind_delimiter, first_items, row_by, row_stretches, rows_stretches, table_inside, table_by, last_of, without_last, table}
-use Rattle.wt_body.specs.Body.{same_block, rule_row, heading_row, block_stretches, run_stretches, blocks_by, within, blocks, meaning}
+use Rattle.wt_page.specs.Rows.{Row, kind_of, rows}
+use Rattle.wt_page.specs.Stretches.{Stretch, gap, block, stretches_parts, node_of}
+use Rattle.wt_page.specs.Texts.{with_separators, para, pre, rule}
+use Rattle.wt_page.specs.Tables.{Reading, with_attrs, gaps, cell_kind, cell_by, cells_by, cell_stretches, stray_len, delimiter, behind_delimiter, first_items, row_by, row_stretches, rows_stretches, table_inside, table_by, last_of, without_last, table}
+use Rattle.wt_page.specs.Body.{same_block, rule_row, heading_row, block_stretches, run_stretches, blocks_by, within, blocks, meaning}
 use Rattle.wt_page_laws.specs.Roles.{Role, outer, lines, role, role_of}
 use Rattle.wt_page_laws.specs.Roles as of
 use Rattle.wt_page_laws.specs.Places.{holds, IsOneOf, IsHoused}

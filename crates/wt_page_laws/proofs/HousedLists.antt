@@ -8,9 +8,9 @@ use Rattle.wt_blocks.specs.ListTree.{ListTree, node as list_node, ListTrees, non
 use Rattle.wt_blocks.specs.Nesting.{ListLine, numbered, one_list, one_item, inner as inner_lines, node_of as list_of, item_by as nested_item, items_by, list_by, lists as nested_lists, nested}
 use Rattle.wt_inline.specs.ItemTree.{plain}
 use Rattle.wt_context.specs.Line.{line_parts}
-use Rattle.wt_body.specs.Rows.{Row}
-use Rattle.wt_body.specs.Stretches.{Stretch, gap, enclosed}
-use Rattle.wt_body.specs.Lists.{with_blanks, item_opening_len, term_len, item_kind, list_kind, term, item_by, line_item, begins_at, row_at, list_stretches, all_lists, prefixes, lists}
+use Rattle.wt_page.specs.Rows.{Row}
+use Rattle.wt_page.specs.Stretches.{Stretch, gap, enclosed}
+use Rattle.wt_page.specs.Lists.{with_blanks, item_opening_len, term_len, item_kind, list_kind, term, item_by, line_item, begins_at, row_at, list_stretches, all_lists, prefixes, lists}
 use Rattle.wt_page_laws.specs.Roles.{Role, outer, list, item, role}
 use Rattle.wt_page_laws.specs.Places.{holds, IsOneOf, IsHoused}
 use Rattle.wt_page_laws.proofs.Alls.{all_both}

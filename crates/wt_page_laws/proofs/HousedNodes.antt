@@ -8,7 +8,7 @@ use Rattle.wt_inline.specs.declared.loose.Loose.TheVariants.{Text, Sep}
 use Rattle.wt_inline.specs.ItemTree.{Head, ItemTree, inner, forest}
 use Rattle.wt_inline.specs.Parts.{Part, loose, node, parts, one_leaf, child, children}
 use Rattle.wt_context.specs.Line.{line_parts}
-use Rattle.wt_body.specs.Stretches.{Stretch, gap, block, stretches_parts, front_len, front_gaps, past_front, block_len, before_end, end_gaps, opened_by, enclosed}
+use Rattle.wt_page.specs.Stretches.{Stretch, gap, block, stretches_parts, front_len, front_gaps, past_front, block_len, before_end, end_gaps, opened_by, enclosed}
 use Rattle.wt_page_laws.specs.Roles.{Role, outer, lines, list, item, rows, table, row, cell, caption, separator, skipped, other, role, role_of}
 use Rattle.wt_page_laws.specs.Places.{holds, IsOneOf, MayStand, IsHousedBy, IsHoused, AreHoused}
 use Rattle.wt_page_laws.proofs.Alls.{all_both, all_taken, all_dropped}

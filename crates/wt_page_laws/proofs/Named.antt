@@ -12,9 +12,9 @@ use Rattle.wt_blocks.proofs.Begun.{nested_begun}
 use Rattle.wt_inline.specs.ItemTree.{Head, inner, ItemTrees, nothing, further, plain, forest}
 use Rattle.wt_inline.specs.Parts.{Part, children}
 use Rattle.wt_context.specs.Line.{line_parts}
-use Rattle.wt_body.specs.Rows.{Row}
-use Rattle.wt_body.specs.Stretches.{Stretch, gap, block, stretches_parts, front_len, front_gaps, past_front, block_len, before_end, end_gaps, opened_by, enclosed}
-use Rattle.wt_body.specs.Lists.{colon_at, with_blanks, item_opening_len, term_len, item_kind, list_kind, term, item_by, line_item, begins_at, row_at, list_stretches, all_lists, prefixes, lists}
+use Rattle.wt_page.specs.Rows.{Row}
+use Rattle.wt_page.specs.Stretches.{Stretch, gap, block, stretches_parts, front_len, front_gaps, past_front, block_len, before_end, end_gaps, opened_by, enclosed}
+use Rattle.wt_page.specs.Lists.{colon_at, with_blanks, item_opening_len, term_len, item_kind, list_kind, term, item_by, line_item, begins_at, row_at, list_stretches, all_lists, prefixes, lists}
 use Rattle.wt_page_laws.specs.Roles.{role, is_of_list}
 use Rattle.wt_page_laws.specs.ListNodes.{list_nodes, list_nodes_of_all, item_name, IsNamed, AreNamed}
 use Rattle.wt_page_laws.specs.Members.{of_each}

@@ -7,8 +7,8 @@ use Rattle.wt_inline.specs.declared.loose.Loose.TheVariants.{Text}
 use Rattle.wt_inline.specs.ItemTree.{inner, tree_items}
 use Rattle.wt_inline.specs.Parts.{Part, node, parts}
 use Rattle.wt_context.specs.Line.{line_parts}
-use Rattle.wt_body.specs.Rows.{Row}
-use Rattle.wt_body.specs.Texts.{later_parts, skipped, later_pre, pre_parts, pre}
+use Rattle.wt_page.specs.Rows.{Row}
+use Rattle.wt_page.specs.Texts.{later_parts, skipped, later_pre, pre_parts, pre}
 use Rattle.wt_page_laws.specs.Roles.{is_skipped}
 use Rattle.wt_page_laws.specs.Members.{skipped_of, skipped_among, children_of, opening_of}
 use Rattle.wt_page_laws.proofs.LineWords.{AreWords, text_words, line_words}

@@ -12,8 +12,8 @@ use Rattle.wt_tiles.specs.Contexts.{in_line}
 use Rattle.wt_tiles.specs.Tiles.{tiles}
 use Rattle.wt_tiles.specs.Cutting.{joined}
 use Rattle.wt_tiles.proofs.Joining.{tiles_join}
-use Rattle.wt_body.specs.Rows.{signs}
-use Rattle.wt_body.specs.Lists.{is_bare, seen_signs, colon_at, term_len}
+use Rattle.wt_page.specs.Rows.{signs}
+use Rattle.wt_page.specs.Lists.{is_bare, seen_signs, colon_at, term_len}
 use Rattle.wt_page_laws.specs.Terms.{HasNoColon, HidesColons, IsFirstColon}
 
 abbrev goes_by : ℕ → Bool

@@ -11,10 +11,10 @@ use Rattle.wt_inline.specs.ItemTree.{ItemTree, plain}
 use Rattle.wt_inline.specs.Parts.{Part, node, parts}
 use Rattle.wt_context.specs.Line.{line_parts, line_trees}
 use Rattle.wt_headings.specs.Headings.{heading}
-use Rattle.wt_body.specs.Rows.{Row}
-use Rattle.wt_body.specs.Stretches.{Stretch, gap, front_len, front_gaps, past_front, opened_by, enclosed}
-use Rattle.wt_body.specs.Texts.{with_separators, later_parts, later_line, para_parts, para, skipped, later_pre, pre_parts, pre, rule}
-use Rattle.wt_body.specs.Lists.{with_blanks, item_opening_len, term_len, item_kind, list_kind, term, item_by, line_item, begins_at, row_at, list_stretches, all_lists, prefixes, lists}
+use Rattle.wt_page.specs.Rows.{Row}
+use Rattle.wt_page.specs.Stretches.{Stretch, gap, front_len, front_gaps, past_front, opened_by, enclosed}
+use Rattle.wt_page.specs.Texts.{with_separators, later_parts, later_line, para_parts, para, skipped, later_pre, pre_parts, pre, rule}
+use Rattle.wt_page.specs.Lists.{with_blanks, item_opening_len, term_len, item_kind, list_kind, term, item_by, line_item, begins_at, row_at, list_stretches, all_lists, prefixes, lists}
 use Rattle.wt_page_laws.specs.Roles.{role, role_of, is_separator, is_between}
 use Rattle.wt_page_laws.specs.Ends.{IsTight}
 use Rattle.wt_page_laws.proofs.Alls.{all_both, all_taken, all_dropped}

@@ -10,10 +10,10 @@ use Rattle.wt_lines.specs.declared.kind.TheConstants.{MOST_TABLES}
 use Rattle.wt_tables.specs.Cells.{Cell, cells_from, row_attributes}
 use Rattle.wt_tables.specs.Parts.{joined, RowOf, TableOf, table_of, units, unit_kind}
 use Rattle.wt_inline.specs.ItemTree.{plain}
-use Rattle.wt_body.specs.Rows.{Row, kind_of, rows}
-use Rattle.wt_body.specs.Stretches.{Stretch, gap, stretches_parts}
-use Rattle.wt_body.specs.Tables.{Reading, with_attrs, gaps, cell_kind, cell_by, cells_by, cell_stretches, stray_len, delimiter, behind_delimiter, row_by, row_stretches, rows_stretches, table_inside, table_by, last_of, without_last, table}
-use Rattle.wt_body.specs.Body.{same_block, rule_row, heading_row, block_stretches, run_stretches, blocks_by, within, blocks, meaning}
+use Rattle.wt_page.specs.Rows.{Row, kind_of, rows}
+use Rattle.wt_page.specs.Stretches.{Stretch, gap, stretches_parts}
+use Rattle.wt_page.specs.Tables.{Reading, with_attrs, gaps, cell_kind, cell_by, cells_by, cell_stretches, stray_len, delimiter, behind_delimiter, row_by, row_stretches, rows_stretches, table_inside, table_by, last_of, without_last, table}
+use Rattle.wt_page.specs.Body.{same_block, rule_row, heading_row, block_stretches, run_stretches, blocks_by, within, blocks, meaning}
 use Rattle.wt_page_laws.specs.Roles.{role}
 use Rattle.wt_page_laws.specs.Ends.{IsTight}
 use Rattle.wt_page_laws.proofs.Alls.{all_both, all_flat}

@@ -9,7 +9,7 @@ use Rattle.wt_inline.specs.declared.loose.Loose.TheVariants.{Text, Sep}
 use Rattle.wt_inline.specs.ItemTree.{Head, ItemTree, forest}
 use Rattle.wt_inline.specs.Parts.{Part, loose, node, parts, one_leaf, child, children}
 use Rattle.wt_context.specs.Line.{line_parts}
-use Rattle.wt_body.specs.Stretches.{Stretch, gap, block, stretch_parts, stretches_parts, before_end, end_gaps, node_of, opened_by}
+use Rattle.wt_page.specs.Stretches.{Stretch, gap, block, stretch_parts, stretches_parts, before_end, end_gaps, node_of, opened_by}
 use Rattle.wt_page_laws.specs.Roles.{other, separator, role_of}
 use Rattle.wt_page_laws.specs.Members.{of_each}
 use Rattle.wt_page_laws.proofs.LineWords.{AreWords, whole_role, line_words}

@@ -1,4 +1,4 @@
-//! Laws of bodies, lists and tables (`wt_body`), in other words than their definitions.
+//! Laws of bodies, lists and tables (`wt_page`), in other words than their definitions.
 #![tactic(auto)]
 
 ghost use Rattle.std.specs.Prelude.{◌≡◌, ◌==◌, ℕ, Bool, false, Some, None, List, [], ◌∷◌, All, codes, length, map, replicate, take};
@@ -12,12 +12,12 @@ ghost use Rattle.wt_tiles.specs.Contexts.{in_line};
 ghost use Rattle.wt_tiles.specs.Tiles.{tiles};
 ghost use Rattle.wt_inline.specs.ItemTree.{forest};
 ghost use Rattle.wt_inline.specs.Parts.{children};
-ghost use Rattle.wt_body.specs.Rows.{Row};
-ghost use Rattle.wt_body.specs.Stretches.{Stretch, stretches_parts};
-ghost use Rattle.wt_body.specs.Lists.{prefix_of, term_len, line_item, prefixes, lists};
-ghost use Rattle.wt_body.specs.Tables.{Reading, cell_stretches};
-ghost use Rattle.wt_body.specs.Texts.{pre};
-ghost use Rattle.wt_body.specs.Body.{meaning};
+ghost use Rattle.wt_page.specs.Rows.{Row};
+ghost use Rattle.wt_page.specs.Stretches.{Stretch, stretches_parts};
+ghost use Rattle.wt_page.specs.Lists.{prefix_of, term_len, line_item, prefixes, lists};
+ghost use Rattle.wt_page.specs.Tables.{Reading, cell_stretches};
+ghost use Rattle.wt_page.specs.Texts.{pre};
+ghost use Rattle.wt_page.specs.Body.{meaning};
 ghost use Rattle.wt_page_laws.specs.Delimiters.{begins_blank, delimiter_of, AreDelimiters};
 ghost use Rattle.wt_page_laws.specs.Ends.{IsTight};
 ghost use Rattle.wt_page_laws.specs.ListNodes.{list_nodes_of_all, AreNamed};

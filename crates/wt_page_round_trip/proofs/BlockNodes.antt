@@ -10,9 +10,9 @@ use Rattle.wt_lines.specs.declared.kind.LineKind.{LineKind}
 use Rattle.wt_lines.specs.declared.kind.LineKind.TheVariants as line
 use Rattle.wt_tables.specs.Extents.{is_open, is_end}
 use Rattle.wt_tables.specs.Parts.{joined, units, unit_kind}
-use Rattle.wt_body.specs.Rows.{Row, kind_of, rows}
-use Rattle.wt_body.specs.Tables.{Reading, gaps}
-use Rattle.wt_body.specs.Body.{one_block, same_block, block_stretches, run_stretches, blocks_by, within, blocks}
+use Rattle.wt_page.specs.Rows.{Row, kind_of, rows}
+use Rattle.wt_page.specs.Tables.{Reading, gaps}
+use Rattle.wt_page.specs.Body.{one_block, same_block, block_stretches, run_stretches, blocks_by, within, blocks}
 use Rattle.wt_page_round_trip.proofs.OfPage.{ArePageItems}
 use Rattle.wt_page_round_trip.proofs.PageLines.{all_left, all_right, all_both}
 use Rattle.wt_page_round_trip.proofs.Stretched.{IsPlaced, ArePlaced}

@@ -21,9 +21,9 @@ use Rattle.wt_tables.specs.Views.{IsLowCut, HasSign}
 use Rattle.wt_tables.proofs.CellReads.{bar_some, low_opening}
 use Rattle.wt_tables.proofs.CellSteps.{split_low}
 use Rattle.wt_tables.proofs.Cuts.{cut_are}
-use Rattle.wt_body.specs.Rows.{Row, signs}
-use Rattle.wt_body.specs.Stretches.{Stretch, gap}
-use Rattle.wt_body.specs.Tables.{cell_kind, cell_by, cells_by}
+use Rattle.wt_page.specs.Rows.{Row, signs}
+use Rattle.wt_page.specs.Stretches.{Stretch, gap}
+use Rattle.wt_page.specs.Tables.{cell_kind, cell_by, cells_by}
 use Rattle.wt_page_round_trip.proofs.TextItems.{AreTexts, BeginsLow, cut_items_before}
 use Rattle.wt_page_round_trip.proofs.OfPage.{IsPageItem, ArePageItems, no_page_items}
 use Rattle.wt_page_round_trip.proofs.PageLines.{all_left, all_right, all_both, all_taken, all_dropped}

@@ -10,7 +10,7 @@ use Rattle.wt_inline.specs.ItemTree.{plain, forest}
 use Rattle.wt_inline.specs.Parts.{Part, children}
 use Rattle.wt_context.specs.Line.{line_parts}
 use Rattle.wt_annotated.specs.Annotated.{all_unplaced}
-use Rattle.wt_body.specs.Stretches.{Stretch, block, stretches_parts, front_len, past_front, block_len, before_end, tree_block, node_of, opened_by, enclosed}
+use Rattle.wt_page.specs.Stretches.{Stretch, block, stretches_parts, front_len, past_front, block_len, before_end, tree_block, node_of, opened_by, enclosed}
 use Rattle.wt_page_round_trip.proofs.InlineNodes.{with_attrs}
 use Rattle.wt_page_round_trip.proofs.OfPage.{ArePageItems}
 use Rattle.wt_page_round_trip.proofs.PageLines.{all_both, all_taken, all_dropped}

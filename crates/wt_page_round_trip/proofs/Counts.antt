@@ -13,7 +13,7 @@ use Rattle.wt_annotated.specs.Counted.{numbered}
 use Rattle.wt_numbers.specs.Numbers.{makes_all}
 use Rattle.wt_numbers.proofs.BodyCounts.{meaning_count}
 use Rattle.wt_numbers.proofs.NumberLaws.{nowiki_inside}
-use Rattle.wt_body.specs.Body.{meaning}
+use Rattle.wt_page.specs.Body.{meaning}
 use Rattle.wt_page_round_trip.proofs.OfPage.{AreOfPage}
 use Rattle.wt_page_round_trip.proofs.FormLengths.{IsFormOf, form_long, AreForms, forms_of_page}
 

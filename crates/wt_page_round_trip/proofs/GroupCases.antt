@@ -28,9 +28,9 @@ use Rattle.wt_context.specs.Chunks.{chunks}
 use Rattle.wt_context.specs.Styled.{with_styles}
 use Rattle.wt_context.specs.Nodes.{segments}
 use Rattle.wt_context.specs.Line.{context_parts, line_trees}
-use Rattle.wt_body.specs.Texts.{para}
-use Rattle.wt_body.specs.Rows.{rows as rows_of}
-use Rattle.wt_body.specs.Body.{blocks, meaning}
+use Rattle.wt_page.specs.Texts.{para}
+use Rattle.wt_page.specs.Rows.{rows as rows_of}
+use Rattle.wt_page.specs.Body.{blocks, meaning}
 use Rattle.wt_annotated.specs.Annotated.{annotated}
 use Rattle.wt_annotated.specs.GroupData.{group_data}
 use Rattle.wt_annotated.specs.GroupWord.{transclusion_word}

@@ -18,7 +18,7 @@ use Rattle.wt_lines.specs.Kinds.{is_mark_sign, is_idle, past, is_idle_all, is_al
 use Rattle.wt_lines.specs.Lines.{content, is_break_item}
 use Rattle.wt_round_trip.specs.Written.{has_level}
 use Rattle.wt_blocks.specs.Headings.{core, level_of, open_len, trimmed_len, level, opening, closing}
-use Rattle.wt_body.specs.Rows.{marks_len}
+use Rattle.wt_page.specs.Rows.{marks_len}
 use Rattle.wt_page_round_trip.proofs.TextItems.{BeginsLow, EndsLow}
 use Rattle.wt_page_round_trip.proofs.OfPage.{ArePageItems}
 use Rattle.wt_page_round_trip.proofs.Idle.{IsSmallItem, texts_small}

@@ -6,7 +6,7 @@ use Rattle.wt_expand.specs.Expansion.{page_work}
 use Rattle.wt_expand.specs.PageCalls.{expanded_page}
 use Rattle.wt_expand.specs.Work.{Pages, first_refusal}
 use Rattle.wt_inline.specs.ItemTree.{ItemTree, inner, ItemTrees, nothing, further, tree_items, held_by_all}
-use Rattle.wt_body.specs.Body.{meaning}
+use Rattle.wt_page.specs.Body.{meaning}
 use Rattle.wt_page_round_trip.proofs.OfPage.{AreOfPage, ArePageItems}
 use Rattle.wt_page_round_trip.proofs.OpenedPages.{IsOne, AreOnes, meaning_stands}
 use Rattle.wt_page_round_trip.proofs.PageLines.{all_both}

@@ -23,9 +23,9 @@ use Rattle.wt_blocks.specs.Nesting.{ListLine, numbered, is_definition, same_list
 use Rattle.wt_inline.specs.ItemTree.{plain, forest}
 use Rattle.wt_inline.specs.Parts.{Part, children}
 use Rattle.wt_context.specs.Line.{line_parts}
-use Rattle.wt_body.specs.Rows.{Row, unwritten_end, signs}
-use Rattle.wt_body.specs.Stretches.{Stretch, gap, enclosed}
-use Rattle.wt_body.specs.Lists.{prefix_of, with_blanks, item_opening_len, term_len, colon_at, item_kind, list_kind, term, item_by, line_item, begins_at, row_at, list_stretches, all_lists, prefixes, lists}
+use Rattle.wt_page.specs.Rows.{Row, unwritten_end, signs}
+use Rattle.wt_page.specs.Stretches.{Stretch, gap, enclosed}
+use Rattle.wt_page.specs.Lists.{prefix_of, with_blanks, item_opening_len, term_len, colon_at, item_kind, list_kind, term, item_by, line_item, begins_at, row_at, list_stretches, all_lists, prefixes, lists}
 use Rattle.wt_page_round_trip.proofs.OfPage.{ArePageItems, no_page_items}
 use Rattle.wt_page_round_trip.proofs.PageLines.{all_left, all_right, all_both}
 use Rattle.wt_page_round_trip.proofs.BodyParts.{inline_held}

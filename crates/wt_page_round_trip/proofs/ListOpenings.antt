@@ -14,8 +14,8 @@ use Rattle.wt_tiles.specs.Contexts.{in_line}
 use Rattle.wt_tiles.specs.Tiles.{tiles}
 use Rattle.wt_tiles.specs.Cutting.{joined}
 use Rattle.wt_tiles.proofs.Joining.{tiles_join}
-use Rattle.wt_body.specs.Rows.{signs}
-use Rattle.wt_body.specs.Lists.{prefix_of, with_blanks, item_opening_len, is_bare, seen_signs, colon_at}
+use Rattle.wt_page.specs.Rows.{signs}
+use Rattle.wt_page.specs.Lists.{prefix_of, with_blanks, item_opening_len, is_bare, seen_signs, colon_at}
 use Rattle.wt_page_round_trip.proofs.OfPage.{IsPageItem, ArePageItems}
 use Rattle.wt_page_round_trip.proofs.PageLines.{all_taken, all_dropped}
 use Rattle.wt_page_round_trip.proofs.TextItems.{BeginsLow, cut_items_before, AreTexts}

@@ -20,8 +20,8 @@ use Rattle.wt_inline.specs.RawTag.{opening_of, inside_of, closing_of}
 use Rattle.wt_inline.specs.Inside.{read_with, inside_items, opened_whole, opened, opened_all}
 use Rattle.wt_inline.specs.ItemTree.{tree_items}
 use Rattle.wt_inline.proofs.HeldLaws.{sources_opened}
-use Rattle.wt_body.specs.Body.{meaning}
-use Rattle.wt_body.proofs.HeldBody.{held_meaning}
+use Rattle.wt_page.specs.Body.{meaning}
+use Rattle.wt_page.proofs.HeldBody.{held_meaning}
 use Rattle.wt_annotated.specs.Seams.{parted, text_step, text_from}
 use Rattle.wt_annotated.proofs.Seams.{page_is}
 use Rattle.wt_page_round_trip.proofs.ExpandedPages.{page_step, call_text, no_text, expanded_stands}

@@ -5,9 +5,9 @@ use Rattle.wt_span.specs.Items.{Item}
 use Rattle.wt_tree.specs.declared.kind.Kind.TheVariants as kind
 use Rattle.wt_inline.specs.ItemTree.{ItemTrees, forest}
 use Rattle.wt_inline.specs.Parts.{Part, children}
-use Rattle.wt_body.specs.Rows.{rows}
-use Rattle.wt_body.specs.Stretches.{stretches_parts}
-use Rattle.wt_body.specs.Body.{blocks}
+use Rattle.wt_page.specs.Rows.{rows}
+use Rattle.wt_page.specs.Stretches.{stretches_parts}
+use Rattle.wt_page.specs.Body.{blocks}
 use Rattle.wt_annotated.specs.Annotated.{all_unplaced}
 use Rattle.wt_page_round_trip.proofs.OfPage.{ArePageItems}
 use Rattle.wt_page_round_trip.proofs.PageNodes.{ArePageNodes, children_nodes}

@@ -12,8 +12,8 @@ use Rattle.wt_expand.specs.PageCalls.{expanded_page}
 use Rattle.wt_expand.specs.Work.{Pages}
 use Rattle.wt_inline.specs.ItemTree.{forest, tree_items}
 use Rattle.wt_inline.specs.Parts.{children}
-use Rattle.wt_body.specs.Rows.{rows}
-use Rattle.wt_body.specs.Body.{body_parts, meaning}
+use Rattle.wt_page.specs.Rows.{rows}
+use Rattle.wt_page.specs.Body.{body_parts, meaning}
 use Rattle.wt_annotated.specs.Slices.{IsSlice, AreSlices}
 use Rattle.wt_annotated.specs.Annotated.{annotated}
 use Rattle.wt_annotated.specs.Clean.{is_clean}

@@ -15,8 +15,8 @@ use Rattle.wt_expand.specs.Expansion.{page_work}
 use Rattle.wt_expand.specs.PageCalls.{expanded_page}
 use Rattle.wt_expand.specs.Work.{Pages, first_refusal}
 use Rattle.wt_inline.specs.ItemTree.{ItemTrees, tree_items, held_by_all}
-use Rattle.wt_body.specs.Body.{meaning}
-use Rattle.wt_body.proofs.HeldBody.{sources_meaning}
+use Rattle.wt_page.specs.Body.{meaning}
+use Rattle.wt_page.proofs.HeldBody.{sources_meaning}
 use Rattle.wt_annotated.specs.Annotated.{annotated}
 use Rattle.wt_annotated.specs.Counted.{numbered_in_all}
 use Rattle.wt_annotated.specs.GroupData.{group_data}

@@ -26,9 +26,9 @@ use Rattle.wt_context.specs.Nodes.{segments}
 use Rattle.wt_context.specs.Line.{context_parts, line_trees}
 use Rattle.wt_blocks.specs.Headings.{level, opening, inside, closing}
 use Rattle.wt_headings.specs.Headings.{heading}
-use Rattle.wt_body.specs.Texts.{para}
-use Rattle.wt_body.specs.Rows.{rows as rows_of}
-use Rattle.wt_body.specs.Body.{blocks, meaning}
+use Rattle.wt_page.specs.Texts.{para}
+use Rattle.wt_page.specs.Rows.{rows as rows_of}
+use Rattle.wt_page.specs.Body.{blocks, meaning}
 use Rattle.wt_annotated.specs.Labels.{label_at}
 use Rattle.wt_annotated.specs.WithoutCalls.{annotated}
 

@@ -16,7 +16,7 @@ use Rattle.wt_tree.specs.Kinds.{may_hold}
 use Rattle.wt_inline.specs.declared.loose.Loose.TheVariants.{Sep}
 use Rattle.wt_inline.specs.ItemTree.{Head, forest}
 use Rattle.wt_inline.specs.Parts.{Part, loose, node, parts, children}
-use Rattle.wt_body.specs.Stretches.{Stretch, gap, block, is_gap, stretches_parts, front_len, front_gaps, past_front, block_len, before_end, end_gaps, node_of, opened_by, enclosed}
+use Rattle.wt_page.specs.Stretches.{Stretch, gap, block, is_gap, stretches_parts, front_len, front_gaps, past_front, block_len, before_end, end_gaps, node_of, opened_by, enclosed}
 use Rattle.wt_page_round_trip.proofs.InlineNodes.{with_attrs}
 use Rattle.wt_page_round_trip.proofs.OfPage.{AreOfPage}
 use Rattle.wt_page_round_trip.proofs.PageLines.{IsBetween, all_both, all_taken, all_dropped}

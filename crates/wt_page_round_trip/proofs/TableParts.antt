@@ -7,8 +7,8 @@ use Rattle.wt_tree.specs.declared.kind.Kind.{Kind}
 use Rattle.wt_tree.specs.declared.kind.Kind.TheVariants as kind
 use Rattle.wt_tables.specs.Extents.{inner_len}
 use Rattle.wt_tables.specs.Parts.{joined, taken_len, put_first, units_from, units, table_of, plain_len, groups, captions_len}
-use Rattle.wt_body.specs.Rows.{Row, kind_of, signs}
-use Rattle.wt_body.specs.Tables.{Reading, first_items, table}
+use Rattle.wt_page.specs.Rows.{Row, kind_of, signs}
+use Rattle.wt_page.specs.Tables.{Reading, first_items, table}
 use Rattle.wt_page_round_trip.proofs.OfPage.{ArePageItems}
 use Rattle.wt_page_round_trip.proofs.PageLines.{all_left, all_right, all_taken, all_dropped}
 use Rattle.wt_page_round_trip.proofs.Stretched.{StandsIn, ArePlaced}

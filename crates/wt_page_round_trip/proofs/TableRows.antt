@@ -14,7 +14,7 @@ use Rattle.wt_tables.specs.Cells.{sign_len}
 use Rattle.wt_tables.specs.Extents.{is_open, is_end}
 use Rattle.wt_tables.specs.Parts.{joined, begins_part, begins_group, groups, group_kind, stray_len, with_stray, past_stray, RowOf, is_row, row_by, row_of, rows_of, is_caption, plain_len, captions_len}
 use Rattle.wt_tables.specs.Views.{HasSign}
-use Rattle.wt_body.specs.Rows.{Row, kind_of, signs}
+use Rattle.wt_page.specs.Rows.{Row, kind_of, signs}
 use Rattle.wt_page_round_trip.proofs.PageLines.{all_left, all_right, all_both, all_dropped}
 use Rattle.wt_page_round_trip.proofs.GoodRows.{IsSeen, IsGoodRow, AreGoodRows}
 use Rattle.wt_page_round_trip.proofs.RowUnits.{Walk, UnitBy, IsUnit, walk_units}

@@ -20,10 +20,10 @@ use Rattle.wt_blocks.specs.Headings.{level as heading_level, opening, inside, cl
 use Rattle.wt_blocks.proofs.HeadingLaws.{joined as heading_joined}
 use Rattle.wt_headings.specs.Headings.{heading}
 use Rattle.wt_annotated.specs.Annotated.{all_unplaced}
-use Rattle.wt_body.specs.Rows.{Row, signs, first_lead, last_ending}
-use Rattle.wt_body.specs.Texts.{with_separators, later_parts, later_line, para_parts, para, skipped, later_pre, pre_opening, pre_parts, pre, rule}
-use Rattle.wt_body.specs.Tables.{gaps}
-use Rattle.wt_body.specs.Body.{rule_row, heading_row}
+use Rattle.wt_page.specs.Rows.{Row, signs, first_lead, last_ending}
+use Rattle.wt_page.specs.Texts.{with_separators, later_parts, later_line, para_parts, para, skipped, later_pre, pre_opening, pre_parts, pre, rule}
+use Rattle.wt_page.specs.Tables.{gaps}
+use Rattle.wt_page.specs.Body.{rule_row, heading_row}
 use Rattle.wt_page_round_trip.proofs.TextItems.{AreTexts, cut_after, cut_items_before}
 use Rattle.wt_page_round_trip.proofs.OfPage.{IsPageItem, AreOfPage, ArePageItems, no_page_items}
 use Rattle.wt_page_round_trip.proofs.PageLines.{IsBetween, all_left, all_right, all_both, both_page}

@@ -11,7 +11,7 @@ ghost use Rattle.wt_round_trip.specs.Written.{unranged, IsWritten};
 ghost use Rattle.wt_expand.specs.PageCalls.{expanded_page};
 ghost use Rattle.wt_expand.specs.Expansion.{page_work};
 ghost use Rattle.wt_expand.specs.Work.{Pages, first_refusal};
-ghost use Rattle.wt_body.specs.Body.{meaning};
+ghost use Rattle.wt_page.specs.Body.{meaning};
 ghost use Rattle.wt_inline.specs.ItemTree.{ItemTree, tree_items};
 ghost use Rattle.wt_annotated.specs.Annotated.{annotated, placed};
 ghost use Rattle.wt_annotated.specs.Clean.{is_clean};

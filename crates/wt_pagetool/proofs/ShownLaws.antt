@@ -9,7 +9,7 @@ use Rattle.wt_tree.specs.Opened.{without_sections}
 use Rattle.wt_tree.specs.Plain.{Face, face, element, Plains, ended, along, shown_before, plains_before, plain}
 use Rattle.wt_tree.specs.Tree.{Label, Tree, tree, Trees, label}
 use Rattle.wt_expand.specs.Work.{Pages}
-use Rattle.wt_body.specs.Body.{meaning}
+use Rattle.wt_page.specs.Body.{meaning}
 use Rattle.wt_annotated.specs.Annotated.{annotated}
 use Rattle.wt_page_round_trip.specs.PageTree.{page_tree}
 use Rattle.wt_datamw.specs.declared.refusal.DataWhy.{DataWhy}

@@ -5,7 +5,7 @@ ghost use Rattle.wt_annotated.specs.Reached.{AreReachedSlices};
 ghost use Rattle.wt_expand.specs.PageCalls.{expanded_page};
 ghost use Rattle.wt_expand.specs.Work.{Pages, names_asked};
 ghost use Rattle.wt_inline.specs.ItemTree.{tree_items};
-ghost use Rattle.wt_body.specs.Body.{meaning};
+ghost use Rattle.wt_page.specs.Body.{meaning};
 ghost use Rattle.wt_page_round_trip.specs.PageTree.{expanded_tree, page_tree};
 ghost use Rattle.wt_span.specs.Cuts.{page_of};
 ghost use Rattle.wt_transclusion.specs.Asked.{Asks};

@@ -7,7 +7,7 @@ ghost use Rattle.wt_tree.specs.Tiling.{InPreorder, Tiled};
 ghost use Rattle.wt_tree.specs.View.{view};
 ghost use Rattle.wt_inline.specs.ItemTree.{tree_items};
 ghost use Rattle.wt_inline.specs.View.{item_tree};
-ghost use Rattle.wt_body.specs.Body.{meaning};
+ghost use Rattle.wt_page.specs.Body.{meaning};
 ghost use Rattle.wt_annotated.specs.Annotated.{annotated};
 ghost use Rattle.wt_annotated.specs.GroupData.{group_data};
 ghost use Rattle.wt_annotated.specs.Pieces.{outer_calls};

@@ -8,9 +8,9 @@ use Rattle.wt_lines.specs.declared.kind.LineKind.{LineKind}
 use Rattle.wt_lines.specs.declared.kind.LineKind.TheVariants as line
 use Rattle.wt_tables.specs.Extents.{inner_len}
 use Rattle.wt_tables.specs.Parts.{joined, taken_len, put_first, units_from, units, unit_kind, table_of}
-use Rattle.wt_body.specs.Rows.{Row, kind_of}
-use Rattle.wt_body.specs.Tables.{Reading, table, table_by, last_of, without_last}
-use Rattle.wt_body.specs.Body.{one_block, same_block, block_stretches, run_stretches, blocks_by}
+use Rattle.wt_page.specs.Rows.{Row, kind_of}
+use Rattle.wt_page.specs.Tables.{Reading, table, table_by, last_of, without_last}
+use Rattle.wt_page.specs.Body.{one_block, same_block, block_stretches, run_stretches, blocks_by}
 use Rattle.wt_row_laws.specs.Blocks.{Block, blank, table as table_block, heading, rule, lists, preformatted, paragraph, block_rows, AllAre, BeginOtherwise, IsBlock, AreBlocks, block_parts}
 use Rattle.wt_row_laws.proofs.Falling.{IsOther, unit_is_part}
 use Rattle.wt_row_laws.proofs.UnitCuts.{first_unit}

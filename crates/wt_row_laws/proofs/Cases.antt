@@ -7,11 +7,11 @@ use Rattle.wt_lines.specs.declared.kind.LineKind.TheVariants as line
 use Rattle.wt_lines.specs.Kinds.{kind_of_signs}
 use Rattle.wt_tables.specs.Extents.{inner_len}
 use Rattle.wt_tables.specs.Parts.{units}
-use Rattle.wt_body.specs.Rows.{Row, kind_of, rows_from, rows}
-use Rattle.wt_body.specs.Stretches.{gap}
-use Rattle.wt_body.specs.Texts.{with_separators, para, pre}
-use Rattle.wt_body.specs.Tables.{gaps}
-use Rattle.wt_body.specs.Body.{blocks_by}
+use Rattle.wt_page.specs.Rows.{Row, kind_of, rows_from, rows}
+use Rattle.wt_page.specs.Stretches.{gap}
+use Rattle.wt_page.specs.Texts.{with_separators, para, pre}
+use Rattle.wt_page.specs.Tables.{gaps}
+use Rattle.wt_page.specs.Body.{blocks_by}
 use Rattle.wt_row_laws.specs.Units.{IsUnit}
 use Rattle.wt_row_laws.specs.Blocks.{paragraph, BeginOtherwise, AreBlocks}
 

@@ -7,7 +7,7 @@ use Rattle.wt_span.proofs.RunLaws.{runs_are}
 use Rattle.wt_lines.specs.declared.kind.LineKind.{LineKind}
 use Rattle.wt_lines.specs.declared.kind.LineKind.TheVariants as line
 use Rattle.wt_tables.specs.Parts.{RowOf, joined, units, begins_part, begins_group, group_kind, groups, is_row, row_by, row_of, plain_len, captions_len, table_of}
-use Rattle.wt_body.specs.Rows.{Row, kind_of}
+use Rattle.wt_page.specs.Rows.{Row, kind_of}
 use Rattle.wt_row_laws.specs.Units.{IsUnit, AreUnits}
 use Rattle.wt_row_laws.specs.Cells.{HoldsBlocks, CellsHoldBlocks}
 use Rattle.wt_row_laws.proofs.Falling.{IsPart, unit_is_part}

@@ -10,8 +10,8 @@ use Rattle.wt_tables.specs.Extents.{is_open, is_end, behind}
 use Rattle.wt_tables.specs.Parts.{joined}
 use Rattle.wt_tables.proofs.Opens.{end_inside}
 use Rattle.wt_headings.specs.Lines.{kind_at}
-use Rattle.wt_body.specs.Rows.{Row, row_items, all_items, idle_len, marks_len, dashes, behind_sign, is_unseen, sign_row, sign_rows, whole_row, line_rows, rows_from}
-use Rattle.wt_body.proofs.HeldRows.{of_whole, of_sign}
+use Rattle.wt_page.specs.Rows.{Row, row_items, all_items, idle_len, marks_len, dashes, behind_sign, is_unseen, sign_row, sign_rows, whole_row, line_rows, rows_from}
+use Rattle.wt_page.proofs.HeldRows.{of_whole, of_sign}
 use Rattle.wt_row_laws.specs.Counts.{opened, ended, KindIsCounted}
 
 abbrev pub one : Bool → ℕ

@@ -6,7 +6,7 @@ use Rattle.wt_lines.specs.declared.kind.LineKind.TheVariants as line
 use Rattle.wt_tables.specs.Extents.{is_open, is_end, behind}
 use Rattle.wt_tables.specs.Parts.{taken_len}
 use Rattle.wt_tables.proofs.Ends.{depth_len}
-use Rattle.wt_body.specs.Rows.{Row, kind_of}
+use Rattle.wt_page.specs.Rows.{Row, kind_of}
 use Rattle.wt_row_laws.specs.Counts.{opened, ended}
 use Rattle.wt_row_laws.specs.Units.{IsUnit}
 use Rattle.wt_row_laws.proofs.Counting.{one, opened_put, ended_put}

@@ -16,9 +16,9 @@ use Rattle.wt_inline.specs.ItemTree.{plain, ItemTree, inner, forest}
 use Rattle.wt_inline.specs.Parts.{children}
 use Rattle.wt_inline.proofs.HeldLaws.{are_children, only_children}
 use Rattle.wt_headings.specs.Lines.{kind_at}
-use Rattle.wt_body.specs.Rows.{Row, idle_len, marks_len, dashes, behind_sign, is_unseen, sign_row, whole_row, line_rows, unwritten_end, rows_from, rows}
-use Rattle.wt_body.specs.Stretches.{stretches_parts}
-use Rattle.wt_body.specs.Body.{within, blocks, meaning}
+use Rattle.wt_page.specs.Rows.{Row, idle_len, marks_len, dashes, behind_sign, is_unseen, sign_row, whole_row, line_rows, unwritten_end, rows_from, rows}
+use Rattle.wt_page.specs.Stretches.{stretches_parts}
+use Rattle.wt_page.specs.Body.{within, blocks, meaning}
 use Rattle.wt_row_laws.specs.Blocks.{Block, blank, table as table_block, heading, rule, lists, preformatted, paragraph, BeginOtherwise, AreBlocks, block_parts, IsMeaningByCases}
 use Rattle.wt_row_laws.proofs.Falling.{IsOther, sort, Falls, Level, part_is_unit}
 use Rattle.wt_row_laws.proofs.UnitCuts.{cut, inside_of, level_rest, rows_level}

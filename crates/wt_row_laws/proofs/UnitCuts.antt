@@ -11,8 +11,8 @@ use Rattle.wt_tables.specs.Parts.{joined, taken_len, put_first, units_from, unit
 use Rattle.wt_tables.proofs.Ends.{inner_is}
 use Rattle.wt_tables.proofs.Opens.{end_inside}
 use Rattle.wt_headings.specs.Lines.{kind_at}
-use Rattle.wt_body.specs.Rows.{Row, kind_of, idle_len, marks_len, dashes, behind_sign, is_unseen, sign_row, whole_row, line_rows, unwritten_end, rows_from}
-use Rattle.wt_body.proofs.HeldBody.{units_joined}
+use Rattle.wt_page.specs.Rows.{Row, kind_of, idle_len, marks_len, dashes, behind_sign, is_unseen, sign_row, whole_row, line_rows, unwritten_end, rows_from}
+use Rattle.wt_page.proofs.HeldBody.{units_joined}
 use Rattle.wt_row_laws.specs.Units.{IsUnit, AreUnits, HoldsUnits}
 use Rattle.wt_row_laws.proofs.Falling.{IsOther, sort, Falls, Level, falls_open, falls_end, falls_other, falls_len, IsPart, part_is_unit, unit_is_part}
 

@@ -11,12 +11,12 @@ use Rattle.wt_tables.specs.Parts.{table_of}
 use Rattle.wt_inline.specs.ItemTree.{plain, ItemTree, inner, forest}
 use Rattle.wt_inline.specs.Parts.{AreChildren}
 use Rattle.wt_headings.specs.Headings.{heading as heading_tree}
-use Rattle.wt_body.specs.Rows.{Row, kind_of, row_items, rows_from}
-use Rattle.wt_body.specs.Stretches.{Stretch, gap, stretches_parts}
-use Rattle.wt_body.specs.Texts.{with_separators, para, pre, rule as rule_leaf}
-use Rattle.wt_body.specs.Lists.{lists as list_stretches}
-use Rattle.wt_body.specs.Tables.{Reading, table_by}
-use Rattle.wt_body.specs.Body.{within}
+use Rattle.wt_page.specs.Rows.{Row, kind_of, row_items, rows_from}
+use Rattle.wt_page.specs.Stretches.{Stretch, gap, stretches_parts}
+use Rattle.wt_page.specs.Texts.{with_separators, para, pre, rule as rule_leaf}
+use Rattle.wt_page.specs.Lists.{lists as list_stretches}
+use Rattle.wt_page.specs.Tables.{Reading, table_by}
+use Rattle.wt_page.specs.Body.{within}
 use Rattle.wt_row_laws.specs.Units.{IsUnit}
 
 -- A block by its rows: the first and those behind it. Of a table: the row that opens it, those inside it, and the one that ends it.

@@ -2,7 +2,7 @@
 use Rattle.std.specs.Prelude.{◌≡◌, true, List, [], ◌∷◌}
 use Rattle.std.specs.List.{AllByRecursion}
 use Rattle.wt_tables.specs.Parts.{RowOf, TableOf, begins_part}
-use Rattle.wt_body.specs.Rows.{Row}
+use Rattle.wt_page.specs.Rows.{Row}
 use Rattle.wt_row_laws.specs.Blocks.{Block, AreBlocks}
 
 -- a line of cells or of a caption, and behind it rows that are blocks

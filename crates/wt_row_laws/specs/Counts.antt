@@ -5,7 +5,7 @@ use Rattle.wt_span.specs.Items.{Item}
 use Rattle.wt_tables.specs.Extents.{is_open, is_end}
 use Rattle.wt_tables.specs.Parts.{joined}
 use Rattle.wt_headings.specs.Lines.{kind_at}
-use Rattle.wt_body.specs.Rows.{Row, all_items, line_rows, rows_from}
+use Rattle.wt_page.specs.Rows.{Row, all_items, line_rows, rows_from}
 
 -- how many rows open a table
 abbrev pub opened : List Row → ℕ

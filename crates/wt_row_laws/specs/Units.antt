@@ -3,7 +3,7 @@ use Rattle.std.specs.Prelude.{◌≡◌, ◌<◌, ℕ, List, [], ◌∷◌, ◌+
 use Rattle.std.specs.List.{AllByRecursion}
 use Rattle.wt_lines.specs.declared.kind.LineKind.TheVariants as line
 use Rattle.wt_tables.specs.Parts.{joined, units}
-use Rattle.wt_body.specs.Rows.{Row, kind_of}
+use Rattle.wt_page.specs.Rows.{Row, kind_of}
 use Rattle.wt_row_laws.specs.Counts.{opened, ended}
 
 -- Rows that open as many tables as they end, and end fewer up to any row before the last. So a table ends with the row that

@@ -1,4 +1,4 @@
-//! Laws of the rows of a page (`wt_body`), in other words than their definitions: kinds of lines and units by
+//! Laws of the rows of a page (`wt_page`), in other words than their definitions: kinds of lines and units by
 //! counts, blocks by cases.
 #![tactic(auto)]
 
@@ -8,9 +8,9 @@ ghost use Rattle.wt_span.specs.Items.{Item};
 ghost use Rattle.wt_lines.specs.declared.kind.LineKind.TheVariants as kind;
 ghost use Rattle.wt_tables.specs.Parts.{units, table_of};
 ghost use Rattle.wt_inline.specs.ItemTree.{ItemTree};
-ghost use Rattle.wt_body.specs.Rows.{Row, kind_of, rows_from};
-ghost use Rattle.wt_body.specs.Tables.{Reading};
-ghost use Rattle.wt_body.specs.Body.{blocks_by, meaning};
+ghost use Rattle.wt_page.specs.Rows.{Row, kind_of, rows_from};
+ghost use Rattle.wt_page.specs.Tables.{Reading};
+ghost use Rattle.wt_page.specs.Body.{blocks_by, meaning};
 ghost use Rattle.wt_row_laws.specs.Counts.{KindIsCounted};
 ghost use Rattle.wt_row_laws.specs.Units.{IsUnit, AreUnits, HoldsUnits};
 ghost use Rattle.wt_row_laws.specs.Cells.{CellsHoldBlocks};

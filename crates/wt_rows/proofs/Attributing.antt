@@ -13,7 +13,7 @@ use Rattle.wt_tables.specs.Cells.{from_sign, is_dash, row_sign_len, table_attrib
 use Rattle.wt_tiles.specs.Glyphs.{glyph_of}
 use Rattle.wt_tiles.specs.Cutting.{IsEdgeIn}
 use Rattle.wt_tiles.proofs.Words.{edge_after}
-use Rattle.wt_body.specs.Rows.{signs}
+use Rattle.wt_page.specs.Rows.{signs}
 use Rattle.wt_rows.proofs.LowSigns.{low_sign}
 
 -- two signs at the front

@@ -5,8 +5,8 @@ use Rattle.wt_span.specs.Items.{Item, char}
 use Rattle.wt_lines.specs.declared.kind.LineKind.{LineKind}
 use Rattle.wt_lines.specs.declared.kind.LineKind.TheVariants as line
 use Rattle.wt_lines.specs.Kinds.{kind_of_signs}
-use Rattle.wt_body.specs.Rows.{rows, kind_of, first_lead, last_ending}
-use Rattle.wt_body.specs.Lists.{prefix_of, item_opening_len}
+use Rattle.wt_page.specs.Rows.{rows, kind_of, first_lead, last_ending}
+use Rattle.wt_page.specs.Lists.{prefix_of, item_opening_len}
 
 -- the items of a page of these bytes
 page : List ℕ → List Item

@@ -13,9 +13,9 @@ use Rattle.wt_tables.specs.declared.cell.CellAt.{CellAt}
 use Rattle.wt_tables.specs.CellViews.{cell_view, IsSoundCell}
 use Rattle.wt_tables.specs.Cells.{Cell, cells, cells_from, begins_cell, from_sign, lead_len}
 use Rattle.wt_rows.specs.declared.stretch.StretchAt.{StretchAt}
-use Rattle.wt_body.specs.Rows.{signs}
-use Rattle.wt_body.specs.Stretches.{Stretch}
-use Rattle.wt_body.specs.Tables.{cell_by, cells_by}
+use Rattle.wt_page.specs.Rows.{signs}
+use Rattle.wt_page.specs.Stretches.{Stretch}
+use Rattle.wt_page.specs.Tables.{cell_by, cells_by}
 use Rattle.wt_rows.specs.Ready.{BeginsCell}
 use Rattle.wt_rows.specs.Views.{stretch_view, stretches_view}
 

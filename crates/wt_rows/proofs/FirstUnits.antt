@@ -4,7 +4,7 @@ use Rattle.wt_lines.specs.declared.kind.LineKind.{LineKind}
 use Rattle.wt_lines.specs.declared.kind.LineKind.TheVariants as line
 use Rattle.wt_tables.specs.Extents.{is_open, inner_len}
 use Rattle.wt_tables.specs.Parts.{taken_len, put_first, units_from, units}
-use Rattle.wt_body.specs.Rows.{Row, kind_of}
+use Rattle.wt_page.specs.Rows.{Row, kind_of}
 
 taken_none : (k : LineKind) → is_open k ≡ false → (n : ℕ) → taken_len k n ≡ 0
 taken_none line.Blank e n = refl

@@ -6,7 +6,7 @@ use Rattle.wt_tables.specs.Extents.{inner_len}
 use Rattle.wt_tables.specs.Parts.{taken_len, unit_kind}
 use Rattle.wt_rows.specs.declared.row.RowAt.{RowAt}
 use Rattle.wt_rows.specs.declared.group.Group.{Group}
-use Rattle.wt_body.specs.Rows.{kind_of}
+use Rattle.wt_page.specs.Rows.{kind_of}
 use Rattle.wt_rows.specs.Units.{kind_at, unit_len, plain_count}
 use Rattle.wt_rows.specs.Groups.{group_rows}
 use Rattle.wt_rows.specs.GroupViews.{group_view, groups_view}

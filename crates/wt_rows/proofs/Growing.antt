@@ -4,7 +4,7 @@ use Rattle.wt_span.specs.declared.form.Piece.{Piece}
 use Rattle.wt_inline.specs.Parts.{Part}
 use Rattle.wt_inline.specs.Grown.{Grown, Grows, made}
 use Rattle.wt_rows.specs.declared.stretch.StretchAt.{StretchAt}
-use Rattle.wt_body.specs.Stretches.{stretch_parts, stretches_parts}
+use Rattle.wt_page.specs.Stretches.{stretch_parts, stretches_parts}
 use Rattle.wt_rows.specs.Views.{stretch_view, stretches_view, IsRest}
 
 pub rest_step : (g h i : Grown) (all added left rest : List Part) → left ≡ added ++ rest → Grows h added i → IsRest g all h left → IsRest g all i rest

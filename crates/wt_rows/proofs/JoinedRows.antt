@@ -8,8 +8,8 @@ use Rattle.wt_lines.specs.Lines.{content}
 use Rattle.wt_lines.specs.Pieces.{AllParted}
 use Rattle.wt_headings.specs.Lines.{ending}
 use Rattle.wt_rows.specs.declared.row.RowAt.{RowAt}
-use Rattle.wt_body.specs.Rows.{row_items, all_items}
-use Rattle.wt_body.specs.Tables.{from_sign}
+use Rattle.wt_page.specs.Rows.{row_items, all_items}
+use Rattle.wt_page.specs.Tables.{from_sign}
 use Rattle.wt_rows.specs.Ready.{IsReadyRow, AreInOrder}
 use Rattle.wt_rows.specs.Delimiters.{IsJoined}
 use Rattle.wt_rows.specs.Views.{slice, row_view, rows_view}

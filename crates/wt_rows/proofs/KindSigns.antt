@@ -19,7 +19,7 @@ use Rattle.wt_span.specs.declared.form.Piece.{Piece}
 use Rattle.wt_span.specs.Whole.{IsWhole}
 use Rattle.wt_lines.specs.Lines.{content}
 use Rattle.wt_lines.specs.Pieces.{is_chars, AreLeadingMarks}
-use Rattle.wt_body.specs.Rows.{signs, idle_len, marks_len}
+use Rattle.wt_page.specs.Rows.{signs, idle_len, marks_len}
 use Rattle.wt_rows.specs.Ready.{Begins}
 use Rattle.wt_rows.specs.Building.{NoMark, IsSeen, IsSeenFirst, IsKindAt, IsTextLine, IsTableLine}
 

@@ -22,7 +22,7 @@ use Rattle.wt_lines.specs.Pieces.{no_break, is_chars, IsPartedBy, AllParted}
 use Rattle.wt_tiles.specs.Glyphs.{glyph_of}
 use Rattle.wt_tiles.specs.Edges.{is_low, low_at}
 use Rattle.wt_tiles.specs.Cutting.{IsEdgeIn}
-use Rattle.wt_body.specs.Rows.{signs, idle_len, dashes}
+use Rattle.wt_page.specs.Rows.{signs, idle_len, dashes}
 use Rattle.wt_rows.specs.Building.{IsTableLine, IsIdleCut}
 use Rattle.wt_rows.proofs.KindSigns.{Tells, past_idle}
 use Rattle.wt_rows.proofs.LowSigns.{form_low}

@@ -14,7 +14,7 @@ use Rattle.wt_lines.specs.Kinds.{is_idle, is_idle_all}
 use Rattle.wt_lines.specs.Lines.{is_break_item, content}
 use Rattle.wt_headings.specs.Lines.{ending}
 use Rattle.wt_headings.proofs.Ends.{content_ending}
-use Rattle.wt_body.specs.Rows.{Row, signs, marks_len, idle_len, dashes, whole_row, sign_rows}
+use Rattle.wt_page.specs.Rows.{Row, signs, marks_len, idle_len, dashes, whole_row, sign_rows}
 use Rattle.wt_rows.specs.Building.{cut_row, signed_rows}
 
 -- ---- a line from a place on

@@ -14,7 +14,7 @@ use Rattle.wt_tables.specs.Extents.{behind}
 use Rattle.wt_headings.specs.Lines.{kind_at, ending}
 use Rattle.wt_headings.proofs.Pieces.{parted_rest, parted_front}
 use Rattle.wt_rows.specs.declared.row.RowAt.{RowAt}
-use Rattle.wt_body.specs.Rows.{Row, signs, marks_len, line_rows, rows_from}
+use Rattle.wt_page.specs.Rows.{Row, signs, marks_len, line_rows, rows_from}
 use Rattle.wt_rows.specs.Views.{rows_view}
 use Rattle.wt_rows.specs.Ready.{Begins}
 use Rattle.wt_rows.specs.Unread.{IsBehind}

@@ -6,7 +6,7 @@ use Rattle.wt_span.specs.declared.form.Form.TheVariants as form
 use Rattle.wt_span.specs.Items.{Item, char, whole}
 use Rattle.wt_tiles.specs.Glyphs.{glyph_of, glyph_of_form}
 use Rattle.wt_tiles.specs.Edges.{is_low, low_at}
-use Rattle.wt_body.specs.Rows.{signs}
+use Rattle.wt_page.specs.Rows.{signs}
 
 pub form_low : (f : Form) → is_low (glyph_of_form f) ≡ true
 form_low form.Chars = refl

@@ -15,7 +15,7 @@ use Rattle.wt_rows.specs.declared.row.RowAt.{RowAt}
 use Rattle.std.proofs.lemmas.List.Elements.{All-nil}
 use Rattle.wt_rows.proofs.KindSigns.{past_idle}
 use Rattle.wt_rows.proofs.LineCuts.{unbroken_parted, unbroken_take, unbroken_drop}
-use Rattle.wt_body.specs.Rows.{Row, signs, idle_len}
+use Rattle.wt_page.specs.Rows.{Row, signs, idle_len}
 use Rattle.wt_rows.specs.Views.{slice, row_view, rows_view}
 use Rattle.wt_rows.specs.Ready.{Begins, IsReadyRow, AreInOrder}
 use Rattle.wt_rows.specs.Building.{AreWhole, IsRowOf, row_of, rows_end, AreMade}

@@ -8,7 +8,7 @@ use Rattle.wt_span.specs.Items.{Item}
 use Rattle.wt_inline.specs.ItemTree.{Head, inner, forest}
 use Rattle.wt_inline.specs.Parts.{Part, children}
 use Rattle.wt_inline.specs.Grown.{Grown, Grows, made}
-use Rattle.wt_body.specs.Stretches.{Stretch, gap, block, is_gap, block_len, before_end, end_gaps, stretches_parts, opened_by, tree_block}
+use Rattle.wt_page.specs.Stretches.{Stretch, gap, block, is_gap, block_len, before_end, end_gaps, stretches_parts, opened_by, tree_block}
 use Rattle.wt_rows.specs.Views.{IsOpenedBy}
 
 gaps_before_block : (ps : List Part) (ss : List Stretch) → prefix_len is_gap (ss ++ block ps ∷ []) ≡ prefix_len is_gap ss

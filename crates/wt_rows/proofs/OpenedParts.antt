@@ -13,9 +13,9 @@ use Rattle.wt_headings.specs.Lines.{ending}
 use Rattle.wt_rows.specs.declared.row.RowAt.{RowAt}
 use Rattle.wt_rows.specs.declared.stretch.StretchAt.{StretchAt}
 use Rattle.wt_rows.specs.declared.stretch.StretchAt.TheVariants as at
-use Rattle.wt_body.specs.Rows.{first_lead}
-use Rattle.wt_body.specs.Stretches.{Stretch, gap, tree_block, stretches_parts, before_end, end_gaps, opened_by}
-use Rattle.wt_body.specs.Tables.{with_attrs, gaps, from_sign, stray_len, delimiter, behind_delimiter, delimiter_lead, first_items, row_by}
+use Rattle.wt_page.specs.Rows.{first_lead}
+use Rattle.wt_page.specs.Stretches.{Stretch, gap, tree_block, stretches_parts, before_end, end_gaps, opened_by}
+use Rattle.wt_page.specs.Tables.{with_attrs, gaps, from_sign, stray_len, delimiter, behind_delimiter, delimiter_lead, first_items, row_by}
 use Rattle.wt_rows.specs.Delimiters.{IsJoined, table_nodes, table_with}
 use Rattle.wt_rows.specs.Views.{row_view, rows_view, stretch_view, stretches_view, IsOpenedBy, IsBetween}
 use Rattle.wt_rows.proofs.Stretching.{made_is}

@@ -1,6 +1,6 @@
 -- Ends of tables that no line ends, behind rows.
 use Rattle.std.proofs.Common.{◌≡◌, ◌<◌, ℕ, suc, ◌-◌, List, [], ◌∷◌, ◌++◌, replicate, sym, ap, ◌∙◌, arith, append_assoc, append-nil}
-use Rattle.wt_body.specs.Rows.{Row, unwritten_end}
+use Rattle.wt_page.specs.Rows.{Row, unwritten_end}
 
 pub one_end : (made news all : List Row) (left : ℕ) → 0 < left → news ≡ made ++ unwritten_end ∷ []
     → made ++ replicate left unwritten_end ≡ all → news ++ replicate (left - 1) unwritten_end ≡ all

@@ -18,10 +18,10 @@ use Rattle.wt_inline.specs.declared.loose.Loose.TheVariants.{Sep}
 use Rattle.wt_inline.specs.Parts.{parts}
 use Rattle.wt_inline.specs.Grown.{made}
 use Rattle.wt_headings.specs.Lines.{kind_at}
-use Rattle.wt_body.specs.Rows.{Row, kind_of, line_rows, sign_rows, is_unseen, behind_sign, unwritten_end, rows_from, rows, marks_len, idle_len, dashes}
-use Rattle.wt_body.specs.Stretches.{gap, stretches_parts}
-use Rattle.wt_body.specs.Tables.{Reading}
-use Rattle.wt_body.specs.Body.{one_block, same_block, run_stretches, blocks_by, within, blocks, body_parts}
+use Rattle.wt_page.specs.Rows.{Row, kind_of, line_rows, sign_rows, is_unseen, behind_sign, unwritten_end, rows_from, rows, marks_len, idle_len, dashes}
+use Rattle.wt_page.specs.Stretches.{gap, stretches_parts}
+use Rattle.wt_page.specs.Tables.{Reading}
+use Rattle.wt_page.specs.Body.{one_block, same_block, run_stretches, blocks_by, within, blocks, body_parts}
 use Rattle.wt_rows.specs.Building.{IsRowsSoFar}
 use Rattle.wt_rows.specs.Unread.{AreBreaks, begins_break}
 use Rattle.wt_rows.specs.Sections.{open_behind, AreFirst}
@@ -151,7 +151,7 @@ parts_cut : (b : Item) (xs ys : List Row) → open_behind 0 xs ≡ 0
 unfolding blocks
 parts_cut b xs ys e =
     ap stretches_parts (blocks_cut (within 15) b xs ys e)
-    ∙ flat_map-append Rattle.wt_body.specs.Stretches.stretch_parts (blocks xs) (gap (b ∷ []) ∷ blocks ys)
+    ∙ flat_map-append Rattle.wt_page.specs.Stretches.stretch_parts (blocks xs) (gap (b ∷ []) ∷ blocks ys)
 
 no_rows : body_parts [] ≡ []
 unfolding blocks

@@ -9,9 +9,9 @@ use Rattle.wt_span.specs.Items.{items, items_of}
 use Rattle.wt_rows.specs.declared.row.RowAt.{RowAt}
 use Rattle.wt_rows.specs.declared.stretch.StretchAt.{StretchAt}
 use Rattle.wt_rows.specs.declared.stretch.StretchAt.TheVariants as at
-use Rattle.wt_body.specs.Rows.{Row, row_items}
-use Rattle.wt_body.specs.Stretches.{Stretch, gap}
-use Rattle.wt_body.specs.Tables.{is_blank_row, stray_len, gaps}
+use Rattle.wt_page.specs.Rows.{Row, row_items}
+use Rattle.wt_page.specs.Stretches.{Stretch, gap}
+use Rattle.wt_page.specs.Tables.{is_blank_row, stray_len, gaps}
 use Rattle.wt_rows.specs.Ready.{IsReadyRow, BeginAt, AreInOrder, AreReadyRows}
 use Rattle.wt_rows.proofs.Grouping.{take_join}
 use Rattle.wt_rows.specs.Views.{slice, row_view, rows_view, stretch_view, stretches_view}

@@ -12,7 +12,7 @@ use Rattle.wt_inline.specs.Parts.{Part}
 use Rattle.wt_inline.specs.Grown.{Grown, Grows, made}
 use Rattle.wt_rows.specs.declared.stretch.StretchAt.{StretchAt}
 use Rattle.wt_rows.specs.declared.stretch.StretchAt.TheVariants as at
-use Rattle.wt_body.specs.Stretches.{is_gap, stretches_parts, block_len, before_end, end_gaps, front_len, enclosed, tree_block}
+use Rattle.wt_page.specs.Stretches.{is_gap, stretches_parts, block_len, before_end, end_gaps, front_len, enclosed, tree_block}
 use Rattle.wt_rows.specs.Views.{stretch_view, stretches_view, is_gap_at, IsOpenedBy, IsBehindTree}
 
 map_reverse : {A B : Type 0} (f : A → B) (xs : List A) → map f (reverse xs) ≡ reverse (map f xs)

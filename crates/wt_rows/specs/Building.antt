@@ -12,7 +12,7 @@ use Rattle.wt_tiles.specs.Cutting.{IsEdgeIn}
 use Rattle.wt_headings.specs.Lines.{kind_at}
 use Rattle.wt_rows.specs.declared.row.RowAt.{RowAt}
 use Rattle.wt_rows.specs.declared.rows.PageRows.{PageRows}
-use Rattle.wt_body.specs.Rows.{Row, signs, marks_len, idle_len, dashes, rows_from}
+use Rattle.wt_page.specs.Rows.{Row, signs, marks_len, idle_len, dashes, rows_from}
 use Rattle.wt_rows.specs.Views.{rows_view}
 use Rattle.wt_rows.specs.Ready.{Begins, AreReadyRows}
 

@@ -4,11 +4,11 @@ use Rattle.wt_tree.specs.declared.kind.Kind.TheVariants as kind
 use Rattle.wt_lines.specs.Lines.{content}
 use Rattle.wt_tables.specs.Cells.{table_attributes}
 use Rattle.wt_headings.specs.Lines.{ending}
-use Rattle.wt_body.specs.Rows.{Row, first_lead}
+use Rattle.wt_page.specs.Rows.{Row, first_lead}
 use Rattle.wt_inline.specs.ItemTree.{ItemTree}
 use Rattle.wt_inline.specs.Parts.{children}
-use Rattle.wt_body.specs.Stretches.{Stretch, gap, tree_block, node_of, stretches_parts}
-use Rattle.wt_body.specs.Tables.{with_attrs, gaps, from_sign, delimiter, behind_delimiter, delimiter_lead, first_items}
+use Rattle.wt_page.specs.Stretches.{Stretch, gap, tree_block, node_of, stretches_parts}
+use Rattle.wt_page.specs.Tables.{with_attrs, gaps, from_sign, delimiter, behind_delimiter, delimiter_lead, first_items}
 
 pub record IsJoined (r : Row) (rs : List Row) : Type 0 where
   pub lead : r.lead ≡ first_lead rs

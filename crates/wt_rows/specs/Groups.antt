@@ -4,7 +4,7 @@ use Rattle.std.specs.Prelude.{ℕ, not, Bool, List, map}
 use Rattle.std.specs.List.{prefix_len}
 use Rattle.wt_lines.specs.declared.kind.LineKind.{LineKind}
 use Rattle.wt_tables.specs.Parts.{joined, units, unit_kind, groups, is_row, is_caption}
-use Rattle.wt_body.specs.Rows.{kind_of}
+use Rattle.wt_page.specs.Rows.{kind_of}
 
 abbrev pub group_rows : {A : Type 0} → (A → LineKind) → List A → List (List A)
 group_rows kind_of ls = map joined (groups kind_of (units kind_of ls))

@@ -9,7 +9,7 @@ use Rattle.wt_lines.specs.declared.kind.LineKind.TheVariants as line
 use Rattle.wt_lines.specs.Pieces.{AllParted}
 use Rattle.wt_blocks.specs.Nesting.{is_list_sign}
 use Rattle.wt_rows.specs.declared.row.RowAt.{RowAt}
-use Rattle.wt_body.specs.Rows.{signs}
+use Rattle.wt_page.specs.Rows.{signs}
 use Rattle.wt_rows.specs.Views.{row_view}
 
 -- what a row of a kind begins with

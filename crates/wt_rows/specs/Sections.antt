@@ -5,8 +5,8 @@ use Rattle.wt_span.specs.Items.{Item, items}
 use Rattle.wt_span.specs.Origins.{IsSoundPiece}
 use Rattle.wt_lines.specs.declared.kind.TheConstants.{MOST_TABLES}
 use Rattle.wt_tables.specs.Extents.{behind}
-use Rattle.wt_body.specs.Rows.{Row, rows}
-use Rattle.wt_body.specs.Body.{body_parts}
+use Rattle.wt_page.specs.Rows.{Row, rows}
+use Rattle.wt_page.specs.Body.{body_parts}
 use Rattle.wt_rows.specs.declared.section.Section.{Section}
 use Rattle.wt_rows.specs.Building.{ArePageRows, made_rows, IsRowsSoFar}
 use Rattle.wt_rows.specs.Unread.{left, begins_break}

@@ -10,8 +10,8 @@ use Rattle.wt_inline.specs.View.{item_tree}
 use Rattle.wt_rows.specs.declared.row.RowAt.{RowAt}
 use Rattle.wt_rows.specs.declared.stretch.StretchAt.{StretchAt}
 use Rattle.wt_rows.specs.declared.stretch.StretchAt.TheVariants as at
-use Rattle.wt_body.specs.Rows.{Row}
-use Rattle.wt_body.specs.Stretches.{Stretch, gap, tree_block, stretches_parts, before_end, end_gaps}
+use Rattle.wt_page.specs.Rows.{Row}
+use Rattle.wt_page.specs.Stretches.{Stretch, gap, tree_block, stretches_parts, before_end, end_gaps}
 
 abbrev pub slice : ℕ → ℕ → List Piece → List Piece
 slice from to ps = take (to - from) (drop from ps)

@@ -6,10 +6,10 @@ ghost use Rattle.wt_span.specs.Items.{items};
 ghost use Rattle.wt_span.specs.Origins.{IsSoundPiece};
 ghost use Rattle.wt_tables.specs.Cells.{cells_from};
 ghost use Rattle.wt_tables.specs.CellViews.{cell_view, IsSoundCell};
-ghost use Rattle.wt_body.specs.Tables.{cell_kind, cell_by, cells_by};
+ghost use Rattle.wt_page.specs.Tables.{cell_kind, cell_by, cells_by};
 ghost use Rattle.wt_rows.specs.Ready.{BeginsCell};
-ghost use Rattle.wt_body.specs.Rows.{signs};
-ghost use Rattle.wt_body.specs.Stretches.{gap};
+ghost use Rattle.wt_page.specs.Rows.{signs};
+ghost use Rattle.wt_page.specs.Stretches.{gap};
 ghost use Rattle.wt_rows.specs.Views.{row_view, stretches_view};
 
 use crate::row::{RowAt, between};

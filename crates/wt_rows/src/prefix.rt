@@ -6,7 +6,7 @@ ghost use Rattle.wt_span.specs.Bytes.{is_blank};
 ghost use Rattle.wt_span.specs.Items.{items};
 ghost use Rattle.wt_lines.specs.Signs.{left, number};
 ghost use Rattle.wt_blocks.specs.Nesting.{is_list_sign};
-ghost use Rattle.wt_body.specs.Lists.{prefix_of, with_blanks};
+ghost use Rattle.wt_page.specs.Lists.{prefix_of, with_blanks};
 ghost use Rattle.wt_rows.specs.Prefixes.{list_signs};
 
 use std::alloc::Global;

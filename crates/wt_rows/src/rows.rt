@@ -8,7 +8,7 @@ ghost use Rattle.wt_lines.specs.Lines.{IsUnbroken, content};
 ghost use Rattle.wt_lines.specs.Pieces.{AreLeadingMarks};
 ghost use Rattle.wt_headings.specs.Lines.{kind_at};
 ghost use Rattle.wt_tiles.specs.Cutting.{IsEdgeIn};
-ghost use Rattle.wt_body.specs.Rows.{signs, marks_len, idle_len, dashes, line_rows, unwritten_end, rows};
+ghost use Rattle.wt_page.specs.Rows.{signs, marks_len, idle_len, dashes, line_rows, unwritten_end, rows};
 ghost use Rattle.wt_rows.specs.Ready.{Begins};
 ghost use Rattle.wt_rows.specs.Building.{AreWhole, IsRowOf, row_of, AreMade, ArePageRows, made_rows, rows_before, HasLine, IsTextLine, cut_row, signed_rows, table_end_rows, rule_rows, IsKindAt, IsIdleCut, IsSeenFirst};
 

@@ -4,7 +4,7 @@
 ghost use Rattle.std.specs.Prelude.{◌≡◌, ◌<◌, All, List, true, false, length, IfOk};
 ghost use Rattle.wt_span.specs.Items.{items};
 ghost use Rattle.wt_span.specs.Origins.{IsSoundPiece};
-ghost use Rattle.wt_body.specs.Rows.{Row, rows};
+ghost use Rattle.wt_page.specs.Rows.{Row, rows};
 ghost use Rattle.wt_rows.specs.Building.{ArePageRows, made_rows};
 ghost use Rattle.wt_rows.specs.Unread.{left};
 ghost use Rattle.wt_rows.specs.Sections.{IsSection, IsSectionOf, IsEnd, AreFirst};

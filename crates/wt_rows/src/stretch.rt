@@ -8,7 +8,7 @@ ghost use Rattle.wt_inline.specs.View.{head_of, item_tree, item_trees};
 ghost use Rattle.wt_inline.specs.ItemTree.{inner, forest};
 ghost use Rattle.wt_inline.specs.Grown.{growth, made, Grows};
 ghost use Rattle.wt_context.specs.Line.{line_parts};
-ghost use Rattle.wt_body.specs.Stretches.{block, stretch_parts, stretches_parts, enclosed, opened_by};
+ghost use Rattle.wt_page.specs.Stretches.{block, stretch_parts, stretches_parts, enclosed, opened_by};
 ghost use Rattle.wt_rows.specs.Views.{stretch_view, stretches_view, is_gap_at, IsOpenedBy, IsBehindTree, IsBetween};
 
 use crate::row::{RowAt, between};

@@ -15,7 +15,7 @@ use Rattle.wt_tree.specs.View.{attrs_of, label_of}
 use Rattle.wt_inline.specs.ItemTree.{forest}
 use Rattle.wt_inline.specs.View.{item_tree, item_trees}
 use Rattle.wt_inline.specs.declared.tree.PieceTree.{PieceTree, out-PieceTree}
-use Rattle.wt_body.specs.Body.{meaning}
+use Rattle.wt_page.specs.Body.{meaning}
 use Rattle.wt_annotated.specs.Annotated.{all_unplaced}
 use Rattle.wt_annotated.proofs.HeldPieces.{item_tree_out}
 use Rattle.wt_visible.specs.declared.children.Child.{Child}

@@ -9,7 +9,7 @@ use Rattle.wt_tree.specs.Tree.{Tree, tree, Trees, none, more, Label}
 use Rattle.wt_span.specs.Items.{Item}
 use Rattle.wt_span.specs.Origins.{Expanded}
 use Rattle.wt_inline.specs.ItemTree.{ItemTree, inner, ItemTrees}
-use Rattle.wt_body.specs.Body.{meaning}
+use Rattle.wt_page.specs.Body.{meaning}
 use Rattle.wt_annotated.specs.Annotated.{all_unplaced}
 use Rattle.wt_original.specs.Kinds.{shape}
 use Rattle.wt_visible.specs.Children.{differing, listed}

@@ -8,7 +8,7 @@ ghost use Rattle.wt_tree.specs.declared.node.Node.{out-Node};
 ghost use Rattle.wt_tree.specs.Plain.{face};
 ghost use Rattle.wt_tree.specs.Tiling.{HasNoGroup, NoneIsGroup};
 ghost use Rattle.wt_tree.specs.View.{label_of, view, views};
-ghost use Rattle.wt_body.specs.Body.{meaning};
+ghost use Rattle.wt_page.specs.Body.{meaning};
 ghost use Rattle.wt_annotated.specs.Annotated.{all_unplaced};
 ghost use Rattle.wt_selser.specs.GroupFaults.{faulty_at, has_faulty_group, is_faulty, is_faulty_node, one_paragraph, paragraph_face, shows_other, trees_in};
 ghost use Rattle.wt_visible.specs.Views.{children_view};

@@ -1,6 +1,6 @@
 use Rattle.std.proofs.Common.{drop, length, ◌*◌, ◌++◌, ◌+◌, ◌-◌, ◌≡◌, ◌≤◌}
 use Rattle.std.specs.List.{flat_map}
-use Rattle.wt_body.specs.Tables.{cell_stretches}
+use Rattle.wt_page.specs.Tables.{cell_stretches}
 use Rattle.wt_build.specs.Blocks.{reading_at}
 use Rattle.wt_build.specs.CellGroups.{AllBegin, AreParts, groups_rows}
 use Rattle.wt_rows.specs.Views.{stretches_view}

@@ -1,6 +1,6 @@
 use Rattle.std.proofs.Common.{ap, ◌∷◌, [], ◌++◌, ◌∙◌}
 use Rattle.wt_rows.specs.declared.stretch.StretchAt.TheVariants as at
-use Rattle.wt_body.specs.Stretches.{gap}
+use Rattle.wt_page.specs.Stretches.{gap}
 use Rattle.wt_rows.specs.Views.{stretches_view}
 use Rattle.wt_rows.proofs.Straying.{row_slice}
 use Rattle.wt_build.proofs.block.gap_of.Goals as goal

@@ -3,8 +3,8 @@ use Rattle.std.proofs.lemmas.Result.{IfOk-weaker}
 use Rattle.wt_span.specs.Items.{items}
 use Rattle.wt_lines.specs.declared.kind.LineKind.TheVariants as line
 use Rattle.wt_inline.specs.Grown.{growth, Grows}
-use Rattle.wt_body.specs.Rows.{row_items}
-use Rattle.wt_body.specs.Stretches.{Stretch, stretches_parts}
+use Rattle.wt_page.specs.Rows.{row_items}
+use Rattle.wt_page.specs.Stretches.{Stretch, stretches_parts}
 use Rattle.wt_rows.specs.declared.row.RowAt.{RowAt}
 use Rattle.wt_rows.specs.Views.{row_view}
 use Rattle.wt_rows.proofs.Straying.{row_slice}

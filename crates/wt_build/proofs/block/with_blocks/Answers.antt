@@ -1,8 +1,8 @@
 use Rattle.std.proofs.Common.{◌<◌, ◌≤◌, ◌+◌, length, refl, arith}
 use Rattle.std.proofs.lemmas.List.{drop_all}
 use Rattle.wt_inline.specs.Grown.{growth}
-use Rattle.wt_body.specs.Stretches.{stretches_parts}
-use Rattle.wt_body.specs.Body.{within}
+use Rattle.wt_page.specs.Stretches.{stretches_parts}
+use Rattle.wt_page.specs.Body.{within}
 use Rattle.wt_rows.specs.Views.{rows_view}
 use Rattle.wt_build.proofs.BlockNodes.{some_left, within_left, ready_drop, ready_take, front_block}
 use Rattle.wt_build.proofs.GrowingBlocks.{blocks_grow, blocks_grown}

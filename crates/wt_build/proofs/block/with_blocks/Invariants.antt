@@ -1,7 +1,7 @@
 use Rattle.std.proofs.Common.{◌≤◌, ◌-◌, length, drop}
 use Rattle.wt_inline.specs.Grown.{growth}
-use Rattle.wt_body.specs.Stretches.{stretches_parts}
-use Rattle.wt_body.specs.Body.{within}
+use Rattle.wt_page.specs.Stretches.{stretches_parts}
+use Rattle.wt_page.specs.Body.{within}
 use Rattle.wt_rows.specs.Views.{rows_view, IsRest}
 use Rattle.wt_build.proofs.block.with_blocks.Given as goal
 

@@ -4,7 +4,7 @@ use Rattle.wt_span.specs.Items.{items}
 use Rattle.wt_lines.specs.declared.kind.LineKind.TheVariants as line
 use Rattle.wt_inline.specs.Grown.{growth, Grows}
 use Rattle.wt_inline.specs.View.{item_tree}
-use Rattle.wt_body.specs.Stretches.{Stretch, stretches_parts}
+use Rattle.wt_page.specs.Stretches.{Stretch, stretches_parts}
 use Rattle.wt_rows.specs.declared.row.RowAt.{RowAt}
 use Rattle.wt_rows.specs.Views.{rows_view}
 use Rattle.wt_build.specs.Blocks.{block_node}

@@ -3,7 +3,7 @@ use Rattle.wt_span.specs.Items.{sign, items}
 use Rattle.wt_lines.specs.Signs.{left}
 use Rattle.wt_tables.specs.Views.{numbers}
 use Rattle.wt_tiles.specs.Cutting.{tile_of}
-use Rattle.wt_body.specs.Lists.{seen_signs}
+use Rattle.wt_page.specs.Lists.{seen_signs}
 use Rattle.wt_build.specs.SeenSigns.{seen_by}
 use Rattle.wt_build.proofs.Colons.{tile_signs}
 use Rattle.wt_build.proofs.colon.push_tile.Goals as goal

@@ -2,7 +2,7 @@ use Rattle.std.proofs.Common.{◌≡◌, take}
 use Rattle.std.specs.List.{flat_map}
 use Rattle.wt_tables.specs.Views.{numbers}
 use Rattle.wt_tiles.specs.Cutting.{tile_of}
-use Rattle.wt_body.specs.Lists.{seen_signs}
+use Rattle.wt_page.specs.Lists.{seen_signs}
 use Rattle.wt_build.proofs.colon.seen_signs.Given as goal
 
 abbrev pub invariant-loop-tile : goal.invariant-loop-tile

@@ -5,7 +5,7 @@ use Rattle.wt_span.specs.declared.form.Piece.{Piece}
 use Rattle.wt_span.specs.Items.{items}
 use Rattle.wt_span.specs.Origins.{IsSoundPiece}
 use Rattle.std.proofs.lemmas.Result.{IfOk-weaker}
-use Rattle.wt_body.specs.Lists.{item_opening_len, line_item}
+use Rattle.wt_page.specs.Lists.{item_opening_len, line_item}
 use Rattle.wt_rows.specs.Views.{row_view, stretches_view}
 use Rattle.wt_build.proofs.Items.{opening_cut, plain_line}
 use Rattle.wt_build.proofs.item.line_item.Goals as goal

@@ -5,7 +5,7 @@ use Rattle.wt_inline.specs.ItemTree.{ItemTree, plain, inner, forest}
 use Rattle.wt_inline.specs.Grown.{growth, made}
 use Rattle.wt_inline.specs.View.{item_trees}
 use Rattle.wt_context.specs.Line.{line_parts}
-use Rattle.wt_body.specs.Lists.{item_kind}
+use Rattle.wt_page.specs.Lists.{item_kind}
 use Rattle.wt_rows.specs.Views.{IsBetween}
 use Rattle.wt_rows.proofs.Stretching.{made_is}
 use Rattle.wt_build.proofs.item.plain_item.Goals as goal

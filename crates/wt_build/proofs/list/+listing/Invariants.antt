@@ -2,7 +2,7 @@ use Rattle.std.proofs.Common.{◌≡◌, ◌++◌}
 use Rattle.std.specs.Vec.Iter.{into_iter_items}
 use Rattle.wt_blocks.specs.ListTree.{forest}
 use Rattle.wt_blocks.specs.View.{list_trees}
-use Rattle.wt_body.specs.Lists.{all_lists}
+use Rattle.wt_page.specs.Lists.{all_lists}
 use Rattle.wt_rows.specs.Views.{rows_view, stretches_view}
 use Rattle.wt_build.proofs.list.+listing.Given as goal
 

@@ -1,5 +1,5 @@
 use Rattle.std.proofs.Common.{◌≡◌, take}
-use Rattle.wt_body.specs.Lists.{prefixes}
+use Rattle.wt_page.specs.Lists.{prefixes}
 use Rattle.wt_rows.specs.Views.{rows_view}
 use Rattle.wt_build.proofs.list.prefixes.Given as goal
 

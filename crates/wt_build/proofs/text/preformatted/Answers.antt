@@ -7,7 +7,7 @@ use Rattle.wt_lines.specs.declared.kind.LineKind.TheVariants as line
 use Rattle.wt_inline.specs.View.{item_trees}
 use Rattle.wt_rows.specs.declared.row.RowAt.{RowAt}
 use Rattle.wt_build.specs.declared.text.TextKind.TheVariants as text
-use Rattle.wt_body.specs.Rows.{signs}
+use Rattle.wt_page.specs.Rows.{signs}
 use Rattle.wt_build.specs.Blocks.{IsOf}
 use Rattle.wt_build.proofs.LaterLines.{space_edge}
 use Rattle.wt_build.proofs.Slices.{sound_slice}

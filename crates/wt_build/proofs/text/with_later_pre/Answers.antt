@@ -7,7 +7,7 @@ use Rattle.wt_tree.specs.declared.kind.Kind.TheVariants as kind
 use Rattle.wt_inline.specs.ItemTree.{plain, leaf}
 use Rattle.wt_inline.specs.View.{item_tree}
 use Rattle.wt_inline.specs.Grown.{growth}
-use Rattle.wt_body.specs.Rows.{signs}
+use Rattle.wt_page.specs.Rows.{signs}
 use Rattle.wt_rows.specs.Views.{row_view}
 use Rattle.wt_build.proofs.LaterLines.{space_edge, grows_pre}
 use Rattle.wt_build.proofs.text.with_later_pre.Goals as goal

@@ -7,8 +7,8 @@ use Rattle.wt_tree.specs.Tree.{Tree}
 use Rattle.wt_inline.specs.ItemTree.{ItemTree, forest, tree_items}
 use Rattle.wt_inline.specs.Parts.{children}
 use Rattle.wt_inline.specs.View.{item_tree}
-use Rattle.wt_body.specs.Rows.{rows}
-use Rattle.wt_body.specs.Body.{body_parts, meaning}
+use Rattle.wt_page.specs.Rows.{rows}
+use Rattle.wt_page.specs.Body.{body_parts, meaning}
 use Rattle.wt_annotated.specs.Annotated.{annotated}
 use Rattle.wt_annotated.specs.Clean.{is_clean}
 use Rattle.wt_annotated.specs.GroupData.{group_data}

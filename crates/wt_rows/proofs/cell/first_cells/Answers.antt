@@ -4,7 +4,7 @@ use Rattle.std.specs.Vec.Iter.{into_iter_items}
 use Rattle.std.proofs.lemmas.List.Elements.{All-head, All-tail}
 use Rattle.wt_tables.specs.declared.cell.CellAt.{CellAt}
 use Rattle.wt_tables.specs.CellViews.{cell_view, IsSoundCell}
-use Rattle.wt_body.specs.Tables.{cell_by}
+use Rattle.wt_page.specs.Tables.{cell_by}
 use Rattle.wt_rows.specs.Views.{stretches_view}
 use Rattle.wt_rows.proofs.Celling.{made_added}
 use Rattle.wt_rows.proofs.cell.first_cells.Goals as goal

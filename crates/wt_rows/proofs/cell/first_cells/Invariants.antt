@@ -3,7 +3,7 @@ use Rattle.std.specs.Prelude.{All}
 use Rattle.std.specs.List.{flat_map}
 use Rattle.std.specs.Vec.Iter.{into_iter_items}
 use Rattle.wt_tables.specs.CellViews.{cell_view, IsSoundCell}
-use Rattle.wt_body.specs.Tables.{cell_by}
+use Rattle.wt_page.specs.Tables.{cell_by}
 use Rattle.wt_rows.specs.Views.{stretches_view}
 use Rattle.wt_rows.proofs.cell.first_cells.Given as goal
 

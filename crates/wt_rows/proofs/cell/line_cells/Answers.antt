@@ -2,7 +2,7 @@ use Rattle.std.proofs.Common.{ap, ◌∙◌}
 use Rattle.std.proofs.lemmas.Result.{IfOk-weaker}
 use Rattle.wt_span.specs.Items.{items}
 use Rattle.wt_tables.specs.Cells.{cells}
-use Rattle.wt_body.specs.Tables.{cells_by}
+use Rattle.wt_page.specs.Tables.{cells_by}
 use Rattle.wt_rows.specs.Views.{stretches_view}
 use Rattle.wt_rows.proofs.Celling.{cells_are}
 use Rattle.wt_rows.proofs.cell.line_cells.Goals as goal

@@ -1,6 +1,6 @@
 use Rattle.std.proofs.lemmas.Result.{IfOk-weaker}
 use Rattle.wt_rows.specs.declared.stretch.StretchAt.TheVariants as at
-use Rattle.wt_body.specs.Tables.{gaps}
+use Rattle.wt_page.specs.Tables.{gaps}
 use Rattle.wt_rows.specs.Views.{rows_view}
 use Rattle.wt_rows.proofs.Straying.{behind_is}
 use Rattle.wt_rows.proofs.delimiter.behind_delimiter.Goals as goal

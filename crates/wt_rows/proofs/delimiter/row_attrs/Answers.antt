@@ -3,7 +3,7 @@ use Rattle.std.specs.List.{prefix_len}
 use Rattle.std.proofs.lemmas.Result.{IfOk-weaker}
 use Rattle.wt_span.specs.Items.{items}
 use Rattle.wt_tables.specs.Cells.{is_dash}
-use Rattle.wt_body.specs.Rows.{signs}
+use Rattle.wt_page.specs.Rows.{signs}
 use Rattle.wt_rows.proofs.Attributing.{row_cut, row_read}
 use Rattle.wt_rows.proofs.delimiter.row_attrs.Goals as goal
 

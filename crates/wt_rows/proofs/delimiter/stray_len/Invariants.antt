@@ -1,7 +1,7 @@
 use Rattle.std.proofs.Common.{◌≡◌, ◌-◌, ◌≤◌, length, take}
 use Rattle.std.specs.Prelude.{reverse}
 use Rattle.std.specs.List.{prefix_len}
-use Rattle.wt_body.specs.Tables.{is_blank_row, stray_len}
+use Rattle.wt_page.specs.Tables.{is_blank_row, stray_len}
 use Rattle.wt_rows.specs.Views.{rows_view}
 use Rattle.wt_rows.proofs.delimiter.stray_len.Given as goal
 

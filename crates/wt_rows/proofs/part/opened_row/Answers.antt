@@ -9,9 +9,9 @@ use Rattle.wt_inline.specs.Grown.{growth}
 use Rattle.wt_inline.specs.View.{head_of}
 use Rattle.wt_tree.specs.declared.kind.Kind.TheVariants as kind
 use Rattle.wt_tables.specs.Cells.{row_attributes}
-use Rattle.wt_body.specs.Tables.{with_attrs}
+use Rattle.wt_page.specs.Tables.{with_attrs}
 use Rattle.std.proofs.lemmas.Result.{IfOk-weaker}
-use Rattle.wt_body.specs.Rows.{signs}
+use Rattle.wt_page.specs.Rows.{signs}
 use Rattle.wt_rows.proofs.Straying.{ready_front, ready_rest}
 use Rattle.wt_rows.proofs.OpenedParts.{first_of, is_delimiter, opened_row_is}
 use Rattle.wt_rows.proofs.part.opened_row.Goals as goal

@@ -4,7 +4,7 @@ use Rattle.wt_tree.specs.View.{attrs_of}
 use Rattle.wt_tree.specs.declared.kind.Kind.TheVariants as kind
 use Rattle.wt_inline.specs.ItemTree.{inner, forest}
 use Rattle.wt_inline.specs.View.{item_trees}
-use Rattle.wt_body.specs.Tables.{with_attrs}
+use Rattle.wt_page.specs.Tables.{with_attrs}
 use Rattle.wt_rows.proofs.part.table_tree.Goals as goal
 
 pub returns : goal.returns

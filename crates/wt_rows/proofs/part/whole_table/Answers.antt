@@ -10,8 +10,8 @@ use Rattle.wt_inline.specs.View.{item_tree, item_trees}
 use Rattle.wt_tree.specs.View.{attrs_of}
 use Rattle.wt_tree.specs.declared.kind.Kind.TheVariants as kind
 use Rattle.wt_tables.specs.Cells.{table_attributes}
-use Rattle.wt_body.specs.Tables.{with_attrs}
-use Rattle.wt_body.specs.Rows.{signs}
+use Rattle.wt_page.specs.Tables.{with_attrs}
+use Rattle.wt_page.specs.Rows.{signs}
 use Rattle.wt_rows.proofs.Straying.{ready_front, ready_rest}
 use Rattle.wt_rows.proofs.OpenedParts.{first_of, is_delimiter, table_is}
 use Rattle.wt_rows.proofs.part.whole_table.Goals as goal

@@ -1,6 +1,6 @@
 use Rattle.std.proofs.Common.{◌≡◌, ◌-◌, ◌++◌}
 use Rattle.wt_lines.specs.Signs.{left}
-use Rattle.wt_body.specs.Lists.{prefix_of}
+use Rattle.wt_page.specs.Lists.{prefix_of}
 use Rattle.wt_span.specs.Items.{items}
 use Rattle.wt_rows.specs.Prefixes.{list_signs}
 use Rattle.wt_rows.proofs.prefix.prefix_of.Given as goal

@@ -2,7 +2,7 @@ use Rattle.std.proofs.Common.{◌≡◌, ◌+◌, ◌==◌, length}
 use Rattle.std.specs.List.{prefix_len}
 use Rattle.wt_span.specs.Items.{items}
 use Rattle.wt_lines.specs.Signs.{left}
-use Rattle.wt_body.specs.Rows.{signs}
+use Rattle.wt_page.specs.Rows.{signs}
 use Rattle.wt_rows.proofs.rows.dashes.Given as goal
 
 abbrev pub invariant-loop-sign : goal.invariant-loop-sign

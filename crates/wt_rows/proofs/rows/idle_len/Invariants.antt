@@ -3,7 +3,7 @@ use Rattle.std.specs.List.{prefix_len}
 use Rattle.wt_span.specs.Items.{items}
 use Rattle.wt_lines.specs.Kinds.{is_idle}
 use Rattle.wt_lines.specs.Signs.{left}
-use Rattle.wt_body.specs.Rows.{signs}
+use Rattle.wt_page.specs.Rows.{signs}
 use Rattle.wt_rows.proofs.rows.idle_len.Given as goal
 
 abbrev pub invariant-loop-sign : goal.invariant-loop-sign

@@ -1,6 +1,6 @@
 use Rattle.std.proofs.Common.{◌<◌, length}
 use Rattle.wt_span.specs.Items.{items}
-use Rattle.wt_body.specs.Rows.{rows}
+use Rattle.wt_page.specs.Rows.{rows}
 use Rattle.wt_rows.specs.Unread.{left}
 use Rattle.wt_rows.specs.Sections.{IsSection, IsSectionOf}
 use Rattle.wt_rows.proofs.section.next_section.Given as goal

@@ -1,7 +1,7 @@
 use Rattle.std.proofs.Common.{◌∷◌, ap, ◌∙◌}
 use Rattle.std.proofs.lemmas.Result.{IfOk-weaker}
 use Rattle.wt_inline.specs.View.{item_tree}
-use Rattle.wt_body.specs.Stretches.{tree_block}
+use Rattle.wt_page.specs.Stretches.{tree_block}
 use Rattle.wt_rows.specs.Views.{stretches_view}
 use Rattle.wt_rows.proofs.stretch.behind_tree.Goals as goal
 

@@ -3,7 +3,7 @@ use Rattle.wt_span.specs.Items.{items}
 use Rattle.wt_inline.specs.ItemTree.{inner, forest}
 use Rattle.wt_inline.specs.View.{head_of, item_trees}
 use Rattle.wt_inline.specs.Grown.{growth}
-use Rattle.wt_body.specs.Stretches.{stretches_parts}
+use Rattle.wt_page.specs.Stretches.{stretches_parts}
 use Rattle.wt_rows.specs.Views.{stretches_view}
 use Rattle.wt_rows.proofs.Stretching.{made_is}
 use Rattle.wt_rows.proofs.stretch.node_round.Goals as goal

@@ -1,6 +1,6 @@
 use Rattle.std.specs.Vec.Iter.{into_iter_items}
 use Rattle.wt_inline.specs.Grown.{growth}
-use Rattle.wt_body.specs.Stretches.{stretches_parts}
+use Rattle.wt_page.specs.Stretches.{stretches_parts}
 use Rattle.wt_rows.specs.Views.{stretches_view, IsRest}
 use Rattle.wt_rows.proofs.stretch.with_stretches.Given as goal
 

@@ -1,5 +1,5 @@
 use Rattle.std.proofs.Common.{◌≡◌, ◌++◌, replicate}
-use Rattle.wt_body.specs.Rows.{unwritten_end}
+use Rattle.wt_page.specs.Rows.{unwritten_end}
 use Rattle.wt_rows.specs.Building.{ArePageRows, made_rows}
 use Rattle.wt_rows.proofs.rows.PageRows.with_ends.Given as goal
 

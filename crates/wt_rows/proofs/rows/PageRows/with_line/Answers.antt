@@ -3,7 +3,7 @@ use Rattle.std.proofs.lemmas.Result.{IfOk-weaker}
 use Rattle.wt_span.specs.Items.{items}
 use Rattle.wt_lines.specs.declared.kind.LineKind.{LineKind}
 use Rattle.wt_lines.specs.Kinds.{past, is_idle, is_mark_sign}
-use Rattle.wt_body.specs.Rows.{signs}
+use Rattle.wt_page.specs.Rows.{signs}
 use Rattle.wt_rows.specs.Building.{made_rows}
 use Rattle.wt_rows.proofs.KindSigns.{Tells, told, idle_tells, marked_begins}
 use Rattle.wt_rows.proofs.LineCuts.{idle_cut, end_cut, end_sign}

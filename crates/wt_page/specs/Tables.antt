@@ -11,8 +11,8 @@ use Rattle.wt_tables.specs.Parts.{RowOf, TableOf, is_blank_kind, table_of}
 use Rattle.wt_inline.specs.ItemTree.{Head, plain}
 use Rattle.wt_context.specs.Line.{line_parts}
 use Rattle.wt_headings.specs.Lines.{ending}
-use Rattle.wt_body.specs.Rows.{Row, row_items, all_items, kind_of, first_lead}
-use Rattle.wt_body.specs.Stretches.{Stretch, gap, block, tree_block, node_of, opened_by, enclosed}
+use Rattle.wt_page.specs.Rows.{Row, row_items, all_items, kind_of, first_lead}
+use Rattle.wt_page.specs.Stretches.{Stretch, gap, block, tree_block, node_of, opened_by, enclosed}
 
 -- how rows are read as blocks
 abbrev pub Reading : Type 0

@@ -16,12 +16,12 @@ use Rattle.wt_inline.proofs.HeldLaws.{opened_append}
 use Rattle.wt_context.specs.Line.{line_parts}
 use Rattle.wt_headings.specs.Lines.{ending}
 use Rattle.wt_headings.proofs.Ends.{content_ending}
-use Rattle.wt_body.specs.Rows.{Row, row_items, all_items, kind_of, first_lead}
-use Rattle.wt_body.specs.Stretches.{Stretch, gap, block, tree_block, node_of, opened_by}
-use Rattle.wt_body.specs.Tables.{Reading, with_attrs, gaps, cell_kind, cell_by, cells_by, cell_stretches, stray_len, from_sign, delimiter, behind_delimiter, delimiter_lead, first_items, row_by, row_stretches, rows_stretches, table_inside, table_by, last_of, without_last, table}
+use Rattle.wt_page.specs.Rows.{Row, row_items, all_items, kind_of, first_lead}
+use Rattle.wt_page.specs.Stretches.{Stretch, gap, block, tree_block, node_of, opened_by}
+use Rattle.wt_page.specs.Tables.{Reading, with_attrs, gaps, cell_kind, cell_by, cells_by, cell_stretches, stray_len, from_sign, delimiter, behind_delimiter, delimiter_lead, first_items, row_by, row_stretches, rows_stretches, table_inside, table_by, last_of, without_last, table}
 use Rattle.wt_context.proofs.LineHolding.{line_holds}
-use Rattle.wt_body.proofs.Held.{kept, kept_append, of_gap, of_block, of_tree, of_node, of_opened, of_enclosed}
-use Rattle.wt_body.proofs.HeldTexts.{opened_row, opened_rows}
+use Rattle.wt_page.proofs.Held.{kept, kept_append, of_gap, of_block, of_tree, of_node, of_opened, of_enclosed}
+use Rattle.wt_page.proofs.HeldTexts.{opened_row, opened_rows}
 
 -- what is read holds its rows
 abbrev pub Reads : Reading → Type 0

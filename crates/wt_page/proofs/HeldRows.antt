@@ -11,7 +11,7 @@ use Rattle.wt_lines.specs.Lines.{full_lines, goes_on}
 use Rattle.wt_tables.specs.Extents.{behind}
 use Rattle.wt_headings.specs.Lines.{kind_at}
 use Rattle.wt_headings.proofs.Ends.{content_ending}
-use Rattle.wt_body.specs.Rows.{row_items, all_items, marks_len, idle_len, whole_row, sign_row, behind_sign, is_unseen, sign_rows, dashes, line_rows, unwritten_end, rows_from, rows}
+use Rattle.wt_page.specs.Rows.{row_items, all_items, marks_len, idle_len, whole_row, sign_row, behind_sign, is_unseen, sign_rows, dashes, line_rows, unwritten_end, rows_from, rows}
 
 pub of_whole : (k : LineKind) (n : ℕ) (l : List Item) → all_items (whole_row k n l ∷ []) ≡ l
 of_whole k n l = append-nil (row_items (whole_row k n l)) ∙ ap (λ ys. take n l ++ ys) (content_ending (drop n l)) ∙ take-append-drop n l

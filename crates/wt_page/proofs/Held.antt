@@ -8,8 +8,8 @@ use Rattle.wt_inline.specs.Inside.{opened_all}
 use Rattle.wt_inline.specs.ItemTree.{Head, ItemTree, inner, forest, tree_items, held_by_all}
 use Rattle.wt_inline.specs.Parts.{Part, node, parts, children}
 use Rattle.wt_inline.proofs.HeldLaws.{held_children, opened_append}
-use Rattle.wt_body.specs.Stretches.{Stretch, gap, block, stretch_parts, stretches_parts, front_len, front_gaps, past_front, block_len, before_end, end_gaps, tree_block, node_of, opened_by, enclosed}
-use Rattle.wt_body.proofs.Opened.{kept_parts, parts_append, parts_of}
+use Rattle.wt_page.specs.Stretches.{Stretch, gap, block, stretch_parts, stretches_parts, front_len, front_gaps, past_front, block_len, before_end, end_gaps, tree_block, node_of, opened_by, enclosed}
+use Rattle.wt_page.proofs.Opened.{kept_parts, parts_append, parts_of}
 
 -- the items that stretches hold, opened
 abbrev pub kept : List Stretch → List Item

@@ -1,5 +1,5 @@
-use Rattle.wt_body.proofs.HeldBody.{held_meaning, sources_meaning}
-use Rattle.wt_body.proofs.laws.meaning_holds_its_items.Goals as goal
+use Rattle.wt_page.proofs.HeldBody.{held_meaning, sources_meaning}
+use Rattle.wt_page.proofs.laws.meaning_holds_its_items.Goals as goal
 
 pub returns-clause-items : goal.returns-clause-items
 returns-clause-items c = held_meaning

@@ -5,8 +5,8 @@ ghost use Rattle.wt_span.specs.Items.{Item, sources};
 ghost use Rattle.wt_inline.specs.Inside.{opened_all};
 ghost use Rattle.wt_inline.specs.ItemTree.{ItemTree, tree_items};
 ghost use Rattle.wt_inline.specs.Parts.{held_parts};
-ghost use Rattle.wt_body.specs.Rows.{Row as RowOf, all_items, rows};
-ghost use Rattle.wt_body.specs.Body.{body_parts, meaning, IsMeaning};
+ghost use Rattle.wt_page.specs.Rows.{Row as RowOf, all_items, rows};
+ghost use Rattle.wt_page.specs.Body.{body_parts, meaning, IsMeaning};
 
 /// The rows of a page join to its items.
 pub fn rows_join()

@@ -16,13 +16,13 @@ use Rattle.wt_inline.specs.Inside.{opened_all}
 use Rattle.wt_inline.specs.ItemTree.{plain}
 use Rattle.wt_inline.proofs.HeldLaws.{opened_append}
 use Rattle.wt_context.specs.Line.{line_parts}
-use Rattle.wt_body.specs.Rows.{Row, row_items, all_items, unwritten_end, signs}
-use Rattle.wt_body.specs.Stretches.{Stretch, gap, block, opened_by}
-use Rattle.wt_body.specs.Lists.{prefix_of, with_blanks, item_opening_len, term_len, item_kind, list_kind, term, item_by, line_item, begins_at, row_at, list_stretches, all_lists, prefixes, lists}
+use Rattle.wt_page.specs.Rows.{Row, row_items, all_items, unwritten_end, signs}
+use Rattle.wt_page.specs.Stretches.{Stretch, gap, block, opened_by}
+use Rattle.wt_page.specs.Lists.{prefix_of, with_blanks, item_opening_len, term_len, item_kind, list_kind, term, item_by, line_item, begins_at, row_at, list_stretches, all_lists, prefixes, lists}
 use Rattle.wt_context.proofs.LineHolding.{line_holds}
-use Rattle.wt_body.proofs.Opened.{kept_parts}
-use Rattle.wt_body.proofs.Held.{kept, kept_tree, kept_append, of_gap, of_block, of_tree, of_inner, of_opened, of_enclosed}
-use Rattle.wt_body.proofs.HeldTexts.{opened_row}
+use Rattle.wt_page.proofs.Opened.{kept_parts}
+use Rattle.wt_page.proofs.Held.{kept, kept_tree, kept_append, of_gap, of_block, of_tree, of_inner, of_opened, of_enclosed}
+use Rattle.wt_page.proofs.HeldTexts.{opened_row}
 
 -- ---- an item with what stands on its line
 

@@ -13,11 +13,11 @@ use Rattle.wt_tables.specs.Parts.{joined, units, unit_kind}
 use Rattle.wt_inline.specs.ItemTree.{plain, ItemTree, inner, forest}
 use Rattle.wt_inline.specs.Parts.{Part, AreChildren}
 use Rattle.wt_headings.specs.Headings.{heading}
-use Rattle.wt_body.specs.Rows.{Row, kind_of, rows_from, rows}
-use Rattle.wt_body.specs.Stretches.{Stretch, stretches_parts, node_of}
-use Rattle.wt_body.specs.Texts.{with_separators, para, pre, rule}
-use Rattle.wt_body.specs.Lists.{lists}
-use Rattle.wt_body.specs.Tables.{Reading, gaps, table}
+use Rattle.wt_page.specs.Rows.{Row, kind_of, rows_from, rows}
+use Rattle.wt_page.specs.Stretches.{Stretch, stretches_parts, node_of}
+use Rattle.wt_page.specs.Texts.{with_separators, para, pre, rule}
+use Rattle.wt_page.specs.Lists.{lists}
+use Rattle.wt_page.specs.Tables.{Reading, gaps, table}
 
 abbrev pub is_list_line : LineKind → Bool
 is_list_line line.Blank = false

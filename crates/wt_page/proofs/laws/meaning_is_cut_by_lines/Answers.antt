@@ -1,5 +1,5 @@
-use Rattle.wt_body.proofs.HeldBody.{is_meaning, only_meaning}
-use Rattle.wt_body.proofs.laws.meaning_is_cut_by_lines.Goals as goal
+use Rattle.wt_page.proofs.HeldBody.{is_meaning, only_meaning}
+use Rattle.wt_page.proofs.laws.meaning_is_cut_by_lines.Goals as goal
 
 pub returns-clause-are : goal.returns-clause-are
 returns-clause-are c = is_meaning

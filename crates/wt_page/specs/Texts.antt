@@ -6,8 +6,8 @@ use Rattle.wt_inline.specs.declared.loose.Loose.TheVariants.{Text}
 use Rattle.wt_inline.specs.ItemTree.{plain, ItemTree, leaf, inner, forest}
 use Rattle.wt_inline.specs.Parts.{Part, node, parts, children}
 use Rattle.wt_context.specs.Line.{line_parts}
-use Rattle.wt_body.specs.Rows.{Row, first_lead, last_ending}
-use Rattle.wt_body.specs.Stretches.{Stretch, gap, tree_block}
+use Rattle.wt_page.specs.Rows.{Row, first_lead, last_ending}
+use Rattle.wt_page.specs.Stretches.{Stretch, gap, tree_block}
 
 -- a block of rows: what stands before the first and what ends the last lie outside it
 abbrev pub with_separators : ItemTree → List Row → List Stretch

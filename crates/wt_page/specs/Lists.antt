@@ -16,8 +16,8 @@ use Rattle.wt_tiles.specs.declared.shape.TileKind.TheVariants as tile
 use Rattle.wt_tiles.specs.Contexts.{in_line}
 use Rattle.wt_tiles.specs.Tiles.{tiles}
 use Rattle.wt_context.specs.Line.{line_parts}
-use Rattle.wt_body.specs.Rows.{Row, unwritten_end, signs}
-use Rattle.wt_body.specs.Stretches.{Stretch, gap, block, tree_block, opened_by, enclosed}
+use Rattle.wt_page.specs.Rows.{Row, unwritten_end, signs}
+use Rattle.wt_page.specs.Stretches.{Stretch, gap, block, tree_block, opened_by, enclosed}
 
 -- ---- prefixes
 

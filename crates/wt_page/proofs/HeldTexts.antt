@@ -11,13 +11,13 @@ use Rattle.wt_inline.specs.ItemTree.{plain, ItemTree, forest, tree_items, held_b
 use Rattle.wt_inline.specs.Parts.{Part, node, parts}
 use Rattle.wt_inline.proofs.HeldLaws.{opened_append}
 use Rattle.wt_context.specs.Line.{line_parts, line_trees}
-use Rattle.wt_body.specs.Rows.{Row, row_items, all_items, first_lead, last_ending}
-use Rattle.wt_body.specs.Stretches.{gap, tree_block}
-use Rattle.wt_body.specs.Texts.{with_separators, later_parts, later_line, para_parts, para, skipped, later_pre, pre_opening, pre_parts, pre, rule}
+use Rattle.wt_page.specs.Rows.{Row, row_items, all_items, first_lead, last_ending}
+use Rattle.wt_page.specs.Stretches.{gap, tree_block}
+use Rattle.wt_page.specs.Texts.{with_separators, later_parts, later_line, para_parts, para, skipped, later_pre, pre_opening, pre_parts, pre, rule}
 use Rattle.wt_headings.specs.Headings.{heading}
 use Rattle.wt_context.proofs.LineHolding.{line_holds, trees_hold}
-use Rattle.wt_body.proofs.Opened.{kept_parts, parts_append, parts_of}
-use Rattle.wt_body.proofs.Held.{kept, kept_tree, of_gap, of_tree, of_inner}
+use Rattle.wt_page.proofs.Opened.{kept_parts, parts_append, parts_of}
+use Rattle.wt_page.proofs.Held.{kept, kept_tree, of_gap, of_tree, of_inner}
 
 pub of_around : (t : ItemTree) (rs : List Row) → kept (with_separators t rs) ≡ opened_all (first_lead rs) ++ (kept_tree t ++ opened_all (last_ending rs))
 of_around t rs =

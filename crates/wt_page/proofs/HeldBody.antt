@@ -17,16 +17,16 @@ use Rattle.wt_inline.specs.ItemTree.{plain, ItemTree, inner, forest, tree_items}
 use Rattle.wt_inline.specs.Parts.{children}
 use Rattle.wt_inline.proofs.HeldLaws.{opened_append, sources_opened, are_children, only_children}
 use Rattle.wt_headings.specs.Headings.{heading}
-use Rattle.wt_body.specs.Rows.{Row, row_items, all_items, kind_of, rows_from, rows}
-use Rattle.wt_body.specs.Stretches.{stretches_parts}
-use Rattle.wt_body.specs.Texts.{rule}
-use Rattle.wt_body.specs.Tables.{Reading, gaps}
-use Rattle.wt_body.specs.Body.{same_block, rule_row, heading_row, block_stretches, run_stretches, blocks_by, within, blocks, meaning, IsMeaning}
-use Rattle.wt_body.proofs.Held.{kept, kept_append, of_node}
-use Rattle.wt_body.proofs.HeldTexts.{of_para, of_pre, of_row, of_heading, of_rule}
-use Rattle.wt_body.proofs.HeldLists.{of_lists}
-use Rattle.wt_body.proofs.HeldTables.{Reads, all_append, of_gaps, of_table}
-use Rattle.wt_body.proofs.HeldRows.{rows_join}
+use Rattle.wt_page.specs.Rows.{Row, row_items, all_items, kind_of, rows_from, rows}
+use Rattle.wt_page.specs.Stretches.{stretches_parts}
+use Rattle.wt_page.specs.Texts.{rule}
+use Rattle.wt_page.specs.Tables.{Reading, gaps}
+use Rattle.wt_page.specs.Body.{same_block, rule_row, heading_row, block_stretches, run_stretches, blocks_by, within, blocks, meaning, IsMeaning}
+use Rattle.wt_page.proofs.Held.{kept, kept_append, of_node}
+use Rattle.wt_page.proofs.HeldTexts.{of_para, of_pre, of_row, of_heading, of_rule}
+use Rattle.wt_page.proofs.HeldLists.{of_lists}
+use Rattle.wt_page.proofs.HeldTables.{Reads, all_append, of_gaps, of_table}
+use Rattle.wt_page.proofs.HeldRows.{rows_join}
 
 -- ---- units join to the rows
 
