@@ -10,9 +10,9 @@ use Rattle.wt_inline.specs.RawTag.{len_of, opening_len, behind, inside_len}
 use Rattle.wt_inline.specs.Parts.{nowiki, whole_tree}
 use Rattle.wt_annotated.specs.Labels.{width}
 use Rattle.wt_annotated.specs.Counted.{numbered}
-use Rattle.wt_numbers.specs.Numbers.{makes_all}
-use Rattle.wt_numbers.proofs.BodyCounts.{meaning_count}
-use Rattle.wt_numbers.proofs.NumberLaws.{nowiki_inside}
+use Rattle.wt_bounds.specs.Numbers.{makes_all}
+use Rattle.wt_bounds.proofs.BodyCounts.{meaning_count}
+use Rattle.wt_bounds.proofs.NumberLaws.{nowiki_inside}
 use Rattle.wt_page.specs.Body.{meaning}
 use Rattle.wt_page_round_trip.proofs.OfPage.{AreOfPage}
 use Rattle.wt_page_round_trip.proofs.FormLengths.{IsFormOf, form_long, AreForms, forms_of_page}

@@ -10,7 +10,7 @@ use Rattle.wt_inline.specs.declared.loose.Loose.TheVariants.{Text, Sep}
 use Rattle.wt_inline.specs.ItemTree.{forest}
 use Rattle.wt_inline.specs.Parts.{Part, loose, node, one_leaf, child, children, parts}
 use Rattle.wt_annotated.specs.Counted.{numbered, numbered_in_all}
-use Rattle.wt_numbers.specs.Numbers.{makes_all}
+use Rattle.wt_bounds.specs.Numbers.{makes_all}
 
 -- ---- what items make
 

@@ -16,11 +16,11 @@ use Rattle.wt_page.specs.Stretches.{gap, tree_block}
 use Rattle.wt_page.specs.Texts.{with_separators, later_parts, later_line, para_parts, para, skipped, later_pre, pre_opening, pre_parts, pre, rule}
 use Rattle.wt_page.specs.Body.{rule_row, heading_row}
 use Rattle.wt_annotated.specs.Counted.{numbered}
-use Rattle.wt_numbers.specs.Numbers.{makes_all}
-use Rattle.wt_numbers.proofs.Makes.{makes_append, makes_cut, counts, counts_append, parts_count}
-use Rattle.wt_numbers.proofs.ContextCounts.{node_count, leaf_count, line_count, line_trees_count}
-use Rattle.wt_numbers.proofs.Allowances.{allowed, allowed_all, IsFit, AreFit, row_makes, row_length, row_allows}
-use Rattle.wt_numbers.proofs.StretchCounts.{total, total_append, of_gap, of_tree}
+use Rattle.wt_bounds.specs.Numbers.{makes_all}
+use Rattle.wt_bounds.proofs.Makes.{makes_append, makes_cut, counts, counts_append, parts_count}
+use Rattle.wt_bounds.proofs.ContextCounts.{node_count, leaf_count, line_count, line_trees_count}
+use Rattle.wt_bounds.proofs.Allowances.{allowed, allowed_all, IsFit, AreFit, row_makes, row_length, row_allows}
+use Rattle.wt_bounds.proofs.StretchCounts.{total, total_append, of_gap, of_tree}
 
 around_count : (t : ItemTree) (rs : List Row) → total (with_separators t rs) ≤ makes_all (first_lead rs) + numbered t + makes_all (last_ending rs)
 around_count t rs =

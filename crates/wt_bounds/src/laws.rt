@@ -5,7 +5,7 @@ ghost use Rattle.wt_span.specs.Items.{Item};
 ghost use Rattle.wt_page.specs.Body.{meaning};
 ghost use Rattle.wt_annotated.specs.Counted.{numbered};
 ghost use Rattle.wt_annotated.specs.Labels.{width};
-ghost use Rattle.wt_numbers.specs.Numbers.{makes_all};
+ghost use Rattle.wt_bounds.specs.Numbers.{makes_all};
 
 /// At most two nodes for each item have a number: a list and an item by a sign of a prefix, or a block
 /// and a tile or a style, beside those that forms make. A form makes at most one node more than it has

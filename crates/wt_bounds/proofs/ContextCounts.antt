@@ -37,10 +37,10 @@ use Rattle.wt_context.specs.Nodes.{Reading, opening_of, inside_of, closing_of, t
 use Rattle.wt_context.specs.Line.{within, most_contexts, context_parts, line_parts, line_trees}
 use Rattle.wt_context.proofs.ContextStyles.{styles_fill}
 use Rattle.wt_annotated.specs.Counted.{count_by, numbered, numbered_in_all}
-use Rattle.wt_numbers.specs.Numbers.{makes_all}
-use Rattle.wt_numbers.proofs.Makes.{makes_append, makes_cut, counts, counts_append, children_count, parts_count}
-use Rattle.wt_numbers.proofs.StyleCounts.{quotes, quotes_append, styles_few}
-use Rattle.wt_numbers.proofs.TileOpenings.{Opens, IsOpened, tiles_opened}
+use Rattle.wt_bounds.specs.Numbers.{makes_all}
+use Rattle.wt_bounds.proofs.Makes.{makes_append, makes_cut, counts, counts_append, children_count, parts_count}
+use Rattle.wt_bounds.proofs.StyleCounts.{quotes, quotes_append, styles_few}
+use Rattle.wt_bounds.proofs.TileOpenings.{Opens, IsOpened, tiles_opened}
 
 -- ---- a node
 

@@ -8,9 +8,9 @@ use Rattle.wt_inline.specs.ItemTree.{Head, ItemTree}
 use Rattle.wt_inline.specs.Parts.{Part, node, parts}
 use Rattle.wt_page.specs.Stretches.{Stretch, gap, block, stretch_parts, stretches_parts, front_len, front_gaps, past_front, block_len, before_end, end_gaps, tree_block, node_of, opened_by, enclosed}
 use Rattle.wt_annotated.specs.Counted.{numbered}
-use Rattle.wt_numbers.specs.Numbers.{makes_all}
-use Rattle.wt_numbers.proofs.Makes.{counts, counts_append, parts_count}
-use Rattle.wt_numbers.proofs.ContextCounts.{node_count}
+use Rattle.wt_bounds.specs.Numbers.{makes_all}
+use Rattle.wt_bounds.proofs.Makes.{counts, counts_append, parts_count}
+use Rattle.wt_bounds.proofs.ContextCounts.{node_count}
 
 abbrev pub total : List Stretch → ℕ
 total ss = counts (stretches_parts ss)

@@ -20,11 +20,11 @@ use Rattle.wt_page.specs.Lists.{prefix_of, with_blanks, item_opening_len, colon_
 use Rattle.wt_page.specs.Body.{is_list_line}
 use Rattle.wt_page.proofs.HeldLists.{Fits, fits_front, fits_back, AllGoOn, run_goes_on, all_stay, fits_inner, begins_here, fits_all}
 use Rattle.wt_annotated.specs.Counted.{numbered}
-use Rattle.wt_numbers.specs.Numbers.{makes_all}
-use Rattle.wt_numbers.proofs.Makes.{makes_cut}
-use Rattle.wt_numbers.proofs.ContextCounts.{node_count, line_count}
-use Rattle.wt_numbers.proofs.Allowances.{own, own_list, allowed, allowed_all, IsFit, AreFit, row_makes, row_length}
-use Rattle.wt_numbers.proofs.StretchCounts.{total, total_append, of_gap, of_block, of_tree, of_opened, of_enclosed}
+use Rattle.wt_bounds.specs.Numbers.{makes_all}
+use Rattle.wt_bounds.proofs.Makes.{makes_cut}
+use Rattle.wt_bounds.proofs.ContextCounts.{node_count, line_count}
+use Rattle.wt_bounds.proofs.Allowances.{own, own_list, allowed, allowed_all, IsFit, AreFit, row_makes, row_length}
+use Rattle.wt_bounds.proofs.StretchCounts.{total, total_append, of_gap, of_block, of_tree, of_opened, of_enclosed}
 
 -- ---- an item with what stands on its line
 

@@ -17,14 +17,14 @@ use Rattle.wt_page.specs.Tables.{Reading, gaps}
 use Rattle.wt_page.specs.Body.{is_list_line, one_block, same_block, block_stretches, run_stretches, blocks_by, within, blocks, meaning}
 use Rattle.wt_page.proofs.HeldBody.{units_joined}
 use Rattle.wt_annotated.specs.Counted.{numbered}
-use Rattle.wt_numbers.specs.Numbers.{makes_all}
-use Rattle.wt_numbers.proofs.Makes.{children_count}
-use Rattle.wt_numbers.proofs.Allowances.{allowed_all, allowed_append, AreFit, fit_front, fit_back}
-use Rattle.wt_numbers.proofs.StretchCounts.{total, total_append}
-use Rattle.wt_numbers.proofs.TextCounts.{para_count, pre_count, headings_count, rules_count}
-use Rattle.wt_numbers.proofs.ListCounts.{AreLists, of_lists}
-use Rattle.wt_numbers.proofs.TableCounts.{IsFew, gaps_few, table_count}
-use Rattle.wt_numbers.proofs.RowCounts.{rows_allowed, rows_fit}
+use Rattle.wt_bounds.specs.Numbers.{makes_all}
+use Rattle.wt_bounds.proofs.Makes.{children_count}
+use Rattle.wt_bounds.proofs.Allowances.{allowed_all, allowed_append, AreFit, fit_front, fit_back}
+use Rattle.wt_bounds.proofs.StretchCounts.{total, total_append}
+use Rattle.wt_bounds.proofs.TextCounts.{para_count, pre_count, headings_count, rules_count}
+use Rattle.wt_bounds.proofs.ListCounts.{AreLists, of_lists}
+use Rattle.wt_bounds.proofs.TableCounts.{IsFew, gaps_few, table_count}
+use Rattle.wt_bounds.proofs.RowCounts.{rows_allowed, rows_fit}
 
 -- ---- units: a row, or the rows of a table
 

@@ -9,8 +9,8 @@ use Rattle.wt_tables.specs.Parts.{begins_part}
 use Rattle.wt_page.specs.Rows.{Row, row_items, all_items}
 use Rattle.wt_page.specs.Lists.{prefix_of}
 use Rattle.wt_page.specs.Body.{is_list_line}
-use Rattle.wt_numbers.specs.Numbers.{makes_all}
-use Rattle.wt_numbers.proofs.Makes.{makes_append}
+use Rattle.wt_bounds.specs.Numbers.{makes_all}
+use Rattle.wt_bounds.proofs.Makes.{makes_append}
 
 -- ---- a row of so many items, beside what forms make
 

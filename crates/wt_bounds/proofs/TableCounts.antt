@@ -23,11 +23,11 @@ use Rattle.wt_page.specs.Rows.{Row, row_items, all_items, kind_of, first_lead}
 use Rattle.wt_page.specs.Stretches.{Stretch, gap, block, tree_block, node_of, opened_by}
 use Rattle.wt_page.specs.Tables.{Reading, with_attrs, gaps, cell_kind, cell_by, cells_by, cell_stretches, stray_len, from_sign, delimiter, behind_delimiter, delimiter_lead, first_items, row_by, row_stretches, rows_stretches, table_inside, table_by, last_of, without_last, table}
 use Rattle.wt_page.proofs.HeldTables.{cells_joined, lead_sign, last_joined}
-use Rattle.wt_numbers.specs.Numbers.{makes_all}
-use Rattle.wt_numbers.proofs.Makes.{makes_append}
-use Rattle.wt_numbers.proofs.ContextCounts.{line_count}
-use Rattle.wt_numbers.proofs.Allowances.{most_parts, own_parts, allowed, allowed_all, allowed_append, IsFit, AreFit, fit_front, fit_back, row_makes, row_length, row_allows, open_allows, rows_allow}
-use Rattle.wt_numbers.proofs.StretchCounts.{total, total_append, of_gap, of_block, of_tree, of_node, of_opened, of_enclosed}
+use Rattle.wt_bounds.specs.Numbers.{makes_all}
+use Rattle.wt_bounds.proofs.Makes.{makes_append}
+use Rattle.wt_bounds.proofs.ContextCounts.{line_count}
+use Rattle.wt_bounds.proofs.Allowances.{most_parts, own_parts, allowed, allowed_all, allowed_append, IsFit, AreFit, fit_front, fit_back, row_makes, row_length, row_allows, open_allows, rows_allow}
+use Rattle.wt_bounds.proofs.StretchCounts.{total, total_append, of_gap, of_block, of_tree, of_node, of_opened, of_enclosed}
 
 -- what is read has no more numbers than its rows allow
 abbrev pub IsFew : Reading → Type 0

@@ -9,8 +9,8 @@ use Rattle.wt_inline.specs.Inside.{read_with, inside_items}
 use Rattle.wt_inline.specs.Parts.{form_leaf, inside_part, nowiki, whole_tree}
 use Rattle.wt_annotated.specs.Counted.{numbered}
 use Rattle.wt_annotated.specs.Labels.{width}
-use Rattle.wt_numbers.specs.Numbers.{makes_all}
-use Rattle.wt_numbers.proofs.Makes.{counts, children_count}
+use Rattle.wt_bounds.specs.Numbers.{makes_all}
+use Rattle.wt_bounds.proofs.Makes.{counts, children_count}
 
 -- ---- a form makes one node, and at most one more for each of its bytes
 

@@ -21,9 +21,9 @@ use Rattle.wt_page.specs.Rows.{Row, row_items, signs, marks_len, idle_len, whole
 use Rattle.wt_page.specs.Lists.{prefix_of}
 use Rattle.wt_page.specs.Body.{is_list_line}
 use Rattle.wt_page.proofs.HeldRows.{of_whole, of_sign}
-use Rattle.wt_numbers.specs.Numbers.{makes_all}
-use Rattle.wt_numbers.proofs.Makes.{makes_append}
-use Rattle.wt_numbers.proofs.Allowances.{own, twice, allowed_all, allowed_append, IsFit, AreFit, fit_both}
+use Rattle.wt_bounds.specs.Numbers.{makes_all}
+use Rattle.wt_bounds.proofs.Makes.{makes_append}
+use Rattle.wt_bounds.proofs.Allowances.{own, twice, allowed_all, allowed_append, IsFit, AreFit, fit_both}
 
 -- ---- what the kind of a line tells of its signs
 
