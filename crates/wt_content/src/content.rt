@@ -19,8 +19,8 @@ use crate::reason::ContentWhy;
 use crate::url::is_url;
 use std::alloc::Global;
 use wt_escape::href_of;
-use wt_original::{BlockForm, Kept, Page, Way, is_unchanged, page_of_block, shape};
 use wt_names::title_of_href;
+use wt_original::{BlockForm, Kept, Page, Way, is_unchanged, page_of_block, shape};
 use wt_span::NoMemory;
 use wt_tree::{Kind, Node};
 

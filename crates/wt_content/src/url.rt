@@ -5,8 +5,8 @@ ghost use Rattle.wt_tiles.specs.Glyphs.{byte_glyphs};
 ghost use Rattle.wt_tiles.specs.Urls.{is_url_char, url_run};
 ghost use Rattle.wt_content.specs.Content.{is_url};
 
-use wt_span::rest_of;
 use wt_isolation::scheme_len;
+use wt_span::rest_of;
 
 #[tactic(auto, unfolding(wt_tiles::specs::Urls::is_url_char))]
 fn is_url_byte(byte: u8) -> bool

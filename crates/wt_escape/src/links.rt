@@ -12,8 +12,8 @@ ghost use Rattle.wt_escape.specs.Spelling.{value_of, href_of, text_by, only_text
 
 use std::alloc::{AllocError, Global};
 use wt_guards::push_nowiki;
-use wt_original::{Kept, Way, shape};
 use wt_names::{Ns, Title, full_name, title_of_href};
+use wt_original::{Kept, Way, shape};
 use wt_span::{NoMemory, Str, Text};
 use wt_tree::{Attr, AttrName, Node};
 

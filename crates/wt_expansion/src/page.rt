@@ -12,9 +12,9 @@ ghost use Rattle.wt_expansion.specs.Walks.{IsFree};
 use crate::walk::{MOST_NESTED, Walk};
 use bumpalo::Bump;
 use std::alloc::Global;
-use wt_template_stack::{Expansion, Reader, read_page};
 use wt_devices::Folder;
 use wt_span::{Items, List};
+use wt_template_stack::{Expansion, Reader, read_page};
 use wt_transclusion::ExpandRefusal;
 
 /// A page with its templates expanded, and the expansion that knows its templates and those that were known before

@@ -21,11 +21,11 @@ ghost use Rattle.wt_expansion.specs.Walks.{Adds, AnswersStep, AnswersTarget, Ans
 use crate::found::Found;
 use std::alloc::Global;
 use wt_braces::PartAt;
-use wt_expand::{MOST_TEMPLATES, form_of};
-use wt_template_stack::{Expansion, Reader};
-use wt_names::{Title, href_of};
 use wt_devices::Folder;
+use wt_expand::{MOST_TEMPLATES, form_of};
+use wt_names::{Title, href_of};
 use wt_span::{Form, LexKind, Mode, NoMemory};
+use wt_template_stack::{Expansion, Reader};
 use wt_transclusion::{
     Braces, ExpandRefusal, Next, Values, function_named, is_function, title_of_target,
 };

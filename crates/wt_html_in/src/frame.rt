@@ -10,9 +10,9 @@ use crate::sections::{all_bared, without_sections};
 use crate::walk::{Walk, nodes};
 use bumpalo::Bump;
 use std::alloc::Global;
-use wt_schema::FitWhy;
 use wt_html_elements::{Attribute, Content};
 use wt_html_nodes::{FitFault, body_head, has, id_of, is_marked, is_typed};
+use wt_schema::FitWhy;
 use wt_span::NoMemory;
 use wt_tree::Kind;
 

@@ -17,5 +17,5 @@ pub use edited::{Edited, unsourced};
 pub use reader::Reader;
 pub use refusal::HtmlRefusal;
 pub use whole::read_html;
-pub use wt_schema::FitWhy;
 pub use wt_html_grammar::HtmlWhy;
+pub use wt_schema::FitWhy;

@@ -1,7 +1,7 @@
 ghost use Rattle.std.specs.Prelude.{◌≡◌};
 
-use wt_schema::FitWhy;
 use wt_html_grammar::HtmlWhy;
+use wt_schema::FitWhy;
 use wt_span::NoMemory;
 
 /// Why an input is no page.

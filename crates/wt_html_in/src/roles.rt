@@ -6,9 +6,9 @@ ghost use Rattle.wt_schema.specs.Groups.{goes_on, is_further, is_gap, is_open, o
 ghost use Rattle.wt_html_in.specs.Roles.{about_of, open_behind, role_at, roles, standing_in, text_role};
 
 use std::alloc::Global;
-use wt_schema::Standing;
 use wt_html_elements::{Attribute, Content};
 use wt_html_nodes::{has, value_of};
+use wt_schema::Standing;
 use wt_span::{NoMemory, rest_of};
 
 /// What a text or an element is: white space between two elements of a group, which is nothing, another

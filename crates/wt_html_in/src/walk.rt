@@ -17,11 +17,11 @@ use crate::nodes::{leaf_in, node_of};
 use crate::roles::{Role, role_in, roles, standing_in};
 use bumpalo::Bump;
 use std::alloc::Global;
-use wt_schema::Standing;
 use wt_html_elements::{Attribute, Content};
 use wt_html_nodes::{
     FitFault, Head, Headed, Spot, headed_by, is_grouped, is_section_name, is_unsourced,
 };
+use wt_schema::Standing;
 use wt_span::{List, NoMemory};
 use wt_tree::{Kind, Node};
 

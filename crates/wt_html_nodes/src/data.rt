@@ -15,8 +15,8 @@ use crate::number::id_of;
 use crate::typed::is_extension_type;
 use std::alloc::Global;
 use wt_datamw::{DataRefusal, Sync, read, read_sync};
-use wt_schema::Standing;
 use wt_html_elements::Attribute;
+use wt_schema::Standing;
 use wt_span::{NoMemory, Str};
 use wt_tree::{AttrName, DataMw, Kind, Payload};
 

@@ -18,8 +18,8 @@ use crate::row::{row, text_fits};
 use crate::standing::{is_first, is_grouped};
 use std::alloc::Global;
 use wt_datamw::Sync;
-use wt_schema::{FitWhy, Standing};
 use wt_html_elements::{Attribute, Content};
+use wt_schema::{FitWhy, Standing};
 use wt_span::{List, NoMemory, Str};
 use wt_tree::{Attr, DataMw, Kind, Mark, TagName};
 

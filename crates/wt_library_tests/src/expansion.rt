@@ -2,9 +2,9 @@
 use bumpalo::Bump;
 use std::alloc::Global;
 use std::test::Fail;
+use wt_devices::MemFolder;
 use wt_expand::expanded;
 use wt_expansion::expand;
-use wt_devices::MemFolder;
 use wt_span::{List, Str};
 
 /// What a short page shows over the folder, and how many outermost calls it has.

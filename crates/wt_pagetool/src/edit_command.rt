@@ -32,12 +32,12 @@ use crate::refusal::Refusal;
 use crate::wikitext_command::{PIECE, read_all};
 use bumpalo::Bump;
 use std::alloc::Global;
-use wt_html_in::Reader;
-use wt_template_stack::Expansion;
 use wt_devices::{Folder, Source};
+use wt_html_in::Reader;
 use wt_ranges::Annotated;
 use wt_selser::{edit, first_differing};
 use wt_span::{HTML_BYTES, NoMemory, PAGE_BYTES};
+use wt_template_stack::Expansion;
 use wt_transclusion::ExpandRefusal;
 use wt_tree::Node;
 

@@ -11,9 +11,9 @@ use crate::page::text_of_page;
 use crate::refusal::Refusal;
 use bumpalo::Bump;
 use std::alloc::Global;
-use wt_template_stack::expanded_text;
 use wt_devices::Folder;
 use wt_span::PAGE_BYTES;
+use wt_template_stack::expanded_text;
 
 /// What a page that is text shows with its templates expanded.
 fn output_of_text<F: Folder>(alloc: Global, page: &str, folder: &mut F) -> Result<Output, Refusal>

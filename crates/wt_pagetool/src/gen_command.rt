@@ -15,10 +15,10 @@ use crate::page::{text_of_page, tree_of_text};
 use crate::refusal::Refusal;
 use bumpalo::Bump;
 use std::alloc::{AllocError, Global};
+use wt_devices::{Folder, NeverFailsFolder};
 use wt_gen::{page_of, template};
 use wt_html_in::{HtmlRefusal, read_html};
 use wt_html_out::{LengthRefusal, html_bytes_within};
-use wt_devices::{Folder, NeverFailsFolder};
 use wt_span::{HTML_BYTES, List, NoMemory, PAGE_BYTES, Str};
 use wt_tree::{Annotated, Kind, Node, Ranges, flat, walk};
 

@@ -16,11 +16,11 @@ ghost use Rattle.wt_pagetool.specs.Answers.{refusal_of_page};
 use crate::page::annotated_of_items;
 use bumpalo::Bump;
 use std::alloc::Global;
-use wt_expansion::expand_knowing;
-use wt_template_stack::Expansion;
 use wt_devices::Folder;
+use wt_expansion::expand_knowing;
 use wt_ranges::Annotated;
 use wt_span::PAGE_BYTES;
+use wt_template_stack::Expansion;
 use wt_transclusion::ExpandRefusal;
 
 /// The tree of a page with its items, and the expansion that knows the page's templates.

@@ -17,10 +17,10 @@ use crate::page::{text_of_page, tree_of_text};
 use crate::refusal::Refusal;
 use bumpalo::Bump;
 use std::alloc::Global;
+use wt_devices::Folder;
 use wt_html_out::{LengthRefusal, html_bytes_within};
 use wt_lint::{finding_lines, lint};
 use wt_listing::listing;
-use wt_devices::Folder;
 use wt_span::{HTML_BYTES, List, NoMemory, PAGE_BYTES};
 use wt_tree::Annotated;
 

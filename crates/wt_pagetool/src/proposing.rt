@@ -22,12 +22,12 @@ use crate::output::Output;
 use crate::reading_back::{EditedPage, Fault, ReadBack, read_back};
 use crate::refusal::Refusal;
 use std::alloc::Global;
-use wt_template_stack::Expansion;
 use wt_devices::Folder;
 use wt_proposal::{Keeping, proposal};
 use wt_selser::{EditRefusal, edit as edit_by_marks};
-use wt_visible::keeps_marks;
 use wt_span::{NoMemory, Str};
+use wt_template_stack::Expansion;
+use wt_visible::keeps_marks;
 
 /// A new page that was tried.
 #[derive(Drop)]

@@ -21,10 +21,10 @@ use crate::refusal::Refusal;
 use bumpalo::Bump;
 use std::alloc::Global;
 use wt_checks::Visit;
-use wt_template_stack::Expansion;
 use wt_devices::Folder;
 use wt_selser::first_differing;
 use wt_span::{Items, NoMemory, PAGE_BYTES};
+use wt_template_stack::Expansion;
 use wt_transclusion::ExpandRefusal;
 use wt_tree::Node;
 

@@ -5,8 +5,8 @@ ghost use Rattle.wt_pagetool.specs.Refusals.{status_of, line_of, html_why, fit_w
 use crate::status::Status;
 use std::alloc::{AllocError, Global};
 use wt_checks::Check;
-use wt_html_in::{FitWhy, HtmlRefusal, HtmlWhy};
 use wt_devices::FetchRefusal;
+use wt_html_in::{FitWhy, HtmlRefusal, HtmlWhy};
 use wt_selser::{ContentWhy, EditRefusal};
 use wt_span::{NoMemory, Str};
 use wt_transclusion::ExpandRefusal;

@@ -34,9 +34,9 @@ use crate::wikitext_command::{PIECE, read_all};
 use bumpalo::Bump;
 use std::alloc::Global;
 use wt_checks::{Check, Visit, check_nodes, numbered_nodes};
+use wt_devices::{Folder, Source};
 use wt_difference::{has_mark, remark};
 use wt_html_in::Reader;
-use wt_devices::{Folder, Source};
 use wt_span::{HTML_BYTES, NoMemory, PAGE_BYTES};
 use wt_tree::Node;
 

@@ -11,8 +11,8 @@ use crate::output::Output;
 use crate::refusal::Refusal;
 use bumpalo::Bump;
 use std::alloc::Global;
-use wt_html_in::{Edited, Reader, unsourced};
 use wt_devices::Source;
+use wt_html_in::{Edited, Reader, unsourced};
 use wt_span::{HTML_BYTES, front_of};
 use wt_tree::flat;
 

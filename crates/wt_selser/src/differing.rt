@@ -10,9 +10,9 @@ ghost use Rattle.wt_visible.specs.Restored.{restored_from};
 
 use std::alloc::Global;
 use wt_checks::numbered_nodes;
-use wt_visible::{first_of_children, held_nodes, shown_nodes};
 use wt_span::NoMemory;
 use wt_tree::Node;
+use wt_visible::{first_of_children, held_nodes, shown_nodes};
 
 /// The number, from 1, of the first child in which a new body differs from one to which the page's was
 /// edited, or None where they show the same. In the edited one a group shows what the page's group of its

@@ -22,8 +22,8 @@ use crate::tangled_block::is_tangled;
 use std::alloc::Global;
 use wt_checks::{Visit, check, is_children, is_content, numbered_nodes};
 use wt_content::{ContentWhy, bad_children, bad_content};
-use wt_span::{Items, NoMemory, PAGE_BYTES, Str};
 use wt_isolation::Passes;
+use wt_span::{Items, NoMemory, PAGE_BYTES, Str};
 use wt_tree::Node;
 
 /// Why what stands in a marked node can't be written.

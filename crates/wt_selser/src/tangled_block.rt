@@ -11,8 +11,8 @@ ghost use Rattle.wt_selser.specs.Edits.{is_tangled};
 
 use crate::group_fault::has_faulty_group;
 use std::alloc::Global;
-use wt_span::{Items, NoMemory};
 use wt_isolation::Passes;
+use wt_span::{Items, NoMemory};
 use wt_tree::Node;
 
 /// Whether a block of a page with these items can't be read by itself.

@@ -27,8 +27,8 @@ use crate::run::{TextRun, Turn};
 use bumpalo::Bump;
 use std::alloc::Global;
 use std::marker::Model;
-use wt_names::{Title, full_name};
 use wt_devices::Folder;
+use wt_names::{Title, full_name};
 use wt_span::{List, Mode, NoMemory, Piece, Str};
 use wt_transclusion::{Braces, ExpandRefusal, ReadText, Store, Taken, Values, charge, take};
 

@@ -15,8 +15,8 @@ use crate::expansion::Expansion;
 use bumpalo::Bump;
 use std::alloc::Global;
 use wt_braces::BraceRefusal;
-use wt_expand::{MOST_TEMPLATES, text_shown};
 use wt_devices::Folder;
+use wt_expand::{MOST_TEMPLATES, text_shown};
 use wt_span::{Mode, Piece, Str};
 use wt_transclusion::{ExpandRefusal, ReadText, Values, read_in};
 

@@ -16,8 +16,8 @@ use crate::refusal::ExpandRefusal;
 use crate::store::Store;
 use bumpalo::Bump;
 use std::alloc::Global;
-use wt_names::{Title, full_name};
 use wt_devices::Folder;
+use wt_names::{Title, full_name};
 use wt_span::{Form, List, NoMemory, Piece, Str, Text};
 
 /// What is taken for a title.
