@@ -1,0 +1,34 @@
+//! Text edits that are never refused, as laws.
+#![tactic(auto)]
+
+ghost use Rattle.std.specs.Prelude.{◌≡◌, ℕ, List, [], ◌∷◌, true, false, None};
+ghost use Rattle.std.specs.List.{list_all};
+ghost use Rattle.wt_expand.specs.Work.{Pages, first_refusal};
+ghost use Rattle.wt_expand.specs.Expansion.{page_work};
+ghost use Rattle.wt_expand.specs.PageCalls.{expanded_page};
+ghost use Rattle.wt_guards.specs.declared.side.Place.TheVariants as place;
+ghost use Rattle.wt_guards.specs.Content.{letters};
+ghost use Rattle.wt_guards.specs.Guards.{spelled};
+ghost use Rattle.wt_page.specs.Body.{meaning};
+ghost use Rattle.wt_text_edits.specs.LonePages.{lone_body, of_items, page_chars};
+ghost use Rattle.wt_text_edits.specs.PlainTexts.{is_plain, IsPlainText};
+
+/// x
+#[tactic(auto, using(crate::proofs::PlainPages::plain_expanded, crate::proofs::PlainPages::plain_unrefused))]
+pub fn stand_in_pages()
+    ensures e { (pages : Pages) (b : ℕ) (bs : List ℕ) → list_all is_plain (b ∷ bs) ≡ true → expanded_page pages (b ∷ bs) ≡ of_items (page_chars (b ∷ bs)) }
+    ensures r { (pages : Pages) (b : ℕ) (bs : List ℕ) → list_all is_plain (b ∷ bs) ≡ true → first_refusal pages (b ∷ bs) (page_work pages (b ∷ bs)) ≡ None }
+{}
+
+/// Such a text is spelled as it stands.
+#[tactic(auto, using(crate::proofs::PlainSpelling::plain_spelled))]
+pub fn plain_text_stands()
+    ensures { (source : List ℕ) (text : List ℕ) → IsPlainText text
+        → spelled (record { within = false; place = place.Paragraph; source = source }) (letters text) ≡ text }
+{}
+
+/// It means one paragraph.
+#[tactic(auto, using(crate::proofs::PlainMeaning::meaning_is))]
+pub fn plain_text_is_one_paragraph()
+    ensures { (b : ℕ) (bs : List ℕ) → IsPlainText (b ∷ bs) → meaning (page_chars (b ∷ bs)) ≡ lone_body (page_chars (b ∷ bs)) }
+{}
