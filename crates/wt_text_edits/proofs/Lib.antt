@@ -4,3 +4,5 @@ pub mod PlainBytes
 pub mod PlainSpelling
 pub mod PlainRows
 pub mod PlainMeaning
+pub mod LoneTrees
+pub mod LoneAnswers

@@ -1,7 +1,7 @@
 //! Text edits that are never refused, as laws.
 #![tactic(auto)]
 
-ghost use Rattle.std.specs.Prelude.{◌≡◌, ℕ, List, [], ◌∷◌, true, false, None};
+ghost use Rattle.std.specs.Prelude.{◌≡◌, ◌≤◌, ℕ, Bool, List, [], ◌∷◌, length, true, false, None, Ok};
 ghost use Rattle.std.specs.List.{list_all};
 ghost use Rattle.wt_expand.specs.Work.{Pages, first_refusal};
 ghost use Rattle.wt_expand.specs.Expansion.{page_work};
@@ -10,7 +10,13 @@ ghost use Rattle.wt_guards.specs.declared.side.Place.TheVariants as place;
 ghost use Rattle.wt_guards.specs.Content.{letters};
 ghost use Rattle.wt_guards.specs.Guards.{spelled};
 ghost use Rattle.wt_page.specs.Body.{meaning};
-ghost use Rattle.wt_text_edits.specs.LonePages.{lone_body, of_items, page_chars};
+ghost use Rattle.wt_tree.specs.Tree.{Label, Tree};
+ghost use Rattle.wt_annotated.specs.Annotated.{annotated};
+ghost use Rattle.wt_annotated.specs.GroupData.{group_data};
+ghost use Rattle.wt_sections.specs.Sections.{with_sections};
+ghost use Rattle.wt_selser.specs.Edits.{edit_answer, most_bytes};
+ghost use Rattle.wt_text_edits.specs.LoneEdits.{sent};
+ghost use Rattle.wt_text_edits.specs.LonePages.{lone_body, lone_page, of_items, page_chars};
 ghost use Rattle.wt_text_edits.specs.PlainTexts.{is_plain, IsPlainText};
 
 /// x
@@ -31,4 +37,17 @@ pub fn plain_text_stands()
 #[tactic(auto, using(crate::proofs::PlainMeaning::meaning_is))]
 pub fn plain_text_is_one_paragraph()
     ensures { (b : ℕ) (bs : List ℕ) → IsPlainText (b ∷ bs) → meaning (page_chars (b ∷ bs)) ≡ lone_body (page_chars (b ∷ bs)) }
+{}
+
+/// x
+#[tactic(auto, using(crate::proofs::LoneTrees::lone_tree))]
+pub fn stand_in_tree()
+    ensures { (b : ℕ) (bs : List ℕ) → with_sections (annotated [] (group_data []) (lone_body (page_chars (b ∷ bs)))) ≡ lone_page (b ∷ bs) }
+{}
+
+/// x
+#[tactic(auto, using(crate::proofs::LoneAnswers::lone_answer))]
+pub fn stand_in_answer()
+    ensures { (same : Tree → Tree → Bool) (page text : List ℕ) (b p t : Label) → IsPlainText text → length text ≤ most_bytes
+        → edit_answer same (of_items (page_chars page)) page (lone_page page) (sent b p t text) ≡ Ok text }
 {}
