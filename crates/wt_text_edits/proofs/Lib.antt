@@ -6,3 +6,4 @@ pub mod PlainRows
 pub mod PlainMeaning
 pub mod LoneTrees
 pub mod LoneAnswers
+pub mod TakesText

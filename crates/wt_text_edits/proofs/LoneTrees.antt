@@ -68,7 +68,7 @@ all_of_page (b ∷ bs) = all_of_page bs
 is_plain_tree : (b : ℕ) (bs : List ℕ) → IsPlain (lone_body (page_chars (b ∷ bs)))
 is_plain_tree b bs = record {
   of_page = subst (λ xs. list_all is_page xs ≡ true) (sym (body_is (page_chars (b ∷ bs)))) (all_of_page (b ∷ bs));
-  none_empty = (refl, ((refl, (tt, tt)), tt));
+  none_empty = (refl, (refl, tt, tt), tt);
 }
 
 stand_cut : (xs : List Item) → AllByRecursion HasCutTexts (reached (annotated_plainly (lone_body xs)))

@@ -14,6 +14,7 @@ ghost use Rattle.wt_tree.specs.Tree.{Label, Tree};
 ghost use Rattle.wt_annotated.specs.Annotated.{annotated};
 ghost use Rattle.wt_annotated.specs.GroupData.{group_data};
 ghost use Rattle.wt_sections.specs.Sections.{with_sections};
+ghost use Rattle.wt_pagetool.specs.Answers.{done, edit_to};
 ghost use Rattle.wt_selser.specs.Edits.{edit_answer, most_bytes};
 ghost use Rattle.wt_text_edits.specs.LoneEdits.{sent};
 ghost use Rattle.wt_text_edits.specs.LonePages.{lone_body, lone_page, of_items, page_chars};
@@ -50,4 +51,11 @@ pub fn stand_in_tree()
 pub fn stand_in_answer()
     ensures { (same : Tree → Tree → Bool) (page text : List ℕ) (b p t : Label) → IsPlainText text → length text ≤ most_bytes
         → edit_answer same (of_items (page_chars page)) page (lone_page page) (sent b p t text) ≡ Ok text }
+{}
+
+/// A page that is one paragraph of plain text takes any other such text.
+#[tactic(auto, using(crate::proofs::TakesText::takes_text))]
+pub fn lone_paragraph_takes_text()
+    ensures { (pages : Pages) (page text : List ℕ) (b p t : Label) → IsPlainText page → IsPlainText text → length text ≤ most_bytes
+        → edit_to pages page (sent b p t text) ≡ done text }
 {}
