@@ -2,6 +2,7 @@ pub mod PlainWords
 pub mod PlainPages
 pub mod PlainBytes
 pub mod PlainSpelling
+pub mod CalmLines
 pub mod PlainRows
 pub mod PlainMeaning
 pub mod LoneTrees

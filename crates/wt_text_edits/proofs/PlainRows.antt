@@ -1,7 +1,7 @@
 -- What lines of such text are as rows: each is a row of text, and all of them are one paragraph of one text.
 use Rattle.std.proofs.Common.{arith, ◌≡◌, ◌⊎◌, ℕ, zero, suc, Bool, true, false, None, List, [], ◌∷◌, ◌++◌, length, map, take, drop, reverse, refl, sym, ap, ◌∙◌, subst, append-nil, append_assoc, inl, inr, All}
 use Rattle.std.specs.Prelude.{◌&&◌, not, if◌then◌else◌}
-use Rattle.std.specs.List.{list_all, flat_map}
+use Rattle.std.specs.List.{flat_map}
 use Rattle.std.proofs.lemmas.List.Elements.{All-head, All-tail}
 use Rattle.wt_tree.specs.declared.kind.Kind.TheVariants as kind
 use Rattle.wt_span.specs.Items.{Item, char, whole}
@@ -19,22 +19,15 @@ use Rattle.wt_inline.specs.declared.loose.Loose.TheVariants.{Text}
 use Rattle.wt_inline.specs.ItemTree.{plain, ItemTree, inner, nothing, further, forest}
 use Rattle.wt_inline.specs.Parts.{Part, loose, part, parts, one_leaf, held_parts, loose_leaf, child, children}
 use Rattle.wt_tiles.specs.Contexts.{in_line}
-use Rattle.wt_context.specs.Inert.{is_inert, is_inert_item, are_inert}
 use Rattle.wt_context.specs.Line.{most_contexts, context_parts, line_parts}
-use Rattle.wt_context.proofs.InertItems.{inert_within}
 use Rattle.wt_headings.specs.Lines.{ending, kind_at}
 use Rattle.wt_page.specs.Rows.{Row, marks_len, whole_row, line_rows, rows_from, rows, kind_of, last_ending}
 use Rattle.wt_page.specs.Stretches.{Stretch, gap, tree_block, stretches_parts}
 use Rattle.wt_page.specs.Tables.{Reading, gaps}
 use Rattle.wt_page.specs.Texts.{later_parts, later_line, para_parts, para}
 use Rattle.wt_page.specs.Body.{same_block, block_stretches, run_stretches, blocks_by, within, blocks, meaning}
-use Rattle.wt_text_edits.specs.PlainTexts.{is_plain}
 use Rattle.wt_text_edits.specs.LonePages.{page_chars, lone_body, lone_para}
-use Rattle.wt_text_edits.proofs.PlainWords.{and_left, and_right}
-
-and_true : (a b : Bool) → a ≡ true → b ≡ true → (a && b) ≡ true
-and_true true b e f = f
-and_true false b e f = cc
+use Rattle.wt_text_edits.proofs.CalmLines.{CalmItems, calm_left, calm_right, calm_within}
 
 -- ---- a line without its line break, and its line break
 
@@ -47,26 +40,8 @@ is_both [] = refl
 is_both (x ∷ []) = is_both_by x (is_break_item x) refl
 is_both (x ∷ y ∷ ys) = ap (λ xs. x ∷ xs) (is_both (y ∷ ys))
 
-inert_last : (x : Item) (v : Bool) → is_inert_item x ≡ true → are_inert (if v then [] else x ∷ []) ≡ true
-inert_last x true e = refl
-inert_last x false e = and_true (is_inert_item x) true e refl
-
-inert_content : (l : List Item) → are_inert l ≡ true → are_inert (content l) ≡ true
-inert_content [] e = refl
-inert_content (x ∷ []) e = inert_last x (is_break_item x) (and_left (is_inert_item x) true e)
-inert_content (x ∷ y ∷ ys) e =
-    and_true (is_inert_item x) (are_inert (content (y ∷ ys))) (and_left (is_inert_item x) (are_inert (y ∷ ys)) e)
-    (inert_content (y ∷ ys) (and_right (is_inert_item x) (are_inert (y ∷ ys)) e))
-
-inert_left : (xs ys : List Item) → are_inert (xs ++ ys) ≡ true → are_inert xs ≡ true
-inert_left [] ys e = refl
-inert_left (x ∷ xs) ys e =
-    and_true (is_inert_item x) (are_inert xs) (and_left (is_inert_item x) (are_inert (xs ++ ys)) e)
-    (inert_left xs ys (and_right (is_inert_item x) (are_inert (xs ++ ys)) e))
-
-inert_right : (xs ys : List Item) → are_inert (xs ++ ys) ≡ true → are_inert ys ≡ true
-inert_right [] ys e = e
-inert_right (x ∷ xs) ys e = inert_right xs ys (and_right (is_inert_item x) (are_inert (xs ++ ys)) e)
+calm_content : (l : List Item) → CalmItems l → CalmItems (content l)
+calm_content l c = calm_left (content l) (ending l) (subst CalmItems (sym (is_both l)) c)
 
 -- what ends a list hangs on its last item
 ending_behind : (xs : List Item) (y : Item) (ys : List Item) → ending (xs ++ y ∷ ys) ≡ ending (y ∷ ys)
@@ -79,7 +54,7 @@ ending_behind (x ∷ z ∷ zs) y ys = ending_behind (z ∷ zs) y ys
 -- each is text, and nothing begins in it
 abbrev pub AreTexts : List (List Item) → Type 0
 AreTexts [] = Unit {0}
-AreTexts (l ∷ ls) = (kind_at 0 l ≡ line.Text) × (are_inert l ≡ true) × AreTexts ls
+AreTexts (l ∷ ls) = (kind_at 0 l ≡ line.Text) × CalmItems l × AreTexts ls
 
 no_text : kind_of_signs 0 [] ≡ line.Text → ⊥
 unfolding kind_of_signs
@@ -88,11 +63,11 @@ no_text e = cc
 abbrev IsText : List Item → Type 0
 IsText l = line_kind 0 l ≡ line.Text
 
-texts_by : (ls : List (List Item)) (ends : List (List Item)) → All IsText (map content ls ++ ends) → are_inert (joined ls) ≡ true → AreTexts ls
+texts_by : (ls : List (List Item)) (ends : List (List Item)) → All IsText (map content ls ++ ends) → CalmItems (joined ls) → AreTexts ls
 texts_by [] ends a e = tt
 texts_by (l ∷ ls) ends a e =
-    (All-head IsText (content l) (map content ls ++ ends) a, inert_left l (joined ls) e,
-    texts_by ls ends (All-tail IsText (content l) (map content ls ++ ends) a) (inert_right l (joined ls) e))
+    (All-head IsText (content l) (map content ls ++ ends) a, calm_left l (joined ls) e,
+    texts_by ls ends (All-tail IsText (content l) (map content ls ++ ends) a) (calm_right l (joined ls) e))
 
 -- the last line isn't empty, so that no line break ends the text
 unended_by : (x : Item) (v : Bool) (zs : List (List Item)) → All IsText (zs ++ (if v then [] ∷ [] else [])) → (if v then x ∷ [] else []) ≡ []
@@ -110,10 +85,10 @@ unended (x ∷ y ∷ ys) zs a = unended (y ∷ ys) zs a
 abbrev text_row : List Item → Row
 text_row l = record { kind = line.Text; lead = []; items = content l; ending = ending l }
 
-no_marks : (l : List Item) → are_inert l ≡ true → marks_len l ≡ 0
+no_marks : (l : List Item) → CalmItems l → marks_len l ≡ 0
 no_marks [] e = refl
 no_marks (char o b ∷ xs) e = refl
-no_marks (whole f o bs ∷ xs) e = cc
+no_marks (whole f o bs ∷ xs) e = absurd e
 
 rows_are : (ls : List (List Item)) → AreTexts ls → rows_from 0 ls ≡ map text_row ls
 rows_are [] h = refl
@@ -161,9 +136,9 @@ parts_append : (xs ys : List Item) → parts Text (xs ++ ys) ≡ parts Text xs +
 parts_append [] ys = refl
 parts_append (x ∷ xs) ys = ap (λ ps. part Text x ∷ ps) (parts_append xs ys)
 
-line_is : (l : List Item) → are_inert l ≡ true → line_parts (content l) ≡ parts Text (content l)
+line_is : (l : List Item) → CalmItems l → line_parts (content l) ≡ parts Text (content l)
 unfolding context_parts
-line_is l e = inert_within most_contexts in_line (content l) (inert_content l e)
+line_is l e = calm_within most_contexts in_line (content l) (calm_content l e)
 
 -- the line break that ends the last line
 abbrev last_break : List Item → List (List Item) → List Item
@@ -174,7 +149,7 @@ abbrev later : List Item → List (List Item) → List Part
 later break ls = later_parts later_line break (map text_row ls)
 
 -- a line, and what is told of its line break and the lines behind it
-with_line : (l : List Item) (ls : List (List Item)) → are_inert l ≡ true
+with_line : (l : List Item) (ls : List (List Item)) → CalmItems l
     → later (ending l) ls ++ parts Text (last_break (ending l) ls) ≡ parts Text (ending l ++ joined ls)
     → (line_parts (content l) ++ later (ending l) ls) ++ parts Text (last_break (ending l) ls) ≡ parts Text (l ++ joined ls)
 with_line l ls e h =
@@ -245,13 +220,7 @@ body_by b bs (l ∷ ls) is h e =
     ∙ ap (λ xs. body_of (gap [] ∷ tree_block (para rs) ∷ gap xs ∷ [])) (last_is l ls ∙ break)
     ∙ ap (λ t. inner (plain kind.Body) [] (further t nothing) []) (para_is b bs l ls is h break)
 
-inert_chars : (bs : List ℕ) → list_all is_plain bs ≡ true → are_inert (page_chars bs) ≡ true
-inert_chars [] e = refl
-inert_chars (b ∷ bs) e =
-    and_true (is_inert b) (are_inert (page_chars bs)) (and_left (is_inert b) _ (and_left (is_plain b) (list_all is_plain bs) e))
-    (inert_chars bs (and_right (is_plain b) (list_all is_plain bs) e))
-
-pub meaning_by : (b : ℕ) (bs : List ℕ) → list_all is_plain (b ∷ bs) ≡ true → All IsText (lines (page_chars (b ∷ bs)))
+pub meaning_by : (b : ℕ) (bs : List ℕ) → CalmItems (page_chars (b ∷ bs)) → All IsText (lines (page_chars (b ∷ bs)))
     → meaning (page_chars (b ∷ bs)) ≡ lone_body (page_chars (b ∷ bs))
 unfolding meaning blocks rows
 meaning_by b bs e a =
@@ -259,5 +228,5 @@ meaning_by b bs e a =
     let ls : List (List Item) = full_lines xs in
     let is : joined ls ≡ xs = runs_joined goes_on xs in
     let all : All IsText (map content ls ++ empty_end xs) = subst (All IsText) (same_lines xs) a in
-    let i : are_inert (joined ls) ≡ true = ap are_inert is ∙ inert_chars (b ∷ bs) e in
+    let i : CalmItems (joined ls) = subst CalmItems (sym is) e in
     body_by b bs ls is (texts_by ls (empty_end xs) all i) (unended xs (map content ls) all)

@@ -10,12 +10,12 @@ use Rattle.wt_lex.specs.Words.{is_form_byte}
 use Rattle.wt_guards.specs.declared.side.Place.TheVariants as place
 use Rattle.wt_guards.specs.Table.{line_start_hazard}
 use Rattle.wt_guards.specs.Content.{Sign, letter, letters, nearest}
-use Rattle.wt_guards.specs.Letters.{is_escaped, is_indented}
+use Rattle.wt_guards.specs.Letters.{is_escaped}
 use Rattle.wt_guards.specs.Guards.{Setting, is_between_guard, is_start_guard, is_end_guard, is_blank_guard, is_guarded, is_unended, is_empty_line, is_past_node, is_blank_last, is_content_end_guard, spelled}
 use Rattle.wt_guards.specs.WrittenLaws.{itself, IsQuiet}
 use Rattle.wt_guards.proofs.SpellingLaws.{quiet_from}
 use Rattle.wt_context.specs.Inert.{is_inert}
-use Rattle.wt_text_edits.specs.PlainTexts.{is_plain, begins_text, are_text_lines, IsPlainText}
+use Rattle.wt_text_edits.specs.PlainTexts.{are_as_typed, begins_text, are_text_lines, IsPlainText}
 use Rattle.wt_text_edits.proofs.PlainWords.{and_left, and_right, not_false, or_left, or_right}
 
 -- ---- tests
@@ -45,10 +45,6 @@ no_node_unended (p ∷ ps) = and_false (is_blank p) (is_unended (map letter ps))
 no_node_past : (ps : List ℕ) → is_past_node (map letter ps) ≡ false
 no_node_past [] = refl
 no_node_past (p ∷ ps) = and_false (is_blank p) (is_past_node (map letter ps)) (no_node_past ps)
-
-no_node_indented : (ps : List ℕ) → is_indented (map letter ps) ≡ false
-no_node_indented [] = refl
-no_node_indented (p ∷ ps) = and_false (is_blank p) (is_indented (map letter ps)) (no_node_indented ps)
 
 -- a line begins behind these
 abbrev begins_line : List ℕ → Bool
@@ -129,54 +125,19 @@ no_guard_last source p ps e =
     (or_false (is_end_guard source place.Paragraph (map letter (p ∷ ps)) []) _ (no_end_last source p ps)
     (no_blank_guard source (p ∷ ps) [])))
 
--- ---- characters as they are
-
-bang_last : (t u : Bool) → u ≡ false → (if t then u else false) ≡ false
-bang_last true u e = e
-bang_last false u e = refl
-
-no_reference : (source : List ℕ) (ps : List ℕ) (c : ℕ) (after : List Sign) → is_plain c ≡ true
-    → is_escaped false place.Paragraph (map letter ps) c after ≡ false
-unfolding is_escaped
-no_reference source ps c after p =
-    let inert = not_false _ (and_left (is_inert c) _ p) in
-    let i39 : (c == 39) ≡ false = or_left (c == 39) _ inert in
-    let j58 = or_right (c == 39) _ inert in
-    let i58 : (c == 58) ≡ false = or_left (c == 58) _ j58 in
-    let j60 = or_right (c == 58) _ j58 in
-    let j91 = or_right (c == 60) _ j60 in
-    let i95 : (c == 95) ≡ false = or_right (c == 91) (c == 95) j91 in
-    let other = not_false (is_form_byte c || c == 62) (and_right (is_inert c) _ p) in
-    let i62 : (c == 62) ≡ false = or_right (is_form_byte c) (c == 62) other in
-    let f60 = or_left (is_form_byte c) (c == 62) other in
-    let i60 : (c == 60) ≡ false = or_left (c == 60) _ f60 in
-    let f38 = or_right (c == 60) _ f60 in
-    let i38 : (c == 38) ≡ false = or_left (c == 38) _ f38 in
-    let f123 = or_right (c == 38) _ f38 in
-    let i123 : (c == 123) ≡ false = or_left (c == 123) _ f123 in
-    let f125 = or_right (c == 123) _ f123 in
-    let i125 : (c == 125) ≡ false = or_left (c == 125) _ f125 in
-    let f91 = or_right (c == 125) _ f125 in
-    let i91 : (c == 91) ≡ false = or_left (c == 91) _ f91 in
-    let f93 = or_right (c == 91) _ f91 in
-    let i93 : (c == 93) ≡ false = or_left (c == 93) _ f93 in
-    let f124 = or_right (c == 93) _ f93 in
-    let i124 : (c == 124) ≡ false = or_left (c == 124) _ f124 in
-    let i61 : (c == 61) ≡ false = or_right (c == 124) (c == 61) f124 in
-    rw (i91, i93, i123, i125, i124, i62, i60, i38, i39, i95, i58, i61) (bang_last (c == 33) (is_indented (map letter ps)) (no_node_indented ps))
-
 -- ---- all of it
 
-quiet : (source : List ℕ) (ps cs : List ℕ) → list_all is_plain cs ≡ true → are_text_lines (begins_line ps) cs ≡ true
+quiet : (source : List ℕ) (ps cs : List ℕ) → are_as_typed ps cs ≡ true → are_text_lines (begins_line ps) cs ≡ true
     → IsQuiet (paragraph source) (map letter ps) (map letter cs)
 quiet source [] [] e h = cc
 quiet source (p ∷ ps) [] e h = no_guard_last source p ps (not_false (p == 10) h)
 quiet source ps (c ∷ cs) e h =
+    let escaped : Bool = is_escaped false place.Paragraph (map letter ps) c (map letter cs) in
     let starts : begins_line ps ≡ true → StartsText c =
     λ b. starts_text c (free_true (begins_line ps) (begins_text c) (and_left (not (begins_line ps) || begins_text c) (are_text_lines (c == 10) cs) h) b) in (
       no_guard source ps c (map letter cs) starts,
-      no_reference source ps c (map letter cs) (and_left (is_plain c) (list_all is_plain cs) e),
-      quiet source (c ∷ ps) cs (and_right (is_plain c) (list_all is_plain cs) e)
+      not_false escaped (and_left (not escaped) (are_as_typed (c ∷ ps) cs) e),
+      quiet source (c ∷ ps) cs (and_right (not escaped) (are_as_typed (c ∷ ps) cs) e)
         (and_right (not (begins_line ps) || begins_text c) (are_text_lines (c == 10) cs) h),
     )
 
@@ -186,5 +147,5 @@ themselves (c ∷ cs) = ap (λ bs. encode_utf8 c ++ bs) (themselves cs)
 
 pub plain_spelled : (source : List ℕ) (text : List ℕ) → IsPlainText text → spelled (paragraph source) (letters text) ≡ text
 plain_spelled source text h =
-    quiet_from (paragraph source) [] (letters text) (quiet source [] (chars text) h.plain h.lines)
+    quiet_from (paragraph source) [] (letters text) (quiet source [] (chars text) h.as_typed h.lines)
     ∙ themselves (chars text) ∙ encodes-chars text h.utf8

@@ -36,7 +36,7 @@ or_right true b e = cc
 or_right false b e = e
 
 pub no_form_byte : (b : ℕ) → is_plain b ≡ true → is_form_byte b ≡ false
-no_form_byte b p = or_left (is_form_byte b) (b == 62) (not_false (is_form_byte b || b == 62) (and_right (is_inert b) _ p))
+no_form_byte b p = not_false (is_form_byte b) p
 
 no_angle : (b : ℕ) → is_form_byte b ≡ false → b ≢ 60
 no_angle b e = λ i. let no : true ≡ false = sym (ap is_form_byte i) ∙ e in cc
