@@ -5,7 +5,7 @@ use Rattle.std.specs.List.{list_all}
 use Rattle.std.specs.Str.{chars}
 use Rattle.std.proofs.lemmas.Bool.Decides.{nat_tests}
 use Rattle.wt_span.specs.Origins.{Expanded}
-use Rattle.wt_span.specs.declared.limits.TheConstants.{PAGE_BYTES}
+use Rattle.wt_span.specs.declared.limits.TheConstants.{HTML_BYTES, PAGE_BYTES}
 use Rattle.wt_devices.specs.Device.{Pages}
 use Rattle.wt_tree.specs.Tree.{Label, Tree}
 use Rattle.wt_utf8.specs.Places.{not_utf8_place}
@@ -15,6 +15,7 @@ use Rattle.wt_expand.specs.PageCalls.{expanded_page}
 use Rattle.wt_annotated.specs.Annotated.{annotated}
 use Rattle.wt_annotated.specs.GroupData.{group_data}
 use Rattle.wt_sections.specs.Sections.{with_sections}
+use Rattle.wt_schema.specs.Read.{page as as_page, read}
 use Rattle.wt_page_round_trip.specs.PageTree.{expanded_tree, page_tree}
 use Rattle.wt_visible.specs.Children.{shown_children, differing}
 use Rattle.wt_visible.specs.Restored.{restored_from}
@@ -22,8 +23,8 @@ use Rattle.wt_visible.specs.SameNodes.{same_node}
 use Rattle.wt_visible.proofs.DifferingLaws.{same_none}
 use Rattle.wt_selser.specs.declared.refusal.EditRefusal.{EditRefusal}
 use Rattle.wt_selser.specs.Edits.{most_bytes, edit_answer}
-use Rattle.wt_pagetool.specs.declared.refusal.Refusal.TheVariants.{TooLong}
-use Rattle.wt_pagetool.specs.Answers.{Answer, done, refused, text_answer, title_answer, refusal_of_page, expanded_by, unspelled_by, unspelled_answer, new_by, new_expanded, new_answer, edit_by, edit_from, edit_to}
+use Rattle.wt_pagetool.specs.declared.refusal.Refusal.TheVariants.{TooLong, InputTooLong}
+use Rattle.wt_pagetool.specs.Answers.{Answer, done, refused, text_answer, title_answer, refusal_of_page, expanded_by, unspelled_by, unspelled_answer, new_by, new_expanded, new_answer, edit_by, edit_from, edit_to, edited_answer, input_answer, edit_of}
 use Rattle.wt_text_edits.specs.PlainTexts.{is_plain, are_text_lines, IsPlainText}
 use Rattle.wt_text_edits.specs.LonePages.{of_items, page_chars, lone_body, lone_page}
 use Rattle.wt_text_edits.specs.LoneEdits.{sent}
@@ -61,18 +62,19 @@ spelled_so pages page c cs b p t h =
 not_longer : (n m : ℕ) → n ≤ m → nat_lt m n ≡ false
 not_longer n m h = grind (arith, nat_tests)
 
-as_constant : (text : List ℕ) → length text ≤ most_bytes → length text ≤ PAGE_BYTES
+-- the same limit
+as_edit : (text : List ℕ) → length text ≤ PAGE_BYTES → length text ≤ most_bytes
 unfolding most_bytes
-as_constant text h = h
+as_edit text h = h
 
-new_done : (pages : Pages) (page : List ℕ) (c : ℕ) (cs : List ℕ) (b p t : Label) → IsPlainText (c ∷ cs) → length (c ∷ cs) ≤ most_bytes
+new_done : (pages : Pages) (page : List ℕ) (c : ℕ) (cs : List ℕ) (b p t : Label) → IsPlainText (c ∷ cs) → length (c ∷ cs) ≤ PAGE_BYTES
     → new_answer pages (lone_page page) (sent b p t (c ∷ cs)) (c ∷ cs) ≡ done (c ∷ cs)
 unfolding title_answer
 new_done pages page c cs b p t h le =
     let text : List ℕ = c ∷ cs in
     let made : List ℕ → Answer = new_expanded pages (lone_page page) (sent b p t text) in
     ap (λ (v : Bool). if v then refused TooLong else text_answer text made (not_utf8_place text))
-    (not_longer (length text) PAGE_BYTES (as_constant text le))
+    (not_longer (length text) PAGE_BYTES le)
     ∙ ap (text_answer text made) (no_place text h.utf8)
     ∙ ap (new_by (unspelled_answer pages (lone_page page) (sent b p t text) text)) (unrefused pages c cs h)
     ∙ spelled_so pages page c cs b p t h
@@ -80,14 +82,14 @@ new_done pages page c cs b p t h le =
 -- ---- the edit
 
 takes : (pages : Pages) (a : ℕ) (ds : List ℕ) (c : ℕ) (cs : List ℕ) (b p t : Label) → IsPlainText (a ∷ ds) → IsPlainText (c ∷ cs)
-    → length (c ∷ cs) ≤ most_bytes → edit_to pages (a ∷ ds) (sent b p t (c ∷ cs)) ≡ done (c ∷ cs)
+    → length (c ∷ cs) ≤ PAGE_BYTES → edit_to pages (a ∷ ds) (sent b p t (c ∷ cs)) ≡ done (c ∷ cs)
 takes pages a ds c cs b p t g h le =
     let page : List ℕ = a ∷ ds in
     let u : Tree = sent b p t (c ∷ cs) in
     ap (expanded_by (edit_from pages page u)) (unrefused pages a ds g)
     ∙ ap (λ old. edit_by pages old u (edit_answer same_node (expanded_page pages page) page old u)) (tree_is pages a ds g)
     ∙ ap (λ e. edit_by pages (lone_page page) u (edit_answer same_node e page (lone_page page) u)) (plain_expanded pages a ds (plain_bytes page g))
-    ∙ ap (edit_by pages (lone_page page) u) (lone_answer same_node page (c ∷ cs) b p t h le)
+    ∙ ap (edit_by pages (lone_page page) u) (lone_answer same_node page (c ∷ cs) b p t h (as_edit (c ∷ cs) le))
     ∙ new_done pages page c cs b p t h le
 
 -- such a text isn't empty
@@ -98,8 +100,29 @@ no_lines e = cc
 none_empty : IsPlainText [] → ⊥
 none_empty h = no_lines h.lines
 
-pub takes_text : (pages : Pages) (page text : List ℕ) (b p t : Label) → IsPlainText page → IsPlainText text → length text ≤ most_bytes
+pub takes_text : (pages : Pages) (page text : List ℕ) (b p t : Label) → IsPlainText page → IsPlainText text → length text ≤ PAGE_BYTES
     → edit_to pages page (sent b p t text) ≡ done text
 takes_text pages [] text b p t g h le = absurd (none_empty g)
 takes_text pages (a ∷ ds) [] b p t g h le = absurd (none_empty h)
 takes_text pages (a ∷ ds) (c ∷ cs) b p t g h le = takes pages a ds c cs b p t g h le
+
+-- of what stands under a title, to an input
+pub edit_takes_text : (pages : Pages) (page text input : List ℕ) (b p t : Label) (unsourced : Option ℕ) → IsPlainText page → IsPlainText text
+    → length page ≤ PAGE_BYTES → length text ≤ PAGE_BYTES → length input ≤ HTML_BYTES → read input ≡ as_page (sent b p t text) unsourced
+    → edit_of pages (Some page) input ≡ done text
+unfolding title_answer input_answer edited_answer
+edit_takes_text pages page text input b p t unsourced g h short le small is =
+    let made : List ℕ → Answer = λ page. input_answer (edited_answer pages page) input in
+    ap (λ (v : Bool). if v then refused TooLong else text_answer page made (not_utf8_place page)) (not_longer (length page) PAGE_BYTES short)
+    ∙ ap (text_answer page made) (no_place page g.utf8)
+    ∙ ap (λ (v : Bool). if v then refused InputTooLong else edited_answer pages page (read input)) (not_longer (length input) HTML_BYTES small)
+    ∙ ap (edited_answer pages page) is
+    ∙ takes_text pages page text b p t g h le
+
+pub tree_of_plain : (pages : Pages) (page : List ℕ) → IsPlainText page → page_tree pages page ≡ lone_page page
+tree_of_plain pages [] h = absurd (none_empty h)
+tree_of_plain pages (b ∷ bs) h = tree_is pages b bs h
+
+pub plain_unrefused_page : (pages : Pages) (page : List ℕ) → IsPlainText page → refusal_of_page pages page ≡ None
+plain_unrefused_page pages [] h = absurd (none_empty h)
+plain_unrefused_page pages (b ∷ bs) h = unrefused pages b bs h

@@ -1,61 +1,44 @@
-//! Text edits that are never refused, as laws.
+//! Laws of text edits: where they are accepted, whatever was typed.
 #![tactic(auto)]
 
-ghost use Rattle.std.specs.Prelude.{◌≡◌, ◌≤◌, ℕ, Bool, List, [], ◌∷◌, length, true, false, None, Ok};
-ghost use Rattle.std.specs.List.{list_all};
-ghost use Rattle.wt_expand.specs.Work.{Pages, first_refusal};
-ghost use Rattle.wt_expand.specs.Expansion.{page_work};
-ghost use Rattle.wt_expand.specs.PageCalls.{expanded_page};
+ghost use Rattle.std.specs.Prelude.{◌≡◌, ◌≤◌, ℕ, List, length, Option, false, None, Some};
+ghost use Rattle.wt_span.specs.declared.limits.TheConstants.{HTML_BYTES, PAGE_BYTES};
+ghost use Rattle.wt_devices.specs.Device.{Pages};
+ghost use Rattle.wt_tree.specs.Tree.{Label};
 ghost use Rattle.wt_guards.specs.declared.side.Place.TheVariants as place;
 ghost use Rattle.wt_guards.specs.Content.{letters};
 ghost use Rattle.wt_guards.specs.Guards.{spelled};
-ghost use Rattle.wt_page.specs.Body.{meaning};
-ghost use Rattle.wt_tree.specs.Tree.{Label, Tree};
-ghost use Rattle.wt_annotated.specs.Annotated.{annotated};
-ghost use Rattle.wt_annotated.specs.GroupData.{group_data};
-ghost use Rattle.wt_sections.specs.Sections.{with_sections};
-ghost use Rattle.wt_pagetool.specs.Answers.{done, edit_to};
-ghost use Rattle.wt_selser.specs.Edits.{edit_answer, most_bytes};
+ghost use Rattle.wt_schema.specs.Read.{page as as_page, read};
+ghost use Rattle.wt_page_round_trip.specs.PageTree.{page_tree};
+ghost use Rattle.wt_pagetool.specs.Answers.{done, edit_of, edit_to, refusal_of_page};
 ghost use Rattle.wt_text_edits.specs.LoneEdits.{sent};
-ghost use Rattle.wt_text_edits.specs.LonePages.{lone_body, lone_page, of_items, page_chars};
-ghost use Rattle.wt_text_edits.specs.PlainTexts.{is_plain, IsPlainText};
+ghost use Rattle.wt_text_edits.specs.LonePages.{lone_page};
+ghost use Rattle.wt_text_edits.specs.PlainTexts.{IsPlainText};
 
-/// x
-#[tactic(auto, using(crate::proofs::PlainPages::plain_expanded, crate::proofs::PlainPages::plain_unrefused))]
-pub fn stand_in_pages()
-    ensures e { (pages : Pages) (b : ℕ) (bs : List ℕ) → list_all is_plain (b ∷ bs) ≡ true → expanded_page pages (b ∷ bs) ≡ of_items (page_chars (b ∷ bs)) }
-    ensures r { (pages : Pages) (b : ℕ) (bs : List ℕ) → list_all is_plain (b ∷ bs) ≡ true → first_refusal pages (b ∷ bs) (page_work pages (b ∷ bs)) ≡ None }
-{}
-
-/// Such a text is spelled as it stands.
+/// Plain text is spelled as it stands: `edit` puts no `<nowiki/>` into it and writes no character as a
+/// reference, whatever the source of its paragraph was.
 #[tactic(auto, using(crate::proofs::PlainSpelling::plain_spelled))]
 pub fn plain_text_stands()
-    ensures { (source : List ℕ) (text : List ℕ) → IsPlainText text
+    ensures { (source text : List ℕ) → IsPlainText text
         → spelled (record { within = false; place = place.Paragraph; source = source }) (letters text) ≡ text }
 {}
 
-/// It means one paragraph.
-#[tactic(auto, using(crate::proofs::PlainMeaning::meaning_is))]
-pub fn plain_text_is_one_paragraph()
-    ensures { (b : ℕ) (bs : List ℕ) → IsPlainText (b ∷ bs) → meaning (page_chars (b ∷ bs)) ≡ lone_body (page_chars (b ∷ bs)) }
+/// A page that is plain text is one paragraph that holds one text, whatever the folder has: its tree is
+/// that, and nothing refuses its expansion.
+#[tactic(auto, using(crate::proofs::TakesText::tree_of_plain, crate::proofs::TakesText::plain_unrefused_page))]
+pub fn plain_page_is_one_paragraph()
+    ensures tree { (pages : Pages) (page : List ℕ) → IsPlainText page → page_tree pages page ≡ lone_page page }
+    ensures unrefused { (pages : Pages) (page : List ℕ) → IsPlainText page → refusal_of_page pages page ≡ None }
 {}
 
-/// x
-#[tactic(auto, using(crate::proofs::LoneTrees::lone_tree))]
-pub fn stand_in_tree()
-    ensures { (b : ℕ) (bs : List ℕ) → with_sections (annotated [] (group_data []) (lone_body (page_chars (b ∷ bs)))) ≡ lone_page (b ∷ bs) }
-{}
-
-/// x
-#[tactic(auto, using(crate::proofs::LoneAnswers::lone_answer))]
-pub fn stand_in_answer()
-    ensures { (same : Tree → Tree → Bool) (page text : List ℕ) (b p t : Label) → IsPlainText text → length text ≤ most_bytes
-        → edit_answer same (of_items (page_chars page)) page (lone_page page) (sent b p t text) ≡ Ok text }
-{}
-
-/// A page that is one paragraph of plain text takes any other such text.
-#[tactic(auto, using(crate::proofs::TakesText::takes_text))]
+/// A page that is one paragraph of plain text takes any other plain text: an edit that sends its
+/// paragraph marked `content` with this text in it is done, and the new page is this text. So it is, too,
+/// for each input that is read as such a tree.
+#[tactic(auto, using(crate::proofs::TakesText::takes_text, crate::proofs::TakesText::edit_takes_text))]
 pub fn lone_paragraph_takes_text()
-    ensures { (pages : Pages) (page text : List ℕ) (b p t : Label) → IsPlainText page → IsPlainText text → length text ≤ most_bytes
+    ensures tree { (pages : Pages) (page text : List ℕ) (b p t : Label) → IsPlainText page → IsPlainText text → length text ≤ PAGE_BYTES
         → edit_to pages page (sent b p t text) ≡ done text }
+    ensures edit { (pages : Pages) (page text input : List ℕ) (b p t : Label) (unsourced : Option ℕ) → IsPlainText page → IsPlainText text
+        → length page ≤ PAGE_BYTES → length text ≤ PAGE_BYTES → length input ≤ HTML_BYTES → read input ≡ as_page (sent b p t text) unsourced
+        → edit_of pages (Some page) input ≡ done text }
 {}
