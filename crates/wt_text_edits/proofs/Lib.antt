@@ -8,3 +8,5 @@ pub mod PlainMeaning
 pub mod LoneTrees
 pub mod LoneAnswers
 pub mod TakesText
+pub mod TypedText
+mod Cases

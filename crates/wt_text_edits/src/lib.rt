@@ -2,18 +2,30 @@
 #![tactic(auto)]
 
 ghost use Rattle.std.specs.Prelude.{◌≡◌, ◌≤◌, ℕ, List, length, Option, false, None, Some};
+ghost use Rattle.std.specs.Str.{IsUtf8};
 ghost use Rattle.wt_span.specs.declared.limits.TheConstants.{HTML_BYTES, PAGE_BYTES};
 ghost use Rattle.wt_devices.specs.Device.{Pages};
 ghost use Rattle.wt_tree.specs.Tree.{Label};
 ghost use Rattle.wt_guards.specs.declared.side.Place.TheVariants as place;
 ghost use Rattle.wt_guards.specs.Content.{letters};
-ghost use Rattle.wt_guards.specs.Guards.{spelled};
+ghost use Rattle.wt_guards.specs.Guards.{Setting, spelled};
+ghost use Rattle.wt_expand.specs.PageCalls.{expanded_page};
+ghost use Rattle.wt_expand.specs.PageItems.{page_items};
 ghost use Rattle.wt_schema.specs.Read.{page as as_page, read};
 ghost use Rattle.wt_page_round_trip.specs.PageTree.{page_tree};
 ghost use Rattle.wt_pagetool.specs.Answers.{done, edit_of, edit_to, refusal_of_page};
 ghost use Rattle.wt_text_edits.specs.LoneEdits.{sent};
-ghost use Rattle.wt_text_edits.specs.LonePages.{lone_page};
+ghost use Rattle.wt_text_edits.specs.LonePages.{lone_page, of_items};
 ghost use Rattle.wt_text_edits.specs.PlainTexts.{IsPlainText};
+
+/// Text of a paragraph, a heading, an item or a cell, whatever somebody typed there, calls nothing: as a
+/// page of its own it has no calls and no arguments, nothing is fetched for it, and nothing refuses it.
+#[tactic(auto, using(crate::proofs::TypedText::typed_expanded, crate::proofs::TypedText::typed_unrefused))]
+pub fn typed_text_calls_nothing()
+    ensures expanded { (pages : Pages) (s : Setting) (text : List ℕ) → IsUtf8 text
+        → expanded_page pages (spelled s (letters text)) ≡ of_items (page_items (spelled s (letters text))) }
+    ensures unrefused { (pages : Pages) (s : Setting) (text : List ℕ) → IsUtf8 text → refusal_of_page pages (spelled s (letters text)) ≡ None }
+{}
 
 /// Plain text is spelled as it stands: `edit` puts no `<nowiki/>` into it and writes no character as a
 /// reference, whatever the source of its paragraph was.
