@@ -417,13 +417,14 @@ pub calm_bytes : (bs : List ℕ) → list_all is_plain bs ≡ true → stands (c
     → stands (codes "://") bs ≡ false → CalmItems (page_chars bs)
 calm_bytes [] p q s a = tt
 calm_bytes (b ∷ bs) p q s a =
-    let f = form_parts b (and_left (is_plain b) (list_all is_plain bs) p) in
-    (record {
-      angle = f.0;
-      bracket = f.1;
-      quotes = not_begun (codes "''") b bs q;
-      switch = not_begun (codes "__") b bs s;
-      address = not_begun (codes "://") b bs a;
-    },
-    calm_bytes bs (and_right (is_plain b) (list_all is_plain bs) p) (or_right _ (stands (codes "''") bs) q) (or_right _ (stands (codes "__") bs) s)
-    (or_right _ (stands (codes "://") bs) a))
+    let f = form_parts b (and_left (is_plain b) (list_all is_plain bs) p) in (
+      record {
+        angle = f.0;
+        bracket = f.1;
+        quotes = not_begun (codes "''") b bs q;
+        switch = not_begun (codes "__") b bs s;
+        address = not_begun (codes "://") b bs a;
+      },
+      calm_bytes bs (and_right (is_plain b) (list_all is_plain bs) p) (or_right _ (stands (codes "''") bs) q) (or_right _ (stands (codes "__") bs) s)
+          (or_right _ (stands (codes "://") bs) a),
+    )

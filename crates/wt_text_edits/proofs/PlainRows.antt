@@ -65,9 +65,11 @@ IsText l = line_kind 0 l ≡ line.Text
 
 texts_by : (ls : List (List Item)) (ends : List (List Item)) → All IsText (map content ls ++ ends) → CalmItems (joined ls) → AreTexts ls
 texts_by [] ends a e = tt
-texts_by (l ∷ ls) ends a e =
-    (All-head IsText (content l) (map content ls ++ ends) a, calm_left l (joined ls) e,
-    texts_by ls ends (All-tail IsText (content l) (map content ls ++ ends) a) (calm_right l (joined ls) e))
+texts_by (l ∷ ls) ends a e = (
+  All-head IsText (content l) (map content ls ++ ends) a,
+  calm_left l (joined ls) e,
+  texts_by ls ends (All-tail IsText (content l) (map content ls ++ ends) a) (calm_right l (joined ls) e),
+)
 
 -- the last line isn't empty, so that no line break ends the text
 unended_by : (x : Item) (v : Bool) (zs : List (List Item)) → All IsText (zs ++ (if v then [] ∷ [] else [])) → (if v then x ∷ [] else []) ≡ []

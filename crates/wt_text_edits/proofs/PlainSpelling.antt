@@ -138,7 +138,7 @@ quiet source ps (c ∷ cs) e h =
       no_guard source ps c (map letter cs) starts,
       not_false escaped (and_left (not escaped) (are_as_typed (c ∷ ps) cs) e),
       quiet source (c ∷ ps) cs (and_right (not escaped) (are_as_typed (c ∷ ps) cs) e)
-        (and_right (not (begins_line ps) || begins_text c) (are_text_lines (c == 10) cs) h),
+          (and_right (not (begins_line ps) || begins_text c) (are_text_lines (c == 10) cs) h),
     )
 
 themselves : (cs : List ℕ) → flat_map itself (map letter cs) ≡ encodes cs

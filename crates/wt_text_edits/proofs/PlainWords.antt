@@ -45,9 +45,10 @@ no_angle b e = λ i. let no : true ≡ false = sym (ap is_form_byte i) ∙ e in 
 
 no_comments : (bs : List ℕ) → list_all is_plain bs ≡ true → NoComments bs
 no_comments [] e = tt
-no_comments (b ∷ bs) e =
-    (comment_other b bs (no_angle b (no_form_byte b (and_left (is_plain b) (list_all is_plain bs) e))),
-    no_comments bs (and_right (is_plain b) (list_all is_plain bs) e))
+no_comments (b ∷ bs) e = (
+  comment_other b bs (no_angle b (no_form_byte b (and_left (is_plain b) (list_all is_plain bs) e))),
+  no_comments bs (and_right (is_plain b) (list_all is_plain bs) e),
+)
 
 plain_cuts : (mode : Mode) (after : Bool) (bs : List ℕ) → list_all is_plain bs ≡ true → cuts mode after 0 bs ≡ (length bs, [])
 plain_cuts mode after [] e = refl
