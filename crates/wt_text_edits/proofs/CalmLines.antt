@@ -1,12 +1,11 @@
 -- Characters among which no form of a context begins and no two apostrophes stand side by side: they are text in every context.
 use Rattle.std.proofs.Common.{◌≡◌, ℕ, zero, suc, ◌+◌, ◌-◌, ◌<◌, ◌==◌, Bool, true, false, Option, Some, None, List, [], ◌∷◌, ◌++◌, length, take, drop, map, codes, refl, sym, ap, ◌∙◌, subst, arith, append-nil, take_all}
-use Rattle.std.specs.Prelude.{◌&&◌, ◌||◌, not, cond, if◌then◌else◌, option_map, nat_lt, slice_get}
+use Rattle.std.specs.Prelude.{◌&&◌, ◌||◌, cond, if◌then◌else◌, option_map, nat_lt, slice_get}
 use Rattle.std.specs.List.{list_all, flat_map, filter_map, range_with_len}
 use Rattle.std.specs.Option.{option_or}
 use Rattle.std.specs.Char.{to_ascii_lowercase}
 use Rattle.std.proofs.lemmas.Bool.Decides.{Decides-eqb, nat_tests}
 use Rattle.std.proofs.lemmas.List.{length-map, map-append, drop_all}
-use Rattle.wt_span.specs.declared.form.Form.{Form}
 use Rattle.wt_span.specs.Bytes as bytes
 use Rattle.wt_span.specs.Items.{Item, char, whole}
 use Rattle.wt_span.specs.Runs.{put, runs, IsRun, AreRuns}
@@ -30,7 +29,7 @@ use Rattle.wt_quotes.specs.declared.chunk.Chunk.{Chunk}
 use Rattle.wt_quotes.specs.declared.chunk.Chunk.TheVariants as chunk
 use Rattle.wt_quotes.specs.declared.toggle.Toggle.{Toggle}
 use Rattle.wt_quotes.specs.Runs.{run_length, bytes_of}
-use Rattle.wt_quotes.specs.Toggles.{toggle_of, toggle_at, toggles_by_length, is_due, exchange_place, exchange_at, toggles_of}
+use Rattle.wt_quotes.specs.Toggles.{toggle_of, toggle_at, is_due, exchange_place, exchange_at, toggles_of}
 use Rattle.wt_quotes.specs.Turns.{turns_of}
 use Rattle.wt_quotes.specs.Styles.{styles_by, style_tree_of}
 use Rattle.wt_quotes.specs.Forest.{forest_of}

@@ -1,6 +1,6 @@
 -- The answer to an edit of a page of such text to another such text: the new text, and nothing refuses it.
-use Rattle.std.proofs.Common.{arith, ◌≡◌, ℕ, ◌+◌, ◌-◌, ◌≤◌, Bool, true, false, Option, Some, None, List, [], ◌∷◌, ◌++◌, length, drop, nat_lt, refl, sym, ap, ◌∙◌, append-nil}
-use Rattle.std.specs.Prelude.{Result, Ok, Err, option_map, if◌then◌else◌}
+use Rattle.std.proofs.Common.{arith, ◌≡◌, ℕ, ◌-◌, ◌≤◌, Bool, false, Option, None, List, [], ◌∷◌, ◌++◌, length, nat_lt, refl, ap, ◌∙◌, append-nil}
+use Rattle.std.specs.Prelude.{Ok, Err, option_map, if◌then◌else◌}
 use Rattle.std.proofs.lemmas.Bool.Decides.{nat_tests}
 use Rattle.std.proofs.lemmas.List.{drop_all}
 use Rattle.wt_span.specs.Origins.{Expanded}
@@ -9,7 +9,7 @@ use Rattle.wt_tree.specs.declared.kind.Mark.TheVariants as marks
 use Rattle.wt_tree.specs.Source.{flat}
 use Rattle.wt_tree.specs.Tree.{Label, Tree, tree, none, more}
 use Rattle.wt_guards.specs.declared.side.Place.TheVariants as place
-use Rattle.wt_guards.specs.Content.{Sign, letters}
+use Rattle.wt_guards.specs.Content.{letters}
 use Rattle.wt_guards.specs.Guards.{spelled}
 use Rattle.wt_original.specs.Kinds.{shape}
 use Rattle.wt_original.specs.Kept.{kept_with}

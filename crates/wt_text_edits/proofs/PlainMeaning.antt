@@ -1,5 +1,5 @@
 -- What such a text means as a page: a body that holds one paragraph, which holds one text.
-use Rattle.std.proofs.Common.{◌≡◌, ℕ, Bool, true, false, List, [], ◌∷◌, refl, sym, ap, ◌∙◌, subst, All}
+use Rattle.std.proofs.Common.{◌≡◌, ℕ, true, false, List, [], ◌∷◌, refl, sym, ap, ◌∙◌, subst, All}
 use Rattle.std.specs.List.{list_all}
 use Rattle.std.specs.Prelude.{codes}
 use Rattle.wt_span.specs.Items.{Item}
@@ -14,7 +14,7 @@ use Rattle.wt_spelling_laws.specs.Reading.{stands}
 use Rattle.wt_spelling_laws.proofs.Signs.{no_styles, no_switches, no_addresses}
 use Rattle.wt_spelling_laws.proofs.TextKinds.{lines_are_text}
 use Rattle.wt_page.specs.Body.{meaning}
-use Rattle.wt_text_edits.specs.PlainTexts.{is_plain, are_text_lines, IsPlainText}
+use Rattle.wt_text_edits.specs.PlainTexts.{is_plain, IsPlainText}
 use Rattle.wt_text_edits.specs.LonePages.{page_chars, lone_body}
 use Rattle.wt_text_edits.proofs.PlainBytes.{plain_bytes}
 use Rattle.wt_text_edits.proofs.PlainPages.{plain_items}

@@ -1,16 +1,13 @@
 -- A page of such text: its items are its characters, it has no calls, and nothing refuses it.
-use Rattle.std.proofs.Common.{arith, ◌≡◌, ℕ, Bool, true, Option, None, List, [], ◌∷◌, ◌++◌, length, map, take, reverse, take_all, refl, ap, ◌∙◌, append-nil}
+use Rattle.std.proofs.Common.{arith, ◌≡◌, ℕ, true, Option, None, List, [], ◌∷◌, length, take, reverse, take_all, ap, ◌∙◌, append-nil}
 use Rattle.std.specs.List.{list_all}
 use Rattle.std.specs.Option.{option_or, option_map}
 use Rattle.wt_span.specs.declared.form.Mode.TheVariants.{Page}
 use Rattle.wt_span.specs.declared.form.LexKind.TheVariants.{Chars}
-use Rattle.wt_span.specs.Items.{Item, char}
-use Rattle.wt_span.specs.Origins.{Expanded}
-use Rattle.wt_span.specs.Lexemes.{words}
 use Rattle.wt_span.specs.Braces.{Members, lexeme, none, more, members, reduced_onto, reduced, call_count_of_all, calls}
 use Rattle.wt_braces.specs.Found.{too_deep}
 use Rattle.wt_expand.specs.PageItems.{items_of_words, page_items}
-use Rattle.wt_expand.specs.Work.{Pages, Refused, Entry, entered, braces_too_deep, deep_place, refusal_from, first_refusal}
+use Rattle.wt_expand.specs.Work.{Pages, entered, braces_too_deep, deep_place, refusal_from, first_refusal}
 use Rattle.wt_expand.specs.Expansion.{joined, outputs_of, text_members, page_reading, page_work}
 use Rattle.wt_expand.specs.PageCalls.{expanded_page}
 use Rattle.wt_expand.proofs.NoCalls.{without_calls}

@@ -1,6 +1,6 @@
 -- What lines of such text are as rows: each is a row of text, and all of them are one paragraph of one text.
-use Rattle.std.proofs.Common.{arith, ◌≡◌, ◌⊎◌, ℕ, zero, suc, Bool, true, false, None, List, [], ◌∷◌, ◌++◌, length, map, take, drop, reverse, refl, sym, ap, ◌∙◌, subst, append-nil, append_assoc, inl, inr, All}
-use Rattle.std.specs.Prelude.{◌&&◌, not, if◌then◌else◌}
+use Rattle.std.proofs.Common.{◌≡◌, ℕ, zero, suc, Bool, true, false, None, List, [], ◌∷◌, ◌++◌, map, drop, refl, sym, ap, ◌∙◌, subst, append-nil, append_assoc, All}
+use Rattle.std.specs.Prelude.{if◌then◌else◌}
 use Rattle.std.specs.List.{flat_map}
 use Rattle.std.proofs.lemmas.List.Elements.{All-head, All-tail}
 use Rattle.wt_tree.specs.declared.kind.Kind.TheVariants as kind
@@ -17,14 +17,14 @@ use Rattle.wt_tables.specs.Extents.{behind}
 use Rattle.wt_tables.specs.Parts.{joined, put_first, units_from, unit_kind}
 use Rattle.wt_inline.specs.declared.loose.Loose.TheVariants.{Text}
 use Rattle.wt_inline.specs.ItemTree.{plain, ItemTree, inner, nothing, further, forest}
-use Rattle.wt_inline.specs.Parts.{Part, loose, part, parts, one_leaf, held_parts, loose_leaf, child, children}
+use Rattle.wt_inline.specs.Parts.{Part, part, parts, one_leaf, held_parts, loose_leaf, child, children}
 use Rattle.wt_tiles.specs.Contexts.{in_line}
 use Rattle.wt_context.specs.Line.{most_contexts, context_parts, line_parts}
 use Rattle.wt_headings.specs.Lines.{ending, kind_at}
 use Rattle.wt_page.specs.Rows.{Row, marks_len, whole_row, line_rows, rows_from, rows, kind_of, last_ending}
 use Rattle.wt_page.specs.Stretches.{Stretch, gap, tree_block, stretches_parts}
 use Rattle.wt_page.specs.Tables.{Reading, gaps}
-use Rattle.wt_page.specs.Texts.{later_parts, later_line, para_parts, para}
+use Rattle.wt_page.specs.Texts.{later_parts, later_line, para}
 use Rattle.wt_page.specs.Body.{same_block, block_stretches, run_stretches, blocks_by, within, blocks, meaning}
 use Rattle.wt_text_edits.specs.LonePages.{page_chars, lone_body, lone_para}
 use Rattle.wt_text_edits.proofs.CalmLines.{CalmItems, calm_left, calm_right, calm_within}

@@ -1,20 +1,18 @@
 -- Such a text is spelled as it stands: nothing is put into it, and no character is written as a reference.
-use Rattle.std.proofs.Common.{arith, ◌≡◌, ℕ, ◌==◌, Bool, true, false, List, [], ◌∷◌, ◌++◌, map, refl, sym, ap, ◌∙◌, Some, None}
-use Rattle.std.specs.Prelude.{◌&&◌, ◌||◌, not, encode_utf8, if◌then◌else◌}
-use Rattle.std.specs.List.{list_all, flat_map}
+use Rattle.std.proofs.Common.{◌≡◌, ℕ, ◌==◌, Bool, true, false, List, [], ◌∷◌, ◌++◌, map, refl, ap, ◌∙◌}
+use Rattle.std.specs.Prelude.{◌&&◌, ◌||◌, not, encode_utf8}
+use Rattle.std.specs.List.{flat_map}
 use Rattle.std.specs.Str.{chars}
 use Rattle.std.proofs.Math.Utf8.{encodes}
 use Rattle.std.proofs.lemmas.Str.{encodes-chars}
 use Rattle.wt_span.specs.Bytes.{is_blank}
-use Rattle.wt_lex.specs.Words.{is_form_byte}
 use Rattle.wt_guards.specs.declared.side.Place.TheVariants as place
 use Rattle.wt_guards.specs.Table.{line_start_hazard}
 use Rattle.wt_guards.specs.Content.{Sign, letter, letters, nearest}
 use Rattle.wt_guards.specs.Letters.{is_escaped}
-use Rattle.wt_guards.specs.Guards.{Setting, is_between_guard, is_start_guard, is_end_guard, is_blank_guard, is_guarded, is_unended, is_empty_line, is_past_node, is_blank_last, is_content_end_guard, spelled}
+use Rattle.wt_guards.specs.Guards.{Setting, is_between_guard, is_start_guard, is_end_guard, is_blank_guard, is_guarded, is_unended, is_empty_line, is_past_node, is_blank_last, spelled}
 use Rattle.wt_guards.specs.WrittenLaws.{itself, IsQuiet}
 use Rattle.wt_guards.proofs.SpellingLaws.{quiet_from}
-use Rattle.wt_context.specs.Inert.{is_inert}
 use Rattle.wt_text_edits.specs.PlainTexts.{are_as_typed, begins_text, are_text_lines, IsPlainText}
 use Rattle.wt_text_edits.proofs.PlainWords.{and_left, and_right, not_false, or_left, or_right}
 

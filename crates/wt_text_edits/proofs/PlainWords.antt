@@ -1,14 +1,12 @@
 -- The lexemes of text with which nothing begins: one run of characters.
-use Rattle.std.proofs.Common.{arith, ◌≡◌, ◌≢◌, ℕ, zero, suc, ◌==◌, Bool, true, false, List, [], ◌∷◌, ◌++◌, length, map, take, take_all, refl, sym, ap, ◌∙◌, append-nil, Some, None}
+use Rattle.std.proofs.Common.{arith, ◌≡◌, ◌≢◌, ℕ, suc, ◌==◌, Bool, true, false, List, [], ◌∷◌, length, refl, sym, ap, ◌∙◌, None}
 use Rattle.std.specs.Prelude.{◌&&◌, ◌||◌, not, if◌then◌else◌}
 use Rattle.std.specs.List.{list_all}
 use Rattle.wt_span.specs.declared.form.Mode.{Mode}
 use Rattle.wt_span.specs.declared.form.LexKind.TheVariants.{Chars}
 use Rattle.wt_span.specs.Bytes.{is_break}
-use Rattle.wt_span.specs.Items.{Item, char}
 use Rattle.wt_span.specs.Lexemes.{Cut, cuts, cut_with, closed, form_at, words}
 use Rattle.wt_lex.specs.Words.{is_form_byte}
-use Rattle.wt_context.specs.Inert.{is_inert}
 use Rattle.wt_spelling_laws.proofs.Forms.{NoComments, comment_other, without_line, other_byte}
 use Rattle.std.proofs.lemmas.Bool.Decides.{nat_tests}
 use Rattle.wt_text_edits.specs.PlainTexts.{is_plain}

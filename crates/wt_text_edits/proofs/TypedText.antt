@@ -9,12 +9,12 @@ use Rattle.wt_span.specs.declared.form.LexKind.{LexKind}
 use Rattle.wt_span.specs.declared.form.LexKind.TheVariants.{Chars, CommentLine, Comment, Raw, Include, Hidden, Entity, Opens, Closes, LinkOpen, LinkClose, Pipe, Equals}
 use Rattle.wt_span.specs.Bytes.{is_break}
 use Rattle.wt_span.specs.Lexemes.{Word, words}
-use Rattle.wt_span.specs.Braces.{Member, lexeme, call, members, reduced_onto, reduced, call_count_of_all, CallAt, calls, calls_of_all}
+use Rattle.wt_span.specs.Braces.{Member, lexeme, call, members, reduced_onto, reduced, call_count_of_all, calls, calls_of_all}
 use Rattle.wt_braces.specs.Found.{too_deep}
 use Rattle.wt_guards.specs.Content.{letters}
 use Rattle.wt_guards.specs.Guards.{Setting, nowiki, spelled}
 use Rattle.wt_expand.specs.PageItems.{page_items}
-use Rattle.wt_expand.specs.Work.{Pages, Refused, Entry, entered, braces_too_deep, deep_place, refusal_from, first_refusal}
+use Rattle.wt_expand.specs.Work.{Pages, entered, braces_too_deep, deep_place, refusal_from, first_refusal}
 use Rattle.wt_expand.specs.Expansion.{Reading, joined, outputs_of, text_members, page_reading, page_work}
 use Rattle.wt_expand.specs.PageCalls.{expanded_page}
 use Rattle.wt_expand.proofs.NoCalls.{without_calls}
