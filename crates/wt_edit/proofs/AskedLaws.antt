@@ -8,7 +8,7 @@ use Rattle.wt_transclusion.specs.declared.refusal.ExpandRefusal.{ExpandRefusal}
 use Rattle.wt_transclusion.specs.declared.refusal.ExpandRefusal.TheVariants as of_expansion
 use Rattle.wt_transclusion.specs.Asked.{AreFirst}
 use Rattle.wt_transclusion.specs.Stops.{Stops}
-use Rattle.wt_transclusion.proofs.AskedLaws.{first_some}
+use Rattle.wt_transclusion.proofs.AskedLaws.{first_all, first_some}
 use Rattle.wt_transclusion.proofs.StopLaws.{stops_fetching, stops_told, stops_within}
 use Rattle.wt_template_stack.specs.declared.expansion.Expansion.{Expansion}
 use Rattle.wt_expansion.specs.Known.{KnowsMore}
