@@ -20,11 +20,11 @@ use crate::known::{KnownPage, known_page};
 use crate::refusal::EditRefusal;
 use bumpalo::Bump;
 use std::alloc::Global;
-use wt_template_stack::Expansion;
 use wt_devices::Folder;
 use wt_ranges::Annotated;
-use wt_span::{NoMemory, PAGE_BYTES, Str};
 use wt_selser::{edit as splice, first_differing};
+use wt_span::{NoMemory, PAGE_BYTES, Str};
+use wt_template_stack::Expansion;
 use wt_transclusion::ExpandRefusal;
 use wt_tree::Node;
 

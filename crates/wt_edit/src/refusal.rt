@@ -5,8 +5,8 @@ ghost use Rattle.std.specs.Prelude.{◌≡◌};
 use std::alloc::AllocError;
 use wt_checks::Check;
 use wt_content::ContentWhy;
-use wt_span::NoMemory;
 use wt_selser::EditRefusal as SpliceRefusal;
+use wt_span::NoMemory;
 use wt_transclusion::ExpandRefusal;
 
 /// Why an edit is refused, in the order in which the causes are looked for. Numbers are those of nodes (`mwN`),

@@ -6,8 +6,8 @@ use crate::status::Status;
 use std::alloc::{AllocError, Global};
 use wt_checks::Check;
 use wt_devices::FetchRefusal;
-use wt_html_in::{FitWhy, HtmlRefusal, HtmlWhy};
 use wt_edit::{ContentWhy, EditRefusal};
+use wt_html_in::{FitWhy, HtmlRefusal, HtmlWhy};
 use wt_span::{NoMemory, Str};
 use wt_transclusion::ExpandRefusal;
 
