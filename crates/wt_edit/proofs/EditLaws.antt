@@ -9,7 +9,7 @@ use Rattle.wt_expand.specs.Work.{Pages, Refused}
 use Rattle.wt_transclusion.specs.declared.refusal.ExpandRefusal.{ExpandRefusal}
 use Rattle.wt_transclusion.specs.declared.refusal.ExpandRefusal.TheVariants as of_expansion
 use Rattle.wt_transclusion.specs.Answers.{IsRefused, IsCountedErr as IsCountedExpansion}
-use Rattle.wt_checks.specs.declared.refusal.Check.{Check}
+use Rattle.wt_checks.specs.declared.refusal.TreeRefusal.{TreeRefusal}
 use Rattle.wt_checks.specs.Checked.{checked}
 use Rattle.wt_page_round_trip.specs.PageTree.{page_tree}
 use Rattle.wt_visible.specs.Children.{IsFirstDiffering, shown_children, differing}
@@ -138,7 +138,7 @@ unrefused_short : (o : Option SpliceRefusal) (text new : List ℕ) → unless_re
 unrefused_short None text new e = short_ok text new (nat_lt most_bytes (length text)) refl e
 unrefused_short (Some r) text new e = cc
 
-checked_short : (o : Option Check) (p : Option SpliceRefusal) (text new : List ℕ)
+checked_short : (o : Option TreeRefusal) (p : Option SpliceRefusal) (text new : List ℕ)
     → unless_refused (option_map of_splice.Check o) (unless_refused p (if_short text)) ≡ Ok new → length new ≤ PAGE_BYTES
 checked_short None p text new e = unrefused_short p text new e
 checked_short (Some c) p text new e = cc

@@ -3,7 +3,7 @@
 ghost use Rattle.std.specs.Prelude.{◌≡◌};
 
 use std::alloc::AllocError;
-use wt_checks::Check;
+use wt_checks::TreeRefusal;
 use wt_content::ContentWhy;
 use wt_selser::EditRefusal as SpliceRefusal;
 use wt_span::NoMemory;
@@ -14,7 +14,7 @@ use wt_transclusion::ExpandRefusal;
 #[derive(Drop)]
 pub enum EditRefusal {
     /// What the comparison of the two trees finds.
-    Check(Check),
+    Check(TreeRefusal),
     /// The inside of this marked node can't be written.
     BadContent(u32, ContentWhy),
     /// This marked node can't be read by itself.
