@@ -102,6 +102,11 @@ class Lines(unittest.TestCase):
                 self.assertEqual(tool.read_refusal(f"wtround: {line}\n"), tool.read_refusal(line))
                 self.assertTrue(tool.read_refusal(line).advice.endswith("."))
 
+    def test_no_block_at_fault(self) -> None:
+        refusal = tool.read_refusal("wtround: edit refused: Unspelled 0")
+        self.assertIsNone(refusal.locate)
+        self.assertIn("No block is at fault", refusal.advice)
+
     def test_other_lines_are_refused(self) -> None:
         for line in ["", "bash: wtround: command not found", "wtround: no such", "html refused at 5: Other"]:
             with self.subTest(line=line), self.assertRaises(tool.ExplainError):
