@@ -35,7 +35,7 @@ free_by false link group any holds inside is b r f = b
 mutual
   node_is_free : (p : Page) (x : Spot) (t : Tree) → x.in_link ≡ true → faults p x t ≡ [] → holds_link t ≡ false
   node_is_free p x (tree l ts) i e =
-      let w = (shape l.kind).way in
+      let w = (shape l.kind).inline in
       let s = standing p (tree l ts) in
       let holds = holds_link (tree l ts) in
       let inside = all_faults p (below x w) ts in
