@@ -9,7 +9,7 @@ use Rattle.wt_original.specs.declared.kinds.InlineForm.TheVariants as inline
 use Rattle.wt_original.specs.Kinds.{shape}
 use Rattle.wt_original.specs.Kept.{Kept, kept_nodes, kept_with}
 use Rattle.wt_original.specs.Page.{Page, TellsSame, is_unchanged, page_of}
-use Rattle.wt_content.specs.declared.content.Spot.{Spot}
+use Rattle.wt_content.specs.declared.content.Surroundings.{Surroundings}
 use Rattle.wt_content.specs.declared.content.Standing.{Standing}
 use Rattle.wt_content.specs.declared.content.Standing.TheVariants as stands
 use Rattle.wt_content.specs.declared.reason.ContentWhy.{ContentWhy}
@@ -66,7 +66,7 @@ is_kept_whole inline.Break = true
 is_kept_whole inline.AsItStood = true
 
 -- a node as it was in the page
-kept_alone : (w : InlineForm) (x : Spot) (l : Label) (inside : List ContentWhy) → is_kept_whole w ≡ true
+kept_alone : (w : InlineForm) (x : Surroundings) (l : Label) (inside : List ContentWhy) → is_kept_whole w ≡ true
     → own_faults w x stands.Same l ++ (if is_open w stands.Same then inside else []) ≡ []
 kept_alone inline.Nothing x l inside a = cc
 kept_alone inline.Characters x l inside a = cc
@@ -80,10 +80,10 @@ kept_alone inline.Break x l inside a = refl
 kept_alone inline.AsItStood x l inside a = refl
 
 -- outside links no link stands in one
-outside : (brings : Bool) (x : Spot) (ws : List ContentWhy) → x.in_link ≡ false → ws ≡ [] → nested_fault (x.in_link && brings) ++ ws ≡ []
+outside : (brings : Bool) (x : Surroundings) (ws : List ContentWhy) → x.in_link ≡ false → ws ≡ [] → nested_fault (x.in_link && brings) ++ ws ≡ []
 outside brings x ws n e = ap (λ (b : Bool). nested_fault (b && brings) ++ ws) n ∙ e
 
-kept_is_good : (w : InlineForm) (x : Spot) (s : Standing) (l : Label) (holds : Bool) (inside : List ContentWhy) → x.in_link ≡ false → is_kept_whole w ≡ true
+kept_is_good : (w : InlineForm) (x : Surroundings) (s : Standing) (l : Label) (holds : Bool) (inside : List ContentWhy) → x.in_link ≡ false → is_kept_whole w ≡ true
     → is_same s ≡ true → faults_by w x s l holds inside ≡ []
 kept_is_good w x stands.New l holds inside n a e = cc
 kept_is_good w x stands.Changed l holds inside n a e = cc
@@ -99,7 +99,7 @@ style_is_good stands.Replaced true inside e h = cc
 style_is_good stands.Same true inside e h = h refl
 style_is_good s false inside e h = cc
 
-typed_is_good : (w : InlineForm) (x : Spot) (s : Standing) (l : Label) (holds good : Bool) (inside : List ContentWhy) → x.in_link ≡ false
+typed_is_good : (w : InlineForm) (x : Surroundings) (s : Standing) (l : Label) (holds good : Bool) (inside : List ContentWhy) → x.in_link ≡ false
     → typed_by w s x.in_paragraph l.shown good ≡ true → (is_link w ≡ false → good ≡ true → inside ≡ []) → faults_by w x s l holds inside ≡ []
 typed_is_good inline.Nothing x s l holds good inside n e h = outside holds x [] n refl
 typed_is_good inline.Characters x s l holds good inside n e h =
@@ -118,13 +118,13 @@ neither true b e f = cc
 neither false b e f = f
 
 mutual
-  node_is_good : (p : Page) (x : Spot) (t : Tree) → x.in_link ≡ false → is_typed p x.in_paragraph t ≡ true → faults p x t ≡ []
+  node_is_good : (p : Page) (x : Surroundings) (t : Tree) → x.in_link ≡ false → is_typed p x.in_paragraph t ≡ true → faults p x t ≡ []
   node_is_good p x (tree l ts) n e =
       let w = (shape l.kind).inline in
       typed_is_good w x (standing p (tree l ts)) l (holds_link (tree l ts)) (are_typed p false ts) (all_faults p (below x w) ts) n e
       (λ none_here good. all_are_good p (below x w) ts (neither x.in_link (is_link w) n none_here) good)
 
-  all_are_good : (p : Page) (x : Spot) (ts : Trees) → x.in_link ≡ false → are_typed p x.in_paragraph ts ≡ true → all_faults p x ts ≡ []
+  all_are_good : (p : Page) (x : Surroundings) (ts : Trees) → x.in_link ≡ false → are_typed p x.in_paragraph ts ≡ true → all_faults p x ts ≡ []
   all_are_good p x none n e = refl
   all_are_good p x (more t ts) n e =
       ap (λ (ws : List ContentWhy). ws ++ all_faults p x ts)

@@ -18,7 +18,7 @@ use Rattle.wt_content.specs.declared.reason.ContentWhy.{ContentWhy}
 use Rattle.wt_content.specs.declared.reason.ContentWhy.TheVariants as why
 use Rattle.wt_content.specs.declared.content.Standing.{Standing}
 use Rattle.wt_content.specs.declared.content.Standing.TheVariants as stands
-use Rattle.wt_content.specs.declared.content.Spot.{Spot}
+use Rattle.wt_content.specs.declared.content.Surroundings.{Surroundings}
 
 -- ---- links
 
@@ -116,7 +116,7 @@ nested_fault nested = if nested then why.Nested ∷ [] else []
 
 -- By the inline form of its kind. Bold, italic, links and line breaks may be new; a tag, an entity and a nowiki may be
 -- changed, as links may; everything else is as it stands in the page, and nothing takes its place with its number.
-abbrev pub own_faults : InlineForm → Spot → Standing → Label → List ContentWhy
+abbrev pub own_faults : InlineForm → Surroundings → Standing → Label → List ContentWhy
 own_faults inline.Nothing x s l = []
 own_faults inline.Characters x s l = break_fault x.in_paragraph l.shown
 own_faults inline.Bold x s l = if_replaced s
@@ -169,21 +169,21 @@ abbrev pub brings_link : InlineForm → Standing → Bool → Bool
 brings_link w s holds = if is_open w s then is_link w else holds
 
 -- where the children of a node stand
-abbrev pub below : Spot → InlineForm → Spot
+abbrev pub below : Surroundings → InlineForm → Surroundings
 below x w = record { in_paragraph = false; in_link = x.in_link || is_link w }
 
 -- What is wrong from a node on: that it brings a link into a link, what is wrong with it by itself, and what is wrong inside it.
 -- `holds` tells whether a link stands in it.
-abbrev pub faults_by : InlineForm → Spot → Standing → Label → Bool → List ContentWhy → List ContentWhy
+abbrev pub faults_by : InlineForm → Surroundings → Standing → Label → Bool → List ContentWhy → List ContentWhy
 faults_by w x s l holds inside =
     nested_fault (x.in_link && brings_link w s holds) ++ (own_faults w x s l ++ (if is_open w s then inside else []))
 
 abbrev mutual
-  pub faults : Page → Spot → Tree → List ContentWhy
+  pub faults : Page → Surroundings → Tree → List ContentWhy
   faults p x (tree l ts) =
       faults_by (shape l.kind).inline x (standing p (tree l ts)) l (holds_link (tree l ts)) (all_faults p (below x (shape l.kind).inline) ts)
 
-  pub all_faults : Page → Spot → Trees → List ContentWhy
+  pub all_faults : Page → Surroundings → Trees → List ContentWhy
   all_faults p x none = []
   all_faults p x (more t ts) = faults p x t ++ all_faults p x ts
 
@@ -239,7 +239,7 @@ is_paragraph form.Item = false
 is_paragraph form.NoBlock = false
 
 -- where the children of a marked node stand
-abbrev pub outermost : Tree → Spot
+abbrev pub outermost : Tree → Surroundings
 outermost old = record { in_paragraph = is_paragraph (shape (label old).kind).form; in_link = false }
 
 abbrev pub held : Tree → Trees

@@ -3,7 +3,7 @@ use Rattle.std.specs.Prelude.{◌≡◌, Bool, true, false}
 use Rattle.wt_tree.specs.Tree.{Label}
 use Rattle.wt_original.specs.declared.kinds.InlineForm.{InlineForm}
 use Rattle.wt_original.specs.declared.kinds.InlineForm.TheVariants as inline
-use Rattle.wt_content.specs.declared.content.Spot.{Spot}
+use Rattle.wt_content.specs.declared.content.Surroundings.{Surroundings}
 use Rattle.wt_content.specs.declared.content.Standing.{Standing}
 use Rattle.wt_content.specs.Content.{is_open, own_faults}
 
@@ -23,4 +23,4 @@ asks_page inline.AsItStood = true
 -- for nodes that are written so the two standings come to the same
 pub record CountsAs (w : InlineForm) (s r : Standing) : Type 0 where
   pub opens : is_open w s ≡ is_open w r
-  pub faults : (x : Spot) (l : Label) → own_faults w x s l ≡ own_faults w x r l
+  pub faults : (x : Surroundings) (l : Label) → own_faults w x s l ≡ own_faults w x r l

@@ -36,7 +36,7 @@ pub enum Standing {
 
 /// Where a node of the inside stands.
 #[derive(Clone, Copy)]
-pub struct Spot {
+pub struct Surroundings {
     /// Directly in a paragraph.
     pub in_paragraph: bool,
     /// In a link.
@@ -284,16 +284,16 @@ fn unless_same(standing: Standing) -> Option<ContentWhy>
 fn own_fault(
     alloc: Global,
     inline: InlineForm,
-    spot: Spot,
+    around: Surroundings,
     standing: Standing,
     node: &Node<'_>,
 ) -> Result<Option<ContentWhy>, NoMemory>
-    ensures { IfOk result (λ found. if_any found ≡ own_faults inline spot standing (label_of (out-Node node.now))) }
+    ensures { IfOk result (λ found. if_any found ≡ own_faults inline around standing (label_of (out-Node node.now))) }
 {
     match inline {
         InlineForm::Nothing => Ok(None),
         InlineForm::Characters => {
-            if !spot.in_paragraph && has_break(node.shown().as_bytes()) {
+            if !around.in_paragraph && has_break(node.shown().as_bytes()) {
                 Ok(Some(ContentWhy::LineBreak))
             } else {
                 Ok(None)
@@ -408,14 +408,14 @@ fn brings_link(inline: InlineForm, standing: Standing, node: &Node<'_>) -> bool
 }
 
 fn nested_fault(
-    spot: Spot,
+    around: Surroundings,
     inline: InlineForm,
     standing: Standing,
     node: &Node<'_>,
 ) -> Option<ContentWhy>
-    ensures { if_any result ≡ nested_fault (spot.in_link && brings_link inline standing (holds_link (view node.now))) }
+    ensures { if_any result ≡ nested_fault (around.in_link && brings_link inline standing (holds_link (view node.now))) }
 {
-    if spot.in_link && brings_link(inline, standing, node) {
+    if around.in_link && brings_link(inline, standing, node) {
         Some(ContentWhy::Nested)
     } else {
         None
@@ -423,12 +423,12 @@ fn nested_fault(
 }
 
 /// Where the children of a node stand that is written so.
-fn below(spot: Spot, inline: InlineForm) -> Spot
-    ensures { result ≡ below spot inline }
+fn below(around: Surroundings, inline: InlineForm) -> Surroundings
+    ensures { result ≡ below around inline }
 {
-    Spot {
+    Surroundings {
         in_paragraph: false,
-        in_link: spot.in_link || is_link(inline),
+        in_link: around.in_link || is_link(inline),
     }
 }
 
@@ -436,15 +436,15 @@ fn below(spot: Spot, inline: InlineForm) -> Spot
 pub fn visit_all(
     alloc: Global,
     page: &Page<'_, '_>,
-    spot: Spot,
+    around: Surroundings,
     nodes: &[Node<'_>],
     found: &mut Faults,
 ) -> Result<(), NoMemory>
     ensures { (same : Tree → Tree → Bool) → TellsSame same → OnOk result ((ws : List ContentWhy) → HasFaults found.old ws
-        → HasFaults found.new (ws ++ all_faults (page_view same page.now) spot (views nodes.now))) }
+        → HasFaults found.new (ws ++ all_faults (page_view same page.now) around (views nodes.now))) }
 {
     for node in nodes {
-        visit(alloc, page, spot, node, found)?;
+        visit(alloc, page, around, node, found)?;
     }
     Ok(())
 }
@@ -453,23 +453,23 @@ pub fn visit_all(
 fn visit(
     alloc: Global,
     page: &Page<'_, '_>,
-    spot: Spot,
+    around: Surroundings,
     node: &Node<'_>,
     found: &mut Faults,
 ) -> Result<(), NoMemory>
     ensures { (same : Tree → Tree → Bool) → TellsSame same → OnOk result ((ws : List ContentWhy) → HasFaults found.old ws
-        → HasFaults found.new (ws ++ faults (page_view same page.now) spot (view node.now))) }
+        → HasFaults found.new (ws ++ faults (page_view same page.now) around (view node.now))) }
 {
     let inline = shape(node.kind).inline;
     let standing = standing_by(alloc, inline, page, node)?;
-    found.add_any(nested_fault(spot, inline, standing, node));
-    let why = own_fault(alloc, inline, spot, standing, node)?;
+    found.add_any(nested_fault(around, inline, standing, node));
+    let why = own_fault(alloc, inline, around, standing, node)?;
     found.add_any(why);
     if is_open(inline, standing) {
         visit_all(
             alloc,
             page,
-            below(spot, inline),
+            below(around, inline),
             node.children.as_slice(),
             found,
         )?;
@@ -487,10 +487,10 @@ fn is_paragraph(form: BlockForm) -> bool
 }
 
 /// Where the children of a marked node stand, by what it was in the page.
-pub fn outermost(old: &Node<'_>) -> Spot
+pub fn outermost(old: &Node<'_>) -> Surroundings
     ensures { result ≡ outermost (view old.now) }
 {
-    Spot {
+    Surroundings {
         in_paragraph: is_paragraph(shape(old.kind).form),
         in_link: false,
     }

@@ -8,7 +8,7 @@ use Rattle.wt_original.specs.declared.kinds.InlineForm.TheVariants as inline
 use Rattle.wt_original.specs.Kinds.{shape}
 use Rattle.wt_original.specs.Kept.{Kept, kept_nodes, kept_with}
 use Rattle.wt_original.specs.Page.{Page, TellsSame, is_unchanged, node_or, page_of, restored, restored_all}
-use Rattle.wt_content.specs.declared.content.Spot.{Spot}
+use Rattle.wt_content.specs.declared.content.Surroundings.{Surroundings}
 use Rattle.wt_content.specs.declared.content.Standing.{Standing}
 use Rattle.wt_content.specs.declared.content.Standing.TheVariants as stands
 use Rattle.wt_content.specs.Content.{bad_content, below, changed_from, held, holds_link, is_link, outermost, standing, standing_of}
@@ -67,10 +67,10 @@ leaves_fixed p t (Some k) h = leaves_by (is_unchanged p k t) (shape (label k.nod
 
 -- ---- the grammar
 
-in_no_link : (x : Spot) (holds : Bool) → x.in_link ≡ false → IsApart x holds
+in_no_link : (x : Surroundings) (holds : Bool) → x.in_link ≡ false → IsApart x holds
 in_no_link x holds e i = let no : true ≡ false = sym i ∙ e in cc
 
-by_way : (w : InlineForm) (x : Spot) (s : Standing) (l : Label) (holds : Bool) (inside typed free was : Type 0) → x.in_link ≡ false → (is_link w ≡ false → typed → inside)
+by_way : (w : InlineForm) (x : Surroundings) (s : Standing) (l : Label) (holds : Bool) (inside typed free was : Type 0) → x.in_link ≡ false → (is_link w ≡ false → typed → inside)
     → (free → LeavesFixed s) → (was → s ≡ stands.Same) → IsTypedBy w x.in_paragraph l.shown typed free was
     → IsContentBy w x s l holds inside
 by_way inline.Nothing x s l holds inside typed free was e f g h k = in_no_link x holds e
@@ -84,11 +84,11 @@ by_way inline.Tag x s l holds inside typed free was e f g h k = inl (h k, in_no_
 by_way inline.Break x s l holds inside typed free was e f g h k = inl (h k, in_no_link x holds e)
 by_way inline.AsItStood x s l holds inside typed free was e f g h k = (h k, in_no_link x holds e)
 
-below_free : (x : Spot) (w : InlineForm) → x.in_link ≡ false → is_link w ≡ false → (below x w).in_link ≡ false
+below_free : (x : Surroundings) (w : InlineForm) → x.in_link ≡ false → is_link w ≡ false → (below x w).in_link ≡ false
 below_free x w e f = rw (e, f) refl
 
 mutual
-  edit_is_content : (same : Tree → Tree → Bool) (old : Tree) (x : Spot) (t : Tree) → TellsSame same → x.in_link ≡ false
+  edit_is_content : (same : Tree → Tree → Bool) (old : Tree) (x : Surroundings) (t : Tree) → TellsSame same → x.in_link ≡ false
       → IsTextEdit old x.in_paragraph t → IsContent (page_of same old) x t
   edit_is_content same old x (tree l ts) tells e h =
       let w = (shape l.kind).inline in
@@ -98,7 +98,7 @@ mutual
       (λ f k. edits_are_content same old (below x w) ts tells (below_free x w e f) k)
       (leaves_fixed p (tree l ts) (kept_with l.id (kept_nodes old))) (stands_same same old (tree l ts) tells) h
 
-  edits_are_content : (same : Tree → Tree → Bool) (old : Tree) (x : Spot) (ts : Trees) → TellsSame same → x.in_link ≡ false
+  edits_are_content : (same : Tree → Tree → Bool) (old : Tree) (x : Surroundings) (ts : Trees) → TellsSame same → x.in_link ≡ false
       → AreTextEdits old x.in_paragraph ts → AreContent (page_of same old) x ts
   edits_are_content same old x none tells e h = tt
   edits_are_content same old x (more t ts) tells e h =
