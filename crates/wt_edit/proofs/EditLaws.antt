@@ -25,7 +25,7 @@ use Rattle.wt_selser.specs.Splice.{spliced}
 use Rattle.wt_edit.specs.declared.refusal.EditRefusal.{EditRefusal}
 use Rattle.wt_edit.specs.declared.refusal.EditRefusal.TheVariants as refusal
 use Rattle.wt_edit.specs.Asked.{RanOutFirst}
-use Rattle.wt_edit.specs.Edits.{Answers, IsCountedErr, IsPage, Refuses, answer_by, expanded_by, new_answer, refusal_of_new, refusal_of_page, refusal_of_splice, shown_answer, shown_by}
+use Rattle.wt_edit.specs.Edits.{Answers, IsCounted, IsCountedErr, IsPage, Refuses, answer_by, expanded_by, new_answer, refusal_of_new, refusal_of_page, refusal_of_splice, shown_answer, shown_by}
 
 -- ---- the new page
 
@@ -97,8 +97,10 @@ counted_splice n (of_splice.Tangled k) = refl
 counted_splice n of_splice.NewPageTooLong = refl
 counted_splice n of_splice.NoMemory = refl
 
-pub unspliced_counted : (n : ℕ) (e : SpliceRefusal) (r : EditRefusal) → r ≡ refusal_of_splice e → IsCountedErr n n r
-unspliced_counted n e r is = subst (IsCountedErr n n) (sym is) (counted_splice n e)
+pub unspliced_counted : (n : ℕ) (e : SpliceRefusal) (result : Result (List ℕ) EditRefusal) → IsErrAnd result (λ r. r ≡ refusal_of_splice e)
+    → IsCounted n n result
+unspliced_counted n e (Ok new) is = absurd is
+unspliced_counted n e (Err r) is = subst (IsCountedErr n n) (sym is) (counted_splice n e)
 
 -- no page is left by a refusal of the splice, but where memory ran out
 pub unspliced_page : (answer : Result (List ℕ) SpliceRefusal) (e : SpliceRefusal) (result : Result (List ℕ) EditRefusal) (new : List ℕ)

@@ -58,4 +58,4 @@ pub returns-in-Err-clause-count : goal.returns-in-Err-clause-count
 returns-in-Err-clause-count g c =
     let d = g.F.Folder in
     refused_counted (d.fault_count c.args.folder.now) (d.fault_count c.known_page.new.folder) c.in-Err.refusal c.new_refusal.result
-    c.new_refusal.ensures c.known_page.ensures.count
+    c.new_refusal.ensures c.in-Err.ensures.count

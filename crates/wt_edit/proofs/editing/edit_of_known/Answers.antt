@@ -207,4 +207,5 @@ returns-clause-asked g c = λ pages met told free.
 
 pub returns-in_err-changed-clause-count : goal.returns-in_err-changed-clause-count
 returns-in_err-changed-clause-count g c =
-    unspliced_counted (g.F.Folder.fault_count c.args.folder.now) c.in_err-changed.field-0.0 _ c.from_residual.ensures.1
+    unspliced_counted (g.F.Folder.fault_count c.args.folder.now) c.in_err-changed.field-0.0 c.from_residual.result
+    c.from_residual.ensures.1
