@@ -1,5 +1,5 @@
 -- What reading a new page back says, and what trying a proposal does.
-use Rattle.std.specs.Prelude.{◌≡◌, ⊤, ℕ, Bool, List, Option, Some, None}
+use Rattle.std.specs.Prelude.{◌≡◌, ⊤, ℕ, Bool, false, List, Option, Some, None}
 use Rattle.wt_checks.specs.Checked.{nodes_checked}
 use Rattle.wt_difference.specs.Difference.{are_none, difference}
 use Rattle.wt_difference.specs.Remarked.{remarked}
@@ -119,10 +119,13 @@ TriedMarks pages t u new (tried.Fails why x) = KnowsOf pages x × FailsAs pages 
 -- a proposal
 abbrev pub TriedProposal : Pages → List ℕ → Tree → Tree → Tried → Type 0
 TriedProposal pages page t u (tried.Stands new) = IsProposed pages page t u new × ReadsBack pages t u new
-TriedProposal pages page t u (tried.Fails why x) = KnowsOf pages x × FirstFails pages page t u (refusal_of_fault why)
+TriedProposal pages page t u (tried.Fails why x) = KnowsOf pages x × FirstFails pages page t u false (refusal_of_fault why)
+
+-- the first new page isn't the answer, for this reason, and needn't be
+abbrev pub FirstFailed : Pages → List ℕ → Tree → Tree → Bool → Refusal → Type 0
+FirstFailed pages page t u same r = (¬ PageMustDo pages page t u same) × FirstFails pages page t u same r
 
 -- the first of all
 abbrev pub TriedFirst : Pages → Expanded → List ℕ → Tree → Tree → Bool → Tried → Type 0
 TriedFirst pages items page t u same (tried.Stands new) = IsNewPage pages items page t u same new
-TriedFirst pages items page t u same (tried.Fails why x) =
-    (¬ PageMustDo pages page t u same) × KnowsOf pages x × FirstFails pages page t u (refusal_of_fault why)
+TriedFirst pages items page t u same (tried.Fails why x) = KnowsOf pages x × FirstFailed pages page t u same (refusal_of_fault why)

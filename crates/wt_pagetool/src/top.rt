@@ -22,6 +22,7 @@ use crate::expand_command::expansion_of_title;
 use crate::gen_command::counts_of_made;
 use crate::output::Output;
 use crate::page_command::output_of_title;
+use crate::readings::Readings;
 use crate::refusal::Refusal;
 use crate::report::report;
 use crate::selser_command::selser_page;
@@ -68,7 +69,10 @@ fn find_answer<S: Source, F: Folder>(
         }
         Some(Command::Expand(title)) => expansion_of_title(alloc, title.as_str(), folder),
         Some(Command::Edit(title)) => edited_page(alloc, title.as_str(), input, folder),
-        Some(Command::Selser(title)) => selser_page(alloc, title.as_str(), input, folder),
+        Some(Command::Selser(title)) => {
+            let mut readings = Readings::none();
+            selser_page(alloc, title.as_str(), input, folder, &mut readings)
+        }
         Some(Command::Gen(count)) => counts_of_made(alloc, count),
         Some(Command::Wikitext) => wikitext_of_input(alloc, input),
         None => Err(Refusal::Usage),
