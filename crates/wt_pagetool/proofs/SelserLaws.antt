@@ -220,11 +220,13 @@ first_same pages items page t u same new (Ok (tried.Stands given)) all is h = re
   itself = λ m. h.0 ∙ is;
 }
 first_same pages items page t u same new (Ok (tried.Fails why x)) all is h =
-    let made : IsFirst page t u same (Some new) = subst (λ b. IsFirst page t u b (Some new)) (sym all) is in
-    (h.1, (
-      λ m. h.0 (subst (ReadsBack pages t u) (sym is) m.1),
-      record { first = Some new; made = made; fails = fails_as pages t u new why h.2 },
-    ))
+    let made : IsFirst page t u same (Some new) = subst (λ b. IsFirst page t u b (Some new)) (sym all) is in (
+      h.1,
+      (
+        λ m. h.0 (subst (ReadsBack pages t u) (sym is) m.1),
+        record { first = Some new; made = made; fails = fails_as pages t u new why h.2 },
+      ),
+    )
 first_same pages items page t u same new (Err e) all is h = tt
 
 pub first_proposed : (pages : Pages) (items : Expanded) (page : List ℕ) (t u : Tree) (same : Bool) (r : Result Tried Refusal) → same ≡ false

@@ -104,7 +104,12 @@ fn marked<'a>(
     requires numbered { ∥ InPreorder (view edit.now.tree.now) ∥₁ }
     ensures { IfOk result (MarkedAs found.entry (view edit.now.tree.now) (view edit.now.edited.now) new) }
 {
-    let keeps = keeps_marks(edit.memory.alloc, found.annotated.body(), edit.tree, edit.edited)?;
+    let keeps = keeps_marks(
+        edit.memory.alloc,
+        found.annotated.body(),
+        edit.tree,
+        edit.edited,
+    )?;
     if keeps {
         return Ok(Tried::Stands(new));
     }

@@ -113,14 +113,16 @@ fn differing_child<'a>(
     ensures { IfOk result (IsFirstDiffering (shown_children (view found.now.annotated.tree.body))
         (shown_children (restored_from (view edit.now.tree.now) (view edit.now.edited.now)))) }
 {
-    first_differing(edit.memory.alloc, found.annotated.body(), edit.tree, edit.edited)
+    first_differing(
+        edit.memory.alloc,
+        found.annotated.body(),
+        edit.tree,
+        edit.edited,
+    )
 }
 
 /// Compares what was found of a new page with the edited tree.
-fn compared<'a>(
-    found: KnownPage<'a>,
-    edit: &EditedPage<'_, 'a>,
-) -> Result<ReadBack<'a>, NoMemory>
+fn compared<'a>(found: KnownPage<'a>, edit: &EditedPage<'_, 'a>) -> Result<ReadBack<'a>, NoMemory>
     requires body { (label (view edit.now.tree.now)).kind ≡ kind.Body }
     requires numbered { ∥ InPreorder (view edit.now.tree.now) ∥₁ }
     ensures { IfOk result (ComparedAs found.entry (view edit.now.tree.now) (view edit.now.edited.now)) }

@@ -144,8 +144,8 @@ pub fn run<S: Source, F: Folder, W: Sink, E: Sink>(
 
     // `selser`, when it is done, read the input to its end and wrote a new page. It is the page with
     // places of the difference of the two, and nothing else, written anew, in which the comments and
-    // include tags that the input still has stand; or the page as it is; or what `edit` makes of the
-    // marks of the difference. The marks that the input has count for nothing. No check refuses a node of
+    // include tags that the input still has stand; or, where nothing differs, the page as it is; or what
+    // `edit` makes of the marks of the difference. The marks that the input has count for nothing. No check refuses a node of
     // the edited tree (an unknown or repeated number, a group that was changed). Nothing refuses the new
     // page or its expansion, and the plain view of its tree is that of the edited tree, in which a kept
     // group is what the page's group of its number holds. Which of such pages it is is said by no clause.
