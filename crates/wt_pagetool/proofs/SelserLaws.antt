@@ -1,6 +1,7 @@
 -- `selser`: from a new page that is read back to what is found.
-use Rattle.std.proofs.Common.{◌≡◌, ℕ, List, Bool, true, false, refl, sym, ap, ◌∙◌, subst, inl, inr}
-use Rattle.std.specs.Prelude.{◌≢◌, Option, Some, None, IfErr, IfOk, Result, Ok, Err}
+use Rattle.std.proofs.Common.{◌≡◌, ◌≤◌, ◌<◌, ℕ, List, length, Bool, true, false, refl, sym, ap, ◌∙◌, subst, inl, inr}
+use Rattle.std.specs.Prelude.{◌≢◌, ◌⊎◌, IsUtf8, Option, Some, None, IfErr, IfOk, Result, Ok, Err}
+use Rattle.std.proofs.str.Laws.{order}
 use Rattle.wt_expand.specs.Work.{Pages}
 use Rattle.wt_expansion.specs.Known.{HoldsPages}
 use Rattle.wt_template_stack.specs.declared.expansion.Expansion.{Expansion}
@@ -20,6 +21,7 @@ use Rattle.wt_transclusion.specs.declared.refusal.ExpandRefusal.{ExpandRefusal}
 use Rattle.wt_transclusion.specs.declared.refusal.ExpandRefusal.TheVariants as of_expansion
 use Rattle.wt_tree.specs.Tree.{Tree}
 use Rattle.wt_tree.specs.View.{view}
+use Rattle.wt_utf8.proofs.PlaceLaws.{no_place}
 use Rattle.wt_pagetool.specs.declared.known_page.KnownPage.{KnownPage}
 use Rattle.wt_pagetool.specs.declared.output.Output.{Output}
 use Rattle.wt_pagetool.specs.declared.output.Output.TheVariants as output
@@ -33,14 +35,14 @@ use Rattle.wt_pagetool.specs.declared.refusal.Refusal.{Refusal}
 use Rattle.wt_pagetool.specs.declared.refusal.Refusal.TheVariants.{FolderFault, NewExpansion, NoMemory, Unspelled}
 use Rattle.wt_pagetool.specs.declared.status.Status.{Status}
 use Rattle.wt_pagetool.specs.declared.status.Status.TheVariants as status
-use Rattle.wt_pagetool.specs.Answers.{Answer, done, refused, edit_by, new_answer, new_expanded, refusal_of_page, title_answer, unspelled_answer, IsNoText, IsText}
+use Rattle.wt_pagetool.specs.Answers.{Answer, done, refused, edit_by, new_answer, new_expanded, refusal_of_page, title_answer, unspelled_answer, IsText}
 use Rattle.wt_pagetool.specs.Causes.{Refuses, IsEditStatus, IsFolderStatus, IsOfEdit, IsOfFolder, refusal_of_new}
 use Rattle.wt_pagetool.specs.Refusals.{refusal_of_edit, status_of}
 use Rattle.wt_pagetool.specs.Selser.{late_refusal, FailsAs, FindsNew, FindsNone, FirstFails, IsFirst, IsNewPage, IsNoNewPage, IsOfNewPage, PageMustDo, ReadsBack}
 use Rattle.wt_pagetool.specs.Statuses.{IsAnswer}
 use Rattle.wt_pagetool.specs.Tried.{device_fault, last_refusal, refusal_of_fault, ComparedAs, FirstFailed, HoldsRead, HoldsTried, IsFaultOf, KnowsOf, MarkedAs, ReadAs, TriedFirst, TriedMarks, TriedPage, TriedProposal}
 use Rattle.wt_pagetool.proofs.EditLaws.{meant, new_done, new_refused, unspelled_done}
-use Rattle.wt_pagetool.proofs.PageLaws.{title_made}
+use Rattle.wt_pagetool.proofs.PageLaws.{page_text, title_made}
 
 -- ---- a new page that is read back
 
@@ -89,9 +91,18 @@ untexted_back pages t u new text r same refuses h =
     let made : List ℕ → Answer = new_expanded pages t u in
     let e : refused r ≡ done new = sym (refuses made) ∙ ap (λ bs. title_answer (Some bs) made) same ∙ h in cc
 
-pub untexted : (new text : List ℕ) (r : Refusal) → text ≡ new → ((made : List ℕ → Answer) → title_answer (Some text) made ≡ refused r)
-    → IsNoText (Some new)
-untexted new text r same refuses = (r, λ made. ap (λ bs. title_answer (Some bs) made) (sym same) ∙ refuses made)
+-- text that no page may be is too long
+long_by : (text : List ℕ) (r : Refusal) → IsUtf8 text → ((made : List ℕ → Answer) → title_answer (Some text) made ≡ refused r)
+    → (2097152 < length text) ⊎ (length text ≤ 2097152) → 2097152 < length text
+long_by text r whole refuses (inr le) =
+    let any : List ℕ → Answer = λ bs. done bs in
+    let e : refused r ≡ done text = sym (refuses any) ∙ page_text text le (no_place text whole) any in absurd (cc)
+long_by text r whole refuses (inl lt) = lt
+
+pub long_new : (new text : List ℕ) (r : Refusal) → text ≡ new → IsUtf8 text → ((made : List ℕ → Answer) → title_answer (Some text) made ≡ refused r)
+    → 2097152 < length new
+long_new new text r same whole refuses =
+    subst (λ bs. 2097152 < length bs) same (long_by text r whole refuses (order 2097152 (length text)))
 
 -- ---- an expansion that is refused
 

@@ -1,5 +1,5 @@
 -- What `selser` finds for an edited tree: a new page that was read back, or why there is none.
-use Rattle.std.specs.Prelude.{◌≡◌, ◌≢◌, ◌≤◌, ◌⊎◌, ⊤, ℕ, length, Bool, true, false, List, [], Option, Some, None, Result, Ok, Err}
+use Rattle.std.specs.Prelude.{◌≡◌, ◌≢◌, ◌≤◌, ◌<◌, ◌⊎◌, ⊤, ℕ, length, Bool, true, false, List, [], Option, Some, None, Result, Ok, Err}
 use Rattle.wt_expand.specs.PageCalls.{expanded_page}
 use Rattle.wt_expand.specs.Work.{Pages}
 use Rattle.wt_schema.specs.Read.{Read, page as as_page, ill, misfit, read}
@@ -14,7 +14,7 @@ use Rattle.wt_visible.specs.KeptMarks.{KeepsMarks}
 use Rattle.wt_visible.specs.Restored.{restored_from}
 use Rattle.wt_visible.specs.SameNodes.{same_node}
 use Rattle.wt_span.specs.Origins.{Expanded}
-use Rattle.wt_span.specs.declared.limits.TheConstants.{HTML_BYTES}
+use Rattle.wt_span.specs.declared.limits.TheConstants.{HTML_BYTES, PAGE_BYTES}
 use Rattle.wt_tree.specs.Plain.{plain}
 use Rattle.wt_tree.specs.Tree.{Tree}
 use Rattle.wt_pagetool.specs.declared.output.Output.{Output}
@@ -22,7 +22,7 @@ use Rattle.wt_pagetool.specs.declared.refusal.Refusal.{Refusal}
 use Rattle.wt_pagetool.specs.declared.refusal.Refusal.TheVariants as refusal
 use Rattle.wt_pagetool.specs.declared.status.Status.{Status}
 use Rattle.wt_pagetool.specs.declared.status.Status.TheVariants as status
-use Rattle.wt_pagetool.specs.Answers.{Answer, done, refused, edit_by, edit_to, new_answer, remarked_of, taken_of, IsNoText, IsText, IsUnrefused}
+use Rattle.wt_pagetool.specs.Answers.{Answer, done, refused, edit_by, edit_to, new_answer, remarked_of, taken_of, IsText, IsUnrefused}
 use Rattle.wt_pagetool.specs.Causes.{Answered}
 use Rattle.wt_pagetool.specs.Devices.{SinkUse, Took}
 use Rattle.wt_pagetool.specs.Outputs.{output_bytes}
@@ -85,11 +85,11 @@ pub record IsNewPage (pages : Pages) (items : Expanded) (page : List ℕ) (t u :
   pub back : ReadsBack pages t u new
   pub itself : PageMustDo pages page t u same → new ≡ page
 
--- Why a new page isn't the answer: it is none that a page may be; or reading it back refuses it so; or it shows the same, and has lost a
+-- Why a new page isn't the answer: it is longer than a page may be; or reading it back refuses it so; or it shows the same, and has lost a
 -- comment or an include tag. Where none was found to try, that is told as the last.
 abbrev pub FailsAs : Pages → Tree → Tree → Option (List ℕ) → Refusal → Type 0
 FailsAs pages t u None r = r ≡ refusal.Unspelled 0
-FailsAs pages t u (Some new) r = (IsNoText (Some new) × (r ≡ refusal.NewPageTooLong))
+FailsAs pages t u (Some new) r = ((PAGE_BYTES < length new) × (r ≡ refusal.NewPageTooLong))
     ⊎ ((new_answer pages t u new ≡ refused r) ⊎ ((¬ KeepsMarks (page_tree pages new) t u) × (r ≡ refusal.Unspelled 0)))
 
 -- the first new page that is tried: where nothing differs the page as it is; else the page with places of the difference, and nothing
