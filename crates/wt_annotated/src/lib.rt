@@ -36,5 +36,5 @@ pub use seam::{
     are_of_page, call_of, first_call, first_found, has_page_item, is_hollow, is_parted,
     last_of_piece,
 };
-pub use tree_walk::{Walk, walk_through};
+pub use tree_walk::{TreeProgress, walk_through};
 pub use unplaced::unplaced_nodes;

@@ -5,7 +5,7 @@ use crate::texts::{ends_with_apostrophe, push_letters, push_nowiki, push_text};
 use std::alloc::Global;
 use wt_escape::{external_link_of, page_link_of};
 use wt_guards::{Place, Role, Setting, Stretch, Thing, Unit, spelling_of};
-use wt_original::{Kept, Way, is_unchanged, shape, shown_text};
+use wt_original::{Kept, InlineForm, is_unchanged, shape, shown_text};
 use wt_span::{NoMemory, Str, Text};
 use wt_tree::{Kind, Node, flat, same_attrs, same_kind};
 
@@ -299,17 +299,17 @@ fn link_round(
 }
 
 fn new_source(alloc: Global, node: &Node<'_>, inside: &str) -> Result<Str, NoMemory> {
-    match shape(node.kind).way {
-        Way::PageLink => page_link_of(alloc, node, inside),
-        Way::ExternalLink => external_link_of(alloc, node, inside),
-        Way::Break => Str::copy_of(alloc, "<br>"),
-        Way::Nothing
-        | Way::Characters
-        | Way::Bold
-        | Way::Italic
-        | Way::Shown
-        | Way::Tag
-        | Way::AsItStood => Str::copy_of(alloc, inside),
+    match shape(node.kind).inline {
+        InlineForm::PageLink => page_link_of(alloc, node, inside),
+        InlineForm::ExternalLink => external_link_of(alloc, node, inside),
+        InlineForm::Break => Str::copy_of(alloc, "<br>"),
+        InlineForm::Nothing
+        | InlineForm::Characters
+        | InlineForm::Bold
+        | InlineForm::Italic
+        | InlineForm::Shown
+        | InlineForm::Tag
+        | InlineForm::AsItStood => Str::copy_of(alloc, inside),
     }
 }
 
@@ -383,25 +383,25 @@ fn push_node<'n, 't, 'a>(
     node: &'n Node<'_>,
 ) -> Result<(), NoMemory> {
     let kept = writing.known.find(writing.block, node.id);
-    match shape(node.kind).way {
-        Way::Nothing => Ok(()),
-        Way::Characters => push_letters(out, node.shown()),
-        Way::Bold => push_style(alloc, out, writing, "'''", kept, node),
-        Way::Italic => push_style(alloc, out, writing, "''", kept, node),
-        Way::AsItStood => {
+    match shape(node.kind).inline {
+        InlineForm::Nothing => Ok(()),
+        InlineForm::Characters => push_letters(out, node.shown()),
+        InlineForm::Bold => push_style(alloc, out, writing, "'''", kept, node),
+        InlineForm::Italic => push_style(alloc, out, writing, "''", kept, node),
+        InlineForm::AsItStood => {
             let is_mark = node.kind.is_mark();
             if is_mark && node.id != 0 && writing.known.is_left(writing.block, node.id) {
                 return Ok(());
             }
             push_kept(alloc, out, kept, node.kind)
         }
-        Way::Shown => {
+        InlineForm::Shown => {
             if push_if_unchanged(alloc, out, writing, kept, node)? {
                 return Ok(());
             }
             push_shown(alloc, out, node)
         }
-        Way::PageLink | Way::ExternalLink | Way::Tag | Way::Break => {
+        InlineForm::PageLink | InlineForm::ExternalLink | InlineForm::Tag | InlineForm::Break => {
             if push_if_unchanged(alloc, out, writing, kept, node)? {
                 return Ok(());
             }

@@ -15,7 +15,7 @@ use Rattle.wt_html_in.specs.Answers.{body_of, Answers}
 use Rattle.wt_html_in.specs.declared.edited.Edited.{Edited}
 use Rattle.wt_html_in.specs.declared.refusal.HtmlRefusal.{HtmlRefusal}
 use Rattle.wt_html_in.specs.declared.refusal.HtmlRefusal.TheVariants as refusals
-use Rattle.wt_checks.specs.declared.refusal.Check.{Check}
+use Rattle.wt_checks.specs.declared.refusal.TreeRefusal.{TreeRefusal}
 use Rattle.wt_checks.specs.Checked.{checked}
 use Rattle.wt_page_round_trip.specs.PageTree.{page_tree}
 use Rattle.wt_selser.specs.declared.refusal.EditRefusal.{EditRefusal}
@@ -178,7 +178,7 @@ unrefused_ok : (o : Option EditRefusal) (text new : List ℕ) → unless_refused
 unrefused_ok None text new e = short_ok text new (nat_lt most_bytes (length text)) e
 unrefused_ok (Some r) text new e = cc
 
-checked_ok : (o : Option Check) (p : Option EditRefusal) (text new : List ℕ)
+checked_ok : (o : Option TreeRefusal) (p : Option EditRefusal) (text new : List ℕ)
     → unless_refused (option_map of_edit.Check o) (unless_refused p (if_short text)) ≡ Ok new → (o ≡ None) × (new ≡ text)
 checked_ok None p text new e = (refl, unrefused_ok p text new e)
 checked_ok (Some c) p text new e = cc

@@ -14,7 +14,7 @@ use Rattle.wt_expand.specs.Expansion.{page_work}
 use Rattle.wt_expand.specs.PageCalls.{expanded_page}
 use Rattle.wt_schema.specs.Read.{Read, page as as_page, ill, misfit, read}
 use Rattle.wt_page_round_trip.specs.PageTree.{page_tree}
-use Rattle.wt_checks.specs.declared.refusal.Check.{Check}
+use Rattle.wt_checks.specs.declared.refusal.TreeRefusal.{TreeRefusal}
 use Rattle.wt_checks.specs.Checked.{checked, nodes_checked}
 use Rattle.wt_difference.specs.Remarked.{remarked}
 use Rattle.wt_selser.specs.declared.refusal.EditRefusal.{EditRefusal}
@@ -179,7 +179,7 @@ edit_by pages t edited (Ok new) = new_answer pages t edited new
 edit_by pages t edited (Err e) = refused (refusal_of_edit e)
 
 -- the first check that refuses an edited tree of a page; marks of values are not taken
-abbrev pub checked_edit : Tree → Tree → Option Check
+abbrev pub checked_edit : Tree → Tree → Option TreeRefusal
 checked_edit page edited = checked false page edited
 
 -- the new page of an expanded page and this edited tree, or why the edit is refused
@@ -215,7 +215,7 @@ abbrev pub remarked_of : Pages → List ℕ → Tree → Tree
 remarked_of pages page edited = remarked (page_tree pages page) edited
 
 -- the page, where no check of the edited tree's nodes refuses it
-abbrev pub nodes_answer : List ℕ → Option Check → Answer
+abbrev pub nodes_answer : List ℕ → Option TreeRefusal → Answer
 nodes_answer page None = done page
 nodes_answer page (Some c) = refused (Checked c)
 

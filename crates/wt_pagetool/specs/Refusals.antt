@@ -5,8 +5,8 @@ use Rattle.wt_html_grammar.specs.declared.why.HtmlWhy.{HtmlWhy}
 use Rattle.wt_html_grammar.specs.declared.why.HtmlWhy.TheVariants as ill
 use Rattle.wt_schema.specs.declared.why.FitWhy.{FitWhy}
 use Rattle.wt_schema.specs.declared.why.FitWhy.TheVariants as unfit
-use Rattle.wt_checks.specs.declared.refusal.Check.{Check}
-use Rattle.wt_checks.specs.declared.refusal.Check.TheVariants as check
+use Rattle.wt_checks.specs.declared.refusal.TreeRefusal.{TreeRefusal}
+use Rattle.wt_checks.specs.declared.refusal.TreeRefusal.TheVariants as check
 use Rattle.wt_selser.specs.declared.refusal.EditRefusal.{EditRefusal}
 use Rattle.wt_selser.specs.declared.refusal.EditRefusal.TheVariants as of_edit
 use Rattle.wt_content.specs.declared.reason.ContentWhy.{ContentWhy}
@@ -74,7 +74,7 @@ content_why bad.Nested = codes "Nested"
 content_why bad.EmptyList = codes "EmptyList"
 
 -- what the comparison of the two trees found, and the node where it did
-unfoldable pub check_name : Check → List ℕ
+unfoldable pub check_name : TreeRefusal → List ℕ
 check_name (check.UnknownId n) = codes "UnknownId"
 check_name (check.RepeatedId n) = codes "RepeatedId"
 check_name (check.Moved n) = codes "Moved"
@@ -82,7 +82,7 @@ check_name (check.InTemplate n) = codes "InTemplate"
 check_name (check.NotEditable n) = codes "NotEditable"
 check_name (check.UnmarkedChange n) = codes "UnmarkedChange"
 
-abbrev pub check_node : Check → ℕ
+abbrev pub check_node : TreeRefusal → ℕ
 check_node (check.UnknownId n) = n
 check_node (check.RepeatedId n) = n
 check_node (check.Moved n) = n

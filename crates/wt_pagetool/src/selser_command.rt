@@ -34,7 +34,7 @@ use crate::refusal::Refusal;
 use crate::wikitext_command::{PIECE, read_all};
 use bumpalo::Bump;
 use std::alloc::Global;
-use wt_checks::{Check, Visit, check_nodes, numbered_nodes};
+use wt_checks::{TreeRefusal, Visit, check_nodes, numbered_nodes};
 use wt_devices::{Folder, Source};
 use wt_difference::{has_mark, remark};
 use wt_html_in::Reader;
@@ -49,7 +49,7 @@ struct Beside<'a> {
     /// Whether nothing differs.
     same: bool,
     /// The first check that refuses one of its nodes.
-    refused: Option<Check>,
+    refused: Option<TreeRefusal>,
 }
 
 /// Sets an edited tree beside a page's, whose nodes `index` has by their numbers.

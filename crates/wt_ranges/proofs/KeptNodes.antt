@@ -17,7 +17,7 @@ use Rattle.wt_annotated.specs.WithoutCalls.{inside_by}
 use Rattle.wt_ranges.specs.declared.child.Child.{Child}
 use Rattle.wt_ranges.specs.declared.kept.Frame.{Frame}
 use Rattle.wt_annotated.specs.declared.node.Sources.{Sources}
-use Rattle.wt_annotated.specs.declared.tree_walk.Walk.{Walk}
+use Rattle.wt_annotated.specs.declared.tree_walk.TreeProgress.{TreeProgress}
 use Rattle.wt_annotated.specs.Annotated.{kept_label}
 use Rattle.wt_ranges.specs.Children.{near_of, children_at}
 use Rattle.wt_annotated.specs.GroupData.{group_data}
@@ -73,7 +73,7 @@ leaf_kept calls c u s own ps qs ns r w e f g m t i h x y =
 -- ---- other nodes
 
 -- a frame by a walk through the node
-pub frame_is : (calls : List OuterCall) (c : Child) (w : Walk) (r : Ranges) (s : Sources) (a : Option ℕ) → HasLasts c.before c.tree w
+pub frame_is : (calls : List OuterCall) (c : Child) (w : TreeProgress) (r : Ranges) (s : Sources) (a : Option ℕ) → HasLasts c.before c.tree w
     → HasWidths calls c.before c.tree w
     → r ≡ record { start = c.byte; end = c.byte + w.closed.width; open_w = w.opened.width; close_w = w.closed.width - w.filled.width }
     → texts_of s.opening ≡ text_from calls c.before (items (out-PieceTree c.tree).opening)

@@ -1,6 +1,6 @@
 use Rattle.std.proofs.Common.{◌≡◌, ap, arith, drop, length, min, ◌∙◌}
 use Rattle.wt_expansion.proofs.FoundLaws.{drop_most}
-use Rattle.wt_expansion.proofs.found.Found.pieces_from.Goals as goal
+use Rattle.wt_expansion.proofs.found.Collected.pieces_from.Goals as goal
 
 pub returns : goal.returns
 returns c =

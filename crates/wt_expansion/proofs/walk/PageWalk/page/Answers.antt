@@ -15,7 +15,7 @@ use Rattle.wt_expansion.specs.Calls.{outer_of}
 use Rattle.wt_expansion.specs.Walks.{Adds, AnswersWalk, page_stretch, page_work_at}
 use Rattle.wt_expansion.proofs.Refusals.{given_stops, none_walked}
 use Rattle.wt_expansion.proofs.WalkCalls.{page_walked, target_first}
-use Rattle.wt_expansion.proofs.walk.Walk.page.Goals as goal
+use Rattle.wt_expansion.proofs.walk.PageWalk.page.Goals as goal
 
 pub returns-in_err-given-clause-given : goal.returns-in_err-given-clause-given
 returns-in_err-given-clause-given g c = λ pages page met s n concerns free is.

@@ -16,7 +16,7 @@ use Rattle.wt_expansion.specs.Calls.{outer_of}
 use Rattle.wt_expansion.specs.Walks.{Adds, AnswersWalk, call_stretches_at, call_work}
 use Rattle.wt_expansion.proofs.Refusals.{given_stops, none_walked}
 use Rattle.wt_expansion.proofs.WalkCalls.{unlinked_walked, refused_one}
-use Rattle.wt_expansion.proofs.walk.Walk.without_target.Goals as goal
+use Rattle.wt_expansion.proofs.walk.PageWalk.without_target.Goals as goal
 
 pub returns-in_err-given-clause-given : goal.returns-in_err-given-clause-given
 returns-in_err-given-clause-given g c = λ pages page met s n concerns free is.

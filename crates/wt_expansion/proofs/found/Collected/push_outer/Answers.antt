@@ -4,7 +4,7 @@ use Rattle.wt_span.specs.Items.{items}
 use Rattle.wt_expansion.specs.Calls.{outer_of}
 use Rattle.wt_expansion.specs.Made.{AppendsCall}
 use Rattle.wt_expansion.proofs.FoundLaws.{outer_adds, outer_same}
-use Rattle.wt_expansion.proofs.found.Found.push_outer.Goals as goal
+use Rattle.wt_expansion.proofs.found.Collected.push_outer.Goals as goal
 
 pub returns : goal.returns
 returns c =

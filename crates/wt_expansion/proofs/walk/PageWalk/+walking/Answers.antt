@@ -23,7 +23,7 @@ use Rattle.wt_expansion.proofs.WalkPages.{agrees_first, grown_then, still_concer
 use Rattle.wt_expansion.proofs.WalkSteps.{call_step, call_step_refused, call_there, chunk_step, going_ends, going_on, going_refused, going_starts, going_stops, step_stops}
 use Rattle.wt_expansion.proofs.WalkTargets.{is_called, target_stands}
 use Rattle.wt_expansion.proofs.WalkTexts.{back_place, behind_refused, behind_stretch, behind_walked, page_walked_on, target_done, target_refused, text_walked}
-use Rattle.wt_expansion.proofs.walk.Walk.+walking.Goals as goal
+use Rattle.wt_expansion.proofs.walk.PageWalk.+walking.Goals as goal
 
 pub target-returns-in_err-stretch-clause-given : goal.target-returns-in_err-stretch-clause-given
 target-returns-in_err-stretch-clause-given g t c = λ pages page met s n concerns free first.

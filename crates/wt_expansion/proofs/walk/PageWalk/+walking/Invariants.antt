@@ -9,7 +9,7 @@ use Rattle.wt_template_stack.specs.Ledgers.{ledger}
 use Rattle.wt_template_stack.specs.Readers.{IsReading}
 use Rattle.wt_expansion.specs.Walks.{Going, IsFree, at_page}
 use Rattle.wt_expansion.proofs.WalkLaws.{strs}
-use Rattle.wt_expansion.proofs.walk.Walk.+walking.Given as goal
+use Rattle.wt_expansion.proofs.walk.PageWalk.+walking.Given as goal
 
 abbrev pub decreases-behind_target : goal.decreases-behind_target
 decreases-behind_target g l = l.nested * 5 + 4
