@@ -45,7 +45,11 @@ fn past_trees<'a>(calls: &[Outer<'a>], from: Progress, trees: &[PieceTree<'a>]) 
 }
 
 /// A walk through a tree, behind an item of the call `before`.
-pub fn walk_through<'a>(calls: &[Outer<'a>], before: Option<u32>, tree: &PieceTree<'a>) -> TreeProgress
+pub fn walk_through<'a>(
+    calls: &[Outer<'a>],
+    before: Option<u32>,
+    tree: &PieceTree<'a>,
+) -> TreeProgress
     requires { length (text_from (outer_calls calls.now) before (tree_items (item_tree tree.now))) < 2 ^ 32 }
     ensures lasts { HasLasts before tree.now result }
     ensures widths { HasWidths (outer_calls calls.now) before tree.now result }

@@ -24,7 +24,7 @@ use Rattle.wt_content.specs.Views.{HasFaults}
 
 -- ---- one node
 
--- what is wrong from a node on, by the way it is written, how it counts as standing, and what is wrong with it by itself
+-- what is wrong from a node on, by its inline form, how it counts as standing, and what is wrong with it by itself
 pub visited : (n : Node) (w : InlineForm) (p : Page) (x : Surroundings) (s : Standing) (why : Option ContentWhy) → (shape (out-Node n).kind).inline ≡ w
     → CountsAs w s (standing p (view n)) → if_any why ≡ own_faults w x s (label_of (out-Node n))
     → faults p x (view n) ≡ nested_fault (x.in_link && brings_link w s (holds_link (view n)))

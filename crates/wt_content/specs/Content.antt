@@ -43,7 +43,7 @@ is_link inline.AsItStood = false
 
 -- ---- how a node stands to the page
 
--- What a changed node comes to, by the way in which the page's node is written: one that stands as it stood, and a line break, may
+-- What a changed node comes to, by its inline form in the page: one that stands as it stood, and a line break, may
 -- only be replaced.
 abbrev pub changed_from : InlineForm → Standing
 changed_from inline.Nothing = stands.Changed
@@ -114,7 +114,7 @@ shown_faults stands.Same text = []
 abbrev pub nested_fault : Bool → List ContentWhy
 nested_fault nested = if nested then why.Nested ∷ [] else []
 
--- By the way in which its kind is written. Bold, italic, links and line breaks may be new; a tag, an entity and a nowiki may be
+-- By the inline form of its kind. Bold, italic, links and line breaks may be new; a tag, an entity and a nowiki may be
 -- changed, as links may; everything else is as it stands in the page, and nothing takes its place with its number.
 abbrev pub own_faults : InlineForm → Surroundings → Standing → Label → List ContentWhy
 own_faults inline.Nothing x s l = []

@@ -40,7 +40,7 @@ IsKept x s holds = (s ≡ stands.Same) × IsApart x holds
 abbrev pub IsLinkOf : Surroundings → Standing → Type 0 → Type 0 → Type 0
 IsLinkOf x s leads inside = (x.in_link ≡ false) × ((s ≡ stands.Same) ⊎ (IsWritten s × leads × inside))
 
--- By the way in which the node's kind is written: white space between elements; text, which directly in a paragraph may have line
+-- By the inline form of the node's kind: white space between elements; text, which directly in a paragraph may have line
 -- breaks; bold and italic; what an entity or a `nowiki` shows; links; tags; a line break; and all else. `holds` tells whether a
 -- link stands in it, `inside` that what it holds is of the grammar.
 abbrev pub IsContentBy : InlineForm → Surroundings → Standing → Label → Bool → Type 0 → Type 0

@@ -20,7 +20,7 @@ use crate::url::is_url;
 use std::alloc::Global;
 use wt_escape::href_of;
 use wt_names::title_of_href;
-use wt_original::{BlockForm, Kept, Page, InlineForm, is_unchanged, page_of_block, shape};
+use wt_original::{BlockForm, InlineForm, Kept, Page, is_unchanged, page_of_block, shape};
 use wt_span::NoMemory;
 use wt_tree::{Kind, Node};
 
@@ -121,7 +121,11 @@ fn is_link(inline: InlineForm) -> bool
 {
     match inline {
         InlineForm::PageLink | InlineForm::ExternalLink => true,
-        InlineForm::Nothing | InlineForm::Characters | InlineForm::Bold | InlineForm::Italic | InlineForm::Shown => false,
+        InlineForm::Nothing
+        | InlineForm::Characters
+        | InlineForm::Bold
+        | InlineForm::Italic
+        | InlineForm::Shown => false,
         InlineForm::Tag | InlineForm::Break | InlineForm::AsItStood => false,
     }
 }
@@ -171,12 +175,16 @@ pub fn has_break(text: &[u8]) -> bool
     false
 }
 
-/// What a changed node comes to, by the way in which the page's node is written.
+/// What a changed node comes to, by its inline form in the page.
 fn changed_from(inline: InlineForm) -> Standing
     ensures { result ≡ changed_from inline }
 {
     match inline {
-        InlineForm::Nothing | InlineForm::Characters | InlineForm::Bold | InlineForm::Italic | InlineForm::Shown => Standing::Changed,
+        InlineForm::Nothing
+        | InlineForm::Characters
+        | InlineForm::Bold
+        | InlineForm::Italic
+        | InlineForm::Shown => Standing::Changed,
         InlineForm::PageLink | InlineForm::ExternalLink | InlineForm::Tag => Standing::Changed,
         InlineForm::Break | InlineForm::AsItStood => Standing::Replaced,
     }
@@ -374,7 +382,12 @@ fn standing_by(
             let standing = style_standing(alloc, page, node)?;
             Ok(standing)
         }
-        InlineForm::Shown | InlineForm::PageLink | InlineForm::ExternalLink | InlineForm::Tag | InlineForm::Break | InlineForm::AsItStood => {
+        InlineForm::Shown
+        | InlineForm::PageLink
+        | InlineForm::ExternalLink
+        | InlineForm::Tag
+        | InlineForm::Break
+        | InlineForm::AsItStood => {
             let standing = standing_in(alloc, page, node)?;
             Ok(standing)
         }
@@ -394,7 +407,12 @@ fn brings_link(inline: InlineForm, standing: Standing, node: &Node<'_>) -> bool
     }
 }
 
-fn nested_fault(around: Surroundings, inline: InlineForm, standing: Standing, node: &Node<'_>) -> Option<ContentWhy>
+fn nested_fault(
+    around: Surroundings,
+    inline: InlineForm,
+    standing: Standing,
+    node: &Node<'_>,
+) -> Option<ContentWhy>
     ensures { if_any result ≡ nested_fault (around.in_link && brings_link inline standing (holds_link (view node.now))) }
 {
     if around.in_link && brings_link(inline, standing, node) {

@@ -5,7 +5,7 @@ use crate::texts::{ends_with_apostrophe, push_letters, push_nowiki, push_text};
 use std::alloc::Global;
 use wt_escape::{external_link_of, page_link_of};
 use wt_guards::{Place, Role, Setting, Stretch, Thing, Unit, spelling_of};
-use wt_original::{Kept, InlineForm, is_unchanged, shape, shown_text};
+use wt_original::{InlineForm, Kept, is_unchanged, shape, shown_text};
 use wt_span::{NoMemory, Str, Text};
 use wt_tree::{Kind, Node, flat, same_attrs, same_kind};
 

@@ -37,7 +37,7 @@ pub leaves_then : (b : Bool) (old mid new : List Sign) (by : List Sign → List 
 leaves_then true old mid new by s e h n = cc
 leaves_then false old mid new by s e h n = n ∙ ap (λ us. us ++ s) h.0 ∙ ap (λ us. old ++ us) (sym (h.1 s))
 
--- ---- a node by its way
+-- ---- a node by its inline form
 
 pub signs_is : (n : Node) (w : InlineForm) (p : Page) (pl : Place) (k : Option Kept) → (shape (out-Node n).kind).inline ≡ w
     → k ≡ kept_with (out-Node n).id p.kept

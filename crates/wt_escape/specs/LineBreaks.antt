@@ -38,7 +38,7 @@ abbrev pub breaks_of_tag : Option Kept → ℕ → ℕ
 breaks_of_tag None held = held
 breaks_of_tag (Some k) held = breaks (label k.node).opening + (held + breaks (label k.node).closing)
 
--- a node by its way, with so many in what it holds
+-- a node by its inline form, with so many in what it holds
 abbrev pub breaks_by : InlineForm → Page → Option Kept → Label → Trees → ℕ → ℕ
 breaks_by inline.Nothing p k l ts held = 0
 breaks_by inline.Characters p k l ts held = breaks l.shown

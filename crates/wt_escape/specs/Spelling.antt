@@ -172,7 +172,7 @@ break_tag = codes "<br>"
 
 -- ---- the signs of the content
 
--- by the way of its kind: of a node, its page's node and the signs of what it holds
+-- by the inline form of its kind: of a node, its page's node and the signs of what it holds
 abbrev pub signs_by : InlineForm → Page → Place → Option Kept → Label → Trees → List Sign → List Sign
 signs_by inline.Nothing p pl k l ts inside = []
 signs_by inline.Characters p pl k l ts inside = letters l.shown

@@ -13,7 +13,7 @@ ghost use Rattle.wt_escape.specs.Spelling.{value_of, href_of, text_by, only_text
 use std::alloc::{AllocError, Global};
 use wt_guards::push_nowiki;
 use wt_names::{Ns, Title, full_name, title_of_href};
-use wt_original::{Kept, InlineForm, shape};
+use wt_original::{InlineForm, Kept, shape};
 use wt_span::{NoMemory, Str, Text};
 use wt_tree::{Attr, AttrName, Node};
 

@@ -21,7 +21,7 @@ ghost use Rattle.wt_guards.specs.declared.role.Role.TheVariants as role;
 use crate::links::{external_link, page_link, tag_pair};
 use std::alloc::{AllocError, Global};
 use wt_guards::{Place, Role, Setting, Signs, Stretch, Thing, Unit, spelling_of};
-use wt_original::{Kept, Page, InlineForm, is_unchanged, shape, shown_text, text_len};
+use wt_original::{InlineForm, Kept, Page, is_unchanged, shape, shown_text, text_len};
 use wt_span::{NoMemory, Str};
 use wt_tree::{Node, flat};
 

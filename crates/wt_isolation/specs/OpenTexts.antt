@@ -66,7 +66,7 @@ is_text inline.Tag = false
 is_text inline.Break = false
 is_text inline.AsItStood = false
 
--- A node behind a text, by the way of its kind: a text goes on with it, and any other node ends it.
+-- A node behind a text, by the inline form of its kind: a text goes on with it, and any other node ends it.
 abbrev pub open_text_by : InlineForm → List ℕ → List ℕ → Bool → (List ℕ → Bool) → Bool
 open_text_by w text shown inside rest = if is_text w then rest (text ++ shown) else ended_by w text inside rest
 

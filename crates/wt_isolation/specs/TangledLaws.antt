@@ -31,7 +31,7 @@ AreTexts ts = list_all is_text_node ts ≡ true
 abbrev pub shown_in : List Tree → List ℕ
 shown_in ts = flat_map (λ t. (label t).shown) ts
 
--- the way of what stands first
+-- the inline form of what stands first
 abbrev pub first_way : List Tree → InlineForm
 first_way [] = inline.Nothing
 first_way (t ∷ ts) = (shape (label t).kind).inline

@@ -30,7 +30,8 @@ fn node_ends_open(node: &Node<'_>) -> bool
         InlineForm::Characters => false,
         InlineForm::Bold | InlineForm::Italic => any_ends_open(node.children.as_slice()),
         InlineForm::Nothing | InlineForm::Shown | InlineForm::PageLink => source_ends_open(node),
-        InlineForm::ExternalLink | InlineForm::Tag | InlineForm::Break | InlineForm::AsItStood => source_ends_open(node),
+        InlineForm::ExternalLink | InlineForm::Tag | InlineForm::Break | InlineForm::AsItStood =>
+            source_ends_open(node),
     }
 }
 

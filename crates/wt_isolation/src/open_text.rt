@@ -55,8 +55,13 @@ fn is_open_before(inline: InlineForm, text: &[u8]) -> bool
 {
     match inline {
         InlineForm::ExternalLink => holds_open(text) || ends_with_bracket(text),
-        InlineForm::Nothing | InlineForm::Characters | InlineForm::Bold | InlineForm::Italic | InlineForm::Shown => holds_open(text),
-        InlineForm::PageLink | InlineForm::Tag | InlineForm::Break | InlineForm::AsItStood => holds_open(text),
+        InlineForm::Nothing
+        | InlineForm::Characters
+        | InlineForm::Bold
+        | InlineForm::Italic
+        | InlineForm::Shown => holds_open(text),
+        InlineForm::PageLink | InlineForm::Tag | InlineForm::Break | InlineForm::AsItStood =>
+            holds_open(text),
     }
 }
 
@@ -65,8 +70,13 @@ fn is_text(inline: InlineForm) -> bool
 {
     match inline {
         InlineForm::Characters => true,
-        InlineForm::Nothing | InlineForm::Bold | InlineForm::Italic | InlineForm::Shown | InlineForm::PageLink => false,
-        InlineForm::ExternalLink | InlineForm::Tag | InlineForm::Break | InlineForm::AsItStood => false,
+        InlineForm::Nothing
+        | InlineForm::Bold
+        | InlineForm::Italic
+        | InlineForm::Shown
+        | InlineForm::PageLink => false,
+        InlineForm::ExternalLink | InlineForm::Tag | InlineForm::Break | InlineForm::AsItStood =>
+            false,
     }
 }
 
@@ -77,8 +87,10 @@ fn in_style(alloc: Global, inline: InlineForm, held: &[Node<'_>]) -> Result<bool
 {
     match inline {
         InlineForm::Bold | InlineForm::Italic => has_open_text(alloc, held),
-        InlineForm::Nothing | InlineForm::Characters | InlineForm::Shown | InlineForm::PageLink => Ok(false),
-        InlineForm::ExternalLink | InlineForm::Tag | InlineForm::Break | InlineForm::AsItStood => Ok(false),
+        InlineForm::Nothing | InlineForm::Characters | InlineForm::Shown | InlineForm::PageLink =>
+            Ok(false),
+        InlineForm::ExternalLink | InlineForm::Tag | InlineForm::Break | InlineForm::AsItStood =>
+            Ok(false),
     }
 }
 

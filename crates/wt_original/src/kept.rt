@@ -11,7 +11,7 @@ ghost use Rattle.wt_original.specs.Kept.{Item as AnyItem, kept_nodes, items, vis
 ghost use Rattle.wt_guards.specs.declared.role.Role.TheVariants as role;
 ghost use Rattle.wt_original.specs.Gathered.{item_of, items_seen, blank_ends, found_of, kept_view, IsFactsOf, IsGatheredOf};
 
-use crate::block::{KeptNode, Gathered, Extent, push_visible};
+use crate::block::{Extent, Gathered, KeptNode, push_visible};
 use crate::gather::{Item, push_items, push_shown};
 use crate::kinds::{Sort, shape};
 use std::alloc::{AllocError, Global};
@@ -102,7 +102,8 @@ impl<'s> Facts<'s> {
     fn began_line(self, extent: Extent) -> bool
         ensures { (block : Tree) → IsFactsOf block self.entry → result ≡ began_line block extent }
     {
-        extent.start == self.opening || (0 < extent.start && is_break_before(self.source, extent.start))
+        extent.start == self.opening
+            || (0 < extent.start && is_break_before(self.source, extent.start))
     }
 
     fn ended_line(self, extent: Extent) -> bool
@@ -124,7 +125,9 @@ impl<'s> Facts<'s> {
     fn between_equals(self, extent: Extent) -> bool
         ensures { (block : Tree) → IsFactsOf block self.entry → result ≡ between_equals block extent }
     {
-        0 < extent.from && is_equals(self.seen, extent.from - 1) && is_equals(self.seen, extent.from)
+        0 < extent.from
+            && is_equals(self.seen, extent.from - 1)
+            && is_equals(self.seen, extent.from)
     }
 }
 
@@ -279,7 +282,12 @@ fn url_of(alloc: Global, node: &Node<'_>) -> Result<Role, AllocError>
     Ok(url(opening.as_str(), text.as_str()))
 }
 
-fn mark_of(alloc: Global, facts: Facts<'_>, extent: Extent, node: &Node<'_>) -> Result<Role, NoMemory>
+fn mark_of(
+    alloc: Global,
+    facts: Facts<'_>,
+    extent: Extent,
+    node: &Node<'_>,
+) -> Result<Role, NoMemory>
     ensures { (block : Tree) → IsFactsOf block facts.entry
         → IfOk result (λ r. r ≡ role.Mark (ends_with nat_eq (flat (view node.now)) (10 ∷ [])) (began_line block extent)) }
 {
@@ -298,7 +306,12 @@ fn island_of(alloc: Global, node: &Node<'_>) -> Result<Role, NoMemory>
 }
 
 /// What a node is, by what is asked of its block.
-fn role_of(alloc: Global, facts: Facts<'_>, extent: Extent, node: &Node<'_>) -> Result<Role, NoMemory>
+fn role_of(
+    alloc: Global,
+    facts: Facts<'_>,
+    extent: Extent,
+    node: &Node<'_>,
+) -> Result<Role, NoMemory>
     ensures { (block : Tree) → IsFactsOf block facts.entry → IfOk result (λ r. r ≡ role_of block extent (view node.now)) }
 {
     match shape(node.kind).sort {

@@ -226,8 +226,18 @@ pub fn shape(kind: Kind) -> Spelled
             InlineForm::Tag,
             BlockForm::NoBlock,
         ),
-        Kind::Br => row(ItemsOf::Opaque, Sort::Other, InlineForm::Break, BlockForm::NoBlock),
-        Kind::Entity => row(ItemsOf::Opaque, Sort::Other, InlineForm::Shown, BlockForm::NoBlock),
+        Kind::Br => row(
+            ItemsOf::Opaque,
+            Sort::Other,
+            InlineForm::Break,
+            BlockForm::NoBlock,
+        ),
+        Kind::Entity => row(
+            ItemsOf::Opaque,
+            Sort::Other,
+            InlineForm::Shown,
+            BlockForm::NoBlock,
+        ),
         Kind::Nowiki => row(
             ItemsOf::Delimited,
             Sort::Other,

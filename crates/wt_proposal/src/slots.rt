@@ -305,7 +305,11 @@ fn within<'t, 'a>(old: &'t Node<'a>, child: &Node<'_>) -> Option<&'t Node<'a>>
 }
 
 /// A child that stays in its turn, which is this node of the page.
-fn turn_of<'t, 'a>(beside: Beside<'_, 't, 'a>, old: &'t Node<'a>, child: &Node<'_>) -> ChildOutcome<'t, 'a>
+fn turn_of<'t, 'a>(
+    beside: Beside<'_, 't, 'a>,
+    old: &'t Node<'a>,
+    child: &Node<'_>,
+) -> ChildOutcome<'t, 'a>
     ensures gap { slots_of result.gap ≡ gap_before beside.entry.reached (child_views beside.entry.rest.now) (view old.now) (view child.now) }
     ensures within { (page : Page) → places_within page (view child.now) (option_map (λ n. view n.now) result.within)
         ≡ if_in_turn (is_block_part (label (view child.now)).kind) (places_in page (view old.now) (view child.now)) }

@@ -105,7 +105,12 @@ fn is_body(kind: Kind) -> bool
 }
 
 /// Whether a node is clean that stands between items of these calls.
-fn is_clean(before: Option<u32>, after: Option<u32>, tree: &PieceTree<'_>, walk: TreeProgress) -> bool
+fn is_clean(
+    before: Option<u32>,
+    after: Option<u32>,
+    tree: &PieceTree<'_>,
+    walk: TreeProgress,
+) -> bool
     requires { HasLasts before tree.now walk }
     ensures { result ≡ clean_at before after (item_tree tree.now) }
 {

@@ -16,8 +16,8 @@ ghost use Rattle.wt_annotated.specs.Seams.{text_from};
 use crate::child::Child;
 use std::alloc::Global;
 use wt_annotated::{
-    Sources, TreeProgress, first_call, leaf_ranges, leaf_sources, own_pieces, page_texts, page_width,
-    unnumbered_node, walk_through,
+    Sources, TreeProgress, first_call, leaf_ranges, leaf_sources, own_pieces, page_texts,
+    page_width, unnumbered_node, walk_through,
 };
 use wt_inline::{NodeHead, PieceTree};
 use wt_span::{List, NoMemory, Outer};

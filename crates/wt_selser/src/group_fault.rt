@@ -133,9 +133,15 @@ fn is_faulty_node(alloc: Global, page: &Items<'_>, node: &Node<'_>) -> Result<bo
         return is_faulty_at(alloc, page, node.ranges, node);
     }
     match shape(node.kind).inline {
-        InlineForm::Bold | InlineForm::Italic => has_faulty_group(alloc, page, node.children.as_slice()),
-        InlineForm::Nothing | InlineForm::Characters | InlineForm::Shown | InlineForm::PageLink => Ok(false),
-        InlineForm::ExternalLink | InlineForm::Tag | InlineForm::Break | InlineForm::AsItStood => Ok(false),
+        InlineForm::Bold | InlineForm::Italic => has_faulty_group(
+            alloc,
+            page,
+            node.children.as_slice(),
+        ),
+        InlineForm::Nothing | InlineForm::Characters | InlineForm::Shown | InlineForm::PageLink =>
+            Ok(false),
+        InlineForm::ExternalLink | InlineForm::Tag | InlineForm::Break | InlineForm::AsItStood =>
+            Ok(false),
     }
 }
 

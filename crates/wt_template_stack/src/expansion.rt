@@ -23,14 +23,14 @@ ghost use Rattle.wt_template_stack.specs.Stacks.{stack};
 
 use crate::level::PendingCall;
 use crate::reader::Reader;
-use crate::run::{TextRun, StepOutcome};
+use crate::run::{StepOutcome, TextRun};
 use bumpalo::Bump;
 use std::alloc::Global;
 use std::marker::Model;
 use wt_devices::Folder;
 use wt_names::{Title, full_name};
 use wt_span::{List, Mode, NoMemory, Piece, Str};
-use wt_transclusion::{Braces, ExpandRefusal, ReadText, Store, PageLookup, Values, charge, take};
+use wt_transclusion::{Braces, ExpandRefusal, PageLookup, ReadText, Store, Values, charge, take};
 
 /// The full names of the pages that are being expanded. Contracts see them from the innermost on.
 #[derive(Drop)]

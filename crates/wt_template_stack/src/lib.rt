@@ -13,4 +13,4 @@ pub use expansion::{Expansion, OpenPages};
 pub use level::PendingCall;
 pub use page::{expanded_text, read_page};
 pub use reader::{MOST_BYTES, Reader};
-pub use run::{TextRun, StepOutcome};
+pub use run::{StepOutcome, TextRun};

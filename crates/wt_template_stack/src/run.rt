@@ -17,7 +17,7 @@ ghost use Rattle.wt_template_stack.specs.Runs.{AnswersGoing, AnswersTurn, Begins
 ghost use Rattle.wt_template_stack.specs.declared.level.Task.TheVariants as tasks;
 
 use crate::choosing::{Choosing, given_start, is_whole, part_at, told_end};
-use crate::level::{PendingCall, Level, Levels, Task};
+use crate::level::{Level, Levels, PendingCall, Task};
 use crate::reader::{MOST_BYTES, Reader};
 use std::alloc::Global;
 use wt_braces::PartAt;
@@ -135,7 +135,11 @@ impl<'a> TextRun<'a> {
     }
 
     /// One step. It goes on reading, or ends a level.
-    pub fn step(&mut self, values: &Values<'a>, spent: &mut u64) -> Result<StepOutcome<'a>, ExpandRefusal>
+    pub fn step(
+        &mut self,
+        values: &Values<'a>,
+        spent: &mut u64,
+    ) -> Result<StepOutcome<'a>, ExpandRefusal>
         ensures answer { (r : Reading) (t : List ℕ) (total : Account) → Holds r t self.old (stack self.old.levels) total → AreValues values.now r.frame
             → spent.old ≡ spent_of total → AnswersTurn r t spent.old total self.new spent.new result }
         ensures fault { IfErr result IsNoFault }

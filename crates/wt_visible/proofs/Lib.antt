@@ -8,3 +8,4 @@ pub mod Within
 pub mod Tallies
 pub mod Decided
 mod KeptMarksCases
+pub mod MarksAlone

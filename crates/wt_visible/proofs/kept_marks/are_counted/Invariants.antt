@@ -1,6 +1,6 @@
 use Rattle.std.proofs.Common.{◌≡◌, ◌+◌, ℕ, List, map, take}
 use Rattle.wt_visible.specs.Tally.{counted, times, trimmed}
-use Rattle.wt_visible.proofs.kept_marks.stand_among.Given as goal
+use Rattle.wt_visible.proofs.kept_marks.are_counted.Given as goal
 
 abbrev pub invariant-loop-text : goal.invariant-loop-text
 invariant-loop-text l =
