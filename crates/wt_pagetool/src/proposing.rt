@@ -100,14 +100,14 @@ fn marked<'a>(
     found: KnownPage<'a>,
     edit: &EditedPage<'_, 'a>,
 ) -> Result<Tried<'a>, NoMemory>
-    requires body { (label (view edit.now.tree.now)).kind ≡ kind.Body }
-    requires numbered { ∥ InPreorder (view edit.now.tree.now) ∥₁ }
+    requires index { indexed edit.now.index.now ≡ page_of (view edit.now.tree.now) }
     ensures { IfOk result (MarkedAs found.entry (view edit.now.tree.now) (view edit.now.edited.now) new) }
 {
     let keeps = keeps_marks(
         edit.memory.alloc,
         found.annotated.body(),
         edit.tree,
+        edit.index,
         edit.edited,
     )?;
     if keeps {
@@ -126,6 +126,7 @@ fn tried_marks<'a, F: Folder>(
 ) -> Result<Tried<'a>, Refusal>
     requires body { (label (view edit.now.tree.now)).kind ≡ kind.Body }
     requires numbered { ∥ InPreorder (view edit.now.tree.now) ∥₁ }
+    requires index { indexed edit.now.index.now ≡ page_of (view edit.now.tree.now) }
     requires known { HoldsPages expansion }
     requires left { readings.old < MOST_READINGS }
     ensures tried { (pages : Pages) → F.pages folder.old ≡ Some pages → KnowsOf pages expansion.entry
