@@ -22,7 +22,7 @@ use Rattle.wt_transclusion.specs.declared.refusal.ExpandRefusal.TheVariants as o
 use Rattle.wt_tree.specs.Tree.{Tree}
 use Rattle.wt_tree.specs.View.{view}
 use Rattle.wt_utf8.proofs.PlaceLaws.{no_place}
-use Rattle.wt_pagetool.specs.declared.known_page.KnownPage.{KnownPage}
+use Rattle.wt_edit.specs.declared.known.KnownPage.{KnownPage}
 use Rattle.wt_pagetool.specs.declared.output.Output.{Output}
 use Rattle.wt_pagetool.specs.declared.output.Output.TheVariants as output
 use Rattle.wt_pagetool.specs.declared.proposing.Tried.{Tried}
