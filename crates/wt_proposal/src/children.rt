@@ -1,11 +1,12 @@
 //! A list of children that is written anew: what goes, what comes, and the line breaks between.
 
-use crate::blocks::{Surroundings, push_block};
-use crate::kinds::{is_cell, is_item, is_lined, is_list, is_part};
-use crate::known::{Known, last_text, signs_of};
 use crate::proposing::{Numbering, Plan};
 use crate::slot::Slot;
 use std::alloc::Global;
+use wt_block_proposal::{
+    Surroundings, is_cell, is_item, is_lined, is_list, is_part, push_block, signs_of,
+};
+use wt_content_proposal::{Known, last_text};
 use wt_difference::{Child, inside, is_compared};
 use wt_selser::Change;
 use wt_span::{NoMemory, Str};

@@ -7,8 +7,6 @@ ghost use Rattle.wt_tree.specs.View.{view};
 ghost use Rattle.wt_proposal.specs.Rewritten.{IsRewritten};
 
 use crate::children::{Gap, push_change, push_gap};
-use crate::inline::{Writing, edges_of, spelled};
-use crate::known::{Known, block_of, signs_of};
 use crate::reached::Reached;
 use crate::slot::Slot;
 use crate::slots::{
@@ -16,7 +14,9 @@ use crate::slots::{
 };
 use crate::testing::tested;
 use std::alloc::Global;
+use wt_block_proposal::signs_of;
 use wt_checks::Visit;
+use wt_content_proposal::{Known, Writing, block_of, edges_of, spelled};
 use wt_difference::{Child, held, inside, same_inside};
 use wt_selser::{Change, place_in};
 use wt_span::{NoMemory, Str};

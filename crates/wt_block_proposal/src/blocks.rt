@@ -4,11 +4,11 @@ use crate::delimiters::{
     push_begun, push_closing, push_heading_end, push_heading_start, push_opening, push_signs,
     shares_line,
 };
-use crate::inline::{Edges, Writing, edges_of, spelled};
+use crate::items::sign_of;
 use crate::kinds::{is_item, is_list};
-use crate::known::{Block, Known, block_of, sign_of};
 use std::alloc::Global;
 use wt_checks::original;
+use wt_content_proposal::{Block, Edges, Known, Writing, block_of, edges_of, spelled};
 use wt_difference::{are_same, inside, is_block_part};
 use wt_selser::place_in;
 use wt_span::{NoMemory, Str};
