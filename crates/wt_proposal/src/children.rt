@@ -233,7 +233,7 @@ fn push_gone(
     wanted: usize,
 ) -> Result<(), NoMemory> {
     let mut standing = 0;
-    let mut at = gap.place.start;
+    let mut at = gap.blanks;
     let mut left = slices.len();
     for slice in slices {
         left = left.saturating_sub(1);
@@ -633,6 +633,9 @@ pub fn push_gap<'t, 'a>(
     outer: &str,
     gap: Gap<'_, 't, 'a>,
 ) -> Result<(), NoMemory> {
+    if count_of(gap.new) == 0 {
+        return push_part(alloc, out, plan, outer, gap);
+    }
     let mut passed = Passed::of(gap);
     let mut from = 0;
     let last = last_number(gap.gone);
