@@ -280,7 +280,7 @@ fn push_lines(
 }
 
 /// Appends a block as it stood in the page, where it stood there as it is; it says whether it does. An item
-/// stands so only with its signs.
+/// stands so only with its signs, a row with its sign.
 fn push_if_standing(
     alloc: Global,
     out: &mut Str,
@@ -294,6 +294,9 @@ fn push_if_standing(
     let Some(source) = source_standing(alloc, around.known, node)? else {
         return Ok(false);
     };
+    if matches!(node.kind, Kind::Tr) && !source.as_str().starts_with("|-") {
+        return Ok(false);
+    }
     push_begun(out, node.kind, source.as_str())?;
     Ok(true)
 }

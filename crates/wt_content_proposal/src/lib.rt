@@ -3,8 +3,11 @@
 #![tactic(auto)]
 
 mod common;
+mod groups;
 mod inline;
+mod joints;
 mod known;
+mod links;
 mod texts;
 
 pub use inline::{Edges, Writing, edges_of, joined, spelled};

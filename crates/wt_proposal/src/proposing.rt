@@ -216,7 +216,7 @@ impl Line {
 }
 
 /// The children from one place up to another; none where there are none.
-fn children_between<'w, 't, 'a>(
+pub fn children_between<'w, 't, 'a>(
     children: &'w [Child<'t, 'a>],
     from: usize,
     to: usize,
@@ -228,7 +228,7 @@ fn children_between<'w, 't, 'a>(
     }
 }
 
-fn nodes_between<'w, 'a>(nodes: &'w [Node<'a>], from: usize, to: usize) -> &'w [Node<'a>] {
+pub fn nodes_between<'w, 'a>(nodes: &'w [Node<'a>], from: usize, to: usize) -> &'w [Node<'a>] {
     if from <= to && to <= nodes.len() {
         &nodes[from..to]
     } else {
@@ -253,6 +253,8 @@ fn push_span<'t, 'a>(
     let behind = if span.is_last { None } else { Some(span.to) };
     let gap = Gap {
         place: span.place,
+        blanks: span.place.start,
+        in_item: !held.signs.is_empty(),
         before: node_at(held.children, span.from.checked_sub(1)),
         behind: node_at(held.children, behind),
         gone: children_between(held.children, span.from, span.to),
