@@ -1,0 +1,12 @@
+pub mod PlainWords
+pub mod PlainPages
+pub mod PlainBytes
+pub mod PlainSpelling
+pub mod CalmLines
+pub mod PlainRows
+pub mod PlainMeaning
+pub mod LoneTrees
+pub mod LoneAnswers
+pub mod TakesText
+pub mod TypedText
+mod Cases

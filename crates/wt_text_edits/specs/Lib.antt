@@ -1,0 +1,3 @@
+pub mod PlainTexts
+pub mod LonePages
+pub mod LoneEdits

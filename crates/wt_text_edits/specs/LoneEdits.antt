@@ -1,0 +1,12 @@
+-- What an editor sends for such a page: the paragraph, marked, with another text in it.
+use Rattle.std.specs.Prelude.{ℕ, None, List, []}
+use Rattle.wt_tree.specs.declared.kind.Kind.TheVariants as kind
+use Rattle.wt_tree.specs.declared.kind.Mark.TheVariants as marks
+use Rattle.wt_tree.specs.Tree.{Label, Tree, tree, none, more}
+
+-- Of the body, the paragraph and the text all else may be anything: where they say that they stand in the page, and their source.
+abbrev pub sent : Label → Label → Label → List ℕ → Tree
+sent b p t text =
+    tree (record b { kind = kind.Body; id = 0; attrs = []; mark = marks.Nothing })
+    (more (tree (record p { kind = kind.Para; id = 1; attrs = []; mark = marks.Content; mw = None })
+    (more (tree (record t { kind = kind.Text; id = 0; shown = text; mark = marks.Nothing }) none) none)) none)

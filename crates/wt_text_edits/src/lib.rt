@@ -1,0 +1,56 @@
+//! Laws of text edits: where they are accepted, whatever was typed.
+#![tactic(auto)]
+
+ghost use Rattle.std.specs.Prelude.{◌≡◌, ◌≤◌, ℕ, List, length, Option, false, None, Some};
+ghost use Rattle.std.specs.Str.{IsUtf8};
+ghost use Rattle.wt_span.specs.declared.limits.TheConstants.{HTML_BYTES, PAGE_BYTES};
+ghost use Rattle.wt_devices.specs.Device.{Pages};
+ghost use Rattle.wt_tree.specs.Tree.{Label};
+ghost use Rattle.wt_guards.specs.declared.side.Place.TheVariants as place;
+ghost use Rattle.wt_guards.specs.Content.{letters};
+ghost use Rattle.wt_guards.specs.Guards.{Setting, spelled};
+ghost use Rattle.wt_expand.specs.PageCalls.{expanded_page};
+ghost use Rattle.wt_expand.specs.PageItems.{page_items};
+ghost use Rattle.wt_schema.specs.Read.{page as as_page, read};
+ghost use Rattle.wt_page_round_trip.specs.PageTree.{page_tree};
+ghost use Rattle.wt_pagetool.specs.Answers.{done, edit_of, edit_to, refusal_of_page};
+ghost use Rattle.wt_text_edits.specs.LoneEdits.{sent};
+ghost use Rattle.wt_text_edits.specs.LonePages.{lone_page, of_items};
+ghost use Rattle.wt_text_edits.specs.PlainTexts.{IsPlainText};
+
+/// Text of a paragraph, a heading, an item or a cell, whatever somebody typed there, calls nothing: as a
+/// page of its own it has no calls and no arguments, nothing is fetched for it, and nothing refuses it.
+#[tactic(auto, using(crate::proofs::TypedText::typed_expanded, crate::proofs::TypedText::typed_unrefused))]
+pub fn typed_text_calls_nothing()
+    ensures expanded { (pages : Pages) (s : Setting) (text : List ℕ) → IsUtf8 text
+        → expanded_page pages (spelled s (letters text)) ≡ of_items (page_items (spelled s (letters text))) }
+    ensures unrefused { (pages : Pages) (s : Setting) (text : List ℕ) → IsUtf8 text → refusal_of_page pages (spelled s (letters text)) ≡ None }
+{}
+
+/// Plain text is spelled as it stands: `edit` puts no `<nowiki/>` into it and writes no character as a
+/// reference, whatever the source of its paragraph was.
+#[tactic(auto, using(crate::proofs::PlainSpelling::plain_spelled))]
+pub fn plain_text_stands()
+    ensures { (source text : List ℕ) → IsPlainText text
+        → spelled (record { within = false; place = place.Paragraph; source = source }) (letters text) ≡ text }
+{}
+
+/// A page that is plain text is one paragraph that holds one text, whatever the folder has: its tree is
+/// that, and nothing refuses its expansion.
+#[tactic(auto, using(crate::proofs::TakesText::tree_of_plain, crate::proofs::TakesText::plain_unrefused_page))]
+pub fn plain_page_is_one_paragraph()
+    ensures tree { (pages : Pages) (page : List ℕ) → IsPlainText page → page_tree pages page ≡ lone_page page }
+    ensures unrefused { (pages : Pages) (page : List ℕ) → IsPlainText page → refusal_of_page pages page ≡ None }
+{}
+
+/// A page that is one paragraph of plain text takes any other plain text: an edit that sends its
+/// paragraph marked `content` with this text in it is done, and the new page is this text. So it is, too,
+/// for each input that is read as such a tree.
+#[tactic(auto, using(crate::proofs::TakesText::takes_text, crate::proofs::TakesText::edit_takes_text))]
+pub fn lone_paragraph_takes_text()
+    ensures tree { (pages : Pages) (page text : List ℕ) (b p t : Label) → IsPlainText page → IsPlainText text → length text ≤ PAGE_BYTES
+        → edit_to pages page (sent b p t text) ≡ done text }
+    ensures edit { (pages : Pages) (page text input : List ℕ) (b p t : Label) (unsourced : Option ℕ) → IsPlainText page → IsPlainText text
+        → length page ≤ PAGE_BYTES → length text ≤ PAGE_BYTES → length input ≤ HTML_BYTES → read input ≡ as_page (sent b p t text) unsourced
+        → edit_of pages (Some page) input ≡ done text }
+{}
