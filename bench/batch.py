@@ -1,17 +1,19 @@
 #!/usr/bin/env python3
 """Measures `wtround-batch`: pages a second, there and back, on one processor and on all of them.
 
-  bench/batch.py [--pages N] [--rounds N] [--from FOLDER] [--commands WORDS]
+  bench/batch.py [--pages N] [--rounds N] [--from FOLDER] [--commands WORDS] [--watch]
 
 It makes N pages (10,000) from those of examples/ and from the sections that `wtround gen` makes, one to
 forty of them, or takes N copies of the pages of FOLDER in turn. Then it runs `tools/batch` over them in
 turn on one processor and on all, each time from nothing, and prints for each run the pages and megabytes
-a second, the processor time of all its processes, on how many processors they ran at once on average, how
-many they wanted (on which they ran, or for which they waited), and the peak memory of the largest.
+a second, the processor time of all its processes, on how many processors they ran at once on average, and
+the peak memory of the largest.
 
 On a machine that does other work the rates depend on that work. What can be told there is how far more
 processors would help: the rates of two runs are as their processors divided by their processor times, as
-long as no fewer processors are wanted than there are.
+long as no fewer processors are wanted than there are. With --watch it prints how many they wanted (on
+which they ran, or for which they waited); to see this takes a tenth of a processor or more, and so makes
+the runs on all processors slower.
 """
 import argparse
 import os
@@ -93,7 +95,9 @@ class Watcher(threading.Thread):
         return sum(ran + waited for ran, waited in self._seen.values()) / 1e9
 
 
-def run(root: Path, processors: "set[int]", commands: str) -> "tuple[float, float, float, float]":
+def run(
+    root: Path, processors: "set[int]", commands: str, is_watched: bool
+) -> "tuple[float, float, float | None, float]":
     """Seconds, seconds of processor time, those that were wanted, and MB of the largest process."""
     for name in ("state", "state.lock", "state-wal", "state-shm"):
         (root / name).unlink(missing_ok=True)
@@ -113,15 +117,17 @@ def run(root: Path, processors: "set[int]", commands: str) -> "tuple[float, floa
         command, cwd=root, stderr=subprocess.DEVNULL, preexec_fn=lambda: os.sched_setaffinity(0, processors)
     )
     watcher = Watcher(process.pid)
-    watcher.start()
+    if is_watched:
+        watcher.start()
     if process.wait() != 0:
         raise SystemExit("the run failed")
     seconds = time.monotonic() - started
-    watcher.is_stopped.set()
-    watcher.join()
+    if is_watched:
+        watcher.is_stopped.set()
+        watcher.join()
     after = resource.getrusage(resource.RUSAGE_CHILDREN)
     used = after.ru_utime + after.ru_stime - before.ru_utime - before.ru_stime
-    return seconds, used, watcher.wanted(), after.ru_maxrss / 1000
+    return seconds, used, watcher.wanted() if is_watched else None, after.ru_maxrss / 1000
 
 
 def main() -> None:
@@ -132,6 +138,7 @@ def main() -> None:
     parser.add_argument("--rounds", type=int, default=3)
     parser.add_argument("--from", dest="folder", type=Path)
     parser.add_argument("--commands", default="wikitext")
+    parser.add_argument("--watch", action="store_true")
     arguments = parser.parse_args()
     taken = sorted(arguments.folder.glob("*.wiki")) if arguments.folder else []
     everything = os.sched_getaffinity(0)
@@ -144,13 +151,14 @@ def main() -> None:
         for _ in range(arguments.rounds):
             rates, times = {}, {}
             for processors in ({min(everything)}, everything):
-                seconds, used, wanted, peak = run(root, processors, arguments.commands)
+                seconds, used, wanted, peak = run(root, processors, arguments.commands, arguments.watch)
                 count = len(processors)
                 rates[count], times[count] = arguments.pages / seconds, used
                 print(
                     f"{count} processors: {rates[count]:,.0f} pages/s, {size / seconds / 1e6:.2f} MB/s, "
                     f"{seconds:.1f} s, {used:.1f} s of processor time, on {used / seconds:.2f} processors, "
-                    f"{wanted / seconds:.2f} wanted, peak {peak:.0f} MB"
+                    + ("" if wanted is None else f"{wanted / seconds:.2f} wanted, ")
+                    + f"peak {peak:.0f} MB"
                 )
             count = len(everything)
             print(

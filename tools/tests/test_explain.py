@@ -52,6 +52,13 @@ class Places(unittest.TestCase):
         self.assertEqual(found, [b"one<", b"two<", b"thre", b"four", b"five", b"six<"])
         self.assertIsNone(place_of("edit refused: Unspelled 7", html))
 
+    def test_calls_that_give_nothing_are_no_blocks(self) -> None:
+        html = (
+            b'<html><body><span about="#mwt1" typeof="mw:Transclusion" id="mw1" data-mw=\'{"a":">"}\'></span>'
+            b'<ul id="mw2"><li id="mw3">a</li></ul></body></html>'
+        )
+        self.assertEqual(html[place_of("edit refused: Unspelled 1", html) :][:3], b"<ul")
+
     def test_lines_and_columns(self) -> None:
         data = "ab\n日本 é\tx\n\n".encode()
         for place, wanted in {0: (1, 1), 2: (1, 3), 3: (2, 1), 9: (2, 3), 12: (2, 5), 14: (2, 7), 15: (3, 1), 16: (4, 1)}.items():
@@ -101,6 +108,11 @@ class Lines(unittest.TestCase):
             with self.subTest(line=line):
                 self.assertEqual(tool.read_refusal(f"wtround: {line}\n"), tool.read_refusal(line))
                 self.assertTrue(tool.read_refusal(line).advice.endswith("."))
+
+    def test_no_block_at_fault(self) -> None:
+        refusal = tool.read_refusal("wtround: edit refused: Unspelled 0")
+        self.assertIsNone(refusal.locate)
+        self.assertIn("No block is at fault", refusal.advice)
 
     def test_other_lines_are_refused(self) -> None:
         for line in ["", "bash: wtround: command not found", "wtround: no such", "html refused at 5: Other"]:

@@ -6,7 +6,7 @@ import selectors
 import subprocess
 import sys
 from collections import deque
-from dataclasses import asdict, dataclass
+from dataclasses import asdict, dataclass, replace
 from typing import Callable, Generator, Iterator
 
 from .program import end_with_parent
@@ -60,6 +60,7 @@ class Worker:
             preexec_fn=end_with_parent,
         )
         self.batches: "deque[list[Task]]" = deque()
+        self.processor = orders.processor
         assert self.process.stdin is not None and self.process.stdout is not None
         self.output = self.process.stdout.fileno()
         self._frames = FrameReader(self.output)
@@ -124,6 +125,8 @@ class Engine:
         self._selector = selectors.DefaultSelector()
         self._workers: "list[Worker]" = []
         self._again: "deque[list[Task]]" = deque()  # pages whose worker ended, each by itself
+        processors = sorted(os.sched_getaffinity(0))
+        self._free_processors = processors if len(processors) == jobs else []
         for _ in range(jobs):
             self._start_worker()
 
@@ -159,7 +162,8 @@ class Engine:
                 self._workers[number].send(batch)
 
     def _start_worker(self) -> None:
-        worker = Worker(self._orders)
+        processor = self._free_processors.pop(0) if self._free_processors else None
+        worker = Worker(replace(self._orders, processor=processor))
         self._workers.append(worker)
         self._selector.register(worker.output, selectors.EVENT_READ, worker)
 
@@ -170,6 +174,8 @@ class Engine:
         self._selector.unregister(worker.output)
         self._workers.remove(worker)
         worker.close()
+        if worker.processor is not None:
+            self._free_processors.append(worker.processor)
         # Each page is tried by itself, so that the one at fault is found.
         at_fault = worker.batches.popleft() if worker.batches and len(worker.batches[0]) == 1 else []
         self._again.extend([task] for batch in worker.batches for task in batch)

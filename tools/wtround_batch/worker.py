@@ -83,6 +83,7 @@ class Orders:
     output: str  # `files`, `lines` or `nothing`
     output_folder: str
     is_packed: bool
+    processor: "int | None" = None  # the one to run on
 
     def source(self) -> "Folder | Export":
         return Export(*self.export) if self.export is not None else Folder(self.pages or "")
@@ -146,6 +147,9 @@ def main() -> int:
     if first is None:
         return 0
     orders = Orders(**{name: value for name, value in first[0].items() if name != "payload"})
+    if orders.processor is not None:
+        # The worker and its program take turns: where both run on one processor, neither wakes another one up.
+        os.sched_setaffinity(0, {orders.processor})
     cases = Cases(orders.program, orders.memory_limit)
     sink = orders.sink()
     examiner = Examiner(cases, orders.source(), orders.time_limit, orders.output != "nothing")

@@ -14,7 +14,7 @@ use wt_span::Outer;
 
 /// How far a walk through a tree has come: at the end of its opening, of its inside and of all.
 #[derive(Clone, Copy)]
-pub struct Walk {
+pub struct TreeProgress {
     pub opened: Progress,
     pub filled: Progress,
     pub closed: Progress,
@@ -45,7 +45,11 @@ fn past_trees<'a>(calls: &[Outer<'a>], from: Progress, trees: &[PieceTree<'a>]) 
 }
 
 /// A walk through a tree, behind an item of the call `before`.
-pub fn walk_through<'a>(calls: &[Outer<'a>], before: Option<u32>, tree: &PieceTree<'a>) -> Walk
+pub fn walk_through<'a>(
+    calls: &[Outer<'a>],
+    before: Option<u32>,
+    tree: &PieceTree<'a>,
+) -> TreeProgress
     requires { length (text_from (outer_calls calls.now) before (tree_items (item_tree tree.now))) < 2 ^ 32 }
     ensures lasts { HasLasts before tree.now result }
     ensures widths { HasWidths (outer_calls calls.now) before tree.now result }
@@ -53,7 +57,7 @@ pub fn walk_through<'a>(calls: &[Outer<'a>], before: Option<u32>, tree: &PieceTr
     let opened = past_pieces(calls, outset(before), tree.opening.as_slice());
     let filled = past_trees(calls, opened, tree.children.as_slice());
     let closed = past_pieces(calls, filled, tree.closing.as_slice());
-    Walk {
+    TreeProgress {
         opened,
         filled,
         closed,

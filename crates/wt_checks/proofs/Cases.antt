@@ -10,7 +10,7 @@ use Rattle.wt_tree.specs.declared.kind.Mark.TheVariants as marks
 use Rattle.wt_tree.specs.declared.node.DataMw.TheVariants as data_mw
 use Rattle.wt_tree.specs.declared.node.Part.TheVariants as part
 use Rattle.wt_tree.specs.Tree.{Label, Tree, tree, none, trees}
-use Rattle.wt_checks.specs.declared.refusal.Check.TheVariants.{UnknownId, RepeatedId, Moved, InTemplate, NotEditable, UnmarkedChange}
+use Rattle.wt_checks.specs.declared.refusal.TreeRefusal.TheVariants.{UnknownId, RepeatedId, Moved, InTemplate, NotEditable, UnmarkedChange}
 use Rattle.wt_checks.specs.Alike.{same_kind, same_data}
 use Rattle.wt_checks.specs.Checked.{checked}
 

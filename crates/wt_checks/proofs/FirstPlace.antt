@@ -2,8 +2,8 @@
 use Rattle.std.proofs.Common.{◌≡◌, ◌<◌, ℕ, suc, Bool, true, false, List, [], ◌∷◌, ◌++◌, length, refl, sym, ap, ◌∙◌, subst, arith, append_assoc, append-nil, inl, inr, ◌⊎◌}
 use Rattle.std.specs.Prelude.{if◌then◌else◌, Option, Some, None}
 use Rattle.wt_tree.specs.Tree.{Tree}
-use Rattle.wt_checks.specs.declared.refusal.Check.{Check}
-use Rattle.wt_checks.specs.declared.refusal.Check.TheVariants.{UnknownId, RepeatedId, Moved, InTemplate, NotEditable, UnmarkedChange}
+use Rattle.wt_checks.specs.declared.refusal.TreeRefusal.{TreeRefusal}
+use Rattle.wt_checks.specs.declared.refusal.TreeRefusal.TheVariants.{UnknownId, RepeatedId, Moved, InTemplate, NotEditable, UnmarkedChange}
 use Rattle.wt_checks.specs.Checked.{or_else, checked}
 use Rattle.wt_checks.specs.FirstRefusal.{condition, node_of, rank, NotBefore, IsFirst, IsFirstRefusal}
 use Rattle.wt_checks.specs.Groups.{is_in_template}
@@ -105,7 +105,7 @@ nowhere holds ps n h = λ before p after e l. nowhere_from holds [] ps h before 
 
 -- ---- all of them
 
-or_is : (o : Option ℕ) (f : ℕ → Check) (rest : Option Check) (c : Check) → or_else o f rest ≡ Some c
+or_is : (o : Option ℕ) (f : ℕ → TreeRefusal) (rest : Option TreeRefusal) (c : TreeRefusal) → or_else o f rest ≡ Some c
     → ((n : ℕ) × (o ≡ Some n) × (f n ≡ c)) ⊎ ((o ≡ None) × (rest ≡ Some c))
 or_is None f rest c e = inr (refl, e)
 or_is (Some n) f rest c e = let d : f n ≡ c = cc in inl (n, refl, d)
@@ -120,7 +120,7 @@ record Before (values : Bool) (page : Page) (ps : List Place) (k : ℕ) : Type 0
   last : k < 7
 
 order_of : (values : Bool) (page : Page) (ps : List Place) (k : ℕ) → Before values page ps k
-    → (d : Check) → rank d < k → NotBefore (condition values page d) ps (length ps)
+    → (d : TreeRefusal) → rank d < k → NotBefore (condition values page d) ps (length ps)
 order_of values page ps k b (UnknownId n) l = nowhere (is_unknown page) ps (length ps) (b.unknown l)
 order_of values page ps k b (RepeatedId n) l = nowhere is_repeated ps (length ps) (b.repeated l)
 order_of values page ps k b (Moved n) l = nowhere (is_moved page) ps (length ps) (b.moved l)
@@ -128,24 +128,24 @@ order_of values page ps k b (InTemplate n) l = nowhere (is_in_template values pa
 order_of values page ps k b (NotEditable n) l = nowhere (is_wrongly_marked page) ps (length ps) (b.marked l)
 order_of values page ps k b (UnmarkedChange n) l = absurd (omega (arith, l, b.last))
 
-refusal_is : (values : Bool) (page edited : Tree) (c d : Check) → d ≡ c → first (condition values (page_of page) d) (places edited) ≡ Some (node_of d)
+refusal_is : (values : Bool) (page edited : Tree) (c d : TreeRefusal) → d ≡ c → first (condition values (page_of page) d) (places edited) ≡ Some (node_of d)
     → Before values (page_of page) (places edited) (rank d) → IsFirstRefusal values page edited c
 refusal_is values page edited c d e f b =
-    subst (λ (x : Check). IsFirstRefusal values page edited x) e (record {
+    subst (λ (x : TreeRefusal). IsFirstRefusal values page edited x) e (record {
       place = is_first (condition values (page_of page) d) (places edited) (node_of d) f;
       order = order_of values (page_of page) (places edited) (rank d) b;
     })
 
-pub answered : (values : Bool) (page edited : Tree) (c : Check) → checked values page edited ≡ Some c → IsFirstRefusal values page edited c
+pub answered : (values : Bool) (page edited : Tree) (c : TreeRefusal) → checked values page edited ≡ Some c → IsFirstRefusal values page edited c
 unfolding checked
 answered values page edited c e =
     let p : Page = page_of page in
     let es : List Place = places edited in
-    let six : Option Check = or_else (first (is_unmarked_change p) es) UnmarkedChange None in
-    let five : Option Check = or_else (first (is_wrongly_marked p) es) NotEditable six in
-    let four : Option Check = or_else (first (is_in_template values p) es) InTemplate five in
-    let three : Option Check = or_else (first (is_moved p) es) Moved four in
-    let two : Option Check = or_else (first is_repeated es) RepeatedId three in
+    let six : Option TreeRefusal = or_else (first (is_unmarked_change p) es) UnmarkedChange None in
+    let five : Option TreeRefusal = or_else (first (is_wrongly_marked p) es) NotEditable six in
+    let four : Option TreeRefusal = or_else (first (is_in_template values p) es) InTemplate five in
+    let three : Option TreeRefusal = or_else (first (is_moved p) es) Moved four in
+    let two : Option TreeRefusal = or_else (first is_repeated es) RepeatedId three in
     elim (or_is (first (is_unknown p) es) UnknownId two c e) [
       | inl a ↦ refusal_is values page edited c (UnknownId a.0) a.2 a.1 (record {
         unknown = λ l. absurd (omega (arith, l));
@@ -208,5 +208,5 @@ answered values page edited c e =
       ]
     ]
   where
-    none_some : (d : Check) → None ≡ Some d → ⊥
+    none_some : (d : TreeRefusal) → None ≡ Some d → ⊥
     none_some d h = absurd (cc)

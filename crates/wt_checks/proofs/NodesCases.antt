@@ -2,7 +2,7 @@
 use Rattle.std.proofs.Common.{◌≡◌, true, false, Some, None, [], ◌∷◌, refl, codes}
 use Rattle.wt_tree.specs.declared.kind.Kind.TheVariants as kind
 use Rattle.wt_tree.specs.Tree.{Tree}
-use Rattle.wt_checks.specs.declared.refusal.Check.TheVariants.{UnknownId, RepeatedId, Moved, InTemplate}
+use Rattle.wt_checks.specs.declared.refusal.TreeRefusal.TheVariants.{UnknownId, RepeatedId, Moved, InTemplate}
 use Rattle.wt_checks.specs.Alike.{same_kind, same_data}
 use Rattle.wt_checks.specs.Checked.{checked, nodes_checked}
 use Rattle.wt_checks.specs.WithoutMarks.{unmarked, groups_unmarked}

@@ -11,7 +11,7 @@ use Rattle.wt_tree.specs.Kinds.{showing, writing}
 use Rattle.wt_tree.specs.Plain.{Plains}
 use Rattle.wt_tree.specs.Tiling.{is_group}
 use Rattle.wt_tree.specs.Tree.{Label, Tree, tree, Trees, none, more, label}
-use Rattle.wt_checks.specs.declared.refusal.Check.TheVariants.{UnknownId, RepeatedId, InTemplate}
+use Rattle.wt_checks.specs.declared.refusal.TreeRefusal.TheVariants.{UnknownId, RepeatedId, InTemplate}
 use Rattle.wt_checks.specs.Alike.{same_attrs, same_data}
 use Rattle.wt_checks.specs.Checked.{or_else, nodes_checked}
 use Rattle.wt_checks.specs.Elements.{read_by, read_before, all_read, written_for, signs_in}

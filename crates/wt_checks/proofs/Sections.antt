@@ -11,7 +11,7 @@ use Rattle.wt_tree.specs.Kinds.{writing, is_section}
 use Rattle.wt_tree.specs.Opened.{opened, opened_before, all_opened_before, without_sections}
 use Rattle.wt_tree.specs.Tiling.{is_group}
 use Rattle.wt_tree.specs.Tree.{Label, Tree, tree, Trees, none, more, label}
-use Rattle.wt_checks.specs.declared.refusal.Check.TheVariants.{UnknownId, RepeatedId, Moved, InTemplate, NotEditable, UnmarkedChange}
+use Rattle.wt_checks.specs.declared.refusal.TreeRefusal.TheVariants.{UnknownId, RepeatedId, Moved, InTemplate, NotEditable, UnmarkedChange}
 use Rattle.wt_checks.specs.BareSections.{IsBareSection, AreBareSections, HasBareSections}
 use Rattle.wt_checks.specs.Checked.{or_else, refused, checked}
 use Rattle.wt_checks.specs.Groups.{is_changed_group, is_marked, is_in_template}

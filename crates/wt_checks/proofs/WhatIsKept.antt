@@ -4,8 +4,8 @@ use Rattle.std.specs.Prelude.{Option, Some, None, filter}
 use Rattle.wt_tree.specs.declared.kind.Kind.TheVariants as kind
 use Rattle.wt_tree.specs.Tiling.{InPreorder, numbers}
 use Rattle.wt_tree.specs.Tree.{Tree, label}
-use Rattle.wt_checks.specs.declared.refusal.Check.{Check}
-use Rattle.wt_checks.specs.declared.refusal.Check.TheVariants.{UnknownId, RepeatedId, Moved, InTemplate, NotEditable, UnmarkedChange}
+use Rattle.wt_checks.specs.declared.refusal.TreeRefusal.{TreeRefusal}
+use Rattle.wt_checks.specs.declared.refusal.TreeRefusal.TheVariants.{UnknownId, RepeatedId, Moved, InTemplate, NotEditable, UnmarkedChange}
 use Rattle.wt_checks.specs.Checked.{or_else, checked}
 use Rattle.wt_checks.specs.Groups.{is_in_template}
 use Rattle.wt_checks.specs.Ids.{is_unknown, is_repeated, is_moved}
@@ -17,11 +17,11 @@ use Rattle.wt_checks.proofs.AsItWas.{each_place, no_place, group_kept, kept_grou
 use Rattle.wt_checks.proofs.InOrder.{nowhere, none_first, Increasing, range_increasing, in_order, none_of_them}
 use Rattle.wt_checks.proofs.Lookups.{page_numbers}
 
-or_none : (o : Option ℕ) (f : ℕ → Check) (rest : Option Check) → or_else o f rest ≡ None → (o ≡ None) × (rest ≡ None)
+or_none : (o : Option ℕ) (f : ℕ → TreeRefusal) (rest : Option TreeRefusal) → or_else o f rest ≡ None → (o ≡ None) × (rest ≡ None)
 or_none None f rest e = (refl, e)
 or_none (Some n) f rest e = absurd (cc)
 
-none_or : (o : Option ℕ) (f : ℕ → Check) (rest : Option Check) → o ≡ None → rest ≡ None → or_else o f rest ≡ None
+none_or : (o : Option ℕ) (f : ℕ → TreeRefusal) (rest : Option TreeRefusal) → o ≡ None → rest ≡ None → or_else o f rest ≡ None
 none_or None f rest e h = h
 none_or (Some n) f rest e h = absurd (cc)
 
@@ -33,11 +33,11 @@ unfolding checked
 kept values page edited b h e =
     let p : Page = page_of page in
     let es : List Place = places edited in
-    let six : Option Check = or_else (first (is_unmarked_change p) es) UnmarkedChange None in
-    let five : Option Check = or_else (first (is_wrongly_marked p) es) NotEditable six in
-    let four : Option Check = or_else (first (is_in_template values p) es) InTemplate five in
-    let three : Option Check = or_else (first (is_moved p) es) Moved four in
-    let two : Option Check = or_else (first is_repeated es) RepeatedId three in
+    let six : Option TreeRefusal = or_else (first (is_unmarked_change p) es) UnmarkedChange None in
+    let five : Option TreeRefusal = or_else (first (is_wrongly_marked p) es) NotEditable six in
+    let four : Option TreeRefusal = or_else (first (is_in_template values p) es) InTemplate five in
+    let three : Option TreeRefusal = or_else (first (is_moved p) es) Moved four in
+    let two : Option TreeRefusal = or_else (first is_repeated es) RepeatedId three in
     let a = or_none (first (is_unknown p) es) UnknownId two e in
     let r = or_none (first is_repeated es) RepeatedId three a.1 in
     let m = or_none (first (is_moved p) es) Moved four r.1 in
@@ -57,11 +57,11 @@ unfolding checked
 unrefused values page edited b h k =
     let p : Page = page_of page in
     let es : List Place = places edited in
-    let six : Option Check = or_else (first (is_unmarked_change p) es) UnmarkedChange None in
-    let five : Option Check = or_else (first (is_wrongly_marked p) es) NotEditable six in
-    let four : Option Check = or_else (first (is_in_template values p) es) InTemplate five in
-    let three : Option Check = or_else (first (is_moved p) es) Moved four in
-    let two : Option Check = or_else (first is_repeated es) RepeatedId three in
+    let six : Option TreeRefusal = or_else (first (is_unmarked_change p) es) UnmarkedChange None in
+    let five : Option TreeRefusal = or_else (first (is_wrongly_marked p) es) NotEditable six in
+    let four : Option TreeRefusal = or_else (first (is_in_template values p) es) InTemplate five in
+    let three : Option TreeRefusal = or_else (first (is_moved p) es) Moved four in
+    let two : Option TreeRefusal = or_else (first is_repeated es) RepeatedId three in
     let n = none_of_them (places page) es (increasing page b h) k.order in
     none_or (first (is_unknown p) es) UnknownId two (none_first (is_unknown p) [] es n.unknown)
     (none_or (first is_repeated es) RepeatedId three (none_first is_repeated [] es n.repeated)

@@ -1,8 +1,8 @@
 -- Which refusal is answered: the first of their order that holds anywhere, at the first place where it holds.
 use Rattle.std.specs.Prelude.{ℕ, ◌≡◌, ◌<◌, Bool, true, false, List, ◌∷◌, ◌++◌, length}
 use Rattle.wt_tree.specs.Tree.{Tree}
-use Rattle.wt_checks.specs.declared.refusal.Check.{Check}
-use Rattle.wt_checks.specs.declared.refusal.Check.TheVariants.{UnknownId, RepeatedId, Moved, InTemplate, NotEditable, UnmarkedChange}
+use Rattle.wt_checks.specs.declared.refusal.TreeRefusal.{TreeRefusal}
+use Rattle.wt_checks.specs.declared.refusal.TreeRefusal.TheVariants.{UnknownId, RepeatedId, Moved, InTemplate, NotEditable, UnmarkedChange}
 use Rattle.wt_checks.specs.Groups.{is_in_template}
 use Rattle.wt_checks.specs.Ids.{is_unknown, is_repeated, is_moved}
 use Rattle.wt_checks.specs.Marks.{is_wrongly_marked}
@@ -10,7 +10,7 @@ use Rattle.wt_checks.specs.Places.{Place, number, places, Page, page_of, Conditi
 use Rattle.wt_checks.specs.Unmarked.{is_unmarked_change}
 
 -- what a refusal says of the place that it names
-abbrev pub condition : Bool → Page → Check → Condition
+abbrev pub condition : Bool → Page → TreeRefusal → Condition
 condition values page (UnknownId n) = is_unknown page
 condition values page (RepeatedId n) = is_repeated
 condition values page (Moved n) = is_moved page
@@ -19,7 +19,7 @@ condition values page (NotEditable n) = is_wrongly_marked page
 condition values page (UnmarkedChange n) = is_unmarked_change page
 
 -- the number of the node that it names
-abbrev pub node_of : Check → ℕ
+abbrev pub node_of : TreeRefusal → ℕ
 node_of (UnknownId n) = n
 node_of (RepeatedId n) = n
 node_of (Moved n) = n
@@ -28,7 +28,7 @@ node_of (NotEditable n) = n
 node_of (UnmarkedChange n) = n
 
 -- its place in the order of refusals
-abbrev pub rank : Check → ℕ
+abbrev pub rank : TreeRefusal → ℕ
 rank (UnknownId n) = 1
 rank (RepeatedId n) = 2
 rank (Moved n) = 3
@@ -50,6 +50,6 @@ pub record IsFirst (holds : Condition) (ps : List Place) (n : ℕ) : Type 0 wher
   pub named : number place ≡ n
   pub first : NotBefore holds ps (length before)
 
-pub record IsFirstRefusal (values : Bool) (page edited : Tree) (c : Check) : Type 0 where
+pub record IsFirstRefusal (values : Bool) (page edited : Tree) (c : TreeRefusal) : Type 0 where
   pub place : IsFirst (condition values (page_of page) c) (places edited) (node_of c)
-  pub order : (d : Check) → rank d < rank c → NotBefore (condition values (page_of page) d) (places edited) (length (places edited))
+  pub order : (d : TreeRefusal) → rank d < rank c → NotBefore (condition values (page_of page) d) (places edited) (length (places edited))

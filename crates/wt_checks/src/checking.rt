@@ -12,7 +12,7 @@ use crate::groups::first_in_template;
 use crate::ids::{first_moved, first_repeated, first_unknown};
 use crate::index::index_of;
 use crate::marks::first_wrongly_marked;
-use crate::refusal::Check;
+use crate::refusal::TreeRefusal;
 use crate::unmarked::first_unmarked_change;
 use crate::visit::{Visit, preorder};
 use std::alloc::Global;
@@ -24,28 +24,28 @@ fn check_visits(
     values: bool,
     index: &[Visit<'_, '_>],
     edited: &[Visit<'_, '_>],
-) -> Result<Option<Check>, NoMemory>
+) -> Result<Option<TreeRefusal>, NoMemory>
     requires some { 0 < length index.now }
     requires parents { All (λ v. (out-Node v.node.now).id < length index.now) edited.now → All (λ v. v.parent < length index.now) edited.now }
     ensures { IfOk result (λ r. r ≡ refused values (indexed index.now) (all_seen edited.now)) }
 {
     if let Some(number) = first_unknown(index, edited) {
-        return Ok(Some(Check::UnknownId(number)));
+        return Ok(Some(TreeRefusal::UnknownId(number)));
     }
     if let Some(number) = first_repeated(alloc, index.len(), edited)? {
-        return Ok(Some(Check::RepeatedId(number)));
+        return Ok(Some(TreeRefusal::RepeatedId(number)));
     }
     if let Some(number) = first_moved(alloc, index, edited)? {
-        return Ok(Some(Check::Moved(number)));
+        return Ok(Some(TreeRefusal::Moved(number)));
     }
     if let Some(number) = first_in_template(alloc, values, index, edited)? {
-        return Ok(Some(Check::InTemplate(number)));
+        return Ok(Some(TreeRefusal::InTemplate(number)));
     }
     if let Some(number) = first_wrongly_marked(index, edited) {
-        return Ok(Some(Check::NotEditable(number)));
+        return Ok(Some(TreeRefusal::NotEditable(number)));
     }
     if let Some(number) = first_unmarked_change(index, edited) {
-        return Ok(Some(Check::UnmarkedChange(number)));
+        return Ok(Some(TreeRefusal::UnmarkedChange(number)));
     }
     Ok(None)
 }
@@ -66,7 +66,7 @@ pub fn numbered_nodes<'t, 'a>(
 }
 
 /// Compares an edited tree with the page's, whose numbers count from 1 in preorder: the first refusal
-/// of the order of `Check`, at the first node in preorder, or None where there is none. Where
+/// of the order of `TreeRefusal`, at the first node in preorder, or None where there is none. Where
 /// `values` is true, the values of template parameters may have been edited, and the `data-mw` of
 /// groups isn't compared.
 pub fn check(
@@ -74,7 +74,7 @@ pub fn check(
     page: &Node<'_>,
     edited: &Node<'_>,
     values: bool,
-) -> Result<Option<Check>, NoMemory>
+) -> Result<Option<TreeRefusal>, NoMemory>
     requires body { (label (view page.now)).kind ≡ kind.Body }
     requires numbered { ∥ InPreorder (view page.now) ∥₁ }
     ensures { IfOk result (λ r. r ≡ checked values (view page.now) (view edited.now)) }
@@ -89,18 +89,18 @@ fn check_visits_alone(
     alloc: Global,
     index: &[Visit<'_, '_>],
     edited: &[Visit<'_, '_>],
-) -> Result<Option<Check>, NoMemory>
+) -> Result<Option<TreeRefusal>, NoMemory>
     requires { 0 < length index.now }
     ensures { IfOk result (λ r. r ≡ nodes_refused (indexed index.now) (all_seen edited.now)) }
 {
     if let Some(number) = first_unknown(index, edited) {
-        return Ok(Some(Check::UnknownId(number)));
+        return Ok(Some(TreeRefusal::UnknownId(number)));
     }
     if let Some(number) = first_repeated(alloc, index.len(), edited)? {
-        return Ok(Some(Check::RepeatedId(number)));
+        return Ok(Some(TreeRefusal::RepeatedId(number)));
     }
     if let Some(number) = first_in_template(alloc, false, index, edited)? {
-        return Ok(Some(Check::InTemplate(number)));
+        return Ok(Some(TreeRefusal::InTemplate(number)));
     }
     Ok(None)
 }
@@ -112,7 +112,7 @@ pub fn check_nodes(
     alloc: Global,
     page: &Node<'_>,
     edited: &Node<'_>,
-) -> Result<Option<Check>, NoMemory>
+) -> Result<Option<TreeRefusal>, NoMemory>
     requires body { (label (view page.now)).kind ≡ kind.Body }
     requires numbered { ∥ InPreorder (view page.now) ∥₁ }
     ensures { IfOk result (λ r. r ≡ nodes_checked (view page.now) (view edited.now)) }

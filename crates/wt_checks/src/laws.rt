@@ -12,7 +12,7 @@ ghost use Rattle.wt_tree.specs.Opened.{without_sections};
 ghost use Rattle.wt_tree.specs.Tiling.{InPreorder};
 ghost use Rattle.wt_tree.specs.Tree.{Tree, label};
 ghost use Rattle.wt_tree.specs.declared.kind.Kind.TheVariants as kind;
-ghost use Rattle.wt_checks.specs.declared.refusal.Check.{Check};
+ghost use Rattle.wt_checks.specs.declared.refusal.TreeRefusal.{TreeRefusal};
 ghost use Rattle.wt_checks.specs.BareSections.{HasBareSections};
 ghost use Rattle.wt_checks.specs.Checked.{checked, nodes_checked, is_of_nodes};
 ghost use Rattle.wt_checks.specs.FirstRefusal.{IsFirstRefusal};
@@ -35,7 +35,7 @@ pub fn what_is_kept()
 /// A refusal that is answered is the first of their order that holds at any place, and it names the
 /// first place in preorder where it holds.
 pub fn first_refusal()
-    ensures { (values : Bool) (page edited : Tree) (c : Check) → checked values page edited ≡ Some c → IsFirstRefusal values page edited c }
+    ensures { (values : Bool) (page edited : Tree) (c : TreeRefusal) → checked values page edited ≡ Some c → IsFirstRefusal values page edited c }
 {}
 
 /// Sections make no difference: what is refused of an edit of a page in sections is what is refused of one
@@ -86,7 +86,7 @@ pub fn comparisons()
 /// The check of nodes alone answers what the whole check does where that refuses a node, or nothing. (Behind
 /// a node that was moved there may be a changed group.)
 pub fn nodes_as_checked()
-    ensures refused { (page edited : Tree) (c : Check) → checked false page edited ≡ Some c → is_of_nodes c ≡ true
+    ensures refused { (page edited : Tree) (c : TreeRefusal) → checked false page edited ≡ Some c → is_of_nodes c ≡ true
         → nodes_checked page edited ≡ Some c }
     ensures taken { (page edited : Tree) → checked false page edited ≡ None → nodes_checked page edited ≡ None }
 {}

@@ -25,5 +25,5 @@ pub use laws::{
     nodes_without_marks, only_the_page_is_taken, sections_make_no_difference, what_is_kept,
 };
 pub use marks::is_children;
-pub use refusal::Check;
+pub use refusal::TreeRefusal;
 pub use visit::{Visit, is_content, preorder};

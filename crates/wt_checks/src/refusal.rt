@@ -1,7 +1,7 @@
 /// Why an edited tree is refused, with the number of a node (`mwN`); the body and new elements have
 /// the number 0.
 #[derive(Clone, Copy, Debug, PartialEq, Eq)]
-pub enum Check {
+pub enum TreeRefusal {
     /// The page has no node with this number.
     UnknownId(u32),
     /// Two elements have this number.

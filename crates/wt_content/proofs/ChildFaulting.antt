@@ -16,7 +16,7 @@ use Rattle.wt_original.specs.Page.{Page, no_page}
 use Rattle.wt_original.specs.PageViews.{IsPageOf, page_view}
 use Rattle.wt_content.specs.declared.children.Holder.{Holder}
 use Rattle.wt_content.specs.declared.content.Faults.{Faults}
-use Rattle.wt_content.specs.declared.content.Spot.{Spot}
+use Rattle.wt_content.specs.declared.content.Surroundings.{Surroundings}
 use Rattle.wt_content.specs.declared.reason.ContentWhy.{ContentWhy}
 use Rattle.wt_content.specs.declared.reason.ContentWhy.TheVariants as why
 use Rattle.wt_content.specs.Children.{all_child_faults, bad_children, child_faults, children_faults, empty_fault, holder_of, if_any_held, inside_faults, is_rule, may_come, new_faults}
@@ -59,14 +59,14 @@ rule_inside same n f b r ns g ws e t are is h =
     subst (λ (vs : List ContentWhy). HasFaults g (ws ++ vs))
     (seen ∙ ap (λ (x : Bool). if x then if_any_held (held (view n)) else rest) (sym t ∙ e)) h
 
-pub block_inside : (same : Tree → Tree → Bool) (n : Node) (f : BlockForm) (b : Bool) (p : Known) (x : Spot) (ns : List Node) (g : Faults)
+pub block_inside : (same : Tree → Tree → Bool) (n : Node) (f : BlockForm) (b : Bool) (p : Known) (x : Surroundings) (ns : List Node) (g : Faults)
     (ws : List ContentWhy) → b ≡ is_rule f → b ≡ false → IsPageOf [] [] p → x ≡ outermost (view n) → ns ≡ (out-Node n).children
     → HasFaults g (ws ++ all_faults (page_view same p) x (views ns)) → HasFaults g (ws ++ inside_faults same f (view n))
 block_inside same n f b p x ns g ws e t none is are h =
     let rest = all_faults (no_page same) (outermost (view n)) (held (view n)) in
     let seen : all_faults (page_view same p) x (views ns) ≡ rest =
     ap (λ (q : Page). all_faults q x (views ns)) (page_is_none same p none)
-    ∙ ap (λ (y : Spot). all_faults (no_page same) y (views ns)) is
+    ∙ ap (λ (y : Surroundings). all_faults (no_page same) y (views ns)) is
     ∙ ap (λ (ms : List Node). all_faults (no_page same) (outermost (view n)) (views ms)) are
     ∙ ap (λ (u : Tree). all_faults (no_page same) (outermost (view n)) (held u)) (sym (view_out n)) in
     subst (λ (vs : List ContentWhy). HasFaults g (ws ++ vs))

@@ -4,12 +4,12 @@ use Rattle.std.specs.Prelude.{◌&&◌, ◌||◌, not, if◌then◌else◌, is_s
 use Rattle.wt_tree.specs.Tiling.{is_group}
 use Rattle.wt_tree.specs.Tree.{Label, Tree, tree, Trees, none, more}
 use Rattle.wt_names.specs.Written.{read_link}
-use Rattle.wt_original.specs.declared.kinds.Way.{Way}
-use Rattle.wt_original.specs.declared.kinds.Way.TheVariants as way
+use Rattle.wt_original.specs.declared.kinds.InlineForm.{InlineForm}
+use Rattle.wt_original.specs.declared.kinds.InlineForm.TheVariants as inline
 use Rattle.wt_original.specs.Kinds.{shape}
 use Rattle.wt_original.specs.Page.{Page, page_of}
 use Rattle.wt_escape.specs.Spelling.{href_of}
-use Rattle.wt_content.specs.declared.content.Spot.{Spot}
+use Rattle.wt_content.specs.declared.content.Surroundings.{Surroundings}
 use Rattle.wt_content.specs.declared.content.Standing.{Standing}
 use Rattle.wt_content.specs.declared.content.Standing.TheVariants as stands
 use Rattle.wt_content.specs.declared.reason.ContentWhy.{ContentWhy}
@@ -62,66 +62,66 @@ no_link_round false brings b e = refl
 some_fault : (w : ContentWhy) (ws : List ContentWhy) → w ∷ ws ≡ [] → ⊥
 some_fault w ws e = cc
 
-kept : (x : Spot) (holds : Bool) → (x.in_link && holds) ≡ false → IsKept x stands.Same holds
+kept : (x : Surroundings) (holds : Bool) → (x.in_link && holds) ≡ false → IsKept x stands.Same holds
 kept x holds b = (refl, holds_none x.in_link holds b)
 
-same_link : (x : Spot) (holds : Bool) (Leads Inside : Type 0) → holds ≡ true → (x.in_link && holds) ≡ false → IsLinkOf x stands.Same Leads Inside
+same_link : (x : Surroundings) (holds : Bool) (Leads Inside : Type 0) → holds ≡ true → (x.in_link && holds) ≡ false → IsLinkOf x stands.Same Leads Inside
 same_link x holds Leads Inside h b = (no_link_round x.in_link holds h b, inl refl)
 
-written_link : (x : Spot) (s : Standing) (good : Bool) (inside : List ContentWhy) (Inside : Type 0) → (inside ≡ [] → Inside)
+written_link : (x : Surroundings) (s : Standing) (good : Bool) (inside : List ContentWhy) (Inside : Type 0) → (inside ≡ [] → Inside)
     → (x.in_link && true) ≡ false → link_fault good ≡ [] → inside ≡ [] → IsWritten s → IsLinkOf x s (good ≡ true) Inside
 written_link x s good inside Inside f b own rest written = (no_link_round x.in_link true refl b, inr (written, leads good own, f rest))
 
-of_grammar : (w : Way) (x : Spot) (s : Standing) (l : Label) (holds : Bool) (inside : List ContentWhy) (Inside : Type 0)
+of_grammar : (w : InlineForm) (x : Surroundings) (s : Standing) (l : Label) (holds : Bool) (inside : List ContentWhy) (Inside : Type 0)
     → (is_link w ≡ true → holds ≡ true) → (inside ≡ [] → Inside) → (x.in_link && brings_link w s holds) ≡ false → own_faults w x s l ≡ []
     → (if is_open w s then inside else []) ≡ [] → IsContentBy w x s l holds Inside
-of_grammar way.Nothing x s l holds inside I h f b own rest = holds_none x.in_link holds b
-of_grammar way.Characters x s l holds inside I h f b own rest = (may_stand x.in_paragraph l.shown own, holds_none x.in_link holds b)
-of_grammar way.Bold x stands.New l holds inside I h f b own rest = (tt, f rest)
-of_grammar way.Bold x stands.Changed l holds inside I h f b own rest = (tt, f rest)
-of_grammar way.Bold x stands.Replaced l holds inside I h f b own rest = absurd (some_fault why.Element [] own)
-of_grammar way.Bold x stands.Same l holds inside I h f b own rest = (tt, f rest)
-of_grammar way.Italic x stands.New l holds inside I h f b own rest = (tt, f rest)
-of_grammar way.Italic x stands.Changed l holds inside I h f b own rest = (tt, f rest)
-of_grammar way.Italic x stands.Replaced l holds inside I h f b own rest = absurd (some_fault why.Element [] own)
-of_grammar way.Italic x stands.Same l holds inside I h f b own rest = (tt, f rest)
-of_grammar way.Shown x stands.New l holds inside I h f b own rest = absurd (some_fault why.Element [] own)
-of_grammar way.Shown x stands.Changed l holds inside I h f b own rest = inr (refl, no_break (has_break l.shown) own, f rest)
-of_grammar way.Shown x stands.Replaced l holds inside I h f b own rest = absurd (some_fault why.Element [] own)
-of_grammar way.Shown x stands.Same l holds inside I h f b own rest = inl (kept x holds b)
-of_grammar way.PageLink x stands.New l holds inside I h f b own rest =
+of_grammar inline.Nothing x s l holds inside I h f b own rest = holds_none x.in_link holds b
+of_grammar inline.Characters x s l holds inside I h f b own rest = (may_stand x.in_paragraph l.shown own, holds_none x.in_link holds b)
+of_grammar inline.Bold x stands.New l holds inside I h f b own rest = (tt, f rest)
+of_grammar inline.Bold x stands.Changed l holds inside I h f b own rest = (tt, f rest)
+of_grammar inline.Bold x stands.Replaced l holds inside I h f b own rest = absurd (some_fault why.Element [] own)
+of_grammar inline.Bold x stands.Same l holds inside I h f b own rest = (tt, f rest)
+of_grammar inline.Italic x stands.New l holds inside I h f b own rest = (tt, f rest)
+of_grammar inline.Italic x stands.Changed l holds inside I h f b own rest = (tt, f rest)
+of_grammar inline.Italic x stands.Replaced l holds inside I h f b own rest = absurd (some_fault why.Element [] own)
+of_grammar inline.Italic x stands.Same l holds inside I h f b own rest = (tt, f rest)
+of_grammar inline.Shown x stands.New l holds inside I h f b own rest = absurd (some_fault why.Element [] own)
+of_grammar inline.Shown x stands.Changed l holds inside I h f b own rest = inr (refl, no_break (has_break l.shown) own, f rest)
+of_grammar inline.Shown x stands.Replaced l holds inside I h f b own rest = absurd (some_fault why.Element [] own)
+of_grammar inline.Shown x stands.Same l holds inside I h f b own rest = inl (kept x holds b)
+of_grammar inline.PageLink x stands.New l holds inside I h f b own rest =
     written_link x stands.New (is_some (read_link (href_of l))) inside I f b own rest tt
-of_grammar way.PageLink x stands.Changed l holds inside I h f b own rest =
+of_grammar inline.PageLink x stands.Changed l holds inside I h f b own rest =
     written_link x stands.Changed (is_some (read_link (href_of l))) inside I f b own rest tt
-of_grammar way.PageLink x stands.Replaced l holds inside I h f b own rest = absurd (some_fault why.Element [] own)
-of_grammar way.PageLink x stands.Same l holds inside I h f b own rest =
+of_grammar inline.PageLink x stands.Replaced l holds inside I h f b own rest = absurd (some_fault why.Element [] own)
+of_grammar inline.PageLink x stands.Same l holds inside I h f b own rest =
     same_link x holds (is_some (read_link (href_of l)) ≡ true) I (h refl) b
-of_grammar way.ExternalLink x stands.New l holds inside I h f b own rest =
+of_grammar inline.ExternalLink x stands.New l holds inside I h f b own rest =
     written_link x stands.New (is_url (href_of l)) inside I f b own rest tt
-of_grammar way.ExternalLink x stands.Changed l holds inside I h f b own rest =
+of_grammar inline.ExternalLink x stands.Changed l holds inside I h f b own rest =
     written_link x stands.Changed (is_url (href_of l)) inside I f b own rest tt
-of_grammar way.ExternalLink x stands.Replaced l holds inside I h f b own rest = absurd (some_fault why.Element [] own)
-of_grammar way.ExternalLink x stands.Same l holds inside I h f b own rest = same_link x holds (is_url (href_of l) ≡ true) I (h refl) b
-of_grammar way.Tag x stands.New l holds inside I h f b own rest = absurd (some_fault why.Element [] own)
-of_grammar way.Tag x stands.Changed l holds inside I h f b own rest = inr (refl, f rest)
-of_grammar way.Tag x stands.Replaced l holds inside I h f b own rest = absurd (some_fault why.Element [] own)
-of_grammar way.Tag x stands.Same l holds inside I h f b own rest = inl (kept x holds b)
-of_grammar way.Break x stands.New l holds inside I h f b own rest = inr (refl, f rest)
-of_grammar way.Break x stands.Changed l holds inside I h f b own rest = absurd (some_fault why.Element [] own)
-of_grammar way.Break x stands.Replaced l holds inside I h f b own rest = absurd (some_fault why.Element [] own)
-of_grammar way.Break x stands.Same l holds inside I h f b own rest = inl (kept x holds b)
-of_grammar way.AsItStood x stands.New l holds inside I h f b own rest = absurd (some_fault why.Element [] own)
-of_grammar way.AsItStood x stands.Changed l holds inside I h f b own rest = absurd (some_fault why.Element [] own)
-of_grammar way.AsItStood x stands.Replaced l holds inside I h f b own rest = absurd (some_fault why.Element [] own)
-of_grammar way.AsItStood x stands.Same l holds inside I h f b own rest = kept x holds b
+of_grammar inline.ExternalLink x stands.Replaced l holds inside I h f b own rest = absurd (some_fault why.Element [] own)
+of_grammar inline.ExternalLink x stands.Same l holds inside I h f b own rest = same_link x holds (is_url (href_of l) ≡ true) I (h refl) b
+of_grammar inline.Tag x stands.New l holds inside I h f b own rest = absurd (some_fault why.Element [] own)
+of_grammar inline.Tag x stands.Changed l holds inside I h f b own rest = inr (refl, f rest)
+of_grammar inline.Tag x stands.Replaced l holds inside I h f b own rest = absurd (some_fault why.Element [] own)
+of_grammar inline.Tag x stands.Same l holds inside I h f b own rest = inl (kept x holds b)
+of_grammar inline.Break x stands.New l holds inside I h f b own rest = inr (refl, f rest)
+of_grammar inline.Break x stands.Changed l holds inside I h f b own rest = absurd (some_fault why.Element [] own)
+of_grammar inline.Break x stands.Replaced l holds inside I h f b own rest = absurd (some_fault why.Element [] own)
+of_grammar inline.Break x stands.Same l holds inside I h f b own rest = inl (kept x holds b)
+of_grammar inline.AsItStood x stands.New l holds inside I h f b own rest = absurd (some_fault why.Element [] own)
+of_grammar inline.AsItStood x stands.Changed l holds inside I h f b own rest = absurd (some_fault why.Element [] own)
+of_grammar inline.AsItStood x stands.Replaced l holds inside I h f b own rest = absurd (some_fault why.Element [] own)
+of_grammar inline.AsItStood x stands.Same l holds inside I h f b own rest = kept x holds b
 
-holds_itself : (w : Way) (rest : Bool) → is_link w ≡ true → (is_link w || rest) ≡ true
+holds_itself : (w : InlineForm) (rest : Bool) → is_link w ≡ true → (is_link w || rest) ≡ true
 holds_itself w rest h = ap (λ (b : Bool). b || rest) h
 
 mutual
-  node_is_content : (p : Page) (x : Spot) (t : Tree) → faults p x t ≡ [] → IsContent p x t
+  node_is_content : (p : Page) (x : Surroundings) (t : Tree) → faults p x t ≡ [] → IsContent p x t
   node_is_content p x (tree l ts) e =
-      let w = (shape l.kind).way in
+      let w = (shape l.kind).inline in
       let s = standing p (tree l ts) in
       let inside = all_faults p (below x w) ts in
       let rest : List ContentWhy = if is_open w s then inside else [] in
@@ -132,7 +132,7 @@ mutual
       (none_nested (x.in_link && brings) (nil_left (nested_fault (x.in_link && brings)) (own_faults w x s l ++ rest) e))
       (nil_left (own_faults w x s l) rest more_faults) (nil_right (own_faults w x s l) rest more_faults)
 
-  are_content : (p : Page) (x : Spot) (ts : Trees) → all_faults p x ts ≡ [] → AreContent p x ts
+  are_content : (p : Page) (x : Surroundings) (ts : Trees) → all_faults p x ts ≡ [] → AreContent p x ts
   are_content p x none e = tt
   are_content p x (more t ts) e =
       (node_is_content p x t (nil_left (faults p x t) (all_faults p x ts) e), are_content p x ts (nil_right (faults p x t) (all_faults p x ts) e))
@@ -143,12 +143,12 @@ and_false : (a : Bool) → (a && false) ≡ false
 and_false true = refl
 and_false false = refl
 
-together : (x : Spot) (brings : Bool) (own rest : List ContentWhy) → (x.in_link && brings) ≡ false → own ≡ [] → rest ≡ []
+together : (x : Surroundings) (brings : Bool) (own rest : List ContentWhy) → (x.in_link && brings) ≡ false → own ≡ [] → rest ≡ []
     → nested_fault (x.in_link && brings) ++ (own ++ rest) ≡ []
 together x brings own rest b o r = ap (λ (n : Bool). nested_fault n ++ (own ++ rest)) b ∙ ap (λ (ws : List ContentWhy). ws ++ rest) o ∙ r
 
 -- a node as it was in the page
-kept_stands : (w : Way) (x : Spot) (s : Standing) (l : Label) (holds : Bool) (inside : List ContentWhy) → own_faults w x stands.Same l ≡ []
+kept_stands : (w : InlineForm) (x : Surroundings) (s : Standing) (l : Label) (holds : Bool) (inside : List ContentWhy) → own_faults w x stands.Same l ≡ []
     → is_open w stands.Same ≡ false → s ≡ stands.Same → (x.in_link ≡ true → holds ≡ false) → faults_by w x s l holds inside ≡ []
 kept_stands w x stands.New l holds inside own closed e apart = cc
 kept_stands w x stands.Changed l holds inside own closed e apart = cc
@@ -160,85 +160,85 @@ kept_stands w x stands.Same l holds inside own closed e apart =
 no_round : (in_link holds : Bool) → in_link ≡ false → in_link ≡ true → holds ≡ false
 no_round in_link holds n i = cc
 
-style_stands : (x : Spot) (s : Standing) (own inside : List ContentWhy) → own ≡ [] → inside ≡ []
+style_stands : (x : Surroundings) (s : Standing) (own inside : List ContentWhy) → own ≡ [] → inside ≡ []
     → nested_fault (x.in_link && false) ++ (own ++ inside) ≡ []
 style_stands x s own inside o r = together x false own inside (and_false x.in_link) o r
 
-link_stands : (x : Spot) (good : Bool) (inside : List ContentWhy) → x.in_link ≡ false → good ≡ true → inside ≡ []
+link_stands : (x : Surroundings) (good : Bool) (inside : List ContentWhy) → x.in_link ≡ false → good ≡ true → inside ≡ []
     → nested_fault (x.in_link && true) ++ (link_fault good ++ inside) ≡ []
 link_stands x good inside n g r = together x true (link_fault good) inside (ap (λ (b : Bool). b && true) n) (led good g) r
 
-shown_changed : (x : Spot) (s : Standing) (l : Label) (holds : Bool) (inside : List ContentWhy) → s ≡ stands.Changed → has_break l.shown ≡ false
-    → inside ≡ [] → faults_by way.Shown x s l holds inside ≡ []
+shown_changed : (x : Surroundings) (s : Standing) (l : Label) (holds : Bool) (inside : List ContentWhy) → s ≡ stands.Changed → has_break l.shown ≡ false
+    → inside ≡ [] → faults_by inline.Shown x s l holds inside ≡ []
 shown_changed x stands.New l holds inside e n r = cc
 shown_changed x stands.Changed l holds inside e n r =
     style_stands x stands.Changed (break_fault false l.shown) inside (stands_well false l.shown n) r
 shown_changed x stands.Replaced l holds inside e n r = cc
 shown_changed x stands.Same l holds inside e n r = cc
 
-tag_changed : (x : Spot) (s : Standing) (l : Label) (holds : Bool) (inside : List ContentWhy) → s ≡ stands.Changed → inside ≡ []
-    → faults_by way.Tag x s l holds inside ≡ []
+tag_changed : (x : Surroundings) (s : Standing) (l : Label) (holds : Bool) (inside : List ContentWhy) → s ≡ stands.Changed → inside ≡ []
+    → faults_by inline.Tag x s l holds inside ≡ []
 tag_changed x stands.New l holds inside e r = cc
 tag_changed x stands.Changed l holds inside e r = style_stands x stands.Changed [] inside refl r
 tag_changed x stands.Replaced l holds inside e r = cc
 tag_changed x stands.Same l holds inside e r = cc
 
-break_new : (x : Spot) (s : Standing) (l : Label) (holds : Bool) (inside : List ContentWhy) → s ≡ stands.New → inside ≡ []
-    → faults_by way.Break x s l holds inside ≡ []
+break_new : (x : Surroundings) (s : Standing) (l : Label) (holds : Bool) (inside : List ContentWhy) → s ≡ stands.New → inside ≡ []
+    → faults_by inline.Break x s l holds inside ≡ []
 break_new x stands.New l holds inside e r = style_stands x stands.New [] inside refl r
 break_new x stands.Changed l holds inside e r = cc
 break_new x stands.Replaced l holds inside e r = cc
 break_new x stands.Same l holds inside e r = cc
 
-page_link : (x : Spot) (s : Standing) (l : Label) (holds : Bool) (inside : List ContentWhy) (Inside : Type 0) → (Inside → inside ≡ [])
+page_link : (x : Surroundings) (s : Standing) (l : Label) (holds : Bool) (inside : List ContentWhy) (Inside : Type 0) → (Inside → inside ≡ [])
     → x.in_link ≡ false → (s ≡ stands.Same) ⊎ (IsWritten s × (is_some (read_link (href_of l)) ≡ true) × Inside)
-    → faults_by way.PageLink x s l holds inside ≡ []
-page_link x s l holds inside I f n (inl e) = kept_stands way.PageLink x s l holds inside refl refl e (no_round x.in_link holds n)
+    → faults_by inline.PageLink x s l holds inside ≡ []
+page_link x s l holds inside I f n (inl e) = kept_stands inline.PageLink x s l holds inside refl refl e (no_round x.in_link holds n)
 page_link x stands.New l holds inside I f n (inr h) = link_stands x (is_some (read_link (href_of l))) inside n h.1 (f h.2)
 page_link x stands.Changed l holds inside I f n (inr h) = link_stands x (is_some (read_link (href_of l))) inside n h.1 (f h.2)
 page_link x stands.Replaced l holds inside I f n (inr h) = absurd h.0
 page_link x stands.Same l holds inside I f n (inr h) = absurd h.0
 
-external_link : (x : Spot) (s : Standing) (l : Label) (holds : Bool) (inside : List ContentWhy) (Inside : Type 0) → (Inside → inside ≡ [])
+external_link : (x : Surroundings) (s : Standing) (l : Label) (holds : Bool) (inside : List ContentWhy) (Inside : Type 0) → (Inside → inside ≡ [])
     → x.in_link ≡ false → (s ≡ stands.Same) ⊎ (IsWritten s × (is_url (href_of l) ≡ true) × Inside)
-    → faults_by way.ExternalLink x s l holds inside ≡ []
-external_link x s l holds inside I f n (inl e) = kept_stands way.ExternalLink x s l holds inside refl refl e (no_round x.in_link holds n)
+    → faults_by inline.ExternalLink x s l holds inside ≡ []
+external_link x s l holds inside I f n (inl e) = kept_stands inline.ExternalLink x s l holds inside refl refl e (no_round x.in_link holds n)
 external_link x stands.New l holds inside I f n (inr h) = link_stands x (is_url (href_of l)) inside n h.1 (f h.2)
 external_link x stands.Changed l holds inside I f n (inr h) = link_stands x (is_url (href_of l)) inside n h.1 (f h.2)
 external_link x stands.Replaced l holds inside I f n (inr h) = absurd h.0
 external_link x stands.Same l holds inside I f n (inr h) = absurd h.0
 
-nothing_wrong : (w : Way) (x : Spot) (s : Standing) (l : Label) (holds : Bool) (inside : List ContentWhy) (Inside : Type 0)
+nothing_wrong : (w : InlineForm) (x : Surroundings) (s : Standing) (l : Label) (holds : Bool) (inside : List ContentWhy) (Inside : Type 0)
     → (Inside → inside ≡ []) → IsContentBy w x s l holds Inside → faults_by w x s l holds inside ≡ []
-nothing_wrong way.Nothing x s l holds inside I f h = together x holds [] [] (held_none x.in_link holds h) refl refl
-nothing_wrong way.Characters x s l holds inside I f h =
+nothing_wrong inline.Nothing x s l holds inside I f h = together x holds [] [] (held_none x.in_link holds h) refl refl
+nothing_wrong inline.Characters x s l holds inside I f h =
     together x holds (break_fault x.in_paragraph l.shown) [] (held_none x.in_link holds h.1) (stands_well x.in_paragraph l.shown h.0) refl
-nothing_wrong way.Bold x stands.New l holds inside I f h = style_stands x stands.New [] inside refl (f h.1)
-nothing_wrong way.Bold x stands.Changed l holds inside I f h = style_stands x stands.Changed [] inside refl (f h.1)
-nothing_wrong way.Bold x stands.Replaced l holds inside I f h = absurd h.0
-nothing_wrong way.Bold x stands.Same l holds inside I f h = style_stands x stands.Same [] inside refl (f h.1)
-nothing_wrong way.Italic x stands.New l holds inside I f h = style_stands x stands.New [] inside refl (f h.1)
-nothing_wrong way.Italic x stands.Changed l holds inside I f h = style_stands x stands.Changed [] inside refl (f h.1)
-nothing_wrong way.Italic x stands.Replaced l holds inside I f h = absurd h.0
-nothing_wrong way.Italic x stands.Same l holds inside I f h = style_stands x stands.Same [] inside refl (f h.1)
-nothing_wrong way.Shown x s l holds inside I f (inl h) = kept_stands way.Shown x s l holds inside refl refl h.0 h.1
-nothing_wrong way.Shown x s l holds inside I f (inr h) = shown_changed x s l holds inside h.0 h.1 (f h.2)
-nothing_wrong way.PageLink x s l holds inside I f h = page_link x s l holds inside I f h.0 h.1
-nothing_wrong way.ExternalLink x s l holds inside I f h = external_link x s l holds inside I f h.0 h.1
-nothing_wrong way.Tag x s l holds inside I f (inl h) = kept_stands way.Tag x s l holds inside refl refl h.0 h.1
-nothing_wrong way.Tag x s l holds inside I f (inr h) = tag_changed x s l holds inside h.0 (f h.1)
-nothing_wrong way.Break x s l holds inside I f (inl h) = kept_stands way.Break x s l holds inside refl refl h.0 h.1
-nothing_wrong way.Break x s l holds inside I f (inr h) = break_new x s l holds inside h.0 (f h.1)
-nothing_wrong way.AsItStood x s l holds inside I f h = kept_stands way.AsItStood x s l holds inside refl refl h.0 h.1
+nothing_wrong inline.Bold x stands.New l holds inside I f h = style_stands x stands.New [] inside refl (f h.1)
+nothing_wrong inline.Bold x stands.Changed l holds inside I f h = style_stands x stands.Changed [] inside refl (f h.1)
+nothing_wrong inline.Bold x stands.Replaced l holds inside I f h = absurd h.0
+nothing_wrong inline.Bold x stands.Same l holds inside I f h = style_stands x stands.Same [] inside refl (f h.1)
+nothing_wrong inline.Italic x stands.New l holds inside I f h = style_stands x stands.New [] inside refl (f h.1)
+nothing_wrong inline.Italic x stands.Changed l holds inside I f h = style_stands x stands.Changed [] inside refl (f h.1)
+nothing_wrong inline.Italic x stands.Replaced l holds inside I f h = absurd h.0
+nothing_wrong inline.Italic x stands.Same l holds inside I f h = style_stands x stands.Same [] inside refl (f h.1)
+nothing_wrong inline.Shown x s l holds inside I f (inl h) = kept_stands inline.Shown x s l holds inside refl refl h.0 h.1
+nothing_wrong inline.Shown x s l holds inside I f (inr h) = shown_changed x s l holds inside h.0 h.1 (f h.2)
+nothing_wrong inline.PageLink x s l holds inside I f h = page_link x s l holds inside I f h.0 h.1
+nothing_wrong inline.ExternalLink x s l holds inside I f h = external_link x s l holds inside I f h.0 h.1
+nothing_wrong inline.Tag x s l holds inside I f (inl h) = kept_stands inline.Tag x s l holds inside refl refl h.0 h.1
+nothing_wrong inline.Tag x s l holds inside I f (inr h) = tag_changed x s l holds inside h.0 (f h.1)
+nothing_wrong inline.Break x s l holds inside I f (inl h) = kept_stands inline.Break x s l holds inside refl refl h.0 h.1
+nothing_wrong inline.Break x s l holds inside I f (inr h) = break_new x s l holds inside h.0 (f h.1)
+nothing_wrong inline.AsItStood x s l holds inside I f h = kept_stands inline.AsItStood x s l holds inside refl refl h.0 h.1
 
 mutual
-  node_is_good : (p : Page) (x : Spot) (t : Tree) → IsContent p x t → faults p x t ≡ []
+  node_is_good : (p : Page) (x : Surroundings) (t : Tree) → IsContent p x t → faults p x t ≡ []
   node_is_good p x (tree l ts) h =
-      let w = (shape l.kind).way in
+      let w = (shape l.kind).inline in
       nothing_wrong w x (standing p (tree l ts)) l (holds_link (tree l ts)) (all_faults p (below x w) ts) (AreContent p (below x w) ts)
       (all_are_good p (below x w) ts) h
 
-  all_are_good : (p : Page) (x : Spot) (ts : Trees) → AreContent p x ts → all_faults p x ts ≡ []
+  all_are_good : (p : Page) (x : Surroundings) (ts : Trees) → AreContent p x ts → all_faults p x ts ≡ []
   all_are_good p x none h = refl
   all_are_good p x (more t ts) h = ap (λ (ws : List ContentWhy). ws ++ all_faults p x ts) (node_is_good p x t h.0) ∙ all_are_good p x ts h.1
 

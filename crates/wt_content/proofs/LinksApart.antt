@@ -5,7 +5,7 @@ use Rattle.wt_tree.specs.Tiling.{is_group}
 use Rattle.wt_tree.specs.Tree.{Tree, tree, Trees, none, more}
 use Rattle.wt_original.specs.Kinds.{shape}
 use Rattle.wt_original.specs.Page.{Page}
-use Rattle.wt_content.specs.declared.content.Spot.{Spot}
+use Rattle.wt_content.specs.declared.content.Surroundings.{Surroundings}
 use Rattle.wt_content.specs.declared.reason.ContentWhy.{ContentWhy}
 use Rattle.wt_content.specs.Content.{all_faults, any_holds_link, below, brings_link, faults, holds_link, is_link, is_open, nested_fault, own_faults, standing}
 
@@ -33,9 +33,9 @@ free_by true link group any holds inside is b r f =
 free_by false link group any holds inside is b r f = b
 
 mutual
-  node_is_free : (p : Page) (x : Spot) (t : Tree) → x.in_link ≡ true → faults p x t ≡ [] → holds_link t ≡ false
+  node_is_free : (p : Page) (x : Surroundings) (t : Tree) → x.in_link ≡ true → faults p x t ≡ [] → holds_link t ≡ false
   node_is_free p x (tree l ts) i e =
-      let w = (shape l.kind).way in
+      let w = (shape l.kind).inline in
       let s = standing p (tree l ts) in
       let holds = holds_link (tree l ts) in
       let inside = all_faults p (below x w) ts in
@@ -47,7 +47,7 @@ mutual
       (sym (ap (λ (b : Bool). b && brings) i) ∙ alone) within
       (λ good. all_are_free p (below x w) ts (ap (λ (b : Bool). b || is_link w) i) good)
 
-  pub all_are_free : (p : Page) (x : Spot) (ts : Trees) → x.in_link ≡ true → all_faults p x ts ≡ [] → any_holds_link ts ≡ false
+  pub all_are_free : (p : Page) (x : Surroundings) (ts : Trees) → x.in_link ≡ true → all_faults p x ts ≡ [] → any_holds_link ts ≡ false
   all_are_free p x none i e = refl
   all_are_free p x (more t ts) i e =
       ap (λ (b : Bool). b || any_holds_link ts) (node_is_free p x t i (nil_left (faults p x t) (all_faults p x ts) e))

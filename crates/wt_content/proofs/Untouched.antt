@@ -36,4 +36,4 @@ untouched_is_same same old t tells h u =
     let told : same (restored p.kept t) node ≡ true =
     (tells (restored p.kept t) node).1 (ap (λ (v : Tree). (label v).kind) back ∙ u.kind, ap plain back ∙ u.shown) in
     ap (λ (o : Option Kept). standing_of p o t) u.found
-    ∙ ap (λ (b : Bool). if b then stands.Same else changed_from (shape (label node).kind).way) (or_true (is_group (label node).kind) (same (restored p.kept t) node) told)
+    ∙ ap (λ (b : Bool). if b then stands.Same else changed_from (shape (label node).kind).inline) (or_true (is_group (label node).kind) (same (restored p.kept t) node) told)

@@ -8,8 +8,8 @@ use Rattle.wt_tiles.specs.Glyphs.{byte_glyphs}
 use Rattle.wt_tiles.specs.Urls.{scheme_len, url_items}
 use Rattle.wt_original.specs.declared.kinds.BlockForm.{BlockForm}
 use Rattle.wt_original.specs.declared.kinds.BlockForm.TheVariants as form
-use Rattle.wt_original.specs.declared.kinds.Way.{Way}
-use Rattle.wt_original.specs.declared.kinds.Way.TheVariants as way
+use Rattle.wt_original.specs.declared.kinds.InlineForm.{InlineForm}
+use Rattle.wt_original.specs.declared.kinds.InlineForm.TheVariants as inline
 use Rattle.wt_original.specs.Kinds.{shape}
 use Rattle.wt_original.specs.Kept.{Kept, kept_with}
 use Rattle.wt_original.specs.Page.{Page, page_of, is_unchanged}
@@ -18,7 +18,7 @@ use Rattle.wt_content.specs.declared.reason.ContentWhy.{ContentWhy}
 use Rattle.wt_content.specs.declared.reason.ContentWhy.TheVariants as why
 use Rattle.wt_content.specs.declared.content.Standing.{Standing}
 use Rattle.wt_content.specs.declared.content.Standing.TheVariants as stands
-use Rattle.wt_content.specs.declared.content.Spot.{Spot}
+use Rattle.wt_content.specs.declared.content.Surroundings.{Surroundings}
 
 -- ---- links
 
@@ -29,38 +29,38 @@ is_url bs =
     let items = length (url_items gs) in
     nat_lt 0 (scheme_len gs) && (nat_lt 0 items && scheme_len gs + items == length gs)
 
-abbrev pub is_link : Way → Bool
-is_link way.Nothing = false
-is_link way.Characters = false
-is_link way.Bold = false
-is_link way.Italic = false
-is_link way.Shown = false
-is_link way.PageLink = true
-is_link way.ExternalLink = true
-is_link way.Tag = false
-is_link way.Break = false
-is_link way.AsItStood = false
+abbrev pub is_link : InlineForm → Bool
+is_link inline.Nothing = false
+is_link inline.Characters = false
+is_link inline.Bold = false
+is_link inline.Italic = false
+is_link inline.Shown = false
+is_link inline.PageLink = true
+is_link inline.ExternalLink = true
+is_link inline.Tag = false
+is_link inline.Break = false
+is_link inline.AsItStood = false
 
 -- ---- how a node stands to the page
 
--- What a changed node comes to, by the way in which the page's node is written: one that stands as it stood, and a line break, may
+-- What a changed node comes to, by its inline form in the page: one that stands as it stood, and a line break, may
 -- only be replaced.
-abbrev pub changed_from : Way → Standing
-changed_from way.Nothing = stands.Changed
-changed_from way.Characters = stands.Changed
-changed_from way.Bold = stands.Changed
-changed_from way.Italic = stands.Changed
-changed_from way.Shown = stands.Changed
-changed_from way.PageLink = stands.Changed
-changed_from way.ExternalLink = stands.Changed
-changed_from way.Tag = stands.Changed
-changed_from way.Break = stands.Replaced
-changed_from way.AsItStood = stands.Replaced
+abbrev pub changed_from : InlineForm → Standing
+changed_from inline.Nothing = stands.Changed
+changed_from inline.Characters = stands.Changed
+changed_from inline.Bold = stands.Changed
+changed_from inline.Italic = stands.Changed
+changed_from inline.Shown = stands.Changed
+changed_from inline.PageLink = stands.Changed
+changed_from inline.ExternalLink = stands.Changed
+changed_from inline.Tag = stands.Changed
+changed_from inline.Break = stands.Replaced
+changed_from inline.AsItStood = stands.Replaced
 
 -- it is new; or with its number the page has a node, as which it still is, or which was changed or replaced by it
 abbrev pub standing_of : Page → Option Kept → Tree → Standing
 standing_of p None t = stands.New
-standing_of p (Some k) t = if is_unchanged p k t then stands.Same else changed_from (shape (label k.node).kind).way
+standing_of p (Some k) t = if is_unchanged p k t then stands.Same else changed_from (shape (label k.node).kind).inline
 
 abbrev pub standing : Page → Tree → Standing
 standing p t = standing_of p (kept_with (label t).id p.kept) t
@@ -114,19 +114,19 @@ shown_faults stands.Same text = []
 abbrev pub nested_fault : Bool → List ContentWhy
 nested_fault nested = if nested then why.Nested ∷ [] else []
 
--- By the way in which its kind is written. Bold, italic, links and line breaks may be new; a tag, an entity and a nowiki may be
+-- By the inline form of its kind. Bold, italic, links and line breaks may be new; a tag, an entity and a nowiki may be
 -- changed, as links may; everything else is as it stands in the page, and nothing takes its place with its number.
-abbrev pub own_faults : Way → Spot → Standing → Label → List ContentWhy
-own_faults way.Nothing x s l = []
-own_faults way.Characters x s l = break_fault x.in_paragraph l.shown
-own_faults way.Bold x s l = if_replaced s
-own_faults way.Italic x s l = if_replaced s
-own_faults way.Shown x s l = shown_faults s l.shown
-own_faults way.PageLink x s l = unless_same s (link_fault (is_some (read_link (href_of l))))
-own_faults way.ExternalLink x s l = unless_same s (link_fault (is_url (href_of l)))
-own_faults way.Tag x s l = if_new s
-own_faults way.Break x s l = if_changed s
-own_faults way.AsItStood x s l = unless_same s (why.Element ∷ [])
+abbrev pub own_faults : InlineForm → Surroundings → Standing → Label → List ContentWhy
+own_faults inline.Nothing x s l = []
+own_faults inline.Characters x s l = break_fault x.in_paragraph l.shown
+own_faults inline.Bold x s l = if_replaced s
+own_faults inline.Italic x s l = if_replaced s
+own_faults inline.Shown x s l = shown_faults s l.shown
+own_faults inline.PageLink x s l = unless_same s (link_fault (is_some (read_link (href_of l))))
+own_faults inline.ExternalLink x s l = unless_same s (link_fault (is_url (href_of l)))
+own_faults inline.Tag x s l = if_new s
+own_faults inline.Break x s l = if_changed s
+own_faults inline.AsItStood x s l = unless_same s (why.Element ∷ [])
 
 abbrev pub is_same : Standing → Bool
 is_same stands.New = false
@@ -136,17 +136,17 @@ is_same stands.Same = true
 
 -- Whether what it holds is looked into: always of bold and italic, and of other nodes where they aren't as they were. Texts and
 -- white space hold nothing.
-abbrev pub is_open : Way → Standing → Bool
-is_open way.Nothing s = false
-is_open way.Characters s = false
-is_open way.Bold s = true
-is_open way.Italic s = true
-is_open way.Shown s = not (is_same s)
-is_open way.PageLink s = not (is_same s)
-is_open way.ExternalLink s = not (is_same s)
-is_open way.Tag s = not (is_same s)
-is_open way.Break s = not (is_same s)
-is_open way.AsItStood s = not (is_same s)
+abbrev pub is_open : InlineForm → Standing → Bool
+is_open inline.Nothing s = false
+is_open inline.Characters s = false
+is_open inline.Bold s = true
+is_open inline.Italic s = true
+is_open inline.Shown s = not (is_same s)
+is_open inline.PageLink s = not (is_same s)
+is_open inline.ExternalLink s = not (is_same s)
+is_open inline.Tag s = not (is_same s)
+is_open inline.Break s = not (is_same s)
+is_open inline.AsItStood s = not (is_same s)
 
 -- what one answer for a node tells
 abbrev pub if_any : Option ContentWhy → List ContentWhy
@@ -158,32 +158,32 @@ if_any (Some w) = w ∷ []
 -- a link stands in it, itself or within, outside groups
 abbrev mutual
   pub holds_link : Tree → Bool
-  holds_link (tree l ts) = is_link (shape l.kind).way || (not (is_group l.kind) && any_holds_link ts)
+  holds_link (tree l ts) = is_link (shape l.kind).inline || (not (is_group l.kind) && any_holds_link ts)
 
   pub any_holds_link : Trees → Bool
   any_holds_link none = false
   any_holds_link (more t ts) = holds_link t || any_holds_link ts
 
 -- it brings a link where it stands: it is one, or it isn't looked into and holds one
-abbrev pub brings_link : Way → Standing → Bool → Bool
+abbrev pub brings_link : InlineForm → Standing → Bool → Bool
 brings_link w s holds = if is_open w s then is_link w else holds
 
 -- where the children of a node stand
-abbrev pub below : Spot → Way → Spot
+abbrev pub below : Surroundings → InlineForm → Surroundings
 below x w = record { in_paragraph = false; in_link = x.in_link || is_link w }
 
 -- What is wrong from a node on: that it brings a link into a link, what is wrong with it by itself, and what is wrong inside it.
 -- `holds` tells whether a link stands in it.
-abbrev pub faults_by : Way → Spot → Standing → Label → Bool → List ContentWhy → List ContentWhy
+abbrev pub faults_by : InlineForm → Surroundings → Standing → Label → Bool → List ContentWhy → List ContentWhy
 faults_by w x s l holds inside =
     nested_fault (x.in_link && brings_link w s holds) ++ (own_faults w x s l ++ (if is_open w s then inside else []))
 
 abbrev mutual
-  pub faults : Page → Spot → Tree → List ContentWhy
+  pub faults : Page → Surroundings → Tree → List ContentWhy
   faults p x (tree l ts) =
-      faults_by (shape l.kind).way x (standing p (tree l ts)) l (holds_link (tree l ts)) (all_faults p (below x (shape l.kind).way) ts)
+      faults_by (shape l.kind).inline x (standing p (tree l ts)) l (holds_link (tree l ts)) (all_faults p (below x (shape l.kind).inline) ts)
 
-  pub all_faults : Page → Spot → Trees → List ContentWhy
+  pub all_faults : Page → Surroundings → Trees → List ContentWhy
   all_faults p x none = []
   all_faults p x (more t ts) = faults p x t ++ all_faults p x ts
 
@@ -239,7 +239,7 @@ is_paragraph form.Item = false
 is_paragraph form.NoBlock = false
 
 -- where the children of a marked node stand
-abbrev pub outermost : Tree → Spot
+abbrev pub outermost : Tree → Surroundings
 outermost old = record { in_paragraph = is_paragraph (shape (label old).kind).form; in_link = false }
 
 abbrev pub held : Tree → Trees

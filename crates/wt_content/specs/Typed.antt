@@ -3,8 +3,8 @@ use Rattle.std.specs.Prelude.{◌≡◌, ℕ, Bool, true, false, Option, None, S
 use Rattle.wt_tree.specs.Plain.{plain}
 use Rattle.wt_tree.specs.Tiling.{HasNoGroup}
 use Rattle.wt_tree.specs.Tree.{Tree, tree, Trees, none, more, label}
-use Rattle.wt_original.specs.declared.kinds.Way.{Way}
-use Rattle.wt_original.specs.declared.kinds.Way.TheVariants as way
+use Rattle.wt_original.specs.declared.kinds.InlineForm.{InlineForm}
+use Rattle.wt_original.specs.declared.kinds.InlineForm.TheVariants as inline
 use Rattle.wt_original.specs.Kinds.{shape}
 use Rattle.wt_original.specs.Kept.{Kept, kept_nodes, kept_with}
 use Rattle.wt_content.specs.Content.{has_break}
@@ -22,41 +22,41 @@ MayStand true text = Unit {0}
 MayStand false text = has_break text ≡ false
 
 -- all but line breaks and what stands as it stood
-abbrev pub may_change : Way → Bool
-may_change way.Nothing = true
-may_change way.Characters = true
-may_change way.Bold = true
-may_change way.Italic = true
-may_change way.Shown = true
-may_change way.PageLink = true
-may_change way.ExternalLink = true
-may_change way.Tag = true
-may_change way.Break = false
-may_change way.AsItStood = false
+abbrev pub may_change : InlineForm → Bool
+may_change inline.Nothing = true
+may_change inline.Characters = true
+may_change inline.Bold = true
+may_change inline.Italic = true
+may_change inline.Shown = true
+may_change inline.PageLink = true
+may_change inline.ExternalLink = true
+may_change inline.Tag = true
+may_change inline.Break = false
+may_change inline.AsItStood = false
 
 -- it takes the place of no node that may not change: the page has none with its number, or one that may
 abbrev pub TakesNoPlace : Option Kept → Type 0
 TakesNoPlace None = Unit {0}
-TakesNoPlace (Some k) = may_change (shape (label k.node).kind).way ≡ true
+TakesNoPlace (Some k) = may_change (shape (label k.node).kind).inline ≡ true
 
 -- White space between elements; a text; bold and italic that hold such; and every other node untouched and without groups.
-abbrev pub IsTypedBy : Way → Bool → List ℕ → Type 0 → Type 0 → Type 0 → Type 0
-IsTypedBy way.Nothing in_paragraph text inside free untouched = Unit {0}
-IsTypedBy way.Characters in_paragraph text inside free untouched = MayStand in_paragraph text
-IsTypedBy way.Bold in_paragraph text inside free untouched = inside × free
-IsTypedBy way.Italic in_paragraph text inside free untouched = inside × free
-IsTypedBy way.Shown in_paragraph text inside free untouched = untouched
-IsTypedBy way.PageLink in_paragraph text inside free untouched = untouched
-IsTypedBy way.ExternalLink in_paragraph text inside free untouched = untouched
-IsTypedBy way.Tag in_paragraph text inside free untouched = untouched
-IsTypedBy way.Break in_paragraph text inside free untouched = untouched
-IsTypedBy way.AsItStood in_paragraph text inside free untouched = untouched
+abbrev pub IsTypedBy : InlineForm → Bool → List ℕ → Type 0 → Type 0 → Type 0 → Type 0
+IsTypedBy inline.Nothing in_paragraph text inside free untouched = Unit {0}
+IsTypedBy inline.Characters in_paragraph text inside free untouched = MayStand in_paragraph text
+IsTypedBy inline.Bold in_paragraph text inside free untouched = inside × free
+IsTypedBy inline.Italic in_paragraph text inside free untouched = inside × free
+IsTypedBy inline.Shown in_paragraph text inside free untouched = untouched
+IsTypedBy inline.PageLink in_paragraph text inside free untouched = untouched
+IsTypedBy inline.ExternalLink in_paragraph text inside free untouched = untouched
+IsTypedBy inline.Tag in_paragraph text inside free untouched = untouched
+IsTypedBy inline.Break in_paragraph text inside free untouched = untouched
+IsTypedBy inline.AsItStood in_paragraph text inside free untouched = untouched
 
 -- the content of an edited block, which is `old` in the page
 abbrev mutual
   pub IsTyped : Tree → Bool → Tree → Type 0
   IsTyped old in_paragraph (tree l ts) =
-      IsTypedBy (shape l.kind).way in_paragraph l.shown (AreTyped old false ts) (TakesNoPlace (kept_with l.id (kept_nodes old)))
+      IsTypedBy (shape l.kind).inline in_paragraph l.shown (AreTyped old false ts) (TakesNoPlace (kept_with l.id (kept_nodes old)))
       (IsUntouched old (tree l ts) × HasNoGroup (tree l ts))
 
   pub AreTyped : Tree → Bool → Trees → Type 0

@@ -20,7 +20,7 @@ use crate::url::is_url;
 use std::alloc::Global;
 use wt_escape::href_of;
 use wt_names::title_of_href;
-use wt_original::{BlockForm, Kept, Page, Way, is_unchanged, page_of_block, shape};
+use wt_original::{BlockForm, InlineForm, Kept, Page, is_unchanged, page_of_block, shape};
 use wt_span::NoMemory;
 use wt_tree::{Kind, Node};
 
@@ -36,7 +36,7 @@ pub enum Standing {
 
 /// Where a node of the inside stands.
 #[derive(Clone, Copy)]
-pub struct Spot {
+pub struct Surroundings {
     /// Directly in a paragraph.
     pub in_paragraph: bool,
     /// In a link.
@@ -116,13 +116,17 @@ fn leads_to_title(alloc: Global, node: &Node<'_>) -> Result<bool, NoMemory>
     Ok(title.is_some())
 }
 
-fn is_link(way: Way) -> bool
-    ensures { result ≡ is_link way }
+fn is_link(inline: InlineForm) -> bool
+    ensures { result ≡ is_link inline }
 {
-    match way {
-        Way::PageLink | Way::ExternalLink => true,
-        Way::Nothing | Way::Characters | Way::Bold | Way::Italic | Way::Shown => false,
-        Way::Tag | Way::Break | Way::AsItStood => false,
+    match inline {
+        InlineForm::PageLink | InlineForm::ExternalLink => true,
+        InlineForm::Nothing
+        | InlineForm::Characters
+        | InlineForm::Bold
+        | InlineForm::Italic
+        | InlineForm::Shown => false,
+        InlineForm::Tag | InlineForm::Break | InlineForm::AsItStood => false,
     }
 }
 
@@ -141,7 +145,7 @@ fn is_group(kind: Kind) -> bool
 fn holds_link(node: &Node<'_>) -> bool
     ensures { result ≡ holds_link (view node.now) }
 {
-    is_link(shape(node.kind).way)
+    is_link(shape(node.kind).inline)
         || !is_group(node.kind) && any_holds_link(node.children.as_slice())
 }
 
@@ -171,14 +175,18 @@ pub fn has_break(text: &[u8]) -> bool
     false
 }
 
-/// What a changed node comes to, by the way in which the page's node is written.
-fn changed_from(way: Way) -> Standing
-    ensures { result ≡ changed_from way }
+/// What a changed node comes to, by its inline form in the page.
+fn changed_from(inline: InlineForm) -> Standing
+    ensures { result ≡ changed_from inline }
 {
-    match way {
-        Way::Nothing | Way::Characters | Way::Bold | Way::Italic | Way::Shown => Standing::Changed,
-        Way::PageLink | Way::ExternalLink | Way::Tag => Standing::Changed,
-        Way::Break | Way::AsItStood => Standing::Replaced,
+    match inline {
+        InlineForm::Nothing
+        | InlineForm::Characters
+        | InlineForm::Bold
+        | InlineForm::Italic
+        | InlineForm::Shown => Standing::Changed,
+        InlineForm::PageLink | InlineForm::ExternalLink | InlineForm::Tag => Standing::Changed,
+        InlineForm::Break | InlineForm::AsItStood => Standing::Replaced,
     }
 }
 
@@ -196,7 +204,7 @@ fn standing_of(
     if unchanged {
         Ok(Standing::Same)
     } else {
-        Ok(changed_from(shape(kept.node.kind).way))
+        Ok(changed_from(shape(kept.node.kind).inline))
     }
 }
 
@@ -275,32 +283,32 @@ fn unless_same(standing: Standing) -> Option<ContentWhy>
 /// What is wrong with a node by itself, if something is.
 fn own_fault(
     alloc: Global,
-    way: Way,
-    spot: Spot,
+    inline: InlineForm,
+    around: Surroundings,
     standing: Standing,
     node: &Node<'_>,
 ) -> Result<Option<ContentWhy>, NoMemory>
-    ensures { IfOk result (λ found. if_any found ≡ own_faults way spot standing (label_of (out-Node node.now))) }
+    ensures { IfOk result (λ found. if_any found ≡ own_faults inline around standing (label_of (out-Node node.now))) }
 {
-    match way {
-        Way::Nothing => Ok(None),
-        Way::Characters => {
-            if !spot.in_paragraph && has_break(node.shown().as_bytes()) {
+    match inline {
+        InlineForm::Nothing => Ok(None),
+        InlineForm::Characters => {
+            if !around.in_paragraph && has_break(node.shown().as_bytes()) {
                 Ok(Some(ContentWhy::LineBreak))
             } else {
                 Ok(None)
             }
         }
-        Way::Bold | Way::Italic => Ok(replaced_fault(standing)),
-        Way::Shown => Ok(shown_fault(standing, node.shown().as_bytes())),
-        Way::Tag => Ok(new_fault(standing)),
-        Way::Break => Ok(changed_fault(standing)),
-        Way::AsItStood => Ok(unless_same(standing)),
-        Way::PageLink => {
+        InlineForm::Bold | InlineForm::Italic => Ok(replaced_fault(standing)),
+        InlineForm::Shown => Ok(shown_fault(standing, node.shown().as_bytes())),
+        InlineForm::Tag => Ok(new_fault(standing)),
+        InlineForm::Break => Ok(changed_fault(standing)),
+        InlineForm::AsItStood => Ok(unless_same(standing)),
+        InlineForm::PageLink => {
             let good = leads_to_title(alloc, node)?;
             Ok(link_fault(standing, good))
         }
-        Way::ExternalLink => Ok(link_fault(standing, is_url(href_of(node).as_bytes()))),
+        InlineForm::ExternalLink => Ok(link_fault(standing, is_url(href_of(node).as_bytes()))),
     }
 }
 
@@ -325,14 +333,14 @@ fn is_same(standing: Standing) -> bool
 }
 
 /// Whether what a node holds is looked into.
-fn is_open(way: Way, standing: Standing) -> bool
-    ensures { result ≡ is_open way standing }
+fn is_open(inline: InlineForm, standing: Standing) -> bool
+    ensures { result ≡ is_open inline standing }
 {
-    match way {
-        Way::Nothing | Way::Characters => false,
-        Way::Bold | Way::Italic => true,
-        Way::Shown | Way::PageLink | Way::ExternalLink => !is_same(standing),
-        Way::Tag | Way::Break | Way::AsItStood => !is_same(standing),
+    match inline {
+        InlineForm::Nothing | InlineForm::Characters => false,
+        InlineForm::Bold | InlineForm::Italic => true,
+        InlineForm::Shown | InlineForm::PageLink | InlineForm::ExternalLink => !is_same(standing),
+        InlineForm::Tag | InlineForm::Break | InlineForm::AsItStood => !is_same(standing),
     }
 }
 
@@ -346,7 +354,7 @@ fn style_standing(alloc: Global, page: &Page<'_, '_>, node: &Node<'_>) -> Result
     match kept {
         None => Ok(Standing::New),
         Some(kept) => {
-            let changed = changed_from(shape(kept.node.kind).way);
+            let changed = changed_from(shape(kept.node.kind).inline);
             match changed {
                 Standing::Replaced => {
                     let standing = standing_of(alloc, page, kept, node)?;
@@ -361,20 +369,25 @@ fn style_standing(alloc: Global, page: &Page<'_, '_>, node: &Node<'_>) -> Result
 /// How a node stands to the page, where that counts for a node that is written so.
 fn standing_by(
     alloc: Global,
-    way: Way,
+    inline: InlineForm,
     page: &Page<'_, '_>,
     node: &Node<'_>,
 ) -> Result<Standing, NoMemory>
     ensures { (same : Tree → Tree → Bool) → TellsSame same
-        → IfOk result (λ s. CountsAs way s (standing (page_view same page.now) (view node.now))) }
+        → IfOk result (λ s. CountsAs inline s (standing (page_view same page.now) (view node.now))) }
 {
-    match way {
-        Way::Nothing | Way::Characters => Ok(Standing::New),
-        Way::Bold | Way::Italic => {
+    match inline {
+        InlineForm::Nothing | InlineForm::Characters => Ok(Standing::New),
+        InlineForm::Bold | InlineForm::Italic => {
             let standing = style_standing(alloc, page, node)?;
             Ok(standing)
         }
-        Way::Shown | Way::PageLink | Way::ExternalLink | Way::Tag | Way::Break | Way::AsItStood => {
+        InlineForm::Shown
+        | InlineForm::PageLink
+        | InlineForm::ExternalLink
+        | InlineForm::Tag
+        | InlineForm::Break
+        | InlineForm::AsItStood => {
             let standing = standing_in(alloc, page, node)?;
             Ok(standing)
         }
@@ -384,20 +397,25 @@ fn standing_by(
 // ---- all nodes
 
 /// Whether a node brings a link where it stands: it is one, or it isn't looked into and holds one.
-fn brings_link(way: Way, standing: Standing, node: &Node<'_>) -> bool
-    ensures { result ≡ brings_link way standing (holds_link (view node.now)) }
+fn brings_link(inline: InlineForm, standing: Standing, node: &Node<'_>) -> bool
+    ensures { result ≡ brings_link inline standing (holds_link (view node.now)) }
 {
-    if is_open(way, standing) {
-        is_link(way)
+    if is_open(inline, standing) {
+        is_link(inline)
     } else {
         holds_link(node)
     }
 }
 
-fn nested_fault(spot: Spot, way: Way, standing: Standing, node: &Node<'_>) -> Option<ContentWhy>
-    ensures { if_any result ≡ nested_fault (spot.in_link && brings_link way standing (holds_link (view node.now))) }
+fn nested_fault(
+    around: Surroundings,
+    inline: InlineForm,
+    standing: Standing,
+    node: &Node<'_>,
+) -> Option<ContentWhy>
+    ensures { if_any result ≡ nested_fault (around.in_link && brings_link inline standing (holds_link (view node.now))) }
 {
-    if spot.in_link && brings_link(way, standing, node) {
+    if around.in_link && brings_link(inline, standing, node) {
         Some(ContentWhy::Nested)
     } else {
         None
@@ -405,12 +423,12 @@ fn nested_fault(spot: Spot, way: Way, standing: Standing, node: &Node<'_>) -> Op
 }
 
 /// Where the children of a node stand that is written so.
-fn below(spot: Spot, way: Way) -> Spot
-    ensures { result ≡ below spot way }
+fn below(around: Surroundings, inline: InlineForm) -> Surroundings
+    ensures { result ≡ below around inline }
 {
-    Spot {
+    Surroundings {
         in_paragraph: false,
-        in_link: spot.in_link || is_link(way),
+        in_link: around.in_link || is_link(inline),
     }
 }
 
@@ -418,15 +436,15 @@ fn below(spot: Spot, way: Way) -> Spot
 pub fn visit_all(
     alloc: Global,
     page: &Page<'_, '_>,
-    spot: Spot,
+    around: Surroundings,
     nodes: &[Node<'_>],
     found: &mut Faults,
 ) -> Result<(), NoMemory>
     ensures { (same : Tree → Tree → Bool) → TellsSame same → OnOk result ((ws : List ContentWhy) → HasFaults found.old ws
-        → HasFaults found.new (ws ++ all_faults (page_view same page.now) spot (views nodes.now))) }
+        → HasFaults found.new (ws ++ all_faults (page_view same page.now) around (views nodes.now))) }
 {
     for node in nodes {
-        visit(alloc, page, spot, node, found)?;
+        visit(alloc, page, around, node, found)?;
     }
     Ok(())
 }
@@ -435,23 +453,23 @@ pub fn visit_all(
 fn visit(
     alloc: Global,
     page: &Page<'_, '_>,
-    spot: Spot,
+    around: Surroundings,
     node: &Node<'_>,
     found: &mut Faults,
 ) -> Result<(), NoMemory>
     ensures { (same : Tree → Tree → Bool) → TellsSame same → OnOk result ((ws : List ContentWhy) → HasFaults found.old ws
-        → HasFaults found.new (ws ++ faults (page_view same page.now) spot (view node.now))) }
+        → HasFaults found.new (ws ++ faults (page_view same page.now) around (view node.now))) }
 {
-    let way = shape(node.kind).way;
-    let standing = standing_by(alloc, way, page, node)?;
-    found.add_any(nested_fault(spot, way, standing, node));
-    let why = own_fault(alloc, way, spot, standing, node)?;
+    let inline = shape(node.kind).inline;
+    let standing = standing_by(alloc, inline, page, node)?;
+    found.add_any(nested_fault(around, inline, standing, node));
+    let why = own_fault(alloc, inline, around, standing, node)?;
     found.add_any(why);
-    if is_open(way, standing) {
+    if is_open(inline, standing) {
         visit_all(
             alloc,
             page,
-            below(spot, way),
+            below(around, inline),
             node.children.as_slice(),
             found,
         )?;
@@ -469,10 +487,10 @@ fn is_paragraph(form: BlockForm) -> bool
 }
 
 /// Where the children of a marked node stand, by what it was in the page.
-pub fn outermost(old: &Node<'_>) -> Spot
+pub fn outermost(old: &Node<'_>) -> Surroundings
     ensures { result ≡ outermost (view old.now) }
 {
-    Spot {
+    Surroundings {
         in_paragraph: is_paragraph(shape(old.kind).form),
         in_link: false,
     }

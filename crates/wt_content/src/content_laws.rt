@@ -4,7 +4,7 @@ ghost use Rattle.std.specs.Prelude.{◌≡◌, ℕ, Bool, true, false, List, [],
 ghost use Rattle.wt_tree.specs.Tree.{Tree, Trees, label};
 ghost use Rattle.wt_tree.specs.Tiling.{HasNoGroup};
 ghost use Rattle.wt_original.specs.Page.{Page, TellsSame, page_of};
-ghost use Rattle.wt_content.specs.declared.content.Spot.{Spot};
+ghost use Rattle.wt_content.specs.declared.content.Surroundings.{Surroundings};
 ghost use Rattle.wt_content.specs.declared.content.Standing.TheVariants as stands;
 ghost use Rattle.wt_content.specs.Children.{bad_children, children_faults, holder_of};
 ghost use Rattle.wt_content.specs.Content.{all_faults, any_holds_link, bad_content, content_faults, held, is_url, outermost, standing};
@@ -44,7 +44,7 @@ pub fn urls_are_read()
 /// What is taken in a link holds no link, outside groups.
 #[tactic(auto, using(crate::proofs::LinksApart::all_are_free))]
 pub fn links_hold_no_links()
-    ensures { (page : Page) (spot : Spot) (ts : Trees) → spot.in_link ≡ true → all_faults page spot ts ≡ [] → any_holds_link ts ≡ false }
+    ensures { (page : Page) (around : Surroundings) (ts : Trees) → around.in_link ≡ true → all_faults page around ts ≡ [] → any_holds_link ts ≡ false }
 {}
 
 /// A content is taken exactly where it is of the grammar.

@@ -21,7 +21,7 @@ pub record IsAsItWas (old t : Tree) : Type 0 where
 abbrev mutual
   pub IsTextEdit : Tree → Bool → Tree → Type 0
   IsTextEdit old in_paragraph (tree l ts) =
-      IsTypedBy (shape l.kind).way in_paragraph l.shown (AreTextEdits old false ts) (TakesNoPlace (kept_with l.id (kept_nodes old))) (IsAsItWas old (tree l ts))
+      IsTypedBy (shape l.kind).inline in_paragraph l.shown (AreTextEdits old false ts) (TakesNoPlace (kept_with l.id (kept_nodes old))) (IsAsItWas old (tree l ts))
 
   pub AreTextEdits : Tree → Bool → Trees → Type 0
   AreTextEdits old in_paragraph none = Unit {0}

@@ -1,5 +1,5 @@
 -- What was read of a file.
-use Rattle.std.specs.Prelude.{ℕ, ◌≤◌, vec_len, ⊤}
+use Rattle.std.specs.Prelude.{◌≡◌, ℕ, ◌≤◌, List, take, vec_items, vec_len, ⊤}
 use Rattle.wt_devices.specs.declared.directory.FileRead.{FileRead}
 use Rattle.wt_devices.specs.declared.directory.FileRead.TheVariants.{Read, Absent, Failed, NoMemory}
 
@@ -9,3 +9,10 @@ IsWithin most (Read bytes) = vec_len bytes ≤ most
 IsWithin most Absent = ⊤
 IsWithin most Failed = ⊤
 IsWithin most NoMemory = ⊤
+
+-- of a file that holds these bytes the first were read: as many as were asked for, or all of them
+abbrev pub IsFrontOf : ℕ → List ℕ → FileRead → Type 0
+IsFrontOf most all (Read bytes) = vec_items bytes ≡ take most all
+IsFrontOf most all Absent = ⊤
+IsFrontOf most all Failed = ⊤
+IsFrontOf most all NoMemory = ⊤

@@ -1,5 +1,5 @@
-ghost use Rattle.std.specs.Prelude.{◌≡◌, None};
-ghost use Rattle.wt_devices.specs.File.{IsWithin};
+ghost use Rattle.std.specs.Prelude.{◌≡◌, None, IfSome};
+ghost use Rattle.wt_devices.specs.File.{IsFrontOf, IsWithin};
 
 use crate::device::{FetchRefusal, Fetched, Folder};
 use std::alloc::Global;
@@ -44,19 +44,21 @@ enum FileRead {
     NoMemory,
 }
 
-/// Reads what is left of a file, at most `most` bytes of it, piece by piece.
+/// Reads what is left of a file, at most `most` bytes of it, piece by piece. Only a read that gives no byte is
+/// its end, however short the pieces are.
 fn read_most<F: Read>(alloc: Global, file: &mut F, most: usize) -> FileRead
-    ensures { IsWithin most result }
+    ensures within { IsWithin most result }
+    ensures front { IfSome (F.remaining file.old) (λ all. IsFrontOf most all result) }
 {
     let mut bytes = Vec::new(alloc);
     let mut piece = [0u8; 4096];
-    for _ in 0..u64::MAX {
+    'pieces: loop {
         let room = (most - bytes.len()).min(4096);
         if room == 0 {
-            break;
+            return FileRead::Read(bytes);
         }
         match file.read(&mut piece[..room]) {
-            Ok(0) => break,
+            Ok(0) => return FileRead::Read(bytes),
             Ok(count) => {
                 if bytes.extend_from_slice(&piece[..count]).is_err() {
                     return FileRead::NoMemory;
@@ -65,7 +67,6 @@ fn read_most<F: Read>(alloc: Global, file: &mut F, most: usize) -> FileRead
             Err(_) => return FileRead::Failed,
         }
     }
-    FileRead::Read(bytes)
 }
 
 fn read_file<R: Files>(alloc: Global, rt: &R, path: &str, most: usize) -> FileRead

@@ -9,11 +9,11 @@ use Rattle.wt_tree.specs.Tree.{Label, Tree, tree, Trees, none, more, label}
 use Rattle.wt_tree.specs.Kinds.{is_leaf}
 use Rattle.wt_tree.specs.Source.{flat, flat_of_all}
 use Rattle.wt_tree.specs.Tiling.{is_group}
-use Rattle.wt_original.specs.declared.kinds.Way.{Way}
-use Rattle.wt_original.specs.declared.kinds.Way.TheVariants as way
+use Rattle.wt_original.specs.declared.kinds.InlineForm.{InlineForm}
+use Rattle.wt_original.specs.declared.kinds.InlineForm.TheVariants as inline
 use Rattle.wt_guards.specs.declared.side.Place.{Place}
 use Rattle.wt_original.specs.Kinds.{shape}
-use Rattle.wt_original.specs.Kept.{Kept, Found, kept_with, first_with, kept_of, kept_nodes, items, visible, is_delimited, holds_kept, found_at, found_if, found_from, found_in}
+use Rattle.wt_original.specs.Kept.{Kept, KeptNode, kept_with, first_with, kept_of, kept_nodes, items, visible, is_delimited, holds_kept, found_at, found_if, found_from, found_in}
 use Rattle.wt_original.specs.Numbers.{counts_up}
 use Rattle.wt_original.specs.Page.{Page, page_of, TellsSame, node_or, restored, restored_all}
 use Rattle.wt_escape.specs.Spelling.{inline_spelling, signs_of_all, children_of}
@@ -63,7 +63,7 @@ without_number : (ks : List Kept) → kept_with 0 ks ≡ None
 unfolding kept_with
 without_number ks = refl
 
-abbrev Finds : Tree → List Kept → Found → Type 0
+abbrev Finds : Tree → List Kept → KeptNode → Type 0
 Finds block ks f = kept_with (label f.node).id ks ≡ Some (kept_of block f)
 
 all_found : (block : Tree) (n : ℕ) → 0 < n → counts_up n (kept_nodes block) ≡ true → Every (Finds block (kept_nodes block)) (found_from 0 0 block)
@@ -116,13 +116,13 @@ held_if kind.Group e = cc
 held_if kind.Empty e = cc
 
 -- the node itself is among those that are found, if it has a number
-own_found : (P : Found → Type 0) (at from : ℕ) (l : Label) (ts : Trees) → l.id ≢ 0 → Every P (found_from at from (tree l ts)) → P (found_at at from (tree l ts))
+own_found : (P : KeptNode → Type 0) (at from : ℕ) (l : Label) (ts : Trees) → l.id ≢ 0 → Every P (found_from at from (tree l ts)) → P (found_at at from (tree l ts))
 own_found P at from l ts h e = (subst (λ (t : Bool). Every P (found_if t (found_at at from (tree l ts)) ++ inside)) (differs l.id 0 h) e).0
   where
-    inside : List Found
+    inside : List KeptNode
     inside = if holds_kept l then found_in (at + length l.opening) (from + length l.opening) ts else []
 
-inside_found : (P : Found → Type 0) (at from : ℕ) (l : Label) (ts : Trees) → holds_kept l ≡ true → Every P (found_from at from (tree l ts))
+inside_found : (P : KeptNode → Type 0) (at from : ℕ) (l : Label) (ts : Trees) → holds_kept l ≡ true → Every P (found_from at from (tree l ts))
     → Every P (found_in (at + length l.opening) (from + length l.opening) ts)
 inside_found P at from l ts h e =
     let inner = if holds_kept l then found_in (at + length l.opening) (from + length l.opening) ts else [] in
@@ -137,7 +137,7 @@ zero_or n = by (n == 0) refl
     by false e = inr (λ i. let no : true ≡ false = sym ((Decides-eqb n 0).1 i) ∙ e in cc)
 
 -- of the children, the nodes of the whole being found
-each_inside : (P : Found → Type 0) (Q : Trees → Type 0) (at from : ℕ) (l : Label) (ts : Trees) → (is_leaf l.kind ≡ true → ts ≡ none)
+each_inside : (P : KeptNode → Type 0) (Q : Trees → Type 0) (at from : ℕ) (l : Label) (ts : Trees) → (is_leaf l.kind ≡ true → ts ≡ none)
     → Q none → Every P (found_from at from (tree l ts))
     → (Every P (found_in (at + length l.opening) (from + length l.opening) ts) → Q ts) → Q ts
 each_inside P Q at from l ts bare q e f = by (is_leaf l.kind) refl
@@ -185,18 +185,18 @@ own_style : (sign : List ℕ) (l : Label) (inside : List Sign) (plain own : Type
     → own × IsStyle sign l inside
 own_style sign l inside plain own h f = (f h.1.no_leaf h.0, h.1)
 
-own_by : (w : Way) (p : Page) (pl : Place) (l : Label) (ts : Trees) (plain own : Type 0) → IsPlainBy w p pl l ts plain
+own_by : (w : InlineForm) (p : Page) (pl : Place) (l : Label) (ts : Trees) (plain own : Type 0) → IsPlainBy w p pl l ts plain
     → (is_leaf l.kind ≡ false → plain → own) → (l.id ≢ 0 → IsFound p (tree l ts)) → IsOwnBy w p pl l ts own
-own_by way.Nothing p pl l ts plain own h f g = h
-own_by way.Characters p pl l ts plain own h f g = h
-own_by way.Bold p pl l ts plain own h f g = own_style (39 ∷ 39 ∷ 39 ∷ []) l (signs_of_all p pl ts) plain own h f
-own_by way.Italic p pl l ts plain own h f g = own_style (39 ∷ 39 ∷ []) l (signs_of_all p pl ts) plain own h f
-own_by way.Shown p pl l ts plain own h f g = g h
-own_by way.PageLink p pl l ts plain own h f g = g h
-own_by way.ExternalLink p pl l ts plain own h f g = g h
-own_by way.Tag p pl l ts plain own h f g = g h
-own_by way.Break p pl l ts plain own h f g = g h
-own_by way.AsItStood p pl l ts plain own h f g = g h
+own_by inline.Nothing p pl l ts plain own h f g = h
+own_by inline.Characters p pl l ts plain own h f g = h
+own_by inline.Bold p pl l ts plain own h f g = own_style (39 ∷ 39 ∷ 39 ∷ []) l (signs_of_all p pl ts) plain own h f
+own_by inline.Italic p pl l ts plain own h f g = own_style (39 ∷ 39 ∷ []) l (signs_of_all p pl ts) plain own h f
+own_by inline.Shown p pl l ts plain own h f g = g h
+own_by inline.PageLink p pl l ts plain own h f g = g h
+own_by inline.ExternalLink p pl l ts plain own h f g = g h
+own_by inline.Tag p pl l ts plain own h f g = g h
+own_by inline.Break p pl l ts plain own h f g = g h
+own_by inline.AsItStood p pl l ts plain own h f g = g h
 
 mutual
   own_of : (same : Tree → Tree → Bool) (block : Tree) (pl : Place) (at from : ℕ) (t : Tree)
@@ -205,7 +205,7 @@ mutual
   own_of same block pl at from (tree l ts) e b h =
       let ks = kept_nodes block in
       let p = page_of same block in
-      own_by (shape l.kind).way p pl l ts (ArePlain p pl ts) (AreOwn p pl ts) h
+      own_by (shape l.kind).inline p pl l ts (ArePlain p pl ts) (AreOwn p pl ts) h
       (λ n k.
       own_of_all same block pl (at + length l.opening) (from + length l.opening) ts
       (inside_found (Finds block ks) at from l ts (held_if l.kind n) e) b.1 k)

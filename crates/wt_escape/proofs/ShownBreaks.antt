@@ -19,8 +19,8 @@ use Rattle.wt_guards.specs.Content.{Sign, letters}
 use Rattle.wt_guards.specs.Guards.{nowiki}
 use Rattle.wt_guards.specs.WrittenLaws.{itself, breaks}
 use Rattle.wt_guards.proofs.Breaks.{same_breaks}
-use Rattle.wt_original.specs.declared.kinds.Way.{Way}
-use Rattle.wt_original.specs.declared.kinds.Way.TheVariants as way
+use Rattle.wt_original.specs.declared.kinds.InlineForm.{InlineForm}
+use Rattle.wt_original.specs.declared.kinds.InlineForm.TheVariants as inline
 use Rattle.wt_original.specs.Kinds.{shape}
 use Rattle.wt_original.specs.Kept.{Kept, kept_with, shown}
 use Rattle.wt_original.specs.Page.{Page, page_of, is_unchanged}
@@ -154,37 +154,37 @@ break_breaks = refl
 
 -- ---- all nodes
 
-counted_by : (w : Way) (p : Page) (pl : Place) (k : Option Kept) (l : Label) (ts : Trees) → IsTextBy w l ts
+counted_by : (w : InlineForm) (p : Page) (pl : Place) (k : Option Kept) (l : Label) (ts : Trees) → IsTextBy w l ts
     → counted (signs_of_all p pl ts) ≡ breaks_in_all p ts
     → counted (signs_by w p pl k l ts (signs_of_all p pl ts)) ≡ breaks_by w p k l ts (breaks_in_all p ts)
-counted_by way.Nothing p pl k l ts h e = refl
-counted_by way.Characters p pl k l ts h e = counted_text l.shown h
-counted_by way.Bold p pl k l ts h e = counted_style (39 ∷ 39 ∷ 39 ∷ []) k (signs_of_all p pl ts) refl ∙ e
-counted_by way.Italic p pl k l ts h e = counted_style (39 ∷ 39 ∷ []) k (signs_of_all p pl ts) refl ∙ e
-counted_by way.Shown p pl k l ts h e =
+counted_by inline.Nothing p pl k l ts h e = refl
+counted_by inline.Characters p pl k l ts h e = counted_text l.shown h
+counted_by inline.Bold p pl k l ts h e = counted_style (39 ∷ 39 ∷ 39 ∷ []) k (signs_of_all p pl ts) refl ∙ e
+counted_by inline.Italic p pl k l ts h e = counted_style (39 ∷ 39 ∷ []) k (signs_of_all p pl ts) refl ∙ e
+counted_by inline.Shown p pl k l ts h e =
     counted_unless p k (tree l ts) (letters (shown (tree l ts))) (breaks (shown (tree l ts))) (counted_text (shown (tree l ts)) h)
-counted_by way.PageLink p pl k l ts h e =
+counted_by inline.PageLink p pl k l ts h e =
     let title = read_link (href_of l) in
     let inside = spelled_within p pl (signs_of_all p pl ts) in
     counted_unless p k (tree l ts) (new_thing role.Link (page_link title ts inside) k) (breaks_of_link title ts (breaks_in_all p ts))
     (counted_new role.Link (page_link title ts inside) k ∙ link_breaks title ts inside
     ∙ ap (breaks_of_link title ts) (counted_within p pl (signs_of_all p pl ts) ∙ e))
-counted_by way.ExternalLink p pl k l ts h e =
+counted_by inline.ExternalLink p pl k l ts h e =
     let inside = spelled_within p pl (signs_of_all p pl ts) in
     counted_unless p k (tree l ts) (new_thing role.External (external_link (href_of l) inside) k) (breaks (href_of l) + breaks_in_all p ts)
     (counted_new role.External (external_link (href_of l) inside) k ∙ external_breaks (href_of l) inside
     ∙ ap (λ (n : ℕ). breaks (href_of l) + n) (counted_within p pl (signs_of_all p pl ts) ∙ e))
-counted_by way.Tag p pl k l ts h e =
+counted_by inline.Tag p pl k l ts h e =
     let inside = spelled_within p pl (signs_of_all p pl ts) in
     counted_unless p k (tree l ts) (new_thing role.Node (tag_pair k inside) k) (breaks_of_tag k (breaks_in_all p ts))
     (counted_new role.Node (tag_pair k inside) k ∙ tag_breaks k inside ∙ ap (breaks_of_tag k) (counted_within p pl (signs_of_all p pl ts) ∙ e))
-counted_by way.Break p pl k l ts h e =
+counted_by inline.Break p pl k l ts h e =
     counted_unless p k (tree l ts) (new_thing role.Node break_tag k) 0 (counted_new role.Node break_tag k ∙ break_breaks)
-counted_by way.AsItStood p pl k l ts h e = counted_as_it_stood k
+counted_by inline.AsItStood p pl k l ts h e = counted_as_it_stood k
 
 mutual
   counted_in : (p : Page) (pl : Place) (t : Tree) → HasTexts t → counted (signs_of p pl t) ≡ breaks_in p t
-  counted_in p pl (tree l ts) h = counted_by (shape l.kind).way p pl (kept_with l.id p.kept) l ts h.0 (counted_all p pl ts h.1)
+  counted_in p pl (tree l ts) h = counted_by (shape l.kind).inline p pl (kept_with l.id p.kept) l ts h.0 (counted_all p pl ts h.1)
 
   counted_all : (p : Page) (pl : Place) (ts : Trees) → HaveTexts ts → counted (signs_of_all p pl ts) ≡ breaks_in_all p ts
   counted_all p pl none h = refl

@@ -10,8 +10,8 @@ use Rattle.wt_tree.specs.Tree.{Label, Tree, tree, Trees, none, more, label}
 use Rattle.wt_tree.specs.Plain.{plain}
 use Rattle.wt_tree.specs.Source.{flat, flat_of_all}
 use Rattle.wt_tree.specs.Tiling.{is_group}
-use Rattle.wt_original.specs.declared.kinds.Way.{Way}
-use Rattle.wt_original.specs.declared.kinds.Way.TheVariants as way
+use Rattle.wt_original.specs.declared.kinds.InlineForm.{InlineForm}
+use Rattle.wt_original.specs.declared.kinds.InlineForm.TheVariants as inline
 use Rattle.wt_guards.specs.declared.side.Place.{Place}
 use Rattle.wt_original.specs.Kinds.{shape}
 use Rattle.wt_guards.specs.Content.{Sign, letter, letters}
@@ -30,21 +30,21 @@ pub record IsFound (p : Page) (t : Tree) : Type 0 where
   pub same : restored p.kept t ≡ kept.node
 
 -- a plain node that is found
-abbrev pub IsOwnBy : Way → Page → Place → Label → Trees → Type 0 → Type 0
-IsOwnBy way.Nothing p pl l ts held = flat (tree l ts) ≡ []
-IsOwnBy way.Characters p pl l ts held = (flat (tree l ts) ≡ l.shown) × IsUtf8 l.shown
-IsOwnBy way.Bold p pl l ts held = held × IsStyle (39 ∷ 39 ∷ 39 ∷ []) l (signs_of_all p pl ts)
-IsOwnBy way.Italic p pl l ts held = held × IsStyle (39 ∷ 39 ∷ []) l (signs_of_all p pl ts)
-IsOwnBy way.Shown p pl l ts held = IsFound p (tree l ts)
-IsOwnBy way.PageLink p pl l ts held = IsFound p (tree l ts)
-IsOwnBy way.ExternalLink p pl l ts held = IsFound p (tree l ts)
-IsOwnBy way.Tag p pl l ts held = IsFound p (tree l ts)
-IsOwnBy way.Break p pl l ts held = IsFound p (tree l ts)
-IsOwnBy way.AsItStood p pl l ts held = IsFound p (tree l ts)
+abbrev pub IsOwnBy : InlineForm → Page → Place → Label → Trees → Type 0 → Type 0
+IsOwnBy inline.Nothing p pl l ts held = flat (tree l ts) ≡ []
+IsOwnBy inline.Characters p pl l ts held = (flat (tree l ts) ≡ l.shown) × IsUtf8 l.shown
+IsOwnBy inline.Bold p pl l ts held = held × IsStyle (39 ∷ 39 ∷ 39 ∷ []) l (signs_of_all p pl ts)
+IsOwnBy inline.Italic p pl l ts held = held × IsStyle (39 ∷ 39 ∷ []) l (signs_of_all p pl ts)
+IsOwnBy inline.Shown p pl l ts held = IsFound p (tree l ts)
+IsOwnBy inline.PageLink p pl l ts held = IsFound p (tree l ts)
+IsOwnBy inline.ExternalLink p pl l ts held = IsFound p (tree l ts)
+IsOwnBy inline.Tag p pl l ts held = IsFound p (tree l ts)
+IsOwnBy inline.Break p pl l ts held = IsFound p (tree l ts)
+IsOwnBy inline.AsItStood p pl l ts held = IsFound p (tree l ts)
 
 abbrev mutual
   pub IsOwn : Page → Place → Tree → Type 0
-  IsOwn p pl (tree l ts) = IsOwnBy (shape l.kind).way p pl l ts (AreOwn p pl ts)
+  IsOwn p pl (tree l ts) = IsOwnBy (shape l.kind).inline p pl l ts (AreOwn p pl ts)
 
   pub AreOwn : Page → Place → Trees → Type 0
   AreOwn p pl none = Unit {0}
@@ -101,25 +101,25 @@ written_style sign k l ts inside h e =
     ∙ ap (λ bs. l.opening ++ (flat_of_all ts ++ bs)) (sym h.closing)
     ∙ rw h.no_leaf (sym (append_assoc l.opening (flat_of_all ts) l.closing))
 
-written_by_way : (w : Way) (p : Page) (pl : Place) (l : Label) (ts : Trees) (held : Type 0) → TellsSame p.same → IsOwnBy w p pl l ts held
+written_by_way : (w : InlineForm) (p : Page) (pl : Place) (l : Label) (ts : Trees) (held : Type 0) → TellsSame p.same → IsOwnBy w p pl l ts held
     → (held → written (signs_of_all p pl ts) ≡ flat_of_all ts)
     → written (signs_by w p pl (kept_with l.id p.kept) l ts (signs_of_all p pl ts)) ≡ flat (tree l ts)
-written_by_way way.Nothing p pl l ts held tells h f = sym h
-written_by_way way.Characters p pl l ts held tells h f = written_text l.shown h.1 ∙ sym h.0
-written_by_way way.Bold p pl l ts held tells h f =
+written_by_way inline.Nothing p pl l ts held tells h f = sym h
+written_by_way inline.Characters p pl l ts held tells h f = written_text l.shown h.1 ∙ sym h.0
+written_by_way inline.Bold p pl l ts held tells h f =
     written_style (39 ∷ 39 ∷ 39 ∷ []) (kept_with l.id p.kept) l ts (signs_of_all p pl ts) h.1 (f h.0)
-written_by_way way.Italic p pl l ts held tells h f =
+written_by_way inline.Italic p pl l ts held tells h f =
     written_style (39 ∷ 39 ∷ []) (kept_with l.id p.kept) l ts (signs_of_all p pl ts) h.1 (f h.0)
-written_by_way way.Shown p pl l ts held tells h f = written_found p (tree l ts) _ h tells
-written_by_way way.PageLink p pl l ts held tells h f = written_found p (tree l ts) _ h tells
-written_by_way way.ExternalLink p pl l ts held tells h f = written_found p (tree l ts) _ h tells
-written_by_way way.Tag p pl l ts held tells h f = written_found p (tree l ts) _ h tells
-written_by_way way.Break p pl l ts held tells h f = written_found p (tree l ts) _ h tells
-written_by_way way.AsItStood p pl l ts held tells h f = written_island p (tree l ts) h
+written_by_way inline.Shown p pl l ts held tells h f = written_found p (tree l ts) _ h tells
+written_by_way inline.PageLink p pl l ts held tells h f = written_found p (tree l ts) _ h tells
+written_by_way inline.ExternalLink p pl l ts held tells h f = written_found p (tree l ts) _ h tells
+written_by_way inline.Tag p pl l ts held tells h f = written_found p (tree l ts) _ h tells
+written_by_way inline.Break p pl l ts held tells h f = written_found p (tree l ts) _ h tells
+written_by_way inline.AsItStood p pl l ts held tells h f = written_island p (tree l ts) h
 
 mutual
   written_own : (p : Page) (pl : Place) (t : Tree) → TellsSame p.same → IsOwn p pl t → written (signs_of p pl t) ≡ flat t
-  written_own p pl (tree l ts) tells h = written_by_way (shape l.kind).way p pl l ts (AreOwn p pl ts) tells h (λ g. written_all p pl ts tells g)
+  written_own p pl (tree l ts) tells h = written_by_way (shape l.kind).inline p pl l ts (AreOwn p pl ts) tells h (λ g. written_all p pl ts tells g)
 
   written_all : (p : Page) (pl : Place) (ts : Trees) → TellsSame p.same → AreOwn p pl ts → written (signs_of_all p pl ts) ≡ flat_of_all ts
   written_all p pl none tells h = refl

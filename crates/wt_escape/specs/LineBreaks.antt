@@ -8,8 +8,8 @@ use Rattle.wt_names.specs.Written.{read_link}
 use Rattle.wt_tree.specs.Tree.{Label, Tree, tree, Trees, none, more, label}
 use Rattle.wt_tree.specs.Source.{flat}
 use Rattle.wt_guards.specs.WrittenLaws.{breaks}
-use Rattle.wt_original.specs.declared.kinds.Way.{Way}
-use Rattle.wt_original.specs.declared.kinds.Way.TheVariants as way
+use Rattle.wt_original.specs.declared.kinds.InlineForm.{InlineForm}
+use Rattle.wt_original.specs.declared.kinds.InlineForm.TheVariants as inline
 use Rattle.wt_original.specs.Kinds.{shape}
 use Rattle.wt_original.specs.Kept.{Kept, kept_with, shown}
 use Rattle.wt_original.specs.Page.{Page, is_unchanged}
@@ -38,43 +38,43 @@ abbrev pub breaks_of_tag : Option Kept → ℕ → ℕ
 breaks_of_tag None held = held
 breaks_of_tag (Some k) held = breaks (label k.node).opening + (held + breaks (label k.node).closing)
 
--- a node by its way, with so many in what it holds
-abbrev pub breaks_by : Way → Page → Option Kept → Label → Trees → ℕ → ℕ
-breaks_by way.Nothing p k l ts held = 0
-breaks_by way.Characters p k l ts held = breaks l.shown
-breaks_by way.Bold p k l ts held = held
-breaks_by way.Italic p k l ts held = held
-breaks_by way.Shown p k l ts held = breaks_unless_kept p k (tree l ts) (breaks (shown (tree l ts)))
-breaks_by way.PageLink p k l ts held = breaks_unless_kept p k (tree l ts) (breaks_of_link (read_link (href_of l)) ts held)
-breaks_by way.ExternalLink p k l ts held = breaks_unless_kept p k (tree l ts) (breaks (href_of l) + held)
-breaks_by way.Tag p k l ts held = breaks_unless_kept p k (tree l ts) (breaks_of_tag k held)
-breaks_by way.Break p k l ts held = breaks_unless_kept p k (tree l ts) 0
-breaks_by way.AsItStood p k l ts held = breaks_as_it_stood k
+-- a node by its inline form, with so many in what it holds
+abbrev pub breaks_by : InlineForm → Page → Option Kept → Label → Trees → ℕ → ℕ
+breaks_by inline.Nothing p k l ts held = 0
+breaks_by inline.Characters p k l ts held = breaks l.shown
+breaks_by inline.Bold p k l ts held = held
+breaks_by inline.Italic p k l ts held = held
+breaks_by inline.Shown p k l ts held = breaks_unless_kept p k (tree l ts) (breaks (shown (tree l ts)))
+breaks_by inline.PageLink p k l ts held = breaks_unless_kept p k (tree l ts) (breaks_of_link (read_link (href_of l)) ts held)
+breaks_by inline.ExternalLink p k l ts held = breaks_unless_kept p k (tree l ts) (breaks (href_of l) + held)
+breaks_by inline.Tag p k l ts held = breaks_unless_kept p k (tree l ts) (breaks_of_tag k held)
+breaks_by inline.Break p k l ts held = breaks_unless_kept p k (tree l ts) 0
+breaks_by inline.AsItStood p k l ts held = breaks_as_it_stood k
 
 abbrev mutual
   pub breaks_in : Page → Tree → ℕ
-  breaks_in p (tree l ts) = breaks_by (shape l.kind).way p (kept_with l.id p.kept) l ts (breaks_in_all p ts)
+  breaks_in p (tree l ts) = breaks_by (shape l.kind).inline p (kept_with l.id p.kept) l ts (breaks_in_all p ts)
 
   pub breaks_in_all : Page → Trees → ℕ
   breaks_in_all p none = 0
   breaks_in_all p (more t ts) = breaks_in p t + breaks_in_all p ts
 
 -- what is shown as characters is UTF-8
-abbrev pub IsTextBy : Way → Label → Trees → Type 0
-IsTextBy way.Nothing l ts = Unit {0}
-IsTextBy way.Characters l ts = IsUtf8 l.shown
-IsTextBy way.Bold l ts = Unit {0}
-IsTextBy way.Italic l ts = Unit {0}
-IsTextBy way.Shown l ts = IsUtf8 (shown (tree l ts))
-IsTextBy way.PageLink l ts = Unit {0}
-IsTextBy way.ExternalLink l ts = Unit {0}
-IsTextBy way.Tag l ts = Unit {0}
-IsTextBy way.Break l ts = Unit {0}
-IsTextBy way.AsItStood l ts = Unit {0}
+abbrev pub IsTextBy : InlineForm → Label → Trees → Type 0
+IsTextBy inline.Nothing l ts = Unit {0}
+IsTextBy inline.Characters l ts = IsUtf8 l.shown
+IsTextBy inline.Bold l ts = Unit {0}
+IsTextBy inline.Italic l ts = Unit {0}
+IsTextBy inline.Shown l ts = IsUtf8 (shown (tree l ts))
+IsTextBy inline.PageLink l ts = Unit {0}
+IsTextBy inline.ExternalLink l ts = Unit {0}
+IsTextBy inline.Tag l ts = Unit {0}
+IsTextBy inline.Break l ts = Unit {0}
+IsTextBy inline.AsItStood l ts = Unit {0}
 
 abbrev mutual
   pub HasTexts : Tree → Type 0
-  HasTexts (tree l ts) = IsTextBy (shape l.kind).way l ts × HaveTexts ts
+  HasTexts (tree l ts) = IsTextBy (shape l.kind).inline l ts × HaveTexts ts
 
   pub HaveTexts : Trees → Type 0
   HaveTexts none = Unit {0}

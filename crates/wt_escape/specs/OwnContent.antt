@@ -9,8 +9,8 @@ use Rattle.wt_guards.specs.declared.side.Place.{Place}
 use Rattle.wt_guards.specs.Content.{Sign}
 use Rattle.wt_guards.specs.Guards.{Setting}
 use Rattle.wt_guards.specs.WrittenLaws.{IsQuiet}
-use Rattle.wt_original.specs.declared.kinds.Way.{Way}
-use Rattle.wt_original.specs.declared.kinds.Way.TheVariants as way
+use Rattle.wt_original.specs.declared.kinds.InlineForm.{InlineForm}
+use Rattle.wt_original.specs.declared.kinds.InlineForm.TheVariants as inline
 use Rattle.wt_original.specs.Kinds.{shape}
 use Rattle.wt_original.specs.Kept.{kept_nodes}
 use Rattle.wt_original.specs.Numbers.{counts_up}
@@ -30,21 +30,21 @@ pub record IsStyle (sign : List ℕ) (l : Label) (inside : List Sign) : Type 0 w
 
 -- What a node of the page is like that is spelled to its own source: a separator without bytes, a text that stands in the source
 -- as it is shown, a style with the usual delimiters and some such nodes in it, or another node that has a number.
-abbrev pub IsPlainBy : Way → Page → Place → Label → Trees → Type 0 → Type 0
-IsPlainBy way.Nothing p pl l ts held = flat (tree l ts) ≡ []
-IsPlainBy way.Characters p pl l ts held = (flat (tree l ts) ≡ l.shown) × IsUtf8 l.shown
-IsPlainBy way.Bold p pl l ts held = held × IsStyle (39 ∷ 39 ∷ 39 ∷ []) l (signs_of_all p pl ts)
-IsPlainBy way.Italic p pl l ts held = held × IsStyle (39 ∷ 39 ∷ []) l (signs_of_all p pl ts)
-IsPlainBy way.Shown p pl l ts held = l.id ≢ 0
-IsPlainBy way.PageLink p pl l ts held = l.id ≢ 0
-IsPlainBy way.ExternalLink p pl l ts held = l.id ≢ 0
-IsPlainBy way.Tag p pl l ts held = l.id ≢ 0
-IsPlainBy way.Break p pl l ts held = l.id ≢ 0
-IsPlainBy way.AsItStood p pl l ts held = l.id ≢ 0
+abbrev pub IsPlainBy : InlineForm → Page → Place → Label → Trees → Type 0 → Type 0
+IsPlainBy inline.Nothing p pl l ts held = flat (tree l ts) ≡ []
+IsPlainBy inline.Characters p pl l ts held = (flat (tree l ts) ≡ l.shown) × IsUtf8 l.shown
+IsPlainBy inline.Bold p pl l ts held = held × IsStyle (39 ∷ 39 ∷ 39 ∷ []) l (signs_of_all p pl ts)
+IsPlainBy inline.Italic p pl l ts held = held × IsStyle (39 ∷ 39 ∷ []) l (signs_of_all p pl ts)
+IsPlainBy inline.Shown p pl l ts held = l.id ≢ 0
+IsPlainBy inline.PageLink p pl l ts held = l.id ≢ 0
+IsPlainBy inline.ExternalLink p pl l ts held = l.id ≢ 0
+IsPlainBy inline.Tag p pl l ts held = l.id ≢ 0
+IsPlainBy inline.Break p pl l ts held = l.id ≢ 0
+IsPlainBy inline.AsItStood p pl l ts held = l.id ≢ 0
 
 abbrev mutual
   pub IsPlain : Page → Place → Tree → Type 0
-  IsPlain p pl (tree l ts) = IsPlainBy (shape l.kind).way p pl l ts (ArePlain p pl ts)
+  IsPlain p pl (tree l ts) = IsPlainBy (shape l.kind).inline p pl l ts (ArePlain p pl ts)
 
   pub ArePlain : Page → Place → Trees → Type 0
   ArePlain p pl none = Unit {0}

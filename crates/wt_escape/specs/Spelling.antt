@@ -12,8 +12,8 @@ use Rattle.wt_tree.specs.declared.kind.AttrName.TheVariants as attr
 use Rattle.wt_tree.specs.Kinds.{order}
 use Rattle.wt_tree.specs.Tree.{Label, Tree, tree, Trees, none, more, label}
 use Rattle.wt_tree.specs.Source.{flat}
-use Rattle.wt_original.specs.declared.kinds.Way.{Way}
-use Rattle.wt_original.specs.declared.kinds.Way.TheVariants as way
+use Rattle.wt_original.specs.declared.kinds.InlineForm.{InlineForm}
+use Rattle.wt_original.specs.declared.kinds.InlineForm.TheVariants as inline
 use Rattle.wt_original.specs.declared.kinds.BlockForm.{BlockForm}
 use Rattle.wt_original.specs.declared.kinds.BlockForm.TheVariants as form
 use Rattle.wt_guards.specs.declared.role.Role.{Role}
@@ -52,17 +52,17 @@ unless_kept p (Some k) t new = if is_unchanged p k t then kept_thing k ∷ [] el
 
 -- ---- styles
 
-abbrev pub is_style : Way → Bool
-is_style way.Nothing = false
-is_style way.Characters = false
-is_style way.Bold = true
-is_style way.Italic = true
-is_style way.Shown = false
-is_style way.PageLink = false
-is_style way.ExternalLink = false
-is_style way.Tag = false
-is_style way.Break = false
-is_style way.AsItStood = false
+abbrev pub is_style : InlineForm → Bool
+is_style inline.Nothing = false
+is_style inline.Characters = false
+is_style inline.Bold = true
+is_style inline.Italic = true
+is_style inline.Shown = false
+is_style inline.PageLink = false
+is_style inline.ExternalLink = false
+is_style inline.Tag = false
+is_style inline.Break = false
+is_style inline.AsItStood = false
 
 -- a stretch that isn't empty
 abbrev pub stretch : ℕ → ℕ → Option Stretch
@@ -71,11 +71,11 @@ stretch start end = if start == end then None else Some (record { start = start;
 -- where the delimiters of a style stand in the page, if they aren't empty
 abbrev pub opening_place : Option Kept → Option Stretch
 opening_place None = None
-opening_place (Some k) = if is_style (shape (label k.node).kind).way then stretch k.place.start (k.place.start + length (label k.node).opening) else None
+opening_place (Some k) = if is_style (shape (label k.node).kind).inline then stretch k.place.start (k.place.start + length (label k.node).opening) else None
 
 abbrev pub closing_place : Option Kept → Option Stretch
 closing_place None = None
-closing_place (Some k) = if is_style (shape (label k.node).kind).way then stretch (k.place.end - length (label k.node).closing) k.place.end else None
+closing_place (Some k) = if is_style (shape (label k.node).kind).inline then stretch (k.place.end - length (label k.node).closing) k.place.end else None
 
 abbrev pub toggle : List ℕ → Option Stretch → Sign
 toggle sign at = thing (record { role = role.Toggle; source = sign; place = at })
@@ -102,22 +102,22 @@ abbrev pub href_of : Label → List ℕ
 href_of l = value_of attr.Href l.attrs
 
 -- a node that is written as characters of its own is a text
-abbrev pub text_by : Way → List ℕ → Option (List ℕ)
-text_by way.Nothing shown = None
-text_by way.Characters shown = Some shown
-text_by way.Bold shown = None
-text_by way.Italic shown = None
-text_by way.Shown shown = None
-text_by way.PageLink shown = None
-text_by way.ExternalLink shown = None
-text_by way.Tag shown = None
-text_by way.Break shown = None
-text_by way.AsItStood shown = None
+abbrev pub text_by : InlineForm → List ℕ → Option (List ℕ)
+text_by inline.Nothing shown = None
+text_by inline.Characters shown = Some shown
+text_by inline.Bold shown = None
+text_by inline.Italic shown = None
+text_by inline.Shown shown = None
+text_by inline.PageLink shown = None
+text_by inline.ExternalLink shown = None
+text_by inline.Tag shown = None
+text_by inline.Break shown = None
+text_by inline.AsItStood shown = None
 
 -- the children are one text
 abbrev pub only_text : Trees → Option (List ℕ)
 only_text none = None
-only_text (more t none) = text_by (shape (label t).kind).way (label t).shown
+only_text (more t none) = text_by (shape (label t).kind).inline (label t).shown
 only_text (more t (more u us)) = None
 
 abbrev pub is_text : Option (List ℕ) → List ℕ → Bool
@@ -172,23 +172,23 @@ break_tag = codes "<br>"
 
 -- ---- the signs of the content
 
--- by the way of its kind: of a node, its page's node and the signs of what it holds
-abbrev pub signs_by : Way → Page → Place → Option Kept → Label → Trees → List Sign → List Sign
-signs_by way.Nothing p pl k l ts inside = []
-signs_by way.Characters p pl k l ts inside = letters l.shown
-signs_by way.Bold p pl k l ts inside = style (39 ∷ 39 ∷ 39 ∷ []) k inside
-signs_by way.Italic p pl k l ts inside = style (39 ∷ 39 ∷ []) k inside
-signs_by way.Shown p pl k l ts inside = unless_kept p k (tree l ts) (letters (shown (tree l ts)))
-signs_by way.PageLink p pl k l ts inside = unless_kept p k (tree l ts)
+-- by the inline form of its kind: of a node, its page's node and the signs of what it holds
+abbrev pub signs_by : InlineForm → Page → Place → Option Kept → Label → Trees → List Sign → List Sign
+signs_by inline.Nothing p pl k l ts inside = []
+signs_by inline.Characters p pl k l ts inside = letters l.shown
+signs_by inline.Bold p pl k l ts inside = style (39 ∷ 39 ∷ 39 ∷ []) k inside
+signs_by inline.Italic p pl k l ts inside = style (39 ∷ 39 ∷ []) k inside
+signs_by inline.Shown p pl k l ts inside = unless_kept p k (tree l ts) (letters (shown (tree l ts)))
+signs_by inline.PageLink p pl k l ts inside = unless_kept p k (tree l ts)
     (new_thing role.Link (page_link (read_link (href_of l)) ts (spelled_within p pl inside)) k)
-signs_by way.ExternalLink p pl k l ts inside = unless_kept p k (tree l ts) (new_thing role.External (external_link (href_of l) (spelled_within p pl inside)) k)
-signs_by way.Tag p pl k l ts inside = unless_kept p k (tree l ts) (new_thing role.Node (tag_pair k (spelled_within p pl inside)) k)
-signs_by way.Break p pl k l ts inside = unless_kept p k (tree l ts) (new_thing role.Node break_tag k)
-signs_by way.AsItStood p pl k l ts inside = as_it_stood k
+signs_by inline.ExternalLink p pl k l ts inside = unless_kept p k (tree l ts) (new_thing role.External (external_link (href_of l) (spelled_within p pl inside)) k)
+signs_by inline.Tag p pl k l ts inside = unless_kept p k (tree l ts) (new_thing role.Node (tag_pair k (spelled_within p pl inside)) k)
+signs_by inline.Break p pl k l ts inside = unless_kept p k (tree l ts) (new_thing role.Node break_tag k)
+signs_by inline.AsItStood p pl k l ts inside = as_it_stood k
 
 abbrev mutual
   pub signs_of : Page → Place → Tree → List Sign
-  signs_of p pl (tree l ts) = signs_by (shape l.kind).way p pl (kept_with l.id p.kept) l ts (signs_of_all p pl ts)
+  signs_of p pl (tree l ts) = signs_by (shape l.kind).inline p pl (kept_with l.id p.kept) l ts (signs_of_all p pl ts)
 
   pub signs_of_all : Page → Place → Trees → List Sign
   signs_of_all p pl none = []

@@ -13,7 +13,7 @@ ghost use Rattle.wt_escape.specs.Spelling.{value_of, href_of, text_by, only_text
 use std::alloc::{AllocError, Global};
 use wt_guards::push_nowiki;
 use wt_names::{Ns, Title, full_name, title_of_href};
-use wt_original::{Kept, Way, shape};
+use wt_original::{InlineForm, Kept, shape};
 use wt_span::{NoMemory, Str, Text};
 use wt_tree::{Attr, AttrName, Node};
 
@@ -36,19 +36,19 @@ pub fn href_of<'n>(node: &'n Node<'_>) -> &'n str
 }
 
 fn text_by<'n>(node: &'n Node<'_>) -> Option<&'n str>
-    ensures { option_map (λ s. s.now) result ≡ text_by (shape (label_of (out-Node node.now)).kind).way (label_of (out-Node node.now)).shown }
+    ensures { option_map (λ s. s.now) result ≡ text_by (shape (label_of (out-Node node.now)).kind).inline (label_of (out-Node node.now)).shown }
 {
-    match shape(node.kind).way {
-        Way::Characters => Some(node.shown()),
-        Way::Nothing
-        | Way::Bold
-        | Way::Italic
-        | Way::Shown
-        | Way::PageLink
-        | Way::ExternalLink
-        | Way::Tag
-        | Way::Break
-        | Way::AsItStood => None,
+    match shape(node.kind).inline {
+        InlineForm::Characters => Some(node.shown()),
+        InlineForm::Nothing
+        | InlineForm::Bold
+        | InlineForm::Italic
+        | InlineForm::Shown
+        | InlineForm::PageLink
+        | InlineForm::ExternalLink
+        | InlineForm::Tag
+        | InlineForm::Break
+        | InlineForm::AsItStood => None,
     }
 }
 

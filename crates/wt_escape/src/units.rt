@@ -21,7 +21,7 @@ ghost use Rattle.wt_guards.specs.declared.role.Role.TheVariants as role;
 use crate::links::{external_link, page_link, tag_pair};
 use std::alloc::{AllocError, Global};
 use wt_guards::{Place, Role, Setting, Signs, Stretch, Thing, Unit, spelling_of};
-use wt_original::{Kept, Page, Way, is_unchanged, shape, shown_text, text_len};
+use wt_original::{InlineForm, Kept, Page, is_unchanged, shape, shown_text, text_len};
 use wt_span::{NoMemory, Str};
 use wt_tree::{Node, flat};
 
@@ -171,19 +171,19 @@ fn stretch(start: usize, end: usize) -> Option<Stretch>
     }
 }
 
-fn is_style(way: Way) -> bool
-    ensures { result ≡ is_style way }
+fn is_style(inline: InlineForm) -> bool
+    ensures { result ≡ is_style inline }
 {
-    match way {
-        Way::Bold | Way::Italic => true,
-        Way::Nothing
-        | Way::Characters
-        | Way::Shown
-        | Way::PageLink
-        | Way::ExternalLink
-        | Way::Tag
-        | Way::Break
-        | Way::AsItStood => false,
+    match inline {
+        InlineForm::Bold | InlineForm::Italic => true,
+        InlineForm::Nothing
+        | InlineForm::Characters
+        | InlineForm::Shown
+        | InlineForm::PageLink
+        | InlineForm::ExternalLink
+        | InlineForm::Tag
+        | InlineForm::Break
+        | InlineForm::AsItStood => false,
     }
 }
 
@@ -194,7 +194,7 @@ fn opening_place(alloc: Global, kept: Option<Kept<'_, '_>>) -> Result<Option<Str
     let Some(kept) = kept else {
         return Ok(None);
     };
-    if !is_style(shape(kept.node.kind).way) {
+    if !is_style(shape(kept.node.kind).inline) {
         return Ok(None);
     }
     let length = text_len(alloc, kept.node.opening())?;
@@ -211,7 +211,7 @@ fn closing_place(alloc: Global, kept: Option<Kept<'_, '_>>) -> Result<Option<Str
     let Some(kept) = kept else {
         return Ok(None);
     };
-    if !is_style(shape(kept.node.kind).way) {
+    if !is_style(shape(kept.node.kind).inline) {
         return Ok(None);
     }
     let length = text_len(alloc, kept.node.closing())?;
@@ -304,41 +304,41 @@ fn push_signs<'t>(
         → OnOk result (all_signs out.new.items ≡ all_signs out.old.items ++ signs_of (page_view same page.now) place (view node.now)) }
 {
     let kept = page.find(node.id);
-    match shape(node.kind).way {
-        Way::Nothing => Ok(()),
-        Way::Characters => {
+    match shape(node.kind).inline {
+        InlineForm::Nothing => Ok(()),
+        InlineForm::Characters => {
             push_text(out, node.shown())?;
             Ok(())
         }
-        Way::Bold => {
+        InlineForm::Bold => {
             push_style(alloc, out, page, place, "'''", kept, node)?;
             Ok(())
         }
-        Way::Italic => {
+        InlineForm::Italic => {
             push_style(alloc, out, page, place, "''", kept, node)?;
             Ok(())
         }
-        Way::Shown => {
+        InlineForm::Shown => {
             push_shown_unless(alloc, out, page, kept, node)?;
             Ok(())
         }
-        Way::PageLink => {
+        InlineForm::PageLink => {
             push_page_link(alloc, out, page, place, kept, node)?;
             Ok(())
         }
-        Way::ExternalLink => {
+        InlineForm::ExternalLink => {
             push_external_link(alloc, out, page, place, kept, node)?;
             Ok(())
         }
-        Way::Tag => {
+        InlineForm::Tag => {
             push_tag(alloc, out, page, place, kept, node)?;
             Ok(())
         }
-        Way::Break => {
+        InlineForm::Break => {
             push_break(alloc, out, page, kept, node)?;
             Ok(())
         }
-        Way::AsItStood => {
+        InlineForm::AsItStood => {
             push_as_it_stood(alloc, out, kept)?;
             Ok(())
         }

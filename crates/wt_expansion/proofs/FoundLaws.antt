@@ -16,7 +16,7 @@ use Rattle.wt_span.specs.declared.text.Text.{Text}
 use Rattle.wt_braces.specs.Views.{part_of}
 use Rattle.wt_transclusion.specs.declared.read.Braces.{Braces}
 use Rattle.wt_expansion.specs.Calls.{outer_of}
-use Rattle.wt_expansion.specs.declared.found.Found.{Found}
+use Rattle.wt_expansion.specs.declared.found.Collected.{Collected}
 use Rattle.wt_expansion.specs.Made.{AreCalled, Give, Appends, items_of_call, AppendsCall}
 use Rattle.wt_expansion.specs.Walks.{Adds}
 use Rattle.wt_expansion.proofs.PieceLaws.{give_append}
@@ -128,7 +128,7 @@ outer_by k c (x ∷ xs) = refl
 -- ---- what is found
 
 -- a call with what it gives
-pub outer_adds : (old new : Found) (o : Outer) (c : OuterCall) (given : List Item) (to : ℕ)
+pub outer_adds : (old new : Collected) (o : Outer) (c : OuterCall) (given : List Item) (to : ℕ)
     → AppendsCall (length old.outer.items) c.source given old.pieces.items new.pieces.items → new.outer.items ≡ old.outer.items ++ o ∷ []
     → new.text_calls ≡ old.text_calls → outer_call o ≡ c → to ≡ c.start + length c.source → Adds old new c.start (outer c given ∷ []) to
 outer_adds old new o c given to (qs, is, f, items_are) outers texts same to_is =
@@ -142,13 +142,13 @@ outer_adds old new o c given to (qs, is, f, items_are) outers texts same to_is =
 
 -- ---- one after another
 
-map_len : (old new : Found) (at : ℕ) (ss : List Stretch) (to : ℕ) → Adds old new at ss to
+map_len : (old new : Collected) (at : ℕ) (ss : List Stretch) (to : ℕ) → Adds old new at ss to
     → length new.outer.items ≡ length old.outer.items + length (outer_calls ss)
 map_len old new at ss to a =
     sym (length-map new.outer.items outer_call) ∙ ap length a.outer_are
     ∙ length-append (map outer_call old.outer.items) (outer_calls ss) ∙ ap (λ n. n + length (outer_calls ss)) (length-map old.outer.items outer_call)
 
-pub adds_then : (a b c : Found) (at : ℕ) (ss ts : List Stretch) (mid to : ℕ) → Adds a b at ss mid → Adds b c mid ts to → Adds a c at (ss ++ ts) to
+pub adds_then : (a b c : Collected) (at : ℕ) (ss ts : List Stretch) (mid to : ℕ) → Adds a b at ss mid → Adds b c mid ts to → Adds a c at (ss ++ ts) to
 adds_then a b c at ss ts mid to f g =
     record {
       pieces = f.pieces ++ g.pieces;
@@ -161,7 +161,7 @@ adds_then a b c at ss ts mid to f g =
           ∙ ap (λ us. map span_of a.text_calls.items ++ us) (sym (spans_append ss ts));
     }
 
-pub adds_none : (a : Found) (at : ℕ) → Adds a a at [] at
+pub adds_none : (a : Collected) (at : ℕ) → Adds a a at [] at
 adds_none a at = record {
   pieces = [];
   pieces_are = sym (append-nil a.pieces.items);
@@ -171,7 +171,7 @@ adds_none a at = record {
 }
 
 -- what was found is taken back, and then other stretches are found
-pub adds_back : (a b c : Found) (at : ℕ) (ss : List Stretch) (to : ℕ) → b.pieces.items ≡ a.pieces.items
+pub adds_back : (a b c : Collected) (at : ℕ) (ss : List Stretch) (to : ℕ) → b.pieces.items ≡ a.pieces.items
     → map outer_call b.outer.items ≡ map outer_call a.outer.items → map span_of b.text_calls.items ≡ map span_of a.text_calls.items
     → Adds b c at ss to → Adds a c at ss to
 adds_back a b c at ss to p o t f =
@@ -219,7 +219,7 @@ drop_most (suc i) (suc j) (x ∷ xs) e = drop_most i j xs (omega (arith, e))
 
 -- ---- what was found since a time is taken back
 
-pub adds_marked : (old mid back new : Found) (p o t : ℕ) (at : ℕ) (ss : List Stretch) (to : ℕ) (from : ℕ) (ts : List Stretch) (end : ℕ)
+pub adds_marked : (old mid back new : Collected) (p o t : ℕ) (at : ℕ) (ss : List Stretch) (to : ℕ) (from : ℕ) (ts : List Stretch) (end : ℕ)
     → p ≡ length old.pieces.items → o ≡ length old.outer.items → t ≡ length old.text_calls.items → Adds old mid at ss to
     → back.pieces.items ≡ take p mid.pieces.items → back.outer.items ≡ take o mid.outer.items → back.text_calls.items ≡ take t mid.text_calls.items
     → Adds back new from ts end → Adds old new from ts end

@@ -24,7 +24,7 @@ use Rattle.wt_template_stack.specs.declared.expansion.Expansion.{Expansion}
 use Rattle.wt_template_stack.specs.Ledgers.{Comes, Ledger, Refuses, ledger}
 use Rattle.wt_template_stack.proofs.LedgerLaws.{comes_refusal}
 use Rattle.wt_template_stack.proofs.PageLaws.{entered_first, reading_is, text_stops}
-use Rattle.wt_expansion.specs.declared.found.Found.{Found}
+use Rattle.wt_expansion.specs.declared.found.Collected.{Collected}
 use Rattle.wt_expansion.specs.Known.{HoldsPages, KnowsMore}
 use Rattle.wt_expansion.specs.Walks.{IsFree, Walked, at_page}
 use Rattle.wt_expansion.proofs.PageWalk.{ArePage, page_found, page_members, work_is}
@@ -41,7 +41,7 @@ pub record IsFound (pages : Pages) (page : List ℕ) (met : List (List ℕ)) (x 
   pub more : KnowsMore pages met (page_work pages page) x answered told
 
 -- what a walk over the whole page finds, where nothing was found before and nothing spent
-abbrev pub WalkedFrom : Pages → List ℕ → List (List ℕ) → ℕ → Option (List (List ℕ)) → ℕ → Found → Found → Store → ℕ → Option (List (List ℕ)) → Type 0
+abbrev pub WalkedFrom : Pages → List ℕ → List (List ℕ) → ℕ → Option (List (List ℕ)) → ℕ → Collected → Collected → Store → ℕ → Option (List (List ℕ)) → Type 0
 WalkedFrom pages page met spent answered to old new store now told =
     Walked pages page (ledger spent met answered) (all_stretches (at_page pages) 0 true (drop 0 page) (members (page_members page)))
     (given_from (at_page pages) true page 0 (page_members page)).work 0 to old new store now told
@@ -61,7 +61,7 @@ whole_by pages page met known work before now spent c =
     }
 
 pub page_is_found : (pages : Pages) (page : List ℕ) (met : List (List ℕ)) (spent : ℕ) (answered told : Option (List (List ℕ))) (to : ℕ)
-    (old new : Found) (x : Expansion) (ps : List Piece) (cs : List Outer) (ts : List Range) → IsUtf8 page
+    (old new : Collected) (x : Expansion) (ps : List Piece) (cs : List Outer) (ts : List Range) → IsUtf8 page
     → deep_place mode.Page page ≡ None → spent ≡ 0 → old.pieces.items ≡ [] → old.outer.items ≡ [] → old.text_calls.items ≡ []
     → x.names ≡ [] → WalkedFrom pages page met spent answered to old new x.store x.spent told
     → ps ≡ new.pieces.items → cs ≡ new.outer.items → ts ≡ new.text_calls.items → IsFound pages page met x answered told ps cs ts

@@ -16,7 +16,7 @@ use Rattle.wt_transclusion.specs.Steps.{IsStretchOf, given_from}
 use Rattle.wt_transclusion.proofs.StretchCuts.{whole_stretch}
 use Rattle.wt_template_stack.proofs.PageLaws.{reading_is}
 use Rattle.wt_template_stack.proofs.StepLaws.{drop_none}
-use Rattle.wt_expansion.specs.declared.found.Found.{Found}
+use Rattle.wt_expansion.specs.declared.found.Collected.{Collected}
 use Rattle.wt_expansion.specs.Made.{AreAlike, Give}
 use Rattle.wt_expansion.specs.Walks.{Finds, at_page}
 use Rattle.wt_expansion.proofs.PieceLaws.{page_is_items, page_pieces}
@@ -45,7 +45,7 @@ pub record ArePage (pages : Pages) (page : List ℕ) (ps : List Piece) (cs : Lis
   pub owed : AreItems ps (map outer_call cs) (map span_of ts)
   pub same : record { items = items ps; outer = map outer_call cs; text_calls = map span_of ts } ≡ expanded_page pages page
 
-pub page_found : (pages : Pages) (page : List ℕ) (old new : Found) (to : ℕ) (ps : List Piece) (cs : List Outer) (ts : List Range) → IsUtf8 page
+pub page_found : (pages : Pages) (page : List ℕ) (old new : Collected) (to : ℕ) (ps : List Piece) (cs : List Outer) (ts : List Range) → IsUtf8 page
     → old.pieces.items ≡ [] → old.outer.items ≡ [] → old.text_calls.items ≡ []
     → Finds old new 0 (all_stretches (at_page pages) 0 true (drop 0 page) (members (page_members page))) to
     → ps ≡ new.pieces.items → cs ≡ new.outer.items → ts ≡ new.text_calls.items → ArePage pages page ps cs ts

@@ -15,7 +15,7 @@ use Rattle.wt_transclusion.specs.declared.store.Store.{Store}
 use Rattle.wt_template_stack.specs.Calls.{IsCallOf}
 use Rattle.wt_template_stack.specs.Ledgers.{AnswersOutput, Comes, Ledger, Refuses, ledger}
 use Rattle.wt_template_stack.proofs.LedgerLaws.{comes_refused, memory_refused}
-use Rattle.wt_expansion.specs.declared.found.Found.{Found}
+use Rattle.wt_expansion.specs.declared.found.Collected.{Collected}
 use Rattle.wt_expansion.specs.Walks.{AnswersStep, AnswersTarget, AnswersWalk, target_output}
 
 -- what holds in any case holds of an error
@@ -40,7 +40,7 @@ given_stops pages page l o store spent answered ps h =
 -- ---- memory runs out before anything is done
 
 pub none_walked : (pages : Pages) (page : List ℕ) (spent : ℕ) (met : List (List ℕ))
-    (answered : Option (List (List ℕ))) (ss : List Stretch) (work : List Entry) (at to : ℕ) (old new : Found)
+    (answered : Option (List (List ℕ))) (ss : List Stretch) (work : List Entry) (at to : ℕ) (old new : Collected)
     (store : Store) (now : ℕ) (r : Result Unit ExpandRefusal) → r ≡ Err answer.NoMemory
     → AnswersWalk pages page (ledger spent met answered) ss work at to old new store now answered r
 none_walked pages page spent met answered ss work at to old new store now r e =
@@ -49,7 +49,7 @@ none_walked pages page spent met answered ss work at to old new store now r e =
     (memory_refused pages page l work)
 
 pub none_stepped : (pages : Pages) (page : List ℕ) (spent : ℕ) (met : List (List ℕ))
-    (answered : Option (List (List ℕ))) (ss : List Stretch) (work : List Entry) (at end : ℕ) (old new : Found)
+    (answered : Option (List (List ℕ))) (ss : List Stretch) (work : List Entry) (at end : ℕ) (old new : Collected)
     (store : Store) (now : ℕ) (r : Result ℕ ExpandRefusal) → r ≡ Err answer.NoMemory
     → AnswersStep pages page (ledger spent met answered) ss work at end old new store now answered r
 none_stepped pages page spent met answered ss work at end old new store now r e =
@@ -58,7 +58,7 @@ none_stepped pages page spent met answered ss work at end old new store now r e 
     (memory_refused pages page l work)
 
 pub none_targeted : (pages : Pages) (page : List ℕ) (spent : ℕ) (met : List (List ℕ))
-    (answered : Option (List (List ℕ))) (b : Braces) (c : IsCallOf mode.Page page b) (old new : Found)
+    (answered : Option (List (List ℕ))) (b : Braces) (c : IsCallOf mode.Page page b) (old new : Collected)
     (store : Store) (now : ℕ) (r : Result (Option Title) ExpandRefusal) → r ≡ Err answer.NoMemory
     → AnswersTarget pages page (ledger spent met answered) b c old new store now answered r
 none_targeted pages page spent met answered b c old new store now r e =

@@ -29,7 +29,7 @@ use Rattle.wt_template_stack.specs.Calls.{IsCallOf, source_of, first_end}
 use Rattle.wt_template_stack.specs.Ledgers.{Ledger, AnswersOutput, Refuses, ledger}
 use Rattle.wt_template_stack.specs.Runs.{page_called}
 use Rattle.wt_template_stack.proofs.LedgerLaws.{comes_none}
-use Rattle.wt_expansion.specs.declared.found.Found.{Found}
+use Rattle.wt_expansion.specs.declared.found.Collected.{Collected}
 use Rattle.wt_expansion.specs.Calls.{outer_of}
 use Rattle.wt_expansion.specs.Walks.{at_page, Adds, Works, Walked, IsCallNext, call_stretches_at, call_work, is_by_source, page_stretch, page_work_at}
 use Rattle.wt_expansion.proofs.FunctionSigns.{named_is_function}
@@ -153,7 +153,7 @@ source_same t bs b c same =
     ∙ ap (λ n. take n (drop b.at.start t)) z ∙ ap (λ n. take (c.braces + width_of_all c.inside + c.braces) (drop n t)) c.start_is
 
 -- one outermost call is found where the source stands
-pub outer_found : (t : List ℕ) (b : Braces) (c : IsCallOf mode.Page t b) (source : Text) (href : Option (List ℕ)) (d : Called) (old new : Found)
+pub outer_found : (t : List ℕ) (b : Braces) (c : IsCallOf mode.Page t b) (source : Text) (href : Option (List ℕ)) (d : Called) (old new : Collected)
     (given xs : List Item)
     → start_of source ≡ b.at.start → end_of source ≡ b.at.end → bytes_of source ≡ source_of mode.Page t b c → href ≡ link_of d → given ≡ xs
     → Adds old new (start_of source) (outer (outer_of source b href) given ∷ []) (end_of source)
@@ -165,7 +165,7 @@ outer_found t b c source href d old new given xs s_is e_is b_is h_is g_is a =
     (subst (λ n. Adds old new n (outer (outer_of source b href) given ∷ []) b.at.end) at
     (subst (λ n. Adds old new (start_of source) (outer (outer_of source b href) given ∷ []) n) e_is a)))
 
-pub walked_by : (pages : Pages) (t : List ℕ) (l : Ledger) (ss ts : List Stretch) (work done : List Entry) (at to : ℕ) (old new : Found) (store : Store)
+pub walked_by : (pages : Pages) (t : List ℕ) (l : Ledger) (ss ts : List Stretch) (work done : List Entry) (at to : ℕ) (old new : Collected) (store : Store)
     (spent : ℕ) (answered : Option (List (List ℕ))) → ts ≡ ss → done ≡ work → Adds old new at ts to → Works pages t l done store spent answered []
     → Walked pages t l ss work at to old new store spent answered
 walked_by pages t l ss ts work done at to old new store spent answered e f a w = record {
@@ -206,7 +206,7 @@ unlinked pages t b c s h = by_kind b.argument (function_of (drop 2 src)) c.kind_
     }
 
 pub unlinked_walked : (pages : Pages) (t : List ℕ) (l : Ledger) (b : Braces) (reader : Reader) (s : Bool) (n : IsCallNext t b reader s) (source : Text)
-    (old new : Found)
+    (old new : Collected)
     (store : Store) (spent : ℕ) (answered : Option (List (List ℕ))) (ps : List Piece)
     → is_by_source b.argument (slice_range reader.text.text.now b.at.start b.at.end) ≡ true
     → AnswersOutput pages t l (given_from (at_page pages) s t n.is.at (call n.is.braces n.is.inside ∷ [])) store spent answered (Ok ps)
@@ -238,7 +238,7 @@ refused_one pages t l b c s told e h = subst (λ es. Refuses pages t l es told e
 
 pub function_walked : (pages : Pages) (t : List ℕ) (met : List (List ℕ)) (spent : ℕ) (answered : Option (List (List ℕ))) (b : Braces) (reader : Reader)
     (s : Bool)
-    (n : IsCallNext t b reader s) (old new : Found) (store : Store) → b.argument ≡ false
+    (n : IsCallNext t b reader s) (old new : Collected) (store : Store) → b.argument ≡ false
     → is_function (slice_range reader.text.text.now b.at.start b.at.end) ≡ true
     → is_some (function_of (drop 2 (slice_range reader.text.text.now b.at.start b.at.end))) ≡ false → IsStore pages met store
     → Adds old new b.at.start (own (whole form.Function None (slice_range t b.at.start b.at.end) ∷ []) ∷ []) b.at.end
@@ -261,7 +261,7 @@ function_walked pages t met spent answered b reader s n old new store is fn othe
 
 pub page_walked : (pages : Pages) (t : List ℕ) (l : Ledger) (b : Braces) (reader : Reader) (s : Bool) (n : IsCallNext t b reader s) (title : Title)
     (href : List ℕ)
-    (source : Text) (old new : Found) (store : Store) (spent : ℕ) (answered : Option (List (List ℕ))) (ps : List Piece)
+    (source : Text) (old new : Collected) (store : Store) (spent : ℕ) (answered : Option (List (List ℕ))) (ps : List Piece)
     → AnswersOutput pages t l (page_called (at_page pages) t b n.is s title) store spent answered (Ok ps) → Some href ≡ link_of (page title)
     → start_of source ≡ b.at.start → end_of source ≡ b.at.end → bytes_of source ≡ slice_range reader.text.text.now b.at.start b.at.end
     → Adds old new (start_of source) (outer (outer_of source b (Some href)) (items ps) ∷ []) (end_of source)

@@ -23,7 +23,7 @@ use Rattle.wt_template_stack.specs.Ledgers.{Ledger, Comes, Refuses, ledger}
 use Rattle.wt_template_stack.specs.Readers.{IsReading}
 use Rattle.wt_template_stack.proofs.CallLaws.{call_is}
 use Rattle.wt_template_stack.proofs.LedgerLaws.{comes_none, comes_then, comes_before, comes_refused, refused_before}
-use Rattle.wt_expansion.specs.declared.found.Found.{Found}
+use Rattle.wt_expansion.specs.declared.found.Collected.{Collected}
 use Rattle.wt_expansion.specs.Made.{AreAlike}
 use Rattle.wt_expansion.specs.Walks.{at_page, Adds, Works, Walked, Going, AnswersStep, IsCallNext, call_stretches_at, call_work}
 use Rattle.wt_expansion.proofs.FoundLaws.{adds_none, adds_then}
@@ -42,7 +42,7 @@ works_none pages t met spent answered store w v s e = record {
 
 pub chunk_step : (pages : Pages) (t : List ℕ) (met : List (List ℕ)) (spent : ℕ) (answered : Option (List (List ℕ))) (p : ℕ) (s : Bool) (end : ℕ)
     (xs : List Member)
-    (kind : LexKind) (to : ℕ) (old new : Found) (store : Store) → IsStretchOf mode.Page t p end xs → AnswersNext mode.Page t p end xs (next.Chunk kind to)
+    (kind : LexKind) (to : ℕ) (old new : Collected) (store : Store) → IsStretchOf mode.Page t p end xs → AnswersNext mode.Page t p end xs (next.Chunk kind to)
     → IsStore pages met store → Adds old new p (own (lexeme_items mode.Page kind (slice_range t p to)) ∷ []) to
     → AnswersStep pages t (ledger spent met answered) (strs (at_page pages) s t p xs)
     (given_from (at_page pages) s t p xs).work p end old new store spent answered (Ok to)
@@ -134,7 +134,7 @@ behind_call pages t p end s xs b reader h =
 
 pub call_step : (pages : Pages) (t : List ℕ) (l : Ledger) (p end : ℕ) (s : Bool) (xs : List Member) (b : Braces) (reader : Reader)
     (h : CallThere t p end xs b reader s)
-    (old new : Found) (store : Store) (spent : ℕ) (answered : Option (List (List ℕ)))
+    (old new : Collected) (store : Store) (spent : ℕ) (answered : Option (List (List ℕ)))
     → Walked pages t l (call_stretches_at pages t b h.here.is s) (call_work pages t b h.here.is s) h.here.is.at b.at.end old new store spent answered
     → AnswersStep pages t l (strs (at_page pages) s t p xs) (given_from (at_page pages) s t p xs).work p end old new store spent answered (Ok b.at.end)
 call_step pages t l p end s xs b reader h old new store spent answered w =
@@ -173,7 +173,7 @@ call_step_refused pages t l p end s xs b reader h told x f =
 -- ---- step after step
 
 pub going_starts : (pages : Pages) (t : List ℕ) (met : List (List ℕ)) (spent : ℕ) (answered : Option (List (List ℕ))) (p end : ℕ) (s : Bool) (xs : List Member)
-    (found : Found) (reader : Reader) (store : Store) → IsReading mode.Page t reader p s → IsStretchOf mode.Page t p end xs → IsStore pages met store
+    (found : Collected) (reader : Reader) (store : Store) → IsReading mode.Page t reader p s → IsStretchOf mode.Page t p end xs → IsStore pages met store
     → Going pages t (ledger spent met answered) (strs (at_page pages) s t p xs)
     (given_from (at_page pages) s t p xs).work p end found found reader store spent answered
 going_starts pages t met spent answered p end s xs found reader store reading st stored = record {
@@ -191,11 +191,11 @@ going_starts pages t met spent answered p end s xs found reader store reading st
 }
 
 -- what is left of a walk that goes on
-abbrev pub going_ledger : (pages : Pages) (t : List ℕ) (l : Ledger) (ss : List Stretch) (work : List Entry) (p end : ℕ) (old new : Found) (reader : Reader)
+abbrev pub going_ledger : (pages : Pages) (t : List ℕ) (l : Ledger) (ss : List Stretch) (work : List Entry) (p end : ℕ) (old new : Collected) (reader : Reader)
     (store : Store) (spent : ℕ) (answered : Option (List (List ℕ))) → Going pages t l ss work p end old new reader store spent answered → Ledger
 going_ledger pages t l ss work p end old new reader store spent answered g = ledger spent g.rest.works.met answered
 
-pub going_on : (pages : Pages) (t : List ℕ) (l : Ledger) (ss : List Stretch) (work : List Entry) (p end : ℕ) (old mid new : Found) (reader later : Reader)
+pub going_on : (pages : Pages) (t : List ℕ) (l : Ledger) (ss : List Stretch) (work : List Entry) (p end : ℕ) (old mid new : Collected) (reader later : Reader)
     (store after : Store) (spent now : ℕ) (answered told : Option (List (List ℕ))) (to : ℕ)
     → (g : Going pages t l ss work p end old mid reader store spent answered)
     → AnswersStep pages t (ledger spent g.rest.works.met answered) (strs (at_page pages) g.at_start t g.place g.rest.left)
@@ -225,7 +225,7 @@ going_on pages t l ss work p end old mid new reader later store after spent now 
       };
     }
 
-pub going_refused : (pages : Pages) (t : List ℕ) (l : Ledger) (ss : List Stretch) (work : List Entry) (p end : ℕ) (old mid : Found) (reader : Reader)
+pub going_refused : (pages : Pages) (t : List ℕ) (l : Ledger) (ss : List Stretch) (work : List Entry) (p end : ℕ) (old mid : Collected) (reader : Reader)
     (store : Store) (spent : ℕ) (answered told : Option (List (List ℕ))) (x : ExpandRefusal)
     → (g : Going pages t l ss work p end old mid reader store spent answered)
     → Refuses pages t (ledger spent g.rest.works.met answered)
@@ -237,7 +237,7 @@ going_refused pages t l ss work p end old mid reader store spent answered told x
 
 -- memory runs out where a walk goes on
 pub going_stops : (pages : Pages) (t : List ℕ) (l : Ledger) (ss : List Stretch) (work : List Entry)
-    (p end : ℕ) (old mid : Found) (reader : Reader)
+    (p end : ℕ) (old mid : Collected) (reader : Reader)
     (store : Store) (spent : ℕ) (answered : Option (List (List ℕ)))
     → Going pages t l ss work p end old mid reader store spent answered
     → Refuses pages t l work answered answer.NoMemory
@@ -247,7 +247,7 @@ going_stops pages t l ss work p end old mid reader store spent answered g =
 
 -- memory runs out behind a step
 pub step_stops : (pages : Pages) (t : List ℕ) (l : Ledger) (ss : List Stretch) (work : List Entry)
-    (at end to : ℕ) (old new : Found)
+    (at end to : ℕ) (old new : Collected)
     (store : Store) (spent : ℕ) (answered : Option (List (List ℕ)))
     → AnswersStep pages t l ss work at end old new store spent answered (Ok to)
     → Refuses pages t l work answered answer.NoMemory
@@ -261,7 +261,7 @@ none_left t p end [] s l = refl
 none_left t p end (lexeme (kind, n) ∷ xs) s l = absurd (let z = s.width in let f = s.full.0 in omega (arith, z, f, l))
 none_left t p end (call k ms ∷ xs) s l = absurd (let z = s.width in let f = s.full.0.0 in omega (arith, z, f, l))
 
-pub going_ends : (pages : Pages) (t : List ℕ) (l : Ledger) (ss : List Stretch) (work : List Entry) (p end : ℕ) (old new : Found) (reader : Reader)
+pub going_ends : (pages : Pages) (t : List ℕ) (l : Ledger) (ss : List Stretch) (work : List Entry) (p end : ℕ) (old new : Collected) (reader : Reader)
     (store : Store) (spent : ℕ) (answered : Option (List (List ℕ))) → (g : Going pages t l ss work p end old new reader store spent answered)
     → end ≤ reader.cursor.at
     → Walked pages t l ss work p end old new store spent answered

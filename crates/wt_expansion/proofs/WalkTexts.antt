@@ -31,7 +31,7 @@ use Rattle.wt_template_stack.specs.Ledgers.{Ledger, Refuses, ledger}
 use Rattle.wt_template_stack.proofs.CallLaws.{behind_same, behind_stands}
 use Rattle.wt_template_stack.proofs.LedgerLaws.{comes_then, comes_before, comes_refused, refused_before}
 use Rattle.wt_template_stack.proofs.StepLaws.{joined_append}
-use Rattle.wt_expansion.specs.declared.found.Found.{Found}
+use Rattle.wt_expansion.specs.declared.found.Collected.{Collected}
 use Rattle.wt_expansion.specs.Walks.{at_page, Adds, Works, Walked, AnswersWalk, TargetRead, call_stretches_at, call_work, page_stretch, page_work_at, target_members, target_output, front_stretches, behind_stretches, behind_work}
 use Rattle.wt_expansion.proofs.FoundLaws.{adds_then, adds_marked}
 use Rattle.wt_expansion.proofs.PieceLaws.{give_items}
@@ -185,7 +185,7 @@ refused_then pages t l w v before now told answered x f h =
 -- ---- the target is read
 
 pub target_done : (pages : Pages) (t : List ℕ) (l : Ledger) (b : Braces) (c : IsCallOf mode.Page t b) (part : PartOf) → TargetStands t b c part
-    → (old one two new : Found) (store : Store) (spent : ℕ) (answered : Option (List (List ℕ))) (rest : List Piece) (title : Option Title)
+    → (old one two new : Collected) (store : Store) (spent : ℕ) (answered : Option (List (List ℕ))) (rest : List Piece) (title : Option Title)
     → Adds old one c.at (text_call (span_of b.at) ∷ []) c.at
     → Adds one two b.at.start (own (items_by form.Chars None (slice_range t b.at.start part.at.start)) ∷ []) part.at.start
     → Walked pages t l (strs (at_page pages) false t part.at.start (target_members (part_members 0 c.inside)))
@@ -243,7 +243,7 @@ behind_stretch t b c part end h e =
 
 pub behind_walked : (pages : Pages) (t : List ℕ) (l : Ledger) (b : Braces) (c : IsCallOf mode.Page t b) (part : PartOf) (end : ℕ)
     → TargetStands t b c part → end ≡ c.at + c.braces + width_of_all c.inside → b.at.end ≤ length t
-    → (old mid new : Found) (store : Store) (spent : ℕ) (answered : Option (List (List ℕ)))
+    → (old mid new : Collected) (store : Store) (spent : ℕ) (answered : Option (List (List ℕ)))
     → Walked pages t l (strs (at_page pages) (starts t part.at.end) t part.at.end (members_behind (part_members 0 c.inside)))
     (given_from (at_page pages) (starts t part.at.end) t part.at.end (members_behind (part_members 0 c.inside))).work part.at.end end old mid store spent
     answered
@@ -280,7 +280,7 @@ behind_refused pages t l b c part told x h f =
 -- ---- by the title that the target says
 
 -- it is none: the call is text
-pub text_walked : (pages : Pages) (t : List ℕ) (l : Ledger) (b : Braces) (c : IsCallOf mode.Page t b) (s : Bool) (old mid new : Found) (before store : Store)
+pub text_walked : (pages : Pages) (t : List ℕ) (l : Ledger) (b : Braces) (c : IsCallOf mode.Page t b) (s : Bool) (old mid new : Collected) (before store : Store)
     (now spent : ℕ) (told answered : Option (List (List ℕ))) (x : Result Unit ExpandRefusal) → what pages t b c ≡ text
     → (f : TargetRead pages t l b c None old mid before now told)
     → AnswersWalk pages t (ledger now f.works.met told) (behind_stretches pages t b c) (behind_work pages t b c)
@@ -307,7 +307,7 @@ text_walked pages t l b c s old mid new before store now spent told answered (Er
 
 -- it is that of a page
 pub page_walked_on : (pages : Pages) (t : List ℕ) (l : Ledger) (b : Braces) (c : IsCallOf mode.Page t b) (s : Bool) (title : Title)
-    (old mid back new : Found) (before store : Store) (now spent : ℕ) (told answered : Option (List (List ℕ))) (p o u : ℕ) (x : Result Unit ExpandRefusal)
+    (old mid back new : Collected) (before store : Store) (now spent : ℕ) (told answered : Option (List (List ℕ))) (p o u : ℕ) (x : Result Unit ExpandRefusal)
     → what pages t b c ≡ page title → (f : TargetRead pages t l b c (Some title) old mid before now told)
     → p ≡ length old.pieces.items → o ≡ length old.outer.items → u ≡ length old.text_calls.items
     → back.pieces.items ≡ take p mid.pieces.items → back.outer.items ≡ take o mid.outer.items → back.text_calls.items ≡ take u mid.text_calls.items

@@ -25,7 +25,7 @@ use Rattle.wt_template_stack.specs.Calls.{IsCallOf, source_of, first_end, member
 use Rattle.wt_template_stack.specs.Ledgers.{Ledger, Comes, Refuses, ledger, reading_of}
 use Rattle.wt_template_stack.specs.Readers.{IsReading}
 use Rattle.wt_template_stack.specs.Runs.{page_called}
-use Rattle.wt_expansion.specs.declared.found.Found.{Found}
+use Rattle.wt_expansion.specs.declared.found.Collected.{Collected}
 use Rattle.wt_expansion.specs.Made.{AreAlike, Give}
 
 -- the page is read with no values, and none of its templates is being expanded
@@ -33,7 +33,7 @@ abbrev pub at_page : Pages → Reading
 at_page pages = reading_of pages mode.Page [] MOST_TEMPLATES []
 
 -- what was found between two places is these stretches
-pub record Adds (old new : Found) (at : ℕ) (ss : List Stretch) (to : ℕ) : Type 0 where
+pub record Adds (old new : Collected) (at : ℕ) (ss : List Stretch) (to : ℕ) : Type 0 where
   pub pieces : List Piece
   pub pieces_are : new.pieces.items ≡ old.pieces.items ++ pieces
   pub give : Give at (length old.outer.items) ss pieces to
@@ -41,7 +41,7 @@ pub record Adds (old new : Found) (at : ℕ) (ss : List Stretch) (to : ℕ) : Ty
   pub texts_are : map span_of new.text_calls.items ≡ map span_of old.text_calls.items ++ text_spans ss
 
 -- these stretches, or others that make the same page
-pub record Finds (old new : Found) (at : ℕ) (ss : List Stretch) (to : ℕ) : Type 0 where
+pub record Finds (old new : Collected) (at : ℕ) (ss : List Stretch) (to : ℕ) : Type 0 where
   pub done : List Stretch
   pub alike : AreAlike done ss
   pub adds : Adds old new at done to
@@ -54,13 +54,13 @@ pub record Works (pages : Pages) (page : List ℕ) (before : Ledger) (work : Lis
   pub comes : Comes pages page before work (ledger spent met answered) left
 
 -- stretches between two places are found and their work is done
-pub record Walked (pages : Pages) (page : List ℕ) (before : Ledger) (ss : List Stretch) (work : List Entry) (at to : ℕ) (old new : Found)
+pub record Walked (pages : Pages) (page : List ℕ) (before : Ledger) (ss : List Stretch) (work : List Entry) (at to : ℕ) (old new : Collected)
     (store : Store) (spent : ℕ) (answered : Option (List (List ℕ))) : Type 0 where
   pub finds : Finds old new at ss to
   pub works : Works pages page before work store spent answered []
 
 -- stretches are found, or their work is refused
-abbrev pub AnswersWalk : Pages → List ℕ → Ledger → List Stretch → List Entry → ℕ → ℕ → Found → Found → Store → ℕ → Option (List (List ℕ))
+abbrev pub AnswersWalk : Pages → List ℕ → Ledger → List Stretch → List Entry → ℕ → ℕ → Collected → Collected → Store → ℕ → Option (List (List ℕ))
     → Result Unit ExpandRefusal → Type 0
 AnswersWalk pages page before ss work at to old new store spent answered (Ok u) = Walked pages page before ss work at to old new store spent answered
 AnswersWalk pages page before ss work at to old new store spent answered (Err e) = Refuses pages page before work answered e
@@ -69,7 +69,7 @@ AnswersWalk pages page before ss work at to old new store spent answered (Err e)
 
 -- So much of a stretch that ends at `end` is found, and its work is done: the rest of it stands at a place.
 pub record Left (pages : Pages) (page : List ℕ) (before : Ledger) (ss : List Stretch) (work : List Entry) (at place end : ℕ) (at_start : Bool)
-    (old new : Found) (store : Store) (spent : ℕ) (answered : Option (List (List ℕ))) : Type 0 where
+    (old new : Collected) (store : Store) (spent : ℕ) (answered : Option (List (List ℕ))) : Type 0 where
   pub left : List Member
   pub stretch : IsStretchOf mode.Page page place end left
   pub done : List Stretch
@@ -78,14 +78,14 @@ pub record Left (pages : Pages) (page : List ℕ) (before : Ledger) (ss : List S
   pub works : Works pages page before work store spent answered (given_from (at_page pages) at_start page place left).work
 
 -- a step is done, or refused
-abbrev pub AnswersStep : Pages → List ℕ → Ledger → List Stretch → List Entry → ℕ → ℕ → Found → Found → Store → ℕ → Option (List (List ℕ))
+abbrev pub AnswersStep : Pages → List ℕ → Ledger → List Stretch → List Entry → ℕ → ℕ → Collected → Collected → Store → ℕ → Option (List (List ℕ))
     → Result ℕ ExpandRefusal → Type 0
 AnswersStep pages page before ss work at end old new store spent answered (Ok to) =
     (at ≤ to) × Left pages page before ss work at to end (starts page to) old new store spent answered
 AnswersStep pages page before ss work at end old new store spent answered (Err e) = Refuses pages page before work answered e
 
 -- where the reader of a walk stands
-pub record Going (pages : Pages) (page : List ℕ) (before : Ledger) (ss : List Stretch) (work : List Entry) (at end : ℕ) (old new : Found)
+pub record Going (pages : Pages) (page : List ℕ) (before : Ledger) (ss : List Stretch) (work : List Entry) (at end : ℕ) (old new : Collected)
     (reader : Reader) (store : Store) (spent : ℕ) (answered : Option (List (List ℕ))) : Type 0 where
   pub place : ℕ
   pub at_start : Bool
@@ -137,12 +137,12 @@ front_stretches pages page b c =
 
 -- the target of a call is read, and this is the title that it says
 pub record TargetRead (pages : Pages) (page : List ℕ) (before : Ledger) (b : Braces) (c : IsCallOf mode.Page page b) (title : Option Title)
-    (old new : Found) (store : Store) (spent : ℕ) (answered : Option (List (List ℕ))) : Type 0 where
+    (old new : Collected) (store : Store) (spent : ℕ) (answered : Option (List (List ℕ))) : Type 0 where
   pub title_is : title ≡ title_of_target (target_output pages page b c).items
   pub finds : Finds old new c.at (front_stretches pages page b c) (first_end (c.at + c.braces) (part_members 0 c.inside))
   pub works : Works pages page before (target_output pages page b c).work store spent answered []
 
-abbrev pub AnswersTarget : (pages : Pages) (page : List ℕ) → Ledger → (b : Braces) → IsCallOf mode.Page page b → Found → Found → Store → ℕ
+abbrev pub AnswersTarget : (pages : Pages) (page : List ℕ) → Ledger → (b : Braces) → IsCallOf mode.Page page b → Collected → Collected → Store → ℕ
     → Option (List (List ℕ)) → Result (Option Title) ExpandRefusal → Type 0
 AnswersTarget pages page before b c old new store spent answered (Ok title) = TargetRead pages page before b c title old new store spent answered
 AnswersTarget pages page before b c old new store spent answered (Err e) = Refuses pages page before (target_output pages page b c).work answered e

@@ -16,7 +16,7 @@ use wt_transclusion::Braces;
 
 /// The pieces, the outermost calls and the text calls of the page up to a place.
 #[derive(Drop)]
-pub struct Found<'a> {
+pub struct Collected<'a> {
     pub pieces: Vec<Piece<'a>>,
     pub outer: Vec<Outer<'a>>,
     pub text_calls: Vec<Range>,
@@ -121,13 +121,13 @@ fn push_given<'a>(
     Ok(())
 }
 
-impl<'a> Found<'a> {
-    pub fn new(alloc: Global) -> Found<'a>
+impl<'a> Collected<'a> {
+    pub fn new(alloc: Global) -> Collected<'a>
         ensures pieces { result.pieces.items ≡ [] }
         ensures outer { result.outer.items ≡ [] }
         ensures text_calls { result.text_calls.items ≡ [] }
     {
-        Found {
+        Collected {
             pieces: Vec::new(alloc),
             outer: Vec::new(alloc),
             text_calls: Vec::new(alloc),

@@ -9,7 +9,7 @@ ghost use Rattle.wt_transclusion.specs.Stops.{Stops};
 ghost use Rattle.wt_expansion.specs.Known.{HoldsPages, KnowsMore};
 ghost use Rattle.wt_expansion.specs.Walks.{IsFree};
 
-use crate::walk::{MOST_NESTED, Walk};
+use crate::walk::{MOST_NESTED, PageWalk};
 use bumpalo::Bump;
 use std::alloc::Global;
 use wt_devices::Folder;
@@ -67,9 +67,9 @@ pub fn expand_knowing<'a, F: Folder>(
     let text = read_page(alloc, page, arena)?;
     let mut expansion = expansion;
     expansion.spent = 0;
-    let mut walk = Walk::new(alloc, expansion);
+    let mut walk = PageWalk::new(alloc, expansion);
     walk.stretch(folder, Reader::start(text), page.len() as u32, MOST_NESTED)?;
-    let Walk {
+    let PageWalk {
         alloc: _,
         expansion,
         found,

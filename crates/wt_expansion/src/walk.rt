@@ -18,7 +18,7 @@ ghost use Rattle.wt_template_stack.specs.Ledgers.{ledger};
 ghost use Rattle.wt_template_stack.specs.Readers.{IsReading};
 ghost use Rattle.wt_expansion.specs.Walks.{Adds, AnswersStep, AnswersTarget, AnswersWalk, IsCallNext, IsFree, at_page, behind_stretches, behind_work, call_stretches_at, call_work, is_by_source, page_stretch, page_work_at};
 
-use crate::found::Found;
+use crate::found::Collected;
 use std::alloc::Global;
 use wt_braces::PartAt;
 use wt_devices::Folder;
@@ -35,10 +35,10 @@ pub const MOST_NESTED: u32 = 101;
 
 /// A page that is walked over.
 #[derive(Drop)]
-pub struct Walk<'a> {
+pub struct PageWalk<'a> {
     pub alloc: Global,
     pub expansion: Expansion<'a>,
-    pub found: Found<'a>,
+    pub found: Collected<'a>,
 }
 
 /// The first part of a call, which is its target or the name of an argument.
@@ -53,7 +53,7 @@ fn first_part(call: Braces<'_>) -> Result<PartAt, NoMemory>
 
 /// A piece of the page between two places.
 fn push_slice<'a>(
-    found: &mut Found<'a>,
+    found: &mut Collected<'a>,
     reader: Reader<'a>,
     from: u32,
     to: u32,
@@ -69,7 +69,7 @@ fn push_slice<'a>(
 
 /// Bytes of a lexeme, up to a place.
 fn push_chunk<'a>(
-    found: &mut Found<'a>,
+    found: &mut Collected<'a>,
     reader: Reader<'a>,
     kind: LexKind,
     to: u32,
@@ -103,18 +103,18 @@ fn begins_choice(reader: Reader<'_>, call: Braces<'_>) -> Result<bool, NoMemory>
     Ok(function_named(source.as_str().as_bytes()).is_some())
 }
 
-impl<'a> Walk<'a> {
+impl<'a> PageWalk<'a> {
     /// Nothing is found.
-    pub fn new(alloc: Global, expansion: Expansion<'a>) -> Walk<'a>
+    pub fn new(alloc: Global, expansion: Expansion<'a>) -> PageWalk<'a>
         ensures expansion { result.expansion ≡ expansion.entry }
         ensures pieces { result.found.pieces.items ≡ [] }
         ensures outer { result.found.outer.items ≡ [] }
         ensures text_calls { result.found.text_calls.items ≡ [] }
     {
-        Walk {
+        PageWalk {
             alloc,
             expansion,
-            found: Found::new(alloc),
+            found: Collected::new(alloc),
         }
     }
 

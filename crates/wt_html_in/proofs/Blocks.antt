@@ -16,7 +16,7 @@ use Rattle.wt_schema.specs.Attributes.{value_of, has}
 use Rattle.wt_schema.specs.Groups.{Piece, single, begun, further, standing, standing_by, open_by, open_after, is_dropped}
 use Rattle.wt_schema.specs.Rows.{shows_text, holds_text}
 use Rattle.wt_schema.specs.Data.{Data, data_for}
-use Rattle.wt_schema.specs.Fit.{Misfit, Spot as Place, within, with_sync, label_as, piece_as, texts_in, leaf_in, is_block_row, is_block_element, row_as, fits_place, is_inside, with_children, one_piece, text_fits, fit_told, fit_as, fit_row, fit_text, fit_node, fit_nodes}
+use Rattle.wt_schema.specs.Fit.{Misfit, Position as Place, within, with_sync, label_as, piece_as, texts_in, leaf_in, is_block_row, is_block_element, row_as, fits_place, is_inside, with_children, one_piece, text_fits, fit_told, fit_as, fit_row, fit_text, fit_node, fit_nodes}
 use Rattle.wt_html_in.specs.Fits.{is_block_piece}
 
 -- ---- blocks

@@ -12,15 +12,15 @@ use Rattle.wt_html_grammar.specs.Markup.{Pair, Markup, Markups, text, node, empt
 use Rattle.wt_html_elements.specs.declared.content.Content.{Content}
 use Rattle.wt_html_elements.specs.Built.{view_content, pairs, views as markups}
 use Rattle.wt_html_grammar.specs.Events.{append}
-use Rattle.wt_html_in.specs.declared.frame.Found.{Found}
+use Rattle.wt_html_in.specs.declared.frame.BodyElement.{BodyElement}
 use Rattle.wt_schema.specs.Groups.{Piece}
-use Rattle.wt_schema.specs.Fit.{Misfit, within, with_children, elements, elements_of_all, fit_body_told, body_data, fit_nodes, elements_in, body_in, body_of, Found as FoundBody}
+use Rattle.wt_schema.specs.Fit.{Misfit, within, with_children, elements, elements_of_all, fit_body_told, body_data, fit_nodes, elements_in, body_in, body_of, BodyElement as FoundBody}
 use Rattle.wt_schema.specs.Unsourced.{is_marked, unsourced_nodes}
 use Rattle.wt_html_nodes.specs.Texts.{are_utf8_values, is_utf8_markup, are_utf8_markups}
 use Rattle.wt_html_nodes.specs.declared.fault.FitFault.{FitFault}
 use Rattle.wt_html_nodes.specs.declared.fault.FitFault.TheVariants as faults
 use Rattle.wt_html_nodes.specs.declared.head.Head.{Head}
-use Rattle.wt_html_in.specs.declared.walk.Walk.{Walk}
+use Rattle.wt_html_in.specs.declared.walk.Traversal.{Traversal}
 use Rattle.wt_html_in.specs.declared.edited.Edited.{Edited}
 use Rattle.wt_html_in.specs.Answers.{body_of as body_told, unsourced_of}
 use Rattle.wt_html_nodes.specs.Heads.{label_of_head, BodyFits}
@@ -145,7 +145,7 @@ abbrev inner : ℕ → Markups → Result (List Piece) Misfit
 inner n c = fit_nodes n (within kind.Body false) c
 
 -- a body's tree, and the same without its sections
-pub body_made : (n : ℕ) (ps : List Pair) (c : Markups) (h : Head) (w v : Walk) (ns : List Node) (a b : Node) (e : Edited)
+pub body_made : (n : ℕ) (ps : List Pair) (c : Markups) (h : Head) (w v : Traversal) (ns : List Node) (a b : Node) (e : Edited)
     → Bodied n ps c (Ok h) → w.next ≡ n + 1 → w.unsourced ≡ marked_here n ps → FitsNodes w kind.Body false c v (Ok ns)
     → view a ≡ tree (label_of_head h) (held_in false h.kind (views ns)) → view b ≡ without_sections (view a)
     → body_told e ≡ view b → unsourced_of e ≡ v.unsourced
@@ -167,7 +167,7 @@ pub body_misfit : (n : ℕ) (ps : List Pair) (c : Markups) (e : FitFault) → Bo
 body_misfit n ps c (faults.Unfit m y) f = ap opened_if_fit (f (inner (suc n) c))
 body_misfit n ps c faults.NoMemory f = tt
 
-pub body_inside : (n : ℕ) (ps : List Pair) (c : Markups) (h : Head) (w v : Walk) (e : FitFault) → Bodied n ps c (Ok h) → w.next ≡ n + 1
+pub body_inside : (n : ℕ) (ps : List Pair) (c : Markups) (h : Head) (w v : Traversal) (e : FitFault) → Bodied n ps c (Ok h) → w.next ≡ n + 1
     → FitsNodes w kind.Body false c v (Err e) → FitsBody (Some (found_of n ps c)) (Err e)
 body_inside n ps c h w v (faults.Unfit m y) f x g =
     let s : suc n ≡ w.next = omega (arith, x) in
@@ -216,10 +216,10 @@ pub few_in_root : (m : Markup) (name : List ℕ) (ps : List Pair) (c ts : Markup
     → elements m + 1 < 2 ^ 32 → elements_of_all ts + 2 < 2 ^ 32
 few_in_root m name ps c ts d e l = let f = ap elements d in let g = ap elements_of_all e ∙ count_elements c in omega (arith, f, g, l)
 
-pub sound_by : (m : Markup) (o : Option Found) (f : Found) → found_if_any o ≡ body_of m → o ≡ Some f → is_utf8_markup m ≡ true
+pub sound_by : (m : Markup) (o : Option BodyElement) (f : BodyElement) → found_if_any o ≡ body_of m → o ≡ Some f → is_utf8_markup m ≡ true
     → Sound (elements m) (found_of f.number (pairs f.attributes.items) (markups f.contents.items))
 sound_by m o f d e u = found_sound m (found_of f.number (pairs f.attributes.items) (markups f.contents.items)) (sym d ∙ ap found_if_any e) u
 
 -- what is told of one body is told of what it is
-pub found_at : (r : Result (Option Found) NoMemory) (a b : Option FoundBody) → IfOk r (λ f. found_if_any f ≡ a) → a ≡ b → IfOk r (λ f. found_if_any f ≡ b)
+pub found_at : (r : Result (Option BodyElement) NoMemory) (a b : Option FoundBody) → IfOk r (λ f. found_if_any f ≡ a) → a ≡ b → IfOk r (λ f. found_if_any f ≡ b)
 found_at r a b h e = let P : Option FoundBody → Type 0 = λ o. IfOk r (λ f. found_if_any f ≡ o) in subst P e h

@@ -12,15 +12,15 @@ use Rattle.wt_html_elements.specs.Built.{views as markups}
 use Rattle.wt_schema.specs.declared.standing.Standing.{Standing}
 use Rattle.wt_schema.specs.declared.standing.Standing.TheVariants as stands
 use Rattle.wt_schema.specs.Groups.{Piece, single, gathered, standing, is_grouped, is_dropped, open_after}
-use Rattle.wt_schema.specs.Fit.{Misfit, Spot as Place, within, onto, onto_told, with_children, is_block_element, behind_it, elements, elements_of_all, row_as, leaf_in, fit_row, fit_text, fit_node, fit_nodes}
+use Rattle.wt_schema.specs.Fit.{Misfit, Position as Place, within, onto, onto_told, with_children, is_block_element, behind_it, elements, elements_of_all, row_as, leaf_in, fit_row, fit_text, fit_node, fit_nodes}
 use Rattle.wt_schema.specs.Unsourced.{lacks_source, unsourced_as, unsourced_nodes}
 use Rattle.wt_html_nodes.specs.Texts.{is_utf8_markup, are_utf8_markups}
 use Rattle.wt_html_nodes.specs.declared.fault.FitFault.{FitFault}
 use Rattle.wt_html_nodes.specs.declared.fault.FitFault.TheVariants as faults
 use Rattle.wt_html_nodes.specs.declared.head.Headed.{Headed}
-use Rattle.wt_html_nodes.specs.declared.head.Spot.{Spot}
-use Rattle.wt_html_in.specs.declared.walk.Walk.{Walk}
-use Rattle.wt_html_in.specs.declared.walk.Made.{Made}
+use Rattle.wt_html_nodes.specs.declared.head.Position.{Position}
+use Rattle.wt_html_in.specs.declared.walk.Traversal.{Traversal}
+use Rattle.wt_html_in.specs.declared.walk.Converted.{Converted}
 use Rattle.wt_html_in.specs.declared.roles.Role.{Role}
 use Rattle.wt_html_in.specs.declared.roles.Role.TheVariants as are
 use Rattle.wt_html_in.specs.Roles.{text_role, role_at, roles, standing_in, text_piece}
@@ -79,7 +79,7 @@ at k i b g = record { parent = k; inside = i; behind = b; group = g }
 
 -- A walk over all of these has come so far, behind a block or not: these nodes are made, and the rest
 -- with these roles is still to come.
-pub record Going (w : Walk) (k : Kind) (i : Bool) (all : Markups) (ns : List Node) (v : Walk) (b : Bool) (rs : List Role) (rest : Markups) : Type 0 where
+pub record Going (w : Traversal) (k : Kind) (i : Bool) (all : Markups) (ns : List Node) (v : Traversal) (b : Bool) (rs : List Role) (rest : Markups) : Type 0 where
   pub group : Option (List ℕ)
   pub done : List Piece
   pub gathers : gathered done ≡ views ns
@@ -91,7 +91,7 @@ pub record Going (w : Walk) (k : Kind) (i : Bool) (all : Markups) (ns : List Nod
   pub utf8 : are_utf8_markups rest ≡ true
   pub roles_are : rs ≡ roles group rest
 
-pub going_start : (w : Walk) (k : Kind) (i : Bool) (all : Markups) (ns : List Node) (b : Bool) (rs : List Role) → ns ≡ [] → b ≡ false → rs ≡ roles None all
+pub going_start : (w : Traversal) (k : Kind) (i : Bool) (all : Markups) (ns : List Node) (b : Bool) (rs : List Role) → ns ≡ [] → b ≡ false → rs ≡ roles None all
     → w.next + elements_of_all all < 2 ^ 32 → are_utf8_markups all ≡ true → Going w k i all ns w b rs all
 going_start w k i all ns b rs e f r l u =
     record {
@@ -129,12 +129,12 @@ role_there [] (suc n) q qs f = cc
 role_there (x ∷ xs) zero q qs f = omega arith
 role_there (x ∷ xs) (suc n) q qs f = let h = role_there xs n q qs f in omega (arith, h)
 
-pub going_role : (w : Walk) (k : Kind) (i : Bool) (all : Markups) (ns : List Node) (v : Walk) (b : Bool) (rs : List Role) (n : ℕ) (t : Markup) (ts : Markups)
+pub going_role : (w : Traversal) (k : Kind) (i : Bool) (all : Markups) (ns : List Node) (v : Traversal) (b : Bool) (rs : List Role) (n : ℕ) (t : Markup) (ts : Markups)
     → Going w k i all ns v b (drop n rs) (more t ts) → n < length rs
 going_role w k i all ns v b rs n t ts g = role_there rs n (role_at g.group t ts) (roles (open_after g.group t ts) ts) g.roles_are
 
-pub going_on : (w : Walk) (k : Kind) (i : Bool) (all : Markups) (ns ms : List Node) (v u : Walk) (b d : Bool) (rs : List Role) (n : ℕ) (r : Role) (s : Spot)
-    (t : Markup) (ts : Markups) (o : Made)
+pub going_on : (w : Traversal) (k : Kind) (i : Bool) (all : Markups) (ns ms : List Node) (v u : Traversal) (b d : Bool) (rs : List Role) (n : ℕ) (r : Role) (s : Position)
+    (t : Markup) (ts : Markups) (o : Converted)
     → Going w k i all ns v b (drop n rs) (more t ts) → slice_get rs n ≡ Some r → s.outer ≡ k → s.inside ≡ i → s.behind ≡ b
     → FitsPiece v s r t u (Ok o) → d ≡ (b || is_block_piece (piece_of o)) → views ms ≡ gathered_with (views ns) (piece_of o)
     → Going w k i all ms u d (drop (n + 1) rs) ts
@@ -170,7 +170,7 @@ going_on w k i all ns ms v u b d rs n r s t ts o g e x y z f h m =
       roles_are = role_rest rs n (role_at c t ts) (roles (open_after c t ts) ts) g.roles_are;
     }
 
-pub going_end : (w : Walk) (k : Kind) (i : Bool) (all : Markups) (ns : List Node) (v : Walk) (b : Bool) (rs : List Role)
+pub going_end : (w : Traversal) (k : Kind) (i : Bool) (all : Markups) (ns : List Node) (v : Traversal) (b : Bool) (rs : List Role)
     → Going w k i all ns v b rs empty → FitsNodes w k i all v (Ok ns)
 going_end w k i all ns v b rs g = (
   g.done,
@@ -182,7 +182,7 @@ going_end w k i all ns v b rs g = (
   },
 )
 
-pub going_err : (w : Walk) (k : Kind) (i : Bool) (all : Markups) (ns : List Node) (v u z : Walk) (b : Bool) (rs : List Role) (n : ℕ) (r : Role) (s : Spot)
+pub going_err : (w : Traversal) (k : Kind) (i : Bool) (all : Markups) (ns : List Node) (v u z : Traversal) (b : Bool) (rs : List Role) (n : ℕ) (r : Role) (s : Position)
     (t : Markup) (ts : Markups) (e : FitFault)
     → Going w k i all ns v b (drop n rs) (more t ts) → slice_get rs n ≡ Some r → s.outer ≡ k → s.inside ≡ i → s.behind ≡ b
     → FitsPiece v s r t u (Err e) → FitsNodes w k i all z (Err e)
@@ -197,7 +197,7 @@ going_err w k i all ns v u z b rs n r s t ts faults.NoMemory g e c d h f = tt
 
 -- ---- a text
 
-text_as : (s : Spot) (r : Role) (bs : List ℕ) (g : Option (List ℕ)) (ts : Markups) → r ≡ text_role g bs ts
+text_as : (s : Position) (r : Role) (bs : List ℕ) (g : Option (List ℕ)) (ts : Markups) → r ≡ text_role g bs ts
     → text_piece r s.outer bs ≡ fit_text (spot_with s g) bs ts
 text_as s r bs g ts e = ap (λ p. text_piece p s.outer bs) e ∙ by_test (is_dropped g bs ts)
   where
@@ -209,7 +209,7 @@ one_text : (i : Bool) (n : ℕ) (g : Option (List ℕ)) (bs : List ℕ) → unso
 one_text true n g bs = refl
 one_text false n g bs = refl
 
-pub text_ok : (w : Walk) (s : Spot) (r : Role) (bs : List ℕ) (o : Made) → piece_of o ≡ text_piece r s.outer bs → FitsPiece w s r (text bs) w (Ok o)
+pub text_ok : (w : Traversal) (s : Position) (r : Role) (bs : List ℕ) (o : Converted) → piece_of o ≡ text_piece r s.outer bs → FitsPiece w s r (text bs) w (Ok o)
 text_ok w s r bs o e = λ g ts q. (
   ap Ok (sym (e ∙ text_as s r bs g ts q)),
   record {
@@ -220,11 +220,11 @@ text_ok w s r bs o e = λ g ts q. (
 
 -- ---- an element, by what it is and by what stands in it
 
-abbrev pub Begun : Walk → Spot → Standing → List ℕ → List Pair → Markups → Result Headed FitFault → Type 0
+abbrev pub Begun : Traversal → Position → Standing → List ℕ → List Pair → Markups → Result Headed FitFault → Type 0
 Begun w s z name ps c r = RowFits (s.inside || is_grouped z) (λ group held. fit_row w.next (spot_with s group) z (row_as z name ps) ps c held) r
 
 -- the element as if it stood so
-abbrev stood : ℕ → Spot → Option (List ℕ) → Standing → List ℕ → List Pair → Markups → Result (Option Piece) Misfit
+abbrev stood : ℕ → Position → Option (List ℕ) → Standing → List ℕ → List Pair → Markups → Result (Option Piece) Misfit
 stood n s g z name ps c =
     fit_row n (spot_with s g) z (row_as z name ps) ps c (λ k. fit_nodes (suc n) (within k (s.inside || is_grouped z)) c)
 
@@ -248,7 +248,7 @@ one_element : (i : Bool) (n : ℕ) (g : Option (List ℕ)) (name : List ℕ) (ps
 one_element true n g name ps c = refl
 one_element false n g name ps c = refl
 
-stood_is : (w v : Walk) (s : Spot) (g : Option (List ℕ)) (z : Standing) (name : List ℕ) (ps : List Pair) (c : Markups) (h : Headed)
+stood_is : (w v : Traversal) (s : Position) (g : Option (List ℕ)) (z : Standing) (name : List ℕ) (ps : List Pair) (c : Markups) (h : Headed)
     → Begun w s z name ps c (Ok h) → v.next ≡ w.next + 1
     → stood w.next s g z name ps c
     ≡ made_by h (with_children (s.inside || is_grouped z) h.head.kind (label_of_head h.head)
@@ -259,8 +259,8 @@ stood_is w v s g z name ps c h f e =
     f g (λ k. fit_nodes (suc w.next) (within k j) c)
     ∙ ap (λ n. made_by h (with_children j h.head.kind (label_of_head h.head) (fit_nodes n (within h.head.kind j) c))) next
 
-pub element_ok : (w v u : Walk) (s : Spot) (r : Role) (z : Standing) (name : List ℕ) (ps : List Pair) (c : Markups) (h : Headed)
-    (ns : List Node) (o : Made)
+pub element_ok : (w v u : Traversal) (s : Position) (r : Role) (z : Standing) (name : List ℕ) (ps : List Pair) (c : Markups) (h : Headed)
+    (ns : List Node) (o : Converted)
     → z ≡ standing_in r → Begun w s z name ps c (Ok h) → Passed w v 1 (unsourced_here s.inside z w.next name ps)
     → FitsNodes v h.head.kind (s.inside || is_grouped z) c u (Ok ns)
     → piece_of o ≡ Some (piece_by h.group h.standing (tree (label_of_head h.head) (held_in (s.inside || is_grouped z) h.head.kind (views ns))))
@@ -286,14 +286,14 @@ element_ok w v u s r z name ps c h ns o y f p g m = λ group ts q.
       },
     )
 
-pub element_misfit : (w x : Walk) (s : Spot) (r : Role) (z : Standing) (name : List ℕ) (ps : List Pair) (c : Markups) (e : FitFault)
+pub element_misfit : (w x : Traversal) (s : Position) (r : Role) (z : Standing) (name : List ℕ) (ps : List Pair) (c : Markups) (e : FitFault)
     → z ≡ standing_in r → Begun w s z name ps c (Err e) → FitsPiece w s r (node name ps c) x (Err e)
 element_misfit w x s r z name ps c (faults.Unfit n y) a f = λ group ts q.
     ap (λ p. stood w.next s group p name ps c) (sym (a ∙ ap standing_in q))
     ∙ f group (λ k. fit_nodes (suc w.next) (within k (s.inside || is_grouped z)) c)
 element_misfit w x s r z name ps c faults.NoMemory a f = tt
 
-pub element_inside : (w v u x : Walk) (s : Spot) (r : Role) (z : Standing) (name : List ℕ) (ps : List Pair) (c : Markups) (h : Headed) (e : FitFault)
+pub element_inside : (w v u x : Traversal) (s : Position) (r : Role) (z : Standing) (name : List ℕ) (ps : List Pair) (c : Markups) (h : Headed) (e : FitFault)
     → z ≡ standing_in r → Begun w s z name ps c (Ok h) → Passed w v 1 (unsourced_here s.inside z w.next name ps)
     → FitsNodes v h.head.kind (s.inside || is_grouped z) c u (Err e) → FitsPiece w s r (node name ps c) x (Err e)
 element_inside w v u x s r z name ps c h (faults.Unfit n y) a f p g = λ group ts q.
@@ -303,33 +303,33 @@ element_inside w v u x s r z name ps c h (faults.Unfit n y) a f p g = λ group t
 element_inside w v u x s r z name ps c h faults.NoMemory a f p g = tt
 
 -- no memory
-pub piece_memory : (w x : Walk) (s : Spot) (r : Role) (m : Markup) (e : FitFault) → e ≡ faults.NoMemory → FitsPiece w s r m x (Err e)
+pub piece_memory : (w x : Traversal) (s : Position) (r : Role) (m : Markup) (e : FitFault) → e ≡ faults.NoMemory → FitsPiece w s r m x (Err e)
 piece_memory w x s r m e h = let P : FitFault → Type 0 = λ f. FitsPiece w s r m x (Err f) in subst P (sym h) tt
 
-pub nodes_memory : (w x : Walk) (k : Kind) (i : Bool) (ms : Markups) (e : FitFault) → e ≡ faults.NoMemory → FitsNodes w k i ms x (Err e)
+pub nodes_memory : (w x : Traversal) (k : Kind) (i : Bool) (ms : Markups) (e : FitFault) → e ≡ faults.NoMemory → FitsNodes w k i ms x (Err e)
 nodes_memory w x k i ms e h = let P : FitFault → Type 0 = λ f. FitsNodes w k i ms x (Err f) in subst P (sym h) tt
 
 -- the same, seen in other words
-pub begun_by : (w : Walk) (s : Spot) (z : Standing) (name name' : List ℕ) (ps ps' : List Pair) (c : Markups) (n : ℕ) (r : Result Headed FitFault)
+pub begun_by : (w : Traversal) (s : Position) (z : Standing) (name name' : List ℕ) (ps ps' : List Pair) (c : Markups) (n : ℕ) (r : Result Headed FitFault)
     → name' ≡ name → ps' ≡ ps → n ≡ w.next
     → RowFits (s.inside || is_grouped z) (λ group held. fit_row n (spot_with s group) z (row_as z name' ps') ps' c held) r → Begun w s z name ps c r
 begun_by w s z name name' ps ps' c n r a b e h = rw (sym a, sym b, sym e) h
 
-pub within_at : (w v : Walk) (k : Kind) (i j : Bool) (ms : Markups) (r : Result (List Node) FitFault) → j ≡ i → FitsNodes w k j ms v r → FitsNodes w k i ms v r
+pub within_at : (w v : Traversal) (k : Kind) (i j : Bool) (ms : Markups) (r : Result (List Node) FitFault) → j ≡ i → FitsNodes w k j ms v r → FitsNodes w k i ms v r
 within_at w v k i j ms r e h = let P : Bool → Type 0 = λ b. FitsNodes w k b ms v r in subst P e h
 
-pub begun_at : (w : Walk) (s : Spot) (z : Standing) (name : List ℕ) (ps : List Pair) (xs ys : List Content) (r : Result Headed FitFault) → xs ≡ ys
+pub begun_at : (w : Traversal) (s : Position) (z : Standing) (name : List ℕ) (ps : List Pair) (xs ys : List Content) (r : Result Headed FitFault) → xs ≡ ys
     → Begun w s z name ps (markups xs) r → Begun w s z name ps (markups ys) r
 begun_at w s z name ps xs ys r e h = let P : List Content → Type 0 = λ zs. Begun w s z name ps (markups zs) r in subst P e h
 
-pub piece_at : (w v : Walk) (s : Spot) (q : Role) (m n : Markup) (r t : Result Made FitFault) → m ≡ n → r ≡ t
+pub piece_at : (w v : Traversal) (s : Position) (q : Role) (m n : Markup) (r t : Result Converted FitFault) → m ≡ n → r ≡ t
     → FitsPiece w s q n v t → FitsPiece w s q m v r
 piece_at w v s q m n r t e f h = rw (e, f) h
 
-pub nodes_at : (w v : Walk) (k : Kind) (i : Bool) (ms : Markups) (r s : Result (List Node) FitFault) → r ≡ s → FitsNodes w k i ms v s → FitsNodes w k i ms v r
+pub nodes_at : (w v : Traversal) (k : Kind) (i : Bool) (ms : Markups) (r s : Result (List Node) FitFault) → r ≡ s → FitsNodes w k i ms v s → FitsNodes w k i ms v r
 nodes_at w v k i ms r s f h = rw f h
 
-pub going_at : (w : Walk) (k : Kind) (i : Bool) (ns ms : List Node) (v : Walk) (b : Bool) (rs : List Role) (cs bs xs ys : List Content)
+pub going_at : (w : Traversal) (k : Kind) (i : Bool) (ns ms : List Node) (v : Traversal) (b : Bool) (rs : List Role) (cs bs xs ys : List Content)
     → ms ≡ ns → bs ≡ cs → ys ≡ xs
     → Going w k i (markups cs) ns v b rs (markups xs) → Going w k i (markups bs) ms v b rs (markups ys)
 going_at w k i ns ms v b rs cs bs xs ys d e f h = rw (d, e, f) h

@@ -14,11 +14,11 @@ use Rattle.wt_schema.specs.Fit.{within, held_as, elements, elements_of_all, fit_
 use Rattle.wt_schema.specs.Unsourced.{lacks_source, unsourced_node, unsourced_nodes}
 use Rattle.wt_html_nodes.specs.declared.fault.FitFault.{FitFault}
 use Rattle.wt_html_nodes.specs.declared.fault.FitFault.TheVariants as faults
-use Rattle.wt_html_nodes.specs.declared.head.Spot.{Spot}
+use Rattle.wt_html_nodes.specs.declared.head.Position.{Position}
 use Rattle.wt_html_nodes.specs.Heads.{label_of_head, spot_with}
-use Rattle.wt_html_in.specs.declared.walk.Walk.{Walk}
-use Rattle.wt_html_in.specs.declared.walk.Made.{Made}
-use Rattle.wt_html_in.specs.declared.walk.Made.TheVariants as are
+use Rattle.wt_html_in.specs.declared.walk.Traversal.{Traversal}
+use Rattle.wt_html_in.specs.declared.walk.Converted.{Converted}
+use Rattle.wt_html_in.specs.declared.walk.Converted.TheVariants as are
 use Rattle.wt_html_in.specs.declared.roles.Role.{Role}
 use Rattle.wt_html_in.specs.Roles.{role_at}
 
@@ -47,13 +47,13 @@ unsourced_one true n g m = None
 unsourced_one false n g m = unsourced_node n g m
 
 -- elements were passed: the next one's number, and the first without a source so far
-pub record Passed (w v : Walk) (count : ℕ) (found : Option ℕ) : Type 0 where
+pub record Passed (w v : Traversal) (count : ℕ) (found : Option ℕ) : Type 0 where
   pub next : v.next ≡ w.next + count
   pub unsourced : v.unsourced ≡ option_or w.unsourced found
 
 -- ---- what is made
 
-abbrev pub piece_of : Made → Option Piece
+abbrev pub piece_of : Converted → Option Piece
 piece_of are.Nothing = None
 piece_of (are.Single n) = Some (single (view n))
 piece_of (are.Begun h n) = Some (begun (label_of_head h) (view n))
@@ -67,7 +67,7 @@ is_block_piece (Some (begun l t)) = is_block (label t).kind
 is_block_piece (Some (further t)) = is_block (label t).kind
 
 -- of a text or an element of this role, before these and with this group open
-abbrev pub FitsPiece : Walk → Spot → Role → Markup → Walk → Result Made FitFault → Type 0
+abbrev pub FitsPiece : Traversal → Position → Role → Markup → Traversal → Result Converted FitFault → Type 0
 FitsPiece w s r m v (Ok o) =
     (g : Option (List ℕ)) (ts : Markups) → r ≡ role_at g m ts
     → (fit_node w.next (spot_with s g) m ts ≡ Ok (piece_of o)) × Passed w v (elements m) (unsourced_one s.inside w.next g m)
@@ -75,7 +75,7 @@ FitsPiece w s r m v (Err (faults.Unfit n y)) =
     (g : Option (List ℕ)) (ts : Markups) → r ≡ role_at g m ts → fit_node w.next (spot_with s g) m ts ≡ Err (n, y)
 FitsPiece w s r m v (Err faults.NoMemory) = Unit {0}
 
-abbrev pub FitsNodes : Walk → Kind → Bool → Markups → Walk → Result (List Node) FitFault → Type 0
+abbrev pub FitsNodes : Traversal → Kind → Bool → Markups → Traversal → Result (List Node) FitFault → Type 0
 FitsNodes w k inside ms v (Ok ns) =
     (xs : List Piece) × (fit_nodes w.next (within k inside) ms ≡ Ok xs) × (gathered xs ≡ views ns)
     × Passed w v (elements_of_all ms) (unsourced_among inside w.next None ms)

@@ -3,10 +3,10 @@ use Rattle.std.specs.Prelude.{◌≡◌, ℕ, ◌+◌, ◌&&◌, Bool, true, fal
 use Rattle.std.specs.Str.{bytes_eq}
 use Rattle.wt_html_grammar.specs.Markup.{Pair, Markup, Markups, text, node, empty, more}
 use Rattle.wt_html_elements.specs.Built.{pairs, views}
-use Rattle.wt_schema.specs.Fit.{elements_of_all, is_marked_root, fit_body, Found as FoundBody}
+use Rattle.wt_schema.specs.Fit.{elements_of_all, is_marked_root, fit_body, BodyElement as FoundBody}
 use Rattle.wt_schema.specs.Sections.{all_bared}
 use Rattle.wt_schema.specs.Unsourced.{is_marked, unsourced_body}
-use Rattle.wt_html_in.specs.declared.frame.Found.{Found}
+use Rattle.wt_html_in.specs.declared.frame.BodyElement.{BodyElement}
 use Rattle.wt_html_in.specs.declared.edited.Edited.{Edited}
 use Rattle.wt_html_nodes.specs.declared.fault.FitFault.{FitFault}
 use Rattle.wt_html_nodes.specs.declared.fault.FitFault.TheVariants as faults
@@ -15,7 +15,7 @@ use Rattle.wt_html_in.specs.Answers.{body_of, unsourced_of}
 abbrev pub found_of : ℕ → List Pair → Markups → FoundBody
 found_of n ps c = record { number = n; attributes = ps; contents = c }
 
-abbrev pub found_if_any : Option Found → Option FoundBody
+abbrev pub found_if_any : Option BodyElement → Option FoundBody
 found_if_any None = None
 found_if_any (Some f) = Some (found_of f.number (pairs f.attributes.items) (views f.contents.items))
 

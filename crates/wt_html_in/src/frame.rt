@@ -7,7 +7,7 @@ ghost use Rattle.wt_html_in.specs.Frame.{found_of, found_if_any, is_element, num
 use crate::edited::Edited;
 use crate::nodes::node_of;
 use crate::sections::{all_bared, without_sections};
-use crate::walk::{Walk, nodes};
+use crate::walk::{Traversal, nodes};
 use bumpalo::Bump;
 use std::alloc::Global;
 use wt_html_elements::{Attribute, Content};
@@ -18,7 +18,7 @@ use wt_tree::Kind;
 
 /// The body of a document, with the number of its element.
 #[derive(Drop)]
-pub struct Found {
+pub struct BodyElement {
     pub number: u32,
     pub attributes: Vec<Attribute>,
     pub contents: Vec<Content>,
@@ -100,7 +100,7 @@ fn number_behind(before: &[Content]) -> Option<u32>
 }
 
 /// The element of this number, where it is a body. Its sections keep no attributes but marks.
-fn body_as(alloc: Global, content: Content, number: u32) -> Result<Option<Found>, NoMemory>
+fn body_as(alloc: Global, content: Content, number: u32) -> Result<Option<BodyElement>, NoMemory>
     ensures { IfOk result (λ f. found_if_any f ≡ body_as (view_content content) (Some number)) }
 {
     match content {
@@ -112,7 +112,7 @@ fn body_as(alloc: Global, content: Content, number: u32) -> Result<Option<Found>
         } => {
             if name.as_slice() == b"body".as_slice() {
                 let contents = all_bared(alloc, contents)?;
-                Ok(Some(Found {
+                Ok(Some(BodyElement {
                     number,
                     attributes,
                     contents,
@@ -125,7 +125,7 @@ fn body_as(alloc: Global, content: Content, number: u32) -> Result<Option<Found>
 }
 
 /// The body among the elements of the root.
-fn body_in(alloc: Global, elements: Vec<Content>) -> Result<Option<Found>, NoMemory>
+fn body_in(alloc: Global, elements: Vec<Content>) -> Result<Option<BodyElement>, NoMemory>
     requires { elements_of_all (views elements.items) + 2 < 2 ^ 32 }
     ensures { IfOk result (λ f. found_if_any f ≡ body_in (views elements.items)) }
 {
@@ -156,7 +156,7 @@ fn is_root(name: &[u8], attributes: &[Attribute]) -> bool
 }
 
 /// The body of a document.
-fn find_body(alloc: Global, root: Content) -> Result<Option<Found>, NoMemory>
+fn find_body(alloc: Global, root: Content) -> Result<Option<BodyElement>, NoMemory>
     requires { elements (view_content root) + 1 < 2 ^ 32 }
     ensures { IfOk result (λ f. found_if_any f ≡ body_of (view_content root)) }
 {
@@ -179,7 +179,7 @@ fn find_body(alloc: Global, root: Content) -> Result<Option<Found>, NoMemory>
 }
 
 /// The walk over what stands in the body. The body's attributes are let go.
-fn walk_in(number: u32, attributes: Vec<Attribute>) -> Walk
+fn walk_in(number: u32, attributes: Vec<Attribute>) -> Traversal
     requires { number + 1 < 2 ^ 32 }
     ensures next { result.next ≡ number + 1 }
     ensures unsourced { result.unsourced ≡ marked_here number (pairs attributes.items) }
@@ -189,7 +189,7 @@ fn walk_in(number: u32, attributes: Vec<Attribute>) -> Walk
     } else {
         None
     };
-    Walk {
+    Traversal {
         next: number + 1,
         unsourced,
     }
@@ -232,7 +232,7 @@ pub fn page<'a>(
             why: FitWhy::Root,
         }),
         Some(
-            Found {
+            BodyElement {
                 number,
                 attributes,
                 contents,

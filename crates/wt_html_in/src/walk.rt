@@ -19,7 +19,7 @@ use bumpalo::Bump;
 use std::alloc::Global;
 use wt_html_elements::{Attribute, Content};
 use wt_html_nodes::{
-    FitFault, Head, Headed, Spot, headed_by, is_grouped, is_section_name, is_unsourced,
+    FitFault, Head, Headed, Position, headed_by, is_grouped, is_section_name, is_unsourced,
 };
 use wt_schema::Standing;
 use wt_span::{List, NoMemory};
@@ -28,7 +28,7 @@ use wt_tree::{Kind, Node};
 /// Where a walk over elements in document order has come: the number of the next element, and the
 /// first one so far that has no source.
 #[derive(Clone, Copy)]
-pub struct Walk {
+pub struct Traversal {
     pub next: u32,
     pub unsourced: Option<u32>,
 }
@@ -54,7 +54,7 @@ fn lacks_source(inside: bool, standing: Standing, name: &[u8], attributes: &[Att
 
 /// Passes the start of an element, in a group or not; it gives the element's number.
 fn enter(
-    walk: &mut Walk,
+    walk: &mut Traversal,
     inside: bool,
     standing: Standing,
     name: &[u8],
@@ -75,8 +75,8 @@ fn enter(
 /// What an element is. Its name and its attributes are let go.
 fn begin(
     alloc: Global,
-    walk: &mut Walk,
-    spot: Spot,
+    walk: &mut Traversal,
+    position: Position,
     standing: Standing,
     name: Vec<u8>,
     attributes: Vec<Attribute>,
@@ -85,14 +85,14 @@ fn begin(
     requires few { walk.old.next + 1 < 2 ^ 32 }
     requires values { are_utf8_values (pairs attributes.items) ≡ true }
     requires texts { are_utf8_markups (views contents.now) ≡ true }
-    ensures headed { RowFits (spot.inside || is_grouped standing)
-        (λ group held. fit_row walk.old.next (spot_with spot group) standing (row_as standing name.items (pairs attributes.items)) (pairs attributes.items)
+    ensures headed { RowFits (position.inside || is_grouped standing)
+        (λ group held. fit_row walk.old.next (spot_with position group) standing (row_as standing name.items (pairs attributes.items)) (pairs attributes.items)
         (views contents.now) held) result }
-    ensures passed { Passed walk.old walk.new 1 (unsourced_here spot.inside standing walk.old.next name.items (pairs attributes.items)) }
+    ensures passed { Passed walk.old walk.new 1 (unsourced_here position.inside standing walk.old.next name.items (pairs attributes.items)) }
 {
     let number = enter(
         walk,
-        spot.inside,
+        position.inside,
         standing,
         name.as_slice(),
         attributes.as_slice(),
@@ -100,7 +100,7 @@ fn begin(
     headed_by(
         alloc,
         number,
-        spot,
+        position,
         standing,
         name.as_slice(),
         attributes.as_slice(),
@@ -111,7 +111,7 @@ fn begin(
 /// What a text or an element is made into: nothing, a node by itself, the head of a group with its first
 /// node, or one more node of the group before it.
 #[derive(Drop)]
-pub enum Made<'a> {
+pub enum Converted<'a> {
     Nothing,
     Single(Node<'a>),
     Begun { group: Head, first: Node<'a> },
@@ -119,29 +119,29 @@ pub enum Made<'a> {
 }
 
 /// What the node of an element is, by how it stands.
-fn made_of<'a>(standing: Standing, group: Option<Head>, node: Node<'a>) -> Made<'a>
+fn made_of<'a>(standing: Standing, group: Option<Head>, node: Node<'a>) -> Converted<'a>
     ensures { piece_of result ≡ Some (piece_by group standing (view node.entry)) }
 {
     match group {
-        Some(group) => Made::Begun { group, first: node },
+        Some(group) => Converted::Begun { group, first: node },
         None => match standing {
-            Standing::Alone => Made::Single(node),
-            Standing::First => Made::Single(node),
-            Standing::Further => Made::Further(node),
-            Standing::Astray => Made::Single(node),
+            Standing::Alone => Converted::Single(node),
+            Standing::First => Converted::Single(node),
+            Standing::Further => Converted::Further(node),
+            Standing::Astray => Converted::Single(node),
         },
     }
 }
 
 /// Whether one of the nodes up to this is a block or a list, in a group or not.
-fn is_behind(behind: bool, made: &Made<'_>) -> bool
+fn is_behind(behind: bool, made: &Converted<'_>) -> bool
     ensures { result ≡ (behind || is_block_piece (piece_of made.now)) }
 {
     match made {
-        Made::Nothing => behind,
-        Made::Single(node) => behind || node.kind.is_block(),
-        Made::Begun { first, .. } => behind || first.kind.is_block(),
-        Made::Further(node) => behind || node.kind.is_block(),
+        Converted::Nothing => behind,
+        Converted::Single(node) => behind || node.kind.is_block(),
+        Converted::Begun { first, .. } => behind || first.kind.is_block(),
+        Converted::Further(node) => behind || node.kind.is_block(),
     }
 }
 
@@ -196,18 +196,18 @@ fn push_made<'a>(
     alloc: Global,
     arena: &'a Bump<Global>,
     nodes: &mut Vec<Node<'a>>,
-    made: Made<'a>,
+    made: Converted<'a>,
 ) -> Result<(), NoMemory>
     ensures { OnOk result (trees nodes.new.items ≡ gathered_with (trees nodes.old.items) (piece_of made.entry)) }
 {
     match made {
-        Made::Nothing => Ok(()),
-        Made::Single(node) => push_node(nodes, node),
-        Made::Begun { group, first } => {
+        Converted::Nothing => Ok(()),
+        Converted::Single(node) => push_node(nodes, node),
+        Converted::Begun { group, first } => {
             let node = group_node(alloc, arena, group, first)?;
             push_node(nodes, node)
         }
-        Made::Further(node) => push_into_last(nodes, node),
+        Converted::Further(node) => push_into_last(nodes, node),
     }
 }
 
@@ -217,13 +217,13 @@ fn leaf_made<'a>(
     arena: &'a Bump<Global>,
     outer: Kind,
     bytes: &[u8],
-) -> Result<Made<'a>, NoMemory>
+) -> Result<Converted<'a>, NoMemory>
     requires { is_utf8 bytes.now ≡ true }
     ensures { IfOk result (λ m. piece_of m ≡ option_map single (leaf_in outer bytes.now)) }
 {
     match leaf_in(alloc, arena, outer, bytes)? {
-        None => Ok(Made::Nothing),
-        Some(leaf) => Ok(Made::Single(leaf)),
+        None => Ok(Converted::Nothing),
+        Some(leaf) => Ok(Converted::Single(leaf)),
     }
 }
 
@@ -234,12 +234,12 @@ fn text_made<'a>(
     role: Role,
     outer: Kind,
     bytes: &[u8],
-) -> Result<Made<'a>, NoMemory>
+) -> Result<Converted<'a>, NoMemory>
     requires { is_utf8 bytes.now ≡ true }
     ensures { IfOk result (λ m. piece_of m ≡ text_piece role outer bytes.now) }
 {
     match role {
-        Role::Gap => Ok(Made::Nothing),
+        Role::Gap => Ok(Converted::Nothing),
         Role::Text => leaf_made(alloc, arena, outer, bytes),
         Role::Element(_) => leaf_made(alloc, arena, outer, bytes),
     }
@@ -252,7 +252,7 @@ fn made_with<'a>(
     inside: bool,
     headed: Headed,
     nodes: List<Node<'a>>,
-) -> Result<Made<'a>, NoMemory>
+) -> Result<Converted<'a>, NoMemory>
     ensures { IfOk result (λ m. piece_of m ≡ Some (piece_by headed.group headed.standing
         (tree (label_of_head headed.head) (held_in inside headed.head.kind (trees nodes.entry))))) }
 {
@@ -277,18 +277,18 @@ fn is_within(inside: bool, standing: Standing) -> bool
 fn piece<'a>(
     alloc: Global,
     arena: &'a Bump<Global>,
-    walk: &mut Walk,
-    spot: Spot,
+    walk: &mut Traversal,
+    position: Position,
     role: Role,
     content: Content,
-) -> Result<Made<'a>, FitFault>
+) -> Result<Converted<'a>, FitFault>
     requires few { walk.old.next + elements (view_content content) < 2 ^ 32 }
     requires utf8 { is_utf8_markup (view_content content) ≡ true }
-    ensures { FitsPiece walk.old spot role (view_content content) walk.new result }
+    ensures { FitsPiece walk.old position role (view_content content) walk.new result }
 {
     match content {
         Content::Text(bytes) => {
-            let made = text_made(alloc, arena, role, spot.outer, bytes.as_slice())?;
+            let made = text_made(alloc, arena, role, position.outer, bytes.as_slice())?;
             Ok(made)
         }
         Content::Element {
@@ -300,13 +300,13 @@ fn piece<'a>(
             let headed = begin(
                 alloc,
                 walk,
-                spot,
+                position,
                 standing,
                 name,
                 attributes,
                 contents.as_slice(),
             )?;
-            let inside = is_within(spot.inside, standing);
+            let inside = is_within(position.inside, standing);
             let children = nodes(alloc, arena, walk, headed.head.kind, inside, contents)?;
             let made = made_with(alloc, arena, inside, headed, children)?;
             Ok(made)
@@ -320,7 +320,7 @@ fn piece<'a>(
 pub fn nodes<'a>(
     alloc: Global,
     arena: &'a Bump<Global>,
-    walk: &mut Walk,
+    walk: &mut Traversal,
     outer: Kind,
     inside: bool,
     contents: Vec<Content>,
@@ -334,7 +334,7 @@ pub fn nodes<'a>(
     let mut behind = false;
     let mut at = 0;
     for content in contents {
-        let spot = Spot {
+        let position = Position {
             outer,
             inside,
             behind,
@@ -343,7 +343,7 @@ pub fn nodes<'a>(
             alloc,
             arena,
             walk,
-            spot,
+            position,
             role_in(roles.as_slice(), at),
             content,
         )?;

@@ -15,7 +15,7 @@ use Rattle.wt_schema.specs.declared.why.FitWhy.TheVariants as why
 use Rattle.wt_schema.specs.declared.standing.Standing.{Standing}
 use Rattle.wt_schema.specs.declared.standing.Standing.TheVariants as stands
 use Rattle.wt_schema.specs.Data.{Data, no_data, data_for}
-use Rattle.wt_schema.specs.Fit.{Misfit, leaf_in, label_for, label_as, piece_as, elements, texts_in, onto, onto_told, children_in, with_children, one_piece, text_fits, Spot, within, row_as, behind_it, has_place, fits_place, is_inside, fit_told, fit_as, fit_row, fit_text, fit_node, fit_nodes}
+use Rattle.wt_schema.specs.Fit.{Misfit, leaf_in, label_for, label_as, piece_as, elements, texts_in, onto, onto_told, children_in, with_children, one_piece, text_fits, Position, within, row_as, behind_it, has_place, fits_place, is_inside, fit_told, fit_as, fit_row, fit_text, fit_node, fit_nodes}
 use Rattle.wt_schema.specs.Groups.{standing, is_grouped, is_dropped, own_pairs, pairs_for, is_none, Piece, single}
 use Rattle.wt_schema.specs.Rows.{holds_text, shows_text}
 use Rattle.wt_schema.specs.Sections.{is_section_name}
@@ -52,7 +52,7 @@ leaf_frameless sections true holds bs = tt
 leaf_frameless sections false true bs = frameless sections (text_leaf None bs) refl
 leaf_frameless sections false false bs = frameless sections (sep_leaf None bs) refl
 
-pub text_frameless : (sections : Bool) (x : Spot) (bs : List ℕ) (ts : Markups) → IfSome (fit_text x bs ts) (IsFrameless sections)
+pub text_frameless : (sections : Bool) (x : Position) (bs : List ℕ) (ts : Markups) → IfSome (fit_text x bs ts) (IsFrameless sections)
 text_frameless sections x bs ts = by_test (is_dropped x.group bs ts)
   where
     by_test : (b : Bool) → IfSome (if b then None else option_map single (leaf_in x.parent bs)) (IsFrameless sections)
@@ -103,7 +103,7 @@ told_frameless sections n inside s k ps (Some d) c held p h = by_test (text_fits
     by_test true = one_frameless sections inside s k ps d (texts_in c) held p h
     by_test false = tt
 
-pub row_frameless : (sections : Bool) (j : Option Kind) (n : ℕ) (x : Spot) (s : Standing) (ps : List Pair) (c : Markups)
+pub row_frameless : (sections : Bool) (j : Option Kind) (n : ℕ) (x : Position) (s : Standing) (ps : List Pair) (c : Markups)
     (held : Kind → Result (List Piece) Misfit) → is_plain_row j ≡ true → ((k : Kind) → is_plain k ≡ true → AllFitFrameless false (held k))
     → FitFrameless sections (fit_row n x s j ps c held)
 row_frameless sections None n x s ps c held p h = tt
@@ -115,18 +115,18 @@ row_frameless sections (Some k) n x s ps c held p h = by_test (fits_place x.pare
 
 -- ---- no section fits in what may hold none
 
-no_place : (x : Spot) (s : Standing) (c : Markups) → holds_sections x.parent ≡ false → fits_place x.parent x.behind s (kind.Section 0) c ≡ false
+no_place : (x : Position) (s : Standing) (c : Markups) → holds_sections x.parent ≡ false → fits_place x.parent x.behind s (kind.Section 0) c ≡ false
 no_place x s c e =
     or_from (has_place x.parent x.behind (kind.Section 0)) (is_grouped s && (false && is_none c))
     (and_left (holds_sections x.parent) (may_follow x.behind (kind.Section 0)) e) (and_right (is_grouped s) false refl)
 
-astray_section : (n : ℕ) (x : Spot) (s : Standing) (ps : List Pair) (c : Markups) (held : Kind → Result (List Piece) Misfit)
+astray_section : (n : ℕ) (x : Position) (s : Standing) (ps : List Pair) (c : Markups) (held : Kind → Result (List Piece) Misfit)
     → holds_sections x.parent ≡ false → FitFrameless false (fit_row n x s (Some (kind.Section 0)) ps c held)
 astray_section n x s ps c held e =
     subst (λ b. FitFrameless false (if b then fit_as n x s (kind.Section 0) ps c (held (kind.Section 0)) else Err (n, why.Place)))
     (sym (no_place x s c e)) tt
 
-element_frameless : (name : List ℕ) (ps : List Pair) (c : Markups) (n : ℕ) (x : Spot) (s : Standing) (held : Kind → Result (List Piece) Misfit)
+element_frameless : (name : List ℕ) (ps : List Pair) (c : Markups) (n : ℕ) (x : Position) (s : Standing) (held : Kind → Result (List Piece) Misfit)
     → holds_sections x.parent ≡ false → ((k : Kind) → is_plain k ≡ true → AllFitFrameless false (held k))
     → FitFrameless false (fit_row n x s (row_as s name ps) ps c held)
 element_frameless name ps c n x s held e h = by_name (is_section_name name) refl
@@ -137,14 +137,14 @@ element_frameless name ps c n x s held e h = by_name (is_section_name name) refl
     by_name false f = row_frameless false (row_as s name ps) n x s ps c held (plain_row name (pairs_for s ps) f) h
 
 mutual
-  node_frameless : (t : Markup) (ts : Markups) (n : ℕ) (x : Spot) → holds_sections x.parent ≡ false → FitFrameless false (fit_node n x t ts)
+  node_frameless : (t : Markup) (ts : Markups) (n : ℕ) (x : Position) → holds_sections x.parent ≡ false → FitFrameless false (fit_node n x t ts)
   node_frameless (text bs) ts n x e = text_frameless false x bs ts
   node_frameless (node name ps c) ts n x e =
       let s = standing x.group ps in
       element_frameless name ps c n x s (λ k. fit_nodes (suc n) (within k (is_inside x s)) c) e
       (λ k p. nodes_frameless c (suc n) (within k (is_inside x s)) (no_section k p))
 
-  pub nodes_frameless : (ts : Markups) (n : ℕ) (x : Spot) → holds_sections x.parent ≡ false → AllFitFrameless false (fit_nodes n x ts)
+  pub nodes_frameless : (ts : Markups) (n : ℕ) (x : Position) → holds_sections x.parent ≡ false → AllFitFrameless false (fit_nodes n x ts)
   nodes_frameless empty n x e = tt
   nodes_frameless (more t ts) n x e =
       let m = n + elements t in

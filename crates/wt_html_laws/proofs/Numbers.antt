@@ -7,7 +7,7 @@ use Rattle.wt_html_grammar.specs.Markup.{Pair, Markup, Markups, text, node, empt
 use Rattle.wt_schema.specs.declared.why.FitWhy.TheVariants as why
 use Rattle.wt_schema.specs.declared.standing.Standing.{Standing}
 use Rattle.wt_schema.specs.Data.{Data, data_for}
-use Rattle.wt_schema.specs.Fit.{Misfit, label_as, elements, texts_in, onto, onto_told, with_children, one_piece, text_fits, Spot, within, row_as, behind_it, fits_place, is_inside, fit_told, fit_row, fit_node, fit_nodes}
+use Rattle.wt_schema.specs.Fit.{Misfit, label_as, elements, texts_in, onto, onto_told, with_children, one_piece, text_fits, Position, within, row_as, behind_it, fits_place, is_inside, fit_told, fit_row, fit_node, fit_nodes}
 use Rattle.wt_schema.specs.Groups.{standing, is_grouped, Piece}
 
 -- where the first fits, the second fits to the same
@@ -22,7 +22,7 @@ same_self (Err e) = tt
 pub same_ok : {A : Type 0} (r s : Result A Misfit) (a : A) → SameOk r s → r ≡ Ok a → s ≡ Ok a
 same_ok r s a h e = subst (λ q. SameOk q s) e h
 
-abbrev pub spot : Kind → Bool → Bool → Option (List ℕ) → Spot
+abbrev pub spot : Kind → Bool → Bool → Option (List ℕ) → Position
 spot p inside behind group = record { parent = p; inside = inside; behind = behind; group = group }
 
 onto_same : (x : Piece) (r s : Result (List Piece) Misfit) → SameOk r s → SameOk (onto x r) (onto x s)
@@ -72,7 +72,7 @@ row_same n m p q inside behind later g h w (Some k) ps c held kept e f =
     place_same n m (fits_place p behind w k c) (fits_place q later w k c) (inside || is_grouped w) w k ps (data_for inside w k ps) c (held k) (kept k) (e k) (f k)
 
 mutual
-  node_same : (t : Markup) (ts : Markups) (n m : ℕ) (x : Spot) → SameOk (fit_node n x t ts) (fit_node m x t ts)
+  node_same : (t : Markup) (ts : Markups) (n m : ℕ) (x : Position) → SameOk (fit_node n x t ts) (fit_node m x t ts)
   node_same (text bs) ts n m x = refl
   node_same (node name ps c) ts n m x =
       let w = standing x.group ps in
@@ -80,7 +80,7 @@ mutual
       (λ k. fit_nodes (suc n) (within k (is_inside x w)) c) (λ k. fit_nodes (suc m) (within k (is_inside x w)) c) (λ k e. e)
       (λ k. nodes_same c (suc n) (suc m) (within k (is_inside x w)))
 
-  pub nodes_same : (ts : Markups) (n m : ℕ) (x : Spot) → SameOk (fit_nodes n x ts) (fit_nodes m x ts)
+  pub nodes_same : (ts : Markups) (n m : ℕ) (x : Position) → SameOk (fit_nodes n x ts) (fit_nodes m x ts)
   nodes_same empty n m x = refl
   nodes_same (more t ts) n m x =
       let y = behind_it x t ts in

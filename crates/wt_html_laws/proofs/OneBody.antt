@@ -7,7 +7,7 @@ use Rattle.wt_tree.specs.Tree.{Tree}
 use Rattle.wt_html_grammar.specs.Markup.{Pair, Markup, Markups, text, node, empty, more}
 use Rattle.wt_schema.specs.declared.why.FitWhy.TheVariants as why
 use Rattle.wt_schema.specs.Data.{Data}
-use Rattle.wt_schema.specs.Fit.{Misfit, label_for, elements_of_all, texts_in, with_children, text_fits, within, fit_nodes, is_marked_root, elements_in, Found, body_in, body_of, fit_body_told, body_data, fit_body, fit}
+use Rattle.wt_schema.specs.Fit.{Misfit, label_for, elements_of_all, texts_in, with_children, text_fits, within, fit_nodes, is_marked_root, elements_in, BodyElement, body_in, body_of, fit_body_told, body_data, fit_body, fit}
 use Rattle.wt_schema.specs.Groups.{Piece}
 use Rattle.wt_schema.specs.Read.{page, read, IsRead}
 use Rattle.wt_schema.specs.Sections.{all_bared, opened_if_fit}
@@ -37,7 +37,7 @@ told_body n ps (Some d) c held h = by_test (text_fits kind.Body c)
 
 -- ---- the body that is found has bare sections
 
-abbrev FitsAsOne : Option Found → Type 0
+abbrev FitsAsOne : Option BodyElement → Type 0
 FitsAsOne o = IfOk (fit_body o) IsOneBody
 
 found_body : (n : ℕ) (ps : List Pair) (c : Markups) (b : Bool)

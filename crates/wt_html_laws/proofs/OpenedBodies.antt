@@ -9,7 +9,7 @@ use Rattle.wt_tree.specs.Tree.{Label, Tree, tree, Trees, none as no_trees, more 
 use Rattle.wt_html_grammar.specs.Markup.{Pair, Markup, Markups, text, node, empty, more}
 use Rattle.wt_schema.specs.declared.why.FitWhy.TheVariants as why
 use Rattle.wt_schema.specs.Data.{Data}
-use Rattle.wt_schema.specs.Fit.{Misfit, label_for, elements_of_all, texts_in, are_blank, with_children, within, fit_nodes, is_marked_root, elements_in, Found, body_in, fit_body_told, body_data, fit_body, fit}
+use Rattle.wt_schema.specs.Fit.{Misfit, label_for, elements_of_all, texts_in, are_blank, with_children, within, fit_nodes, is_marked_root, elements_in, BodyElement, body_in, fit_body_told, body_data, fit_body, fit}
 use Rattle.wt_schema.specs.Groups.{Piece, gathered}
 use Rattle.wt_schema.specs.Sections.{is_section_name, is_mark_pair, all_bared, opened_if_fit}
 use Rattle.wt_checks.specs.PutBack.{has_frame, have_frame}
@@ -46,7 +46,7 @@ mutual
 
 -- ---- a body
 
-abbrev found : ℕ → List Pair → Markups → Found
+abbrev found : ℕ → List Pair → Markups → BodyElement
 found n ps c = record { number = n; attributes = ps; contents = c }
 
 -- a body that fits with these pieces, by its contents' fitting
@@ -97,7 +97,7 @@ body_fits n m ps c t e = by_data (body_data ps) e
 
 -- ---- a document
 
-abbrev found_if : Bool → ℕ → List Pair → Markups → Option Found
+abbrev found_if : Bool → ℕ → List Pair → Markups → Option BodyElement
 found_if b n ps c = if b then Some (found n ps c) else None
 
 named_fits : (a b : Bool) (n m : ℕ) (ps : List Pair) (c : Markups) (t : Tree) → fit_body (found_if (a && b) n ps (all_bared c)) ≡ Ok t

@@ -4,7 +4,7 @@ use Rattle.std.specs.Prelude.{◌&&◌, filter, if◌then◌else◌, not}
 use Rattle.std.specs.Str.{bytes_eq}
 use Rattle.std.proofs.lemmas.Slice.Eq.{bytes_eq-Decides}
 use Rattle.wt_html_grammar.specs.Markup.{Pair, Markup, Markups, text, node, empty, more}
-use Rattle.wt_schema.specs.Fit.{elements_of_all, elements_in, is_marked_root, Found, body_in, body_of, fit_body, fit}
+use Rattle.wt_schema.specs.Fit.{elements_of_all, elements_in, is_marked_root, BodyElement, body_in, body_of, fit_body, fit}
 use Rattle.wt_schema.specs.Sections.{is_section_name, is_mark_pair, bared, all_bared}
 use Rattle.wt_html_laws.specs.SameBodies.{AreSamePairs, AreSameInside, IsSamePart, AreSameParts, is_body_name, AreSameChildren, IsSameDocument}
 
@@ -38,7 +38,7 @@ body_bared : (b : Bool) (c d : Markups) → AreSameInside b c d (AreSameParts c 
 body_bared true c d h = parts_bared c d h
 body_bared false c d h = ap all_bared h
 
-abbrev found_if : Bool → ℕ → List Pair → Markups → Option Found
+abbrev found_if : Bool → ℕ → List Pair → Markups → Option BodyElement
 found_if b n ps c = if b then Some (record { number = n; attributes = ps; contents = c }) else None
 
 -- a head is no body, so it is the same

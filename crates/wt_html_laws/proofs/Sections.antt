@@ -14,7 +14,7 @@ use Rattle.wt_schema.specs.declared.standing.Standing.{Standing}
 use Rattle.wt_schema.specs.declared.standing.Standing.TheVariants as stands
 use Rattle.wt_schema.specs.Attributes.{value_of, has}
 use Rattle.wt_schema.specs.Data.{Data, data_for}
-use Rattle.wt_schema.specs.Fit.{Misfit, label_as, elements, texts_in, children_in, with_children, one_piece, text_fits, Spot, within, row_as, behind_it, fits_place, is_inside, fit_told, fit_as, fit_row, fit_node, fit_nodes}
+use Rattle.wt_schema.specs.Fit.{Misfit, label_as, elements, texts_in, children_in, with_children, one_piece, text_fits, Position, within, row_as, behind_it, fits_place, is_inside, fit_told, fit_as, fit_row, fit_node, fit_nodes}
 use Rattle.wt_schema.specs.Groups.{standing_by, standing, Piece}
 use Rattle.wt_schema.specs.Sections.{is_section_name, is_mark_pair, bared, all_bared}
 use Rattle.wt_checks.specs.PutBack.{have_frame}
@@ -65,7 +65,7 @@ told_section n inside ps (Some d) c held h = by_test (text_fits (kind.Section 0)
     by_test true = one_section inside ps d (texts_in c) held h
     by_test false = tt
 
-lone_section : (n : ℕ) (x : Spot) (ps : List Pair) (c : Markups) (held : Kind → Result (List Piece) Misfit)
+lone_section : (n : ℕ) (x : Position) (ps : List Pair) (c : Markups) (held : Kind → Result (List Piece) Misfit)
     → AllFitFrameless true (held (kind.Section 0)) → FitFrameless true (fit_row n x stands.Alone (Some (kind.Section 0)) ps c held)
 lone_section n x ps c held h = by_test (fits_place x.parent x.behind stands.Alone (kind.Section 0) c)
   where
@@ -74,7 +74,7 @@ lone_section n x ps c held h = by_test (fits_place x.parent x.behind stands.Alon
         told_section n (is_inside x stands.Alone) ps (data_for x.inside stands.Alone (kind.Section 0) ps) c (held (kind.Section 0)) h
     by_test false = tt
 
-section_frameless : (name : List ℕ) (ps : List Pair) (c : Markups) (n : ℕ) (x : Spot) (s : Standing) (held : Kind → Result (List Piece) Misfit)
+section_frameless : (name : List ℕ) (ps : List Pair) (c : Markups) (n : ℕ) (x : Position) (s : Standing) (held : Kind → Result (List Piece) Misfit)
     → is_section_name name ≡ true → s ≡ stands.Alone → AllFitFrameless true (held (kind.Section 0))
     → FitFrameless true (fit_row n x s (row_as s name ps) ps c held)
 section_frameless name ps c n x s held e alone h =
@@ -83,8 +83,8 @@ section_frameless name ps c n x s held e alone h =
 
 -- ---- what stands in the body
 
-bared_frameless : (name : List ℕ) (ps : List Pair) (c d : Markups) (ts : Markups) (n : ℕ) (x : Spot)
-    → ((m : ℕ) (y : Spot) → AllFitFrameless true (fit_nodes m y d)) → (section : Bool) → is_section_name name ≡ section
+bared_frameless : (name : List ℕ) (ps : List Pair) (c d : Markups) (ts : Markups) (n : ℕ) (x : Position)
+    → ((m : ℕ) (y : Position) → AllFitFrameless true (fit_nodes m y d)) → (section : Bool) → is_section_name name ≡ section
     → FitFrameless true (fit_node n x (if section then node name (filter is_mark_pair ps) d else node name ps c) ts)
 bared_frameless name ps c d ts n x h true e =
     let qs = filter is_mark_pair ps in
@@ -97,11 +97,11 @@ bared_frameless name ps c d ts n x h false e =
     (λ k p. nodes_frameless c (suc n) (within k (is_inside x s)) (no_section k p))
 
 mutual
-  part_frameless : (t : Markup) (ts : Markups) (n : ℕ) (x : Spot) → FitFrameless true (fit_node n x (bared t) ts)
+  part_frameless : (t : Markup) (ts : Markups) (n : ℕ) (x : Position) → FitFrameless true (fit_node n x (bared t) ts)
   part_frameless (text bs) ts n x = text_frameless true x bs ts
   part_frameless (node name ps c) ts n x = bared_frameless name ps c (all_bared c) ts n x (λ m y. parts_frameless c m y) (is_section_name name) refl
 
-  pub parts_frameless : (ts : Markups) (n : ℕ) (x : Spot) → AllFitFrameless true (fit_nodes n x (all_bared ts))
+  pub parts_frameless : (ts : Markups) (n : ℕ) (x : Position) → AllFitFrameless true (fit_nodes n x (all_bared ts))
   parts_frameless empty n x = tt
   parts_frameless (more t ts) n x =
       let m = n + elements (bared t) in

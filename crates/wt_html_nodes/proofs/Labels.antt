@@ -14,12 +14,12 @@ use Rattle.wt_schema.specs.declared.standing.Standing.TheVariants as stands
 use Rattle.wt_schema.specs.Groups.{Piece, begun, is_grouped, is_none, own_pairs, pairs_for}
 use Rattle.wt_schema.specs.Rows.{row}
 use Rattle.wt_schema.specs.Data.{Data, no_data, data_for}
-use Rattle.wt_schema.specs.Fit.{Misfit, Spot as Place, texts_in, label_for, label_as, group_label, piece_as, with_children, one_piece, row_as, fits_place, text_fits, fit_told, fit_as, fit_row, fit_body_told, body_data}
+use Rattle.wt_schema.specs.Fit.{Misfit, Position as Place, texts_in, label_for, label_as, group_label, piece_as, with_children, one_piece, row_as, fits_place, text_fits, fit_told, fit_as, fit_row, fit_body_told, body_data}
 use Rattle.wt_html_nodes.specs.declared.fault.FitFault.{FitFault}
 use Rattle.wt_html_nodes.specs.declared.fault.FitFault.TheVariants as faults
 use Rattle.wt_html_nodes.specs.declared.head.Head.{Head}
 use Rattle.wt_html_nodes.specs.declared.head.Headed.{Headed}
-use Rattle.wt_html_nodes.specs.declared.head.Spot.{Spot}
+use Rattle.wt_html_nodes.specs.declared.head.Position.{Position}
 use Rattle.wt_html_nodes.specs.Heads.{label_of_head, IsHeadOf, is_first, IsGroupHead, IsHeadedAs, piece_by, made_by, HeadFits, RowFits, BodyFits, spot_with}
 
 -- ---- the attributes of an element's own
@@ -119,7 +119,7 @@ row_told : (n : ℕ) (x : Place) (s : Standing) (k : Kind) (o : Option Kind) (ps
 row_told n x s k o ps c b held e f g =
     ap (λ z. fit_row n x s z ps c held) e ∙ if_true (fits_place x.parent x.behind s k c) (fit_as n x s k ps c (held k)) (Err (n, why.Place)) (sym f ∙ g)
 
-pub row_good : (n : ℕ) (p : Spot) (s : Standing) (k : Kind) (o : Option Kind) (ps : List Pair) (c : Markups) (b : Bool)
+pub row_good : (n : ℕ) (p : Position) (s : Standing) (k : Kind) (o : Option Kind) (ps : List Pair) (c : Markups) (b : Bool)
     (r : Result Headed FitFault) → o ≡ Some k → b ≡ fits_place p.outer p.behind s k c → b ≡ true
     → HeadFits (p.inside || is_grouped s) (λ held. fit_told n (p.inside || is_grouped s) s k ps (data_for p.inside s k ps) c (held k)) r
     → RowFits (p.inside || is_grouped s) (λ group held. fit_row n (spot_with p group) s o ps c held) r
@@ -128,13 +128,13 @@ row_good n p s k o ps c b (Err (faults.Unfit m w)) e f g x = λ group held. row_
 row_good n p s k o ps c b (Err faults.NoMemory) e f g x = λ group. tt
 
 -- the row is told by the attributes of the element's own
-pub row_own : (n : ℕ) (p : Spot) (s : Standing) (name : List ℕ) (ps qs : List Pair) (c : Markups) (r : Result Headed FitFault)
+pub row_own : (n : ℕ) (p : Position) (s : Standing) (name : List ℕ) (ps qs : List Pair) (c : Markups) (r : Result Headed FitFault)
     → qs ≡ pairs_for s ps
     → RowFits (p.inside || is_grouped s) (λ group held. fit_row n (spot_with p group) s (row name qs) ps c held) r
     → RowFits (p.inside || is_grouped s) (λ group held. fit_row n (spot_with p group) s (row_as s name ps) ps c held) r
 row_own n p s name ps qs c r e h = rw (sym e) h
 
-pub row_memory : (n : ℕ) (p : Spot) (s : Standing) (o : Option Kind) (ps : List Pair) (c : Markups) (e : FitFault) → e ≡ faults.NoMemory
+pub row_memory : (n : ℕ) (p : Position) (s : Standing) (o : Option Kind) (ps : List Pair) (c : Markups) (e : FitFault) → e ≡ faults.NoMemory
     → RowFits (p.inside || is_grouped s) (λ group held. fit_row n (spot_with p group) s o ps c held) (Err e)
 row_memory n p s o ps c e h =
     let P : FitFault → Type 0 = λ f. RowFits (p.inside || is_grouped s) (λ group held. fit_row n (spot_with p group) s o ps c held) (Err f) in

@@ -9,12 +9,12 @@ use Rattle.wt_schema.specs.declared.standing.Standing.{Standing}
 use Rattle.wt_schema.specs.declared.standing.Standing.TheVariants as stands
 use Rattle.wt_schema.specs.Groups.{Piece, single, begun, further}
 use Rattle.wt_schema.specs.Data.{Data}
-use Rattle.wt_schema.specs.Fit.{Misfit, Spot as Place, with_sync, label_for, label_as, group_label, with_children}
+use Rattle.wt_schema.specs.Fit.{Misfit, Position as Place, with_sync, label_for, label_as, group_label, with_children}
 use Rattle.wt_html_nodes.specs.declared.fault.FitFault.{FitFault}
 use Rattle.wt_html_nodes.specs.declared.fault.FitFault.TheVariants as faults
 use Rattle.wt_html_nodes.specs.declared.head.Head.{Head}
 use Rattle.wt_html_nodes.specs.declared.head.Headed.{Headed}
-use Rattle.wt_html_nodes.specs.declared.head.Spot.{Spot}
+use Rattle.wt_html_nodes.specs.declared.head.Position.{Position}
 
 -- the label of an element without its source
 abbrev pub bare_label : Head → Label
@@ -92,5 +92,5 @@ BodyFits told (Err (faults.Unfit n w)) = (held : Result (List Piece) Misfit) →
 BodyFits told (Err faults.NoMemory) = Unit {0}
 
 -- a place in the definition's words, with the group that is open there
-abbrev pub spot_with : Spot → Option (List ℕ) → Place
+abbrev pub spot_with : Position → Option (List ℕ) → Place
 spot_with s g = record { parent = s.outer; inside = s.inside; behind = s.behind; group = g }

@@ -232,7 +232,7 @@ fn fits_place(
 
 /// Where something stands: in an element of this kind, in a group or not, behind a block or not.
 #[derive(Clone, Copy)]
-pub struct Spot {
+pub struct Position {
     pub outer: Kind,
     pub inside: bool,
     pub behind: bool,
@@ -242,28 +242,28 @@ pub struct Spot {
 fn headed_in(
     alloc: Global,
     element: Element<'_>,
-    spot: Spot,
+    position: Position,
     name: &[u8],
 ) -> Result<Headed, FitFault>
     requires values { are_utf8_values (pairs element.attributes.now) ≡ true }
     requires own_values { are_utf8_values (pairs element.own.now) ≡ true }
     requires own { pairs element.own.now ≡ pairs_for element.standing (pairs element.attributes.now) }
     requires texts { are_utf8_markups (views element.contents.now) ≡ true }
-    ensures { RowFits (spot.inside || is_grouped element.entry.standing)
-        (λ group held. fit_row element.entry.number (spot_with spot group) element.entry.standing
+    ensures { RowFits (position.inside || is_grouped element.entry.standing)
+        (λ group held. fit_row element.entry.number (spot_with position group) element.entry.standing
         (row name.now (pairs element.entry.own.now)) (pairs element.entry.attributes.now) (views element.entry.contents.now) held) result }
 {
     match row(name, element.own) {
         None => Err(misfit(element.number, FitWhy::Element)),
         Some(kind) => {
             if fits_place(
-                spot.outer,
-                spot.behind,
+                position.outer,
+                position.behind,
                 element.standing,
                 kind,
                 element.contents,
             ) {
-                headed_as(alloc, element, spot.inside, kind)
+                headed_as(alloc, element, position.inside, kind)
             } else {
                 Err(misfit(element.number, FitWhy::Place))
             }
@@ -276,7 +276,7 @@ fn headed_in(
 pub fn headed_by(
     alloc: Global,
     number: u32,
-    spot: Spot,
+    position: Position,
     standing: Standing,
     name: &[u8],
     attributes: &[Attribute],
@@ -284,8 +284,8 @@ pub fn headed_by(
 ) -> Result<Headed, FitFault>
     requires values { are_utf8_values (pairs attributes.now) ≡ true }
     requires texts { are_utf8_markups (views contents.now) ≡ true }
-    ensures { RowFits (spot.inside || is_grouped standing)
-        (λ group held. fit_row number (spot_with spot group) standing (row_as standing name.now (pairs attributes.now)) (pairs attributes.now)
+    ensures { RowFits (position.inside || is_grouped standing)
+        (λ group held. fit_row number (spot_with position group) standing (row_as standing name.now (pairs attributes.now)) (pairs attributes.now)
         (views contents.now) held) result }
 {
     let element = Element {
@@ -301,8 +301,8 @@ pub fn headed_by(
             own: own.as_slice(),
             ..element
         };
-        headed_in(alloc, first, spot, name)
+        headed_in(alloc, first, position, name)
     } else {
-        headed_in(alloc, element, spot, name)
+        headed_in(alloc, element, position, name)
     }
 }

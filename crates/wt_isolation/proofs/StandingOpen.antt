@@ -5,8 +5,8 @@ use Rattle.std.specs.Prelude.{◌||◌, ◌&&◌, if◌then◌else◌, reverse}
 use Rattle.std.specs.List.{list_all}
 use Rattle.std.proofs.lemmas.List.{reverse-append}
 use Rattle.wt_tree.specs.Tree.{Tree, tree, Trees, none, more, Label, label, listed, trees}
-use Rattle.wt_original.specs.declared.kinds.Way.{Way}
-use Rattle.wt_original.specs.declared.kinds.Way.TheVariants as way
+use Rattle.wt_original.specs.declared.kinds.InlineForm.{InlineForm}
+use Rattle.wt_original.specs.declared.kinds.InlineForm.TheVariants as inline
 use Rattle.wt_original.specs.Kinds.{shape}
 use Rattle.wt_isolation.specs.OpenTexts.{begins_bracket, begins_open, ended_by, ends_with_bracket, has_open_text, holds_open, in_style}
 use Rattle.wt_isolation.specs.OpenTexts.{is_open_before, is_text, open_text_at}
@@ -36,29 +36,29 @@ both_hold false b e f = absurd (cc)
 
 -- ---- ways
 
-styled : (w : Way) (b : Bool) → in_style w b ≡ true → (in_style w true ≡ true) × (b ≡ true)
-styled way.Nothing b e = absurd (cc)
-styled way.Characters b e = absurd (cc)
-styled way.Bold b e = (refl, e)
-styled way.Italic b e = (refl, e)
-styled way.Shown b e = absurd (cc)
-styled way.PageLink b e = absurd (cc)
-styled way.ExternalLink b e = absurd (cc)
-styled way.Tag b e = absurd (cc)
-styled way.Break b e = absurd (cc)
-styled way.AsItStood b e = absurd (cc)
+styled : (w : InlineForm) (b : Bool) → in_style w b ≡ true → (in_style w true ≡ true) × (b ≡ true)
+styled inline.Nothing b e = absurd (cc)
+styled inline.Characters b e = absurd (cc)
+styled inline.Bold b e = (refl, e)
+styled inline.Italic b e = (refl, e)
+styled inline.Shown b e = absurd (cc)
+styled inline.PageLink b e = absurd (cc)
+styled inline.ExternalLink b e = absurd (cc)
+styled inline.Tag b e = absurd (cc)
+styled inline.Break b e = absurd (cc)
+styled inline.AsItStood b e = absurd (cc)
 
-style_is_no_text : (w : Way) → in_style w true ≡ true → is_text w ≡ false
-style_is_no_text way.Nothing e = refl
-style_is_no_text way.Characters e = absurd (cc)
-style_is_no_text way.Bold e = refl
-style_is_no_text way.Italic e = refl
-style_is_no_text way.Shown e = refl
-style_is_no_text way.PageLink e = refl
-style_is_no_text way.ExternalLink e = refl
-style_is_no_text way.Tag e = refl
-style_is_no_text way.Break e = refl
-style_is_no_text way.AsItStood e = refl
+style_is_no_text : (w : InlineForm) → in_style w true ≡ true → is_text w ≡ false
+style_is_no_text inline.Nothing e = refl
+style_is_no_text inline.Characters e = absurd (cc)
+style_is_no_text inline.Bold e = refl
+style_is_no_text inline.Italic e = refl
+style_is_no_text inline.Shown e = refl
+style_is_no_text inline.PageLink e = refl
+style_is_no_text inline.ExternalLink e = refl
+style_is_no_text inline.Tag e = refl
+style_is_no_text inline.Break e = refl
+style_is_no_text inline.AsItStood e = refl
 
 -- ---- more bytes before a text
 
@@ -73,28 +73,28 @@ begins_still (b ∷ bs) cs e = e
 ends_behind : (before text : List ℕ) → ends_with_bracket text ≡ true → ends_with_bracket (before ++ text) ≡ true
 ends_behind before text e = ap begins_bracket (reverse-append before text) ∙ begins_still (reverse text) (reverse before) e
 
-open_behind : (w : Way) (before text : List ℕ) → is_open_before w text ≡ true → is_open_before w (before ++ text) ≡ true
-open_behind way.Nothing before text e = holds_behind before text e
-open_behind way.Characters before text e = holds_behind before text e
-open_behind way.Bold before text e = holds_behind before text e
-open_behind way.Italic before text e = holds_behind before text e
-open_behind way.Shown before text e = holds_behind before text e
-open_behind way.PageLink before text e = holds_behind before text e
-open_behind way.ExternalLink before text e =
+open_behind : (w : InlineForm) (before text : List ℕ) → is_open_before w text ≡ true → is_open_before w (before ++ text) ≡ true
+open_behind inline.Nothing before text e = holds_behind before text e
+open_behind inline.Characters before text e = holds_behind before text e
+open_behind inline.Bold before text e = holds_behind before text e
+open_behind inline.Italic before text e = holds_behind before text e
+open_behind inline.Shown before text e = holds_behind before text e
+open_behind inline.PageLink before text e = holds_behind before text e
+open_behind inline.ExternalLink before text e =
     or_map (holds_open text) (holds_open (before ++ text)) (ends_with_bracket (before ++ text)) (holds_behind before text)
     (later (holds_open text) refl e)
   where
     later : (b : Bool) → holds_open text ≡ b → (b || ends_with_bracket text) ≡ true → (holds_open text || ends_with_bracket (before ++ text)) ≡ true
     later true q f = or_left (holds_open text) (ends_with_bracket (before ++ text)) q
     later false q f = or_right (holds_open text) (ends_with_bracket (before ++ text)) (ends_behind before text f)
-open_behind way.Tag before text e = holds_behind before text e
-open_behind way.Break before text e = holds_behind before text e
-open_behind way.AsItStood before text e = holds_behind before text e
+open_behind inline.Tag before text e = holds_behind before text e
+open_behind inline.Break before text e = holds_behind before text e
+open_behind inline.AsItStood before text e = holds_behind before text e
 
 -- ---- one node
 
-abbrev way_of : Label → Way
-way_of l = (shape l.kind).way
+abbrev way_of : Label → InlineForm
+way_of l = (shape l.kind).inline
 
 abbrev inside : Trees → Bool
 inside ts = has_open_text [] ts

@@ -6,8 +6,8 @@ use Rattle.std.specs.List.{list_any, prefix_len}
 use Rattle.wt_tree.specs.declared.kind.Ranges.{Ranges}
 use Rattle.wt_tree.specs.Source.{flat}
 use Rattle.wt_tree.specs.Tree.{Tree, tree, Trees, none, more}
-use Rattle.wt_original.specs.declared.kinds.Way.{Way}
-use Rattle.wt_original.specs.declared.kinds.Way.TheVariants as way
+use Rattle.wt_original.specs.declared.kinds.InlineForm.{InlineForm}
+use Rattle.wt_original.specs.declared.kinds.InlineForm.TheVariants as inline
 use Rattle.wt_original.specs.Kinds.{shape}
 
 abbrev pub is_stop : ℕ → Bool
@@ -35,21 +35,21 @@ pub record EndsOpen (bs : List ℕ) : Type 0 where
 -- ---- of a block
 
 -- texts don't count, and bold and italic text by what it holds
-abbrev pub open_by : Way → List ℕ → Bool → Bool
-open_by way.Nothing source inside = ends_open source
-open_by way.Characters source inside = false
-open_by way.Bold source inside = inside
-open_by way.Italic source inside = inside
-open_by way.Shown source inside = ends_open source
-open_by way.PageLink source inside = ends_open source
-open_by way.ExternalLink source inside = ends_open source
-open_by way.Tag source inside = ends_open source
-open_by way.Break source inside = ends_open source
-open_by way.AsItStood source inside = ends_open source
+abbrev pub open_by : InlineForm → List ℕ → Bool → Bool
+open_by inline.Nothing source inside = ends_open source
+open_by inline.Characters source inside = false
+open_by inline.Bold source inside = inside
+open_by inline.Italic source inside = inside
+open_by inline.Shown source inside = ends_open source
+open_by inline.PageLink source inside = ends_open source
+open_by inline.ExternalLink source inside = ends_open source
+open_by inline.Tag source inside = ends_open source
+open_by inline.Break source inside = ends_open source
+open_by inline.AsItStood source inside = ends_open source
 
 abbrev mutual
   pub node_ends_open : Tree → Bool
-  node_ends_open (tree l ts) = open_by (shape l.kind).way (flat (tree l ts)) (any_ends_open ts)
+  node_ends_open (tree l ts) = open_by (shape l.kind).inline (flat (tree l ts)) (any_ends_open ts)
 
   pub any_ends_open : Trees → Bool
   any_ends_open none = false

@@ -3,8 +3,8 @@ use Rattle.std.specs.Prelude.{ℕ, ◌==◌, ◌&&◌, ◌||◌, Bool, false, Li
 use Rattle.wt_tree.specs.Tree.{Tree, tree, Trees, none, more}
 use Rattle.wt_tiles.specs.Glyphs.{byte_glyphs}
 use Rattle.wt_tiles.specs.Urls.{scheme_len}
-use Rattle.wt_original.specs.declared.kinds.Way.{Way}
-use Rattle.wt_original.specs.declared.kinds.Way.TheVariants as way
+use Rattle.wt_original.specs.declared.kinds.InlineForm.{InlineForm}
+use Rattle.wt_original.specs.declared.kinds.InlineForm.TheVariants as inline
 use Rattle.wt_original.specs.Kinds.{shape}
 
 abbrev pub begins_bracket : List ℕ → Bool
@@ -25,55 +25,55 @@ abbrev pub ends_with_bracket : List ℕ → Bool
 ends_with_bracket text = begins_bracket (reverse text)
 
 -- a text that ends before a node: before an external link it may not end with `[`
-abbrev pub is_open_before : Way → List ℕ → Bool
-is_open_before way.Nothing text = holds_open text
-is_open_before way.Characters text = holds_open text
-is_open_before way.Bold text = holds_open text
-is_open_before way.Italic text = holds_open text
-is_open_before way.Shown text = holds_open text
-is_open_before way.PageLink text = holds_open text
-is_open_before way.ExternalLink text = holds_open text || ends_with_bracket text
-is_open_before way.Tag text = holds_open text
-is_open_before way.Break text = holds_open text
-is_open_before way.AsItStood text = holds_open text
+abbrev pub is_open_before : InlineForm → List ℕ → Bool
+is_open_before inline.Nothing text = holds_open text
+is_open_before inline.Characters text = holds_open text
+is_open_before inline.Bold text = holds_open text
+is_open_before inline.Italic text = holds_open text
+is_open_before inline.Shown text = holds_open text
+is_open_before inline.PageLink text = holds_open text
+is_open_before inline.ExternalLink text = holds_open text || ends_with_bracket text
+is_open_before inline.Tag text = holds_open text
+is_open_before inline.Break text = holds_open text
+is_open_before inline.AsItStood text = holds_open text
 
 -- of other nodes than bold and italic ones what they hold doesn't count
-abbrev pub in_style : Way → Bool → Bool
-in_style way.Nothing inside = false
-in_style way.Characters inside = false
-in_style way.Bold inside = inside
-in_style way.Italic inside = inside
-in_style way.Shown inside = false
-in_style way.PageLink inside = false
-in_style way.ExternalLink inside = false
-in_style way.Tag inside = false
-in_style way.Break inside = false
-in_style way.AsItStood inside = false
+abbrev pub in_style : InlineForm → Bool → Bool
+in_style inline.Nothing inside = false
+in_style inline.Characters inside = false
+in_style inline.Bold inside = inside
+in_style inline.Italic inside = inside
+in_style inline.Shown inside = false
+in_style inline.PageLink inside = false
+in_style inline.ExternalLink inside = false
+in_style inline.Tag inside = false
+in_style inline.Break inside = false
+in_style inline.AsItStood inside = false
 
 -- the text ends here, and what follows is told by `rest` with the text so far
-abbrev pub ended_by : Way → List ℕ → Bool → (List ℕ → Bool) → Bool
+abbrev pub ended_by : InlineForm → List ℕ → Bool → (List ℕ → Bool) → Bool
 ended_by w text inside rest = is_open_before w text || (in_style w inside || rest [])
 
-abbrev pub is_text : Way → Bool
-is_text way.Nothing = false
-is_text way.Characters = true
-is_text way.Bold = false
-is_text way.Italic = false
-is_text way.Shown = false
-is_text way.PageLink = false
-is_text way.ExternalLink = false
-is_text way.Tag = false
-is_text way.Break = false
-is_text way.AsItStood = false
+abbrev pub is_text : InlineForm → Bool
+is_text inline.Nothing = false
+is_text inline.Characters = true
+is_text inline.Bold = false
+is_text inline.Italic = false
+is_text inline.Shown = false
+is_text inline.PageLink = false
+is_text inline.ExternalLink = false
+is_text inline.Tag = false
+is_text inline.Break = false
+is_text inline.AsItStood = false
 
--- A node behind a text, by the way of its kind: a text goes on with it, and any other node ends it.
-abbrev pub open_text_by : Way → List ℕ → List ℕ → Bool → (List ℕ → Bool) → Bool
+-- A node behind a text, by the inline form of its kind: a text goes on with it, and any other node ends it.
+abbrev pub open_text_by : InlineForm → List ℕ → List ℕ → Bool → (List ℕ → Bool) → Bool
 open_text_by w text shown inside rest = if is_text w then rest (text ++ shown) else ended_by w text inside rest
 
 -- a text directly among these nodes, or in their bold and italic nodes, where a text stands before them
 abbrev mutual
   pub open_text_at : List ℕ → Tree → (List ℕ → Bool) → Bool
-  open_text_at text (tree l ts) rest = open_text_by (shape l.kind).way text l.shown (has_open_text [] ts) rest
+  open_text_at text (tree l ts) rest = open_text_by (shape l.kind).inline text l.shown (has_open_text [] ts) rest
 
   pub has_open_text : List ℕ → Trees → Bool
   has_open_text text none = holds_open text

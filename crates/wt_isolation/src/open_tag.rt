@@ -10,7 +10,7 @@ ghost use Rattle.wt_isolation.specs.Passes.{IsReadTo};
 
 use crate::ending::Ending;
 use crate::tag_pass::TagPass;
-use wt_original::{Way, shape};
+use wt_original::{InlineForm, shape};
 use wt_tree::Node;
 
 /// Whether the source of a node ends inside an open tag.
@@ -26,11 +26,12 @@ fn source_ends_open(node: &Node<'_>) -> bool
 fn node_ends_open(node: &Node<'_>) -> bool
     ensures { result ≡ node_ends_open (view node.now) }
 {
-    match shape(node.kind).way {
-        Way::Characters => false,
-        Way::Bold | Way::Italic => any_ends_open(node.children.as_slice()),
-        Way::Nothing | Way::Shown | Way::PageLink => source_ends_open(node),
-        Way::ExternalLink | Way::Tag | Way::Break | Way::AsItStood => source_ends_open(node),
+    match shape(node.kind).inline {
+        InlineForm::Characters => false,
+        InlineForm::Bold | InlineForm::Italic => any_ends_open(node.children.as_slice()),
+        InlineForm::Nothing | InlineForm::Shown | InlineForm::PageLink => source_ends_open(node),
+        InlineForm::ExternalLink | InlineForm::Tag | InlineForm::Break | InlineForm::AsItStood =>
+            source_ends_open(node),
     }
 }
 

@@ -6,7 +6,7 @@ ghost use Rattle.wt_isolation.specs.OpenTexts.{begins_bracket, begins_open, ends
 
 use crate::scheme::scheme_len;
 use std::alloc::Global;
-use wt_original::{Way, shape};
+use wt_original::{InlineForm, shape};
 use wt_span::NoMemory;
 use wt_tree::Node;
 
@@ -50,35 +50,47 @@ fn ends_with_bracket(text: &[u8]) -> bool
 }
 
 /// Whether a text that ends before a node of this kind could go on behind its end.
-fn is_open_before(way: Way, text: &[u8]) -> bool
-    ensures { result ≡ is_open_before way text.now }
+fn is_open_before(inline: InlineForm, text: &[u8]) -> bool
+    ensures { result ≡ is_open_before inline text.now }
 {
-    match way {
-        Way::ExternalLink => holds_open(text) || ends_with_bracket(text),
-        Way::Nothing | Way::Characters | Way::Bold | Way::Italic | Way::Shown => holds_open(text),
-        Way::PageLink | Way::Tag | Way::Break | Way::AsItStood => holds_open(text),
+    match inline {
+        InlineForm::ExternalLink => holds_open(text) || ends_with_bracket(text),
+        InlineForm::Nothing
+        | InlineForm::Characters
+        | InlineForm::Bold
+        | InlineForm::Italic
+        | InlineForm::Shown => holds_open(text),
+        InlineForm::PageLink | InlineForm::Tag | InlineForm::Break | InlineForm::AsItStood =>
+            holds_open(text),
     }
 }
 
-fn is_text(way: Way) -> bool
-    ensures { result ≡ is_text way }
+fn is_text(inline: InlineForm) -> bool
+    ensures { result ≡ is_text inline }
 {
-    match way {
-        Way::Characters => true,
-        Way::Nothing | Way::Bold | Way::Italic | Way::Shown | Way::PageLink => false,
-        Way::ExternalLink | Way::Tag | Way::Break | Way::AsItStood => false,
+    match inline {
+        InlineForm::Characters => true,
+        InlineForm::Nothing
+        | InlineForm::Bold
+        | InlineForm::Italic
+        | InlineForm::Shown
+        | InlineForm::PageLink => false,
+        InlineForm::ExternalLink | InlineForm::Tag | InlineForm::Break | InlineForm::AsItStood =>
+            false,
     }
 }
 
 /// Whether there is such a text in a bold or an italic node, where it holds these.
 #[cycle(texts)]
-fn in_style(alloc: Global, way: Way, held: &[Node<'_>]) -> Result<bool, NoMemory>
-    ensures { IfOk result (λ b. b ≡ in_style way (has_open_text [] (views held.now))) }
+fn in_style(alloc: Global, inline: InlineForm, held: &[Node<'_>]) -> Result<bool, NoMemory>
+    ensures { IfOk result (λ b. b ≡ in_style inline (has_open_text [] (views held.now))) }
 {
-    match way {
-        Way::Bold | Way::Italic => has_open_text(alloc, held),
-        Way::Nothing | Way::Characters | Way::Shown | Way::PageLink => Ok(false),
-        Way::ExternalLink | Way::Tag | Way::Break | Way::AsItStood => Ok(false),
+    match inline {
+        InlineForm::Bold | InlineForm::Italic => has_open_text(alloc, held),
+        InlineForm::Nothing | InlineForm::Characters | InlineForm::Shown | InlineForm::PageLink =>
+            Ok(false),
+        InlineForm::ExternalLink | InlineForm::Tag | InlineForm::Break | InlineForm::AsItStood =>
+            Ok(false),
     }
 }
 
@@ -87,18 +99,18 @@ fn in_style(alloc: Global, way: Way, held: &[Node<'_>]) -> Result<bool, NoMemory
 fn ends_open(
     alloc: Global,
     text: &mut Vec<u8>,
-    way: Way,
+    inline: InlineForm,
     held: &[Node<'_>],
 ) -> Result<bool, NoMemory>
-    ensures open { IfOk result (λ b. b ≡ (is_open_before way text.old.items || in_style way (has_open_text [] (views held.now)))) }
+    ensures open { IfOk result (λ b. b ≡ (is_open_before inline text.old.items || in_style inline (has_open_text [] (views held.now)))) }
     ensures ended { IfOk result (λ b. text.new.items ≡ []) }
 {
-    let open = is_open_before(way, text.as_slice());
+    let open = is_open_before(inline, text.as_slice());
     *text = Vec::new(alloc);
     if open {
         return Ok(true);
     }
-    in_style(alloc, way, held)
+    in_style(alloc, inline, held)
 }
 
 /// Reads one more node behind a text: whether the text ends there and could go on, or one in the node could.
@@ -106,12 +118,12 @@ fn ends_open(
 fn follow(alloc: Global, text: &mut Vec<u8>, node: &Node<'_>) -> Result<bool, NoMemory>
     ensures { IfOk result (λ b. (rest : List ℕ → Bool) → open_text_at text.old.items (view node.now) rest ≡ (b || rest text.new.items)) }
 {
-    let way = shape(node.kind).way;
-    if is_text(way) {
+    let inline = shape(node.kind).inline;
+    if is_text(inline) {
         text.extend_from_slice(node.shown().as_bytes())?;
         return Ok(false);
     }
-    ends_open(alloc, text, way, node.children.as_slice())
+    ends_open(alloc, text, inline, node.children.as_slice())
 }
 
 /// Whether a text directly among these nodes, or in their bold and italic nodes, could go on behind its end.

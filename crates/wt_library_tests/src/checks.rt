@@ -2,13 +2,13 @@
 use bumpalo::Bump;
 use std::alloc::Global;
 use std::test::Fail;
-use wt_checks::{Check, check};
+use wt_checks::{TreeRefusal, check};
 use wt_html_in::read_html;
 use wt_span::{List, NoMemory};
 use wt_tree::{Kind, More, Node, Source};
 
 /// The first refusal of an edited page, against the page without bytes.
-fn refusal_of(alloc: Global, edited: &Node<'_>) -> Result<Option<Check>, NoMemory> {
+fn refusal_of(alloc: Global, edited: &Node<'_>) -> Result<Option<TreeRefusal>, NoMemory> {
     let page = Node {
         kind: Kind::Body,
         id: 0,
@@ -21,7 +21,7 @@ fn refusal_of(alloc: Global, edited: &Node<'_>) -> Result<Option<Check>, NoMemor
 }
 
 /// The first refusal of a short edited page, whose texts lie in the arena; none where it is no page.
-fn refusal_in(alloc: Global, html: &str, arena: &Bump<Global>) -> Option<Option<Check>> {
+fn refusal_in(alloc: Global, html: &str, arena: &Bump<Global>) -> Option<Option<TreeRefusal>> {
     if 1000 < html.len() {
         return None;
     }
@@ -29,7 +29,7 @@ fn refusal_in(alloc: Global, html: &str, arena: &Bump<Global>) -> Option<Option<
     refusal_of(alloc, edited.body()).ok()
 }
 
-fn refusal(alloc: Global, html: &str) -> Result<Option<Check>, &'static str> {
+fn refusal(alloc: Global, html: &str) -> Result<Option<TreeRefusal>, &'static str> {
     let arena = Bump::new(alloc);
     refusal_in(alloc, html, &arena).ok_or("no answer")
 }
@@ -44,13 +44,13 @@ fn a_page_that_is_not_changed_is_taken(rt: HostRuntime) -> Result<(), Fail> {
 #[test]
 fn a_new_paragraph_wants_a_mark_round_it(rt: HostRuntime) -> Result<(), Fail> {
     let refused = refusal(rt.alloc(), "<html><body><p>a</p></body></html>")?;
-    assert!(rt; matches!(refused, Some(Check::UnmarkedChange(0))));
+    assert!(rt; matches!(refused, Some(TreeRefusal::UnmarkedChange(0))));
     Ok(())
 }
 
 #[test]
 fn a_number_is_one_of_the_page(rt: HostRuntime) -> Result<(), Fail> {
     let refused = refusal(rt.alloc(), "<html><body><p id=\"mw9\"></p></body></html>")?;
-    assert!(rt; matches!(refused, Some(Check::UnknownId(9))));
+    assert!(rt; matches!(refused, Some(TreeRefusal::UnknownId(9))));
     Ok(())
 }

@@ -12,7 +12,7 @@ use Rattle.std.specs.declared.cmp.Ordering.TheVariants.{Less, Equal, Greater}
 use Rattle.wt_lint.specs.declared.finding.Kind.{Kind}
 use Rattle.wt_lint.specs.declared.finding.Kind.TheVariants as kind
 use Rattle.wt_lint.specs.Findings.{in_order, order_of, put_all}
-use Rattle.wt_lint.specs.Found.{Found}
+use Rattle.wt_lint.specs.Found.{KindAndRange}
 use Rattle.wt_lint.specs.Kinds.{rank}
 
 -- ---- the order
@@ -31,12 +31,12 @@ chain {K} {R} o x y z p q s f h k = by (R x y) (R y z) refl refl h k
     by Equal Greater d e h k = absurd cc
     by Greater b d e h k = absurd cc
 
-order_trans : (f g h : Found) → order_of f g ≡ Less → order_of g h ≡ Less → order_of f h ≡ Less
+order_trans : (f g h : KindAndRange) → order_of f g ≡ Less → order_of g h ≡ Less → order_of f h ≡ Less
 order_trans f g h =
     chain nat_cmp_total f.1.0 g.1.0 h.1.0 _ _ _
     (chain nat_cmp_total f.1.1 g.1.1 h.1.1 _ _ _ (nat_cmp_total.trans (rank f.0) (rank g.0) (rank h.0)))
 
-order_turn : (f g : Found) → order_of f g ≡ ordering_reverse (order_of g f)
+order_turn : (f g : KindAndRange) → order_of f g ≡ ordering_reverse (order_of g f)
 order_turn f g =
     let a = nat_cmp g.1.0 f.1.0 in
     let b = nat_cmp g.1.1 f.1.1 in
@@ -46,12 +46,12 @@ order_turn f g =
     ∙ ap (λ r. ordering_then (ordering_reverse a) (ordering_then (ordering_reverse b) r)) (nat_cmp_total.antisymm (rank f.0) (rank g.0))
     ∙ ap (ordering_then (ordering_reverse a)) (then_flip b c) ∙ then_flip a (ordering_then b c)
 
-order_back : (f g : Found) → order_of f g ≡ Greater → order_of g f ≡ Less
+order_back : (f g : KindAndRange) → order_of f g ≡ Greater → order_of g f ≡ Less
 order_back f g e = order_turn g f ∙ ap ordering_reverse e
 
 -- ---- sorted
 
-below_put : (f k : Found) (gs : List Found) → AllByRecursion (λ g. order_of f g ≡ Less) gs → order_of f k ≡ Less
+below_put : (f k : KindAndRange) (gs : List KindAndRange) → AllByRecursion (λ g. order_of f g ≡ Less) gs → order_of f k ≡ Less
     → AllByRecursion (λ g. order_of f g ≡ Less) (insert_key order_of gs k)
 below_put f k [] all e = (e, tt)
 below_put f k (g ∷ gs) all e = by (order_of k g) (below_put f k gs all.1 e)
@@ -62,11 +62,11 @@ below_put f k (g ∷ gs) all e = by (order_of k g) (below_put f k gs all.1 e)
     by Equal h = all
     by Greater h = (all.0, h)
 
-below_all : (f g : Found) (gs : List Found) → order_of f g ≡ Less → AllByRecursion (λ h. order_of g h ≡ Less) gs → AllByRecursion (λ h. order_of f h ≡ Less) gs
+below_all : (f g : KindAndRange) (gs : List KindAndRange) → order_of f g ≡ Less → AllByRecursion (λ h. order_of g h ≡ Less) gs → AllByRecursion (λ h. order_of f h ≡ Less) gs
 below_all f g [] e all = tt
 below_all f g (h ∷ hs) e all = (order_trans f g h e all.0, below_all f g hs e all.1)
 
-put_sorted : (k : Found) (gs : List Found) → IsStrictlySortedBy order_of gs → IsStrictlySortedBy order_of (insert_key order_of gs k)
+put_sorted : (k : KindAndRange) (gs : List KindAndRange) → IsStrictlySortedBy order_of gs → IsStrictlySortedBy order_of (insert_key order_of gs k)
 unfolding IsStrictlySortedBy
 put_sorted k [] s = (tt, tt)
 put_sorted k (g ∷ gs) s = by (order_of k g) refl (put_sorted k gs s.1)
@@ -77,11 +77,11 @@ put_sorted k (g ∷ gs) s = by (order_of k g) refl (put_sorted k gs s.1)
     by Equal e h = s
     by Greater e h = (below_put g k gs s.0 (order_back k g e), h)
 
-all_sorted : (gs fs : List Found) → IsStrictlySortedBy order_of gs → IsStrictlySortedBy order_of (put_all gs fs)
+all_sorted : (gs fs : List KindAndRange) → IsStrictlySortedBy order_of gs → IsStrictlySortedBy order_of (put_all gs fs)
 all_sorted gs [] s = s
 all_sorted gs (f ∷ fs) s = all_sorted (insert_key order_of gs f) fs (put_sorted f gs s)
 
-pub sorted : (fs : List Found) → IsStrictlySortedBy order_of (in_order fs)
+pub sorted : (fs : List KindAndRange) → IsStrictlySortedBy order_of (in_order fs)
 unfolding IsStrictlySortedBy
 sorted fs = all_sorted [] fs tt
 
@@ -121,7 +121,7 @@ both_tie Equal b e = (refl, e)
 both_tie Greater b e = absurd cc
 
 -- two that tie are one
-tied : (f g : Found) → order_of f g ≡ Equal → f ≡ g
+tied : (f g : KindAndRange) → order_of f g ≡ Equal → f ≡ g
 tied f g e =
     let a = both_tie (nat_cmp f.1.0 g.1.0) _ e in
     let b = both_tie (nat_cmp f.1.1 g.1.1) _ a.1 in
@@ -130,7 +130,7 @@ tied f g e =
     let t : f.1.1 ≡ g.1.1 = same_number f.1.1 g.1.1 b.0 in
     λ i. (k i, (s i, t i))
 
-put_same : (test : Found → Bool) (k : Found) (gs : List Found) → list_any test (insert_key order_of gs k) ≡ (list_any test gs || test k)
+put_same : (test : KindAndRange → Bool) (k : KindAndRange) (gs : List KindAndRange) → list_any test (insert_key order_of gs k) ≡ (list_any test gs || test k)
 put_same test k [] = by (test k)
   where
     by : (v : Bool) → (v || false) ≡ v
@@ -159,7 +159,7 @@ put_same test k (g ∷ gs) = by (order_of k g) refl (put_same test k gs)
     by Equal e h = held (test g) (list_any test gs) ∙ ap (λ f. list_any test (g ∷ gs) || test f) (sym (tied k g e))
     by Greater e h = ap (λ v. test g || v) h ∙ shifted (test g) (list_any test gs) (test k)
 
-all_same : (test : Found → Bool) (gs fs : List Found) → list_any test (put_all gs fs) ≡ (list_any test gs || list_any test fs)
+all_same : (test : KindAndRange → Bool) (gs fs : List KindAndRange) → list_any test (put_all gs fs) ≡ (list_any test gs || list_any test fs)
 all_same test gs [] = by (list_any test gs)
   where
     by : (v : Bool) → v ≡ (v || false)
@@ -173,5 +173,5 @@ all_same test gs (f ∷ fs) =
     shifted true v w = refl
     shifted false v w = refl
 
-pub same : (test : Found → Bool) (fs : List Found) → list_any test (in_order fs) ≡ list_any test fs
+pub same : (test : KindAndRange → Bool) (fs : List KindAndRange) → list_any test (in_order fs) ≡ list_any test fs
 same test fs = all_same test [] fs

@@ -14,7 +14,7 @@ use Rattle.wt_lint.specs.declared.finding.Kind.TheVariants as kind
 use Rattle.wt_lint.specs.declared.place.Place.{Place}
 use Rattle.wt_lint.specs.declared.place.Sort.{Sort}
 use Rattle.wt_lint.specs.Findings.{all_found, at_range, at_ranges, found, found_from, stray_ends, titles_after, whole}
-use Rattle.wt_lint.specs.Found.{Span, Found, as_all}
+use Rattle.wt_lint.specs.Found.{Span, KindAndRange, as_all}
 use Rattle.wt_lint.specs.Kinds.{kinds}
 use Rattle.wt_lint.specs.Nodes.{Stand, below, nodes, nodes_in_all, sort_of, start_of, top}
 use Rattle.wt_lint.specs.Texts.{when, run_at, runs, pairs, ends_table, end_at, stands_first, table_ends}
@@ -142,20 +142,20 @@ at_range_lie page titles p l r h =
 -- ---- all nodes
 
 -- what holds of all that is found at a node whose range lies in the page
-abbrev pub Here : (Found → Type 0) → List ℕ → Type 0
+abbrev pub Here : (KindAndRange → Type 0) → List ℕ → Type 0
 Here P page = (titles : List (List ℕ)) (p : Place) (l : Label) (r : Ranges) → IsOf page r → AllByRecursion P (at_range page titles p l r)
 
-at_node : (P : Found → Type 0) (page : List ℕ) → Here P page → (titles : List (List ℕ)) (p : Place) (l : Label) (o : Option Ranges)
+at_node : (P : KindAndRange → Type 0) (page : List ℕ) → Here P page → (titles : List (List ℕ)) (p : Place) (l : Label) (o : Option Ranges)
     (source opening closing : List ℕ) → StandsIn page o source opening closing → AllByRecursion P (at_ranges page titles p l o)
 at_node P page here titles p l None source opening closing h = tt
 at_node P page here titles p l (Some r) source opening closing h = here titles p l r (h.ordered, h.within)
 
 -- it holds at a node, whatever stands before it
-abbrev Holds : (Found → Type 0) → List ℕ → Stand → Type 0
+abbrev Holds : (KindAndRange → Type 0) → List ℕ → Stand → Type 0
 Holds P page (p, l) = (titles : List (List ℕ)) → AllByRecursion P (at_ranges page titles p l l.ranges)
 
 mutual
-  at_tree : (P : Found → Type 0) (page : List ℕ) → Here P page → (p : Place) (t : Tree) → AllByRecursion (IsSlice page) (reached t)
+  at_tree : (P : KindAndRange → Type 0) (page : List ℕ) → Here P page → (p : Place) (t : Tree) → AllByRecursion (IsSlice page) (reached t)
       → AllByRecursion (Holds P page) (nodes p t)
   at_tree P page here p (tree l ts) h = (
     (λ titles. at_node P page here titles p l l.ranges (flat (tree l ts)) (opening_of l) l.closing h.0),
@@ -168,21 +168,21 @@ mutual
       inside true f h = tt
       inside false f h = f h
 
-  at_trees : (P : Found → Type 0) (page : List ℕ) → Here P page → (p : Place) (ts : Trees) → AllByRecursion (IsSlice page) (reached_in_all ts)
+  at_trees : (P : KindAndRange → Type 0) (page : List ℕ) → Here P page → (p : Place) (ts : Trees) → AllByRecursion (IsSlice page) (reached_in_all ts)
       → AllByRecursion (Holds P page) (nodes_in_all p ts)
   at_trees P page here p none h = tt
   at_trees P page here p (more t ts) h =
       join (Holds P page) (nodes p t) (nodes_in_all p ts) (at_tree P page here p t (front (IsSlice page) (reached t) (reached_in_all ts) h))
       (at_trees P page here p ts (back (IsSlice page) (reached t) (reached_in_all ts) h))
 
-from_nodes : (P : Found → Type 0) (page : List ℕ) (titles : List (List ℕ)) (ns : List Stand) → AllByRecursion (Holds P page) ns
+from_nodes : (P : KindAndRange → Type 0) (page : List ℕ) (titles : List (List ℕ)) (ns : List Stand) → AllByRecursion (Holds P page) ns
     → AllByRecursion P (found_from page titles ns)
 from_nodes P page titles [] h = tt
 from_nodes P page titles ((p, l) ∷ ns) h =
     join P (at_ranges page titles p l l.ranges) (found_from page (titles_after l titles) ns) (h.0 titles)
     (from_nodes P page (titles_after l titles) ns h.1)
 
-pub holds_of_all : (P : Found → Type 0) (page : List ℕ) → Here P page → (t : Tree) → AreReachedSlices page t → AllByRecursion P (all_found page t)
+pub holds_of_all : (P : KindAndRange → Type 0) (page : List ℕ) → Here P page → (t : Tree) → AreReachedSlices page t → AllByRecursion P (all_found page t)
 holds_of_all P page here t h = from_nodes P page [] (nodes top t) (at_tree P page here top t h)
 
 pub found_lie_in : (page : List ℕ) (t : Tree) → AreReachedSlices page t → AllByRecursion (LiesIn page) (all_found page t)

@@ -9,14 +9,14 @@ use Rattle.wt_lint.specs.contracts.finding.KindOrd.TheImpl as kind_ord
 use Rattle.wt_lint.specs.declared.finding.Kind.{Kind}
 use Rattle.wt_lint.specs.declared.finding.Kind.TheVariants as kind
 use Rattle.wt_lint.specs.declared.finding.Finding.{Finding}
-use Rattle.wt_lint.specs.declared.spot.Spot.{Spot}
+use Rattle.wt_lint.specs.declared.bare_finding.BareFinding.{BareFinding}
 use Rattle.wt_lint.specs.Findings.{order_of}
 use Rattle.wt_lint.specs.Found.{each, seen}
 use Rattle.wt_lint.specs.Kinds.{rank}
 use Rattle.wt_lint.specs.Lines.{Located, as_located, located}
 
 -- what is put among what is kept is seen among what is seen
-pub put_seen : (cmp : Spot → Spot → Ordering) → ((x y : Spot) → cmp x y ≡ order_of (seen x) (seen y)) → (ks : List Spot) (k : Spot)
+pub put_seen : (cmp : BareFinding → BareFinding → Ordering) → ((x y : BareFinding) → cmp x y ≡ order_of (seen x) (seen y)) → (ks : List BareFinding) (k : BareFinding)
     → each (insert_key cmp ks k) ≡ insert_key order_of (each ks) (seen k)
 put_seen cmp same [] k = refl
 put_seen cmp same (x ∷ ks) k =
@@ -63,13 +63,13 @@ kind_order =
     (by_kind (SameOrder kind.UnequalHeading) refl refl refl refl refl refl refl refl refl refl refl)
     (by_kind (SameOrder kind.RepeatedCategory) refl refl refl refl refl refl refl refl refl refl refl)
 
-pub spot_order : (x y : Spot)
+pub spot_order : (x y : BareFinding)
     → ordering_then (nat_cmp x.start y.start) (ordering_then (nat_cmp x.end y.end) (kind_ord.ghosts.cmp x.kind y.kind)) ≡ order_of (seen x) (seen y)
 spot_order x y = ap (λ o. ordering_then (nat_cmp x.start y.start) (ordering_then (nat_cmp x.end y.end) o)) (kind_order x.kind y.kind)
 
 -- ---- the loop that gives lines
 
-pub lines_turn : (page : List ℕ) (fs : List Finding) (f : Finding) (spot : Spot) (ks rest : List Spot) (gs : List Finding) (t : List Located) → ks ≡ spot ∷ rest
+pub lines_turn : (page : List ℕ) (fs : List Finding) (f : Finding) (spot : BareFinding) (ks rest : List BareFinding) (gs : List Finding) (t : List Located) → ks ≡ spot ∷ rest
     → as_located f ≡ located page (seen spot) → gs ≡ fs ++ f ∷ []
     → map as_located fs ++ map (located page) (each ks) ≡ t → map as_located gs ++ map (located page) (each rest) ≡ t
 lines_turn page fs f spot ks rest gs t e l g h =

@@ -3,12 +3,12 @@ use Rattle.std.proofs.Common.{◌≡◌, ℕ, ◌+◌, ◌-◌, ◌<◌, Bool, t
 use Rattle.std.specs.Prelude.{◌==◌, ◌&&◌, not}
 use Rattle.std.proofs.lemmas.Bool.Decides.{nat_tests}
 use Rattle.std.proofs.lemmas.List.{drop_more, map-append}
-use Rattle.wt_lint.specs.Found.{Span, Found, as_all}
+use Rattle.wt_lint.specs.Found.{Span, KindAndRange, as_all}
 use Rattle.wt_lint.specs.Texts.{when, pairs, end_at, table_ends}
 use Rattle.wt_lint.specs.declared.finding.Kind.{Kind}
 
 -- what is taken now goes before what is left
-pub taken : (kind : Kind) (xs ys t : List Found) (now rest : List Span) → ys ≡ xs ++ as_all kind now → xs ++ as_all kind (now ++ rest) ≡ t
+pub taken : (kind : Kind) (xs ys t : List KindAndRange) (now rest : List Span) → ys ≡ xs ++ as_all kind now → xs ++ as_all kind (now ++ rest) ≡ t
     → ys ++ as_all kind rest ≡ t
 taken kind xs ys t now rest e h =
     ap (λ zs. zs ++ as_all kind rest) e ∙ append_assoc xs (as_all kind now) (as_all kind rest)
@@ -22,7 +22,7 @@ ends_here page from p bs i lt =
     let e = drop_more bs i 0 lt in
     ap (table_ends page from p) e ∙ ap (λ xs. end_at page from p xs ++ table_ends page from (p + 1) (drop (i + 1) bs)) (sym e)
 
-pub ends_turn : (page : List ℕ) (from start : ℕ) (bs : List ℕ) (i : ℕ) (kind : Kind) (xs ys t : List Found) → i < length bs
+pub ends_turn : (page : List ℕ) (from start : ℕ) (bs : List ℕ) (i : ℕ) (kind : Kind) (xs ys t : List KindAndRange) → i < length bs
     → ys ≡ xs ++ as_all kind (end_at page from (start + i) (drop i bs))
     → xs ++ as_all kind (table_ends page from (start + i) (drop i bs)) ≡ t
     → ys ++ as_all kind (table_ends page from (start + (i + 1)) (drop (i + 1) bs)) ≡ t
@@ -78,7 +78,7 @@ left_turn byte p b bs false true e h =
     ap (λ (c : ℕ). pairs byte p (c ∷ bs)) (same_byte b byte e) ∙ ap (λ (n : ℕ). pairs byte n (byte ∷ bs)) here
 left_turn byte p b bs false false e h = passed_over byte p b bs e
 
-pub pairs_turn : (byte start : ℕ) (bs : List ℕ) (i : ℕ) (held is next : Bool) (kind : Kind) (xs ys t : List Found)
+pub pairs_turn : (byte start : ℕ) (bs : List ℕ) (i : ℕ) (held is next : Bool) (kind : Kind) (xs ys t : List KindAndRange)
     → i < length bs → (get_or bs i 0 == byte) ≡ is → (held ≡ true → 0 < i) → next ≡ is_held held is
     → ys ≡ xs ++ as_all kind (when (held && is) ((start + i - 1, start + i + 1) ∷ []))
     → xs ++ as_all kind (left byte (start + i) held (drop i bs)) ≡ t

@@ -14,7 +14,7 @@ use Rattle.wt_lint.specs.declared.place.Place.{Place}
 use Rattle.wt_lint.specs.declared.place.Sort.{Sort}
 use Rattle.wt_lint.specs.Bytes.{suffix_len, is_equals}
 use Rattle.wt_lint.specs.Categories.{title_of, is_among, noted}
-use Rattle.wt_lint.specs.Found.{Span, Found, as_all}
+use Rattle.wt_lint.specs.Found.{Span, KindAndRange, as_all}
 use Rattle.wt_lint.specs.Kinds.{kinds, rank}
 use Rattle.wt_lint.specs.Nodes.{Stand, nodes, top, sort_of, is_style, is_group, is_table, is_text, is_island, is_heading, is_category}
 use Rattle.wt_lint.specs.Tags.{is_open_tag, is_closing_tag}
@@ -81,10 +81,10 @@ found page titles p s l r RepeatedCategory = whole (is_category s && is_among (t
 -- ---- all nodes
 
 -- all that is found at a node of this range
-abbrev pub at_range : List ℕ → List (List ℕ) → Place → Label → Ranges → List Found
+abbrev pub at_range : List ℕ → List (List ℕ) → Place → Label → Ranges → List KindAndRange
 at_range page titles p l r = flat_map (λ k. as_all k (found page titles p (sort_of l.kind) l r k)) kinds
 
-abbrev pub at_ranges : List ℕ → List (List ℕ) → Place → Label → Option Ranges → List Found
+abbrev pub at_ranges : List ℕ → List (List ℕ) → Place → Label → Option Ranges → List KindAndRange
 at_ranges page titles p l None = []
 at_ranges page titles p l (Some r) = at_range page titles p l r
 
@@ -93,7 +93,7 @@ abbrev pub titles_after : Label → List (List ℕ) → List (List ℕ)
 titles_after l titles = if is_category (sort_of l.kind) then noted (title_of l) titles else titles
 
 -- all that is found at these nodes, behind categories of these titles
-abbrev pub found_from : List ℕ → List (List ℕ) → List Stand → List Found
+abbrev pub found_from : List ℕ → List (List ℕ) → List Stand → List KindAndRange
 found_from page titles [] = []
 found_from page titles ((p, l) ∷ ns) = at_ranges page titles p l l.ranges ++ found_from page (titles_after l titles) ns
 
@@ -102,20 +102,20 @@ titles_from titles [] = titles
 titles_from titles ((p, l) ∷ ns) = titles_from (titles_after l titles) ns
 
 -- all that is found in the tree of a page
-abbrev pub all_found : List ℕ → Tree → List Found
+abbrev pub all_found : List ℕ → Tree → List KindAndRange
 all_found page t = found_from page [] (nodes top t)
 
 -- ---- in order
 
 -- by the start, then the end, then the kind
-abbrev pub order_of : Found → Found → Ordering
+abbrev pub order_of : KindAndRange → KindAndRange → Ordering
 order_of f g = ordering_then (nat_cmp f.1.0 g.1.0) (ordering_then (nat_cmp f.1.1 g.1.1) (nat_cmp (rank f.0) (rank g.0)))
 
 -- each of these at its place among those that are in order, unless it is there
-abbrev pub put_all : List Found → List Found → List Found
+abbrev pub put_all : List KindAndRange → List KindAndRange → List KindAndRange
 put_all gs [] = gs
 put_all gs (f ∷ fs) = put_all (insert_key order_of gs f) fs
 
 -- in order, each once
-abbrev pub in_order : List Found → List Found
+abbrev pub in_order : List KindAndRange → List KindAndRange
 in_order fs = put_all [] fs

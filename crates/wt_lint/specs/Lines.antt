@@ -6,7 +6,7 @@ use Rattle.wt_lint.specs.declared.finding.Kind.{Kind}
 use Rattle.wt_lint.specs.declared.finding.Finding.{Finding}
 use Rattle.wt_lint.specs.Bytes.{suffix_len}
 use Rattle.wt_lint.specs.Findings.{all_found, in_order}
-use Rattle.wt_lint.specs.Found.{Found}
+use Rattle.wt_lint.specs.Found.{KindAndRange}
 
 -- how many line breaks a text has
 abbrev pub breaks : List ℕ → ℕ
@@ -29,7 +29,7 @@ pub record Located : Type 0 where
   pub line : ℕ
   pub column : ℕ
 
-abbrev pub located : List ℕ → Found → Located
+abbrev pub located : List ℕ → KindAndRange → Located
 located page f = record { kind = f.0; start = f.1.0; end = f.1.1; line = line_of page f.1.0; column = column_of page f.1.0 }
 
 -- the findings of a page, by its tree

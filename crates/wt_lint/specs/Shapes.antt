@@ -4,7 +4,7 @@ use Rattle.std.specs.List.{AllByRecursion}
 use Rattle.wt_annotated.specs.Slices.{slice}
 use Rattle.wt_lint.specs.declared.finding.Kind.{Kind}
 use Rattle.wt_lint.specs.declared.finding.Kind.TheVariants.{OpenStyle, OpenTable, StrayTableEnd, OpenTag, StrayTag, OpenBraces, StrayBraces, OpenLink, StrayLinkEnd, UnequalHeading, RepeatedCategory}
-use Rattle.wt_lint.specs.Found.{Found}
+use Rattle.wt_lint.specs.Found.{KindAndRange}
 use Rattle.wt_lint.specs.Tags.{is_closing_tag, is_open_tag}
 
 -- two or more of a byte, and nothing else
@@ -26,5 +26,5 @@ HasShape StrayLinkEnd bs = bs ≡ codes "]]"
 HasShape UnequalHeading bs = Unit {0}
 HasShape RepeatedCategory bs = Unit {0}
 
-abbrev pub IsShaped : List ℕ → Found → Type 0
+abbrev pub IsShaped : List ℕ → KindAndRange → Type 0
 IsShaped page f = HasShape f.0 (slice page f.1.0 f.1.1)

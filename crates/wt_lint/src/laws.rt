@@ -5,15 +5,15 @@ ghost use Rattle.wt_annotated.specs.Reached.{AreReachedSlices};
 ghost use Rattle.wt_tree.specs.Tree.{Tree};
 ghost use Rattle.wt_lint.specs.Counting.{CountsBack};
 ghost use Rattle.wt_lint.specs.Findings.{all_found, in_order, order_of};
-ghost use Rattle.wt_lint.specs.Found.{Found};
+ghost use Rattle.wt_lint.specs.Found.{KindAndRange};
 ghost use Rattle.wt_lint.specs.Shapes.{IsShaped};
 ghost use Rattle.wt_lint.specs.Within.{LiesIn};
 
 /// What is put in order is so: each stands before those behind it, by its start, its end and its kind, so
 /// none stands twice; and it is the same: a test passes one of these exactly where it passes one of those.
 pub fn each_once_in_order()
-    ensures ordered { (fs : List Found) → IsStrictlySortedBy order_of (in_order fs) }
-    ensures same { (test : Found → Bool) → (fs : List Found)
+    ensures ordered { (fs : List KindAndRange) → IsStrictlySortedBy order_of (in_order fs) }
+    ensures same { (test : KindAndRange → Bool) → (fs : List KindAndRange)
         → list_any test (in_order fs) ≡ list_any test fs }
 {}
 

@@ -1,6 +1,7 @@
 //! Doubtful places of a page: what a linter of a wiki lists, such as bold text that nothing closes.
 #![tactic(auto)]
 
+mod bare_finding;
 mod bytes;
 mod category;
 mod cursor;
@@ -14,7 +15,6 @@ mod place;
 mod push;
 mod report;
 mod search;
-mod spot;
 mod style;
 mod tag;
 mod text;

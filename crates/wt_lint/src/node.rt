@@ -9,6 +9,7 @@ ghost use Rattle.wt_lint.specs.Parts.{sign_findings, tag_findings};
 ghost use Rattle.wt_lint.specs.Titles.{names};
 ghost use Rattle.wt_lint.specs.declared.finding.Kind.TheVariants as kind;
 
+use crate::bare_finding::BareFinding;
 use crate::bytes::slice;
 use crate::category::title_of;
 use crate::finding::Kind;
@@ -16,7 +17,6 @@ use crate::heading::is_unequal;
 use crate::place::{Place, Sort, sort_of};
 use crate::push::push_whole;
 use crate::search::Search;
-use crate::spot::Spot;
 use crate::style::{is_empty, is_open_style, is_unclosed};
 use crate::tag::{is_closing_tag, is_open_tag};
 use crate::text::{push_pairs, push_runs, push_table_ends};
@@ -26,7 +26,7 @@ use wt_tree::{Node, Ranges};
 
 /// Takes the ends of tables of a text that stands directly in a paragraph.
 fn push_stray_ends(
-    found: &mut Vec<Spot>,
+    found: &mut Vec<BareFinding>,
     page: &[u8],
     paragraph: Option<u32>,
     range: Ranges,
@@ -45,7 +45,7 @@ fn push_stray_ends(
 
 /// Takes the braces and brackets of a text.
 fn push_signs(
-    found: &mut Vec<Spot>,
+    found: &mut Vec<BareFinding>,
     page: &[u8],
     in_nowiki: bool,
     range: Ranges,
@@ -67,7 +67,7 @@ fn push_signs(
 }
 
 /// Takes a tag that stands alone.
-fn push_tag(found: &mut Vec<Spot>, page: &[u8], range: Ranges) -> Result<(), NoMemory>
+fn push_tag(found: &mut Vec<BareFinding>, page: &[u8], range: Ranges) -> Result<(), NoMemory>
     requires within { range.end ≤ length page.now }
     requires ordered { range.start ≤ range.end }
     ensures { OnOk result (each found.new.items ≡ each found.old.items ++ tag_findings page.now range) }

@@ -10,16 +10,16 @@ ghost use Rattle.wt_lint.specs.Findings.{in_order, order_of};
 ghost use Rattle.wt_lint.specs.Found.{each, seen};
 ghost use Rattle.wt_lint.specs.Lines.{as_located, findings, located};
 
+use crate::bare_finding::BareFinding;
 use crate::cursor::Cursor;
 use crate::finding::Finding;
-use crate::spot::Spot;
 use crate::walk::spots_in;
 use std::alloc::Global;
 use std::collections::BTreeSet;
 use wt_span::{List, NoMemory, PAGE_BYTES, Range};
 use wt_tree::Annotated;
 
-fn put(set: &mut BTreeSet<Spot>, spot: Spot) -> Result<(), NoMemory>
+fn put(set: &mut BTreeSet<BareFinding>, spot: BareFinding) -> Result<(), NoMemory>
     ensures { OnOk result (each set.new.keys ≡ insert_key order_of (each set.old.keys) (seen spot)) }
 {
     set.insert(spot)?;
@@ -27,7 +27,7 @@ fn put(set: &mut BTreeSet<Spot>, spot: Spot) -> Result<(), NoMemory>
 }
 
 /// These in their order, each once.
-fn in_order(alloc: Global, found: &[Spot]) -> Result<BTreeSet<Spot>, NoMemory>
+fn in_order(alloc: Global, found: &[BareFinding]) -> Result<BTreeSet<BareFinding>, NoMemory>
     ensures { IfOk result (λ set. each set.keys ≡ in_order (each found.now)) }
 {
     let mut set = BTreeSet::new(alloc);
@@ -38,7 +38,7 @@ fn in_order(alloc: Global, found: &[Spot]) -> Result<BTreeSet<Spot>, NoMemory>
 }
 
 /// A finding, where the cursor stands at its start.
-fn finding_at(cursor: Cursor, spot: Spot) -> Finding
+fn finding_at(cursor: Cursor, spot: BareFinding) -> Finding
     ensures { (page : List ℕ) → IsAt page spot.start cursor → as_located result ≡ located page (seen spot) }
 {
     Finding {
@@ -53,7 +53,11 @@ fn finding_at(cursor: Cursor, spot: Spot) -> Finding
 }
 
 /// These with their lines and columns.
-fn with_lines(alloc: Global, page: &[u8], spots: BTreeSet<Spot>) -> Result<List<Finding>, NoMemory>
+fn with_lines(
+    alloc: Global,
+    page: &[u8],
+    spots: BTreeSet<BareFinding>,
+) -> Result<List<Finding>, NoMemory>
     requires { length page.now ≤ PAGE_BYTES }
     ensures { IfOk result (λ fs. map as_located fs ≡ map (located page.now) (each spots.keys)) }
 {

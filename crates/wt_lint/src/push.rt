@@ -4,23 +4,28 @@ ghost use Rattle.std.specs.Prelude.{◌≡◌, ◌≤◌, ◌++◌, [], ◌∷�
 ghost use Rattle.wt_lint.specs.Findings.{whole};
 ghost use Rattle.wt_lint.specs.Found.{as_all, as_found, each};
 
+use crate::bare_finding::BareFinding;
 use crate::finding::Kind;
-use crate::spot::Spot;
 use wt_span::NoMemory;
 use wt_tree::Ranges;
 
 /// Takes one more.
-pub fn push_spot(found: &mut Vec<Spot>, kind: Kind, start: u32, end: u32) -> Result<(), NoMemory>
+pub fn push_spot(
+    found: &mut Vec<BareFinding>,
+    kind: Kind,
+    start: u32,
+    end: u32,
+) -> Result<(), NoMemory>
     requires { start ≤ end }
     ensures { OnOk result (each found.new.items ≡ each found.old.items ++ as_found kind (start, end) ∷ []) }
 {
-    found.push(Spot { start, end, kind })?;
+    found.push(BareFinding { start, end, kind })?;
     Ok(())
 }
 
 /// Takes a whole node, where it is so.
 pub fn push_whole(
-    found: &mut Vec<Spot>,
+    found: &mut Vec<BareFinding>,
     is_found: bool,
     kind: Kind,
     range: Ranges,

@@ -7,15 +7,15 @@ ghost use Rattle.wt_lint.specs.Found.{each, as_all};
 ghost use Rattle.wt_lint.specs.Texts.{end_at, ends_table, is_front, pairs, run_at, runs};
 ghost use Rattle.wt_lint.specs.Texts.{stands_first, table_ends, when};
 
+use crate::bare_finding::BareFinding;
 use crate::bytes::{blanks_behind, byte_at, run_len, slice};
 use crate::finding::Kind;
 use crate::push::push_spot;
-use crate::spot::Spot;
 use wt_span::{NoMemory, rest_of};
 
 /// Takes the run of a byte that begins a text, where it has two or more of them.
 fn push_run(
-    found: &mut Vec<Spot>,
+    found: &mut Vec<BareFinding>,
     kind: Kind,
     byte: u8,
     start: u32,
@@ -34,7 +34,7 @@ fn push_run(
 
 /// Takes each whole run of two or more of a byte.
 pub fn push_runs(
-    found: &mut Vec<Spot>,
+    found: &mut Vec<BareFinding>,
     kind: Kind,
     byte: u8,
     start: u32,
@@ -57,7 +57,7 @@ pub fn push_runs(
 /// Takes the two bytes of which the second stands at this place, where both are of a pair: the one before is
 /// the first of one (`held`) and this one is such a byte. Tells whether this one is the first of a pair.
 fn push_pair(
-    found: &mut Vec<Spot>,
+    found: &mut Vec<BareFinding>,
     kind: Kind,
     held: bool,
     is_such: bool,
@@ -80,7 +80,7 @@ fn push_pair(
 
 /// Takes each two of a byte that stand side by side, from the left.
 pub fn push_pairs(
-    found: &mut Vec<Spot>,
+    found: &mut Vec<BareFinding>,
     kind: Kind,
     byte: u8,
     start: u32,
@@ -124,7 +124,7 @@ fn stands_first(page: &[u8], from: u32, at: u32) -> bool
 
 /// Takes the `|}` that begins a text, where it stands first on its line.
 fn push_table_end(
-    found: &mut Vec<Spot>,
+    found: &mut Vec<BareFinding>,
     page: &[u8],
     from: u32,
     start: u32,
@@ -143,7 +143,7 @@ fn push_table_end(
 
 /// Takes each `|}` of a text that stands first on its line of the paragraph that begins at `from`.
 pub fn push_table_ends(
-    found: &mut Vec<Spot>,
+    found: &mut Vec<BareFinding>,
     page: &[u8],
     from: u32,
     start: u32,

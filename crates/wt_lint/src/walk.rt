@@ -10,11 +10,11 @@ ghost use Rattle.wt_lint.specs.Found.{each};
 ghost use Rattle.wt_lint.specs.Nodes.{nodes, nodes_in_all};
 ghost use Rattle.wt_lint.specs.Search.{Takes};
 
+use crate::bare_finding::BareFinding;
 use crate::met::Titles;
 use crate::node::push_of_node;
 use crate::place::{Place, below, is_group, sort_of, top};
 use crate::search::Search;
-use crate::spot::Spot;
 use std::alloc::Global;
 use wt_span::NoMemory;
 use wt_tree::Node;
@@ -61,7 +61,7 @@ fn push_of_all(
 }
 
 /// All that is found in a tree.
-pub fn spots_in(alloc: Global, page: &[u8], body: &Node<'_>) -> Result<Vec<Spot>, NoMemory>
+pub fn spots_in(alloc: Global, page: &[u8], body: &Node<'_>) -> Result<Vec<BareFinding>, NoMemory>
     requires { AreReachedSlices page.now (view body.now) }
     ensures { IfOk result (λ found. each found.items ≡ all_found page.now (view body.now)) }
 {

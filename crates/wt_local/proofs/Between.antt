@@ -2,8 +2,8 @@
 use Rattle.std.proofs.Common.{arith, ◌≡◌, ℕ, suc, ◌+◌, ◌≤◌, List, [], ◌∷◌, ◌++◌, length, refl}
 use Rattle.std.proofs.lemmas.List.{length-append}
 use Rattle.wt_tree.specs.Tree.{Tree, tree, Trees, none, more}
-use Rattle.wt_original.specs.declared.kinds.Way.{Way}
-use Rattle.wt_original.specs.declared.kinds.Way.TheVariants as way
+use Rattle.wt_original.specs.declared.kinds.InlineForm.{InlineForm}
+use Rattle.wt_original.specs.declared.kinds.InlineForm.TheVariants as inline
 use Rattle.wt_original.specs.Kinds.{shape}
 use Rattle.wt_local.specs.Contents.{Border, bold, end, borders_by, borders_of, borders, onto_first, texts_by, texts_before, all_texts_before, texts}
 
@@ -20,23 +20,23 @@ styled x bs inside after h =
     let a = length-append bs (end ∷ []) in
     omega (arith, i, a)
 
-by_way : (w : Way) (n : ℕ) (shown : List ℕ) (bs : List Border) (inside : List (List ℕ) → List (List ℕ)) (after : List (List ℕ)) → 1 ≤ length after
+by_way : (w : InlineForm) (n : ℕ) (shown : List ℕ) (bs : List Border) (inside : List (List ℕ) → List (List ℕ)) (after : List (List ℕ)) → 1 ≤ length after
     → ((xs : List (List ℕ)) → 1 ≤ length xs → length (inside xs) ≡ length bs + length xs)
     → length (texts_by w shown inside after) ≡ length (borders_by w n bs) + length after
-by_way way.Nothing n shown bs inside after h f = omega arith
-by_way way.Characters n shown bs inside after h f = let e = onto_len shown after h in omega (arith, e)
-by_way way.Bold n shown bs inside after h f = styled (bold n) bs inside after f
-by_way way.Italic n shown bs inside after h f = styled (bold n) bs inside after f
-by_way way.Shown n shown bs inside after h f = omega arith
-by_way way.PageLink n shown bs inside after h f = omega arith
-by_way way.ExternalLink n shown bs inside after h f = omega arith
-by_way way.Tag n shown bs inside after h f = omega arith
-by_way way.Break n shown bs inside after h f = omega arith
-by_way way.AsItStood n shown bs inside after h f = omega arith
+by_way inline.Nothing n shown bs inside after h f = omega arith
+by_way inline.Characters n shown bs inside after h f = let e = onto_len shown after h in omega (arith, e)
+by_way inline.Bold n shown bs inside after h f = styled (bold n) bs inside after f
+by_way inline.Italic n shown bs inside after h f = styled (bold n) bs inside after f
+by_way inline.Shown n shown bs inside after h f = omega arith
+by_way inline.PageLink n shown bs inside after h f = omega arith
+by_way inline.ExternalLink n shown bs inside after h f = omega arith
+by_way inline.Tag n shown bs inside after h f = omega arith
+by_way inline.Break n shown bs inside after h f = omega arith
+by_way inline.AsItStood n shown bs inside after h f = omega arith
 
 mutual
   one : (t : Tree) (after : List (List ℕ)) → 1 ≤ length after → length (texts_before t after) ≡ length (borders_of t) + length after
-  one (tree l ts) after h = by_way (shape l.kind).way l.id l.shown (borders ts) (all_texts_before ts) after h (λ xs g. all ts xs g)
+  one (tree l ts) after h = by_way (shape l.kind).inline l.id l.shown (borders ts) (all_texts_before ts) after h (λ xs g. all ts xs g)
 
   all : (ts : Trees) (after : List (List ℕ)) → 1 ≤ length after → length (all_texts_before ts after) ≡ length (borders ts) + length after
   all none after h = omega arith

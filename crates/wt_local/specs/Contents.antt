@@ -1,8 +1,8 @@
 -- The content of a block as texts with what stands between them: elements, and where bold and italic text begins and ends.
 use Rattle.std.specs.Prelude.{ℕ, List, [], ◌∷◌, ◌++◌, Option, Some, None}
 use Rattle.wt_tree.specs.Tree.{Tree, tree, Trees, none, more}
-use Rattle.wt_original.specs.declared.kinds.Way.{Way}
-use Rattle.wt_original.specs.declared.kinds.Way.TheVariants as way
+use Rattle.wt_original.specs.declared.kinds.InlineForm.{InlineForm}
+use Rattle.wt_original.specs.declared.kinds.InlineForm.TheVariants as inline
 use Rattle.wt_original.specs.Kinds.{shape}
 
 -- ---- what stands between texts
@@ -14,22 +14,22 @@ pub data Border : Type 0 where
   italic : ℕ → Border
   end : Border
 
-abbrev pub borders_by : Way → ℕ → List Border → List Border
-borders_by way.Nothing n inside = []
-borders_by way.Characters n inside = []
-borders_by way.Bold n inside = bold n ∷ (inside ++ (end ∷ []))
-borders_by way.Italic n inside = italic n ∷ (inside ++ (end ∷ []))
-borders_by way.Shown n inside = element n ∷ []
-borders_by way.PageLink n inside = element n ∷ []
-borders_by way.ExternalLink n inside = element n ∷ []
-borders_by way.Tag n inside = element n ∷ []
-borders_by way.Break n inside = element n ∷ []
-borders_by way.AsItStood n inside = element n ∷ []
+abbrev pub borders_by : InlineForm → ℕ → List Border → List Border
+borders_by inline.Nothing n inside = []
+borders_by inline.Characters n inside = []
+borders_by inline.Bold n inside = bold n ∷ (inside ++ (end ∷ []))
+borders_by inline.Italic n inside = italic n ∷ (inside ++ (end ∷ []))
+borders_by inline.Shown n inside = element n ∷ []
+borders_by inline.PageLink n inside = element n ∷ []
+borders_by inline.ExternalLink n inside = element n ∷ []
+borders_by inline.Tag n inside = element n ∷ []
+borders_by inline.Break n inside = element n ∷ []
+borders_by inline.AsItStood n inside = element n ∷ []
 
 -- in order, those in bold and italic text among them
 abbrev mutual
   pub borders_of : Tree → List Border
-  borders_of (tree l ts) = borders_by (shape l.kind).way l.id (borders ts)
+  borders_of (tree l ts) = borders_by (shape l.kind).inline l.id (borders ts)
 
   pub borders : Trees → List Border
   borders none = []
@@ -37,22 +37,22 @@ abbrev mutual
 
 -- ---- the elements
 
-abbrev pub elements_by : Way → Tree → List Tree → List Tree
-elements_by way.Nothing t inside = []
-elements_by way.Characters t inside = []
-elements_by way.Bold t inside = inside
-elements_by way.Italic t inside = inside
-elements_by way.Shown t inside = t ∷ []
-elements_by way.PageLink t inside = t ∷ []
-elements_by way.ExternalLink t inside = t ∷ []
-elements_by way.Tag t inside = t ∷ []
-elements_by way.Break t inside = t ∷ []
-elements_by way.AsItStood t inside = t ∷ []
+abbrev pub elements_by : InlineForm → Tree → List Tree → List Tree
+elements_by inline.Nothing t inside = []
+elements_by inline.Characters t inside = []
+elements_by inline.Bold t inside = inside
+elements_by inline.Italic t inside = inside
+elements_by inline.Shown t inside = t ∷ []
+elements_by inline.PageLink t inside = t ∷ []
+elements_by inline.ExternalLink t inside = t ∷ []
+elements_by inline.Tag t inside = t ∷ []
+elements_by inline.Break t inside = t ∷ []
+elements_by inline.AsItStood t inside = t ∷ []
 
 -- all elements but bold and italic ones, which count by what they hold
 abbrev mutual
   pub elements_of : Tree → List Tree
-  elements_of (tree l ts) = elements_by (shape l.kind).way (tree l ts) (elements ts)
+  elements_of (tree l ts) = elements_by (shape l.kind).inline (tree l ts) (elements ts)
 
   pub elements : Trees → List Tree
   elements none = []
@@ -66,21 +66,21 @@ onto_first bs [] = bs ∷ []
 onto_first bs (n ∷ ns) = (bs ++ n) ∷ ns
 
 -- before the texts that follow: a node, by its characters and the texts in it
-abbrev pub texts_by : Way → List ℕ → (List (List ℕ) → List (List ℕ)) → List (List ℕ) → List (List ℕ)
-texts_by way.Nothing shown inside after = after
-texts_by way.Characters shown inside after = onto_first shown after
-texts_by way.Bold shown inside after = [] ∷ inside ([] ∷ after)
-texts_by way.Italic shown inside after = [] ∷ inside ([] ∷ after)
-texts_by way.Shown shown inside after = [] ∷ after
-texts_by way.PageLink shown inside after = [] ∷ after
-texts_by way.ExternalLink shown inside after = [] ∷ after
-texts_by way.Tag shown inside after = [] ∷ after
-texts_by way.Break shown inside after = [] ∷ after
-texts_by way.AsItStood shown inside after = [] ∷ after
+abbrev pub texts_by : InlineForm → List ℕ → (List (List ℕ) → List (List ℕ)) → List (List ℕ) → List (List ℕ)
+texts_by inline.Nothing shown inside after = after
+texts_by inline.Characters shown inside after = onto_first shown after
+texts_by inline.Bold shown inside after = [] ∷ inside ([] ∷ after)
+texts_by inline.Italic shown inside after = [] ∷ inside ([] ∷ after)
+texts_by inline.Shown shown inside after = [] ∷ after
+texts_by inline.PageLink shown inside after = [] ∷ after
+texts_by inline.ExternalLink shown inside after = [] ∷ after
+texts_by inline.Tag shown inside after = [] ∷ after
+texts_by inline.Break shown inside after = [] ∷ after
+texts_by inline.AsItStood shown inside after = [] ∷ after
 
 abbrev mutual
   pub texts_before : Tree → List (List ℕ) → List (List ℕ)
-  texts_before (tree l ts) after = texts_by (shape l.kind).way l.shown (all_texts_before ts) after
+  texts_before (tree l ts) after = texts_by (shape l.kind).inline l.shown (all_texts_before ts) after
 
   pub all_texts_before : Trees → List (List ℕ) → List (List ℕ)
   all_texts_before none after = after

@@ -12,7 +12,7 @@ use Rattle.wt_original.specs.declared.block.Gathered.{Gathered}
 use Rattle.wt_original.specs.declared.kinds.ItemsOf.{ItemsOf}
 use Rattle.wt_original.specs.declared.kinds.ItemsOf.TheVariants.{Delimited, Characters, Opaque, Invisible, Nodes}
 use Rattle.wt_original.specs.Kinds.{shape}
-use Rattle.wt_original.specs.Kept.{Item, character, opaque, invisible, characters, items, items_of_all, visible, is_delimited, holds_kept, Found, found_in}
+use Rattle.wt_original.specs.Kept.{Item, character, opaque, invisible, characters, items, items_of_all, visible, is_delimited, holds_kept, KeptNode, found_in}
 use Rattle.wt_original.specs.Gathered.{bytes_so_far, seen_so_far, found_so_far, begun, ended, Adds, inside_found, own_found, all_found, list_found}
 
 pub visible_append : (xs ys : List Item) → visible (xs ++ ys) ≡ visible xs ++ visible ys
@@ -133,11 +133,11 @@ set_at [] xs x y = refl
 set_at (a ∷ as_) xs x y = ap (λ zs. a ∷ zs) (set_at as_ xs x y)
 
 ended_is : (g h : Gathered) (t : Tree) → bytes_so_far h ≡ bytes_so_far g ++ flat t
-    → seen_so_far h ≡ seen_so_far g ++ visible (items t) → Path Found (record { node = t; spot = ended h (begun g) }) (own_found g t)
+    → seen_so_far h ≡ seen_so_far g ++ visible (items t) → Path KeptNode (record { node = t; extent = ended h (begun g) }) (own_found g t)
 ended_is g h t e f =
     let m : length (bytes_so_far h) ≡ length (bytes_so_far g) + length (flat t) = ap length e ∙ length-append (bytes_so_far g) (flat t) in
     let n : length (seen_so_far h) ≡ length (seen_so_far g) + length (visible (items t)) = ap length f ∙ length-append (seen_so_far g) (visible (items t)) in
-    λ i. record { node = t; spot = record { start = length (bytes_so_far g); end = m i; from = length (seen_so_far g); to = n i } }
+    λ i. record { node = t; extent = record { start = length (bytes_so_far g); end = m i; from = length (seen_so_far g); to = n i } }
 
 same_begin : (g h : Gathered) (l : Label) (ts : Trees) → bytes_so_far h ≡ bytes_so_far g ++ []
     → seen_so_far h ≡ seen_so_far g ++ [] → inside_found h l ts ≡ inside_found g l ts
@@ -148,10 +148,10 @@ same_begin g h l ts e f =
     ∙ ap (λ (k : ℕ). if holds_kept l then found_in (length (bytes_so_far g) + length l.opening) (k + length l.opening) ts else []) n
 
 -- the node is put down as it begins, and again when its end is known
-pub numbered : (t : Tree) (l : Label) (ts : Trees) (g h k m : Gathered) (p : Found) → Adds g h [] [] (p ∷ [])
+pub numbered : (t : Tree) (l : Label) (ts : Trees) (g h k m : Gathered) (p : KeptNode) → Adds g h [] [] (p ∷ [])
     → Adds h k (flat t) (visible (items t)) (inside_found h l ts)
     → bytes_so_far m ≡ bytes_so_far k → seen_so_far m ≡ seen_so_far k → found_so_far m
-    ≡ slice_set (found_so_far k) (length (found_so_far g)) (record { node = t; spot = ended k (begun g) })
+    ≡ slice_set (found_so_far k) (length (found_so_far g)) (record { node = t; extent = ended k (begun g) })
     → Adds g m (flat t) (visible (items t)) (own_found g t ∷ inside_found g l ts)
 numbered t l ts g h k m p a b e f s =
     let by : bytes_so_far k ≡ bytes_so_far g ++ flat t = b.bytes ∙ ap (λ xs. xs ++ flat t) (a.bytes ∙ append-nil (bytes_so_far g)) in
@@ -162,12 +162,12 @@ numbered t l ts g h k m p a b e f s =
     record {
       bytes = e ∙ by;
       items = f ∙ it;
-      nodes = s ∙ ap (λ xs. slice_set xs (length (found_so_far g)) (record { node = t; spot = ended k (begun g) })) no
-          ∙ set_at (found_so_far g) (inside_found g l ts) p (record { node = t; spot = ended k (begun g) })
+      nodes = s ∙ ap (λ xs. slice_set xs (length (found_so_far g)) (record { node = t; extent = ended k (begun g) })) no
+          ∙ set_at (found_so_far g) (inside_found g l ts) p (record { node = t; extent = ended k (begun g) })
           ∙ ap (λ x. found_so_far g ++ (x ∷ inside_found g l ts)) (ended_is g k t by it);
     }
 
-pub has_room : (g h k : Gathered) (p : Found) (s : List ℕ) (i : List Item) (f : List Found) → Adds g h [] [] (p ∷ [])
+pub has_room : (g h k : Gathered) (p : KeptNode) (s : List ℕ) (i : List Item) (f : List KeptNode) → Adds g h [] [] (p ∷ [])
     → Adds h k s i f → length (found_so_far g) < length (found_so_far k)
 has_room g h k p s i f a b =
     rw (b.nodes, a.nodes, length-append, length-append) (search arith)

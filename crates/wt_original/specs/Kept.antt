@@ -16,7 +16,7 @@ use Rattle.wt_guards.specs.declared.role.Role.{Role}
 use Rattle.wt_guards.specs.declared.role.Role.TheVariants as role
 use Rattle.wt_guards.specs.declared.role.Transclusion.{Transclusion}
 use Rattle.wt_guards.specs.declared.role.Stretch.{Stretch}
-use Rattle.wt_original.specs.declared.block.Spot.{Spot}
+use Rattle.wt_original.specs.declared.block.Extent.{Extent}
 use Rattle.wt_original.specs.Kinds.{shape}
 
 -- ---- items
@@ -89,18 +89,18 @@ is_break_at None = false
 is_break_at (Some b) = b == 10
 
 -- It began its line, or the content: the byte before it is a line break, or the opening delimiter ends there.
-abbrev pub began_line : Tree → Spot → Bool
+abbrev pub began_line : Tree → Extent → Bool
 began_line block s = s.start == length (label block).opening || (nat_lt 0 s.start && is_break_at (slice_get (flat block) (s.start - 1)))
 
 -- It ended its line, or the content: only spaces, tabs and marks stood after it.
-abbrev pub ended_line : Tree → Spot → Bool
+abbrev pub ended_line : Tree → Extent → Bool
 ended_line block s = are_blank_to_end (drop s.to (seen_inside block))
 
-abbrev pub ended_content : Tree → Spot → Bool
+abbrev pub ended_content : Tree → Extent → Bool
 ended_content block s = s.end == length (flat block) - length (label block).closing
 
 -- the visible items nearest to its start on both sides are `=`
-abbrev pub between_equals : Tree → Spot → Bool
+abbrev pub between_equals : Tree → Extent → Bool
 between_equals block s =
     nat_lt 0 s.from && (is_character (λ c. c == 61) (slice_get (seen block) (s.from - 1)) && is_character (λ c. c == 61) (slice_get (seen block) s.from))
 
@@ -124,7 +124,7 @@ abbrev mutual
 abbrev pub is_apostrophe : Option Item → Bool
 is_apostrophe x = is_character (λ c. c == 39) x
 
-abbrev pub transclusion : Tree → Spot → Tree → Transclusion
+abbrev pub transclusion : Tree → Extent → Tree → Transclusion
 transclusion block s t = record {
   slashes = holds (codes "//") (shown t);
   is_invisible = length (visible (items t)) == 0;
@@ -147,7 +147,7 @@ abbrev pub island : Bool → Role
 island true = role.Function
 island false = role.Node
 
-abbrev pub role_by : Sort → Tree → Spot → Tree → Role
+abbrev pub role_by : Sort → Tree → Extent → Tree → Role
 role_by sort.PageLink block s t = role.Link
 role_by sort.Url block s t = url (label t).opening (shown t)
 role_by sort.Switch block s t = role.Switch
@@ -156,20 +156,20 @@ role_by sort.Group block s t = role.Group (transclusion block s t)
 role_by sort.Island block s t = island (starts_with nat_eq (flat t) (123 ∷ 123 ∷ []))
 role_by sort.Other block s t = role.Node
 
-abbrev pub role_of : Tree → Spot → Tree → Role
+abbrev pub role_of : Tree → Extent → Tree → Role
 role_of block s t = role_by (shape (label t).kind).sort block s t
 
 -- ---- the kept nodes of a block
 
 -- a node of the page with a number, and where it stands in its block
-pub record Found : Type 0 where
+pub record KeptNode : Type 0 where
   pub node : Tree
-  pub spot : Spot
+  pub extent : Extent
 
-abbrev pub found_at : ℕ → ℕ → Tree → Found
-found_at at from t = record { node = t; spot = record { start = at; end = at + length (flat t); from = from; to = from + length (visible (items t)) } }
+abbrev pub found_at : ℕ → ℕ → Tree → KeptNode
+found_at at from t = record { node = t; extent = record { start = at; end = at + length (flat t); from = from; to = from + length (visible (items t)) } }
 
-abbrev pub found_if : Bool → Found → List Found
+abbrev pub found_if : Bool → KeptNode → List KeptNode
 found_if true f = []
 found_if false f = f ∷ []
 
@@ -186,11 +186,11 @@ holds_kept l = not (is_leaf l.kind) && is_delimited (shape l.kind).items
 
 -- All in preorder, from a node on with so many bytes and visible items before it; what a group shows has no numbers.
 abbrev mutual
-  pub found_from : ℕ → ℕ → Tree → List Found
+  pub found_from : ℕ → ℕ → Tree → List KeptNode
   found_from at from (tree l ts) =
       found_if (l.id == 0) (found_at at from (tree l ts)) ++ (if holds_kept l then found_in (at + length l.opening) (from + length l.opening) ts else [])
 
-  pub found_in : ℕ → ℕ → Trees → List Found
+  pub found_in : ℕ → ℕ → Trees → List KeptNode
   found_in at from none = []
   found_in at from (more t ts) = found_from at from t ++ found_in (at + length (flat t)) (from + length (visible (items t))) ts
 
@@ -200,8 +200,8 @@ pub record Kept : Type 0 where
   pub role : Role
   pub place : Stretch
 
-abbrev pub kept_of : Tree → Found → Kept
-kept_of block f = record { node = f.node; role = role_of block f.spot f.node; place = record { start = f.spot.start; end = f.spot.end } }
+abbrev pub kept_of : Tree → KeptNode → Kept
+kept_of block f = record { node = f.node; role = role_of block f.extent f.node; place = record { start = f.extent.start; end = f.extent.end } }
 
 -- the nodes in a block, and the block
 abbrev pub kept_nodes : Tree → List Kept

@@ -18,7 +18,7 @@ use wt_tree::{Kind, Node, flat};
 /// Where a node stands in its block: the bytes before it and up to its end, and the visible items
 /// before it and up to its end.
 #[derive(Clone, Copy, Debug)]
-pub struct Spot {
+pub struct Extent {
     pub start: usize,
     pub end: usize,
     pub from: usize,
@@ -27,9 +27,9 @@ pub struct Spot {
 
 /// A node with a number, and where it stands in its block.
 #[derive(Clone, Copy)]
-pub struct Found<'t, 'a> {
+pub struct KeptNode<'t, 'a> {
     pub node: &'t Node<'a>,
-    pub spot: Spot,
+    pub extent: Extent,
 }
 
 /// What is gathered of a block from the left.
@@ -37,7 +37,7 @@ pub struct Found<'t, 'a> {
 pub struct Gathered<'t, 'a> {
     pub source: String,
     pub seen: Vec<Item>,
-    pub found: List<Found<'t, 'a>>,
+    pub found: List<KeptNode<'t, 'a>>,
 }
 
 fn is_delimited(items: ItemsOf) -> bool
@@ -135,12 +135,12 @@ fn item_count(out: &Gathered<'_, '_>) -> usize
 }
 
 /// A node begins here.
-fn begin(out: &Gathered<'_, '_>) -> Spot
+fn begin(out: &Gathered<'_, '_>) -> Extent
     ensures { result ≡ begun out.now }
 {
     let start = byte_count(out);
     let from = item_count(out);
-    Spot {
+    Extent {
         start,
         end: start,
         from,
@@ -149,13 +149,13 @@ fn begin(out: &Gathered<'_, '_>) -> Spot
 }
 
 /// The node that began there ends here.
-fn end(out: &Gathered<'_, '_>, spot: Spot) -> Spot
-    ensures { result ≡ ended out.now spot }
+fn end(out: &Gathered<'_, '_>, extent: Extent) -> Extent
+    ensures { result ≡ ended out.now extent }
 {
-    Spot {
-        start: spot.start,
+    Extent {
+        start: extent.start,
         end: byte_count(out),
-        from: spot.from,
+        from: extent.from,
         to: item_count(out),
     }
 }
@@ -163,22 +163,22 @@ fn end(out: &Gathered<'_, '_>, spot: Spot) -> Spot
 fn push_found<'t, 'a>(
     out: &mut Gathered<'t, 'a>,
     node: &'t Node<'a>,
-    spot: Spot,
+    extent: Extent,
 ) -> Result<(), NoMemory>
-    ensures { OnOk result (Adds out.old out.new [] [] (record { node = view node.now; spot = spot } ∷ [])) }
+    ensures { OnOk result (Adds out.old out.new [] [] (record { node = view node.now; extent = extent } ∷ [])) }
 {
-    out.found.push(Found { node, spot })?;
+    out.found.push(KeptNode { node, extent })?;
     Ok(())
 }
 
 #[tactic(auto, using(crate::proofs::Gathering::map_set))]
-fn set_found<'t, 'a>(out: &mut Gathered<'t, 'a>, index: usize, node: &'t Node<'a>, spot: Spot)
+fn set_found<'t, 'a>(out: &mut Gathered<'t, 'a>, index: usize, node: &'t Node<'a>, extent: Extent)
     requires { index < length (found_so_far out.old) }
     ensures source { bytes_so_far out.new ≡ bytes_so_far out.old }
     ensures seen { seen_so_far out.new ≡ seen_so_far out.old }
-    ensures found { found_so_far out.new ≡ slice_set (found_so_far out.old) index (record { node = view node.now; spot = spot }) }
+    ensures found { found_so_far out.new ≡ slice_set (found_so_far out.old) index (record { node = view node.now; extent = extent }) }
 {
-    let _begun = out.found.replace(index, Found { node, spot });
+    let _begun = out.found.replace(index, KeptNode { node, extent });
 }
 
 /// Gathers a node and all in it.
@@ -209,11 +209,11 @@ fn gather_numbered<'t, 'a>(
         (own_found out.old (view node.now) ∷ inside_found out.old (label_of (out-Node node.now)) (views (out-Node node.now).children))) }
 {
     let index = count(out);
-    let spot = begin(out);
-    push_found(out, node, spot)?;
+    let extent = begin(out);
+    push_found(out, node, extent)?;
     gather_inside(alloc, out, node)?;
-    let spot = end(out, spot);
-    set_found(out, index, node, spot);
+    let extent = end(out, extent);
+    set_found(out, index, node, extent);
     Ok(())
 }
 

@@ -11,7 +11,7 @@ ghost use Rattle.wt_original.specs.Kept.{Item as AnyItem, kept_nodes, items, vis
 ghost use Rattle.wt_guards.specs.declared.role.Role.TheVariants as role;
 ghost use Rattle.wt_original.specs.Gathered.{item_of, items_seen, blank_ends, found_of, kept_view, IsFactsOf, IsGatheredOf};
 
-use crate::block::{Found, Gathered, Spot, push_visible};
+use crate::block::{Extent, Gathered, KeptNode, push_visible};
 use crate::gather::{Item, push_items, push_shown};
 use crate::kinds::{Sort, shape};
 use std::alloc::{AllocError, Global};
@@ -99,32 +99,35 @@ fn is_equals(items: &[Item], at: usize) -> bool
 }
 
 impl<'s> Facts<'s> {
-    fn began_line(self, spot: Spot) -> bool
-        ensures { (block : Tree) → IsFactsOf block self.entry → result ≡ began_line block spot }
+    fn began_line(self, extent: Extent) -> bool
+        ensures { (block : Tree) → IsFactsOf block self.entry → result ≡ began_line block extent }
     {
-        spot.start == self.opening || (0 < spot.start && is_break_before(self.source, spot.start))
+        extent.start == self.opening
+            || (0 < extent.start && is_break_before(self.source, extent.start))
     }
 
-    fn ended_line(self, spot: Spot) -> bool
-        ensures { (block : Tree) → IsFactsOf block self.entry → result ≡ ended_line block spot }
+    fn ended_line(self, extent: Extent) -> bool
+        ensures { (block : Tree) → IsFactsOf block self.entry → result ≡ ended_line block extent }
     {
-        if spot.to < self.ends.len() {
-            self.ends[self.ends.len() - 1 - spot.to]
+        if extent.to < self.ends.len() {
+            self.ends[self.ends.len() - 1 - extent.to]
         } else {
             true
         }
     }
 
-    fn ended_content(self, spot: Spot) -> bool
-        ensures { (block : Tree) → IsFactsOf block self.entry → result ≡ ended_content block spot }
+    fn ended_content(self, extent: Extent) -> bool
+        ensures { (block : Tree) → IsFactsOf block self.entry → result ≡ ended_content block extent }
     {
-        spot.end == self.source.len().saturating_sub(self.closing)
+        extent.end == self.source.len().saturating_sub(self.closing)
     }
 
-    fn between_equals(self, spot: Spot) -> bool
-        ensures { (block : Tree) → IsFactsOf block self.entry → result ≡ between_equals block spot }
+    fn between_equals(self, extent: Extent) -> bool
+        ensures { (block : Tree) → IsFactsOf block self.entry → result ≡ between_equals block extent }
     {
-        0 < spot.from && is_equals(self.seen, spot.from - 1) && is_equals(self.seen, spot.from)
+        0 < extent.from
+            && is_equals(self.seen, extent.from - 1)
+            && is_equals(self.seen, extent.from)
     }
 }
 
@@ -219,10 +222,10 @@ fn visible_of(alloc: Global, items: &[Item]) -> Result<Vec<Item>, AllocError>
 fn transclusion(
     alloc: Global,
     facts: Facts<'_>,
-    spot: Spot,
+    extent: Extent,
     node: &Node<'_>,
 ) -> Result<Transclusion, AllocError>
-    ensures { (block : Tree) → IsFactsOf block facts.entry → IfOk result (λ g. g ≡ transclusion block spot (view node.now)) }
+    ensures { (block : Tree) → IsFactsOf block facts.entry → IfOk result (λ g. g ≡ transclusion block extent (view node.now)) }
 {
     let text = shown_text(alloc, node)?;
     let items = items_of(alloc, node)?;
@@ -233,10 +236,10 @@ fn transclusion(
         is_blank: !seen.is_empty() && are_blank(seen.as_slice()),
         opens_with_apostrophe: is_first_apostrophe(items.as_slice()),
         closes_with_apostrophe: is_last_apostrophe(items.as_slice()),
-        began_line: facts.began_line(spot),
-        ended_line: facts.ended_line(spot),
-        ended_content: facts.ended_content(spot),
-        between_equals: facts.between_equals(spot),
+        began_line: facts.began_line(extent),
+        ended_line: facts.ended_line(extent),
+        ended_content: facts.ended_content(extent),
+        between_equals: facts.between_equals(extent),
     })
 }
 
@@ -279,14 +282,19 @@ fn url_of(alloc: Global, node: &Node<'_>) -> Result<Role, AllocError>
     Ok(url(opening.as_str(), text.as_str()))
 }
 
-fn mark_of(alloc: Global, facts: Facts<'_>, spot: Spot, node: &Node<'_>) -> Result<Role, NoMemory>
+fn mark_of(
+    alloc: Global,
+    facts: Facts<'_>,
+    extent: Extent,
+    node: &Node<'_>,
+) -> Result<Role, NoMemory>
     ensures { (block : Tree) → IsFactsOf block facts.entry
-        → IfOk result (λ r. r ≡ role.Mark (ends_with nat_eq (flat (view node.now)) (10 ∷ [])) (began_line block spot)) }
+        → IfOk result (λ r. r ≡ role.Mark (ends_with nat_eq (flat (view node.now)) (10 ∷ [])) (began_line block extent)) }
 {
     let source = flat(alloc, node)?;
     Ok(Role::Mark {
         ends_line: ends_with_break(source.as_str()),
-        began_line: facts.began_line(spot),
+        began_line: facts.began_line(extent),
     })
 }
 
@@ -298,15 +306,20 @@ fn island_of(alloc: Global, node: &Node<'_>) -> Result<Role, NoMemory>
 }
 
 /// What a node is, by what is asked of its block.
-fn role_of(alloc: Global, facts: Facts<'_>, spot: Spot, node: &Node<'_>) -> Result<Role, NoMemory>
-    ensures { (block : Tree) → IsFactsOf block facts.entry → IfOk result (λ r. r ≡ role_of block spot (view node.now)) }
+fn role_of(
+    alloc: Global,
+    facts: Facts<'_>,
+    extent: Extent,
+    node: &Node<'_>,
+) -> Result<Role, NoMemory>
+    ensures { (block : Tree) → IsFactsOf block facts.entry → IfOk result (λ r. r ≡ role_of block extent (view node.now)) }
 {
     match shape(node.kind).sort {
         Sort::PageLink => Ok(Role::Link),
         Sort::Url => Ok(url_of(alloc, node)?),
         Sort::Switch => Ok(Role::Switch),
-        Sort::Mark => Ok(mark_of(alloc, facts, spot, node)?),
-        Sort::Group => Ok(Role::Group(transclusion(alloc, facts, spot, node)?)),
+        Sort::Mark => Ok(mark_of(alloc, facts, extent, node)?),
+        Sort::Group => Ok(Role::Group(transclusion(alloc, facts, extent, node)?)),
         Sort::Island => Ok(island_of(alloc, node)?),
         Sort::Other => Ok(Role::Node),
     }
@@ -315,17 +328,17 @@ fn role_of(alloc: Global, facts: Facts<'_>, spot: Spot, node: &Node<'_>) -> Resu
 fn kept_of<'t, 'a>(
     alloc: Global,
     facts: Facts<'_>,
-    found: Found<'t, 'a>,
+    found: KeptNode<'t, 'a>,
 ) -> Result<Kept<'t, 'a>, NoMemory>
     ensures { (block : Tree) → IsFactsOf block facts.entry → IfOk result (λ k. kept_view k ≡ kept_of block (found_of found.entry)) }
 {
-    let role = role_of(alloc, facts, found.spot, found.node)?;
+    let role = role_of(alloc, facts, found.extent, found.node)?;
     Ok(Kept {
         node: found.node,
         role,
         place: Stretch {
-            start: found.spot.start,
-            end: found.spot.end,
+            start: found.extent.start,
+            end: found.extent.end,
         },
     })
 }
@@ -334,7 +347,7 @@ fn kept_of<'t, 'a>(
 fn kept_of_all<'t, 'a>(
     alloc: Global,
     facts: Facts<'_>,
-    found: &[Found<'t, 'a>],
+    found: &[KeptNode<'t, 'a>],
 ) -> Result<Vec<Kept<'t, 'a>>, NoMemory>
     ensures { (block : Tree) → IsFactsOf block facts.entry → IfOk result (λ v. map kept_view v.items ≡ map (kept_of block) (map found_of found.now)) }
 {

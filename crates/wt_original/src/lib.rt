@@ -11,7 +11,7 @@ mod page;
 mod same;
 
 pub use kept::{Kept, shown_text, text_len};
-pub use kinds::{BlockForm, ItemsOf, Sort, Spelled, Way, shape};
+pub use kinds::{BlockForm, InlineForm, ItemsOf, Sort, Spelled, shape};
 pub use known::{no_page, page_of_block};
 pub use page::Page;
 pub use same::is_unchanged;

@@ -13,7 +13,7 @@ use Rattle.wt_tree.specs.Tree.{Tree}
 use Rattle.wt_html_grammar.specs.declared.why.HtmlWhy.TheVariants as ill_why
 use Rattle.wt_schema.specs.declared.why.FitWhy.TheVariants as fit_whys
 use Rattle.wt_schema.specs.Read.{page as as_page, misfit}
-use Rattle.wt_checks.specs.declared.refusal.Check.TheVariants as checks
+use Rattle.wt_checks.specs.declared.refusal.TreeRefusal.TheVariants as checks
 use Rattle.wt_content.specs.declared.reason.ContentWhy.TheVariants as contents
 use Rattle.wt_pagetool.specs.Answers.{Answer, refused, title_answer, expanded_by, made, source_answer, unspelled_by, edited_answer, edit_of, nodes_answer, taken_answer, taken_of, refusal_alone, answer_told}
 use Rattle.wt_pagetool.specs.Refusals.{html_why, fit_why, content_why, check_name, text_of, line_of}

@@ -5,7 +5,7 @@ use Rattle.std.specs.Fmt.{decimal}
 use Rattle.wt_html_grammar.specs.declared.why.HtmlWhy.{HtmlWhy}
 use Rattle.wt_schema.specs.declared.why.FitWhy.{FitWhy}
 use Rattle.wt_pagetool.specs.declared.refusal.Refusal.TheVariants.{BracesTooDeep, TemplateNotUtf8, TemplateTooLong, Html, Unfit, Unsourced, Checked, BadContent}
-use Rattle.wt_checks.specs.declared.refusal.Check.{Check}
+use Rattle.wt_checks.specs.declared.refusal.TreeRefusal.{TreeRefusal}
 use Rattle.wt_content.specs.declared.reason.ContentWhy.{ContentWhy}
 use Rattle.wt_pagetool.specs.Refusals.{html_why, fit_why, content_why, check_name, check_node, text_of, line_of}
 
@@ -41,7 +41,7 @@ pub too_long_parts : (template : List ℕ) → line_of (TemplateTooLong template
 unfolding line_of text_of
 too_long_parts template = search (rules, append_assoc)
 
-pub checked_parts : (c : Check) → line_of (Checked c) ≡ codes "wtround: edit refused: "
+pub checked_parts : (c : TreeRefusal) → line_of (Checked c) ≡ codes "wtround: edit refused: "
     ++ (check_name c ++ (codes " " ++ (decimal (check_node c) ++ codes "\n")))
 unfolding line_of text_of
 checked_parts c = search (rules, append_assoc)

@@ -2,7 +2,7 @@
 use Rattle.std.proofs.Common.{◌≡◌, ℕ, ◌≤◌, List, length, Bool, refl, sym, ap, ◌∙◌, subst}
 use Rattle.std.specs.Prelude.{Option, Some, None, IfSome, IsErrAnd, Result, Ok, Err}
 use Rattle.wt_checks.specs.Checked.{nodes_checked}
-use Rattle.wt_checks.specs.declared.refusal.Check.{Check}
+use Rattle.wt_checks.specs.declared.refusal.TreeRefusal.{TreeRefusal}
 use Rattle.wt_difference.specs.Difference.{are_none, difference}
 use Rattle.wt_difference.specs.Remarked.{remarked}
 use Rattle.wt_expand.specs.PageCalls.{expanded_page}
@@ -82,14 +82,14 @@ failed_under pages (Some page) x r h = failed_for pages page x r h
 -- ---- from the tree of the page
 
 -- a node of the edited tree is refused
-pub nodes_refused_found : (page : List ℕ) (o : Option Check) (F : Type 0) (c : Check) (r : Refusal) → o ≡ Some c → r ≡ refusal.Checked c
+pub nodes_refused_found : (page : List ℕ) (o : Option TreeRefusal) (F : Type 0) (c : TreeRefusal) (r : Refusal) → o ≡ Some c → r ≡ refusal.Checked c
     → OrFound (nodes_answer page o) F (failed r)
 nodes_refused_found page o F c r is same =
     subst (λ x. OrFound (nodes_answer page x) F (failed r)) (sym is)
     (subst (λ (x : Refusal). OrFound (refused (refusal.Checked c)) F (failed x)) (sym same) refl)
 
 -- none is
-pub nodes_taken_found : (page : List ℕ) (o : Option Check) (F : Type 0) (result : Result Output Refusal) → o ≡ None → F → OrFound (nodes_answer page o) F result
+pub nodes_taken_found : (page : List ℕ) (o : Option TreeRefusal) (F : Type 0) (result : Result Output Refusal) → o ≡ None → F → OrFound (nodes_answer page o) F result
 nodes_taken_found page o F result none f = subst (λ x. OrFound (nodes_answer page x) F result) (sym none) f
 
 -- memory ran out
@@ -119,7 +119,7 @@ beside_found pages items page t v edited c result is h none f =
     (FindsNew pages items page v (remarked v edited) (are_none (difference v edited)) result) result (sym h.refused ∙ none)
     (beside_at pages items page v edited c result h f))
 
-pub beside_refused : (pages : Pages) (items : Expanded) (page : List ℕ) (t v edited : Tree) (c : Beside) (check : Check) → v ≡ t
+pub beside_refused : (pages : Pages) (items : Expanded) (page : List ℕ) (t v edited : Tree) (c : Beside) (check : TreeRefusal) → v ≡ t
     → IsBeside v edited c → c.refused ≡ Some check
     → OrFound (nodes_answer page (nodes_checked t (remarked t edited)))
     (FindsNew pages items page t (remarked t edited) (are_none (difference t edited)) (failed (refusal.Checked check))) (failed (refusal.Checked check))

@@ -4,7 +4,7 @@ use Rattle.std.specs.Prelude.{◌⊎◌, ◌≢◌, Option, Some, None, IfSome, 
 use Rattle.std.specs.Io.KnownBytes.{Appends, IsAtEnd}
 use Rattle.wt_checks.specs.Checked.{checked, nodes_checked}
 use Rattle.wt_checks.proofs.NodesAlone.{taken_alone}
-use Rattle.wt_checks.specs.declared.refusal.Check.{Check}
+use Rattle.wt_checks.specs.declared.refusal.TreeRefusal.{TreeRefusal}
 use Rattle.wt_difference.specs.Difference.{are_none, difference}
 use Rattle.wt_expand.specs.PageCalls.{expanded_page}
 use Rattle.wt_expand.specs.Work.{Pages}
@@ -46,7 +46,7 @@ use Rattle.wt_pagetool.proofs.StatusLaws.{is_answer, is_done, IsUnansweredBy, un
 
 -- ---- a page that is taken
 
-nodes_done : (page bytes : List ℕ) (o : Option Check) → nodes_answer page o ≡ done bytes → o ≡ None
+nodes_done : (page bytes : List ℕ) (o : Option TreeRefusal) → nodes_answer page o ≡ done bytes → o ≡ None
 nodes_done page bytes (Some c) e = cc
 nodes_done page bytes None e = refl
 

@@ -24,7 +24,7 @@ use Rattle.wt_html_grammar.specs.Places.{is_accepted}
 use Rattle.wt_schema.specs.declared.why.FitWhy.TheVariants as why
 use Rattle.wt_schema.specs.Attributes.{value_of}
 use Rattle.wt_schema.specs.Data.{Data, data_of, both, sync_fits, mw_for, mw_fits}
-use Rattle.wt_schema.specs.Fit.{Misfit, label_for, texts_in, text_fits, with_children, children_in, within, fit_nodes, Found, body_of, fit_body_told, body_data, fit_body, fit}
+use Rattle.wt_schema.specs.Fit.{Misfit, label_for, texts_in, text_fits, with_children, children_in, within, fit_nodes, BodyElement, body_of, fit_body_told, body_data, fit_body, fit}
 use Rattle.wt_schema.specs.Groups.{Piece}
 use Rattle.wt_schema.specs.Read.{page as as_page, ill, read_fit, read_tree, read_root, read_run, read}
 use Rattle.wt_schema.specs.Sections.{opened_if_fit}
@@ -140,7 +140,7 @@ if_fit_face (Ok u) t f e =
     let same : t ≡ without_sections u = cc in
     ap (λ x. face (label x)) same ∙ opened_face u (f u refl)
 
-fit_face : (o : Option Found) (t : Tree) → fit_body o ≡ Ok t → IsBare t
+fit_face : (o : Option BodyElement) (t : Tree) → fit_body o ≡ Ok t → IsBare t
 fit_face None t e = cc
 fit_face (Some f) t e =
     let held : Result (List Piece) Misfit = fit_nodes (suc f.number) (within kind.Body false) f.contents in

@@ -4,10 +4,10 @@ ghost use Rattle.wt_pagetool.specs.Refusals.{status_of, line_of, html_why, fit_w
 
 use crate::status::Status;
 use std::alloc::{AllocError, Global};
-use wt_checks::Check;
+use wt_checks::TreeRefusal;
 use wt_devices::FetchRefusal;
+use wt_edit::{ContentWhy, EditRefusal};
 use wt_html_in::{FitWhy, HtmlRefusal, HtmlWhy};
-use wt_selser::{ContentWhy, EditRefusal};
 use wt_span::{NoMemory, Str};
 use wt_transclusion::ExpandRefusal;
 
@@ -43,7 +43,7 @@ pub enum Refusal {
     /// An element of the input has no source.
     Unsourced(u32),
     /// The comparison of the page with the edited tree refuses the edit.
-    Checked(Check),
+    Checked(TreeRefusal),
     /// The inside of this marked node (`mwN`) can't be written.
     BadContent { node: u32, why: ContentWhy },
     /// This marked node (`mwN`) can't be read by itself.
@@ -124,9 +124,9 @@ impl From<ExpandRefusal> for Refusal {
 }
 
 impl From<EditRefusal> for Refusal {
-    ghost use Rattle.wt_pagetool.specs.Refusals.{refusal_of_edit};
+    ghost use Rattle.wt_pagetool.specs.Refusals.{refusal_of_whole};
 
-    ghost from_gives = { λ refusal r. r ≡ refusal_of_edit refusal };
+    ghost from_gives = { λ refusal r. r ≡ refusal_of_whole refusal };
 
     fn from(refusal: EditRefusal) -> Refusal {
         match refusal {
@@ -134,6 +134,9 @@ impl From<EditRefusal> for Refusal {
             EditRefusal::BadContent(node, why) => Refusal::BadContent { node, why },
             EditRefusal::Tangled(node) => Refusal::Tangled(node),
             EditRefusal::NewPageTooLong => Refusal::NewPageTooLong,
+            EditRefusal::NewExpansion(_) => Refusal::NewExpansion,
+            EditRefusal::Unspelled(child) => Refusal::Unspelled(child),
+            EditRefusal::FolderFault => Refusal::FolderFault,
             EditRefusal::NoMemory => Refusal::NoMemory,
         }
     }
@@ -276,33 +279,33 @@ fn content_why(why: ContentWhy) -> &'static str
 }
 
 #[tactic(auto, unfolding(crate::specs::Refusals::check_name))]
-fn check_name(check: Check) -> &'static str
+fn check_name(check: TreeRefusal) -> &'static str
     ensures { result.now ≡ check_name check }
 {
     match check {
-        Check::UnknownId(_) => "UnknownId",
-        Check::RepeatedId(_) => "RepeatedId",
-        Check::Moved(_) => "Moved",
-        Check::InTemplate(_) => "InTemplate",
-        Check::NotEditable(_) => "NotEditable",
-        Check::UnmarkedChange(_) => "UnmarkedChange",
+        TreeRefusal::UnknownId(_) => "UnknownId",
+        TreeRefusal::RepeatedId(_) => "RepeatedId",
+        TreeRefusal::Moved(_) => "Moved",
+        TreeRefusal::InTemplate(_) => "InTemplate",
+        TreeRefusal::NotEditable(_) => "NotEditable",
+        TreeRefusal::UnmarkedChange(_) => "UnmarkedChange",
     }
 }
 
-fn check_node(check: Check) -> u32
+fn check_node(check: TreeRefusal) -> u32
     ensures { result ≡ check_node check }
 {
     match check {
-        Check::UnknownId(node) => node,
-        Check::RepeatedId(node) => node,
-        Check::Moved(node) => node,
-        Check::InTemplate(node) => node,
-        Check::NotEditable(node) => node,
-        Check::UnmarkedChange(node) => node,
+        TreeRefusal::UnknownId(node) => node,
+        TreeRefusal::RepeatedId(node) => node,
+        TreeRefusal::Moved(node) => node,
+        TreeRefusal::InTemplate(node) => node,
+        TreeRefusal::NotEditable(node) => node,
+        TreeRefusal::UnmarkedChange(node) => node,
     }
 }
 
-fn checked_line(alloc: Global, check: Check) -> Result<String, AllocError>
+fn checked_line(alloc: Global, check: TreeRefusal) -> Result<String, AllocError>
     ensures { IfOk result (λ line. string_bytes line ≡ line_of (Refusal.Checked check)) }
 {
     format!(in alloc;

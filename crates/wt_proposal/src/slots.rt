@@ -285,7 +285,7 @@ pub struct Beside<'w, 't, 'a> {
 /// places of its own; how far one has come behind it; and how many of the page's children are passed then, which are
 /// none where it isn't in its turn.
 #[derive(Clone, Copy)]
-pub struct Turn<'t, 'a> {
+pub struct ChildOutcome<'t, 'a> {
     pub gap: Option<Slot>,
     pub within: Option<&'t Node<'a>>,
     pub reached: Reached,
@@ -305,7 +305,11 @@ fn within<'t, 'a>(old: &'t Node<'a>, child: &Node<'_>) -> Option<&'t Node<'a>>
 }
 
 /// A child that stays in its turn, which is this node of the page.
-fn turn_of<'t, 'a>(beside: Beside<'_, 't, 'a>, old: &'t Node<'a>, child: &Node<'_>) -> Turn<'t, 'a>
+fn turn_of<'t, 'a>(
+    beside: Beside<'_, 't, 'a>,
+    old: &'t Node<'a>,
+    child: &Node<'_>,
+) -> ChildOutcome<'t, 'a>
     ensures gap { slots_of result.gap ≡ gap_before beside.entry.reached (child_views beside.entry.rest.now) (view old.now) (view child.now) }
     ensures within { (page : Page) → places_within page (view child.now) (option_map (λ n. view n.now) result.within)
         ≡ if_in_turn (is_block_part (label (view child.now)).kind) (places_in page (view old.now) (view child.now)) }
@@ -315,7 +319,7 @@ fn turn_of<'t, 'a>(beside: Beside<'_, 't, 'a>, old: &'t Node<'a>, child: &Node<'
 {
     let place = place_of(beside.rest, child.id);
     let differs = beside.reached.came || some_count(&beside.rest[..place]);
-    Turn {
+    ChildOutcome {
         gap: gap(differs, beside.reached.end, start_of(old.ranges)),
         within: within(old, child),
         reached: reached_behind(old, beside.reached, child),
@@ -338,7 +342,7 @@ pub fn next_turn<'t, 'a>(
     index: &[Visit<'t, 'a>],
     beside: Beside<'_, 't, 'a>,
     child: &'t Node<'a>,
-) -> Turn<'t, 'a>
+) -> ChildOutcome<'t, 'a>
     ensures fits { result.passed ≤ length beside.entry.rest.now }
     ensures goes_on { (t : Tree) (us : Trees) → (label t).id ≡ beside.entry.holder
         → slots_of result.gap ++ (places_within (indexed index.now) (view child.now) (option_map (λ n. view n.now) result.within)
@@ -346,7 +350,7 @@ pub fn next_turn<'t, 'a>(
         ≡ along (indexed index.now) t beside.entry.reached (child_views beside.entry.rest.now) (more (view child.now) us) }
 {
     if !is_in_turn(index, beside.holder, beside.reached, child) {
-        return Turn {
+        return ChildOutcome {
             gap: None,
             within: None,
             reached: reached_past(beside.reached, child),

@@ -8,7 +8,7 @@ use Rattle.wt_span.specs.declared.form.Piece.{Piece}
 use Rattle.wt_span.specs.Items.{Item, char, call_of_origin, items_of, items}
 use Rattle.wt_span.specs.Origins.{OuterCall}
 use Rattle.wt_span.specs.Slice.{bytes_of}
-use Rattle.wt_ranges.specs.declared.carried.Found.{Found}
+use Rattle.wt_ranges.specs.declared.carried.PartsSoFar.{PartsSoFar}
 use Rattle.wt_ranges.specs.DataSoFar.{begins_at, TextFound, CallFound, all_parts, nothing_found, Continues}
 use Rattle.wt_annotated.specs.GroupData.{call_parts, next_number, data_parts, group_data, literal_if_any}
 use Rattle.wt_annotated.specs.GroupParts.{Part, called}
@@ -88,7 +88,7 @@ data_since calls i None ps = refl
 data_since calls i (Some []) ps = refl
 data_since calls i (Some (b ∷ bs)) ps = refl
 
-stays_by : (calls : List OuterCall) (o : Option ℕ) (f : Found) (p : Piece) (rest : List Item) (h v : Bool) → is_hollow p ≡ h
+stays_by : (calls : List OuterCall) (o : Option ℕ) (f : PartsSoFar) (p : Piece) (rest : List Item) (h v : Bool) → is_hollow p ≡ h
     → parted o (call_of_origin p.origin) ≡ v → (not h && v) ≡ false
     → all_parts calls f (cond h o (call_of_origin p.origin)) rest
     ≡ f.parts ++ data_parts calls f.number
@@ -99,7 +99,7 @@ stays_by calls o f p rest false true h e t = cc t
 stays_by calls o f p rest false false h e t = refl
 
 -- a piece that doesn't begin changes nothing
-pub stays : (calls : List OuterCall) (o : Option ℕ) (f : Found) (p : Piece) → begins_at o p ≡ false → Continues calls o f (items_of p) f
+pub stays : (calls : List OuterCall) (o : Option ℕ) (f : PartsSoFar) (p : Piece) → begins_at o p ≡ false → Continues calls o f (items_of p) f
 stays calls o f p t rest =
     ap (λ q. all_parts calls f q rest) (last_piece o p)
     ∙ stays_by calls o f p rest (is_hollow p) (parted o (call_of_origin p.origin)) refl refl t
@@ -115,7 +115,7 @@ begun o p t = by (is_hollow p) (parted o (call_of_origin p.origin)) refl refl t
     by false false a b t = cc t
 
 -- a piece that begins: what its parts come to
-opened : (calls : List OuterCall) (o : Option ℕ) (f : Found) (p : Piece) (q : Option ℕ) (rest : List Item) → is_hollow p ≡ false
+opened : (calls : List OuterCall) (o : Option ℕ) (f : PartsSoFar) (p : Piece) (q : Option ℕ) (rest : List Item) → is_hollow p ≡ false
     → parted o (call_of_origin p.origin) ≡ true → call_of_origin p.origin ≡ q
     → all_parts calls f o (items_of p ++ rest) ≡ f.parts ++ data_parts calls f.number (begins q (bytes_of p.text) f.since rest)
 opened calls o f p q rest h v e =
@@ -129,7 +129,7 @@ opened calls o f p q rest h v e =
 last_is : (o : Option ℕ) (p : Piece) (q : Option ℕ) → is_hollow p ≡ false → call_of_origin p.origin ≡ q → last_of o (items_of p) ≡ q
 last_is o p q h e = last_piece o p ∙ ap (λ w. cond w o (call_of_origin p.origin)) h ∙ e
 
-pub text_goes_on : (calls : List OuterCall) (o : Option ℕ) (f g : Found) (p : Piece) → is_hollow p ≡ false → parted o (call_of_origin p.origin) ≡ true
+pub text_goes_on : (calls : List OuterCall) (o : Option ℕ) (f g : PartsSoFar) (p : Piece) → is_hollow p ≡ false → parted o (call_of_origin p.origin) ≡ true
     → call_of_origin p.origin ≡ None → TextFound f (bytes_of p.text) g → Continues calls o f (items_of p) g
 text_goes_on calls o f g p h v e t rest =
     ap (λ q. all_parts calls g q rest) (last_is o p None h e)
@@ -138,7 +138,7 @@ text_goes_on calls o f g p h v e t rest =
     ∙ ap (λ s. f.parts ++ data_parts calls f.number (parts_from None s rest)) t.since
     ∙ sym (opened calls o f p None rest h v e)
 
-pub call_goes_on : (calls : List OuterCall) (o : Option ℕ) (f g : Found) (p : Piece) (k : ℕ) → is_hollow p ≡ false
+pub call_goes_on : (calls : List OuterCall) (o : Option ℕ) (f g : PartsSoFar) (p : Piece) (k : ℕ) → is_hollow p ≡ false
     → parted o (call_of_origin p.origin) ≡ true → call_of_origin p.origin ≡ Some k → CallFound calls f k g → Continues calls o f (items_of p) g
 call_goes_on calls o f g p k h v e t rest =
     let here : List Datum = call_parts (slice_get calls k) f.number in
@@ -155,7 +155,7 @@ call_goes_on calls o f g p k h v e t rest =
 
 -- ---- several pieces
 
-pub goes_on : (calls : List OuterCall) (ps : List Piece) (at : ℕ) (p : Piece) (o last : Option ℕ) (first f g : Found) → at < length ps → p ≡ get_or ps at p
+pub goes_on : (calls : List OuterCall) (ps : List Piece) (at : ℕ) (p : Piece) (o last : Option ℕ) (first f g : PartsSoFar) → at < length ps → p ≡ get_or ps at p
     → Continues calls o first (items (take at ps)) f → last ≡ last_of o (items (take at ps)) → Continues calls last f (items_of p) g
     → Continues calls o first (items (take (at + 1) ps)) g
 goes_on calls ps at p o last first f g l e h m n rest =
@@ -169,7 +169,7 @@ goes_on calls ps at p o last first f g l e h m n rest =
     ∙ ap (all_parts calls first o) (sym (append_assoc (items (take at ps)) (items_of p) rest) ∙ ap (λ xs. xs ++ rest) (sym one))
 
 -- at the end all parts are found
-pub found_all : (calls : List OuterCall) (ps : List Piece) (n : ℕ) (o : Option ℕ) (f : Found) → length ps ≤ n
+pub found_all : (calls : List OuterCall) (ps : List Piece) (n : ℕ) (o : Option ℕ) (f : PartsSoFar) → length ps ≤ n
     → Continues calls o nothing_found (items (take n ps)) f → Some (mw.Parts f.parts) ≡ group_data calls (parts_from o None (items ps))
 unfolding group_data
 found_all calls ps n o f l h =

@@ -18,7 +18,7 @@ use wt_tree::{DataMw, Part};
 /// What is found of a group's parts so far: those that are whole, how many calls stand among them
 /// without arguments, and what stands since the last call; none before the first.
 #[derive(Drop)]
-pub struct Found {
+pub struct PartsSoFar {
     pub parts: List<Part>,
     pub number: u32,
     pub since: Option<Str>,
@@ -79,10 +79,10 @@ fn push_call<'a>(
 }
 
 /// What is found with another text of the page.
-fn with_text(found: Found, text: Text<'_>) -> Result<Found, NoMemory>
+fn with_text(found: PartsSoFar, text: Text<'_>) -> Result<PartsSoFar, NoMemory>
     ensures { IfOk result (λ f. TextFound found (bytes_of text.entry) f) }
 {
-    let Found {
+    let PartsSoFar {
         parts,
         number,
         since,
@@ -94,7 +94,7 @@ fn with_text(found: Found, text: Text<'_>) -> Result<Found, NoMemory>
             Some(before)
         }
     };
-    Ok(Found {
+    Ok(PartsSoFar {
         parts,
         number,
         since,
@@ -105,20 +105,20 @@ fn with_text(found: Found, text: Text<'_>) -> Result<Found, NoMemory>
 fn with_call<'a>(
     alloc: Global,
     calls: &[Outer<'a>],
-    found: Found,
+    found: PartsSoFar,
     call: u32,
-) -> Result<Found, NoMemory>
+) -> Result<PartsSoFar, NoMemory>
     requires { All IsSoundCall (outer_calls calls.now) }
     ensures { IfOk result (λ f. CallFound (outer_calls calls.now) found call f) }
 {
-    let Found {
+    let PartsSoFar {
         mut parts,
         number,
         since,
     } = found;
     push_slice(&mut parts, since)?;
     let number = push_call(alloc, calls, &mut parts, call, number)?;
-    Ok(Found {
+    Ok(PartsSoFar {
         parts,
         number,
         since: Some(Str::new(alloc)),
@@ -136,10 +136,10 @@ fn begins(before: Option<u32>, piece: Piece<'_>) -> bool
 fn with_piece<'a>(
     alloc: Global,
     calls: &[Outer<'a>],
-    found: Found,
+    found: PartsSoFar,
     before: Option<u32>,
     piece: Piece<'a>,
-) -> Result<Found, NoMemory>
+) -> Result<PartsSoFar, NoMemory>
     requires { All IsSoundCall (outer_calls calls.now) }
     ensures { IfOk result (λ f. Continues (outer_calls calls.now) before found (items_of piece.entry) f) }
 {
@@ -163,7 +163,7 @@ pub fn group_data<'a>(
     requires { All IsSoundCall (outer_calls calls.now) }
     ensures { IfOk result (λ d. d ≡ group_data (outer_calls calls.now) (parts_from before None (items pieces.now))) }
 {
-    let mut found = Found {
+    let mut found = PartsSoFar {
         parts: List::new(alloc),
         number: 0,
         since: None,

@@ -29,7 +29,7 @@ ghost use Rattle.wt_annotated.specs.Walked.{clean_at, free_places};
 
 use crate::tree_seam::{are_trees_of_page, first_call_of, first_call_of_all, holds_page_item};
 use std::alloc::Global;
-use wt_annotated::{Walk, are_of_page, first_call, is_parted, walk_through};
+use wt_annotated::{TreeProgress, are_of_page, first_call, is_parted, walk_through};
 use wt_inline::{PieceTree, with_room};
 use wt_span::{List, NoMemory, Outer};
 use wt_tree::Kind;
@@ -69,7 +69,7 @@ fn has_free_places(
     before: Option<u32>,
     after: Option<u32>,
     tree: &PieceTree<'_>,
-    walk: Walk,
+    walk: TreeProgress,
 ) -> bool
     requires { HasLasts before tree.now walk }
     ensures { result ≡ free_places before (items (out-PieceTree tree.now).opening)
@@ -105,7 +105,12 @@ fn is_body(kind: Kind) -> bool
 }
 
 /// Whether a node is clean that stands between items of these calls.
-fn is_clean(before: Option<u32>, after: Option<u32>, tree: &PieceTree<'_>, walk: Walk) -> bool
+fn is_clean(
+    before: Option<u32>,
+    after: Option<u32>,
+    tree: &PieceTree<'_>,
+    walk: TreeProgress,
+) -> bool
     requires { HasLasts before tree.now walk }
     ensures { result ≡ clean_at before after (item_tree tree.now) }
 {

@@ -16,8 +16,8 @@ ghost use Rattle.wt_annotated.specs.Seams.{text_from};
 use crate::child::Child;
 use std::alloc::Global;
 use wt_annotated::{
-    Sources, Walk, first_call, leaf_ranges, leaf_sources, own_pieces, page_texts, page_width,
-    unnumbered_node, walk_through,
+    Sources, TreeProgress, first_call, leaf_ranges, leaf_sources, own_pieces, page_texts,
+    page_width, unnumbered_node, walk_through,
 };
 use wt_inline::{NodeHead, PieceTree};
 use wt_span::{List, NoMemory, Outer};
@@ -70,7 +70,7 @@ pub fn kept_leaf<'a>(
 }
 
 /// The ranges of a node round its children that begins there, by a walk through it.
-fn inner_ranges(byte: u32, walk: Walk) -> Ranges
+fn inner_ranges(byte: u32, walk: TreeProgress) -> Ranges
     requires fits { byte + walk.closed.width < 2 ^ 32 }
     requires order { walk.filled.width ≤ walk.closed.width }
     ensures { result ≡ record { start = byte; end = byte + walk.closed.width; open_w = walk.opened.width; close_w = walk.closed.width - walk.filled.width } }

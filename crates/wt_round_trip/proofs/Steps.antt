@@ -17,17 +17,17 @@ use Rattle.wt_schema.specs.Attributes.{value_of, has}
 use Rattle.wt_schema.specs.Rows.{holds_text, shows_text}
 use Rattle.wt_schema.specs.Data.{Data, data_for}
 use Rattle.wt_schema.specs.Groups.{standing, standing_by, open_by, open_after, is_gap, is_further, goes_on, is_dropped, Piece, single, begun, further, furthers, gathered}
-use Rattle.wt_schema.specs.Fit.{Misfit, Spot, within, elements, leaf_in, texts_in, label_as, piece_as, onto_told, children_in, with_children, one_piece, text_fits, is_block_row, row_as, behind_it, fits_place, is_inside, fit_told, fit_row, fit_node, fit_nodes}
+use Rattle.wt_schema.specs.Fit.{Misfit, Position, within, elements, leaf_in, texts_in, label_as, piece_as, onto_told, children_in, with_children, one_piece, text_fits, is_block_row, row_as, behind_it, fits_place, is_inside, fit_told, fit_row, fit_node, fit_nodes}
 use Rattle.wt_schema.specs.Unsourced.{lacks_source, unsourced_as, unsourced_nodes}
 use Rattle.wt_round_trip.specs.Written.{shown_of, leaf_kind}
 
 -- ---- where something stands
 
-abbrev pub spot : Kind → Bool → Bool → Option (List ℕ) → Spot
+abbrev pub spot : Kind → Bool → Bool → Option (List ℕ) → Position
 spot parent inside behind group = record { parent = parent; inside = inside; behind = behind; group = group }
 
 -- an element that stands so, is of this kind and has this data
-pub element_step : (n : ℕ) (x : Spot) (s : Standing) (k : Kind) (name : List ℕ) (ps : List Pair) (d : Data) (c rest : Markups) (xs : List Piece)
+pub element_step : (n : ℕ) (x : Position) (s : Standing) (k : Kind) (name : List ℕ) (ps : List Pair) (d : Data) (c rest : Markups) (xs : List Piece)
     → standing x.group ps ≡ s → row_as s name ps ≡ Some k → fits_place x.parent x.behind s k c ≡ true
     → data_for x.inside s k ps ≡ Some d → text_fits k c ≡ true → fit_nodes (suc n) (within k (is_inside x s)) c ≡ Ok xs
     → fit_node n x (node name ps c) rest ≡ Ok (Some (piece_as s ps d (tree (label_as s k ps d (texts_in c)) (children_in (is_inside x s) k xs))))
@@ -40,14 +40,14 @@ element_step n x s k name ps d c rest xs e r p q f i =
     ∙ ap (λ h. one_piece s ps d (with_children (is_inside x s) k (label_as s k ps d (texts_in c)) h)) i
 
 -- what stands behind it
-behind_step : (x : Spot) (s : Standing) (k : Kind) (name : List ℕ) (ps : List Pair) (c rest : Markups)
+behind_step : (x : Position) (s : Standing) (k : Kind) (name : List ℕ) (ps : List Pair) (c rest : Markups)
     → standing x.group ps ≡ s → row_as s name ps ≡ Some k
     → behind_it x (node name ps c) rest ≡ spot x.parent x.inside (x.behind || is_block k) (open_by s x.group (value_of (codes "about") ps))
 behind_step x s k name ps c rest e r =
     ap (λ y. spot x.parent x.inside (x.behind || is_block_row (row_as y name ps)) (open_by y x.group (value_of (codes "about") ps))) e
     ∙ ap (λ o. spot x.parent x.inside (x.behind || is_block_row o) (open_by s x.group (value_of (codes "about") ps))) r
 
-pub node_step : (n : ℕ) (x : Spot) (s : Standing) (k : Kind) (name : List ℕ) (ps : List Pair) (d : Data) (c rest : Markups) (xs zs : List Piece)
+pub node_step : (n : ℕ) (x : Position) (s : Standing) (k : Kind) (name : List ℕ) (ps : List Pair) (d : Data) (c rest : Markups) (xs zs : List Piece)
     → standing x.group ps ≡ s → row_as s name ps ≡ Some k → fits_place x.parent x.behind s k c ≡ true
     → data_for x.inside s k ps ≡ Some d → text_fits k c ≡ true → fit_nodes (suc n) (within k (is_inside x s)) c ≡ Ok xs
     → ((m : ℕ) → fit_nodes m (spot x.parent x.inside (x.behind || is_block k) (open_by s x.group (value_of (codes "about") ps))) rest ≡ Ok zs)

@@ -20,7 +20,7 @@ use Rattle.wt_schema.specs.Attributes.{value_of, has}
 use Rattle.wt_schema.specs.Groups.{Piece}
 use Rattle.wt_schema.specs.Data.{Data, data_of}
 use Rattle.wt_schema.specs.Rows.{shows_text}
-use Rattle.wt_schema.specs.Fit.{Misfit, Found, texts_in, label_for, held_as, with_children, text_fits, within, fit_nodes, fit_body_told, body_data, fit_body, body_of, fit}
+use Rattle.wt_schema.specs.Fit.{Misfit, BodyElement, texts_in, label_for, held_as, with_children, text_fits, within, fit_nodes, fit_body_told, body_data, fit_body, body_of, fit}
 use Rattle.wt_schema.specs.Sections.{all_bared, opened_if_fit}
 use Rattle.wt_schema.specs.Unsourced.{is_marked, unsourced_body, unsourced}
 use Rattle.wt_schema.specs.Read.{page, read_fit, read_tree, read_root, read_run, read}
@@ -98,7 +98,7 @@ document_stands : (body : Element) → meaning (root body) ≡ page_markup (mean
 unfolding encode
 document_stands body = refl
 
-abbrev found : Label → Markups → Found
+abbrev found : Label → Markups → BodyElement
 found l m = record { number = 4; attributes = pairs (said_of l); contents = all_bared m }
 
 body_found : (l : Label) (m : Markups) → l.kind ≡ kind.Body → body_of (page_markup (node_for l m)) ≡ Some (found l m)

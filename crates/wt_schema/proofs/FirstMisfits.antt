@@ -13,7 +13,7 @@ use Rattle.wt_schema.specs.declared.why.FitWhy.TheVariants as why
 use Rattle.wt_schema.specs.declared.standing.Standing.{Standing}
 use Rattle.wt_schema.specs.Groups.{standing, open_after, Piece}
 use Rattle.wt_schema.specs.Data.{Data, data_for}
-use Rattle.wt_schema.specs.Fit.{Misfit, Found, elements, label_for, label_as, texts_in, onto, onto_told, with_children, one_piece, Spot, within, row_as, is_block_element, behind_it, fits_place, is_inside, text_fits, fit_told, fit_as, fit_row, fit_node, fit_nodes, fit_body_told, body_data, fit_body, fit, body_of}
+use Rattle.wt_schema.specs.Fit.{Misfit, BodyElement, elements, label_for, label_as, texts_in, onto, onto_told, with_children, one_piece, Position, within, row_as, is_block_element, behind_it, fits_place, is_inside, text_fits, fit_told, fit_as, fit_row, fit_node, fit_nodes, fit_body_told, body_data, fit_body, fit, body_of}
 use Rattle.wt_schema.specs.Sections.{opened_if_fit}
 use Rattle.wt_schema.specs.Misfits.{Place, place, places, places_of_all, places_of_body, is_wrong, IsReason, FitsAlone, FirstMisfit}
 
@@ -87,21 +87,21 @@ data_agrees (Some d) n i s k ps c r o h =
     text_agrees (text_fits k c) n (one_piece s ps d (with_children i k (label_as s k ps d (texts_in c)) r)) o
     (one_agrees s ps d (with_children i k (label_as s k ps d (texts_in c)) r) o (inside_agrees i k (label_as s k ps d (texts_in c)) r o h))
 
-place_agrees : (b : Bool) (n : ℕ) (x : Spot) (s : Standing) (k : Kind) (ps : List Pair) (c : Markups)
+place_agrees : (b : Bool) (n : ℕ) (x : Position) (s : Standing) (k : Kind) (ps : List Pair) (c : Markups)
     (r : Result (List Piece) Misfit) (o : Option Misfit) → Agrees r o
     → Agrees (if b then fit_as n x s k ps c r else Err (n, why.Place))
     (option_or (misfit_at n (chain false (not b) (not (is_some (data_for x.inside s k ps))) (not (text_fits k c)))) o)
 place_agrees true n x s k ps c r o h = data_agrees (data_for x.inside s k ps) n (is_inside x s) s k ps c r o h
 place_agrees false n x s k ps c r o h = refl
 
-row_agrees : (j : Option Kind) (n : ℕ) (x : Spot) (s : Standing) (ps : List Pair) (c : Markups)
+row_agrees : (j : Option Kind) (n : ℕ) (x : Position) (s : Standing) (ps : List Pair) (c : Markups)
     (held : Kind → Result (List Piece) Misfit) (below : Option Kind → Option Misfit) → ((k : Kind) → Agrees (held k) (below (Some k)))
     → Agrees (fit_row n x s j ps c held) (option_or (misfit_at n (wrong_of (place n (Some x.parent) x.inside x.behind s j ps c))) (below j))
 row_agrees None n x s ps c held below h = refl
 row_agrees (Some k) n x s ps c held below h = place_agrees (fits_place x.parent x.behind s k c) n x s k ps c (held k) (below (Some k)) (h k)
 
 mutual
-  node_agrees : (t : Markup) (ts : Markups) (n : ℕ) (x : Spot)
+  node_agrees : (t : Markup) (ts : Markups) (n : ℕ) (x : Position)
       → Agrees (fit_node n x t ts) (first_wrong (places n (Some x.parent) x.inside x.behind x.group t))
   node_agrees (text bs) ts n x = refl
   node_agrees (node name ps c) ts n x =
@@ -109,7 +109,7 @@ mutual
       row_agrees (row_as s name ps) n x s ps c (λ k. fit_nodes (suc n) (within k (is_inside x s)) c)
       (λ j. first_wrong (places_of_all (suc n) j (is_inside x s) false None c)) (λ k. nodes_agree c (suc n) (within k (is_inside x s)))
 
-  nodes_agree : (ts : Markups) (n : ℕ) (x : Spot) → Agrees (fit_nodes n x ts) (first_wrong (places_of_all n (Some x.parent) x.inside x.behind x.group ts))
+  nodes_agree : (ts : Markups) (n : ℕ) (x : Position) → Agrees (fit_nodes n x ts) (first_wrong (places_of_all n (Some x.parent) x.inside x.behind x.group ts))
   nodes_agree empty n x = refl
   nodes_agree (more t ts) n x =
       let m = n + elements t in
@@ -130,7 +130,7 @@ opened_agrees : (r : Result Tree Misfit) (o : Option Misfit) → Agrees r o → 
 opened_agrees (Ok t) o h = h
 opened_agrees (Err e) o h = h
 
-body_agrees : (f : Found) → Agrees (fit_body (Some f)) (first_wrong (places_of_body f))
+body_agrees : (f : BodyElement) → Agrees (fit_body (Some f)) (first_wrong (places_of_body f))
 body_agrees f =
     let held = fit_nodes (suc f.number) (within kind.Body false) f.contents in
     opened_agrees (fit_body_told f.number f.attributes (body_data f.attributes) f.contents held) _
@@ -250,7 +250,7 @@ none_wrong (x ∷ xs) h = ap (λ o. option_or (misfit_at x.number o) (first_wron
 
 -- ---- of a document
 
-fit_found : (m : Markup) (f : Found) → body_of m ≡ Some f → fit m ≡ fit_body (Some f)
+fit_found : (m : Markup) (f : BodyElement) → body_of m ≡ Some f → fit m ≡ fit_body (Some f)
 fit_found m f e = ap fit_body e
 
 err_agrees : (r : Result Tree Misfit) (o : Option Misfit) (e : Misfit) → Agrees r o → r ≡ Err e → o ≡ Some e
@@ -265,13 +265,13 @@ ok_agrees : (r : Result Tree Misfit) (o : Option Misfit) (t : Tree) → Agrees r
 ok_agrees (Ok u) o t h g = h
 ok_agrees (Err m) o t h g = cc
 
-pub first_told : (m : Markup) (f : Found) (n : ℕ) (w : FitWhy) → body_of m ≡ Some f → fit m ≡ Err (n, w) → FirstMisfit (places_of_body f) n w
+pub first_told : (m : Markup) (f : BodyElement) (n : ℕ) (w : FitWhy) → body_of m ≡ Some f → fit m ≡ Err (n, w) → FirstMisfit (places_of_body f) n w
 first_told m f n w e h = to_first (places_of_body f) n w (err_agrees (fit_body (Some f)) _ (n, w) (body_agrees f) (sym (fit_found m f e) ∙ h))
 
-pub told_first : (m : Markup) (f : Found) (n : ℕ) (w : FitWhy) → body_of m ≡ Some f → FirstMisfit (places_of_body f) n w → fit m ≡ Err (n, w)
+pub told_first : (m : Markup) (f : BodyElement) (n : ℕ) (w : FitWhy) → body_of m ≡ Some f → FirstMisfit (places_of_body f) n w → fit m ≡ Err (n, w)
 told_first m f n w e h = fit_found m f e ∙ agrees_err (fit_body (Some f)) _ (n, w) (body_agrees f) (from_first (places_of_body f) n w h)
 
-pub fit_told_all : (m : Markup) (f : Found) (t : Tree) → body_of m ≡ Some f → fit m ≡ Ok t → AllByRecursion FitsAlone (places_of_body f)
+pub fit_told_all : (m : Markup) (f : BodyElement) (t : Tree) → body_of m ≡ Some f → fit m ≡ Ok t → AllByRecursion FitsAlone (places_of_body f)
 fit_told_all m f t e h = all_fit (places_of_body f) (ok_agrees (fit_body (Some f)) _ t (body_agrees f) (sym (fit_found m f e) ∙ h))
 
 pub no_root : (m : Markup) → body_of m ≡ None → fit m ≡ Err (1, why.Root)

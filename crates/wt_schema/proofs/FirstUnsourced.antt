@@ -8,7 +8,7 @@ use Rattle.wt_html_grammar.specs.Markup.{Pair, Markup, Markups, text, node, empt
 use Rattle.wt_schema.specs.declared.standing.Standing.{Standing}
 use Rattle.wt_schema.specs.declared.standing.Standing.TheVariants as stands
 use Rattle.wt_schema.specs.Groups.{standing, open_after, is_grouped, pairs_for}
-use Rattle.wt_schema.specs.Fit.{Found, elements, row_as, is_block_element, body_of}
+use Rattle.wt_schema.specs.Fit.{BodyElement, elements, row_as, is_block_element, body_of}
 use Rattle.wt_schema.specs.Unsourced.{is_marked, is_unsourced, unsourced_as, unsourced_node, unsourced_nodes, lacks_source, unsourced_body, unsourced}
 use Rattle.wt_schema.specs.Misfits.{Place, place, places, places_of_all, is_asked, is_section_row, source_at, sources_of_body, first_unsourced}
 use Rattle.wt_schema.proofs.SectionRows.{section_by_name}
@@ -96,7 +96,7 @@ mutual
       ap₂ option_or (node_first t n p b group) (nodes_first ts (n + elements t) p (b || is_block_element group t) (open_after group t ts))
       ∙ sym (append (places n p false b group t) (places_of_all (n + elements t) p false (b || is_block_element group t) (open_after group t ts) ts))
 
-pub unsourced_first : (m : Markup) (f : Found) → body_of m ≡ Some f → unsourced m ≡ first_unsourced (sources_of_body f)
+pub unsourced_first : (m : Markup) (f : BodyElement) → body_of m ≡ Some f → unsourced m ≡ first_unsourced (sources_of_body f)
 unsourced_first m f e =
     ap unsourced_body e
     ∙ ap (λ o. if is_marked f.attributes then Some f.number else o) (nodes_first f.contents (suc f.number) (Some kind.Body) false None)

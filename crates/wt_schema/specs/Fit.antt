@@ -142,14 +142,14 @@ text_fits k c = holds_text k || are_blank c
 -- ---- where something stands
 
 -- in a parent of this kind, in a group or not, behind a block or not, and with this group open
-pub record Spot : Type 0 where
+pub record Position : Type 0 where
   pub parent : Kind
   pub inside : Bool
   pub behind : Bool
   pub group : Option (List ℕ)
 
 -- what stands first in an element of this kind
-abbrev pub within : Kind → Bool → Spot
+abbrev pub within : Kind → Bool → Position
 within k inside = record { parent = k; inside = inside; behind = false; group = None }
 
 abbrev pub is_block_row : Option Kind → Bool
@@ -166,7 +166,7 @@ is_block_element group (text bs) = false
 is_block_element group (node name ps c) = is_block_row (row_as (standing group ps) name ps)
 
 -- behind a text or an element, and before these
-abbrev pub behind_it : Spot → Markup → Markups → Spot
+abbrev pub behind_it : Position → Markup → Markups → Position
 behind_it x t ts = record x { behind = x.behind || is_block_element x.group t; group = open_after x.group t ts }
 
 -- in a parent of that kind, behind a block or not
@@ -178,7 +178,7 @@ abbrev pub fits_place : Kind → Bool → Standing → Kind → Markups → Bool
 fits_place parent behind s k c = has_place parent behind k || (is_grouped s && (is_span k && is_none c))
 
 -- what stands in an element is in a group where the element is, or is part of one
-abbrev pub is_inside : Spot → Standing → Bool
+abbrev pub is_inside : Position → Standing → Bool
 is_inside x s = x.inside || is_grouped s
 
 -- ---- elements
@@ -189,27 +189,27 @@ fit_told n inside s k ps None c held = Err (n, why.Data)
 fit_told n inside s k ps (Some d) c held =
     if text_fits k c then one_piece s ps d (with_children inside k (label_as s k ps d (texts_in c)) held) else Err (n, why.Text)
 
-abbrev pub fit_as : ℕ → Spot → Standing → Kind → List Pair → Markups → Result (List Piece) Misfit → Result (Option Piece) Misfit
+abbrev pub fit_as : ℕ → Position → Standing → Kind → List Pair → Markups → Result (List Piece) Misfit → Result (Option Piece) Misfit
 fit_as n x s k ps c held = fit_told n (is_inside x s) s k ps (data_for x.inside s k ps) c held
 
 -- element n where it stands, by its row
-abbrev pub fit_row : ℕ → Spot → Standing → Option Kind → List Pair → Markups → (Kind → Result (List Piece) Misfit) → Result (Option Piece) Misfit
+abbrev pub fit_row : ℕ → Position → Standing → Option Kind → List Pair → Markups → (Kind → Result (List Piece) Misfit) → Result (Option Piece) Misfit
 fit_row n x s None ps c held = Err (n, why.Element)
 fit_row n x s (Some k) ps c held = if fits_place x.parent x.behind s k c then fit_as n x s k ps c (held k) else Err (n, why.Place)
 
 -- a text before these: white space between two elements of a group is nothing
-abbrev pub fit_text : Spot → List ℕ → Markups → Option Piece
+abbrev pub fit_text : Position → List ℕ → Markups → Option Piece
 fit_text x bs ts = if is_dropped x.group bs ts then None else option_map single (leaf_in x.parent bs)
 
 -- What stands there, and before these: its first element, if it has one, is number n.
 abbrev mutual
-  pub fit_node : ℕ → Spot → Markup → Markups → Result (Option Piece) Misfit
+  pub fit_node : ℕ → Position → Markup → Markups → Result (Option Piece) Misfit
   fit_node n x (text bs) ts = Ok (fit_text x bs ts)
   fit_node n x (node name ps c) ts =
       fit_row n x (standing x.group ps) (row_as (standing x.group ps) name ps) ps c
       (λ k. fit_nodes (suc n) (within k (is_inside x (standing x.group ps))) c)
 
-  pub fit_nodes : ℕ → Spot → Markups → Result (List Piece) Misfit
+  pub fit_nodes : ℕ → Position → Markups → Result (List Piece) Misfit
   fit_nodes n x empty = Ok []
   fit_nodes n x (more t ts) = onto_told (fit_node n x t ts) (fit_nodes (n + elements t) (behind_it x t ts) ts)
 
@@ -229,13 +229,13 @@ is_marked_root ps =
 
 -- the body of a document: the number of its element, its attributes and its contents, in which sections have
 -- no attributes but marks
-pub record Found : Type 0 where
+pub record BodyElement : Type 0 where
   pub number : ℕ
   pub attributes : List Pair
   pub contents : Markups
 
 -- a body, and maybe a head before it, whose contents are ignored
-abbrev pub body_in : Markups → Option Found
+abbrev pub body_in : Markups → Option BodyElement
 body_in (more (node name ps c) empty) = if bytes_eq name (codes "body") then Some (record { number = 2; attributes = ps; contents = all_bared c }) else None
 body_in (more (node head hs hc) (more (node name ps c) empty)) =
     if bytes_eq head (codes "head") && bytes_eq name (codes "body")
@@ -243,7 +243,7 @@ body_in (more (node head hs hc) (more (node name ps c) empty)) =
     else None
 body_in ts = None
 
-abbrev pub body_of : Markup → Option Found
+abbrev pub body_of : Markup → Option BodyElement
 body_of (text bs) = None
 body_of (node name ps c) = if bytes_eq name (codes "html") && not (is_marked_root ps) then body_in (elements_in c) else None
 
@@ -257,7 +257,7 @@ fit_body_told n ps (Some d) c held =
 abbrev pub body_data : List Pair → Option Data
 body_data ps = if has (codes "about") ps && not (has (codes "data-mw") ps) then None else data_of kind.Body ps
 
-abbrev pub fit_body : Option Found → Result Tree Misfit
+abbrev pub fit_body : Option BodyElement → Result Tree Misfit
 fit_body None = Err (1, why.Root)
 fit_body (Some f) =
     opened_if_fit (fit_body_told f.number f.attributes (body_data f.attributes) f.contents

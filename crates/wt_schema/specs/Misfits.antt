@@ -14,7 +14,7 @@ use Rattle.wt_schema.specs.declared.standing.Standing.TheVariants as stands
 use Rattle.wt_schema.specs.Groups.{standing, open_after, is_grouped}
 use Rattle.wt_schema.specs.Data.{Data, data_for}
 use Rattle.wt_schema.specs.Unsourced.{is_marked, is_unsourced}
-use Rattle.wt_schema.specs.Fit.{Found, elements, row_as, is_block_element, fits_place, body_data, text_fits}
+use Rattle.wt_schema.specs.Fit.{BodyElement, elements, row_as, is_block_element, fits_place, body_data, text_fits}
 
 -- An element with its number, its parent's kind and its own, whether it is in a group and behind a block,
 -- and how it stands. The body's parent has no kind, and neither has an element that is no row.
@@ -46,7 +46,7 @@ abbrev mutual
       places n p inside behind group t ++ places_of_all (n + elements t) p inside (behind || is_block_element group t) (open_after group t ts) ts
 
 -- the body, and all below it
-abbrev pub places_of_body : Found → List Place
+abbrev pub places_of_body : BodyElement → List Place
 places_of_body f =
     place f.number None false false stands.Alone (Some kind.Body) f.attributes f.contents
     ∷ places_of_all (suc f.number) (Some kind.Body) false false None f.contents
@@ -69,7 +69,7 @@ abbrev pub source_at : Place → ℕ × Bool
 source_at x = (x.number, is_asked x.inside x.standing && (not (is_section_row x.kind) && is_unsourced x.attributes))
 
 -- the body, which needs no source, and all below it
-abbrev pub sources_of_body : Found → List (ℕ × Bool)
+abbrev pub sources_of_body : BodyElement → List (ℕ × Bool)
 sources_of_body f = (f.number, is_marked f.attributes) ∷ map source_at (places_of_all (suc f.number) (Some kind.Body) false false None f.contents)
 
 -- the number of the first of them that has none

@@ -8,7 +8,7 @@ use Rattle.wt_schema.specs.declared.standing.Standing.{Standing}
 use Rattle.wt_schema.specs.declared.standing.Standing.TheVariants as stands
 use Rattle.wt_schema.specs.Attributes.{has}
 use Rattle.wt_schema.specs.Groups.{standing, open_after}
-use Rattle.wt_schema.specs.Fit.{Found, elements, body_of}
+use Rattle.wt_schema.specs.Fit.{BodyElement, elements, body_of}
 use Rattle.wt_schema.specs.Sections.{is_section_name}
 
 abbrev pub is_marked : List Pair → Bool
@@ -40,7 +40,7 @@ abbrev mutual
   unsourced_nodes n group empty = None
   unsourced_nodes n group (more t ts) = option_or (unsourced_node n group t) (unsourced_nodes (n + elements t) (open_after group t ts) ts)
 
-abbrev pub unsourced_body : Option Found → Option ℕ
+abbrev pub unsourced_body : Option BodyElement → Option ℕ
 unsourced_body None = None
 unsourced_body (Some f) = if is_marked f.attributes then Some f.number else unsourced_nodes (suc f.number) None f.contents
 

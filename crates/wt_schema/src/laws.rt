@@ -4,7 +4,7 @@ ghost use Rattle.wt_tree.specs.Tree.{Tree};
 ghost use Rattle.wt_html_grammar.specs.Markup.{Markup};
 ghost use Rattle.wt_schema.specs.declared.why.FitWhy.{FitWhy};
 ghost use Rattle.wt_schema.specs.declared.why.FitWhy.TheVariants as why;
-ghost use Rattle.wt_schema.specs.Fit.{Found, body_of, fit};
+ghost use Rattle.wt_schema.specs.Fit.{BodyElement, body_of, fit};
 ghost use Rattle.wt_schema.specs.Misfits.{places_of_body, FitsAlone, FirstMisfit, sources_of_body, first_unsourced};
 ghost use Rattle.wt_schema.specs.Unsourced.{unsourced};
 ghost use Rattle.wt_schema.specs.Read.{Read, read, IsRead};
@@ -22,9 +22,9 @@ pub fn one_reading()
 /// that holds of it. Where none is told, all fit. A document without a body of its own is told as
 /// such.
 pub fn first_misfit()
-    ensures told { (m : Markup) (f : Found) (n : ℕ) (w : FitWhy) → body_of m ≡ Some f → fit m ≡ Err (n, w) → FirstMisfit (places_of_body f) n w }
-    ensures only { (m : Markup) (f : Found) (n : ℕ) (w : FitWhy) → body_of m ≡ Some f → FirstMisfit (places_of_body f) n w → fit m ≡ Err (n, w) }
-    ensures all { (m : Markup) (f : Found) (t : Tree) → body_of m ≡ Some f → fit m ≡ Ok t → AllByRecursion FitsAlone (places_of_body f) }
+    ensures told { (m : Markup) (f : BodyElement) (n : ℕ) (w : FitWhy) → body_of m ≡ Some f → fit m ≡ Err (n, w) → FirstMisfit (places_of_body f) n w }
+    ensures only { (m : Markup) (f : BodyElement) (n : ℕ) (w : FitWhy) → body_of m ≡ Some f → FirstMisfit (places_of_body f) n w → fit m ≡ Err (n, w) }
+    ensures all { (m : Markup) (f : BodyElement) (t : Tree) → body_of m ≡ Some f → fit m ≡ Ok t → AllByRecursion FitsAlone (places_of_body f) }
     ensures root { (m : Markup) → body_of m ≡ None → fit m ≡ Err (1, why.Root) }
 {}
 
@@ -32,6 +32,6 @@ pub fn first_misfit()
 /// below it, in document order, each with its number and whether it has no source or has the mark of
 /// an edit; of the body the mark alone counts.
 pub fn first_without_source()
-    ensures first { (m : Markup) (f : Found) → body_of m ≡ Some f → unsourced m ≡ first_unsourced (sources_of_body f) }
+    ensures first { (m : Markup) (f : BodyElement) → body_of m ≡ Some f → unsourced m ≡ first_unsourced (sources_of_body f) }
     ensures root { (m : Markup) → body_of m ≡ None → unsourced m ≡ None }
 {}

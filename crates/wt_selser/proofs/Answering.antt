@@ -13,7 +13,7 @@ use Rattle.wt_tree.specs.Opened.{opened}
 use Rattle.wt_tree.specs.Tree.{Tree, tree, Trees, none, more, label}
 use Rattle.wt_tree.specs.View.{label_of, view, views}
 use Rattle.wt_tree.proofs.Views.{view_out}
-use Rattle.wt_checks.specs.declared.refusal.Check.{Check}
+use Rattle.wt_checks.specs.declared.refusal.TreeRefusal.{TreeRefusal}
 use Rattle.wt_checks.specs.Checked.{checked}
 use Rattle.wt_checks.specs.Groups.{is_marked, has_mark, have_mark}
 use Rattle.wt_checks.specs.Kept.{children}
@@ -174,13 +174,13 @@ new_too_long new t = long_by (nat_lt most_bytes (length new)) new t
 pub new_stands : (new : List ℕ) → nat_lt most_bytes (length new) ≡ false → if_short new ≡ Ok new
 new_stands new t = short_by (nat_lt most_bytes (length new)) new t
 
-pub checked_answer : (same : Tree → Tree → Bool) (items : Expanded) (page : List ℕ) (t u : Tree) (o : Option Check) (c : Check) → o ≡ checked false t u → o ≡ Some c
+pub checked_answer : (same : Tree → Tree → Bool) (items : Expanded) (page : List ℕ) (t u : Tree) (o : Option TreeRefusal) (c : TreeRefusal) → o ≡ checked false t u → o ≡ Some c
     → edit_answer same items page t u ≡ Err (refusal.Check c)
 unfolding edit_answer
 checked_answer same items page t u o c d s =
     ap (λ x. unless_refused (option_map refusal.Check x) (pairs_answer same items page (marked t u) (slices same t u))) (sym d ∙ s)
 
-pub unchecked_answer : (same : Tree → Tree → Bool) (items : Expanded) (page : List ℕ) (t u : Tree) (o : Option Check) → o ≡ checked false t u → o ≡ None
+pub unchecked_answer : (same : Tree → Tree → Bool) (items : Expanded) (page : List ℕ) (t u : Tree) (o : Option TreeRefusal) → o ≡ checked false t u → o ≡ None
     → pairs_answer same items page (marked t u) (slices same t u) ≡ edit_answer same items page t u
 unfolding edit_answer
 unchecked_answer same items page t u o d s =

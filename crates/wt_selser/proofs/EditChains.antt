@@ -15,7 +15,7 @@ use Rattle.wt_tree.specs.Tiling.{Tiled, TiledFrom, Covers, InPreorder, is_group,
 use Rattle.wt_span.specs.Origins.{Expanded}
 use Rattle.wt_tree.specs.Opened.{all_opened_before, opened}
 use Rattle.wt_tree.specs.Tree.{Label, Tree, tree, Trees, none, more, label, listed}
-use Rattle.wt_checks.specs.declared.refusal.Check.{Check}
+use Rattle.wt_checks.specs.declared.refusal.TreeRefusal.{TreeRefusal}
 use Rattle.wt_checks.specs.Checked.{checked}
 use Rattle.wt_checks.specs.Groups.{is_marked, has_mark, have_mark}
 use Rattle.wt_checks.specs.Ids.{has_parent, is_there}
@@ -713,7 +713,7 @@ refused_none : (o : Option EditRefusal) (r : Result (List ℕ) EditRefusal) (new
 refused_none None r new e = (refl, e)
 refused_none (Some x) r new e = absurd (cc)
 
-checked_none : (o : Option Check) → option_map refusal.Check o ≡ None → o ≡ None
+checked_none : (o : Option TreeRefusal) → option_map refusal.Check o ≡ None → o ≡ None
 checked_none None e = refl
 checked_none (Some c) e = absurd (cc)
 

@@ -7,8 +7,8 @@ use Rattle.wt_tree.specs.Tree.{Label, Tree, tree, Trees, none, more}
 use Rattle.wt_tree.specs.View.{view, views}
 use Rattle.wt_tree.specs.declared.node.Node.{Node, out-Node}
 use Rattle.wt_tree.proofs.Views.{view_out}
-use Rattle.wt_original.specs.declared.kinds.Way.{Way}
-use Rattle.wt_original.specs.declared.kinds.Way.TheVariants as way
+use Rattle.wt_original.specs.declared.kinds.InlineForm.{InlineForm}
+use Rattle.wt_original.specs.declared.kinds.InlineForm.TheVariants as inline
 use Rattle.wt_original.specs.Kinds.{shape}
 use Rattle.wt_selser.specs.Edits.{is_tangled}
 use Rattle.wt_selser.specs.GroupFaults.{faulty_at, has_faulty_group, is_faulty_node}
@@ -16,23 +16,23 @@ use Rattle.wt_isolation.specs.OpenTags.{before, touches_open_tag}
 use Rattle.wt_isolation.specs.OpenTexts.{in_style}
 use Rattle.wt_isolation.specs.TextCalls.{touches_text_call}
 
-style_fine : (w : Way) → in_style w false ≡ false
-style_fine way.Nothing = refl
-style_fine way.Characters = refl
-style_fine way.Bold = refl
-style_fine way.Italic = refl
-style_fine way.Shown = refl
-style_fine way.PageLink = refl
-style_fine way.ExternalLink = refl
-style_fine way.Tag = refl
-style_fine way.Break = refl
-style_fine way.AsItStood = refl
+style_fine : (w : InlineForm) → in_style w false ≡ false
+style_fine inline.Nothing = refl
+style_fine inline.Characters = refl
+style_fine inline.Bold = refl
+style_fine inline.Italic = refl
+style_fine inline.Shown = refl
+style_fine inline.PageLink = refl
+style_fine inline.ExternalLink = refl
+style_fine inline.Tag = refl
+style_fine inline.Break = refl
+style_fine inline.AsItStood = refl
 
 mutual
   node_fine : (items : Expanded) (t : Tree) → HasNoGroup t → is_faulty_node items t ≡ false
   node_fine items (tree l ts) h =
-      ap (λ b. if b then faulty_at items l.ranges ts else in_style (shape l.kind).way (has_faulty_group items ts)) h.0
-      ∙ ap (in_style (shape l.kind).way) (all_fine items ts h.1) ∙ style_fine (shape l.kind).way
+      ap (λ b. if b then faulty_at items l.ranges ts else in_style (shape l.kind).inline (has_faulty_group items ts)) h.0
+      ∙ ap (in_style (shape l.kind).inline) (all_fine items ts h.1) ∙ style_fine (shape l.kind).inline
 
   all_fine : (items : Expanded) (ts : Trees) → NoneIsGroup ts → has_faulty_group items ts ≡ false
   all_fine items none h = refl

@@ -37,8 +37,8 @@ use Rattle.wt_selser.specs.Edits.{first_with, first_of, bad_pair, is_tangled, ta
 use Rattle.wt_selser.specs.ListSlices.{at_place, sign_of, is_kept_item, from_kept, removed_before, first_removed, first_start, new_before, item_slices, list_from, list_slices}
 use Rattle.wt_selser.specs.Splice.{spliced}
 use Rattle.wt_selser.specs.Steps.{Step, stays, goes, kept, comes, passed_one, passed, passed_up_to, from_number, kept_first, behind_first, steps}
-use Rattle.wt_checks.specs.declared.refusal.Check.{Check}
-use Rattle.wt_checks.specs.declared.refusal.Check.TheVariants.{UnknownId, RepeatedId, Moved, InTemplate, NotEditable, UnmarkedChange}
+use Rattle.wt_checks.specs.declared.refusal.TreeRefusal.{TreeRefusal}
+use Rattle.wt_checks.specs.declared.refusal.TreeRefusal.TheVariants.{UnknownId, RepeatedId, Moved, InTemplate, NotEditable, UnmarkedChange}
 use Rattle.wt_checks.specs.Ids.{is_there, is_unknown, is_repeated, is_moved}
 use Rattle.wt_checks.specs.Groups.{is_in_template}
 use Rattle.wt_checks.specs.Marks.{is_wrongly_marked}
@@ -336,7 +336,7 @@ pairs_same f page other (p ∷ ps) a h k =
 
 -- ---- an edit that the checks don't refuse
 
-or_else_none : (o : Option ℕ) (f : ℕ → Check) (rest : Option Check) → or_else o f rest ≡ None → (o ≡ None) × (rest ≡ None)
+or_else_none : (o : Option ℕ) (f : ℕ → TreeRefusal) (rest : Option TreeRefusal) → or_else o f rest ≡ None → (o ≡ None) × (rest ≡ None)
 or_else_none None f rest e = (refl, e)
 or_else_none (Some n) f rest e = absurd (cc)
 
@@ -345,11 +345,11 @@ unfolding checked
 marks_kept values page edited e =
     let p : Page = page_of page in
     let es : List Place = places edited in
-    let six : Option Check = or_else (first (is_unmarked_change p) es) UnmarkedChange None in
-    let five : Option Check = or_else (first (is_wrongly_marked p) es) NotEditable six in
-    let four : Option Check = or_else (first (is_in_template values p) es) InTemplate five in
-    let three : Option Check = or_else (first (is_moved p) es) Moved four in
-    let two : Option Check = or_else (first is_repeated es) RepeatedId three in
+    let six : Option TreeRefusal = or_else (first (is_unmarked_change p) es) UnmarkedChange None in
+    let five : Option TreeRefusal = or_else (first (is_wrongly_marked p) es) NotEditable six in
+    let four : Option TreeRefusal = or_else (first (is_in_template values p) es) InTemplate five in
+    let three : Option TreeRefusal = or_else (first (is_moved p) es) Moved four in
+    let two : Option TreeRefusal = or_else (first is_repeated es) RepeatedId three in
     let a = or_else_none (first (is_unknown p) es) UnknownId two e in
     let r = or_else_none (first is_repeated es) RepeatedId three a.1 in
     let m = or_else_none (first (is_moved p) es) Moved four r.1 in
@@ -397,7 +397,7 @@ answers_same same items page t u h b =
     ∙ ap (λ o. unless_refused (option_map refusal.Check o)
     (pairs_answer same items page (marked (without_sections t) u) (slices same (without_sections t) u))) (no_difference false t u h)
   where
-    by_checked : (o : Option Check) → checked false t u ≡ o
+    by_checked : (o : Option TreeRefusal) → checked false t u ≡ o
         → unless_refused (option_map refusal.Check o) (pairs_answer same items page (marked t u) (slices same t u))
         ≡ unless_refused (option_map refusal.Check o) (pairs_answer same items page (marked (without_sections t) u) (slices same (without_sections t) u))
     by_checked None e =

@@ -55,7 +55,7 @@ faulty_at page (Some r) ts = is_faulty (items_alone page.outer page.items r) ts
 -- ---- the groups of a block
 
 abbrev pub group_or_style : Expanded → Label → Trees → Bool → Bool
-group_or_style page l ts inside = if is_group l.kind then faulty_at page l.ranges ts else in_style (shape l.kind).way inside
+group_or_style page l ts inside = if is_group l.kind then faulty_at page l.ranges ts else in_style (shape l.kind).inline inside
 
 -- one of the groups among these nodes, or in their bold and italic nodes, has a fault
 abbrev mutual

@@ -18,7 +18,7 @@ use wt_annotated::unplaced_nodes;
 use wt_build::build_pieces;
 use wt_inline::PieceTree;
 use wt_isolation::{has_odd_line, has_open_text, pieces_alone};
-use wt_original::{Way, shape};
+use wt_original::{InlineForm, shape};
 use wt_span::{Items, List, NoMemory, Piece};
 use wt_tiles::glyphs_of;
 use wt_tree::{Kind, Node, Ranges, same_data, same_kind};
@@ -132,10 +132,16 @@ fn is_faulty_node(alloc: Global, page: &Items<'_>, node: &Node<'_>) -> Result<bo
     if is_group(node.kind) {
         return is_faulty_at(alloc, page, node.ranges, node);
     }
-    match shape(node.kind).way {
-        Way::Bold | Way::Italic => has_faulty_group(alloc, page, node.children.as_slice()),
-        Way::Nothing | Way::Characters | Way::Shown | Way::PageLink => Ok(false),
-        Way::ExternalLink | Way::Tag | Way::Break | Way::AsItStood => Ok(false),
+    match shape(node.kind).inline {
+        InlineForm::Bold | InlineForm::Italic => has_faulty_group(
+            alloc,
+            page,
+            node.children.as_slice(),
+        ),
+        InlineForm::Nothing | InlineForm::Characters | InlineForm::Shown | InlineForm::PageLink =>
+            Ok(false),
+        InlineForm::ExternalLink | InlineForm::Tag | InlineForm::Break | InlineForm::AsItStood =>
+            Ok(false),
     }
 }
 

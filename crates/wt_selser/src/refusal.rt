@@ -3,7 +3,7 @@
 ghost use Rattle.std.specs.Prelude.{◌≡◌};
 
 use std::alloc::AllocError;
-use wt_checks::Check;
+use wt_checks::TreeRefusal;
 use wt_content::ContentWhy;
 use wt_span::NoMemory;
 
@@ -11,7 +11,7 @@ use wt_span::NoMemory;
 #[derive(Clone, Copy, Debug, PartialEq, Eq)]
 pub enum EditRefusal {
     /// What the comparison of the two trees finds.
-    Check(Check),
+    Check(TreeRefusal),
     /// The inside of this marked node can't be written.
     BadContent(u32, ContentWhy),
     /// This marked node can't be read by itself.

@@ -20,7 +20,7 @@ use Rattle.wt_transclusion.specs.Cursors.{starts}
 use Rattle.wt_transclusion.specs.Frames.{AreValues}
 use Rattle.wt_transclusion.specs.Parts.{parts_given}
 use Rattle.wt_transclusion.specs.Steps.{IsStretchOf, given_from}
-use Rattle.wt_template_stack.specs.declared.level.Handing.{Handing}
+use Rattle.wt_template_stack.specs.declared.level.PendingCall.{PendingCall}
 use Rattle.wt_template_stack.specs.declared.level.Task.TheVariants as task
 use Rattle.wt_template_stack.specs.declared.run.TextRun.{TextRun}
 use Rattle.wt_template_stack.specs.Accounts.{Account, Does}
@@ -246,7 +246,7 @@ later_of r t most at (p ∷ ps) h = record {
 }
 
 -- a call of which the target alone is read, with its title
-pub record IsFirst (h : Handing) (b : Braces) (s : Bool) (title : Title) : Type 0 where
+pub record IsFirst (h : PendingCall) (b : Braces) (s : Bool) (title : Title) : Type 0 where
   pub call : h.call ≡ b
   pub at_start : h.at_start ≡ s
   pub title_is : h.title ≡ title
@@ -255,7 +255,7 @@ pub record IsFirst (h : Handing) (b : Braces) (s : Bool) (title : Title) : Type 
   pub values : AreValues h.handed.values []
 
 -- its first part but for the target stands next
-pub first_hands : (r : Reading) (t : List ℕ) (run : TextRun) (b : Braces) (s : Bool) (title : Title) (h : Handing) (total : Account) (c : IsCallOf r.mode t b)
+pub first_hands : (r : Reading) (t : List ℕ) (run : TextRun) (b : Braces) (s : Bool) (title : Title) (h : PendingCall) (total : Account) (c : IsCallOf r.mode t b)
     (p : ℕ) (at_start : Bool) → IsRunning r t run p at_start → p ≤ first_end (c.at + c.braces) (part_members 0 c.inside) → IsFirst h b s title
     → Resumes r t b.at.end (starts t b.at.end) (after_values r s title [] 1 (later_parts (parts_of_call r t b c))) (stack run.levels) total
     → HandsParts r t run h total
@@ -279,7 +279,7 @@ first_hands r t run b s title h total c p at_start running low f back =
       ps = x.parts;
       before = let y = x.before in omega (arith, y, low);
       within = subst (λ (k : Braces). p ≤ k.at.end) (sym f.call) (let y = first_before r t b c in omega (arith, y, low));
-      handing = record {
+      pending = record {
         values = f.values;
         parts = ap (λ n. drop n (map part_of h.call.parts.now)) f.part ∙ ap (λ (k : Braces). drop 1 (map part_of k.parts.now)) f.call
             ∙ ap (drop 1) c.parts_are ∙ x.places;
@@ -292,7 +292,7 @@ first_hands r t run b s title h total c p at_start running low f back =
 
 pub page_begins : (r : Reading) (t : List ℕ) (run : TextRun) (b : Braces) (s : Bool) (out_ps : List Piece) (title : Title) (total : Account)
     → HasEnded r t run (task.Target b s) out_ps total → title_of_target (items out_ps) ≡ Some title
-    → (left : Account) × Does (begun ∷ []) total left × ((h : Handing) → IsFirst h b s title → HandsParts r t run h left)
+    → (left : Account) × Does (begun ∷ []) total left × ((h : PendingCall) → IsFirst h b s title → HandsParts r t run h left)
 page_begins r t run b s out_ps title total w e =
     let c = w.ends.call in
     let later = later_parts (parts_of_call r t b c) in
@@ -306,7 +306,7 @@ page_begins r t run b s out_ps title total w e =
     )
 
 -- a call whose target is read already, alone
-pub page_alone : (r : Reading) (t : List ℕ) (run : TextRun) (b : Braces) (s : Bool) (title : Title) (h : Handing) (c : IsCallOf r.mode t b) (p : ℕ)
+pub page_alone : (r : Reading) (t : List ℕ) (run : TextRun) (b : Braces) (s : Bool) (title : Title) (h : PendingCall) (c : IsCallOf r.mode t b) (p : ℕ)
     (at_start : Bool) (total : Account)
     → total.left ≡ after_values r s title [] 1 (later_parts (parts_of_call r t b c))
     → IsReading r.mode t run.reader p at_start → run.mode ≡ r.mode → stack run.levels ≡ whole_level b.at.end ∷ []

@@ -18,8 +18,8 @@ use Rattle.wt_transclusion.specs.declared.refusal.ExpandRefusal.{ExpandRefusal}
 use Rattle.wt_transclusion.specs.declared.refusal.ExpandRefusal.TheVariants as answer
 use Rattle.wt_transclusion.specs.declared.read.ReadText.{ReadText}
 use Rattle.wt_transclusion.specs.declared.store.Store.{Store}
-use Rattle.wt_transclusion.specs.declared.templates.Taken.{Taken}
-use Rattle.wt_transclusion.specs.declared.templates.Taken.TheVariants as taken
+use Rattle.wt_transclusion.specs.declared.templates.PageLookup.{PageLookup}
+use Rattle.wt_transclusion.specs.declared.templates.PageLookup.TheVariants as taken
 use Rattle.wt_transclusion.specs.Answers.{IsFetched, IsRefused}
 use Rattle.wt_transclusion.specs.Reads.{IsRead}
 use Rattle.wt_transclusion.specs.Stops.{IsCause, told_with}
@@ -394,7 +394,7 @@ taken_names (suc left) false full met answered l e = refl
 -- memory is missing behind the fetch of a page
 pub page_unread : (pages : Pages) (page : List ℕ) (spent : ℕ) (met : List (List ℕ))
     (answered told : Option (List (List ℕ))) (left : ℕ)
-    (open_titles names : List (List ℕ)) (t : Title) (frame : Frame) (k : Taken) (read : ReadText)
+    (open_titles names : List (List ℕ)) (t : Title) (frame : Frame) (k : PageLookup) (read : ReadText)
     (store : Store) → open_titles ≡ names
     → k ≡ taken.Page read
     → AnswersTaking pages met open_titles left t store (Ok k)
@@ -404,8 +404,8 @@ pub page_unread : (pages : Pages) (page : List ℕ) (spent : ℕ) (met : List (L
 page_unread pages page spent met answered told left open_titles names t frame k read store same is h n =
     let full = full_name_of t in
     let l = ledger spent met answered in
-    let g = subst (λ (x : Taken). AnswersTaking pages met open_titles left t store (Ok x)) is h in
-    let told_is = subst (λ (x : Taken). IsNamed left open_titles full met answered told (Ok x)) is n in
+    let g = subst (λ (x : PageLookup). AnswersTaking pages met open_titles left t store (Ok x)) is h in
+    let told_is = subst (λ (x : PageLookup). IsNamed left open_titles full met answered told (Ok x)) is n in
     subst (λ (ns : List (List ℕ)). Refuses pages page l (template_output pages left ns t frame).work told
     answer.NoMemory) same
     (memory_stops pages page l left open_titles t frame told (told_is ∙ taken_names left (is_among full open_titles) full met answered g.0 g.1))

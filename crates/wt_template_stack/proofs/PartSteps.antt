@@ -22,13 +22,13 @@ use Rattle.wt_transclusion.specs.Steps.{IsStretchOf, given_from}
 use Rattle.wt_transclusion.specs.Stretch.{AllFull}
 use Rattle.wt_transclusion.proofs.PartLaws.{outs, outs_append}
 use Rattle.wt_transclusion.proofs.StretchLaws.{full_front, full_back, width_append}
-use Rattle.wt_template_stack.specs.declared.level.Handing.{Handing}
+use Rattle.wt_template_stack.specs.declared.level.PendingCall.{PendingCall}
 use Rattle.wt_template_stack.specs.declared.level.Level.{Level}
 use Rattle.wt_template_stack.specs.declared.level.Task.{Task}
 use Rattle.wt_template_stack.specs.declared.level.Task.TheVariants as task
 use Rattle.wt_template_stack.specs.declared.run.TextRun.{TextRun}
-use Rattle.wt_template_stack.specs.declared.run.Turn.{Turn}
-use Rattle.wt_template_stack.specs.declared.run.Turn.TheVariants as turn
+use Rattle.wt_template_stack.specs.declared.run.StepOutcome.{StepOutcome}
+use Rattle.wt_template_stack.specs.declared.run.StepOutcome.TheVariants as turn
 use Rattle.wt_template_stack.specs.Accounts.{Account}
 use Rattle.wt_template_stack.specs.Calls.{IsPartAt, next_place, ArePartsAt}
 use Rattle.wt_template_stack.specs.Levels.{IsNamedBy, Resumes, Ends}
@@ -46,18 +46,18 @@ no_parts : (at : ℕ) (ps : List PartMembers) → [] ≡ placed at ps → ps ≡
 no_parts at [] e = refl
 no_parts at (p ∷ ps) e = absurd cc
 
-pub parts_end : (r : Reading) (t : List ℕ) (run : TextRun) (h : Handing) (total : Account) → HandsParts r t run h total → length h.call.parts.now ≤ h.part
+pub parts_end : (r : Reading) (t : List ℕ) (run : TextRun) (h : PendingCall) (total : Account) → HandsParts r t run h total → length h.call.parts.now ≤ h.part
     → Calls r t run h total
 parts_end r t run h total w l =
     let none = no_parts w.at w.ps (sym (drop_all h.part (map part_of h.call.parts.now) (let z = length-map h.call.parts.now part_of in omega (arith, z, l)))
-    ∙ w.handing.parts) in
+    ∙ w.pending.parts) in
     record {
       place = w.place;
       at_start = w.at_start;
       running = w.running;
       before = w.within;
       frame = w.frame;
-      values = w.handing.values;
+      values = w.pending.values;
       resumes = subst (λ o. Resumes r t h.call.at.end (starts t h.call.at.end) o (stack run.levels) total)
           (ap (λ ps. after_values r h.at_start h.title w.frame h.handed.number (parts_given r (starts t w.at) t w.at ps)) none
           ∙ ap (λ vs. after_page h.at_start (r.template h.title vs)) (append-nil w.frame)) w.resumes;
@@ -89,11 +89,11 @@ values_named r s title frame n name value all later e =
     ∙ ap (λ es. with_work es x) e ∙ ap (out x.items) (append_assoc name.work value.work x.work)
 
 -- the next part of a call is begun
-abbrev pub next_handing : Handing → Handing
+abbrev pub next_handing : PendingCall → PendingCall
 next_handing h = record { call = h.call; at_start = h.at_start; title = h.title; part = h.part + 1; handed = h.handed }
 
 -- a part stands next of a call whose earlier parts have these values
-record PartThere (r : Reading) (t : List ℕ) (h : Handing) (ls : List Level) (frame : Frame) (at : ℕ) (total : Account) (p : PartMembers)
+record PartThere (r : Reading) (t : List ℕ) (h : PendingCall) (ls : List Level) (frame : Frame) (at : ℕ) (total : Account) (p : PartMembers)
     (rest : List PartMembers) (part : PartOf) : Type 0 where
   values : AreValues h.handed.values frame
   places : drop (h.part + 1) (map part_of h.call.parts.now) ≡ placed (next_place at p) rest
@@ -110,7 +110,7 @@ pub record LevelThere (r : Reading) (t : List ℕ) (at to : ℕ) (k : Task) (ls 
   pub stretch : IsStretchOf r.mode t at to left
   pub ends : Ends r t to k ls (given_from r (starts t at) t at left) total
 
-named_there : (r : Reading) (t : List ℕ) (h : Handing) (ls : List Level) (frame : Frame) (at : ℕ) (total : Account) (nm : Option (List Member × ℕ))
+named_there : (r : Reading) (t : List ℕ) (h : PendingCall) (ls : List Level) (frame : Frame) (at : ℕ) (total : Account) (nm : Option (List Member × ℕ))
     (value : List Member)
     (bar : ℕ) (rest : List PartMembers) (part : PartOf) (equals : ℕ)
     → PartThere r t h ls frame at total (record { name = nm; value = value; bar = bar }) rest part
@@ -142,7 +142,7 @@ named_there r t h ls frame at total (Some (xs, n)) value bar rest part equals w 
         value = value;
         at = next;
         ps = rest;
-        handing = record { values = w.values; parts = w.places; stand = w.others };
+        pending = record { values = w.values; parts = w.places; stand = w.others };
         value_ends = sym to ∙ ap (λ k. k + width_of value) behind;
         stretch = subst (λ k. IsStretchOf r.mode t k part.at.end value) behind (subst (λ k. IsStretchOf r.mode t q k value) to cut.2);
         before = omega (arith, ti);
@@ -151,7 +151,7 @@ named_there r t h ls frame at total (Some (xs, n)) value bar rest part equals w 
       };
     }
 
-unnamed_there : (r : Reading) (t : List ℕ) (h : Handing) (ls : List Level) (frame : Frame) (at : ℕ) (total : Account) (nm : Option (List Member × ℕ))
+unnamed_there : (r : Reading) (t : List ℕ) (h : PendingCall) (ls : List Level) (frame : Frame) (at : ℕ) (total : Account) (nm : Option (List Member × ℕ))
     (value : List Member)
     (bar : ℕ) (rest : List PartMembers) (part : PartOf) → PartThere r t h ls frame at total (record { name = nm; value = value; bar = bar }) rest part
     → part.equals ≡ None → LevelThere r t at part.at.end (task.Value (next_handing h) None) ls total
@@ -171,7 +171,7 @@ unnamed_there r t h ls frame at total None value bar rest part w e =
         given = None;
         at = next;
         ps = rest;
-        handing = record { values = w.values; parts = w.places; stand = w.others };
+        pending = record { values = w.values; parts = w.places; stand = w.others };
         named = tt;
         before = omega (arith, ti);
         within = omega (arith, ti, en);
@@ -188,14 +188,14 @@ drop_get (y ∷ xs) (suc n) x e = drop_get xs n x e ∙ ap (λ k. x ∷ drop k (
 place_is : (a b : PartAt) (xs ys : List PartAt) → a ∷ xs ≡ b ∷ ys → (a ≡ b) × (xs ≡ ys)
 place_is a b xs ys e = (cc, cc)
 
-pub record HasPart (r : Reading) (t : List ℕ) (run : TextRun) (h : Handing) (total : Account) (w : HandsParts r t run h total) (part : PartOf) : Type 0 where
+pub record HasPart (r : Reading) (t : List ℕ) (run : TextRun) (h : PendingCall) (total : Account) (w : HandsParts r t run h total) (part : PartOf) : Type 0 where
   p : PartMembers
   rest : List PartMembers
   there : PartThere r t h (stack run.levels) w.frame w.at total p rest part
 
-has_part : (r : Reading) (t : List ℕ) (run : TextRun) (h : Handing) (total : Account) (w : HandsParts r t run h total) (part : PartOf)
+has_part : (r : Reading) (t : List ℕ) (run : TextRun) (h : PendingCall) (total : Account) (w : HandsParts r t run h total) (part : PartOf)
     → slice_get h.call.parts.now h.part ≡ Some part → HasPart r t run h total w part
-has_part r t run h total w part e = by_parts w.ps w.handing.parts w.handing.stand w.resumes
+has_part r t run h total w part e = by_parts w.ps w.pending.parts w.pending.stand w.resumes
   where
     listed_parts : drop h.part (map part_of h.call.parts.now) ≡ part_of part ∷ drop (h.part + 1) (map part_of h.call.parts.now)
     listed_parts = drop_get (map part_of h.call.parts.now) h.part (part_of part) (slice_get-map part_of h.call.parts.now h.part ∙ ap (option_map part_of) e)
@@ -212,7 +212,7 @@ has_part r t run h total w part e = by_parts w.ps w.handing.parts w.handing.stan
           p = p;
           rest = rest;
           there = record {
-            values = w.handing.values;
+            values = w.pending.values;
             places = same.1 ∙ ap (λ q. placed (q + p.bar) rest) wide;
             first = stand.0;
             others = stand.1;
@@ -223,7 +223,7 @@ has_part r t run h total w part e = by_parts w.ps w.handing.parts w.handing.stan
           };
         }
 
-begins_there : (r : Reading) (t : List ℕ) (run : TextRun) (h : Handing) (total : Account) (w : HandsParts r t run h total) (start to : ℕ) (k : Task)
+begins_there : (r : Reading) (t : List ℕ) (run : TextRun) (h : PendingCall) (total : Account) (w : HandsParts r t run h total) (start to : ℕ) (k : Task)
     → start ≡ w.at
     → LevelThere r t w.at to k (stack run.levels) total → BeginsLevel r t run start (starts t start) to k total
 begins_there r t run h total w start to k e l = record {
@@ -237,7 +237,7 @@ begins_there r t run h total w start to k e l = record {
 }
 
 -- a part that has a name
-pub name_begins : (r : Reading) (t : List ℕ) (run : TextRun) (h : Handing) (part : PartOf) (equals : ℕ) (total : Account) → HandsParts r t run h total
+pub name_begins : (r : Reading) (t : List ℕ) (run : TextRun) (h : PendingCall) (part : PartOf) (equals : ℕ) (total : Account) → HandsParts r t run h total
     → slice_get h.call.parts.now h.part ≡ Some part → part.equals ≡ Some equals
     → BeginsLevel r t run part.at.start (starts t part.at.start) equals (task.Name (next_handing h) part.at.end) total
 name_begins r t run h part equals total w e q =
@@ -246,7 +246,7 @@ name_begins r t run h part equals total w e q =
     (named_there r t h (stack run.levels) w.frame w.at total x.p.name x.p.value x.p.bar x.rest part equals x.there q)
 
 -- a part without a name
-pub value_begins : (r : Reading) (t : List ℕ) (run : TextRun) (h : Handing) (part : PartOf) (total : Account) → HandsParts r t run h total
+pub value_begins : (r : Reading) (t : List ℕ) (run : TextRun) (h : PendingCall) (part : PartOf) (total : Account) → HandsParts r t run h total
     → slice_get h.call.parts.now h.part ≡ Some part → part.equals ≡ None
     → BeginsLevel r t run part.at.start (starts t part.at.start) part.at.end (task.Value (next_handing h) None) total
 value_begins r t run h part total w e q =
@@ -256,7 +256,7 @@ value_begins r t run h part total w e q =
 
 -- ---- a name or a value ends
 
-pub name_ends : (r : Reading) (t : List ℕ) (run : TextRun) (h : Handing) (to : ℕ) (out_ps : List Piece) (name : String Global) (total : Account)
+pub name_ends : (r : Reading) (t : List ℕ) (run : TextRun) (h : PendingCall) (to : ℕ) (out_ps : List Piece) (name : String Global) (total : Account)
     → (w : HasEnded r t run (task.Name h to) out_ps total) → string_bytes name ≡ name_text (items out_ps)
     → BeginsLevel r t run (w.place + 1) (starts t (w.place + 1)) to (task.Value h (Some name)) total
 name_ends r t run h to out_ps name total w e = record {
@@ -271,7 +271,7 @@ name_ends r t run h to out_ps name total w e = record {
     given = Some (just (items out_ps));
     at = w.ends.at;
     ps = w.ends.ps;
-    handing = w.ends.handing;
+    pending = w.ends.pending;
     named = e;
     before = w.ends.before;
     within = w.ends.within;
@@ -279,7 +279,7 @@ name_ends r t run h to out_ps name total w e = record {
   };
 }
 
-pub name_begun : (r : Reading) (t : List ℕ) (run : TextRun) (h : Handing) (to : ℕ) (out_ps : List Piece) (name : String Global) (at : ℕ) (total : Account)
+pub name_begun : (r : Reading) (t : List ℕ) (run : TextRun) (h : PendingCall) (to : ℕ) (out_ps : List Piece) (name : String Global) (at : ℕ) (total : Account)
     → (w : HasEnded r t run (task.Name h to) out_ps total) → string_bytes name ≡ name_text (items out_ps) → at ≡ run.reader.cursor.at + 1
     → BeginsLevel r t run at (starts t at) to (task.Value h (Some name)) total
 name_begun r t run h to out_ps name at total w e is =
@@ -287,10 +287,10 @@ name_begun r t run h to out_ps name at total w e is =
     (name_ends r t run h to out_ps name total w e)
 
 -- the values with one more
-abbrev pub handing_with : Handing → Handed → Handing
+abbrev pub handing_with : PendingCall → Handed → PendingCall
 handing_with h handed = record { call = h.call; at_start = h.at_start; title = h.title; part = h.part; handed = handed }
 
-pub value_ends : (r : Reading) (t : List ℕ) (run : TextRun) (h : Handing) (handed : Handed) (name : Option (String Global)) (out_ps : List Piece)
+pub value_ends : (r : Reading) (t : List ℕ) (run : TextRun) (h : PendingCall) (handed : Handed) (name : Option (String Global)) (out_ps : List Piece)
     (total : Account)
     → HasEnded r t run (task.Value h name) out_ps total
     → ((frame : Frame) (named : Option Output) (given : Output) → AreValues h.handed.values frame → IsNamedBy name named → items out_ps ≡ given.items
@@ -309,21 +309,21 @@ value_ends r t run h handed name out_ps total w put counted =
       ps = v.ps;
       before = v.before;
       within = v.within;
-      handing = record { values = put v.frame v.given o v.handing.values v.named refl; parts = v.handing.parts; stand = v.handing.stand };
+      pending = record { values = put v.frame v.given o v.pending.values v.named refl; parts = v.pending.parts; stand = v.pending.stand };
       resumes = subst (λ n. Resumes r t h.call.at.end (starts t h.call.at.end)
           (after_values r h.at_start h.title frame n (parts_given r (starts t v.at) t v.at v.ps)) (stack run.levels) total)
           (sym (counted v.given v.named)) v.gives;
     }
 
 -- a part that is begun, or a page that is called, with nothing spent
-pub part_taken : (r : Reading) (t : List ℕ) (spent : ℕ) (total : Account) (run : TextRun) (k : Turn) → TakesPart r t total run k
+pub part_taken : (r : Reading) (t : List ℕ) (spent : ℕ) (total : Account) (run : TextRun) (k : StepOutcome) → TakesPart r t total run k
     → TakesTurn r t spent total run spent k
 part_taken r t spent total run turn.Went h = (total, spends_none spent total, h)
 part_taken r t spent total run (turn.Done ps) h = absurd h
 part_taken r t spent total run (turn.Called a) h = (total, spends_none spent total, h)
 
 -- the same behind some work
-pub part_taken_behind : (r : Reading) (t : List ℕ) (spent now : ℕ) (total left : Account) (run : TextRun) (k : Turn) → Spends spent total now left
+pub part_taken_behind : (r : Reading) (t : List ℕ) (spent now : ℕ) (total left : Account) (run : TextRun) (k : StepOutcome) → Spends spent total now left
     → TakesPart r t left run k
     → TakesTurn r t spent total run now k
 part_taken_behind r t spent now total left run turn.Went s h = (left, s, h)

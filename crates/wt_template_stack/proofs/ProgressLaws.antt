@@ -16,8 +16,8 @@ use Rattle.wt_transclusion.specs.declared.refusal.ExpandRefusal.{ExpandRefusal}
 use Rattle.wt_transclusion.specs.declared.refusal.ExpandRefusal.TheVariants as answer
 use Rattle.wt_transclusion.specs.declared.read.ReadText.{ReadText}
 use Rattle.wt_transclusion.specs.declared.store.Store.{Store}
-use Rattle.wt_transclusion.specs.declared.templates.Taken.{Taken}
-use Rattle.wt_transclusion.specs.declared.templates.Taken.TheVariants as taken
+use Rattle.wt_transclusion.specs.declared.templates.PageLookup.{PageLookup}
+use Rattle.wt_transclusion.specs.declared.templates.PageLookup.TheVariants as taken
 use Rattle.wt_transclusion.specs.Answers.{IsNoFault, IsCountedErr}
 use Rattle.wt_transclusion.specs.Reads.{IsRead}
 use Rattle.wt_transclusion.specs.Cursors.{starts}
@@ -28,10 +28,10 @@ use Rattle.wt_template_stack.specs.Ledgers.{Ledger, ledger, Comes, ComesBy, Refu
 use Rattle.wt_template_stack.specs.Rests.{with_work, after_page}
 use Rattle.wt_template_stack.specs.Runs.{Spends, Holds, Calls, Returns, RefusesCost, Goes, TakesPart, TakesTurn}
 use Rattle.wt_template_stack.specs.Stacks.{stack}
-use Rattle.wt_template_stack.specs.declared.level.Handing.{Handing}
+use Rattle.wt_template_stack.specs.declared.level.PendingCall.{PendingCall}
 use Rattle.wt_template_stack.specs.declared.run.TextRun.{TextRun}
-use Rattle.wt_template_stack.specs.declared.run.Turn.{Turn}
-use Rattle.wt_template_stack.specs.declared.run.Turn.TheVariants as turn
+use Rattle.wt_template_stack.specs.declared.run.StepOutcome.{StepOutcome}
+use Rattle.wt_template_stack.specs.declared.run.StepOutcome.TheVariants as turn
 use Rattle.wt_template_stack.proofs.LevelLaws.{strip}
 use Rattle.wt_template_stack.proofs.LedgerLaws.{Enters, by_none, by_refused, by_then, comes_spent, cost_refuses, enters, link_given, memory_refused, message_given, page_given, page_refused, refused_before, spent_all}
 
@@ -101,7 +101,7 @@ done pages page t r l all run store spent now answered ps p n e = (
 
 -- what a step came to
 pub step_taken : (pages : Pages) (page t : List ℕ) (r : Reading) (l : Ledger) (all : Output) (run next : TextRun) (store : Store) (spent now : ℕ)
-    (answered : Option (List (List ℕ))) (k : Turn) → (p : Progress pages page r t l all run store spent answered) → TakesTurn r t spent p.total next now k
+    (answered : Option (List (List ℕ))) (k : StepOutcome) → (p : Progress pages page r t l all run store spent answered) → TakesTurn r t spent p.total next now k
     → TakesStep pages page r t l all next store now answered k
 step_taken pages page t r l all run next store spent now answered turn.Went p h = goes_on pages page t r l all run next store spent now answered p h
 step_taken pages page t r l all run next store spent now answered (turn.Done ps) p h = done pages page t r l all run store spent now answered ps p h.0 h.1
@@ -124,7 +124,7 @@ page_does spent all o e = record { before_is = refl; done_is = refl; left_is = e
 
 -- behind its beginning
 pub part_step : (pages : Pages) (page t : List ℕ) (r : Reading) (spent now : ℕ) (met : List (List ℕ)) (answered : Option (List (List ℕ))) (all : Output)
-    (left : Account) (run : TextRun) (store : Store) (k : Turn) → IsStore pages met store → Spends spent (undone spent all) now left → TakesPart r t left run k
+    (left : Account) (run : TextRun) (store : Store) (k : StepOutcome) → IsStore pages met store → Spends spent (undone spent all) now left → TakesPart r t left run k
     → TakesStep pages page r t (ledger spent met answered) all run store now answered k
 part_step pages page t r spent now met answered all left run store turn.Went s z h = record {
   total = left;
@@ -151,12 +151,12 @@ part_step pages page t r spent now met answered all left run store (turn.Called 
 -- ---- a page that is called
 
 -- what a called page gives comes first
-record Stripped (r : Reading) (t : List ℕ) (run : TextRun) (h : Handing) (o : Output) (total : Account) : Type 0 where
+record Stripped (r : Reading) (t : List ℕ) (run : TextRun) (h : PendingCall) (o : Output) (total : Account) : Type 0 where
   left : Account
   does : Does o.work total left
   returns : Returns r t run h.call.at.end (after_page h.at_start (just o.items)) left
 
-stripped : (r : Reading) (t : List ℕ) (run : TextRun) (h : Handing) (total : Account) → (c : Calls r t run h total)
+stripped : (r : Reading) (t : List ℕ) (run : TextRun) (h : PendingCall) (total : Account) → (c : Calls r t run h total)
     → Stripped r t run h (r.template h.title c.frame) total
 stripped r t run h total c =
     let o = r.template h.title c.frame in
@@ -170,7 +170,7 @@ stripped r t run h total c =
 
 -- a page that was called has given its pieces
 pub record Paged (pages : Pages) (page : List ℕ) (r : Reading) (t : List ℕ) (before : Ledger) (all : Output) (run : TextRun) (store : Store) (spent : ℕ)
-    (answered : Option (List (List ℕ))) (h : Handing) (ps : List Piece) : Type 0 where
+    (answered : Option (List (List ℕ))) (h : PendingCall) (ps : List Piece) : Type 0 where
   pub left : Account
   pub met : List (List ℕ)
   pub stored : IsStore pages met store
@@ -197,7 +197,7 @@ page_comes pages page l b w es spent met answered total left d c g =
     (all_before pages page now b es left.left.work g))
 
 pub page_taken : (pages : Pages) (page t : List ℕ) (r : Reading) (l : Ledger) (all : Output) (run : TextRun) (store next : Store) (spent now : ℕ)
-    (answered told : Option (List (List ℕ))) (h : Handing) (ps : List Piece) → (c : Calling pages page r t l all run store spent answered h)
+    (answered told : Option (List (List ℕ))) (h : PendingCall) (ps : List Piece) → (c : Calling pages page r t l all run store spent answered h)
     → AnswersOutput pages page (ledger spent c.met answered) (r.template h.title c.calls.frame) next now told (Ok ps)
     → Paged pages page r t l all run next now told h ps
 page_taken pages page t r l all run store next spent now answered told h ps c g =
@@ -214,7 +214,7 @@ page_taken pages page t r l all run store next spent now answered told h ps c g 
     }
 
 pub page_untaken : (pages : Pages) (page t : List ℕ) (r : Reading) (l : Ledger) (all : Output) (run : TextRun) (store : Store) (spent : ℕ)
-    (answered told : Option (List (List ℕ))) (h : Handing) (e : ExpandRefusal)
+    (answered told : Option (List (List ℕ))) (h : PendingCall) (e : ExpandRefusal)
     → (c : Calling pages page r t l all run store spent answered h)
     → Refuses pages page (ledger spent c.met answered) (r.template h.title c.calls.frame).work told e
     → Refuses pages page l all.work told e
@@ -227,7 +227,7 @@ page_untaken pages page t r l all run store spent answered told h e c g =
     (refused_before pages page now o.work s.left.left.work told e g))
 
 pub paged_goes : (pages : Pages) (page t : List ℕ) (r : Reading) (l : Ledger) (all : Output) (run next : TextRun) (store : Store) (spent now : ℕ)
-    (answered : Option (List (List ℕ))) (h : Handing) (ps : List Piece) → (p : Paged pages page r t l all run store spent answered h ps)
+    (answered : Option (List (List ℕ))) (h : PendingCall) (ps : List Piece) → (p : Paged pages page r t l all run store spent answered h ps)
     → Goes r t spent p.left next now → Progress pages page r t l all next store now answered
 paged_goes pages page t r l all run next store spent now answered h ps p g = record {
   total = g.0;
@@ -240,7 +240,7 @@ paged_goes pages page t r l all run next store spent now answered h ps p g = rec
 }
 
 pub paged_refused : (pages : Pages) (page t : List ℕ) (r : Reading) (l : Ledger) (all : Output) (run : TextRun) (store : Store) (spent : ℕ)
-    (answered : Option (List (List ℕ))) (h : Handing) (ps : List Piece) (e : ExpandRefusal) → (p : Paged pages page r t l all run store spent answered h ps)
+    (answered : Option (List (List ℕ))) (h : PendingCall) (ps : List Piece) (e : ExpandRefusal) → (p : Paged pages page r t l all run store spent answered h ps)
     → RefusesCost spent p.left e → Refuses pages page l all.work answered e
 paged_refused pages page t r l all run store spent answered h ps e p g =
     cost_refuses pages page l all.work spent p.met answered p.left e p.before_is p.comes g
@@ -257,7 +257,7 @@ no_fault_counted before now answer.NoMemory h e = e
 
 -- a step, where the names of the pages that are being expanded are those of before
 pub step_handed : (pages : Pages) (page t : List ℕ) (m : Mode) (frame : Frame) (left : ℕ) (names names_now : List (List ℕ)) → names_now ≡ names
-    → (l : Ledger) (all : Output) (run next : TextRun) (store : Store) (spent now : ℕ) (answered : Option (List (List ℕ))) (k : Turn)
+    → (l : Ledger) (all : Output) (run next : TextRun) (store : Store) (spent now : ℕ) (answered : Option (List (List ℕ))) (k : StepOutcome)
     → (p : Progress pages page (reading_of pages m frame left names) t l all run store spent answered)
     → TakesTurn (reading_of pages m frame left names) t spent p.total next now k
     → TakesStep pages page (reading_of pages m frame left names_now) t l all next store now answered k
@@ -269,26 +269,26 @@ pub one_less : (left less : ℕ) → 1 ≤ left → less ≡ left - 1 → left �
 one_less left less l e = omega (arith, l, e)
 
 pub message_done : (pages : Pages) (page : List ℕ) (spent : ℕ) (met : List (List ℕ)) (answered now : Option (List (List ℕ))) (left : ℕ)
-    (open_titles names : List (List ℕ)) (title : Title) (frame : Frame) (k : Taken) (ps : List Piece) (store : Store) → open_titles ≡ names
+    (open_titles names : List (List ℕ)) (title : Title) (frame : Frame) (k : PageLookup) (ps : List Piece) (store : Store) → open_titles ≡ names
     → k ≡ taken.Message ps
     → AnswersTaking pages met open_titles left title store (Ok k)
     → IsNamed left open_titles (full_name_of title) met answered now (Ok k)
     → AnswersOutput pages page (ledger spent met answered) (template_output pages left names title frame) store spent now (Ok ps)
 message_done pages page spent met answered now left open_titles names title frame k ps store e is h n =
-    let g = subst (λ (x : Taken). AnswersTaking pages met open_titles left title store (Ok x)) is h in
-    let same = subst (λ (x : Taken). IsNamed left open_titles (full_name_of title) met answered now (Ok x))
+    let g = subst (λ (x : PageLookup). AnswersTaking pages met open_titles left title store (Ok x)) is h in
+    let same = subst (λ (x : PageLookup). IsNamed left open_titles (full_name_of title) met answered now (Ok x))
     is n in
     subst (λ (ns : List (List ℕ)). AnswersOutput pages page (ledger spent met answered) (template_output pages left ns title frame) store spent now (Ok ps)) e
     (message_given pages page spent met answered now (template_output pages left open_titles title frame) store ps (g.0 frame) g.1 same)
 
 pub link_done : (pages : Pages) (page : List ℕ) (spent : ℕ) (met : List (List ℕ)) (answered now : Option (List (List ℕ))) (left : ℕ)
-    (open_titles names : List (List ℕ)) (title : Title) (frame : Frame) (k : Taken) (ps : List Piece) (store : Store) → open_titles ≡ names → k ≡ taken.Link ps
+    (open_titles names : List (List ℕ)) (title : Title) (frame : Frame) (k : PageLookup) (ps : List Piece) (store : Store) → open_titles ≡ names → k ≡ taken.Link ps
     → AnswersTaking pages met open_titles left title store (Ok k)
     → IsNamed left open_titles (full_name_of title) met answered now (Ok k)
     → AnswersOutput pages page (ledger spent met answered) (template_output pages left names title frame) store spent now (Ok ps)
 link_done pages page spent met answered now left open_titles names title frame k ps store e is h n =
-    let g = subst (λ (x : Taken). AnswersTaking pages met open_titles left title store (Ok x)) is h in
-    let same = subst (λ (x : Taken). IsNamed left open_titles (full_name_of title) met answered now (Ok x))
+    let g = subst (λ (x : PageLookup). AnswersTaking pages met open_titles left title store (Ok x)) is h in
+    let same = subst (λ (x : PageLookup). IsNamed left open_titles (full_name_of title) met answered now (Ok x))
     is n in
     subst (λ (ns : List (List ℕ)). AnswersOutput pages page (ledger spent met answered) (template_output pages left ns title frame) store spent now (Ok ps)) e
     (link_given pages page spent met answered now (full_name_of title) (template_output pages left open_titles title frame) store ps (g.0 frame) g.1 same)
@@ -306,7 +306,7 @@ entered_done pages page spent now met answered told left names t frame read next
     page_refused pages page spent met answered told left names t frame read e n h
 
 pub page_done : (pages : Pages) (page : List ℕ) (spent now : ℕ) (met : List (List ℕ)) (answered named told : Option (List (List ℕ))) (left less : ℕ)
-    (open_titles names names_in : List (List ℕ)) (t : Title) (frame : Frame) (k : Taken) (read : ReadText) (run : TextRun) (store next : Store)
+    (open_titles names names_in : List (List ℕ)) (t : Title) (frame : Frame) (k : PageLookup) (read : ReadText) (run : TextRun) (store next : Store)
     (x : Result (Listed Piece) ExpandRefusal) → open_titles ≡ names → k ≡ taken.Page read → left ≡ suc less → names_in ≡ full_name_of t ∷ names
     → AnswersTaking pages met open_titles left t store (Ok k)
     → IsNamed left open_titles (full_name_of t) met answered named (Ok k)
@@ -317,8 +317,8 @@ pub page_done : (pages : Pages) (page : List ℕ) (spent now : ℕ) (met : List 
     → AnswersOutput pages page (ledger spent met answered) (template_output pages left names t frame) next now told x
 page_done pages page spent now met answered named told left less open_titles names names_in t frame k read run store next x e is some inside h n holds on =
     let full = full_name_of t in
-    let g = subst (λ (y : Taken). AnswersTaking pages met open_titles left t store (Ok y)) is h in
-    let same = subst (λ (y : Taken). IsNamed left open_titles full met answered named (Ok y)) is n in
+    let g = subst (λ (y : PageLookup). AnswersTaking pages met open_titles left t store (Ok y)) is h in
+    let same = subst (λ (y : PageLookup). IsNamed left open_titles full met answered named (Ok y)) is n in
     let shut = subst (λ (ns : List (List ℕ)). is_among full ns ≡ false) e g.1 in
     let enter = enters pages page spent met answered less names t frame read shut g.2 in
     let r = reading_of pages mode.Template frame less names_in in

@@ -11,10 +11,10 @@ use Rattle.wt_transclusion.specs.declared.refusal.ExpandRefusal.{ExpandRefusal}
 use Rattle.wt_transclusion.specs.declared.store.Store.{Store}
 use Rattle.wt_transclusion.specs.Stops.{Stops, told_with}
 use Rattle.wt_transclusion.specs.Stores.{IsStore}
-use Rattle.wt_template_stack.specs.declared.level.Handing.{Handing}
+use Rattle.wt_template_stack.specs.declared.level.PendingCall.{PendingCall}
 use Rattle.wt_template_stack.specs.declared.run.TextRun.{TextRun}
-use Rattle.wt_template_stack.specs.declared.run.Turn.{Turn}
-use Rattle.wt_template_stack.specs.declared.run.Turn.TheVariants as turn
+use Rattle.wt_template_stack.specs.declared.run.StepOutcome.{StepOutcome}
+use Rattle.wt_template_stack.specs.declared.run.StepOutcome.TheVariants as turn
 use Rattle.wt_template_stack.specs.Accounts.{Account}
 use Rattle.wt_template_stack.specs.Runs.{Calls, Holds}
 use Rattle.wt_template_stack.specs.Stacks.{stack}
@@ -75,7 +75,7 @@ pub record Progress (pages : Pages) (page : List ℕ) (r : Reading) (t : List �
 
 -- so much is expanded, and a page is called
 pub record Calling (pages : Pages) (page : List ℕ) (r : Reading) (t : List ℕ) (before : Ledger) (all : Output) (run : TextRun) (store : Store) (spent : ℕ)
-    (answered : Option (List (List ℕ))) (h : Handing) : Type 0 where
+    (answered : Option (List (List ℕ))) (h : PendingCall) : Type 0 where
   pub total : Account
   pub met : List (List ℕ)
   pub stored : IsStore pages met store
@@ -85,7 +85,7 @@ pub record Calling (pages : Pages) (page : List ℕ) (r : Reading) (t : List ℕ
   pub comes : ComesBy pages page before all.work total.done (ledger spent met answered) total.left.work
 
 -- what a step came to
-abbrev pub TakesStep : Pages → List ℕ → Reading → List ℕ → Ledger → Output → TextRun → Store → ℕ → Option (List (List ℕ)) → Turn → Type 0
+abbrev pub TakesStep : Pages → List ℕ → Reading → List ℕ → Ledger → Output → TextRun → Store → ℕ → Option (List (List ℕ)) → StepOutcome → Type 0
 TakesStep pages page r t before all run store spent answered turn.Went = Progress pages page r t before all run store spent answered
 TakesStep pages page r t before all run store spent answered (turn.Done ps) = AnswersOutput pages page before all store spent answered (Ok ps)
 TakesStep pages page r t before all run store spent answered (turn.Called h) = Calling pages page r t before all run store spent answered h

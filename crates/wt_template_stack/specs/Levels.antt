@@ -19,7 +19,7 @@ use Rattle.wt_transclusion.specs.Parts.{parts_given}
 use Rattle.wt_transclusion.specs.Steps.{IsStretchOf, given_from}
 use Rattle.wt_template_stack.specs.declared.choosing.Choosing.{Choosing}
 use Rattle.wt_template_stack.specs.declared.level.Level.{Level}
-use Rattle.wt_template_stack.specs.declared.level.Handing.{Handing}
+use Rattle.wt_template_stack.specs.declared.level.PendingCall.{PendingCall}
 use Rattle.wt_template_stack.specs.declared.level.Task.{Task}
 use Rattle.wt_template_stack.specs.declared.level.Task.TheVariants as task
 use Rattle.wt_template_stack.specs.Accounts.{Account, IsLast}
@@ -31,7 +31,7 @@ use Rattle.wt_template_stack.specs.ToldParts.{name_end}
 -- ---- calls whose values are read
 
 -- the values so far are those of a frame, and these parts are left, from a place on
-pub record IsHanding (m : Mode) (t : List ℕ) (h : Handing) (frame : Frame) (at : ℕ) (ps : List PartMembers) : Type 0 where
+pub record IsHanding (m : Mode) (t : List ℕ) (h : PendingCall) (frame : Frame) (at : ℕ) (ps : List PartMembers) : Type 0 where
   pub values : AreValues h.handed.values frame
   pub parts : drop h.part (map part_of h.call.parts.now) ≡ placed at ps
   pub stand : ArePartsAt m t h.call.at.end at ps
@@ -67,12 +67,12 @@ abbrev pub Back : Type 1
 Back = ℕ → Output → Type 0
 
 -- the name of a value is read up to `e`, and the value ends at `to`
-pub record NameWaits (r : Reading) (t : List ℕ) (e : ℕ) (h : Handing) (to : ℕ) (back : Back) (o : Output) : Type 0 where
+pub record NameWaits (r : Reading) (t : List ℕ) (e : ℕ) (h : PendingCall) (to : ℕ) (back : Back) (o : Output) : Type 0 where
   pub frame : Frame
   pub value : List Member
   pub at : ℕ
   pub ps : List PartMembers
-  pub handing : IsHanding r.mode t h frame at ps
+  pub pending : IsHanding r.mode t h frame at ps
   pub value_ends : to ≡ e + 1 + width_of value
   pub stretch : IsStretchOf r.mode t (e + 1) to value
   pub before : to ≤ at
@@ -81,12 +81,12 @@ pub record NameWaits (r : Reading) (t : List ℕ) (e : ℕ) (h : Handing) (to : 
       (after_name r h.at_start h.title frame h.handed.number (given_from r (starts t (e + 1)) t (e + 1) value) (parts_given r (starts t at) t at ps) o)
 
 -- a value is read up to `e`
-pub record ValueWaits (r : Reading) (t : List ℕ) (e : ℕ) (h : Handing) (name : Option (String Global)) (back : Back) (o : Output) : Type 0 where
+pub record ValueWaits (r : Reading) (t : List ℕ) (e : ℕ) (h : PendingCall) (name : Option (String Global)) (back : Back) (o : Output) : Type 0 where
   pub frame : Frame
   pub given : Option Output
   pub at : ℕ
   pub ps : List PartMembers
-  pub handing : IsHanding r.mode t h frame at ps
+  pub pending : IsHanding r.mode t h frame at ps
   pub named : IsNamedBy name given
   pub before : e ≤ at
   pub within : e ≤ h.call.at.end

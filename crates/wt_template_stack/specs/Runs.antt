@@ -18,11 +18,11 @@ use Rattle.wt_transclusion.specs.Frames.{AreValues}
 use Rattle.wt_transclusion.specs.Parts.{parts_given}
 use Rattle.wt_transclusion.specs.Steps.{IsStretchOf, given_from}
 use Rattle.wt_template_stack.specs.declared.level.Level.{Level}
-use Rattle.wt_template_stack.specs.declared.level.Handing.{Handing}
+use Rattle.wt_template_stack.specs.declared.level.PendingCall.{PendingCall}
 use Rattle.wt_template_stack.specs.declared.level.Task.{Task}
 use Rattle.wt_template_stack.specs.declared.run.TextRun.{TextRun}
-use Rattle.wt_template_stack.specs.declared.run.Turn.{Turn}
-use Rattle.wt_template_stack.specs.declared.run.Turn.TheVariants as turn
+use Rattle.wt_template_stack.specs.declared.run.StepOutcome.{StepOutcome}
+use Rattle.wt_template_stack.specs.declared.run.StepOutcome.TheVariants as turn
 use Rattle.wt_template_stack.specs.Accounts.{Account, AreFetched, Does, IsAllowed, IsLast}
 use Rattle.wt_template_stack.specs.Calls.{IsCallOf, source_of, parts_of_call, outs_of_call}
 use Rattle.wt_template_stack.specs.Levels.{Resumes, Ends, IsHanding}
@@ -87,7 +87,7 @@ pub record BeginsCall (r : Reading) (t : List ℕ) (run : TextRun) (ls : List Le
       (source_of r.mode t b call) (parts_of_call r t b call) (outs_of_call r t b call)) ls total
 
 -- the parts of a call that are left stand next
-pub record HandsParts (r : Reading) (t : List ℕ) (run : TextRun) (h : Handing) (total : Account) : Type 0 where
+pub record HandsParts (r : Reading) (t : List ℕ) (run : TextRun) (h : PendingCall) (total : Account) : Type 0 where
   pub place : ℕ
   pub at_start : Bool
   pub running : IsRunning r t run place at_start
@@ -96,12 +96,12 @@ pub record HandsParts (r : Reading) (t : List ℕ) (run : TextRun) (h : Handing)
   pub ps : List PartMembers
   pub before : place ≤ at
   pub within : place ≤ h.call.at.end
-  pub handing : IsHanding r.mode t h frame at ps
+  pub pending : IsHanding r.mode t h frame at ps
   pub resumes : Resumes r t h.call.at.end (starts t h.call.at.end)
       (after_values r h.at_start h.title frame h.handed.number (parts_given r (starts t at) t at ps)) (stack run.levels) total
 
 -- a page is called with values
-pub record Calls (r : Reading) (t : List ℕ) (run : TextRun) (h : Handing) (total : Account) : Type 0 where
+pub record Calls (r : Reading) (t : List ℕ) (run : TextRun) (h : PendingCall) (total : Account) : Type 0 where
   pub place : ℕ
   pub at_start : Bool
   pub running : IsRunning r t run place at_start
@@ -122,7 +122,7 @@ pub record GivesAgain (r : Reading) (t : List ℕ) (run : TextRun) (b : Braces) 
   pub resumes : Resumes r t b.at.end (starts t b.at.end) (after_given s (with_work done (just (items out)))) (stack run.levels) total
 
 -- a part that is left is begun, or there is none
-abbrev pub TakesPart : Reading → List ℕ → Account → TextRun → Turn → Type 0
+abbrev pub TakesPart : Reading → List ℕ → Account → TextRun → StepOutcome → Type 0
 TakesPart r t total run turn.Went = Holds r t run (stack run.levels) total
 TakesPart r t total run (turn.Done ps) = ⊥
 TakesPart r t total run (turn.Called h) = Calls r t run h total
@@ -164,12 +164,12 @@ AnswersGoing r t spent total run now (Ok u) = Goes r t spent total run now
 AnswersGoing r t spent total run now (Err e) = RefusesCost spent total e
 
 -- a run goes on, or is done, or calls a page
-abbrev pub TakesTurn : Reading → List ℕ → ℕ → Account → TextRun → ℕ → Turn → Type 0
+abbrev pub TakesTurn : Reading → List ℕ → ℕ → Account → TextRun → ℕ → StepOutcome → Type 0
 TakesTurn r t spent total run now turn.Went = Goes r t spent total run now
 TakesTurn r t spent total run now (turn.Done ps) = (now ≡ spent) × (total.left ≡ just (items ps))
 TakesTurn r t spent total run now (turn.Called h) = (left : Account) × Spends spent total now left × Calls r t run h left
 
-abbrev pub AnswersTurn : Reading → List ℕ → ℕ → Account → TextRun → ℕ → Result Turn ExpandRefusal → Type 0
+abbrev pub AnswersTurn : Reading → List ℕ → ℕ → Account → TextRun → ℕ → Result StepOutcome ExpandRefusal → Type 0
 AnswersTurn r t spent total run now (Ok k) = TakesTurn r t spent total run now k
 AnswersTurn r t spent total run now (Err e) = RefusesCost spent total e
 

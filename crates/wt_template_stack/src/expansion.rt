@@ -21,24 +21,24 @@ ghost use Rattle.wt_template_stack.specs.Readers.{IsReading};
 ghost use Rattle.wt_template_stack.specs.Runs.{Holds, page_called};
 ghost use Rattle.wt_template_stack.specs.Stacks.{stack};
 
-use crate::level::Handing;
+use crate::level::PendingCall;
 use crate::reader::Reader;
-use crate::run::{TextRun, Turn};
+use crate::run::{StepOutcome, TextRun};
 use bumpalo::Bump;
 use std::alloc::Global;
 use std::marker::Model;
 use wt_devices::Folder;
 use wt_names::{Title, full_name};
 use wt_span::{List, Mode, NoMemory, Piece, Str};
-use wt_transclusion::{Braces, ExpandRefusal, ReadText, Store, Taken, Values, charge, take};
+use wt_transclusion::{Braces, ExpandRefusal, PageLookup, ReadText, Store, Values, charge, take};
 
 /// The full names of the pages that are being expanded. Contracts see them from the innermost on.
 #[derive(Drop)]
-pub struct Names {
+pub struct OpenPages {
     items: Vec<Str>,
 }
 
-impl Model for Names {
+impl Model for OpenPages {
     ghost use Rattle.std.specs.Prelude.{ℕ, List, reverse};
 
     ghost Value = { List (List ℕ) };
@@ -46,11 +46,11 @@ impl Model for Names {
     ghost view = { λ r. reverse r.items.items };
 }
 
-impl Names {
-    fn new(alloc: Global) -> Names
+impl OpenPages {
+    fn new(alloc: Global) -> OpenPages
         ensures { result ≡ [] }
     {
-        Names {
+        OpenPages {
             items: Vec::new(alloc),
         }
     }
@@ -81,7 +81,7 @@ impl Names {
 /// are being expanded.
 fn entered<'a>(
     alloc: Global,
-    names: &mut Names,
+    names: &mut OpenPages,
     title: &Title,
     text: ReadText<'a>,
 ) -> Result<TextRun<'a>, NoMemory>
@@ -103,7 +103,7 @@ pub struct Expansion<'a> {
     /// What the expansion has cost so far.
     pub spent: u64,
     /// The pages that are being expanded.
-    pub names: Names,
+    pub names: OpenPages,
 }
 
 impl<'a> Expansion<'a> {
@@ -118,7 +118,7 @@ impl<'a> Expansion<'a> {
             arena,
             store: Store::new(alloc),
             spent: 0,
-            names: Names::new(alloc),
+            names: OpenPages::new(alloc),
         }
     }
 
@@ -159,7 +159,7 @@ impl<'a> Expansion<'a> {
         &mut self,
         folder: &mut F,
         run: &mut TextRun<'a>,
-        turn: Turn<'a>,
+        turn: StepOutcome<'a>,
         left: u32,
     ) -> Result<Option<List<Piece<'a>>>, ExpandRefusal>
         ensures given { (pages : Pages) (page t : List ℕ) (mode : TextMode) (frame : Frame) (before : Ledger) (all : Gives)
@@ -174,11 +174,11 @@ impl<'a> Expansion<'a> {
         ensures names { OnOk result (self.new.names ≡ self.old.names) }
     {
         match turn {
-            Turn::Went => Ok(None),
-            Turn::Done(pieces) => Ok(Some(pieces)),
-            Turn::Called(handing) => {
-                let given = self.page(folder, &handing, left)?;
-                run.give_page(handing.call, handing.at_start, given, &mut self.spent)?;
+            StepOutcome::Went => Ok(None),
+            StepOutcome::Done(pieces) => Ok(Some(pieces)),
+            StepOutcome::Called(pending) => {
+                let given = self.page(folder, &pending, left)?;
+                run.give_page(pending.call, pending.at_start, given, &mut self.spent)?;
                 Ok(None)
             }
         }
@@ -189,13 +189,13 @@ impl<'a> Expansion<'a> {
     fn page<F: Folder>(
         &mut self,
         folder: &mut F,
-        handing: &Handing<'a>,
+        pending: &PendingCall<'a>,
         left: u32,
     ) -> Result<List<Piece<'a>>, ExpandRefusal>
         ensures given { (pages : Pages) (page : List ℕ) (frame : Frame) (met : List (List ℕ))
-            → Concerns (F.pages folder.old) pages self.new.store result → IsStore pages met self.old.store → AreValues handing.now.handed.values frame
+            → Concerns (F.pages folder.old) pages self.new.store result → IsStore pages met self.old.store → AreValues pending.now.handed.values frame
             → AnswersOutput pages page (ledger self.old.spent met (F.answered folder.old))
-            (template_output pages left self.old.names handing.now.title frame) self.new.store self.new.spent (F.answered folder.new) result }
+            (template_output pages left self.old.names pending.now.title frame) self.new.store self.new.spent (F.answered folder.new) result }
         ensures grown { OnOk result (Grows (F.pages folder.old) self.old.store self.new.store) }
         ensures kept { F.pages folder.new ≡ F.pages folder.old }
         ensures asks { Asks (F.answered folder.old) (F.answered folder.new) (F.most_asked folder.old) (F.most_asked folder.new) }
@@ -210,16 +210,16 @@ impl<'a> Expansion<'a> {
             folder,
             names,
             left,
-            &handing.title,
+            &pending.title,
         )? {
-            Taken::Message(pieces) => Ok(pieces),
-            Taken::Link(pieces) => Ok(pieces),
-            Taken::Page(read) => {
+            PageLookup::Message(pieces) => Ok(pieces),
+            PageLookup::Link(pieces) => Ok(pieces),
+            PageLookup::Page(read) => {
                 let Some(less) = left.checked_sub(1) else {
                     return Err(ExpandRefusal::NoMemory);
                 };
-                let run = entered(self.alloc, &mut self.names, &handing.title, read)?;
-                let given = self.finish(folder, run, &handing.handed.values, less)?;
+                let run = entered(self.alloc, &mut self.names, &pending.title, read)?;
+                let given = self.finish(folder, run, &pending.handed.values, less)?;
                 self.names.pop();
                 Ok(given)
             }
@@ -316,8 +316,8 @@ impl<'a> Expansion<'a> {
     {
         charge(&mut self.spent, 1)?;
         let mut run = TextRun::new(self.alloc, reader, call.at.end, mode)?;
-        let handing = Handing::new(self.alloc, call, at_start, title);
-        let turn = run.next_part(handing)?;
+        let pending = PendingCall::new(self.alloc, call, at_start, title);
+        let turn = run.next_part(pending)?;
         if let Some(pieces) = self.advance(folder, &mut run, turn, left)? {
             return Ok(pieces);
         }

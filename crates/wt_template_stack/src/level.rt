@@ -11,7 +11,7 @@ use wt_transclusion::{Braces, Handed};
 
 /// A call of a page whose values are being read.
 #[derive(Drop)]
-pub struct Handing<'a> {
+pub struct PendingCall<'a> {
     pub call: Braces<'a>,
     /// Whether the call stands at the start of a line.
     pub at_start: bool,
@@ -21,9 +21,9 @@ pub struct Handing<'a> {
     pub handed: Handed<'a>,
 }
 
-impl<'a> Handing<'a> {
+impl<'a> PendingCall<'a> {
     /// A call of which the target alone is read.
-    pub fn new(alloc: Global, call: Braces<'a>, at_start: bool, title: Title) -> Handing<'a>
+    pub fn new(alloc: Global, call: Braces<'a>, at_start: bool, title: Title) -> PendingCall<'a>
         ensures call { result.call ≡ call.entry }
         ensures at_start { result.at_start ≡ at_start }
         ensures title { result.title ≡ title }
@@ -31,7 +31,7 @@ impl<'a> Handing<'a> {
         ensures number { result.handed.number ≡ 1 }
         ensures values { AreValues result.handed.values [] }
     {
-        Handing {
+        PendingCall {
             call,
             at_start,
             title,
@@ -75,12 +75,12 @@ pub enum Task<'a> {
     },
     /// The name of a value that ends at a place.
     Name {
-        handing: Handing<'a>,
+        pending: PendingCall<'a>,
         end: u32,
     },
     /// A value, with its name where it has one.
     Value {
-        handing: Handing<'a>,
+        pending: PendingCall<'a>,
         name: Option<String>,
     },
     /// What stands behind the target of a call that is text.

@@ -9,8 +9,8 @@ mod page;
 mod reader;
 mod run;
 
-pub use expansion::{Expansion, Names};
-pub use level::Handing;
+pub use expansion::{Expansion, OpenPages};
+pub use level::PendingCall;
 pub use page::{expanded_text, read_page};
 pub use reader::{MOST_BYTES, Reader};
-pub use run::{TextRun, Turn};
+pub use run::{StepOutcome, TextRun};

@@ -17,7 +17,7 @@ ghost use Rattle.wt_template_stack.specs.Runs.{AnswersGoing, AnswersTurn, Begins
 ghost use Rattle.wt_template_stack.specs.declared.level.Task.TheVariants as tasks;
 
 use crate::choosing::{Choosing, given_start, is_whole, part_at, told_end};
-use crate::level::{Handing, Level, Levels, Task};
+use crate::level::{Level, Levels, PendingCall, Task};
 use crate::reader::{MOST_BYTES, Reader};
 use std::alloc::Global;
 use wt_braces::PartAt;
@@ -31,12 +31,12 @@ use wt_transclusion::{
 
 /// What came of a step.
 #[derive(Drop)]
-pub enum Turn<'a> {
+pub enum StepOutcome<'a> {
     Went,
     /// The text has given this.
     Done(List<Piece<'a>>),
     /// A page is called with its values.
-    Called(Handing<'a>),
+    Called(PendingCall<'a>),
 }
 
 /// A text that is expanded.
@@ -135,7 +135,11 @@ impl<'a> TextRun<'a> {
     }
 
     /// One step. It goes on reading, or ends a level.
-    pub fn step(&mut self, values: &Values<'a>, spent: &mut u64) -> Result<Turn<'a>, ExpandRefusal>
+    pub fn step(
+        &mut self,
+        values: &Values<'a>,
+        spent: &mut u64,
+    ) -> Result<StepOutcome<'a>, ExpandRefusal>
         ensures answer { (r : Reading) (t : List ℕ) (total : Account) → Holds r t self.old (stack self.old.levels) total → AreValues values.now r.frame
             → spent.old ≡ spent_of total → AnswersTurn r t spent.old total self.new spent.new result }
         ensures fault { IfErr result IsNoFault }
@@ -145,7 +149,7 @@ impl<'a> TextRun<'a> {
         };
         if self.reader.cursor.at < end {
             self.read(end, spent)?;
-            return Ok(Turn::Went);
+            return Ok(StepOutcome::Went);
         }
         let Some(level) = self.levels.pop() else {
             return Err(ExpandRefusal::NoMemory);
@@ -304,46 +308,46 @@ impl<'a> TextRun<'a> {
         out: List<Piece<'a>>,
         values: &Values<'a>,
         spent: &mut u64,
-    ) -> Result<Turn<'a>, ExpandRefusal>
+    ) -> Result<StepOutcome<'a>, ExpandRefusal>
         ensures answer { (r : Reading) (t : List ℕ) (total : Account) → HasEnded r t self.old task.entry out.entry total → AreValues values.now r.frame
             → spent.old ≡ spent_of total → AnswersTurn r t spent.old total self.new spent.new result }
         ensures fault { IfErr result IsNoFault }
     {
         match task {
-            Task::Whole => Ok(Turn::Done(out)),
+            Task::Whole => Ok(StepOutcome::Done(out)),
             Task::Argument { call } => {
                 self.end_argument(call, out, values, spent)?;
-                Ok(Turn::Went)
+                Ok(StepOutcome::Went)
             }
             Task::Default { call } => {
                 self.give(call.at.end, out.as_slice(), spent)?;
-                Ok(Turn::Went)
+                Ok(StepOutcome::Went)
             }
             Task::Target { call, at_start } => self.end_target(call, at_start, out, spent),
             Task::First { choosing, part_0 } => {
                 let out = behind_items(self.alloc, out.as_slice(), part_0)?;
                 self.end_told(choosing, out, spent)?;
-                Ok(Turn::Went)
+                Ok(StepOutcome::Went)
             }
             Task::Told { choosing } => {
                 self.end_told(choosing, out, spent)?;
-                Ok(Turn::Went)
+                Ok(StepOutcome::Went)
             }
             Task::Given { call, at_start } => {
                 self.end_given(call, at_start, out, spent)?;
-                Ok(Turn::Went)
+                Ok(StepOutcome::Went)
             }
-            Task::Name { handing, end } => {
-                self.end_name(handing, end, out)?;
-                Ok(Turn::Went)
+            Task::Name { pending, end } => {
+                self.end_name(pending, end, out)?;
+                Ok(StepOutcome::Went)
             }
-            Task::Value { handing, name } => {
-                let turn = self.end_value(handing, name, out)?;
+            Task::Value { pending, name } => {
+                let turn = self.end_value(pending, name, out)?;
                 Ok(turn)
             }
             Task::Text { call } => {
                 self.end_text(call, out)?;
-                Ok(Turn::Went)
+                Ok(StepOutcome::Went)
             }
         }
     }
@@ -488,18 +492,18 @@ impl<'a> TextRun<'a> {
         at_start: bool,
         out: List<Piece<'a>>,
         spent: &mut u64,
-    ) -> Result<Turn<'a>, ExpandRefusal>
+    ) -> Result<StepOutcome<'a>, ExpandRefusal>
         ensures answer { (r : Reading) (t : List ℕ) (total : Account) → HasEnded r t self.old (tasks.Target call.entry at_start) out.entry total
             → AnswersTurn r t spent.old total self.new spent.new result }
         ensures fault { IfErr result IsNoFault }
     {
         let Some(title) = title_of_target(self.alloc, out.as_slice())? else {
             self.begin_text(call, out)?;
-            return Ok(Turn::Went);
+            return Ok(StepOutcome::Went);
         };
         charge(spent, 1)?;
-        let handing = Handing::new(self.alloc, call, at_start, title);
-        let turn = self.next_part(handing)?;
+        let pending = PendingCall::new(self.alloc, call, at_start, title);
+        let turn = self.next_part(pending)?;
         Ok(turn)
     }
 
@@ -537,66 +541,66 @@ impl<'a> TextRun<'a> {
     }
 
     /// The next part of a call is read; where none is left, its page is called.
-    pub fn next_part(&mut self, handing: Handing<'a>) -> Result<Turn<'a>, NoMemory>
-        ensures { IfOk result (λ k. (r : Reading) (t : List ℕ) (total : Account) → HandsParts r t self.old handing.entry total → TakesPart r t total self.new k) }
+    pub fn next_part(&mut self, pending: PendingCall<'a>) -> Result<StepOutcome<'a>, NoMemory>
+        ensures { IfOk result (λ k. (r : Reading) (t : List ℕ) (total : Account) → HandsParts r t self.old pending.entry total → TakesPart r t total self.new k) }
     {
-        if handing.part < handing.call.parts.len() {
-            let part = handing.call.parts[handing.part];
-            self.begin_part(handing, part)?;
-            return Ok(Turn::Went);
+        if pending.part < pending.call.parts.len() {
+            let part = pending.call.parts[pending.part];
+            self.begin_part(pending, part)?;
+            return Ok(StepOutcome::Went);
         }
-        Ok(Turn::Called(handing))
+        Ok(StepOutcome::Called(pending))
     }
 
     /// A part of a call is read: its name, or its value where it has none.
-    fn begin_part(&mut self, handing: Handing<'a>, part: PartAt) -> Result<(), NoMemory>
-        requires { handing.part < length handing.call.parts.now }
-        ensures { OnOk result ((r : Reading) (t : List ℕ) (total : Account) → HandsParts r t self.old handing.entry total
-            → slice_get handing.entry.call.parts.now handing.entry.part ≡ Some part → Holds r t self.new (stack self.new.levels) total) }
+    fn begin_part(&mut self, pending: PendingCall<'a>, part: PartAt) -> Result<(), NoMemory>
+        requires { pending.part < length pending.call.parts.now }
+        ensures { OnOk result ((r : Reading) (t : List ℕ) (total : Account) → HandsParts r t self.old pending.entry total
+            → slice_get pending.entry.call.parts.now pending.entry.part ≡ Some part → Holds r t self.new (stack self.new.levels) total) }
     {
-        let mut handing = handing;
-        handing.part += 1;
+        let mut pending = pending;
+        pending.part += 1;
         let end = part.at.end;
         if let Some(equals) = part.equals {
-            self.begin_level(part.at.start, equals, Task::Name { handing, end })?;
+            self.begin_level(part.at.start, equals, Task::Name { pending, end })?;
             return Ok(());
         }
         let name = None;
-        self.begin_level(part.at.start, end, Task::Value { handing, name })?;
+        self.begin_level(part.at.start, end, Task::Value { pending, name })?;
         Ok(())
     }
 
     /// The name of a value is read, which ends at a place.
     fn end_name(
         &mut self,
-        handing: Handing<'a>,
+        pending: PendingCall<'a>,
         end: u32,
         out: List<Piece<'a>>,
     ) -> Result<(), NoMemory>
-        ensures { OnOk result ((r : Reading) (t : List ℕ) (total : Account) → HasEnded r t self.old (tasks.Name handing.entry end) out.entry total
+        ensures { OnOk result ((r : Reading) (t : List ℕ) (total : Account) → HasEnded r t self.old (tasks.Name pending.entry end) out.entry total
             → Holds r t self.new (stack self.new.levels) total) }
     {
         let name = Some(name_text(self.alloc, out.as_slice())?);
         let Some(at) = self.reader.cursor.at.checked_add(1) else {
             return Err(NoMemory);
         };
-        self.begin_level(at, end, Task::Value { handing, name })?;
+        self.begin_level(at, end, Task::Value { pending, name })?;
         Ok(())
     }
 
     /// A value is read.
     fn end_value(
         &mut self,
-        handing: Handing<'a>,
+        pending: PendingCall<'a>,
         name: Option<String>,
         out: List<Piece<'a>>,
-    ) -> Result<Turn<'a>, NoMemory>
-        ensures { IfOk result (λ k. (r : Reading) (t : List ℕ) (total : Account) → HasEnded r t self.old (tasks.Value handing.entry name) out.entry total
+    ) -> Result<StepOutcome<'a>, NoMemory>
+        ensures { IfOk result (λ k. (r : Reading) (t : List ℕ) (total : Account) → HasEnded r t self.old (tasks.Value pending.entry name) out.entry total
             → TakesPart r t total self.new k) }
     {
-        let mut handing = handing;
-        put_value(self.alloc, &mut handing.handed, name, out)?;
-        let turn = self.next_part(handing)?;
+        let mut pending = pending;
+        put_value(self.alloc, &mut pending.handed, name, out)?;
+        let turn = self.next_part(pending)?;
         Ok(turn)
     }
 

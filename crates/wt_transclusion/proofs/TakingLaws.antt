@@ -14,7 +14,7 @@ use Rattle.wt_transclusion.specs.declared.read.ReadText.{ReadText}
 use Rattle.wt_transclusion.specs.declared.refusal.ExpandRefusal.{ExpandRefusal}
 use Rattle.wt_transclusion.specs.declared.refusal.ExpandRefusal.TheVariants as answer
 use Rattle.wt_transclusion.specs.declared.store.Store.{Store}
-use Rattle.wt_transclusion.specs.declared.templates.Taken.{Taken}
+use Rattle.wt_transclusion.specs.declared.templates.PageLookup.{PageLookup}
 use Rattle.wt_transclusion.specs.Answers.{IsFetched, IsRefused}
 use Rattle.wt_transclusion.specs.Stores.{IsStore, AnswersTitle, TellsErr, met_with, named_with}
 use Rattle.wt_transclusion.specs.Takings.{IsAsked, IsNamed, IsNamedErr, names_taking, taking_refusal}
@@ -157,7 +157,7 @@ taking_named (suc left) names t full met old f e z =
 
 -- where memory is missing, nothing or this name was told
 pub memory_named : (left : ℕ) (open_titles : List (List ℕ)) (full : List ℕ) (met : List (List ℕ))
-    (old new : Option (List (List ℕ))) (x : Result Taken ExpandRefusal) → x ≡ Err answer.NoMemory
+    (old new : Option (List (List ℕ))) (x : Result PageLookup ExpandRefusal) → x ≡ Err answer.NoMemory
     → (new ≡ old) ⊎ (new ≡ names_taking left (is_among full open_titles) full met old)
     → IsNamed left open_titles full met old new x
 memory_named left open_titles full met old new x e h = subst (IsNamed left open_titles full met old new) (sym e) h

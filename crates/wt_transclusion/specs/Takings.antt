@@ -8,8 +8,8 @@ use Rattle.wt_expand.specs.Work.{Pages, Refused, fetched, found_refusal, is_amon
 use Rattle.wt_transclusion.specs.declared.refusal.ExpandRefusal.{ExpandRefusal}
 use Rattle.wt_transclusion.specs.declared.refusal.ExpandRefusal.TheVariants as answer
 use Rattle.wt_transclusion.specs.declared.store.Store.{Store}
-use Rattle.wt_transclusion.specs.declared.templates.Taken.{Taken}
-use Rattle.wt_transclusion.specs.declared.templates.Taken.TheVariants as taken
+use Rattle.wt_transclusion.specs.declared.templates.PageLookup.{PageLookup}
+use Rattle.wt_transclusion.specs.declared.templates.PageLookup.TheVariants as taken
 use Rattle.wt_transclusion.specs.Answers.{IsFetched, IsRefused}
 use Rattle.wt_transclusion.specs.Stores.{IsStore, met_with, named_with}
 
@@ -21,7 +21,7 @@ taking_refusal (suc left) false o = o
 
 -- With these names of pages that are being expanded and so many more allowed: a message gives what the title gives, under any
 -- values, with no work; a link gives it with one fetch; and a page is the one that the title is expanded from.
-abbrev pub AnswersTaking : Pages → List (List ℕ) → List (List ℕ) → ℕ → Title → Store → Result Taken ExpandRefusal → Type 0
+abbrev pub AnswersTaking : Pages → List (List ℕ) → List (List ℕ) → ℕ → Title → Store → Result PageLookup ExpandRefusal → Type 0
 AnswersTaking pages met open_titles left t new (Ok (taken.Message ps)) =
     ((frame : Frame) → template_output pages left open_titles t frame ≡ record { items = items ps; work = [] }) × IsStore pages met new
 AnswersTaking pages met open_titles left t new (Ok (taken.Link ps)) =
@@ -59,7 +59,7 @@ IsNamedErr left open_titles full met old new answer.NoMemory =
 
 -- What the folder has answered since: nothing for a message, else this name, if it wasn't known.
 abbrev pub IsNamed : ℕ → List (List ℕ) → List ℕ → List (List ℕ) → Option (List (List ℕ))
-    → Option (List (List ℕ)) → Result Taken ExpandRefusal → Type 0
+    → Option (List (List ℕ)) → Result PageLookup ExpandRefusal → Type 0
 IsNamed left open_titles full met old new (Ok (taken.Message ps)) = new ≡ old
 IsNamed left open_titles full met old new (Ok (taken.Link ps)) = new ≡ named_with full met old
 IsNamed left open_titles full met old new (Ok (taken.Page read)) = new ≡ named_with full met old

@@ -32,6 +32,6 @@ pub use read::{Braces, ReadText, read_in};
 pub use refusal::ExpandRefusal;
 pub use store::Store;
 pub use target::{function_named, is_function, title_of_target};
-pub use templates::{Taken, take};
+pub use templates::{PageLookup, take};
 pub use trim::{behind_items, trimmed_items};
 pub use values::Values;

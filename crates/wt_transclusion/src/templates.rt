@@ -22,7 +22,7 @@ use wt_span::{Form, List, NoMemory, Piece, Str, Text};
 
 /// What is taken for a title.
 #[derive(Drop)]
-pub enum Taken<'a> {
+pub enum PageLookup<'a> {
     /// A message that stands for a page that isn't asked for.
     Message(List<Piece<'a>>),
     /// The link that stands for an absent page.
@@ -106,7 +106,7 @@ pub fn take<'a, F: Folder>(
     names: &[Str],
     left: u32,
     title: &Title,
-) -> Result<Taken<'a>, ExpandRefusal>
+) -> Result<PageLookup<'a>, ExpandRefusal>
     ensures taken { (pages : Pages) (met : List (List ℕ)) → Concerns (F.pages folder.old) pages store.new result
         → IsStore pages met store.old → AnswersTaking pages met (reverse names.now) left title.now store.new result }
     ensures grown { OnOk result (Grows (F.pages folder.old) store.old store.new) }
@@ -119,14 +119,14 @@ pub fn take<'a, F: Folder>(
 {
     let full = full_name(alloc, title)?;
     if is_open(names, full.as_str()) {
-        return Ok(Taken::Message(loop_message(alloc, arena, title)?));
+        return Ok(PageLookup::Message(loop_message(alloc, arena, title)?));
     }
     if left == 0 {
-        return Ok(Taken::Message(depth_message(alloc, arena, title)?));
+        return Ok(PageLookup::Message(depth_message(alloc, arena, title)?));
     }
     match store.template(alloc, arena, folder, full.as_str()) {
-        Ok(Some(read)) => Ok(Taken::Page(read)),
-        Ok(None) => Ok(Taken::Link(absent_link(alloc, arena, full.as_str())?)),
+        Ok(Some(read)) => Ok(PageLookup::Page(read)),
+        Ok(None) => Ok(PageLookup::Link(absent_link(alloc, arena, full.as_str())?)),
         Err(refusal) => Err(refusal),
     }
 }

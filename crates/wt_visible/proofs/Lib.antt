@@ -8,3 +8,5 @@ pub mod Within
 pub mod Tallies
 pub mod Decided
 mod KeptMarksCases
+pub mod MarksAlone
+pub mod AlikeSources

@@ -1,11 +1,12 @@
 -- How often a text stands in a list that is read from left to right, and what a tally says of it.
-use Rattle.std.proofs.Common.{arith, ◌≡◌, ◌<◌, ◌≤◌, ℕ, ◌+◌, ◌-◌, Bool, true, false, List, [], ◌∷◌, ◌++◌, Option, Some, length, map, take, get_or, refl, sym, ap, ◌∙◌}
+use Rattle.std.proofs.Common.{arith, ◌≡◌, ◌<◌, ◌≤◌, ℕ, ◌+◌, ◌-◌, Bool, true, false, List, [], ◌∷◌, ◌++◌, Option, Some, length, drop, map, take, get_or, refl, sym, ap, ◌∙◌}
+use Rattle.std.specs.Bool.{Decides}
 use Rattle.std.specs.Prelude.{cond}
 use Rattle.std.specs.Map.{update}
 use Rattle.std.specs.Option.{unwrap_or}
 use Rattle.std.specs.Str.{bytes_eq}
-use Rattle.std.proofs.lemmas.List.{map-append, take-map, take_more, take_all}
-use Rattle.std.proofs.lemmas.List.Sums.{sum_by_push, sum_by-take-le}
+use Rattle.std.proofs.lemmas.List.{map-append, take-append-drop, take-map, take_more, take_all, length-drop}
+use Rattle.std.proofs.lemmas.List.Sums.{sum_by_push, sum_by-append, sum_by-take-le}
 use Rattle.std.proofs.lemmas.Slice.Eq.{bytes_eq-Decides}
 use Rattle.wt_visible.specs.Tally.{times, trimmed, StandAmong}
 
@@ -85,3 +86,46 @@ none_left texts others left i it below is h none among =
     sum_by-take-le (λ x. cond (bytes_eq x (trimmed it)) 1 0) (map trimmed texts) (i + 1) in
     let m = ap (times (trimmed it)) (take-map trimmed (i + 1) texts) in
     omega (arith, e, a, t, o, l, m, none)
+
+-- ---- a start that two lists have in common doesn't count
+
+pub same_more : (xs ys : List (List ℕ)) (i : ℕ) (x y : List ℕ) → i < length xs → i < length ys → x ≡ get_or xs i x → y ≡ get_or ys i y → x ≡ y
+    → take i xs ≡ take i ys → take (i + 1) xs ≡ take (i + 1) ys
+same_more xs ys i x y below under is other same start =
+    take_more xs i x below
+    ∙ ap (λ z. take i xs ++ z ∷ []) (sym is ∙ same ∙ other)
+    ∙ ap (λ zs. zs ++ get_or ys i y ∷ []) start
+    ∙ sym (take_more ys i y under)
+
+halves : (text : List ℕ) (n : ℕ) (xs : List (List ℕ))
+    → times text (map trimmed xs) ≡ times text (map trimmed (take n xs)) + times text (map trimmed (drop n xs))
+halves text n xs =
+    ap (λ zs. times text (map trimmed zs)) (sym (take-append-drop n xs))
+    ∙ ap (times text) (map-append trimmed (take n xs) (drop n xs))
+    ∙ sum_by-append (λ x. cond (bytes_eq x text) 1 0) (map trimmed (take n xs)) (map trimmed (drop n xs))
+
+whole_rest : (n : ℕ) (xs : List (List ℕ)) → take (length xs - n) (drop n xs) ≡ drop n xs
+whole_rest n xs = let l = length-drop n xs in take_all (length xs - n) (drop n xs) (omega (arith, l))
+
+pub start_aside : (r : Bool) (xs ys us vs : List (List ℕ)) (n : ℕ) → us ≡ take (length xs - n) (drop n xs)
+    → vs ≡ take (length ys - n) (drop n ys) → take n xs ≡ take n ys
+    → Decides r (StandAmong (map trimmed us) (map trimmed vs)) → Decides r (StandAmong (map trimmed xs) (map trimmed ys))
+start_aside r xs ys us vs n left right start d = (λ e text. onward text (d.0 e text), λ h. d.1 (λ text. back text (h text)))
+  where
+    onward : (text : List ℕ) → times text (map trimmed us) ≤ times text (map trimmed vs) → times text (map trimmed xs) ≤ times text (map trimmed ys)
+    onward text le =
+        let a = halves text n xs in
+        let b = halves text n ys in
+        let s = ap (λ zs. times text (map trimmed zs)) start in
+        let l = ap (λ zs. times text (map trimmed zs)) (left ∙ whole_rest n xs) in
+        let m = ap (λ zs. times text (map trimmed zs)) (right ∙ whole_rest n ys) in
+        omega (arith, a, b, s, l, m, le)
+
+    back : (text : List ℕ) → times text (map trimmed xs) ≤ times text (map trimmed ys) → times text (map trimmed us) ≤ times text (map trimmed vs)
+    back text le =
+        let a = halves text n xs in
+        let b = halves text n ys in
+        let s = ap (λ zs. times text (map trimmed zs)) start in
+        let l = ap (λ zs. times text (map trimmed zs)) (left ∙ whole_rest n xs) in
+        let m = ap (λ zs. times text (map trimmed zs)) (right ∙ whole_rest n ys) in
+        omega (arith, a, b, s, l, m, le)

@@ -1,7 +1,7 @@
 -- Comments and include tags show nothing, and of a call and an island (an extension, a file) a new page could show the same by other
--- bytes; so no comparison of what is shown finds one that was lost, or another in its place. Those that an edited tree still has stand in
--- a new page, too, and no others.
-use Rattle.std.specs.Prelude.{◌≡◌, ◌⊎◌, ◌&&◌, ℕ, Bool, Option, Some, None, List, [], ◌∷◌, map, if◌then◌else◌}
+-- bytes; so no comparison of what is shown finds one that was lost, or another in its place. The calls and islands of a new page are those
+-- that the edited tree still has, in its order. Of comments and include tags it has those, and none more often than the page.
+use Rattle.std.specs.Prelude.{◌≡◌, ◌⊎◌, ◌&&◌, ◌||◌, ℕ, Bool, Option, Some, None, List, [], ◌∷◌, map, if◌then◌else◌}
 use Rattle.std.specs.List.{flat_map}
 use Rattle.wt_tree.specs.Source.{flat}
 use Rattle.wt_tree.specs.Tree.{Tree}
@@ -14,6 +14,17 @@ use Rattle.wt_visible.specs.Tally.{trimmed, StandAmong}
 -- a node of a kind outside groups: in a group nothing has a number
 abbrev pub is_own : Kind → Place → Bool
 is_own k p = is_kept p && same_kind (kind_at p) k
+
+-- one of those that are looked for
+abbrev pub is_mark : Place → Bool
+is_mark p = is_own kind.Comment p || is_own kind.Include p || is_own kind.Group p || is_own kind.Island p
+
+abbrev pub mark_at : Place → List Place
+mark_at p = if is_mark p then p ∷ [] else []
+
+-- those of some nodes that are looked for
+abbrev pub marks : List Place → List Place
+marks ps = flat_map mark_at ps
 
 -- the source of a node of a kind
 abbrev pub source_at : Kind → Place → List (List ℕ)
@@ -59,12 +70,17 @@ KeepsKind k page old edited new = Keeps k page edited new × HasNoMore k old new
 abbrev pub KeepsOrder : Page → List Place → List Place → Type 0
 KeepsOrder page edited new = IsWithin (still kind.Include page edited) (sources kind.Include new)
 
+-- The calls and islands of the new page are those that the edited tree still has, in its order: two calls of a template that isn't there,
+-- or two files, show the same. White space round a source doesn't count.
+abbrev pub KeepsInOrder : Kind → Page → List Place → List Place → Type 0
+KeepsInOrder k page edited new = map trimmed (still k page edited) ≡ map trimmed (sources k new)
+
 -- of a page by its numbers, its nodes, those of the edited tree, and those of the new page
 pub record KeepsEach (page : Page) (old edited new : List Place) : Type 0 where
   pub comments : KeepsKind kind.Comment page old edited new
   pub tags : KeepsKind kind.Include page old edited new
-  pub calls : KeepsKind kind.Group page old edited new
-  pub islands : KeepsKind kind.Island page old edited new
+  pub calls : KeepsInOrder kind.Group page edited new
+  pub islands : KeepsInOrder kind.Island page edited new
   pub order : KeepsOrder page edited new
 
 abbrev pub KeepsMarks : Tree → Tree → Tree → Type 0

@@ -12,4 +12,4 @@ use Rattle.wt_content.proofs.content.+visiting.Given as goal
 abbrev pub invariant-visit_all-loop-node : goal.invariant-visit_all-loop-node
 invariant-visit_all-loop-node l =
     (same : Tree → Tree → Bool) → TellsSame same → (ws : List ContentWhy) → HasFaults l.fn.found ws
-    → HasFaults l.found (ws ++ flat_map (λ n. faults (page_view same l.page) l.spot (view n)) (take l.node-index l.nodes))
+    → HasFaults l.found (ws ++ flat_map (λ n. faults (page_view same l.page) l.around (view n)) (take l.node-index l.nodes))

@@ -1,5 +1,12 @@
-use Rattle.std.proofs.Common.{◌≤◌, vec_len}
+use Rattle.std.proofs.Common.{◌-◌, ◌≤◌, vec_items, vec_len}
+use Rattle.std.specs.Io.KnownBytes.{Consumes}
 use Rattle.wt_devices.proofs.directory.read_most.Given as goal
 
-abbrev pub invariant-loop : goal.invariant-loop
-invariant-loop g l = vec_len l.bytes ≤ l.most
+abbrev pub invariant-pieces : goal.invariant-pieces
+invariant-pieces g l = record {
+  within : vec_len l.bytes ≤ l.most;
+  given : Consumes (g.F.Read.remaining l.fn.file) (g.F.Read.remaining l.file) (vec_items l.bytes);
+}
+
+abbrev pub decreases-pieces : goal.decreases-pieces
+decreases-pieces g l = l.most - vec_len l.bytes

@@ -4,7 +4,7 @@ use Rattle.std.proofs.lemmas.Grind.{common_steps}
 use Rattle.wt_tree.specs.declared.node.Node.{out-Node}
 use Rattle.wt_tree.specs.View.{label_of, view, views}
 use Rattle.wt_names.specs.Written.{read_link}
-use Rattle.wt_original.specs.declared.kinds.Way.TheVariants as way
+use Rattle.wt_original.specs.declared.kinds.InlineForm.TheVariants as inline
 use Rattle.wt_original.specs.declared.kinds.Spelled.{Spelled}
 use Rattle.wt_guards.specs.declared.role.Role.TheVariants as role
 use Rattle.wt_original.specs.Gathered.{kept_view}
@@ -19,8 +19,8 @@ push_signs-returns-in-Nothing t c = λ same tells.
     let n = c.args.node.now in
     let p = page_view same c.args.page.now in
     let k = option_map kept_view c.find-kept.result in
-    signs_pushed n way.Nothing p c.args.place k (all_signs c.args.out.now.items) (all_signs c.args.out.now.items) []
-    (ap (λ (r : Spelled). r.way) (sym c.shape.ensures) ∙ c.in-Nothing.is) c.find-kept.ensures refl (sym (append-nil (all_signs c.args.out.now.items)))
+    signs_pushed n inline.Nothing p c.args.place k (all_signs c.args.out.now.items) (all_signs c.args.out.now.items) []
+    (ap (λ (r : Spelled). r.inline) (sym c.shape.ensures) ∙ c.in-Nothing.is) c.find-kept.ensures refl (sym (append-nil (all_signs c.args.out.now.items)))
 
 pub push_signs-returns-in_ok-push_page_link-in-PageLink : goal.push_signs-returns-in_ok-push_page_link-in-PageLink
 push_signs-returns-in_ok-push_page_link-in-PageLink t c = λ same tells.
@@ -29,10 +29,10 @@ push_signs-returns-in_ok-push_page_link-in-PageLink t c = λ same tells.
     let pl = c.args.place in
     let k = option_map kept_view c.find-kept.result in
     let ts = views (out-Node n).children in
-    signs_pushed n way.PageLink p pl k (all_signs c.args.out.now.items) (all_signs c.push_page_link.new.out.items)
+    signs_pushed n inline.PageLink p pl k (all_signs c.args.out.now.items) (all_signs c.push_page_link.new.out.items)
     (unless_kept p k (view n) (new_thing role.Link
     (page_link (read_link (href_of (label_of (out-Node n)))) ts (spelled_within p pl (signs_of_all p pl ts))) k))
-    (ap (λ (r : Spelled). r.way) (sym c.shape.ensures) ∙ c.in-PageLink.is) c.find-kept.ensures (sym (unless_seen n p k _))
+    (ap (λ (r : Spelled). r.inline) (sym c.shape.ensures) ∙ c.in-PageLink.is) c.find-kept.ensures (sym (unless_seen n p k _))
     (c.in_ok-push_page_link-in-PageLink.ensures same tells)
 
 pub push_signs-returns-in_ok-push_external_link-in-ExternalLink : goal.push_signs-returns-in_ok-push_external_link-in-ExternalLink
@@ -42,9 +42,9 @@ push_signs-returns-in_ok-push_external_link-in-ExternalLink t c = λ same tells.
     let pl = c.args.place in
     let k = option_map kept_view c.find-kept.result in
     let ts = views (out-Node n).children in
-    signs_pushed n way.ExternalLink p pl k (all_signs c.args.out.now.items) (all_signs c.push_external_link.new.out.items)
+    signs_pushed n inline.ExternalLink p pl k (all_signs c.args.out.now.items) (all_signs c.push_external_link.new.out.items)
     (unless_kept p k (view n) (new_thing role.External (external_link (href_of (label_of (out-Node n))) (spelled_within p pl (signs_of_all p pl ts))) k))
-    (ap (λ (r : Spelled). r.way) (sym c.shape.ensures) ∙ c.in-ExternalLink.is) c.find-kept.ensures (sym (unless_seen n p k _))
+    (ap (λ (r : Spelled). r.inline) (sym c.shape.ensures) ∙ c.in-ExternalLink.is) c.find-kept.ensures (sym (unless_seen n p k _))
     (c.in_ok-push_external_link-in-ExternalLink.ensures same tells)
 
 pub push_signs-returns-in_ok-push_tag-in-Tag : goal.push_signs-returns-in_ok-push_tag-in-Tag
@@ -54,9 +54,9 @@ push_signs-returns-in_ok-push_tag-in-Tag t c = λ same tells.
     let pl = c.args.place in
     let k = option_map kept_view c.find-kept.result in
     let ts = views (out-Node n).children in
-    signs_pushed n way.Tag p pl k (all_signs c.args.out.now.items) (all_signs c.push_tag.new.out.items)
+    signs_pushed n inline.Tag p pl k (all_signs c.args.out.now.items) (all_signs c.push_tag.new.out.items)
     (unless_kept p k (view n) (new_thing role.Node (tag_pair k (spelled_within p pl (signs_of_all p pl ts))) k))
-    (ap (λ (r : Spelled). r.way) (sym c.shape.ensures) ∙ c.in-Tag.is) c.find-kept.ensures (sym (unless_seen n p k _))
+    (ap (λ (r : Spelled). r.inline) (sym c.shape.ensures) ∙ c.in-Tag.is) c.find-kept.ensures (sym (unless_seen n p k _))
     (c.in_ok-push_tag-in-Tag.ensures same tells)
 
 pub push_page_link-returns-then-done : goal.push_page_link-returns-then-done

@@ -10,9 +10,9 @@ use Rattle.wt_html_in.proofs.walk.+fitting.Goals as goal
 pub piece-returns-in_ok-made-in-Text : goal.piece-returns-in_ok-made-in-Text
 piece-returns-in_ok-made-in-Text t c =
     let e : view_content c.args.content ≡ text c.in-Text.bytes.items = search (rules, the_lemmas, fold-roll-Content) in
-    piece_at c.args.walk.now c.args.walk.now c.args.spot c.args.role (view_content c.args.content) (text c.as_slice.result.now)
+    piece_at c.args.walk.now c.args.walk.now c.args.position c.args.role (view_content c.args.content) (text c.as_slice.result.now)
     (Ok c.in_ok-made-in-Text.made) (Ok c.in_ok-made-in-Text.made) (e ∙ sym (ap text c.as_slice.ensures.value)) refl
-    (text_ok c.args.walk.now c.args.spot c.args.role c.as_slice.result.now c.in_ok-made-in-Text.made c.in_ok-made-in-Text.ensures)
+    (text_ok c.args.walk.now c.args.position c.args.role c.as_slice.result.now c.in_ok-made-in-Text.made c.in_ok-made-in-Text.ensures)
 
 pub piece-returns-in_err-headed-in-Element : goal.piece-returns-in_err-headed-in-Element
 piece-returns-in_err-headed-in-Element t c =
@@ -22,11 +22,11 @@ piece-returns-in_err-headed-in-Element t c =
     let ps = pairs c.in-Element.attributes.items in
     let ms = markups c.in-Element.contents.items in
     let r : c.from_residual-in_err-headed-in-Element.result ≡ Err c.in_err-headed-in-Element.field-0.0 = search rules in
-    piece_at c.args.walk.now c.begin.new.walk c.args.spot c.args.role (view_content c.args.content) _ c.from_residual-in_err-headed-in-Element.result
+    piece_at c.args.walk.now c.begin.new.walk c.args.position c.args.role (view_content c.args.content) _ c.from_residual-in_err-headed-in-Element.result
     (Err c.in_err-headed-in-Element.field-0.0) e r
-    (element_misfit c.args.walk.now c.begin.new.walk c.args.spot c.args.role z c.in-Element.name.items ps ms c.in_err-headed-in-Element.field-0.0
+    (element_misfit c.args.walk.now c.begin.new.walk c.args.position c.args.role z c.in-Element.name.items ps ms c.in_err-headed-in-Element.field-0.0
     c.standing_in-standing.ensures
-    (begun_at c.args.walk.now c.args.spot z c.in-Element.name.items ps c.as_slice-in-Element.result.now c.in-Element.contents.items
+    (begun_at c.args.walk.now c.args.position z c.in-Element.name.items ps c.as_slice-in-Element.result.now c.in-Element.contents.items
     (Err c.in_err-headed-in-Element.field-0.0) c.as_slice-in-Element.ensures.value c.in_err-headed-in-Element.ensures.headed))
 
 pub piece-returns-in_err-children-in-Element : goal.piece-returns-in_err-children-in-Element
@@ -37,11 +37,11 @@ piece-returns-in_err-children-in-Element t c =
     let ps = pairs c.in-Element.attributes.items in
     let ms = markups c.in-Element.contents.items in
     let r : c.from_residual-in_err-children-in-Element.result ≡ Err c.in_err-children-in-Element.field-0.0 = search rules in
-    piece_at c.args.walk.now c.nodes.new.walk c.args.spot c.args.role (view_content c.args.content) _ c.from_residual-in_err-children-in-Element.result
+    piece_at c.args.walk.now c.nodes.new.walk c.args.position c.args.role (view_content c.args.content) _ c.from_residual-in_err-children-in-Element.result
     (Err c.in_err-children-in-Element.field-0.0) e r
-    (element_inside c.args.walk.now c.begin.new.walk c.nodes.new.walk c.nodes.new.walk c.args.spot c.args.role z c.in-Element.name.items ps ms
+    (element_inside c.args.walk.now c.begin.new.walk c.nodes.new.walk c.nodes.new.walk c.args.position c.args.role z c.in-Element.name.items ps ms
     c.in_ok-headed-in-Element.headed c.in_err-children-in-Element.field-0.0 c.standing_in-standing.ensures
-    (begun_at c.args.walk.now c.args.spot z c.in-Element.name.items ps c.as_slice-in-Element.result.now c.in-Element.contents.items
+    (begun_at c.args.walk.now c.args.position z c.in-Element.name.items ps c.as_slice-in-Element.result.now c.in-Element.contents.items
     (Ok c.in_ok-headed-in-Element.headed) c.as_slice-in-Element.ensures.value c.in_ok-headed-in-Element.ensures.headed)
     c.begin.ensures.passed
     (within_at c.begin.new.walk c.nodes.new.walk c.in_ok-headed-in-Element.headed.head.kind _ c.is_within-inside.result ms
@@ -55,10 +55,10 @@ piece-returns-in_ok-made-in-Element t c =
     let ps = pairs c.in-Element.attributes.items in
     let ms = markups c.in-Element.contents.items in
     let h = c.in_ok-headed-in-Element.headed in
-    piece_at c.args.walk.now c.nodes.new.walk c.args.spot c.args.role (view_content c.args.content) _ (Ok c.in_ok-made-in-Element.made) (Ok c.in_ok-made-in-Element.made) e refl
-    (element_ok c.args.walk.now c.begin.new.walk c.nodes.new.walk c.args.spot c.args.role z c.in-Element.name.items ps ms
+    piece_at c.args.walk.now c.nodes.new.walk c.args.position c.args.role (view_content c.args.content) _ (Ok c.in_ok-made-in-Element.made) (Ok c.in_ok-made-in-Element.made) e refl
+    (element_ok c.args.walk.now c.begin.new.walk c.nodes.new.walk c.args.position c.args.role z c.in-Element.name.items ps ms
     h c.in_ok-children-in-Element.children c.in_ok-made-in-Element.made c.standing_in-standing.ensures
-    (begun_at c.args.walk.now c.args.spot z c.in-Element.name.items ps c.as_slice-in-Element.result.now c.in-Element.contents.items
+    (begun_at c.args.walk.now c.args.position z c.in-Element.name.items ps c.as_slice-in-Element.result.now c.in-Element.contents.items
     (Ok h) c.as_slice-in-Element.ensures.value c.in_ok-headed-in-Element.ensures.headed)
     c.begin.ensures.passed
     (within_at c.begin.new.walk c.nodes.new.walk h.head.kind _ c.is_within-inside.result ms

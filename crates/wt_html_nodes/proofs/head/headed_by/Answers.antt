@@ -12,7 +12,7 @@ headed_in-requires-clause-own_values c =
 
 pub returns-in_ok-own : goal.returns-in_ok-own
 returns-in_ok-own c =
-    row_own c.args.number c.args.spot c.args.standing c.args.name.now (pairs c.args.attributes.now) (pairs c.as_slice.result.now)
+    row_own c.args.number c.args.position c.args.standing c.args.name.now (pairs c.args.attributes.now) (pairs c.as_slice.result.now)
     (views c.args.contents.now) c.headed_in.result
     (ap pairs c.as_slice.ensures.value ∙ c.in_ok-own.ensures
     ∙ first_pairs c.args.standing (pairs c.args.attributes.now) (sym c.is_first.ensures ∙ c.if-is_first.true))
@@ -20,7 +20,7 @@ returns-in_ok-own c =
 
 pub returns-else-is_first : goal.returns-else-is_first
 returns-else-is_first c =
-    row_own c.args.number c.args.spot c.args.standing c.args.name.now (pairs c.args.attributes.now) (pairs c.args.attributes.now)
+    row_own c.args.number c.args.position c.args.standing c.args.name.now (pairs c.args.attributes.now) (pairs c.args.attributes.now)
     (views c.args.contents.now) c.headed_in-else-is_first.result
     (other_pairs c.args.standing (pairs c.args.attributes.now) (sym c.is_first.ensures ∙ c.if-is_first.false))
     c.headed_in-else-is_first.ensures

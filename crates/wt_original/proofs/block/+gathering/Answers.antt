@@ -2,8 +2,8 @@ use Rattle.std.proofs.Common.{ℕ, ap, ◌∙◌, length}
 use Rattle.std.specs.Prelude.{slice_set}
 use Rattle.wt_tree.specs.View.{view, views, label_of}
 use Rattle.wt_tree.specs.declared.node.Node.{out-Node}
-use Rattle.wt_original.specs.declared.block.Spot.{Spot}
-use Rattle.wt_original.specs.Kept.{Found}
+use Rattle.wt_original.specs.declared.block.Extent.{Extent}
+use Rattle.wt_original.specs.Kept.{KeptNode}
 use Rattle.wt_original.specs.Gathered.{found_so_far, ended}
 use Rattle.wt_original.proofs.Gathering.{delimited_node, numbered}
 use Rattle.wt_original.proofs.block.+gathering.Goals as goal
@@ -18,10 +18,10 @@ pub gather_numbered-returns : goal.gather_numbered-returns
 gather_numbered-returns t c =
     let node = c.args.node.now in
     let inside = found_so_far c.gather_inside.new.out in
-    let at_spot : Spot → Found = λ s. record { node = view node; spot = s } in
-    let spot = c.end-spot.ensures ∙ ap (λ (s : Spot). ended c.gather_inside.new.out s) c.begin-spot.ensures in
+    let at_spot : Extent → KeptNode = λ s. record { node = view node; extent = s } in
+    let extent = c.end-extent.ensures ∙ ap (λ (s : Extent). ended c.gather_inside.new.out s) c.begin-extent.ensures in
     numbered (view node) (label_of (out-Node node)) (views (out-Node node).children) c.args.out.now c.push_found.new.out
-    c.gather_inside.new.out c.set_found.new.out (at_spot c.begin-spot.result)
+    c.gather_inside.new.out c.set_found.new.out (at_spot c.begin-extent.result)
     c.in_ok-push_found.ensures c.in_ok-gather_inside.ensures c.set_found.ensures.source c.set_found.ensures.seen
-    (c.set_found.ensures.found ∙ ap (λ (i : ℕ). slice_set inside i (at_spot c.end-spot.result)) c.count-index.ensures
-    ∙ ap (λ (s : Spot). slice_set inside (length (found_so_far c.args.out.now)) (at_spot s)) spot)
+    (c.set_found.ensures.found ∙ ap (λ (i : ℕ). slice_set inside i (at_spot c.end-extent.result)) c.count-index.ensures
+    ∙ ap (λ (s : Extent). slice_set inside (length (found_so_far c.args.out.now)) (at_spot s)) extent)

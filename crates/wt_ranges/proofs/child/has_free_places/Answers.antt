@@ -4,7 +4,7 @@ use Rattle.wt_span.specs.Items.{Item, items}
 use Rattle.wt_inline.specs.ItemTree.{tree_items}
 use Rattle.wt_inline.specs.View.{item_tree}
 use Rattle.wt_inline.specs.declared.tree.PieceTree.{PieceTree, out-PieceTree}
-use Rattle.wt_annotated.specs.declared.tree_walk.Walk.{Walk}
+use Rattle.wt_annotated.specs.declared.tree_walk.TreeProgress.{TreeProgress}
 use Rattle.wt_annotated.specs.Seams.{first_of, last_of, parted}
 use Rattle.wt_annotated.specs.TreeWalk.{opened, filled, HasLasts}
 use Rattle.wt_annotated.specs.Walked.{free_places}
@@ -20,7 +20,7 @@ last_whole o n =
     ap (last_of o) (held_parts n) ∙ last_append o a (i ++ d) ∙ last_append (last_of o a) i d
 
 -- where the first three cuts are free, the fourth decides
-fourth_decides : (o p : Option ℕ) (n : PieceTree) (w : Walk) (first opening inside : Option ℕ) (v1 v2 v3 v4 : Bool) → HasLasts o n w
+fourth_decides : (o p : Option ℕ) (n : PieceTree) (w : TreeProgress) (first opening inside : Option ℕ) (v1 v2 v3 v4 : Bool) → HasLasts o n w
     → inside ≡ first_of (items (out-PieceTree n).closing) p → opening ≡ first_of (held_in_all (out-PieceTree n).children) inside
     → first ≡ first_of (items (out-PieceTree n).opening) opening → v1 ≡ parted o first → v1 ≡ true → v2 ≡ parted w.opened.last opening → v2 ≡ true
     → v3 ≡ parted w.filled.last inside → v3 ≡ true → v4 ≡ parted w.closed.last p

@@ -9,7 +9,7 @@ use Rattle.wt_transclusion.specs.Stores.{Concerns, Grows}
 use Rattle.wt_transclusion.proofs.AskedLaws.{asks_none, asks_then}
 use Rattle.wt_transclusion.proofs.GrowthLaws.{agrees_before, agrees_known, grows_none, grows_then}
 use Rattle.wt_template_stack.specs.Ledgers.{AnswersAdvance, AnswersOutput, Progress, TakesStep, ledger, reading_of}
-use Rattle.wt_template_stack.specs.declared.run.Turn.{Turn}
+use Rattle.wt_template_stack.specs.declared.run.StepOutcome.{StepOutcome}
 use Rattle.wt_template_stack.proofs.LedgerLaws.{page_unread, taking_refused}
 use Rattle.wt_template_stack.proofs.ProgressLaws.{going_refused, link_done, message_done, no_fault_counted, one_less, page_done, page_taken, page_untaken, paged_goes, paged_refused, progress_spent, step_handed, step_refused}
 use Rattle.wt_template_stack.proofs.expansion.Expansion.+expanding.Goals as goal
@@ -25,13 +25,13 @@ advance-returns-in_err-given-in-Called-clause-given g t c = λ pages page text m
     let self = c.args.self.now in
     let r = reading_of pages mode frame c.args.left self.names in
     let answered = g.F.Folder.answered c.args.folder.now in
-    let w = subst (λ (k : Turn). TakesStep pages page r text before all c.args.run.now self.store self.spent answered k) c.in-Called.is h in
+    let w = subst (λ (k : StepOutcome). TakesStep pages page r text before all c.args.run.now self.store self.spent answered k) c.in-Called.is h in
     let e : c.from_residual.result ≡ Err c.in_err-given-in-Called.field-0.0 = search rules in
     let named = subst (λ x. Concerns (g.F.Folder.pages c.args.folder.now) pages c.page.new.self.store x) e told in
     subst (λ x. AnswersAdvance pages page r text before all c.args.run.now c.page.new.self.store c.page.new.self.spent
     (g.F.Folder.answered c.page.new.folder) x) (sym e)
     (page_untaken pages page text r before all c.args.run.now self.store self.spent answered
-    (g.F.Folder.answered c.page.new.folder) c.in-Called.handing
+    (g.F.Folder.answered c.page.new.folder) c.in-Called.pending
     c.in_err-given-in-Called.field-0.0 w
     (c.in_err-given-in-Called.ensures.given pages page w.calls.frame w.met named w.stored w.calls.values))
 
@@ -40,17 +40,17 @@ advance-returns-in_err-give_page-in-Called-clause-given g t c = λ pages page te
     let self = c.args.self.now in
     let r = reading_of pages mode frame c.args.left self.names in
     let answered = g.F.Folder.answered c.args.folder.now in
-    let w = subst (λ (k : Turn). TakesStep pages page r text before all c.args.run.now self.store self.spent answered k) c.in-Called.is h in
+    let w = subst (λ (k : StepOutcome). TakesStep pages page r text before all c.args.run.now self.store self.spent answered k) c.in-Called.is h in
     let e : c.from_residual-in_err-give_page-in-Called.result ≡ Err c.in_err-give_page-in-Called.field-0.0 = search rules in
     let now = c.page.new.self in
     let named = subst (λ x. Concerns (g.F.Folder.pages c.args.folder.now) pages now.store x) e told in
     let agrees = c.in_ok-given-in-Called.ensures.grown.agrees pages named (agrees_known pages w.met self.store w.stored) in
     let told_now = g.F.Folder.answered c.page.new.folder in
-    let p = page_taken pages page text r before all c.args.run.now self.store now.store self.spent now.spent answered told_now c.in-Called.handing
+    let p = page_taken pages page text r before all c.args.run.now self.store now.store self.spent now.spent answered told_now c.in-Called.pending
     c.in_ok-given-in-Called.given w
     (c.in_ok-given-in-Called.ensures.given pages page w.calls.frame w.met agrees w.stored w.calls.values) in
     subst (λ x. AnswersAdvance pages page r text before all c.give_page.new.self now.store c.give_page.new.spent told_now x) (sym e)
-    (paged_refused pages page text r before all c.args.run.now now.store now.spent told_now c.in-Called.handing c.in_ok-given-in-Called.given
+    (paged_refused pages page text r before all c.args.run.now now.store now.spent told_now c.in-Called.pending c.in_ok-given-in-Called.given
     c.in_err-give_page-in-Called.field-0.0 p (c.in_err-give_page-in-Called.ensures.answer r text p.left p.returns))
 
 pub advance-returns-in_err-give_page-in-Called-clause-count : goal.advance-returns-in_err-give_page-in-Called-clause-count
@@ -66,13 +66,13 @@ advance-returns-in_ok-give_page-in-Called-clause-given g t c = λ pages page tex
     let self = c.args.self.now in
     let r = reading_of pages mode frame c.args.left self.names in
     let answered = g.F.Folder.answered c.args.folder.now in
-    let w = subst (λ (k : Turn). TakesStep pages page r text before all c.args.run.now self.store self.spent answered k) c.in-Called.is h in
+    let w = subst (λ (k : StepOutcome). TakesStep pages page r text before all c.args.run.now self.store self.spent answered k) c.in-Called.is h in
     let now = c.page.new.self in
     let told_now = g.F.Folder.answered c.page.new.folder in
-    let p = page_taken pages page text r before all c.args.run.now self.store now.store self.spent now.spent answered told_now c.in-Called.handing
+    let p = page_taken pages page text r before all c.args.run.now self.store now.store self.spent now.spent answered told_now c.in-Called.pending
     c.in_ok-given-in-Called.given w
     (c.in_ok-given-in-Called.ensures.given pages page w.calls.frame w.met told w.stored w.calls.values) in
-    paged_goes pages page text r before all c.args.run.now c.give_page.new.self now.store now.spent c.give_page.new.spent told_now c.in-Called.handing
+    paged_goes pages page text r before all c.args.run.now c.give_page.new.self now.store now.spent c.give_page.new.spent told_now c.in-Called.pending
     c.in_ok-given-in-Called.given p (c.in_ok-give_page-in-Called.ensures.answer r text p.left p.returns)
 
 pub finish-steps-init : goal.finish-steps-init
@@ -179,10 +179,10 @@ page-returns-in_err-given-in-Page-clause-given g t c = λ pages page frame met t
     let x : Result (Listed Piece) _ = Err c.in_err-given-in-Page.field-0.0 in
     let some = one_less c.args.left c.in-Some.less c.in-Some.ensures.0 c.in-Some.ensures.1 in
     let before = ledger self.spent met answered in
-    let o = template_output pages c.args.left self.names c.args.handing.now.title frame in
+    let o = template_output pages c.args.left self.names c.args.pending.now.title frame in
     subst (λ y. AnswersOutput pages page before o c.finish.new.self.store c.finish.new.self.spent (g.F.Folder.answered c.finish.new.folder) y) (sym e)
     (page_done pages page self.spent c.finish.new.self.spent met answered named (g.F.Folder.answered c.finish.new.folder) c.args.left c.in-Some.less
-    (reverse c.as_slice-names.result.now) self.names c.entered.new.names c.args.handing.now.title frame
+    (reverse c.as_slice-names.result.now) self.names c.entered.new.names c.args.pending.now.title frame
     c.in_ok-pieces.field-0 c.in-Page.read
     c.in_ok-run-in-Page.run'
     c.take.new.store c.finish.new.self.store x c.as_slice-names.ensures c.in-Page.is some
@@ -200,7 +200,7 @@ page-returns-in_ok-given-in-Page-clause-given g t c = λ pages page frame met to
     let x : Result (Listed Piece) _ = Ok c.in_ok-given-in-Page.given in
     let some = one_less c.args.left c.in-Some.less c.in-Some.ensures.0 c.in-Some.ensures.1 in
     page_done pages page self.spent c.finish.new.self.spent met answered named (g.F.Folder.answered c.finish.new.folder) c.args.left c.in-Some.less
-    (reverse c.as_slice-names.result.now) self.names c.entered.new.names c.args.handing.now.title frame
+    (reverse c.as_slice-names.result.now) self.names c.entered.new.names c.args.pending.now.title frame
     c.in_ok-pieces.field-0 c.in-Page.read
     c.in_ok-run-in-Page.run'
     c.take.new.store c.finish.new.self.store x c.as_slice-names.ensures c.in-Page.is some
@@ -219,7 +219,7 @@ page-returns-in-Message-clause-given g t c = λ pages page frame met told s v.
     let self = c.args.self.now in
     message_done pages page self.spent met (g.F.Folder.answered c.args.folder.now) (g.F.Folder.answered c.take.new.folder) c.args.left
     (reverse c.as_slice-names.result.now) self.names
-    c.args.handing.now.title frame c.in_ok-pieces.field-0 c.in-Message.pieces c.take.new.store c.as_slice-names.ensures c.in-Message.is
+    c.args.pending.now.title frame c.in_ok-pieces.field-0 c.in-Message.pieces c.take.new.store c.as_slice-names.ensures c.in-Message.is
     (c.in_ok-pieces.ensures.taken pages met told s) (c.in_ok-pieces.ensures.named pages met s)
 
 pub page-returns-in-Link-clause-given : goal.page-returns-in-Link-clause-given
@@ -227,7 +227,7 @@ page-returns-in-Link-clause-given g t c = λ pages page frame met told s v.
     let self = c.args.self.now in
     link_done pages page self.spent met (g.F.Folder.answered c.args.folder.now) (g.F.Folder.answered c.take.new.folder) c.args.left
     (reverse c.as_slice-names.result.now) self.names
-    c.args.handing.now.title frame c.in_ok-pieces.field-0 c.in-Link.pieces c.take.new.store c.as_slice-names.ensures c.in-Link.is
+    c.args.pending.now.title frame c.in_ok-pieces.field-0 c.in-Link.pieces c.take.new.store c.as_slice-names.ensures c.in-Link.is
     (c.in_ok-pieces.ensures.taken pages met told s) (c.in_ok-pieces.ensures.named pages met s)
 
 pub advance-returns-in-Went-clause-asks : goal.advance-returns-in-Went-clause-asks
@@ -266,7 +266,7 @@ finish-returns-clause-given g t c = λ pages page text mode frame before all tol
 pub page-returns-in_err-pieces-clause-given : goal.page-returns-in_err-pieces-clause-given
 page-returns-in_err-pieces-clause-given g t c = λ pages page frame met told s v.
     let self = c.args.self.now in
-    let title = c.args.handing.now.title in
+    let title = c.args.pending.now.title in
     let answered = g.F.Folder.answered c.args.folder.now in
     let before = ledger self.spent met answered in
     let x = c.in_err-pieces.field-0.0 in
@@ -286,7 +286,7 @@ page-returns-in_default-clause-given g t c = λ pages page frame met told s v.
     let agrees = c.in_ok-pieces.ensures.grown.agrees pages told (agrees_known pages met self.store s) in
     page_unread pages page self.spent met (g.F.Folder.answered c.args.folder.now)
     (g.F.Folder.answered c.take.new.folder) c.args.left
-    (reverse c.as_slice-names.result.now) self.names c.args.handing.now.title frame c.in_ok-pieces.field-0
+    (reverse c.as_slice-names.result.now) self.names c.args.pending.now.title frame c.in_ok-pieces.field-0
     c.in-Page.read c.take.new.store
     c.as_slice-names.ensures c.in-Page.is (c.in_ok-pieces.ensures.taken pages met agrees s)
     (c.in_ok-pieces.ensures.named pages met s)
@@ -294,7 +294,7 @@ page-returns-in_default-clause-given g t c = λ pages page frame met told s v.
 pub page-returns-in_err-run-in-Page-clause-given : goal.page-returns-in_err-run-in-Page-clause-given
 page-returns-in_err-run-in-Page-clause-given g t c = λ pages page frame met told s v.
     let self = c.args.self.now in
-    let title = c.args.handing.now.title in
+    let title = c.args.pending.now.title in
     let answered = g.F.Folder.answered c.args.folder.now in
     let before = ledger self.spent met answered in
     let told_now = g.F.Folder.answered c.take.new.folder in

@@ -27,15 +27,15 @@ returns-in_err-pieces-clause-given g c = λ pages page t frame met p s b told st
     let answered = g.F.Folder.answered c.args.folder.now in
     let o = page_begun self.spent (after_values r c.args.at_start c.args.title [] 1 (later_parts (parts_of_call r t c.args.call b))) in
     let all = page_called r t c.args.call b c.args.at_start c.args.title in
-    let first = page_alone r t c.in_ok-run.run' c.args.call c.args.at_start c.args.title c.new-handing.result b p s o refl
+    let first = page_alone r t c.in_ok-run.run' c.args.call c.args.at_start c.args.title c.new-pending.result b p s o refl
     (subst (λ (x : Reader). IsReading c.args.mode t x p s) (sym c.in_ok-run.ensures.reader) reading) c.in_ok-run.ensures.mode c.in_ok-run.ensures.levels low
     (record {
-      call = c.new-handing.ensures.call;
-      at_start = c.new-handing.ensures.at_start;
-      title_is = c.new-handing.ensures.title;
-      part = c.new-handing.ensures.part;
-      number = c.new-handing.ensures.number;
-      values = c.new-handing.ensures.values;
+      call = c.new-pending.ensures.call;
+      at_start = c.new-pending.ensures.at_start;
+      title_is = c.new-pending.ensures.title;
+      part = c.new-pending.ensures.part;
+      number = c.new-pending.ensures.number;
+      values = c.new-pending.ensures.values;
     }) in
     let step = part_step pages page t r self.spent c.charge.new.spent met answered all o c.next_part.new.self self.store c.in_ok-turn.turn st
     (begun_spent self.spent c.charge.new.spent (undone self.spent all) o (page_does self.spent all o.left refl)
@@ -53,15 +53,15 @@ returns-in-Some-clause-given g c = λ pages page t frame met p s b told st v rea
     let answered = g.F.Folder.answered c.args.folder.now in
     let o = page_begun self.spent (after_values r c.args.at_start c.args.title [] 1 (later_parts (parts_of_call r t c.args.call b))) in
     let all = page_called r t c.args.call b c.args.at_start c.args.title in
-    let first = page_alone r t c.in_ok-run.run' c.args.call c.args.at_start c.args.title c.new-handing.result b p s o refl
+    let first = page_alone r t c.in_ok-run.run' c.args.call c.args.at_start c.args.title c.new-pending.result b p s o refl
     (subst (λ (x : Reader). IsReading c.args.mode t x p s) (sym c.in_ok-run.ensures.reader) reading) c.in_ok-run.ensures.mode c.in_ok-run.ensures.levels low
     (record {
-      call = c.new-handing.ensures.call;
-      at_start = c.new-handing.ensures.at_start;
-      title_is = c.new-handing.ensures.title;
-      part = c.new-handing.ensures.part;
-      number = c.new-handing.ensures.number;
-      values = c.new-handing.ensures.values;
+      call = c.new-pending.ensures.call;
+      at_start = c.new-pending.ensures.at_start;
+      title_is = c.new-pending.ensures.title;
+      part = c.new-pending.ensures.part;
+      number = c.new-pending.ensures.number;
+      values = c.new-pending.ensures.values;
     }) in
     let step = part_step pages page t r self.spent c.charge.new.spent met answered all o c.next_part.new.self self.store c.in_ok-turn.turn st
     (begun_spent self.spent c.charge.new.spent (undone self.spent all) o (page_does self.spent all o.left refl)
@@ -77,15 +77,15 @@ returns-clause-given g c = λ pages page t frame met p s b told st v reading low
     let answered = g.F.Folder.answered c.args.folder.now in
     let o = page_begun self.spent (after_values r c.args.at_start c.args.title [] 1 (later_parts (parts_of_call r t c.args.call b))) in
     let all = page_called r t c.args.call b c.args.at_start c.args.title in
-    let first = page_alone r t c.in_ok-run.run' c.args.call c.args.at_start c.args.title c.new-handing.result b p s o refl
+    let first = page_alone r t c.in_ok-run.run' c.args.call c.args.at_start c.args.title c.new-pending.result b p s o refl
     (subst (λ (x : Reader). IsReading c.args.mode t x p s) (sym c.in_ok-run.ensures.reader) reading) c.in_ok-run.ensures.mode c.in_ok-run.ensures.levels low
     (record {
-      call = c.new-handing.ensures.call;
-      at_start = c.new-handing.ensures.at_start;
-      title_is = c.new-handing.ensures.title;
-      part = c.new-handing.ensures.part;
-      number = c.new-handing.ensures.number;
-      values = c.new-handing.ensures.values;
+      call = c.new-pending.ensures.call;
+      at_start = c.new-pending.ensures.at_start;
+      title_is = c.new-pending.ensures.title;
+      part = c.new-pending.ensures.part;
+      number = c.new-pending.ensures.number;
+      values = c.new-pending.ensures.values;
     }) in
     let step = part_step pages page t r self.spent c.charge.new.spent met answered all o c.next_part.new.self self.store c.in_ok-turn.turn st
     (begun_spent self.spent c.charge.new.spent (undone self.spent all) o (page_does self.spent all o.left refl)

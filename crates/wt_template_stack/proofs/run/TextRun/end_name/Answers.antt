@@ -7,5 +7,5 @@ use Rattle.wt_template_stack.proofs.run.TextRun.end_name.Goals as goal
 pub returns : goal.returns
 returns c = λ r t total h.
     c.in_ok-begin_level.ensures r t total
-    (name_begun r t c.args.self.now c.args.handing c.args.end c.args.out c.in_ok-name_text.field-0 c.in-Some.at total h
+    (name_begun r t c.args.self.now c.args.pending c.args.end c.args.out c.in_ok-name_text.field-0 c.in-Some.at total h
     (c.in_ok-name_text.ensures ∙ ap (λ ps. name_text (items ps)) c.as_slice.ensures) c.in-Some.ensures.1)

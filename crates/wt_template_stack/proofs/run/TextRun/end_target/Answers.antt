@@ -27,13 +27,13 @@ pub returns-clause-answer : goal.returns-clause-answer
 returns-clause-answer c = λ r t total h.
     let named = ap (λ ps. title_of_target (items ps)) (sym c.as_slice.ensures) ∙ sym c.in_ok-title.ensures ∙ c.in-Some.is in
     let z = page_begins r t c.args.self.now c.args.call c.args.at_start c.args.out c.in-Some.title total h named in
-    let first = z.2 c.new-handing.result (record {
-      call = c.new-handing.ensures.call;
-      at_start = c.new-handing.ensures.at_start;
-      title_is = c.new-handing.ensures.title;
-      part = c.new-handing.ensures.part;
-      number = c.new-handing.ensures.number;
-      values = c.new-handing.ensures.values;
+    let first = z.2 c.new-pending.result (record {
+      call = c.new-pending.ensures.call;
+      at_start = c.new-pending.ensures.at_start;
+      title_is = c.new-pending.ensures.title;
+      part = c.new-pending.ensures.part;
+      number = c.new-pending.ensures.number;
+      values = c.new-pending.ensures.values;
     }) in
     part_taken_behind r t c.args.spent.now c.charge.new.spent total z.0 c.next_part.new.self c.in_ok-turn.turn
     (begun_spent c.args.spent.now c.charge.new.spent total z.0 z.1 c.in_ok-charge.ensures.large c.in_ok-charge.ensures.spent)

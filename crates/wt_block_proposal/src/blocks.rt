@@ -1,0 +1,333 @@
+//! Blocks, items and rows as wikitext, where they are new, come from elsewhere or are of another kind now.
+
+use crate::delimiters::{
+    push_begun, push_closing, push_heading_end, push_heading_start, push_opening, push_signs,
+    shares_line,
+};
+use crate::items::sign_of;
+use crate::kinds::{is_item, is_list};
+use std::alloc::Global;
+use wt_checks::original;
+use wt_content_proposal::{Block, Edges, Known, Writing, block_of, edges_of, spelled};
+use wt_difference::{are_same, inside, is_block_part};
+use wt_selser::place_in;
+use wt_span::{NoMemory, Str};
+use wt_tree::{Kind, Node, flat, same_attrs, same_kind};
+
+/// What a block is written by: what is known of the page, whether texts keep their bytes, the signs of the item
+/// in which it stands (of an item its own), and the page's text at its end, where the block is the second half of
+/// one that stood there.
+#[derive(Clone, Copy)]
+pub struct Surroundings<'w, 't, 'a> {
+    pub known: &'w Known<'t, 'a>,
+    pub keeps: bool,
+    pub signs: &'w str,
+    pub tail: Option<&'t Node<'a>>,
+}
+
+impl<'w, 't, 'a> Surroundings<'w, 't, 'a> {
+    /// How the inside of a block of this kind is written; `block` is the one that stood in the page.
+    fn writing(self, block: Option<&'w Block<'t, 'a>>, kind: Kind) -> Writing<'w, 't, 'a> {
+        Writing::of(self.known, block, self.keeps, place_in(kind))
+    }
+
+    /// The same for what stands in the block.
+    fn within(self) -> Surroundings<'w, 't, 'a> {
+        Surroundings {
+            known: self.known,
+            keeps: self.keeps,
+            signs: self.signs,
+            tail: None,
+        }
+    }
+
+    /// The same for what stands in a part of a table, where lists begin anew.
+    fn in_table(self) -> Surroundings<'w, 't, 'a> {
+        Surroundings {
+            known: self.known,
+            keeps: self.keeps,
+            signs: "",
+            tail: None,
+        }
+    }
+}
+
+// ---- blocks that stand
+
+/// Whether a node is the page's with its number, as it was. Of a group nothing can have been changed.
+fn is_as_it_was(alloc: Global, old: &Node<'_>, node: &Node<'_>) -> Result<bool, NoMemory> {
+    if !same_kind(old.kind, node.kind) || !same_attrs(old.attrs(), node.attrs()) {
+        return Ok(false);
+    }
+    if matches!(node.kind, Kind::Group) {
+        return Ok(true);
+    }
+    are_same(alloc, old.children.as_slice(), node.children.as_slice())
+}
+
+/// The page's source of a node that is as it was.
+fn source_standing(
+    alloc: Global,
+    known: &Known<'_, '_>,
+    node: &Node<'_>,
+) -> Result<Option<Str>, NoMemory> {
+    if node.id == 0 {
+        return Ok(None);
+    }
+    let Some(visit) = original(known.index, node.id) else {
+        return Ok(None);
+    };
+    if !is_as_it_was(alloc, visit.node, node)? {
+        return Ok(None);
+    }
+    let source = flat(alloc, visit.node)?;
+    Ok(Some(source))
+}
+
+// ---- what a block holds
+
+/// The inside of a block that the page has.
+fn kept_inside<'t, 'a>(
+    alloc: Global,
+    around: Surroundings<'_, 't, 'a>,
+    old: &'t Node<'a>,
+    node: &Node<'_>,
+) -> Result<Str, NoMemory> {
+    let block = block_of(alloc, old)?;
+    let writing = around.writing(Some(&block), node.kind);
+    spelled(alloc, writing, inside(node), edges_of(inside(old)))
+}
+
+/// The inside of a new block.
+fn new_inside(
+    alloc: Global,
+    around: Surroundings<'_, '_, '_>,
+    node: &Node<'_>,
+) -> Result<Str, NoMemory> {
+    let writing = around.writing(None, node.kind);
+    let edges = Edges {
+        first: None,
+        last: around.tail,
+    };
+    spelled(alloc, writing, inside(node), edges)
+}
+
+/// Appends the inside of a block.
+fn push_inside(
+    alloc: Global,
+    out: &mut Str,
+    around: Surroundings<'_, '_, '_>,
+    node: &Node<'_>,
+) -> Result<(), NoMemory> {
+    let source = match original(around.known.index, node.id) {
+        Some(visit) if node.id != 0 => kept_inside(alloc, around, visit.node, node)?,
+        _ => new_inside(alloc, around, node)?,
+    };
+    out.push_str(source.as_str())
+}
+
+/// Appends all that a node holds behind its inside, each on a line of its own but a cell that shared one.
+#[cycle(blocks)]
+fn push_held(
+    alloc: Global,
+    out: &mut Str,
+    around: Surroundings<'_, '_, '_>,
+    node: &Node<'_>,
+) -> Result<(), NoMemory> {
+    let mut before = None;
+    for child in node.children.as_slice() {
+        if is_block_part(child.kind) {
+            if !shares_line(alloc, around.known, before, child)? {
+                out.push_str("\n")?;
+            }
+            push_block(alloc, out, around.within(), child)?;
+            before = Some(child);
+        }
+    }
+    Ok(())
+}
+
+/// Whether a source begins with these signs, and no other behind them.
+fn begins_with(source: &[u8], signs: &[u8]) -> bool {
+    if !source.starts_with(signs) {
+        return false;
+    }
+    match source.get(signs.len()) {
+        None => true,
+        Some(byte) => *byte != b'*' && *byte != b'#' && *byte != b':' && *byte != b';',
+    }
+}
+
+// ---- blocks
+
+fn push_heading(
+    alloc: Global,
+    out: &mut Str,
+    around: Surroundings<'_, '_, '_>,
+    level: u8,
+    node: &Node<'_>,
+) -> Result<(), NoMemory> {
+    push_heading_start(alloc, out, around.known, node.id, level)?;
+    push_inside(alloc, out, around, node)?;
+    push_heading_end(alloc, out, around.known, node.id, level)
+}
+
+/// Appends an item with its signs: as it stood in the page, where it stood there with these.
+#[cycle(blocks)]
+fn push_item(
+    alloc: Global,
+    out: &mut Str,
+    around: Surroundings<'_, '_, '_>,
+    node: &Node<'_>,
+) -> Result<(), NoMemory> {
+    if let Some(source) = source_standing(alloc, around.known, node)? {
+        let source = source.as_str();
+        if begins_with(source.as_bytes(), around.signs.as_bytes()) {
+            return out.push_str(source);
+        }
+    }
+    push_signs(alloc, out, around.known, node, around.signs)?;
+    push_inside(alloc, out, around, node)?;
+    push_held(alloc, out, around, node)
+}
+
+/// Appends an item of a list that stands in an item with these signs.
+#[cycle(blocks)]
+fn push_item_of(
+    alloc: Global,
+    out: &mut Str,
+    around: Surroundings<'_, '_, '_>,
+    list: Kind,
+    item: &Node<'_>,
+) -> Result<(), NoMemory> {
+    let mut signs = Str::copy_of(alloc, around.signs)?;
+    signs.push_str(sign_of(list, item.kind))?;
+    let own = Surroundings {
+        known: around.known,
+        keeps: around.keeps,
+        signs: signs.as_str(),
+        tail: None,
+    };
+    push_item(alloc, out, own, item)
+}
+
+/// Appends the items of a list, each on a line of its own.
+#[cycle(blocks)]
+fn push_items(
+    alloc: Global,
+    out: &mut Str,
+    around: Surroundings<'_, '_, '_>,
+    list: &Node<'_>,
+) -> Result<(), NoMemory> {
+    let mut is_first = true;
+    for item in list.children.as_slice() {
+        if is_block_part(item.kind) {
+            if !is_first {
+                out.push_str("\n")?;
+            }
+            is_first = false;
+            push_item_of(alloc, out, around, list.kind, item)?;
+        }
+    }
+    Ok(())
+}
+
+/// Appends the rows of a table, each on a line of its own.
+#[cycle(blocks)]
+fn push_rows(
+    alloc: Global,
+    out: &mut Str,
+    around: Surroundings<'_, '_, '_>,
+    node: &Node<'_>,
+) -> Result<(), NoMemory> {
+    let mut is_first = true;
+    for child in node.children.as_slice() {
+        if is_block_part(child.kind) {
+            if !is_first {
+                out.push_str("\n")?;
+            }
+            is_first = false;
+            push_block(alloc, out, around.in_table(), child)?;
+        }
+    }
+    Ok(())
+}
+
+#[cycle(blocks)]
+fn push_cell(
+    alloc: Global,
+    out: &mut Str,
+    around: Surroundings<'_, '_, '_>,
+    sign: &str,
+    node: &Node<'_>,
+) -> Result<(), NoMemory> {
+    push_opening(alloc, out, around.known, node, sign)?;
+    push_inside(alloc, out, around.in_table(), node)?;
+    push_held(alloc, out, around.in_table(), node)
+}
+
+/// Appends a table, or a row, with a line for each of its parts.
+#[cycle(blocks)]
+fn push_lines(
+    alloc: Global,
+    out: &mut Str,
+    around: Surroundings<'_, '_, '_>,
+    sign: &str,
+    node: &Node<'_>,
+) -> Result<(), NoMemory> {
+    push_opening(alloc, out, around.known, node, sign)?;
+    push_held(alloc, out, around.in_table(), node)
+}
+
+/// Appends a block as it stood in the page, where it stood there as it is; it says whether it does. An item
+/// stands so only with its signs, a row with its sign.
+fn push_if_standing(
+    alloc: Global,
+    out: &mut Str,
+    around: Surroundings<'_, '_, '_>,
+    node: &Node<'_>,
+) -> Result<bool, NoMemory> {
+    let is_of_list = is_list(node.kind) || is_item(node.kind);
+    if is_of_list && !around.signs.is_empty() {
+        return Ok(false);
+    }
+    let Some(source) = source_standing(alloc, around.known, node)? else {
+        return Ok(false);
+    };
+    if matches!(node.kind, Kind::Tr) && !source.as_str().starts_with("|-") {
+        return Ok(false);
+    }
+    push_begun(out, node.kind, source.as_str())?;
+    Ok(true)
+}
+
+/// Appends a block without a line break at its end.
+#[cycle(blocks)]
+pub fn push_block(
+    alloc: Global,
+    out: &mut Str,
+    around: Surroundings<'_, '_, '_>,
+    node: &Node<'_>,
+) -> Result<(), NoMemory> {
+    if push_if_standing(alloc, out, around, node)? {
+        return Ok(());
+    }
+    match node.kind {
+        Kind::Para => push_inside(alloc, out, around, node),
+        Kind::Heading(level) => push_heading(alloc, out, around, level, node),
+        Kind::Rule => out.push_str("----"),
+        Kind::Ul | Kind::Ol | Kind::Dl => push_items(alloc, out, around, node),
+        Kind::Li | Kind::Dt | Kind::Dd => push_item(alloc, out, around, node),
+        Kind::Table => {
+            push_lines(alloc, out, around, "{|", node)?;
+            out.push_str("\n")?;
+            push_closing(alloc, out, around.known, node, "|}")
+        }
+        Kind::Tbody => push_rows(alloc, out, around, node),
+        Kind::Tr => push_lines(alloc, out, around, "|-", node),
+        Kind::Td => push_cell(alloc, out, around, "| ", node),
+        Kind::Th => push_cell(alloc, out, around, "! ", node),
+        Kind::Caption => push_cell(alloc, out, around, "|+ ", node),
+        _ => Ok(()),
+    }
+}

@@ -1,0 +1,590 @@
+//! Inline content as wikitext: what stood in the page as it stood, texts too, and what is new as `edit` spells it.
+
+use crate::groups::role_in_line;
+use crate::joints::{Spot, place_of_new, with_joints};
+use crate::known::{Block, Known, first_text, last_text};
+use crate::links::{is_bare_url, with_colons, with_fragment};
+use crate::texts::{ends_with_apostrophe, push_letters, push_nowiki, push_text};
+use std::alloc::Global;
+use wt_escape::{external_link_of, href_of, page_link_of};
+use wt_guards::{Place, Role, Setting, Stretch, Thing, Unit, spelling_of};
+use wt_original::{InlineForm, Kept, is_unchanged, shape, shown_text};
+use wt_span::{NoMemory, Str, Text};
+use wt_tree::{Kind, Node, flat, same_attrs, same_kind};
+
+/// How an inside is written: what is known of the page, the block in which it stands, whether texts keep their
+/// bytes, and what kind of block it is.
+#[derive(Clone, Copy)]
+pub struct Writing<'w, 't, 'a> {
+    pub known: &'w Known<'t, 'a>,
+    pub block: Option<&'w Block<'t, 'a>>,
+    pub keeps: bool,
+    pub place: Place,
+}
+
+impl<'w, 't, 'a> Writing<'w, 't, 'a> {
+    pub fn of(
+        known: &'w Known<'t, 'a>,
+        block: Option<&'w Block<'t, 'a>>,
+        keeps: bool,
+        place: Place,
+    ) -> Writing<'w, 't, 'a> {
+        Writing {
+            known,
+            block,
+            keeps,
+            place,
+        }
+    }
+}
+
+/// The texts of the page at the two edges of what is written.
+#[derive(Clone, Copy)]
+pub struct Edges<'t, 'a> {
+    pub first: Option<&'t Node<'a>>,
+    pub last: Option<&'t Node<'a>>,
+}
+
+/// The edges of these nodes of the page.
+pub fn edges_of<'t, 'a>(nodes: &'t [Node<'a>]) -> Edges<'t, 'a> {
+    Edges {
+        first: first_text(nodes),
+        last: last_text(nodes),
+    }
+}
+
+fn edges_in<'t, 'a>(kept: Option<Kept<'t, 'a>>) -> Edges<'t, 'a> {
+    match kept {
+        Some(kept) => edges_of(kept.node.children.as_slice()),
+        None => Edges {
+            first: None,
+            last: None,
+        },
+    }
+}
+
+// ---- one unit
+
+fn push_thing(
+    out: &mut Vec<Unit<'_>>,
+    role: Role,
+    source: Str,
+    place: Option<Stretch>,
+) -> Result<(), NoMemory> {
+    out.push(Unit::Thing(Thing {
+        role,
+        source,
+        place,
+    }))?;
+    Ok(())
+}
+
+fn push_texts(out: &mut Str, texts: &[Text<'_>]) -> Result<(), NoMemory> {
+    for text in texts {
+        out.push_str(text.as_str())?;
+    }
+    Ok(())
+}
+
+/// Texts that follow one another in one.
+pub fn joined(alloc: Global, texts: &[Text<'_>]) -> Result<Str, NoMemory> {
+    let mut out = Str::new(alloc);
+    push_texts(&mut out, texts)?;
+    Ok(out)
+}
+
+fn place_of(kept: Option<Kept<'_, '_>>) -> Option<Stretch> {
+    match kept {
+        Some(kept) => Some(kept.place),
+        None => None,
+    }
+}
+
+/// Appends a node as it stood in the page.
+fn push_as_it_stood(
+    alloc: Global,
+    out: &mut Vec<Unit<'_>>,
+    keeps: bool,
+    old: Kept<'_, '_>,
+) -> Result<(), NoMemory> {
+    let source = flat(alloc, old.node)?;
+    let role = if keeps {
+        role_in_line(old.role, old.node)
+    } else {
+        old.role
+    };
+    push_thing(out, role, source, Some(old.place))
+}
+
+/// The same of a node that may not have stood there. What a link skips is no part of its text.
+fn push_kept(
+    alloc: Global,
+    out: &mut Vec<Unit<'_>>,
+    keeps: bool,
+    kept: Option<Kept<'_, '_>>,
+    kind: Kind,
+) -> Result<(), NoMemory> {
+    match kept {
+        Some(old) if !matches!(kind, Kind::Skip) => push_as_it_stood(alloc, out, keeps, old),
+        _ => Ok(()),
+    }
+}
+
+/// Appends a node as it stood in the page, where it shows what it showed; it says whether it does.
+fn push_if_unchanged(
+    alloc: Global,
+    out: &mut Vec<Unit<'_>>,
+    writing: Writing<'_, '_, '_>,
+    kept: Option<Kept<'_, '_>>,
+    node: &Node<'_>,
+) -> Result<bool, NoMemory> {
+    let Some(old) = kept else {
+        return Ok(false);
+    };
+    let Some(groups) = writing.known.groups(writing.block) else {
+        return Ok(false);
+    };
+    if !is_unchanged(alloc, groups, old, node)? {
+        return Ok(false);
+    }
+    push_as_it_stood(alloc, out, writing.keeps, old)?;
+    Ok(true)
+}
+
+fn push_shown(alloc: Global, out: &mut Vec<Unit<'_>>, node: &Node<'_>) -> Result<(), NoMemory> {
+    let text = shown_text(alloc, node)?;
+    if !text.is_empty() {
+        out.push(Unit::Copied(Str::from_string(text)))?;
+    }
+    Ok(())
+}
+
+// ---- bold and italic
+
+/// Whether what was appended last is a delimiter of bold that the page has, and that makes a run of five with one of
+/// italic behind it.
+fn is_behind_bold(out: &[Unit<'_>]) -> bool {
+    match out.last() {
+        Some(Unit::Thing(thing)) => thing.place.is_some() && thing.source.as_str() == "'''",
+        _ => false,
+    }
+}
+
+/// Appends a delimiter that is written anew, apart from an apostrophe before it that would lengthen `''`.
+fn push_toggle(alloc: Global, out: &mut Vec<Unit<'_>>, sign: &str) -> Result<(), NoMemory> {
+    let units = out.as_slice();
+    if sign.len() == 2 && ends_with_apostrophe(units) && !is_behind_bold(units) {
+        push_nowiki(alloc, out)?;
+    }
+    let source = Str::copy_of(alloc, sign)?;
+    push_thing(out, Role::Toggle, source, None)
+}
+
+/// Appends the opening delimiter of a node of the page.
+fn push_opening(alloc: Global, out: &mut Vec<Unit<'_>>, old: Kept<'_, '_>) -> Result<(), NoMemory> {
+    let source = joined(alloc, old.node.opening())?;
+    let length = source.as_str().len();
+    if length == 0 {
+        return Ok(());
+    }
+    let start = old.place.start;
+    let end = start.saturating_add(length);
+    push_thing(out, Role::Node, source, Some(Stretch { start, end }))
+}
+
+/// Appends its closing delimiter; a style that is open to its line's end has none.
+fn push_closing(alloc: Global, out: &mut Vec<Unit<'_>>, old: Kept<'_, '_>) -> Result<(), NoMemory> {
+    let source = joined(alloc, old.node.closing())?;
+    let length = source.as_str().len();
+    if length == 0 {
+        return Ok(());
+    }
+    let end = old.place.end;
+    let start = end.saturating_sub(length);
+    push_thing(out, Role::Node, source, Some(Stretch { start, end }))
+}
+
+/// The page's node, where it is of the same kind and its delimiters stay.
+fn with_delimiters<'t, 'a>(
+    writing: Writing<'_, '_, '_>,
+    kept: Option<Kept<'t, 'a>>,
+    kind: Kind,
+) -> Option<Kept<'t, 'a>> {
+    match kept {
+        Some(old) if writing.keeps && same_kind(old.node.kind, kind) => Some(old),
+        _ => None,
+    }
+}
+
+/// Appends bold or italic: with its delimiters where the page has it.
+#[cycle(units)]
+fn push_style<'n, 't, 'a>(
+    alloc: Global,
+    out: &mut Vec<Unit<'n>>,
+    writing: Writing<'_, 't, 'a>,
+    sign: &str,
+    kept: Option<Kept<'t, 'a>>,
+    node: &'n Node<'_>,
+) -> Result<(), NoMemory> {
+    let nodes = node.children.as_slice();
+    if let Some(old) = with_delimiters(writing, kept, node.kind) {
+        push_opening(alloc, out, old)?;
+        push_units(alloc, out, writing, nodes, edges_in(kept))?;
+        return push_closing(alloc, out, old);
+    }
+    push_toggle(alloc, out, sign)?;
+    if nodes.is_empty() {
+        push_nowiki(alloc, out)?;
+    }
+    push_units(alloc, out, writing, nodes, edges_in(kept))?;
+    if matches!(node.kind, Kind::Bold) && is_italic_alone(nodes) {
+        push_nowiki(alloc, out)?;
+    }
+    push_toggle(alloc, out, sign)
+}
+
+/// Whether italic text is all that is held: one run of five at each end would make it the outer one.
+fn is_italic_alone(nodes: &[Node<'_>]) -> bool {
+    match nodes.first() {
+        Some(node) => nodes.len() == 1 && matches!(node.kind, Kind::Italic),
+        None => false,
+    }
+}
+
+// ---- links and tags
+
+/// A changed tag with its old delimiters.
+fn tag_round(alloc: Global, old: &Node<'_>, inside: &str) -> Result<Str, NoMemory> {
+    let mut out = joined(alloc, old.opening())?;
+    out.push_str(inside)?;
+    push_texts(&mut out, old.closing())?;
+    Ok(out)
+}
+
+/// Whether a link's opening delimiter has its target, and its text stands behind it.
+fn has_target(opening: &str) -> bool {
+    let bytes = opening.as_bytes();
+    bytes.ends_with(b"|") || bytes.ends_with(b" ")
+}
+
+/// Appends the target of a link that has no text of its own: what stands in it up to its brackets. It says
+/// whether that is the target alone.
+fn push_target(alloc: Global, out: &mut Str, nodes: &[Node<'_>]) -> Result<bool, NoMemory> {
+    for node in nodes {
+        match node.kind {
+            Kind::Text | Kind::Entity => {
+                let source = flat(alloc, node)?;
+                out.push_str(source.as_str())?;
+            }
+            Kind::Skip => return Ok(true),
+            _ => return Ok(false),
+        }
+    }
+    Ok(true)
+}
+
+/// What stands before the text of a link of the page; of one without a text its target and a new `|`. None where
+/// there is no such thing.
+fn target_of(alloc: Global, old: &Node<'_>) -> Result<Option<Str>, NoMemory> {
+    let mut out = joined(alloc, old.opening())?;
+    if has_target(out.as_str()) {
+        return Ok(Some(out));
+    }
+    if !matches!(old.kind, Kind::WikiLink) {
+        return Ok(None);
+    }
+    if !push_target(alloc, &mut out, old.children.as_slice())? {
+        return Ok(None);
+    }
+    out.push_str("|")?;
+    Ok(Some(out))
+}
+
+/// Appends the closing delimiter of a link of the page; where letters behind its brackets were part of its text,
+/// these stand in it.
+fn push_link_end(out: &mut Str, old: &Node<'_>) -> Result<(), NoMemory> {
+    if matches!(old.kind, Kind::WikiLink) && old.closing().is_empty() {
+        return out.push_str("]]");
+    }
+    push_texts(out, old.closing())
+}
+
+/// A link of the page whose text alone was changed: its target stands as it was written. None where the target
+/// was changed, too, or no text is left.
+fn link_round(
+    alloc: Global,
+    old: &Node<'_>,
+    node: &Node<'_>,
+    inside: &str,
+) -> Result<Option<Str>, NoMemory> {
+    let is_same = same_kind(old.kind, node.kind) && same_attrs(old.attrs(), node.attrs());
+    if !is_same || inside.is_empty() {
+        return Ok(None);
+    }
+    let Some(mut out) = target_of(alloc, old)? else {
+        return Ok(None);
+    };
+    out.push_str(inside)?;
+    push_link_end(&mut out, old)?;
+    Ok(Some(out))
+}
+
+fn new_source(alloc: Global, keeps: bool, node: &Node<'_>, inside: &str) -> Result<Str, NoMemory> {
+    match shape(node.kind).inline {
+        InlineForm::PageLink => {
+            let link = page_link_of(alloc, node, inside)?;
+            if keeps {
+                with_fragment(alloc, link, inside)
+            } else {
+                Ok(link)
+            }
+        }
+        InlineForm::ExternalLink => external_link_of(alloc, node, inside),
+        InlineForm::Break => Str::copy_of(alloc, "<br>"),
+        InlineForm::Nothing
+        | InlineForm::Characters
+        | InlineForm::Bold
+        | InlineForm::Italic
+        | InlineForm::Shown
+        | InlineForm::Tag
+        | InlineForm::AsItStood => Str::copy_of(alloc, inside),
+    }
+}
+
+/// The source of a link or tag round what it holds now.
+fn source_round(
+    alloc: Global,
+    keeps: bool,
+    kept: Option<Kept<'_, '_>>,
+    node: &Node<'_>,
+    inside: &str,
+) -> Result<Str, NoMemory> {
+    let Some(old) = kept else {
+        return new_source(alloc, keeps, node, inside);
+    };
+    if matches!(node.kind, Kind::Tag(_)) {
+        return tag_round(alloc, old.node, inside);
+    }
+    if keeps && let Some(source) = link_round(alloc, old.node, node, inside)? {
+        return Ok(source);
+    }
+    new_source(alloc, keeps, node, inside)
+}
+
+fn role_of(kind: Kind) -> Role {
+    match kind {
+        Kind::WikiLink => Role::Link,
+        Kind::ExtLink => Role::External,
+        _ => Role::Node,
+    }
+}
+
+/// Appends a link or tag that is new or changed.
+#[cycle(units)]
+fn push_element<'t, 'a>(
+    alloc: Global,
+    out: &mut Vec<Unit<'_>>,
+    writing: Writing<'_, 't, 'a>,
+    kept: Option<Kept<'t, 'a>>,
+    node: &Node<'_>,
+) -> Result<(), NoMemory> {
+    if writing.keeps && is_bare_now(alloc, kept, node)? {
+        let source = Str::copy_of(alloc, href_of(node))?;
+        let role = Role::Bare(href_of(node).ends_with("="));
+        return push_thing(out, role, source, Some(place_of_bare(kept)));
+    }
+    let mut inside = within(alloc, writing, node.children.as_slice(), edges_in(kept))?;
+    if writing.keeps && !matches!(node.kind, Kind::Tag(_)) {
+        inside = with_colons(alloc, inside)?;
+    }
+    let source = source_round(alloc, writing.keeps, kept, node, inside.as_str())?;
+    push_thing(out, role_of(node.kind), source, place_of(kept))
+}
+
+fn place_of_bare(kept: Option<Kept<'_, '_>>) -> Stretch {
+    place_of(kept).unwrap_or(place_of_new())
+}
+
+/// Whether a link is written as its URL alone: one that is new or was written so, and shows its URL.
+fn is_bare_now(
+    alloc: Global,
+    kept: Option<Kept<'_, '_>>,
+    node: &Node<'_>,
+) -> Result<bool, NoMemory> {
+    let was_bare = match kept {
+        Some(old) => matches!(old.role, Role::Bare(_)),
+        None => true,
+    };
+    if !was_bare || !matches!(node.kind, Kind::ExtLink) {
+        return Ok(false);
+    }
+    let text = shown_text(alloc, node)?;
+    Ok(text.as_str() == href_of(node) && is_bare_url(text.as_str().as_bytes()))
+}
+
+/// The inside of a link or tag.
+#[cycle(units)]
+fn within<'t, 'a>(
+    alloc: Global,
+    writing: Writing<'_, 't, 'a>,
+    nodes: &[Node<'_>],
+    edges: Edges<'t, 'a>,
+) -> Result<String, NoMemory> {
+    let units = units_of(alloc, writing, nodes, edges, None)?;
+    let setting = Setting {
+        within: true,
+        place: writing.place,
+        source: writing.known.page.as_bytes(),
+    };
+    let inside = spelling_of(alloc, setting, units.as_slice())?;
+    Ok(inside)
+}
+
+// ---- all nodes
+
+#[cycle(units)]
+fn push_node<'n, 't, 'a>(
+    alloc: Global,
+    out: &mut Vec<Unit<'n>>,
+    writing: Writing<'_, 't, 'a>,
+    node: &'n Node<'_>,
+) -> Result<(), NoMemory> {
+    let kept = writing.known.find(writing.block, node.id);
+    match shape(node.kind).inline {
+        InlineForm::Nothing => Ok(()),
+        InlineForm::Characters => push_letters(out, node.shown()),
+        InlineForm::Bold => push_style(alloc, out, writing, "'''", kept, node),
+        InlineForm::Italic => push_style(alloc, out, writing, "''", kept, node),
+        InlineForm::AsItStood => {
+            let is_mark = node.kind.is_mark();
+            if is_mark && node.id != 0 && writing.known.is_left(writing.block, node.id) {
+                return Ok(());
+            }
+            push_kept(alloc, out, writing.keeps, kept, node.kind)
+        }
+        InlineForm::Shown => {
+            if push_if_unchanged(alloc, out, writing, kept, node)? {
+                return Ok(());
+            }
+            push_shown(alloc, out, node)
+        }
+        InlineForm::PageLink | InlineForm::ExternalLink | InlineForm::Tag | InlineForm::Break => {
+            if push_if_unchanged(alloc, out, writing, kept, node)? {
+                return Ok(());
+            }
+            push_element(alloc, out, writing, kept, node)
+        }
+    }
+}
+
+fn is_text(node: &Node<'_>) -> bool {
+    matches!(node.kind, Kind::Text)
+}
+
+fn before<'n, 'a>(nodes: &'n [Node<'a>], at: usize) -> Option<&'n Node<'a>> {
+    nodes.get(at.checked_sub(1)?)
+}
+
+fn behind<'n, 'a>(nodes: &'n [Node<'a>], at: usize) -> Option<&'n Node<'a>> {
+    nodes.get(at.checked_add(1)?)
+}
+
+/// The page's text behind the node before a place, or at the edge.
+fn text_left<'t, 'a>(
+    writing: Writing<'_, 't, 'a>,
+    nodes: &[Node<'_>],
+    at: usize,
+    edges: Edges<'t, 'a>,
+) -> Option<&'t Node<'a>> {
+    match before(nodes, at) {
+        Some(node) => writing.known.behind(writing.block, node.id),
+        None => edges.first,
+    }
+}
+
+/// The page's text before the node behind a place, or at the edge.
+fn text_right<'t, 'a>(
+    writing: Writing<'_, 't, 'a>,
+    nodes: &[Node<'_>],
+    at: usize,
+    edges: Edges<'t, 'a>,
+) -> Option<&'t Node<'a>> {
+    match behind(nodes, at) {
+        Some(node) => writing.known.before(writing.block, node.id),
+        None => edges.last,
+    }
+}
+
+/// Appends the units of nodes between two edges.
+#[cycle(units)]
+fn push_units<'n, 't, 'a>(
+    alloc: Global,
+    out: &mut Vec<Unit<'n>>,
+    writing: Writing<'_, 't, 'a>,
+    nodes: &'n [Node<'_>],
+    edges: Edges<'t, 'a>,
+) -> Result<(), NoMemory> {
+    for at in 0..nodes.len() {
+        let node = &nodes[at];
+        if is_text(node) && writing.keeps {
+            let left = text_left(writing, nodes, at, edges);
+            let right = text_right(writing, nodes, at, edges);
+            push_text(alloc, out, node.shown(), left, right)?;
+        } else {
+            push_node(alloc, out, writing, node)?;
+        }
+    }
+    Ok(())
+}
+
+/// The units of nodes between two edges.
+#[cycle(units)]
+fn units_of<'n, 't, 'a>(
+    alloc: Global,
+    writing: Writing<'_, 't, 'a>,
+    nodes: &'n [Node<'_>],
+    edges: Edges<'t, 'a>,
+    spot: Option<Spot>,
+) -> Result<Vec<Unit<'n>>, NoMemory> {
+    let mut units = Vec::new(alloc);
+    push_units(alloc, &mut units, writing, nodes, edges)?;
+    if !writing.keeps {
+        return Ok(units);
+    }
+    with_joints(alloc, spot, units.as_slice())
+}
+
+fn spot_of(writing: Writing<'_, '_, '_>) -> Spot {
+    Spot {
+        place: writing.place,
+        before: match writing.block {
+            Some(block) => block.before,
+            None => b' ',
+        },
+        in_tables: writing.known.has_tables,
+    }
+}
+
+fn is_cell(place: Place) -> bool {
+    matches!(place, Place::Cell | Place::Header)
+}
+
+/// Inline nodes as the inside of a block.
+pub fn spelled<'t, 'a>(
+    alloc: Global,
+    writing: Writing<'_, 't, 'a>,
+    nodes: &[Node<'_>],
+    edges: Edges<'t, 'a>,
+) -> Result<Str, NoMemory> {
+    let units = units_of(alloc, writing, nodes, edges, Some(spot_of(writing)))?;
+    if writing.keeps && units.is_empty() && is_cell(writing.place) {
+        return Ok(Str::new(alloc));
+    }
+    let setting = Setting {
+        within: false,
+        place: writing.place,
+        source: writing.known.page.as_bytes(),
+    };
+    let out = spelling_of(alloc, setting, units.as_slice())?;
+    Ok(Str::from_string(out))
+}

@@ -1,7 +1,0 @@
-use Rattle.std.proofs.Common.{◌≡◌, ◌+◌, ℕ, List, map, take}
-use Rattle.wt_visible.specs.Tally.{counted, times, trimmed}
-use Rattle.wt_visible.proofs.kept_marks.stand_among.Given as goal
-
-abbrev pub invariant-loop-text : goal.invariant-loop-text
-invariant-loop-text l =
-    (other : List ℕ) → times other (map trimmed l.others) ≡ counted l.tally other + times other (map trimmed (take l.text-index l.texts))
