@@ -16,7 +16,7 @@ use Rattle.wt_original.specs.Kept.{kept_with}
 use Rattle.wt_escape.specs.Spelling.{inline_spelling}
 use Rattle.wt_checks.specs.Alike.{same_kind, same_data}
 use Rattle.wt_checks.specs.Checked.{checked}
-use Rattle.wt_checks.specs.declared.refusal.Check.{Check}
+use Rattle.wt_checks.specs.declared.refusal.TreeRefusal.{TreeRefusal}
 use Rattle.wt_content.specs.Content.{bad_content}
 use Rattle.wt_selser.specs.declared.refusal.EditRefusal.{EditRefusal}
 use Rattle.wt_selser.specs.declared.refusal.EditRefusal.TheVariants as refusal
@@ -94,7 +94,7 @@ lone_answer same page text b p t h le =
     let items : Expanded = of_items (page_chars page) in
     let u : Tree = sent b p t text in
     let old : Tree = lone_page page in
-    ap (λ (c : Option Check). unless_refused (option_map refusal.Check c) (pairs_answer same items page (marked old u) (slices same old u)))
+    ap (λ (c : Option TreeRefusal). unless_refused (option_map refusal.Check c) (pairs_answer same items page (marked old u) (slices same old u)))
     (checks_pass page text b p t)
     ∙ ap (λ (r : Option EditRefusal). unless_refused r (if_short (spliced page (slices same old u)))) (none_refused same page text b p t)
     ∙ ap if_short (new_page same page text b p t h) ∙ short text le

@@ -20,7 +20,8 @@ use Rattle.wt_visible.specs.SameNodes.{same_node}
 use Rattle.wt_visible.proofs.DifferingLaws.{same_none}
 use Rattle.wt_selser.specs.Edits.{most_bytes, edit_answer}
 use Rattle.wt_pagetool.specs.declared.refusal.Refusal.TheVariants.{TooLong, InputTooLong}
-use Rattle.wt_pagetool.specs.Answers.{Answer, done, refused, text_answer, title_answer, refusal_of_page, expanded_by, unspelled_by, unspelled_answer, new_by, new_expanded, new_answer, edit_by, edit_from, edit_to, edited_answer, input_answer, edit_of}
+use Rattle.wt_edit.specs.Edits.{refusal_of_page}
+use Rattle.wt_pagetool.specs.Answers.{Answer, done, refused, text_answer, title_answer, expanded_by, unspelled_by, unspelled_answer, new_by, new_expanded, new_answer, edit_by, edit_from, edit_to, edited_answer, input_answer, edit_of}
 use Rattle.wt_text_edits.specs.PlainTexts.{are_text_lines, IsPlainText}
 use Rattle.wt_text_edits.specs.LonePages.{lone_page}
 use Rattle.wt_text_edits.specs.LoneEdits.{sent}
