@@ -21,7 +21,9 @@ use Rattle.wt_visible.proofs.DifferingLaws.{same_none}
 use Rattle.wt_selser.specs.Edits.{most_bytes, edit_answer}
 use Rattle.wt_pagetool.specs.declared.refusal.Refusal.TheVariants.{TooLong, InputTooLong}
 use Rattle.wt_edit.specs.Edits.{refusal_of_page}
-use Rattle.wt_pagetool.specs.Answers.{Answer, done, refused, text_answer, title_answer, expanded_by, unspelled_by, unspelled_answer, new_by, new_expanded, new_answer, edit_by, edit_from, edit_to, edited_answer, input_answer, edit_of}
+use Rattle.wt_pagetool.specs.declared.command.Command.TheVariants.{Edit}
+use Rattle.wt_pagetool.specs.Words.{command_of}
+use Rattle.wt_pagetool.specs.Answers.{Answer, done, refused, text_answer, title_answer, expanded_by, unspelled_by, unspelled_answer, new_by, new_expanded, new_answer, edit_by, edit_from, edit_to, edited_answer, input_answer, edit_of, answer_to, answer_told}
 use Rattle.wt_text_edits.specs.PlainTexts.{are_text_lines, IsPlainText}
 use Rattle.wt_text_edits.specs.LonePages.{lone_page}
 use Rattle.wt_text_edits.specs.LoneEdits.{sent}
@@ -115,6 +117,17 @@ edit_takes_text pages page text input b p t unsourced g h short le small is =
     ∙ ap (λ (v : Bool). if v then refused InputTooLong else edited_answer pages page (read input)) (not_longer (length input) HTML_BYTES small)
     ∙ ap (edited_answer pages page) is
     ∙ takes_text pages page text b p t g h le
+
+-- by a command line, over a folder that has the page and this input
+pub command_takes_text : (pages : Pages) (words : List (List ℕ)) (title page text input : List ℕ) (b p t : Label) (unsourced : Option ℕ)
+    → command_of words ≡ Some (Edit title) → pages title ≡ Some page → IsPlainText page → IsPlainText text
+    → length page ≤ PAGE_BYTES → length text ≤ PAGE_BYTES → length input ≤ HTML_BYTES → read input ≡ as_page (sent b p t text) unsourced
+    → answer_told (Some pages) (Some input) words ≡ Some (done text)
+unfolding answer_told
+command_takes_text pages words title page text input b p t unsourced command found g h short le small is =
+    ap (answer_to (Some pages) (Some input)) command
+    ∙ ap (λ (stands : Option (List ℕ)). Some (edit_of pages stands input)) found
+    ∙ ap (λ (a : Answer). Some a) (edit_takes_text pages page text input b p t unsourced g h short le small is)
 
 pub tree_of_plain : (pages : Pages) (page : List ℕ) → IsPlainText page → page_tree pages page ≡ lone_page page
 tree_of_plain pages [] h = absurd (none_empty h)

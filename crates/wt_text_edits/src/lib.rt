@@ -14,7 +14,9 @@ ghost use Rattle.wt_expand.specs.PageItems.{page_items};
 ghost use Rattle.wt_schema.specs.Read.{page as as_page, read};
 ghost use Rattle.wt_page_round_trip.specs.PageTree.{page_tree};
 ghost use Rattle.wt_edit.specs.Edits.{refusal_of_page};
-ghost use Rattle.wt_pagetool.specs.Answers.{done, edit_of, edit_to};
+ghost use Rattle.wt_pagetool.specs.Answers.{answer_told, done, edit_of, edit_to};
+ghost use Rattle.wt_pagetool.specs.Words.{command_of};
+ghost use Rattle.wt_pagetool.specs.declared.command.Command.TheVariants.{Edit};
 ghost use Rattle.wt_text_edits.specs.LoneEdits.{sent};
 ghost use Rattle.wt_text_edits.specs.LonePages.{lone_page, of_items};
 ghost use Rattle.wt_text_edits.specs.PlainTexts.{IsPlainText};
@@ -46,12 +48,17 @@ pub fn plain_page_is_one_paragraph()
 
 /// A page that is one paragraph of plain text takes any other plain text: an edit that sends its
 /// paragraph marked `content` with this text in it is done, and the new page is this text. So it is, too,
-/// for each input that is read as such a tree.
-#[tactic(auto, using(crate::proofs::TakesText::takes_text, crate::proofs::TakesText::edit_takes_text))]
+/// for each input that is read as such a tree, and so the command `edit` answers, over a folder that has
+/// the page.
+#[tactic(auto, using(crate::proofs::TakesText::takes_text, crate::proofs::TakesText::edit_takes_text, crate::proofs::TakesText::command_takes_text))]
 pub fn lone_paragraph_takes_text()
     ensures tree { (pages : Pages) (page text : List ℕ) (b p t : Label) → IsPlainText page → IsPlainText text → length text ≤ PAGE_BYTES
         → edit_to pages page (sent b p t text) ≡ done text }
     ensures edit { (pages : Pages) (page text input : List ℕ) (b p t : Label) (unsourced : Option ℕ) → IsPlainText page → IsPlainText text
         → length page ≤ PAGE_BYTES → length text ≤ PAGE_BYTES → length input ≤ HTML_BYTES → read input ≡ as_page (sent b p t text) unsourced
         → edit_of pages (Some page) input ≡ done text }
+    ensures command { (pages : Pages) (words : List (List ℕ)) (title page text input : List ℕ) (b p t : Label) (unsourced : Option ℕ)
+        → command_of words ≡ Some (Edit title) → pages title ≡ Some page → IsPlainText page → IsPlainText text
+        → length page ≤ PAGE_BYTES → length text ≤ PAGE_BYTES → length input ≤ HTML_BYTES → read input ≡ as_page (sent b p t text) unsourced
+        → answer_told (Some pages) (Some input) words ≡ Some (done text) }
 {}
