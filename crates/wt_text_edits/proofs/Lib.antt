@@ -2,7 +2,7 @@ pub mod PlainWords
 pub mod PlainPages
 pub mod PlainBytes
 pub mod PlainSpelling
-pub mod CalmLines
+pub mod StillLines
 pub mod PlainRows
 pub mod PlainMeaning
 pub mod LoneTrees

@@ -18,7 +18,8 @@ use Rattle.wt_text_edits.specs.PlainTexts.{is_plain, IsPlainText}
 use Rattle.wt_text_edits.specs.LonePages.{page_chars, lone_body}
 use Rattle.wt_text_edits.proofs.PlainBytes.{plain_bytes}
 use Rattle.wt_text_edits.proofs.PlainPages.{plain_items}
-use Rattle.wt_text_edits.proofs.CalmLines.{CalmItems, calm_bytes}
+use Rattle.wt_text_edits.specs.StillItems.{StillItems}
+use Rattle.wt_text_edits.proofs.StillLines.{still_bytes}
 use Rattle.wt_text_edits.proofs.PlainRows.{meaning_by}
 use Rattle.wt_text_edits.proofs.PlainSpelling.{plain_spelled}
 
@@ -26,11 +27,11 @@ abbrev IsText : List Item → Type 0
 IsText l = line_kind 0 l ≡ line.Text
 
 -- by the signs that stand nowhere in what is spelled
-calm_text : (text : List ℕ) → IsPlainText text → CalmItems (page_chars text)
-calm_text text h =
+still_text : (text : List ℕ) → IsPlainText text → StillItems (page_chars text)
+still_text text h =
     let s : Setting = record { within = false; place = place.Paragraph; source = [] } in
     let is : spelled s (letters text) ≡ text = plain_spelled [] text h in
-    calm_bytes text (plain_bytes text h) (sym (ap (stands (codes "''")) is) ∙ no_styles s text) (sym (ap (stands (codes "__")) is) ∙ no_switches s text)
+    still_bytes text (plain_bytes text h) (sym (ap (stands (codes "''")) is) ∙ no_styles s text) (sym (ap (stands (codes "__")) is) ∙ no_switches s text)
     (sym (ap (stands (codes "://")) is) ∙ no_addresses s text)
 
 pub meaning_is : (b : ℕ) (bs : List ℕ) → IsPlainText (b ∷ bs) → meaning (page_chars (b ∷ bs)) ≡ lone_body (page_chars (b ∷ bs))
@@ -38,4 +39,4 @@ meaning_is b bs h =
     let s : Setting = record { within = false; place = place.Paragraph; source = [] } in
     let plain : list_all is_plain (b ∷ bs) ≡ true = plain_bytes (b ∷ bs) h in
     let items : page_items (spelled s (letters (b ∷ bs))) ≡ page_chars (b ∷ bs) = ap page_items (plain_spelled [] (b ∷ bs) h) ∙ plain_items b bs plain in
-    meaning_by b bs (calm_text (b ∷ bs) h) (subst (λ xs. All IsText (lines xs)) items (lines_are_text s (b ∷ bs) 0 h.utf8 refl))
+    meaning_by b bs (still_text (b ∷ bs) h) (subst (λ xs. All IsText (lines xs)) items (lines_are_text s (b ∷ bs) 0 h.utf8 refl))

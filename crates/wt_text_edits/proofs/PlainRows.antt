@@ -27,7 +27,8 @@ use Rattle.wt_page.specs.Tables.{Reading, gaps}
 use Rattle.wt_page.specs.Texts.{later_parts, later_line, para}
 use Rattle.wt_page.specs.Body.{same_block, block_stretches, run_stretches, blocks_by, within, blocks, meaning}
 use Rattle.wt_text_edits.specs.LonePages.{page_chars, lone_body, lone_para}
-use Rattle.wt_text_edits.proofs.CalmLines.{CalmItems, calm_left, calm_right, calm_within}
+use Rattle.wt_text_edits.specs.StillItems.{StillItems}
+use Rattle.wt_text_edits.proofs.StillLines.{no_mark, still_left, still_right, still_within}
 
 -- ---- a line without its line break, and its line break
 
@@ -40,8 +41,8 @@ is_both [] = refl
 is_both (x ∷ []) = is_both_by x (is_break_item x) refl
 is_both (x ∷ y ∷ ys) = ap (λ xs. x ∷ xs) (is_both (y ∷ ys))
 
-calm_content : (l : List Item) → CalmItems l → CalmItems (content l)
-calm_content l c = calm_left (content l) (ending l) (subst CalmItems (sym (is_both l)) c)
+still_content : (l : List Item) → StillItems l → StillItems (content l)
+still_content l c = still_left (content l) (ending l) (subst StillItems (sym (is_both l)) c)
 
 -- what ends a list hangs on its last item
 ending_behind : (xs : List Item) (y : Item) (ys : List Item) → ending (xs ++ y ∷ ys) ≡ ending (y ∷ ys)
@@ -54,7 +55,7 @@ ending_behind (x ∷ z ∷ zs) y ys = ending_behind (z ∷ zs) y ys
 -- each is text, and nothing begins in it
 abbrev pub AreTexts : List (List Item) → Type 0
 AreTexts [] = Unit {0}
-AreTexts (l ∷ ls) = (kind_at 0 l ≡ line.Text) × CalmItems l × AreTexts ls
+AreTexts (l ∷ ls) = (kind_at 0 l ≡ line.Text) × StillItems l × AreTexts ls
 
 no_text : kind_of_signs 0 [] ≡ line.Text → ⊥
 unfolding kind_of_signs
@@ -63,12 +64,12 @@ no_text e = cc
 abbrev IsText : List Item → Type 0
 IsText l = line_kind 0 l ≡ line.Text
 
-texts_by : (ls : List (List Item)) (ends : List (List Item)) → All IsText (map content ls ++ ends) → CalmItems (joined ls) → AreTexts ls
+texts_by : (ls : List (List Item)) (ends : List (List Item)) → All IsText (map content ls ++ ends) → StillItems (joined ls) → AreTexts ls
 texts_by [] ends a e = tt
 texts_by (l ∷ ls) ends a e = (
   All-head IsText (content l) (map content ls ++ ends) a,
-  calm_left l (joined ls) e,
-  texts_by ls ends (All-tail IsText (content l) (map content ls ++ ends) a) (calm_right l (joined ls) e),
+  still_left l (joined ls) e,
+  texts_by ls ends (All-tail IsText (content l) (map content ls ++ ends) a) (still_right l (joined ls) e),
 )
 
 -- the last line isn't empty, so that no line break ends the text
@@ -87,10 +88,10 @@ unended (x ∷ y ∷ ys) zs a = unended (y ∷ ys) zs a
 abbrev text_row : List Item → Row
 text_row l = record { kind = line.Text; lead = []; items = content l; ending = ending l }
 
-no_marks : (l : List Item) → CalmItems l → marks_len l ≡ 0
+no_marks : (l : List Item) → StillItems l → marks_len l ≡ 0
 no_marks [] e = refl
 no_marks (char o b ∷ xs) e = refl
-no_marks (whole f o bs ∷ xs) e = absurd e
+no_marks (whole f o bs ∷ xs) e = rw (no_mark f e.0) refl
 
 rows_are : (ls : List (List Item)) → AreTexts ls → rows_from 0 ls ≡ map text_row ls
 rows_are [] h = refl
@@ -138,9 +139,9 @@ parts_append : (xs ys : List Item) → parts Text (xs ++ ys) ≡ parts Text xs +
 parts_append [] ys = refl
 parts_append (x ∷ xs) ys = ap (λ ps. part Text x ∷ ps) (parts_append xs ys)
 
-line_is : (l : List Item) → CalmItems l → line_parts (content l) ≡ parts Text (content l)
+line_is : (l : List Item) → StillItems l → line_parts (content l) ≡ parts Text (content l)
 unfolding context_parts
-line_is l e = calm_within most_contexts in_line (content l) (calm_content l e)
+line_is l e = still_within most_contexts in_line (content l) (still_content l e)
 
 -- the line break that ends the last line
 abbrev last_break : List Item → List (List Item) → List Item
@@ -151,7 +152,7 @@ abbrev later : List Item → List (List Item) → List Part
 later break ls = later_parts later_line break (map text_row ls)
 
 -- a line, and what is told of its line break and the lines behind it
-with_line : (l : List Item) (ls : List (List Item)) → CalmItems l
+with_line : (l : List Item) (ls : List (List Item)) → StillItems l
     → later (ending l) ls ++ parts Text (last_break (ending l) ls) ≡ parts Text (ending l ++ joined ls)
     → (line_parts (content l) ++ later (ending l) ls) ++ parts Text (last_break (ending l) ls) ≡ parts Text (l ++ joined ls)
 with_line l ls e h =
@@ -222,7 +223,7 @@ body_by b bs (l ∷ ls) is h e =
     ∙ ap (λ xs. body_of (gap [] ∷ tree_block (para rs) ∷ gap xs ∷ [])) (last_is l ls ∙ break)
     ∙ ap (λ t. inner (plain kind.Body) [] (further t nothing) []) (para_is b bs l ls is h break)
 
-pub meaning_by : (b : ℕ) (bs : List ℕ) → CalmItems (page_chars (b ∷ bs)) → All IsText (lines (page_chars (b ∷ bs)))
+pub meaning_by : (b : ℕ) (bs : List ℕ) → StillItems (page_chars (b ∷ bs)) → All IsText (lines (page_chars (b ∷ bs)))
     → meaning (page_chars (b ∷ bs)) ≡ lone_body (page_chars (b ∷ bs))
 unfolding meaning blocks rows
 meaning_by b bs e a =
@@ -230,5 +231,5 @@ meaning_by b bs e a =
     let ls : List (List Item) = full_lines xs in
     let is : joined ls ≡ xs = runs_joined goes_on xs in
     let all : All IsText (map content ls ++ empty_end xs) = subst (All IsText) (same_lines xs) a in
-    let i : CalmItems (joined ls) = subst CalmItems (sym is) e in
+    let i : StillItems (joined ls) = subst StillItems (sym is) e in
     body_by b bs ls is (texts_by ls (empty_end xs) all i) (unended xs (map content ls) all)

@@ -1,3 +1,4 @@
 pub mod PlainTexts
 pub mod LonePages
 pub mod LoneEdits
+pub mod StillItems

@@ -4,6 +4,7 @@
 ghost use Rattle.std.specs.Prelude.{◌≡◌, ◌≤◌, ℕ, List, length, Option, false, None, Some};
 ghost use Rattle.std.specs.Str.{IsUtf8};
 ghost use Rattle.wt_span.specs.declared.limits.TheConstants.{HTML_BYTES, PAGE_BYTES};
+ghost use Rattle.wt_span.specs.Items.{Item};
 ghost use Rattle.wt_devices.specs.Device.{Pages};
 ghost use Rattle.wt_tree.specs.Tree.{Label};
 ghost use Rattle.wt_guards.specs.declared.side.Place.TheVariants as place;
@@ -11,6 +12,10 @@ ghost use Rattle.wt_guards.specs.Content.{letters};
 ghost use Rattle.wt_guards.specs.Guards.{Setting, spelled};
 ghost use Rattle.wt_expand.specs.PageCalls.{expanded_page};
 ghost use Rattle.wt_expand.specs.PageItems.{page_items};
+ghost use Rattle.wt_inline.specs.declared.loose.Loose.TheVariants.{Text};
+ghost use Rattle.wt_inline.specs.Parts.{parts};
+ghost use Rattle.wt_tiles.specs.declared.context.Context.{Context};
+ghost use Rattle.wt_context.specs.Line.{within};
 ghost use Rattle.wt_schema.specs.Read.{page as as_page, read};
 ghost use Rattle.wt_page_round_trip.specs.PageTree.{page_tree};
 ghost use Rattle.wt_edit.specs.Edits.{refusal_of_page};
@@ -20,6 +25,7 @@ ghost use Rattle.wt_pagetool.specs.declared.command.Command.TheVariants.{Edit};
 ghost use Rattle.wt_text_edits.specs.LoneEdits.{sent};
 ghost use Rattle.wt_text_edits.specs.LonePages.{lone_page, of_items};
 ghost use Rattle.wt_text_edits.specs.PlainTexts.{IsPlainText};
+ghost use Rattle.wt_text_edits.specs.StillItems.{StillItems};
 
 /// Text of a paragraph, a heading, an item or a cell, whatever somebody typed there, calls nothing: as a
 /// page of its own it has no calls and no arguments, nothing is fetched for it, and nothing refuses it.
@@ -61,4 +67,11 @@ pub fn lone_paragraph_takes_text()
         → command_of words ≡ Some (Edit title) → pages title ≡ Some page → IsPlainText page → IsPlainText text
         → length page ≤ PAGE_BYTES → length text ≤ PAGE_BYTES → length input ≤ HTML_BYTES → read input ≡ as_page (sent b p t text) unsourced
         → answer_told (Some pages) (Some input) words ≡ Some (done text) }
+{}
+
+/// Characters, references and nowikis among which nothing begins stand in every context as they are: no
+/// link, tag, style or switch is made of them.
+#[tactic(auto, using(crate::proofs::StillLines::still_within))]
+pub fn still_text_is_text()
+    ensures { (n : ℕ) (cx : Context) (xs : List Item) → StillItems xs → within n cx xs ≡ parts Text xs }
 {}
