@@ -1,0 +1,4 @@
+pub mod Following
+pub mod Rows
+pub mod Shown
+pub mod NodeFields
