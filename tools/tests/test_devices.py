@@ -81,6 +81,10 @@ class Devices(unittest.TestCase):
     def test_standard_error_fails(self) -> None:
         self.assert_each([case(["gen", "0"], devices="err:100:1")], [Answer(7, b"", b"")])
 
+    def test_a_sink_that_takes_nothing(self) -> None:
+        lines = [case(["wikitext"], self.html, "out:0:"), case(["gen", "0"], devices="err:0:")]
+        self.assert_each(lines, [Answer(7, b"", b"wtround: write fault\n"), Answer(7, b"", b"")])
+
     def test_input_is_cut_off_at_each_byte(self) -> None:
         cut = range(len(self.html))
         lines = [case(["wikitext"], self.html[:k]) for k in cut]

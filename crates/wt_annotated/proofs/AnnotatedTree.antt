@@ -109,6 +109,13 @@ pub annotated_plain : (calls : List OuterCall) (carried : Carried) (t : ItemTree
 unfolding annotated
 annotated_plain calls carried t = shown_numbered 1 (cut_texts (placed_tree calls carried t)) end
 
+-- ---- numbers before texts are cut
+
+-- texts have no numbers
+pub numbers_first : (calls : List OuterCall) (carried : Carried) (t : ItemTree) → cut_texts (with_numbers 1 (placed_tree calls carried t)) ≡ annotated calls carried t
+unfolding annotated
+numbers_first calls carried t = cut_numbered 1 (placed_tree calls carried t) (placed_bare calls carried (tree_items t) (groups_of t))
+
 -- ---- without calls
 
 pub without_calls : (calls : List OuterCall) (carried : Carried) (t : ItemTree) → IsPlain t → annotated calls carried t ≡ cut_texts (annotated_plainly t)

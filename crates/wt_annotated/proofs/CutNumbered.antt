@@ -135,7 +135,7 @@ as_count Page ts z = refl
 as_count Bordered ts z = cut_count false (joined_texts ts) (joined_none ts z) ∙ joined_count ts z
 as_count OwnCharacter ts z = refl
 
-nothing_cut : (x : Texts) → cut_as x none ≡ none
+pub nothing_cut : (x : Texts) → cut_as x none ≡ none
 nothing_cut Separators = refl
 nothing_cut Page = refl
 nothing_cut Bordered = refl

@@ -2,7 +2,6 @@ pub mod AnnotatedTree
 pub mod Calls
 mod Cases
 pub mod Counts
-pub mod CutNodes
 pub mod CutNumbered
 pub mod CutNumbers
 pub mod CutPlaced
@@ -12,7 +11,6 @@ pub mod Ends
 pub mod GroupWords
 pub mod HeldPieces
 pub mod NoGroups
-pub mod Numberings
 pub mod Numbers
 pub mod OnePass
 pub mod PageSlices

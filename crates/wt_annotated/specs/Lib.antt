@@ -10,7 +10,6 @@ pub mod Grouped
 pub mod Labels
 pub mod Made
 pub mod Nodes
-pub mod NumberedNodes
 pub mod Numbering
 pub mod PassNodes
 pub mod Pieces

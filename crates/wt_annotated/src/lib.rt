@@ -20,7 +20,7 @@ mod tree_walk;
 mod unplaced;
 
 pub use cursor::Cursor;
-pub use cut::cut_node;
+pub use cut::cut_as;
 pub use filled::is_filled;
 pub use held::{own_pieces, pieces_of_all};
 pub use laws::{
@@ -29,7 +29,7 @@ pub use laws::{
     groups_end_at_free_cuts, groups_taken_apart, plain_view_stays, texts_cut_anew,
 };
 pub use node::{Sources, leaf_ranges, leaf_sources, unnumbered_node};
-pub use number::number_tree;
+pub use number::{next_after, number_of};
 pub use page_text::{Progress, page_texts, page_width};
 pub use pass::{Made, annotated_node};
 pub use seam::{

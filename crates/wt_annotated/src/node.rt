@@ -1,7 +1,6 @@
 //! Nodes of trees, made of their heads and texts.
 
 ghost use Rattle.std.specs.Prelude.{◌≡◌, ◌+◌, ◌^◌, ◌<◌, [], IfOk};
-ghost use Rattle.wt_tree.specs.Tiling.{is_group};
 ghost use Rattle.wt_tree.specs.Tree.{tree};
 ghost use Rattle.wt_tree.specs.View.{texts_of, view, views};
 ghost use Rattle.wt_inline.specs.View.{head_of};
@@ -78,15 +77,5 @@ pub fn leaf_ranges(kind: Kind, start: u32, width: u32) -> Ranges
         end: start + width,
         open_w: leaf_open(kind, width),
         close_w: 0,
-    }
-}
-
-/// Whether this is the kind of groups.
-pub fn is_group(kind: Kind) -> bool
-    ensures { result ≡ is_group kind }
-{
-    match kind {
-        Kind::Group => true,
-        _ => false,
     }
 }

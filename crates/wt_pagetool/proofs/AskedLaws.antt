@@ -10,17 +10,19 @@ use Rattle.wt_span.specs.declared.limits.TheConstants.{HTML_BYTES, PAGE_BYTES}
 use Rattle.wt_utf8.specs.Places.{not_utf8_place}
 use Rattle.wt_expand.specs.Expansion.{page_work}
 use Rattle.wt_expand.specs.Fronts.{known_after}
-use Rattle.wt_expand.specs.Work.{Entry, Refused, fetches, first_refusal, firsts_after, names_asked, refusal_from}
+use Rattle.wt_expand.specs.Work.{Entry, Refused, fetches, firsts_after, names_asked}
 use Rattle.wt_expand.proofs.Agreements.{fetches_append}
-use Rattle.wt_expand.proofs.FrontLaws.{firsts_append, work_allowed}
+use Rattle.wt_expand.proofs.FrontLaws.{firsts_append}
 use Rattle.wt_transclusion.specs.declared.refusal.ExpandRefusal.{ExpandRefusal}
 use Rattle.wt_transclusion.specs.declared.refusal.ExpandRefusal.TheVariants as of_expansion
 use Rattle.wt_transclusion.specs.Answers.{IsRefused}
 use Rattle.wt_transclusion.specs.Asked.{AreFirst}
 use Rattle.wt_transclusion.specs.Stops.{AnswersFewer, Stops}
-use Rattle.wt_transclusion.proofs.AskedLaws.{first_all, first_some, first_then}
+use Rattle.wt_transclusion.proofs.AskedLaws.{first_some, first_then}
 use Rattle.wt_transclusion.proofs.StopLaws.{stops_fetching, stops_page, stops_told, stops_within}
 use Rattle.wt_template_stack.specs.declared.expansion.Expansion.{Expansion}
+use Rattle.wt_edit.proofs.AskedLaws.{names_end}
+pub use Rattle.wt_edit.proofs.AskedLaws.{all_first, work_whole}
 use Rattle.wt_expansion.specs.Known.{KnowsMore}
 use Rattle.wt_html_grammar.specs.declared.why.HtmlWhy.{HtmlWhy}
 use Rattle.wt_schema.specs.declared.why.FitWhy.{FitWhy}
@@ -32,12 +34,11 @@ use Rattle.wt_html_in.specs.declared.refusal.HtmlRefusal.{HtmlRefusal}
 use Rattle.wt_html_in.specs.declared.refusal.HtmlRefusal.TheVariants as of_html
 use Rattle.wt_html_in.specs.Feeding.{IsFed}
 use Rattle.wt_selser.specs.declared.refusal.EditRefusal.{EditRefusal}
-use Rattle.wt_selser.specs.declared.refusal.EditRefusal.TheVariants as of_edit
 use Rattle.wt_tree.specs.Tree.{Tree}
 use Rattle.wt_span.specs.Origins.{Expanded}
 use Rattle.wt_expand.specs.PageCalls.{expanded_page}
 use Rattle.wt_page_round_trip.specs.PageTree.{page_tree}
-use Rattle.wt_selser.specs.Edits.{AnswersEdit, edit_answer}
+use Rattle.wt_selser.specs.Edits.{edit_answer}
 use Rattle.wt_visible.specs.SameNodes.{same_node}
 use Rattle.wt_pagetool.specs.declared.refusal.Refusal.{Refusal}
 use Rattle.wt_pagetool.specs.declared.refusal.Refusal.TheVariants.{TooLong, InputTooLong, NoMemory}
@@ -45,9 +46,9 @@ use Rattle.wt_pagetool.specs.declared.status.Status.{Status}
 use Rattle.wt_pagetool.specs.declared.status.Status.TheVariants as status
 use Rattle.wt_pagetool.specs.Answers.{Answer, done, refused, answer_of_edit, input_answer, refusal_of_page, text_answer, title_answer, IsText, IsNoText, IsUnrefused}
 use Rattle.wt_pagetool.specs.Asked.{work_done, title_work, text_work, new_work, work_behind, edited_work, input_work, edit_work, names_of, edit_names, followed_by, AnswersFirst, AnswersAll, AsksAs, AsksNames}
-use Rattle.wt_pagetool.specs.Causes.{IsFetched, IsInputStatus, IsOfInput, IsOfPage, IsPageStatus, RefusesAs, RefusesInput, RefusesTitle, fetch_refusal, found_status, refusal_of, refusal_of_expansion, refusal_of_new}
+use Rattle.wt_pagetool.specs.Causes.{IsFetched, IsInputStatus, IsOfInput, IsOfPage, IsPageStatus, RefusesAs, RefusesInput, RefusesTitle, fetch_refusal, found_status, refusal_of, refusal_of_expansion}
 use Rattle.wt_pagetool.specs.Inputs.{FedWhole}
-use Rattle.wt_pagetool.specs.Refusals.{refusal_of_edit, status_of}
+use Rattle.wt_pagetool.specs.Refusals.{status_of}
 use Rattle.wt_pagetool.proofs.ExpandLaws.{fetched_as}
 use Rattle.wt_pagetool.proofs.PageLaws.{title_made, title_stands}
 
@@ -56,10 +57,6 @@ use Rattle.wt_pagetool.proofs.PageLaws.{title_made, title_stands}
 joined : (before : Option (List (List ℕ))) (xs ys : List (List ℕ)) → followed_by (followed_by before xs) ys ≡ followed_by before (xs ++ ys)
 joined None xs ys = refl
 joined (Some ns) xs ys = ap Some (append_assoc ns xs ys)
-
-names_end : (a : Option (List (List ℕ))) → followed_by a [] ≡ a
-names_end None = refl
-names_end (Some ns) = ap Some (append-nil ns)
 
 asked_are : (es : List Entry) → names_asked es ≡ firsts_after [] (fetches es)
 unfolding names_asked
@@ -73,11 +70,6 @@ more_names met work rest =
     ap (firsts_after met) (fetches_append work rest) ∙ firsts_append met (fetches work) (fetches rest)
 
 -- ---- by how a step ended
-
--- all of the names were answered
-pub all_first : (names : List (List ℕ)) (before after : Option (List (List ℕ))) → after ≡ followed_by before names
-    → AreFirst after (followed_by before names)
-all_first names before after e = subst (λ x. AreFirst x (followed_by before names)) (sym e) (first_all (followed_by before names))
 
 -- some of them, and not the next one
 fewer_first : (names : List (List ℕ)) (before after : Option (List (List ℕ))) → AnswersFewer names before after
@@ -311,10 +303,6 @@ title_untexted (Some pages) title page bytes made before after result r e fetche
 
 -- ---- the work of a page
 
--- where nothing refuses it all of it is done
-pub work_whole : (pages : Pages) (page : List ℕ) → refusal_of_page pages page ≡ None → work_done pages page ≡ page_work pages page
-work_whole pages page e = work_allowed pages page (page_work pages page) e
-
 -- where its expansion stops
 expanded_asks : (pages : Pages) (page : List ℕ) (met : List (List ℕ)) (before after : Option (List (List ℕ))) (e : ExpandRefusal)
     → Stops pages page 0 met (page_work pages page) before after e
@@ -329,22 +317,6 @@ expanded_asks pages page met before after (of_expansion.TemplateNotUtf8 title pl
 expanded_asks pages page met before after (of_expansion.TemplateTooLong title) s =
     stops_told pages page met (page_work pages page) before after (of_expansion.TemplateTooLong title) s tt
 expanded_asks pages page met before after of_expansion.NoMemory s =
-    stops_within pages page met (page_work pages page) before after of_expansion.NoMemory s
-
--- of a new page
-new_asks : (pages : Pages) (page : List ℕ) (met : List (List ℕ)) (before after : Option (List (List ℕ))) (e : ExpandRefusal)
-    → Stops pages page 0 met (page_work pages page) before after e
-    → AsksAs (status_of (refusal_of_new e)) (firsts_after met (fetches (work_done pages page))) before after
-new_asks pages page met before after (of_expansion.BracesTooDeep title place) s =
-    stops_told pages page met (page_work pages page) before after (of_expansion.BracesTooDeep title place) s tt
-new_asks pages page met before after of_expansion.TooLarge s =
-    stops_told pages page met (page_work pages page) before after of_expansion.TooLarge s tt
-new_asks pages page met before after of_expansion.FolderFault s = stops_fetching pages page met (page_work pages page) before after s
-new_asks pages page met before after (of_expansion.TemplateNotUtf8 title place) s =
-    stops_told pages page met (page_work pages page) before after (of_expansion.TemplateNotUtf8 title place) s tt
-new_asks pages page met before after (of_expansion.TemplateTooLong title) s =
-    stops_told pages page met (page_work pages page) before after (of_expansion.TemplateTooLong title) s tt
-new_asks pages page met before after of_expansion.NoMemory s =
     stops_within pages page met (page_work pages page) before after of_expansion.NoMemory s
 
 pub named_expanded : {T : Type 0} (pages : Pages) (page : List ℕ) (before after : Option (List (List ℕ))) (result : Result T Refusal) (e : ExpandRefusal)
@@ -582,106 +554,11 @@ stopped_names pages page rest before after (Err r) e is s =
     subst (λ (x : Refusal). AsksAs (status_of x) (names_asked (work_done pages page ++ work_behind (refusal_of_page pages page) rest)) before after) (sym is)
     (stopped_asks pages page rest before after e s)
 
-refusal_is : (pages : Pages) (page : List ℕ) (es : List Entry) → first_refusal pages page es ≡ refusal_from pages page 0 es
-unfolding first_refusal
-refusal_is pages page es = refl
-
--- memory ran out behind all of a page's work
-pub stops_behind : (pages : Pages) (page : List ℕ) (met : List (List ℕ)) (before after : Option (List (List ℕ))) (x : Expansion)
-    → refusal_of_page pages page ≡ None → KnowsMore pages met (page_work pages page) x before after
-    → Stops pages page 0 met (page_work pages page) before after of_expansion.NoMemory
-stops_behind pages page met before after x e k = record {
-  done = page_work pages page;
-  left = [];
-  front = record {
-    whole = sym (append-nil (page_work pages page));
-    allowed = sym (refusal_is pages page (page_work pages page)) ∙ e;
-  };
-  cause = tt;
-  told = k.told_is;
-}
-
 -- ---- a new page
 
 -- what stands as it is
-new_text : (new : List ℕ) (made : List ℕ → List Entry) → IsText new → title_work (Some new) made ≡ made new
+pub new_text : (new : List ℕ) (made : List ℕ → List Entry) → IsText new → title_work (Some new) made ≡ made new
 new_text new made whole = work_under (Some new) new made (λ answer. refl) whole
-
--- it is no text, and nothing is asked
-pub new_untexted : {T : Type 0} (met : List (List ℕ)) (made : List ℕ → List Entry) (new : List ℕ) (before : Option (List (List ℕ))) (result : Result T Refusal)
-    (r : Refusal) → result ≡ Err r → IsOfPage r → RefusesTitle (Some new) r
-    → AsksNames (firsts_after met (fetches (title_work (Some new) made))) before before result
-new_untexted met made new before result r e of refuses =
-    named_same (firsts_after met (fetches (title_work (Some new) made))) before before result r e (by (status_of r) of refuses)
-  where
-    names : List (List ℕ)
-    names = firsts_after met (fetches (title_work (Some new) made))
-
-    by : (s : Status) → IsPageStatus s → ((answer : List ℕ → Answer) → RefusesAs s r (title_answer (Some new) answer)) → AsksAs s names before before
-    by status.Done of is = absurd of
-    by status.Usage of is = absurd of
-    by status.PageRefused of is =
-        sym (ap (λ es. followed_by before (firsts_after met (fetches es))) (unanswered_work (Some new) r made is) ∙ names_end before)
-    by status.HtmlRefused of is = absurd of
-    by status.EditRefused of is = absurd of
-    by status.ReadFault of is = absurd of
-    by status.FolderFault of is = absurd of
-    by status.WriteFault of is = absurd of
-    by status.NoMemory of is = first_some before names
-
--- it was expanded
-pub new_asked : (met : List (List ℕ)) (pages : Pages) (text new : List ℕ) (x : Expansion) (before after : Option (List (List ℕ))) → text ≡ new
-    → IsText new → refusal_of_page pages text ≡ None → KnowsMore pages met (page_work pages text) x before after
-    → after ≡ followed_by before (firsts_after met (fetches (title_work (Some new) (work_done pages))))
-new_asked met pages text new x before after same whole e k =
-    k.told_is
-    ∙ ap (λ es. followed_by before (firsts_after met (fetches es)))
-    (sym (work_whole pages text e) ∙ ap (work_done pages) same ∙ sym (new_text new (work_done pages) whole))
-
--- its expansion stopped
-pub new_stopped : (met : List (List ℕ)) (pages : Pages) (text new : List ℕ) (before after : Option (List (List ℕ))) (e : ExpandRefusal) (r : Refusal)
-    → text ≡ new → IsText new → r ≡ refusal_of_new e → Stops pages text 0 met (page_work pages text) before after e
-    → AsksAs (status_of r) (firsts_after met (fetches (title_work (Some new) (work_done pages)))) before after
-new_stopped met pages text new before after e r same whole is s =
-    subst (λ (x : Refusal). AsksAs (status_of x) (firsts_after met (fetches (title_work (Some new) (work_done pages)))) before after) (sym is)
-    (subst (λ (es : List Entry). AsksAs (status_of (refusal_of_new e)) (firsts_after met (fetches es)) before after)
-    (ap (work_done pages) same ∙ sym (new_text new (work_done pages) whole))
-    (new_asks pages text met before after e s))
-
-work_of : (pages : Pages) (answer : Result (List ℕ) EditRefusal) (new bytes : List ℕ) → answer ≡ Ok new → bytes ≡ new
-    → title_work (Some bytes) (work_done pages) ≡ new_work pages answer
-work_of pages answer new bytes is same = ap (λ bs. title_work (Some bs) (work_done pages)) same ∙ ap (new_work pages) (sym is)
-
--- the edit gave this new page
-pub made_names : {T : Type 0} (met : List (List ℕ)) (pages : Pages) (answer : Result (List ℕ) EditRefusal) (new bytes : List ℕ)
-    (before after : Option (List (List ℕ))) (result : Result T Refusal) → answer ≡ Ok new → bytes ≡ new
-    → AsksNames (firsts_after met (fetches (title_work (Some bytes) (work_done pages)))) before after result
-    → AsksNames (firsts_after met (fetches (new_work pages answer))) before after result
-made_names met pages answer new bytes before after result is same h =
-    subst (λ (es : List Entry). AsksNames (firsts_after met (fetches es)) before after result) (work_of pages answer new bytes is same) h
-
-unmade_asks : (met : List (List ℕ)) (pages : Pages) (answer : Result (List ℕ) EditRefusal) (before : Option (List (List ℕ))) (e : EditRefusal)
-    → AnswersEdit answer (Err e) → AsksAs (status_of (refusal_of_edit e)) (firsts_after met (fetches (new_work pages answer))) before before
-unmade_asks met pages answer before e h = by e h
-  where
-    none : (x : EditRefusal) → answer ≡ Err x → before ≡ followed_by before (firsts_after met (fetches (new_work pages answer)))
-    none x is = sym (ap (λ a. followed_by before (firsts_after met (fetches (new_work pages a)))) is ∙ names_end before)
-
-    by : (e : EditRefusal) → AnswersEdit answer (Err e) → AsksAs (status_of (refusal_of_edit e)) (firsts_after met (fetches (new_work pages answer))) before before
-    by (of_edit.Check c) h = none (of_edit.Check c) h
-    by (of_edit.BadContent n why) h = none (of_edit.BadContent n why) h
-    by (of_edit.Tangled n) h = none (of_edit.Tangled n) h
-    by of_edit.NewPageTooLong h = none of_edit.NewPageTooLong h
-    by of_edit.NoMemory h = first_some before (firsts_after met (fetches (new_work pages answer)))
-
--- or it is refused
-pub unmade_names : {T : Type 0} (met : List (List ℕ)) (pages : Pages) (answer : Result (List ℕ) EditRefusal) (before : Option (List (List ℕ)))
-    (result : Result T Refusal) (e : EditRefusal) → IsErrAnd result (λ r. r ≡ refusal_of_edit e) → AnswersEdit answer (Err e)
-    → AsksNames (firsts_after met (fetches (new_work pages answer))) before before result
-unmade_names met pages answer before (Ok value) e is h = absurd is
-unmade_names met pages answer before (Err r) e is h =
-    subst (λ (x : Refusal). AsksAs (status_of x) (firsts_after met (fetches (new_work pages answer))) before before) (sym is)
-    (unmade_asks met pages answer before e h)
 
 -- the edit of what was expanded is that of the page
 pub edit_is : (pages : Pages) (page : List ℕ) (items : Expanded) (t edited : Tree) → items ≡ expanded_page pages page → t ≡ page_tree pages page

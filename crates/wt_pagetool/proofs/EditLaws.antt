@@ -23,7 +23,7 @@ use Rattle.wt_selser.specs.declared.refusal.EditRefusal.TheVariants as of_edit
 use Rattle.wt_selser.specs.BodySlices.{slices}
 use Rattle.wt_selser.specs.Changes.{marked}
 use Rattle.wt_visible.specs.Children.{IsFirstDiffering, shown_children, differing}
-use Rattle.wt_selser.specs.Edits.{edit_answer, unless_refused, if_short, most_bytes, refused_pairs, AnswersEdit as AnswersAs}
+use Rattle.wt_selser.specs.Edits.{edit_answer, unless_refused, if_short, most_bytes, refused_pairs}
 use Rattle.wt_visible.specs.Restored.{restored_from}
 use Rattle.wt_visible.specs.SameNodes.{same_node}
 use Rattle.wt_selser.specs.Splice.{spliced}
@@ -31,7 +31,6 @@ use Rattle.wt_visible.proofs.DifferingLaws.{differing_is, none_same}
 use Rattle.wt_pagetool.specs.declared.output.Output.{Output}
 use Rattle.wt_pagetool.specs.declared.refusal.Refusal.{Refusal}
 use Rattle.wt_pagetool.specs.declared.command.Command.TheVariants.{Edit}
-use Rattle.wt_pagetool.specs.Refusals.{refusal_of_edit}
 use Rattle.wt_pagetool.specs.Words.{command_of}
 use Rattle.wt_pagetool.specs.Answers.{Answer, done, answer_of_edit, refusal_of_page, expanded_by, title_answer, IsText, IsUnrefused, input_answer, unspelled_by, unspelled_answer, new_by, new_expanded, new_answer, edit_by, edit_from, edit_to, edited_answer, edit_of, edit_told, answer_told}
 use Rattle.wt_pagetool.specs.Causes.{Answered, Refuses, IsFetched, refusal_of, refusal_of_new}
@@ -78,34 +77,6 @@ meant pages t edited u new text o whole same unrefused is found =
     let told : o ≡ differing 1 (shown_children u) shown = differing_is (shown_children u) shown o found in
     text_new pages t edited new whole ∙ ap (new_by (unspelled_answer pages t edited new)) none
     ∙ ap (unspelled_by new) (sym (subst (λ x. o ≡ differing 1 (shown_children x) shown) page told))
-
--- a refusal of an edit is its answer
-edit_refused : (pages : Pages) (t edited : Tree) (answer : Result (List ℕ) EditRefusal) (e : EditRefusal) → AnswersAs answer (Err e)
-    → Refuses (refusal_of_edit e) (edit_by pages t edited answer)
-edit_refused pages t edited answer (of_edit.Check c) is = ap (edit_by pages t edited) is
-edit_refused pages t edited answer (of_edit.BadContent n why) is = ap (edit_by pages t edited) is
-edit_refused pages t edited answer (of_edit.Tangled n) is = ap (edit_by pages t edited) is
-edit_refused pages t edited answer of_edit.NewPageTooLong is = ap (edit_by pages t edited) is
-edit_refused pages t edited answer of_edit.NoMemory is = tt
-
-pub edit_refused_from : (pages : Pages) (t edited : Tree) (answer : Result (List ℕ) EditRefusal) (e : EditRefusal) (result : Result Output Refusal)
-    → AnswersAs answer (Err e) → IsErrAnd result (λ r. r ≡ refusal_of_edit e) → Answered (edit_by pages t edited answer) result
-edit_refused_from pages t edited answer e (Ok output) answers is = absurd is
-edit_refused_from pages t edited answer e (Err r) answers is =
-    subst (λ x. Refuses x (edit_by pages t edited answer)) (sym is) (edit_refused pages t edited answer e answers)
-
-pub new_page_is : (pages : Pages) (t edited : Tree) (answer : Result (List ℕ) EditRefusal) (new bytes : List ℕ) → answer ≡ Ok new → bytes ≡ new
-    → new_answer pages t edited bytes ≡ done bytes → edit_by pages t edited answer ≡ done new
-new_page_is pages t edited answer new bytes is same meant =
-    ap (edit_by pages t edited) is ∙ subst (λ bs. new_answer pages t edited bs ≡ done bs) same meant
-
-pub new_page_refused : (pages : Pages) (t edited : Tree) (answer : Result (List ℕ) EditRefusal) (new bytes : List ℕ) (r : Refusal)
-    (result : Result Output Refusal) → answer ≡ Ok new → bytes ≡ new → Refuses r (new_answer pages t edited bytes)
-    → IsErrAnd result (λ x. x ≡ r) → Answered (edit_by pages t edited answer) result
-new_page_refused pages t edited answer new bytes r (Ok output) is same refuses err = absurd err
-new_page_refused pages t edited answer new bytes r (Err x) is same refuses err =
-    subst (λ y. Refuses y (edit_by pages t edited answer)) (sym err)
-    (subst (Refuses r) (ap (new_answer pages t edited) same ∙ sym (ap (edit_by pages t edited) is)) refuses)
 
 -- ---- from the tree of the page
 

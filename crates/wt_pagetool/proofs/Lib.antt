@@ -25,4 +25,5 @@ pub mod UnchangedLaws
 pub mod UnchangedShown
 pub mod UnchangedTree
 pub mod UneditedRead
+pub mod WholeEdits
 pub mod WikitextLaws

@@ -9,8 +9,7 @@ use Rattle.wt_lint.specs.Lines.{findings}
 use Rattle.wt_lint.specs.Report.{finding_lines}
 use Rattle.wt_utf8.specs.Places.{not_utf8_place}
 use Rattle.wt_expand.specs.Texts.{shown_text}
-use Rattle.wt_expand.specs.Work.{Refused, braces_too_deep, too_large, not_utf8, too_long, first_refusal}
-use Rattle.wt_expand.specs.Expansion.{page_work}
+use Rattle.wt_expand.specs.Work.{Refused, braces_too_deep, too_large, not_utf8, too_long}
 use Rattle.wt_expand.specs.PageCalls.{expanded_page}
 use Rattle.wt_schema.specs.Read.{Read, page as as_page, ill, misfit, read}
 use Rattle.wt_page_round_trip.specs.PageTree.{page_tree}
@@ -20,6 +19,7 @@ use Rattle.wt_difference.specs.Remarked.{remarked}
 use Rattle.wt_selser.specs.declared.refusal.EditRefusal.{EditRefusal}
 use Rattle.wt_visible.specs.Children.{shown_children, differing}
 use Rattle.wt_selser.specs.Edits.{edit_answer}
+pub use Rattle.wt_edit.specs.Edits.{refusal_of_page}
 use Rattle.wt_visible.specs.Restored.{restored_from}
 use Rattle.wt_visible.specs.SameNodes.{same_node}
 use Rattle.wt_span.specs.declared.limits.TheConstants.{HTML_BYTES, PAGE_BYTES}
@@ -70,10 +70,6 @@ expansion_refusal (braces_too_deep template place) = BracesTooDeep template plac
 expansion_refusal too_large = TooLarge
 expansion_refusal (not_utf8 template place) = TemplateNotUtf8 template place
 expansion_refusal (too_long template) = TemplateTooLong template
-
--- the first refusal of the page's work
-abbrev pub refusal_of_page : Pages → List ℕ → Option Refused
-refusal_of_page pages page = first_refusal pages page (page_work pages page)
 
 -- the answer of an expansion that is refused, or this one
 abbrev pub expanded_by : Answer → Option Refused → Answer

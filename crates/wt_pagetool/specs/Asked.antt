@@ -2,13 +2,12 @@
 use Rattle.std.specs.Prelude.{◌≡◌, ℕ, List, [], ◌∷◌, ◌++◌, length, take, nat_lt, Option, Some, None, option_map, option_and_then, Result, Ok, Err, if◌then◌else◌}
 use Rattle.wt_span.specs.declared.limits.TheConstants.{HTML_BYTES, PAGE_BYTES}
 use Rattle.wt_utf8.specs.Places.{not_utf8_place}
-use Rattle.wt_expand.specs.Expansion.{page_work}
-use Rattle.wt_expand.specs.Fronts.{allowed_work}
 use Rattle.wt_expand.specs.Work.{Pages, Entry, Refused, names_asked}
 use Rattle.wt_transclusion.specs.Asked.{AreFirst}
 use Rattle.wt_transclusion.specs.Stops.{AnswersFewer}
 use Rattle.wt_schema.specs.Read.{Read, page as as_page, ill, misfit, read}
 use Rattle.wt_selser.specs.declared.refusal.EditRefusal.{EditRefusal}
+pub use Rattle.wt_edit.specs.Asked.{work_done, followed_by, AnswersAll}
 use Rattle.wt_pagetool.specs.declared.command.Command.{Command}
 use Rattle.wt_pagetool.specs.declared.command.Command.TheVariants.{Page, Expand, Edit, Selser, Gen, Wikitext}
 use Rattle.wt_pagetool.specs.declared.refusal.Refusal.{Refusal}
@@ -19,10 +18,6 @@ use Rattle.wt_pagetool.specs.Causes.{found_status}
 use Rattle.wt_pagetool.specs.Words.{command_of}
 
 -- ---- the work of a command
-
--- the work of a page, up to its first refusal
-abbrev pub work_done : Pages → List ℕ → List Entry
-work_done pages page = allowed_work pages page (page_work pages page)
 
 abbrev pub text_work : List ℕ → (List ℕ → List Entry) → Option ℕ → List Entry
 text_work page made (Some place) = []
@@ -87,17 +82,9 @@ names_told pages input words = names_for pages input (command_of words)
 
 -- ---- what the folder answered
 
--- these names, and then those
-abbrev pub followed_by : Option (List (List ℕ)) → List (List ℕ) → Option (List (List ℕ))
-followed_by before names = option_map (λ ns. ns ++ names) before
-
 -- the folder answered the first of these names, in their order and no others: all of them, some or none
 abbrev pub AnswersFirst : List (List ℕ) → Option (List (List ℕ)) → Option (List (List ℕ)) → Type 0
 AnswersFirst names before after = (n : ℕ) × (after ≡ followed_by before (take n names))
-
--- it answered all of them
-abbrev pub AnswersAll : List (List ℕ) → Option (List (List ℕ)) → Option (List (List ℕ)) → Type 0
-AnswersAll names before after = after ≡ followed_by before names
 
 -- What the folder answered of the names since, by how a step ended: all of them where it is done or refused; where the folder failed the
 -- first of them, and the next one is that of the fetch that failed; else the first of them, which may be all.

@@ -9,6 +9,8 @@ use Rattle.wt_checks.specs.declared.refusal.TreeRefusal.{TreeRefusal}
 use Rattle.wt_checks.specs.declared.refusal.TreeRefusal.TheVariants as check
 use Rattle.wt_selser.specs.declared.refusal.EditRefusal.{EditRefusal}
 use Rattle.wt_selser.specs.declared.refusal.EditRefusal.TheVariants as of_edit
+use Rattle.wt_edit.specs.declared.refusal.EditRefusal.{EditRefusal as WholeRefusal}
+use Rattle.wt_edit.specs.declared.refusal.EditRefusal.TheVariants as of_whole
 use Rattle.wt_content.specs.declared.reason.ContentWhy.{ContentWhy}
 use Rattle.wt_content.specs.declared.reason.ContentWhy.TheVariants as bad
 use Rattle.wt_pagetool.specs.declared.status.Status.{Status}
@@ -42,13 +44,24 @@ status_of FolderFault = status.FolderFault
 status_of WriteFault = status.WriteFault
 status_of NoMemory = status.NoMemory
 
--- why an edit is refused, as the program names it
+-- why the new page of an edit isn't made, as the program names it
 abbrev pub refusal_of_edit : EditRefusal → Refusal
 refusal_of_edit (of_edit.Check c) = Checked c
 refusal_of_edit (of_edit.BadContent n why) = BadContent n why
 refusal_of_edit (of_edit.Tangled n) = Tangled n
 refusal_of_edit of_edit.NewPageTooLong = NewPageTooLong
 refusal_of_edit of_edit.NoMemory = NoMemory
+
+-- why an edit is refused, its new page read again
+abbrev pub refusal_of_whole : WholeRefusal → Refusal
+refusal_of_whole (of_whole.Check c) = Checked c
+refusal_of_whole (of_whole.BadContent n why) = BadContent n why
+refusal_of_whole (of_whole.Tangled n) = Tangled n
+refusal_of_whole of_whole.NewPageTooLong = NewPageTooLong
+refusal_of_whole (of_whole.NewExpansion e) = NewExpansion
+refusal_of_whole (of_whole.Unspelled k) = Unspelled k
+refusal_of_whole of_whole.FolderFault = FolderFault
+refusal_of_whole of_whole.NoMemory = NoMemory
 
 unfoldable pub html_why : HtmlWhy → List ℕ
 html_why ill.NotUtf8 = codes "NotUtf8"

@@ -18,7 +18,7 @@ use Rattle.wt_transclusion.specs.declared.refusal.ExpandRefusal.{ExpandRefusal}
 use Rattle.wt_transclusion.specs.declared.refusal.ExpandRefusal.TheVariants as of_expansion
 use Rattle.wt_tree.specs.Tree.{Tree}
 use Rattle.wt_tree.specs.View.{view}
-use Rattle.wt_pagetool.specs.declared.known_page.KnownPage.{KnownPage}
+use Rattle.wt_edit.specs.declared.known.KnownPage.{KnownPage}
 use Rattle.wt_pagetool.specs.declared.reading_back.ReadBack.{ReadBack}
 use Rattle.wt_pagetool.specs.declared.reading_back.ReadBack.TheVariants as back
 use Rattle.wt_pagetool.specs.declared.reading_back.Fault.{Fault}

@@ -1,31 +1,25 @@
 //! The command that changes a page as its HTML was changed.
 
-ghost use Rattle.std.specs.Prelude.{◌≡◌, ◌≤◌, ◌+◌, ◌++◌, ℕ, List, None, Some, IfSome, IfOk, IfErr, OnOk, length};
+ghost use Rattle.std.specs.Prelude.{◌≡◌, ◌≤◌, ◌+◌, ◌++◌, ℕ, List, Some, IfSome, IfErr, OnOk, length};
 ghost use Rattle.std.specs.Io.KnownBytes.{IsAtEnd};
-ghost use Rattle.wt_expand.specs.PageCalls.{expanded_page};
 ghost use Rattle.wt_expand.specs.Work.{Pages, fetches, firsts_after, names_asked};
 ghost use Rattle.wt_expansion.specs.Known.{HoldsPages};
 ghost use Rattle.wt_expansion.specs.Walks.{IsFree};
 ghost use Rattle.wt_schema.specs.Read.{read};
 ghost use Rattle.wt_html_in.specs.Feeding.{IsFed};
 ghost use Rattle.wt_devices.specs.Device.{Rose};
-ghost use Rattle.wt_page_round_trip.specs.PageTree.{page_tree};
 ghost use Rattle.wt_selser.specs.Edits.{edit_answer};
-ghost use Rattle.wt_visible.specs.Children.{IsFirstDiffering, shown_children};
-ghost use Rattle.wt_visible.specs.Restored.{restored_from};
 ghost use Rattle.wt_visible.specs.SameNodes.{same_node};
 ghost use Rattle.wt_transclusion.specs.Asked.{Asks};
-ghost use Rattle.wt_tree.specs.Tiling.{InPreorder};
 ghost use Rattle.wt_tree.specs.Tree.{label};
 ghost use Rattle.wt_tree.specs.View.{view};
 ghost use Rattle.wt_tree.specs.declared.kind.Kind.TheVariants as kind;
-ghost use Rattle.wt_pagetool.specs.Answers.{done, answer_of_edit, input_answer, new_answer, edit_by, edit_to, edited_answer, edit_told, refusal_of_page, IsNoText};
-ghost use Rattle.wt_pagetool.specs.Asked.{AsksNames, edit_names, edited_work, input_work, new_work, title_work, work_behind, work_done};
-ghost use Rattle.wt_pagetool.specs.Causes.{Answered, Refuses, IsOfEdit, IsKept, refusal_of_new};
+ghost use Rattle.wt_pagetool.specs.Answers.{answer_of_edit, input_answer, edit_by, edit_to, edited_answer, edit_told, refusal_of_page, IsNoText};
+ghost use Rattle.wt_pagetool.specs.Asked.{AsksNames, edit_names, edited_work, input_work, new_work, work_behind, work_done};
+ghost use Rattle.wt_pagetool.specs.Causes.{Answered, IsOfEdit, IsKept};
 ghost use Rattle.wt_pagetool.specs.Inputs.{GivesAtMost};
 
 use crate::fetch::fetched_page;
-use crate::known_page::{KnownPage, known_page};
 use crate::output::Output;
 use crate::page::text_of_page;
 use crate::refusal::Refusal;
@@ -33,126 +27,40 @@ use crate::wikitext_command::{PIECE, read_all};
 use bumpalo::Bump;
 use std::alloc::Global;
 use wt_devices::{Folder, Source};
+use wt_edit::{KnownPage, edit, known_page};
 use wt_html_in::Reader;
-use wt_ranges::Annotated;
-use wt_selser::{edit, first_differing};
-use wt_span::{HTML_BYTES, NoMemory, PAGE_BYTES};
+use wt_span::{HTML_BYTES, PAGE_BYTES};
 use wt_template_stack::Expansion;
-use wt_transclusion::ExpandRefusal;
 use wt_tree::Node;
-
-/// Why a new page is refused, by the refusal of its expansion.
-fn new_refusal(refusal: ExpandRefusal) -> Refusal
-    ensures { result ≡ refusal_of_new refusal }
-{
-    match refusal {
-        ExpandRefusal::BracesTooDeep { .. } => Refusal::NewExpansion,
-        ExpandRefusal::TooLarge => Refusal::NewExpansion,
-        ExpandRefusal::FolderFault => Refusal::FolderFault,
-        ExpandRefusal::TemplateNotUtf8 { .. } => Refusal::NewExpansion,
-        ExpandRefusal::TemplateTooLong { .. } => Refusal::NewExpansion,
-        ExpandRefusal::NoMemory => Refusal::NoMemory,
-    }
-}
-
-/// The number, from 1, of the first child in which what was found of the new page differs from what the edited
-/// tree shows, where groups are those of the page; or None.
-fn differing_child<'a>(
-    alloc: Global,
-    found: KnownPage<'a>,
-    tree: &Node<'a>,
-    edited: &Node<'a>,
-) -> Result<Option<u32>, NoMemory>
-    requires body { (label (view tree.now)).kind ≡ kind.Body }
-    requires numbered { ∥ InPreorder (view tree.now) ∥₁ }
-    ensures { IfOk result (IsFirstDiffering (shown_children (view found.entry.annotated.tree.body))
-        (shown_children (restored_from (view tree.now) (view edited.now)))) }
-{
-    first_differing(alloc, found.annotated.body(), tree, edited)
-}
-
-/// Refuses a new page that doesn't show what the edited tree shows, where groups are those of the page. What the
-/// expansion of the page knows isn't fetched again.
-fn check_meaning<'a, F: Folder>(
-    alloc: Global,
-    new_page: &'a [u8],
-    tree: &Node<'a>,
-    edited: &Node<'a>,
-    arena: &'a Bump<Global>,
-    folder: &mut F,
-    expansion: Expansion<'a>,
-) -> Result<(), Refusal>
-    requires body { (label (view tree.now)).kind ≡ kind.Body }
-    requires numbered { ∥ InPreorder (view tree.now) ∥₁ }
-    requires known { HoldsPages expansion }
-    ensures meant { (pages : Pages) (met : List (List ℕ)) → F.pages folder.old ≡ Some pages
-        → IsFree pages met expansion.entry
-        → OnOk result (new_answer pages (view tree.now) (view edited.now) new_page.entry.now
-        ≡ done new_page.entry.now) }
-    ensures refused { (pages : Pages) (met : List (List ℕ)) → F.pages folder.old ≡ Some pages
-        → IsFree pages met expansion.entry
-        → IfErr result (λ r. Refuses r
-        (new_answer pages (view tree.now) (view edited.now) new_page.entry.now)) }
-    ensures asks { Asks (F.answered folder.old) (F.answered folder.new) (F.most_asked folder.old)
-        (F.most_asked folder.new) }
-    ensures asked { (pages : Pages) (met : List (List ℕ)) → F.pages folder.old ≡ Some pages
-        → IsFree pages met expansion.entry
-        → AsksNames (firsts_after met (fetches (title_work (Some new_page.entry.now) (work_done pages))))
-        (F.answered folder.old) (F.answered folder.new) result }
-    ensures of_edit { IfErr result (IsOfEdit ⊥ (Rose (F.fault_count folder.old) (F.fault_count folder.new))) }
-    ensures count { IsKept result (F.fault_count folder.old) (F.fault_count folder.new) }
-    ensures kept { F.pages folder.new ≡ F.pages folder.old }
-{
-    let text = text_of_page(new_page)?;
-    match known_page(alloc, text, arena, folder, expansion) {
-        Ok(found) => match differing_child(alloc, found, tree, edited)? {
-            Some(child) => Err(Refusal::Unspelled(child)),
-            None => Ok(()),
-        },
-        Err(refusal) => Err(new_refusal(refusal)),
-    }
-}
 
 /// The new page of a page that was expanded to this tree, by the tree to which it was edited.
 fn new_page<'a, F: Folder>(
     alloc: Global,
     page: &str,
-    annotated: &Annotated<'a>,
-    expansion: Expansion<'a>,
+    known: KnownPage<'a>,
     edited: &Node<'a>,
     arena: &'a Bump<Global>,
     folder: &mut F,
 ) -> Result<Output, Refusal>
-    requires body { (label (view annotated.now.tree.body)).kind ≡ kind.Body }
-    requires known { HoldsPages expansion }
+    requires body { (label (view known.annotated.tree.body)).kind ≡ kind.Body }
+    requires known { HoldsPages known.expansion }
     ensures answered { (pages : Pages) (met : List (List ℕ)) → F.pages folder.old ≡ Some pages
-        → IsFree pages met expansion.entry
-        → Answered (edit_by pages (view annotated.now.tree.body) (view edited.now)
-        (edit_answer same_node annotated.now.items page.now (view annotated.now.tree.body)
+        → IsFree pages met known.entry.expansion
+        → Answered (edit_by pages (view known.entry.annotated.tree.body) (view edited.now)
+        (edit_answer same_node known.entry.annotated.items page.now (view known.entry.annotated.tree.body)
         (view edited.now))) result }
     ensures asks { Asks (F.answered folder.old) (F.answered folder.new) (F.most_asked folder.old)
         (F.most_asked folder.new) }
     ensures asked { (pages : Pages) (met : List (List ℕ)) → F.pages folder.old ≡ Some pages
-        → IsFree pages met expansion.entry
-        → AsksNames (firsts_after met (fetches (new_work pages (edit_answer same_node annotated.now.items
-        page.now (view annotated.now.tree.body) (view edited.now)))))
+        → IsFree pages met known.entry.expansion
+        → AsksNames (firsts_after met (fetches (new_work pages (edit_answer same_node
+        known.entry.annotated.items page.now (view known.entry.annotated.tree.body) (view edited.now)))))
         (F.answered folder.old) (F.answered folder.new) result }
     ensures of_edit { IfErr result (IsOfEdit ⊥ (Rose (F.fault_count folder.old) (F.fault_count folder.new))) }
     ensures count { IsKept result (F.fault_count folder.old) (F.fault_count folder.new) }
     ensures kept { F.pages folder.new ≡ F.pages folder.old }
 {
-    let tree = annotated.body();
-    let changed = edit(alloc, annotated.items(), page, tree, edited)?;
-    let text = arena.try_alloc_str(changed.as_str())?;
-    check_meaning(
-        alloc,
-        text.as_bytes(),
-        tree,
-        edited,
-        arena,
-        folder,
-        expansion,
-    )?;
+    let changed = edit(alloc, page, known, edited, arena, folder)?;
     Ok(Output::Text(changed))
 }
 
@@ -180,11 +88,7 @@ fn edit_to<'a, F: Folder>(
 {
     let expansion = Expansion::new(alloc, arena);
     let found = known_page(alloc, page, arena, folder, expansion)?;
-    let KnownPage {
-        annotated,
-        expansion,
-    } = found;
-    new_page(alloc, page, &annotated, expansion, edited, arena, folder)
+    new_page(alloc, page, found, edited, arena, folder)
 }
 
 /// The new page of a page that is text, by the HTML that was fed.

@@ -7,7 +7,6 @@ mod edit_command;
 mod expand_command;
 mod fetch;
 mod gen_command;
-mod known_page;
 mod laws;
 mod output;
 mod page;

@@ -1,13 +1,10 @@
 //! The tree of a page with its templates expanded.
 
-ghost use Rattle.std.specs.Prelude.{◌≡◌, ◌≤◌, ◌<◌, ◌^◌, ℕ, List, length, OnOk, IfOk, IfErr, Some, None};
+ghost use Rattle.std.specs.Prelude.{◌≡◌, ◌≤◌, ℕ, List, length, OnOk, IfOk, IfErr, Some, None};
 ghost use Rattle.wt_annotated.specs.Reached.{AreReachedSlices};
 ghost use Rattle.wt_expand.specs.PageCalls.{expanded_page};
 ghost use Rattle.wt_expand.specs.Work.{Pages, names_asked};
-ghost use Rattle.wt_inline.specs.ItemTree.{tree_items};
-ghost use Rattle.wt_page.specs.Body.{meaning};
-ghost use Rattle.wt_page_round_trip.specs.PageTree.{expanded_tree, page_tree};
-ghost use Rattle.wt_span.specs.Cuts.{page_of};
+ghost use Rattle.wt_page_round_trip.specs.PageTree.{page_tree};
 ghost use Rattle.wt_transclusion.specs.Asked.{Asks};
 ghost use Rattle.wt_tree.specs.View.{view};
 ghost use Rattle.wt_pagetool.specs.Answers.{refused, refusal_of_page, title_answer, Answer, IsText};
@@ -17,23 +14,13 @@ ghost use Rattle.wt_pagetool.specs.Causes.{RefusesTitle, RefusesExpansion, IsOfP
 use crate::refusal::Refusal;
 use bumpalo::Bump;
 use std::alloc::Global;
-use wt_build::build;
 use wt_devices::Folder;
+use wt_edit::annotated_of_items;
 use wt_expansion::expand;
-use wt_ranges::{Annotated, group};
-use wt_span::{Items, NoMemory, PAGE_BYTES};
+use wt_ranges::Annotated;
+use wt_span::PAGE_BYTES;
 use wt_tree::Annotated as Tree;
 use wt_utf8::read_text;
-
-/// The tree of an expanded page, with its items.
-pub fn annotated_of_items<'a>(alloc: Global, items: Items<'a>) -> Result<Annotated<'a>, NoMemory>
-    requires { length (page_of items.outer (tree_items (meaning items.items))) < 2 ^ 32 }
-    ensures tree { IfOk result (λ a. view a.tree.body ≡ expanded_tree items.entry) }
-    ensures items { IfOk result (λ a. a.items ≡ items.entry) }
-{
-    let meaning = build(alloc, &items)?;
-    group(alloc, items, meaning.into_body())
-}
 
 /// The tree of a page that is text, with its templates, which are taken from the folder, expanded; and the
 /// items that it comes from. The texts of the templates lie in the arena.

@@ -17,12 +17,12 @@ ghost use Rattle.wt_pagetool.specs.Causes.{IsKept, IsOfEdit, IsOfFolder};
 ghost use Rattle.wt_pagetool.specs.Selser.{FindsNew, FirstFails};
 ghost use Rattle.wt_pagetool.specs.Tried.{last_refusal, refusal_of_fault, HoldsTried, KnowsOf, MarkedAs, TriedFirst, TriedMarks, TriedPage, TriedProposal};
 
-use crate::known_page::KnownPage;
 use crate::output::Output;
 use crate::reading_back::{EditedPage, Fault, ReadBack, read_back};
 use crate::refusal::Refusal;
 use std::alloc::Global;
 use wt_devices::Folder;
+use wt_edit::KnownPage;
 use wt_proposal::{Keeping, proposal};
 use wt_selser::{EditRefusal, edit as edit_by_marks};
 use wt_span::{NoMemory, Str};

@@ -15,13 +15,13 @@ ghost use Rattle.wt_pagetool.specs.Answers.{IsText};
 ghost use Rattle.wt_pagetool.specs.Causes.{IsKept, IsOfFolder};
 ghost use Rattle.wt_pagetool.specs.Tried.{device_fault, ComparedAs, HoldsRead, KnowsOf, ReadAs};
 
-use crate::known_page::{KnownPage, known_page};
 use crate::page::text_of_page;
 use crate::refusal::Refusal;
 use bumpalo::Bump;
 use std::alloc::Global;
 use wt_checks::Visit;
 use wt_devices::Folder;
+use wt_edit::{KnownPage, known_page};
 use wt_selser::first_differing;
 use wt_span::{Items, NoMemory, PAGE_BYTES};
 use wt_template_stack::Expansion;

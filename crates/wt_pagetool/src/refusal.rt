@@ -6,8 +6,8 @@ use crate::status::Status;
 use std::alloc::{AllocError, Global};
 use wt_checks::TreeRefusal;
 use wt_devices::FetchRefusal;
+use wt_edit::{ContentWhy, EditRefusal};
 use wt_html_in::{FitWhy, HtmlRefusal, HtmlWhy};
-use wt_selser::{ContentWhy, EditRefusal};
 use wt_span::{NoMemory, Str};
 use wt_transclusion::ExpandRefusal;
 
@@ -124,9 +124,9 @@ impl From<ExpandRefusal> for Refusal {
 }
 
 impl From<EditRefusal> for Refusal {
-    ghost use Rattle.wt_pagetool.specs.Refusals.{refusal_of_edit};
+    ghost use Rattle.wt_pagetool.specs.Refusals.{refusal_of_whole};
 
-    ghost from_gives = { λ refusal r. r ≡ refusal_of_edit refusal };
+    ghost from_gives = { λ refusal r. r ≡ refusal_of_whole refusal };
 
     fn from(refusal: EditRefusal) -> Refusal {
         match refusal {
@@ -134,6 +134,9 @@ impl From<EditRefusal> for Refusal {
             EditRefusal::BadContent(node, why) => Refusal::BadContent { node, why },
             EditRefusal::Tangled(node) => Refusal::Tangled(node),
             EditRefusal::NewPageTooLong => Refusal::NewPageTooLong,
+            EditRefusal::NewExpansion(_) => Refusal::NewExpansion,
+            EditRefusal::Unspelled(child) => Refusal::Unspelled(child),
+            EditRefusal::FolderFault => Refusal::FolderFault,
             EditRefusal::NoMemory => Refusal::NoMemory,
         }
     }

@@ -24,7 +24,6 @@ ghost use Rattle.wt_pagetool.specs.Selser.{AnswersSelser, Finds, FindsFor, Finds
 ghost use Rattle.wt_pagetool.specs.Tried.{IsBeside, KnowsOf};
 
 use crate::fetch::fetched_page;
-use crate::known_page::{KnownPage, known_page};
 use crate::output::Output;
 use crate::page::text_of_page;
 use crate::proposing::new_page;
@@ -36,6 +35,7 @@ use std::alloc::Global;
 use wt_checks::{TreeRefusal, Visit, check_nodes, numbered_nodes};
 use wt_devices::{Folder, Source};
 use wt_difference::{has_mark, remark};
+use wt_edit::{KnownPage, known_page};
 use wt_html_in::Reader;
 use wt_span::{HTML_BYTES, NoMemory, PAGE_BYTES};
 use wt_tree::Node;

@@ -107,13 +107,13 @@ inner_by : (is : Bool) (h : Head) (at : ℕ) (source opening closing : List ℕ)
 inner_by true h at source opening closing us e = cc
 inner_by false h at source opening closing us e = refl
 
-pub inner_kept : (calls : List OuterCall) (c : Child) (f : Frame) (ns : List Node) (u : Tree) → is_leaf (out-PieceTree c.tree).head.kind ≡ false
+pub inner_kept : (calls : List OuterCall) (c : Child) (f : Frame) (vs : Trees) (u : Tree) → is_leaf (out-PieceTree c.tree).head.kind ≡ false
     → IsFrame calls c f
     → u ≡ tree (node_label (head_of (out-PieceTree c.tree).head) (Some f.ranges) (texts_of f.sources.opening) (texts_of f.sources.closing)
-    (texts_of f.sources.own)) (views ns)
-    → views ns ≡ trees (near_runs calls (group_data calls) (children_at calls f.before f.byte f.after (item_trees (out-PieceTree c.tree).children)))
+    (texts_of f.sources.own)) vs
+    → vs ≡ trees (near_runs calls (group_data calls) (children_at calls f.before f.byte f.after (item_trees (out-PieceTree c.tree).children)))
     → u ≡ (near_of calls c).whole
-inner_kept calls c f ns u e g h v =
+inner_kept calls c f vs u e g h v =
     let n : PieceTree = c.tree in
     let k : Head = head_of (out-PieceTree n).head in
     let o : List Item = items (out-PieceTree n).opening in
@@ -123,7 +123,7 @@ inner_kept calls c f ns u e g h v =
     let back : List ℕ = text_from calls (filled c.before n) d in
     let us : Option ℕ → ℕ → Option ℕ
     → Trees = λ b at a. trees (near_runs calls (group_data calls) (children_at calls b at a (item_trees (out-PieceTree n).children))) in
-    let inside : views ns ≡ us (opened c.before n) (c.byte + length front) (first_of d c.after) = v ∙ ap (λ b. us b f.byte f.after) g.before
+    let inside : vs ≡ us (opened c.before n) (c.byte + length front) (first_of d c.after) = v ∙ ap (λ b. us b f.byte f.after) g.before
     ∙ ap (λ at. us (opened c.before n) at f.after) g.byte ∙ ap (λ a. us (opened c.before n) (c.byte + length front) a) g.after in
     let source : List ℕ = text_from calls c.before (tree_items (inner k o ts d)) in
     let r : frame_ranges calls c ≡ record { start = c.byte; end = c.byte + length source; open_w = length front; close_w = length back } =
@@ -136,14 +136,14 @@ inner_kept calls c f ns u e g h v =
     })
     (item_tree_out n) in
     h
-    ∙ ap (λ (x : Ranges). tree (node_label k (Some x) (texts_of f.sources.opening) (texts_of f.sources.closing) (texts_of f.sources.own)) (views ns))
+    ∙ ap (λ (x : Ranges). tree (node_label k (Some x) (texts_of f.sources.opening) (texts_of f.sources.closing) (texts_of f.sources.own)) vs)
     (g.ranges ∙ r)
     ∙ ap (λ (x : List ℕ). tree (node_label k (Some (record { start = c.byte; end = c.byte + length source; open_w = length front; close_w = length back })) x
-    (texts_of f.sources.closing) (texts_of f.sources.own)) (views ns)) g.opening
+    (texts_of f.sources.closing) (texts_of f.sources.own)) vs) g.opening
     ∙ ap (λ (x : List ℕ). tree (node_label k (Some (record { start = c.byte; end = c.byte + length source; open_w = length front; close_w = length back }))
-    front x (texts_of f.sources.own)) (views ns)) g.closing
+    front x (texts_of f.sources.own)) vs) g.closing
     ∙ ap (λ (x : List ℕ). tree (node_label k (Some (record { start = c.byte; end = c.byte + length source; open_w = length front; close_w = length back }))
-    front back x) (views ns)) g.own
+    front back x) vs) g.own
     ∙ ap (tree (node_label k (Some (record { start = c.byte; end = c.byte + length source; open_w = length front; close_w = length back })) front back []))
     inside
     ∙ sym (inner_by (is_leaf k.kind) k c.byte source front back (us (opened c.before n) (c.byte + length front) (first_of d c.after)) e)

@@ -1,5 +1,6 @@
 pub mod CarriedParts
 pub mod ChildWalks
+pub mod Finishing
 pub mod GroupNodes
 pub mod Groupings
 pub mod KeptNodes

@@ -1,5 +1,6 @@
 pub mod Children
 pub mod DataSoFar
+pub mod Finished
 pub mod Kept
 pub mod OpenedChild
 pub mod Preorder

@@ -1,11 +1,12 @@
-//! Grouping: from a tree over items to its tree with groups and places, and then with numbers.
+//! Grouping: from a tree over items to its tree with groups, places and numbers, its texts cut anew.
 
 ghost use Rattle.std.specs.Prelude.{◌≡◌, ◌^◌, ◌<◌, length, map, All, IfOk};
 ghost use Rattle.std.specs.List.{AllByRecursion};
 ghost use Rattle.wt_span.specs.Cuts.{page_of};
 ghost use Rattle.wt_span.specs.Origins.{IsSoundCall};
 ghost use Rattle.wt_tree.specs.Kinds.{is_leaf};
-ghost use Rattle.wt_tree.specs.View.{view};
+ghost use Rattle.wt_tree.specs.Tree.{trees};
+ghost use Rattle.wt_tree.specs.View.{view, views};
 ghost use Rattle.wt_inline.specs.ItemTree.{tree_items};
 ghost use Rattle.wt_inline.specs.View.{item_tree};
 ghost use Rattle.wt_inline.specs.declared.tree.PieceTree.{out-PieceTree};
@@ -13,6 +14,7 @@ ghost use Rattle.wt_annotated.specs.Annotated.{annotated};
 ghost use Rattle.wt_ranges.specs.Children.{near_of};
 ghost use Rattle.wt_annotated.specs.CutTexts.{cut_texts};
 ghost use Rattle.wt_annotated.specs.GroupData.{group_data};
+ghost use Rattle.wt_ranges.specs.Finished.{AreFinished, IsFinished};
 ghost use Rattle.wt_ranges.specs.Kept.{Fits, RunFits};
 ghost use Rattle.wt_annotated.specs.Labels.{width};
 ghost use Rattle.wt_annotated.specs.Made.{annotated_at};
@@ -21,11 +23,11 @@ ghost use Rattle.wt_annotated.specs.Pieces.{outer_calls};
 ghost use Rattle.wt_ranges.specs.RunTrees.{run_tree};
 
 use crate::child::{Child, children};
-use crate::group_node::group_node;
-use crate::kept::{Frame, inner_frame, kept_inner, kept_leaf};
+use crate::finished::{AllFinished, Finished, finished_group, finished_inner, finished_leaf};
+use crate::kept::{Frame, inner_frame};
 use crate::run::{Run, cut_runs};
 use std::alloc::Global;
-use wt_annotated::{Cursor, annotated_node, cut_node, is_filled, number_tree};
+use wt_annotated::{Cursor, annotated_node, is_filled, next_after};
 use wt_inline::{NodeHead, PieceTree, with_room};
 use wt_span::{List, NoMemory, Outer};
 use wt_tree::Node;
@@ -78,54 +80,71 @@ fn is_leaf(child: &Child<'_>) -> bool
     child.tree.head.kind.is_leaf()
 }
 
-/// The nodes of runs of children.
+/// The nodes of runs of children, where the next number is this.
 #[cycle(grouping)]
 fn run_nodes<'a>(
     alloc: Global,
     calls: &[Outer<'a>],
     runs: List<Run<'a>>,
-) -> Result<List<Node<'a>>, NoMemory>
+    next: u32,
+) -> Result<AllFinished<'a>, NoMemory>
     requires sound { All IsSoundCall (outer_calls calls.now) }
     requires fit { AllByRecursion (RunFits (outer_calls calls.now)) runs }
-    ensures { IfOk result (λ ns. map view ns ≡ map (run_tree (outer_calls calls.now)) runs.entry) }
+    ensures { IfOk result (λ m. AreFinished next (trees (map (run_tree (outer_calls calls.now)) runs.entry)) (views m.nodes) m.next) }
 {
     let mut nodes = with_room(alloc, runs.len())?;
+    let mut behind = next;
     for run in runs.into_vec() {
-        let node = run_node(alloc, calls, run)?;
-        nodes.push(node)?;
+        let made = run_node(alloc, calls, run, behind)?;
+        behind = made.next;
+        nodes.push(made.node)?;
     }
-    Ok(nodes)
+    Ok(AllFinished {
+        nodes,
+        next: behind,
+    })
 }
 
 /// A clean child by itself, or a group.
 #[cycle(grouping)]
-fn run_node<'a>(alloc: Global, calls: &[Outer<'a>], run: Run<'a>) -> Result<Node<'a>, NoMemory>
+fn run_node<'a>(
+    alloc: Global,
+    calls: &[Outer<'a>],
+    run: Run<'a>,
+    next: u32,
+) -> Result<Finished<'a>, NoMemory>
     requires sound { All IsSoundCall (outer_calls calls.now) }
     requires fits { RunFits (outer_calls calls.now) run }
-    ensures { IfOk result (λ n. view n ≡ run_tree (outer_calls calls.now) run.entry) }
+    ensures { IfOk result (λ m. IsFinished next (run_tree (outer_calls calls.now) run.entry) (view m.node) m.next) }
 {
     match run {
-        Run::Alone(child) => kept_node(alloc, calls, child),
-        Run::Group(children) => group_node(alloc, calls, children),
+        Run::Alone(child) => kept_node(alloc, calls, child, next),
+        Run::Group(children) => finished_group(alloc, calls, children, next),
     }
 }
 
-/// A node that is kept, with its groups.
+/// A node that is kept, with its groups, its numbers and its texts cut anew.
 #[cycle(grouping)]
-fn kept_node<'a>(alloc: Global, calls: &[Outer<'a>], child: Child<'a>) -> Result<Node<'a>, NoMemory>
+fn kept_node<'a>(
+    alloc: Global,
+    calls: &[Outer<'a>],
+    child: Child<'a>,
+    next: u32,
+) -> Result<Finished<'a>, NoMemory>
     requires sound { All IsSoundCall (outer_calls calls.now) }
     requires fits { Fits (outer_calls calls.now) child }
-    ensures { IfOk result (λ n. view n ≡ (near_of (outer_calls calls.now) child.entry).whole) }
+    ensures { IfOk result (λ m. IsFinished next (near_of (outer_calls calls.now) child.entry).whole (view m.node) m.next) }
 {
     if is_leaf(&child) {
-        return kept_leaf(alloc, calls, child);
+        return finished_leaf(alloc, calls, child, next);
     }
     let Opened { frame, head, runs } = open_child(alloc, calls, child)?;
-    let nodes = run_nodes(alloc, calls, runs)?;
-    kept_inner(alloc, frame, head, nodes)
+    let first = next_after(head.kind, next)?;
+    let inside = run_nodes(alloc, calls, runs, first)?;
+    finished_inner(alloc, frame, head, inside, next)
 }
 
-/// The annotated tree where some nodes may be groups: these first, then cut texts, then numbers.
+/// The annotated tree where some nodes may be groups.
 fn with_groups<'a>(
     alloc: Global,
     calls: &[Outer<'a>],
@@ -143,9 +162,8 @@ fn with_groups<'a>(
         free: true,
         clean: true,
     };
-    let node = kept_node(alloc, calls, body)?;
-    let cut = cut_node(alloc, node)?;
-    number_tree(alloc, cut)
+    let made = kept_node(alloc, calls, body, 1)?;
+    Ok(made.node)
 }
 
 /// The annotated tree where no node is a group, in one pass.

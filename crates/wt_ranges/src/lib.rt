@@ -3,6 +3,7 @@
 
 mod carried;
 mod child;
+mod finished;
 mod group_node;
 mod group_word;
 mod grouping;

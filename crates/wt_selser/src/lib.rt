@@ -16,7 +16,7 @@ mod steps;
 mod tangled_block;
 
 pub use change::{Change, place_in, spliced};
-pub use differing::first_differing;
+pub use differing::{first_differing, first_differing_indexed};
 pub use editing::edit;
 pub use laws::{
     contents_alone, edit_is_a_splice, groups_alone_tangle, nothing_changes, outside_stands,

@@ -1,5 +1,5 @@
 -- Worked cases: comments, include tags, calls and islands that an edited tree still has.
-use Rattle.std.proofs.Common.{arith, ◌≡◌, ◌≤◌, ◌+◌, ℕ, Bool, true, false, List, [], ◌∷◌, ◌++◌, refl, codes, inl}
+use Rattle.std.proofs.Common.{arith, ◌≡◌, ◌≤◌, ◌+◌, ℕ, Bool, true, false, List, [], ◌∷◌, ◌++◌, ap, refl, codes, inl, take}
 use Rattle.std.specs.Prelude.{cond}
 use Rattle.std.specs.Str.{bytes_eq}
 use Rattle.wt_tree.specs.Tree.{Tree, tree, none, more}
@@ -71,8 +71,8 @@ unfolding same_kind
 kept = record {
   comments = (at_least (codes "<!--x-->" ∷ []), each_of (codes "<!--x-->" ∷ []));
   tags = (each_of (codes "<noinclude>" ∷ []), each_of (codes "<noinclude>" ∷ []));
-  calls = (each_of [], each_of []);
-  islands = (each_of [], each_of []);
+  calls = refl;
+  islands = refl;
   order = inl (refl, tt);
 }
 
@@ -97,8 +97,8 @@ unfolding same_kind
 kept_lines = record {
   comments = (either_order (codes "<!--x-->") (codes "<!--y-->"), either_order (codes "<!--y-->") (codes "<!--x-->"));
   tags = (each_of [], each_of []);
-  calls = (each_of [], each_of []);
-  islands = (each_of [], each_of []);
+  calls = refl;
+  islands = refl;
   order = tt;
 }
 
@@ -120,7 +120,7 @@ calls = body (node kind.Para 1 (words (codes "a") ∷ tree (record (blank kind.G
 -- what the call shows stands in its place
 call_gone : KeepsMarks (body (node kind.Para 1 (words (codes "ab") ∷ []) ∷ [])) calls calls → ⊥
 unfolding same_kind
-call_gone h = let t : 1 ≤ 0 = h.calls.0 (codes "{{t}}") in omega (arith, t)
+call_gone h = let t : 1 ≡ 0 = ap (times (codes "{{t}}")) h.calls in absurd (omega (arith, t))
 
 -- another file
 abbrev file : List ℕ → Tree
@@ -128,10 +128,28 @@ file bs = body (node kind.Para 1 (tree (record (blank kind.Island 2) { own = bs 
 
 file_changed : KeepsMarks (file (codes "[[File:b]]")) (file (codes "[[File:a]]")) (file (codes "[[File:a]]")) → ⊥
 unfolding same_kind
-file_changed h = let t : 1 ≤ 0 = h.islands.0 (codes "[[File:a]]") in omega (arith, t)
+file_changed h = let t : 1 ≡ 0 = ap (times (codes "[[File:a]]")) h.islands in absurd (omega (arith, t))
 
 -- a new comment
 comment_new : KeepsMarks (body (node kind.Para 1 (words (codes "c") ∷ comment 2 (codes "<!--y-->") ∷ []) ∷ [])) (body (node kind.Para 1 (words (codes "b") ∷ []) ∷ []))
     (body (node kind.Para 1 (words (codes "c") ∷ []) ∷ [])) → ⊥
 unfolding same_kind
 comment_new h = let t : 1 ≤ 0 = h.comments.1 (codes "<!--y-->") in omega (arith, t)
+
+-- two calls of a template that isn't there: both show a link to it
+abbrev two_calls : List ℕ → List ℕ → Tree
+two_calls a b = body (node kind.Para 1 (tree (record (blank kind.Group 2) { own = a }) none ∷ tree (record (blank kind.Group 3) { own = b }) none ∷ []) ∷ [])
+
+calls_kept : KeepsMarks (two_calls (codes "{{a}}") (codes "{{b}}")) (two_calls (codes "{{a}}") (codes "{{b}}")) (two_calls (codes "{{a}}") (codes "{{b}}"))
+unfolding same_kind
+calls_kept = record { comments = (each_of [], each_of []); tags = (each_of [], each_of []); calls = refl; islands = refl; order = tt }
+
+calls_exchanged : KeepsMarks (two_calls (codes "{{b}}") (codes "{{a}}")) (two_calls (codes "{{a}}") (codes "{{b}}")) (two_calls (codes "{{a}}") (codes "{{b}}")) → ⊥
+unfolding same_kind
+calls_exchanged h = let t : 1 ≡ 0 = ap (λ texts. times (codes "{{a}}") (take 1 texts)) h.calls in absurd (omega (arith, t))
+
+-- what the edited tree has no longer goes
+call_stays : KeepsMarks (two_calls (codes "{{a}}") (codes "{{b}}")) (two_calls (codes "{{a}}") (codes "{{b}}"))
+    (body (node kind.Para 1 (tree (record (blank kind.Group 2) { own = codes "{{a}}" }) none ∷ []) ∷ [])) → ⊥
+unfolding same_kind
+call_stays h = let t : 0 ≡ 1 = ap (times (codes "{{b}}")) h.calls in absurd (omega (arith, t))

@@ -9,3 +9,4 @@ pub mod Tallies
 pub mod Decided
 mod KeptMarksCases
 pub mod MarksAlone
+pub mod AlikeSources

@@ -9,7 +9,7 @@ use Rattle.std.proofs.lemmas.List.Concat.{flat_map-cons}
 use Rattle.wt_tree.specs.declared.kind.Kind.{Kind}
 use Rattle.wt_tree.specs.declared.kind.Kind.TheVariants as kind
 use Rattle.wt_checks.specs.Places.{Page, Place}
-use Rattle.wt_visible.specs.KeptMarks.{is_mark, is_own, mark_at, marks, source_at, sources, still, still_at, IsWithin, KeepsEach, KeepsKind, KeepsOrder}
+use Rattle.wt_visible.specs.KeptMarks.{is_mark, is_own, mark_at, marks, source_at, sources, still, still_at, IsWithin, KeepsEach, KeepsInOrder, KeepsKind, KeepsOrder}
 use Rattle.wt_visible.specs.Tally.{trimmed, StandAmong}
 
 -- ---- the kinds that are looked for
@@ -91,6 +91,15 @@ order_alone page es ns = (
   of_three Ordered _ _ [] _ _ [] (sym (same_still kind.Include tags page es)) (sym (same_sources kind.Include tags ns)) refl,
 )
 
+abbrev Alike : List (List ℕ) → List (List ℕ) → List (List ℕ) → Type 0
+Alike edited new old = map trimmed edited ≡ map trimmed new
+
+in_order_alone : (k : Kind) → Looked k → (page : Page) (es ns : List Place) → KeepsInOrder k page (marks es) (marks ns) ↔ KeepsInOrder k page es ns
+in_order_alone k looked page es ns = (
+  of_three Alike _ _ [] _ _ [] (same_still k looked page es) (same_sources k looked ns) refl,
+  of_three Alike _ _ [] _ _ [] (sym (same_still k looked page es)) (sym (same_sources k looked ns)) refl,
+)
+
 pub marks_alone : (r : Bool) (page : Page) (os es ns : List Place) → Decides r (KeepsEach page (marks os) (marks es) (marks ns))
     → Decides r (KeepsEach page os es ns)
 marks_alone r page os es ns d = (λ e. onward (d.0 e), λ h. d.1 (back h))
@@ -99,8 +108,8 @@ marks_alone r page os es ns d = (λ e. onward (d.0 e), λ h. d.1 (back h))
     onward h = record {
       comments = (kind_alone kind.Comment comments page os es ns).0 h.comments;
       tags = (kind_alone kind.Include tags page os es ns).0 h.tags;
-      calls = (kind_alone kind.Group calls page os es ns).0 h.calls;
-      islands = (kind_alone kind.Island islands page os es ns).0 h.islands;
+      calls = (in_order_alone kind.Group calls page es ns).0 h.calls;
+      islands = (in_order_alone kind.Island islands page es ns).0 h.islands;
       order = (order_alone page es ns).0 h.order;
     }
 
@@ -108,7 +117,7 @@ marks_alone r page os es ns d = (λ e. onward (d.0 e), λ h. d.1 (back h))
     back h = record {
       comments = (kind_alone kind.Comment comments page os es ns).1 h.comments;
       tags = (kind_alone kind.Include tags page os es ns).1 h.tags;
-      calls = (kind_alone kind.Group calls page os es ns).1 h.calls;
-      islands = (kind_alone kind.Island islands page os es ns).1 h.islands;
+      calls = (in_order_alone kind.Group calls page es ns).1 h.calls;
+      islands = (in_order_alone kind.Island islands page es ns).1 h.islands;
       order = (order_alone page es ns).1 h.order;
     }

@@ -1,6 +1,6 @@
 -- Comments and include tags show nothing, and of a call and an island (an extension, a file) a new page could show the same by other
--- bytes; so no comparison of what is shown finds one that was lost, or another in its place. Those that an edited tree still has stand in
--- a new page, too, and no others.
+-- bytes; so no comparison of what is shown finds one that was lost, or another in its place. The calls and islands of a new page are those
+-- that the edited tree still has, in its order. Of comments and include tags it has those, and none more often than the page.
 use Rattle.std.specs.Prelude.{◌≡◌, ◌⊎◌, ◌&&◌, ◌||◌, ℕ, Bool, Option, Some, None, List, [], ◌∷◌, map, if◌then◌else◌}
 use Rattle.std.specs.List.{flat_map}
 use Rattle.wt_tree.specs.Source.{flat}
@@ -70,12 +70,17 @@ KeepsKind k page old edited new = Keeps k page edited new × HasNoMore k old new
 abbrev pub KeepsOrder : Page → List Place → List Place → Type 0
 KeepsOrder page edited new = IsWithin (still kind.Include page edited) (sources kind.Include new)
 
+-- The calls and islands of the new page are those that the edited tree still has, in its order: two calls of a template that isn't there,
+-- or two files, show the same. White space round a source doesn't count.
+abbrev pub KeepsInOrder : Kind → Page → List Place → List Place → Type 0
+KeepsInOrder k page edited new = map trimmed (still k page edited) ≡ map trimmed (sources k new)
+
 -- of a page by its numbers, its nodes, those of the edited tree, and those of the new page
 pub record KeepsEach (page : Page) (old edited new : List Place) : Type 0 where
   pub comments : KeepsKind kind.Comment page old edited new
   pub tags : KeepsKind kind.Include page old edited new
-  pub calls : KeepsKind kind.Group page old edited new
-  pub islands : KeepsKind kind.Island page old edited new
+  pub calls : KeepsInOrder kind.Group page edited new
+  pub islands : KeepsInOrder kind.Island page edited new
   pub order : KeepsOrder page edited new
 
 abbrev pub KeepsMarks : Tree → Tree → Tree → Type 0

@@ -6,7 +6,7 @@ ghost use Rattle.std.specs.Bool.{Decides};
 ghost use Rattle.wt_tree.specs.View.{view};
 ghost use Rattle.wt_checks.specs.Places.{page_of, places};
 ghost use Rattle.wt_checks.specs.View.{all_seen, indexed, seen};
-ghost use Rattle.wt_visible.specs.KeptMarks.{is_mark, is_own, mark_at, marks, source_at, sources, still, still_at, there, HasNoMore, IsWithin, Keeps, KeepsEach, KeepsKind, KeepsMarks, KeepsOrder};
+ghost use Rattle.wt_visible.specs.KeptMarks.{is_mark, is_own, mark_at, marks, source_at, sources, still, still_at, there, HasNoMore, IsWithin, Keeps, KeepsEach, KeepsInOrder, KeepsKind, KeepsMarks, KeepsOrder};
 ghost use Rattle.wt_visible.specs.Tally.{trimmed, StandAmong};
 
 use crate::tally::{Tally, trimmed};
@@ -105,6 +105,29 @@ fn is_same(source: &Str, other: &Str) -> bool
     ensures { Decides result (source.now ≡ other.now) }
 {
     source.as_str() == other.as_str()
+}
+
+/// Whether two sources are the same, without the white space at their ends.
+fn is_alike(source: &Str, other: &Str) -> bool
+    ensures { Decides result (trimmed source.now ≡ trimmed other.now) }
+{
+    trimmed(source) == trimmed(other)
+}
+
+/// Whether two lists have the same sources in the same order, without the white space at their ends.
+fn are_alike(sources: &[Str], others: &[Str]) -> bool
+    ensures { Decides result (map trimmed sources.now ≡ map trimmed others.now) }
+{
+    if sources.len() != others.len() {
+        return false;
+    }
+    for at in 0..sources.len() {
+        let alike = is_alike(&sources[at], &others[at]);
+        if !alike {
+            return false;
+        }
+    }
+    true
 }
 
 /// How many of the first texts of two lists are the same.
@@ -236,6 +259,21 @@ fn keeps_order(
     Ok(is_within(kept.as_slice(), there.as_slice()))
 }
 
+/// Whether a new page has the nodes of this kind that the edited tree still has, in its order, and no others.
+fn keeps_in_order(
+    alloc: Global,
+    kind: Kind,
+    index: &[Visit<'_, '_>],
+    edited: &[Visit<'_, '_>],
+    new: &[Visit<'_, '_>],
+) -> Result<bool, NoMemory>
+    ensures { IfOk result (λ kept. Decides kept (KeepsInOrder kind (indexed index.now) (all_seen edited.now) (all_seen new.now))) }
+{
+    let kept = still(alloc, kind, index, edited)?;
+    let there = sources(alloc, kind, new)?;
+    Ok(are_alike(kept.as_slice(), there.as_slice()))
+}
+
 fn keeps_each(
     alloc: Global,
     index: &[Visit<'_, '_>],
@@ -253,11 +291,11 @@ fn keeps_each(
     if !tags {
         return Ok(false);
     }
-    let calls = keeps_kind(alloc, Kind::Group, index, old, edited, new)?;
+    let calls = keeps_in_order(alloc, Kind::Group, index, edited, new)?;
     if !calls {
         return Ok(false);
     }
-    let islands = keeps_kind(alloc, Kind::Island, index, old, edited, new)?;
+    let islands = keeps_in_order(alloc, Kind::Island, index, edited, new)?;
     if !islands {
         return Ok(false);
     }
@@ -310,9 +348,10 @@ fn marks_of<'t, 'a>(alloc: Global, root: &'t Node<'a>) -> Result<Vec<Visit<'t, '
 }
 
 /// Whether a new page keeps what an edited tree shows least of: the comments, include tags, calls and islands of
-/// the page that it still has by their numbers. Each stands in the new page with the page's source, without the
-/// white space round it, as often as in the edited tree, and the tags in its order; and none stands there more
-/// often than in the page. `index` has the page's nodes by their numbers.
+/// the page that it still has by their numbers. The calls and islands of the new page are these, in the order of
+/// the edited tree and with the page's sources, without the white space round them. Each comment and tag stands
+/// there as often as in the edited tree, the tags in its order, and none more often than in the page. `index` has
+/// the page's nodes by their numbers.
 pub fn keeps_marks(
     alloc: Global,
     new: &Node<'_>,

@@ -7,13 +7,31 @@ use std::alloc::Global;
 use std::str::FromStr;
 use wt_span::List;
 
-/// A device in memory: how many bytes it gives or takes a call at the most, and which of its calls
+/// A device in memory that is read: how many bytes it gives a call at the most, and which of its calls
 /// fail; the first call has the number 1.
 #[derive(Debug, Drop)]
 pub struct Device {
     pub most: usize,
     pub failing: List<u64>,
     ghost some: { 0 < most },
+}
+
+/// A sink in memory: how many bytes it takes a call at the most, none where this is 0, and which of its
+/// calls fail; the first call has the number 1.
+#[derive(Debug, Drop)]
+pub struct SinkDevice {
+    pub most: usize,
+    pub failing: List<u64>,
+}
+
+/// The calls that fail: the one of this number, or none.
+fn failing_calls(alloc: Global, number: &str) -> Result<List<u64>, CaseRefusal> {
+    let mut failing = List::new(alloc);
+    if !number.is_empty() {
+        let number = u64::from_str(number).map_err(|_| CaseRefusal::Malformed)?;
+        failing.push(number)?;
+    }
+    Ok(failing)
 }
 
 impl Device {
@@ -31,15 +49,25 @@ impl Device {
         if most == 0 {
             return Err(CaseRefusal::Malformed);
         }
-        let mut device = Device {
-            most,
+        let failing = failing_calls(alloc, failing)?;
+        Ok(Device { most, failing })
+    }
+}
+
+impl SinkDevice {
+    /// A sink that never fails, and has no limit.
+    pub fn ample(alloc: Global) -> SinkDevice {
+        SinkDevice {
+            most: usize::MAX,
             failing: List::new(alloc),
-        };
-        if !failing.is_empty() {
-            let number = u64::from_str(failing).map_err(|_| CaseRefusal::Malformed)?;
-            device.failing.push(number)?;
         }
-        Ok(device)
+    }
+
+    /// A sink of so many bytes a call, of which this call fails.
+    fn read(alloc: Global, most: &str, failing: &str) -> Result<SinkDevice, CaseRefusal> {
+        let most = usize::from_str(most).map_err(|_| CaseRefusal::Malformed)?;
+        let failing = failing_calls(alloc, failing)?;
+        Ok(SinkDevice { most, failing })
     }
 }
 
@@ -48,8 +76,8 @@ impl Device {
 pub struct Devices {
     pub input: Device,
     pub folder: Device,
-    pub out: Device,
-    pub err: Device,
+    pub out: SinkDevice,
+    pub err: SinkDevice,
     /// Whether the answer tells which names the folder was asked for.
     pub tells_names: bool,
 }
@@ -59,8 +87,8 @@ impl Devices {
         Devices {
             input: Device::ample(alloc),
             folder: Device::ample(alloc),
-            out: Device::ample(alloc),
-            err: Device::ample(alloc),
+            out: SinkDevice::ample(alloc),
+            err: SinkDevice::ample(alloc),
             tells_names: false,
         }
     }
@@ -74,12 +102,11 @@ impl Devices {
         }
         let (name, rest) = word.split_once(':').ok_or(CaseRefusal::Malformed)?;
         let (most, failing) = rest.split_once(':').ok_or(CaseRefusal::Malformed)?;
-        let device = Device::read(alloc, most, failing)?;
         match name {
-            "input" => self.input = device,
-            "folder" => self.folder = device,
-            "out" => self.out = device,
-            "err" => self.err = device,
+            "input" => self.input = Device::read(alloc, most, failing)?,
+            "folder" => self.folder = Device::read(alloc, most, failing)?,
+            "out" => self.out = SinkDevice::read(alloc, most, failing)?,
+            "err" => self.err = SinkDevice::read(alloc, most, failing)?,
             _ => return Err(CaseRefusal::Malformed),
         }
         Ok(())

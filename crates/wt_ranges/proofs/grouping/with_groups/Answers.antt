@@ -1,5 +1,4 @@
-use Rattle.std.proofs.Common.{length, ap, ◌∙◌, arith}
-use Rattle.std.proofs.lemmas.Result.{IfOk-weaker}
+use Rattle.std.proofs.Common.{length, ap, sym, ◌∙◌, arith}
 use Rattle.wt_annotated.specs.Numbering.{with_numbers}
 use Rattle.wt_inline.specs.ItemTree.{tree_items}
 use Rattle.wt_inline.specs.View.{item_tree}
@@ -7,6 +6,7 @@ use Rattle.wt_annotated.specs.Annotated.{annotated}
 use Rattle.wt_annotated.specs.CutTexts.{cut_texts}
 use Rattle.wt_annotated.specs.GroupData.{group_data}
 use Rattle.wt_annotated.specs.Pieces.{outer_calls}
+use Rattle.wt_annotated.proofs.AnnotatedTree.{numbers_first}
 use Rattle.wt_annotated.proofs.Seams.{page_is}
 use Rattle.wt_annotated.proofs.Walks.{walk_all}
 use Rattle.wt_ranges.proofs.grouping.with_groups.Goals as goal
@@ -17,9 +17,9 @@ kept_node-requires c =
     omega (arith, ap length (page_is calls (tree_items (item_tree c.args.tree))), c.requires.bytes)
 
 pub returns : goal.returns
-unfolding annotated
 returns c =
     let calls = outer_calls c.args.calls.now in
     let t = item_tree c.args.tree in
-    IfOk-weaker c.number_tree.result _ _
-    (λ n e. e ∙ ap (with_numbers 1) (c.in_ok-cut.ensures ∙ ap cut_texts (c.in_ok-node.ensures ∙ walk_all calls (group_data calls) t))) c.number_tree.ensures
+    c.in_ok-made.ensures.tree_is
+    ∙ ap (λ u. cut_texts (with_numbers 1 u)) (walk_all calls (group_data calls) t)
+    ∙ numbers_first calls (group_data calls) t

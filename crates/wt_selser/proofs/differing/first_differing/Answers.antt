@@ -1,21 +1,12 @@
-use Rattle.std.proofs.Common.{◌≡◌, List, ap, ◌∙◌, subst}
-use Rattle.wt_tree.specs.Plain.{Plain}
+use Rattle.std.proofs.Common.{ap, ◌∙◌, subst}
 use Rattle.wt_tree.specs.View.{view}
-use Rattle.wt_checks.specs.Places.{page_of}
+use Rattle.wt_checks.specs.Places.{Page}
 use Rattle.wt_checks.specs.View.{indexed}
 use Rattle.wt_visible.specs.Children.{IsFirstDiffering, shown_children}
-use Rattle.wt_visible.specs.Restored.{restored_from}
-use Rattle.wt_visible.specs.Views.{children_view}
-use Rattle.wt_visible.proofs.RestoredShown.{body_restored, body_shown}
+use Rattle.wt_visible.specs.Restored.{restored}
 use Rattle.wt_selser.proofs.differing.first_differing.Goals as goal
 
 pub returns : goal.returns
 returns c =
-    let l : children_view c.as_slice-3.result.now ≡ shown_children (view c.args.new.now) =
-    ap children_view c.as_slice-3.ensures.value ∙ body_shown c.args.new.now c.as_slice.result.now (children_view c.in_ok-left.left.items) c.as_slice.ensures c.in_ok-left.ensures in
-    let r : children_view c.as_slice-4.result.now ≡ shown_children (restored_from (view c.args.page.now) (view c.args.edited.now)) =
-    ap children_view c.as_slice-4.ensures.value
-    ∙ body_restored (indexed c.as_slice-2.result.now) (page_of (view c.args.page.now)) c.args.edited.now (children_view c.in_ok-right.right.items)
-    (ap indexed c.as_slice-2.ensures.value ∙ c.in_ok-index.ensures.same) c.in_ok-right.ensures in
-    subst (λ (xs : List Plain). IsFirstDiffering xs (shown_children (restored_from (view c.args.page.now) (view c.args.edited.now))) c.in_ok-found.found) l
-    (subst (λ (ys : List Plain). IsFirstDiffering (children_view c.as_slice-3.result.now) ys c.in_ok-found.found) r c.in_ok-found.ensures)
+    subst (λ (page : Page). IsFirstDiffering (shown_children (view c.args.new.now)) (shown_children (restored page (view c.args.edited.now))) c.in_ok-found.found)
+    (ap indexed c.as_slice.ensures.value ∙ c.in_ok-index.ensures.same) c.in_ok-found.ensures

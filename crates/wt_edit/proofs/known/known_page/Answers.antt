@@ -4,11 +4,11 @@ use Rattle.wt_tree.specs.View.{view}
 use Rattle.wt_transclusion.specs.Answers.{IsRefused}
 use Rattle.wt_transclusion.specs.Stops.{Stops}
 use Rattle.wt_transclusion.specs.declared.refusal.ExpandRefusal.TheVariants as of_expansion
-use Rattle.wt_pagetool.specs.Answers.{refusal_of_page}
-use Rattle.wt_pagetool.proofs.ExpandLaws.{page_small, tree_expanded}
+use Rattle.wt_edit.specs.Edits.{refusal_of_page}
+use Rattle.wt_edit.proofs.Meanings.{page_small, tree_expanded}
 use Rattle.wt_expand.specs.Expansion.{page_work}
-use Rattle.wt_pagetool.proofs.AskedLaws.{stops_behind}
-use Rattle.wt_pagetool.proofs.known_page.known_page.Goals as goal
+use Rattle.wt_edit.proofs.AskedLaws.{stops_behind}
+use Rattle.wt_edit.proofs.known.known_page.Goals as goal
 
 pub annotated_of_items-requires : goal.annotated_of_items-requires
 annotated_of_items-requires g c =

@@ -1,25 +1,28 @@
 //! The tree of a page some of whose templates are known already.
 
-ghost use Rattle.std.specs.Prelude.{◌≡◌, ◌≤◌, ℕ, List, length, OnOk, IfOk, IfErr, Some, None};
+ghost use Rattle.std.specs.Prelude.{◌≡◌, ◌≤◌, ◌<◌, ◌^◌, ℕ, List, length, OnOk, IfOk, IfErr, Some, None};
 ghost use Rattle.wt_expand.specs.Expansion.{page_work};
 ghost use Rattle.wt_expand.specs.PageCalls.{expanded_page};
 ghost use Rattle.wt_expand.specs.Work.{Pages};
 ghost use Rattle.wt_expansion.specs.Known.{HoldsPages, KnowsMore};
 ghost use Rattle.wt_expansion.specs.Walks.{IsFree};
-ghost use Rattle.wt_page_round_trip.specs.PageTree.{page_tree};
+ghost use Rattle.wt_inline.specs.ItemTree.{tree_items};
+ghost use Rattle.wt_page.specs.Body.{meaning};
+ghost use Rattle.wt_page_round_trip.specs.PageTree.{expanded_tree, page_tree};
+ghost use Rattle.wt_span.specs.Cuts.{page_of};
 ghost use Rattle.wt_tree.specs.View.{view};
 ghost use Rattle.wt_transclusion.specs.Answers.{IsCounted, IsRefused};
 ghost use Rattle.wt_transclusion.specs.Asked.{Asks};
 ghost use Rattle.wt_transclusion.specs.Stops.{Stops};
-ghost use Rattle.wt_pagetool.specs.Answers.{refusal_of_page};
+ghost use Rattle.wt_edit.specs.Edits.{refusal_of_page};
 
-use crate::page::annotated_of_items;
 use bumpalo::Bump;
 use std::alloc::Global;
+use wt_build::build;
 use wt_devices::Folder;
 use wt_expansion::expand_knowing;
-use wt_ranges::Annotated;
-use wt_span::PAGE_BYTES;
+use wt_ranges::{Annotated, group};
+use wt_span::{Items, NoMemory, PAGE_BYTES};
 use wt_template_stack::Expansion;
 use wt_transclusion::ExpandRefusal;
 
@@ -30,6 +33,16 @@ pub struct KnownPage<'a> {
     pub annotated: Annotated<'a>,
     /// What was fetched for the page, and what was known before it.
     pub expansion: Expansion<'a>,
+}
+
+/// The tree of an expanded page, with its items.
+pub fn annotated_of_items<'a>(alloc: Global, items: Items<'a>) -> Result<Annotated<'a>, NoMemory>
+    requires { length (page_of items.outer (tree_items (meaning items.items))) < 2 ^ 32 }
+    ensures tree { IfOk result (λ a. view a.tree.body ≡ expanded_tree items.entry) }
+    ensures items { IfOk result (λ a. a.items ≡ items.entry) }
+{
+    let meaning = build(alloc, &items)?;
+    group(alloc, items, meaning.into_body())
 }
 
 /// The tree of a page that is text, with its templates expanded: those that the expansion knows are taken as
