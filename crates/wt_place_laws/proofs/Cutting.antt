@@ -1,6 +1,7 @@
 -- Lexemes by the places where they begin and end.
 use Rattle.std.proofs.Common.{arith, ◌≡◌, ◌↔◌, ℕ, ◌+◌, ◌-◌, ◌≤◌, List, [], ◌∷◌, ◌++◌, length, take, drop, sum, refl, sym, ap, ◌∙◌, subst}
 use Rattle.std.specs.Str.{IsUtf8, IsCharBoundary}
+use Rattle.std.proofs.lemmas.Str.{IsUtf8-between}
 use Rattle.wt_lex.specs.Places.{AtBorders, Follow, word_of}
 use Rattle.wt_lex.specs.declared.lexeme.Lexeme.{Lexeme}
 use Rattle.wt_place_laws.specs.Sides.{starts, ends, width}
@@ -29,8 +30,8 @@ pub by_width : (from to : ℕ) → (xs : List Lexeme) → Follow from xs to → 
 by_width from to [] f = omega (arith, f)
 by_width from to (x ∷ xs) f =
     let r = by_width x.at.end to xs f.1 in let o = x.at.ordered in let s = f.0 in
-    let w : width (x ∷ xs) ≡ (x.at.end - x.at.start) + width xs = ? in
+    let w : width (x ∷ xs) ≡ (x.at.end - x.at.start) + width xs = refl in
     omega arith
 
 pub cut_out : (text : List ℕ) → (x : Lexeme) → IsUtf8 text → AtBorders text x → IsUtf8 (take (x.at.end - x.at.start) (drop x.at.start text))
-cut_out text x u b = ?
+cut_out text x u b = IsUtf8-between text x.at.start x.at.end u x.at.ordered b.0 b.1

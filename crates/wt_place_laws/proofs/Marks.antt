@@ -1,5 +1,5 @@
 -- The marks at the front of pieces.
-use Rattle.std.proofs.Common.{arith, ◌≡◌, ◌↔◌, ℕ, ◌+◌, Bool, true, false, cond, List, [], ◌∷◌, ◌++◌, length, take, drop, refl, sym, ap, ◌∙◌, subst}
+use Rattle.std.proofs.Common.{arith, ◌≡◌, ◌↔◌, ℕ, suc, ◌+◌, Bool, true, false, cond, List, [], ◌∷◌, ◌++◌, length, take, drop, refl, sym, ap, ◌∙◌, subst}
 use Rattle.std.specs.List.{AllByRecursion, prefix_len}
 use Rattle.std.proofs.lemmas.Grind.{flat_map-append}
 use Rattle.std.proofs.lemmas.List.{take-append-drop}
@@ -12,12 +12,15 @@ use Rattle.wt_place_laws.specs.Fronts.{AreMarksInFront, BeginsUnmarked}
 abbrev Marks : List Item → Type 0
 Marks xs = AllByRecursion (λ x. is_mark x ≡ true) xs
 
+one_more : (n : ℕ) → 1 + n ≡ suc n
+one_more n = omega arith
+
 front_marks : (xs : List Item) → Marks (take (prefix_len is_mark xs) xs)
 front_marks [] = tt
 front_marks (x ∷ xs) = by (is_mark x) refl (front_marks xs)
   where
     by : (v : Bool) → is_mark x ≡ v → Marks (take (prefix_len is_mark xs) xs) → Marks (take (cond v (1 + prefix_len is_mark xs) 0) (x ∷ xs))
-    by true e h = let s : take (1 + prefix_len is_mark xs) (x ∷ xs) ≡ x ∷ take (prefix_len is_mark xs) xs = ? in subst Marks (sym s) (e, h)
+    by true e h = let s : take (1 + prefix_len is_mark xs) (x ∷ xs) ≡ x ∷ take (prefix_len is_mark xs) xs = ap (λ (i : ℕ). take i (x ∷ xs)) (one_more (prefix_len is_mark xs)) in subst Marks (sym s) (e, h)
     by false e h = tt
 
 behind_marks : (xs : List Item) → BeginsUnmarked (drop (prefix_len is_mark xs) xs)
@@ -25,7 +28,7 @@ behind_marks [] = tt
 behind_marks (x ∷ xs) = by (is_mark x) refl (behind_marks xs)
   where
     by : (v : Bool) → is_mark x ≡ v → BeginsUnmarked (drop (prefix_len is_mark xs) xs) → BeginsUnmarked (drop (cond v (1 + prefix_len is_mark xs) 0) (x ∷ xs))
-    by true e h = let s : drop (1 + prefix_len is_mark xs) (x ∷ xs) ≡ drop (prefix_len is_mark xs) xs = ? in subst BeginsUnmarked (sym s) h
+    by true e h = let s : drop (1 + prefix_len is_mark xs) (x ∷ xs) ≡ drop (prefix_len is_mark xs) xs = ap (λ (i : ℕ). drop i (x ∷ xs)) (one_more (prefix_len is_mark xs)) in subst BeginsUnmarked (sym s) h
     by false e h = e
 
 marks_len : (xs ys : List Item) → Marks xs → BeginsUnmarked ys → prefix_len is_mark (xs ++ ys) ≡ length xs

@@ -1,6 +1,5 @@
 -- Where lexemes begin and end.
-use Rattle.std.specs.Prelude.{ℕ, List, map}
-use Rattle.std.specs.List.{sum}
+use Rattle.std.specs.Prelude.{ℕ, ◌+◌, List, [], ◌∷◌, map}
 use Rattle.wt_lex.specs.declared.lexeme.Lexeme.{Lexeme}
 use Rattle.wt_lex.specs.Places.{word_of}
 
@@ -12,4 +11,5 @@ ends xs = map (λ x. x.at.end) xs
 
 -- how many bytes the lexemes have, without their places
 abbrev pub width : List Lexeme → ℕ
-width xs = sum (map (λ x. (word_of x).1) xs)
+width [] = 0
+width (x ∷ xs) = (word_of x).1 + width xs
