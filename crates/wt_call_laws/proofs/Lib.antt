@@ -1,0 +1,6 @@
+pub mod Codes
+pub mod Joining
+pub mod Exclusions
+pub mod OneOutput
+pub mod Counting
+pub mod Late
