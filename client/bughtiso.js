@@ -87,6 +87,15 @@ export function renew(root, html) {
 }
 
 /**
+ * Reads now what `save` compares the page with, as while nothing is typed. Else the first `save` does it, and
+ * takes longer.
+ * @param {Element} root  the root that `open` answered
+ */
+export function prepareSave(root) {
+  void opened.get(root)?.original.nodes; // they are read now
+}
+
+/**
  * Writes the page as a strict document.
  * @param {Element | Document} dom  the root that `open` answered, another element whose inside is a page's,
  *   or a document

@@ -1,12 +1,12 @@
 // @ts-check
 /** The editor of one page: it reads the page from the server, lets it be edited, and gives it back. */
 
-import { isChanged, open, renew } from "../bughtiso.js";
+import { isChanged, open, prepareSave, renew } from "../bughtiso.js";
 import { blocksOf } from "./blocks.js";
 import { Commands } from "./commands.js";
 import { History } from "./history.js";
 import { pasted } from "./paste.js";
-import { Saving } from "./saving.js";
+import { Saving, idle } from "./saving.js";
 import { ServerRefused, page as readPage } from "./server.js";
 import { deleteRests, deleteThing, elementsOf, groupSizes, nameThings, selectThing } from "./things.js";
 import { selectedThing, thingAt, thingBeside, thingsById } from "./things.js";
@@ -109,6 +109,7 @@ class Editor {
       byId("save").removeAttribute("disabled");
       byId("waiting").hidden = true;
       this.history.forget();
+      idle().then(() => prepareSave(this.root));
     } catch (error) {
       byId("waiting").textContent = error instanceof ServerRefused ? error.sentence : String(error);
       byId("waiting").hidden = false;

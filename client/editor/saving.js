@@ -224,7 +224,7 @@ export class Saving {
 }
 
 /** @returns {Promise<void>} when the browser has drawn what is to be shown, and nothing is typed */
-function idle() {
+export function idle() {
   return new Promise((done) => {
     if ("requestIdleCallback" in window) requestIdleCallback(() => done(), { timeout: 500 });
     else setTimeout(done, 50);

@@ -6,7 +6,7 @@ import assert from "node:assert/strict";
 import { createRequire } from "node:module";
 import { readFileSync } from "node:fs";
 import { HtmlRefused, Offsets, describe, hrefOf, isChanged, open } from "../bughtiso.js";
-import { rangeOf, renew, save } from "../bughtiso.js";
+import { prepareSave, rangeOf, renew, save } from "../bughtiso.js";
 import { read } from "../lib/markup.js";
 import { SmallDocument } from "./small_dom.js";
 import { Wiki, examplePages, findProgram, outsideDocuments } from "./pages.js";
@@ -416,6 +416,19 @@ function assertRenewed(root, html) {
   assert.equal(save(root, { marks: true }), html);
   assert.equal(isChanged(root), false);
 }
+
+test("what is read ahead of a save doesn't change what is saved", () => {
+  const html = page('<p id="mw1">a <b id="mw2">b</b></p><p id="mw3">c</p>');
+  const saved = [true, false].map((isAhead) => {
+    const root = opened(html);
+    if (isAhead) prepareSave(root);
+    const [text] = root.querySelector('[id="mw2"]').childNodes;
+    text.data = "d";
+    return save(root, { marks: true });
+  });
+  assert.equal(saved[0], saved[1]);
+  assert.match(saved[0], /<p[^>]*data-wt-edit="content"[^>]*>a <b id="mw2">d<\/b><\/p>/);
+});
 
 test("a page is renewed where it stands", () => {
   const was = page(`${TEXT}\n<ul id="mw4"><li id="mw5">a</li><li id="mw6">b</li></ul>\n<p id="mw7">last</p>`);

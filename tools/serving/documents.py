@@ -9,6 +9,7 @@ from .refusals import Refusal
 
 # In what wtround writes data-parsoid is the last attribute, and no text or value has a bare `<` or `>`.
 DATA_PARSOID = re.compile(rb" data-parsoid='([^'<>]*)'(?=/?>)")
+WITHOUT_SOURCE = re.compile(rb""" data-parsoid='(?![^'<>]*"src":)[^'<>]*'(?=/?>)""")
 ANY_DATA_PARSOID = re.compile(rb"""\sdata-parsoid\s*=\s*("[^"]*"|'[^']*'|[^\s"'>]*)""", re.IGNORECASE)
 SOURCE = re.compile(rb'(?:"|&quot;|&#34;)src(?:"|&quot;|&#34;):')
 RANGES = re.compile(rb'"dsr":\[([0-9]+),([0-9]+),([0-9]+),([0-9]+)\]')
@@ -28,7 +29,7 @@ def without_data_parsoid(document: bytes) -> bytes:
 
 def with_sources_alone(document: bytes) -> bytes:
     """With data-parsoid where it tells a source, as of a template, and nowhere else."""
-    return DATA_PARSOID.sub(lambda found: found[0] if b'"src":' in found[1] else b"", document)
+    return WITHOUT_SOURCE.sub(b"", document)
 
 
 def in_form_of(edited: bytes, original: bytes, page: bytes, unit: str) -> bytes:

@@ -251,7 +251,7 @@ class Site:
             self._check_tag(request, state.tag)
             if early is None:
                 check_length(document)
-            if not MARK.search(document):
+            if not bears_mark(document):
                 check_kept(document, state.document)
             if early is not None:
                 new = early.result()
@@ -262,7 +262,7 @@ class Site:
 
     def _command_as_it_is(self, document: bytes, fields: Dict[str, object]) -> Optional[Callable]:
         """The command that takes an edit as it is, if one does."""
-        if MARK.search(document):
+        if bears_mark(document):
             return self.program.edit
         is_mended = bodies.flag(fields.get("mended")) and self.program.takes_unmarked
         return self.program.selser if is_mended else None
@@ -481,6 +481,11 @@ def check_accepted(field: str) -> None:
     if not takes_any and HTML_VERSION.split(".")[0] not in wanted:
         sentence = f"The HTML is of version {HTML_VERSION}: ask for that, or for none."
         raise Refusal(406, "NotAcceptable", sentence)
+
+
+def bears_mark(document: bytes) -> bool:
+    """Whether an element has the attribute of a mark. Where its name stands nowhere no tag is looked at."""
+    return b"data-wt-edit" in document and MARK.search(document) is not None
 
 
 def check_kept(document: bytes, original: bytes) -> None:

@@ -1,5 +1,5 @@
 -- `expand`: from what the expansion of a page answers to the answer of the program.
-use Rattle.std.proofs.Common.{◌≡◌, ℕ, List, IsUtf8, sym, ap, ◌∙◌, subst}
+use Rattle.std.proofs.Common.{◌≡◌, ℕ, List, IsUtf8, refl, sym, ap, ◌∙◌, subst}
 use Rattle.std.specs.Prelude.{Option, Some, None, option_map, Result, Ok, Err}
 use Rattle.std.specs.Io.KnownBytes.{Appends}
 use Rattle.wt_devices.specs.Device.{Pages}

@@ -1,6 +1,7 @@
 -- `selser`: from a new page that is read back to what is found.
-use Rattle.std.proofs.Common.{◌≡◌, ℕ, List, Bool, true, false, refl, sym, ap, ◌∙◌, subst, inl, inr}
-use Rattle.std.specs.Prelude.{◌≢◌, Option, Some, None, IfErr, IfOk, Result, Ok, Err}
+use Rattle.std.proofs.Common.{◌≡◌, ◌≤◌, ◌<◌, ℕ, List, length, Bool, true, false, refl, sym, ap, ◌∙◌, subst, inl, inr}
+use Rattle.std.specs.Prelude.{◌≢◌, ◌⊎◌, IsUtf8, Option, Some, None, IfErr, IfOk, Result, Ok, Err}
+use Rattle.std.proofs.str.Laws.{order}
 use Rattle.wt_expand.specs.Work.{Pages}
 use Rattle.wt_expansion.specs.Known.{HoldsPages}
 use Rattle.wt_template_stack.specs.declared.expansion.Expansion.{Expansion}
@@ -20,6 +21,7 @@ use Rattle.wt_transclusion.specs.declared.refusal.ExpandRefusal.{ExpandRefusal}
 use Rattle.wt_transclusion.specs.declared.refusal.ExpandRefusal.TheVariants as of_expansion
 use Rattle.wt_tree.specs.Tree.{Tree}
 use Rattle.wt_tree.specs.View.{view}
+use Rattle.wt_utf8.proofs.PlaceLaws.{no_place}
 use Rattle.wt_edit.specs.declared.known.KnownPage.{KnownPage}
 use Rattle.wt_pagetool.specs.declared.output.Output.{Output}
 use Rattle.wt_pagetool.specs.declared.output.Output.TheVariants as output
@@ -33,14 +35,14 @@ use Rattle.wt_pagetool.specs.declared.refusal.Refusal.{Refusal}
 use Rattle.wt_pagetool.specs.declared.refusal.Refusal.TheVariants.{FolderFault, NewExpansion, NoMemory, Unspelled}
 use Rattle.wt_pagetool.specs.declared.status.Status.{Status}
 use Rattle.wt_pagetool.specs.declared.status.Status.TheVariants as status
-use Rattle.wt_pagetool.specs.Answers.{Answer, done, refused, edit_by, new_answer, new_expanded, refusal_of_page, title_answer, unspelled_answer, IsNoText, IsText}
+use Rattle.wt_pagetool.specs.Answers.{Answer, done, refused, edit_by, new_answer, new_expanded, refusal_of_page, title_answer, unspelled_answer, IsText}
 use Rattle.wt_pagetool.specs.Causes.{Refuses, IsEditStatus, IsFolderStatus, IsOfEdit, IsOfFolder, refusal_of_new}
 use Rattle.wt_pagetool.specs.Refusals.{refusal_of_edit, status_of}
-use Rattle.wt_pagetool.specs.Selser.{late_refusal, FailsAs, FindsNew, FindsNone, FirstFails, IsNewPage, IsNoNewPage, IsOfNewPage, PageMustDo, ReadsBack}
+use Rattle.wt_pagetool.specs.Selser.{late_refusal, FailsAs, FindsNew, FindsNone, FirstFails, IsFirst, IsNewPage, IsNoNewPage, IsOfNewPage, PageMustDo, ReadsBack}
 use Rattle.wt_pagetool.specs.Statuses.{IsAnswer}
-use Rattle.wt_pagetool.specs.Tried.{device_fault, last_refusal, refusal_of_fault, ComparedAs, HoldsRead, HoldsTried, IsFaultOf, KnowsOf, MarkedAs, ReadAs, TriedFirst, TriedMarks, TriedPage, TriedProposal}
+use Rattle.wt_pagetool.specs.Tried.{device_fault, last_refusal, refusal_of_fault, ComparedAs, FirstFailed, HoldsRead, HoldsTried, IsFaultOf, KnowsOf, MarkedAs, ReadAs, TriedFirst, TriedMarks, TriedPage, TriedProposal}
 use Rattle.wt_pagetool.proofs.EditLaws.{meant, new_done, new_refused, unspelled_done}
-use Rattle.wt_pagetool.proofs.PageLaws.{title_made}
+use Rattle.wt_pagetool.proofs.PageLaws.{page_text, title_made}
 
 -- ---- a new page that is read back
 
@@ -89,9 +91,18 @@ untexted_back pages t u new text r same refuses h =
     let made : List ℕ → Answer = new_expanded pages t u in
     let e : refused r ≡ done new = sym (refuses made) ∙ ap (λ bs. title_answer (Some bs) made) same ∙ h in cc
 
-pub untexted : (new text : List ℕ) (r : Refusal) → text ≡ new → ((made : List ℕ → Answer) → title_answer (Some text) made ≡ refused r)
-    → IsNoText (Some new)
-untexted new text r same refuses = (r, λ made. ap (λ bs. title_answer (Some bs) made) (sym same) ∙ refuses made)
+-- text that no page may be is too long
+long_by : (text : List ℕ) (r : Refusal) → IsUtf8 text → ((made : List ℕ → Answer) → title_answer (Some text) made ≡ refused r)
+    → (2097152 < length text) ⊎ (length text ≤ 2097152) → 2097152 < length text
+long_by text r whole refuses (inr le) =
+    let any : List ℕ → Answer = λ bs. done bs in
+    let e : refused r ≡ done text = sym (refuses any) ∙ page_text text le (no_place text whole) any in absurd (cc)
+long_by text r whole refuses (inl lt) = lt
+
+pub long_new : (new text : List ℕ) (r : Refusal) → text ≡ new → IsUtf8 text → ((made : List ℕ → Answer) → title_answer (Some text) made ≡ refused r)
+    → 2097152 < length new
+long_new new text r same whole refuses =
+    subst (λ bs. 2097152 < length bs) same (long_by text r whole refuses (order 2097152 (length text)))
 
 -- ---- an expansion that is refused
 
@@ -204,7 +215,7 @@ proposal_tried pages page t u new (Ok (tried.Stands given)) w h = (
   },
   subst (ReadsBack pages t u) (sym h.0) h.1,
 )
-proposal_tried pages page t u new (Ok (tried.Fails why x)) w h = (h.0, record { first = Some new; made = inr w; fails = h.1 })
+proposal_tried pages page t u new (Ok (tried.Fails why x)) w h = (h.0, record { first = Some new; made = w; fails = h.1 })
 proposal_tried pages page t u new (Err e) w h = tt
 
 -- ---- the first new page
@@ -212,19 +223,22 @@ proposal_tried pages page t u new (Err e) w h = tt
 pub not_same : (pages : Pages) (page : List ℕ) (t u : Tree) (same : Bool) → same ≡ false → ¬ PageMustDo pages page t u same
 not_same pages page t u same none m = let e : false ≡ true = sym none ∙ m.0 in cc
 
-pub first_same : (pages : Pages) (items : Expanded) (page : List ℕ) (t u : Tree) (same : Bool) (new : List ℕ) (r : Result Tried Refusal) → new ≡ page
-    → IfOk r (TriedPage pages t u new) → IfOk r (TriedFirst pages items page t u same)
-first_same pages items page t u same new (Ok (tried.Stands given)) is h = record {
-  made = inr (inl (h.0 ∙ is));
+pub first_same : (pages : Pages) (items : Expanded) (page : List ℕ) (t u : Tree) (same : Bool) (new : List ℕ) (r : Result Tried Refusal) → same ≡ true
+    → new ≡ page → IfOk r (TriedPage pages t u new) → IfOk r (TriedFirst pages items page t u same)
+first_same pages items page t u same new (Ok (tried.Stands given)) all is h = record {
+  made = inr (inl (all, h.0 ∙ is));
   back = subst (ReadsBack pages t u) (sym h.0) h.1;
   itself = λ m. h.0 ∙ is;
 }
-first_same pages items page t u same new (Ok (tried.Fails why x)) is h = (
-  λ m. h.0 (subst (ReadsBack pages t u) (sym is) m.1),
-  h.1,
-  record { first = Some new; made = inl is; fails = fails_as pages t u new why h.2 },
-)
-first_same pages items page t u same new (Err e) is h = tt
+first_same pages items page t u same new (Ok (tried.Fails why x)) all is h =
+    let made : IsFirst page t u same (Some new) = subst (λ b. IsFirst page t u b (Some new)) (sym all) is in (
+      h.1,
+      (
+        λ m. h.0 (subst (ReadsBack pages t u) (sym is) m.1),
+        record { first = Some new; made = made; fails = fails_as pages t u new why h.2 },
+      ),
+    )
+first_same pages items page t u same new (Err e) all is h = tt
 
 pub first_proposed : (pages : Pages) (items : Expanded) (page : List ℕ) (t u : Tree) (same : Bool) (r : Result Tried Refusal) → same ≡ false
     → IfOk r (TriedProposal pages page t u) → IfOk r (TriedFirst pages items page t u same)
@@ -233,7 +247,8 @@ first_proposed pages items page t u same (Ok (tried.Stands new)) none h = record
   back = h.1;
   itself = λ m. absurd (not_same pages page t u same none m);
 }
-first_proposed pages items page t u same (Ok (tried.Fails why x)) none h = (not_same pages page t u same none, h.0, h.1)
+first_proposed pages items page t u same (Ok (tried.Fails why x)) none h =
+    (h.0, (not_same pages page t u same none, subst (λ b. FirstFails pages page t u b (refusal_of_fault why)) (sym none) h.1))
 first_proposed pages items page t u same (Err e) none h = tt
 
 -- ---- what is found
@@ -251,18 +266,19 @@ finds_fault pages items page t u same before after r status.FolderFault h = tt
 finds_fault pages items page t u same before after r status.WriteFault h = tt
 finds_fault pages items page t u same before after r status.NoMemory h = tt
 
-pub finds_none : (pages : Pages) (items : Expanded) (page : List ℕ) (t u : Tree) (r : Refusal) (f : Fault) → r ≡ refusal_of_fault f
+pub finds_none : (pages : Pages) (items : Expanded) (page : List ℕ) (t u : Tree) (same : Bool) (r : Refusal) (f : Fault) → r ≡ refusal_of_fault f
     → ((new : List ℕ) → edit_by pages t u (edit_answer same_node items page t u) ≢ done new)
-    → FirstFails pages page t u (refusal_of_fault f) → late_refusal (edit_answer same_node items page t u) (refusal_of_fault f) ≡ refusal_of_fault f
-    → FindsNone pages items page t u false r (status_of r)
-finds_none pages items page t u r f is unedited first late =
-    subst (λ (x : Refusal). FindsNone pages items page t u false x (status_of x)) (sym is) (by f (record {
+    → FirstFailed pages page t u same (refusal_of_fault f)
+    → late_refusal (edit_answer same_node items page t u) (refusal_of_fault f) ≡ refusal_of_fault f
+    → FindsNone pages items page t u same r (status_of r)
+finds_none pages items page t u same r f is unedited first late =
+    subst (λ (x : Refusal). FindsNone pages items page t u same x (status_of x)) (sym is) (by f (record {
       late = of_new f;
       fault = refusal_of_fault f;
-      first = first;
+      first = first.1;
       is = sym late;
       unedited = unedited;
-      itself = not_same pages page t u false refl;
+      itself = first.0;
     }))
   where
     of_new : (f : Fault) → IsOfNewPage (refusal_of_fault f)
@@ -270,8 +286,8 @@ finds_none pages items page t u r f is unedited first late =
     of_new fault.Expansion = tt
     of_new (fault.Block k) = tt
 
-    by : (f : Fault) → IsNoNewPage pages items page t u false (refusal_of_fault f)
-        → FindsNone pages items page t u false (refusal_of_fault f) (status_of (refusal_of_fault f))
+    by : (f : Fault) → IsNoNewPage pages items page t u same (refusal_of_fault f)
+        → FindsNone pages items page t u same (refusal_of_fault f) (status_of (refusal_of_fault f))
     by fault.TooLong h = h
     by fault.Expansion h = h
     by (fault.Block k) h = h
@@ -296,62 +312,63 @@ edit_refuses : (pages : Pages) (t u : Tree) (answer : Result (List ℕ) EditRefu
 edit_refuses pages t u answer e given is d =
     let x : refused (refusal_of_edit e) ≡ done given = sym (ap (edit_by pages t u) is) ∙ d in cc
 
-pub finds_refused : (pages : Pages) (items : Expanded) (page : List ℕ) (t u : Tree) (r : Refusal) (e : EditRefusal) (f : Fault) → r ≡ last_refusal e f
-    → AnswersEdit (edit_answer same_node items page t u) (Err e) → FirstFails pages page t u (refusal_of_fault f)
-    → FindsNone pages items page t u false r (status_of r)
-finds_refused pages items page t u r (of_edit.Check c) f is h first = finds_none pages items page t u r f is
+pub finds_refused : (pages : Pages) (items : Expanded) (page : List ℕ) (t u : Tree) (same : Bool) (r : Refusal) (e : EditRefusal) (f : Fault)
+    → r ≡ last_refusal e f → AnswersEdit (edit_answer same_node items page t u) (Err e) → FirstFailed pages page t u same (refusal_of_fault f)
+    → FindsNone pages items page t u same r (status_of r)
+finds_refused pages items page t u same r (of_edit.Check c) f is h first = finds_none pages items page t u same r f is
     (λ given. edit_refuses pages t u (edit_answer same_node items page t u) (of_edit.Check c) given h) first
     (ap (λ a. late_refusal a (refusal_of_fault f)) h)
-finds_refused pages items page t u r (of_edit.BadContent n why) f is h first =
-    subst (λ (x : Refusal). FindsNone pages items page t u false x (status_of x)) (sym is) (record {
+finds_refused pages items page t u same r (of_edit.BadContent n why) f is h first =
+    subst (λ (x : Refusal). FindsNone pages items page t u same x (status_of x)) (sym is) (record {
       late = tt;
       fault = refusal_of_fault f;
-      first = first;
+      first = first.1;
       is = sym (ap (λ a. late_refusal a (refusal_of_fault f)) h);
       unedited = λ given. edit_refuses pages t u (edit_answer same_node items page t u) (of_edit.BadContent n why) given h;
-      itself = not_same pages page t u false refl;
+      itself = first.0;
     })
-finds_refused pages items page t u r (of_edit.Tangled n) f is h first = finds_none pages items page t u r f is
+finds_refused pages items page t u same r (of_edit.Tangled n) f is h first = finds_none pages items page t u same r f is
     (λ given. edit_refuses pages t u (edit_answer same_node items page t u) (of_edit.Tangled n) given h) first
     (ap (λ a. late_refusal a (refusal_of_fault f)) h)
-finds_refused pages items page t u r of_edit.NewPageTooLong f is h first =
-    subst (λ (x : Refusal). FindsNone pages items page t u false x (status_of x)) (sym is) (record {
+finds_refused pages items page t u same r of_edit.NewPageTooLong f is h first =
+    subst (λ (x : Refusal). FindsNone pages items page t u same x (status_of x)) (sym is) (record {
       late = tt;
       fault = refusal_of_fault f;
-      first = first;
+      first = first.1;
       is = sym (ap (λ a. late_refusal a (refusal_of_fault f)) h);
       unedited = λ given. edit_refuses pages t u (edit_answer same_node items page t u) of_edit.NewPageTooLong given h;
-      itself = not_same pages page t u false refl;
+      itself = first.0;
     })
-finds_refused pages items page t u r of_edit.NoMemory f is h first =
-    subst (λ (x : Refusal). FindsNone pages items page t u false x (status_of x)) (sym is) tt
+finds_refused pages items page t u same r of_edit.NoMemory f is h first =
+    subst (λ (x : Refusal). FindsNone pages items page t u same x (status_of x)) (sym is) tt
 
 -- what `edit` makes, as it is read back
-pub edit_stands : (pages : Pages) (items : Expanded) (page : List ℕ) (t u : Tree) (new given : List ℕ) (r : Tried) → r ≡ tried.Stands given
-    → edit_answer same_node items page t u ≡ Ok new → TriedPage pages t u new r → IsNewPage pages items page t u false given
-edit_stands pages items page t u new given r is answer h =
+pub edit_stands : (pages : Pages) (items : Expanded) (page : List ℕ) (t u : Tree) (same : Bool) (new given : List ℕ) (r : Tried) → r ≡ tried.Stands given
+    → edit_answer same_node items page t u ≡ Ok new → TriedPage pages t u new r → ¬ PageMustDo pages page t u same
+    → IsNewPage pages items page t u same given
+edit_stands pages items page t u same new given r is answer h n =
     let s : TriedPage pages t u new (tried.Stands given) = subst (TriedPage pages t u new) is h in
     record {
       made = inr (inr (answer ∙ ap Ok (sym s.0)));
       back = subst (ReadsBack pages t u) (sym s.0) s.1;
-      itself = λ m. absurd (not_same pages page t u false refl m);
+      itself = λ m. absurd (n m);
     }
 
-pub edit_fails : (pages : Pages) (items : Expanded) (page : List ℕ) (t u : Tree) (new : List ℕ) (r : Tried) (why first : Fault) (x : Expansion)
+pub edit_fails : (pages : Pages) (items : Expanded) (page : List ℕ) (t u : Tree) (same : Bool) (new : List ℕ) (r : Tried) (why first : Fault) (x : Expansion)
     (refusal : Refusal) → r ≡ tried.Fails why x → refusal ≡ refusal_of_fault first → edit_answer same_node items page t u ≡ Ok new
-    → TriedPage pages t u new r → FirstFails pages page t u (refusal_of_fault first)
-    → FindsNone pages items page t u false refusal (status_of refusal)
-edit_fails pages items page t u new r why first x refusal is same answer h failed =
+    → TriedPage pages t u new r → FirstFailed pages page t u same (refusal_of_fault first)
+    → FindsNone pages items page t u same refusal (status_of refusal)
+edit_fails pages items page t u same new r why first x refusal is is_fault answer h failed =
     let s : TriedPage pages t u new (tried.Fails why x) = subst (TriedPage pages t u new) is h in
-    finds_none pages items page t u refusal first same (edit_unread pages items page t u new answer s.0) failed
+    finds_none pages items page t u same refusal first is_fault (edit_unread pages items page t u new answer s.0) failed
     (ap (λ a. late_refusal a (refusal_of_fault first)) answer)
 
 -- a proposal, as it is read back
-pub proposal_stands : (pages : Pages) (items : Expanded) (page : List ℕ) (t u : Tree) (given : List ℕ) (r : Tried) → r ≡ tried.Stands given
-    → TriedProposal pages page t u r → IsNewPage pages items page t u false given
-proposal_stands pages items page t u given r is h =
+pub proposal_stands : (pages : Pages) (items : Expanded) (page : List ℕ) (t u : Tree) (same : Bool) (given : List ℕ) (r : Tried) → r ≡ tried.Stands given
+    → TriedProposal pages page t u r → ¬ PageMustDo pages page t u same → IsNewPage pages items page t u same given
+proposal_stands pages items page t u same given r is h n =
     let s : TriedProposal pages page t u (tried.Stands given) = subst (TriedProposal pages page t u) is h in
-    record { made = inl s.0; back = s.1; itself = λ m. absurd (not_same pages page t u false refl m) }
+    record { made = inl s.0; back = s.1; itself = λ m. absurd (n m) }
 
 -- what is known after a proposal that isn't the answer is of this folder
 pub failed_knows : (pages : Pages) (page : List ℕ) (t u : Tree) (r : Tried) (why : Fault) (x : Expansion) → r ≡ tried.Fails why x
@@ -385,20 +402,3 @@ refusal_of_edit_last A B (of_edit.BadContent n why) f r is = subst (IsOfEdit A B
 refusal_of_edit_last A B (of_edit.Tangled n) f r is = refusal_of_edit_fault A B f r is
 refusal_of_edit_last A B of_edit.NewPageTooLong f r is = subst (IsOfEdit A B) (sym is) tt
 refusal_of_edit_last A B of_edit.NoMemory f r is = subst (IsOfEdit A B) (sym is) tt
-
--- where the page itself needn't do, it makes no difference whether it is the same
-pub finds_same : (pages : Pages) (items : Expanded) (page : List ℕ) (t u : Tree) (same : Bool) (result : Result Output Refusal)
-    → ¬ PageMustDo pages page t u same → FindsNew pages items page t u false result → FindsNew pages items page t u same result
-finds_same pages items page t u same (Ok output) n h = record { made = h.made; back = h.back; itself = λ m. absurd (n m) }
-finds_same pages items page t u same (Err r) n h = by (status_of r) h
-  where
-    by : (s : Status) → FindsNone pages items page t u false r s → FindsNone pages items page t u same r s
-    by status.Done h = h
-    by status.Usage h = h
-    by status.PageRefused h = h
-    by status.HtmlRefused h = h
-    by status.EditRefused h = record { late = h.late; fault = h.fault; first = h.first; is = h.is; unedited = h.unedited; itself = n }
-    by status.ReadFault h = h
-    by status.FolderFault h = h
-    by status.WriteFault h = h
-    by status.NoMemory h = h

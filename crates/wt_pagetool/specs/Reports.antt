@@ -13,6 +13,7 @@ use Rattle.wt_schema.specs.Read.{page as as_page, read}
 use Rattle.wt_markup.specs.Html.{html_text}
 use Rattle.wt_page_round_trip.specs.PageTree.{page_tree}
 use Rattle.wt_checks.specs.Checked.{nodes_checked}
+use Rattle.wt_difference.specs.Difference.{are_none, difference}
 use Rattle.wt_selser.specs.BodySlices.{slices}
 use Rattle.wt_visible.specs.Restored.{restored_from}
 use Rattle.wt_visible.specs.SameNodes.{same_node}
@@ -162,7 +163,8 @@ pub record WroteSelser (pages : Pages) (title input : List ℕ) (left old new : 
   pub ended : IsAtEnd left
   pub expanded : refusal_of_page pages page ≡ None
   pub allowed : nodes_checked (page_tree pages page) (remarked_of pages page edited) ≡ None
-  pub made : IsMade pages (expanded_page pages page) page (page_tree pages page) (remarked_of pages page edited) changed
+  pub made : IsMade pages (expanded_page pages page) page (page_tree pages page) (remarked_of pages page edited)
+      (are_none (difference (page_tree pages page) edited)) changed
   pub wrote : Appends old new changed
   pub answered : IsUnrefused pages changed
   pub shows : plain (page_tree pages changed) ≡ plain (restored_from (page_tree pages page) edited)

@@ -1,5 +1,5 @@
 -- What `selser` finds for an edited tree: a new page that was read back, or why there is none.
-use Rattle.std.specs.Prelude.{◌≡◌, ◌≢◌, ◌≤◌, ◌⊎◌, ⊤, ℕ, length, Bool, true, List, [], Option, Some, None, Result, Ok, Err}
+use Rattle.std.specs.Prelude.{◌≡◌, ◌≢◌, ◌≤◌, ◌<◌, ◌⊎◌, ⊤, ℕ, length, Bool, true, false, List, [], Option, Some, None, Result, Ok, Err}
 use Rattle.wt_expand.specs.PageCalls.{expanded_page}
 use Rattle.wt_expand.specs.Work.{Pages}
 use Rattle.wt_schema.specs.Read.{Read, page as as_page, ill, misfit, read}
@@ -14,7 +14,7 @@ use Rattle.wt_visible.specs.KeptMarks.{KeepsMarks}
 use Rattle.wt_visible.specs.Restored.{restored_from}
 use Rattle.wt_visible.specs.SameNodes.{same_node}
 use Rattle.wt_span.specs.Origins.{Expanded}
-use Rattle.wt_span.specs.declared.limits.TheConstants.{HTML_BYTES}
+use Rattle.wt_span.specs.declared.limits.TheConstants.{HTML_BYTES, PAGE_BYTES}
 use Rattle.wt_tree.specs.Plain.{plain}
 use Rattle.wt_tree.specs.Tree.{Tree}
 use Rattle.wt_pagetool.specs.declared.output.Output.{Output}
@@ -22,7 +22,7 @@ use Rattle.wt_pagetool.specs.declared.refusal.Refusal.{Refusal}
 use Rattle.wt_pagetool.specs.declared.refusal.Refusal.TheVariants as refusal
 use Rattle.wt_pagetool.specs.declared.status.Status.{Status}
 use Rattle.wt_pagetool.specs.declared.status.Status.TheVariants as status
-use Rattle.wt_pagetool.specs.Answers.{Answer, done, refused, edit_by, edit_to, new_answer, remarked_of, taken_of, IsNoText, IsText, IsUnrefused}
+use Rattle.wt_pagetool.specs.Answers.{Answer, done, refused, edit_by, edit_to, new_answer, remarked_of, taken_of, IsText, IsUnrefused}
 use Rattle.wt_pagetool.specs.Causes.{Answered}
 use Rattle.wt_pagetool.specs.Devices.{SinkUse, Took}
 use Rattle.wt_pagetool.specs.Outputs.{output_bytes}
@@ -37,9 +37,11 @@ pub record IsProposed (pages : Pages) (page : List ℕ) (t u : Tree) (new : List
   pub rewritten : IsRewritten page t u new
   pub keeps : KeepsMarks (page_tree pages new) t u
 
--- A new page is one that was proposed, the page as it is, or what `edit` makes of the marks of the difference.
-abbrev pub IsMade : Pages → Expanded → List ℕ → Tree → Tree → List ℕ → Type 0
-IsMade pages items page t u new = IsProposed pages page t u new ⊎ ((new ≡ page) ⊎ (edit_answer same_node items page t u ≡ Ok new))
+-- A new page is one that was proposed; where nothing differs, which `same` tells, the page as it is; or what `edit` makes of the marks of
+-- the difference.
+abbrev pub IsMade : Pages → Expanded → List ℕ → Tree → Tree → Bool → List ℕ → Type 0
+IsMade pages items page t u same new =
+    IsProposed pages page t u new ⊎ (((same ≡ true) × (new ≡ page)) ⊎ (edit_answer same_node items page t u ≡ Ok new))
 
 -- It is read back: nothing refuses it or its expansion, and it shows what the edited tree shows.
 abbrev pub ReadsBack : Pages → Tree → Tree → List ℕ → Type 0
@@ -79,27 +81,29 @@ PageMustDo pages page t u same = (same ≡ true) × ReadsBack pages t u page
 
 -- A new page: it is made by the page's edit, and it reads back.
 pub record IsNewPage (pages : Pages) (items : Expanded) (page : List ℕ) (t u : Tree) (same : Bool) (new : List ℕ) : Type 0 where
-  pub made : IsMade pages items page t u new
+  pub made : IsMade pages items page t u same new
   pub back : ReadsBack pages t u new
   pub itself : PageMustDo pages page t u same → new ≡ page
 
--- Why a new page isn't the answer: it is none that a page may be; or reading it back refuses it so; or it shows the same, and has lost a
+-- Why a new page isn't the answer: it is longer than a page may be; or reading it back refuses it so; or it shows the same, and has lost a
 -- comment or an include tag. Where none was found to try, that is told as the last.
 abbrev pub FailsAs : Pages → Tree → Tree → Option (List ℕ) → Refusal → Type 0
 FailsAs pages t u None r = r ≡ refusal.Unspelled 0
-FailsAs pages t u (Some new) r = (IsNoText (Some new) × (r ≡ refusal.NewPageTooLong))
+FailsAs pages t u (Some new) r = ((PAGE_BYTES < length new) × (r ≡ refusal.NewPageTooLong))
     ⊎ ((new_answer pages t u new ≡ refused r) ⊎ ((¬ KeepsMarks (page_tree pages new) t u) × (r ≡ refusal.Unspelled 0)))
 
--- the first new page that is tried: the page as it is; or the page with places of the difference, and nothing else, written anew; or
--- none was found
-abbrev pub IsFirst : List ℕ → Tree → Tree → Option (List ℕ) → Type 0
-IsFirst page t u None = ⊤
-IsFirst page t u (Some new) = (new ≡ page) ⊎ IsRewritten page t u new
+-- the first new page that is tried: where nothing differs the page as it is; else the page with places of the difference, and nothing
+-- else, written anew, or none where none was found
+abbrev pub IsFirst : List ℕ → Tree → Tree → Bool → Option (List ℕ) → Type 0
+IsFirst page t u true None = ⊥
+IsFirst page t u true (Some new) = new ≡ page
+IsFirst page t u false None = ⊤
+IsFirst page t u false (Some new) = IsRewritten page t u new
 
 -- it isn't the answer, for this reason
-pub record FirstFails (pages : Pages) (page : List ℕ) (t u : Tree) (r : Refusal) : Type 0 where
+pub record FirstFails (pages : Pages) (page : List ℕ) (t u : Tree) (same : Bool) (r : Refusal) : Type 0 where
   pub first : Option (List ℕ)
-  pub made : IsFirst page t u first
+  pub made : IsFirst page t u same first
   pub fails : FailsAs pages t u first r
 
 -- The refusal, by what `edit` answers to the marks of the difference and why the first new page isn't the answer: what of its content can't
@@ -117,7 +121,7 @@ late_refusal (Err of_edit.NoMemory) first = refusal.NoMemory
 pub record IsNoNewPage (pages : Pages) (items : Expanded) (page : List ℕ) (t u : Tree) (same : Bool) (r : Refusal) : Type 0 where
   pub late : IsOfNewPage r
   pub fault : Refusal
-  pub first : FirstFails pages page t u fault
+  pub first : FirstFails pages page t u same fault
   pub is : r ≡ late_refusal (edit_answer same_node items page t u) fault
   pub unedited : (new : List ℕ) → edit_by pages t u (edit_answer same_node items page t u) ≢ done new
   pub itself : ¬ PageMustDo pages page t u same

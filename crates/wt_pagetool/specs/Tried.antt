@@ -1,5 +1,5 @@
 -- What reading a new page back says, and what trying a proposal does.
-use Rattle.std.specs.Prelude.{◌≡◌, ⊤, ℕ, Bool, List, Option, Some, None}
+use Rattle.std.specs.Prelude.{◌≡◌, ◌<◌, ⊤, ℕ, length, Bool, false, List, Option, Some, None}
 use Rattle.wt_checks.specs.Checked.{nodes_checked}
 use Rattle.wt_difference.specs.Difference.{are_none, difference}
 use Rattle.wt_difference.specs.Remarked.{remarked}
@@ -14,6 +14,7 @@ use Rattle.wt_visible.specs.Children.{IsFirstDiffering, shown_children}
 use Rattle.wt_visible.specs.KeptMarks.{KeepsMarks}
 use Rattle.wt_visible.specs.Restored.{restored_from}
 use Rattle.wt_span.specs.Origins.{Expanded}
+use Rattle.wt_span.specs.declared.limits.TheConstants.{PAGE_BYTES}
 use Rattle.wt_transclusion.specs.declared.refusal.ExpandRefusal.{ExpandRefusal}
 use Rattle.wt_transclusion.specs.declared.refusal.ExpandRefusal.TheVariants as of_expansion
 use Rattle.wt_tree.specs.Tree.{Tree}
@@ -28,7 +29,7 @@ use Rattle.wt_pagetool.specs.declared.proposing.Tried.TheVariants as tried
 use Rattle.wt_pagetool.specs.declared.selser_command.Beside.{Beside}
 use Rattle.wt_pagetool.specs.declared.refusal.Refusal.{Refusal}
 use Rattle.wt_pagetool.specs.declared.refusal.Refusal.TheVariants.{BadContent, NewPageTooLong, NewExpansion, Unspelled, FolderFault, NoMemory}
-use Rattle.wt_pagetool.specs.Answers.{new_answer, refused, IsNoText}
+use Rattle.wt_pagetool.specs.Answers.{new_answer, refused}
 use Rattle.wt_pagetool.specs.Selser.{FailsAs, FirstFails, IsNewPage, IsProposed, PageMustDo, ReadsBack}
 
 -- ---- an expansion
@@ -84,7 +85,7 @@ ComparedAs found t u (back.Fails why x) = (x ≡ found.expansion)
 
 -- why a new page doesn't read back
 abbrev pub IsFaultOf : Pages → Tree → Tree → List ℕ → Fault → Type 0
-IsFaultOf pages t u new fault.TooLong = IsNoText (Some new)
+IsFaultOf pages t u new fault.TooLong = PAGE_BYTES < length new
 IsFaultOf pages t u new fault.Expansion = new_answer pages t u new ≡ refused NewExpansion
 IsFaultOf pages t u new (fault.Block child) = new_answer pages t u new ≡ refused (Unspelled child)
 
@@ -119,10 +120,13 @@ TriedMarks pages t u new (tried.Fails why x) = KnowsOf pages x × FailsAs pages 
 -- a proposal
 abbrev pub TriedProposal : Pages → List ℕ → Tree → Tree → Tried → Type 0
 TriedProposal pages page t u (tried.Stands new) = IsProposed pages page t u new × ReadsBack pages t u new
-TriedProposal pages page t u (tried.Fails why x) = KnowsOf pages x × FirstFails pages page t u (refusal_of_fault why)
+TriedProposal pages page t u (tried.Fails why x) = KnowsOf pages x × FirstFails pages page t u false (refusal_of_fault why)
+
+-- the first new page isn't the answer, for this reason, and needn't be
+abbrev pub FirstFailed : Pages → List ℕ → Tree → Tree → Bool → Refusal → Type 0
+FirstFailed pages page t u same r = (¬ PageMustDo pages page t u same) × FirstFails pages page t u same r
 
 -- the first of all
 abbrev pub TriedFirst : Pages → Expanded → List ℕ → Tree → Tree → Bool → Tried → Type 0
 TriedFirst pages items page t u same (tried.Stands new) = IsNewPage pages items page t u same new
-TriedFirst pages items page t u same (tried.Fails why x) =
-    (¬ PageMustDo pages page t u same) × KnowsOf pages x × FirstFails pages page t u (refusal_of_fault why)
+TriedFirst pages items page t u same (tried.Fails why x) = KnowsOf pages x × FirstFailed pages page t u same (refusal_of_fault why)

@@ -13,6 +13,7 @@ mod page;
 mod page_command;
 mod proposing;
 mod reading_back;
+mod readings;
 mod refusal;
 mod report;
 mod selser_command;

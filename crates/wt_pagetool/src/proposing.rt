@@ -1,6 +1,6 @@
 //! The new pages that are tried for an edited tree, one after another, each by reading it back.
 
-ghost use Rattle.std.specs.Prelude.{◌≡◌, false, Some, Ok, Err, IfOk, IfErr};
+ghost use Rattle.std.specs.Prelude.{◌≡◌, ◌≤◌, ◌<◌, ◌+◌, Some, Ok, Err, IfOk, IfErr};
 ghost use Rattle.wt_checks.specs.Places.{page_of};
 ghost use Rattle.wt_checks.specs.View.{indexed};
 ghost use Rattle.wt_expand.specs.Work.{Pages};
@@ -14,13 +14,13 @@ ghost use Rattle.wt_tree.specs.declared.kind.Kind.TheVariants as kind;
 ghost use Rattle.wt_selser.specs.Edits.{edit_answer, AnswersEdit};
 ghost use Rattle.wt_visible.specs.SameNodes.{same_node};
 ghost use Rattle.wt_pagetool.specs.Causes.{IsKept, IsOfEdit, IsOfFolder};
-ghost use Rattle.wt_pagetool.specs.Selser.{FindsNew, FirstFails};
-ghost use Rattle.wt_pagetool.specs.Tried.{last_refusal, refusal_of_fault, HoldsTried, KnowsOf, MarkedAs, TriedFirst, TriedMarks, TriedPage, TriedProposal};
+ghost use Rattle.wt_pagetool.specs.Selser.{FindsNew};
+ghost use Rattle.wt_pagetool.specs.Tried.{last_refusal, refusal_of_fault, FirstFailed, HoldsTried, KnowsOf, MarkedAs, TriedFirst, TriedMarks, TriedPage, TriedProposal};
 
 use crate::output::Output;
 use crate::reading_back::{EditedPage, Fault, ReadBack, read_back};
+use crate::readings::{MOST_READINGS, Readings};
 use crate::refusal::Refusal;
-use std::alloc::Global;
 use wt_devices::Folder;
 use wt_edit::KnownPage;
 use wt_proposal::{Keeping, proposal};
@@ -67,15 +67,16 @@ fn last_refusal(refusal: EditRefusal, fault: Fault) -> Refusal
 
 /// Tries this page.
 fn tried_page<'a, F: Folder>(
-    alloc: Global,
     new: Str,
     edit: &EditedPage<'_, 'a>,
     folder: &mut F,
     expansion: Expansion<'a>,
+    readings: &mut Readings,
 ) -> Result<Tried<'a>, Refusal>
     requires body { (label (view edit.now.tree.now)).kind ≡ kind.Body }
     requires numbered { ∥ InPreorder (view edit.now.tree.now) ∥₁ }
     requires known { HoldsPages expansion }
+    requires left { readings.old < MOST_READINGS }
     ensures tried { (pages : Pages) → F.pages folder.old ≡ Some pages → KnowsOf pages expansion.entry
         → IfOk result (TriedPage pages (view edit.now.tree.now) (view edit.now.edited.now) new) }
     ensures holds { IfOk result HoldsTried }
@@ -84,8 +85,9 @@ fn tried_page<'a, F: Folder>(
     ensures of_folder { IfErr result (IsOfFolder (F.fault_count folder.old) (F.fault_count folder.new)) }
     ensures count { IsKept result (F.fault_count folder.old) (F.fault_count folder.new) }
     ensures kept { F.pages folder.new ≡ F.pages folder.old }
+    ensures counted { readings.new ≤ readings.old + 1 }
 {
-    let back = read_back(alloc, new.as_str(), edit, folder, expansion)?;
+    let back = read_back(new.as_str(), edit, folder, expansion, readings)?;
     match back {
         ReadBack::Shows(_) => Ok(Tried::Stands(new)),
         ReadBack::Fails(fault, expansion) => Ok(Tried::Fails(fault, expansion)),
@@ -94,16 +96,20 @@ fn tried_page<'a, F: Folder>(
 
 /// Asks what was found of a new page for the comments and include tags that the edited tree still has.
 fn marked<'a>(
-    alloc: Global,
     new: Str,
     found: KnownPage<'a>,
     edit: &EditedPage<'_, 'a>,
 ) -> Result<Tried<'a>, NoMemory>
-    requires body { (label (view edit.now.tree.now)).kind ≡ kind.Body }
-    requires numbered { ∥ InPreorder (view edit.now.tree.now) ∥₁ }
+    requires index { indexed edit.now.index.now ≡ page_of (view edit.now.tree.now) }
     ensures { IfOk result (MarkedAs found.entry (view edit.now.tree.now) (view edit.now.edited.now) new) }
 {
-    let keeps = keeps_marks(alloc, found.annotated.body(), edit.tree, edit.edited)?;
+    let keeps = keeps_marks(
+        edit.memory.alloc,
+        found.annotated.body(),
+        edit.tree,
+        edit.index,
+        edit.edited,
+    )?;
     if keeps {
         return Ok(Tried::Stands(new));
     }
@@ -112,15 +118,17 @@ fn marked<'a>(
 
 /// Tries this page, which has to keep the comments and include tags that the edited tree still has.
 fn tried_marks<'a, F: Folder>(
-    alloc: Global,
     new: Str,
     edit: &EditedPage<'_, 'a>,
     folder: &mut F,
     expansion: Expansion<'a>,
+    readings: &mut Readings,
 ) -> Result<Tried<'a>, Refusal>
     requires body { (label (view edit.now.tree.now)).kind ≡ kind.Body }
     requires numbered { ∥ InPreorder (view edit.now.tree.now) ∥₁ }
+    requires index { indexed edit.now.index.now ≡ page_of (view edit.now.tree.now) }
     requires known { HoldsPages expansion }
+    requires left { readings.old < MOST_READINGS }
     ensures tried { (pages : Pages) → F.pages folder.old ≡ Some pages → KnowsOf pages expansion.entry
         → IfOk result (TriedMarks pages (view edit.now.tree.now) (view edit.now.edited.now) new) }
     ensures holds { IfOk result HoldsTried }
@@ -129,11 +137,12 @@ fn tried_marks<'a, F: Folder>(
     ensures of_folder { IfErr result (IsOfFolder (F.fault_count folder.old) (F.fault_count folder.new)) }
     ensures count { IsKept result (F.fault_count folder.old) (F.fault_count folder.new) }
     ensures kept { F.pages folder.new ≡ F.pages folder.old }
+    ensures counted { readings.new ≤ readings.old + 1 }
 {
-    let back = read_back(alloc, new.as_str(), edit, folder, expansion)?;
+    let back = read_back(new.as_str(), edit, folder, expansion, readings)?;
     match back {
         ReadBack::Shows(found) => {
-            let tried = marked(alloc, new, found, edit)?;
+            let tried = marked(new, found, edit)?;
             Ok(tried)
         }
         ReadBack::Fails(fault, expansion) => Ok(Tried::Fails(fault, expansion)),
@@ -142,16 +151,17 @@ fn tried_marks<'a, F: Folder>(
 
 /// Tries what is proposed, where texts keep their bytes as this says.
 fn tried_proposal<'a, F: Folder>(
-    alloc: Global,
     keeping: Keeping,
     edit: &EditedPage<'_, 'a>,
     folder: &mut F,
     expansion: Expansion<'a>,
+    readings: &mut Readings,
 ) -> Result<Tried<'a>, Refusal>
     requires body { (label (view edit.now.tree.now)).kind ≡ kind.Body }
     requires numbered { ∥ InPreorder (view edit.now.tree.now) ∥₁ }
     requires index { indexed edit.now.index.now ≡ page_of (view edit.now.tree.now) }
     requires known { HoldsPages expansion }
+    requires left { readings.old < MOST_READINGS }
     ensures tried { (pages : Pages) → F.pages folder.old ≡ Some pages → KnowsOf pages expansion.entry
         → IfOk result (TriedProposal pages edit.now.page.now (view edit.now.tree.now) (view edit.now.edited.now)) }
     ensures holds { IfOk result HoldsTried }
@@ -160,9 +170,10 @@ fn tried_proposal<'a, F: Folder>(
     ensures of_folder { IfErr result (IsOfFolder (F.fault_count folder.old) (F.fault_count folder.new)) }
     ensures count { IsKept result (F.fault_count folder.old) (F.fault_count folder.new) }
     ensures kept { F.pages folder.new ≡ F.pages folder.old }
+    ensures counted { readings.new ≤ readings.old + 1 }
 {
     let proposed = proposal(
-        alloc,
+        edit.memory.alloc,
         edit.page,
         edit.index,
         edit.tree,
@@ -170,22 +181,23 @@ fn tried_proposal<'a, F: Folder>(
         keeping,
     )?;
     match proposed {
-        Some(new) => tried_marks(alloc, new, edit, folder, expansion),
+        Some(new) => tried_marks(new, edit, folder, expansion, readings),
         None => Ok(Tried::Fails(Fault::Block(0), expansion)),
     }
 }
 
 /// Tries the first new page: the page itself, where nothing differs, or what is proposed.
 fn tried_first<'a, F: Folder>(
-    alloc: Global,
     edit: &EditedPage<'_, 'a>,
     folder: &mut F,
     expansion: Expansion<'a>,
+    readings: &mut Readings,
 ) -> Result<Tried<'a>, Refusal>
     requires body { (label (view edit.now.tree.now)).kind ≡ kind.Body }
     requires numbered { ∥ InPreorder (view edit.now.tree.now) ∥₁ }
     requires index { indexed edit.now.index.now ≡ page_of (view edit.now.tree.now) }
     requires known { HoldsPages expansion }
+    requires left { readings.old < MOST_READINGS }
     ensures tried { (pages : Pages) → F.pages folder.old ≡ Some pages → KnowsOf pages expansion.entry
         → IfOk result (TriedFirst pages edit.now.items.now edit.now.page.now (view edit.now.tree.now) (view edit.now.edited.now) edit.now.same) }
     ensures holds { IfOk result HoldsTried }
@@ -194,41 +206,44 @@ fn tried_first<'a, F: Folder>(
     ensures of_folder { IfErr result (IsOfFolder (F.fault_count folder.old) (F.fault_count folder.new)) }
     ensures count { IsKept result (F.fault_count folder.old) (F.fault_count folder.new) }
     ensures kept { F.pages folder.new ≡ F.pages folder.old }
+    ensures counted { readings.new ≤ readings.old + 1 }
 {
     let same = edit.same;
     if same {
-        let page = Str::copy_of(alloc, edit.page)?;
-        return tried_page(alloc, page, edit, folder, expansion);
+        let page = Str::copy_of(edit.memory.alloc, edit.page)?;
+        return tried_page(page, edit, folder, expansion, readings);
     }
-    tried_proposal(alloc, Keeping::Everywhere, edit, folder, expansion)
+    tried_proposal(Keeping::Everywhere, edit, folder, expansion, readings)
 }
 
 // ---- the last new page
 
 /// The new page that `edit` makes, where it reads back.
 fn page_of_edit<'a, F: Folder>(
-    alloc: Global,
     new: Str,
     fault: Fault,
     edit: &EditedPage<'_, 'a>,
     folder: &mut F,
     expansion: Expansion<'a>,
+    readings: &mut Readings,
 ) -> Result<Output, Refusal>
     requires body { (label (view edit.now.tree.now)).kind ≡ kind.Body }
     requires numbered { ∥ InPreorder (view edit.now.tree.now) ∥₁ }
     requires known { HoldsPages expansion }
+    requires left { readings.old < MOST_READINGS }
     requires edited { edit_answer same_node edit.now.items.now edit.now.page.now (view edit.now.tree.now) (view edit.now.edited.now) ≡ Ok new }
     ensures found { (pages : Pages) → F.pages folder.old ≡ Some pages → KnowsOf pages expansion.entry
-        → FirstFails pages edit.now.page.now (view edit.now.tree.now) (view edit.now.edited.now) (refusal_of_fault fault)
+        → FirstFailed pages edit.now.page.now (view edit.now.tree.now) (view edit.now.edited.now) edit.now.same (refusal_of_fault fault)
         → FindsNew pages edit.now.items.now edit.now.page.now (view edit.now.tree.now)
-        (view edit.now.edited.now) false result }
+        (view edit.now.edited.now) edit.now.same result }
     ensures asks { Asks (F.answered folder.old) (F.answered folder.new) (F.most_asked folder.old)
         (F.most_asked folder.new) }
     ensures of_edit { IfErr result (IsOfEdit ⊥ (Rose (F.fault_count folder.old) (F.fault_count folder.new))) }
     ensures count { IsKept result (F.fault_count folder.old) (F.fault_count folder.new) }
     ensures kept { F.pages folder.new ≡ F.pages folder.old }
+    ensures few { readings.new ≤ MOST_READINGS }
 {
-    let tried = tried_page(alloc, new, edit, folder, expansion)?;
+    let tried = tried_page(new, edit, folder, expansion, readings)?;
     match tried {
         Tried::Stands(new) => Ok(Output::Text(new)),
         Tried::Fails(_, _) => Err(refusal_of(fault)),
@@ -237,29 +252,31 @@ fn page_of_edit<'a, F: Folder>(
 
 /// The new page that is proposed with `edit`'s own spelling, where `edit` itself is refused.
 fn page_of_refused<'a, F: Folder>(
-    alloc: Global,
     refusal: EditRefusal,
     fault: Fault,
     edit: &EditedPage<'_, 'a>,
     folder: &mut F,
     expansion: Expansion<'a>,
+    readings: &mut Readings,
 ) -> Result<Output, Refusal>
     requires body { (label (view edit.now.tree.now)).kind ≡ kind.Body }
     requires numbered { ∥ InPreorder (view edit.now.tree.now) ∥₁ }
     requires index { indexed edit.now.index.now ≡ page_of (view edit.now.tree.now) }
     requires known { HoldsPages expansion }
+    requires left { readings.old < MOST_READINGS }
     requires edited { AnswersEdit (edit_answer same_node edit.now.items.now edit.now.page.now (view edit.now.tree.now) (view edit.now.edited.now)) (Err refusal) }
     ensures found { (pages : Pages) → F.pages folder.old ≡ Some pages → KnowsOf pages expansion.entry
-        → FirstFails pages edit.now.page.now (view edit.now.tree.now) (view edit.now.edited.now) (refusal_of_fault fault)
+        → FirstFailed pages edit.now.page.now (view edit.now.tree.now) (view edit.now.edited.now) edit.now.same (refusal_of_fault fault)
         → FindsNew pages edit.now.items.now edit.now.page.now (view edit.now.tree.now)
-        (view edit.now.edited.now) false result }
+        (view edit.now.edited.now) edit.now.same result }
     ensures asks { Asks (F.answered folder.old) (F.answered folder.new) (F.most_asked folder.old)
         (F.most_asked folder.new) }
     ensures of_edit { IfErr result (IsOfEdit ⊥ (Rose (F.fault_count folder.old) (F.fault_count folder.new))) }
     ensures count { IsKept result (F.fault_count folder.old) (F.fault_count folder.new) }
     ensures kept { F.pages folder.new ≡ F.pages folder.old }
+    ensures few { readings.new ≤ MOST_READINGS }
 {
-    let tried = tried_proposal(alloc, Keeping::Nowhere, edit, folder, expansion)?;
+    let tried = tried_proposal(Keeping::Nowhere, edit, folder, expansion, readings)?;
     match tried {
         Tried::Stands(new) => Ok(Output::Text(new)),
         Tried::Fails(_, _) => Err(last_refusal(refusal, fault)),
@@ -269,29 +286,38 @@ fn page_of_refused<'a, F: Folder>(
 /// The last new page: what `edit` makes of the marks, or, where it is refused, what is proposed with its
 /// spelling. The fault is that of the first new page.
 fn last_page<'a, F: Folder>(
-    alloc: Global,
     fault: Fault,
     edit: &EditedPage<'_, 'a>,
     folder: &mut F,
     expansion: Expansion<'a>,
+    readings: &mut Readings,
 ) -> Result<Output, Refusal>
     requires body { (label (view edit.now.tree.now)).kind ≡ kind.Body }
     requires numbered { ∥ InPreorder (view edit.now.tree.now) ∥₁ }
     requires index { indexed edit.now.index.now ≡ page_of (view edit.now.tree.now) }
     requires known { HoldsPages expansion }
+    requires left { readings.old < MOST_READINGS }
     ensures found { (pages : Pages) → F.pages folder.old ≡ Some pages → KnowsOf pages expansion.entry
-        → FirstFails pages edit.now.page.now (view edit.now.tree.now) (view edit.now.edited.now) (refusal_of_fault fault)
+        → FirstFailed pages edit.now.page.now (view edit.now.tree.now) (view edit.now.edited.now) edit.now.same (refusal_of_fault fault)
         → FindsNew pages edit.now.items.now edit.now.page.now (view edit.now.tree.now)
-        (view edit.now.edited.now) false result }
+        (view edit.now.edited.now) edit.now.same result }
     ensures asks { Asks (F.answered folder.old) (F.answered folder.new) (F.most_asked folder.old)
         (F.most_asked folder.new) }
     ensures of_edit { IfErr result (IsOfEdit ⊥ (Rose (F.fault_count folder.old) (F.fault_count folder.new))) }
     ensures count { IsKept result (F.fault_count folder.old) (F.fault_count folder.new) }
     ensures kept { F.pages folder.new ≡ F.pages folder.old }
+    ensures few { readings.new ≤ MOST_READINGS }
 {
-    match edit_by_marks(alloc, edit.items, edit.page, edit.tree, edit.edited) {
-        Ok(new) => page_of_edit(alloc, new, fault, edit, folder, expansion),
-        Err(refusal) => page_of_refused(alloc, refusal, fault, edit, folder, expansion),
+    let made = edit_by_marks(
+        edit.memory.alloc,
+        edit.items,
+        edit.page,
+        edit.tree,
+        edit.edited,
+    );
+    match made {
+        Ok(new) => page_of_edit(new, fault, edit, folder, expansion, readings),
+        Err(refusal) => page_of_refused(refusal, fault, edit, folder, expansion, readings),
     }
 }
 
@@ -299,60 +325,64 @@ fn last_page<'a, F: Folder>(
 
 /// The new page with the spelling of `edit` in this block alone, or else the last one.
 fn page_but_in<'a, F: Folder>(
-    alloc: Global,
     block: u32,
     edit: &EditedPage<'_, 'a>,
     folder: &mut F,
     expansion: Expansion<'a>,
+    readings: &mut Readings,
 ) -> Result<Output, Refusal>
     requires body { (label (view edit.now.tree.now)).kind ≡ kind.Body }
     requires numbered { ∥ InPreorder (view edit.now.tree.now) ∥₁ }
     requires index { indexed edit.now.index.now ≡ page_of (view edit.now.tree.now) }
     requires known { HoldsPages expansion }
+    requires left { readings.old + 2 ≤ MOST_READINGS }
     ensures found { (pages : Pages) → F.pages folder.old ≡ Some pages → KnowsOf pages expansion.entry
-        → FirstFails pages edit.now.page.now (view edit.now.tree.now) (view edit.now.edited.now) (refusal_of_fault (Fault.Block block))
+        → FirstFailed pages edit.now.page.now (view edit.now.tree.now) (view edit.now.edited.now) edit.now.same (refusal_of_fault (Fault.Block block))
         → FindsNew pages edit.now.items.now edit.now.page.now (view edit.now.tree.now)
-        (view edit.now.edited.now) false result }
+        (view edit.now.edited.now) edit.now.same result }
     ensures asks { Asks (F.answered folder.old) (F.answered folder.new) (F.most_asked folder.old)
         (F.most_asked folder.new) }
     ensures of_edit { IfErr result (IsOfEdit ⊥ (Rose (F.fault_count folder.old) (F.fault_count folder.new))) }
     ensures count { IsKept result (F.fault_count folder.old) (F.fault_count folder.new) }
     ensures kept { F.pages folder.new ≡ F.pages folder.old }
+    ensures few { readings.new ≤ MOST_READINGS }
 {
-    let tried = tried_proposal(alloc, Keeping::ButIn(block), edit, folder, expansion)?;
+    let tried = tried_proposal(Keeping::ButIn(block), edit, folder, expansion, readings)?;
     match tried {
         Tried::Stands(new) => Ok(Output::Text(new)),
         Tried::Fails(_, expansion) => {
-            last_page(alloc, Fault::Block(block), edit, folder, expansion)
+            last_page(Fault::Block(block), edit, folder, expansion, readings)
         }
     }
 }
 
 /// The new page after the first, which had this fault.
 fn other_page<'a, F: Folder>(
-    alloc: Global,
     fault: Fault,
     edit: &EditedPage<'_, 'a>,
     folder: &mut F,
     expansion: Expansion<'a>,
+    readings: &mut Readings,
 ) -> Result<Output, Refusal>
     requires body { (label (view edit.now.tree.now)).kind ≡ kind.Body }
     requires numbered { ∥ InPreorder (view edit.now.tree.now) ∥₁ }
     requires index { indexed edit.now.index.now ≡ page_of (view edit.now.tree.now) }
     requires known { HoldsPages expansion }
+    requires left { readings.old + 2 ≤ MOST_READINGS }
     ensures found { (pages : Pages) → F.pages folder.old ≡ Some pages → KnowsOf pages expansion.entry
-        → FirstFails pages edit.now.page.now (view edit.now.tree.now) (view edit.now.edited.now) (refusal_of_fault fault)
+        → FirstFailed pages edit.now.page.now (view edit.now.tree.now) (view edit.now.edited.now) edit.now.same (refusal_of_fault fault)
         → FindsNew pages edit.now.items.now edit.now.page.now (view edit.now.tree.now)
-        (view edit.now.edited.now) false result }
+        (view edit.now.edited.now) edit.now.same result }
     ensures asks { Asks (F.answered folder.old) (F.answered folder.new) (F.most_asked folder.old)
         (F.most_asked folder.new) }
     ensures of_edit { IfErr result (IsOfEdit ⊥ (Rose (F.fault_count folder.old) (F.fault_count folder.new))) }
     ensures count { IsKept result (F.fault_count folder.old) (F.fault_count folder.new) }
     ensures kept { F.pages folder.new ≡ F.pages folder.old }
+    ensures few { readings.new ≤ MOST_READINGS }
 {
     match fault {
-        Fault::Block(block) if block != 0 => page_but_in(alloc, block, edit, folder, expansion),
-        _ => last_page(alloc, fault, edit, folder, expansion),
+        Fault::Block(block) if block != 0 => page_but_in(block, edit, folder, expansion, readings),
+        _ => last_page(fault, edit, folder, expansion, readings),
     }
 }
 
@@ -360,15 +390,16 @@ fn other_page<'a, F: Folder>(
 /// their bytes; in the second the block in which it differed is spelled as `edit` spells; the third is what
 /// `edit` answers to the marks of the difference.
 pub fn new_page<'a, F: Folder>(
-    alloc: Global,
     edit: &EditedPage<'_, 'a>,
     folder: &mut F,
     expansion: Expansion<'a>,
+    readings: &mut Readings,
 ) -> Result<Output, Refusal>
     requires body { (label (view edit.now.tree.now)).kind ≡ kind.Body }
     requires numbered { ∥ InPreorder (view edit.now.tree.now) ∥₁ }
     requires index { indexed edit.now.index.now ≡ page_of (view edit.now.tree.now) }
     requires known { HoldsPages expansion }
+    requires unread { readings.old ≡ 0 }
     ensures found { (pages : Pages) → F.pages folder.old ≡ Some pages → KnowsOf pages expansion.entry
         → FindsNew pages edit.now.items.now edit.now.page.now (view edit.now.tree.now)
         (view edit.now.edited.now) edit.now.same result }
@@ -377,10 +408,11 @@ pub fn new_page<'a, F: Folder>(
     ensures of_edit { IfErr result (IsOfEdit ⊥ (Rose (F.fault_count folder.old) (F.fault_count folder.new))) }
     ensures count { IsKept result (F.fault_count folder.old) (F.fault_count folder.new) }
     ensures kept { F.pages folder.new ≡ F.pages folder.old }
+    ensures few { readings.new ≤ MOST_READINGS }
 {
-    let tried = tried_first(alloc, edit, folder, expansion)?;
+    let tried = tried_first(edit, folder, expansion, readings)?;
     match tried {
         Tried::Stands(new) => Ok(Output::Text(new)),
-        Tried::Fails(fault, expansion) => other_page(alloc, fault, edit, folder, expansion),
+        Tried::Fails(fault, expansion) => other_page(fault, edit, folder, expansion, readings),
     }
 }

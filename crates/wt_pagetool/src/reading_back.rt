@@ -1,6 +1,6 @@
 //! A new page that is read back, beside the tree to which the page was edited.
 
-ghost use Rattle.std.specs.Prelude.{◌≡◌, ◌≤◌, [], length, Some, IfOk, IfErr};
+ghost use Rattle.std.specs.Prelude.{◌≡◌, ◌≤◌, ◌<◌, ◌+◌, [], length, Some, IfOk, IfErr};
 ghost use Rattle.wt_expand.specs.Work.{Pages};
 ghost use Rattle.wt_expansion.specs.Known.{HoldsPages};
 ghost use Rattle.wt_expansion.specs.Walks.{IsFree};
@@ -16,6 +16,7 @@ ghost use Rattle.wt_pagetool.specs.Causes.{IsKept, IsOfFolder};
 ghost use Rattle.wt_pagetool.specs.Tried.{device_fault, ComparedAs, HoldsRead, KnowsOf, ReadAs};
 
 use crate::page::text_of_page;
+use crate::readings::{MOST_READINGS, Readings};
 use crate::refusal::Refusal;
 use bumpalo::Bump;
 use std::alloc::Global;
@@ -27,6 +28,15 @@ use wt_span::{Items, NoMemory, PAGE_BYTES};
 use wt_template_stack::Expansion;
 use wt_transclusion::ExpandRefusal;
 use wt_tree::Node;
+
+/// Where what a call makes lies: its values, and the texts of pages with their templates and trees.
+#[derive(Clone, Copy)]
+pub struct Memory<'a> {
+    /// Of values.
+    pub alloc: Global,
+    /// Of texts and trees.
+    pub arena: &'a Bump<Global>,
+}
 
 /// An expanded page, and the tree to which it was edited.
 #[derive(Clone, Copy)]
@@ -43,8 +53,8 @@ pub struct EditedPage<'p, 'a> {
     pub edited: &'p Node<'a>,
     /// Whether nothing differs.
     pub same: bool,
-    /// Where new pages and their templates lie.
-    pub arena: &'a Bump<Global>,
+    /// Where what is made of it lies.
+    pub memory: Memory<'a>,
 }
 
 /// Why a new page isn't the answer.
@@ -95,7 +105,6 @@ pub fn new_expansion<'a>(alloc: Global, arena: &'a Bump<Global>) -> Expansion<'a
 /// The number, from 1, of the first child in which what was found of a new page differs from what the edited tree
 /// shows, where groups are those of the page; or None.
 fn differing_child<'a>(
-    alloc: Global,
     found: &KnownPage<'a>,
     edit: &EditedPage<'_, 'a>,
 ) -> Result<Option<u32>, NoMemory>
@@ -104,20 +113,21 @@ fn differing_child<'a>(
     ensures { IfOk result (IsFirstDiffering (shown_children (view found.now.annotated.tree.body))
         (shown_children (restored_from (view edit.now.tree.now) (view edit.now.edited.now)))) }
 {
-    first_differing(alloc, found.annotated.body(), edit.tree, edit.edited)
+    first_differing(
+        edit.memory.alloc,
+        found.annotated.body(),
+        edit.tree,
+        edit.edited,
+    )
 }
 
 /// Compares what was found of a new page with the edited tree.
-fn compared<'a>(
-    alloc: Global,
-    found: KnownPage<'a>,
-    edit: &EditedPage<'_, 'a>,
-) -> Result<ReadBack<'a>, NoMemory>
+fn compared<'a>(found: KnownPage<'a>, edit: &EditedPage<'_, 'a>) -> Result<ReadBack<'a>, NoMemory>
     requires body { (label (view edit.now.tree.now)).kind ≡ kind.Body }
     requires numbered { ∥ InPreorder (view edit.now.tree.now) ∥₁ }
     ensures { IfOk result (ComparedAs found.entry (view edit.now.tree.now) (view edit.now.edited.now)) }
 {
-    let child = differing_child(alloc, &found, edit)?;
+    let child = differing_child(&found, edit)?;
     match child {
         None => Ok(ReadBack::Shows(found)),
         Some(child) => Ok(ReadBack::Fails(Fault::Block(child), found.expansion)),
@@ -126,7 +136,6 @@ fn compared<'a>(
 
 /// Reads a new page back that is text.
 fn read_text<'a, F: Folder>(
-    alloc: Global,
     new: &'a str,
     edit: &EditedPage<'_, 'a>,
     folder: &mut F,
@@ -146,29 +155,31 @@ fn read_text<'a, F: Folder>(
     ensures count { IsKept result (F.fault_count folder.old) (F.fault_count folder.new) }
     ensures kept { F.pages folder.new ≡ F.pages folder.old }
 {
-    match known_page(alloc, new, edit.arena, folder, expansion) {
+    let Memory { alloc, arena } = edit.memory;
+    match known_page(alloc, new, arena, folder, expansion) {
         Ok(found) => {
-            let back = compared(alloc, found, edit)?;
+            let back = compared(found, edit)?;
             Ok(back)
         }
         Err(refusal) => match device_fault(&refusal) {
             Some(fault) => Err(fault),
-            None => Ok(ReadBack::Fails(Fault::Expansion, new_expansion(alloc, edit.arena))),
+            None => Ok(ReadBack::Fails(Fault::Expansion, new_expansion(alloc, arena))),
         },
     }
 }
 
-/// Reads a new page back. What the expansion knows isn't fetched again.
+/// Reads a new page back, and counts that. What the expansion knows isn't fetched again.
 pub fn read_back<'a, F: Folder>(
-    alloc: Global,
     new: &str,
     edit: &EditedPage<'_, 'a>,
     folder: &mut F,
     expansion: Expansion<'a>,
+    readings: &mut Readings,
 ) -> Result<ReadBack<'a>, Refusal>
     requires body { (label (view edit.now.tree.now)).kind ≡ kind.Body }
     requires numbered { ∥ InPreorder (view edit.now.tree.now) ∥₁ }
     requires known { HoldsPages expansion }
+    requires left { readings.old < MOST_READINGS }
     ensures read { (pages : Pages) → F.pages folder.old ≡ Some pages → KnowsOf pages expansion.entry
         → IfOk result (ReadAs pages (view edit.now.tree.now) (view edit.now.edited.now) new.now) }
     ensures holds { IfOk result HoldsRead }
@@ -177,10 +188,12 @@ pub fn read_back<'a, F: Folder>(
     ensures of_folder { IfErr result (IsOfFolder (F.fault_count folder.old) (F.fault_count folder.new)) }
     ensures count { IsKept result (F.fault_count folder.old) (F.fault_count folder.new) }
     ensures kept { F.pages folder.new ≡ F.pages folder.old }
+    ensures counted { readings.new ≡ readings.old + 1 }
 {
-    let text = edit.arena.try_alloc_str(new)?;
+    readings.count();
+    let text = edit.memory.arena.try_alloc_str(new)?;
     match text_of_page(text.as_bytes()) {
-        Ok(page) => read_text(alloc, page, edit, folder, expansion),
+        Ok(page) => read_text(page, edit, folder, expansion),
         Err(_refusal) => Ok(ReadBack::Fails(Fault::TooLong, expansion)),
     }
 }

@@ -27,7 +27,8 @@ use crate::fetch::fetched_page;
 use crate::output::Output;
 use crate::page::text_of_page;
 use crate::proposing::new_page;
-use crate::reading_back::{EditedPage, new_expansion};
+use crate::reading_back::{EditedPage, Memory, new_expansion};
+use crate::readings::{MOST_READINGS, Readings};
 use crate::refusal::Refusal;
 use crate::wikitext_command::{PIECE, read_all};
 use bumpalo::Bump;
@@ -75,15 +76,16 @@ fn set_beside<'a>(
 
 /// The new page of a page that was expanded, by the tree to which it was edited.
 fn page_of_found<'a, F: Folder>(
-    alloc: Global,
     page: &str,
     found: KnownPage<'a>,
     edited: Node<'a>,
-    arena: &'a Bump<Global>,
+    memory: Memory<'a>,
     folder: &mut F,
+    readings: &mut Readings,
 ) -> Result<Output, Refusal>
     requires body { (label (view found.annotated.tree.body)).kind ≡ kind.Body }
     requires known { HoldsPages found.expansion }
+    requires unread { readings.old ≡ 0 }
     ensures answered { (pages : Pages) → F.pages folder.old ≡ Some pages → KnowsOf pages found.entry.expansion
         → let t = view found.entry.annotated.tree.body in
         OrFound (nodes_answer page.now (nodes_checked t (remarked t (view edited.entry))))
@@ -94,14 +96,15 @@ fn page_of_found<'a, F: Folder>(
     ensures of_edit { IfErr result (IsOfEdit ⊥ (Rose (F.fault_count folder.old) (F.fault_count folder.new))) }
     ensures count { IsKept result (F.fault_count folder.old) (F.fault_count folder.new) }
     ensures kept { F.pages folder.new ≡ F.pages folder.old }
+    ensures few { readings.new ≤ MOST_READINGS }
 {
     let KnownPage {
         annotated,
         expansion,
     } = found;
     let tree = annotated.body();
-    let index = numbered_nodes(alloc, tree)?;
-    let beside = set_beside(alloc, tree, index.as_slice(), edited)?;
+    let index = numbered_nodes(memory.alloc, tree)?;
+    let beside = set_beside(memory.alloc, tree, index.as_slice(), edited)?;
     match beside.refused {
         Some(check) => Err(Refusal::Checked(check)),
         None => {
@@ -112,22 +115,23 @@ fn page_of_found<'a, F: Folder>(
                 items: annotated.items(),
                 edited: &beside.edited,
                 same: beside.same,
-                arena,
+                memory,
             };
-            new_page(alloc, &edit, folder, expansion)
+            new_page(&edit, folder, expansion, readings)
         }
     }
 }
 
 /// The new page of a page that is text, by the tree to which it was edited.
 fn page_to<'a, F: Folder>(
-    alloc: Global,
     page: &'a str,
     edited: Node<'a>,
-    arena: &'a Bump<Global>,
+    memory: Memory<'a>,
     folder: &mut F,
+    readings: &mut Readings,
 ) -> Result<Output, Refusal>
     requires room { length page.now ≤ PAGE_BYTES }
+    requires unread { readings.old ≡ 0 }
     ensures answered { (pages : Pages) → F.pages folder.old ≡ Some pages
         → OrFound (taken_to pages page.now (view edited.entry)) (Finds pages page.now (view edited.entry) result)
         result }
@@ -136,21 +140,23 @@ fn page_to<'a, F: Folder>(
     ensures of_edit { IfErr result (IsOfEdit ⊥ (Rose (F.fault_count folder.old) (F.fault_count folder.new))) }
     ensures count { IsKept result (F.fault_count folder.old) (F.fault_count folder.new) }
     ensures kept { F.pages folder.new ≡ F.pages folder.old }
+    ensures few { readings.new ≤ MOST_READINGS }
 {
-    let expansion = new_expansion(alloc, arena);
-    let found = known_page(alloc, page, arena, folder, expansion)?;
-    page_of_found(alloc, page, found, edited, arena, folder)
+    let expansion = new_expansion(memory.alloc, memory.arena);
+    let found = known_page(memory.alloc, page, memory.arena, folder, expansion)?;
+    page_of_found(page, found, edited, memory, folder, readings)
 }
 
 /// The new page of a page that is text, by the HTML that was fed.
 fn page_of_read<'a, F: Folder>(
-    alloc: Global,
     page: &'a str,
     reader: Reader<'a>,
-    arena: &'a Bump<Global>,
+    memory: Memory<'a>,
     folder: &mut F,
+    readings: &mut Readings,
 ) -> Result<Output, Refusal>
     requires room { length page.now ≤ PAGE_BYTES }
+    requires unread { readings.old ≡ 0 }
     ensures answered { (pages : Pages) (bytes : List ℕ) → F.pages folder.old ≡ Some pages
         → IsFed reader.entry bytes
         → OrFound (taken_answer pages page.now (read bytes)) (FindsFor pages page.now (read bytes) result)
@@ -160,10 +166,11 @@ fn page_of_read<'a, F: Folder>(
     ensures of_edit { IfErr result (IsOfEdit ⊥ (Rose (F.fault_count folder.old) (F.fault_count folder.new))) }
     ensures count { IsKept result (F.fault_count folder.old) (F.fault_count folder.new) }
     ensures kept { F.pages folder.new ≡ F.pages folder.old }
+    ensures few { readings.new ≤ MOST_READINGS }
 {
     let edited = reader.finish()?;
     let body = edited.into_body();
-    page_to(alloc, page, body, arena, folder)
+    page_to(page, body, memory, folder, readings)
 }
 
 /// The new page of a page that is text, by the HTML that the input gives, which is read to its end first.
@@ -172,8 +179,10 @@ fn page_of_text<S: Source, F: Folder>(
     page: &str,
     input: &mut S,
     folder: &mut F,
+    readings: &mut Readings,
 ) -> Result<Output, Refusal>
     requires room { length page.now ≤ PAGE_BYTES }
+    requires unread { readings.old ≡ 0 }
     ensures answered { (pages : Pages) → F.pages folder.old ≡ Some pages → IfSome (S.left input.old)
         (λ bytes. OrFound (input_answer (taken_answer pages page.now) bytes)
         (FindsFor pages page.now (read bytes) result) result) }
@@ -186,20 +195,27 @@ fn page_of_text<S: Source, F: Folder>(
     ensures takes { GivesAtMost (HTML_BYTES + PIECE) (S.left input.old) (S.left input.new) }
     ensures folder_kept { IsKept result (F.fault_count folder.old) (F.fault_count folder.new) }
     ensures kept { F.pages folder.new ≡ F.pages folder.old }
+    ensures few { readings.new ≤ MOST_READINGS }
 {
     let arena = Bump::new(alloc);
     let reader = read_all(alloc, &arena, input)?;
-    page_of_read(alloc, page, reader, &arena, folder)
+    let memory = Memory {
+        alloc,
+        arena: &arena,
+    };
+    page_of_read(page, reader, memory, folder, readings)
 }
 
 /// The page under a title, changed as its HTML, which is the input, was changed: by the difference of the two,
-/// whatever marks the HTML has.
+/// whatever marks the HTML has. It counts the new pages that it reads back.
 pub fn selser_page<S: Source, F: Folder>(
     alloc: Global,
     title: &str,
     input: &mut S,
     folder: &mut F,
+    readings: &mut Readings,
 ) -> Result<Output, Refusal>
+    requires unread { readings.old ≡ 0 }
     ensures answered { IfSome (selser_told (F.pages folder.old) (S.left input.old) title.now)
         (λ a. Answered a result) }
     ensures found { IfSome (F.pages folder.old) (λ pages. IfSome (S.left input.old)
@@ -214,8 +230,9 @@ pub fn selser_page<S: Source, F: Folder>(
     ensures takes { GivesAtMost (HTML_BYTES + PIECE) (S.left input.old) (S.left input.new) }
     ensures folder_kept { IsKept result (F.fault_count folder.old) (F.fault_count folder.new) }
     ensures kept { F.pages folder.new ≡ F.pages folder.old }
+    ensures few { readings.new ≤ MOST_READINGS }
 {
     let page = fetched_page(alloc, title, folder)?;
     let text = text_of_page(page.as_slice())?;
-    page_of_text(alloc, text, input, folder)
+    page_of_text(alloc, text, input, folder, readings)
 }

@@ -22,6 +22,7 @@ use crate::expand_command::expansion_of_title;
 use crate::gen_command::counts_of_made;
 use crate::output::Output;
 use crate::page_command::output_of_title;
+use crate::readings::Readings;
 use crate::refusal::Refusal;
 use crate::report::report;
 use crate::selser_command::selser_page;
@@ -68,7 +69,10 @@ fn find_answer<S: Source, F: Folder>(
         }
         Some(Command::Expand(title)) => expansion_of_title(alloc, title.as_str(), folder),
         Some(Command::Edit(title)) => edited_page(alloc, title.as_str(), input, folder),
-        Some(Command::Selser(title)) => selser_page(alloc, title.as_str(), input, folder),
+        Some(Command::Selser(title)) => {
+            let mut readings = Readings::none();
+            selser_page(alloc, title.as_str(), input, folder, &mut readings)
+        }
         Some(Command::Gen(count)) => counts_of_made(alloc, count),
         Some(Command::Wikitext) => wikitext_of_input(alloc, input),
         None => Err(Refusal::Usage),
@@ -140,8 +144,8 @@ pub fn run<S: Source, F: Folder, W: Sink, E: Sink>(
 
     // `selser`, when it is done, read the input to its end and wrote a new page. It is the page with
     // places of the difference of the two, and nothing else, written anew, in which the comments and
-    // include tags that the input still has stand; or the page as it is; or what `edit` makes of the
-    // marks of the difference. The marks that the input has count for nothing. No check refuses a node of
+    // include tags that the input still has stand; or, where nothing differs, the page as it is; or what
+    // `edit` makes of the marks of the difference. The marks that the input has count for nothing. No check refuses a node of
     // the edited tree (an unknown or repeated number, a group that was changed). Nothing refuses the new
     // page or its expansion, and the plain view of its tree is that of the edited tree, in which a kept
     // group is what the page's group of its number holds. Which of such pages it is is said by no clause.

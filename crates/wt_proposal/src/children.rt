@@ -1,21 +1,25 @@
 //! A list of children that is written anew: what goes, what comes, and the line breaks between.
 
-use crate::blocks::{Surroundings, push_block};
-use crate::kinds::{is_cell, is_item, is_lined, is_list, is_part};
-use crate::known::{Known, last_text, signs_of};
-use crate::proposing::{Numbering, Plan};
+use crate::proposing::{Numbering, Plan, children_between, nodes_between};
 use crate::slot::Slot;
 use std::alloc::Global;
+use wt_block_proposal::{
+    Surroundings, is_cell, is_item, is_lined, is_list, is_part, push_block, signs_of,
+};
+use wt_content_proposal::{Known, last_text};
 use wt_difference::{Child, inside, is_compared};
 use wt_selser::Change;
 use wt_span::{NoMemory, Str};
-use wt_tree::{Kind, Node};
+use wt_tree::{Kind, Node, same_kind};
 
-/// A gap between two children that stay in their turn: where it is, these two as the page has them, the page's
-/// children between them, and the edited ones, with the number of the block of the first.
+/// A gap between two children that stay in their turn, or the part of it between two comments or include tags: where
+/// it is, from where on blanks before it count, these two as the page has them, the page's children between them, and
+/// the edited ones, with the number of the block of the first, and whether an item holds them.
 #[derive(Clone, Copy)]
 pub struct Gap<'w, 't, 'a> {
     pub place: Slot,
+    pub blanks: usize,
+    pub in_item: bool,
     pub before: Option<&'t Node<'a>>,
     pub behind: Option<&'t Node<'a>>,
     pub gone: &'w [Child<'t, 'a>],
@@ -151,10 +155,13 @@ fn most_breaks(page: &str, from: usize, to: usize) -> usize {
 
 // ---- line breaks
 
-/// How many line breaks two neighbours ask for at least.
-fn least_between(left: Kind, right: Kind) -> usize {
+/// How many line breaks two neighbours ask for at least. No empty line stands in an item.
+fn least_between(in_item: bool, left: Kind, right: Kind) -> usize {
     if is_cell(left) {
         return 0;
+    }
+    if in_item {
+        return 1;
     }
     if (is_lined(left) || is_lined(right)) && !(is_list(left) && is_list(right)) {
         1
@@ -164,8 +171,8 @@ fn least_between(left: Kind, right: Kind) -> usize {
 }
 
 /// How many line breaks are written between two neighbours one of which is new.
-fn between(left: Kind, right: Kind) -> usize {
-    if is_part(left) || is_part(right) {
+fn between(in_item: bool, left: Kind, right: Kind) -> usize {
+    if in_item || is_part(left) || is_part(right) {
         1
     } else {
         2
@@ -226,7 +233,7 @@ fn push_gone(
     wanted: usize,
 ) -> Result<(), NoMemory> {
     let mut standing = 0;
-    let mut at = gap.place.start;
+    let mut at = gap.blanks;
     let mut left = slices.len();
     for slice in slices {
         left = left.saturating_sub(1);
@@ -246,7 +253,7 @@ fn wanted_between(gap: Gap<'_, '_, '_>) -> usize {
         None => 0,
         Some(before) => match gap.behind {
             None => 0,
-            Some(behind) => least_between(before.kind, behind.kind),
+            Some(behind) => least_between(gap.in_item, before.kind, behind.kind),
         },
     }
 }
@@ -356,7 +363,7 @@ fn coming_of<'t, 'a>(
                 signs: signs.as_str(),
                 tail: tail_of(gap, left),
             };
-            coming = Some(followed(alloc, coming, around, node)?);
+            coming = Some(followed(alloc, gap.in_item, coming, around, node)?);
             block = block.next();
         }
     }
@@ -366,6 +373,7 @@ fn coming_of<'t, 'a>(
 /// What came so far, and this one behind it.
 fn followed(
     alloc: Global,
+    in_item: bool,
     coming: Option<Coming>,
     around: Surroundings<'_, '_, '_>,
     node: &Node<'_>,
@@ -382,7 +390,7 @@ fn followed(
                 last,
                 mut source,
             } = before;
-            push_breaks(&mut source, between(last, node.kind))?;
+            push_breaks(&mut source, between(in_item, last, node.kind))?;
             Coming {
                 first,
                 last: node.kind,
@@ -412,10 +420,10 @@ fn breaks_before(
     first: Kind,
     at: usize,
 ) -> usize {
-    let standing = most_breaks(page, gap.place.start, at);
+    let standing = most_breaks(page, gap.blanks, at);
     let wanted = match gap.before {
-        Some(before) if takes_place => least_between(before.kind, first),
-        Some(before) => between(before.kind, first),
+        Some(before) if takes_place => least_between(gap.in_item, before.kind, first),
+        Some(before) => between(gap.in_item, before.kind, first),
         None if takes_place || gap.behind.is_some() || gap.place.start == 0 => 0,
         None => 1,
     };
@@ -450,11 +458,36 @@ fn breaks_behind(page: &str, gap: Gap<'_, '_, '_>, last: Kind, from: usize, to: 
     let wanted = if standing == 0 && shares_line(page, last, behind) {
         0
     } else if standing == 0 {
-        between(last, behind.kind)
+        between(gap.in_item, last, behind.kind)
     } else {
-        least_between(last, behind.kind)
+        least_between(gap.in_item, last, behind.kind)
     };
     wanted.saturating_sub(standing)
+}
+
+/// Whether a row without a sign of its own stands behind, as the first one of a table may.
+fn begins_without_sign(gap: Gap<'_, '_, '_>) -> bool {
+    match gap.behind {
+        Some(row) => matches!(row.kind, Kind::Tr) && row.opening().is_empty(),
+        None => false,
+    }
+}
+
+/// Whether what comes is one cell between two of a line.
+fn joins_line(page: &str, gap: Gap<'_, '_, '_>, coming: &Coming) -> bool {
+    let (Some(before), Some(behind)) = (gap.before, gap.behind) else {
+        return false;
+    };
+    same_kind(before.kind, coming.first)
+        && count_of(gap.new) == 1
+        && shares_line(page, coming.last, behind)
+        && !coming.source.as_str().as_bytes().contains(&b'\n')
+}
+
+/// Appends a cell that goes on in a line, given as it begins one.
+fn push_in_line(out: &mut Str, cell: &str) -> Result<(), NoMemory> {
+    out.push_str(if cell.starts_with("!") { "!" } else { "|" })?;
+    out.push_str(cell)
 }
 
 /// Appends what comes, in the place of the first slice that goes.
@@ -475,8 +508,15 @@ fn push_new(
     let before = breaks_before(page, gap, !slices.is_empty(), coming.first, place.start);
     let behind = breaks_behind(page, gap, coming.last, end, to);
     let mut by = Str::new(alloc);
+    if slices.is_empty() && joins_line(page, gap, &coming) {
+        push_in_line(&mut by, coming.source.as_str())?;
+        return push_change(out, place, by);
+    }
     push_breaks(&mut by, before)?;
     by.push_str(coming.source.as_str())?;
+    if begins_without_sign(gap) {
+        by.push_str("\n|-")?;
+    }
     push_breaks(&mut by, behind)?;
     push_change(
         out,
@@ -490,9 +530,133 @@ fn push_new(
 
 // ---- a gap
 
-/// Appends what is written anew between two children that stay in their turn. `outer` are the signs of the item
-/// that holds them.
+/// The greatest number among children, which rise.
+fn last_number(children: &[Child<'_, '_>]) -> u32 {
+    let mut last = 0;
+    for child in children {
+        last = child.node.id.max(last);
+    }
+    last
+}
+
+/// The first of the children from one place on that has this number or a greater one.
+fn place_behind(children: &[Child<'_, '_>], from: usize, number: u32) -> usize {
+    for at in from..children.len() {
+        if children[at].node.id >= number {
+            return at;
+        }
+    }
+    children.len()
+}
+
+/// A comment or an include tag of the page, which has this number.
+fn mark_at<'t, 'a>(children: &[Child<'t, 'a>], at: usize, number: u32) -> Option<&'t Node<'a>> {
+    let child = children.get(at)?;
+    let is_same = child.node.id == number && child.node.kind.is_mark();
+    if is_same { Some(child.node) } else { None }
+}
+
+/// How far the parts of a gap are written: the children of the page and the edited ones that are passed, where
+/// the next part begins, from where on blanks before it count, and the number of its first block.
+#[derive(Clone, Copy)]
+struct Passed {
+    gone: usize,
+    new: usize,
+    start: usize,
+    blanks: usize,
+    first: Numbering,
+}
+
+impl Passed {
+    fn of(gap: Gap<'_, '_, '_>) -> Passed {
+        Passed {
+            gone: 0,
+            new: 0,
+            start: gap.place.start,
+            blanks: gap.blanks,
+            first: gap.first,
+        }
+    }
+
+    /// The part of a gap up to these of its children, which ends at this place.
+    fn part<'w, 't, 'a>(
+        self,
+        gap: Gap<'w, 't, 'a>,
+        gone: usize,
+        new: usize,
+        end: usize,
+    ) -> Gap<'w, 't, 'a> {
+        Gap {
+            place: Slot {
+                start: self.start,
+                end,
+            },
+            blanks: self.blanks,
+            in_item: gap.in_item,
+            before: gap.before,
+            behind: gap.behind,
+            gone: children_between(gap.gone, self.gone, gone),
+            new: nodes_between(gap.new, self.new, new),
+            first: self.first,
+        }
+    }
+
+    /// Behind a comment or an include tag, and the part before it.
+    fn behind(self, page: &str, part: Gap<'_, '_, '_>, mark: Slot) -> Passed {
+        Passed {
+            gone: self.gone.saturating_add(part.gone.len()).saturating_add(1),
+            new: self.new.saturating_add(part.new.len()).saturating_add(1),
+            start: mark.end,
+            blanks: back_over_blanks(page, mark.start, mark.end),
+            first: past_all(self.first, part.new),
+        }
+    }
+}
+
+/// The number of the block behind these nodes.
+fn past_all(first: Numbering, nodes: &[Node<'_>]) -> Numbering {
+    let mut block = first;
+    for node in nodes {
+        if is_compared(node.kind) {
+            block = block.next();
+        }
+    }
+    block
+}
+
+/// Appends what is written anew between two children that stay in their turn. What was sent behind a comment or an
+/// include tag of the gap comes behind it. `outer` are the signs of the item that holds them.
 pub fn push_gap<'t, 'a>(
+    alloc: Global,
+    out: &mut Vec<Change>,
+    plan: Plan<'_, 't, 'a>,
+    outer: &str,
+    gap: Gap<'_, 't, 'a>,
+) -> Result<(), NoMemory> {
+    if count_of(gap.new) == 0 {
+        return push_part(alloc, out, plan, outer, gap);
+    }
+    let mut passed = Passed::of(gap);
+    let mut from = 0;
+    let last = last_number(gap.gone);
+    for at in 0..gap.new.len() {
+        let node = &gap.new[at];
+        if node.kind.is_mark() && node.id != 0 && node.id <= last {
+            from = place_behind(gap.gone, from, node.id);
+            if let Some(mark) = mark_at(gap.gone, from, node.id) {
+                let mark = range_of(mark);
+                let part = passed.part(gap, from, at, mark.start);
+                push_part(alloc, out, plan, outer, part)?;
+                passed = passed.behind(plan.known.page, part, mark);
+            }
+        }
+    }
+    let rest = passed.part(gap, gap.gone.len(), gap.new.len(), gap.place.end);
+    push_part(alloc, out, plan, outer, rest)
+}
+
+/// Appends what is written anew in a part of a gap.
+fn push_part<'t, 'a>(
     alloc: Global,
     out: &mut Vec<Change>,
     plan: Plan<'_, 't, 'a>,

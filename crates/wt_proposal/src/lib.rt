@@ -2,19 +2,12 @@
 //! stands as it stood, texts too. Whether a proposal is any good is told by reading it back, and by nothing here.
 #![tactic(auto)]
 
-mod blocks;
 mod children;
-mod common;
-mod delimiters;
-mod inline;
-mod kinds;
-mod known;
 mod proposing;
 mod reached;
 mod slot;
 mod slots;
 mod testing;
-mod texts;
 
 pub use proposing::{Keeping, proposal};
 pub use slot::Slot;

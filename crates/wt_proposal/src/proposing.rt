@@ -7,8 +7,6 @@ ghost use Rattle.wt_tree.specs.View.{view};
 ghost use Rattle.wt_proposal.specs.Rewritten.{IsRewritten};
 
 use crate::children::{Gap, push_change, push_gap};
-use crate::inline::{Writing, edges_of, spelled};
-use crate::known::{Known, block_of, signs_of};
 use crate::reached::Reached;
 use crate::slot::Slot;
 use crate::slots::{
@@ -16,7 +14,9 @@ use crate::slots::{
 };
 use crate::testing::tested;
 use std::alloc::Global;
+use wt_block_proposal::signs_of;
 use wt_checks::Visit;
+use wt_content_proposal::{Known, Writing, block_of, edges_of, spelled};
 use wt_difference::{Child, held, inside, same_inside};
 use wt_selser::{Change, place_in};
 use wt_span::{NoMemory, Str};
@@ -216,7 +216,7 @@ impl Line {
 }
 
 /// The children from one place up to another; none where there are none.
-fn children_between<'w, 't, 'a>(
+pub fn children_between<'w, 't, 'a>(
     children: &'w [Child<'t, 'a>],
     from: usize,
     to: usize,
@@ -228,7 +228,7 @@ fn children_between<'w, 't, 'a>(
     }
 }
 
-fn nodes_between<'w, 'a>(nodes: &'w [Node<'a>], from: usize, to: usize) -> &'w [Node<'a>] {
+pub fn nodes_between<'w, 'a>(nodes: &'w [Node<'a>], from: usize, to: usize) -> &'w [Node<'a>] {
     if from <= to && to <= nodes.len() {
         &nodes[from..to]
     } else {
@@ -253,6 +253,8 @@ fn push_span<'t, 'a>(
     let behind = if span.is_last { None } else { Some(span.to) };
     let gap = Gap {
         place: span.place,
+        blanks: span.place.start,
+        in_item: !held.signs.is_empty(),
         before: node_at(held.children, span.from.checked_sub(1)),
         behind: node_at(held.children, behind),
         gone: children_between(held.children, span.from, span.to),

@@ -55,6 +55,7 @@ stays false x ts ws e = (e refl).0 ∙ sym (ap (λ us. cut_as x (all_cut_texts u
 
 alone_finished : (t u : Tree) (next behind : ℕ) → (is_group (label t).kind ≡ false → inside_of t ≡ none) → u ≡ with_number next t
     → behind ≡ next_after (label t).kind next → IsFinished next t u behind
+unfolding inside_of
 alone_finished (tree l ts) u next behind h e f = record {
   tree_is =
       e
@@ -71,6 +72,7 @@ inside_leaf true us e = refl
 inside_leaf false us e = cc
 
 leaf_empty : (calls : List OuterCall) (c : Child) → is_leaf (out-PieceTree c.tree).head.kind ≡ true → inside_of (near_of calls c).whole ≡ none
+unfolding inside_of
 leaf_empty calls c e =
     ap (λ t. inside_of (walked calls (group_data calls) c.before c.byte c.after t)) (item_tree_out c.tree)
     ∙ inside_leaf (is_leaf (out-PieceTree c.tree).head.kind) _ e

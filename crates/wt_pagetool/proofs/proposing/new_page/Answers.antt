@@ -2,7 +2,7 @@ use Rattle.std.proofs.Common.{◌≡◌, ◌∙◌, Err, rules, subst}
 use Rattle.wt_transclusion.proofs.AskedLaws.{asks_then}
 use Rattle.wt_tree.specs.View.{view}
 use Rattle.wt_pagetool.specs.Tried.{HoldsTried, TriedFirst}
-use Rattle.wt_pagetool.proofs.SelserLaws.{fault_found, fault_of_edit, finds_same}
+use Rattle.wt_pagetool.proofs.SelserLaws.{fault_found, fault_of_edit}
 use Rattle.wt_pagetool.proofs.proposing.new_page.Goals as goal
 
 pub other_page-requires-clause-known : goal.other_page-requires-clause-known
@@ -19,8 +19,7 @@ returns-in-Fails-clause-found g c = λ pages told knows.
     let u = view c.args.edit.now.edited.now in
     let first = subst (TriedFirst pages c.args.edit.now.items.now c.args.edit.now.page.now t u c.args.edit.now.same)
     c.in-Fails.is (c.in_ok-tried.ensures.tried pages told knows) in
-    finds_same pages c.args.edit.now.items.now c.args.edit.now.page.now t u c.args.edit.now.same c.other_page.result first.0
-    (c.other_page.ensures.found pages (c.in_ok-tried.ensures.kept ∙ told) first.1 first.2)
+    c.other_page.ensures.found pages (c.in_ok-tried.ensures.kept ∙ told) first.0 first.1
 
 pub returns-in-Fails-clause-asks : goal.returns-in-Fails-clause-asks
 returns-in-Fails-clause-asks g c =

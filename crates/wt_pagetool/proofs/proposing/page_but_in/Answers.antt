@@ -1,4 +1,4 @@
-use Rattle.std.proofs.Common.{◌≡◌, ◌∙◌, false, Err, rules, subst}
+use Rattle.std.proofs.Common.{◌≡◌, ◌∙◌, Err, rules, subst}
 use Rattle.wt_transclusion.proofs.AskedLaws.{asks_then}
 use Rattle.wt_tree.specs.View.{view}
 use Rattle.wt_pagetool.specs.Tried.{HoldsTried}
@@ -10,8 +10,8 @@ last_page-requires-clause-known g c = subst HoldsTried c.in-Fails.is c.in_ok-tri
 
 pub returns-in-Stands-clause-found : goal.returns-in-Stands-clause-found
 returns-in-Stands-clause-found g c = λ pages told knows first.
-    proposal_stands pages c.args.edit.now.items.now c.args.edit.now.page.now (view c.args.edit.now.tree.now) (view c.args.edit.now.edited.now) c.in-Stands.new
-    c.in_ok-tried.tried c.in-Stands.is (c.in_ok-tried.ensures.tried pages told knows)
+    proposal_stands pages c.args.edit.now.items.now c.args.edit.now.page.now (view c.args.edit.now.tree.now) (view c.args.edit.now.edited.now) c.args.edit.now.same c.in-Stands.new
+    c.in_ok-tried.tried c.in-Stands.is (c.in_ok-tried.ensures.tried pages told knows) first.0
 
 pub returns-in-Fails-clause-found : goal.returns-in-Fails-clause-found
 returns-in-Fails-clause-found g c = λ pages told knows first.
@@ -30,7 +30,7 @@ pub returns-in_err-tried-clause-found : goal.returns-in_err-tried-clause-found
 returns-in_err-tried-clause-found g c = λ pages told knows first.
     let d = g.F.Folder in
     let e : c.from_residual.result ≡ Err c.in_err-tried.field-0.0 = search rules in
-    fault_found pages c.args.edit.now.items.now c.args.edit.now.page.now (view c.args.edit.now.tree.now) (view c.args.edit.now.edited.now) false
+    fault_found pages c.args.edit.now.items.now c.args.edit.now.page.now (view c.args.edit.now.tree.now) (view c.args.edit.now.edited.now) c.args.edit.now.same
     (d.fault_count c.args.folder.now) (d.fault_count c.tried_proposal.new.folder) c.from_residual.result c.in_err-tried.field-0.0 e
     c.in_err-tried.ensures.of_folder
 

@@ -3,7 +3,7 @@ use Rattle.std.specs.Prelude.{IfOk}
 use Rattle.wt_tree.specs.View.{view}
 use Rattle.wt_pagetool.specs.Answers.{IsText}
 use Rattle.wt_pagetool.specs.Tried.{ReadAs}
-use Rattle.wt_pagetool.proofs.SelserLaws.{untexted, untexted_back}
+use Rattle.wt_pagetool.proofs.SelserLaws.{long_new, untexted_back}
 use Rattle.wt_pagetool.proofs.reading_back.read_back.Goals as goal
 
 pub returns-in-Ok-clause-read : goal.returns-in-Ok-clause-read
@@ -17,5 +17,6 @@ returns-in-Err-clause-read g c = λ pages told knows. (
   untexted_back pages (view c.args.edit.now.tree.now) (view c.args.edit.now.edited.now) c.args.new.now c.as_bytes.result.now _
       (c.as_bytes.ensures.value ∙ c.in_ok-text.ensures) c.in-Err.ensures.exact,
   knows,
-  untexted c.args.new.now c.as_bytes.result.now _ (c.as_bytes.ensures.value ∙ c.in_ok-text.ensures) c.in-Err.ensures.exact,
+  long_new c.args.new.now c.as_bytes.result.now _ (c.as_bytes.ensures.value ∙ c.in_ok-text.ensures) c.as_bytes.ensures.utf8
+      c.in-Err.ensures.exact,
 )

@@ -1,9 +1,12 @@
 //! Inline content as wikitext: what stood in the page as it stood, texts too, and what is new as `edit` spells it.
 
+use crate::groups::role_in_line;
+use crate::joints::{Spot, place_of_new, with_joints};
 use crate::known::{Block, Known, first_text, last_text};
+use crate::links::{is_bare_url, with_colons, with_fragment};
 use crate::texts::{ends_with_apostrophe, push_letters, push_nowiki, push_text};
 use std::alloc::Global;
-use wt_escape::{external_link_of, page_link_of};
+use wt_escape::{external_link_of, href_of, page_link_of};
 use wt_guards::{Place, Role, Setting, Stretch, Thing, Unit, spelling_of};
 use wt_original::{InlineForm, Kept, is_unchanged, shape, shown_text};
 use wt_span::{NoMemory, Str, Text};
@@ -101,21 +104,28 @@ fn place_of(kept: Option<Kept<'_, '_>>) -> Option<Stretch> {
 fn push_as_it_stood(
     alloc: Global,
     out: &mut Vec<Unit<'_>>,
+    keeps: bool,
     old: Kept<'_, '_>,
 ) -> Result<(), NoMemory> {
     let source = flat(alloc, old.node)?;
-    push_thing(out, old.role, source, Some(old.place))
+    let role = if keeps {
+        role_in_line(old.role, old.node)
+    } else {
+        old.role
+    };
+    push_thing(out, role, source, Some(old.place))
 }
 
 /// The same of a node that may not have stood there. What a link skips is no part of its text.
 fn push_kept(
     alloc: Global,
     out: &mut Vec<Unit<'_>>,
+    keeps: bool,
     kept: Option<Kept<'_, '_>>,
     kind: Kind,
 ) -> Result<(), NoMemory> {
     match kept {
-        Some(old) if !matches!(kind, Kind::Skip) => push_as_it_stood(alloc, out, old),
+        Some(old) if !matches!(kind, Kind::Skip) => push_as_it_stood(alloc, out, keeps, old),
         _ => Ok(()),
     }
 }
@@ -137,7 +147,7 @@ fn push_if_unchanged(
     if !is_unchanged(alloc, groups, old, node)? {
         return Ok(false);
     }
-    push_as_it_stood(alloc, out, old)?;
+    push_as_it_stood(alloc, out, writing.keeps, old)?;
     Ok(true)
 }
 
@@ -151,9 +161,19 @@ fn push_shown(alloc: Global, out: &mut Vec<Unit<'_>>, node: &Node<'_>) -> Result
 
 // ---- bold and italic
 
+/// Whether what was appended last is a delimiter of bold that the page has, and that makes a run of five with one of
+/// italic behind it.
+fn is_behind_bold(out: &[Unit<'_>]) -> bool {
+    match out.last() {
+        Some(Unit::Thing(thing)) => thing.place.is_some() && thing.source.as_str() == "'''",
+        _ => false,
+    }
+}
+
 /// Appends a delimiter that is written anew, apart from an apostrophe before it that would lengthen `''`.
 fn push_toggle(alloc: Global, out: &mut Vec<Unit<'_>>, sign: &str) -> Result<(), NoMemory> {
-    if sign.len() == 2 && ends_with_apostrophe(out.as_slice()) {
+    let units = out.as_slice();
+    if sign.len() == 2 && ends_with_apostrophe(units) && !is_behind_bold(units) {
         push_nowiki(alloc, out)?;
     }
     let source = Str::copy_of(alloc, sign)?;
@@ -217,7 +237,18 @@ fn push_style<'n, 't, 'a>(
         push_nowiki(alloc, out)?;
     }
     push_units(alloc, out, writing, nodes, edges_in(kept))?;
+    if matches!(node.kind, Kind::Bold) && is_italic_alone(nodes) {
+        push_nowiki(alloc, out)?;
+    }
     push_toggle(alloc, out, sign)
+}
+
+/// Whether italic text is all that is held: one run of five at each end would make it the outer one.
+fn is_italic_alone(nodes: &[Node<'_>]) -> bool {
+    match nodes.first() {
+        Some(node) => nodes.len() == 1 && matches!(node.kind, Kind::Italic),
+        None => false,
+    }
 }
 
 // ---- links and tags
@@ -298,9 +329,16 @@ fn link_round(
     Ok(Some(out))
 }
 
-fn new_source(alloc: Global, node: &Node<'_>, inside: &str) -> Result<Str, NoMemory> {
+fn new_source(alloc: Global, keeps: bool, node: &Node<'_>, inside: &str) -> Result<Str, NoMemory> {
     match shape(node.kind).inline {
-        InlineForm::PageLink => page_link_of(alloc, node, inside),
+        InlineForm::PageLink => {
+            let link = page_link_of(alloc, node, inside)?;
+            if keeps {
+                with_fragment(alloc, link, inside)
+            } else {
+                Ok(link)
+            }
+        }
         InlineForm::ExternalLink => external_link_of(alloc, node, inside),
         InlineForm::Break => Str::copy_of(alloc, "<br>"),
         InlineForm::Nothing
@@ -322,7 +360,7 @@ fn source_round(
     inside: &str,
 ) -> Result<Str, NoMemory> {
     let Some(old) = kept else {
-        return new_source(alloc, node, inside);
+        return new_source(alloc, keeps, node, inside);
     };
     if matches!(node.kind, Kind::Tag(_)) {
         return tag_round(alloc, old.node, inside);
@@ -330,7 +368,7 @@ fn source_round(
     if keeps && let Some(source) = link_round(alloc, old.node, node, inside)? {
         return Ok(source);
     }
-    new_source(alloc, node, inside)
+    new_source(alloc, keeps, node, inside)
 }
 
 fn role_of(kind: Kind) -> Role {
@@ -350,9 +388,38 @@ fn push_element<'t, 'a>(
     kept: Option<Kept<'t, 'a>>,
     node: &Node<'_>,
 ) -> Result<(), NoMemory> {
-    let inside = within(alloc, writing, node.children.as_slice(), edges_in(kept))?;
+    if writing.keeps && is_bare_now(alloc, kept, node)? {
+        let source = Str::copy_of(alloc, href_of(node))?;
+        let role = Role::Bare(href_of(node).ends_with("="));
+        return push_thing(out, role, source, Some(place_of_bare(kept)));
+    }
+    let mut inside = within(alloc, writing, node.children.as_slice(), edges_in(kept))?;
+    if writing.keeps && !matches!(node.kind, Kind::Tag(_)) {
+        inside = with_colons(alloc, inside)?;
+    }
     let source = source_round(alloc, writing.keeps, kept, node, inside.as_str())?;
     push_thing(out, role_of(node.kind), source, place_of(kept))
+}
+
+fn place_of_bare(kept: Option<Kept<'_, '_>>) -> Stretch {
+    place_of(kept).unwrap_or(place_of_new())
+}
+
+/// Whether a link is written as its URL alone: one that is new or was written so, and shows its URL.
+fn is_bare_now(
+    alloc: Global,
+    kept: Option<Kept<'_, '_>>,
+    node: &Node<'_>,
+) -> Result<bool, NoMemory> {
+    let was_bare = match kept {
+        Some(old) => matches!(old.role, Role::Bare(_)),
+        None => true,
+    };
+    if !was_bare || !matches!(node.kind, Kind::ExtLink) {
+        return Ok(false);
+    }
+    let text = shown_text(alloc, node)?;
+    Ok(text.as_str() == href_of(node) && is_bare_url(text.as_str().as_bytes()))
 }
 
 /// The inside of a link or tag.
@@ -363,7 +430,7 @@ fn within<'t, 'a>(
     nodes: &[Node<'_>],
     edges: Edges<'t, 'a>,
 ) -> Result<String, NoMemory> {
-    let units = units_of(alloc, writing, nodes, edges)?;
+    let units = units_of(alloc, writing, nodes, edges, None)?;
     let setting = Setting {
         within: true,
         place: writing.place,
@@ -393,7 +460,7 @@ fn push_node<'n, 't, 'a>(
             if is_mark && node.id != 0 && writing.known.is_left(writing.block, node.id) {
                 return Ok(());
             }
-            push_kept(alloc, out, kept, node.kind)
+            push_kept(alloc, out, writing.keeps, kept, node.kind)
         }
         InlineForm::Shown => {
             if push_if_unchanged(alloc, out, writing, kept, node)? {
@@ -477,10 +544,29 @@ fn units_of<'n, 't, 'a>(
     writing: Writing<'_, 't, 'a>,
     nodes: &'n [Node<'_>],
     edges: Edges<'t, 'a>,
+    spot: Option<Spot>,
 ) -> Result<Vec<Unit<'n>>, NoMemory> {
     let mut units = Vec::new(alloc);
     push_units(alloc, &mut units, writing, nodes, edges)?;
-    Ok(units)
+    if !writing.keeps {
+        return Ok(units);
+    }
+    with_joints(alloc, spot, units.as_slice())
+}
+
+fn spot_of(writing: Writing<'_, '_, '_>) -> Spot {
+    Spot {
+        place: writing.place,
+        before: match writing.block {
+            Some(block) => block.before,
+            None => b' ',
+        },
+        in_tables: writing.known.has_tables,
+    }
+}
+
+fn is_cell(place: Place) -> bool {
+    matches!(place, Place::Cell | Place::Header)
 }
 
 /// Inline nodes as the inside of a block.
@@ -490,7 +576,10 @@ pub fn spelled<'t, 'a>(
     nodes: &[Node<'_>],
     edges: Edges<'t, 'a>,
 ) -> Result<Str, NoMemory> {
-    let units = units_of(alloc, writing, nodes, edges)?;
+    let units = units_of(alloc, writing, nodes, edges, Some(spot_of(writing)))?;
+    if writing.keeps && units.is_empty() && is_cell(writing.place) {
+        return Ok(Str::new(alloc));
+    }
     let setting = Setting {
         within: false,
         place: writing.place,

@@ -4,11 +4,11 @@ use crate::delimiters::{
     push_begun, push_closing, push_heading_end, push_heading_start, push_opening, push_signs,
     shares_line,
 };
-use crate::inline::{Edges, Writing, edges_of, spelled};
+use crate::items::sign_of;
 use crate::kinds::{is_item, is_list};
-use crate::known::{Block, Known, block_of, sign_of};
 use std::alloc::Global;
 use wt_checks::original;
+use wt_content_proposal::{Block, Edges, Known, Writing, block_of, edges_of, spelled};
 use wt_difference::{are_same, inside, is_block_part};
 use wt_selser::place_in;
 use wt_span::{NoMemory, Str};
@@ -280,7 +280,7 @@ fn push_lines(
 }
 
 /// Appends a block as it stood in the page, where it stood there as it is; it says whether it does. An item
-/// stands so only with its signs.
+/// stands so only with its signs, a row with its sign.
 fn push_if_standing(
     alloc: Global,
     out: &mut Str,
@@ -294,6 +294,9 @@ fn push_if_standing(
     let Some(source) = source_standing(alloc, around.known, node)? else {
         return Ok(false);
     };
+    if matches!(node.kind, Kind::Tr) && !source.as_str().starts_with("|-") {
+        return Ok(false);
+    }
     push_begun(out, node.kind, source.as_str())?;
     Ok(true)
 }

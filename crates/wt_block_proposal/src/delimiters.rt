@@ -1,9 +1,8 @@
 //! The delimiters of blocks that are written anew: those that they had, where the page has them with the same number.
 
-use crate::inline::joined;
-use crate::known::Known;
 use std::alloc::Global;
 use wt_checks::original;
+use wt_content_proposal::{Known, joined};
 use wt_span::{NoMemory, Str, Text};
 use wt_tree::{Kind, Node, same_attrs, same_kind};
 

@@ -1,12 +1,11 @@
 //! What is known of the page: its nodes by their numbers, the texts next to each, and its source.
 
-use crate::kinds::is_item;
 use std::alloc::Global;
 use wt_checks::{Visit, is_content, original};
 use wt_difference::{is_block_part, stays_in};
 use wt_guards::{Role, Stretch};
 use wt_original::{Kept, Page, page_of_block};
-use wt_span::{NoMemory, Str};
+use wt_span::{NoMemory, Text};
 use wt_tree::{Kind, Node};
 
 // ---- texts beside nodes
@@ -70,13 +69,25 @@ fn push_sides<'t, 'a>(out: &mut Vec<Sides<'t, 'a>>, nodes: &'t [Node<'a>]) -> Re
 // ---- a block
 
 /// A block of the page, or its body: its nodes with their texts beside them, in preorder, the number of the
-/// first, which is its own, and where it stands in the page, in bytes.
+/// first, which is its own, where it stands in the page, in bytes, and the last byte of its opening delimiter
+/// (`last_byte`).
 #[derive(Drop)]
 pub struct Block<'t, 'a> {
     pub page: Page<'t, 'a>,
     pub sides: Vec<Sides<'t, 'a>>,
     pub first: u32,
     pub start: usize,
+    pub before: u8,
+}
+
+/// The last byte of a delimiter; a space where there is none, and of `||`, behind which any text may stand.
+fn last_byte(texts: &[Text<'_>]) -> u8 {
+    match texts.last() {
+        Some(text) if !text.as_str().ends_with("||") => {
+            text.as_str().as_bytes().last().copied().unwrap_or(b' ')
+        }
+        _ => b' ',
+    }
 }
 
 /// The sides of a node, which aren't asked for, and of all that it holds.
@@ -105,6 +116,7 @@ pub fn block_of<'t, 'a>(alloc: Global, node: &'t Node<'a>) -> Result<Block<'t, '
         sides,
         first: node.id,
         start,
+        before: last_byte(node.opening()),
     })
 }
 
@@ -156,13 +168,24 @@ fn at_end(role: Role) -> Role {
 // ---- the page
 
 /// The page: its source, and its nodes by their numbers. Only where nodes of the edited page come from other
-/// blocks, all of it as one block, and by their numbers which nodes stay without being written anew inside.
+/// blocks, all of it as one block, and by their numbers which nodes stay without being written anew inside; and
+/// whether it has a table.
 #[derive(Drop)]
 pub struct Known<'t, 'a> {
     pub page: &'t str,
     pub index: &'t [Visit<'t, 'a>],
     pub whole: Option<Block<'t, 'a>>,
     pub staying: Vec<bool>,
+    pub has_tables: bool,
+}
+
+fn has_tables(index: &[Visit<'_, '_>]) -> bool {
+    for visit in index {
+        if matches!(visit.node.kind, Kind::Table) {
+            return true;
+        }
+    }
+    false
 }
 
 /// Whether the page's node of this number is a child of the node `holder`.
@@ -275,6 +298,7 @@ impl<'t, 'a> Known<'t, 'a> {
             index,
             whole,
             staying,
+            has_tables: has_tables(index),
         })
     }
 
@@ -349,43 +373,4 @@ impl<'t, 'a> Known<'t, 'a> {
             },
         }
     }
-}
-
-// ---- items
-
-/// The sign of an item of a list.
-pub fn sign_of(list: Kind, item: Kind) -> &'static str {
-    match item {
-        Kind::Dt => ";",
-        Kind::Dd => ":",
-        _ => match list {
-            Kind::Ol => "#",
-            _ => "*",
-        },
-    }
-}
-
-/// The signs with which an item of the page begins its line, by the lists in which it stands; nothing of another
-/// node.
-pub fn signs_of(alloc: Global, known: &Known<'_, '_>, item: &Node<'_>) -> Result<Str, NoMemory> {
-    let mut out = Str::new(alloc);
-    push_signs(&mut out, known.index, item.id)?;
-    Ok(out)
-}
-
-/// Appends the signs of the page's node of this number. What holds a node has a number below its own.
-fn push_signs(out: &mut Str, index: &[Visit<'_, '_>], number: u32) -> Result<(), NoMemory> {
-    let Some(item) = original(index, number) else {
-        return Ok(());
-    };
-    if !is_item(item.node.kind) {
-        return Ok(());
-    }
-    let Some(list) = original(index, item.parent) else {
-        return Ok(());
-    };
-    if list.parent < number {
-        push_signs(out, index, list.parent)?;
-    }
-    out.push_str(sign_of(list.node.kind, item.node.kind))
 }

@@ -1,0 +1,12 @@
+//! Blocks, items and rows of an edited page as wikitext, with the page's bytes of what still stands in them. What they
+//! show isn't said here: who asks for them reads them back.
+#![tactic(auto)]
+
+mod blocks;
+mod delimiters;
+mod items;
+mod kinds;
+
+pub use blocks::{Surroundings, push_block};
+pub use items::signs_of;
+pub use kinds::{is_cell, is_item, is_lined, is_list, is_part};

@@ -1,0 +1,311 @@
+//! Where two neighbours stand beside each other though `edit` would part them: they don't join there. Whether that
+//! is so is told when the page is read back, so these rules need be right nearly always, and no more.
+
+use std::alloc::Global;
+use wt_guards::{Place, Role, Stretch, Thing, Unit};
+use wt_span::{NoMemory, Str};
+
+/// Where an inside is written: in what kind of block, the last byte of the delimiter before it (a space where there is
+/// none), and whether a table may be open there.
+#[derive(Clone, Copy)]
+pub struct Spot {
+    pub place: Place,
+    pub before: u8,
+    pub in_tables: bool,
+}
+
+/// A place in the page at which nothing ends.
+const NOWHERE: usize = 18_446_744_073_709_551_615;
+
+/// The place of a node that the page doesn't have.
+pub fn place_of_new() -> Stretch {
+    Stretch {
+        start: NOWHERE - 1,
+        end: NOWHERE,
+    }
+}
+
+/// What writes nothing, and stands beside what ends at this place of the page.
+fn joint_at<'n>(alloc: Global, start: usize) -> Unit<'n> {
+    Unit::Thing(Thing {
+        role: Role::Node,
+        source: Str::new(alloc),
+        place: Some(Stretch {
+            start,
+            end: NOWHERE,
+        }),
+    })
+}
+
+// ---- units
+
+fn source_of<'u>(unit: &'u Unit<'_>) -> &'u [u8] {
+    match unit {
+        Unit::Text(text) => text.as_bytes(),
+        Unit::Copied(text) => text.as_str().as_bytes(),
+        Unit::Thing(thing) => thing.source.as_str().as_bytes(),
+    }
+}
+
+fn role_of(unit: &Unit<'_>) -> Option<Role> {
+    match unit {
+        Unit::Thing(thing) => Some(thing.role),
+        Unit::Text(_) | Unit::Copied(_) => None,
+    }
+}
+
+fn copy_of<'n>(alloc: Global, unit: &Unit<'n>) -> Result<Unit<'n>, NoMemory> {
+    match unit {
+        Unit::Text(text) => Ok(Unit::Text(*text)),
+        Unit::Copied(text) => {
+            let text = Str::copy_of(alloc, text.as_str())?;
+            Ok(Unit::Copied(text))
+        }
+        Unit::Thing(thing) => {
+            let source = Str::copy_of(alloc, thing.source.as_str())?;
+            Ok(Unit::Thing(Thing {
+                role: thing.role,
+                source,
+                place: thing.place,
+            }))
+        }
+    }
+}
+
+fn before<'u, 'n>(units: &'u [Unit<'n>], at: usize) -> Option<&'u Unit<'n>> {
+    units.get(at.checked_sub(1)?)
+}
+
+fn units_from<'u, 'n>(units: &'u [Unit<'n>], at: usize) -> &'u [Unit<'n>] {
+    if at <= units.len() {
+        &units[at..]
+    } else {
+        units
+    }
+}
+
+/// The bytes that are written first, and those behind them; none where there are none.
+fn source_at<'u>(units: &'u [Unit<'_>], at: usize) -> &'u [u8] {
+    match units.get(at) {
+        Some(unit) => source_of(unit),
+        None => &[],
+    }
+}
+
+fn is_blank(byte: u8) -> bool {
+    byte == b' ' || byte == b'\t'
+}
+
+// ---- the start of a line
+
+/// Whether a line that goes on so ends with `=` as it is written: what is new there is written otherwise.
+fn may_end_with_equals(units: &[Unit<'_>]) -> bool {
+    for unit in units {
+        if let Unit::Thing(thing) = unit {
+            let source = thing.source.as_str().as_bytes();
+            if matches!(thing.role, Role::Group(_)) || source.contains(&b'=') {
+                return true;
+            }
+        }
+    }
+    false
+}
+
+fn is_rule(source: &[u8], next: &[u8]) -> bool {
+    source.starts_with(b"----") || (source.ends_with(b"-") && next.starts_with(b"-"))
+}
+
+/// Whether a line of a paragraph that begins with these would be another block.
+fn begins_block(spot: Spot, first: u8, units: &[Unit<'_>]) -> bool {
+    match first {
+        b'-' => is_rule(source_at(units, 0), source_at(units, 1)),
+        b'=' => may_end_with_equals(units),
+        b'!' => spot.in_tables,
+        _ => true,
+    }
+}
+
+fn is_list_sign(byte: u8) -> bool {
+    byte == b'*' || byte == b'#' || byte == b':' || byte == b';'
+}
+
+/// Whether an inside that begins with a byte would be read with the delimiter before it.
+fn joins_delimiter(spot: Spot, first: u8, units: &[Unit<'_>]) -> bool {
+    if is_blank(first) {
+        return true;
+    }
+    match spot.place {
+        Place::Paragraph => begins_block(spot, first, units),
+        Place::Heading => first == b'=',
+        Place::Item | Place::Term => is_list_sign(first) && !is_blank(spot.before),
+        Place::Cell => first == b'-' && spot.before == b'|',
+        Place::Header => first == b'!' && spot.before == b'!',
+    }
+}
+
+fn ends_line(unit: &Unit<'_>) -> bool {
+    source_of(unit).last() == Some(&b'\n')
+}
+
+/// Whether text that begins a line or the inside may do so as it is.
+fn may_begin(spot: Spot, units: &[Unit<'_>], at: usize) -> bool {
+    let Some(Unit::Text(text)) = units.get(at) else {
+        return false;
+    };
+    let Some(first) = text.as_bytes().first() else {
+        return false;
+    };
+    match before(units, at) {
+        None => !joins_delimiter(spot, *first, units_from(units, at)),
+        Some(unit) if ends_line(unit) => {
+            !is_blank(*first) && !begins_block(spot, *first, units_from(units, at))
+        }
+        Some(_) => false,
+    }
+}
+
+/// Whether the inside of a cell would make its sign that of a caption.
+fn is_caption_sign(spot: Spot, units: &[Unit<'_>], at: usize) -> bool {
+    match units.get(at) {
+        Some(Unit::Text(text)) => {
+            at == 0
+                && matches!(spot.place, Place::Cell)
+                && spot.before == b'|'
+                && text.starts_with("+")
+        }
+        _ => false,
+    }
+}
+
+// ---- behind a bare URL
+
+/// What is no part of a URL at its end.
+fn is_dropped(byte: u8, has_bracket: bool) -> bool {
+    match byte {
+        b',' | b';' | b'.' | b':' | b'!' | b'?' => true,
+        b')' => !has_bracket,
+        _ => false,
+    }
+}
+
+/// What ends a URL, also as it is written where it is new.
+fn is_no_url(byte: u8) -> bool {
+    byte <= b' ' || byte == b'<' || byte == b'>' || byte == b'[' || byte == b']' || byte == b'"'
+}
+
+fn first_kept(source: &[u8], has_bracket: bool) -> Option<u8> {
+    for byte in source {
+        if !is_dropped(*byte, has_bracket) {
+            return Some(*byte);
+        }
+    }
+    None
+}
+
+/// Whether a URL ends before these units.
+fn ends_url(url: &[u8], units: &[Unit<'_>]) -> bool {
+    let has_bracket = url.contains(&b'(');
+    for unit in units {
+        match role_of(unit) {
+            Some(Role::Toggle) => return true,
+            Some(Role::Group(_) | Role::Mark { .. } | Role::Bare(_)) => return false,
+            _ => {}
+        }
+        if let Some(byte) = first_kept(source_of(unit), has_bracket) {
+            return is_no_url(byte);
+        }
+    }
+    true
+}
+
+/// Where the bare URL before a place ends in the page, where it ends before what follows.
+fn ended_url(units: &[Unit<'_>], at: usize) -> Option<usize> {
+    match before(units, at)? {
+        Unit::Thing(thing) if matches!(thing.role, Role::Bare(_)) => {
+            let place = thing.place?;
+            if ends_url(thing.source.as_str().as_bytes(), units_from(units, at)) {
+                Some(place.end)
+            } else {
+                None
+            }
+        }
+        _ => None,
+    }
+}
+
+// ---- bold and italic
+
+/// The length of a delimiter that is written anew; 0 of anything else.
+fn toggle_length(unit: Option<&Unit<'_>>) -> usize {
+    match unit {
+        Some(Unit::Thing(thing)) if matches!(thing.role, Role::Toggle) => thing
+            .source
+            .as_str()
+            .len(),
+        _ => 0,
+    }
+}
+
+/// Whether two delimiters that are written anew make one run of five.
+fn are_five(units: &[Unit<'_>], at: usize) -> bool {
+    let left = toggle_length(before(units, at));
+    let right = toggle_length(units.get(at));
+    let outer = toggle_length(before(units, at.saturating_sub(1)));
+    left != 0 && right != 0 && left != right && outer == 0
+}
+
+// ---- all
+
+/// Where a joint stands before a unit, its place in the page.
+fn joint_before(spot: Option<Spot>, units: &[Unit<'_>], at: usize) -> Option<usize> {
+    if let Some(end) = ended_url(units, at) {
+        return Some(end);
+    }
+    if are_five(units, at) {
+        return Some(0);
+    }
+    if may_begin(spot?, units, at) {
+        Some(0)
+    } else {
+        None
+    }
+}
+
+fn push_before<'n>(
+    alloc: Global,
+    out: &mut Vec<Unit<'n>>,
+    spot: Option<Spot>,
+    units: &[Unit<'n>],
+    at: usize,
+) -> Result<(), NoMemory> {
+    if let Some(start) = joint_before(spot, units, at) {
+        out.push(joint_at(alloc, start))?;
+    }
+    match spot {
+        Some(spot) if is_caption_sign(spot, units, at) => {
+            let source = Str::copy_of(alloc, "<nowiki/>")?;
+            out.push(Unit::Thing(Thing {
+                role: Role::Node,
+                source,
+                place: None,
+            }))?;
+        }
+        _ => {}
+    }
+    Ok(())
+}
+
+/// The units with joints between those that stand beside each other as they are. Without a spot no line begins and
+/// none ends there: it is the inside of a link or tag.
+pub fn with_joints<'n>(
+    alloc: Global,
+    spot: Option<Spot>,
+    units: &[Unit<'n>],
+) -> Result<Vec<Unit<'n>>, NoMemory> {
+    let mut out = Vec::new(alloc);
+    for at in 0..units.len() {
+        push_before(alloc, &mut out, spot, units, at)?;
+        out.push(copy_of(alloc, &units[at])?)?;
+    }
+    Ok(out)
+}

@@ -1,0 +1,14 @@
+//! The inside of one block of an edited page as wikitext, with the page's bytes of all that still stands in it, texts
+//! too. What it shows isn't said here: who asks for it reads it back.
+#![tactic(auto)]
+
+mod common;
+mod groups;
+mod inline;
+mod joints;
+mod known;
+mod links;
+mod texts;
+
+pub use inline::{Edges, Writing, edges_of, joined, spelled};
+pub use known::{Block, Known, Sides, block_of, last_text};
