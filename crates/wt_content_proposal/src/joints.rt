@@ -101,11 +101,14 @@ fn is_blank(byte: u8) -> bool {
 /// Whether a line that goes on so ends with `=` as it is written: what is new there is written otherwise.
 fn may_end_with_equals(units: &[Unit<'_>]) -> bool {
     for unit in units {
-        if let Unit::Thing(thing) = unit {
-            let source = thing.source.as_str().as_bytes();
-            if matches!(thing.role, Role::Group(_)) || source.contains(&b'=') {
-                return true;
-            }
+        let source = source_of(unit);
+        let is_group = matches!(role_of(unit), Some(Role::Group(_)));
+        let is_standing = role_of(unit).is_some();
+        if is_group || (is_standing && source.contains(&b'=')) {
+            return true;
+        }
+        if source.contains(&b'\n') {
+            return false;
         }
     }
     false

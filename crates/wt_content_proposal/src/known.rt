@@ -82,11 +82,18 @@ pub struct Block<'t, 'a> {
 
 /// The last byte of a delimiter; a space where there is none, and of `||`, behind which any text may stand.
 fn last_byte(texts: &[Text<'_>]) -> u8 {
-    match texts.last() {
-        Some(text) if !text.as_str().ends_with("||") => {
-            text.as_str().as_bytes().last().copied().unwrap_or(b' ')
+    let mut before = b' ';
+    let mut last = b' ';
+    for text in texts {
+        for byte in text.as_str().as_bytes() {
+            before = last;
+            last = *byte;
         }
-        _ => b' ',
+    }
+    if before == b'|' && last == b'|' {
+        b' '
+    } else {
+        last
     }
 }
 

@@ -24,7 +24,6 @@ use Rattle.wt_tree.specs.View.{view}
 use Rattle.wt_utf8.proofs.PlaceLaws.{no_place}
 use Rattle.wt_edit.specs.declared.known.KnownPage.{KnownPage}
 use Rattle.wt_pagetool.specs.declared.output.Output.{Output}
-use Rattle.wt_pagetool.specs.declared.output.Output.TheVariants as output
 use Rattle.wt_pagetool.specs.declared.proposing.Tried.{Tried}
 use Rattle.wt_pagetool.specs.declared.proposing.Tried.TheVariants as tried
 use Rattle.wt_pagetool.specs.declared.reading_back.Fault.{Fault}

@@ -74,7 +74,8 @@ pub fn finished_leaf<'a>(
     ensures { IfOk result (λ m. IsFinished next (near_of (outer_calls calls.now) child.entry).whole (view m.node) m.next) }
 {
     let leaf = kept_leaf(alloc, calls, child)?;
-    alone(leaf, next)
+    let finished = alone(leaf, next)?;
+    Ok(finished)
 }
 
 /// The group of these children.
@@ -90,7 +91,8 @@ pub fn finished_group<'a>(
         (nears_of (outer_calls calls.now) children.entry)) (view m.node) m.next) }
 {
     let group = group_node(alloc, calls, children)?;
-    alone(group, next)
+    let finished = alone(group, next)?;
+    Ok(finished)
 }
 
 /// A node that is kept, round children that are finished, in its frame.

@@ -1,7 +1,9 @@
-use Rattle.std.proofs.Common.{arith}
+use Rattle.std.proofs.Common.{◌≡◌, sym, ◌∙◌, length, arith}
+use Rattle.std.specs.Vec.Iter.{into_iter_items}
 use Rattle.wt_inline.specs.View.{item_trees}
 use Rattle.wt_inline.specs.declared.tree.PieceTree.{out-PieceTree}
 use Rattle.wt_annotated.specs.Pieces.{outer_calls}
+use Rattle.wt_ranges.proofs.Finishing.{runs_end}
 use Rattle.wt_ranges.proofs.Groupings.{fewer, all_fit, inside_fits}
 use Rattle.wt_ranges.proofs.grouping.+grouping.Goals as goal
 
@@ -19,3 +21,9 @@ kept_node-run_nodes-requires t c =
             (inside_fits calls c.args.child f c.requires.fits opened.frame) opened.runs,
       ),
     )
+
+pub run_nodes-returns : goal.run_nodes-returns
+run_nodes-returns t c =
+    let rs = into_iter_items c.loop-run.run-iterator in
+    let len : length rs ≡ 0 = sym c.loop-run.run-iterator.rest.ok.0 ∙ c.in-None.ensures.steps.0 in
+    runs_end (outer_calls c.args.calls.now) c.loop-run.nodes c.loop-run.behind c.args.next rs c.args.runs c.loop-run.invariant len

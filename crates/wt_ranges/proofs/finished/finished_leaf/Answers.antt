@@ -1,0 +1,10 @@
+use Rattle.wt_tree.specs.View.{view}
+use Rattle.wt_annotated.specs.Pieces.{outer_calls}
+use Rattle.wt_ranges.proofs.Finishing.{leaf_finished}
+use Rattle.wt_ranges.proofs.finished.finished_leaf.Goals as goal
+
+pub returns : goal.returns
+returns c =
+    let m = c.in_ok-finished.finished in
+    leaf_finished (outer_calls c.args.calls.now) c.args.child (view c.in_ok-leaf.leaf) (view m.node) c.args.next m.next c.requires.leaf
+    c.in_ok-leaf.ensures c.in_ok-finished.ensures.tree c.in_ok-finished.ensures.number
