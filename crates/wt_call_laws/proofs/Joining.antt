@@ -28,10 +28,12 @@ take_on n front rest =
 
 pub failed_both : (a b : SinkUse) → (front rest : List ℕ) → Meet a b → Took a front → FailedAfter b rest → FailedAfter (both a b) (front ++ rest)
 failed_both a b front rest m f g = record {
-  taken = (length front + g.taken.0,
-      subst (Appends a.taken_before b.taken_after) (sym (take_on g.taken.0 front rest))
-      (Appends-trans a.taken_before a.taken_after b.taken_after front (take g.taken.0 rest) f.taken
-      (subst (λ (o : Option (List ℕ)). Appends o b.taken_after (take g.taken.0 rest)) (sym m.taken) g.taken.1)));
+  taken = (
+    length front + g.taken.0,
+    subst (Appends a.taken_before b.taken_after) (sym (take_on g.taken.0 front rest))
+        (Appends-trans a.taken_before a.taken_after b.taken_after front (take g.taken.0 rest) f.taken
+        (subst (λ (o : Option (List ℕ)). Appends o b.taken_after (take g.taken.0 rest)) (sym m.taken) g.taken.1)),
+  );
   count = subst (λ (n : ℕ). Rose n b.faults_after) (sym m.count ∙ f.count) g.count;
 }
 
@@ -56,9 +58,12 @@ untouched_is a = (
 pub gives_front : (most : ℕ) → (old new : List ℕ) → (GivesAtMost most (Some old) (Some new)) ↔ ((n : ℕ) × (n ≤ most) × (n ≤ length old) × (new ≡ drop n old))
 gives_front most old new = (
   λ g. let e : old ≡ g.0 ++ new = g.1 in let l = length-append g.0 new in let k = ap length e in
-  (length g.0, g.2, omega (arith, l, k), sym (ap (drop (length g.0)) e ∙ drop-append_seam g.0 new)),
-  λ h. (take h.0 old, sym (take-append-drop h.0 old) ∙ ap (λ (l : List ℕ). take h.0 old ++ l) (sym h.3),
-  (let l = length-take-le h.0 old h.2 in let m = h.1 in omega (arith, l, m))),
+      (length g.0, g.2, omega (arith, l, k), sym (ap (drop (length g.0)) e ∙ drop-append_seam g.0 new)),
+  λ h. (
+    take h.0 old,
+    sym (take-append-drop h.0 old) ∙ ap (λ (l : List ℕ). take h.0 old ++ l) (sym h.3),
+    (let l = length-take-le h.0 old h.2 in let m = h.1 in omega (arith, l, m)),
+  ),
 )
 
 pub fed_all : (reader : Reader) → (all : List ℕ) → (new : Option (List ℕ)) → FedWhole reader (Some all) new → IsFed reader all × (length all ≤ HTML_BYTES) × IsAtEnd new

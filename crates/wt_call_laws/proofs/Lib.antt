@@ -4,3 +4,5 @@ pub mod Exclusions
 pub mod OneOutput
 pub mod Counting
 pub mod Late
+pub mod OwnHtml
+mod Cases

@@ -1,5 +1,5 @@
 -- What counts of faults tell.
-use Rattle.std.proofs.Common.{arith, ◌≡◌, ◌↔◌, ℕ, ◌+◌, ◌-◌, ◌^◌, ◌<◌, ◌≤◌, List, length, Ok, Err, Result, refl, sym}
+use Rattle.std.proofs.Common.{arith, ◌≡◌, ◌↔◌, ℕ, ◌-◌, ◌^◌, ◌<◌, ◌≤◌, List, Ok, Err, Result}
 use Rattle.wt_devices.specs.Device.{Rose, ReadCause, WriteCause, FetchCause}
 use Rattle.wt_devices.specs.declared.device.Failed.{Failed}
 use Rattle.wt_devices.specs.declared.device.Fetched.{Fetched}
@@ -29,8 +29,10 @@ read_tells before now (Err e) h = (
 pub write_tells : (before now : ℕ) (piece : List ℕ) (result : Result ℕ Failed) → before < 2 ^ 64 - 1 → (WriteCause before now piece result) ↔ (Tells (IsWriteFault piece result) before now)
 write_tells before now piece (Ok n) h = (
   λ c. record {
-    told = (λ f. rose_more before now h (c.stuck f.0 f.1),
-    λ l. let k = c.kept in let i = c.idle in grind arith);
+    told = (
+      λ f. rose_more before now h (c.stuck f.0 f.1),
+      λ l. let k = c.kept in let i = c.idle in grind arith,
+    );
     later = c.later;
   },
   λ t. record {

@@ -1,17 +1,15 @@
 -- What entries have under a name, and which front of a page is given.
-use Rattle.std.proofs.Common.{arith, ◌≡◌, ◌≢◌, ◌↔◌, ℕ, zero, suc, ◌+◌, ◌<◌, ◌≤◌, Bool, true, false, cond, List, [], ◌∷◌, ◌++◌, Option, Some, None, length, take, drop, refl, sym, ap, ◌∙◌, subst, inl, inr, ◌⊎◌, append-nil, length-append}
-use Rattle.std.specs.Prelude.{All, find, option_map, nat_le, min}
+use Rattle.std.proofs.Common.{arith, ◌≡◌, ◌≢◌, ◌↔◌, ℕ, zero, suc, ◌≤◌, Bool, true, false, List, [], ◌∷◌, ◌++◌, Option, Some, None, length, take, drop, refl, sym, ap, ◌∙◌, subst, inl, inr, ◌⊎◌, append-nil}
+use Rattle.std.specs.Prelude.{All, option_map, nat_le, min}
 use Rattle.std.proofs.lemmas.Bool.Decides.{nat_tests}
 use Rattle.std.specs.Bool.{Decides}
-use Rattle.std.specs.List.{AllByRecursion}
 use Rattle.std.specs.Str.{bytes_eq}
 use Rattle.std.proofs.lemmas.List.{take-append-drop, take_all, length-take, drop_all}
 use Rattle.std.proofs.Math.Seq.{take-append_seam}
 use Rattle.std.proofs.lemmas.Slice.Eq.{bytes_eq-Decides}
-use Rattle.wt_devices.specs.Device.{Pages, Gives, IsAtMost}
+use Rattle.wt_devices.specs.Device.{Pages, Gives}
 use Rattle.wt_devices.specs.Shelf.{look_up, ArePagesOf}
-use Rattle.wt_devices.specs.declared.device.Fetched.{Fetched}
-use Rattle.wt_devices.specs.declared.device.Fetched.TheVariants.{Found, Absent}
+use Rattle.wt_devices.specs.declared.device.Fetched.TheVariants.{Found}
 use Rattle.wt_device_laws.specs.Folders.{IsFirstNamed, NoneIsNamed, IsFrontOfPage}
 
 abbrev Entry : Type 0
@@ -110,6 +108,7 @@ whole_or_cut most page bytes same = by (nat_le (length page) most) refl
   where
     m : length (take most page) ≡ min most (length page)
     m = length-take most page
+
     by : (v : Bool) → nat_le (length page) most ≡ v → (drop most page ≡ []) ⊎ (length bytes ≡ most)
     by true e = inl (drop_all most page (grind (arith, nat_tests)))
     by false e = inr (ap length same ∙ m ∙ (grind (arith, nat_tests)))

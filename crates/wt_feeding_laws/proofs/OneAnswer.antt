@@ -1,7 +1,7 @@
 -- What answers exclude, and what a reader knows.
-use Rattle.std.proofs.Common.{arith, ◌≡◌, ◌↔◌, ℕ, ◌-◌, ◌≤◌, List, ◌++◌, length, Option, Some, None, Result, Ok, Err, refl, sym, ap, ◌∙◌, subst}
-use Rattle.wt_html_grammar.specs.Grammar.{Well, Front}
-use Rattle.wt_html_grammar.specs.Machine.{State, start, inside, run, onward}
+use Rattle.std.proofs.Common.{◌≡◌, ℕ, List, ◌++◌, length, Option, Some, None, Ok, Err, refl, sym, ap, ◌∙◌, subst}
+use Rattle.wt_html_grammar.specs.Grammar.{Well}
+use Rattle.wt_html_grammar.specs.Machine.{State, start, run, onward}
 use Rattle.wt_html_grammar.specs.Markup.{Markup, Stands}
 use Rattle.wt_html_grammar.specs.Places.{Refused, taken}
 use Rattle.wt_html_grammar.specs.declared.why.HtmlWhy.{HtmlWhy}

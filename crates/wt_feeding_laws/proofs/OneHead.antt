@@ -1,5 +1,5 @@
 -- What a head decides.
-use Rattle.std.proofs.Common.{◌≡◌, ℕ, Bool, false, List, [], Option, Some, None, Result, Ok, Err, refl, sym, ap, ◌∙◌, subst}
+use Rattle.std.proofs.Common.{◌≡◌, ℕ, Bool, false, List, [], Option, Some, None, Result, Ok, Err, refl, sym, ap, ◌∙◌}
 use Rattle.wt_datamw.specs.declared.sync.Sync.{Sync}
 use Rattle.wt_tree.specs.Tree.{Label, Tree, tree, label}
 use Rattle.wt_tree.specs.View.{attrs_of}
@@ -9,7 +9,7 @@ use Rattle.wt_schema.specs.declared.standing.Standing.{Standing}
 use Rattle.wt_schema.specs.declared.standing.Standing.TheVariants as stands
 use Rattle.wt_schema.specs.Fit.{Misfit, with_sync, children_in}
 use Rattle.wt_schema.specs.Groups.{Piece, single, begun, further}
-use Rattle.wt_html_nodes.specs.Heads.{BodyFits, RowFits, bare_label, label_of_head, made_by, piece_by}
+use Rattle.wt_html_nodes.specs.Heads.{BodyFits, RowFits, bare_label, label_of_head, piece_by}
 use Rattle.wt_html_nodes.specs.declared.fault.FitFault.TheVariants as faults
 use Rattle.wt_html_nodes.specs.declared.head.Head.{Head}
 use Rattle.wt_html_nodes.specs.declared.head.Headed.{Headed}

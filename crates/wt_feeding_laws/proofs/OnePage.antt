@@ -1,10 +1,9 @@
 -- What answers of pages exclude.
-use Rattle.std.proofs.Common.{◌≡◌, ◌↔◌, ◌⊎◌, inl, inr, ℕ, List, ◌++◌, Option, Some, None, Result, Ok, Err, refl, sym, ap, ◌∙◌, subst}
+use Rattle.std.proofs.Common.{◌≡◌, ◌↔◌, ◌⊎◌, inl, inr, ℕ, List, ◌++◌, Option, Some, None, Ok, refl, sym, ◌∙◌, subst}
 use Rattle.wt_tree.specs.Tree.{Tree}
-use Rattle.wt_html_grammar.specs.Grammar.{Well}
 use Rattle.wt_html_grammar.specs.declared.why.HtmlWhy.{HtmlWhy}
 use Rattle.wt_html_elements.specs.declared.fault.HtmlRefusal.{HtmlRefusal as ElementsRefusal}
-use Rattle.wt_schema.specs.Read.{Read, IsRead, page, ill, misfit, read}
+use Rattle.wt_schema.specs.Read.{IsRead, page, ill, misfit, read}
 use Rattle.wt_schema.proofs.OneReading.{one_read, reads}
 use Rattle.wt_html_in.specs.Answers.{Answers, RefusedFor, body_of, unsourced_of}
 use Rattle.wt_html_in.specs.Feeding.{IsFed, IsIll, failed_of, failure_told}

@@ -1,8 +1,6 @@
 -- Bytes behind which the same may follow, and the node of a piece.
 use Rattle.std.specs.Prelude.{◌↔◌, ℕ, List, ◌++◌}
 use Rattle.wt_html_grammar.specs.Grammar.{Well}
-use Rattle.wt_tree.specs.Tree.{Tree}
-use Rattle.wt_schema.specs.Groups.{Piece, single, begun, further}
 
 -- the same makes both well-formed
 abbrev pub GoOnAlike : List ℕ → List ℕ → Type 0

@@ -1,10 +1,10 @@
 -- Line breaks of parted pieces.
-use Rattle.std.proofs.Common.{arith, ◌≡◌, ℕ, suc, ◌+◌, ◌<◌, ◌≤◌, ◌⊎◌, inl, inr, Bool, true, false, cond, Option, List, [], ◌∷◌, ◌++◌, length, map, refl, sym, ap, ap₂, ◌∙◌, subst}
+use Rattle.std.proofs.Common.{arith, ◌≡◌, ℕ, suc, ◌+◌, ◌≤◌, inl, inr, Bool, true, false, cond, Option, List, [], ◌∷◌, ◌++◌, length, map, refl, sym, ap, ap₂, ◌∙◌, subst}
 use Rattle.std.specs.Prelude.{◌&&◌, not}
-use Rattle.std.specs.List.{AllByRecursion, list_all}
+use Rattle.std.specs.List.{AllByRecursion}
 use Rattle.std.proofs.lemmas.List.Concat.{flat_map-cons}
 use Rattle.wt_span.specs.Bytes.{is_break}
-use Rattle.wt_span.specs.Items.{Item, char, whole, is_char_in, items, items_by, items_of, call_of_origin}
+use Rattle.wt_span.specs.Items.{Item, char, is_char_in, items, items_by, items_of, call_of_origin}
 use Rattle.wt_span.specs.Slice.{bytes_of}
 use Rattle.wt_span.specs.declared.form.Form.{Form}
 use Rattle.wt_span.specs.declared.form.Form.TheVariants as form
@@ -31,6 +31,7 @@ unbroken o (b ∷ bs) e = by (is_break b) refl (unbroken o bs)
   where
     h : (not (is_break b) ≡ true) × (no_break bs ≡ true)
     h = both (not (is_break b)) (no_break bs) e
+
     by : (v : Bool) → is_break b ≡ v → (no_break bs ≡ true → breaks (map (char o) bs) ≡ 0) → breaks (map (char o) (b ∷ bs)) ≡ 0
     by true t g = let f : not true ≡ true = ap not (sym t) ∙ h.0 in cc
     by false t g = let r = g h.1 in rw t (omega (arith, r))

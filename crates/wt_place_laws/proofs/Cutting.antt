@@ -1,8 +1,8 @@
 -- Lexemes by the places where they begin and end.
-use Rattle.std.proofs.Common.{arith, ◌≡◌, ◌↔◌, ℕ, ◌+◌, ◌-◌, ◌≤◌, List, [], ◌∷◌, ◌++◌, length, take, drop, sum, refl, sym, ap, ◌∙◌, subst}
-use Rattle.std.specs.Str.{IsUtf8, IsCharBoundary}
+use Rattle.std.proofs.Common.{arith, ◌≡◌, ◌↔◌, ℕ, ◌+◌, ◌-◌, List, [], ◌∷◌, ◌++◌, take, drop, refl, sym, ap, ◌∙◌}
+use Rattle.std.specs.Str.{IsUtf8}
 use Rattle.std.proofs.lemmas.Str.{IsUtf8-between}
-use Rattle.wt_lex.specs.Places.{AtBorders, Follow, word_of}
+use Rattle.wt_lex.specs.Places.{AtBorders, Follow}
 use Rattle.wt_lex.specs.declared.lexeme.Lexeme.{Lexeme}
 use Rattle.wt_place_laws.specs.Sides.{starts, ends, width}
 
@@ -19,9 +19,10 @@ sides_of from to (x ∷ xs) f =
 
 of_sides : (from to : ℕ) (xs : List Lexeme) → starts xs ++ to ∷ [] ≡ from ∷ ends xs → Follow from xs to
 of_sides from to [] e = sym (first_of to from [] [] e)
-of_sides from to (x ∷ xs) e =
-    (first_of x.at.start from (starts xs ++ to ∷ []) (x.at.end ∷ ends xs) e,
-    of_sides x.at.end to xs (rest_of x.at.start from (starts xs ++ to ∷ []) (x.at.end ∷ ends xs) e))
+of_sides from to (x ∷ xs) e = (
+  first_of x.at.start from (starts xs ++ to ∷ []) (x.at.end ∷ ends xs) e,
+  of_sides x.at.end to xs (rest_of x.at.start from (starts xs ++ to ∷ []) (x.at.end ∷ ends xs) e),
+)
 
 pub by_sides : (from to : ℕ) → (xs : List Lexeme) → (Follow from xs to) ↔ (starts xs ++ to ∷ [] ≡ from ∷ ends xs)
 by_sides from to xs = (sides_of from to xs, of_sides from to xs)

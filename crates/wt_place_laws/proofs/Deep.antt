@@ -1,5 +1,5 @@
 -- The first call that lies too deep.
-use Rattle.std.proofs.Common.{arith, ◌≡◌, ◌↔◌, ℕ, ◌<◌, ◌≤◌, Bool, true, false, Option, Some, None, List, [], ◌∷◌, ◌++◌, Ok, Err, map, refl, sym, ap, ◌∙◌}
+use Rattle.std.proofs.Common.{arith, ◌≡◌, ◌↔◌, ℕ, ◌<◌, ◌≤◌, Bool, true, false, Some, None, List, [], ◌∷◌, ◌++◌, Ok, Err, map, refl, sym, ap, ◌∙◌}
 use Rattle.std.specs.Prelude.{nat_le, if◌then◌else◌}
 use Rattle.std.proofs.lemmas.Bool.Decides.{nat_tests}
 use Rattle.wt_span.specs.Braces.{CallAt, nesting}
@@ -66,7 +66,7 @@ pub refused_first : (cs : List CallAt) → (place : ℕ) → (AnswersCalls cs (E
 unfolding too_deep
 refused_first cs place = (
   λ e. let f = found_first cs cs place e in
-  record { before = f.before; deep = f.deep; behind = f.behind; whole = f.whole; place_is = f.place_is; is_deep = f.is_deep; first = f.first },
+      record { before = f.before; deep = f.deep; behind = f.behind; whole = f.whole; place_is = f.place_is; is_deep = f.is_deep; first = f.first },
   λ f. ap (deep_among cs) f.whole ∙ first_found cs f.before f.deep f.behind f.first f.is_deep ∙ ap Some (sym f.place_is),
 )
 

@@ -1,5 +1,5 @@
 -- A walk through a tree is one over its items.
-use Rattle.std.proofs.Common.{arith, ◌≡◌, ℕ, ◌+◌, Option, List, ◌++◌, length, refl, sym, ap, ap₂, ◌∙◌, length-append, append_assoc}
+use Rattle.std.proofs.Common.{arith, ◌≡◌, ℕ, ◌+◌, Option, List, ◌++◌, length, sym, ap, ap₂, ◌∙◌, length-append, append_assoc}
 use Rattle.wt_span.specs.Items.{Item, items}
 use Rattle.wt_span.specs.Origins.{OuterCall}
 use Rattle.wt_inline.specs.ItemTree.{forest, tree_items, held_by_all}

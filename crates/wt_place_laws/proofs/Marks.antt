@@ -49,9 +49,10 @@ front_in : (ps : List Piece) (n : ℕ) → AreMarksInFront ps n → AreLeadingMa
 front_in ps n m =
     let a : List Item = items (take n ps) in
     let b : List Item = items (drop n ps) in
-    let k : prefix_len is_mark (items ps) ≡ length a = ap (prefix_len is_mark) (items_cut n ps) ∙ marks_len a b m.marks m.others in
-    (ap (λ (i : ℕ). take i (items ps)) k ∙ ap (take (length a)) (items_cut n ps) ∙ take-append_seam a b,
-    ap (λ (i : ℕ). drop i (items ps)) k ∙ ap (drop (length a)) (items_cut n ps) ∙ drop-append_seam a b)
+    let k : prefix_len is_mark (items ps) ≡ length a = ap (prefix_len is_mark) (items_cut n ps) ∙ marks_len a b m.marks m.others in (
+      ap (λ (i : ℕ). take i (items ps)) k ∙ ap (take (length a)) (items_cut n ps) ∙ take-append_seam a b,
+      ap (λ (i : ℕ). drop i (items ps)) k ∙ ap (drop (length a)) (items_cut n ps) ∙ drop-append_seam a b,
+    )
 
 pub in_front_is : (ps : List Piece) → (n : ℕ) → (AreLeadingMarks ps n) ↔ (AreMarksInFront ps n)
 in_front_is ps n = (in_front ps n, front_in ps n)

@@ -8,6 +8,6 @@ mod lines;
 mod walks;
 
 pub use calls::the_first_deep_call_is_told;
-pub use lexemes::{lexemes_begin_where_others_end, lexemes_are_cut_out};
+pub use lexemes::{lexemes_are_cut_out, lexemes_begin_where_others_end};
 pub use lines::{breaks_are_pieces, marks_stand_in_front};
 pub use walks::walks_go_over_their_items;

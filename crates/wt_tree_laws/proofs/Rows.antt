@@ -46,7 +46,7 @@ mutual
   together (tree l ts) = (
     ([], [], sym (append-nil (rows (tree l ts)))),
     subst (λ (x : List Row). AllByRecursion (Together (row_of l ∷ x)) (subtrees_of_all ts)) (append-nil (map row (subtrees_of_all ts)))
-    (all_widened (map row (subtrees_of_all ts)) (row_of l ∷ []) [] (subtrees_of_all ts) (all_together ts)),
+        (all_widened (map row (subtrees_of_all ts)) (row_of l ∷ []) [] (subtrees_of_all ts) (all_together ts)),
   )
 
   all_together : (ts : Trees) → AllByRecursion (Together (map row (subtrees_of_all ts))) (subtrees_of_all ts)

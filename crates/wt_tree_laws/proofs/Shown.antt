@@ -1,5 +1,5 @@
 -- What elements show.
-use Rattle.std.proofs.Common.{arith, ◌≡◌, ℕ, suc, ◌≤◌, List, [], ◌++◌, refl, sym, ap, ◌∙◌, append-nil}
+use Rattle.std.proofs.Common.{arith, ◌≡◌, suc, ◌≤◌, refl, ap, ◌∙◌, append-nil}
 use Rattle.wt_tree.specs.Elements.{as_element, as_elements, or_empty_span}
 use Rattle.wt_tree.specs.Plain.{Plain, Plains, text, element, ended, along}
 use Rattle.wt_tree_laws.specs.Showing.{shown_of, shown_of_all, count, IsElement, AreElements}

@@ -1,5 +1,5 @@
 -- What a plain view shows, and that it has elements alone.
-use Rattle.std.specs.Prelude.{◌≡◌, ℕ, zero, suc, List, [], ◌++◌}
+use Rattle.std.specs.Prelude.{ℕ, zero, suc, List, [], ◌++◌}
 use Rattle.wt_tree.specs.Plain.{Plain, Plains, text, element, ended, along}
 
 -- the characters that a plain view shows, by their bytes
