@@ -1,8 +1,8 @@
 -- Worked cases of devices and of the line of `gen`.
-use Rattle.std.proofs.Common.{◌≡◌, ℕ, ◌+◌, List, [], ◌∷◌, ◌++◌, Some, None, refl}
+use Rattle.std.proofs.Common.{◌≡◌, Some, refl}
 use Rattle.std.specs.Prelude.{codes}
-use Rattle.std.specs.Fmt.{decimal}
-use Rattle.wt_pagetool.specs.Devices.{SinkUse, Took, Untouched}
+use Rattle.wt_pagetool.specs.Devices.{SinkUse, Took}
+use Rattle.std.specs.Fmt.{digits}
 use Rattle.wt_pagetool.specs.Gen.{line}
 use Rattle.wt_call_laws.specs.Uses.{both}
 
@@ -21,5 +21,5 @@ took_three = record { taken = refl; count = refl }
 
 -- the line of a page of twelve bytes with five nodes, of which one is a group
 line_of_gen : line 12 5 1 12 ≡ codes "bytes 12 nodes 5 groups 1 back 12\n"
-unfolding line decimal
+unfolding line digits
 line_of_gen = refl

@@ -1,11 +1,9 @@
 -- In which ways a call can't end.
-use Rattle.std.proofs.Common.{arith, ◌≡◌, ℕ, ◌+◌, ◌-◌, ◌^◌, ◌<◌, ◌≤◌, List, [], ◌∷◌, ◌++◌, length, Option, Some, None, refl, sym, ap, ◌∙◌, subst, length-append}
-use Rattle.std.specs.Prelude.{codes}
+use Rattle.std.proofs.Common.{arith, ◌≡◌, ℕ, ◌-◌, ◌^◌, ◌<◌, List, length, Option, Some, None, sym, ap, ◌∙◌, subst, length-append}
 use Rattle.std.specs.Io.KnownBytes.{Appends, Keeps}
 use Rattle.wt_devices.specs.Device.{Rose}
 use Rattle.wt_pagetool.specs.Calls.{Call, IsDue, IsDueAs}
-use Rattle.wt_pagetool.specs.Devices.{SinkUse}
-use Rattle.wt_pagetool.specs.Refusals.{line_of, status_of, text_of}
+use Rattle.wt_pagetool.specs.Refusals.{line_of, status_of}
 use Rattle.wt_pagetool.specs.Reports.{ErrFailed, OutFailed, WasDone, WasRefused}
 use Rattle.wt_pagetool.specs.Statuses.{code}
 use Rattle.wt_pagetool.specs.declared.refusal.Refusal.{Refusal}

@@ -1,13 +1,13 @@
 -- Calls of devices, one after the other.
-use Rattle.std.proofs.Common.{arith, ◌≡◌, ◌↔◌, ℕ, ◌+◌, ◌^◌, ◌-◌, ◌≤◌, List, [], ◌++◌, length, take, drop, Option, Some, None, refl, sym, ap, ap₂, ◌∙◌, subst, append_assoc, append-nil, length-append, length-take-le}
+use Rattle.std.proofs.Common.{arith, ◌≡◌, ◌↔◌, ℕ, ◌+◌, ◌≤◌, List, [], ◌++◌, length, take, drop, Option, Some, None, sym, ap, ap₂, ◌∙◌, subst, append-nil, length-append, length-take-le}
 use Rattle.std.proofs.lemmas.List.{take-append-drop}
 use Rattle.std.proofs.Math.Seq.{take-add, take-append_seam, drop-append_seam}
-use Rattle.std.specs.Io.KnownBytes.{Appends, Consumes, IsAtEnd, Keeps}
+use Rattle.std.specs.Io.KnownBytes.{Appends, IsAtEnd, Keeps}
 use Rattle.std.proofs.KnownBytes.{Appends-trans}
 use Rattle.wt_devices.specs.Device.{Rose}
 use Rattle.wt_html_in.specs.Feeding.{IsFed}
 use Rattle.wt_html_in.specs.declared.reader.Reader.{Reader}
-use Rattle.wt_pagetool.specs.Devices.{AppendsFront, FailedAfter, SinkUse, SinkFailed, Took, Untouched}
+use Rattle.wt_pagetool.specs.Devices.{FailedAfter, SinkUse, Took, Untouched}
 use Rattle.wt_pagetool.specs.Inputs.{FedSoFar, FedWhole, GivesAtMost}
 use Rattle.wt_span.specs.declared.limits.TheConstants.{HTML_BYTES}
 use Rattle.wt_call_laws.specs.Uses.{both, Meet}

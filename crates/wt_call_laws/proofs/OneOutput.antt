@@ -1,9 +1,9 @@
 -- What is written is one.
-use Rattle.std.proofs.Common.{◌≡◌, ℕ, List, ◌++◌, Option, Some, None, refl, sym, ap, ap₂, ◌∙◌, subst}
+use Rattle.std.proofs.Common.{◌≡◌, ℕ, List, ◌++◌, Option, Some, None, sym, ap, ap₂, ◌∙◌}
 use Rattle.wt_devices.specs.Device.{Pages}
 use Rattle.wt_tree.specs.Source.{flat}
 use Rattle.wt_tree.specs.Tree.{Tree}
-use Rattle.wt_schema.specs.Read.{Read, page as as_page, read}
+use Rattle.wt_schema.specs.Read.{page as as_page}
 use Rattle.wt_page_round_trip.specs.PageTree.{page_tree}
 use Rattle.wt_pagetool.specs.Answers.{page_output}
 use Rattle.wt_pagetool.specs.Reports.{WroteEdit, WrotePage, WroteSource, new_page}

@@ -1,5 +1,5 @@
 -- Leaves and frames, node by node.
-use Rattle.std.proofs.Common.{◌≡◌, ◌↔◌, ℕ, Bool, true, false, List, [], ◌∷◌, ◌++◌, refl, sym, ap, ◌∙◌, subst}
+use Rattle.std.proofs.Common.{◌≡◌, ◌↔◌, ℕ, Bool, true, false, List, [], ◌∷◌, ◌++◌, refl}
 use Rattle.std.specs.Prelude.{if◌then◌else◌}
 use Rattle.std.specs.List.{AllByRecursion}
 use Rattle.wt_checks.specs.PutBack.{is_frame}
@@ -88,7 +88,7 @@ mutual
 
 mutual
   of_frames : (t : Tree) → AllByRecursion IsNone (below t) → HoldsNoFrame t
-  of_frames (tree l ts) h e = all_of_frames ts (not_if (is_leaf l.kind) (all_outside_leaves ts) h e)
+  of_frames (tree l ts) h = λ e. all_of_frames ts (not_if (is_leaf l.kind) (all_outside_leaves ts) h e)
 
   all_of_frames : (ts : Trees) → AllByRecursion IsNone (all_outside_leaves ts) → NoneIsFrame ts
   all_of_frames none h = tt
