@@ -1,10 +1,10 @@
 -- The bytes at the edges of a block.
-use Rattle.std.proofs.Common.{arith, ◌≡◌, ℕ, suc, ◌+◌, ◌-◌, Bool, true, false, Option, Some, None, List, [], ◌∷◌, ◌++◌, length, refl, sym, ap, ◌∙◌, subst, length-append}
-use Rattle.std.specs.Prelude.{slice_get, ◌==◌, ◌||◌, ◌&&◌, not}
+use Rattle.std.proofs.Common.{arith, ◌≡◌, ℕ, ◌-◌, Bool, true, false, Option, Some, List, [], ◌∷◌, ◌++◌, length, refl, sym, ap, ◌∙◌, subst, length-append}
+use Rattle.std.specs.Prelude.{slice_get, ◌==◌, ◌||◌}
 use Rattle.std.proofs.lemmas.Bool.Decides.{Decides-eqb}
-use Rattle.wt_span.specs.Bytes.{is_blank, is_break}
+use Rattle.wt_span.specs.Bytes.{is_break}
 use Rattle.wt_local.specs.Edges.{MeetsPlainly, EndsBefore, line_end, tag_end, closed, rule_end, BeginsBehind, next_line, call, BeginsNone, space, tab, line_break, brace}
-use Rattle.wt_local.specs.Joints.{Joints, is_dash, last_byte, may_begin, may_begin_behind, may_end_before}
+use Rattle.wt_local.specs.Joints.{Joints, last_byte, may_begin, may_begin_behind, may_end_before}
 
 either : (x y : Bool) (P : Type 0) → (x ≡ true → P) → (y ≡ true → P) → (x || y) ≡ true → P
 either true y P f g e = f refl
