@@ -4,3 +4,4 @@ pub mod PageCases
 pub mod LocalCases
 pub mod EditCases
 pub mod Sources
+pub mod Meeting

@@ -2,6 +2,7 @@ pub mod Contents
 pub mod TextEdits
 pub mod LocalBlocks
 pub mod Joints
+pub mod Edges
 pub mod Replaced
 pub mod Once
 pub mod Swaps

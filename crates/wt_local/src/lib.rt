@@ -1,6 +1,8 @@
 //! Text edits of a page and what they leave as it was, as definitions with laws.
 #![tactic(auto)]
 
+mod edges;
+
 ghost use Rattle.std.specs.Prelude.{◌≡◌, ℕ, suc, List, length};
 ghost use Rattle.wt_tree.specs.Source.{flat, flat_of_all};
 ghost use Rattle.wt_tree.specs.Tree.{Tree, Trees};
@@ -8,6 +10,8 @@ ghost use Rattle.wt_local.specs.Contents.{borders, texts};
 ghost use Rattle.wt_local.specs.Once.{HasOnce};
 ghost use Rattle.wt_local.specs.Replaced.{Edit, with_inside};
 ghost use Rattle.wt_local.specs.Swaps.{Swap};
+
+pub use edges::blocks_meet_plainly;
 
 /// Between the texts of a content stand its borders: there is one text more than borders.
 #[tactic(auto, using(crate::proofs::Between::texts_between))]

@@ -1,3 +1,4 @@
 mod Cases
 mod IndexLaws
 mod RunLaws
+mod RunCases

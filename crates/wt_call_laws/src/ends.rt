@@ -1,0 +1,20 @@
+//! In which ways a call can't end.
+ghost use Rattle.std.specs.Prelude.{◌≡◌, ℕ, ◌-◌, ◌^◌, ◌<◌, List, Some};
+ghost use Rattle.wt_pagetool.specs.Calls.{Call};
+ghost use Rattle.wt_pagetool.specs.Reports.{ErrFailed, OutFailed, WasDone, WasRefused};
+ghost use Rattle.wt_pagetool.specs.Statuses.{code};
+ghost use Rattle.wt_pagetool.specs.declared.status.Status.TheVariants as status;
+
+/// A call ends in one way: it is done, it is refused, its answer isn't taken whole, or the line isn't. No two
+/// of them are told of one call, where the counts of the sinks aren't at their last value, and (of an answer
+/// and a refusal) `err` tells what it took. The number of a refusal is neither that of an answer nor that of a
+/// write fault.
+pub fn calls_end_in_one_way()
+    ensures refused { (c : Call) → (ended : ℕ) → WasRefused c ended → (ended ≡ code status.Done → ⊥) × (ended ≡ code status.WriteFault → ⊥) }
+    ensures answer_or_line { (c : Call) → (ended : ℕ) → (taken : List ℕ) → c.err.taken_before ≡ Some taken → WasDone c → WasRefused c ended → ⊥ }
+    ensures answer_or_fault { (c : Call) → c.out.faults_before < 2 ^ 64 - 1 → WasDone c → OutFailed c → ⊥ }
+    ensures answer_or_no_line { (c : Call) → c.err.faults_before < 2 ^ 64 - 1 → WasDone c → ErrFailed c → ⊥ }
+    ensures line_or_fault { (c : Call) → (ended : ℕ) → c.out.faults_before < 2 ^ 64 - 1 → WasRefused c ended → OutFailed c → ⊥ }
+    ensures line_or_none { (c : Call) → (ended : ℕ) → c.err.faults_before < 2 ^ 64 - 1 → WasRefused c ended → ErrFailed c → ⊥ }
+    ensures fault_or_no_line { (c : Call) → c.out.faults_before < 2 ^ 64 - 1 → OutFailed c → ErrFailed c → ⊥ }
+{}

@@ -1,0 +1,4 @@
+pub mod Counting
+pub mod Entries
+pub mod Asking
+mod Cases

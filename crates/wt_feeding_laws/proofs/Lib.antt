@@ -1,0 +1,4 @@
+pub mod OneAnswer
+pub mod OnePage
+pub mod Utf8Texts
+pub mod OneHead

@@ -1,0 +1,5 @@
+pub mod Cutting
+pub mod Deep
+pub mod Marks
+pub mod Breaks
+pub mod ItemWalks

@@ -1,0 +1,3 @@
+pub mod Deepest
+pub mod Fronts
+pub mod Sides
