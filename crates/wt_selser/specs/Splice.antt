@@ -1,5 +1,5 @@
 -- The new page of an edit: the page with slices of it replaced, and what stands outside them.
-use Rattle.std.specs.Prelude.{◌≡◌, ℕ, ◌-◌, ◌≤◌, List, [], ◌∷◌, ◌++◌, length, take, drop, map, zip}
+use Rattle.std.specs.Prelude.{◌≡◌, ℕ, ◌-◌, ◌≤◌, List, [], ◌∷◌, ◌++◌, length, take, drop, map, zip, IsCharBoundary}
 
 -- A slice of the page, by its first byte and the byte after its last one, and what stands in its place in the new page.
 pub record Change : Type 0 where
@@ -10,6 +10,13 @@ pub record Change : Type 0 where
 -- the bytes of a text from one place up to another
 abbrev pub between : ℕ → ℕ → List ℕ → List ℕ
 between start end bytes = take (end - start) (drop start bytes)
+
+-- these are two places of the page between its characters, and the second isn't before the first
+pub record AreItsPlaces (from to : ℕ) (page : List ℕ) : Type 0 where
+  pub in_order : from ≤ to
+  pub within : to ≤ length page
+  pub whole_from : IsCharBoundary page from
+  pub whole_to : IsCharBoundary page to
 
 -- The page from a place on, with these changes in it.
 abbrev pub spliced_from : List ℕ → ℕ → List Change → List ℕ

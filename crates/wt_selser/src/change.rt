@@ -1,6 +1,6 @@
 //! The slices of the page that an edit replaces, and the new page.
 
-ghost use Rattle.std.specs.Prelude.{◌≡◌, ◌++◌, Bool, drop, option_map, OnOk, IfOk};
+ghost use Rattle.std.specs.Prelude.{◌≡◌, ◌++◌, Bool, drop, option_map, OnOk, IfOk, IfSome, IsSome};
 ghost use Rattle.wt_tree.specs.Tree.{Tree, label};
 ghost use Rattle.std.specs.List.{flat_map};
 ghost use Rattle.wt_tree.specs.Tiling.{InPreorder};
@@ -10,7 +10,7 @@ ghost use Rattle.wt_original.specs.Page.{TellsSame};
 ghost use Rattle.wt_checks.specs.Places.{page_of, places};
 ghost use Rattle.wt_checks.specs.View.{all_seen, indexed, seen};
 ghost use Rattle.wt_selser.specs.Changes.{all_insides, change_with, inside_of, insides, is_edited, marked, pair_at, place_in};
-ghost use Rattle.wt_selser.specs.Splice.{between, spliced};
+ghost use Rattle.wt_selser.specs.Splice.{between, spliced, AreItsPlaces};
 ghost use Rattle.wt_selser.specs.Views.{changes_view, pair_of, pairs_of};
 
 use std::alloc::Global;
@@ -182,18 +182,29 @@ fn push_all_insides(
     Ok(())
 }
 
+/// What stands in the page between two places; None where they aren't places of it between its characters, the
+/// second not before the first.
+fn slice_between(page: &str, from: usize, to: usize) -> Option<&str>
+    ensures slice { IfSome result (λ slice. slice.now ≡ between from to page.now) }
+    ensures found { AreItsPlaces from to page.now → IsSome result }
+{
+    if from > to || to > page.len() {
+        return None;
+    }
+    if !page.is_char_boundary(from) || !page.is_char_boundary(to) {
+        return None;
+    }
+    Some(&page[from..to])
+}
+
 /// Appends what stands in the page between two places.
 fn push_between(out: &mut Str, page: &str, from: u32, to: u32) -> Result<(), NoMemory>
     ensures { OnOk result (out.new ≡ out.old ++ between from to page.now) }
 {
-    if from > to || to as usize > page.len() {
-        return Err(NoMemory);
+    match slice_between(page, from as usize, to as usize) {
+        Some(slice) => out.push_str(slice),
+        None => Err(NoMemory),
     }
-    if !page.is_char_boundary(from as usize) || !page.is_char_boundary(to as usize) {
-        return Err(NoMemory);
-    }
-    out.push_str(&page[from as usize..to as usize])?;
-    Ok(())
 }
 
 /// Appends what stands in the page from a place on.
