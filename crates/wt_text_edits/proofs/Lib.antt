@@ -9,4 +9,5 @@ pub mod LoneTrees
 pub mod LoneAnswers
 pub mod TakesText
 pub mod TypedText
+pub mod TypedItems
 mod Cases

@@ -2,7 +2,9 @@
 #![tactic(auto)]
 
 ghost use Rattle.std.specs.Prelude.{◌≡◌, ◌≤◌, ℕ, List, length, Option, false, None, Some};
+ghost use Rattle.std.specs.List.{flat_map};
 ghost use Rattle.std.specs.Str.{IsUtf8};
+ghost use Rattle.wt_inline.specs.Carried.{shown_item};
 ghost use Rattle.wt_span.specs.declared.limits.TheConstants.{HTML_BYTES, PAGE_BYTES};
 ghost use Rattle.wt_span.specs.Items.{Item};
 ghost use Rattle.wt_devices.specs.Device.{Pages};
@@ -34,6 +36,14 @@ pub fn typed_text_calls_nothing()
     ensures expanded { (pages : Pages) (s : Setting) (text : List ℕ) → IsUtf8 text
         → expanded_page pages (spelled s (letters text)) ≡ of_items (page_items (spelled s (letters text))) }
     ensures unrefused { (pages : Pages) (s : Setting) (text : List ℕ) → IsUtf8 text → refusal_of_page pages (spelled s (letters text)) ≡ None }
+{}
+
+/// What somebody types, whatever it is, is characters, references and nowikis among which nothing begins,
+/// and these show the text.
+#[tactic(auto, using(crate::proofs::TypedItems::typed_still, crate::proofs::TypedItems::typed_shows))]
+pub fn typed_text_is_still()
+    ensures still { (s : Setting) (text : List ℕ) → StillItems (page_items (spelled s (letters text))) }
+    ensures shows { (s : Setting) (text : List ℕ) → IsUtf8 text → flat_map shown_item (page_items (spelled s (letters text))) ≡ text }
 {}
 
 /// Plain text is spelled as it stands: `edit` puts no `<nowiki/>` into it and writes no character as a
