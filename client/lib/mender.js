@@ -9,6 +9,7 @@
 
 import { Part, numberOf } from "./markup.js";
 import { Original, kindOf } from "./original.js";
+import { dropEmptyLines } from "./lines.js";
 import { linkTarget } from "./links.js";
 import { putBack } from "./strays.js";
 import { append, isBare, isEmpty, tidy } from "./texts.js";
@@ -73,6 +74,7 @@ export class Mender {
     const attributes = this.original?.page.attributes ?? this.#attributes(root, "body", 0);
     const page = new Part("body", new Map(attributes), this.#blocks(root.childNodes));
     if (this.original !== undefined) putBack(page, this.original);
+    dropEmptyLines(page, this.original);
     return page;
   }
 

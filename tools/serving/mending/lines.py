@@ -1,0 +1,93 @@
+"""White space of paragraphs that HTML doesn't show and wikitext can't hold: empty lines, and blanks at the ends of
+lines. An editor leaves it where it takes out what stood beside it."""
+from __future__ import annotations
+
+import re
+from typing import List, Optional
+
+from .markup import Child, Element
+from .original import Original
+from .texts import WHITE, append
+
+INDENT = re.compile("\n[ \t]")
+TRAIL = re.compile("[ \t]\n")
+
+
+def drop_empty_lines(part: Element, original: Optional[Original]) -> None:
+    """Of the paragraphs in a mended part. Those of a page that isn't known stay as they are, and those in which
+    the page has an empty line."""
+    for child in part.elements():
+        if "about" in child.attributes:
+            continue
+        if child.name != "p":
+            drop_empty_lines(child, original)
+            continue
+        kept = original.nodes.get(child.number) if original is not None else None
+        were = kept.part.children if kept is not None else []
+        if child.number == 0 if kept is None else not has_empty_lines(were):
+            child.children = without_empty_lines(child.children, were)
+
+
+def has_empty_lines(pieces: List[Child]) -> bool:
+    return len(shown_lines(pieces)) < len(lines_of(pieces))
+
+
+def without_empty_lines(pieces: List[Child], were: List[Child]) -> List[Child]:
+    """What stands in a paragraph, without empty lines and without blanks at the ends of its lines. Such blanks
+    stay where the page's paragraph, which holds `were`, has some."""
+    texts = [piece for piece in were if isinstance(piece, str)]
+    has_indents, has_trails = any(map(INDENT.search, texts)), any(map(TRAIL.search, texts))
+    lines = shown_lines(pieces)
+    out: List[Child] = []
+    for at, line in enumerate(lines):
+        if at > 0:
+            append(out, "\n")
+        first, last = line[0], line[-1]
+        if isinstance(first, str) and not (has_indents if at > 0 else begins_blank(were)):
+            line[0] = first.lstrip(WHITE)
+        if isinstance(last, str) and not (has_trails if at < len(lines) - 1 else ends_blank(were)):
+            line[-1] = str(line[-1]).rstrip(WHITE)
+        for piece in line:
+            append(out, piece)
+    return out
+
+
+def shown_lines(pieces: List[Child]) -> List[List[Child]]:
+    """The lines of a paragraph that aren't empty. Comments that are alone on a line, which wikitext doesn't
+    count as one, come before the next line. Any other element has a place in the source, also one that shows
+    nothing."""
+    shown: List[List[Child]] = []
+    comments: List[Child] = []
+    for line in lines_of(pieces):
+        if all(map(is_nothing, line)):
+            comments += [piece for piece in line if not isinstance(piece, str)]
+        else:
+            shown.append(comments + line)
+            comments = []
+    return [*shown, comments] if comments else shown
+
+
+def lines_of(pieces: List[Child]) -> List[List[Child]]:
+    """Each line has a piece at least."""
+    lines: List[List[Child]] = [[]]
+    for piece in pieces:
+        if isinstance(piece, str):
+            first, *others = piece.split("\n")
+            lines[-1].append(first)
+            lines += [[text] for text in others]
+        else:
+            lines[-1].append(piece)
+    return lines
+
+
+def is_nothing(piece: Child) -> bool:
+    """Blanks or a comment."""
+    return piece.strip(WHITE) == "" if isinstance(piece, str) else piece.get("typeof") == "mw:Comment"
+
+
+def begins_blank(pieces: List[Child]) -> bool:
+    return bool(pieces) and isinstance(pieces[0], str) and pieces[0].startswith(tuple(WHITE))
+
+
+def ends_blank(pieces: List[Child]) -> bool:
+    return bool(pieces) and isinstance(pieces[-1], str) and pieces[-1].endswith(tuple(WHITE))
