@@ -61,8 +61,9 @@ function withoutEmptyLines(pieces, were) {
 }
 
 /**
- * The lines of a paragraph that aren't empty. Comments that are alone on a line, which wikitext doesn't count
- * as one, come before the next line. Any other element has a place in the source, also one that shows nothing.
+ * The lines of a paragraph that aren't empty. Comments that are alone on a line between others, which wikitext
+ * doesn't count as one, come before the next line. Any other element has a place in the source, also one that
+ * shows nothing.
  * @param {Pieces} pieces
  * @returns {Pieces[]}
  */
@@ -72,11 +73,15 @@ function shownLines(pieces) {
   /** @type {Pieces} */
   let comments = [];
   for (const line of linesOf(pieces)) {
-    if (line.every(isNothing)) {
-      comments.push(...line.filter((piece) => typeof piece !== "string"));
-    } else {
+    if (!line.every(isNothing)) {
       shown.push([...comments, ...line]);
       comments = [];
+    } else if (line.every((piece) => typeof piece === "string")) {
+      continue;
+    } else if (shown.length > 0) {
+      comments.push(...line);
+    } else {
+      shown.push(line);
     }
   }
   return comments.length > 0 ? [...shown, comments] : shown;

@@ -53,17 +53,21 @@ def without_empty_lines(pieces: List[Child], were: List[Child]) -> List[Child]:
 
 
 def shown_lines(pieces: List[Child]) -> List[List[Child]]:
-    """The lines of a paragraph that aren't empty. Comments that are alone on a line, which wikitext doesn't
-    count as one, come before the next line. Any other element has a place in the source, also one that shows
-    nothing."""
+    """The lines of a paragraph that aren't empty. Comments that are alone on a line between others, which
+    wikitext doesn't count as one, come before the next line. Any other element has a place in the source, also
+    one that shows nothing."""
     shown: List[List[Child]] = []
     comments: List[Child] = []
     for line in lines_of(pieces):
-        if all(map(is_nothing, line)):
-            comments += [piece for piece in line if not isinstance(piece, str)]
-        else:
+        if not all(map(is_nothing, line)):
             shown.append(comments + line)
             comments = []
+        elif all(isinstance(piece, str) for piece in line):
+            continue
+        elif shown:
+            comments += line
+        else:
+            shown.append(line)
     return [*shown, comments] if comments else shown
 
 
