@@ -1,18 +1,18 @@
 // @ts-check
 /**
- * White space of paragraphs that HTML doesn't show and wikitext can't hold: empty lines, and blanks at the ends
- * of lines. An editor leaves it where it takes out what stood beside it.
+ * White space of paragraphs that HTML doesn't show and wikitext can't hold: empty lines, and blanks at the
+ * ends of lines. An editor leaves it where it takes out what stood beside it.
  */
 
 import { Part } from "./markup.js";
 import { Original } from "./original.js";
-import { append } from "./texts.js";
+import { append, withoutEnd } from "./texts.js";
 
 /** @typedef {(Part | string)[]} Pieces */
 
 /**
- * Of the paragraphs in a mended part, changed in place. Those of a page that isn't known stay as they are, and
- * those in which the page has an empty line.
+ * Of the paragraphs in a mended part, changed in place. Those of a page that isn't known stay as they are,
+ * and those in which the page has an empty line.
  * @param {Part} part
  * @param {Original | undefined} original
  */
@@ -61,9 +61,9 @@ function withoutEmptyLines(pieces, were) {
 }
 
 /**
- * The lines of a paragraph that aren't empty. Comments that are alone on a line between others, which wikitext
- * doesn't count as one, come before the next line. Any other element has a place in the source, also one that
- * shows nothing.
+ * The lines of a paragraph that aren't empty. Comments that are alone on a line between others, which
+ * wikitext doesn't count as one, come before the next line. Any other element has a place in the source, also
+ * one that shows nothing.
  * @param {Pieces} pieces
  * @returns {Pieces[]}
  */
@@ -79,7 +79,7 @@ function shownLines(pieces) {
     } else if (line.every((piece) => typeof piece === "string")) {
       continue;
     } else if (shown.length > 0) {
-      comments.push(...line);
+      for (const piece of line) comments.push(piece);
     } else {
       shown.push(line);
     }
@@ -138,8 +138,5 @@ function withoutIndent(piece) {
  * @returns {Part | string} a text without the blanks at its end
  */
 function withoutTrail(piece) {
-  if (typeof piece !== "string") return piece;
-  let end = piece.length;
-  while (piece[end - 1] === " " || piece[end - 1] === "\t") end -= 1;
-  return piece.slice(0, end);
+  return typeof piece === "string" ? withoutEnd(piece, " \t") : piece;
 }
