@@ -9,9 +9,10 @@
 
 import { Part, numberOf } from "./markup.js";
 import { Original, kindOf } from "./original.js";
+import { dropEmptyLines } from "./lines.js";
 import { linkTarget } from "./links.js";
 import { putBack } from "./strays.js";
-import { append, isBare, isEmpty, tidy } from "./texts.js";
+import { append, isBare, isEmpty, tidy, withoutEnd } from "./texts.js";
 import { Watch } from "./watch.js";
 import {
   ATTRIBUTES, CELLS, ITEMS, LINES, LISTS, TABLE_ATTRIBUTES, TAGS, isBlank, isBlock, isBlockName, isHiddenName,
@@ -73,6 +74,7 @@ export class Mender {
     const attributes = this.original?.page.attributes ?? this.#attributes(root, "body", 0);
     const page = new Part("body", new Map(attributes), this.#blocks(root.childNodes));
     if (this.original !== undefined) putBack(page, this.original);
+    dropEmptyLines(page, this.original);
     return page;
   }
 
@@ -771,7 +773,8 @@ function withEdgesOutside(link, was) {
   const front = typeof first === "string" && !/^\s/.test(was) ? /^[ \t\n\u00a0]*/.exec(first)?.[0] ?? "" : "";
   if (front !== "") link.children[0] = /** @type {string} */ (first).slice(front.length);
   const last = link.children[link.children.length - 1];
-  const back = typeof last === "string" && !/\s$/.test(was) ? /[ \t\n\u00a0]*$/.exec(last)?.[0] ?? "" : "";
+  const isOpen = typeof last === "string" && !/\s$/.test(was);
+  const back = isOpen ? last.slice(withoutEnd(last, " \t\n\u00a0").length) : "";
   if (typeof last === "string") link.children.splice(-1, 1, last.slice(0, last.length - back.length));
   link.children = link.children.filter((piece) => piece !== "");
   return isEmpty(link.children) ? [front + back] : [front, link, back].filter((piece) => piece !== "");

@@ -119,7 +119,27 @@ function trimEdges(block, lead, kept, was) {
   const isItemWithList = ITEMS.has(block.name) && lead.length < block.children.length;
   const text = lead[last];
   if (typeof text !== "string" || isItemWithList || kept?.isInline === false) return;
-  if (!/[ \t\n]$/.test(was)) lead[last] = text.replace(/[ \t\n]+$/, "");
+  if (!/[ \t\n]$/.test(was)) lead[last] = withoutEnd(text, " \t\n");
+}
+
+/**
+ * A text without what stands at its end, in time in proportion, which a pattern for it wouldn't take.
+ * @param {string} text
+ * @param {string} signs  each that goes
+ */
+export function withoutEnd(text, signs) {
+  let end = text.length;
+  while (end > 0 && signs.includes(text[end - 1])) end -= 1;
+  return text.slice(0, end);
+}
+
+/**
+ * A text without blanks at the ends of its lines but the last.
+ * @param {string} text
+ */
+function withoutTrails(text) {
+  const lines = text.split("\n");
+  return lines.map((line, at) => (at < lines.length - 1 ? withoutEnd(line, " \t") : line)).join("\n");
 }
 
 /**
@@ -157,13 +177,15 @@ class Texts {
   mend(block, lead) {
     this.#pieces(lead, block.name === "p" || block.name === "pre", false);
     if (block.name !== "p") return;
-    lead.splice(0, lead.length, ...lead.flatMap(splitAtLines));
+    const split = lead.flatMap(splitAtLines);
+    lead.length = 0;
+    for (const piece of split) lead.push(piece); // there may be more than a call takes
     const hasIndents = /\n[ \t]/.test(this.was);
     const hasTrails = /[ \t]\n/.test(this.was);
     lead.forEach((piece, at) => {
       if (typeof piece !== "string") return;
       const mended = hasIndents ? piece : piece.replace(/\n[ \t]+/g, "\n");
-      lead[at] = hasTrails ? mended : mended.replace(/[ \t]+\n/g, "\n");
+      lead[at] = hasTrails ? mended : withoutTrails(mended);
     });
   }
 

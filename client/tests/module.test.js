@@ -107,6 +107,16 @@ test("what isn't the program's HTML is refused", () => {
   for (const html of documents) assert.throws(() => opened(html), HtmlRefused, html);
 });
 
+/** @param {number} number */
+function category(number) {
+  return `<link rel="mw:PageProp/Category" href="./Category:X" id="mw${number}"/>`;
+}
+
+/** @param {number} number */
+function reference(number) {
+  return `<span typeof="mw:Extension/ref" id="mw${number}"></span>`;
+}
+
 const MENDS = [
   [
     "strong and em become b and i",
@@ -277,6 +287,66 @@ const MENDS = [
     '<p id="mw1">a b\nc d</p>',
     '<p id="mw1">a <b>b\nc</b> d</p>',
     '<p id="mw1">a <b>b</b>\n<b>c</b> d</p>',
+  ],
+  [
+    "a line break at a paragraph's end goes with the category behind it",
+    `<p id="mw1">a\n${category(2)}</p>`,
+    '<p id="mw1">a\n</p>',
+    '<p id="mw1">a</p>',
+  ],
+  [
+    "a line break at a paragraph's beginning goes with the image before it",
+    '<p id="mw1"><span typeof="mw:Placeholder" id="mw2"></span>\na b</p>',
+    '<p id="mw1">\na b</p>',
+    '<p id="mw1">a b</p>',
+  ],
+  [
+    "one line break goes with a category between two others",
+    `<p id="mw1">${category(2)}\n${category(3)}\n${category(4)}</p>`,
+    `<p id="mw1">${category(2)}\n\n${category(4)}</p>`,
+    `<p id="mw1">${category(2)}\n${category(4)}</p>`,
+  ],
+  [
+    "a line on which a category is left stays",
+    `<p id="mw1">a\nb${category(2)}\nc</p>`,
+    `<p id="mw1">a\n${category(2)}\n</p>`,
+    `<p id="mw1">a\n${category(2)}</p>`,
+  ],
+  [
+    "a comment that is left alone on a line stands before the next line",
+    '<p id="mw1">a\nb<meta typeof="mw:Comment" id="mw2"/>\nc</p>',
+    '<p id="mw1">a\n<meta typeof="mw:Comment" id="mw2"/>\nc</p>',
+    '<p id="mw1">a\n<meta typeof="mw:Comment" id="mw2"/>c</p>',
+  ],
+  [
+    "a comment that is left alone on the last line stays",
+    '<p id="mw1">a\nb<meta typeof="mw:Comment" id="mw2"/></p>',
+    '<p id="mw1">a\n<meta typeof="mw:Comment" id="mw2"/></p>',
+    '<p id="mw1">a\n<meta typeof="mw:Comment" id="mw2"/></p>',
+  ],
+  [
+    "blanks go with what stood beside them at the ends of lines",
+    `<p id="mw1">${reference(2)} a ${reference(3)}\n${reference(4)} b</p>`,
+    '<p id="mw1"> a \n b</p>',
+    '<p id="mw1">a\nb</p>',
+  ],
+  [
+    "white space of the page stays in a paragraph that was changed",
+    '<p id="mw1"> a \n\n b c </p>',
+    '<p id="mw1"> a \n\n b d </p>',
+    '<p id="mw1"> a \n\n b d </p>',
+  ],
+  [
+    "preformatted text keeps its line breaks",
+    `<pre id="mw1">a\n${reference(2)}\nb</pre>`,
+    '<pre id="mw1">a\n\nb</pre>',
+    '<pre id="mw1">a\n\nb</pre>',
+  ],
+  [
+    "a category that stands outside its paragraph goes back to its line",
+    `<p id="mw1">a\n${category(2)}\nb</p>`,
+    `<p id="mw1">a\n\nbc</p>${category(2)}`,
+    `<p id="mw1">a\n${category(2)}\nbc</p>`,
   ],
 ];
 
@@ -557,6 +627,65 @@ test("the program takes what is saved", (context) => {
     const { status, out } = wiki.run(["edit", "Opava"], save(root, { marks: true }));
     assert.equal(status, 0);
     assert.equal(out, wiki.read("Opava").replace("is a town", "is an old  town"));
+  } finally {
+    wiki.remove();
+  }
+});
+
+/**
+ * Takes letters out of the first text in which they stand.
+ * @param {Element} root
+ * @param {string} letters
+ */
+function deleteLetters(root, letters) {
+  const texts = root.ownerDocument.createTreeWalker(root, 4); // text nodes
+  while (texts.nextNode()) {
+    const text = /** @type {Text} */ (texts.currentNode);
+    const at = text.data.indexOf(letters);
+    if (at >= 0) return text.deleteData(at, letters.length);
+  }
+  assert.fail(`there is no ${letters}`);
+}
+
+const CATEGORIES = ["[[Category:X]]", "[[Category:Y]]", "[[Category:Z]]"];
+const DELETIONS = [
+  ["a b\nc", "c", "a b"],
+  ["a b\nc", "a b", "c"],
+  ["a\n[[Category:X]]", 2, "a"],
+  ["a\n[[Category:X]]", "a", "[[Category:X]]"],
+  ["a\n[[Category:X]]\nb", "b", "a\n[[Category:X]]"],
+  ["a\n[[Category:X]]\nb", 2, "a\nb"],
+  [CATEGORIES.join("\n"), 2, CATEGORIES.slice(1).join("\n")],
+  [CATEGORIES.join("\n"), 3, `${CATEGORIES[0]}\n${CATEGORIES[2]}`],
+  [CATEGORIES.join("\n"), 4, CATEGORIES.slice(0, 2).join("\n")],
+  ["__TOC__\na", 2, "a"],
+  ["[[File:A.png|thumb]]\na b", 2, "a b"],
+  ["[[File:A.png]] a b", 2, "a b"],
+  ["a\n<ref>r</ref> b", 2, "a\nb"],
+  ["a\n<!--k-->\nb\nc", "b", "a\n<!--k-->\nc"],
+  ["a\nb\n\nc", "b", "a\n\nc"],
+];
+
+test("of line breaks that a deletion leaves nothing is written", (context) => {
+  const JSDOM = findJsdom();
+  if (JSDOM === null) return context.skip("there is no jsdom here");
+  if (program === null) return context.skip("there is no wtround here: build it, or name one in WTROUND");
+  const wiki = new Wiki(program, {});
+  try {
+    for (const [source, deleted, wanted] of DELETIONS) {
+      wiki.write("Short", source);
+      const root = open(wiki.html("Short"), { document: new JSDOM("").window.document });
+      if (typeof deleted === "string") deleteLetters(root, deleted);
+      else root.querySelector(`#mw${deleted}`)?.remove();
+      assert.equal(wiki.run(["selser", "Short"], save(root)).out, wanted, source);
+    }
+    wiki.write("Short", "a b\nc");
+    const root = open(wiki.html("Short"), { document: new JSDOM("").window.document });
+    const first = /** @type {Element} */ (root.querySelector("p"));
+    const second = /** @type {Element} */ (first.cloneNode(false));
+    second.append(/** @type {Text} */ (first.firstChild).splitText("a b\n".length));
+    first.after(second);
+    assert.equal(wiki.run(["selser", "Short"], save(root)).out, "a b\n\nc");
   } finally {
     wiki.remove();
   }

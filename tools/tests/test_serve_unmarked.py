@@ -1,5 +1,6 @@
 """Edits without marks: by `selser`; with an older program, which hasn't that command, by `edit`."""
 import json
+import re
 import stat
 from urllib.parse import quote
 
@@ -57,6 +58,26 @@ class Unmarked(ServingCase):
     def test_what_a_browser_writes_is_mended(self) -> None:
         made = self.new_page("Short", "a ] b", "a ] b", "a ] <strong>b</strong><br>")
         self.assertEqual(made, "a ] '''b'''")
+
+    def test_of_line_breaks_that_a_deletion_leaves_nothing_is_written(self) -> None:
+        categories = "[[Category:X]]\n[[Category:Y]]\n[[Category:Z]]"
+        for page, deleted, left, wanted in [
+            ("a b\nc", "\nc", "\n</p><p>c", "a b\n\nc"),
+            ("a b\nc", "\nc", "\n", "a b"),
+            ("a b\nc", "a b", "", "c"),
+            ("a\n[[Category:X]]", "<link .*?/>", "", "a"),
+            ("a\n[[Category:X]]\nb", "\nb", "\n", "a\n[[Category:X]]"),
+            (categories, "<link [^>]*:X.*?/>", "", categories[15:]),
+            (categories, "<link [^>]*:Y.*?/>", "", "[[Category:X]]\n[[Category:Z]]"),
+            (categories, "<link [^>]*:Z.*?/>", "", categories[:-15]),
+            ("[[File:A.png|thumb]]\na b", "<span .*?</span>", "", "a b"),
+            ("a\n<!--k-->\nb\nc", "b\n", "\n", "a\n<!--k-->\nc"),
+        ]:
+            with self.subTest(page=page, deleted=deleted):
+                (self.pages / "Short.wiki").write_text(page)
+                found = re.search(deleted, self.html("Short")[0])
+                assert found is not None
+                self.assertEqual(self.new_page("Short", page, found[0], left), wanted)
 
     def test_a_page_is_saved(self) -> None:
         before = self.page()

@@ -12,6 +12,7 @@ from .kinds import (
     ATTRIBUTES, CELLS, ITEMS, LINES, LISTS, TABLE_ATTRIBUTES, TAGS, is_blank, is_block, is_block_name,
     is_hidden_name, is_island, name_of,
 )  # fmt: skip
+from .lines import drop_empty_lines
 from .links import link_target
 from .markup import Child, Element
 from .original import Kept, Original, kind_of
@@ -42,6 +43,7 @@ class Mender:
         page = Element("body", dict(attributes), self._blocks(root.children))
         if self.original is not None:
             put_back(page, self.original)
+        drop_empty_lines(page, self.original)
         return page
 
     # ------------------------------------------------------------ numbers
