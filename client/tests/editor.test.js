@@ -398,7 +398,7 @@ test("after a save the caret stands where it stood", { skip }, async () => {
 test("an emptied cell", { skip }, async () => {
   await select("south", 0, "south", 5);
   await tab.press("Delete");
-  assert.equal(await stored(), PAGE.replace("|| south", "|| <nowiki/>"));
+  assert.equal(await stored(), PAGE.replace("|| south", "|| "));
 });
 
 test("typing and deleting is undone and done again", { skip }, async () => {
