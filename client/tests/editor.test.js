@@ -532,13 +532,14 @@ test("a page that can't be fetched while changes are shown is fetched when store
 });
 
 test("a refusal outlines its place", { skip }, async () => {
-  wiki.write("A page", "before\n\n{|\n|x\n|}\n\nnext\n");
+  wiki.write("A page", "before\n\na [[x]]\n\nnext\n");
   await opened("A page");
-  await select("x", 0, "x", 1);
+  await tab.js(`document.querySelector("a[rel='mw:WikiLink']").setAttribute("href", "./a[b")`);
+  await select("a ", 1);
   await tab.type("+");
-  assert.equal(await refused(), "edit refused: Unspelled 2");
-  assert.equal(await tab.js(`document.querySelector("[data-refused]").localName`), "table");
-  assert.match(await shown(), /^before ?\+ ?next$/);
+  assert.equal(await refused(), "edit refused: BadContent 2 Href");
+  assert.equal(await tab.js(`document.querySelector("[data-refused]").localName`), "p");
+  assert.match(await shown(), /^before ?a\+ x ?next$/);
 });
 
 test("the text of an item that holds a list is changed", { skip }, async () => {
