@@ -26,7 +26,7 @@ use Rattle.wt_page.specs.Stretches.{Stretch, gap, tree_block, stretches_parts}
 use Rattle.wt_page.specs.Tables.{Reading, gaps}
 use Rattle.wt_page.specs.Texts.{later_parts, later_line, para}
 use Rattle.wt_page.specs.Body.{same_block, block_stretches, run_stretches, blocks_by, within, blocks, meaning}
-use Rattle.wt_text_edits.specs.LonePages.{page_chars, lone_body, lone_para}
+use Rattle.wt_text_edits.specs.LonePages.{page_chars, lone_body, para_of, page_of}
 use Rattle.wt_text_edits.specs.StillItems.{StillItems}
 use Rattle.wt_text_edits.proofs.StillLines.{no_mark, still_left, still_right, still_within}
 
@@ -179,6 +179,47 @@ last_is : (l : List Item) (ls : List (List Item)) → last_ending (map text_row 
 last_is l [] = refl
 last_is l (m ∷ ls) = last_is m ls
 
+-- what stands in it
+para_is : (xs : List Item) (l : List Item) (ls : List (List Item)) → joined (l ∷ ls) ≡ xs → AreTexts (l ∷ ls)
+    → last_break (ending l) ls ≡ [] → para (map text_row (l ∷ ls)) ≡ para_of xs
+unfolding para
+para_is xs l ls is h e =
+    let ps : List Part = line_parts (content l) ++ later (ending l) ls in
+    let all : ps ≡ parts Text xs =
+    sym (append-nil ps) ∙ ap (λ xs. ps ++ parts Text xs) (sym e) ∙ with_line l ls h.1 (later_are (ending l) ls h.2) ∙ ap (parts Text) is in
+    ap (λ qs. inner (plain kind.Para) [] (forest (children qs)) []) all
+
+-- ---- all of it
+
+abbrev body_of : List Stretch → ItemTree
+body_of ss = inner (plain kind.Body) [] (forest (children (stretches_parts ss))) []
+
+body_by : (x : Item) (xs : List Item) (ls : List (List Item)) → joined ls ≡ x ∷ xs → AreTexts ls → ending (x ∷ xs) ≡ []
+    → body_of (within MOST_TABLES (rows_from 0 ls)) ≡ page_of (x ∷ xs)
+unfolding children
+body_by x xs [] is h e = cc
+body_by x xs (l ∷ ls) is h e =
+    let break : last_break (ending l) ls ≡ [] = break_is l ls h.2 ∙ ap ending is ∙ e in
+    let rs : List Row = map text_row (l ∷ ls) in
+    ap (λ rs. body_of (within MOST_TABLES rs)) (rows_are (l ∷ ls) h)
+    ∙ ap body_of (within_are MOST_TABLES l ls)
+    ∙ ap (λ xs. body_of (gap [] ∷ tree_block (para rs) ∷ gap xs ∷ [])) (last_is l ls ∙ break)
+    ∙ ap (λ t. inner (plain kind.Body) [] (further t nothing) []) (para_is (x ∷ xs) l ls is h break)
+
+meaning_of : (x : Item) (xs : List Item) → StillItems (x ∷ xs) → All IsText (lines (x ∷ xs)) → meaning (x ∷ xs) ≡ page_of (x ∷ xs)
+unfolding meaning blocks rows
+meaning_of x xs e a =
+    let ls : List (List Item) = full_lines (x ∷ xs) in
+    let is : joined ls ≡ x ∷ xs = runs_joined goes_on (x ∷ xs) in
+    let all : All IsText (map content ls ++ empty_end (x ∷ xs)) = subst (All IsText) (same_lines (x ∷ xs)) a in
+    let i : StillItems (joined ls) = subst StillItems (sym is) e in
+    body_by x xs ls is (texts_by ls (empty_end (x ∷ xs)) all i) (unended (x ∷ xs) (map content ls) all)
+
+-- one line at least, and it isn't empty
+pub meaning_typed : (xs : List Item) → StillItems xs → All IsText (lines xs) → meaning xs ≡ page_of xs
+meaning_typed [] e a = absurd (no_text (All-head IsText [] [] a))
+meaning_typed (x ∷ xs) e a = meaning_of x xs e a
+
 -- ---- one text
 
 all_loose : (b : ℕ) (bs : List ℕ) → IsRun one_leaf (parts Text (page_chars (b ∷ bs))) []
@@ -196,40 +237,8 @@ one_text b bs =
     ∙ ap (map child) (runs_cut one_leaf (parts Text (page_chars (b ∷ bs))) [] (all_loose b bs))
     ∙ ap (λ xs. loose_leaf Text (char None b ∷ xs) ∷ []) (held_chars bs)
 
-para_is : (b : ℕ) (bs : List ℕ) (l : List Item) (ls : List (List Item)) → joined (l ∷ ls) ≡ page_chars (b ∷ bs) → AreTexts (l ∷ ls)
-    → last_break (ending l) ls ≡ [] → para (map text_row (l ∷ ls)) ≡ lone_para (page_chars (b ∷ bs))
-unfolding para
-para_is b bs l ls is h e =
-    let ps : List Part = line_parts (content l) ++ later (ending l) ls in
-    let all : ps ≡ parts Text (page_chars (b ∷ bs)) =
-    sym (append-nil ps) ∙ ap (λ xs. ps ++ parts Text xs) (sym e) ∙ with_line l ls h.1 (later_are (ending l) ls h.2) ∙ ap (parts Text) is in
-    ap (λ qs. inner (plain kind.Para) [] (forest (children qs)) []) all
-    ∙ ap (λ ts. inner (plain kind.Para) [] (forest ts) []) (one_text b bs)
-
--- ---- all of it
-
-abbrev body_of : List Stretch → ItemTree
-body_of ss = inner (plain kind.Body) [] (forest (children (stretches_parts ss))) []
-
-body_by : (b : ℕ) (bs : List ℕ) (ls : List (List Item)) → joined ls ≡ page_chars (b ∷ bs) → AreTexts ls → ending (page_chars (b ∷ bs)) ≡ []
-    → body_of (within MOST_TABLES (rows_from 0 ls)) ≡ lone_body (page_chars (b ∷ bs))
-unfolding children
-body_by b bs [] is h e = cc
-body_by b bs (l ∷ ls) is h e =
-    let break : last_break (ending l) ls ≡ [] = break_is l ls h.2 ∙ ap ending is ∙ e in
-    let rs : List Row = map text_row (l ∷ ls) in
-    ap (λ rs. body_of (within MOST_TABLES rs)) (rows_are (l ∷ ls) h)
-    ∙ ap body_of (within_are MOST_TABLES l ls)
-    ∙ ap (λ xs. body_of (gap [] ∷ tree_block (para rs) ∷ gap xs ∷ [])) (last_is l ls ∙ break)
-    ∙ ap (λ t. inner (plain kind.Body) [] (further t nothing) []) (para_is b bs l ls is h break)
-
 pub meaning_by : (b : ℕ) (bs : List ℕ) → StillItems (page_chars (b ∷ bs)) → All IsText (lines (page_chars (b ∷ bs)))
     → meaning (page_chars (b ∷ bs)) ≡ lone_body (page_chars (b ∷ bs))
-unfolding meaning blocks rows
 meaning_by b bs e a =
-    let xs : List Item = page_chars (b ∷ bs) in
-    let ls : List (List Item) = full_lines xs in
-    let is : joined ls ≡ xs = runs_joined goes_on xs in
-    let all : All IsText (map content ls ++ empty_end xs) = subst (All IsText) (same_lines xs) a in
-    let i : StillItems (joined ls) = subst StillItems (sym is) e in
-    body_by b bs ls is (texts_by ls (empty_end xs) all i) (unended xs (map content ls) all)
+    meaning_typed (page_chars (b ∷ bs)) e a
+    ∙ ap (λ ts. inner (plain kind.Body) [] (further (inner (plain kind.Para) [] (forest ts) []) nothing) []) (one_text b bs)

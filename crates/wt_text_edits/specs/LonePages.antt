@@ -7,8 +7,8 @@ use Rattle.wt_tree.specs.declared.kind.Kind.TheVariants as kind
 use Rattle.wt_tree.specs.declared.kind.Mark.TheVariants as marks
 use Rattle.wt_tree.specs.Tree.{Label, Tree, tree, none, more}
 use Rattle.wt_inline.specs.declared.loose.Loose.TheVariants.{Text}
-use Rattle.wt_inline.specs.ItemTree.{plain, ItemTree, inner, nothing, further}
-use Rattle.wt_inline.specs.Parts.{loose_leaf}
+use Rattle.wt_inline.specs.ItemTree.{plain, ItemTree, inner, nothing, further, forest}
+use Rattle.wt_inline.specs.Parts.{loose_leaf, parts, children}
 
 -- ---- its items
 
@@ -27,6 +27,13 @@ lone_para xs = inner (plain kind.Para) [] (further (loose_leaf Text xs) nothing)
 
 abbrev pub lone_body : List Item → ItemTree
 lone_body xs = inner (plain kind.Body) [] (further (lone_para xs) nothing) []
+
+-- by all its items, of whatever they are parts
+abbrev pub para_of : List Item → ItemTree
+para_of xs = inner (plain kind.Para) [] (forest (children (parts Text xs))) []
+
+abbrev pub page_of : List Item → ItemTree
+page_of xs = inner (plain kind.Body) [] (further (para_of xs) nothing) []
 
 -- ---- its tree
 
