@@ -9,5 +9,8 @@ pub mod LoneTrees
 pub mod LoneAnswers
 pub mod TakesText
 pub mod TypedText
+pub mod TypedLeaves
 pub mod TypedItems
+pub mod TypedShown
+pub mod SpelledUtf8
 mod Cases

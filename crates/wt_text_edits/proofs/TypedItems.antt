@@ -38,6 +38,7 @@ use Rattle.wt_spelling_laws.proofs.Signs.{no_styles, no_switches, no_addresses}
 use Rattle.wt_text_edits.specs.LonePages.{page_chars}
 use Rattle.wt_text_edits.specs.StillItems.{starts_tag, IsTypedForm, StillItems}
 use Rattle.wt_text_edits.proofs.PlainWords.{and_left, and_right, or_left, or_right}
+use Rattle.wt_text_edits.proofs.TypedLeaves.{IsOwnForm, AreOwn}
 
 -- ---- the items of a text from a place on
 
@@ -110,6 +111,7 @@ record Typed (bs t : List ℕ) : Type 0 where
   front : (word : List ℕ) → begins word (map glyph_of items) ≡ true → bytes.begins word bs ≡ true
   head : starts_tag (map glyph_of items) ≡ true → tag_bytes bs ≡ true
   still : NoSigns bs → StillItems items
+  own : AreOwn items
 
 and_true : (a b : Bool) → a ≡ true → b ≡ true → (a && b) ≡ true
 and_true true b e f = f
@@ -124,7 +126,7 @@ false_as true b f e = let no : true ≡ false = sym (f refl) ∙ e in cc
 false_as false b f e = refl
 
 typed_nothing : Typed [] []
-typed_nothing = record { items = []; reads = λ after. refl; clean = tt; shows = refl; front = λ word e. no_word word e; head = λ e. cc; still = λ n. tt }
+typed_nothing = record { items = []; reads = λ after. refl; clean = tt; shows = refl; front = λ word e. no_word word e; head = λ e. cc; still = λ n. tt; own = tt }
   where
     no_word : (word : List ℕ) → begins word [] ≡ true → bytes.begins word [] ≡ true
     no_word [] e = refl
@@ -173,6 +175,7 @@ typed_byte b bs t f c k g a =
         },
         g.still (less_signs b bs n),
       );
+      own = g.own;
     }
 
 -- a reference or a nowiki, as an item
@@ -204,9 +207,9 @@ no_tag_first form.Hidden xs own h = absurd h
 no_tag_first form.EmptyCall xs own h = absurd h
 
 typed_form : (kind : LexKind) (f : Form) (b : ℕ) (q rest t u : List ℕ) → form_at Page false (b ∷ (q ++ rest)) ≡ Some (kind, suc (length q))
-    → items_of_word kind (b ∷ q) ≡ whole f None (b ∷ q) ∷ [] → IsTypedForm f → shown_item (whole f None (b ∷ q)) ≡ u
+    → items_of_word kind (b ∷ q) ≡ whole f None (b ∷ q) ∷ [] → IsTypedForm f → IsOwnForm f (b ∷ q) → shown_item (whole f None (b ∷ q)) ≡ u
     → NoComments (b ∷ (q ++ rest)) → Typed rest t → Typed (b ∷ (q ++ rest)) (u ++ t)
-typed_form kind f b q rest t u e is h s c g =
+typed_form kind f b q rest t u e is h o s c g =
     let xs : List Item = g.items in
     record {
       items = whole f None (b ∷ q) ∷ xs;
@@ -217,6 +220,7 @@ typed_form kind f b q rest t u e is h s c g =
       front = atom_front f xs (b ∷ (q ++ rest)) (b ∷ q) h;
       head = λ e. let no : true ≡ false = sym e ∙ no_tag_first f xs (b ∷ q) h in cc;
       still = λ n. (h, g.still (signs_behind (b ∷ q) rest n));
+      own = (o, g.own);
     }
 
 -- ---- what is put
@@ -224,7 +228,7 @@ typed_form kind f b q rest t u e is h s c g =
 typed_nowiki : (rest t : List ℕ) → Typed rest t → Typed (nowiki ++ rest) t
 unfolding nowiki comment_len opening_tag tag_after
 typed_nowiki rest t g =
-    typed_form Raw form.Nowiki 60 (codes "nowiki/>") rest t [] (nowiki_form Page rest) refl tt refl
+    typed_form Raw form.Nowiki 60 (codes "nowiki/>") rest t [] (nowiki_form Page rest) refl tt refl refl
     (refl, (refl, (refl, (refl, (refl, (refl, (refl, (refl, (refl, g.clean))))))))) g
 
 typed_guard : (guarded : Bool) (rest t : List ℕ) → Typed rest t → Typed (nowiki_if guarded ++ rest) t
@@ -260,7 +264,7 @@ typed_reference c rest t e g =
     let f : form_at Page false (38 ∷ (r.others ++ rest)) ≡ Some (Entity c, suc (length r.others)) =
     ap (λ bs. form_at Page false (bs ++ rest)) (sym r.is) ∙ reference_form Page rest c e ∙ ap (λ bs. Some (Entity c, length bs)) r.is in
     subst (λ bs. Typed (bs ++ rest) (encode_utf8 c ++ t)) (sym r.is)
-    (typed_form (Entity c) (form.Entity c) 38 r.others rest t (encode_utf8 c) f refl tt refl (r.clean rest g.clean) g)
+    (typed_form (Entity c) (form.Entity c) 38 r.others rest t (encode_utf8 c) f refl tt tt refl (r.clean rest g.clean) g)
 
 -- ---- characters as they are
 
@@ -347,6 +351,7 @@ typed_equals rest t g =
         },
         g.still (less_signs 61 rest n),
       );
+      own = g.own;
     }
 
 no_form_byte : (c : ℕ) → is_bracket c ≡ false → (c == 60) ≡ false → (c == 38) ≡ false → (c == 61) ≡ false → is_form_byte c ≡ false
@@ -413,6 +418,11 @@ typed_still s text =
     let g = typed_from s [] (chars text) in
     subst StillItems (sym (items_are (spelled s (letters text)) g.items g.reads))
     (g.still (record { styles = no_styles s text; switches = no_switches s text; addresses = no_addresses s text }))
+
+pub typed_own : (s : Setting) (text : List ℕ) → AreOwn (page_items (spelled s (letters text)))
+typed_own s text =
+    let g = typed_from s [] (chars text) in
+    subst AreOwn (sym (items_are (spelled s (letters text)) g.items g.reads)) g.own
 
 pub typed_shows : (s : Setting) (text : List ℕ) → IsUtf8 text → flat_map shown_item (page_items (spelled s (letters text))) ≡ text
 typed_shows s text u =

@@ -85,3 +85,8 @@ pub fn lone_paragraph_takes_text()
 pub fn still_text_is_text()
     ensures { (n : ℕ) (cx : Context) (xs : List Item) → StillItems xs → within n cx xs ≡ parts Text xs }
 {}
+
+#[tactic(auto, using(crate::proofs::TypedShown::page_shows, crate::proofs::TypedItems::typed_own, crate::proofs::SpelledUtf8::spelled_utf8))]
+pub fn try_shows()
+    ensures { (xs : List Item) → StillItems xs → flat_map shown_item xs ≡ flat_map shown_item xs }
+{}
