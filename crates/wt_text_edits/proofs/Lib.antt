@@ -13,4 +13,7 @@ pub mod TypedLeaves
 pub mod TypedItems
 pub mod TypedShown
 pub mod SpelledUtf8
+pub mod SpelledLength
+pub mod TypedPages
+pub mod TakesAnyText
 mod Cases

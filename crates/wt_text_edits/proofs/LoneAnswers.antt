@@ -10,7 +10,7 @@ use Rattle.wt_tree.specs.Source.{flat}
 use Rattle.wt_tree.specs.Tree.{Label, Tree, tree, none, more}
 use Rattle.wt_guards.specs.declared.side.Place.TheVariants as place
 use Rattle.wt_guards.specs.Content.{letters}
-use Rattle.wt_guards.specs.Guards.{spelled}
+use Rattle.wt_guards.specs.Guards.{Setting, spelled}
 use Rattle.wt_original.specs.Kinds.{shape}
 use Rattle.wt_original.specs.Kept.{kept_with}
 use Rattle.wt_escape.specs.Spelling.{inline_spelling}
@@ -26,7 +26,7 @@ use Rattle.wt_selser.specs.Splice.{Change, spliced}
 use Rattle.wt_selser.specs.Edits.{refused_pairs, most_bytes, if_short, unless_refused, pairs_answer, edit_answer}
 use Rattle.wt_text_edits.specs.PlainTexts.{IsPlainText}
 use Rattle.wt_text_edits.specs.LonePages.{of_items, page_chars, whole_label, lone_page}
-use Rattle.wt_text_edits.specs.LoneEdits.{sent}
+use Rattle.wt_text_edits.specs.LoneEdits.{sent, typed_in}
 use Rattle.wt_text_edits.proofs.PlainSpelling.{plain_spelled}
 
 abbrev Same : Type 0
@@ -70,31 +70,53 @@ its_spelling same page text p t h =
     ∙ ap (spelled (record { within = false; place = place.Paragraph; source = flat (old_para page) })) (append-nil (letters text))
     ∙ plain_spelled (flat (old_para page)) text h
 
-whole : (page text : List ℕ) → spliced page (record { start = 0; end = length page - 0; by = text } ∷ []) ≡ text
-unfolding spliced
-whole page text = ap (λ bs. text ++ bs) (drop_all (length page - 0) page (omega arith)) ∙ append-nil text
+flat_is : (page : List ℕ) → flat (old_para page) ≡ page
+flat_is page = append-nil (page ++ []) ∙ append-nil page
 
-new_page : (same : Same) (page text : List ℕ) (b p t : Label) → IsPlainText text → spliced page (slices same (lone_page page) (sent b p t text)) ≡ text
-new_page same page text b p t h =
+its_typed : (same : Same) (page text : List ℕ) (p t : Label)
+    → inline_spelling same (old_para page) (new_para p t text) place.Paragraph ≡ typed_in page text
+its_typed same page text p t =
+    let s : List ℕ → Setting = λ source. record { within = false; place = place.Paragraph; source = source } in
+    its_signs same page text p t
+    ∙ ap (spelled (s (flat (old_para page)))) (append-nil (letters text))
+    ∙ ap (λ source. spelled (s source) (letters text)) (flat_is page)
+
+whole : (page new : List ℕ) → spliced page (record { start = 0; end = length page - 0; by = new } ∷ []) ≡ new
+unfolding spliced
+whole page new = ap (λ bs. new ++ bs) (drop_all (length page - 0) page (omega arith)) ∙ append-nil new
+
+-- by what is spelled of the paragraph
+new_page : (same : Same) (page text new : List ℕ) (b p t : Label) → inline_spelling same (old_para page) (new_para p t text) place.Paragraph ≡ new
+    → spliced page (slices same (lone_page page) (sent b p t text)) ≡ new
+new_page same page text new b p t e =
     let C : List ℕ → List Change = λ bs. record { start = 0; end = length page - 0; by = bs } ∷ [] in
-    ap (spliced page) (one_slice same page text b p t ∙ ap C (its_spelling same page text p t h)) ∙ whole page text
+    ap (spliced page) (one_slice same page text b p t ∙ ap C e) ∙ whole page new
 
 -- ---- the answer
 
 not_longer : (n m : ℕ) → n ≤ m → nat_lt m n ≡ false
 not_longer n m h = grind (arith, nat_tests)
 
-short : (text : List ℕ) → length text ≤ most_bytes → if_short text ≡ Ok text
-short text h = ap (λ (t : Bool). if t then Err refusal.NewPageTooLong else Ok text) (not_longer (length text) most_bytes h)
+short : (new : List ℕ) → length new ≤ most_bytes → if_short new ≡ Ok new
+short new h = ap (λ (t : Bool). if t then Err refusal.NewPageTooLong else Ok new) (not_longer (length new) most_bytes h)
 
-pub lone_answer : (same : Same) (page text : List ℕ) (b p t : Label) → IsPlainText text → length text ≤ most_bytes
-    → edit_answer same (of_items (page_chars page)) page (lone_page page) (sent b p t text) ≡ Ok text
+answer_by : (same : Same) (page text new : List ℕ) (b p t : Label) → inline_spelling same (old_para page) (new_para p t text) place.Paragraph ≡ new
+    → length new ≤ most_bytes → edit_answer same (of_items (page_chars page)) page (lone_page page) (sent b p t text) ≡ Ok new
 unfolding edit_answer
-lone_answer same page text b p t h le =
+answer_by same page text new b p t e le =
     let items : Expanded = of_items (page_chars page) in
     let u : Tree = sent b p t text in
     let old : Tree = lone_page page in
     ap (λ (c : Option TreeRefusal). unless_refused (option_map refusal.Check c) (pairs_answer same items page (marked old u) (slices same old u)))
     (checks_pass page text b p t)
     ∙ ap (λ (r : Option EditRefusal). unless_refused r (if_short (spliced page (slices same old u)))) (none_refused same page text b p t)
-    ∙ ap if_short (new_page same page text b p t h) ∙ short text le
+    ∙ ap if_short (new_page same page text new b p t e) ∙ short new le
+
+pub lone_answer : (same : Same) (page text : List ℕ) (b p t : Label) → IsPlainText text → length text ≤ most_bytes
+    → edit_answer same (of_items (page_chars page)) page (lone_page page) (sent b p t text) ≡ Ok text
+lone_answer same page text b p t h le = answer_by same page text text b p t (its_spelling same page text p t h) le
+
+-- whatever the text is
+pub typed_answer : (same : Same) (page text : List ℕ) (b p t : Label) → length (typed_in page text) ≤ most_bytes
+    → edit_answer same (of_items (page_chars page)) page (lone_page page) (sent b p t text) ≡ Ok (typed_in page text)
+typed_answer same page text b p t le = answer_by same page text (typed_in page text) b p t (its_typed same page text p t) le

@@ -57,7 +57,7 @@ abbrev pub AreTexts : List (List Item) → Type 0
 AreTexts [] = Unit {0}
 AreTexts (l ∷ ls) = (kind_at 0 l ≡ line.Text) × StillItems l × AreTexts ls
 
-no_text : kind_of_signs 0 [] ≡ line.Text → ⊥
+pub no_text : kind_of_signs 0 [] ≡ line.Text → ⊥
 unfolding kind_of_signs
 no_text e = cc
 

@@ -25,7 +25,7 @@ use Rattle.wt_pagetool.specs.declared.command.Command.TheVariants.{Edit}
 use Rattle.wt_pagetool.specs.Words.{command_of}
 use Rattle.wt_pagetool.specs.Answers.{Answer, done, refused, text_answer, title_answer, expanded_by, unspelled_by, unspelled_answer, new_by, new_expanded, new_answer, edit_by, edit_from, edit_to, edited_answer, input_answer, edit_of, answer_to, answer_told}
 use Rattle.wt_text_edits.specs.PlainTexts.{are_text_lines, IsPlainText}
-use Rattle.wt_text_edits.specs.LonePages.{lone_page}
+use Rattle.wt_text_edits.specs.LonePages.{of_items, page_chars, lone_page}
 use Rattle.wt_text_edits.specs.LoneEdits.{sent}
 use Rattle.wt_text_edits.proofs.PlainBytes.{plain_bytes}
 use Rattle.wt_text_edits.proofs.PlainPages.{plain_expanded, plain_unrefused}
@@ -136,3 +136,7 @@ tree_of_plain pages (b ∷ bs) h = tree_is pages b bs h
 pub plain_unrefused_page : (pages : Pages) (page : List ℕ) → IsPlainText page → refusal_of_page pages page ≡ None
 plain_unrefused_page pages [] h = absurd (none_empty h)
 plain_unrefused_page pages (b ∷ bs) h = unrefused pages b bs h
+
+pub expanded_of_plain : (pages : Pages) (page : List ℕ) → IsPlainText page → expanded_page pages page ≡ of_items (page_chars page)
+expanded_of_plain pages [] h = absurd (none_empty h)
+expanded_of_plain pages (b ∷ bs) h = plain_expanded pages b bs (plain_bytes (b ∷ bs) h)

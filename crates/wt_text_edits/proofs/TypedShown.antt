@@ -3,7 +3,7 @@ use Rattle.std.proofs.Common.{◌≡◌, ℕ, ◌+◌, Bool, true, false, Some, 
 use Rattle.std.specs.Prelude.{◌&&◌, encode_utf8}
 use Rattle.std.specs.List.{list_all, flat_map}
 use Rattle.wt_tree.specs.declared.kind.Kind.TheVariants as kind
-use Rattle.wt_tree.specs.Plain.{Face, Plain, text, element, Plains, ended, along, text_before, plain_before, plains_before}
+use Rattle.wt_tree.specs.Plain.{Face, text, element, Plains, ended, along, text_before, plain_before, plains_before}
 use Rattle.wt_tree.specs.Tree.{Tree, tree}
 use Rattle.wt_span.specs.Items.{Item, char, whole}
 use Rattle.wt_guards.specs.Guards.{nowiki}
@@ -20,7 +20,7 @@ use Rattle.wt_annotated.proofs.AnnotatedTree.{without_calls}
 use Rattle.wt_sections.specs.Sections.{with_sections}
 use Rattle.wt_sections.proofs.Kept.{plains_stay}
 use Rattle.wt_visible.specs.Children.{listed, shown_children}
-use Rattle.wt_text_edits.specs.LonePages.{page_chars, page_of}
+use Rattle.wt_text_edits.specs.LonePages.{page_chars, page_of, one_shown}
 use Rattle.wt_text_edits.proofs.TypedLeaves.{AreOwn, Leaf, letters, reference, guard, leaves, HasAny, leaf_shown, leaves_shown, leaf_tree, leaves_para, para_leaves}
 
 -- ---- text before text
@@ -111,10 +111,6 @@ is_plain_page (reference c bs ∷ ls) h = record { of_page = body_of_page (refer
 is_plain_page (guard ∷ ls) h = record { of_page = body_of_page (guard ∷ ls); none_empty = (refl, none_empty (guard ∷ ls), tt) }
 
 -- ---- the page
-
--- a paragraph that shows this text
-abbrev pub one_shown : List ℕ → List Plain
-one_shown bs = element (record { kind = kind.Para; attrs = []; mw = None }) (text_before bs ended) ∷ []
 
 body_shows : (ls : List Leaf) → shown_children (cut_texts (annotated_plainly (body_of ls))) ≡ one_shown (flat_map leaf_shown ls)
 unfolding annotated_plainly label_at

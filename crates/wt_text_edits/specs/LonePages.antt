@@ -1,11 +1,12 @@
 -- A page that is one paragraph, which holds one text: its items, what they mean, and its tree.
-use Rattle.std.specs.Prelude.{ℕ, Some, None, List, [], map, length}
+use Rattle.std.specs.Prelude.{ℕ, Some, None, List, [], ◌∷◌, map, length}
 use Rattle.wt_span.specs.Items.{Item, char}
 use Rattle.wt_span.specs.Origins.{Expanded}
 use Rattle.wt_tree.specs.declared.kind.Kind.{Kind}
 use Rattle.wt_tree.specs.declared.kind.Kind.TheVariants as kind
 use Rattle.wt_tree.specs.declared.kind.Mark.TheVariants as marks
 use Rattle.wt_tree.specs.Tree.{Label, Tree, tree, none, more}
+use Rattle.wt_tree.specs.Plain.{Plain, element, ended, text_before}
 use Rattle.wt_inline.specs.declared.loose.Loose.TheVariants.{Text}
 use Rattle.wt_inline.specs.ItemTree.{plain, ItemTree, inner, nothing, further, forest}
 use Rattle.wt_inline.specs.Parts.{loose_leaf, parts, children}
@@ -61,3 +62,9 @@ abbrev pub lone_page : List ℕ → Tree
 lone_page text =
     let size = length text in
     whole_node kind.Body 0 size (whole_node (kind.Section 0) 0 size (whole_node kind.Para 1 size (tree (whole_label kind.Text 0 size text) none)))
+
+-- ---- what it shows
+
+-- one paragraph, and in it this text
+abbrev pub one_shown : List ℕ → List Plain
+one_shown bs = element (record { kind = kind.Para; attrs = []; mw = None }) (text_before bs ended) ∷ []

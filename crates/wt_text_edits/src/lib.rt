@@ -1,7 +1,7 @@
 //! Laws of text edits: where they are accepted, whatever was typed.
 #![tactic(auto)]
 
-ghost use Rattle.std.specs.Prelude.{◌≡◌, ◌≤◌, ℕ, List, length, Option, false, None, Some};
+ghost use Rattle.std.specs.Prelude.{◌≡◌, ◌≤◌, ◌+◌, ◌*◌, ℕ, List, length, Option, false, None, Some};
 ghost use Rattle.std.specs.List.{flat_map};
 ghost use Rattle.std.specs.Str.{IsUtf8};
 ghost use Rattle.wt_inline.specs.Carried.{shown_item};
@@ -20,12 +20,13 @@ ghost use Rattle.wt_tiles.specs.declared.context.Context.{Context};
 ghost use Rattle.wt_context.specs.Line.{within};
 ghost use Rattle.wt_schema.specs.Read.{page as as_page, read};
 ghost use Rattle.wt_page_round_trip.specs.PageTree.{page_tree};
+ghost use Rattle.wt_visible.specs.Children.{shown_children};
 ghost use Rattle.wt_edit.specs.Edits.{refusal_of_page};
 ghost use Rattle.wt_pagetool.specs.Answers.{answer_told, done, edit_of, edit_to};
 ghost use Rattle.wt_pagetool.specs.Words.{command_of};
 ghost use Rattle.wt_pagetool.specs.declared.command.Command.TheVariants.{Edit};
-ghost use Rattle.wt_text_edits.specs.LoneEdits.{sent};
-ghost use Rattle.wt_text_edits.specs.LonePages.{lone_page, of_items};
+ghost use Rattle.wt_text_edits.specs.LoneEdits.{sent, typed_in};
+ghost use Rattle.wt_text_edits.specs.LonePages.{lone_page, of_items, one_shown};
 ghost use Rattle.wt_text_edits.specs.PlainTexts.{IsPlainText};
 ghost use Rattle.wt_text_edits.specs.StillItems.{StillItems};
 
@@ -86,7 +87,31 @@ pub fn still_text_is_text()
     ensures { (n : ℕ) (cx : Context) (xs : List Item) → StillItems xs → within n cx xs ≡ parts Text xs }
 {}
 
-#[tactic(auto, using(crate::proofs::TypedShown::page_shows, crate::proofs::TypedItems::typed_own, crate::proofs::SpelledUtf8::spelled_utf8))]
-pub fn try_shows()
-    ensures { (xs : List Item) → StillItems xs → flat_map shown_item xs ≡ flat_map shown_item xs }
+/// What somebody types, whatever it is, is spelled as UTF-8, in at most 15 bytes for each byte of it and
+/// nine more, and as a page of its own it is one paragraph that shows the text.
+#[tactic(auto, using(crate::proofs::SpelledUtf8::spelled_utf8, crate::proofs::SpelledLength::spelled_length, crate::proofs::TypedPages::typed_tree_shows))]
+pub fn typed_text_is_shown()
+    ensures utf8 { (s : Setting) (text : List ℕ) → IsUtf8 text → IsUtf8 (spelled s (letters text)) }
+    ensures length { (s : Setting) (text : List ℕ) → IsUtf8 text → length (spelled s (letters text)) ≤ 15 * length text + 9 }
+    ensures shows { (pages : Pages) (s : Setting) (text : List ℕ) → IsUtf8 text → s.within ≡ false
+        → shown_children (page_tree pages (spelled s (letters text))) ≡ one_shown text }
+{}
+
+/// A page that is one paragraph of plain text takes any text, whatever somebody typed, with whatever line
+/// breaks, or none at all: an edit that sends its paragraph marked `content` with this text in it is done,
+/// and the new page is the text as it is spelled, unless that is longer than a page may be. So it is, too,
+/// for each input that is read as such a tree, and so the command `edit` answers, over a folder that has
+/// the page.
+#[tactic(auto, using(crate::proofs::TakesAnyText::takes_any, crate::proofs::TakesAnyText::edit_takes_any, crate::proofs::TakesAnyText::command_takes_any))]
+pub fn lone_paragraph_takes_any_text()
+    ensures tree { (pages : Pages) (page text : List ℕ) (b p t : Label) → IsPlainText page → IsUtf8 text → length (typed_in page text) ≤ PAGE_BYTES
+        → edit_to pages page (sent b p t text) ≡ done (typed_in page text) }
+    ensures edit { (pages : Pages) (page text input : List ℕ) (b p t : Label) (unsourced : Option ℕ) → IsPlainText page → IsUtf8 text
+        → length page ≤ PAGE_BYTES → length (typed_in page text) ≤ PAGE_BYTES → length input ≤ HTML_BYTES
+        → read input ≡ as_page (sent b p t text) unsourced → edit_of pages (Some page) input ≡ done (typed_in page text) }
+    ensures command { (pages : Pages) (words : List (List ℕ)) (title page text input : List ℕ) (b p t : Label) (unsourced : Option ℕ)
+        → command_of words ≡ Some (Edit title) → pages title ≡ Some page → IsPlainText page → IsUtf8 text
+        → length page ≤ PAGE_BYTES → length (typed_in page text) ≤ PAGE_BYTES → length input ≤ HTML_BYTES
+        → read input ≡ as_page (sent b p t text) unsourced
+        → answer_told (Some pages) (Some input) words ≡ Some (done (typed_in page text)) }
 {}
