@@ -13,15 +13,15 @@ use Rattle.wt_text_edits.proofs.PlainWords.{and_left, and_right}
 
 guard_utf8 : (guarded : Bool) → IsUtf8 (nowiki_if guarded)
 unfolding nowiki lib.Utf8.encode
-guard_utf8 true = (nowiki, refl, refl)
+guard_utf8 true = (nowiki, (refl, refl))
 guard_utf8 false = IsUtf8-nil
 
 reference_utf8 : (c : ℕ) → is_escapable c ≡ true → IsUtf8 (reference c)
 unfolding reference digits lib.Utf8.encode
 reference_utf8 c e = each_escapable (λ k. IsUtf8 (reference k))
-    (reference 91, refl, refl) (reference 93, refl, refl) (reference 123, refl, refl) (reference 125, refl, refl) (reference 124, refl, refl)
-    (reference 62, refl, refl) (reference 60, refl, refl) (reference 38, refl, refl) (reference 39, refl, refl) (reference 95, refl, refl)
-    (reference 58, refl, refl) (reference 61, refl, refl) (reference 33, refl, refl) c e
+    (reference 91, (refl, refl)) (reference 93, (refl, refl)) (reference 123, (refl, refl)) (reference 125, (refl, refl)) (reference 124, (refl, refl))
+    (reference 62, (refl, refl)) (reference 60, (refl, refl)) (reference 38, (refl, refl)) (reference 39, (refl, refl)) (reference 95, (refl, refl))
+    (reference 58, (refl, refl)) (reference 61, (refl, refl)) (reference 33, (refl, refl)) c e
 
 letter_utf8 : (s : Setting) (before after : List Sign) (c : ℕ) (t : Bool) → is_escaped s.within s.place before c after ≡ t → scalar c ≡ true
     → IsUtf8 (written_by t c)
