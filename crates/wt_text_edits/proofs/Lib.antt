@@ -6,14 +6,15 @@ pub mod StillLines
 pub mod PlainRows
 pub mod PlainMeaning
 pub mod LoneTrees
-pub mod LoneAnswers
-pub mod TakesText
 pub mod TypedText
 pub mod TypedLeaves
 pub mod TypedItems
 pub mod TypedShown
 pub mod SpelledUtf8
 pub mod SpelledLength
+pub mod TypedAgain
+pub mod TypedTrees
 pub mod TypedPages
 pub mod TakesAnyText
+pub mod TakesText
 mod Cases

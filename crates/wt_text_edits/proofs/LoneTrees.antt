@@ -20,7 +20,7 @@ use Rattle.wt_sections.specs.Sections.{with_sections}
 use Rattle.wt_text_edits.specs.LonePages.{page_chars, lone_body, whole_node, lone_page}
 
 -- a node that holds these items
-abbrev sized : Kind → ℕ → List Item → List ℕ → List ℕ → Label
+abbrev pub sized : Kind → ℕ → List Item → List ℕ → List ℕ → Label
 sized k number xs own shown = record {
   kind = k;
   id = number;

@@ -28,6 +28,7 @@ use Rattle.wt_guards.specs.Letters.{is_bracket, is_escaped, reference, written_b
 use Rattle.wt_guards.specs.Guards.{Setting, nowiki, nowiki_if, is_guarded, spelled_from, spelled}
 use Rattle.wt_guards.proofs.Escapes.{is_escapable, escapable, each_escapable}
 use Rattle.wt_inline.specs.Carried.{shown_item}
+use Rattle.wt_isolation.specs.OpenTags.{ends_open}
 use Rattle.wt_tiles.specs.Glyphs.{glyph_of, begins}
 use Rattle.wt_tiles.specs.declared.glyph.Glyph.TheVariants as glyph
 use Rattle.wt_expand.specs.PageItems.{items_of_word, items_of_words, page_items}
@@ -258,13 +259,17 @@ references c e = each_escapable IsReference
     (record { others = codes "#61;"; is = refl; clean = λ rest h. (refl, (refl, (refl, (refl, (refl, h))))) })
     (record { others = codes "#33;"; is = refl; clean = λ rest h. (refl, (refl, (refl, (refl, (refl, h))))) }) c e
 
+reference_shut : (c : ℕ) → is_escapable c ≡ true → ends_open (reference c) ≡ false
+unfolding reference digits
+reference_shut c e = each_escapable (λ k. ends_open (reference k) ≡ false) refl refl refl refl refl refl refl refl refl refl refl refl refl c e
+
 typed_reference : (c : ℕ) (rest t : List ℕ) → is_escapable c ≡ true → Typed rest t → Typed (reference c ++ rest) (encode_utf8 c ++ t)
 typed_reference c rest t e g =
     let r = references c e in
     let f : form_at Page false (38 ∷ (r.others ++ rest)) ≡ Some (Entity c, suc (length r.others)) =
     ap (λ bs. form_at Page false (bs ++ rest)) (sym r.is) ∙ reference_form Page rest c e ∙ ap (λ bs. Some (Entity c, length bs)) r.is in
     subst (λ bs. Typed (bs ++ rest) (encode_utf8 c ++ t)) (sym r.is)
-    (typed_form (Entity c) (form.Entity c) 38 r.others rest t (encode_utf8 c) f refl tt tt refl (r.clean rest g.clean) g)
+    (typed_form (Entity c) (form.Entity c) 38 r.others rest t (encode_utf8 c) f refl tt (subst (λ bs. ends_open bs ≡ false) r.is (reference_shut c e)) refl (r.clean rest g.clean) g)
 
 -- ---- characters as they are
 

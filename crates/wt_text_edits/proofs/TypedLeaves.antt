@@ -5,7 +5,7 @@ use Rattle.std.specs.List.{flat_map}
 use Rattle.wt_tree.specs.declared.kind.Kind.TheVariants as kind
 use Rattle.wt_span.specs.declared.form.Form.{Form}
 use Rattle.wt_span.specs.declared.form.Form.TheVariants as form
-use Rattle.wt_span.specs.Items.{Item, char, whole}
+use Rattle.wt_span.specs.Items.{Item, char, whole, sources}
 use Rattle.wt_span.specs.Runs.{put, runs}
 use Rattle.wt_span.specs.Tags.{opening_tag, tag_after}
 use Rattle.wt_guards.specs.Guards.{nowiki}
@@ -13,14 +13,15 @@ use Rattle.wt_inline.specs.declared.loose.Loose.TheVariants.{Text}
 use Rattle.wt_inline.specs.Carried.{shown_item}
 use Rattle.wt_inline.specs.ItemTree.{plain, ItemTree, inner, nothing, forest}
 use Rattle.wt_inline.specs.Parts.{Part, loose, node, held_parts, one_leaf, loose_leaf, child, children, form_leaf, nowiki as nowiki_tree, whole_tree, parts}
+use Rattle.wt_isolation.specs.OpenTags.{ends_open}
 use Rattle.wt_text_edits.specs.LonePages.{page_chars, para_of}
 
 -- ---- items of the page itself
 
--- a reference, or `<nowiki/>` as it is put
+-- a reference, which doesn't end with an open tag, or `<nowiki/>` as it is put
 abbrev pub IsOwnForm : Form → List ℕ → Type 0
 IsOwnForm form.Chars bs = ⊥
-IsOwnForm (form.Entity c) bs = Unit {0}
+IsOwnForm (form.Entity c) bs = ends_open bs ≡ false
 IsOwnForm form.Nowiki bs = bs ≡ nowiki
 IsOwnForm form.Extension bs = ⊥
 IsOwnForm form.Function bs = ⊥
@@ -112,6 +113,69 @@ leaves_shown (whole f None bs ∷ xs) h =
     ap (λ cs. cs ++ flat_map leaf_shown (leaves xs)) (form_shown f bs h.0)
     ∙ ap (λ cs. shown_item (whole f None bs) ++ cs) (leaves_shown xs h.1)
 leaves_shown (whole f (Some k) bs ∷ xs) h = absurd h
+
+-- ---- their sources
+
+abbrev pub leaf_source : Leaf → List ℕ
+leaf_source (letters b bs) = b ∷ bs
+leaf_source (reference c bs) = bs
+leaf_source guard = nowiki
+
+letter_source : (b : ℕ) (ls : List Leaf) → flat_map leaf_source (with_letter b ls) ≡ b ∷ flat_map leaf_source ls
+letter_source b [] = refl
+letter_source b (letters c cs ∷ ls) = refl
+letter_source b (reference c bs ∷ ls) = refl
+letter_source b (guard ∷ ls) = refl
+
+form_source : (f : Form) (bs : List ℕ) → IsOwnForm f bs → leaf_source (leaf_of f bs) ≡ bs
+form_source form.Chars bs h = absurd h
+form_source (form.Entity c) bs h = refl
+form_source form.Nowiki bs h = sym h
+form_source form.Extension bs h = absurd h
+form_source form.Function bs h = absurd h
+form_source form.Comment bs h = absurd h
+form_source form.Include bs h = absurd h
+form_source form.Hidden bs h = absurd h
+form_source form.EmptyCall bs h = absurd h
+
+pub leaves_source : (xs : List Item) → AreOwn xs → flat_map leaf_source (leaves xs) ≡ sources xs
+leaves_source [] h = refl
+leaves_source (char None b ∷ xs) h = letter_source b (leaves xs) ∙ ap (λ bs. b ∷ bs) (leaves_source xs h)
+leaves_source (char (Some k) b ∷ xs) h = absurd h
+leaves_source (whole f None bs ∷ xs) h =
+    ap (λ cs. cs ++ flat_map leaf_source (leaves xs)) (form_source f bs h.0) ∙ ap (λ cs. bs ++ cs) (leaves_source xs h.1)
+leaves_source (whole f (Some k) bs ∷ xs) h = absurd h
+
+-- no reference ends with an open tag
+abbrev pub AreShut : List Leaf → Type 0
+AreShut [] = Unit {0}
+AreShut (letters b bs ∷ ls) = AreShut ls
+AreShut (reference c bs ∷ ls) = (ends_open bs ≡ false) × AreShut ls
+AreShut (guard ∷ ls) = AreShut ls
+
+letter_shut : (b : ℕ) (ls : List Leaf) → AreShut ls → AreShut (with_letter b ls)
+letter_shut b [] h = tt
+letter_shut b (letters c cs ∷ ls) h = h
+letter_shut b (reference c bs ∷ ls) h = h
+letter_shut b (guard ∷ ls) h = h
+
+form_shut : (f : Form) (bs : List ℕ) (ls : List Leaf) → IsOwnForm f bs → AreShut ls → AreShut (leaf_of f bs ∷ ls)
+form_shut form.Chars bs ls h s = absurd h
+form_shut (form.Entity c) bs ls h s = (h, s)
+form_shut form.Nowiki bs ls h s = s
+form_shut form.Extension bs ls h s = absurd h
+form_shut form.Function bs ls h s = absurd h
+form_shut form.Comment bs ls h s = absurd h
+form_shut form.Include bs ls h s = absurd h
+form_shut form.Hidden bs ls h s = absurd h
+form_shut form.EmptyCall bs ls h s = absurd h
+
+pub leaves_shut : (xs : List Item) → AreOwn xs → AreShut (leaves xs)
+leaves_shut [] h = tt
+leaves_shut (char None b ∷ xs) h = letter_shut b (leaves xs) (leaves_shut xs h)
+leaves_shut (char (Some k) b ∷ xs) h = absurd h
+leaves_shut (whole f None bs ∷ xs) h = form_shut f bs (leaves xs) h.0 (leaves_shut xs h.1)
+leaves_shut (whole f (Some k) bs ∷ xs) h = absurd h
 
 -- ---- as runs of parts
 

@@ -1,5 +1,5 @@
 -- The page of a typed text, whatever it is: what it means, and what its tree shows.
-use Rattle.std.proofs.Common.{◌≡◌, ℕ, false, List, [], ◌∷◌, ap, ◌∙◌, All}
+use Rattle.std.proofs.Common.{◌≡◌, ℕ, false, List, [], ◌∷◌, length, ap, ◌∙◌, All}
 use Rattle.std.specs.Str.{IsUtf8}
 use Rattle.std.proofs.lemmas.List.Elements.{All-head}
 use Rattle.wt_span.specs.Items.{Item}
@@ -10,6 +10,7 @@ use Rattle.wt_lines.specs.Lines.{lines}
 use Rattle.wt_lines.specs.Kinds.{line_kind}
 use Rattle.wt_devices.specs.Device.{Pages}
 use Rattle.wt_expand.specs.PageItems.{page_items}
+use Rattle.wt_expand.proofs.PageLaws.{page_sources}
 use Rattle.wt_spelling_laws.proofs.TextKinds.{lines_are_text}
 use Rattle.wt_annotated.specs.Annotated.{annotated}
 use Rattle.wt_annotated.specs.GroupData.{group_data}
@@ -23,6 +24,8 @@ use Rattle.wt_text_edits.proofs.TypedText.{typed_expanded}
 use Rattle.wt_text_edits.proofs.TypedLeaves.{leaves, HasAny, has_any}
 use Rattle.wt_text_edits.proofs.TypedItems.{typed_still, typed_own, typed_shows}
 use Rattle.wt_text_edits.proofs.TypedShown.{page_shows}
+use Rattle.wt_text_edits.proofs.TypedAgain.{old_page}
+use Rattle.wt_text_edits.proofs.TypedTrees.{nodes, leaves_tree}
 
 abbrev IsText : List Item → Type 0
 IsText l = line_kind 0 l ≡ line.Text
@@ -31,6 +34,17 @@ IsText l = line_kind 0 l ≡ line.Text
 some_leaf : (xs : List Item) → All IsText (lines xs) → HasAny (leaves xs)
 some_leaf [] a = absurd (no_text (All-head IsText [] [] a))
 some_leaf (x ∷ xs) a = has_any x xs
+
+pub typed_tree : (pages : Pages) (s : Setting) (text : List ℕ) → IsUtf8 text → s.within ≡ false → page_tree pages (spelled s (letters text))
+    ≡ old_page (length (spelled s (letters text))) (nodes 2 [] (leaves (page_items (spelled s (letters text)))))
+typed_tree pages s text u w =
+    let bs : List ℕ = spelled s (letters text) in
+    let xs : List Item = page_items bs in
+    let are : All IsText (lines xs) = lines_are_text s text 0 u w in
+    ap expanded_tree (typed_expanded pages s text u)
+    ∙ ap (λ t. with_sections (annotated [] (group_data []) t)) (meaning_typed xs (typed_still s text) are)
+    ∙ leaves_tree xs (typed_own s text) (some_leaf xs are)
+    ∙ ap (λ cs. old_page (length cs) (nodes 2 [] (leaves xs))) (page_sources bs)
 
 pub typed_tree_shows : (pages : Pages) (s : Setting) (text : List ℕ) → IsUtf8 text → s.within ≡ false
     → shown_children (page_tree pages (spelled s (letters text))) ≡ one_shown text

@@ -95,7 +95,7 @@ none_empty (letters b bs ∷ ls) = (refl, tt, none_empty ls)
 none_empty (reference c bs ∷ ls) = (refl, tt, none_empty ls)
 none_empty (guard ∷ ls) = (refl, tt, none_empty ls)
 
-abbrev body_of : List Leaf → ItemTree
+abbrev pub body_of : List Leaf → ItemTree
 body_of ls = inner (plain kind.Body) [] (further (leaves_para ls) nothing) []
 
 body_of_page : (ls : List Leaf) → AllOfPage (tree_items (body_of ls))
@@ -103,7 +103,7 @@ body_of_page ls =
     let xs : List Item = held_by_all (forest (map leaf_tree ls)) in
     both_of_page ((xs ++ []) ++ []) [] (both_of_page (xs ++ []) [] (both_of_page xs [] (leaves_of_page ls) refl) refl) refl
 
-is_plain_page : (ls : List Leaf) → HasAny ls → IsPlain (body_of ls)
+pub is_plain_page : (ls : List Leaf) → HasAny ls → IsPlain (body_of ls)
 unfolding nowiki
 is_plain_page [] h = absurd h
 is_plain_page (letters b bs ∷ ls) h = record { of_page = body_of_page (letters b bs ∷ ls); none_empty = (refl, none_empty (letters b bs ∷ ls), tt) }

@@ -1,4 +1,5 @@
 pub mod PlainTexts
 pub mod LonePages
 pub mod LoneEdits
+pub mod TypedPages
 pub mod StillItems

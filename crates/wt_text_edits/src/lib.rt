@@ -29,6 +29,7 @@ ghost use Rattle.wt_text_edits.specs.LoneEdits.{sent, typed_in};
 ghost use Rattle.wt_text_edits.specs.LonePages.{lone_page, of_items, one_shown};
 ghost use Rattle.wt_text_edits.specs.PlainTexts.{IsPlainText};
 ghost use Rattle.wt_text_edits.specs.StillItems.{StillItems};
+ghost use Rattle.wt_text_edits.specs.TypedPages.{IsTypedPage};
 
 /// Text of a paragraph, a heading, an item or a cell, whatever somebody typed there, calls nothing: as a
 /// page of its own it has no calls and no arguments, nothing is fetched for it, and nothing refuses it.
@@ -97,21 +98,23 @@ pub fn typed_text_is_shown()
         → shown_children (page_tree pages (spelled s (letters text))) ≡ one_shown text }
 {}
 
-/// A page that is one paragraph of plain text takes any text, whatever somebody typed, with whatever line
+/// A page that somebody typed as one paragraph takes any text, whatever somebody types, with whatever line
 /// breaks, or none at all: an edit that sends its paragraph marked `content` with this text in it is done,
 /// and the new page is the text as it is spelled, unless that is longer than a page may be. So it is, too,
 /// for each input that is read as such a tree, and so the command `edit` answers, over a folder that has
-/// the page.
-#[tactic(auto, using(crate::proofs::TakesAnyText::takes_any, crate::proofs::TakesAnyText::edit_takes_any, crate::proofs::TakesAnyText::command_takes_any))]
+/// the page. Plain text is such a page, and each new page is one again.
+#[tactic(auto, using(crate::proofs::TakesAnyText::takes_any, crate::proofs::TakesAnyText::edit_takes_any, crate::proofs::TakesAnyText::command_takes_any, crate::proofs::TakesAnyText::plain_typed, crate::proofs::TakesAnyText::typed_again))]
 pub fn lone_paragraph_takes_any_text()
-    ensures tree { (pages : Pages) (page text : List ℕ) (b p t : Label) → IsPlainText page → IsUtf8 text → length (typed_in page text) ≤ PAGE_BYTES
+    ensures tree { (pages : Pages) (page text : List ℕ) (b p t : Label) → IsTypedPage page → IsUtf8 text → length (typed_in page text) ≤ PAGE_BYTES
         → edit_to pages page (sent b p t text) ≡ done (typed_in page text) }
-    ensures edit { (pages : Pages) (page text input : List ℕ) (b p t : Label) (unsourced : Option ℕ) → IsPlainText page → IsUtf8 text
+    ensures edit { (pages : Pages) (page text input : List ℕ) (b p t : Label) (unsourced : Option ℕ) → IsTypedPage page → IsUtf8 text
         → length page ≤ PAGE_BYTES → length (typed_in page text) ≤ PAGE_BYTES → length input ≤ HTML_BYTES
         → read input ≡ as_page (sent b p t text) unsourced → edit_of pages (Some page) input ≡ done (typed_in page text) }
     ensures command { (pages : Pages) (words : List (List ℕ)) (title page text input : List ℕ) (b p t : Label) (unsourced : Option ℕ)
-        → command_of words ≡ Some (Edit title) → pages title ≡ Some page → IsPlainText page → IsUtf8 text
+        → command_of words ≡ Some (Edit title) → pages title ≡ Some page → IsTypedPage page → IsUtf8 text
         → length page ≤ PAGE_BYTES → length (typed_in page text) ≤ PAGE_BYTES → length input ≤ HTML_BYTES
         → read input ≡ as_page (sent b p t text) unsourced
         → answer_told (Some pages) (Some input) words ≡ Some (done (typed_in page text)) }
+    ensures plain { (page : List ℕ) → IsPlainText page → IsTypedPage page }
+    ensures again { (page text : List ℕ) → IsUtf8 text → IsTypedPage (typed_in page text) }
 {}
