@@ -1,5 +1,5 @@
 -- A page that somebody typed as one paragraph takes any text, whatever somebody types: `edit` answers it as it is spelled.
-use Rattle.std.proofs.Common.{arith, ◌≡◌, ℕ, ◌≤◌, Bool, true, false, Option, Some, None, List, [], ◌∷◌, length, nat_lt, refl, sym, ap, ◌∙◌, subst}
+use Rattle.std.proofs.Common.{arith, ◌≡◌, ℕ, ◌≤◌, Bool, false, Option, Some, List, [], length, nat_lt, refl, sym, ap, ◌∙◌, subst}
 use Rattle.std.specs.Prelude.{if◌then◌else◌}
 use Rattle.std.specs.Str.{IsUtf8}
 use Rattle.std.proofs.lemmas.Bool.Decides.{nat_tests}
@@ -22,7 +22,6 @@ use Rattle.wt_visible.specs.SameNodes.{same_node}
 use Rattle.wt_visible.proofs.DifferingLaws.{same_none}
 use Rattle.wt_selser.specs.Edits.{most_bytes, edit_answer}
 use Rattle.wt_pagetool.specs.declared.refusal.Refusal.TheVariants.{TooLong, InputTooLong}
-use Rattle.wt_edit.specs.Edits.{refusal_of_page}
 use Rattle.wt_pagetool.specs.declared.command.Command.TheVariants.{Edit}
 use Rattle.wt_pagetool.specs.Words.{command_of}
 use Rattle.wt_pagetool.specs.Answers.{Answer, done, refused, text_answer, title_answer, expanded_by, unspelled_by, unspelled_answer, new_by, new_expanded, new_answer, edit_by, edit_from, edit_to, edited_answer, input_answer, edit_of, answer_to, answer_told}

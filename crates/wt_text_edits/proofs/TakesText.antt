@@ -1,29 +1,18 @@
 -- A page that is one paragraph of such text takes any other such text: `edit` answers it.
-use Rattle.std.proofs.Common.{arith, ◌≡◌, ℕ, ◌≤◌, Bool, true, false, Option, Some, None, List, [], ◌∷◌, length, nat_lt, refl, sym, ap, ◌∙◌, subst}
-use Rattle.std.specs.Prelude.{if◌then◌else◌}
+use Rattle.std.proofs.Common.{◌≡◌, ℕ, ◌≤◌, true, Option, Some, None, List, [], ◌∷◌, length, sym, ap, ◌∙◌, subst}
 use Rattle.std.specs.Str.{chars}
-use Rattle.std.proofs.lemmas.Bool.Decides.{nat_tests}
 use Rattle.wt_span.specs.declared.limits.TheConstants.{HTML_BYTES, PAGE_BYTES}
 use Rattle.wt_devices.specs.Device.{Pages}
-use Rattle.wt_tree.specs.Tree.{Label, Tree}
-use Rattle.wt_utf8.specs.Places.{not_utf8_place}
-use Rattle.wt_utf8.proofs.PlaceLaws.{no_place}
-use Rattle.wt_expand.specs.PageCalls.{expanded_page}
+use Rattle.wt_tree.specs.Tree.{Label}
 use Rattle.wt_annotated.specs.Annotated.{annotated}
 use Rattle.wt_annotated.specs.GroupData.{group_data}
 use Rattle.wt_sections.specs.Sections.{with_sections}
 use Rattle.wt_schema.specs.Read.{page as as_page, read}
 use Rattle.wt_page_round_trip.specs.PageTree.{expanded_tree, page_tree}
-use Rattle.wt_visible.specs.Children.{shown_children, differing}
-use Rattle.wt_visible.specs.Restored.{restored_from}
-use Rattle.wt_visible.specs.SameNodes.{same_node}
-use Rattle.wt_visible.proofs.DifferingLaws.{same_none}
-use Rattle.wt_selser.specs.Edits.{most_bytes, edit_answer}
-use Rattle.wt_pagetool.specs.declared.refusal.Refusal.TheVariants.{TooLong, InputTooLong}
 use Rattle.wt_edit.specs.Edits.{refusal_of_page}
 use Rattle.wt_pagetool.specs.declared.command.Command.TheVariants.{Edit}
 use Rattle.wt_pagetool.specs.Words.{command_of}
-use Rattle.wt_pagetool.specs.Answers.{Answer, done, refused, text_answer, title_answer, expanded_by, unspelled_by, unspelled_answer, new_by, new_expanded, new_answer, edit_by, edit_from, edit_to, edited_answer, input_answer, edit_of, answer_to, answer_told}
+use Rattle.wt_pagetool.specs.Answers.{done, edit_to, edit_of, answer_told}
 use Rattle.wt_text_edits.specs.PlainTexts.{are_text_lines, IsPlainText}
 use Rattle.wt_text_edits.specs.LonePages.{lone_page}
 use Rattle.wt_text_edits.specs.LoneEdits.{sent, typed_in}

@@ -17,8 +17,7 @@ use Rattle.wt_annotated.specs.GroupData.{group_data}
 use Rattle.wt_sections.specs.Sections.{with_sections}
 use Rattle.wt_page_round_trip.specs.PageTree.{expanded_tree, page_tree}
 use Rattle.wt_visible.specs.Children.{shown_children}
-use Rattle.wt_page.specs.Body.{meaning}
-use Rattle.wt_text_edits.specs.LonePages.{page_of, one_shown}
+use Rattle.wt_text_edits.specs.LonePages.{one_shown}
 use Rattle.wt_text_edits.proofs.PlainRows.{no_text, meaning_typed}
 use Rattle.wt_text_edits.proofs.TypedText.{typed_expanded}
 use Rattle.wt_text_edits.proofs.TypedLeaves.{leaves, HasAny, has_any}

@@ -1,9 +1,9 @@
 -- What the page of a typed text shows: one paragraph, and in it the text.
-use Rattle.std.proofs.Common.{◌≡◌, ℕ, ◌+◌, Bool, true, false, Some, None, List, [], ◌∷◌, ◌++◌, map, refl, sym, ap, ◌∙◌, subst, append_assoc, append-nil}
+use Rattle.std.proofs.Common.{◌≡◌, ℕ, ◌+◌, Bool, true, false, Some, None, List, [], ◌∷◌, ◌++◌, map, refl, sym, ap, ◌∙◌, append_assoc, append-nil}
 use Rattle.std.specs.Prelude.{◌&&◌, encode_utf8}
 use Rattle.std.specs.List.{list_all, flat_map}
 use Rattle.wt_tree.specs.declared.kind.Kind.TheVariants as kind
-use Rattle.wt_tree.specs.Plain.{Face, text, element, Plains, ended, along, text_before, plain_before, plains_before}
+use Rattle.wt_tree.specs.Plain.{text, element, Plains, ended, along, text_before, plains_before}
 use Rattle.wt_tree.specs.Tree.{Tree, tree}
 use Rattle.wt_span.specs.Items.{Item, char, whole}
 use Rattle.wt_guards.specs.Guards.{nowiki}
@@ -14,7 +14,7 @@ use Rattle.wt_annotated.specs.Clean.{is_page}
 use Rattle.wt_annotated.specs.CutTexts.{cut_texts, all_cut_texts}
 use Rattle.wt_annotated.specs.GroupData.{group_data}
 use Rattle.wt_annotated.specs.Labels.{label_at}
-use Rattle.wt_annotated.specs.Numbering.{count, with_numbers, all_with_numbers}
+use Rattle.wt_annotated.specs.Numbering.{count, all_with_numbers}
 use Rattle.wt_annotated.specs.WithoutCalls.{annotated as annotated_plainly, placed, all_placed, AllNonEmpty, IsPlain}
 use Rattle.wt_annotated.proofs.AnnotatedTree.{without_calls}
 use Rattle.wt_sections.specs.Sections.{with_sections}

@@ -1,5 +1,5 @@
 -- The tree of a page of typed text: one paragraph, and in it the leaves, by their places and numbers.
-use Rattle.std.proofs.Common.{arith, ◌≡◌, ℕ, ◌+◌, Bool, false, Some, None, List, [], ◌∷◌, ◌++◌, length, map, refl, sym, ap, ◌∙◌, append-nil}
+use Rattle.std.proofs.Common.{arith, ◌≡◌, ℕ, ◌+◌, Bool, false, List, [], ◌∷◌, ◌++◌, length, map, refl, ap, ◌∙◌, append-nil}
 use Rattle.std.specs.Prelude.{◌||◌}
 use Rattle.std.specs.List.{flat_map}
 use Rattle.std.proofs.lemmas.Grind.{flat_map-append}
@@ -10,7 +10,7 @@ use Rattle.wt_tree.specs.Tree.{Tree, tree, Trees, none, more}
 use Rattle.wt_span.specs.Items.{Item, source, sources}
 use Rattle.wt_span.specs.Origins.{Expanded}
 use Rattle.wt_guards.specs.Guards.{nowiki}
-use Rattle.wt_inline.specs.ItemTree.{plain, ItemTree, inner, nothing, further, forest, tree_items, held_by_all}
+use Rattle.wt_inline.specs.ItemTree.{plain, inner, nothing, further, forest, tree_items, held_by_all}
 use Rattle.wt_original.specs.Kinds.{shape}
 use Rattle.wt_isolation.specs.OpenTags.{ends_open, any_ends_open}
 use Rattle.wt_selser.specs.GroupFaults.{has_faulty_group}
