@@ -1,6 +1,7 @@
 -- The answer to an edit of a page that is one paragraph, whatever stands in it.
 use Rattle.std.proofs.Common.{arith, ◌≡◌, ℕ, ◌-◌, ◌≤◌, Bool, false, Option, Some, None, List, [], ◌∷◌, ◌++◌, length, refl, ap, ◌∙◌, nat_lt, append-nil}
 use Rattle.std.specs.Prelude.{Ok, Err, option_map, ◌||◌, if◌then◌else◌}
+use Rattle.std.specs.Str.{chars}
 use Rattle.std.proofs.lemmas.Bool.Decides.{nat_tests}
 use Rattle.std.proofs.lemmas.List.{drop_all}
 use Rattle.wt_span.specs.Items.{Item}
@@ -30,7 +31,7 @@ use Rattle.wt_span.specs.Origins.{Expanded}
 use Rattle.wt_visible.specs.Children.{shown_children}
 use Rattle.wt_visible.specs.Restored.{restored_from}
 use Rattle.wt_text_edits.specs.LonePages.{of_items, whole_label, whole_node, one_shown}
-use Rattle.wt_text_edits.specs.LoneEdits.{sent, typed_in}
+use Rattle.wt_text_edits.specs.LoneEdits.{text_in, sent, typed_in}
 
 abbrev Same : Type 0
 Same = Tree → Tree → Bool
@@ -40,15 +41,15 @@ old_para n ts = tree (whole_label kind.Para 1 n []) ts
 
 abbrev new_para : Label → Label → List ℕ → Tree
 new_para p t text =
-    tree (record p { kind = kind.Para; id = 1; attrs = []; mark = marks.Content; mw = None })
-    (more (tree (record t { kind = kind.Text; id = 0; shown = text; mark = marks.Nothing }) none) none)
+    tree (record p { kind = kind.Para; id = 1; attrs = []; mark = marks.Content; mw = None }) (text_in t text)
 
 abbrev pub old_page : ℕ → Trees → Tree
 old_page n ts = whole_node kind.Body 0 n (whole_node (kind.Section 0) 0 n (old_para n ts))
 
 checks_pass : (n : ℕ) (ts : Trees) (text : List ℕ) (b p t : Label) → checked false (old_page n ts) (sent b p t text) ≡ None
 unfolding checked same_kind same_data
-checks_pass n ts text b p t = refl
+checks_pass n ts [] b p t = refl
+checks_pass n ts (c ∷ cs) b p t = refl
 
 untangled : (xs : List Item) (page : List ℕ) (n : ℕ) (ts : Trees) → any_ends_open ts ≡ false → has_faulty_group (of_items xs) ts ≡ false
     → is_tangled (of_items xs) page (old_para n ts) ≡ false
@@ -58,7 +59,9 @@ none_refused : (same : Same) (xs : List Item) (page : List ℕ) (n : ℕ) (ts : 
     → any_ends_open ts ≡ false → has_faulty_group (of_items xs) ts ≡ false
     → refused_pairs same (of_items xs) page (marked (old_page n ts) (sent b p t text)) ≡ None
 unfolding bad_content shape kept_with
-none_refused same xs page n ts text b p t e f =
+none_refused same xs page n ts [] b p t e f =
+    ap (λ (v : Bool). first_with (if v then Some (refusal.Tangled 1) else None) None) (untangled xs page n ts e f)
+none_refused same xs page n ts (c ∷ cs) b p t e f =
     ap (λ (v : Bool). first_with (if v then Some (refusal.Tangled 1) else None) None) (untangled xs page n ts e f)
 
 one_slice : (same : Same) (n : ℕ) (ts : Trees) (text : List ℕ) (b p t : Label) → slices same (old_page n ts) (sent b p t text)
@@ -67,11 +70,13 @@ one_slice same n ts text b p t = refl
 
 its_signs : (same : Same) (n : ℕ) (ts : Trees) (text : List ℕ) (p t : Label) → inline_spelling same (old_para n ts) (new_para p t text) place.Paragraph
     ≡ spelled (record { within = false; place = place.Paragraph; source = flat (old_para n ts) }) (letters text ++ [])
-unfolding inline_spelling shape kept_with
-its_signs same n ts text p t = refl
+unfolding inline_spelling shape kept_with chars
+its_signs same n ts [] p t = refl
+its_signs same n ts (c ∷ cs) p t = refl
 
 pub sent_shows : (n : ℕ) (ts : Trees) (text : List ℕ) (b p t : Label) → shown_children (restored_from (old_page n ts) (sent b p t text)) ≡ one_shown text
-sent_shows n ts text b p t = refl
+sent_shows n ts [] b p t = refl
+sent_shows n ts (c ∷ cs) b p t = refl
 
 -- ---- the answer
 
