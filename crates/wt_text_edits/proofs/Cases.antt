@@ -4,7 +4,7 @@ use Rattle.std.specs.Prelude.{codes}
 use Rattle.std.specs.List.{list_all}
 use Rattle.std.specs.Fmt.{digits}
 use Rattle.std.specs.Str.{chars}
-use Rattle.wt_guards.specs.Guards.{nowiki, is_guarded, is_between_guard, is_parted}
+use Rattle.wt_guards.specs.Guards.{nowiki, is_guarded, is_between_guard, is_start_guard, is_end_guard, is_blank_guard, is_parted}
 use Rattle.wt_guards.specs.Letters.{is_escaped, reference}
 use Rattle.wt_guards.specs.Table.{hazard, line_start_hazard}
 use Rattle.wt_text_edits.specs.LoneEdits.{typed_in}
@@ -58,13 +58,13 @@ link = refl
 
 -- what is typed into a page: no text, a link, an entity and a list
 nothing_typed : typed_in (codes "a") [] ≡ codes "<nowiki/>"
-unfolding is_guarded nowiki chars
+unfolding is_guarded is_between_guard is_start_guard is_end_guard is_blank_guard nowiki chars
 nothing_typed = refl
 
 link_typed : typed_in (codes "a") (codes "[b]") ≡ codes "&#91;b&#93;"
-unfolding is_guarded is_between_guard is_parted hazard nowiki is_escaped reference digits chars lib.Utf8.encode
+unfolding is_guarded is_between_guard is_start_guard is_end_guard is_blank_guard is_parted hazard line_start_hazard nowiki is_escaped reference digits chars lib.Utf8.encode
 link_typed = refl
 
 list_typed : typed_in (codes "a") (codes "x\n* y") ≡ codes "x\n<nowiki/>* y"
-unfolding is_guarded is_between_guard is_parted hazard line_start_hazard nowiki is_escaped reference digits chars lib.Utf8.encode
+unfolding is_guarded is_between_guard is_start_guard is_end_guard is_blank_guard is_parted hazard line_start_hazard nowiki is_escaped reference digits chars lib.Utf8.encode
 list_typed = refl

@@ -8,7 +8,7 @@ use Rattle.wt_span.specs.Items.{Item}
 use Rattle.wt_tree.specs.declared.kind.Kind.TheVariants as kind
 use Rattle.wt_tree.specs.declared.kind.Mark.TheVariants as marks
 use Rattle.wt_tree.specs.Source.{flat}
-use Rattle.wt_tree.specs.Tree.{Label, Tree, tree, Trees, none, more}
+use Rattle.wt_tree.specs.Tree.{Label, Tree, tree, Trees}
 use Rattle.wt_guards.specs.declared.side.Place.TheVariants as place
 use Rattle.wt_guards.specs.Content.{letters}
 use Rattle.wt_guards.specs.Guards.{Setting, spelled}
