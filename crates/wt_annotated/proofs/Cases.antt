@@ -8,7 +8,7 @@ use Rattle.wt_tree.specs.declared.node.DataMw.{DataMw}
 use Rattle.wt_tree.specs.declared.node.DataMw.TheVariants as mw
 use Rattle.wt_tree.specs.declared.node.Part.TheVariants as datum
 use Rattle.wt_tree.specs.Tree.{label}
-use Rattle.wt_span.specs.declared.form.Form.TheVariants as form
+use Rattle.wt_span.specs.declared.form.ItemForm.TheVariants as form
 use Rattle.wt_span.specs.Items.{Item, char, whole}
 use Rattle.wt_span.specs.Functions.{begins_with, function_of}
 use Rattle.wt_span.specs.Origins.{OuterCall}

@@ -3,8 +3,8 @@ use Rattle.std.proofs.Common.{◌≡◌, ℕ, ◌+◌, ◌<◌, ◌≤◌, List,
 use Rattle.std.specs.List.{flat_map}
 use Rattle.std.proofs.lemmas.Grind.{flat_map-append}
 use Rattle.std.proofs.lemmas.List.{take_more}
-use Rattle.wt_span.specs.declared.form.Form.{Form}
-use Rattle.wt_span.specs.declared.form.Form.TheVariants as form
+use Rattle.wt_span.specs.declared.form.ItemForm.{ItemForm}
+use Rattle.wt_span.specs.declared.form.ItemForm.TheVariants as form
 use Rattle.wt_span.specs.declared.form.Piece.{Piece}
 use Rattle.wt_span.specs.declared.text.Text.{Text}
 use Rattle.wt_span.specs.Slice.{bytes_of}
@@ -25,7 +25,7 @@ sources_chars : (o : Option ℕ) (bs : List ℕ) → sources (map (char o) bs) �
 sources_chars o [] = refl
 sources_chars o (b ∷ bs) = ap (λ cs. b ∷ cs) (sources_chars o bs)
 
-sources_by : (f : Form) (o : Option ℕ) (bs : List ℕ) → sources (items_by f o bs) ≡ bs
+sources_by : (f : ItemForm) (o : Option ℕ) (bs : List ℕ) → sources (items_by f o bs) ≡ bs
 sources_by form.Chars o bs = sources_chars o bs
 sources_by (form.Entity c) o bs = append-nil bs
 sources_by form.Nowiki o bs = append-nil bs

@@ -6,8 +6,8 @@ use Rattle.std.proofs.lemmas.Grind.{flat_map-append}
 use Rattle.std.proofs.lemmas.Bool.Decides.{nat_tests}
 use Rattle.std.proofs.lemmas.List.{drop_more, take_more}
 use Rattle.std.proofs.lemmas.List.Folds.{list_all-append, list_any-append}
-use Rattle.wt_span.specs.declared.form.Form.{Form}
-use Rattle.wt_span.specs.declared.form.Form.TheVariants as form
+use Rattle.wt_span.specs.declared.form.ItemForm.{ItemForm}
+use Rattle.wt_span.specs.declared.form.ItemForm.TheVariants as form
 use Rattle.wt_span.specs.declared.form.Piece.{Piece}
 use Rattle.wt_span.specs.Slice.{bytes_of}
 use Rattle.wt_span.specs.Items.{Item, char, whole, call_of_origin, items_by, items_of, items}
@@ -26,17 +26,17 @@ only_piece [] p l m e = absurd (omega (arith, l))
 only_piece (q ∷ []) p l m e = ap items_of e ∙ sym (append-nil (items_of q))
 only_piece (q ∷ r ∷ rs) p l m e = absurd (omega (arith, m))
 
-abbrev pub hollow_by : Form → List ℕ → Bool
+abbrev pub hollow_by : ItemForm → List ℕ → Bool
 hollow_by f bs = is_characters f && length bs == 0
 
 some_left : (n : ℕ) → (suc n == 0) ≡ false
 some_left n = grind (arith, nat_tests)
 
 -- characters, or one item
-abbrev pub OneOrChars : Form → Option ℕ → List ℕ → Type 0
+abbrev pub OneOrChars : ItemForm → Option ℕ → List ℕ → Type 0
 OneOrChars f o bs = ((is_characters f ≡ true) × (items_by f o bs ≡ map (char o) bs)) ⊎ ((is_characters f ≡ false) × (items_by f o bs ≡ whole f o bs ∷ []))
 
-pub one_or_chars : (f : Form) (o : Option ℕ) (bs : List ℕ) → OneOrChars f o bs
+pub one_or_chars : (f : ItemForm) (o : Option ℕ) (bs : List ℕ) → OneOrChars f o bs
 one_or_chars form.Chars o bs = inl (refl, refl)
 one_or_chars (form.Entity c) o bs = inr (refl, refl)
 one_or_chars form.Nowiki o bs = inr (refl, refl)
@@ -48,7 +48,7 @@ one_or_chars form.Hidden o bs = inr (refl, refl)
 one_or_chars form.EmptyCall o bs = inr (refl, refl)
 
 -- what holds of no items where a piece is hollow, and of items of one call where it isn't
-pub by_hollow : (P : List Item → Bool → Type 0) (f : Form) (o : Option ℕ) (bs : List ℕ) → P [] true
+pub by_hollow : (P : List Item → Bool → Type 0) (f : ItemForm) (o : Option ℕ) (bs : List ℕ) → P [] true
     → ((b : ℕ) (cs : List ℕ) → bs ≡ b ∷ cs → P (map (char o) (b ∷ cs)) false) → P (whole f o bs ∷ []) false → OneOrChars f o bs
     → P (items_by f o bs) (hollow_by f bs)
 by_hollow P f o [] n c w (inl h) =
@@ -86,11 +86,11 @@ any_chars None b bs = refl
 any_chars (Some k) b [] = refl
 any_chars (Some k) b (c ∷ cs) = any_chars (Some k) c cs
 
-one_all : (o : Option ℕ) (f : Form) (bs : List ℕ) → list_all is_page (whole f o bs ∷ []) ≡ is_no_call o
+one_all : (o : Option ℕ) (f : ItemForm) (bs : List ℕ) → list_all is_page (whole f o bs ∷ []) ≡ is_no_call o
 one_all None f bs = refl
 one_all (Some k) f bs = refl
 
-one_any : (o : Option ℕ) (f : Form) (bs : List ℕ) → list_any is_page (whole f o bs ∷ []) ≡ is_no_call o
+one_any : (o : Option ℕ) (f : ItemForm) (bs : List ℕ) → list_any is_page (whole f o bs ∷ []) ≡ is_no_call o
 one_any None f bs = refl
 one_any (Some k) f bs = refl
 

@@ -1,7 +1,7 @@
 -- Pieces, by the items that they stand for.
 use Rattle.std.specs.Prelude.{ℕ, ◌==◌, ◌&&◌, Bool, true, false, Option, Some, None, List, [], length, map}
-use Rattle.wt_span.specs.declared.form.Form.{Form}
-use Rattle.wt_span.specs.declared.form.Form.TheVariants as form
+use Rattle.wt_span.specs.declared.form.ItemForm.{ItemForm}
+use Rattle.wt_span.specs.declared.form.ItemForm.TheVariants as form
 use Rattle.wt_span.specs.declared.form.Piece.{Piece}
 use Rattle.wt_span.specs.declared.form.Outer.{Outer}
 use Rattle.wt_span.specs.declared.text.Text.{Text}
@@ -11,7 +11,7 @@ use Rattle.wt_span.specs.Origins.{OuterCall, outer_call}
 abbrev pub outer_calls : List Outer → List OuterCall
 outer_calls cs = map outer_call cs
 
-abbrev pub is_characters : Form → Bool
+abbrev pub is_characters : ItemForm → Bool
 is_characters form.Chars = true
 is_characters (form.Entity c) = false
 is_characters form.Nowiki = false

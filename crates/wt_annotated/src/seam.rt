@@ -7,7 +7,7 @@ ghost use Rattle.wt_annotated.specs.Clean.{is_page};
 ghost use Rattle.wt_annotated.specs.Pieces.{is_hollow};
 ghost use Rattle.wt_annotated.specs.Seams.{first_found, first_of, last_of, parted};
 
-use wt_span::{Form, Origin, Piece};
+use wt_span::{ItemForm, Origin, Piece};
 
 /// The outermost call that this origin is; the page itself is none.
 pub fn call_of(origin: Origin) -> Option<u32>
@@ -34,7 +34,7 @@ pub fn is_hollow(piece: Piece<'_>) -> bool
     ensures { result ≡ is_hollow piece.entry }
 {
     match piece.form {
-        Form::Chars => piece.text.as_str().is_empty(),
+        ItemForm::Chars => piece.text.as_str().is_empty(),
         _ => false,
     }
 }

@@ -9,8 +9,8 @@ use Rattle.std.proofs.lemmas.List.Sums.{prefix_len_stops, prefix_len-le-length}
 use Rattle.wt_span.specs.Bytes.{is_blank, lower}
 use Rattle.wt_tree.specs.declared.kind.AttrName.{AttrName}
 use Rattle.wt_tree.specs.declared.kind.AttrName.TheVariants as attr
-use Rattle.wt_attributes.specs.declared.class.Class.{Class}
-use Rattle.wt_attributes.specs.declared.class.Class.TheVariants as class
+use Rattle.wt_attributes.specs.declared.class.ScanClass.{ScanClass}
+use Rattle.wt_attributes.specs.declared.class.ScanClass.TheVariants as class
 use Rattle.wt_attributes.specs.Classes.{is_bare, run_len}
 use Rattle.wt_attributes.specs.Attributes.{Named, Read, begins_any_case, after_word, name_at, quoted, bare, after_sign, opened, value_at, past_blanks, after_equals, value_in, assigned, with_name, with_value, attribute_at}
 use Rattle.wt_attributes.specs.Spelled.{Value, Spelled, spell_value, spell, characters_of, meaning, IsName, Each, EndsAt, IsValue, IsSpelled}
@@ -77,7 +77,7 @@ cut_at bs n q l e =
     ∙ sym (append_assoc (take n bs) (q ∷ []) (drop (n + 1) bs))
 
 -- in quotes, by a class that is all but the quote
-quoted_written : (c : Class) (q : ℕ) (bs v rest : List ℕ) → (q ≡ 34) ⊎ (q ≡ 39) → run_len c bs ≡ prefix_len (λ b. not (b == q)) bs
+quoted_written : (c : ScanClass) (q : ℕ) (bs v rest : List ℕ) → (q ≡ 34) ⊎ (q ≡ 39) → run_len c bs ≡ prefix_len (λ b. not (b == q)) bs
     → quoted c bs ≡ Some (v, rest) → HasValue v (q ∷ bs) rest
 unfolding quoted
 quoted_written c q bs v rest h is e =

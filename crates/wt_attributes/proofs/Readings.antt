@@ -3,7 +3,7 @@ use Rattle.std.proofs.Common.{◌≡◌, ◌<◌, ◌≤◌, ℕ, zero, suc, ◌
 use Rattle.std.specs.Prelude.{not}
 use Rattle.std.proofs.lemmas.List.{length-append}
 use Rattle.wt_span.specs.Bytes.{is_blank}
-use Rattle.wt_attributes.specs.declared.class.Class.TheVariants as class
+use Rattle.wt_attributes.specs.declared.class.ScanClass.TheVariants as class
 use Rattle.wt_attributes.specs.Classes.{run_len}
 use Rattle.wt_attributes.specs.Attributes.{Named, ended, attribute_at, attribute_if, going_on, readings}
 use Rattle.wt_attributes.proofs.Fronts.{ended_some, ended_none}

@@ -8,8 +8,8 @@ use Rattle.std.proofs.lemmas.Bool.Decides.{nat_tests}
 use Rattle.std.proofs.lemmas.List.Sums.{prefix_len_stops, prefix_len_passes, prefix_len-le-length}
 use Rattle.std.proofs.lemmas.Str.{IsCharBoundary-after_ascii, IsCharBoundary-start}
 use Rattle.wt_span.specs.Bytes.{is_blank}
-use Rattle.wt_attributes.specs.declared.class.Class.{Class}
-use Rattle.wt_attributes.specs.declared.class.Class.TheVariants as class
+use Rattle.wt_attributes.specs.declared.class.ScanClass.{ScanClass}
+use Rattle.wt_attributes.specs.declared.class.ScanClass.TheVariants as class
 use Rattle.wt_attributes.specs.Classes.{in_class, ends_in_ascii, run_len}
 use Rattle.wt_attributes.specs.Spelled.{Each, EndsAt}
 
@@ -43,7 +43,7 @@ ends_dropped p (b ∷ bs) = ends_by p b bs (p b) refl (ends_dropped p bs)
 blank_ascii : (b : ℕ) → is_blank b ≡ true → b < 128
 blank_ascii b e = grind (arith, nat_tests)
 
-pub ascii_end : (c : Class) (b : ℕ) → ends_in_ascii c ≡ true → in_class c b ≡ false → b < 128
+pub ascii_end : (c : ScanClass) (b : ℕ) → ends_in_ascii c ≡ true → in_class c b ≡ false → b < 128
 ascii_end class.Blank b h e = cc
 ascii_end class.NoBlank b h e = grind (arith, nat_tests)
 ascii_end class.Bare b h e = grind (arith, nat_tests)
@@ -51,13 +51,13 @@ ascii_end class.NoDouble b h e = grind (arith, nat_tests)
 ascii_end class.NoSingle b h e = grind (arith, nat_tests)
 
 -- before a byte that ends a run, where that is in ASCII
-pub border_before : (c : Class) (bs : List ℕ) → ends_in_ascii c ≡ true → IsCharBoundary bs (run_len c bs)
+pub border_before : (c : ScanClass) (bs : List ℕ) → ends_in_ascii c ≡ true → IsCharBoundary bs (run_len c bs)
 border_before c bs h =
     let w = prefix_len-le-length (in_class c) bs in
     (w, λ l k. let s : get_or bs (run_len c bs) 0 < 128 = ascii_end c _ h (prefix_len_stops (in_class c) bs 0 l) in absurd (omega arith))
 
 -- and behind it
-pub border_behind : (c : Class) (bs : List ℕ) → IsUtf8 bs → ends_in_ascii c ≡ true → run_len c bs < length bs → IsCharBoundary bs (run_len c bs + 1)
+pub border_behind : (c : ScanClass) (bs : List ℕ) → IsUtf8 bs → ends_in_ascii c ≡ true → run_len c bs < length bs → IsCharBoundary bs (run_len c bs + 1)
 border_behind c bs u h l = IsCharBoundary-after_ascii bs (run_len c bs) u l (ascii_end c _ h (prefix_len_stops (in_class c) bs 0 l))
 
 -- behind blanks
@@ -69,7 +69,7 @@ border_blank bs (suc k) u e =
     let s : get_or bs k 0 < 128 = blank_ascii _ (prefix_len_passes is_blank bs k 0 (omega (arith, e))) in
     subst (IsCharBoundary bs) (omega arith) (IsCharBoundary-after_ascii bs k u l s)
 
-pub border_run : (c : Class) (bs : List ℕ) → IsUtf8 bs → IsCharBoundary bs (run_len c bs)
+pub border_run : (c : ScanClass) (bs : List ℕ) → IsUtf8 bs → IsCharBoundary bs (run_len c bs)
 border_run class.Blank bs u = border_blank bs (run_len class.Blank bs) u refl
 border_run class.NoBlank bs u = border_before class.NoBlank bs refl
 border_run class.Bare bs u = border_before class.Bare bs refl

@@ -9,8 +9,8 @@ use Rattle.std.proofs.lemmas.List.{length-map, length-append, map-append, take-m
 use Rattle.wt_span.specs.Bytes.{is_blank, lower}
 use Rattle.wt_tree.specs.declared.kind.AttrName.{AttrName}
 use Rattle.wt_tree.specs.declared.kind.AttrName.TheVariants as attr
-use Rattle.wt_attributes.specs.declared.class.Class.{Class}
-use Rattle.wt_attributes.specs.declared.class.Class.TheVariants as class
+use Rattle.wt_attributes.specs.declared.class.ScanClass.{ScanClass}
+use Rattle.wt_attributes.specs.declared.class.ScanClass.TheVariants as class
 use Rattle.wt_attributes.specs.Classes.{is_bare, run_len}
 use Rattle.wt_attributes.specs.Attributes.{Read, begins_any_case, ended, name_at, quoted, bare, value_at, past_blanks, after_equals, value_in, assigned, with_name, with_value, attribute_at}
 use Rattle.wt_attributes.specs.Spelled.{Value, Spelled, spell_value, spell, characters_of, meaning, IsName, Each, EndsAt, IsValue, IsSpelled}
@@ -113,7 +113,7 @@ name_read attr.DataParsoid word rest h = absurd h
 
 -- ---- values
 
-quoted_read : (c : Class) (q : ℕ) (v rest : List ℕ) → ((bs : List ℕ) → run_len c bs ≡ prefix_len (λ b. not (b == q)) bs)
+quoted_read : (c : ScanClass) (q : ℕ) (v rest : List ℕ) → ((bs : List ℕ) → run_len c bs ≡ prefix_len (λ b. not (b == q)) bs)
     → not (q == q) ≡ false → Each (λ b. not (b == q)) v
     → quoted c ((v ++ q ∷ []) ++ rest) ≡ Some (v, rest)
 unfolding quoted

@@ -7,8 +7,8 @@ use Rattle.wt_span.specs.Bytes.{is_blank, lower}
 use Rattle.wt_span.specs.Items.{Item}
 use Rattle.wt_tree.specs.declared.kind.AttrName.{AttrName}
 use Rattle.wt_tree.specs.declared.kind.AttrName.TheVariants as attr
-use Rattle.wt_attributes.specs.declared.class.Class.{Class}
-use Rattle.wt_attributes.specs.declared.class.Class.TheVariants as class
+use Rattle.wt_attributes.specs.declared.class.ScanClass.{ScanClass}
+use Rattle.wt_attributes.specs.declared.class.ScanClass.TheVariants as class
 use Rattle.wt_attributes.specs.Characters.{text_of}
 use Rattle.wt_attributes.specs.Classes.{run_len}
 use denote.Enum.Bare.{sameb}
@@ -46,7 +46,7 @@ abbrev pub ended : ℕ → List ℕ → Read (List ℕ)
 ended n bs = if nat_lt n (length bs) then Some (take n bs, drop (n + 1) bs) else None
 
 -- after the quote that opens a value: up to the next such quote
-unfoldable pub quoted : Class → List ℕ → Read (List ℕ)
+unfoldable pub quoted : ScanClass → List ℕ → Read (List ℕ)
 quoted no_quote bs = ended (run_len no_quote bs) bs
 
 -- a value without quotes has one character or more

@@ -1,12 +1,12 @@
 -- The text in which attributes are read.
 use Rattle.std.specs.Prelude.{ℕ, List, [], ◌∷◌, encode_utf8}
 use Rattle.std.specs.List.{flat_map}
-use Rattle.wt_span.specs.declared.form.Form.{Form}
-use Rattle.wt_span.specs.declared.form.Form.TheVariants as form
+use Rattle.wt_span.specs.declared.form.ItemForm.{ItemForm}
+use Rattle.wt_span.specs.declared.form.ItemForm.TheVariants as form
 use Rattle.wt_span.specs.Items.{Item, char, whole}
 
 -- an entity gives the character that it stands for; other atoms and marks give nothing
-abbrev pub characters_by : Form → List ℕ
+abbrev pub characters_by : ItemForm → List ℕ
 characters_by form.Chars = []
 characters_by (form.Entity c) = encode_utf8 c
 characters_by form.Nowiki = []

@@ -2,14 +2,14 @@
 use Rattle.std.specs.Prelude.{ℕ, ◌==◌, ◌||◌, not, Bool, true, false, List}
 use Rattle.std.specs.List.{prefix_len}
 use Rattle.wt_span.specs.Bytes.{is_blank}
-use Rattle.wt_attributes.specs.declared.class.Class.{Class}
-use Rattle.wt_attributes.specs.declared.class.Class.TheVariants as class
+use Rattle.wt_attributes.specs.declared.class.ScanClass.{ScanClass}
+use Rattle.wt_attributes.specs.declared.class.ScanClass.TheVariants as class
 
 -- what a value without quotes may hold: no space, no tab, no `"`, no `'`, no `=`
 abbrev pub is_bare : ℕ → Bool
 is_bare b = not (is_blank b || (b == 34 || (b == 39 || b == 61)))
 
-abbrev pub in_class : Class → ℕ → Bool
+abbrev pub in_class : ScanClass → ℕ → Bool
 in_class class.Blank b = is_blank b
 in_class class.NoBlank b = not (is_blank b)
 in_class class.Bare b = is_bare b
@@ -17,7 +17,7 @@ in_class class.NoDouble b = not (b == 34)
 in_class class.NoSingle b = not (b == 39)
 
 -- a byte that ends a run of them is in ASCII
-abbrev pub ends_in_ascii : Class → Bool
+abbrev pub ends_in_ascii : ScanClass → Bool
 ends_in_ascii class.Blank = false
 ends_in_ascii class.NoBlank = true
 ends_in_ascii class.Bare = true
@@ -25,5 +25,5 @@ ends_in_ascii class.NoDouble = true
 ends_in_ascii class.NoSingle = true
 
 -- how many of them begin a text
-abbrev pub run_len : Class → List ℕ → ℕ
+abbrev pub run_len : ScanClass → List ℕ → ℕ
 run_len c bs = prefix_len (in_class c) bs

@@ -7,7 +7,7 @@ ghost use Rattle.wt_attributes.specs.Attributes.{begins_any_case, after_word, na
 ghost use Rattle.wt_attributes.specs.Classes.{ends_in_ascii};
 ghost use Rattle.wt_attributes.specs.Views.{named};
 
-use crate::class::{Class, past_blanks};
+use crate::class::{ScanClass, past_blanks};
 use wt_span::front_of;
 use wt_tree::AttrName;
 
@@ -64,7 +64,7 @@ fn name_at(text: &str) -> Option<(AttrName, &str)>
 /// The value whose opening quote stands before the text, and what is left after the quote that ends
 /// it.
 #[tactic(auto, unfolding(crate::specs::Attributes::quoted))]
-fn quoted(no_quote: Class, text: &str) -> Option<(&str, &str)>
+fn quoted(no_quote: ScanClass, text: &str) -> Option<(&str, &str)>
     requires { ends_in_ascii no_quote ≡ true }
     ensures { option_map (λ r. (r.0.now, r.1.now)) result ≡ quoted no_quote text.entry.now }
 {
@@ -76,7 +76,7 @@ fn quoted(no_quote: Class, text: &str) -> Option<(&str, &str)>
 fn bare(text: &str) -> Option<(&str, &str)>
     ensures { option_map (λ r. (r.0.now, r.1.now)) result ≡ bare text.entry.now }
 {
-    let (value, rest) = Class::Bare.split_run(text);
+    let (value, rest) = ScanClass::Bare.split_run(text);
     if value.is_empty() {
         None
     } else {
@@ -103,10 +103,10 @@ fn value_at(text: &str) -> Option<(&str, &str)>
     ensures { option_map (λ r. (r.0.now, r.1.now)) result ≡ value_at text.entry.now }
 {
     if let Some(inside) = after_sign(b'"', text) {
-        return quoted(Class::NoDouble, inside);
+        return quoted(ScanClass::NoDouble, inside);
     }
     if let Some(inside) = after_sign(b'\'', text) {
-        return quoted(Class::NoSingle, inside);
+        return quoted(ScanClass::NoSingle, inside);
     }
     bare(text)
 }

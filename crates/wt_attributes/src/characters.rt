@@ -4,7 +4,7 @@ ghost use Rattle.wt_span.specs.Items.{items, items_of};
 ghost use Rattle.wt_attributes.specs.Characters.{characters, text_of};
 
 use std::alloc::Global;
-use wt_span::{Form, NoMemory, Piece};
+use wt_span::{ItemForm, NoMemory, Piece};
 
 /// Appends what a piece gives: characters themselves, an entity the character that it stands for,
 /// and anything else nothing.
@@ -12,8 +12,8 @@ fn push_characters(out: &mut String, piece: &Piece<'_>) -> Result<(), NoMemory>
     ensures { OnOk result (string_bytes out.new ≡ string_bytes out.old ++ flat_map characters (items_of piece.now)) }
 {
     match piece.form {
-        Form::Chars => out.push_str(piece.text.as_str())?,
-        Form::Entity(character) => out.push(character)?,
+        ItemForm::Chars => out.push_str(piece.text.as_str())?,
+        ItemForm::Entity(character) => out.push(character)?,
         _ => {}
     }
     Ok(())

@@ -6,7 +6,7 @@ ghost use Rattle.wt_attributes.specs.Attributes.{ended, past_blanks};
 
 /// Bytes that a scan passes over.
 #[derive(Clone, Copy, Debug)]
-pub enum Class {
+pub enum ScanClass {
     /// Spaces and tabs.
     Blank,
     NoBlank,
@@ -18,18 +18,18 @@ pub enum Class {
     NoSingle,
 }
 
-impl Class {
+impl ScanClass {
     fn has(self, byte: u8) -> bool
         ensures { result ≡ in_class self byte }
     {
         match self {
-            Class::Blank => byte == b' ' || byte == b'\t',
-            Class::NoBlank => !(byte == b' ' || byte == b'\t'),
-            Class::Bare => {
+            ScanClass::Blank => byte == b' ' || byte == b'\t',
+            ScanClass::NoBlank => !(byte == b' ' || byte == b'\t'),
+            ScanClass::Bare => {
                 !(byte == b' ' || byte == b'\t' || byte == b'"' || byte == b'\'' || byte == b'=')
             }
-            Class::NoDouble => byte != b'"',
-            Class::NoSingle => byte != b'\'',
+            ScanClass::NoDouble => byte != b'"',
+            ScanClass::NoSingle => byte != b'\'',
         }
     }
 
@@ -76,5 +76,5 @@ impl Class {
 pub fn past_blanks(text: &str) -> &str
     ensures { result.now ≡ past_blanks text.entry.now }
 {
-    Class::Blank.split_run(text).1
+    ScanClass::Blank.split_run(text).1
 }

@@ -5,7 +5,7 @@ ghost use Rattle.wt_attributes.specs.Attributes.{readings, attribute_if};
 ghost use Rattle.wt_attributes.specs.Views.{named, left};
 
 use crate::attribute::{Attribute, attribute_at};
-use crate::class::Class;
+use crate::class::ScanClass;
 
 /// What is left of a text to be read for attributes.
 #[derive(Clone, Copy, Debug)]
@@ -31,7 +31,7 @@ impl<'t> Scan<'t> {
         ensures value { left result ≡ readings false 0 self.entry.rest.now }
         ensures shorter { 0 < length self.entry.rest.now → length result.rest.now < length self.entry.rest.now }
     {
-        let rest = match Class::NoBlank.split_ended(self.rest) {
+        let rest = match ScanClass::NoBlank.split_ended(self.rest) {
             Some((_, rest)) => rest,
             None => "",
         };

@@ -1,35 +1,39 @@
 //! What the kinds of blocks are to their neighbours, by the table of kinds.
 
-use wt_tree::{Class, Kind};
+use wt_tree::{Kind, Placement};
 
 /// Whether it is a list.
 pub fn is_list(kind: Kind) -> bool {
-    matches!(kind.shape().class, Class::List)
+    matches!(kind.shape().class, Placement::List)
 }
 
 /// Whether it is an item of a list.
 pub fn is_item(kind: Kind) -> bool {
-    matches!(kind.shape().class, Class::Item | Class::Term)
+    matches!(kind.shape().class, Placement::Item | Placement::Term)
 }
 
 /// Whether it is a cell of a row.
 pub fn is_cell(kind: Kind) -> bool {
-    matches!(kind.shape().class, Class::Cell)
+    matches!(kind.shape().class, Placement::Cell)
 }
 
 /// Whether it stands in a list or a table alone.
 pub fn is_part(kind: Kind) -> bool {
     matches!(
         kind.shape().class,
-        Class::Item | Class::Term | Class::TablePart | Class::TableRow | Class::Cell
+        Placement::Item
+            | Placement::Term
+            | Placement::TablePart
+            | Placement::TableRow
+            | Placement::Cell
     )
 }
 
 /// Whether a block is told by the signs at its line's start or end.
 pub fn is_lined(kind: Kind) -> bool {
     match kind.shape().class {
-        Class::Block => !matches!(kind, Kind::Para | Kind::Pre),
-        Class::List => true,
+        Placement::Block => !matches!(kind, Kind::Para | Kind::Pre),
+        Placement::List => true,
         _ => is_part(kind),
     }
 }

@@ -2,8 +2,8 @@
 use Rattle.std.proofs.Common.{◌≡◌, ℕ, ◌+◌, ◌^◌, ◌<◌, ◌≤◌, Bool, true, false, Option, List, [], ◌∷◌, ◌++◌, length, get_or, take, drop, map, refl, sym, ap, ◌∙◌, arith, length-append}
 use Rattle.std.proofs.lemmas.List.{length-map, drop_more, take-append-drop}
 use Rattle.std.proofs.lemmas.Grind.{flat_map-append}
-use Rattle.wt_span.specs.declared.form.Form.{Form}
-use Rattle.wt_span.specs.declared.form.Form.TheVariants as form
+use Rattle.wt_span.specs.declared.form.ItemForm.{ItemForm}
+use Rattle.wt_span.specs.declared.form.ItemForm.TheVariants as form
 use Rattle.wt_span.specs.declared.form.Piece.{Piece}
 use Rattle.wt_span.specs.Slice.{bytes_of}
 use Rattle.wt_span.specs.Items.{Item, char, whole, source, sources, items, items_of, items_by, call_of_origin}
@@ -15,7 +15,7 @@ char_sources : (o : Option ℕ) (bs : List ℕ) → sources (map (char o) bs) �
 char_sources o [] = refl
 char_sources o (b ∷ bs) = ap (λ cs. b ∷ cs) (char_sources o bs)
 
-chars_are : (f : Form) (o : Option ℕ) (bs : List ℕ) → is_chars f ≡ true → items_by f o bs ≡ map (char o) bs
+chars_are : (f : ItemForm) (o : Option ℕ) (bs : List ℕ) → is_chars f ≡ true → items_by f o bs ≡ map (char o) bs
 chars_are form.Chars o bs e = refl
 chars_are (form.Entity c) o bs e = cc
 chars_are form.Nowiki o bs e = cc
@@ -26,7 +26,7 @@ chars_are form.Include o bs e = cc
 chars_are form.Hidden o bs e = cc
 chars_are form.EmptyCall o bs e = cc
 
-whole_is : (f : Form) (o : Option ℕ) (bs : List ℕ) → is_chars f ≡ false → items_by f o bs ≡ whole f o bs ∷ []
+whole_is : (f : ItemForm) (o : Option ℕ) (bs : List ℕ) → is_chars f ≡ false → items_by f o bs ≡ whole f o bs ∷ []
 whole_is form.Chars o bs e = cc
 whole_is (form.Entity c) o bs e = refl
 whole_is form.Nowiki o bs e = refl
@@ -37,14 +37,14 @@ whole_is form.Include o bs e = refl
 whole_is form.Hidden o bs e = refl
 whole_is form.EmptyCall o bs e = refl
 
-count_by_is : (f : Form) (o : Option ℕ) (bs : List ℕ) (v : Bool) → is_chars f ≡ v → count_by v bs ≡ length (items_by f o bs)
+count_by_is : (f : ItemForm) (o : Option ℕ) (bs : List ℕ) (v : Bool) → is_chars f ≡ v → count_by v bs ≡ length (items_by f o bs)
 count_by_is f o bs true e = sym (length-map bs (char o)) ∙ ap length (sym (chars_are f o bs e))
 count_by_is f o bs false e = ap length (sym (whole_is f o bs e))
 
 pub count_is : (p : Piece) → item_count p ≡ length (items_of p)
 count_is p = count_by_is p.form (call_of_origin p.origin) (bytes_of p.text) (is_chars p.form) refl
 
-some_bytes : (f : Form) (o : Option ℕ) (bs : List ℕ) (v : Bool) → is_chars f ≡ v → length (items_by f o bs) ≤ length (sources (items_by f o bs)) + 1
+some_bytes : (f : ItemForm) (o : Option ℕ) (bs : List ℕ) (v : Bool) → is_chars f ≡ v → length (items_by f o bs) ≤ length (sources (items_by f o bs)) + 1
 some_bytes f o bs true e =
     let xs = chars_are f o bs e in
     let a : length (items_by f o bs) ≡ length bs = ap length xs ∙ length-map bs (char o) in

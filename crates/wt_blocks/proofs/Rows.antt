@@ -1,7 +1,7 @@
 -- Worked cases of the definitions, each by computing.
 use Rattle.std.proofs.Common.{◌≡◌, ℕ, None, List, [], ◌∷◌, ◌++◌, length, map, refl}
 use Rattle.std.specs.Prelude.{codes, replicate}
-use Rattle.wt_span.specs.declared.form.Form.TheVariants as form
+use Rattle.wt_span.specs.declared.form.ItemForm.TheVariants as form
 use Rattle.wt_span.specs.Items.{Item, char, whole, sources}
 use Rattle.wt_blocks.specs.ListTree.{forest}
 use Rattle.wt_blocks.specs.Nesting.{nested}

@@ -5,10 +5,10 @@ ghost use Rattle.std.specs.List.{prefix_len};
 ghost use Rattle.wt_lines.specs.Signs.{left, right, number};
 ghost use Rattle.wt_blocks.specs.Classes.{is_of};
 
-use wt_lines::{BackSigns, Sign, Signs};
+use wt_lines::{BackSigns, LineSign, Signs};
 
 #[derive(Clone, Copy, Debug, PartialEq, Eq)]
-pub enum Class {
+pub enum SignClass {
     /// `=`.
     Equal,
     /// A space or a tab.
@@ -17,20 +17,20 @@ pub enum Class {
     Idle,
 }
 
-impl Class {
-    fn has(self, sign: Sign) -> bool
+impl SignClass {
+    fn has(self, sign: LineSign) -> bool
         ensures { result ≡ is_of self (number sign) }
     {
         match self {
-            Class::Equal => sign.is_byte(b'='),
-            Class::Blank => sign.is_byte(b' ') || sign.is_byte(b'\t'),
-            Class::Idle => sign.is_idle(),
+            SignClass::Equal => sign.is_byte(b'='),
+            SignClass::Blank => sign.is_byte(b' ') || sign.is_byte(b'\t'),
+            SignClass::Idle => sign.is_idle(),
         }
     }
 }
 
 /// How many signs of the class stand at the front; `most` at most are counted.
-pub fn front_len(signs: Signs<'_, '_>, class: Class, most: usize) -> usize
+pub fn front_len(signs: Signs<'_, '_>, class: SignClass, most: usize) -> usize
     ensures value { result ≡ min most (prefix_len (is_of class) (left signs.entry)) }
 {
     let mut rest = signs;
@@ -61,7 +61,7 @@ pub fn past_front<'p, 'a>(signs: Signs<'p, 'a>, count: usize) -> Signs<'p, 'a>
 }
 
 /// How many signs of the class stand at the back; `most` at most are counted.
-pub fn back_len(signs: BackSigns<'_, '_>, class: Class, most: usize) -> usize
+pub fn back_len(signs: BackSigns<'_, '_>, class: SignClass, most: usize) -> usize
     ensures value { result ≡ min most (prefix_len (is_of class) (right signs.entry)) }
 {
     let mut rest = signs;

@@ -2,7 +2,7 @@ ghost use Rattle.std.specs.Prelude.{◌≡◌, ◌+◌, ◌-◌, ◌/◌, ◌^�
 ghost use Rattle.wt_span.specs.Items.{sign, items, sources};
 ghost use Rattle.wt_blocks.specs.Headings.{core, level_of, open_len, inside_len};
 
-use crate::ends::{Class, back_len, before_back, front_len, past_front};
+use crate::ends::{SignClass, back_len, before_back, front_len, past_front};
 use crate::measure::item_count;
 use wt_lines::{BackSigns, Signs};
 use wt_span::Piece;
@@ -46,15 +46,15 @@ pub fn heading_cuts(pieces: &[Piece<'_>]) -> HeadingCuts
     let signs = Signs::of(pieces);
     let back = BackSigns::of(pieces);
     let count = item_count(pieces);
-    let core_len = count - back_len(back, Class::Idle, count);
+    let core_len = count - back_len(back, SignClass::Idle, count);
     let core_back = back.before_idle();
-    let first = front_len(signs, Class::Equal, core_len);
-    let last = back_len(core_back, Class::Equal, MOST_LEVEL);
+    let first = front_len(signs, SignClass::Equal, core_len);
+    let last = back_len(core_back, SignClass::Equal, MOST_LEVEL);
     let level = level_by(core_len, first, last);
     let rest_len = core_len.saturating_sub(level);
-    let open_len = level + front_len(past_front(signs, level), Class::Blank, rest_len);
+    let open_len = level + front_len(past_front(signs, level), SignClass::Blank, rest_len);
     let between = rest_len.saturating_sub(open_len);
-    let blanks = back_len(before_back(core_back, level), Class::Blank, between);
+    let blanks = back_len(before_back(core_back, level), SignClass::Blank, between);
     HeadingCuts {
         level: level as u8,
         open_len,

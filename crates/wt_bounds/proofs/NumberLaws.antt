@@ -1,7 +1,7 @@
 -- How many nodes with a number forms make: one each, and at most one more for each of their bytes.
 use Rattle.std.proofs.Common.{ℕ, zero, suc, ◌+◌, ◌-◌, ◌≤◌, Option, Some, None, List, [], ◌∷◌, length, map, arith, length-append, length-take, length-drop}
-use Rattle.wt_span.specs.declared.form.Form.{Form}
-use Rattle.wt_span.specs.declared.form.Form.TheVariants as form
+use Rattle.wt_span.specs.declared.form.ItemForm.{ItemForm}
+use Rattle.wt_span.specs.declared.form.ItemForm.TheVariants as form
 use Rattle.wt_span.specs.Entities.{entity_at}
 use Rattle.wt_span.specs.Items.{Item, char, whole, sources}
 use Rattle.wt_inline.specs.RawTag.{inside_len, behind, inside_of, opening_len}
@@ -14,7 +14,7 @@ use Rattle.wt_bounds.proofs.Makes.{counts, children_count}
 
 -- ---- a form makes one node, and at most one more for each of its bytes
 
-form_one : (f : Form) (o : Option ℕ) (bs : List ℕ) → numbered (form_leaf f o bs) ≤ 1
+form_one : (f : ItemForm) (o : Option ℕ) (bs : List ℕ) → numbered (form_leaf f o bs) ≤ 1
 form_one form.Chars o bs = omega arith
 form_one (form.Entity c) o bs = omega arith
 form_one form.Nowiki o bs = omega arith
@@ -50,7 +50,7 @@ nowiki_inside o bs =
     let xs = inside_items o 0 (inside_of bs) in
     omega (arith, children_count (map inside_part xs), inside_count xs, inside_length o 0 (inside_of bs))
 
-whole_count : (f : Form) (o : Option ℕ) (bs : List ℕ) → numbered (whole_tree f o bs) ≤ 1 + length bs
+whole_count : (f : ItemForm) (o : Option ℕ) (bs : List ℕ) → numbered (whole_tree f o bs) ≤ 1 + length bs
 whole_count form.Chars o bs = omega arith
 whole_count (form.Entity c) o bs = omega arith
 whole_count form.Nowiki o bs = omega (arith, nowiki_inside o bs, inside_of_le bs)

@@ -5,7 +5,7 @@ use Rattle.std.specs.Option.{unwrap_or}
 use Rattle.std.specs.List.{prefix_len, AllByRecursion}
 use Rattle.std.proofs.lemmas.List.{take-append-drop, length-take, length-map}
 use Rattle.std.proofs.lemmas.Bool.Decides.{nat_tests}
-use Rattle.wt_span.specs.declared.form.Form.{Form}
+use Rattle.wt_span.specs.declared.form.ItemForm.{ItemForm}
 use Rattle.wt_span.specs.Bytes.{begins}
 use Rattle.wt_span.specs.Items.{Item, char, whole, sign, is_mark_form}
 use Rattle.wt_span.specs.Runs.{IsRun, AreRuns}
@@ -105,7 +105,7 @@ kind_tells tables ss =
 content_less : (l : List Item) → length (signs (content l)) ≤ length l
 content_less l = omega (arith, length-map (content l) sign, length-append (content l) (ending l), ap length (content_ending l))
 
-marked : (f : Form) (o : Option ℕ) (bs : List ℕ) (xs : List Item) (v : Bool) → is_mark_form f ≡ v
+marked : (f : ItemForm) (o : Option ℕ) (bs : List ℕ) (xs : List Item) (v : Bool) → is_mark_form f ≡ v
     → past is_mark_sign (signs (content xs)) ≡ past is_mark_sign (signs (content (drop (marks_len xs) xs)))
     → past is_mark_sign (signs (content (whole f o bs ∷ xs)))
     ≡ past is_mark_sign (signs (content (drop (marks_len (whole f o bs ∷ xs)) (whole f o bs ∷ xs))))

@@ -11,7 +11,7 @@ use Rattle.wt_span.proofs.RunLaws.{runs_are}
 use Rattle.wt_quotes.specs.declared.chunk.Chunk.{Chunk}
 use Rattle.wt_quotes.specs.declared.chunk.Chunk.TheVariants as chunk
 use Rattle.wt_quotes.specs.declared.toggle.Toggle.{Toggle}
-use Rattle.wt_quotes.specs.declared.turn.Turn.{Turn}
+use Rattle.wt_quotes.specs.declared.turn.PlacedToggle.{PlacedToggle}
 use Rattle.wt_quotes.specs.declared.style.Style.{Style}
 use Rattle.wt_quotes.specs.Runs.{run_length}
 use Rattle.wt_quotes.specs.Toggles.{toggle_of, toggle_at, toggles_by_length, is_due, exchange_place, set_exchanged, exchange_at, toggles_of}
@@ -27,10 +27,10 @@ begun_by : (b : Bool) (s : Style) → length (if b then s ∷ [] else []) ≤ 1
 begun_by true s = omega arith
 begun_by false s = omega arith
 
-begun_few : (bold : Bool) (total : ℕ) (t : Turn) (ts : List Turn) → length (begun bold total t ts) ≤ 1
+begun_few : (bold : Bool) (total : ℕ) (t : PlacedToggle) (ts : List PlacedToggle) → length (begun bold total t ts) ≤ 1
 begun_few bold total t ts = begun_by (begins (effect_of bold t)) (style_from bold t (ending bold total ts))
 
-by_turns : (total : ℕ) (ts : List Turn) → length (styles_by total ts) ≤ 2 * length ts
+by_turns : (total : ℕ) (ts : List PlacedToggle) → length (styles_by total ts) ≤ 2 * length ts
 by_turns total [] = omega arith
 by_turns total (t ∷ ts) =
     let a = begun t.bold_outside total t ts in

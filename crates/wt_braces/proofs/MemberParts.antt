@@ -2,11 +2,11 @@
 use Rattle.std.proofs.Common.{◌≡◌, ℕ, ◌+◌, Bool, true, false, Option, Some, None, List, [], ◌∷◌, ◌++◌, refl, sym, ap, ◌∙◌, subst, arith}
 use Rattle.std.specs.Prelude.{if◌then◌else◌}
 use Rattle.wt_span.specs.declared.form.LexKind.TheVariants.{Chars, CommentLine, Comment, Raw, Include, Hidden, Entity, Opens, Closes, LinkOpen, LinkClose, Pipe, Equals}
-use Rattle.wt_span.specs.Braces.{Member, Members, lexeme, call, none, more, members, listed, width, width_of_all, Sign, pipe, equals, sign_of, signs, in_link, PartAt, with_name, parts_between, parts_of}
+use Rattle.wt_span.specs.Braces.{Member, Members, lexeme, call, none, more, members, listed, width, width_of_all, PartSign, pipe, equals, sign_of, signs, in_link, PartAt, with_name, parts_between, parts_of}
 use Rattle.wt_braces.specs.PartMembers.{PartMembers, put_first, with_member, joined, with_equals, with_sign_of, later_after, split_members, part_members, width_of, name_width, placed}
 
 -- a member is no sign, a `|` or a `=`
-pub data SignView (at n : ℕ) (ss : List Sign) : Type 0 where
+pub data SignView (at n : ℕ) (ss : List PartSign) : Type 0 where
   no_sign : ss ≡ [] → SignView at n ss
   a_pipe : ss ≡ pipe at n ∷ [] → SignView at n ss
   an_equals : ss ≡ equals at n ∷ [] → SignView at n ss
@@ -42,7 +42,7 @@ named_begun later at e [] = refl
 named_begun true at e (p ∷ ps) = refl
 named_begun false at e (p ∷ ps) = refl
 
-begin : (later : Bool) (a b to : ℕ) (ss : List Sign) → parts_between later a to ss ≡ begun_at a (parts_between later b to ss)
+begin : (later : Bool) (a b to : ℕ) (ss : List PartSign) → parts_between later a to ss ≡ begun_at a (parts_between later b to ss)
 begin later a b to [] = refl
 begin later a b to (pipe at n ∷ ss) = refl
 begin later a b to (equals at n ∷ ss) = ap (with_name later at) (begin later a b to ss) ∙ named_begun later a at (parts_between later b to ss)
@@ -94,20 +94,20 @@ unnamed : (e : ℕ) (ps : List PartAt) → with_name false e ps ≡ ps
 unnamed e [] = refl
 unnamed e (p ∷ ps) = refl
 
-one_more : (later : Bool) (at to : ℕ) (x : Member) (ss rest : List Sign) (others : Bool → List PartMembers)
+one_more : (later : Bool) (at to : ℕ) (x : Member) (ss rest : List PartSign) (others : Bool → List PartMembers)
     → SignView at (width x) ss → ((l : Bool) → parts_between l (at + width x) to rest ≡ placed (at + width x) (others l))
     → parts_between later at to (ss ++ rest) ≡ placed at (with_sign_of later x ss (others (later_after later ss)))
 one_more later at to x ss rest others (no_sign e) h =
-    let P : List Sign → Type 0 = λ s. parts_between later at to (s ++ rest) ≡ placed at (with_sign_of later x s (others (later_after later s))) in
+    let P : List PartSign → Type 0 = λ s. parts_between later at to (s ++ rest) ≡ placed at (with_sign_of later x s (others (later_after later s))) in
     subst P (sym e) (begin later at (at + width x) to rest ∙ ap (begun_at at) (h later) ∙ sym (place_member at x (others later)))
 one_more later at to x ss rest others (a_pipe e) h =
-    let P : List Sign → Type 0 = λ s. parts_between later at to (s ++ rest) ≡ placed at (with_sign_of later x s (others (later_after later s))) in
+    let P : List PartSign → Type 0 = λ s. parts_between later at to (s ++ rest) ≡ placed at (with_sign_of later x s (others (later_after later s))) in
     subst P (sym e) (ap (λ ps. record { from = at; to = at; equals_at = None } ∷ ps) (h true) ∙ sym (place_pipe at (width x) (others true)))
 one_more true at to x ss rest others (an_equals e) h =
-    let P : List Sign → Type 0 = λ s. parts_between true at to (s ++ rest) ≡ placed at (with_sign_of true x s (others (later_after true s))) in
+    let P : List PartSign → Type 0 = λ s. parts_between true at to (s ++ rest) ≡ placed at (with_sign_of true x s (others (later_after true s))) in
     subst P (sym e) (ap (with_name true at) (begin true at (at + width x) to rest ∙ ap (begun_at at) (h true)) ∙ sym (place_equals at (width x) (others true)))
 one_more false at to x ss rest others (an_equals e) h =
-    let P : List Sign → Type 0 = λ s. parts_between false at to (s ++ rest) ≡ placed at (with_sign_of false x s (others (later_after false s))) in
+    let P : List PartSign → Type 0 = λ s. parts_between false at to (s ++ rest) ≡ placed at (with_sign_of false x s (others (later_after false s))) in
     subst P (sym e) (unnamed at (parts_between false at to rest) ∙ begin false at (at + width x) to rest
     ∙ ap (begun_at at) (h false) ∙ sym (place_member at x (others false)))
 

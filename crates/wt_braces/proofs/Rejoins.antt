@@ -2,11 +2,11 @@
 use Rattle.std.proofs.Common.{◌≡◌, ℕ, ◌+◌, Bool, true, false, Option, Some, None, List, [], ◌∷◌, ◌++◌, refl, sym, ap, ◌∙◌}
 use Rattle.std.specs.Prelude.{if◌then◌else◌}
 use Rattle.wt_span.specs.declared.form.LexKind.TheVariants.{Chars, CommentLine, Comment, Raw, Include, Hidden, Entity, Opens, Closes, LinkOpen, LinkClose, Pipe, Equals}
-use Rattle.wt_span.specs.Braces.{Member, Members, lexeme, call, listed, width, Sign, pipe, equals, sign_of, in_link}
+use Rattle.wt_span.specs.Braces.{Member, Members, lexeme, call, listed, width, PartSign, pipe, equals, sign_of, in_link}
 use Rattle.wt_braces.specs.PartMembers.{PartMembers, put_first, with_member, joined, with_sign_of, later_after, split_members, part_members, rejoined}
 
 -- the sign that a member is, where it counts
-abbrev Fits : Member → List Sign → Type 0
+abbrev Fits : Member → List PartSign → Type 0
 Fits x [] = Unit {0}
 Fits x (pipe at n ∷ ss) = x ≡ lexeme (Pipe, n)
 Fits x (equals at n ∷ ss) = x ≡ lexeme (Equals, n)
@@ -36,7 +36,7 @@ abbrev SomePart : List PartMembers → Type 0
 SomePart [] = ⊥
 SomePart (p ∷ ps) = Unit {0}
 
-signed_some : (later : Bool) (x : Member) (ss : List Sign) (ps : List PartMembers) → SomePart ps → SomePart (with_sign_of later x ss ps)
+signed_some : (later : Bool) (x : Member) (ss : List PartSign) (ps : List PartMembers) → SomePart ps → SomePart (with_sign_of later x ss ps)
 signed_some later x [] [] h = absurd h
 signed_some later x [] (p ∷ ps) h = tt
 signed_some later x (pipe at n ∷ ss) ps h = tt
@@ -67,7 +67,7 @@ member_joins x [] h = absurd h
 member_joins x (p ∷ []) h = last_joins x p.name p.value p.bar
 member_joins x (p ∷ q ∷ ps) h = first_joins x p.name p.value p.bar q ps
 
-sign_joins : (later : Bool) (x : Member) (ss : List Sign) (ps : List PartMembers) → Fits x ss → SomePart ps
+sign_joins : (later : Bool) (x : Member) (ss : List PartSign) (ps : List PartMembers) → Fits x ss → SomePart ps
     → rejoined (with_sign_of later x ss ps) ≡ x ∷ rejoined ps
 sign_joins later x [] ps f h = member_joins x ps h
 sign_joins later x (pipe at n ∷ ss) [] f h = absurd h

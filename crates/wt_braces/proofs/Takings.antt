@@ -5,7 +5,7 @@ use Rattle.std.specs.List.{position_or_len}
 use Rattle.std.proofs.lemmas.Bool.Decides.{nat_tests}
 use Rattle.std.proofs.lemmas.List.{reverse-append}
 use Rattle.wt_span.specs.declared.form.LexKind.TheVariants.{Opens}
-use Rattle.wt_span.specs.Braces.{Member, Members, lexeme, call, members, listed, width_of_all, PartAt, Sign, has_two, open_left, left_over, taken, rewritten, sign_of, signs, is_kind_open, is_kind_close, parts_of, parts_between}
+use Rattle.wt_span.specs.Braces.{Member, Members, lexeme, call, members, listed, width_of_all, PartAt, PartSign, has_two, open_left, left_over, taken, rewritten, sign_of, signs, is_kind_open, is_kind_close, parts_of, parts_between}
 use Rattle.wt_braces.specs.declared.matching.OpenRun.{OpenRun}
 use Rattle.wt_braces.specs.Views.{ClosedAt}
 use Rattle.wt_braces.specs.PartRows.{Fit}
@@ -49,7 +49,7 @@ rev_last ls k ks = ap (λ xs. ls ++ xs) (reverse-append (k ∷ []) ks) ∙ sym (
 shut_built : (m : Matched) (r : OpenRun) (l : Level) (cs : List ClosedAt) → r.links ≡ length m.links → link_closed (build m r l cs) ≡ build m r (shut l) cs
 shut_built m r l cs e = by_links l.signs l.links
   where
-    by_links : (ss : List Sign) (ks : List ℕ) → link_closed (build m r (record { signs = ss; links = ks }) cs) ≡ build m r (shut_by ss ks) cs
+    by_links : (ss : List PartSign) (ks : List ℕ) → link_closed (build m r (record { signs = ss; links = ks }) cs) ≡ build m r (shut_by ss ks) cs
     by_links ss [] =
         let b = build m r (record { signs = ss; links = [] }) cs in
         let no : nat_lt r.links (length (m.links ++ [])) ≡ false = let f = length-append m.links [] in grind (arith, nat_tests) in
@@ -376,7 +376,7 @@ can_close at n k inside rest le =
     let m = matched at rest in
     let place = end_of at (inside ++ lexeme (Opens, n) ∷ rest) in
     let here : e + n + width_of_all (members (reverse inside)) ≡ place + k - k = omega (arith, place_is at n inside rest) in
-    let P : List Sign → Type 0 = λ ss. Fit (e + n) (place + k - k) ss in
+    let P : List PartSign → Type 0 = λ ss. Fit (e + n) (place + k - k) ss in
     record {
       most = le;
       ends = omega arith;
@@ -410,7 +410,7 @@ taken_here at n c inside rest free two more =
       stands = subst P (sym e) (record { read = call_made at n k inside rest sizes.opening; ends = call_end at n k inside rest sizes.opening });
     }
 
-if_runs : (t : Bool) (m : Matched) (ss : List Sign) (ls : List ℕ)
+if_runs : (t : Bool) (m : Matched) (ss : List PartSign) (ls : List ℕ)
     → (if t then record { runs = m.runs; signs = ss; links = ls; closed = m.closed } else m).runs ≡ m.runs
 if_runs true m ss ls = refl
 if_runs false m ss ls = refl

@@ -4,7 +4,7 @@ use Rattle.std.specs.Prelude.{if◌then◌else◌, Result, Ok, Err}
 use Rattle.std.proofs.lemmas.List.{drop_more, length-map}
 use Rattle.wt_span.specs.declared.list.List.{List as Listed}
 use Rattle.wt_span.specs.Lexemes.{Word}
-use Rattle.wt_span.specs.Braces.{Member, Members, members, CallAt, Sign, calls, calls_of_all, call_count_of_all, reduced, reduced_onto, with_word, open_left}
+use Rattle.wt_span.specs.Braces.{Member, Members, members, CallAt, PartSign, calls, calls_of_all, call_count_of_all, reduced, reduced_onto, with_word, open_left}
 use Rattle.wt_lex.specs.declared.lexeme.Lexeme.{Lexeme}
 use Rattle.wt_lex.specs.Places.{word_of}
 use Rattle.wt_braces.specs.declared.call.Call.{Call}
@@ -70,7 +70,7 @@ reads_all at goal m xs e h =
 
 -- ---- the calls in the order of their last bytes
 
-if_closed : (t : Bool) (m : Matched) (ss : List Sign) (ls : List ℕ)
+if_closed : (t : Bool) (m : Matched) (ss : List PartSign) (ls : List ℕ)
     → (if t then record { runs = m.runs; signs = ss; links = ls; closed = m.closed } else m).closed ≡ m.closed
 if_closed true m ss ls = refl
 if_closed false m ss ls = refl

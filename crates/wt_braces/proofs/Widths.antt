@@ -3,7 +3,7 @@ use Rattle.std.proofs.Common.{◌≡◌, ℕ, ◌+◌, Bool, true, false, List, 
 use Rattle.std.specs.Prelude.{if◌then◌else◌}
 use Rattle.std.proofs.lemmas.List.{reverse-append}
 use Rattle.wt_span.specs.declared.form.LexKind.TheVariants.{Chars, CommentLine, Comment, Raw, Include, Hidden, Entity, Opens, Closes, LinkOpen, LinkClose, Pipe, Equals}
-use Rattle.wt_span.specs.Braces.{Member, lexeme, call, members, width, width_of_all, call_count, call_count_of_all, Sign, sign_of, signs, in_link}
+use Rattle.wt_span.specs.Braces.{Member, lexeme, call, members, width, width_of_all, call_count, call_count_of_all, PartSign, sign_of, signs, in_link}
 use Rattle.wt_braces.specs.Views.{ClosedAt}
 use Rattle.wt_braces.specs.PartRows.{Fit}
 use Rattle.wt_braces.specs.Matched.{closed_of, closed_of_all, end_of}
@@ -59,7 +59,7 @@ closed_members at n (x ∷ before) =
 
 -- ---- signs follow one another
 
-signed : (x : Member) (at to : ℕ) (ss : List Sign) → Fit (at + width x) to ss → Fit at to (sign_of x at ++ ss)
+signed : (x : Member) (at to : ℕ) (ss : List PartSign) → Fit (at + width x) to ss → Fit at to (sign_of x at ++ ss)
 signed (lexeme (Chars, n)) at to ss f = fit_from at (at + n) to ss (omega arith) f
 signed (lexeme (CommentLine, n)) at to ss f = fit_from at (at + n) to ss (omega arith) f
 signed (lexeme (Comment, n)) at to ss f = fit_from at (at + n) to ss (omega arith) f
@@ -75,7 +75,7 @@ signed (lexeme (Pipe, n)) at to ss f = (omega arith, f)
 signed (lexeme (Equals, n)) at to ss f = (omega arith, f)
 signed (call k ms) at to ss f = fit_from at (at + width (call k ms)) to ss (omega arith) f
 
-if_signed : (t : Bool) (x : Member) (at to : ℕ) (ss : List Sign) → Fit (at + width x) to ss → Fit at to ((if t then [] else sign_of x at) ++ ss)
+if_signed : (t : Bool) (x : Member) (at to : ℕ) (ss : List PartSign) → Fit (at + width x) to ss → Fit at to ((if t then [] else sign_of x at) ++ ss)
 if_signed true x at to ss f = fit_from at (at + width x) to ss (omega arith) f
 if_signed false x at to ss f = signed x at to ss f
 

@@ -1,6 +1,6 @@
 -- What is read of a text, by its members so far: the nearest member comes first.
 use Rattle.std.specs.Prelude.{◌≡◌, ℕ, ◌+◌, ◌-◌, ◌==◌, ◌≤◌, false, Option, Some, None, List, [], ◌∷◌, ◌++◌, length, take, drop, nat_le, nat_lt, slice_index, if◌then◌else◌}
-use Rattle.wt_span.specs.Braces.{Member, Members, lexeme, call, none, more, Sign, sign_of, is_kind_open, is_kind_close, open_left, width, width_of_all, call_count, parts_of, parts_between}
+use Rattle.wt_span.specs.Braces.{Member, Members, lexeme, call, none, more, PartSign, sign_of, is_kind_open, is_kind_close, open_left, width, width_of_all, call_count, parts_of, parts_between}
 use Rattle.wt_braces.specs.declared.matching.OpenRun.{OpenRun}
 use Rattle.wt_braces.specs.Views.{ClosedAt}
 use Rattle.wt_braces.specs.PartRows.{Fit}
@@ -28,7 +28,7 @@ abbrev mutual
 -- how many signs stand before it; the calls in the order of their last bytes.
 pub record Matched : Type 0 where
   pub runs : List OpenRun
-  pub signs : List Sign
+  pub signs : List PartSign
   pub links : List ℕ
   pub closed : List ClosedAt
 
@@ -60,7 +60,7 @@ link_closed m = if nat_lt (links_before m.runs) (length m.links)
       closed = m.closed;
     } else m
 
-abbrev pub with_signs : List Sign → Matched → Matched
+abbrev pub with_signs : List PartSign → Matched → Matched
 with_signs ss m = record { runs = m.runs; signs = m.signs ++ ss; links = m.links; closed = m.closed }
 
 abbrev pub with_level : ℕ → Member → Matched → Matched

@@ -1,7 +1,7 @@
 -- The members of the parts of a call: those of each part's name and those of its value.
 use Rattle.std.specs.Prelude.{ℕ, ◌+◌, Bool, true, false, Option, Some, None, List, [], ◌∷◌, ◌++◌, if◌then◌else◌}
 use Rattle.wt_span.specs.declared.form.LexKind.TheVariants.{Equals, Pipe}
-use Rattle.wt_span.specs.Braces.{Member, Members, lexeme, members, listed, width, width_of_all, Sign, pipe, equals, sign_of, in_link, PartAt}
+use Rattle.wt_span.specs.Braces.{Member, Members, lexeme, members, listed, width, width_of_all, PartSign, pipe, equals, sign_of, in_link, PartAt}
 
 -- the members of a name with the width of the `=` that ends it, where the part has one; the members of the value; and the
 -- width of the `|` that ends the part, 0 at the end of the call
@@ -30,12 +30,12 @@ with_equals n [] = []
 with_equals n (p ∷ ps) = record { name = Some ([], n); value = joined p.name p.value; bar = p.bar } ∷ ps
 
 -- one more member, by the sign that it is
-abbrev pub with_sign_of : Bool → Member → List Sign → List PartMembers → List PartMembers
+abbrev pub with_sign_of : Bool → Member → List PartSign → List PartMembers → List PartMembers
 with_sign_of later x [] ps = with_member x ps
 with_sign_of later x (pipe at n ∷ ss) ps = record { name = None; value = []; bar = n } ∷ ps
 with_sign_of later x (equals at n ∷ ss) ps = if later then with_equals n ps else with_member x ps
 
-abbrev pub later_after : Bool → List Sign → Bool
+abbrev pub later_after : Bool → List PartSign → Bool
 later_after later [] = later
 later_after later (pipe at n ∷ ss) = true
 later_after later (equals at n ∷ ss) = later

@@ -1,9 +1,9 @@
 -- Parts that are read from the left.
 use Rattle.std.specs.Prelude.{◌≡◌, ℕ, ◌+◌, ◌≤◌, Bool, true, false, Option, Some, None, List, [], ◌∷◌, ◌++◌, length, nat_lt}
-use Rattle.wt_span.specs.Braces.{PartAt, Sign, pipe, equals, with_name, parts_between}
+use Rattle.wt_span.specs.Braces.{PartAt, PartSign, pipe, equals, with_name, parts_between}
 
 -- the signs follow one another between two places
-abbrev pub Fit : ℕ → ℕ → List Sign → Type 0
+abbrev pub Fit : ℕ → ℕ → List PartSign → Type 0
 Fit from to [] = from ≤ to
 Fit from to (pipe at n ∷ ss) = (from ≤ at) × Fit (at + n) to ss
 Fit from to (equals at n ∷ ss) = (from ≤ at) × Fit (at + n) to ss
@@ -23,11 +23,11 @@ name_with true None at = Some at
 name_with true (Some e) at = Some e
 name_with false e at = e
 
-abbrev pub place_of : Sign → ℕ
+abbrev pub place_of : PartSign → ℕ
 place_of (pipe at n) = at
 place_of (equals at n) = at
 
-abbrev pub with_sign : Sign → Row → Row
+abbrev pub with_sign : PartSign → Row → Row
 with_sign (pipe at n) r = record { parts = with_part at r; start = at + n; name = None }
 with_sign (equals at n) r = record { parts = r.parts; start = r.start; name = name_with (nat_lt 0 (length r.parts)) r.name at }
 
@@ -37,6 +37,6 @@ named None ps = ps
 named (Some at) ps = with_name true at ps
 
 -- so much is read that with these signs it gives all parts
-pub record Reads (r : Row) (to : ℕ) (all : List PartAt) (ss : List Sign) : Type 0 where
+pub record Reads (r : Row) (to : ℕ) (all : List PartAt) (ss : List PartSign) : Type 0 where
   pub fit : Fit r.start to ss
   pub parts : r.parts ++ named r.name (parts_between (nat_lt 0 (length r.parts)) r.start to ss) ≡ all

@@ -1,10 +1,10 @@
 -- What the values of this crate's types stand for.
 use Rattle.std.specs.Prelude.{ℕ, ◌-◌, Bool, List, map}
-use Rattle.wt_span.specs.Braces.{PartAt as PartOf, CallAt, Sign as SignAt, pipe, equals}
+use Rattle.wt_span.specs.Braces.{PartAt as PartOf, CallAt, PartSign as SignAt, pipe, equals}
 use Rattle.wt_braces.specs.declared.call.PartAt.{PartAt}
 use Rattle.wt_braces.specs.declared.call.Call.{Call}
-use Rattle.wt_braces.specs.declared.parts.Sign.{Sign}
-use Rattle.wt_braces.specs.declared.parts.Sign.TheVariants as sign
+use Rattle.wt_braces.specs.declared.parts.PartSign.{PartSign}
+use Rattle.wt_braces.specs.declared.parts.PartSign.TheVariants as sign
 use Rattle.wt_braces.specs.declared.matching.Closed.{Closed}
 
 abbrev pub part_of : PartAt → PartOf
@@ -13,7 +13,7 @@ part_of p = record { from = p.at.start; to = p.at.end; equals_at = p.equals }
 abbrev pub call_of : Call → CallAt
 call_of c = record { argument = c.argument; from = c.at.start; to = c.at.end; parts = map part_of c.parts; parent = c.parent }
 
-abbrev pub sign_at : Sign → SignAt
+abbrev pub sign_at : PartSign → SignAt
 sign_at (sign.Pipe r) = pipe r.start (r.end - r.start)
 sign_at (sign.Equals r) = equals r.start (r.end - r.start)
 

@@ -12,7 +12,7 @@ ghost use Rattle.wt_braces.specs.Matched.{TakesRun, TakesNearest, links_before, 
 ghost use Rattle.wt_braces.specs.Leading.{IsRead};
 
 use crate::call::PartAt;
-use crate::parts::{Sign, parts_between};
+use crate::parts::{PartSign, parts_between};
 use std::alloc::Global;
 use std::marker::Model;
 use wt_lex::Lexeme;
@@ -97,7 +97,7 @@ impl Runs {
 pub struct Matching {
     runs: Runs,
     /// The signs behind each of these, without those in a link.
-    signs: Vec<Sign>,
+    signs: Vec<PartSign>,
     /// For each `[[` that is open, how many signs stand before it.
     links: Vec<usize>,
     /// The calls and arguments so far, in the order of their last bytes.
@@ -167,7 +167,7 @@ impl Matching {
         }
     }
 
-    fn push_sign(&mut self, sign: Sign) -> Result<(), NoMemory>
+    fn push_sign(&mut self, sign: PartSign) -> Result<(), NoMemory>
         ensures { OnOk result (self.new ≡ with_signs (sign_at sign ∷ []) self.old) }
     {
         self.signs.push(sign)?;
@@ -282,8 +282,8 @@ impl Matching {
             LexKind::Closes => self.close(alloc, at)?,
             LexKind::LinkOpen => self.open_link()?,
             LexKind::LinkClose => self.close_link(),
-            LexKind::Pipe => self.push_sign(Sign::Pipe(at))?,
-            LexKind::Equals => self.push_sign(Sign::Equals(at))?,
+            LexKind::Pipe => self.push_sign(PartSign::Pipe(at))?,
+            LexKind::Equals => self.push_sign(PartSign::Equals(at))?,
             LexKind::Chars
             | LexKind::CommentLine
             | LexKind::Comment

@@ -10,7 +10,7 @@ use wt_span::{List, NoMemory, Range};
 
 /// A `|` or a `=` that may count.
 #[derive(Clone, Copy, Debug)]
-pub enum Sign {
+pub enum PartSign {
     Pipe(Range),
     Equals(Range),
 }
@@ -59,17 +59,17 @@ impl Parts {
         Ok(())
     }
 
-    fn read(&mut self, sign: Sign) -> Result<(), NoMemory>
+    fn read(&mut self, sign: PartSign) -> Result<(), NoMemory>
         requires { self.old.start ≤ place_of (sign_at sign) }
         ensures { OnOk result (self.new ≡ with_sign (sign_at sign) self.old) }
     {
         match sign {
-            Sign::Pipe(at) => {
+            PartSign::Pipe(at) => {
                 self.end_part(at.start)?;
                 self.start = at.end;
                 self.equals = None;
             }
-            Sign::Equals(at) => {
+            PartSign::Equals(at) => {
                 if self.parts.len() > 0 && self.equals.is_none() {
                     self.equals = Some(at.start);
                 }
@@ -90,7 +90,7 @@ pub fn parts_between(
     alloc: Global,
     from: u32,
     to: u32,
-    signs: &[Sign],
+    signs: &[PartSign],
 ) -> Result<List<PartAt>, NoMemory>
     requires { Fit from to (map sign_at signs.now) }
     ensures { IfOk result (λ ps. map part_of ps ≡ parts_between false from to (map sign_at signs.now)) }

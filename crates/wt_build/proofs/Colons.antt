@@ -12,7 +12,7 @@ use Rattle.wt_tiles.specs.Contexts.{in_line}
 use Rattle.wt_tiles.specs.Cutting.{joined, tile_of, IsEdgeIn}
 use Rattle.wt_tiles.proofs.Joining.{tiles_join}
 use Rattle.wt_tiles.proofs.Words.{edge_at}
-use Rattle.wt_lines.specs.declared.sign.Sign.{Sign}
+use Rattle.wt_lines.specs.declared.sign.LineSign.{LineSign}
 use Rattle.wt_tables.specs.Views.{numbers}
 use Rattle.wt_tables.proofs.Numbers.{numbers_len}
 use Rattle.wt_tiles.specs.declared.tile.Tile.{Tile}
@@ -95,7 +95,7 @@ term_none xs l = rw l refl
 term_some : (n : ℕ) (xs : List Item) → nat_lt (colon_at xs) (length xs) ≡ true → colon_at xs ≡ n → term_len 59 xs ≡ Some n
 term_some n xs l is = rw l (ap (λ k. Some k) is)
 
-pub term_ends : (xs : List Item) (ss given : List Sign) (at len : ℕ) → numbers ss ≡ line_signs xs → given ≡ ss
+pub term_ends : (xs : List Item) (ss given : List LineSign) (at len : ℕ) → numbers ss ≡ line_signs xs → given ≡ ss
     → at ≡ prefix_len (λ s. not (s == 58)) (numbers given)
     → len ≡ length ss → len ≤ at → None ≡ term_len 59 xs
 term_ends xs ss given at len en eg ea el h =
@@ -105,7 +105,7 @@ term_ends xs ss given at len en eg ea el h =
     let l : nat_lt (colon_at xs) (length xs) ≡ false = grind (arith, nat_tests) in
     sym (term_none xs l)
 
-pub term_goes : (xs : List Item) (ss given : List Sign) (at len : ℕ) → numbers ss ≡ line_signs xs → given ≡ ss
+pub term_goes : (xs : List Item) (ss given : List LineSign) (at len : ℕ) → numbers ss ≡ line_signs xs → given ≡ ss
     → at ≡ prefix_len (λ s. not (s == 58)) (numbers given)
     → len ≡ length ss → at < len → Some at ≡ term_len 59 xs
 term_goes xs ss given at len en eg ea el h =

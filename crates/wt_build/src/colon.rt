@@ -13,7 +13,7 @@ ghost use Rattle.wt_page.specs.Lists.{is_bare, seen_signs, term_len};
 ghost use Rattle.wt_build.specs.SeenSigns.{seen_by, seen_sign};
 
 use std::alloc::Global;
-use wt_lines::{Sign, Signs};
+use wt_lines::{LineSign, Signs};
 use wt_span::{List, NoMemory, Piece};
 use wt_tiles::{Context, Tile, TileKind, tiles_in};
 
@@ -38,14 +38,14 @@ fn is_bare(kind: TileKind) -> bool
 }
 
 /// The sign of an item, by whether it stands in no form.
-fn seen_sign(bare: bool, sign: Sign) -> Sign
+fn seen_sign(bare: bool, sign: LineSign) -> LineSign
     ensures { number result ≡ seen_sign bare (number sign) }
 {
-    if bare { sign } else { Sign::Atom }
+    if bare { sign } else { LineSign::Atom }
 }
 
 /// Appends signs as they are, or each as the sign of an atom.
-fn push_signs(out: &mut List<Sign>, bare: bool, signs: Signs<'_, '_>) -> Result<(), NoMemory>
+fn push_signs(out: &mut List<LineSign>, bare: bool, signs: Signs<'_, '_>) -> Result<(), NoMemory>
     ensures { OnOk result (numbers out.new ≡ numbers out.old ++ seen_by bare (left signs.entry)) }
 {
     let mut rest = signs;
@@ -57,14 +57,14 @@ fn push_signs(out: &mut List<Sign>, bare: bool, signs: Signs<'_, '_>) -> Result<
 }
 
 /// Appends the signs of a tile; those of a form as the sign of an atom.
-fn push_tile(out: &mut List<Sign>, tile: &Tile<'_>) -> Result<(), NoMemory>
+fn push_tile(out: &mut List<LineSign>, tile: &Tile<'_>) -> Result<(), NoMemory>
     ensures { OnOk result (numbers out.new ≡ numbers out.old ++ seen_signs (tile_of tile.now)) }
 {
     push_signs(out, is_bare(tile.kind), Signs::of(tile.pieces.as_slice()))
 }
 
 /// The signs of a line; those of each form as the sign of an atom.
-fn seen_signs(alloc: Global, line: &[Piece<'_>]) -> Result<List<Sign>, NoMemory>
+fn seen_signs(alloc: Global, line: &[Piece<'_>]) -> Result<List<LineSign>, NoMemory>
     requires { All IsSoundPiece line.now }
     ensures { IfOk result (λ l. numbers l ≡ flat_map seen_signs (tiles in_line (items line.now))) }
 {
@@ -77,7 +77,7 @@ fn seen_signs(alloc: Global, line: &[Piece<'_>]) -> Result<List<Sign>, NoMemory>
 }
 
 /// How many signs stand before the first `:`.
-fn colon_at(signs: &[Sign]) -> usize
+fn colon_at(signs: &[LineSign]) -> usize
     ensures value { result ≡ prefix_len (λ s. not (s == 58)) (numbers signs.now) }
     ensures within { result ≤ length signs.now }
 {

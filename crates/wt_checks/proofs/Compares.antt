@@ -13,7 +13,7 @@ use Rattle.wt_tree.specs.declared.kind.AttrName.TheVariants as attr
 use Rattle.wt_tree.specs.declared.node.DataMw.{DataMw}
 use Rattle.wt_tree.specs.Kinds.{order}
 use Rattle.wt_tree.specs.Plain.{Face}
-use Rattle.wt_tree.specs.Stream.{Bracket, opens, closes, Sign, byte, bracket}
+use Rattle.wt_tree.specs.Stream.{Bracket, opens, closes, StreamToken, byte, bracket}
 use Rattle.wt_tree.specs.contracts.node.DataMwPartialEq.TheImpl.{eq-value as data_eq}
 use Rattle.wt_tree.proofs.Same.{kind_decides, mw_same}
 use Rattle.wt_checks.specs.Alike.{same_kind, same_attrs, same_data}
@@ -121,13 +121,13 @@ bracket_decides (opens f) closes = (λ e. cc, λ e. cc)
 bracket_decides closes (opens g) = (λ e. cc, λ e. cc)
 bracket_decides closes closes = (λ e. refl, λ e. refl)
 
-sign_decides : (s t : Sign) → Decides (same_sign s t) (s ≡ t)
+sign_decides : (s t : StreamToken) → Decides (same_sign s t) (s ≡ t)
 sign_decides (byte a) (byte b) = Decides-like (a == b) (λ e. ap byte e) (λ e. cc) (Decides-eqb a b)
 sign_decides (byte a) (bracket k) = (λ e. cc, λ e. cc)
 sign_decides (bracket j) (byte b) = (λ e. cc, λ e. cc)
 sign_decides (bracket j) (bracket k) = Decides-like (same_bracket j k) (λ e. ap bracket e) (λ e. cc) (bracket_decides j k)
 
-pub signs_decide : (xs ys : List Sign) → Decides (same_signs xs ys) (xs ≡ ys)
+pub signs_decide : (xs ys : List StreamToken) → Decides (same_signs xs ys) (xs ≡ ys)
 signs_decide [] [] = (λ e. refl, λ e. refl)
 signs_decide [] (y ∷ ys) = (λ e. cc, λ e. cc)
 signs_decide (x ∷ xs) [] = (λ e. cc, λ e. cc)

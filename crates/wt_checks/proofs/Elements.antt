@@ -11,7 +11,7 @@ use Rattle.std.specs.Prelude.{if◌then◌else◌}
 use Rattle.wt_tree.specs.Plain.{face, text, element, Plains, ended, along}
 use Rattle.wt_tree.specs.Tree.{Label, Tree, tree}
 use Rattle.wt_checks.specs.Unmarked.{own_character}
-use Rattle.wt_tree.specs.Stream.{Sign, byte, bracket, opens, closes, signs_by, signs, signs_of_all}
+use Rattle.wt_tree.specs.Stream.{StreamToken, byte, bracket, opens, closes, signs_by, signs, signs_of_all}
 use Rattle.wt_tree.specs.View.{view, views, label_of}
 use Rattle.wt_tree.proofs.Views.{view_out}
 use Rattle.wt_checks.specs.Elements.{without_data, read_by, read_before, all_read, signs_in, signs_of}
@@ -22,7 +22,7 @@ take_turn ns i n lt is = take_more ns i n lt ∙ ap (λ (x : Node). take i ns ++
 
 pub bare_text : (bs : List ℕ) → all_bare_signs (map byte bs) ≡ map byte bs
 bare_text [] = refl
-bare_text (b ∷ bs) = ap (λ (ss : List Sign). byte b ∷ ss) (bare_text bs)
+bare_text (b ∷ bs) = ap (λ (ss : List StreamToken). byte b ∷ ss) (bare_text bs)
 
 -- the signs of one node
 pub signs_out : (n : Node) → signs (view n) ≡ signs_by (showing (out-Node n).kind) (label_of (out-Node n)) (signs_of_all (views (out-Node n).children))
@@ -33,7 +33,7 @@ signs_push [] n = append-nil (signs (view n))
 signs_push (m ∷ ns) n = ap (λ ss. signs (view m) ++ ss) (signs_push ns n) ∙ sym (append_assoc (signs (view m)) (signs_of_all (views ns)) (signs (view n)))
 
 -- one node more
-pub inner_turn : (a b c : List Sign) (ns : List Node) (i : ℕ) (n : Node) → i < length ns → n ≡ get_or ns i n
+pub inner_turn : (a b c : List StreamToken) (ns : List Node) (i : ℕ) (n : Node) → i < length ns → n ≡ get_or ns i n
     → b ≡ a ++ all_bare_signs (signs_of_all (views (take i ns))) → c ≡ b ++ all_bare_signs (signs (view n))
     → c ≡ a ++ all_bare_signs (signs_of_all (views (take (i + 1) ns)))
 inner_turn a b c ns i n lt is h k =
@@ -90,7 +90,7 @@ pub open_turn : (o w v : Bool) (ns : List Node) (i : ℕ) (n : Node) → i < len
 open_turn o w v ns i n lt is h k =
     k ∙ ap (λ b. top_open b (view n)) h ∙ sym (open_push o (take i ns) n) ∙ ap (λ ms. all_top_open o (views ms)) (sym (take_turn ns i n lt is))
 
-pub top_turn : (a b c : List Sign) (o w : Bool) (ns : List Node) (i : ℕ) (n : Node) → i < length ns → n ≡ get_or ns i n
+pub top_turn : (a b c : List StreamToken) (o w : Bool) (ns : List Node) (i : ℕ) (n : Node) → i < length ns → n ≡ get_or ns i n
     → b ≡ a ++ all_top_signs o (views (take i ns)) → w ≡ all_top_open o (views (take i ns)) → c ≡ b ++ top_signs w (view n)
     → c ≡ a ++ all_top_signs o (views (take (i + 1) ns))
 top_turn a b c o w ns i n lt is h e k =
@@ -99,13 +99,13 @@ top_turn a b c o w ns i n lt is h e k =
     ∙ ap (λ ss. a ++ ss) (sym (ap (λ ms. all_top_signs o (views ms)) (take_turn ns i n lt is) ∙ top_push o (take i ns) n))
 
 -- an element is opened, what it holds is added, and it is closed
-pub element_turn : (a b c d : List Sign) (n : Node) → showing (out-Node n).kind ≡ Element
+pub element_turn : (a b c d : List StreamToken) (n : Node) → showing (out-Node n).kind ≡ Element
     → b ≡ a ++ bracket (opens (without_data (face (label_of (out-Node n))))) ∷ []
     → c ≡ b ++ all_bare_signs (signs_of_all (views (out-Node n).children)) → d ≡ c ++ bracket closes ∷ []
     → d ≡ a ++ all_bare_signs (signs (view n))
 element_turn a b c d n e f g h =
-    let held : List Sign = all_bare_signs (signs_of_all (views (out-Node n).children)) in
-    let o : List Sign = bracket (opens (without_data (face (label_of (out-Node n))))) ∷ [] in
+    let held : List StreamToken = all_bare_signs (signs_of_all (views (out-Node n).children)) in
+    let o : List StreamToken = bracket (opens (without_data (face (label_of (out-Node n))))) ∷ [] in
     h ∙ ap (λ ss. ss ++ bracket closes ∷ []) (g ∙ ap (λ ss. ss ++ held) f)
     ∙ ap (λ ss. ss ++ bracket closes ∷ []) (append_assoc a o held) ∙ append_assoc a (o ++ held) (bracket closes ∷ [])
     ∙ ap (λ ss. a ++ ss) (sym (inner_element n e))
@@ -136,16 +136,16 @@ read_out n =
 
 before_by : (w : Writing) (s : Showing) (l : Label) (held rest : Plains) → signs_in (read_by w s l held rest)
     ≡ signs_in (read_by w s l held ended) ++ signs_in rest
-before_by AsText Characters l held rest = ap (λ (ss : List Sign). ss ++ signs_in rest) (sym (append-nil (map byte l.shown)))
+before_by AsText Characters l held rest = ap (λ (ss : List StreamToken). ss ++ signs_in rest) (sym (append-nil (map byte l.shown)))
 before_by AsText Inside l held rest = refl
 before_by AsText Nothing l held rest = refl
 before_by AsText Element l held rest = refl
-before_by AsVoid s l held rest = ap (λ (ss : List Sign). ss ++ signs_in rest) (sym (append-nil (signs_of (element (face l) held))))
-before_by RoundCharacter s l held rest = ap (λ (ss : List Sign). ss ++ signs_in rest)
+before_by AsVoid s l held rest = ap (λ (ss : List StreamToken). ss ++ signs_in rest) (sym (append-nil (signs_of (element (face l) held))))
+before_by RoundCharacter s l held rest = ap (λ (ss : List StreamToken). ss ++ signs_in rest)
     (sym (append-nil (signs_of (element (face l) (along (text l.shown) held)))))
-before_by RoundChildren s l held rest = ap (λ (ss : List Sign). ss ++ signs_in rest) (sym (append-nil (signs_of (element (face l) held))))
-before_by (AsSection n) s l held rest = ap (λ (ss : List Sign). ss ++ signs_in rest) (sym (append-nil (signs_of (element (face l) held))))
-before_by Unwritten s l held rest = ap (λ (ss : List Sign). ss ++ signs_in rest) (sym (append-nil (signs_of (element (face l) held))))
+before_by RoundChildren s l held rest = ap (λ (ss : List StreamToken). ss ++ signs_in rest) (sym (append-nil (signs_of (element (face l) held))))
+before_by (AsSection n) s l held rest = ap (λ (ss : List StreamToken). ss ++ signs_in rest) (sym (append-nil (signs_of (element (face l) held))))
+before_by Unwritten s l held rest = ap (λ (ss : List StreamToken). ss ++ signs_in rest) (sym (append-nil (signs_of (element (face l) held))))
 
 before_rest : (t : Tree) (rest : Plains) → signs_in (read_before t rest) ≡ signs_in (read_before t ended) ++ signs_in rest
 before_rest (tree l ts) rest = before_by (writing l.kind) (showing l.kind) l (all_read ts) rest
@@ -157,7 +157,7 @@ read_push (m ∷ ns) n =
     ∙ sym (append_assoc (signs_in (read_before (view m) ended)) (signs_in (all_read (views ns))) (signs_in (read_before (view n) ended)))
     ∙ ap (λ ss. ss ++ signs_in (read_before (view n) ended)) (sym (before_rest (view m) (all_read (views ns))))
 
-pub read_turn : (a b c : List Sign) (ns : List Node) (i : ℕ) (n : Node) → i < length ns → n ≡ get_or ns i n
+pub read_turn : (a b c : List StreamToken) (ns : List Node) (i : ℕ) (n : Node) → i < length ns → n ≡ get_or ns i n
     → b ≡ a ++ signs_in (all_read (views (take i ns))) → c ≡ b ++ signs_in (read_before (view n) ended)
     → c ≡ a ++ signs_in (all_read (views (take (i + 1) ns)))
 read_turn a b c ns i n lt is h k =
@@ -166,13 +166,13 @@ read_turn a b c ns i n lt is h k =
     ∙ ap (λ ss. a ++ ss) (sym (ap (λ ms. signs_in (all_read (views ms))) (take_turn ns i n lt is) ∙ read_push (take i ns) n))
 
 -- an element is opened, its text and what it holds are added, and it is closed
-pub read_element : (a b c d e : List Sign) (n : Node) → b ≡ a ++ bracket (opens (face (label_of (out-Node n)))) ∷ []
+pub read_element : (a b c d e : List StreamToken) (n : Node) → b ≡ a ++ bracket (opens (face (label_of (out-Node n)))) ∷ []
     → c ≡ b ++ map byte (own_character (writing (out-Node n).kind) (out-Node n).source.shown)
     → d ≡ c ++ signs_in (all_read (views (out-Node n).children)) → e ≡ d ++ bracket closes ∷ []
     → e ≡ a ++ element_signs (label_of (out-Node n)) (signs_in (all_read (views (out-Node n).children)))
 read_element a b c d e n f g h k =
-    let o : List Sign = bracket (opens (face (label_of (out-Node n)))) ∷ [] in
-    let s : List Sign = map byte (own_character (writing (out-Node n).kind) (out-Node n).source.shown) in
-    let r : List Sign = signs_in (all_read (views (out-Node n).children)) in
+    let o : List StreamToken = bracket (opens (face (label_of (out-Node n)))) ∷ [] in
+    let s : List StreamToken = map byte (own_character (writing (out-Node n).kind) (out-Node n).source.shown) in
+    let r : List StreamToken = signs_in (all_read (views (out-Node n).children)) in
     k ∙ ap (λ ss. ss ++ bracket closes ∷ []) (h ∙ ap (λ ss. ss ++ r) (g ∙ ap (λ ss. ss ++ s) f) ∙ append_assoc (a ++ o) s r
     ∙ append_assoc a o (s ++ r)) ∙ append_assoc a (o ++ (s ++ r)) (bracket closes ∷ [])

@@ -2,7 +2,7 @@
 use Rattle.std.proofs.Common.{◌≡◌, Bool, true, false, List, [], ◌∷◌, length, refl, sym, ap, ◌∙◌, suc}
 use Rattle.std.specs.Prelude.{◌&&◌}
 use Rattle.std.proofs.lemmas.List.{length-map}
-use Rattle.wt_tree.specs.Stream.{Sign}
+use Rattle.wt_tree.specs.Stream.{StreamToken}
 use Rattle.wt_checks.specs.declared.written.Written.{Written}
 use Rattle.wt_checks.specs.declared.read.Read.{Read}
 use Rattle.wt_checks.specs.Groups.{same_sign, same_signs}
@@ -12,7 +12,7 @@ and_no : (a : Bool) → a && false ≡ false
 and_no true = refl
 and_no false = refl
 
-signs_long : (ss ts : List Sign) → (length ss ≡ length ts → ⊥) → same_signs ss ts ≡ false
+signs_long : (ss ts : List StreamToken) → (length ss ≡ length ts → ⊥) → same_signs ss ts ≡ false
 signs_long [] [] h = absurd (h refl)
 signs_long [] (t ∷ ts) h = refl
 signs_long (s ∷ ss) [] h = refl

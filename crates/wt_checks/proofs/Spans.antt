@@ -5,7 +5,7 @@ use Rattle.wt_tree.specs.declared.kind.Showing.{Showing}
 use Rattle.wt_tree.specs.declared.kind.Showing.TheVariants.{Characters, Inside, Nothing, Element}
 use Rattle.wt_tree.specs.Kinds.{showing}
 use Rattle.wt_tree.specs.Plain.{Face, face, Plain, text, element, Plains, ended, along, text_before, shown_before, plain_before, plains_before}
-use Rattle.wt_tree.specs.Stream.{Sign, byte, bracket, opens, closes, signs_by, signs_of_all}
+use Rattle.wt_tree.specs.Stream.{StreamToken, byte, bracket, opens, closes, signs_by, signs_of_all}
 use Rattle.wt_tree.specs.Tree.{Label, Tree, tree, Trees, none, more}
 use Rattle.wt_tree.proofs.Streams.{plain_signs, signs_of_plain, all_signs_before}
 use Rattle.wt_checks.specs.Elements.{without_data, bare, all_bare, written_for, signs_in, signs_of}
@@ -22,7 +22,7 @@ mutual
 
   sign_plain : (p : Plain) → signs_of p ≡ signs_of_plain p
   sign_plain (text bs) = refl
-  sign_plain (element f qs) = ap (λ (ss : List Sign). bracket (opens f) ∷ (ss ++ (bracket closes ∷ []))) (signs_plain qs)
+  sign_plain (element f qs) = ap (λ (ss : List StreamToken). bracket (opens f) ∷ (ss ++ (bracket closes ∷ []))) (signs_plain qs)
 
 held_signs : (ts : Trees) → signs_in (plains_before ts ended) ≡ signs_of_all ts
 held_signs ts = signs_plain (plains_before ts ended) ∙ all_signs_before ts ended ∙ append-nil (signs_of_all ts)
@@ -36,8 +36,8 @@ mutual
   bare_sign_of : (p : Plain) → signs_of (bare p) ≡ all_bare_signs (signs_of p)
   bare_sign_of (text bs) = sym (bare_text bs)
   bare_sign_of (element f qs) =
-      ap (λ (ss : List Sign). bracket (opens (without_data f)) ∷ (ss ++ (bracket closes ∷ []))) (bare_signs qs)
-      ∙ ap (λ (ss : List Sign). bracket (opens (without_data f)) ∷ ss) (sym (map-append bare_sign (signs_in qs) (bracket closes ∷ [])))
+      ap (λ (ss : List StreamToken). bracket (opens (without_data f)) ∷ (ss ++ (bracket closes ∷ []))) (bare_signs qs)
+      ∙ ap (λ (ss : List StreamToken). bracket (opens (without_data f)) ∷ ss) (sym (map-append bare_sign (signs_in qs) (bracket closes ∷ [])))
 
 bare_before : (bs : List ℕ) (ps : Plains) → all_bare (text_before bs ps) ≡ text_before bs (all_bare ps)
 bare_before [] ps = refl
@@ -47,7 +47,7 @@ bare_before (b ∷ bs) (along (element f qs) ps) = refl
 
 -- ---- what is still to come, where a `span` is open or not
 
-abbrev coming : Bool → Plains → List Sign
+abbrev coming : Bool → Plains → List StreamToken
 coming false ps = signs_in (as_elements ps)
 coming true ended = bracket closes ∷ []
 coming true (along (text cs) qs) = map byte cs ++ (bracket closes ∷ signs_in (as_elements qs))
@@ -56,14 +56,14 @@ coming true (along (element f hs) qs) = bracket closes ∷ signs_in (as_elements
 -- a text opens a `span`
 text_opens : (cs : List ℕ) (qs : Plains) → coming false (along (text cs) qs) ≡ bracket (opens span) ∷ coming true (along (text cs) qs)
 text_opens cs qs =
-    ap (λ (ss : List Sign). bracket (opens span) ∷ ((ss ++ (bracket closes ∷ [])) ++ signs_in (as_elements qs))) (append-nil (map byte cs))
-    ∙ ap (λ (ss : List Sign). bracket (opens span) ∷ ss) (append_assoc (map byte cs) (bracket closes ∷ []) (signs_in (as_elements qs)))
+    ap (λ (ss : List StreamToken). bracket (opens span) ∷ ((ss ++ (bracket closes ∷ [])) ++ signs_in (as_elements qs))) (append-nil (map byte cs))
+    ∙ ap (λ (ss : List StreamToken). bracket (opens span) ∷ ss) (append_assoc (map byte cs) (bracket closes ∷ []) (signs_in (as_elements qs)))
 
 text_true : (b : ℕ) (bs : List ℕ) (rest : Plains) → map byte (b ∷ bs) ++ coming true rest ≡ coming true (text_before (b ∷ bs) rest)
 text_true b bs ended = refl
 text_true b bs (along (text cs) qs) =
     sym (append_assoc (map byte (b ∷ bs)) (map byte cs) (bracket closes ∷ signs_in (as_elements qs)))
-    ∙ ap (λ (ss : List Sign). ss ++ (bracket closes ∷ signs_in (as_elements qs))) (sym (map-append byte (b ∷ bs) cs))
+    ∙ ap (λ (ss : List StreamToken). ss ++ (bracket closes ∷ signs_in (as_elements qs))) (sym (map-append byte (b ∷ bs) cs))
 text_true b bs (along (element f hs) qs) = refl
 
 text_false : (b : ℕ) (bs : List ℕ) (rest : Plains) → coming false (text_before (b ∷ bs) rest) ≡ bracket (opens span) ∷ coming true (text_before (b ∷ bs) rest)
@@ -74,7 +74,7 @@ text_false b bs (along (element f hs) qs) = text_opens (b ∷ bs) (along (elemen
 text_comes : (o : Bool) (bs : List ℕ) (rest : Plains) → text_in_span o bs ++ coming (open_after o bs) rest ≡ coming o (text_before bs rest)
 text_comes o [] rest = refl
 text_comes true (b ∷ bs) rest = text_true b bs rest
-text_comes false (b ∷ bs) rest = ap (λ (ss : List Sign). bracket (opens span) ∷ ss) (text_true b bs rest) ∙ sym (text_false b bs rest)
+text_comes false (b ∷ bs) rest = ap (λ (ss : List StreamToken). bracket (opens span) ∷ ss) (text_true b bs rest) ∙ sym (text_false b bs rest)
 
 element_comes : (o : Bool) (f : Face) (hs rest : Plains) → close_span o ++ (signs_of (element f hs) ++ coming false rest) ≡ coming o (along (element f hs) rest)
 element_comes true f hs rest = refl
@@ -84,8 +84,8 @@ element_comes false f hs rest = refl
 element_signs : (l : Label) (ts : Trees) → all_bare_signs (signs_by Element l (signs_of_all ts))
     ≡ signs_of (element (without_data (face l)) (all_bare (plains_before ts ended)))
 element_signs l ts =
-    ap (λ (ss : List Sign). bracket (opens (without_data (face l))) ∷ ss)
-    (map-append bare_sign (signs_of_all ts) (bracket closes ∷ []) ∙ ap (λ (ss : List Sign). ss ++ (bracket closes ∷ []))
+    ap (λ (ss : List StreamToken). bracket (opens (without_data (face l))) ∷ ss)
+    (map-append bare_sign (signs_of_all ts) (bracket closes ∷ []) ∙ ap (λ (ss : List StreamToken). ss ++ (bracket closes ∷ []))
     (ap all_bare_signs (sym (held_signs ts)) ∙ sym (bare_signs (plains_before ts ended))))
 
 tops_by : (s : Showing) (o : Bool) (l : Label) (ts : Trees) (rest : Plains) → all_top_signs o ts

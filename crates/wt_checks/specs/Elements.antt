@@ -7,7 +7,7 @@ use Rattle.wt_tree.specs.declared.kind.Showing.TheVariants.{Characters, Inside, 
 use Rattle.wt_tree.specs.Elements.{as_elements, or_empty_span}
 use Rattle.wt_tree.specs.Kinds.{showing, writing}
 use Rattle.wt_tree.specs.Plain.{Face, face, Plain, text, element, Plains, ended, along, plains_before}
-use Rattle.wt_tree.specs.Stream.{opens, closes, Sign, byte, bracket}
+use Rattle.wt_tree.specs.Stream.{opens, closes, StreamToken, byte, bracket}
 use Rattle.wt_tree.specs.Tree.{Label, Tree, tree, Trees, none, more}
 
 -- ---- as they are written
@@ -56,10 +56,10 @@ abbrev mutual
 
 -- the characters of elements, and where elements open and close among them
 abbrev mutual
-  pub signs_in : Plains → List Sign
+  pub signs_in : Plains → List StreamToken
   signs_in ended = []
   signs_in (along p ps) = signs_of p ++ signs_in ps
 
-  pub signs_of : Plain → List Sign
+  pub signs_of : Plain → List StreamToken
   signs_of (text bs) = map byte bs
   signs_of (element f qs) = bracket (opens f) ∷ (signs_in qs ++ (bracket closes ∷ []))

@@ -4,7 +4,7 @@ use Rattle.wt_tree.specs.declared.kind.Mark.{Mark}
 use Rattle.wt_tree.specs.declared.kind.Mark.TheVariants as marks
 use Rattle.wt_tree.specs.Tiling.{is_group}
 use Rattle.wt_tree.specs.Plain.{Face}
-use Rattle.wt_tree.specs.Stream.{Bracket, opens, closes, Sign, byte, bracket}
+use Rattle.wt_tree.specs.Stream.{Bracket, opens, closes, StreamToken, byte, bracket}
 use Rattle.wt_tree.specs.Tree.{Tree, tree, Trees, none, more, label}
 use Rattle.wt_checks.specs.Places.{Place, number, is_kept, Page, Condition}
 use Rattle.wt_checks.specs.Alike.{same_kind, same_attrs, same_data}
@@ -36,13 +36,13 @@ same_bracket (opens f) closes = false
 same_bracket closes (opens g) = false
 same_bracket closes closes = true
 
-abbrev pub same_sign : Sign → Sign → Bool
+abbrev pub same_sign : StreamToken → StreamToken → Bool
 same_sign (byte a) (byte b) = a == b
 same_sign (byte a) (bracket k) = false
 same_sign (bracket j) (byte b) = false
 same_sign (bracket j) (bracket k) = same_bracket j k
 
-abbrev pub same_signs : List Sign → List Sign → Bool
+abbrev pub same_signs : List StreamToken → List StreamToken → Bool
 same_signs [] [] = true
 same_signs [] (t ∷ ts) = false
 same_signs (s ∷ ss) [] = false

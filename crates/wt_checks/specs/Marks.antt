@@ -4,7 +4,7 @@ use Rattle.wt_tree.specs.declared.kind.Kind.{Kind}
 use Rattle.wt_tree.specs.declared.kind.Kind.TheVariants as kind
 use Rattle.wt_tree.specs.declared.kind.Mark.{Mark}
 use Rattle.wt_tree.specs.declared.kind.Mark.TheVariants as marks
-use Rattle.wt_tree.specs.declared.row.Class.TheVariants.{Block, List as ListClass}
+use Rattle.wt_tree.specs.declared.row.Placement.TheVariants.{Block, List as ListClass}
 use Rattle.wt_tree.specs.Kinds.{shape, is_class}
 use Rattle.wt_tree.specs.Tiling.{is_group}
 use Rattle.wt_tree.specs.Tree.{Tree, tree, Trees, none, more, label}

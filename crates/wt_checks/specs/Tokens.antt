@@ -8,7 +8,7 @@ use Rattle.wt_tree.specs.declared.row.Writing.TheVariants.{AsText, AsVoid, Round
 use Rattle.wt_tree.specs.Kinds.{showing, writing}
 use Rattle.wt_checks.specs.Unmarked.{own_character}
 use Rattle.wt_tree.specs.Plain.{face}
-use Rattle.wt_tree.specs.Stream.{Bracket, opens, closes, Sign, byte, bracket, signs_by, signs_of_all}
+use Rattle.wt_tree.specs.Stream.{Bracket, opens, closes, StreamToken, byte, bracket, signs_by, signs_of_all}
 use Rattle.wt_tree.specs.Tree.{Label, Tree, tree, Trees, none, more}
 use Rattle.wt_tree.specs.View.{label_of}
 use Rattle.wt_checks.specs.declared.written.Written.{Written}
@@ -18,21 +18,21 @@ use Rattle.wt_checks.specs.declared.read.Read.TheVariants as read
 use Rattle.wt_checks.specs.Elements.{without_data}
 use Rattle.wt_tree.specs.Elements.{span}
 
-abbrev pub written_sign : Written → Sign
+abbrev pub written_sign : Written → StreamToken
 written_sign (written.Byte b) = byte b
 written_sign (written.Element n) = bracket (opens (without_data (face (label_of (out-Node n.now)))))
 written_sign written.Span = bracket (opens span)
 written_sign written.Close = bracket closes
 
-abbrev pub written_signs : List Written → List Sign
+abbrev pub written_signs : List Written → List StreamToken
 written_signs ts = map written_sign ts
 
-abbrev pub read_sign : Read → Sign
+abbrev pub read_sign : Read → StreamToken
 read_sign (read.Byte b) = byte b
 read_sign (read.Element n) = bracket (opens (face (label_of (out-Node n.now))))
 read_sign read.Close = bracket closes
 
-abbrev pub read_signs : List Read → List Sign
+abbrev pub read_signs : List Read → List StreamToken
 read_signs ts = map read_sign ts
 
 -- without the data of extensions
@@ -40,24 +40,24 @@ abbrev pub bare_bracket : Bracket → Bracket
 bare_bracket (opens f) = opens (without_data f)
 bare_bracket closes = closes
 
-abbrev pub bare_sign : Sign → Sign
+abbrev pub bare_sign : StreamToken → StreamToken
 bare_sign (byte b) = byte b
 bare_sign (bracket k) = bracket (bare_bracket k)
 
-abbrev pub all_bare_signs : List Sign → List Sign
+abbrev pub all_bare_signs : List StreamToken → List StreamToken
 all_bare_signs ss = map bare_sign ss
 
 -- ---- the texts at the top in a `span` each; the Boolean says whether one is open
 
-abbrev pub open_span : Bool → List Sign
+abbrev pub open_span : Bool → List StreamToken
 open_span true = []
 open_span false = bracket (opens span) ∷ []
 
-abbrev pub close_span : Bool → List Sign
+abbrev pub close_span : Bool → List StreamToken
 close_span true = bracket closes ∷ []
 close_span false = []
 
-abbrev pub text_in_span : Bool → List ℕ → List Sign
+abbrev pub text_in_span : Bool → List ℕ → List StreamToken
 text_in_span within [] = []
 text_in_span within (b ∷ bs) = open_span within ++ map byte (b ∷ bs)
 
@@ -65,7 +65,7 @@ abbrev pub open_after : Bool → List ℕ → Bool
 open_after within [] = within
 open_after within (b ∷ bs) = true
 
-abbrev pub top_by : Showing → Bool → Label → List Sign → List Sign → List Sign
+abbrev pub top_by : Showing → Bool → Label → List StreamToken → List StreamToken → List StreamToken
 top_by Characters within l held at_top = text_in_span within l.shown
 top_by Inside within l held at_top = at_top
 top_by Nothing within l held at_top = []
@@ -86,15 +86,15 @@ abbrev mutual
   all_top_open within (more t ts) = all_top_open (top_open within t) ts
 
 abbrev mutual
-  pub top_signs : Bool → Tree → List Sign
+  pub top_signs : Bool → Tree → List StreamToken
   top_signs within (tree l ts) = top_by (showing l.kind) within l (signs_of_all ts) (all_top_signs within ts)
 
-  pub all_top_signs : Bool → Trees → List Sign
+  pub all_top_signs : Bool → Trees → List StreamToken
   all_top_signs within none = []
   all_top_signs within (more t ts) = top_signs within t ++ all_top_signs (top_open within t) ts
 
 -- with nothing shown an empty `span`
-abbrev pub span_if_none : List Sign → List Sign
+abbrev pub span_if_none : List StreamToken → List StreamToken
 span_if_none [] = bracket (opens span) ∷ bracket closes ∷ []
 span_if_none (s ∷ ss) = s ∷ ss
 
@@ -114,8 +114,8 @@ shows_characters Inside = false
 shows_characters Nothing = false
 shows_characters Element = false
 
-abbrev pub leaf_signs : Showing → List ℕ → List Sign
+abbrev pub leaf_signs : Showing → List ℕ → List StreamToken
 leaf_signs s bs = if shows_characters s then map byte bs else []
 
-abbrev pub element_signs : Label → List Sign → List Sign
+abbrev pub element_signs : Label → List StreamToken → List StreamToken
 element_signs l held = bracket (opens (face l)) ∷ ((map byte (own_character (writing l.kind) l.shown) ++ held) ++ (bracket closes ∷ []))

@@ -4,7 +4,7 @@ ghost use Rattle.std.specs.List.{AllByRecursion};
 ghost use Rattle.wt_tree.specs.declared.kind.AttrName.{AttrName};
 ghost use Rattle.wt_tree.specs.declared.kind.Kind.{Kind};
 ghost use Rattle.wt_tree.specs.declared.node.DataMw.{DataMw};
-ghost use Rattle.wt_tree.specs.Stream.{Sign};
+ghost use Rattle.wt_tree.specs.Stream.{StreamToken};
 ghost use Rattle.wt_checks.specs.Alike.{same_kind, same_attrs, same_data};
 ghost use Rattle.wt_checks.specs.Groups.{same_signs};
 ghost use Rattle.wt_checks.specs.Unmarked.{Entry, same_entries};
@@ -80,7 +80,7 @@ pub fn comparisons()
     ensures attributes { (xs ys : List (AttrName × List ℕ)) → Decides (same_attrs xs ys) (xs ≡ ys) }
     ensures values { (a b : Option DataMw) → Decides (same_data a b) (a ≡ b) }
     ensures held { (xs ys : List Entry) → Decides (same_entries xs ys) (xs ≡ ys) }
-    ensures shown { (xs ys : List Sign) → Decides (same_signs xs ys) (xs ≡ ys) }
+    ensures shown { (xs ys : List StreamToken) → Decides (same_signs xs ys) (xs ≡ ys) }
 {}
 
 /// The check of nodes alone answers what the whole check does where that refuses a node, or nothing. (Behind

@@ -9,7 +9,7 @@ ghost use Rattle.wt_checks.specs.View.{seen, all_seen, indexed};
 use crate::editing::Editing;
 use crate::index::original;
 use crate::visit::{Visit, is_content};
-use wt_tree::{Class, Kind, Mark, Node};
+use wt_tree::{Kind, Mark, Node, Placement};
 
 pub fn is_marked(mark: Mark) -> bool
     ensures { result ≡ is_marked mark }
@@ -52,7 +52,7 @@ fn is_block(kind: Kind) -> bool
     ensures { result ≡ is_block kind }
 {
     match kind.shape().class {
-        Class::Block | Class::List => true,
+        Placement::Block | Placement::List => true,
         _ => false,
     }
 }

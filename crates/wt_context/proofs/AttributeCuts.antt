@@ -9,7 +9,7 @@ use Rattle.wt_span.specs.Tags.{is_tag_byte}
 use Rattle.wt_span.specs.Items.{items}
 use Rattle.wt_tiles.specs.declared.glyph.Glyph.{Glyph}
 use Rattle.wt_tiles.specs.declared.glyph.Glyph.TheVariants as glyph
-use Rattle.wt_tiles.specs.declared.glyph.Class.TheVariants as class
+use Rattle.wt_tiles.specs.declared.glyph.GlyphClass.TheVariants as class
 use Rattle.wt_tiles.specs.Glyphs.{glyph_of, is_tag_glyph, run_len, begins}
 use Rattle.wt_tiles.specs.Tags.{name_len}
 use Rattle.wt_tiles.specs.Links.{has_pipe, to_close}

@@ -7,7 +7,7 @@ use Rattle.wt_tree.specs.declared.kind.Kind.TheVariants as kind
 use Rattle.wt_tree.specs.declared.kind.TagName.TheVariants as tag
 use Rattle.wt_tree.specs.declared.kind.AttrName.{AttrName}
 use Rattle.wt_tree.specs.declared.kind.AttrName.TheVariants as attr
-use Rattle.wt_span.specs.declared.form.Form.TheVariants as form
+use Rattle.wt_span.specs.declared.form.ItemForm.TheVariants as form
 use Rattle.wt_span.specs.Tags.{opening_tag as raw_opening_tag, closing_tag as raw_closing_tag, tag_after as raw_tag_after}
 use Rattle.wt_span.specs.Items.{Item, char, whole}
 use Rattle.wt_names.specs.Namespace.{namespace_named, is_called, name_of, image, prefix_of, full_name_of}

@@ -7,8 +7,8 @@ use Rattle.std.specs.Option.{option_or}
 use Rattle.std.specs.Char.{to_ascii_lowercase}
 use Rattle.std.proofs.lemmas.Bool.Decides.{nat_tests}
 use Rattle.std.proofs.lemmas.List.{length-map, drop_all}
-use Rattle.wt_span.specs.declared.form.Form.{Form}
-use Rattle.wt_span.specs.declared.form.Form.TheVariants as form
+use Rattle.wt_span.specs.declared.form.ItemForm.{ItemForm}
+use Rattle.wt_span.specs.declared.form.ItemForm.TheVariants as form
 use Rattle.wt_span.specs.Items.{Item, char, whole, items_by}
 use Rattle.wt_lines.specs.Pieces.{is_chars}
 use Rattle.wt_span.specs.Runs.{runs, IsRun}
@@ -287,7 +287,7 @@ inert_bytes o (b ∷ bs) e =
     let q = inert_bytes o bs (right_of (is_inert b) (list_all is_inert bs) e) in
     rw (p, q) refl
 
-chars_form : (f : Form) → is_chars f ≡ true → f ≡ form.Chars
+chars_form : (f : ItemForm) → is_chars f ≡ true → f ≡ form.Chars
 chars_form form.Chars e = refl
 chars_form (form.Entity c) e = cc
 chars_form form.Nowiki e = cc
@@ -298,5 +298,5 @@ chars_form form.Include e = cc
 chars_form form.Hidden e = cc
 chars_form form.EmptyCall e = cc
 
-pub inert_form : (f : Form) (o : Option ℕ) (bs : List ℕ) → is_chars f ≡ true → list_all is_inert bs ≡ true → are_inert (items_by f o bs) ≡ true
+pub inert_form : (f : ItemForm) (o : Option ℕ) (bs : List ℕ) → is_chars f ≡ true → list_all is_inert bs ≡ true → are_inert (items_by f o bs) ≡ true
 inert_form f o bs e h = ap (λ g. are_inert (items_by g o bs)) (chars_form f e) ∙ inert_bytes o bs h

@@ -1,7 +1,7 @@
 -- Items opened once and once more, and trees round parts that hold items.
 use Rattle.std.proofs.Common.{◌≡◌, ℕ, zero, suc, ◌-◌, Option, Some, None, List, [], ◌∷◌, ◌++◌, take, map, refl, sym, ap, ◌∙◌}
-use Rattle.wt_span.specs.declared.form.Form.{Form}
-use Rattle.wt_span.specs.declared.form.Form.TheVariants as form
+use Rattle.wt_span.specs.declared.form.ItemForm.{ItemForm}
+use Rattle.wt_span.specs.declared.form.ItemForm.TheVariants as form
 use Rattle.wt_span.specs.Entities.{entity_at}
 use Rattle.wt_span.specs.Items.{Item, char, whole}
 use Rattle.wt_inline.specs.declared.loose.Loose.{Loose}
@@ -40,7 +40,7 @@ opened_nowiki o bs =
     ∙ ap (λ ys. front ++ ys) (opened_append xs back ∙ ap (λ ys. ys ++ opened_all back) (opened_inside o 0 (inside_of bs))
     ∙ ap (λ ys. xs ++ ys) (opened_bytes o (closing_of bs)))
 
-opened_form : (f : Form) (o : Option ℕ) (bs : List ℕ) → opened_all (opened_whole f o bs) ≡ opened_whole f o bs
+opened_form : (f : ItemForm) (o : Option ℕ) (bs : List ℕ) → opened_all (opened_whole f o bs) ≡ opened_whole f o bs
 opened_form form.Chars o bs = refl
 opened_form (form.Entity c) o bs = refl
 opened_form form.Nowiki o bs = opened_nowiki o bs

@@ -2,8 +2,8 @@
 use Rattle.std.proofs.Common.{◌≡◌, ℕ, ◌==◌, Bool, true, false, Option, Some, None, List, [], ◌∷◌, ◌++◌, refl}
 use Rattle.std.specs.Prelude.{if◌then◌else◌}
 use Rattle.std.specs.List.{AllByRecursion}
-use Rattle.wt_span.specs.declared.form.Form.{Form}
-use Rattle.wt_span.specs.declared.form.Form.TheVariants as form
+use Rattle.wt_span.specs.declared.form.ItemForm.{ItemForm}
+use Rattle.wt_span.specs.declared.form.ItemForm.TheVariants as form
 use Rattle.wt_span.specs.Items.{Item, char, whole}
 use Rattle.wt_tiles.specs.declared.context.Context.{Context}
 use Rattle.wt_tiles.specs.declared.shape.Shape.{Shape}
@@ -62,7 +62,7 @@ IsWhole t = (unstyled t ≡ node t ∷ []) × ((k now : Bool) → places k now t
 whole_by : (h : Head) (opening closing : List Item) (ts : ItemTrees) → role h.kind ≡ other → IsWhole (inner h opening ts closing)
 whole_by h opening closing ts e = (rw e refl, λ k now. rw e refl)
 
-pub whole_form : (f : Form) (o : Option ℕ) (bs : List ℕ) → IsWhole (whole_tree f o bs)
+pub whole_form : (f : ItemForm) (o : Option ℕ) (bs : List ℕ) → IsWhole (whole_tree f o bs)
 unfolding nowiki
 whole_form form.Chars o bs = (refl, λ k now. refl)
 whole_form (form.Entity c) o bs = (refl, λ k now. refl)

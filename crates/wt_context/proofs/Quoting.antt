@@ -5,8 +5,8 @@ use Rattle.std.specs.List.{list_all}
 use Rattle.std.specs.Str.{IsCharBoundary}
 use Rattle.std.proofs.lemmas.Bool.Decides.{nat_tests}
 use Rattle.std.proofs.lemmas.List.{length-map, take-map, drop-map}
-use Rattle.wt_span.specs.declared.form.Form.{Form}
-use Rattle.wt_span.specs.declared.form.Form.TheVariants as form
+use Rattle.wt_span.specs.declared.form.ItemForm.{ItemForm}
+use Rattle.wt_span.specs.declared.form.ItemForm.TheVariants as form
 use Rattle.wt_span.specs.declared.form.Piece.{Piece}
 use Rattle.wt_span.specs.Slice.{bytes_of}
 use Rattle.wt_span.specs.Items.{char, items_of, items_by, call_of_origin}
@@ -53,7 +53,7 @@ quote_at o [] n e l = absurd (omega arith)
 quote_at o (b ∷ bs) zero e l = quote_byte b (and_left (b == 39) (are_quotes (map (char o) bs)) e)
 quote_at o (b ∷ bs) (suc n) e l = quote_at o bs n (and_right (b == 39) (are_quotes (map (char o) bs)) e) (omega arith)
 
-pub chars_are : (f : Form) (o : Option ℕ) (bs : List ℕ) → is_chars f ≡ true → items_by f o bs ≡ map (char o) bs
+pub chars_are : (f : ItemForm) (o : Option ℕ) (bs : List ℕ) → is_chars f ≡ true → items_by f o bs ≡ map (char o) bs
 chars_are form.Chars o bs e = refl
 chars_are (form.Entity c) o bs e = cc
 chars_are form.Nowiki o bs e = cc
@@ -64,7 +64,7 @@ chars_are form.Include o bs e = cc
 chars_are form.Hidden o bs e = cc
 chars_are form.EmptyCall o bs e = cc
 
-pub quotes_are_chars : (f : Form) (o : Option ℕ) (bs : List ℕ) → are_quotes (items_by f o bs) ≡ true → is_chars f ≡ true
+pub quotes_are_chars : (f : ItemForm) (o : Option ℕ) (bs : List ℕ) → are_quotes (items_by f o bs) ≡ true → is_chars f ≡ true
 quotes_are_chars form.Chars o bs e = refl
 quotes_are_chars (form.Entity c) o bs e = cc
 quotes_are_chars form.Nowiki o bs e = cc

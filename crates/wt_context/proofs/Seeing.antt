@@ -3,8 +3,8 @@ use Rattle.std.proofs.Common.{◌≡◌, ℕ, zero, suc, ◌+◌, ◌<◌, Optio
 use Rattle.std.proofs.lemmas.List.{take_more}
 use Rattle.std.proofs.lemmas.Grind.{flat_map-append}
 use Rattle.wt_span.specs.declared.form.Piece.{Piece}
-use Rattle.wt_span.specs.declared.form.Form.{Form}
-use Rattle.wt_span.specs.declared.form.Form.TheVariants as form
+use Rattle.wt_span.specs.declared.form.ItemForm.{ItemForm}
+use Rattle.wt_span.specs.declared.form.ItemForm.TheVariants as form
 use Rattle.wt_span.specs.Items.{Item, char, items, items_of, items_by}
 use Rattle.wt_context.specs.declared.seen.Seen.{Seen}
 use Rattle.wt_context.specs.Seen.{seen_letter, after_item, after_items, after_bytes}
@@ -43,7 +43,7 @@ pub both_seen : (s : Seen) (xs ys : List Item) → after_items s (xs ++ ys) ≡ 
 both_seen s [] ys = refl
 both_seen s (x ∷ xs) ys = both_seen (after_item s x) xs ys
 
-pub chars_seen : (f : Form) (o : Option ℕ) (bs : List ℕ) (s : Seen) → f ≡ form.Chars → after_bytes s bs ≡ after_items s (items_by f o bs)
+pub chars_seen : (f : ItemForm) (o : Option ℕ) (bs : List ℕ) (s : Seen) → f ≡ form.Chars → after_bytes s bs ≡ after_items s (items_by f o bs)
 chars_seen f o bs s e = sym (bytes_seen o s bs) ∙ ap (λ g. after_items s (items_by g o bs)) (sym e)
 
 pub seen_step : (s old new : Seen) (ps : List Piece) (at : ℕ) (p : Piece) → at < length ps → p ≡ get_or ps at p → old ≡ after_items s (items (take at ps))

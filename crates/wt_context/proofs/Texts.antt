@@ -4,8 +4,8 @@ use Rattle.std.specs.Prelude.{not}
 use Rattle.std.proofs.lemmas.List.{take_more}
 use Rattle.std.proofs.lemmas.List.Elements.{filter-append}
 use Rattle.std.proofs.lemmas.Grind.{flat_map-append}
-use Rattle.wt_span.specs.declared.form.Form.{Form}
-use Rattle.wt_span.specs.declared.form.Form.TheVariants as form
+use Rattle.wt_span.specs.declared.form.ItemForm.{ItemForm}
+use Rattle.wt_span.specs.declared.form.ItemForm.TheVariants as form
 use Rattle.wt_span.specs.declared.form.Piece.{Piece}
 use Rattle.wt_span.specs.Slice.{bytes_of}
 use Rattle.wt_span.specs.Items.{Item, char, items, items_of, items_by, call_of_origin, source, sources, is_mark, is_mark_form}
@@ -16,7 +16,7 @@ source_bytes : (o : Option ℕ) (bs : List ℕ) → sources (map (char o) bs) �
 source_bytes o [] = refl
 source_bytes o (b ∷ bs) = ap (λ cs. b ∷ cs) (source_bytes o bs)
 
-pub source_by : (f : Form) (o : Option ℕ) (bs : List ℕ) → sources (items_by f o bs) ≡ bs
+pub source_by : (f : ItemForm) (o : Option ℕ) (bs : List ℕ) → sources (items_by f o bs) ≡ bs
 source_by form.Chars o bs = source_bytes o bs
 source_by (form.Entity c) o bs = append-nil bs
 source_by form.Nowiki o bs = append-nil bs
@@ -31,7 +31,7 @@ visible_bytes : (o : Option ℕ) (bs : List ℕ) → visible (map (char o) bs) �
 visible_bytes o [] = refl
 visible_bytes o (b ∷ bs) = ap (λ xs. char o b ∷ xs) (visible_bytes o bs)
 
-pub visible_by : (f : Form) (o : Option ℕ) (bs : List ℕ) → is_mark_form f ≡ false → visible_source (items_by f o bs) ≡ bs
+pub visible_by : (f : ItemForm) (o : Option ℕ) (bs : List ℕ) → is_mark_form f ≡ false → visible_source (items_by f o bs) ≡ bs
 visible_by form.Chars o bs e = ap sources (visible_bytes o bs) ∙ source_bytes o bs
 visible_by (form.Entity c) o bs e = append-nil bs
 visible_by form.Nowiki o bs e = append-nil bs
@@ -42,7 +42,7 @@ visible_by form.Include o bs e = cc
 visible_by form.Hidden o bs e = cc
 visible_by form.EmptyCall o bs e = cc
 
-pub hidden_by : (f : Form) (o : Option ℕ) (bs : List ℕ) → is_mark_form f ≡ true → visible_source (items_by f o bs) ≡ []
+pub hidden_by : (f : ItemForm) (o : Option ℕ) (bs : List ℕ) → is_mark_form f ≡ true → visible_source (items_by f o bs) ≡ []
 hidden_by form.Chars o bs e = cc
 hidden_by (form.Entity c) o bs e = cc
 hidden_by form.Nowiki o bs e = cc

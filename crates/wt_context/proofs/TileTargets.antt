@@ -12,7 +12,7 @@ use Rattle.wt_names.specs.Good.{read_text}
 use Rattle.wt_names.specs.Written.{read_bytes, link_to, read_link}
 use Rattle.wt_names.proofs.Links.{links_back}
 use Rattle.wt_tiles.specs.declared.context.Context.{Context}
-use Rattle.wt_tiles.specs.declared.glyph.Class.TheVariants as class
+use Rattle.wt_tiles.specs.declared.glyph.GlyphClass.TheVariants as class
 use Rattle.wt_tiles.specs.declared.glyph.Glyph.{Glyph}
 use Rattle.wt_tiles.specs.declared.glyph.Glyph.TheVariants as glyph
 use Rattle.wt_tiles.specs.declared.shape.Shape.{Shape}

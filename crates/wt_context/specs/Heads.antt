@@ -18,7 +18,7 @@ use Rattle.wt_tiles.specs.declared.tag.Name.{Name}
 use Rattle.wt_tiles.specs.declared.tag.Name.TheVariants.{Paired, Break, Island}
 use Rattle.wt_tiles.specs.declared.tag.Tag.{Tag}
 use Rattle.wt_tiles.specs.declared.target.Target.{Target}
-use Rattle.wt_tiles.specs.declared.glyph.Class.TheVariants as class
+use Rattle.wt_tiles.specs.declared.glyph.GlyphClass.TheVariants as class
 use Rattle.wt_tiles.specs.Glyphs.{glyph_of, run_len}
 use Rattle.wt_tiles.specs.Tags.{tag_at, name_len}
 use Rattle.wt_tiles.specs.Links.{target_len, target_of, has_pipe, to_close}

@@ -13,7 +13,7 @@ use std::alloc::Global;
 use wt_attributes::read_attributes;
 use wt_inline::NodeHead;
 use wt_span::{List, NoMemory, Piece, rest_of};
-use wt_tiles::{Class, Glyph, Name, Rest, Tag, glyphs_of, run_len, tag_at};
+use wt_tiles::{Glyph, GlyphClass, Name, Rest, Tag, glyphs_of, run_len, tag_at};
 use wt_tree::{Attr, Kind, TagName};
 
 /// How many items stand up to the end of the name of a tag.
@@ -26,10 +26,10 @@ fn name_end(glyphs: &[Glyph]) -> usize
         return 0;
     }
     let rest = rest_of(glyphs, 1);
-    if run_len(Class::Letter, rest) == 0 {
+    if run_len(GlyphClass::Letter, rest) == 0 {
         return 0;
     }
-    1 + run_len(Class::Name, rest)
+    1 + run_len(GlyphClass::Name, rest)
 }
 
 /// The pieces that stand between the name of an opening tag and its `>`.
@@ -40,7 +40,7 @@ fn attribute_pieces<'a>(alloc: Global, opening: &[Piece<'a>]) -> Result<List<Pie
 {
     let glyphs = glyphs_of(alloc, opening)?;
     let n = name_end(glyphs.as_slice());
-    let k = run_len(Class::Tag, rest_of(glyphs.as_slice(), n));
+    let k = run_len(GlyphClass::Tag, rest_of(glyphs.as_slice(), n));
     let (_, rest) = take_some(alloc, Rest::of(opening), n)?;
     let (inside, _) = take_some(alloc, rest, k)?;
     Ok(inside)

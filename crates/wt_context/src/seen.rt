@@ -4,7 +4,7 @@ ghost use Rattle.std.specs.Prelude.{◌≡◌, ◌<◌, ◌-◌, ◌∷◌, [], 
 ghost use Rattle.wt_span.specs.Items.{items, items_of};
 ghost use Rattle.wt_context.specs.Seen.{nothing_seen, after_items, after_bytes, seen_letter};
 
-use wt_span::{Form, Piece};
+use wt_span::{ItemForm, Piece};
 
 /// The last visible item since a run, and the one before it: none where there is none, or where it
 /// is no character. A character past ASCII counts by its last byte.
@@ -60,9 +60,10 @@ impl Seen {
         ensures { result ≡ after_items self (items_of piece.now) }
     {
         match piece.form {
-            Form::Chars => self.with_bytes(piece.text.as_str().as_bytes()),
-            Form::Entity(_) | Form::Nowiki | Form::Extension | Form::Function => self.with(None),
-            Form::Comment | Form::Include | Form::Hidden | Form::EmptyCall => self,
+            ItemForm::Chars => self.with_bytes(piece.text.as_str().as_bytes()),
+            ItemForm::Entity(_) | ItemForm::Nowiki | ItemForm::Extension | ItemForm::Function =>
+                self.with(None),
+            ItemForm::Comment | ItemForm::Include | ItemForm::Hidden | ItemForm::EmptyCall => self,
         }
     }
 

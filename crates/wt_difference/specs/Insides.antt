@@ -2,8 +2,8 @@
 use Rattle.std.specs.Prelude.{◌||◌, ◌&&◌, Bool, true, false, if◌then◌else◌}
 use Rattle.wt_tree.specs.declared.kind.Kind.{Kind}
 use Rattle.wt_tree.specs.declared.kind.Kind.TheVariants as kind
-use Rattle.wt_tree.specs.declared.row.Class.{Class}
-use Rattle.wt_tree.specs.declared.row.Class.TheVariants.{Nowhere, Anywhere, Mark, Block, List as ListClass, Item, Term, TablePart, TableRow, Cell, Inline, Character, Section}
+use Rattle.wt_tree.specs.declared.row.Placement.{Placement}
+use Rattle.wt_tree.specs.declared.row.Placement.TheVariants.{Nowhere, Anywhere, Mark, Block, List as ListClass, Item, Term, TablePart, TableRow, Cell, Inline, Character, Section}
 use Rattle.wt_tree.specs.declared.row.Holding.{Holding}
 use Rattle.wt_tree.specs.declared.row.Holding.TheVariants.{NoElements, Blocks, Inlines, Entities, Items, Terms, TableParts, TableRows, Cells, InlinesThenLists, InlinesThenBlocks}
 use Rattle.wt_tree.specs.Kinds.{shape}
@@ -12,7 +12,7 @@ use Rattle.wt_tree.specs.Recut.{shows_block}
 use Rattle.wt_tree.specs.Tree.{Tree, tree, Trees, none, more, label}
 
 -- the kinds that pages are built of: blocks, lists, items, terms and the parts of tables, and what holds them
-abbrev pub is_built_of : Class → Bool
+abbrev pub is_built_of : Placement → Bool
 is_built_of Nowhere = false
 is_built_of Anywhere = false
 is_built_of Mark = false

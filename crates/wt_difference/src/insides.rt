@@ -20,7 +20,7 @@ ghost use Rattle.wt_difference.specs.Views.{child_views};
 
 use std::alloc::Global;
 use wt_span::NoMemory;
-use wt_tree::{Class, Holding, Kind, Node};
+use wt_tree::{Holding, Kind, Node, Placement};
 
 /// A child of a node.
 #[derive(Clone, Copy)]
@@ -35,19 +35,19 @@ pub fn is_block_part(kind: Kind) -> bool
     ensures { result ≡ is_block_part kind }
 {
     match kind.shape().class {
-        Class::Block
-        | Class::List
-        | Class::Item
-        | Class::Term
-        | Class::TablePart
-        | Class::TableRow
-        | Class::Cell => true,
-        Class::Nowhere
-        | Class::Anywhere
-        | Class::Mark
-        | Class::Inline
-        | Class::Character
-        | Class::Section => false,
+        Placement::Block
+        | Placement::List
+        | Placement::Item
+        | Placement::Term
+        | Placement::TablePart
+        | Placement::TableRow
+        | Placement::Cell => true,
+        Placement::Nowhere
+        | Placement::Anywhere
+        | Placement::Mark
+        | Placement::Inline
+        | Placement::Character
+        | Placement::Section => false,
     }
 }
 

@@ -18,7 +18,7 @@ use Rattle.wt_original.specs.Numbers.{counts_up}
 use Rattle.wt_original.specs.Page.{Page, page_of, TellsSame, node_or, restored, restored_all}
 use Rattle.wt_escape.specs.Spelling.{inline_spelling, signs_of_all, children_of}
 use Rattle.wt_escape.specs.OwnContent.{IsStyle, IsPlainBy, IsPlain, ArePlain, IsBare, AreBare, IsPlainBlock}
-use Rattle.wt_guards.specs.Content.{Sign}
+use Rattle.wt_guards.specs.Content.{ContentSign}
 use Rattle.wt_original.proofs.Numbers.{first_is, pass, stop}
 use Rattle.wt_escape.proofs.SpelledBack.{IsFound, IsOwnBy, IsOwn, AreOwn, own_spelling}
 
@@ -181,7 +181,7 @@ mutual
       (every_right (Finds block ks) (found_from at from t) _ e) b.1 in
       ap (λ u. more u (restored_all ks ts)) one ∙ ap (more t) others
 
-own_style : (sign : List ℕ) (l : Label) (inside : List Sign) (plain own : Type 0) → plain × IsStyle sign l inside → (is_leaf l.kind ≡ false → plain → own)
+own_style : (sign : List ℕ) (l : Label) (inside : List ContentSign) (plain own : Type 0) → plain × IsStyle sign l inside → (is_leaf l.kind ≡ false → plain → own)
     → own × IsStyle sign l inside
 own_style sign l inside plain own h f = (f h.1.no_leaf h.0, h.1)
 

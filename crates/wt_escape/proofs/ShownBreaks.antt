@@ -15,7 +15,7 @@ use Rattle.wt_tree.specs.Source.{flat}
 use Rattle.wt_guards.specs.declared.role.Role.{Role}
 use Rattle.wt_guards.specs.declared.role.Role.TheVariants as role
 use Rattle.wt_guards.specs.declared.side.Place.{Place}
-use Rattle.wt_guards.specs.Content.{Sign, letters}
+use Rattle.wt_guards.specs.Content.{ContentSign, letters}
 use Rattle.wt_guards.specs.Guards.{nowiki}
 use Rattle.wt_guards.specs.WrittenLaws.{itself, breaks}
 use Rattle.wt_guards.proofs.Breaks.{same_breaks}
@@ -37,16 +37,16 @@ breaks_joined [] ys = omega arith
 breaks_joined (b ∷ xs) ys = one_more (b == 10) (breaks (xs ++ ys)) (breaks xs) (breaks ys) (breaks_joined xs ys)
 
 -- what signs show as they stand
-abbrev counted : List Sign → ℕ
+abbrev counted : List ContentSign → ℕ
 counted signs = breaks (flat_map itself signs)
 
-counted_append : (xs ys : List Sign) → counted (xs ++ ys) ≡ counted xs + counted ys
+counted_append : (xs ys : List ContentSign) → counted (xs ++ ys) ≡ counted xs + counted ys
 counted_append xs ys = ap breaks (flat_map-append itself xs ys) ∙ breaks_joined (flat_map itself xs) (flat_map itself ys)
 
 counted_text : (text : List ℕ) → IsUtf8 text → counted (letters text) ≡ breaks text
 counted_text text u = ap breaks (written_text text u)
 
-counted_within : (p : Page) (pl : Place) (inside : List Sign) → breaks (spelled_within p pl inside) ≡ counted inside
+counted_within : (p : Page) (pl : Place) (inside : List ContentSign) → breaks (spelled_within p pl inside) ≡ counted inside
 counted_within p pl inside = same_breaks (record { within = true; place = pl; source = p.source }) inside
 
 -- ---- one node
@@ -57,12 +57,12 @@ counted_kept k = ap breaks (append-nil (flat k.node))
 counted_new : (r : Role) (source : List ℕ) (k : Option Kept) → counted (new_thing r source k) ≡ breaks source
 counted_new r source k = ap breaks (append-nil source)
 
-counted_if : (b : Bool) (k : Kept) (new : List Sign) (n : ℕ) → counted new ≡ n
+counted_if : (b : Bool) (k : Kept) (new : List ContentSign) (n : ℕ) → counted new ≡ n
     → counted (if b then kept_thing k ∷ [] else new) ≡ (if b then breaks (flat k.node) else n)
 counted_if true k new n e = counted_kept k
 counted_if false k new n e = e
 
-counted_unless : (p : Page) (k : Option Kept) (t : Tree) (new : List Sign) (n : ℕ) → counted new ≡ n
+counted_unless : (p : Page) (k : Option Kept) (t : Tree) (new : List ContentSign) (n : ℕ) → counted new ≡ n
     → counted (unless_kept p k t new) ≡ breaks_unless_kept p k t n
 counted_unless p None t new n e = e
 counted_unless p (Some k) t new n e = counted_if (is_unchanged p k t) k new n e
@@ -73,15 +73,15 @@ counted_as_it_stood (Some k) = counted_kept k
 
 -- ---- styles
 
-counted_or_nowiki : (inside : List Sign) → counted (or_nowiki inside) ≡ counted inside
+counted_or_nowiki : (inside : List ContentSign) → counted (or_nowiki inside) ≡ counted inside
 unfolding nowiki
 counted_or_nowiki [] = refl
 counted_or_nowiki (s ∷ ss) = refl
 
-counted_style : (sign : List ℕ) (k : Option Kept) (inside : List Sign) → breaks sign ≡ 0 → counted (style sign k inside) ≡ counted inside
+counted_style : (sign : List ℕ) (k : Option Kept) (inside : List ContentSign) → breaks sign ≡ 0 → counted (style sign k inside) ≡ counted inside
 counted_style sign k inside e =
-    let closed : List Sign = toggle sign (closing_place k) ∷ [] in
-    let rest : List Sign = or_nowiki inside ++ closed in
+    let closed : List ContentSign = toggle sign (closing_place k) ∷ [] in
+    let rest : List ContentSign = or_nowiki inside ++ closed in
     let a : breaks (sign ++ flat_map itself rest) ≡ breaks sign + counted rest = breaks_joined sign (flat_map itself rest) in
     let b : counted rest ≡ counted (or_nowiki inside) + counted closed = counted_append (or_nowiki inside) closed in
     let c : counted closed ≡ breaks sign = ap breaks (append-nil sign) in

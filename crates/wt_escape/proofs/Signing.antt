@@ -9,30 +9,30 @@ use Rattle.wt_tree.proofs.Views.{view_out}
 use Rattle.wt_original.specs.declared.kinds.InlineForm.{InlineForm}
 use Rattle.wt_guards.specs.declared.side.Place.{Place}
 use Rattle.wt_original.specs.Kinds.{shape}
-use Rattle.wt_guards.specs.Content.{Sign}
+use Rattle.wt_guards.specs.Content.{ContentSign}
 use Rattle.wt_original.specs.Kept.{Kept, kept_with}
 use Rattle.wt_original.specs.Page.{Page, is_unchanged}
 use Rattle.wt_escape.specs.Spelling.{kept_thing, unless_kept, signs_by, signs_of, signs_of_all}
 use Rattle.wt_escape.specs.Units.{Leaves}
 
-pub leaves_none : (p : Page) (k : Option Kept) (t : Tree) (us : List Sign) → k ≡ None → Leaves false us us (unless_kept p k t)
+pub leaves_none : (p : Page) (k : Option Kept) (t : Tree) (us : List ContentSign) → k ≡ None → Leaves false us us (unless_kept p k t)
 leaves_none p k t us e = (refl, λ s. ap (λ o. unless_kept p o t s) e)
 
-pub leaves_changed : (p : Page) (k : Kept) (t : Tree) (us : List Sign) (b : Bool) → b ≡ is_unchanged p k t → b ≡ false
+pub leaves_changed : (p : Page) (k : Kept) (t : Tree) (us : List ContentSign) (b : Bool) → b ≡ is_unchanged p k t → b ≡ false
     → Leaves false us us (unless_kept p (Some k) t)
 leaves_changed p k t us b e f = (refl, λ s. ap (λ (c : Bool). if c then kept_thing k ∷ [] else s) (sym e ∙ f))
 
-pub leaves_kept : (p : Page) (k : Kept) (t : Tree) (old new : List Sign) (b : Bool) → b ≡ is_unchanged p k t → b ≡ true
+pub leaves_kept : (p : Page) (k : Kept) (t : Tree) (old new : List ContentSign) (b : Bool) → b ≡ is_unchanged p k t → b ≡ true
     → new ≡ old ++ kept_thing k ∷ [] → Leaves true old new (unless_kept p (Some k) t)
 leaves_kept p k t old new b e f n = λ s. n ∙ ap (λ (c : Bool). old ++ (if c then kept_thing k ∷ [] else s)) (sym f ∙ e)
 
 -- the node was written as it stands
-pub leaves_done : (b : Bool) (old new : List Sign) (by : List Sign → List Sign) (s : List Sign) → b ≡ true → Leaves b old new by → new ≡ old ++ by s
+pub leaves_done : (b : Bool) (old new : List ContentSign) (by : List ContentSign → List ContentSign) (s : List ContentSign) → b ≡ true → Leaves b old new by → new ≡ old ++ by s
 leaves_done true old new by s e h = h s
 leaves_done false old new by s e h = cc
 
 -- it wasn't, and what is new was
-pub leaves_then : (b : Bool) (old mid new : List Sign) (by : List Sign → List Sign) (s : List Sign) → b ≡ false → Leaves b old mid by
+pub leaves_then : (b : Bool) (old mid new : List ContentSign) (by : List ContentSign → List ContentSign) (s : List ContentSign) → b ≡ false → Leaves b old mid by
     → new ≡ mid ++ s → new ≡ old ++ by s
 leaves_then true old mid new by s e h n = cc
 leaves_then false old mid new by s e h n = n ∙ ap (λ us. us ++ s) h.0 ∙ ap (λ us. old ++ us) (sym (h.1 s))
@@ -50,14 +50,14 @@ signs_is n w p pl k e h =
     ∙ ap (λ o. signs_by w p pl o l ts inside) (sym h)
 
 -- its signs are appended
-pub signs_pushed : (n : Node) (w : InlineForm) (p : Page) (pl : Place) (k : Option Kept) (old new signs : List Sign) → (shape (out-Node n).kind).inline ≡ w
+pub signs_pushed : (n : Node) (w : InlineForm) (p : Page) (pl : Place) (k : Option Kept) (old new signs : List ContentSign) → (shape (out-Node n).kind).inline ≡ w
     → k ≡ kept_with (out-Node n).id p.kept
     → signs_by w p pl k (label_of (out-Node n)) (views (out-Node n).children) (signs_of_all p pl (views (out-Node n).children)) ≡ signs
     → new ≡ old ++ signs → new ≡ old ++ signs_of p pl (view n)
 signs_pushed n w p pl k old new signs e h f g = g ∙ ap (λ s. old ++ s) (sym f ∙ sym (signs_is n w p pl k e h))
 
 -- where it is kept, or what is new is written
-pub unless_seen : (n : Node) (p : Page) (k : Option Kept) (new : List Sign)
+pub unless_seen : (n : Node) (p : Page) (k : Option Kept) (new : List ContentSign)
     → unless_kept p k (view n) new ≡ unless_kept p k (tree (label_of (out-Node n)) (views (out-Node n).children)) new
 unless_seen n p k new = ap (λ t. unless_kept p k t new) (view_out n)
 

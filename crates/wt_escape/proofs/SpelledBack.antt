@@ -14,7 +14,7 @@ use Rattle.wt_original.specs.declared.kinds.InlineForm.{InlineForm}
 use Rattle.wt_original.specs.declared.kinds.InlineForm.TheVariants as inline
 use Rattle.wt_guards.specs.declared.side.Place.{Place}
 use Rattle.wt_original.specs.Kinds.{shape}
-use Rattle.wt_guards.specs.Content.{Sign, letter, letters}
+use Rattle.wt_guards.specs.Content.{ContentSign, letter, letters}
 use Rattle.wt_original.specs.Kept.{Kept, kept_with}
 use Rattle.wt_original.specs.Page.{Page, page_of, TellsSame, restored, is_unchanged}
 use Rattle.wt_escape.specs.Spelling.{kept_thing, unless_kept, as_it_stood, toggle, or_nowiki, style, opening_place, closing_place, signs_by, signs_of, signs_of_all, children_of, inline_spelling}
@@ -51,10 +51,10 @@ abbrev mutual
   AreOwn p pl (more t ts) = IsOwn p pl t × AreOwn p pl ts
 
 -- what the signs show as they stand
-abbrev written : List Sign → List ℕ
+abbrev written : List ContentSign → List ℕ
 written signs = flat_map itself signs
 
-written_append : (xs ys : List Sign) → written (xs ++ ys) ≡ written xs ++ written ys
+written_append : (xs ys : List ContentSign) → written (xs ++ ys) ≡ written xs ++ written ys
 written_append xs ys = flat_map-append itself xs ys
 
 written_letters : (cs : List ℕ) → written (map letter cs) ≡ encodes cs
@@ -78,7 +78,7 @@ unchanged p t f tells =
 written_kept : (p : Page) (t : Tree) (f : IsFound p t) → written (kept_thing f.kept ∷ []) ≡ flat t
 written_kept p t f = append-nil (flat f.kept.node) ∙ ap flat f.node
 
-written_found : (p : Page) (t : Tree) (new : List Sign) → IsFound p t → TellsSame p.same
+written_found : (p : Page) (t : Tree) (new : List ContentSign) → IsFound p t → TellsSame p.same
     → written (unless_kept p (kept_with (label t).id p.kept) t new) ≡ flat t
 written_found p t new f tells =
     ap (λ k. written (unless_kept p k t new)) f.found
@@ -87,11 +87,11 @@ written_found p t new f tells =
 written_island : (p : Page) (t : Tree) → IsFound p t → written (as_it_stood (kept_with (label t).id p.kept)) ≡ flat t
 written_island p t f = ap (λ k. written (as_it_stood k)) f.found ∙ written_kept p t f
 
-or_nowiki_is : (inside : List Sign) → HasSigns inside → or_nowiki inside ≡ inside
+or_nowiki_is : (inside : List ContentSign) → HasSigns inside → or_nowiki inside ≡ inside
 or_nowiki_is [] h = absurd h
 or_nowiki_is (s ∷ ss) h = refl
 
-written_style : (sign : List ℕ) (k : Option Kept) (l : Label) (ts : Trees) (inside : List Sign) → IsStyle sign l inside
+written_style : (sign : List ℕ) (k : Option Kept) (l : Label) (ts : Trees) (inside : List ContentSign) → IsStyle sign l inside
     → written inside ≡ flat_of_all ts → written (style sign k inside) ≡ flat (tree l ts)
 written_style sign k l ts inside h e =
     let closed = toggle sign (closing_place k) ∷ [] in

@@ -6,7 +6,7 @@ use Rattle.wt_tree.specs.Kinds.{is_leaf}
 use Rattle.wt_tree.specs.Source.{flat}
 use Rattle.wt_tree.specs.Tiling.{is_group}
 use Rattle.wt_guards.specs.declared.side.Place.{Place}
-use Rattle.wt_guards.specs.Content.{Sign}
+use Rattle.wt_guards.specs.Content.{ContentSign}
 use Rattle.wt_guards.specs.Guards.{Setting}
 use Rattle.wt_guards.specs.WrittenLaws.{IsQuiet}
 use Rattle.wt_original.specs.declared.kinds.InlineForm.{InlineForm}
@@ -17,12 +17,12 @@ use Rattle.wt_original.specs.Numbers.{counts_up}
 use Rattle.wt_original.specs.Page.{Page, page_of}
 use Rattle.wt_escape.specs.Spelling.{signs_of_all, children_of}
 
-abbrev pub HasSigns : List Sign → Type 0
+abbrev pub HasSigns : List ContentSign → Type 0
 HasSigns [] = ⊥
 HasSigns (s ∷ ss) = Unit {0}
 
 -- a style with these delimiters, which isn't empty
-pub record IsStyle (sign : List ℕ) (l : Label) (inside : List Sign) : Type 0 where
+pub record IsStyle (sign : List ℕ) (l : Label) (inside : List ContentSign) : Type 0 where
   pub opening : l.opening ≡ sign
   pub closing : l.closing ≡ sign
   pub no_leaf : is_leaf l.kind ≡ false

@@ -22,7 +22,7 @@ use Rattle.wt_guards.specs.declared.role.Stretch.{Stretch}
 use Rattle.wt_guards.specs.declared.side.Place.{Place}
 use Rattle.wt_guards.specs.declared.side.Place.TheVariants as place
 use Rattle.wt_original.specs.Kinds.{shape}
-use Rattle.wt_guards.specs.Content.{Sign, thing, letters}
+use Rattle.wt_guards.specs.Content.{ContentSign, thing, letters}
 use Rattle.wt_guards.specs.Guards.{nowiki, spelled}
 use Rattle.wt_original.specs.Kept.{Kept, kept_with, shown}
 use Rattle.wt_original.specs.Page.{Page, page_of, no_page, is_unchanged}
@@ -34,19 +34,19 @@ place_of None = None
 place_of (Some k) = Some k.place
 
 -- a kept node as it stands in the page
-abbrev pub kept_thing : Kept → Sign
+abbrev pub kept_thing : Kept → ContentSign
 kept_thing k = thing (record { role = k.role; source = flat k.node; place = Some k.place })
 
 -- a new node, or a changed one
-abbrev pub new_thing : Role → List ℕ → Option Kept → List Sign
+abbrev pub new_thing : Role → List ℕ → Option Kept → List ContentSign
 new_thing r source k = thing (record { role = r; source = source; place = place_of k }) ∷ []
 
 -- as it stands in the page, if it is kept
-abbrev pub as_it_stood : Option Kept → List Sign
+abbrev pub as_it_stood : Option Kept → List ContentSign
 as_it_stood None = new_thing role.Node [] None
 as_it_stood (Some k) = kept_thing k ∷ []
 
-abbrev pub unless_kept : Page → Option Kept → Tree → List Sign → List Sign
+abbrev pub unless_kept : Page → Option Kept → Tree → List ContentSign → List ContentSign
 unless_kept p None t new = new
 unless_kept p (Some k) t new = if is_unchanged p k t then kept_thing k ∷ [] else new
 
@@ -77,21 +77,21 @@ abbrev pub closing_place : Option Kept → Option Stretch
 closing_place None = None
 closing_place (Some k) = if is_style (shape (label k.node).kind).inline then stretch (k.place.end - length (label k.node).closing) k.place.end else None
 
-abbrev pub toggle : List ℕ → Option Stretch → Sign
+abbrev pub toggle : List ℕ → Option Stretch → ContentSign
 toggle sign at = thing (record { role = role.Toggle; source = sign; place = at })
 
 -- an empty inside is `<nowiki/>`
-abbrev pub or_nowiki : List Sign → List Sign
+abbrev pub or_nowiki : List ContentSign → List ContentSign
 or_nowiki [] = new_thing role.Node nowiki None
 or_nowiki (s ∷ ss) = s ∷ ss
 
-abbrev pub style : List ℕ → Option Kept → List Sign → List Sign
+abbrev pub style : List ℕ → Option Kept → List ContentSign → List ContentSign
 style sign k inside = toggle sign (opening_place k) ∷ (or_nowiki inside ++ (toggle sign (closing_place k) ∷ []))
 
 -- ---- links and tags
 
 -- the inside of a link or tag
-abbrev pub spelled_within : Page → Place → List Sign → List ℕ
+abbrev pub spelled_within : Page → Place → List ContentSign → List ℕ
 spelled_within p where_ inside = spelled (record { within = true; place = where_; source = p.source }) inside
 
 abbrev pub value_of : AttrName → List (AttrName × List ℕ) → List ℕ
@@ -173,7 +173,7 @@ break_tag = codes "<br>"
 -- ---- the signs of the content
 
 -- by the inline form of its kind: of a node, its page's node and the signs of what it holds
-abbrev pub signs_by : InlineForm → Page → Place → Option Kept → Label → Trees → List Sign → List Sign
+abbrev pub signs_by : InlineForm → Page → Place → Option Kept → Label → Trees → List ContentSign → List ContentSign
 signs_by inline.Nothing p pl k l ts inside = []
 signs_by inline.Characters p pl k l ts inside = letters l.shown
 signs_by inline.Bold p pl k l ts inside = style (39 ∷ 39 ∷ 39 ∷ []) k inside
@@ -187,10 +187,10 @@ signs_by inline.Break p pl k l ts inside = unless_kept p k (tree l ts) (new_thin
 signs_by inline.AsItStood p pl k l ts inside = as_it_stood k
 
 abbrev mutual
-  pub signs_of : Page → Place → Tree → List Sign
+  pub signs_of : Page → Place → Tree → List ContentSign
   signs_of p pl (tree l ts) = signs_by (shape l.kind).inline p pl (kept_with l.id p.kept) l ts (signs_of_all p pl ts)
 
-  pub signs_of_all : Page → Place → Trees → List Sign
+  pub signs_of_all : Page → Place → Trees → List ContentSign
   signs_of_all p pl none = []
   signs_of_all p pl (more t ts) = signs_of p pl t ++ signs_of_all p pl ts
 

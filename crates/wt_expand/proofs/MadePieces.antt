@@ -8,8 +8,8 @@ use Rattle.std.proofs.lemmas.List.Elements.{All-nil, All-cons}
 use Rattle.wt_span.specs.declared.form.Mode.TheVariants.{Page}
 use Rattle.wt_span.specs.declared.form.LexKind.{LexKind}
 use Rattle.wt_span.specs.declared.form.LexKind.TheVariants as lex
-use Rattle.wt_span.specs.declared.form.Form.{Form}
-use Rattle.wt_span.specs.declared.form.Form.TheVariants as form
+use Rattle.wt_span.specs.declared.form.ItemForm.{ItemForm}
+use Rattle.wt_span.specs.declared.form.ItemForm.TheVariants as form
 use Rattle.wt_span.specs.declared.form.Piece.{Piece}
 use Rattle.wt_span.specs.declared.origin.Origin.{Origin}
 use Rattle.wt_span.specs.declared.origin.Origin.TheVariants as origin
@@ -85,7 +85,7 @@ then_some : {A : Type 0} (t : Bool) (o : Option A) (a : A) → (if t then o else
 then_some true o a e = e
 then_some false o a e = absurd cc
 
-RawBy : Option Tag → Form → List ℕ → Type 0
+RawBy : Option Tag → ItemForm → List ℕ → Type 0
 RawBy o form.Nowiki bs = raw_by is_nowiki o bs ≡ Some (length bs)
 RawBy o form.Extension bs = raw_by is_extension o bs ≡ Some (length bs)
 RawBy o f bs = ⊥
@@ -104,7 +104,7 @@ raw_any : (o : Option Tag) (bs : List ℕ) → (raw_by is_nowiki o bs ≡ Some (
 raw_any None bs h = ⊎_elim (λ k. absurd cc) (λ k. absurd cc) h
 raw_any (Some t) bs h = raw_named t bs (is_nowiki t.name) refl h
 
-raw_is : (f : Form) (bs : List ℕ) → RawBy (opening_tag bs) f bs → IsWhole f bs
+raw_is : (f : ItemForm) (bs : List ℕ) → RawBy (opening_tag bs) f bs → IsWhole f bs
 unfolding RawBy
 raw_is form.Chars bs h = absurd h
 raw_is (form.Entity c) bs h = absurd h
@@ -170,8 +170,8 @@ made_sound : (page : List ℕ) (p : Piece) (x : Lexeme) (after : Bool) → IsMad
 made_sound page p x after h some le s =
     let bytes = bytes_of p.text in
     let P : List ℕ → Type 0 = λ bs. IsWhole (form_of x.kind bs) bs in
-    let Q : Form → Type 0 = λ f. IsWhole f bytes in
-    let R : Form → Type 0 = λ f. FitsOrigin f (call_of_origin p.origin) bytes in
+    let Q : ItemForm → Type 0 = λ f. IsWhole f bytes in
+    let R : ItemForm → Type 0 = λ f. FitsOrigin f (call_of_origin p.origin) bytes in
     let span : Span = (x.at.start, x.at.end) in
     let same : span ≡ (start_of p.text, end_of p.text) = ap (λ (m : ℕ). (m, x.at.end)) (sym h.start) ∙ ap (λ (m : ℕ). (start_of p.text, m)) (sym h.end) in
     record {

@@ -6,8 +6,8 @@ use Rattle.std.proofs.lemmas.List.{append-nil, take-append-drop}
 use Rattle.std.proofs.lemmas.List.Concat.{flat_map-append}
 use Rattle.std.proofs.lemmas.List.Elements.{All-nil, All-cons, All-append}
 use Rattle.wt_span.specs.declared.form.Mode.TheVariants.{Page}
-use Rattle.wt_span.specs.declared.form.Form.{Form}
-use Rattle.wt_span.specs.declared.form.Form.TheVariants as form
+use Rattle.wt_span.specs.declared.form.ItemForm.{ItemForm}
+use Rattle.wt_span.specs.declared.form.ItemForm.TheVariants as form
 use Rattle.wt_span.specs.Bytes.{is_break}
 use Rattle.wt_span.specs.Lexemes.{Word, words}
 use Rattle.wt_span.specs.declared.form.Piece.{Piece}
@@ -25,7 +25,7 @@ pub char_sources : (bs : List ℕ) → sources (map (char None) bs) ≡ bs
 char_sources [] = refl
 char_sources (b ∷ bs) = ap (λ cs. b ∷ cs) (char_sources bs)
 
-pub form_sources : (f : Form) (bs : List ℕ) → sources (items_by f None bs) ≡ bs
+pub form_sources : (f : ItemForm) (bs : List ℕ) → sources (items_by f None bs) ≡ bs
 form_sources form.Chars bs = char_sources bs
 form_sources (form.Entity c) bs = append-nil bs
 form_sources form.Nowiki bs = append-nil bs
@@ -58,7 +58,7 @@ chars_of_page (b ∷ bs) = All-cons OfPage (char None b) (map (char None) bs) re
 one : (x : Item) → OfPage x → All OfPage (x ∷ [])
 one x e = All-cons OfPage x [] e (All-nil OfPage)
 
-form_of_page : (f : Form) (bs : List ℕ) → All OfPage (items_by f None bs)
+form_of_page : (f : ItemForm) (bs : List ℕ) → All OfPage (items_by f None bs)
 form_of_page form.Chars bs = chars_of_page bs
 form_of_page (form.Entity c) bs = one _ refl
 form_of_page form.Nowiki bs = one _ refl

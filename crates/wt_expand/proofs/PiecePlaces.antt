@@ -6,8 +6,8 @@ use Rattle.std.proofs.lemmas.Bool.Decides.{nat_tests}
 use Rattle.std.proofs.lemmas.List.Elements.{All-head, All-tail}
 use Rattle.wt_span.specs.declared.origin.Origin.{Origin}
 use Rattle.wt_span.specs.declared.origin.Origin.TheVariants as origin
-use Rattle.wt_span.specs.declared.form.Form.{Form}
-use Rattle.wt_span.specs.declared.form.Form.TheVariants as form
+use Rattle.wt_span.specs.declared.form.ItemForm.{ItemForm}
+use Rattle.wt_span.specs.declared.form.ItemForm.TheVariants as form
 use Rattle.wt_span.specs.declared.form.Piece.{Piece}
 use Rattle.wt_span.specs.Slice.{bytes_of, start_of, end_of}
 use Rattle.wt_span.specs.Items.{Item, char, source, sources, call_of, call_of_origin, items_by, items_of, items}
@@ -73,7 +73,7 @@ pub chars_from : (o : Option ℕ) (bs : List ℕ) → AllFrom o (map (char o) bs
 chars_from o [] = tt
 chars_from o (b ∷ bs) = (refl, chars_from o bs)
 
-pub form_from : (f : Form) (o : Option ℕ) (bs : List ℕ) → AllFrom o (items_by f o bs)
+pub form_from : (f : ItemForm) (o : Option ℕ) (bs : List ℕ) → AllFrom o (items_by f o bs)
 form_from form.Chars o bs = chars_from o bs
 form_from (form.Entity c) o bs = (refl, tt)
 form_from form.Nowiki o bs = (refl, tt)
@@ -88,7 +88,7 @@ chars_some : (o : Option ℕ) (bs : List ℕ) → 0 < length bs → 0 < length (
 chars_some o [] h = h
 chars_some o (b ∷ bs) h = omega arith
 
-form_some : (f : Form) (o : Option ℕ) (bs : List ℕ) → IsWhole f bs → 0 < length (items_by f o bs)
+form_some : (f : ItemForm) (o : Option ℕ) (bs : List ℕ) → IsWhole f bs → 0 < length (items_by f o bs)
 form_some form.Chars o bs h = chars_some o bs h
 form_some (form.Entity c) o bs h = omega arith
 form_some form.Nowiki o bs h = omega arith

@@ -2,8 +2,8 @@
 use Rattle.std.proofs.Common.{◌≡◌, ℕ, true, false, Option, List, [], ◌∷◌, ◌++◌, map, refl, ap, ◌∙◌, append-nil}
 use Rattle.std.specs.Prelude.{if◌then◌else◌}
 use Rattle.std.proofs.lemmas.List.Concat.{flat_map-append}
-use Rattle.wt_span.specs.declared.form.Form.{Form}
-use Rattle.wt_span.specs.declared.form.Form.TheVariants as form
+use Rattle.wt_span.specs.declared.form.ItemForm.{ItemForm}
+use Rattle.wt_span.specs.declared.form.ItemForm.TheVariants as form
 use Rattle.wt_span.specs.declared.form.Piece.{Piece}
 use Rattle.wt_span.specs.Slice.{bytes_of}
 use Rattle.wt_span.specs.Items.{char, is_mark_form, items_by, items_of, items, call_of_origin}
@@ -13,7 +13,7 @@ chars_shown : (o : Option ℕ) (bs : List ℕ) → shown_text (map (char o) bs) 
 chars_shown o [] = refl
 chars_shown o (b ∷ bs) = ap (λ cs. b ∷ cs) (chars_shown o bs)
 
-form_shown : (f : Form) (o : Option ℕ) (bs : List ℕ) → shown_text (items_by f o bs) ≡ (if is_mark_form f then [] else bs)
+form_shown : (f : ItemForm) (o : Option ℕ) (bs : List ℕ) → shown_text (items_by f o bs) ≡ (if is_mark_form f then [] else bs)
 form_shown form.Chars o bs = chars_shown o bs
 form_shown (form.Entity c) o bs = append-nil bs
 form_shown form.Nowiki o bs = append-nil bs

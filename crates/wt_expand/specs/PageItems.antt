@@ -3,22 +3,22 @@ use Rattle.std.specs.Prelude.{ℕ, Option, Some, None, List, [], ◌∷◌, ◌+
 use Rattle.wt_span.specs.declared.form.Mode.TheVariants.{Page}
 use Rattle.wt_span.specs.declared.form.LexKind.{LexKind}
 use Rattle.wt_span.specs.declared.form.LexKind.TheVariants as lex
-use Rattle.wt_span.specs.declared.form.Form.{Form}
-use Rattle.wt_span.specs.declared.form.Form.TheVariants as form
+use Rattle.wt_span.specs.declared.form.ItemForm.{ItemForm}
+use Rattle.wt_span.specs.declared.form.ItemForm.TheVariants as form
 use Rattle.wt_span.specs.Tags.{Tag, opening_tag, is_nowiki}
 use Rattle.wt_span.specs.Lexemes.{Word, words}
 use Rattle.wt_span.specs.Items.{Item, items_by}
 
 -- a raw tag is a nowiki or an extension, by its name
-abbrev pub raw_form_by : Option Tag → Form
+abbrev pub raw_form_by : Option Tag → ItemForm
 raw_form_by None = form.Extension
 raw_form_by (Some t) = if is_nowiki t.name then form.Nowiki else form.Extension
 
-abbrev pub raw_form : List ℕ → Form
+abbrev pub raw_form : List ℕ → ItemForm
 raw_form bs = raw_form_by (opening_tag bs)
 
 -- The form of a lexeme's bytes. Signs and runs of braces are characters, since no calls are read.
-abbrev pub form_of : LexKind → List ℕ → Form
+abbrev pub form_of : LexKind → List ℕ → ItemForm
 form_of lex.Chars bs = form.Chars
 form_of lex.CommentLine bs = form.Comment
 form_of lex.Comment bs = form.Comment

@@ -1,8 +1,8 @@
 -- Items as texts: what a name says, what a target says, and what is left of either without blanks and line breaks at its ends.
 use Rattle.std.specs.Prelude.{ℕ, ◌==◌, ◌||◌, Bool, Option, Some, None, List, [], ◌∷◌, ◌++◌, drop, reverse, encode_utf8, if◌then◌else◌}
 use Rattle.std.specs.List.{flat_map, prefix_len}
-use Rattle.wt_span.specs.declared.form.Form.{Form}
-use Rattle.wt_span.specs.declared.form.Form.TheVariants as form
+use Rattle.wt_span.specs.declared.form.ItemForm.{ItemForm}
+use Rattle.wt_span.specs.declared.form.ItemForm.TheVariants as form
 use Rattle.wt_span.specs.Items.{Item, char, whole, is_mark_form, is_char_in}
 
 -- a space, a tab or a line break
@@ -41,7 +41,7 @@ name_text xs = trimmed (shown_text xs)
 -- ---- what a target says
 
 -- an entity is its character, marks are nothing, and no other atom stands in a target
-abbrev pub target_of_form : Form → List ℕ → Option (List ℕ)
+abbrev pub target_of_form : ItemForm → List ℕ → Option (List ℕ)
 target_of_form form.Chars bs = Some bs
 target_of_form (form.Entity c) bs = Some (encode_utf8 c)
 target_of_form form.Nowiki bs = None

@@ -5,20 +5,20 @@ ghost use Rattle.wt_expand.specs.PageItems.{raw_form, form_of};
 ghost use Rattle.wt_expand.specs.Made.{IsMade};
 
 use wt_lex::{Lexeme, is_same_name, opening_tag};
-use wt_span::{Form, LexKind, Origin, Piece, Text};
+use wt_span::{ItemForm, LexKind, Origin, Piece, Text};
 
 /// The form of a raw tag: a nowiki or an extension.
-fn raw_form(bytes: &[u8]) -> Form
+fn raw_form(bytes: &[u8]) -> ItemForm
     ensures { result ≡ raw_form bytes.now }
 {
     match opening_tag(bytes) {
-        Some(tag) if is_same_name(tag.name, b"nowiki") => Form::Nowiki,
-        _ => Form::Extension,
+        Some(tag) if is_same_name(tag.name, b"nowiki") => ItemForm::Nowiki,
+        _ => ItemForm::Extension,
     }
 }
 
 /// The form that a lexeme has as an item, of the page or of a template.
-pub fn form_of(kind: LexKind, text: &str) -> Form
+pub fn form_of(kind: LexKind, text: &str) -> ItemForm
     ensures { result ≡ form_of kind text.now }
 {
     match kind {
@@ -28,12 +28,12 @@ pub fn form_of(kind: LexKind, text: &str) -> Form
         | LexKind::LinkOpen
         | LexKind::LinkClose
         | LexKind::Pipe
-        | LexKind::Equals => Form::Chars,
-        LexKind::CommentLine | LexKind::Comment => Form::Comment,
+        | LexKind::Equals => ItemForm::Chars,
+        LexKind::CommentLine | LexKind::Comment => ItemForm::Comment,
         LexKind::Raw => raw_form(text.as_bytes()),
-        LexKind::Include => Form::Include,
-        LexKind::Hidden => Form::Hidden,
-        LexKind::Entity(character) => Form::Entity(character),
+        LexKind::Include => ItemForm::Include,
+        LexKind::Hidden => ItemForm::Hidden,
+        LexKind::Entity(character) => ItemForm::Entity(character),
     }
 }
 

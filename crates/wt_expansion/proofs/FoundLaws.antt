@@ -2,8 +2,8 @@
 use Rattle.std.proofs.Common.{◌≡◌, ℕ, zero, suc, ◌+◌, ◌<◌, ◌≤◌, min, Option, Some, List, [], ◌∷◌, ◌++◌, length, map, take, drop, get_or, refl, sym, ap, ◌∙◌, subst, arith, append_assoc, append-nil, length-append}
 use Rattle.std.proofs.lemmas.List.{take_more, take_all, take_at, map-append, length-map, take-map}
 use Rattle.std.proofs.lemmas.List.Concat.{flat_map-append}
-use Rattle.wt_span.specs.declared.form.Form.{Form}
-use Rattle.wt_span.specs.declared.form.Form.TheVariants as form
+use Rattle.wt_span.specs.declared.form.ItemForm.{ItemForm}
+use Rattle.wt_span.specs.declared.form.ItemForm.TheVariants as form
 use Rattle.wt_span.specs.declared.form.Piece.{Piece}
 use Rattle.wt_span.specs.declared.form.Outer.{Outer}
 use Rattle.wt_span.specs.declared.origin.Origin.TheVariants as origin
@@ -29,7 +29,7 @@ from_chars : (k : ℕ) (o : Option ℕ) (bs : List ℕ) → map (char (Some k)) 
 from_chars k o [] = refl
 from_chars k o (b ∷ bs) = ap (λ xs. char (Some k) b ∷ xs) (from_chars k o bs)
 
-from_form : (f : Form) (k : ℕ) (o : Option ℕ) (bs : List ℕ) → items_by f (Some k) bs ≡ map (from_call k) (items_by f o bs)
+from_form : (f : ItemForm) (k : ℕ) (o : Option ℕ) (bs : List ℕ) → items_by f (Some k) bs ≡ map (from_call k) (items_by f o bs)
 from_form form.Chars k o bs = from_chars k o bs
 from_form (form.Entity c) k o bs = refl
 from_form form.Nowiki k o bs = refl

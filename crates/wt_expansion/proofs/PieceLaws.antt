@@ -5,8 +5,8 @@ use Rattle.std.specs.Str.{IsUtf8}
 use Rattle.std.proofs.lemmas.Bool.Decides.{nat_tests}
 use Rattle.std.proofs.lemmas.List.Concat.{flat_map-append}
 use Rattle.std.proofs.lemmas.List.Elements.{All-nil, All-cons}
-use Rattle.wt_span.specs.declared.form.Form.{Form}
-use Rattle.wt_span.specs.declared.form.Form.TheVariants as form
+use Rattle.wt_span.specs.declared.form.ItemForm.{ItemForm}
+use Rattle.wt_span.specs.declared.form.ItemForm.TheVariants as form
 use Rattle.wt_span.specs.declared.form.Piece.{Piece}
 use Rattle.wt_span.specs.declared.origin.Origin.{Origin}
 use Rattle.wt_span.specs.declared.origin.Origin.TheVariants as origin
@@ -113,7 +113,7 @@ some_chars : (o : Option ℕ) (bs : List ℕ) → 0 < length (map (char o) bs) �
 some_chars o [] l = l
 some_chars o (b ∷ bs) l = omega arith
 
-form_sound : (f : Form) (o : Option ℕ) (bs : List ℕ) → 0 < length (items_by f o bs) → AreSoundItems (items_by f o bs) → IsWhole f bs × FitsOrigin f o bs
+form_sound : (f : ItemForm) (o : Option ℕ) (bs : List ℕ) → 0 < length (items_by f o bs) → AreSoundItems (items_by f o bs) → IsWhole f bs × FitsOrigin f o bs
 form_sound form.Chars o bs l h = (some_chars o bs l, tt)
 form_sound (form.Entity c) o bs l h = h.0
 form_sound form.Nowiki o bs l h = h.0

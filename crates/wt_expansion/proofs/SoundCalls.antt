@@ -12,7 +12,7 @@ use Rattle.wt_span.specs.declared.function.Function.{Function}
 use Rattle.wt_span.specs.Functions.{function_of}
 use Rattle.wt_span.specs.Items.{Item}
 use Rattle.wt_span.specs.Origins.{OuterCall, Span, IsBorder, LieFrom, IsNameEnd, AreNameEnds, IsSoundCall}
-use Rattle.wt_span.specs.Braces.{Member, Members, lexeme, call, none, more, members, listed, width, width_of_all, Sign, pipe, equals, sign_of, in_link, PartAt, parts_of}
+use Rattle.wt_span.specs.Braces.{Member, Members, lexeme, call, none, more, members, listed, width, width_of_all, PartSign, pipe, equals, sign_of, in_link, PartAt, parts_of}
 use Rattle.wt_lex.proofs.Fronts.{byte_front}
 use Rattle.wt_braces.specs.PartMembers.{PartMembers, joined, rejoined, part_members, split_members, with_member, with_equals, with_sign_of, later_after, placed, width_of, name_width, name_end}
 use Rattle.wt_braces.proofs.Rejoins.{parts_join}
@@ -178,7 +178,7 @@ some_equals : (n : ℕ) (ps : List PartMembers) → 0 < length ps → 0 < length
 some_equals n [] l = l
 some_equals n (p ∷ ps) l = omega arith
 
-some_sign : (later : Bool) (x : Member) (ss : List Sign) (ps : List PartMembers) → 0 < length ps → 0 < length (with_sign_of later x ss ps)
+some_sign : (later : Bool) (x : Member) (ss : List PartSign) (ps : List PartMembers) → 0 < length ps → 0 < length (with_sign_of later x ss ps)
 some_sign later x [] ps l = some_with x ps l
 some_sign later x (pipe at n ∷ ss) ps l = omega arith
 some_sign true x (equals at n ∷ ss) ps l = some_equals n ps l

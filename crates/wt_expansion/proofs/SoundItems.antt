@@ -2,8 +2,8 @@
 use Rattle.std.proofs.Common.{◌≡◌, ℕ, suc, ◌+◌, ◌-◌, Bool, true, false, Option, Some, None, List, [], ◌∷◌, ◌++◌, map, take, drop, refl, sym, subst}
 use Rattle.std.specs.Prelude.{slice_index, if◌then◌else◌}
 use Rattle.wt_span.specs.declared.form.Mode.TheVariants as mode
-use Rattle.wt_span.specs.declared.form.Form.{Form}
-use Rattle.wt_span.specs.declared.form.Form.TheVariants as form
+use Rattle.wt_span.specs.declared.form.ItemForm.{ItemForm}
+use Rattle.wt_span.specs.declared.form.ItemForm.TheVariants as form
 use Rattle.wt_span.specs.declared.form.LexKind.{LexKind}
 use Rattle.wt_span.specs.declared.form.LexKind.TheVariants as lex
 use Rattle.wt_span.specs.Bytes.{is_break}
@@ -109,7 +109,7 @@ mutual
 
 -- ---- items by their calls
 
-called_fits : (f : Form) (k : ℕ) (bs : List ℕ) → FitsOrigin f (Some k) bs
+called_fits : (f : ItemForm) (k : ℕ) (bs : List ℕ) → FitsOrigin f (Some k) bs
 called_fits form.Chars k bs = tt
 called_fits (form.Entity c) k bs = tt
 called_fits form.Nowiki k bs = tt

@@ -6,8 +6,8 @@ use Rattle.std.specs.Str.{bytes_eq}
 use Rattle.std.proofs.lemmas.List.{reverse-append}
 use Rattle.wt_span.specs.declared.form.Mode.{Mode}
 use Rattle.wt_span.specs.declared.form.Mode.TheVariants as mode
-use Rattle.wt_span.specs.declared.form.Form.{Form}
-use Rattle.wt_span.specs.declared.form.Form.TheVariants as form
+use Rattle.wt_span.specs.declared.form.ItemForm.{ItemForm}
+use Rattle.wt_span.specs.declared.form.ItemForm.TheVariants as form
 use Rattle.wt_span.specs.declared.form.LexKind.{LexKind}
 use Rattle.wt_span.specs.declared.form.LexKind.TheVariants as lex
 use Rattle.wt_span.specs.Bytes.{is_break}
@@ -82,7 +82,7 @@ then_some : {A : Type 0} (t : Bool) (o : Option A) (a : A) → (if t then o else
 then_some true o a e = e
 then_some false o a e = absurd cc
 
-RawBy : Option Tag → Form → List ℕ → Type 0
+RawBy : Option Tag → ItemForm → List ℕ → Type 0
 RawBy o form.Nowiki bs = raw_by is_nowiki o bs ≡ Some (length bs)
 RawBy o form.Extension bs = raw_by is_extension o bs ≡ Some (length bs)
 RawBy o f bs = ⊥
@@ -101,7 +101,7 @@ raw_any : (o : Option Tag) (bs : List ℕ) → (raw_by is_nowiki o bs ≡ Some (
 raw_any None bs h = ⊎_elim (λ k. absurd cc) (λ k. absurd cc) h
 raw_any (Some t) bs h = raw_named t bs (is_nowiki t.name) refl h
 
-raw_is : (f : Form) (bs : List ℕ) → RawBy (opening_tag bs) f bs → IsWhole f bs
+raw_is : (f : ItemForm) (bs : List ℕ) → RawBy (opening_tag bs) f bs → IsWhole f bs
 unfolding RawBy
 raw_is form.Chars bs h = absurd h
 raw_is (form.Entity c) bs h = absurd h
@@ -113,7 +113,7 @@ raw_is form.Include bs h = absurd h
 raw_is form.Hidden bs h = absurd h
 raw_is form.EmptyCall bs h = absurd h
 
-raw_item : (f : Form) (bs : List ℕ) → IsWhole f bs → AllWhole (items_by f None bs)
+raw_item : (f : ItemForm) (bs : List ℕ) → IsWhole f bs → AllWhole (items_by f None bs)
 raw_item form.Chars bs h = whole_by_char None bs
 raw_item (form.Entity c) bs h = (h, tt)
 raw_item form.Nowiki bs h = (h, tt)

@@ -3,7 +3,7 @@ use Rattle.std.specs.Prelude.{◌≡◌, ◌<◌, ℕ, suc, ◌+◌, List, [], �
 use Rattle.wt_span.specs.declared.form.Piece.{Piece}
 use Rattle.wt_span.specs.declared.origin.Origin.TheVariants as origin
 use Rattle.wt_span.specs.Slice.{start_of, end_of}
-use Rattle.wt_span.specs.declared.form.Form.TheVariants as form
+use Rattle.wt_span.specs.declared.form.ItemForm.TheVariants as form
 use Rattle.wt_span.specs.Items.{Item, whole, items_of, items}
 use Rattle.wt_expand.specs.Made.{IsOfPage}
 use Rattle.wt_expand.specs.PageCalls.{Stretch, own, outer, text_call, from_call, outer_items, numbered, outer_calls, text_spans}

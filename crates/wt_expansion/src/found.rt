@@ -11,7 +11,7 @@ ghost use Rattle.wt_expansion.specs.Walks.{Adds};
 
 use std::alloc::Global;
 use wt_braces::PartAt;
-use wt_span::{Form, List, NoMemory, Origin, Outer, Piece, Range, Str, Text, rest_of};
+use wt_span::{ItemForm, List, NoMemory, Origin, Outer, Piece, Range, Str, Text, rest_of};
 use wt_transclusion::Braces;
 
 /// The pieces, the outermost calls and the text calls of the page up to a place.
@@ -58,15 +58,15 @@ fn is_empty(piece: &Piece<'_>) -> bool
     ensures some { result ≡ false → 0 < length (items_of piece.now) }
 {
     match piece.form {
-        Form::Chars => piece.text.as_str().is_empty(),
-        Form::Entity(_)
-        | Form::Nowiki
-        | Form::Extension
-        | Form::Function
-        | Form::Comment
-        | Form::Include
-        | Form::Hidden
-        | Form::EmptyCall => false,
+        ItemForm::Chars => piece.text.as_str().is_empty(),
+        ItemForm::Entity(_)
+        | ItemForm::Nowiki
+        | ItemForm::Extension
+        | ItemForm::Function
+        | ItemForm::Comment
+        | ItemForm::Include
+        | ItemForm::Hidden
+        | ItemForm::EmptyCall => false,
     }
 }
 
@@ -115,7 +115,7 @@ fn push_given<'a>(
     }
     pieces.push(Piece {
         text: source,
-        form: Form::EmptyCall,
+        form: ItemForm::EmptyCall,
         origin: Origin::Call(number),
     })?;
     Ok(())
@@ -165,7 +165,7 @@ impl<'a> Collected<'a> {
     }
 
     /// A piece of the page itself.
-    pub fn push_own(&mut self, text: Text<'a>, form: Form) -> Result<(), NoMemory>
+    pub fn push_own(&mut self, text: Text<'a>, form: ItemForm) -> Result<(), NoMemory>
         ensures { OnOk result (0 < length (items_by form None (bytes_of text.entry))
             → Adds self.old self.new (start_of text.entry) (own (items_by form None (bytes_of text.entry)) ∷ []) (end_of text.entry)) }
     {

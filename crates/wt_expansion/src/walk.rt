@@ -24,7 +24,7 @@ use wt_braces::PartAt;
 use wt_devices::Folder;
 use wt_expand::{MOST_TEMPLATES, form_of};
 use wt_names::{Title, href_of};
-use wt_span::{Form, LexKind, Mode, NoMemory};
+use wt_span::{ItemForm, LexKind, Mode, NoMemory};
 use wt_template_stack::{Expansion, Reader};
 use wt_transclusion::{
     Braces, ExpandRefusal, Next, Values, function_named, is_function, title_of_target,
@@ -57,7 +57,7 @@ fn push_slice<'a>(
     reader: Reader<'a>,
     from: u32,
     to: u32,
-    form: Form,
+    form: ItemForm,
 ) -> Result<(), NoMemory>
     ensures adds { OnOk result ((page : List ℕ) (p : ℕ) (s : Bool) → IsReading text_mode.Page page reader.entry p s → from < to
         → Adds found.old found.new from (own (items_by form None (slice_range page from to)) ∷ []) to) }
@@ -223,7 +223,7 @@ impl<'a> PageWalk<'a> {
                 reader,
                 call.at.start,
                 call.at.end,
-                Form::Function,
+                ItemForm::Function,
             )?;
             return Ok(());
         }
@@ -330,7 +330,7 @@ impl<'a> PageWalk<'a> {
             reader,
             call.at.start,
             part.at.start,
-            Form::Chars,
+            ItemForm::Chars,
         )?;
         let begun = self.found.pieces.len();
         self.stretch(folder, reader.within(part.at.start)?, part.at.end, nested)?;
@@ -364,7 +364,7 @@ impl<'a> PageWalk<'a> {
         let braces = part.at.start.saturating_sub(call.at.start);
         let end = call.at.end.saturating_sub(braces);
         self.stretch(folder, reader.seek(part.at.end)?, end, nested)?;
-        push_slice(&mut self.found, reader, end, call.at.end, Form::Chars)?;
+        push_slice(&mut self.found, reader, end, call.at.end, ItemForm::Chars)?;
         Ok(())
     }
 

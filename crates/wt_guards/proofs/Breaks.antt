@@ -3,7 +3,7 @@ use Rattle.std.proofs.Common.{arith, ◌≡◌, ℕ, suc, ◌+◌, ◌==◌, Boo
 use Rattle.std.specs.Prelude.{encode_utf8, if◌then◌else◌}
 use Rattle.std.specs.List.{flat_map}
 use Rattle.std.specs.Fmt.{digits}
-use Rattle.wt_guards.specs.Content.{Sign, letter, thing}
+use Rattle.wt_guards.specs.Content.{ContentSign, letter, thing}
 use Rattle.wt_guards.specs.Letters.{is_escaped, reference, written_by}
 use Rattle.wt_guards.specs.Guards.{Setting, nowiki, nowiki_if, is_guarded, sign_written, spelled_from, spelled}
 use Rattle.wt_guards.specs.WrittenLaws.{itself, breaks}
@@ -36,12 +36,12 @@ letter_breaks : (e : Bool) (c : ℕ) → (e ≡ true → is_escapable c ≡ true
 letter_breaks true c h = reference_breaks c (h refl)
 letter_breaks false c h = refl
 
-sign_breaks : (s : Setting) (before : List Sign) (sign : Sign) (after : List Sign) → breaks (sign_written s before sign after) ≡ breaks (itself sign)
+sign_breaks : (s : Setting) (before : List ContentSign) (sign : ContentSign) (after : List ContentSign) → breaks (sign_written s before sign after) ≡ breaks (itself sign)
 sign_breaks s before (letter c) after =
     letter_breaks (is_escaped s.within s.place before c after) c (escapable s.within s.place before c after)
 sign_breaks s before (thing t) after = refl
 
-breaks_from : (s : Setting) (before signs : List Sign) → breaks (spelled_from s before signs) ≡ breaks (flat_map itself signs)
+breaks_from : (s : Setting) (before signs : List ContentSign) → breaks (spelled_from s before signs) ≡ breaks (flat_map itself signs)
 breaks_from s before [] = guard_breaks (is_guarded s before [])
 breaks_from s before (sign ∷ after) =
     let g = nowiki_if (is_guarded s before (sign ∷ after)) in
@@ -52,5 +52,5 @@ breaks_from s before (sign ∷ after) =
     ∙ ap (λ (n : ℕ). breaks (itself sign) + n) (breaks_from s (sign ∷ before) after)
     ∙ sym (breaks_append (itself sign) (flat_map itself after))
 
-pub same_breaks : (s : Setting) (signs : List Sign) → breaks (spelled s signs) ≡ breaks (flat_map itself signs)
+pub same_breaks : (s : Setting) (signs : List ContentSign) → breaks (spelled s signs) ≡ breaks (flat_map itself signs)
 same_breaks s signs = breaks_from s [] signs

@@ -3,7 +3,7 @@ use Rattle.std.proofs.Common.{◌≡◌, ℕ, Bool, true, false, refl, sym, ◌�
 use Rattle.std.specs.Prelude.{not, ◌||◌, ◌&&◌, ◌==◌, if◌then◌else◌}
 use Rattle.std.proofs.lemmas.Bool.Decides.{Decides-eqb}
 use Rattle.wt_guards.specs.declared.side.Place.{Place}
-use Rattle.wt_guards.specs.Content.{Sign, nearest}
+use Rattle.wt_guards.specs.Content.{ContentSign, nearest}
 use Rattle.wt_guards.specs.Letters.{is_bracket, is_escaped, opens_tag, opens_entity, is_next, is_apostrophe_or_end, are_slashes, is_blank_to_end, is_term, is_header, is_indented}
 
 abbrev pub is_escapable : ℕ → Bool
@@ -21,7 +21,7 @@ chain false false false false false false true h u v w x y z s i = cc
 chain false false false false false false false true u v w x y z s i = cc
 chain false false false false false false false false u v w x y z s i = refl
 
-pub others_stay : (within : Bool) (p : Place) (before : List Sign) (c : ℕ) (after : List Sign) → is_escapable c ≡ false
+pub others_stay : (within : Bool) (p : Place) (before : List ContentSign) (c : ℕ) (after : List ContentSign) → is_escapable c ≡ false
     → is_escaped within p before c after ≡ false
 unfolding is_escaped
 others_stay within p before c after e =
@@ -34,7 +34,7 @@ by_contrast : (a e : Bool) → (a ≡ false → e ≡ false) → e ≡ true → 
 by_contrast true e h f = refl
 by_contrast false e h f = let g : false ≡ true = sym (h refl) ∙ f in g
 
-pub escapable : (within : Bool) (p : Place) (before : List Sign) (c : ℕ) (after : List Sign) → is_escaped within p before c after ≡ true → is_escapable c ≡ true
+pub escapable : (within : Bool) (p : Place) (before : List ContentSign) (c : ℕ) (after : List ContentSign) → is_escaped within p before c after ≡ true → is_escapable c ≡ true
 escapable within p before c after e =
     by_contrast (is_escapable c) (is_escaped within p before c after) (others_stay within p before c after) e
 

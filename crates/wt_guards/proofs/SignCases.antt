@@ -9,11 +9,11 @@ use Rattle.wt_guards.specs.declared.side.Place.{Place}
 use Rattle.wt_guards.specs.declared.side.Place.TheVariants.{Paragraph, Heading, Item, Term, Header}
 use Rattle.wt_guards.specs.declared.side.Side.TheVariants as side
 use Rattle.wt_guards.specs.Table.{hazard, line_start_hazard}
-use Rattle.wt_guards.specs.Content.{Sign, letter, thing}
+use Rattle.wt_guards.specs.Content.{ContentSign, letter, thing}
 use Rattle.wt_guards.specs.Letters.{is_escaped, reference}
 use Rattle.wt_guards.specs.Guards.{Setting, is_start_guard, is_end_guard, is_blank_guard, is_parted, is_between_guard, is_guarded, nowiki, spelled}
 
-abbrev text : List ℕ → List Sign
+abbrev text : List ℕ → List ContentSign
 text bytes = map letter bytes
 
 -- content in a place, of a block with this source in the page
@@ -27,10 +27,10 @@ abbrev link_inside : Setting
 link_inside = record { within = true; place = Paragraph; source = [] }
 
 -- a node of the page between two of its places
-abbrev kept : Role → List ℕ → ℕ → ℕ → List Sign
+abbrev kept : Role → List ℕ → ℕ → ℕ → List ContentSign
 kept r source start end = thing (record { role = r; source = source; place = Some (record { start = start; end = end }) }) ∷ []
 
-abbrev new : Role → List ℕ → List Sign
+abbrev new : Role → List ℕ → List ContentSign
 new r source = thing (record { role = r; source = source; place = None }) ∷ []
 
 -- a group that shows a word, somewhere in its line

@@ -4,17 +4,17 @@ use Rattle.std.specs.Prelude.{encode_utf8}
 use Rattle.std.specs.List.{flat_map}
 use Rattle.std.specs.Str.{chars}
 use Rattle.wt_guards.specs.declared.side.Place.{Place}
-use Rattle.wt_guards.specs.Content.{Sign, letter, thing, letters}
+use Rattle.wt_guards.specs.Content.{ContentSign, letter, thing, letters}
 use Rattle.wt_guards.specs.Letters.{is_bracket, is_escaped, reference, written_by, written}
 use Rattle.wt_guards.specs.Guards.{Setting, nowiki, nowiki_if, is_guarded, sign_written, spelled_from, spelled}
 use Rattle.wt_guards.specs.WrittenLaws.{itself, IsAsItIs, IsQuiet, guard, referred, plain, Pieces}
 
-as_it_is : (s : Setting) (before : List Sign) (sign : Sign) (after : List Sign) → IsAsItIs s before sign after → sign_written s before sign after ≡ itself sign
+as_it_is : (s : Setting) (before : List ContentSign) (sign : ContentSign) (after : List ContentSign) → IsAsItIs s before sign after → sign_written s before sign after ≡ itself sign
 as_it_is s before (letter c) after e = ap (λ b. written_by b c) e
 as_it_is s before (thing t) after e = refl
 
 -- Where nothing is put and no character is a reference, the signs are written as they are.
-pub quiet_from : (s : Setting) (before signs : List Sign) → IsQuiet s before signs → spelled_from s before signs ≡ flat_map itself signs
+pub quiet_from : (s : Setting) (before signs : List ContentSign) → IsQuiet s before signs → spelled_from s before signs ≡ flat_map itself signs
 quiet_from s before [] q = ap nowiki_if q
 quiet_from s before (sign ∷ after) q =
     ap (λ b. nowiki_if b ++ (sign_written s before sign after ++ spelled_from s (sign ∷ before) after)) q.0
@@ -24,7 +24,7 @@ quiet_from s before (sign ∷ after) q =
 -- ---- a text alone
 
 -- a bracket is always a reference
-bracket_escaped : (within : Bool) (p : Place) (before : List Sign) (c : ℕ) (after : List Sign) → is_bracket c ≡ true → is_escaped within p before c after ≡ true
+bracket_escaped : (within : Bool) (p : Place) (before : List ContentSign) (c : ℕ) (after : List ContentSign) → is_bracket c ≡ true → is_escaped within p before c after ≡ true
 unfolding is_escaped
 bracket_escaped within p before c after e = rw e refl
 
@@ -60,7 +60,7 @@ put_letter false c text bytes h p = record {
   shows = ap (λ r. c ∷ r) p.shows;
 }
 
-pieces_from : (s : Setting) (before : List Sign) (cs : List ℕ) → Pieces cs (spelled_from s before (map letter cs))
+pieces_from : (s : Setting) (before : List ContentSign) (cs : List ℕ) → Pieces cs (spelled_from s before (map letter cs))
 pieces_from s before [] = end_guard (is_guarded s before [])
 pieces_from s before (c ∷ cs) =
     let after = map letter cs in

@@ -15,17 +15,17 @@ pub record Thing : Type 0 where
 
 -- A sign of the content is a character of text or a node. The signs before a place are listed from the place on to the left,
 -- those after it from the place on to the right.
-pub data Sign : Type 0 where
-  letter : ℕ → Sign
-  thing : Thing → Sign
+pub data ContentSign : Type 0 where
+  letter : ℕ → ContentSign
+  thing : Thing → ContentSign
 
 -- the sign next to the place
-abbrev pub nearest : List Sign → Option Sign
+abbrev pub nearest : List ContentSign → Option ContentSign
 nearest [] = None
 nearest (s ∷ signs) = Some s
 
 -- the characters of a text
-abbrev pub letters : List ℕ → List Sign
+abbrev pub letters : List ℕ → List ContentSign
 letters text = map letter (chars text)
 
 -- how its neighbours see it

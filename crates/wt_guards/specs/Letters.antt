@@ -4,44 +4,44 @@ use Rattle.std.specs.Char.{is_ascii_alphabetic}
 use Rattle.wt_span.specs.Bytes.{is_blank}
 use Rattle.wt_guards.specs.declared.side.Place.{Place}
 use Rattle.wt_guards.specs.declared.side.Place.TheVariants.{Paragraph, Heading, Item, Term, Cell, Header}
-use Rattle.wt_guards.specs.Content.{Sign, letter, thing, nearest, ends_line, is_invisible, shows_blanks}
+use Rattle.wt_guards.specs.Content.{ContentSign, letter, thing, nearest, ends_line, is_invisible, shows_blanks}
 
 -- `[` `]` `{` `}` `|` `>`: written otherwise wherever they stand
 abbrev pub is_bracket : ℕ → Bool
 is_bracket c = c == 91 || (c == 93 || (c == 123 || (c == 125 || (c == 124 || c == 62))))
 
 -- the next sign is no character, or one that makes a tag of a `<`: an ASCII letter, `/` or `!`
-abbrev pub opens_tag : Option Sign → Bool
+abbrev pub opens_tag : Option ContentSign → Bool
 opens_tag None = true
 opens_tag (Some (letter c)) = is_ascii_alphabetic c || (c == 47 || c == 33)
 opens_tag (Some (thing t)) = true
 
 -- the next sign is no character, or one that makes an entity of a `&`: an ASCII letter or `#`
-abbrev pub opens_entity : Option Sign → Bool
+abbrev pub opens_entity : Option ContentSign → Bool
 opens_entity None = true
 opens_entity (Some (letter c)) = is_ascii_alphabetic c || c == 35
 opens_entity (Some (thing t)) = true
 
 -- the nearest sign is this character
-abbrev pub is_next : ℕ → Option Sign → Bool
+abbrev pub is_next : ℕ → Option ContentSign → Bool
 is_next d None = false
 is_next d (Some (letter c)) = c == d
 is_next d (Some (thing t)) = false
 
 -- the nearest sign is no character, or an apostrophe
-abbrev pub is_apostrophe_or_end : Option Sign → Bool
+abbrev pub is_apostrophe_or_end : Option ContentSign → Bool
 is_apostrophe_or_end None = true
 is_apostrophe_or_end (Some (letter c)) = c == 39
 is_apostrophe_or_end (Some (thing t)) = true
 
 -- `//` follows
-abbrev pub are_slashes : List Sign → Bool
+abbrev pub are_slashes : List ContentSign → Bool
 are_slashes [] = false
 are_slashes (letter c ∷ after) = c == 47 && is_next 47 (nearest after)
 are_slashes (thing t ∷ after) = false
 
 -- only spaces and tabs follow, up to a line break or the end of the text
-abbrev pub is_blank_to_end : List Sign → Bool
+abbrev pub is_blank_to_end : List ContentSign → Bool
 is_blank_to_end [] = true
 is_blank_to_end (letter c ∷ after) = if is_blank c then is_blank_to_end after else c == 10
 is_blank_to_end (thing t ∷ after) = true
@@ -63,19 +63,19 @@ is_header Cell = false
 is_header Header = true
 
 -- On its line nothing stands before but groups that show spaces and tabs alone, marks, spaces and tabs.
-abbrev pub is_clear : List Sign → Bool
+abbrev pub is_clear : List ContentSign → Bool
 is_clear [] = true
 is_clear (letter c ∷ before) = c == 10 || (is_blank c && is_clear before)
 is_clear (thing t ∷ before) = ends_line t.role || ((is_invisible t.role || shows_blanks t.role) && is_clear before)
 
 -- And one of them is such a group: a `!` would begin a line of header cells.
-abbrev pub is_indented : List Sign → Bool
+abbrev pub is_indented : List ContentSign → Bool
 is_indented [] = false
 is_indented (letter c ∷ before) = is_blank c && is_indented before
 is_indented (thing t ∷ before) = not (ends_line t.role) && ((shows_blanks t.role && is_clear before) || (is_invisible t.role && is_indented before))
 
 -- Whether a character is written as a reference. In content that is the inside of a link or tag (`within`) no line begins.
-unfoldable pub is_escaped : Bool → Place → List Sign → ℕ → List Sign → Bool
+unfoldable pub is_escaped : Bool → Place → List ContentSign → ℕ → List ContentSign → Bool
 is_escaped within place before c after =
     if is_bracket c then true
     else if c == 60 then opens_tag (nearest after)
@@ -99,5 +99,5 @@ abbrev pub written_by : Bool → ℕ → List ℕ
 written_by true c = reference c
 written_by false c = encode_utf8 c
 
-abbrev pub written : Bool → Place → List Sign → ℕ → List Sign → List ℕ
+abbrev pub written : Bool → Place → List ContentSign → ℕ → List ContentSign → List ℕ
 written within place before c after = written_by (is_escaped within place before c after) c

@@ -1,21 +1,21 @@
 -- What the laws of the spelling speak of.
 use Rattle.std.specs.Prelude.{◌≡◌, ℕ, suc, ◌==◌, false, List, [], ◌∷◌, if◌then◌else◌, encode_utf8}
 use Rattle.std.specs.List.{flat_map}
-use Rattle.wt_guards.specs.Content.{Sign, letter, thing}
+use Rattle.wt_guards.specs.Content.{ContentSign, letter, thing}
 use Rattle.wt_guards.specs.Letters.{is_bracket, is_escaped, reference}
 use Rattle.wt_guards.specs.Guards.{Setting, nowiki, is_guarded}
 
 -- what a sign shows as it stands, without guards and references
-abbrev pub itself : Sign → List ℕ
+abbrev pub itself : ContentSign → List ℕ
 itself (letter c) = encode_utf8 c
 itself (thing t) = t.source
 
-abbrev pub IsAsItIs : Setting → List Sign → Sign → List Sign → Type 0
+abbrev pub IsAsItIs : Setting → List ContentSign → ContentSign → List ContentSign → Type 0
 IsAsItIs s before (letter c) after = is_escaped s.within s.place before c after ≡ false
 IsAsItIs s before (thing t) after = Unit {0}
 
 -- From a place on no guard holds, and no character is written as a reference.
-abbrev pub IsQuiet : Setting → List Sign → List Sign → Type 0
+abbrev pub IsQuiet : Setting → List ContentSign → List ContentSign → Type 0
 IsQuiet s before [] = is_guarded s before [] ≡ false
 IsQuiet s before (sign ∷ after) = (is_guarded s before (sign ∷ after) ≡ false) × IsAsItIs s before sign after × IsQuiet s (sign ∷ before) after
 

@@ -8,7 +8,7 @@ ghost use Rattle.wt_guards.specs.Views.{sign_of, signs_left};
 ghost use Rattle.wt_span.specs.Bytes.{is_blank};
 
 use crate::side::line_start_hazard;
-use crate::signs::{Sign, Signs};
+use crate::signs::{ContentSign, Signs};
 
 /// A space or a tab.
 pub fn is_blank(c: char) -> bool
@@ -19,122 +19,122 @@ pub fn is_blank(c: char) -> bool
 
 // ---- the sign next to a place, where there is one
 
-pub fn opens_tag(next: Option<Sign<'_>>) -> bool
+pub fn opens_tag(next: Option<ContentSign<'_>>) -> bool
     ensures { result ≡ opens_tag (option_map sign_of next.entry) }
 {
     match next {
-        Some(Sign::Letter(c)) => c.is_ascii_alphabetic() || c == '/' || c == '!',
-        Some(Sign::Thing(_)) => true,
+        Some(ContentSign::Letter(c)) => c.is_ascii_alphabetic() || c == '/' || c == '!',
+        Some(ContentSign::Thing(_)) => true,
         None => true,
     }
 }
 
-pub fn opens_entity(next: Option<Sign<'_>>) -> bool
+pub fn opens_entity(next: Option<ContentSign<'_>>) -> bool
     ensures { result ≡ opens_entity (option_map sign_of next.entry) }
 {
     match next {
-        Some(Sign::Letter(c)) => c.is_ascii_alphabetic() || c == '#',
-        Some(Sign::Thing(_)) => true,
+        Some(ContentSign::Letter(c)) => c.is_ascii_alphabetic() || c == '#',
+        Some(ContentSign::Thing(_)) => true,
         None => true,
     }
 }
 
-pub fn is_next(d: char, next: Option<Sign<'_>>) -> bool
+pub fn is_next(d: char, next: Option<ContentSign<'_>>) -> bool
     ensures { result ≡ is_next d (option_map sign_of next.entry) }
 {
     match next {
-        Some(Sign::Letter(c)) => c == d,
-        Some(Sign::Thing(_)) => false,
+        Some(ContentSign::Letter(c)) => c == d,
+        Some(ContentSign::Thing(_)) => false,
         None => false,
     }
 }
 
-pub fn is_apostrophe_or_end(next: Option<Sign<'_>>) -> bool
+pub fn is_apostrophe_or_end(next: Option<ContentSign<'_>>) -> bool
     ensures { result ≡ is_apostrophe_or_end (option_map sign_of next.entry) }
 {
     match next {
-        Some(Sign::Letter(c)) => c == '\'',
-        Some(Sign::Thing(_)) => true,
+        Some(ContentSign::Letter(c)) => c == '\'',
+        Some(ContentSign::Thing(_)) => true,
         None => true,
     }
 }
 
-pub fn is_line_start(last: Option<Sign<'_>>) -> bool
+pub fn is_line_start(last: Option<ContentSign<'_>>) -> bool
     ensures { result ≡ is_line_start (option_map sign_of last.entry) }
 {
     match last {
-        Some(Sign::Letter(c)) => c == '\n',
-        Some(Sign::Thing(thing)) => thing.role.ends_line(),
+        Some(ContentSign::Letter(c)) => c == '\n',
+        Some(ContentSign::Thing(thing)) => thing.role.ends_line(),
         None => true,
     }
 }
 
-pub fn is_line_mark_next(next: Option<Sign<'_>>) -> bool
+pub fn is_line_mark_next(next: Option<ContentSign<'_>>) -> bool
     ensures { result ≡ is_line_mark_next (option_map sign_of next.entry) }
 {
     match next {
-        Some(Sign::Letter(_)) => false,
-        Some(Sign::Thing(thing)) => thing.role.ends_line(),
+        Some(ContentSign::Letter(_)) => false,
+        Some(ContentSign::Thing(thing)) => thing.role.ends_line(),
         None => false,
     }
 }
 
-pub fn is_start_hazard(next: Option<Sign<'_>>) -> bool
+pub fn is_start_hazard(next: Option<ContentSign<'_>>) -> bool
     ensures { result ≡ is_start_hazard (option_map sign_of next.entry) }
 {
     match next {
-        Some(Sign::Letter(c)) => line_start_hazard(c),
-        Some(Sign::Thing(_)) => false,
+        Some(ContentSign::Letter(c)) => line_start_hazard(c),
+        Some(ContentSign::Thing(_)) => false,
         None => false,
     }
 }
 
-pub fn is_new_next(next: Option<Sign<'_>>) -> bool
+pub fn is_new_next(next: Option<ContentSign<'_>>) -> bool
     ensures { result ≡ is_new_next (option_map sign_of next.entry) }
 {
     match next {
-        Some(Sign::Letter(_)) => false,
-        Some(Sign::Thing(thing)) => thing.role.is_new_at_start(),
+        Some(ContentSign::Letter(_)) => false,
+        Some(ContentSign::Thing(thing)) => thing.role.is_new_at_start(),
         None => false,
     }
 }
 
-pub fn is_end(next: Option<Sign<'_>>) -> bool
+pub fn is_end(next: Option<ContentSign<'_>>) -> bool
     ensures { result ≡ is_end (option_map sign_of next.entry) }
 {
     match next {
-        Some(Sign::Letter(_)) => false,
-        Some(Sign::Thing(_)) => false,
+        Some(ContentSign::Letter(_)) => false,
+        Some(ContentSign::Thing(_)) => false,
         None => true,
     }
 }
 
-pub fn is_line_end(next: Option<Sign<'_>>) -> bool
+pub fn is_line_end(next: Option<ContentSign<'_>>) -> bool
     ensures { result ≡ is_line_end (option_map sign_of next.entry) }
 {
     match next {
-        Some(Sign::Letter(c)) => c == '\n',
-        Some(Sign::Thing(_)) => false,
+        Some(ContentSign::Letter(c)) => c == '\n',
+        Some(ContentSign::Thing(_)) => false,
         None => true,
     }
 }
 
-pub fn is_blank_last(last: Option<Sign<'_>>) -> bool
+pub fn is_blank_last(last: Option<ContentSign<'_>>) -> bool
     ensures { result ≡ is_blank_last (option_map sign_of last.entry) }
 {
     match last {
-        Some(Sign::Letter(c)) => is_blank(c),
-        Some(Sign::Thing(_)) => false,
+        Some(ContentSign::Letter(c)) => is_blank(c),
+        Some(ContentSign::Thing(_)) => false,
         None => false,
     }
 }
 
-pub fn is_group_last(last: Option<Sign<'_>>) -> bool
+pub fn is_group_last(last: Option<ContentSign<'_>>) -> bool
     ensures { result ≡ is_group_last (option_map sign_of last.entry) }
 {
     match last {
-        Some(Sign::Letter(_)) => false,
-        Some(Sign::Thing(thing)) => thing.role.is_new_last(),
+        Some(ContentSign::Letter(_)) => false,
+        Some(ContentSign::Thing(thing)) => thing.role.is_new_last(),
         None => false,
     }
 }
@@ -143,7 +143,7 @@ pub fn is_group_last(last: Option<Sign<'_>>) -> bool
 
 impl<'u, 't> Signs<'u, 't> {
     /// The next sign.
-    pub fn peek(self) -> Option<Sign<'u>>
+    pub fn peek(self) -> Option<ContentSign<'u>>
         ensures { option_map sign_of result ≡ nearest (signs_left self.entry) }
     {
         match self.split_first() {
@@ -157,8 +157,8 @@ impl<'u, 't> Signs<'u, 't> {
         ensures { result ≡ are_slashes (signs_left self.entry) }
     {
         match self.split_first() {
-            Some((Sign::Letter(c), after)) => c == '/' && is_next('/', after.peek()),
-            Some((Sign::Thing(_), _)) => false,
+            Some((ContentSign::Letter(c), after)) => c == '/' && is_next('/', after.peek()),
+            Some((ContentSign::Thing(_), _)) => false,
             None => false,
         }
     }
@@ -170,12 +170,12 @@ impl<'u, 't> Signs<'u, 't> {
         let mut rest = self;
         while let Some((sign, after)) = rest.split_first() {
             match sign {
-                Sign::Letter(c) => {
+                ContentSign::Letter(c) => {
                     if !is_blank(c) {
                         return c == '\n';
                     }
                 }
-                Sign::Thing(_) => return true,
+                ContentSign::Thing(_) => return true,
             }
             rest = after;
         }
@@ -189,12 +189,12 @@ impl<'u, 't> Signs<'u, 't> {
         let mut rest = self;
         while let Some((sign, after)) = rest.split_first() {
             match sign {
-                Sign::Letter(c) => {
+                ContentSign::Letter(c) => {
                     if !is_blank(c) {
                         return c == '\n';
                     }
                 }
-                Sign::Thing(thing) => {
+                ContentSign::Thing(thing) => {
                     if thing.role.ends_line() {
                         return true;
                     }
@@ -215,12 +215,12 @@ impl<'u, 't> Signs<'u, 't> {
         let mut rest = self;
         while let Some((sign, after)) = rest.split_first() {
             match sign {
-                Sign::Letter(c) => {
+                ContentSign::Letter(c) => {
                     if !is_blank(c) {
                         return false;
                     }
                 }
-                Sign::Thing(thing) => {
+                ContentSign::Thing(thing) => {
                     if !thing.role.is_invisible() || thing.role.ends_line() {
                         return thing.role.is_group();
                     }

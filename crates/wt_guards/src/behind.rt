@@ -1,14 +1,14 @@
 //! What is known of the signs before a place.
 
 ghost use Rattle.std.specs.Prelude.{◌≡◌, ◌∷◌, [], ℕ, List, option_map, Option};
-ghost use Rattle.wt_guards.specs.Content.{Sign as AnySign, nearest};
+ghost use Rattle.wt_guards.specs.Content.{ContentSign as AnySign, nearest};
 ghost use Rattle.wt_guards.specs.Letters.{is_clear, is_indented};
 ghost use Rattle.wt_guards.specs.Guards.{is_line_begun, is_unended, is_nearest, is_group_or_bare, is_past_node, reached, past, end_of};
 ghost use Rattle.wt_guards.specs.Views.{sign_of, IsBehind};
 
 use crate::ahead::is_blank;
 use crate::role::Stretch;
-use crate::signs::Sign;
+use crate::signs::ContentSign;
 
 /// What the signs before a place are: the one next to it; whether nothing but marks stands between
 /// the line's start and the place; whether the last of the line wants a guard at its end; whether
@@ -18,7 +18,7 @@ use crate::signs::Sign;
 /// same text between them.
 #[derive(Clone, Copy)]
 pub struct Behind<'u> {
-    pub last: Option<Sign<'u>>,
+    pub last: Option<ContentSign<'u>>,
     pub is_line_begun: bool,
     pub is_unended: bool,
     pub is_clear: bool,
@@ -28,21 +28,21 @@ pub struct Behind<'u> {
     pub reached: Option<usize>,
 }
 
-fn begun_after(begun: bool, sign: Sign<'_>) -> bool
+fn begun_after(begun: bool, sign: ContentSign<'_>) -> bool
     ensures { (before : List AnySign) → begun ≡ is_line_begun before → result ≡ is_line_begun (sign_of sign.entry ∷ before) }
 {
     match sign {
-        Sign::Letter(c) => c == '\n',
-        Sign::Thing(thing) => thing.role.ends_line() || (thing.role.is_invisible() && begun),
+        ContentSign::Letter(c) => c == '\n',
+        ContentSign::Thing(thing) => thing.role.ends_line() || (thing.role.is_invisible() && begun),
     }
 }
 
-fn unended_after(unended: bool, sign: Sign<'_>) -> bool
+fn unended_after(unended: bool, sign: ContentSign<'_>) -> bool
     ensures { (before : List AnySign) → unended ≡ is_unended before → result ≡ is_unended (sign_of sign.entry ∷ before) }
 {
     match sign {
-        Sign::Letter(c) => is_blank(c) && unended,
-        Sign::Thing(thing) => {
+        ContentSign::Letter(c) => is_blank(c) && unended,
+        ContentSign::Thing(thing) => {
             if thing.role.is_invisible() {
                 unended
             } else {
@@ -52,24 +52,24 @@ fn unended_after(unended: bool, sign: Sign<'_>) -> bool
     }
 }
 
-fn clear_after(clear: bool, sign: Sign<'_>) -> bool
+fn clear_after(clear: bool, sign: ContentSign<'_>) -> bool
     ensures { (before : List AnySign) → clear ≡ is_clear before → result ≡ is_clear (sign_of sign.entry ∷ before) }
 {
     match sign {
-        Sign::Letter(c) => c == '\n' || (is_blank(c) && clear),
-        Sign::Thing(thing) => {
+        ContentSign::Letter(c) => c == '\n' || (is_blank(c) && clear),
+        ContentSign::Thing(thing) => {
             let role = thing.role;
             role.ends_line() || ((role.is_invisible() || role.shows_blanks()) && clear)
         }
     }
 }
 
-fn indented_after(clear: bool, indented: bool, sign: Sign<'_>) -> bool
+fn indented_after(clear: bool, indented: bool, sign: ContentSign<'_>) -> bool
     ensures { (before : List AnySign) → clear ≡ is_clear before → indented ≡ is_indented before → result ≡ is_indented (sign_of sign.entry ∷ before) }
 {
     match sign {
-        Sign::Letter(c) => is_blank(c) && indented,
-        Sign::Thing(thing) => {
+        ContentSign::Letter(c) => is_blank(c) && indented,
+        ContentSign::Thing(thing) => {
             let role = thing.role;
             !role.ends_line()
                 && ((role.shows_blanks() && clear) || (role.is_invisible() && indented))
@@ -77,12 +77,12 @@ fn indented_after(clear: bool, indented: bool, sign: Sign<'_>) -> bool
     }
 }
 
-fn near_after(near: bool, sign: Sign<'_>) -> bool
+fn near_after(near: bool, sign: ContentSign<'_>) -> bool
     ensures { (before : List AnySign) → near ≡ is_nearest is_group_or_bare before → result ≡ is_nearest is_group_or_bare (sign_of sign.entry ∷ before) }
 {
     match sign {
-        Sign::Letter(c) => is_blank(c) && near,
-        Sign::Thing(thing) => {
+        ContentSign::Letter(c) => is_blank(c) && near,
+        ContentSign::Thing(thing) => {
             let role = thing.role;
             if role.is_invisible() && !role.ends_line() {
                 near
@@ -93,12 +93,12 @@ fn near_after(near: bool, sign: Sign<'_>) -> bool
     }
 }
 
-fn past_node_after(past_node: bool, sign: Sign<'_>) -> bool
+fn past_node_after(past_node: bool, sign: ContentSign<'_>) -> bool
     ensures { (before : List AnySign) → past_node ≡ is_past_node before → result ≡ is_past_node (sign_of sign.entry ∷ before) }
 {
     match sign {
-        Sign::Letter(c) => is_blank(c) && past_node,
-        Sign::Thing(_) => true,
+        ContentSign::Letter(c) => is_blank(c) && past_node,
+        ContentSign::Thing(_) => true,
     }
 }
 
@@ -124,12 +124,12 @@ fn past(source: &[u8], c: char, at: Option<usize>) -> Option<usize>
     }
 }
 
-fn reached_after(source: &[u8], at: Option<usize>, sign: Sign<'_>) -> Option<usize>
+fn reached_after(source: &[u8], at: Option<usize>, sign: ContentSign<'_>) -> Option<usize>
     ensures { (before : List AnySign) → at ≡ reached source.now before → result ≡ reached source.now (sign_of sign.entry ∷ before) }
 {
     match sign {
-        Sign::Letter(c) => past(source, c, at),
-        Sign::Thing(thing) => end_of(thing.place),
+        ContentSign::Letter(c) => past(source, c, at),
+        ContentSign::Thing(thing) => end_of(thing.place),
     }
 }
 
@@ -151,7 +151,7 @@ impl<'u> Behind<'u> {
     }
 
     /// After one more sign.
-    pub fn after(self, source: &[u8], sign: Sign<'u>) -> Behind<'u>
+    pub fn after(self, source: &[u8], sign: ContentSign<'u>) -> Behind<'u>
         ensures { (before : List AnySign) → IsBehind source.now before self.entry → IsBehind source.now (sign_of sign.entry ∷ before) result }
     {
         Behind {

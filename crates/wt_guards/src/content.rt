@@ -1,14 +1,14 @@
 //! The content from the left to the right.
 
 ghost use Rattle.std.specs.Prelude.{◌≡◌, ◌++◌, IfOk, OnOk, ℕ, List, string_bytes};
-ghost use Rattle.wt_guards.specs.Content.{Sign as AnySign};
+ghost use Rattle.wt_guards.specs.Content.{ContentSign as AnySign};
 ghost use Rattle.wt_guards.specs.Guards.{nowiki, nowiki_if, is_guarded, sign_written, spelled};
 ghost use Rattle.wt_guards.specs.Views.{sign_of, signs_left, all_signs, setting_of, IsBehind, Knows, Steps};
 
 use crate::behind::Behind;
 use crate::guards::{Setting, is_guarded, keep, learn};
 use crate::letters::push_letter;
-use crate::signs::{Sign, Signs, Unit};
+use crate::signs::{ContentSign, Signs, Unit};
 use std::alloc::{AllocError, Global};
 
 /// Appends `<nowiki/>`.
@@ -49,7 +49,7 @@ fn push_sign(
     out: &mut String,
     setting: Setting<'_>,
     behind: Behind<'_>,
-    sign: Sign<'_>,
+    sign: ContentSign<'_>,
     after: Signs<'_, '_>,
 ) -> Result<(), AllocError>
     ensures { (before : List AnySign) → IsBehind setting.entry.source.now before behind.entry
@@ -57,15 +57,15 @@ fn push_sign(
         (signs_left after.entry)) }
 {
     match sign {
-        Sign::Letter(c) => push_letter(out, setting.within, setting.place, behind, c, after),
-        Sign::Thing(thing) => out.push_str(thing.source.as_str()),
+        ContentSign::Letter(c) => push_letter(out, setting.within, setting.place, behind, c, after),
+        ContentSign::Thing(thing) => out.push_str(thing.source.as_str()),
     }
 }
 
 /// The way through the content: what is known of the signs before a place, those after it, and what
 /// may be known of these.
 #[derive(Clone, Copy)]
-pub struct Walk<'u, 't> {
+pub struct ContentWalk<'u, 't> {
     pub behind: Behind<'u>,
     pub rest: Signs<'u, 't>,
     pub known: Option<bool>,
@@ -75,8 +75,8 @@ pub struct Walk<'u, 't> {
 fn step<'u, 't>(
     out: &mut String,
     setting: Setting<'_>,
-    walk: Walk<'u, 't>,
-) -> Result<Option<Walk<'u, 't>>, AllocError>
+    walk: ContentWalk<'u, 't>,
+) -> Result<Option<ContentWalk<'u, 't>>, AllocError>
     requires { Knows walk.known (signs_left walk.rest) }
     ensures { (before : List AnySign) → IsBehind setting.entry.source.now before walk.entry.behind
         → Steps (setting_of setting.entry) before (signs_left walk.entry.rest) (string_bytes out.old) (string_bytes out.new) result }
@@ -86,7 +86,7 @@ fn step<'u, 't>(
     match walk.rest.split_first() {
         Some((sign, after)) => {
             push_sign(out, setting, walk.behind, sign, after)?;
-            let next = Walk {
+            let next = ContentWalk {
                 behind: walk.behind.after(setting.source, sign),
                 rest: after,
                 known: keep(known, sign),
@@ -105,7 +105,7 @@ fn push_spelled(
 ) -> Result<(), AllocError>
     ensures { OnOk result (string_bytes out.new ≡ string_bytes out.old ++ spelled (setting_of setting.entry) (signs_left signs.entry)) }
 {
-    let mut walk = Walk {
+    let mut walk = ContentWalk {
         behind: Behind::start(setting.source),
         rest: signs,
         known: None,

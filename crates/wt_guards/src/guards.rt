@@ -1,7 +1,7 @@
 //! Where `<nowiki/>` is put.
 
 ghost use Rattle.std.specs.Prelude.{◌≡◌, ◌∷◌, ℕ, List, option_map, Option};
-ghost use Rattle.wt_guards.specs.Content.{Sign as AnySign, is_group};
+ghost use Rattle.wt_guards.specs.Content.{ContentSign as AnySign, is_group};
 ghost use Rattle.wt_guards.specs.Guards.{start_of, is_this, is_reached, is_new_text_next, has_brace_last, is_adjacent, is_parted, is_parted_from_letter, is_parted_from_thing, is_between_guard, is_brace_last, is_content_end_guard, is_start_guard, is_end_guard, is_blank_guard, is_nearest, is_guarded};
 ghost use Rattle.wt_guards.specs.Views.{sign_of, thing_of, signs_left, setting_of, IsBehind, Knows};
 
@@ -12,7 +12,7 @@ use crate::ahead::{
 use crate::behind::{Behind, end_of};
 use crate::role::Stretch;
 use crate::side::{Place, Side, hazard};
-use crate::signs::{Sign, Signs, Thing};
+use crate::signs::{ContentSign, Signs, Thing};
 
 /// What the spelling of a content depends on: whether it is the inside of a link or tag, where no
 /// line begins or ends; what it stands in; and the source of its block in the page.
@@ -82,33 +82,33 @@ fn is_parted(a: &Thing, b: &Thing) -> bool
 
 // ---- two signs
 
-fn is_parted_from_letter(c: char, next: Option<Sign<'_>>) -> bool
+fn is_parted_from_letter(c: char, next: Option<ContentSign<'_>>) -> bool
     ensures { result ≡ is_parted_from_letter c (option_map sign_of next.entry) }
 {
     match next {
-        Some(Sign::Letter(_)) => false,
-        Some(Sign::Thing(b)) => hazard(Side::Text(c), b.role.side_of()),
+        Some(ContentSign::Letter(_)) => false,
+        Some(ContentSign::Thing(b)) => hazard(Side::Text(c), b.role.side_of()),
         None => false,
     }
 }
 
-fn is_parted_from_thing(a: &Thing, next: Option<Sign<'_>>) -> bool
+fn is_parted_from_thing(a: &Thing, next: Option<ContentSign<'_>>) -> bool
     ensures { result ≡ is_parted_from_thing (thing_of a.now) (option_map sign_of next.entry) }
 {
     match next {
-        Some(Sign::Letter(d)) => hazard(a.role.left_side(), Side::Text(d)),
-        Some(Sign::Thing(b)) => is_parted(a, b),
+        Some(ContentSign::Letter(d)) => hazard(a.role.left_side(), Side::Text(d)),
+        Some(ContentSign::Thing(b)) => is_parted(a, b),
         None => false,
     }
 }
 
 #[tactic(auto, unfolding(crate::specs::Guards::is_between_guard))]
-fn is_between_guard(last: Option<Sign<'_>>, next: Option<Sign<'_>>) -> bool
+fn is_between_guard(last: Option<ContentSign<'_>>, next: Option<ContentSign<'_>>) -> bool
     ensures { result ≡ is_between_guard (option_map sign_of last.entry) (option_map sign_of next.entry) }
 {
     match last {
-        Some(Sign::Letter(c)) => is_parted_from_letter(c, next),
-        Some(Sign::Thing(a)) => is_parted_from_thing(a, next),
+        Some(ContentSign::Letter(c)) => is_parted_from_letter(c, next),
+        Some(ContentSign::Thing(a)) => is_parted_from_thing(a, next),
         None => false,
     }
 }
@@ -130,12 +130,12 @@ fn is_start_guard(behind: Behind<'_>, after: Signs<'_, '_>) -> bool
 
 /// Whether the last sign of a paragraph is a node that ends with `{` and didn't end the paragraph in
 /// the page.
-fn is_brace_last(source: &[u8], last: Option<Sign<'_>>) -> bool
+fn is_brace_last(source: &[u8], last: Option<ContentSign<'_>>) -> bool
     ensures { result ≡ is_brace_last source.now (option_map sign_of last.entry) }
 {
     match last {
-        Some(Sign::Letter(_)) => false,
-        Some(Sign::Thing(thing)) => {
+        Some(ContentSign::Letter(_)) => false,
+        Some(ContentSign::Thing(thing)) => {
             has_brace_last(thing.source.as_str())
                 && !is_reached(end_of(thing.place), Some(source.len()))
         }
@@ -143,7 +143,7 @@ fn is_brace_last(source: &[u8], last: Option<Sign<'_>>) -> bool
     }
 }
 
-fn is_content_end_guard(setting: Setting<'_>, last: Option<Sign<'_>>) -> bool
+fn is_content_end_guard(setting: Setting<'_>, last: Option<ContentSign<'_>>) -> bool
     ensures { result ≡ is_content_end_guard setting.entry.source.now setting.entry.place (option_map sign_of last.entry) }
 {
     match setting.place {
@@ -166,12 +166,12 @@ fn is_end_guard(setting: Setting<'_>, behind: Behind<'_>, after: Signs<'_, '_>) 
 
 // ---- a text of blanks before a group
 
-fn is_new_text_next(at: Option<usize>, next: Option<Sign<'_>>) -> bool
+fn is_new_text_next(at: Option<usize>, next: Option<ContentSign<'_>>) -> bool
     ensures { result ≡ is_new_text_next at (option_map sign_of next.entry) }
 {
     match next {
-        Some(Sign::Letter(_)) => false,
-        Some(Sign::Thing(thing)) => !is_reached(at, start_of(thing.place)),
+        Some(ContentSign::Letter(_)) => false,
+        Some(ContentSign::Thing(thing)) => !is_reached(at, start_of(thing.place)),
         None => false,
     }
 }
@@ -200,12 +200,12 @@ pub fn learn(known: Option<bool>, behind: Behind<'_>, after: Signs<'_, '_>) -> O
 }
 
 /// What is still known when this sign is passed.
-pub fn keep(known: Option<bool>, sign: Sign<'_>) -> Option<bool>
+pub fn keep(known: Option<bool>, sign: ContentSign<'_>) -> Option<bool>
     ensures { (after : List AnySign) → Knows known (sign_of sign.entry ∷ after) → Knows result after }
 {
     let is_passed = match sign {
-        Sign::Letter(c) => is_blank(c),
-        Sign::Thing(thing) => thing.role.is_invisible() && !thing.role.ends_line(),
+        ContentSign::Letter(c) => is_blank(c),
+        ContentSign::Thing(thing) => thing.role.is_invisible() && !thing.role.ends_line(),
     };
     if is_passed { known } else { None }
 }

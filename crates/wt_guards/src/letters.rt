@@ -1,7 +1,7 @@
 //! How a character of text is written.
 
 ghost use Rattle.std.specs.Prelude.{◌≡◌, ◌++◌, OnOk, ℕ, List, string_bytes, codes, decimal};
-ghost use Rattle.wt_guards.specs.Content.{Sign as AnySign};
+ghost use Rattle.wt_guards.specs.Content.{ContentSign as AnySign};
 ghost use Rattle.wt_guards.specs.Letters.{is_bracket, is_term, is_header, is_escaped, reference, written_by, written};
 ghost use Rattle.wt_guards.specs.Views.{signs_left, IsBehind};
 

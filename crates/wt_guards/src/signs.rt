@@ -27,7 +27,7 @@ pub enum Unit<'t> {
 
 /// A sign of the content: a character of a text, or a node.
 #[derive(Clone, Copy)]
-pub enum Sign<'u> {
+pub enum ContentSign<'u> {
     Letter(char),
     Thing(&'u Thing),
 }
@@ -71,7 +71,7 @@ impl<'u, 't> Signs<'u, 't> {
 
     /// The next sign, and what is left after it.
     #[cycle(splitting)]
-    pub fn split_first(self) -> Option<(Sign<'u>, Signs<'u, 't>)>
+    pub fn split_first(self) -> Option<(ContentSign<'u>, Signs<'u, 't>)>
         ensures { MatchOption result (signs_left self.entry ≡ []) (λ r. signs_left self.entry ≡ sign_of r.0 ∷ signs_left r.1) }
     {
         if let Some((c, text)) = split_char(self.text) {
@@ -79,7 +79,7 @@ impl<'u, 't> Signs<'u, 't> {
                 text,
                 units: self.units,
             };
-            return Some((Sign::Letter(c), rest));
+            return Some((ContentSign::Letter(c), rest));
         }
         self.split_unit()
     }
@@ -87,7 +87,7 @@ impl<'u, 't> Signs<'u, 't> {
     /// The same where the text is at its end.
     #[cycle(splitting)]
     #[tactic(auto, using(crate::proofs::Texts::letters_nil))]
-    fn split_unit(self) -> Option<(Sign<'u>, Signs<'u, 't>)>
+    fn split_unit(self) -> Option<(ContentSign<'u>, Signs<'u, 't>)>
         requires { letters self.text.now ≡ [] }
         ensures { MatchOption result (signs_left self.entry ≡ []) (λ r. signs_left self.entry ≡ sign_of r.0 ∷ signs_left r.1) }
     {
@@ -98,7 +98,7 @@ impl<'u, 't> Signs<'u, 't> {
                 Signs { text, units }.split_first()
             }
             Some((Unit::Thing(thing), units)) => {
-                Some((Sign::Thing(thing), Signs { text: "", units }))
+                Some((ContentSign::Thing(thing), Signs { text: "", units }))
             }
             None => None,
         }

@@ -9,8 +9,8 @@ use Rattle.wt_span.proofs.Lists.{take_append, drop_append}
 use Rattle.wt_span.specs.Slice.{bytes_of}
 use Rattle.wt_span.specs.Whole.{IsWhole}
 use Rattle.std.proofs.lemmas.List.Elements.{All-nil, All-cons, All-head, All-tail}
-use Rattle.wt_span.specs.declared.form.Form.{Form}
-use Rattle.wt_span.specs.declared.form.Form.TheVariants as form
+use Rattle.wt_span.specs.declared.form.ItemForm.{ItemForm}
+use Rattle.wt_span.specs.declared.form.ItemForm.TheVariants as form
 use Rattle.wt_span.specs.declared.form.Piece.{Piece}
 use Rattle.wt_span.specs.Items.{Item, char, source, sources, sign, items, items_of, items_by, call_of_origin}
 use Rattle.wt_span.specs.Origins.{IsSoundPiece}
@@ -21,7 +21,7 @@ signs_bytes : (o : Option ℕ) (bs : List ℕ) → map sign (map (char o) bs) �
 signs_bytes o [] = refl
 signs_bytes o (b ∷ bs) = ap (λ cs. b ∷ cs) (signs_bytes o bs)
 
-pub signs_chars : (f : Form) (o : Option ℕ) (bs : List ℕ) → f ≡ form.Chars → map sign (items_by f o bs) ≡ bs
+pub signs_chars : (f : ItemForm) (o : Option ℕ) (bs : List ℕ) → f ≡ form.Chars → map sign (items_by f o bs) ≡ bs
 signs_chars f o bs e = ap (λ g. map sign (items_by g o bs)) e ∙ signs_bytes o bs
 
 -- ---- ready
@@ -79,7 +79,7 @@ lt_true m n e = grind (arith, nat_tests)
 more_bytes : (n : ℕ) → nat_lt 1 (suc (suc n)) ≡ false → ⊥
 more_bytes n e = let h : 1 < suc (suc n) = omega arith in absurd (grind (arith, nat_tests))
 
-some_by : (f : Form) (o : Option ℕ) (bs : List ℕ) → IsWhole f bs → 0 < length (items_by f o bs)
+some_by : (f : ItemForm) (o : Option ℕ) (bs : List ℕ) → IsWhole f bs → 0 < length (items_by f o bs)
 some_by form.Chars o bs h = omega (arith, length-map bs (char o))
 some_by (form.Entity c) o bs h = omega arith
 some_by form.Nowiki o bs h = omega arith
@@ -94,7 +94,7 @@ front_sign : (xs ys : List Item) → 0 < length xs → get_or (map sign (xs ++ y
 front_sign [] ys s = absurd (omega arith)
 front_sign (x ∷ xs) ys s = refl
 
-pub one_only : (f : Form) (o : Option ℕ) (bs : List ℕ) → (is_chars f && nat_lt 1 (length bs)) ≡ false
+pub one_only : (f : ItemForm) (o : Option ℕ) (bs : List ℕ) → (is_chars f && nat_lt 1 (length bs)) ≡ false
     → (items_by f o bs ≡ take 1 (items_by f o bs)) × ([] ≡ drop 1 (items_by f o bs))
 one_only form.Chars o [] e = (refl, refl)
 one_only form.Chars o (b ∷ []) e = (refl, refl)
@@ -109,7 +109,7 @@ one_only form.Hidden o bs e = (refl, refl)
 one_only form.EmptyCall o bs e = (refl, refl)
 
 -- a piece that has more is of characters
-pub more_chars : (f : Form) (bs : List ℕ) → (is_chars f && nat_lt 1 (length bs)) ≡ true → (f ≡ form.Chars) × (1 < length bs)
+pub more_chars : (f : ItemForm) (bs : List ℕ) → (is_chars f && nat_lt 1 (length bs)) ≡ true → (f ≡ form.Chars) × (1 < length bs)
 more_chars form.Chars bs e = (refl, lt_true 1 (length bs) e)
 more_chars (form.Entity c) bs e = cc
 more_chars form.Nowiki bs e = cc
@@ -120,13 +120,13 @@ more_chars form.Include bs e = cc
 more_chars form.Hidden bs e = cc
 more_chars form.EmptyCall bs e = cc
 
-pub first_byte : (f : Form) (o : Option ℕ) (bs : List ℕ) → f ≡ form.Chars → get_or (map sign (items_by f o bs)) 0 0 < 128 → get_or bs 0 0 < 128
+pub first_byte : (f : ItemForm) (o : Option ℕ) (bs : List ℕ) → f ≡ form.Chars → get_or (map sign (items_by f o bs)) 0 0 < 128 → get_or bs 0 0 < 128
 first_byte f o bs e h = subst (λ (ss : List ℕ). get_or ss 0 0 < 128) (signs_chars f o bs e) h
 
-pub first_part : (f : Form) (o : Option ℕ) (bs cs : List ℕ) → f ≡ form.Chars → cs ≡ take 1 bs → map (char o) cs ≡ take 1 (items_by f o bs)
+pub first_part : (f : ItemForm) (o : Option ℕ) (bs cs : List ℕ) → f ≡ form.Chars → cs ≡ take 1 bs → map (char o) cs ≡ take 1 (items_by f o bs)
 first_part f o bs cs e h = ap (map (char o)) h ∙ sym (take-map (char o) 1 bs) ∙ ap (λ g. take 1 (items_by g o bs)) (sym e)
 
-pub later_part : (f : Form) (o : Option ℕ) (bs cs : List ℕ) → f ≡ form.Chars → cs ≡ drop 1 bs → map (char o) cs ≡ drop 1 (items_by f o bs)
+pub later_part : (f : ItemForm) (o : Option ℕ) (bs cs : List ℕ) → f ≡ form.Chars → cs ≡ drop 1 bs → map (char o) cs ≡ drop 1 (items_by f o bs)
 later_part f o bs cs e h = ap (map (char o)) h ∙ sym (drop-map (char o) 1 bs) ∙ ap (λ g. drop 1 (items_by g o bs)) (sym e)
 
 -- of several pieces

@@ -13,7 +13,7 @@ use Rattle.wt_html_grammar.specs.declared.names.EscapeName.TheVariants.{Amp, Lt,
 use Rattle.wt_html_grammar.specs.declared.names.Radix.{Radix}
 use Rattle.wt_html_grammar.specs.declared.names.Radix.TheVariants.{Decimal, Hexadecimal}
 use Rattle.wt_html_grammar.specs.Signs.{Follow, follow, is_among, is_space, is_void, is_lower, is_name_byte, is_attribute_byte, is_quote, is_digit_of, digit_value, base_of, between, letters_of, in_text, in_value, begins_character}
-use Rattle.wt_html_grammar.specs.Machine.{State, start, first, doctype, inside, less, naming, gap, attribute, named_so, equals, value, valued, slashed, closing, closed, escaping, Escape, ampersand, apart, letters, sharp, digits, wide, Turn, stop, on, ended, Tag, is_plain, is_begun, is_whole, begins, turned, in_escape, in_digits, end_tag, opened, at_end, at_open, at_name, with_seen, in_doctype, mended, step}
+use Rattle.wt_html_grammar.specs.Machine.{State, start, first, doctype, inside, less, naming, gap, attribute, named_so, equals, value, valued, slashed, closing, closed, escaping, Escape, ampersand, apart, letters, sharp, digits, wide, EscapeStep, stop, on, ended, Tag, is_plain, is_begun, is_whole, begins, turned, in_escape, in_digits, end_tag, opened, at_end, at_open, at_name, with_seen, in_doctype, mended, step}
 use Rattle.wt_html_grammar.specs.Markup.{Pair, Markup, Markups, node, empty}
 use Rattle.wt_html_grammar.specs.Events.{Frame, Building, calm, close, closed_into, tree_of, put, out, out_open, out_end, out_escape, unit_if, decoded}
 use Rattle.wt_html_grammar.proofs.Steps.{if_true, if_false, if_case}
@@ -121,7 +121,7 @@ char_len : (c : ℕ) → length (encode_utf8 c) ≤ 4
 char_len c = omega (arith, length-encode c, (len_utf8_bounds c).1)
 
 -- an escape that goes on is a byte longer; one that ends has three bytes before its last
-abbrev Turned : Escape → Turn → Option ℕ → Type 0
+abbrev Turned : Escape → EscapeStep → Option ℕ → Type 0
 Turned e stop d = Unit {0}
 Turned e (on f) d = (escape_len f ≤ suc (escape_len e)) × (d ≡ None)
 Turned e ended None = Unit {0}
@@ -151,12 +151,12 @@ digits_turned e r k n b d h g z =
 
 turned_so : (e : Escape) (b : ℕ) → Turned e (in_escape e b) (decoded e b)
 turned_so ampersand b =
-    let Q : Turn → Type 0 = λ t. Turned ampersand t None in
+    let Q : EscapeStep → Type 0 = λ t. Turned ampersand t None in
     if_case Q (b == 35) _ _ (λ _. (omega arith, refl)) (λ _. if_case Q (b == 97) _ _ (λ _. (omega arith, refl))
     (λ _. if_case Q (b == 108) _ _ (λ _. (omega arith, refl)) (λ _. if_case Q (b == 103) _ _ (λ _. (omega arith, refl))
     (λ _. if_case Q (b == 113) _ _ (λ _. (omega arith, refl)) (λ _. if_case Q (b == 110) _ _ (λ _. (omega arith, refl)) (λ _. tt))))))
 turned_so apart b =
-    let Q : Turn → Type 0 = λ t. Turned apart t None in
+    let Q : EscapeStep → Type 0 = λ t. Turned apart t None in
     if_case Q (b == 109) _ _ (λ _. (omega arith, refl)) (λ _. if_case Q (b == 112) _ _ (λ _. (omega arith, refl)) (λ _. tt))
 turned_so (letters n (c ∷ cs)) b =
     if_case (λ t. Turned (letters n (c ∷ cs)) t None) (b == c) _ _ (λ _. (omega arith, refl)) (λ _. tt)
@@ -192,7 +192,7 @@ text_on ns f y k e h i = record { same = i.0; fit = refl; few = omega (arith, i.
 text_in : (ns : List (List ℕ)) (y : Building) (k : ℕ) (e : Event) → IsText y e → Goes y (k + 1) (Ok (inside ns)) e (outside_tag y)
 text_in ns y k e i = record { same = i.0; fit = refl; few = omega (arith, i.1) }
 
-text_turned : (ns : List (List ℕ)) (e : Escape) (t : Turn) (d : Option ℕ) (v : Event) (y : Building) (k : ℕ) → Turned e t d → escape_len e ≤ k → IsText y v
+text_turned : (ns : List (List ℕ)) (e : Escape) (t : EscapeStep) (d : Option ℕ) (v : Event) (y : Building) (k : ℕ) → Turned e t d → escape_len e ≤ k → IsText y v
     → Goes y (k + 1) (turned (inside ns) e t) v (outside_tag y)
 text_turned ns e stop d v y k g h i = tt
 text_turned ns e (on f) d v y k g h i = text_on ns f y k v (omega (arith, g.0, h)) i
@@ -223,7 +223,7 @@ value_in : (t : Tag) (q : ℕ) (y : Building) (k n : ℕ) (e : Event) → is_new
     → Goes y (k + 1) (Ok (value t q)) e y
 value_in t q y k n e new i h = record { same = i.0; fit = ap is_new i.0 ∙ i.1 ∙ new; few = omega (arith, ap tag_len i.0, i.2, h) }
 
-value_unit : (t : Tag) (q : ℕ) (e : Escape) (f : Turn) (d : Option ℕ) (y : Building) (k : ℕ) → is_new y ≡ true → tag_len y + escape_len e ≤ k → Turned e f d
+value_unit : (t : Tag) (q : ℕ) (e : Escape) (f : EscapeStep) (d : Option ℕ) (y : Building) (k : ℕ) → is_new y ≡ true → tag_len y + escape_len e ≤ k → Turned e f d
     → Goes y (k + 1) (turned (value t q) e f) (unit_if (value t q) d) y
 value_unit t q e stop d y k new h g = tt
 value_unit t q e (on f) d y k new h g =
@@ -232,7 +232,7 @@ value_unit t q e (on f) d y k new h g =
 value_unit t q e ended None y k new h g = value_in t q y k 0 ev.Quiet new (value_quiet y) (omega (arith, h))
 value_unit t q e ended (Some c) y k new h g = value_in t q y k 4 (ev.ValueChar c) new (value_char y c) (omega (arith, h, g))
 
-wide_turned : (t : Tag) (q low high n b : ℕ) (f : Turn) (y : Building) (k : ℕ) → is_new y ≡ true → tag_len y ≤ k
+wide_turned : (t : Tag) (q low high n b : ℕ) (f : EscapeStep) (y : Building) (k : ℕ) → is_new y ≡ true → tag_len y ≤ k
     → ((u : Escape) → f ≡ on u → escape_len u ≡ 0) → Goes y (k + 1) (turned (value t q) (wide low high n) f) (ev.ValueByte b) y
 wide_turned t q low high n b stop y k new h z = tt
 wide_turned t q low high n b (on u) y k new h z = value_on t q u y k 1 (ev.ValueByte b) new (value_byte y b) (omega (arith, h, z u refl))

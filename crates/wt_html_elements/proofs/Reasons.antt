@@ -5,7 +5,7 @@ use Rattle.std.specs.Char.{to_ascii_lowercase}
 use Rattle.wt_html_grammar.specs.declared.why.HtmlWhy.{HtmlWhy}
 use Rattle.wt_html_grammar.specs.declared.why.HtmlWhy.TheVariants as why
 use Rattle.wt_html_grammar.specs.Signs.{Follow, follow, is_among, is_space, is_void, is_lower, is_name_byte, is_attribute_byte, is_quote, in_text, in_value, begins_character}
-use Rattle.wt_html_grammar.specs.Machine.{State, start, first, doctype, inside, less, naming, gap, attribute, named_so, equals, value, valued, slashed, closing, closed, escaping, Escape, ampersand, apart, letters, sharp, digits, wide, Turn, stop, on, ended, Tag, is_plain, begins, special, turned, why_of, in_escape, end_tag, at_end, at_open, at_name, with_seen, in_contents, in_doctype, mended, step, onward, run}
+use Rattle.wt_html_grammar.specs.Machine.{State, start, first, doctype, inside, less, naming, gap, attribute, named_so, equals, value, valued, slashed, closing, closed, escaping, Escape, ampersand, apart, letters, sharp, digits, wide, EscapeStep, stop, on, ended, Tag, is_plain, begins, special, turned, why_of, in_escape, end_tag, at_end, at_open, at_name, with_seen, in_contents, in_doctype, mended, step, onward, run}
 use Rattle.wt_html_grammar.proofs.Steps.{if_case}
 
 abbrev pub NotEnd : HtmlWhy → Type 0
@@ -41,7 +41,7 @@ why_not sharp = escape_not
 why_not (digits r k n) = escape_not
 why_not (wide low high n) = utf8_not
 
-turned_not : (s : State) (e : Escape) (t : Turn) → GoesOn (turned s e t)
+turned_not : (s : State) (e : Escape) (t : EscapeStep) → GoesOn (turned s e t)
 turned_not s e stop = why_not e
 turned_not s e (on f) = tt
 turned_not s e ended = tt

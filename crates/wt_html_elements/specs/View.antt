@@ -3,7 +3,7 @@ use Rattle.std.specs.Prelude.{◌≡◌, ℕ, Option, Some, None, Result, Ok, Er
 use Rattle.wt_html_grammar.specs.declared.why.HtmlWhy.{HtmlWhy}
 use Rattle.wt_html_grammar.specs.declared.event.Event.{Event}
 use Rattle.wt_html_grammar.specs.Signs.{letters_of}
-use Rattle.wt_html_grammar.specs.Machine.{Escape, ampersand, apart, letters, sharp, digits, wide, Turn, stop, on, ended, State, start, first, doctype, inside, less, naming, gap, attribute, named_so, equals, value, valued, slashed, closing, closed, escaping, Tag, with_seen}
+use Rattle.wt_html_grammar.specs.Machine.{Escape, ampersand, apart, letters, sharp, digits, wide, EscapeStep, stop, on, ended, State, start, first, doctype, inside, less, naming, gap, attribute, named_so, equals, value, valued, slashed, closing, closed, escaping, Tag, with_seen}
 use Rattle.wt_html_grammar.specs.Events.{Frame, Building}
 use Rattle.wt_html_elements.specs.declared.escape.EscapeAt.{EscapeAt}
 use Rattle.wt_html_elements.specs.declared.escape.EscapeAt.TheVariants as escapes
@@ -24,7 +24,7 @@ escape_of escapes.Sharp = sharp
 escape_of (escapes.Digits r k n) = digits r k n
 
 -- a turn of the code says what the machine does and which character was read
-abbrev pub Turns : TurnTo → Turn → Option ℕ → Type 0
+abbrev pub Turns : TurnTo → EscapeStep → Option ℕ → Type 0
 Turns turns.Stop t c = t ≡ stop
 Turns (turns.On e) t c = (t ≡ on (escape_of e)) × (c ≡ None)
 Turns (turns.Ended x) t c = (t ≡ ended) × (c ≡ Some x)

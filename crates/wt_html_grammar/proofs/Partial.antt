@@ -13,7 +13,7 @@ use Rattle.wt_html_grammar.specs.declared.names.Radix.TheVariants.{Decimal, Hexa
 use Rattle.wt_html_grammar.specs.declared.why.HtmlWhy.{HtmlWhy}
 use Rattle.wt_html_grammar.specs.Signs.{is_quote, is_void, is_among, Follow, follow, between, IsFollow, Follows, is_lower, is_name_byte, is_attribute_byte, is_space, is_digit_of, digit_value, base_of, most_digits, sign_of, in_text, in_value, letters_of, number_from, Each, IsName, IsAttributeName, IsGap, IsWideGap}
 use Rattle.wt_html_grammar.specs.Grammar.{Piece, plain, named, number, void, bare, slash, spell_piece, IsPiece, spell_pieces, ArePieces, Attribute, spell_attribute, IsAttribute, spell_attributes, AreAttributes, Element, Items, element, none, sign, child, spell, spell_items, IsElement, AreItems}
-use Rattle.wt_html_grammar.specs.Machine.{State, inside, less, naming, gap, attribute, named_so, at_name, equals, value, valued, slashed, opened as opened_names, begins, special, closing, closed, escaping, Escape, ampersand, apart, letters, sharp, digits, wide, Turn, is_begun, is_whole, in_digits, in_escape, is_plain, turned, Tag, with_seen, at_open, at_end, end_tag, step}
+use Rattle.wt_html_grammar.specs.Machine.{State, inside, less, naming, gap, attribute, named_so, at_name, equals, value, valued, slashed, opened as opened_names, begins, special, closing, closed, escaping, Escape, ampersand, apart, letters, sharp, digits, wide, EscapeStep, is_begun, is_whole, in_digits, in_escape, is_plain, turned, Tag, with_seen, at_open, at_end, end_tag, step}
 use Rattle.wt_html_grammar.proofs.Steps.{if_case, lt_of_test}
 use Rattle.wt_html_grammar.proofs.Chars.{IsChar, of_bytes}
 
@@ -346,7 +346,7 @@ digits_advance : (p : Partial) (e : Escape) (r : Radix) (ds : List ℕ) (b : ℕ
 digits_advance p e r ds b h t g =
     let sg : List ℕ = sign_of r in
     let w : List ℕ = (written p ++ (38 ∷ 35 ∷ (sg ++ ds))) ++ b ∷ [] in
-    let P : Turn → Type 0 = λ u. Reached w (turned (seen p) e u) in
+    let P : EscapeStep → Type 0 = λ u. Reached w (turned (seen p) e u) in
     let same : written p ++ (38 ∷ 35 ∷ (sg ++ (ds ++ b ∷ []))) ≡ w = simp append_assoc in
     if_case P (is_digit_of r b) _ _
     (λ d. if_case P (is_begun r (length ds + 1) (number_from r 0 ds * base_of r + digit_value b)) _ _
@@ -382,7 +382,7 @@ ampersand_advance : (p : Partial) (b : ℕ) → Sound p → TakesPiece p
     → Reached ((written p ++ 38 ∷ []) ++ b ∷ []) (turned (seen p) ampersand (in_escape ampersand b))
 ampersand_advance p b h t =
     let w : List ℕ = (written p ++ 38 ∷ []) ++ b ∷ [] in
-    let P : Turn → Type 0 = λ u. Reached w (turned (seen p) ampersand u) in
+    let P : EscapeStep → Type 0 = λ u. Reached w (turned (seen p) ampersand u) in
     let same : written p ++ (38 ∷ b ∷ []) ≡ w = sym (append_assoc (written p) (38 ∷ []) (b ∷ [])) in
     if_case P (b == 35) _ _
     (λ e. (p_escaping p b_sharp, (h, t, tt), refl, ap (λ c. written p ++ (38 ∷ c ∷ [])) (sym (eqb-true b 35 e)) ∙ same))
@@ -399,7 +399,7 @@ escape_advance : (p : Partial) (e : Begun) (b : ℕ) → Sound p → TakesPiece 
 escape_advance p b_ampersand b h t g = ampersand_advance p b h t
 escape_advance p b_apart b h t g =
     let w : List ℕ = (written p ++ (38 ∷ 97 ∷ [])) ++ b ∷ [] in
-    let P : Turn → Type 0 = λ u. Reached w (turned (seen p) apart u) in
+    let P : EscapeStep → Type 0 = λ u. Reached w (turned (seen p) apart u) in
     let same : written p ++ (38 ∷ 97 ∷ b ∷ []) ≡ w = sym (append_assoc (written p) (38 ∷ 97 ∷ []) (b ∷ [])) in
     if_case P (b == 109) _ _
     (λ e. (
@@ -418,7 +418,7 @@ escape_advance p b_apart b h t g =
     (λ _. tt))
 escape_advance p (b_wide begin got low high zero) b h t g =
     let w : List ℕ = (written p ++ (begin ∷ got)) ++ b ∷ [] in
-    let P : Turn → Type 0 = λ u. Reached w (turned (seen p) (wide low high zero) u) in
+    let P : EscapeStep → Type 0 = λ u. Reached w (turned (seen p) (wide low high zero) u) in
     if_case P (between low high b) _ _
     (λ e. let r = wide_char begin (got ++ b ∷ []) (pushed got b) (g.0 (b ∷ []) (e, refl)) in
     along (written p ++ spell_piece (plain r.0)) w (Ok (seen p)) (ap (λ x. written p ++ x) r.1 ∙ sym (append_assoc (written p) (begin ∷ got) (b ∷ [])))
@@ -426,7 +426,7 @@ escape_advance p (b_wide begin got low high zero) b h t g =
     (λ _. tt)
 escape_advance p (b_wide begin got low high (suc n)) b h t g =
     let w : List ℕ = (written p ++ (begin ∷ got)) ++ b ∷ [] in
-    let P : Turn → Type 0 = λ u. Reached w (turned (seen p) (wide low high (suc n)) u) in
+    let P : EscapeStep → Type 0 = λ u. Reached w (turned (seen p) (wide low high (suc n)) u) in
     let F : List ℕ → Type 0 = Follows (follow begin) in
     if_case P (between low high b) _ _
     (λ e. (
@@ -438,7 +438,7 @@ escape_advance p (b_wide begin got low high (suc n)) b h t g =
     (λ _. tt)
 escape_advance p (b_letters n got (c ∷ cs)) b h t g =
     let w : List ℕ = (written p ++ (38 ∷ got)) ++ b ∷ [] in
-    let P : Turn → Type 0 = λ u. Reached w (turned (seen p) (letters n (c ∷ cs)) u) in
+    let P : EscapeStep → Type 0 = λ u. Reached w (turned (seen p) (letters n (c ∷ cs)) u) in
     if_case P (b == c) _ _
     (λ e. (
       p_escaping p (b_letters n (got ++ b ∷ []) cs),
@@ -449,7 +449,7 @@ escape_advance p (b_letters n got (c ∷ cs)) b h t g =
     (λ _. tt)
 escape_advance p (b_letters n got []) b h t g =
     let w : List ℕ = (written p ++ (38 ∷ got)) ++ b ∷ [] in
-    let P : Turn → Type 0 = λ u. Reached w (turned (seen p) (letters n []) u) in
+    let P : EscapeStep → Type 0 = λ u. Reached w (turned (seen p) (letters n []) u) in
     if_case P (b == 59) _ _
     (λ e. along (written p ++ spell_piece (named n)) w (Ok (seen p))
     (ap (λ s. written p ++ (38 ∷ (s ++ 59 ∷ []))) (sym g ∙ append-nil got) ∙ ap (λ c. written p ++ (38 ∷ (got ++ c ∷ []))) (sym (eqb-true b 59 e))
@@ -458,7 +458,7 @@ escape_advance p (b_letters n got []) b h t g =
     (λ _. tt)
 escape_advance p b_sharp b h t g =
     let w : List ℕ = (written p ++ (38 ∷ 35 ∷ [])) ++ b ∷ [] in
-    let P : Turn → Type 0 = λ u. Reached w (turned (seen p) sharp u) in
+    let P : EscapeStep → Type 0 = λ u. Reached w (turned (seen p) sharp u) in
     if_case P (b == 120) _ _
     (λ e. (
       p_escaping p (b_digits Hexadecimal []),

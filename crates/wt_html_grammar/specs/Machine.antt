@@ -23,10 +23,10 @@ pub data Escape : Type 0 where
   wide : ℕ → ℕ → ℕ → Escape
 
 -- what a byte does there
-pub data Turn : Type 0 where
-  stop : Turn
-  on : Escape → Turn
-  ended : Turn
+pub data EscapeStep : Type 0 where
+  stop : EscapeStep
+  on : Escape → EscapeStep
+  ended : EscapeStep
 
 -- so many digits of this number may stand there: they can go on to a scalar value
 abbrev pub is_begun : Radix → ℕ → ℕ → Bool
@@ -36,12 +36,12 @@ is_begun r k n = nat_le k (most_digits r) && (nat_le n 1114111 && (nat_lt k (mos
 abbrev pub is_whole : ℕ → ℕ → Bool
 is_whole k n = nat_lt 0 k && scalar n
 
-abbrev pub in_digits : Radix → ℕ → ℕ → ℕ → Turn
+abbrev pub in_digits : Radix → ℕ → ℕ → ℕ → EscapeStep
 in_digits r k n b =
     if is_digit_of r b then (if is_begun r (k + 1) (n * base_of r + digit_value b) then on (digits r (k + 1) (n * base_of r + digit_value b)) else stop)
     else if b == 59 then (if is_whole k n then ended else stop) else stop
 
-abbrev pub in_escape : Escape → ℕ → Turn
+abbrev pub in_escape : Escape → ℕ → EscapeStep
 in_escape ampersand b =
     if b == 35 then on sharp
     else if b == 97 then on apart
@@ -121,7 +121,7 @@ abbrev pub why_of : Escape → HtmlWhy
 why_of (wide low high n) = why.NotUtf8
 why_of e = why.Escape
 
-abbrev pub turned : State → Escape → Turn → Result State HtmlWhy
+abbrev pub turned : State → Escape → EscapeStep → Result State HtmlWhy
 turned s e stop = Err (why_of e)
 turned s e (on f) = Ok (escaping s f)
 turned s e ended = Ok s

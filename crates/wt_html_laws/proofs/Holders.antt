@@ -3,8 +3,8 @@ use Rattle.std.proofs.Common.{◌≡◌, ℕ, Bool, true, false, Some, None, Lis
 use Rattle.std.specs.Prelude.{◌&&◌, ◌||◌, not}
 use Rattle.wt_tree.specs.declared.kind.Kind.{Kind}
 use Rattle.wt_tree.specs.declared.kind.Kind.TheVariants as kind
-use Rattle.wt_tree.specs.declared.row.Class.{Class}
-use Rattle.wt_tree.specs.declared.row.Class.TheVariants as class
+use Rattle.wt_tree.specs.declared.row.Placement.{Placement}
+use Rattle.wt_tree.specs.declared.row.Placement.TheVariants as class
 use Rattle.wt_tree.specs.declared.row.Holding.TheVariants.{Blocks}
 use Rattle.wt_tree.specs.Kinds.{shape, is_class, is_anywhere, admits, may_hold, is_inline}
 use Rattle.wt_tree.specs.Recut.{sep_leaf}
@@ -13,7 +13,7 @@ use Rattle.wt_schema.specs.declared.standing.Standing.{Standing}
 use Rattle.wt_schema.specs.Fit.{leaf_in, fits_place}
 use Rattle.wt_schema.specs.Groups.{is_grouped, is_span, is_none}
 
-class_held : (c : Class) → (is_anywhere c || admits Blocks c) ≡ true → (is_class c class.Inline || is_class c class.Character) ≡ false
+class_held : (c : Placement) → (is_anywhere c || admits Blocks c) ≡ true → (is_class c class.Inline || is_class c class.Character) ≡ false
 class_held class.Nowhere e = refl
 class_held class.Anywhere e = refl
 class_held class.Mark e = refl

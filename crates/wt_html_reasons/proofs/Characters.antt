@@ -14,7 +14,7 @@ use Rattle.wt_html_grammar.specs.declared.names.Radix.{Radix}
 use Rattle.wt_html_grammar.specs.declared.names.Radix.TheVariants.{Decimal, Hexadecimal}
 use Rattle.wt_html_grammar.specs.declared.why.HtmlWhy.{HtmlWhy}
 use Rattle.wt_html_grammar.specs.Signs.{is_quote, is_void, is_among, Follow, follow, between, IsFollow, Follows, begins_character, is_lower, is_name_byte, is_attribute_byte, is_space, is_digit_of, digit_value, base_of, in_text, in_value, letters_of, number_from, Each, IsName}
-use Rattle.wt_html_grammar.specs.Machine.{State, start, inside, value, escaping, Escape, ampersand, apart, letters, sharp, digits, wide, Turn, is_begun, is_whole, in_digits, in_escape, begins, special, at_end, at_open, at_name, end_tag, in_doctype, is_plain, turned, Tag, with_seen, mended, step, onward, run}
+use Rattle.wt_html_grammar.specs.Machine.{State, start, inside, value, escaping, Escape, ampersand, apart, letters, sharp, digits, wide, EscapeStep, is_begun, is_whole, in_digits, in_escape, begins, special, at_end, at_open, at_name, end_tag, in_doctype, is_plain, turned, Tag, with_seen, mended, step, onward, run}
 use Rattle.wt_html_grammar.proofs.Steps.{if_case}
 use Rattle.wt_html_grammar.proofs.Chars.{IsChar, of_bytes}
 use Rattle.wt_html_grammar.proofs.Partial.{names_of, Partial, p_text, p_less, p_naming, p_gap, p_attribute, p_named, p_equals, p_value, p_slashed, p_valued, p_closing, p_closed, p_done, p_escaping, Begun, b_ampersand, b_apart, b_letters, b_sharp, b_digits, b_wide, escape_of, IsBegunEscape, TakesPiece, Sound, seen, names, tag}
@@ -148,7 +148,7 @@ ended_goes bytes p t u = let P : Option Follow → Type 0 = λ o. InCharacter o 
 digits_goes : (bytes : List ℕ) (p : Partial) (e : Escape) (r : Radix) (k n b : ℕ) → TakesPiece p → IsUtf8 bytes
     → Goes (bytes ++ b ∷ []) (turned (seen p) e (in_digits r k n b))
 digits_goes bytes p x r k n b t u =
-    let P : Turn → Type 0 = λ o. Goes (bytes ++ b ∷ []) (turned (seen p) x o) in
+    let P : EscapeStep → Type 0 = λ o. Goes (bytes ++ b ∷ []) (turned (seen p) x o) in
     if_case P (is_digit_of r b) _ _
     (λ e. if_case P (is_begun r (k + 1) (n * base_of r + digit_value b)) _ _ (λ _. low bytes b u (digit_low r b e)) (λ _. tt))
     (λ _. if_case P (b == 59) _ _
@@ -203,13 +203,13 @@ first_of_rest low high n b tail rest (c ∷ z) h e = (z, h.1, others_eq b c tail
 wide_goes : (p : Partial) (low high n b : ℕ) (bytes : List ℕ) → TakesPiece p → InCharacter (Some (record { low = low; high = high; more = n })) bytes
     → Goes (bytes ++ b ∷ []) (turned (seen p) (wide low high n) (in_escape (wide low high n) b))
 wide_goes p low high zero b bytes t h =
-    let P : Turn → Type 0 = λ o. Goes (bytes ++ b ∷ []) (turned (seen p) (wide low high zero) o) in
+    let P : EscapeStep → Type 0 = λ o. Goes (bytes ++ b ∷ []) (turned (seen p) (wide low high zero) o) in
     if_case P (between low high b) _ _
     (λ e. ended_goes (bytes ++ b ∷ []) p t
     (let Q : List ℕ → Type 0 = λ w. IsUtf8 (w ++ b ∷ []) in subst Q (sym h.4) (done_char h.0 h.1 h.2 b h.3 (h.6 (b ∷ []) (e, refl)))))
     (λ _. tt)
 wide_goes p low high (suc n) b bytes t h =
-    let P : Turn → Type 0 = λ o. Goes (bytes ++ b ∷ []) (turned (seen p) (wide low high (suc n)) o) in
+    let P : EscapeStep → Type 0 = λ o. Goes (bytes ++ b ∷ []) (turned (seen p) (wide low high (suc n)) o) in
     let F : List ℕ → Type 0 = Follows (follow h.1) in
     if_case P (between low high b) _ _
     (λ e. (
@@ -228,7 +228,7 @@ escape_goes : (p : Partial) (e : Begun) (b : ℕ) (bytes : List ℕ) → TakesPi
     → InCharacter (left_of (escaping (seen p) (escape_of e))) bytes
     → Goes (bytes ++ b ∷ []) (turned (seen p) (escape_of e) (in_escape (escape_of e) b))
 escape_goes p b_ampersand b bytes t h u =
-    let P : Turn → Type 0 = λ o. Goes (bytes ++ b ∷ []) (turned (seen p) ampersand o) in
+    let P : EscapeStep → Type 0 = λ o. Goes (bytes ++ b ∷ []) (turned (seen p) ampersand o) in
     if_case P (b == 35) _ _ (λ e. low bytes b u (like b 35 e (omega arith)))
     (λ _. if_case P (b == 97) _ _ (λ e. low bytes b u (like b 97 e (omega arith)))
     (λ _. if_case P (b == 108) _ _ (λ e. low bytes b u (like b 108 e (omega arith)))
@@ -236,17 +236,17 @@ escape_goes p b_ampersand b bytes t h u =
     (λ _. if_case P (b == 113) _ _ (λ e. low bytes b u (like b 113 e (omega arith)))
     (λ _. if_case P (b == 110) _ _ (λ e. low bytes b u (like b 110 e (omega arith))) (λ _. tt))))))
 escape_goes p b_apart b bytes t h u =
-    let P : Turn → Type 0 = λ o. Goes (bytes ++ b ∷ []) (turned (seen p) apart o) in
+    let P : EscapeStep → Type 0 = λ o. Goes (bytes ++ b ∷ []) (turned (seen p) apart o) in
     if_case P (b == 109) _ _ (λ e. low bytes b u (like b 109 e (omega arith)))
     (λ _. if_case P (b == 112) _ _ (λ e. low bytes b u (like b 112 e (omega arith))) (λ _. tt))
 escape_goes p (b_letters n got (c ∷ cs)) b bytes t h u =
-    let P : Turn → Type 0 = λ o. Goes (bytes ++ b ∷ []) (turned (seen p) (letters n (c ∷ cs)) o) in
+    let P : EscapeStep → Type 0 = λ o. Goes (bytes ++ b ∷ []) (turned (seen p) (letters n (c ∷ cs)) o) in
     if_case P (b == c) _ _ (λ e. low bytes b u (like b c e (letter_low n got c cs h))) (λ _. tt)
 escape_goes p (b_letters n got []) b bytes t h u =
-    let P : Turn → Type 0 = λ o. Goes (bytes ++ b ∷ []) (turned (seen p) (letters n []) o) in
+    let P : EscapeStep → Type 0 = λ o. Goes (bytes ++ b ∷ []) (turned (seen p) (letters n []) o) in
     if_case P (b == 59) _ _ (λ e. ended_goes (bytes ++ b ∷ []) p t (low bytes b u (like b 59 e (omega arith)))) (λ _. tt)
 escape_goes p b_sharp b bytes t h u =
-    let P : Turn → Type 0 = λ o. Goes (bytes ++ b ∷ []) (turned (seen p) sharp o) in
+    let P : EscapeStep → Type 0 = λ o. Goes (bytes ++ b ∷ []) (turned (seen p) sharp o) in
     if_case P (b == 120) _ _ (λ e. low bytes b u (like b 120 e (omega arith))) (λ _. digits_goes bytes p sharp Decimal 0 0 b t u)
 escape_goes p (b_digits r ds) b bytes t h u = digits_goes bytes p (digits r (length ds) (number_from r 0 ds)) r (length ds) (number_from r 0 ds) b t u
 escape_goes p (b_wide begin got low high n) b bytes t h u = wide_goes p low high n b bytes t u

@@ -11,7 +11,7 @@ use Rattle.wt_html_grammar.specs.declared.why.HtmlWhy.{HtmlWhy}
 use Rattle.wt_html_grammar.specs.declared.why.HtmlWhy.TheVariants as why
 use Rattle.wt_html_grammar.specs.Signs.{is_quote, is_void, is_among, Follow, follow, is_there, begins_character, is_lower, is_name_byte, is_attribute_byte, is_space, is_digit_of, in_text, in_value, letters_of, Each}
 use Rattle.wt_html_grammar.specs.Grammar.{Head, spell_head, IsHead}
-use Rattle.wt_html_grammar.specs.Machine.{State, start, first, doctype, inside, less, naming, gap, attribute, named_so, equals, value, valued, slashed, closing, closed, Escape, Turn, stop, on, ended, in_escape, begins, special, at_end, at_open, at_name, end_tag, in_doctype, is_plain, turned, why_of, Tag, with_seen, step}
+use Rattle.wt_html_grammar.specs.Machine.{State, start, first, doctype, inside, less, naming, gap, attribute, named_so, equals, value, valued, slashed, closing, closed, Escape, EscapeStep, stop, on, ended, in_escape, begins, special, at_end, at_open, at_name, end_tag, in_doctype, is_plain, turned, why_of, Tag, with_seen, step}
 use Rattle.wt_html_grammar.proofs.Steps.{if_case}
 use Rattle.wt_html_grammar.proofs.Partial.{Level, Opening, Partial, p_text, p_less, p_naming, p_gap, p_attribute, p_named, p_equals, p_value, p_slashed, p_valued, p_closing, p_closed, p_done, p_escaping, Begun, b_ampersand, b_apart, b_letters, b_sharp, b_digits, b_wide, escape_of, TakesPiece, Sound, seen, written, names, names_of, tag, opened, levels, AreLevels, length_names}
 use Rattle.wt_html_grammar.proofs.Whole.{Ahead, a_lead, a_first, a_word, a_gap, state_of, InHead, Behind}
@@ -174,7 +174,7 @@ in_escape_of : (h : Head) (p : Partial) (got : List ℕ) → IsHead h → Sound 
     → InEscape (spell_head h ++ (written p ++ (38 ∷ got)))
 in_escape_of h p got i s t e = (spell_head h ++ written p, got, where_escaped h p i s t, sym (append_assoc (spell_head h) (written p) (38 ∷ got)), e)
 
-turn_told : (before : List ℕ) (b : ℕ) (s t : State) (e : Escape) (u : Turn) → Explains (why_of e) before b s → Told before b s (turned t e u)
+turn_told : (before : List ℕ) (b : ℕ) (s t : State) (e : Escape) (u : EscapeStep) → Explains (why_of e) before b s → Told before b s (turned t e u)
 turn_told before b s t e stop h = h
 turn_told before b s t e (on f) h = tt
 turn_told before b s t e ended h = tt

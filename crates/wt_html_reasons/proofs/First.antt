@@ -9,7 +9,7 @@ use Rattle.wt_html_grammar.specs.declared.why.HtmlWhy.{HtmlWhy}
 use Rattle.wt_html_grammar.specs.declared.why.HtmlWhy.TheVariants as why
 use Rattle.wt_html_grammar.specs.Signs.{between, is_lower, is_name_byte, is_attribute_byte, is_among, begins_character}
 use Rattle.wt_html_grammar.specs.Grammar.{Front}
-use Rattle.wt_html_grammar.specs.Machine.{State, start, less, attribute, closing, escaping, Escape, ampersand, apart, letters, sharp, digits, wide, Turn, stop, on, ended, in_escape, turned, why_of, mended, step, run}
+use Rattle.wt_html_grammar.specs.Machine.{State, start, less, attribute, closing, escaping, Escape, ampersand, apart, letters, sharp, digits, wide, EscapeStep, stop, on, ended, in_escape, turned, why_of, mended, step, run}
 use Rattle.wt_html_grammar.specs.Places.{IsPlace, Refused, why_in, why_of_refusal}
 use Rattle.wt_html_grammar.proofs.Steps.{if_case}
 use Rattle.wt_html_grammar.proofs.Whole.{reached, front_of}
@@ -75,10 +75,10 @@ refusal bytes place w r =
 -- the reason holds
 wide_stop : (t : State) (low high n b : ℕ) (v : HtmlWhy) → step (escaping t (wide low high n)) b ≡ Err v → between low high b ≡ false
 wide_stop t low high zero b v =
-    let P : Turn → Type 0 = λ u. turned t (wide low high zero) u ≡ Err v → between low high b ≡ false in
+    let P : EscapeStep → Type 0 = λ u. turned t (wide low high zero) u ≡ Err v → between low high b ≡ false in
     if_case P (between low high b) _ _ (λ _ e. absurd cc) (λ f _. f)
 wide_stop t low high (suc n) b v =
-    let P : Turn → Type 0 = λ u. turned t (wide low high (suc n)) u ≡ Err v → between low high b ≡ false in
+    let P : EscapeStep → Type 0 = λ u. turned t (wide low high (suc n)) u ≡ Err v → between low high b ≡ false in
     if_case P (between low high b) _ _ (λ _ e. absurd cc) (λ f _. f)
 
 no_text : (s : State) (before : List ℕ) (b : ℕ) (v : HtmlWhy) → InCharacter (left_of s) before → step s b ≡ Err v
@@ -181,7 +181,7 @@ escape_why (letters n cs) h = refl
 escape_why sharp h = refl
 escape_why (digits r k n) h = refl
 
-turn_gives : (t : State) (e : Escape) (v : HtmlWhy) (u : Turn) → why_of e ≡ v → Gives v (turned t e u)
+turn_gives : (t : State) (e : Escape) (v : HtmlWhy) (u : EscapeStep) → why_of e ≡ v → Gives v (turned t e u)
 turn_gives t e v stop h = h
 turn_gives t e v (on f) h = tt
 turn_gives t e v ended h = tt

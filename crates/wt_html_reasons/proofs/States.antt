@@ -8,7 +8,7 @@ use Rattle.wt_html_grammar.specs.declared.names.Radix.TheVariants.{Decimal}
 use Rattle.wt_html_grammar.specs.declared.why.HtmlWhy.{HtmlWhy}
 use Rattle.wt_html_grammar.specs.Signs.{is_void, is_quote, begins_character, is_among, is_digit_of, digit_value, base_of, in_value, Each, IsAttributeName, IsWideGap}
 use Rattle.wt_html_grammar.specs.Grammar.{Attribute, IsAttribute, spell_attributes, AreAttributes, spell_pieces, spell_items, AreItems, Head, spell_head, IsHead}
-use Rattle.wt_html_grammar.specs.Machine.{State, start, inside, less, naming, gap, attribute, equals, value, valued, closing, escaping, Escape, ampersand, apart, letters, sharp, digits, wide, Turn, stop, on, ended, is_begun, in_digits, in_escape, turned, why_of, Tag, with_seen, mended, step, onward, run}
+use Rattle.wt_html_grammar.specs.Machine.{State, start, inside, less, naming, gap, attribute, equals, value, valued, closing, escaping, Escape, ampersand, apart, letters, sharp, digits, wide, EscapeStep, stop, on, ended, is_begun, in_digits, in_escape, turned, why_of, Tag, with_seen, mended, step, onward, run}
 use Rattle.wt_html_grammar.proofs.Steps.{if_true, if_false, if_case, run_step}
 use Rattle.wt_html_grammar.proofs.Complete.{eq_self, quote_ends}
 use Rattle.wt_html_grammar.proofs.Reading.{inner_pieces, inner_attributes, pieces_is, attributes_is, items_is, pieces_run, takes_value, Opens, opens_naming, wide_run, open_run, attribute_start, left_run, right_run, attributes_run, Names, names_less, start_run, items_run, head_run}
@@ -177,7 +177,7 @@ abbrev pub IsEscape : Escape → Type 0
 IsEscape (wide low high n) = ⊥
 IsEscape e = Unit {0}
 
-abbrev Stays : Turn → Type 0
+abbrev Stays : EscapeStep → Type 0
 Stays stop = Unit {0}
 Stays (on e) = IsEscape e
 Stays ended = ⊥
@@ -210,7 +210,7 @@ Ends bs t o = onward (λ u. run u bs) o ≡ Ok t → Escaped t
 ends_not : (bs : List ℕ) (b : ℕ) (t : State) (w : HtmlWhy) → Ends bs t (mended b (Err w))
 ends_not bs b t w = if_case (Ends bs t) (begins_character b) _ _ (λ _ e. absurd cc) (λ _ e. absurd cc)
 
-turn_ends : (bs : List ℕ) (b : ℕ) (s t : State) (e : Escape) (o : Turn)
+turn_ends : (bs : List ℕ) (b : ℕ) (s t : State) (e : Escape) (o : EscapeStep)
     → ((f : Escape) → IsEscape f → run (escaping s f) bs ≡ Ok t → Escaped t) → Stays o → Ends bs t (mended b (turned s e o))
 turn_ends bs b s t e stop k h = ends_not bs b t (why_of e)
 turn_ends bs b s t e (on f) k h = k f h

@@ -7,8 +7,8 @@ use Rattle.std.specs.Str.{IsAscii}
 use Rattle.std.proofs.Math.Numerals.{one-add}
 use Rattle.std.proofs.lemmas.Str.Ascii.{lowercase_ascii, lowercase_is}
 use Rattle.std.proofs.lemmas.Bool.Decides.{nat_tests}
-use Rattle.wt_span.specs.declared.form.Form.{Form}
-use Rattle.wt_span.specs.declared.form.Form.TheVariants as form
+use Rattle.wt_span.specs.declared.form.ItemForm.{ItemForm}
+use Rattle.wt_span.specs.declared.form.ItemForm.TheVariants as form
 use Rattle.wt_span.specs.Bytes.{lower, name_len}
 use Rattle.wt_span.specs.Tags.{Tag, opening_tag, tag_after, is_noinclude}
 use Rattle.wt_span.specs.Items.{char, items_by}
@@ -89,7 +89,7 @@ shown_bytes : (o : Option ℕ) (bs : List ℕ) → flat_map shown_item (map (cha
 shown_bytes o [] = refl
 shown_bytes o (b ∷ bs) = ap (λ cs. b ∷ cs) (shown_bytes o bs)
 
-pub shown_chars : (f : Form) (o : Option ℕ) (bs : List ℕ) → f ≡ form.Chars → flat_map shown_item (items_by f o bs) ≡ bs
+pub shown_chars : (f : ItemForm) (o : Option ℕ) (bs : List ℕ) → f ≡ form.Chars → flat_map shown_item (items_by f o bs) ≡ bs
 shown_chars f o bs e = ap (λ g. flat_map shown_item (items_by g o bs)) e ∙ shown_bytes o bs
 
 pub extension_is : (bs name inside : List ℕ) (alone : Bool) → name ≡ name_of (opening_tag bs) → alone ≡ is_alone (opening_tag bs)
@@ -108,7 +108,7 @@ extension_head_is bs name shown attrs d s n a e =
     ∙ ap (λ x. record { kind = kind.Island; shown = []; attrs = x; mw = Some d }) (a ∙ ap (λ x. typeof (codes "mw:Extension/" ++ x)) n)
     ∙ ap (λ x. record { kind = kind.Island; shown = []; attrs = typeof (codes "mw:Extension/" ++ name_of (opening_tag bs)); mw = Some x }) e
 
-pub no_data : (f : Form) (bs : List ℕ) → f ≢ form.Extension → data_whole f bs ≡ None
+pub no_data : (f : ItemForm) (bs : List ℕ) → f ≢ form.Extension → data_whole f bs ≡ None
 no_data form.Chars bs h = refl
 no_data (form.Entity c) bs h = refl
 no_data form.Nowiki bs h = refl

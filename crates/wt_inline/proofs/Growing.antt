@@ -4,8 +4,8 @@ use Rattle.std.specs.Prelude.{◌&&◌}
 use Rattle.std.specs.List.{AllByRecursion}
 use Rattle.std.proofs.lemmas.Bool.Decides.{nat_tests}
 use Rattle.std.proofs.lemmas.List.{map-append}
-use Rattle.wt_span.specs.declared.form.Form.{Form}
-use Rattle.wt_span.specs.declared.form.Form.TheVariants as form
+use Rattle.wt_span.specs.declared.form.ItemForm.{ItemForm}
+use Rattle.wt_span.specs.declared.form.ItemForm.TheVariants as form
 use Rattle.wt_span.specs.Items.{Item, char, whole, items_by}
 use Rattle.wt_span.specs.Runs.{runs, IsRun}
 use Rattle.wt_span.proofs.RunLaws.{runs_cut}
@@ -76,7 +76,7 @@ of_bytes : (o : Option ℕ) (bs : List ℕ) → AllByRecursion (IsOf o) (map (ch
 of_bytes o [] = tt
 of_bytes o (b ∷ bs) = (refl, of_bytes o bs)
 
-pub of_chars : (f : Form) (o : Option ℕ) (bs : List ℕ) → is_chars f ≡ true → AllByRecursion (IsOf o) (items_by f o bs)
+pub of_chars : (f : ItemForm) (o : Option ℕ) (bs : List ℕ) → is_chars f ≡ true → AllByRecursion (IsOf o) (items_by f o bs)
 of_chars form.Chars o bs e = of_bytes o bs
 of_chars (form.Entity c) o bs e = cc
 of_chars form.Nowiki o bs e = cc
@@ -212,10 +212,10 @@ pub grows_both : (g h i : Grown) (ps qs : List Part) → Grows g ps h → Grows 
 grows_both g h i ps qs a b rs = b rs ∙ a (qs ++ rs) ∙ ap (made g) (sym (append_assoc ps qs rs))
 
 -- of pieces that are characters
-pub chars_are : (f : Form) (o p : Option ℕ) (bs : List ℕ) → is_chars f ≡ true → o ≡ p → are_of o (items_by f p bs) ≡ true
+pub chars_are : (f : ItemForm) (o p : Option ℕ) (bs : List ℕ) → is_chars f ≡ true → o ≡ p → are_of o (items_by f p bs) ≡ true
 chars_are f o p bs e h = rw h (are_of_all p (items_by f p bs) (of_chars f p bs e))
 
-pub more_are : (o p : Option ℕ) (f : Form) (bs : List ℕ) (xs : List Item) → are_of o xs ≡ true → is_chars f ≡ true
+pub more_are : (o p : Option ℕ) (f : ItemForm) (bs : List ℕ) (xs : List Item) → are_of o xs ≡ true → is_chars f ≡ true
     → same_origin o p ≡ true → are_of o (xs ++ items_by f p bs) ≡ true
 more_are o p f bs xs a e s = are_of_all o (xs ++ items_by f p bs)
     (of_append o xs (items_by f p bs) (all_of o xs a) (all_of o (items_by f p bs) (chars_are f o p bs e (same_origin_is o p s))))

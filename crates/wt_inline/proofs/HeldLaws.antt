@@ -2,8 +2,8 @@
 use Rattle.std.proofs.Common.{◌≡◌, ℕ, zero, suc, ◌-◌, false, Option, Some, None, List, [], ◌∷◌, ◌++◌, take, drop, map, refl, sym, ap, ◌∙◌, append-nil}
 use Rattle.std.proofs.lemmas.List.{take-append-drop, map-append}
 use Rattle.std.proofs.lemmas.Grind.{flat_map-append}
-use Rattle.wt_span.specs.declared.form.Form.{Form}
-use Rattle.wt_span.specs.declared.form.Form.TheVariants as form
+use Rattle.wt_span.specs.declared.form.ItemForm.{ItemForm}
+use Rattle.wt_span.specs.declared.form.ItemForm.TheVariants as form
 use Rattle.wt_span.specs.Entities.{entity_at}
 use Rattle.wt_span.specs.Items.{Item, char, whole, source, sources}
 use Rattle.wt_span.specs.Runs.{runs, IsRun, AreRuns}
@@ -68,7 +68,7 @@ held_nowiki o bs =
     let xs = inside_items o 0 (inside_of bs) in
     ap (λ ys. map (char o) (opening_of bs) ++ (ys ++ map (char o) (closing_of bs))) (held_children (map inside_part xs) ∙ held_inside_parts xs)
 
-held_whole : (f : Form) (o : Option ℕ) (bs : List ℕ) → tree_items (whole_tree f o bs) ≡ opened_whole f o bs
+held_whole : (f : ItemForm) (o : Option ℕ) (bs : List ℕ) → tree_items (whole_tree f o bs) ≡ opened_whole f o bs
 held_whole form.Chars o bs = refl
 held_whole (form.Entity c) o bs = refl
 held_whole form.Nowiki o bs = held_nowiki o bs
@@ -128,7 +128,7 @@ sources_nowiki o bs =
     ∙ ap (λ cs. opening_of bs ++ cs) (take-append-drop (inside_len bs) (behind bs))
     ∙ take-append-drop (opening_len bs) bs
 
-sources_whole : (f : Form) (o : Option ℕ) (bs : List ℕ) → sources (opened_whole f o bs) ≡ bs
+sources_whole : (f : ItemForm) (o : Option ℕ) (bs : List ℕ) → sources (opened_whole f o bs) ≡ bs
 sources_whole form.Chars o bs = append-nil bs
 sources_whole (form.Entity c) o bs = append-nil bs
 sources_whole form.Nowiki o bs = sources_nowiki o bs

@@ -5,8 +5,8 @@ use Rattle.std.specs.Prelude.{◌==◌}
 use Rattle.std.proofs.lemmas.Bool.Decides.{nat_tests}
 use Rattle.std.proofs.lemmas.Grind.{flat_map-append}
 use Rattle.wt_span.specs.declared.form.Piece.{Piece}
-use Rattle.wt_span.specs.declared.form.Form.{Form}
-use Rattle.wt_span.specs.declared.form.Form.TheVariants as form
+use Rattle.wt_span.specs.declared.form.ItemForm.{ItemForm}
+use Rattle.wt_span.specs.declared.form.ItemForm.TheVariants as form
 use Rattle.wt_span.specs.Items.{Item, char, items, items_of, items_by}
 use Rattle.wt_lines.specs.Pieces.{is_chars}
 use Rattle.wt_inline.specs.declared.loose.Loose.{Loose}
@@ -32,7 +32,7 @@ inside_bytes : (o : Option ℕ) (bs : List ℕ) → map inside_part (map (char o
 inside_bytes o [] = refl
 inside_bytes o (b ∷ bs) = ap (λ ps. loose Text o b ∷ ps) (inside_bytes o bs)
 
-pub inside_chars_parts : (f : Form) (o : Option ℕ) (bs : List ℕ) → is_chars f ≡ true → map inside_part (items_by f o bs) ≡ parts Text (items_by f o bs)
+pub inside_chars_parts : (f : ItemForm) (o : Option ℕ) (bs : List ℕ) → is_chars f ≡ true → map inside_part (items_by f o bs) ≡ parts Text (items_by f o bs)
 inside_chars_parts form.Chars o bs e = inside_bytes o bs
 inside_chars_parts (form.Entity c) o bs e = cc
 inside_chars_parts form.Nowiki o bs e = cc
@@ -57,7 +57,7 @@ pub inside_done : (g : Grown) (o : Option ℕ) (bs : List ℕ) (qs : List Part) 
 inside_done g o bs qs ts z i e = e ∙ ap (λ cs. made g (map inside_part (inside_items o 0 cs) ++ [])) (sym z) ∙ i [] ∙ ap children (append-nil qs)
 
 -- a whole form is a node by itself
-pub whole_parts : (k : Loose) (f : Form) (o : Option ℕ) (bs : List ℕ) → is_chars f ≡ false → parts k (items_by f o bs) ≡ node (whole_tree f o bs) ∷ []
+pub whole_parts : (k : Loose) (f : ItemForm) (o : Option ℕ) (bs : List ℕ) → is_chars f ≡ false → parts k (items_by f o bs) ≡ node (whole_tree f o bs) ∷ []
 whole_parts k form.Chars o bs e = cc
 whole_parts k (form.Entity c) o bs e = refl
 whole_parts k form.Nowiki o bs e = refl
@@ -68,7 +68,7 @@ whole_parts k form.Include o bs e = refl
 whole_parts k form.Hidden o bs e = refl
 whole_parts k form.EmptyCall o bs e = refl
 
-pub whole_leaf : (f : Form) (o : Option ℕ) (bs : List ℕ) → is_chars f ≡ false → (f ≡ form.Nowiki → ⊥)
+pub whole_leaf : (f : ItemForm) (o : Option ℕ) (bs : List ℕ) → is_chars f ≡ false → (f ≡ form.Nowiki → ⊥)
     → leaf (form_head f bs) (items_by f o bs) ≡ whole_tree f o bs
 whole_leaf form.Chars o bs e n = cc
 whole_leaf (form.Entity c) o bs e n = refl

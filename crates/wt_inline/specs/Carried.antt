@@ -5,8 +5,8 @@ use Rattle.wt_tree.specs.declared.kind.AttrName.{AttrName}
 use Rattle.wt_tree.specs.declared.kind.AttrName.TheVariants as attr
 use Rattle.wt_tree.specs.declared.node.DataMw.{DataMw}
 use Rattle.wt_tree.specs.declared.node.DataMw.TheVariants as mw
-use Rattle.wt_span.specs.declared.form.Form.{Form}
-use Rattle.wt_span.specs.declared.form.Form.TheVariants as form
+use Rattle.wt_span.specs.declared.form.ItemForm.{ItemForm}
+use Rattle.wt_span.specs.declared.form.ItemForm.TheVariants as form
 use Rattle.wt_span.specs.Tags.{Tag, opening_tag, closing_tag, is_noinclude}
 use Rattle.wt_span.specs.Items.{Item, char, whole}
 use Rattle.wt_inline.specs.RawTag.{name_of, is_alone, inside_of}
@@ -14,7 +14,7 @@ use Rattle.wt_inline.specs.RawTag.{name_of, is_alone, inside_of}
 -- ---- what it shows
 
 -- a character shows itself, and an entity the character that it stands for
-abbrev pub shown_whole : Form → List ℕ
+abbrev pub shown_whole : ItemForm → List ℕ
 shown_whole form.Chars = []
 shown_whole (form.Entity c) = encode_utf8 c
 shown_whole form.Nowiki = []
@@ -55,7 +55,7 @@ abbrev pub typeof : List ℕ → List (AttrName × List ℕ)
 typeof value = (attr.Typeof, value) ∷ []
 
 -- The kind alone tells what an entity, a `nowiki` and a comment are, so they have no attribute of their own.
-abbrev pub attrs_whole : Form → List ℕ → List (AttrName × List ℕ)
+abbrev pub attrs_whole : ItemForm → List ℕ → List (AttrName × List ℕ)
 attrs_whole form.Chars bs = []
 attrs_whole (form.Entity c) bs = []
 attrs_whole form.Nowiki bs = []
@@ -74,7 +74,7 @@ extension_of name alone inside = mw.Extension name (if alone then None else Some
 unfoldable pub extension_data : List ℕ → DataMw
 extension_data bs = extension_of (name_of (opening_tag bs)) (is_alone (opening_tag bs)) (inside_of bs)
 
-abbrev pub data_whole : Form → List ℕ → Option DataMw
+abbrev pub data_whole : ItemForm → List ℕ → Option DataMw
 data_whole form.Chars bs = None
 data_whole (form.Entity c) bs = None
 data_whole form.Nowiki bs = None

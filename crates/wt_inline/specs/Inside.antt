@@ -1,8 +1,8 @@
 -- The inside of `nowiki` as items: its characters, and its entities, since nothing else is read there.
 use Rattle.std.specs.Prelude.{ℕ, zero, suc, ◌-◌, Option, Some, None, List, [], ◌∷◌, ◌++◌, map, take}
 use Rattle.std.specs.List.{flat_map}
-use Rattle.wt_span.specs.declared.form.Form.{Form}
-use Rattle.wt_span.specs.declared.form.Form.TheVariants as form
+use Rattle.wt_span.specs.declared.form.ItemForm.{ItemForm}
+use Rattle.wt_span.specs.declared.form.ItemForm.TheVariants as form
 use Rattle.wt_span.specs.Entities.{entity_at}
 use Rattle.wt_span.specs.Items.{Item, char, whole}
 use Rattle.wt_inline.specs.RawTag.{opening_of, inside_of, closing_of}
@@ -20,7 +20,7 @@ inside_items o zero (b ∷ bs) = read_with o (entity_at (b ∷ bs)) b bs (λ n. 
 
 -- A `nowiki` is one item. Opened it is the characters of its two tags, and the items of its inside between them; any other
 -- item is itself.
-abbrev pub opened_whole : Form → Option ℕ → List ℕ → List Item
+abbrev pub opened_whole : ItemForm → Option ℕ → List ℕ → List Item
 opened_whole form.Chars o bs = whole form.Chars o bs ∷ []
 opened_whole (form.Entity c) o bs = whole (form.Entity c) o bs ∷ []
 opened_whole form.Nowiki o bs = map (char o) (opening_of bs) ++ (inside_items o 0 (inside_of bs) ++ map (char o) (closing_of bs))

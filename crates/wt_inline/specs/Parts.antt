@@ -4,8 +4,8 @@ use Rattle.std.specs.Prelude.{◌≡◌, ℕ, Bool, true, false, ◌==◌, ◌&&
 use Rattle.std.specs.List.{flat_map, list_all}
 use Rattle.wt_tree.specs.declared.kind.Kind.{Kind}
 use Rattle.wt_tree.specs.declared.kind.Kind.TheVariants as kind
-use Rattle.wt_span.specs.declared.form.Form.{Form}
-use Rattle.wt_span.specs.declared.form.Form.TheVariants as form
+use Rattle.wt_span.specs.declared.form.ItemForm.{ItemForm}
+use Rattle.wt_span.specs.declared.form.ItemForm.TheVariants as form
 use Rattle.wt_span.specs.Items.{Item, char, whole}
 use Rattle.wt_span.specs.Runs.{runs, AreRuns}
 use Rattle.wt_inline.specs.declared.loose.Loose.{Loose}
@@ -84,7 +84,7 @@ AreChildren ts ps = (rs : List (List Part)) × AreRuns one_leaf rs ps × (ts ≡
 -- ---- the part that an item is by itself
 
 -- The kind of a form's node. An extension and a function are islands, and a hidden part is written as an include tag.
-abbrev pub form_kind : Form → Kind
+abbrev pub form_kind : ItemForm → Kind
 form_kind form.Chars = kind.Text
 form_kind (form.Entity c) = kind.Entity
 form_kind form.Nowiki = kind.Nowiki
@@ -96,10 +96,10 @@ form_kind form.Hidden = kind.Include
 form_kind form.EmptyCall = kind.Empty
 
 -- a form's head, by its source
-abbrev pub form_head : Form → List ℕ → Head
+abbrev pub form_head : ItemForm → List ℕ → Head
 form_head f bs = record { kind = form_kind f; shown = shown_whole f; attrs = attrs_whole f bs; mw = data_whole f bs }
 
-abbrev pub form_leaf : Form → Option ℕ → List ℕ → ItemTree
+abbrev pub form_leaf : ItemForm → Option ℕ → List ℕ → ItemTree
 form_leaf f o bs = leaf (form_head f bs) (whole f o bs ∷ [])
 
 -- an item of the inside of `nowiki`: a character, or an entity
@@ -113,7 +113,7 @@ nowiki o bs = inner (plain kind.Nowiki) (map (char o) (opening_of bs))
     (forest (children (map inside_part (inside_items o 0 (inside_of bs))))) (map (char o) (closing_of bs))
 
 -- the node of a whole form: of `nowiki` one with an inside, and of any other a leaf
-abbrev pub whole_tree : Form → Option ℕ → List ℕ → ItemTree
+abbrev pub whole_tree : ItemForm → Option ℕ → List ℕ → ItemTree
 whole_tree form.Nowiki o bs = nowiki o bs
 whole_tree f o bs = form_leaf f o bs
 

@@ -4,7 +4,7 @@ ghost use Rattle.std.specs.Prelude.{◌≡◌, ◌≢◌, ◌++◌, ◌∷◌, [
 ghost use Rattle.std.specs.List.{flat_map};
 ghost use Rattle.std.specs.Str.{IsAscii};
 ghost use Rattle.wt_span.specs.Bytes.{lower};
-ghost use Rattle.wt_span.specs.declared.form.Form.TheVariants as form;
+ghost use Rattle.wt_span.specs.declared.form.ItemForm.TheVariants as form;
 ghost use Rattle.wt_span.specs.Slice.{bytes_of};
 ghost use Rattle.wt_span.specs.Tags.{opening_tag, closing_tag};
 ghost use Rattle.wt_span.specs.Items.{items, items_of};
@@ -19,7 +19,7 @@ use crate::raw::RawTag;
 use crate::tree::NodeHead;
 use std::alloc::Global;
 use wt_lex::{closing_tag, is_same_name, opening_tag};
-use wt_span::{Form, List, NoMemory, Piece, Str, Text};
+use wt_span::{ItemForm, List, NoMemory, Piece, Str, Text};
 use wt_tree::{Attr, AttrName, DataMw, Kind, Mark, More, Shown};
 
 fn push_char(out: &mut Str, character: char) -> Result<(), NoMemory>
@@ -37,8 +37,8 @@ pub fn push_shown(out: &mut Str, piece: &Piece<'_>) -> Result<(), NoMemory>
     ensures { OnOk result (out.new ≡ out.old ++ flat_map shown_item (items_of piece.now)) }
 {
     match piece.form {
-        Form::Chars => out.push_str(piece.text.as_str()),
-        Form::Entity(character) => push_char(out, character),
+        ItemForm::Chars => out.push_str(piece.text.as_str()),
+        ItemForm::Entity(character) => push_char(out, character),
         _ => Ok(()),
     }
 }
@@ -57,7 +57,7 @@ fn piece_shown<'a>(alloc: Global, piece: &Piece<'a>) -> Result<Shown<'a>, NoMemo
     ensures { IfOk result (λ s. s ≡ flat_map shown_item (items_of piece.now)) }
 {
     match piece.form {
-        Form::Chars => Ok(Shown::written(piece.text.as_str())),
+        ItemForm::Chars => Ok(Shown::written(piece.text.as_str())),
         _ => {
             let mut shown = Str::new(alloc);
             push_shown(&mut shown, piece)?;
@@ -178,9 +178,9 @@ fn attrs(alloc: Global, piece: &Piece<'_>) -> Result<List<Attr>, NoMemory>
 {
     let bytes = piece.text.as_str().as_bytes();
     match piece.form {
-        Form::Function => typeof_attr(alloc, "mw:Placeholder", ""),
-        Form::Include => include_attrs(alloc, bytes),
-        Form::Hidden => typeof_attr(alloc, "mw:Includes/IncludeOnly", ""),
+        ItemForm::Function => typeof_attr(alloc, "mw:Placeholder", ""),
+        ItemForm::Include => include_attrs(alloc, bytes),
+        ItemForm::Hidden => typeof_attr(alloc, "mw:Includes/IncludeOnly", ""),
         _ => Ok(List::new(alloc)),
     }
 }
@@ -204,7 +204,7 @@ fn extension_head<'a>(alloc: Global, text: Text<'a>) -> Result<NodeHead<'a>, NoM
     ensures { IfOk result (λ h. head_of h ≡ form_head form.Extension (bytes_of text.entry)) }
 {
     let raw = RawTag::of(text);
-    let shown = form_shown(alloc, Form::Extension)?;
+    let shown = form_shown(alloc, ItemForm::Extension)?;
     let name = lower_name(alloc, raw.name)?;
     let attrs = typeof_attr(alloc, "mw:Extension/", name.as_str())?;
     let data = extension_data(alloc, name, raw)?;
@@ -217,11 +217,11 @@ fn extension_head<'a>(alloc: Global, text: Text<'a>) -> Result<NodeHead<'a>, NoM
 }
 
 /// The characters that a form shows: an entity the character that it stands for.
-fn form_shown<'a>(alloc: Global, form: Form) -> Result<Shown<'a>, NoMemory>
+fn form_shown<'a>(alloc: Global, form: ItemForm) -> Result<Shown<'a>, NoMemory>
     ensures { IfOk result (λ s. s ≡ shown_whole form) }
 {
     match form {
-        Form::Entity(character) => {
+        ItemForm::Entity(character) => {
             let mut shown = Str::new(alloc);
             push_char(&mut shown, character)?;
             Ok(Shown::made(shown))
@@ -231,17 +231,17 @@ fn form_shown<'a>(alloc: Global, form: Form) -> Result<Shown<'a>, NoMemory>
 }
 
 /// The kind of a form's node.
-fn form_kind(form: Form) -> Kind
+fn form_kind(form: ItemForm) -> Kind
     ensures { result ≡ form_kind form }
 {
     match form {
-        Form::Chars => Kind::Text,
-        Form::Entity(_) => Kind::Entity,
-        Form::Nowiki => Kind::Nowiki,
-        Form::Extension | Form::Function => Kind::Island,
-        Form::Comment => Kind::Comment,
-        Form::Include | Form::Hidden => Kind::Include,
-        Form::EmptyCall => Kind::Empty,
+        ItemForm::Chars => Kind::Text,
+        ItemForm::Entity(_) => Kind::Entity,
+        ItemForm::Nowiki => Kind::Nowiki,
+        ItemForm::Extension | ItemForm::Function => Kind::Island,
+        ItemForm::Comment => Kind::Comment,
+        ItemForm::Include | ItemForm::Hidden => Kind::Include,
+        ItemForm::EmptyCall => Kind::Empty,
     }
 }
 
@@ -263,7 +263,7 @@ pub fn form_head<'a>(alloc: Global, piece: &Piece<'a>) -> Result<NodeHead<'a>, N
     ensures { IfOk result (λ h. head_of h ≡ form_head piece.now.form (bytes_of piece.now.text)) }
 {
     match piece.form {
-        Form::Extension => extension_head(alloc, piece.text),
+        ItemForm::Extension => extension_head(alloc, piece.text),
         _ => other_head(alloc, piece),
     }
 }

@@ -5,12 +5,12 @@ ghost use Rattle.std.specs.Str.{IsCharBoundary};
 ghost use Rattle.wt_span.specs.Entities.{entity_at};
 ghost use Rattle.wt_span.specs.Slice.{bytes_of};
 ghost use Rattle.wt_span.specs.Items.{items_of, char, whole, call_of_origin};
-ghost use Rattle.wt_span.specs.declared.form.Form.TheVariants as form;
+ghost use Rattle.wt_span.specs.declared.form.ItemForm.TheVariants as form;
 ghost use Rattle.wt_inline.specs.Inside.{inside_items};
 
 use wt_lex::read_entity;
 use wt_lines::chars_piece;
-use wt_span::{Form, Origin, Piece, Text, rest_of};
+use wt_span::{ItemForm, Origin, Piece, Text, rest_of};
 
 /// The entity that begins a text: its character, and how many bytes it takes.
 fn entity_at(bytes: &[u8]) -> Option<(char, usize)>
@@ -71,7 +71,7 @@ fn split_entity<'a>(
     let (front, back) = text.split_at(place);
     let piece = Piece {
         text: front,
-        form: Form::Entity(character),
+        form: ItemForm::Entity(character),
         origin: origin_of(origin, front),
     };
     (piece, back)

@@ -8,7 +8,7 @@ ghost use Rattle.wt_inline.specs.View.{item_tree};
 use crate::nowiki::{form_leaf, nowiki};
 use crate::tree::PieceTree;
 use std::alloc::Global;
-use wt_span::{Form, NoMemory, Piece};
+use wt_span::{ItemForm, NoMemory, Piece};
 
 /// The node of a piece that is one item.
 pub fn whole_tree<'a>(alloc: Global, piece: Piece<'a>) -> Result<PieceTree<'a>, NoMemory>
@@ -16,7 +16,7 @@ pub fn whole_tree<'a>(alloc: Global, piece: Piece<'a>) -> Result<PieceTree<'a>, 
     ensures { IfOk result (λ t. item_tree t ≡ whole_tree piece.entry.form (call_of_origin piece.entry.origin) (bytes_of piece.entry.text)) }
 {
     match piece.form {
-        Form::Nowiki => nowiki(alloc, piece.text, piece.origin),
+        ItemForm::Nowiki => nowiki(alloc, piece.text, piece.origin),
         _ => form_leaf(alloc, piece),
     }
 }

@@ -3,8 +3,8 @@ use Rattle.std.proofs.Common.{◌≡◌, ℕ, suc, ◌+◌, ◌-◌, ◌<◌, �
 use Rattle.std.specs.Prelude.{◌&&◌, nat_le, is_none, slice_get, if◌then◌else◌}
 use Rattle.std.proofs.lemmas.Bool.Decides.{nat_tests}
 use Rattle.std.proofs.lemmas.List.{take_all, drop_all, length-take}
-use Rattle.wt_span.specs.declared.form.Form.{Form}
-use Rattle.wt_span.specs.declared.form.Form.TheVariants as form
+use Rattle.wt_span.specs.declared.form.ItemForm.{ItemForm}
+use Rattle.wt_span.specs.declared.form.ItemForm.TheVariants as form
 use Rattle.wt_span.specs.declared.form.Piece.{Piece}
 use Rattle.wt_span.specs.declared.origin.Origin.{Origin}
 use Rattle.wt_span.specs.declared.origin.Origin.TheVariants as origin
@@ -75,7 +75,7 @@ page_bytes cs r at [] =
     sym (ap (λ xs. map (char None) (drop (r.start - at) xs)) (none_taken (r.end - at)) ∙ ap (map (char None)) (none_dropped (r.start - at)))
 page_bytes cs r at (b ∷ bs) = rw (page_bytes cs r (at + 1) bs) (byte_by r.start r.end at b bs (nat_le r.start at) (nat_le (at + 1) r.end) refl refl)
 
-chars_by : (cs : List OuterCall) (r : Ranges) (f : Form) (o : Origin) (a : ℕ) (bs : List ℕ) → (is_chars f && is_none (call_of_origin o)) ≡ true
+chars_by : (cs : List OuterCall) (r : Ranges) (f : ItemForm) (o : Origin) (a : ℕ) (bs : List ℕ) → (is_chars f && is_none (call_of_origin o)) ≡ true
     → IsPlaced o (a, a + length bs)
     → items_in cs r (span_of_origin cs o).0 (items_by f (call_of_origin o) bs) ≡ map (char None) (drop (r.start - a) (take (r.end - a) bs))
 chars_by cs r form.Chars (origin.Page q) a bs t h =
@@ -105,7 +105,7 @@ call_bytes_by cs r k false e at [] = refl
 call_bytes_by cs r k true e at (b ∷ bs) = rw e (ap (λ ys. char (Some k) b ∷ ys) (call_bytes_by cs r k true e (span_of_entry (slice_get cs k)).1 bs))
 call_bytes_by cs r k false e at (b ∷ bs) = rw e (call_bytes_by cs r k false e (span_of_entry (slice_get cs k)).1 bs)
 
-uncut_by : (cs : List OuterCall) (r : Ranges) (f : Form) (o : Option ℕ) (at : ℕ) (bs : List ℕ) (s : Span) → (is_chars f && is_none o) ≡ false
+uncut_by : (cs : List OuterCall) (r : Ranges) (f : ItemForm) (o : Option ℕ) (at : ℕ) (bs : List ℕ) (s : Span) → (is_chars f && is_none o) ≡ false
     → span_by cs at (length bs) o ≡ s → items_in cs r at (items_by f o bs) ≡ cond (lies_in r s) (items_by f o bs) []
 uncut_by cs r form.Chars None at bs s t h = true_false t
 uncut_by cs r form.Chars (Some k) at bs s t h =
@@ -222,7 +222,7 @@ after_chars cs None at bs l = after_bytes cs at bs
 after_chars cs (Some k) at [] l = absurd (omega (arith, l))
 after_chars cs (Some k) at (b ∷ bs) l = after_call cs k bs
 
-after_by : (cs : List OuterCall) (f : Form) (o : Option ℕ) (at : ℕ) (bs : List ℕ) → IsWhole f bs
+after_by : (cs : List OuterCall) (f : ItemForm) (o : Option ℕ) (at : ℕ) (bs : List ℕ) → IsWhole f bs
     → place_after cs at (items_by f o bs) ≡ (span_by cs at (length bs) o).1
 after_by cs form.Chars o at bs h = after_chars cs o at bs h
 after_by cs (form.Entity c) o at bs h = refl
@@ -241,7 +241,7 @@ after_piece cs p h =
     ∙ ap (λ (s : Span). s.1) (placed_by cs p.origin (start_of p.text) (length (bytes_of p.text)) h.placed)
 
 -- the items of a call say themselves where they stand
-free_by : (cs : List OuterCall) (r : Ranges) (f : Form) (k at to : ℕ) (bs : List ℕ) (xs : List Item) → IsWhole f bs
+free_by : (cs : List OuterCall) (r : Ranges) (f : ItemForm) (k at to : ℕ) (bs : List ℕ) (xs : List Item) → IsWhole f bs
     → items_in cs r at (items_by f (Some k) bs ++ xs) ≡ items_in cs r to (items_by f (Some k) bs ++ xs)
 free_by cs r form.Chars k at to [] xs h = absurd (omega (arith, h))
 free_by cs r form.Chars k at to (b ∷ bs) xs h = refl

@@ -3,8 +3,8 @@ use Rattle.std.proofs.Common.{◌≡◌, ℕ, suc, ◌+◌, ◌<◌, Bool, true,
 use Rattle.std.specs.Prelude.{◌==◌, ◌||◌, ◌&&◌, All, codes}
 use Rattle.std.specs.List.{prefix_len}
 use Rattle.std.proofs.lemmas.List.Elements.{All-head, All-tail}
-use Rattle.wt_span.specs.declared.form.Form.{Form}
-use Rattle.wt_span.specs.declared.form.Form.TheVariants as form
+use Rattle.wt_span.specs.declared.form.ItemForm.{ItemForm}
+use Rattle.wt_span.specs.declared.form.ItemForm.TheVariants as form
 use Rattle.wt_span.specs.declared.form.Piece.{Piece}
 use Rattle.wt_span.specs.declared.range.Range.{Range}
 use Rattle.wt_span.specs.declared.origin.Origin.{Origin}
@@ -46,7 +46,7 @@ same_chars : (k : ℕ) (o : Option ℕ) (bs : List ℕ) (xs : List Item) → sam
 same_chars k o [] xs t = refl
 same_chars k o (b ∷ bs) xs t = rw t (ap (λ ys. char o b ∷ ys) (same_chars k o bs xs t))
 
-same_by : (k : ℕ) (f : Form) (o : Option ℕ) (bs : List ℕ) (xs : List Item) → same_call (Some k) o ≡ true
+same_by : (k : ℕ) (f : ItemForm) (o : Option ℕ) (bs : List ℕ) (xs : List Item) → same_call (Some k) o ≡ true
     → given_first k (items_by f o bs ++ xs) ≡ items_by f o bs ++ given_first k xs
 same_by k form.Chars o bs xs t = same_chars k o bs xs t
 same_by k (form.Entity c) o bs xs t = rw t refl
@@ -58,7 +58,7 @@ same_by k form.Include o bs xs t = rw t refl
 same_by k form.Hidden o bs xs t = rw t refl
 same_by k form.EmptyCall o bs xs t = rw t refl
 
-other_by : (k : ℕ) (f : Form) (o : Option ℕ) (bs : List ℕ) (xs : List Item) → IsWhole f bs → same_call (Some k) o ≡ false
+other_by : (k : ℕ) (f : ItemForm) (o : Option ℕ) (bs : List ℕ) (xs : List Item) → IsWhole f bs → same_call (Some k) o ≡ false
     → given_first k (items_by f o bs ++ xs) ≡ []
 other_by k form.Chars o [] xs h t = absurd (omega (arith, h))
 other_by k form.Chars o (b ∷ bs) xs h t = rw t refl
@@ -92,7 +92,7 @@ given_pieces k (p ∷ ps) h =
 
 -- ---- the break
 
-before_by : (cs : List OuterCall) (f : Form) (o : Option ℕ) (bs : List ℕ) (xs : List Item) → IsWhole f bs
+before_by : (cs : List OuterCall) (f : ItemForm) (o : Option ℕ) (bs : List ℕ) (xs : List Item) → IsWhole f bs
     → break_before cs (items_by f o bs ++ xs) ≡ break_of cs o (items_by f o bs ++ xs)
 before_by cs form.Chars o [] xs h = absurd (omega (arith, h))
 before_by cs form.Chars o (b ∷ bs) xs h = refl

@@ -1,7 +1,7 @@
 -- The items of the page that stand in a slice of it, and how the slice is read by itself: behind a `<nowiki/>`, with what its
 -- calls gave in the page.
 use Rattle.std.specs.Prelude.{ℕ, ◌+◌, ◌&&◌, Bool, false, not, Option, Some, None, List, [], ◌∷◌, ◌++◌, length, nat_le, slice_get, codes, if◌then◌else◌}
-use Rattle.wt_span.specs.declared.form.Form.TheVariants as form
+use Rattle.wt_span.specs.declared.form.ItemForm.TheVariants as form
 use Rattle.wt_span.specs.Items.{Item, char, whole, source, call_of}
 use Rattle.wt_span.specs.Origins.{OuterCall, Span, same_call, span_of_entry}
 use Rattle.wt_expand.specs.Expansion.{opens_block}

@@ -11,8 +11,8 @@ ghost use Rattle.wt_isolation.specs.GroupItems.{break_before, empty_nowiki, is_t
 ghost use Rattle.wt_isolation.specs.PieceParts.{AreOrderly, IsPieceOf, bytes_in, begins_with_bar, is_page_chars, part_of, parts_of, span_of_piece};
 
 use std::alloc::Global;
-use wt_lines::{Sign, Signs, chars_piece, is_chars};
-use wt_span::{Form, Items, List, NoMemory, Origin, Outer, Piece, Range, Text, front_of};
+use wt_lines::{LineSign, Signs, chars_piece, is_chars};
+use wt_span::{ItemForm, Items, List, NoMemory, Origin, Outer, Piece, Range, Text, front_of};
 use wt_tree::Ranges;
 
 /// Where a piece stands in the page: at its own bytes, or where its call does.
@@ -163,7 +163,7 @@ fn pieces_in<'a>(
     Ok(found)
 }
 
-fn is_block_sign(sign: Sign) -> bool
+fn is_block_sign(sign: LineSign) -> bool
     ensures { result ≡ is_block_sign (number sign) }
 {
     sign.is_byte(b'*') || sign.is_byte(b'#') || sign.is_byte(b':') || sign.is_byte(b';')
@@ -259,7 +259,7 @@ fn empty_nowiki() -> Piece<'static>
     let text = Text::new("<nowiki/>", 0);
     Piece {
         text,
-        form: Form::Nowiki,
+        form: ItemForm::Nowiki,
         origin: Origin::Page(text.range()),
     }
 }

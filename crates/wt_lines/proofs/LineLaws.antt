@@ -2,8 +2,8 @@
 use Rattle.std.proofs.Common.{◌≡◌, ℕ, Bool, true, false, Option, List, [], ◌∷◌, ◌++◌, map, refl, sym, ap, ◌∙◌, subst, cond, append_assoc, append-nil, inl, inr}
 use Rattle.std.specs.Prelude.{not, ◌&&◌}
 use Rattle.wt_span.specs.Bytes.{is_break}
-use Rattle.wt_span.specs.declared.form.Form.{Form}
-use Rattle.wt_span.specs.declared.form.Form.TheVariants as form
+use Rattle.wt_span.specs.declared.form.ItemForm.{ItemForm}
+use Rattle.wt_span.specs.declared.form.ItemForm.TheVariants as form
 use Rattle.wt_span.specs.declared.form.Piece.{Piece}
 use Rattle.wt_span.specs.Slice.{bytes_of}
 use Rattle.wt_span.specs.Items.{Item, char, items, items_of, items_by, call_of_origin}
@@ -81,7 +81,7 @@ no_start : (bs : List ℕ) → no_break bs ≡ true → starts_break bs ≡ true
 no_start [] e s = false_true s
 no_start (b ∷ bs) e s = true_false (sym s ∙ not_true (is_break b) (both (not (is_break b)) (no_break bs) e).0)
 
-unbroken_by : (f : Form) (o : Option ℕ) (bs : List ℕ) → IsPartedBy (is_chars f) bs → (is_chars f && starts_break bs) ≡ false → IsUnbroken (items_by f o bs)
+unbroken_by : (f : ItemForm) (o : Option ℕ) (bs : List ℕ) → IsPartedBy (is_chars f) bs → (is_chars f && starts_break bs) ≡ false → IsUnbroken (items_by f o bs)
 unbroken_by form.Chars o bs (inl e) n = true_false (subst (λ (cs : List ℕ). starts_break cs ≡ false) e n)
 unbroken_by form.Chars o bs (inr h) n = unbroken_bytes o bs h.1
 unbroken_by (form.Entity c) o bs h n = (refl, tt)
@@ -93,7 +93,7 @@ unbroken_by form.Include o bs h n = (refl, tt)
 unbroken_by form.Hidden o bs h n = (refl, tt)
 unbroken_by form.EmptyCall o bs h n = (refl, tt)
 
-break_by : (f : Form) (o : Option ℕ) (bs : List ℕ) → IsPartedBy (is_chars f) bs → (is_chars f && starts_break bs) ≡ true → items_by f o bs ≡ char o 10 ∷ []
+break_by : (f : ItemForm) (o : Option ℕ) (bs : List ℕ) → IsPartedBy (is_chars f) bs → (is_chars f && starts_break bs) ≡ true → items_by f o bs ≡ char o 10 ∷ []
 break_by form.Chars o bs (inl e) n = ap (map (char o)) e
 break_by form.Chars o bs (inr h) n = absurd (no_start bs h.1 n)
 break_by (form.Entity c) o bs h n = false_true n

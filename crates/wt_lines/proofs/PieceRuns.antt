@@ -3,8 +3,8 @@ use Rattle.std.proofs.Common.{◌≡◌, ℕ, ◌<◌, ◌+◌, Bool, true, fals
 use Rattle.std.specs.List.{All, prefix_len}
 use Rattle.std.proofs.Math.Numerals.{one-add}
 use Rattle.std.proofs.lemmas.List.Elements.{All-head, All-tail}
-use Rattle.wt_span.specs.declared.form.Form.{Form}
-use Rattle.wt_span.specs.declared.form.Form.TheVariants as form
+use Rattle.wt_span.specs.declared.form.ItemForm.{ItemForm}
+use Rattle.wt_span.specs.declared.form.ItemForm.TheVariants as form
 use Rattle.wt_span.specs.declared.form.Piece.{Piece}
 use Rattle.wt_span.specs.Slice.{bytes_of}
 use Rattle.wt_span.specs.Items.{Item, char, items, items_of, items_by, is_mark, is_mark_form, call_of_origin}
@@ -22,7 +22,7 @@ some_bytes : (o : Option ℕ) (bs : List ℕ) → 0 < length bs → Some_ (map (
 some_bytes o [] h = absurd (omega arith)
 some_bytes o (b ∷ bs) h = tt
 
-some_by : (f : Form) (o : Option ℕ) (bs : List ℕ) → IsPartedBy (is_chars f) bs → Some_ (items_by f o bs)
+some_by : (f : ItemForm) (o : Option ℕ) (bs : List ℕ) → IsPartedBy (is_chars f) bs → Some_ (items_by f o bs)
 some_by form.Chars o bs (inl e) = subst (λ (cs : List ℕ). Some_ (map (char o) cs)) (sym e) tt
 some_by form.Chars o bs (inr h) = some_bytes o bs h.0
 some_by (form.Entity c) o bs h = tt
@@ -39,7 +39,7 @@ some_items p h = some_by p.form (call_of_origin p.origin) (bytes_of p.text) h
 
 -- ---- marks at the front
 
-unmarked : (f : Form) (o : Option ℕ) (bs : List ℕ) (rest : List Item) → IsWhole f bs → is_mark_form f ≡ false → prefix_len is_mark (items_by f o bs ++ rest) ≡ 0
+unmarked : (f : ItemForm) (o : Option ℕ) (bs : List ℕ) (rest : List Item) → IsWhole f bs → is_mark_form f ≡ false → prefix_len is_mark (items_by f o bs ++ rest) ≡ 0
 unmarked form.Chars o [] rest h n = absurd (omega arith)
 unmarked form.Chars o (b ∷ bs) rest h n = refl
 unmarked (form.Entity c) o bs rest h n = refl
@@ -55,7 +55,7 @@ unmarked form.EmptyCall o bs rest h n = true_false n
 abbrev IsOneMark : List Item → Type 0
 IsOneMark xs = (x : Item) × (xs ≡ x ∷ []) × (is_mark x ≡ true)
 
-marked : (f : Form) (o : Option ℕ) (bs : List ℕ) → is_mark_form f ≡ true → IsOneMark (items_by f o bs)
+marked : (f : ItemForm) (o : Option ℕ) (bs : List ℕ) → is_mark_form f ≡ true → IsOneMark (items_by f o bs)
 marked form.Chars o bs e = false_true e
 marked (form.Entity c) o bs e = false_true e
 marked form.Nowiki o bs e = false_true e

@@ -2,8 +2,8 @@
 use Rattle.std.proofs.Common.{◌≡◌, ℕ, Bool, true, false, Option, List, [], ◌∷◌, ◌++◌, map, refl, sym, ap, subst, cond}
 use Rattle.std.specs.Prelude.{if◌then◌else◌}
 use Rattle.std.proofs.lemmas.List.{map-append}
-use Rattle.wt_span.specs.declared.form.Form.{Form}
-use Rattle.wt_span.specs.declared.form.Form.TheVariants as form
+use Rattle.wt_span.specs.declared.form.ItemForm.{ItemForm}
+use Rattle.wt_span.specs.declared.form.ItemForm.TheVariants as form
 use Rattle.wt_span.specs.declared.form.Piece.{Piece}
 use Rattle.wt_span.specs.Slice.{bytes_of}
 use Rattle.wt_span.specs.Items.{char, sign, items, items_of, items_by, is_mark_form, call_of_origin}
@@ -19,7 +19,7 @@ pub signs_of_bytes : (o : Option ℕ) (bs : List ℕ) → map sign (map (char o)
 signs_of_bytes o [] = refl
 signs_of_bytes o (b ∷ bs) = ap (λ xs. b ∷ xs) (signs_of_bytes o bs)
 
-chars_by : (f : Form) (o : Option ℕ) (bs : List ℕ) → is_chars f ≡ true → map sign (items_by f o bs) ≡ bs
+chars_by : (f : ItemForm) (o : Option ℕ) (bs : List ℕ) → is_chars f ≡ true → map sign (items_by f o bs) ≡ bs
 chars_by form.Chars o bs e = signs_of_bytes o bs
 chars_by (form.Entity c) o bs e = false_true e
 chars_by form.Nowiki o bs e = false_true e
@@ -30,7 +30,7 @@ chars_by form.Include o bs e = false_true e
 chars_by form.Hidden o bs e = false_true e
 chars_by form.EmptyCall o bs e = false_true e
 
-whole_by : (f : Form) (o : Option ℕ) (bs : List ℕ) → is_chars f ≡ false → map sign (items_by f o bs) ≡ (if is_mark_form f then 257 else 256) ∷ []
+whole_by : (f : ItemForm) (o : Option ℕ) (bs : List ℕ) → is_chars f ≡ false → map sign (items_by f o bs) ≡ (if is_mark_form f then 257 else 256) ∷ []
 whole_by form.Chars o bs e = true_false e
 whole_by (form.Entity c) o bs e = refl
 whole_by form.Nowiki o bs e = refl

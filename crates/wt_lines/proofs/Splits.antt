@@ -4,15 +4,15 @@ use Rattle.std.specs.Prelude.{slice_get, ◌||◌, nat_lt, nat_le}
 use Rattle.std.proofs.lemmas.Bool.Decides.{nat_tests}
 use Rattle.std.specs.Str.{IsCharBoundary}
 use Rattle.std.proofs.lemmas.List.{take-map, drop-map, length-map, drop_more}
-use Rattle.wt_span.specs.declared.form.Form.{Form}
-use Rattle.wt_span.specs.declared.form.Form.TheVariants as form
+use Rattle.wt_span.specs.declared.form.ItemForm.{ItemForm}
+use Rattle.wt_span.specs.declared.form.ItemForm.TheVariants as form
 use Rattle.wt_span.specs.declared.form.Piece.{Piece}
 use Rattle.wt_span.specs.Slice.{bytes_of}
 use Rattle.wt_span.specs.Items.{Item, char, items, items_of, items_by, call_of_origin}
 use Rattle.wt_span.proofs.Lists.{take_append, drop_append}
 use Rattle.wt_lines.specs.Pieces.{is_chars, count_by, item_count, begins_char}
 
-pub count_is : (f : Form) (o : Option ℕ) (bs : List ℕ) → length (items_by f o bs) ≡ count_by (is_chars f) bs
+pub count_is : (f : ItemForm) (o : Option ℕ) (bs : List ℕ) → length (items_by f o bs) ≡ count_by (is_chars f) bs
 count_is form.Chars o bs = length-map bs (char o)
 count_is (form.Entity c) o bs = refl
 count_is form.Nowiki o bs = refl
@@ -24,7 +24,7 @@ count_is form.Hidden o bs = refl
 count_is form.EmptyCall o bs = refl
 
 -- a piece that is cut holds characters
-cut_chars : (f : Form) (o : Option ℕ) (bs : List ℕ) (n : ℕ) → 0 < n → n < count_by (is_chars f) bs → items_by f o bs ≡ map (char o) bs
+cut_chars : (f : ItemForm) (o : Option ℕ) (bs : List ℕ) (n : ℕ) → 0 < n → n < count_by (is_chars f) bs → items_by f o bs ≡ map (char o) bs
 cut_chars form.Chars o bs n s h = refl
 cut_chars (form.Entity c) o bs n s h = absurd (omega arith)
 cut_chars form.Nowiki o bs n s h = absurd (omega arith)
@@ -116,7 +116,7 @@ get_past (x ∷ xs) ys (suc n) h =
 high : (b : ℕ) → (nat_lt b 128 || nat_le 192 b) ≡ true → 128 ≤ b → 192 ≤ b
 high b e h = grind (arith, nat_tests)
 
-chars_only : (f : Form) (bs : List ℕ) (n : ℕ) → 0 < n → n < count_by (is_chars f) bs → n < length bs
+chars_only : (f : ItemForm) (bs : List ℕ) (n : ℕ) → 0 < n → n < count_by (is_chars f) bs → n < length bs
 chars_only form.Chars bs n s h = h
 chars_only (form.Entity c) bs n s h = absurd (omega arith)
 chars_only form.Nowiki bs n s h = absurd (omega arith)

@@ -1,8 +1,8 @@
 -- Pieces, and how their lengths are told in items.
 use Rattle.std.specs.Prelude.{◌≡◌, ◌<◌, ◌⊎◌, ℕ, ◌&&◌, ◌||◌, Bool, true, false, not, Option, Some, None, List, [], ◌∷◌, length, take, drop, nat_lt, nat_le}
 use Rattle.std.specs.List.{list_all, prefix_len, AllByRecursion}
-use Rattle.wt_span.specs.declared.form.Form.{Form}
-use Rattle.wt_span.specs.declared.form.Form.TheVariants as form
+use Rattle.wt_span.specs.declared.form.ItemForm.{ItemForm}
+use Rattle.wt_span.specs.declared.form.ItemForm.TheVariants as form
 use Rattle.wt_span.specs.declared.form.Piece.{Piece}
 use Rattle.wt_span.specs.Slice.{bytes_of}
 use Rattle.wt_span.specs.Bytes.{is_break}
@@ -13,7 +13,7 @@ use Rattle.wt_lines.specs.declared.line.Line.{Line}
 abbrev pub line_items : Line → List Item
 line_items l = items l.pieces
 
-abbrev pub is_chars : Form → Bool
+abbrev pub is_chars : ItemForm → Bool
 is_chars form.Chars = true
 is_chars f = false
 

@@ -6,19 +6,19 @@ ghost use Rattle.wt_span.specs.Items.{sign, items, items_of};
 ghost use Rattle.wt_lines.specs.Kinds.{is_idle, past};
 ghost use Rattle.wt_lines.specs.Signs.{right, number};
 
-use crate::sign::Sign;
+use crate::sign::LineSign;
 use wt_span::{Piece, front_of};
 
 /// The last sign of a piece, and the bytes before it.
 #[tactic(auto, using(crate::proofs::PieceSigns::signs_of_whole, crate::proofs::PieceSigns::signs_of_chars))]
-fn split_piece_last<'a>(piece: &Piece<'a>) -> Option<(Sign, &'a [u8])>
+fn split_piece_last<'a>(piece: &Piece<'a>) -> Option<(LineSign, &'a [u8])>
     ensures { MatchOption result (map sign (items_of piece.now) ≡ []) (λ r. map sign (items_of piece.now) ≡ r.1.now ++ (number r.0 ∷ [])) }
 {
-    if let Some(sign) = Sign::of_form(piece.form) {
+    if let Some(sign) = LineSign::of_form(piece.form) {
         return Some((sign, &[]));
     }
     let (byte, rest) = piece.text.as_str().as_bytes().split_last()?;
-    Some((Sign::Byte(*byte), rest))
+    Some((LineSign::Byte(*byte), rest))
 }
 
 /// What is left of a line to be read from its back.
@@ -38,12 +38,12 @@ impl<'p, 'a> BackSigns<'p, 'a> {
     }
 
     /// The last sign, and what is left before it.
-    pub fn split_last(self) -> Option<(Sign, BackSigns<'p, 'a>)>
+    pub fn split_last(self) -> Option<(LineSign, BackSigns<'p, 'a>)>
         ensures { MatchOption result (right self.entry ≡ []) (λ r. right self.entry ≡ number r.0 ∷ right r.1) }
     {
         if let Some((byte, bytes)) = self.bytes.split_last() {
             let pieces = self.pieces;
-            return Some((Sign::Byte(*byte), BackSigns { pieces, bytes }));
+            return Some((LineSign::Byte(*byte), BackSigns { pieces, bytes }));
         }
         let mut end = self.pieces.len();
         while end > 0 {

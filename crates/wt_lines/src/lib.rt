@@ -20,5 +20,5 @@ pub use laws::{one_set_of_lines, one_split};
 pub use line::Line;
 pub use partition::{chars_piece, is_break, is_chars, unbroken_len};
 pub use scan::{is_mark, marks_len};
-pub use sign::{Sign, Signs};
+pub use sign::{LineSign, Signs};
 pub use split::{item_count, split_items};

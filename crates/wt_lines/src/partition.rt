@@ -8,14 +8,14 @@ ghost use Rattle.wt_span.specs.Items.{items_of, char, call_of_origin};
 ghost use Rattle.wt_span.specs.Origins.{IsSoundPiece};
 ghost use Rattle.wt_lines.specs.Pieces.{is_chars, is_break_piece, IsParted, ArePartedBytes};
 
-use wt_span::{Form, Origin, Piece, Text};
+use wt_span::{ItemForm, Origin, Piece, Text};
 
 /// Characters, of which each is an item.
-pub fn is_chars(form: Form) -> bool
+pub fn is_chars(form: ItemForm) -> bool
     ensures { result ≡ is_chars form }
 {
     match form {
-        Form::Chars => true,
+        ItemForm::Chars => true,
         _ => false,
     }
 }
@@ -53,7 +53,7 @@ pub fn chars_piece<'a>(text: Text<'a>, origin: Origin) -> Piece<'a>
     };
     Piece {
         text,
-        form: Form::Chars,
+        form: ItemForm::Chars,
         origin,
     }
 }

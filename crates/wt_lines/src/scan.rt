@@ -5,15 +5,19 @@ ghost use Rattle.std.specs.List.{prefix_len};
 ghost use Rattle.wt_span.specs.Origins.{IsSoundPiece};
 ghost use Rattle.wt_lines.specs.Pieces.{AreLeadingMarks, is_mark_piece};
 
-use wt_span::{Form, Piece};
+use wt_span::{ItemForm, Piece};
 
 /// An invisible mark.
 pub fn is_mark(piece: &Piece<'_>) -> bool
     ensures { result ≡ is_mark_piece piece.now }
 {
     match piece.form {
-        Form::Chars | Form::Entity(_) | Form::Nowiki | Form::Extension | Form::Function => false,
-        Form::Comment | Form::Include | Form::Hidden | Form::EmptyCall => true,
+        ItemForm::Chars
+        | ItemForm::Entity(_)
+        | ItemForm::Nowiki
+        | ItemForm::Extension
+        | ItemForm::Function => false,
+        ItemForm::Comment | ItemForm::Include | ItemForm::Hidden | ItemForm::EmptyCall => true,
     }
 }
 

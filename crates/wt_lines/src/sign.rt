@@ -7,25 +7,28 @@ ghost use Rattle.wt_lines.specs.Kinds.{is_idle, is_mark_sign, is_idle_all, is_al
 ghost use Rattle.wt_lines.specs.Pieces.{is_chars};
 ghost use Rattle.wt_lines.specs.Signs.{left, number};
 
-use wt_span::{Form, Piece, rest_of};
+use wt_span::{ItemForm, Piece, rest_of};
 
 /// An item, as the signs of a line tell it: a byte of a character, any atom, or any invisible mark.
 #[derive(Clone, Copy, Debug, PartialEq, Eq)]
-pub enum Sign {
+pub enum LineSign {
     Byte(u8),
     Atom,
     Mark,
 }
 
-impl Sign {
+impl LineSign {
     /// The sign of an item that is no character.
-    pub fn of_form(form: Form) -> Option<Sign>
+    pub fn of_form(form: ItemForm) -> Option<LineSign>
         ensures { MatchOption result (is_chars form ≡ true) (λ s. (is_chars form ≡ false) × (number s ≡ (if is_mark_form form then 257 else 256))) }
     {
         match form {
-            Form::Chars => None,
-            Form::Entity(_) | Form::Nowiki | Form::Extension | Form::Function => Some(Sign::Atom),
-            Form::Comment | Form::Include | Form::Hidden | Form::EmptyCall => Some(Sign::Mark),
+            ItemForm::Chars => None,
+            ItemForm::Entity(_) | ItemForm::Nowiki | ItemForm::Extension | ItemForm::Function =>
+                Some(LineSign::Atom),
+            ItemForm::Comment | ItemForm::Include | ItemForm::Hidden | ItemForm::EmptyCall => Some(
+                LineSign::Mark,
+            ),
         }
     }
 
@@ -33,9 +36,9 @@ impl Sign {
         ensures { result ≡ (byte == number self) }
     {
         match self {
-            Sign::Byte(own) => byte == own,
-            Sign::Atom => false,
-            Sign::Mark => false,
+            LineSign::Byte(own) => byte == own,
+            LineSign::Atom => false,
+            LineSign::Mark => false,
         }
     }
 
@@ -43,9 +46,9 @@ impl Sign {
         ensures { result ≡ is_mark_sign (number self) }
     {
         match self {
-            Sign::Mark => true,
-            Sign::Atom => false,
-            Sign::Byte(_) => false,
+            LineSign::Mark => true,
+            LineSign::Atom => false,
+            LineSign::Byte(_) => false,
         }
     }
 
@@ -54,23 +57,23 @@ impl Sign {
         ensures { result ≡ is_idle (number self) }
     {
         match self {
-            Sign::Mark => true,
-            Sign::Atom => false,
-            Sign::Byte(byte) => byte == b' ' || byte == b'\t',
+            LineSign::Mark => true,
+            LineSign::Atom => false,
+            LineSign::Byte(byte) => byte == b' ' || byte == b'\t',
         }
     }
 }
 
 /// The first sign of a piece, and the bytes after it.
 #[tactic(auto, using(crate::proofs::PieceSigns::signs_of_whole, crate::proofs::PieceSigns::signs_of_chars))]
-fn split_piece<'a>(piece: &Piece<'a>) -> Option<(Sign, &'a [u8])>
+fn split_piece<'a>(piece: &Piece<'a>) -> Option<(LineSign, &'a [u8])>
     ensures { MatchOption result (map sign (items_of piece.now) ≡ []) (λ r. map sign (items_of piece.now) ≡ number r.0 ∷ r.1.now) }
 {
-    if let Some(sign) = Sign::of_form(piece.form) {
+    if let Some(sign) = LineSign::of_form(piece.form) {
         return Some((sign, &[]));
     }
     let (byte, rest) = piece.text.as_str().as_bytes().split_first()?;
-    Some((Sign::Byte(*byte), rest))
+    Some((LineSign::Byte(*byte), rest))
 }
 
 /// What is left of a line to be read from its front.
@@ -89,12 +92,12 @@ impl<'p, 'a> Signs<'p, 'a> {
     }
 
     /// The first sign, and what is left after it.
-    pub fn split_first(self) -> Option<(Sign, Signs<'p, 'a>)>
+    pub fn split_first(self) -> Option<(LineSign, Signs<'p, 'a>)>
         ensures { MatchOption result (left self.entry ≡ []) (λ r. left self.entry ≡ number r.0 ∷ left r.1) }
     {
         if let Some((byte, bytes)) = self.bytes.split_first() {
             let pieces = self.pieces;
-            return Some((Sign::Byte(*byte), Signs { bytes, pieces }));
+            return Some((LineSign::Byte(*byte), Signs { bytes, pieces }));
         }
         for (i, piece) in self.pieces.iter().enumerate() {
             if let Some((sign, bytes)) = split_piece(piece) {

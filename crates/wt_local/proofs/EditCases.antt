@@ -2,7 +2,7 @@
 use Rattle.std.proofs.Common.{◌≡◌, Bool, true, false, None, Some, [], ◌∷◌, refl, sym, inl, inr}
 use Rattle.std.specs.Prelude.{codes}
 use Rattle.wt_span.specs.Items.{char, whole}
-use Rattle.wt_span.specs.declared.form.Form.TheVariants as form
+use Rattle.wt_span.specs.declared.form.ItemForm.TheVariants as form
 use Rattle.wt_span.specs.Origins.{Expanded}
 use Rattle.wt_tree.specs.declared.kind.Kind.TheVariants as kind
 use Rattle.wt_tree.specs.Tree.{Tree}

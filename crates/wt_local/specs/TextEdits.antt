@@ -2,8 +2,8 @@
 use Rattle.std.specs.Prelude.{◌≡◌, ◌⊎◌, ◌≤◌, ◌-◌, ◌==◌, ◌&&◌, ℕ, Bool, true, false, not, Option, Some, None, List, [], ◌∷◌, drop, length, nat_eq, slice_get, count_by, codes, zip}
 use Rattle.std.specs.List.{AllByRecursion, ends_with}
 use Rattle.std.specs.Option.{is_some}
-use Rattle.wt_span.specs.declared.form.Form.{Form}
-use Rattle.wt_span.specs.declared.form.Form.TheVariants as form
+use Rattle.wt_span.specs.declared.form.ItemForm.{ItemForm}
+use Rattle.wt_span.specs.declared.form.ItemForm.TheVariants as form
 use Rattle.wt_span.specs.Items.{Item, char, whole}
 use Rattle.wt_span.specs.Origins.{Expanded}
 use Rattle.wt_span.specs.Tags.{Tag, opening_tag, with_inside}
@@ -108,7 +108,7 @@ abbrev pub is_tag_unclosed : Option Tag → List ℕ → Bool
 is_tag_unclosed None bs = false
 is_tag_unclosed (Some t) bs = not (is_some (with_inside t bs))
 
-abbrev pub is_unclosed : Form → List ℕ → Bool
+abbrev pub is_unclosed : ItemForm → List ℕ → Bool
 is_unclosed form.Chars bs = false
 is_unclosed (form.Entity c) bs = false
 is_unclosed form.Nowiki bs = false

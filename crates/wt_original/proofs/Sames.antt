@@ -9,7 +9,7 @@ use Rattle.wt_tree.specs.declared.kind.Kind.{Kind}
 use Rattle.wt_tree.specs.Tiling.{is_group}
 use Rattle.wt_tree.specs.Tree.{Tree, label}
 use Rattle.wt_tree.proofs.Views.{view_out}
-use Rattle.wt_tree.specs.Stream.{Sign, signs, signs_of_all}
+use Rattle.wt_tree.specs.Stream.{StreamToken, signs, signs_of_all}
 use Rattle.wt_tree.specs.View.{view, views}
 use Rattle.wt_tree.proofs.Adding.{attrs_one}
 use Rattle.wt_tree.proofs.Streams.{same_plain, same_signs}
@@ -51,7 +51,7 @@ unchanged_by p k t n b a e g i tells d =
     ∙ sym (ap (λ (c : Bool). c || p.same (restored p.kept t) k.node) h)
 
 -- plain views are the same where what is read of them is
-pub plains_decided : (t u : Tree) (a b : List Sign) (same : Bool) → a ≡ signs t → b ≡ signs u → Decides same (a ≡ b) → Decides same (plain t ≡ plain u)
+pub plains_decided : (t u : Tree) (a b : List StreamToken) (same : Bool) → a ≡ signs t → b ≡ signs u → Decides same (a ≡ b) → Decides same (plain t ≡ plain u)
 plains_decided t u a b same e f d = (λ s. same_plain t u (sym e ∙ d.0 s ∙ f), λ p. d.1 (e ∙ same_signs t u p ∙ sym f))
 
 pub kinds_decided : (a b c d : Kind) (same : Bool) → a ≡ c → b ≡ d → Decides same (a ≡ b) → Decides same (c ≡ d)

@@ -3,7 +3,7 @@ use Rattle.std.specs.Prelude.{◌≡◌, ℕ, Bool, List, map, option_copied, st
 use Rattle.wt_tree.specs.Tree.{Tree}
 use Rattle.wt_tree.specs.View.{attrs_of}
 use Rattle.wt_tree.specs.Plain.{Face}
-use Rattle.wt_tree.specs.Stream.{Sign as Mark, byte, bracket, opens, closes}
+use Rattle.wt_tree.specs.Stream.{StreamToken as Mark, byte, bracket, opens, closes}
 use Rattle.wt_original.specs.declared.page.Page.{Page as Known}
 use Rattle.wt_original.specs.declared.same.Face.{Face as Pointed}
 use Rattle.wt_original.specs.declared.same.Shown.{Shown}

@@ -28,7 +28,7 @@ use Rattle.wt_context.specs.Line.{context_parts, line_trees}
 use Rattle.wt_tree.specs.declared.kind.Kind.{Kind}
 use Rattle.wt_tree.specs.declared.kind.Kind.TheVariants as kind
 use Rattle.wt_tree.specs.declared.kind.AttrName.TheVariants as attr
-use Rattle.wt_span.specs.declared.form.Form.TheVariants as form
+use Rattle.wt_span.specs.declared.form.ItemForm.TheVariants as form
 use Rattle.wt_span.specs.Items.{Item, char, whole}
 use Rattle.wt_lines.specs.Kinds.{kind_of_signs}
 use Rattle.wt_blocks.specs.Nesting.{nested}

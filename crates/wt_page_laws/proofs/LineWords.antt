@@ -2,8 +2,8 @@
 use Rattle.std.proofs.Common.{◌≡◌, ℕ, zero, suc, ◌+◌, ◌-◌, Bool, true, false, Option, Some, None, List, [], ◌∷◌, length, drop, refl}
 use Rattle.std.specs.Prelude.{◌==◌, if◌then◌else◌}
 use Rattle.std.specs.List.{AllByRecursion}
-use Rattle.wt_span.specs.declared.form.Form.{Form}
-use Rattle.wt_span.specs.declared.form.Form.TheVariants as form
+use Rattle.wt_span.specs.declared.form.ItemForm.{ItemForm}
+use Rattle.wt_span.specs.declared.form.ItemForm.TheVariants as form
 use Rattle.wt_span.specs.Items.{Item, char, whole}
 use Rattle.wt_span.specs.Runs.{runs}
 use Rattle.wt_tiles.specs.declared.context.Context.{Context}
@@ -38,7 +38,7 @@ AreWords ps = AllByRecursion IsWord ps
 
 -- ---- items by themselves
 
-pub whole_role : (f : Form) (o : Option ℕ) (bs : List ℕ) → role_of (whole_tree f o bs) ≡ other
+pub whole_role : (f : ItemForm) (o : Option ℕ) (bs : List ℕ) → role_of (whole_tree f o bs) ≡ other
 unfolding nowiki
 whole_role form.Chars o bs = refl
 whole_role (form.Entity c) o bs = refl

@@ -8,7 +8,7 @@ use Rattle.wt_tree.specs.declared.kind.Kind.{Kind}
 use Rattle.wt_tree.specs.declared.kind.Kind.TheVariants as kind
 use Rattle.wt_tree.specs.declared.kind.Showing.TheVariants.{Element}
 use Rattle.wt_tree.specs.declared.row.Writing.TheVariants.{RoundChildren}
-use Rattle.wt_tree.specs.declared.row.Class.{Class}
+use Rattle.wt_tree.specs.declared.row.Placement.{Placement}
 use Rattle.wt_tree.specs.declared.row.Holding.{Holding}
 use Rattle.wt_tree.specs.declared.row.Texts.{Texts}
 use Rattle.wt_tree.specs.declared.row.Texts.TheVariants.{Separators}
@@ -38,7 +38,7 @@ IsInside k parent ts = ArePageNodes ts × IsOrdered (texts_of_kind parent) (all_
 
 -- a kind of element with children and a number
 pub record IsRound (q : Kind) : Type 0 where
-  pub class : Class
+  pub class : Placement
   pub holding : Holding
   pub texts : Texts
   pub shape_is : shape q ≡ row RoundChildren false true Element class holding texts NoData

@@ -8,7 +8,7 @@ use Rattle.wt_span.specs.Items.{Item, char, whole, sign}
 use Rattle.wt_tree.specs.declared.kind.AttrName.{AttrName}
 use Rattle.wt_tree.specs.declared.kind.Kind.{Kind}
 use Rattle.wt_tree.specs.declared.kind.Kind.TheVariants as kind
-use Rattle.wt_tree.specs.declared.row.Class.TheVariants.{Cell as CellClass, TablePart, Inline, Character, Block, List as ListClass}
+use Rattle.wt_tree.specs.declared.row.Placement.TheVariants.{Cell as CellClass, TablePart, Inline, Character, Block, List as ListClass}
 use Rattle.wt_tree.specs.declared.row.Holding.TheVariants.{InlinesThenBlocks}
 use Rattle.wt_tree.specs.declared.row.Texts.TheVariants.{Bordered}
 use Rattle.wt_tree.specs.Kinds.{is_class, shape, is_anywhere, styles, spelling}

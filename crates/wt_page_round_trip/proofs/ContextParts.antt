@@ -10,7 +10,7 @@ use Rattle.wt_span.proofs.RunLaws.{runs_are}
 use Rattle.wt_tree.specs.declared.kind.Kind.TheVariants as node_kind
 use Rattle.wt_tree.specs.declared.kind.AttrName.TheVariants as attr
 use Rattle.wt_tiles.specs.declared.context.Context.{Context}
-use Rattle.wt_tiles.specs.declared.glyph.Class.TheVariants as class
+use Rattle.wt_tiles.specs.declared.glyph.GlyphClass.TheVariants as class
 use Rattle.wt_tiles.specs.declared.shape.Shape.{Shape}
 use Rattle.wt_tiles.specs.declared.shape.TileKind.{TileKind}
 use Rattle.wt_tiles.specs.declared.shape.TileKind.TheVariants as kind

@@ -1,7 +1,7 @@
 -- The meaning of an expanded page has at most two numbers for each byte.
 use Rattle.std.proofs.Common.{◌≡◌, ℕ, ◌+◌, ◌-◌, ◌*◌, ◌<◌, ◌≤◌, Bool, Option, Some, List, [], ◌∷◌, length, ap, subst, arith, length-append, length-take, length-drop}
-use Rattle.wt_span.specs.declared.form.Form.{Form}
-use Rattle.wt_span.specs.declared.form.Form.TheVariants as form
+use Rattle.wt_span.specs.declared.form.ItemForm.{ItemForm}
+use Rattle.wt_span.specs.declared.form.ItemForm.TheVariants as form
 use Rattle.wt_span.specs.Items.{Item, char, whole, sources}
 use Rattle.wt_span.specs.Tags.{Tag, opening_tag, raw_by}
 use Rattle.wt_lex.proofs.TagForms.{OptTag, TagFits, opening_fits}
@@ -35,7 +35,7 @@ nowiki_few o bs h =
     let d = length-take (inside_len bs) (behind bs) in
     omega (arith, nowiki_inside o bs, t.0, t.1, c, d)
 
-form_few : (f : Form) (o : Option ℕ) (bs : List ℕ) → IsFormOf f bs → numbered (whole_tree f o bs) ≤ length bs
+form_few : (f : ItemForm) (o : Option ℕ) (bs : List ℕ) → IsFormOf f bs → numbered (whole_tree f o bs) ≤ length bs
 form_few form.Chars o bs h = absurd h
 form_few (form.Entity c) o bs h = omega (arith, form_long (form.Entity c) bs h)
 form_few form.Nowiki o bs h = nowiki_few o bs h

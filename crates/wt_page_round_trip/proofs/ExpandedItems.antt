@@ -3,8 +3,8 @@ use Rattle.std.proofs.Common.{◌≡◌, ℕ, suc, ◌+◌, ◌-◌, ◌≤◌, 
 use Rattle.std.specs.Prelude.{slice_index}
 use Rattle.std.proofs.lemmas.Str.{IsUtf8-nil}
 use Rattle.wt_span.specs.declared.form.Mode.TheVariants as mode
-use Rattle.wt_span.specs.declared.form.Form.{Form}
-use Rattle.wt_span.specs.declared.form.Form.TheVariants as form
+use Rattle.wt_span.specs.declared.form.ItemForm.{ItemForm}
+use Rattle.wt_span.specs.declared.form.ItemForm.TheVariants as form
 use Rattle.wt_span.specs.Bytes.{is_break}
 use Rattle.wt_span.specs.Items.{Item, char, whole}
 use Rattle.wt_span.specs.Origins.{OuterCall}
@@ -54,7 +54,7 @@ called_texts k run [] h = h
 called_texts k run (char o b ∷ xs) h = (called_seam k xs, called_texts k (run ++ b ∷ []) xs h.1)
 called_texts k run (whole f o bs ∷ xs) h = (h.0, called_texts k [] xs h.3)
 
-by_call : (f : Form) (k : ℕ) → IsGivenBy f (Some k)
+by_call : (f : ItemForm) (k : ℕ) → IsGivenBy f (Some k)
 by_call form.Chars k = tt
 by_call (form.Entity c) k = tt
 by_call form.Nowiki k = tt

@@ -4,8 +4,8 @@ use Rattle.std.specs.Prelude.{slice_get, slice_index}
 use Rattle.std.proofs.lemmas.Bool.Decides.{nat_tests}
 use Rattle.std.proofs.lemmas.List.{drop-drop, drop-append-le, length-take-le, take-append-drop, take-take, drop_all, length-drop}
 use Rattle.wt_span.specs.declared.form.Mode.TheVariants as mode
-use Rattle.wt_span.specs.declared.form.Form.{Form}
-use Rattle.wt_span.specs.declared.form.Form.TheVariants as form
+use Rattle.wt_span.specs.declared.form.ItemForm.{ItemForm}
+use Rattle.wt_span.specs.declared.form.ItemForm.TheVariants as form
 use Rattle.wt_span.specs.declared.form.LexKind.{LexKind}
 use Rattle.wt_span.specs.Bytes.{is_break}
 use Rattle.wt_span.specs.Braces.{Member, Members, lexeme, call, none, more, width, width_of_all}
@@ -89,11 +89,11 @@ chars_follow : (calls : List OuterCall) (k : ℕ) (cs : List ℕ) (ys : List Ite
 chars_follow calls k [] ys bs h o b = h o b
 chars_follow calls k (c ∷ cs) ys bs h o b = ap₂ (λ us vs. us ++ vs) (page_step o (c ∷ [])) (chars_follow calls k cs ys bs h None tt)
 
-whole_follows : (calls : List OuterCall) (k : ℕ) (f : Form) (cs : List ℕ) (ys : List Item) (bs : List ℕ) → Follows calls k ys bs
+whole_follows : (calls : List OuterCall) (k : ℕ) (f : ItemForm) (cs : List ℕ) (ys : List Item) (bs : List ℕ) → Follows calls k ys bs
     → Follows calls k (whole f None cs ∷ ys) (cs ++ bs)
 whole_follows calls k f cs ys bs h o b = ap₂ (λ us vs. us ++ vs) (page_step o cs) (h None tt)
 
-form_follows : (calls : List OuterCall) (k : ℕ) (f : Form) (cs : List ℕ) (ys : List Item) (bs : List ℕ) → Follows calls k ys bs
+form_follows : (calls : List OuterCall) (k : ℕ) (f : ItemForm) (cs : List ℕ) (ys : List Item) (bs : List ℕ) → Follows calls k ys bs
     → Follows calls k (items_by f None cs ++ ys) (cs ++ bs)
 form_follows calls k form.Chars cs ys bs h = chars_follow calls k cs ys bs h
 form_follows calls k (form.Entity c) cs ys bs h = whole_follows calls k (form.Entity c) cs ys bs h

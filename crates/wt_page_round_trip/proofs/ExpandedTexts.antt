@@ -5,8 +5,8 @@ use Rattle.std.specs.Str.{IsCharBoundary}
 use Rattle.std.proofs.lemmas.List.{drop-drop, drop-append-le, length-take-le, take-append-drop, take-take, drop_all, length-drop}
 use Rattle.std.proofs.lemmas.Str.{IsUtf8-nil, IsUtf8-take, IsUtf8-drop, IsCharBoundary-after_ascii}
 use Rattle.wt_span.specs.declared.form.Mode.TheVariants as mode
-use Rattle.wt_span.specs.declared.form.Form.{Form}
-use Rattle.wt_span.specs.declared.form.Form.TheVariants as form
+use Rattle.wt_span.specs.declared.form.ItemForm.{ItemForm}
+use Rattle.wt_span.specs.declared.form.ItemForm.TheVariants as form
 use Rattle.wt_span.specs.declared.form.LexKind.{LexKind}
 use Rattle.wt_span.specs.declared.form.LexKind.TheVariants as lex
 use Rattle.wt_span.specs.Bytes.{is_break}
@@ -34,7 +34,7 @@ chars_own : (run bs : List ℕ) (ys : List Item) → AreOwnTexts (run ++ bs) ys 
 chars_own run [] ys h = subst (λ r. AreOwnTexts r ys) (append-nil run) h
 chars_own run (b ∷ bs) ys h = chars_own (run ++ b ∷ []) bs ys (subst (λ r. AreOwnTexts r ys) (sym (append_assoc run (b ∷ []) bs)) h)
 
-form_own : (f : Form) (run bs : List ℕ) (ys : List Item) → (is_chars f ≡ true → AreOwnTexts (run ++ bs) ys)
+form_own : (f : ItemForm) (run bs : List ℕ) (ys : List Item) → (is_chars f ≡ true → AreOwnTexts (run ++ bs) ys)
     → (is_chars f ≡ false → IsUtf8 run × IsUtf8 bs × AreOwnTexts [] ys) → AreOwnTexts run (items_by f None bs ++ ys)
 form_own form.Chars run bs ys g h = chars_own run bs ys (g refl)
 form_own (form.Entity c) run bs ys g h = h refl

@@ -6,8 +6,8 @@ use Rattle.std.specs.List.{AllByRecursion, list_all, prefix_len}
 use Rattle.std.specs.Option.{option_or}
 use Rattle.std.specs.Str.Parse.{digits_value}
 use Rattle.std.proofs.lemmas.Bool.{and_parts}
-use Rattle.wt_span.specs.declared.form.Form.{Form}
-use Rattle.wt_span.specs.declared.form.Form.TheVariants as form
+use Rattle.wt_span.specs.declared.form.ItemForm.{ItemForm}
+use Rattle.wt_span.specs.declared.form.ItemForm.TheVariants as form
 use Rattle.wt_span.specs.declared.form.LexKind.{LexKind}
 use Rattle.wt_span.specs.declared.form.Mode.{Mode}
 use Rattle.wt_span.specs.declared.form.Mode.TheVariants as mode
@@ -134,11 +134,11 @@ call_long m bs h =
 -- ---- any form
 
 -- a whole form, in whatever bytes
-abbrev pub IsFormOf : Form → List ℕ → Type 0
+abbrev pub IsFormOf : ItemForm → List ℕ → Type 0
 IsFormOf form.Chars bs = ⊥
 IsFormOf f bs = IsWhole f bs
 
-pub form_of_page : (f : Form) (bs : List ℕ) → IsPageForm f bs → IsFormOf f bs
+pub form_of_page : (f : ItemForm) (bs : List ℕ) → IsPageForm f bs → IsFormOf f bs
 form_of_page form.Chars bs h = h
 form_of_page (form.Entity c) bs h = h.0
 form_of_page form.Nowiki bs h = h.0
@@ -152,7 +152,7 @@ form_of_page form.EmptyCall bs h = h.0
 entity_form_long : (c : ℕ) (bs : List ℕ) → entity_at bs ≡ Some (c, length bs) → 1 < length bs
 entity_form_long c bs h = subst OptLong h (entity_long bs)
 
-pub form_long : (f : Form) (bs : List ℕ) → IsFormOf f bs → 1 < length bs
+pub form_long : (f : ItemForm) (bs : List ℕ) → IsFormOf f bs → 1 < length bs
 form_long form.Chars bs h = absurd h
 form_long (form.Entity c) bs h = entity_form_long c bs h
 form_long form.Nowiki bs h = raw_long _ bs h

@@ -11,8 +11,8 @@ use Rattle.std.proofs.lemmas.Bool.Decides.{nat_tests}
 use Rattle.std.proofs.lemmas.Str.{IsUtf8-encode, IsUtf8-take, IsUtf8-drop, IsCharBoundary-start}
 use lib.Utf8.{scalar}
 use Rattle.json.proofs.Printed.Utf8.{IsUtf8-are_ascii}
-use Rattle.wt_span.specs.declared.form.Form.{Form}
-use Rattle.wt_span.specs.declared.form.Form.TheVariants as form
+use Rattle.wt_span.specs.declared.form.ItemForm.{ItemForm}
+use Rattle.wt_span.specs.declared.form.ItemForm.TheVariants as form
 use Rattle.wt_span.specs.Bytes.{begins}
 use Rattle.wt_span.specs.Entities.{named_in, entity_names, named_entity, is_entity_number, numbered as numbered_entity, decimal_entity, hex_entity, entity_at}
 use Rattle.wt_span.specs.Items.{whole, is_mark_form}
@@ -223,7 +223,7 @@ empty_node k parent (Some n) bs g h = record {
 }
 
 -- a mark may stand in any node
-pub mark_node : (k : ℕ) (parent : Kind) (f : Form) (o : Option ℕ) (bs : List ℕ) → k < 200 → is_mark_form f ≡ true → IsPageItem (whole f o bs)
+pub mark_node : (k : ℕ) (parent : Kind) (f : ItemForm) (o : Option ℕ) (bs : List ℕ) → k < 200 → is_mark_form f ≡ true → IsPageItem (whole f o bs)
     → IsWrittenNode k parent (whole_tree f o bs)
 mark_node k parent form.Chars o bs small m h = absurd h.1
 mark_node k parent (form.Entity c) o bs small m h = absurd cc

@@ -6,8 +6,8 @@ use Rattle.std.proofs.lemmas.Str.{IsUtf8-nil, IsUtf8-append}
 use Rattle.wt_span.specs.declared.form.Mode.{Mode}
 use Rattle.wt_span.specs.declared.form.LexKind.{LexKind}
 use Rattle.wt_span.specs.declared.form.LexKind.TheVariants as lex
-use Rattle.wt_span.specs.declared.form.Form.{Form}
-use Rattle.wt_span.specs.declared.form.Form.TheVariants as form
+use Rattle.wt_span.specs.declared.form.ItemForm.{ItemForm}
+use Rattle.wt_span.specs.declared.form.ItemForm.TheVariants as form
 use Rattle.wt_span.specs.Tags.{Tag, opening_tag, is_nowiki}
 use Rattle.wt_span.specs.Items.{Item, char, whole, is_char_in, items_by}
 use Rattle.wt_names.proofs.Utf8.{one_byte, utf8_around}
@@ -105,7 +105,7 @@ trimmed_utf8 bs u =
 
 -- ---- lexemes
 
-given_form : (f : Form) (bs : List ℕ) → (f ≡ form.EmptyCall → ⊥) → IsUtf8 bs → AllWhole (items_by f None bs) → AreGiven [] (items_by f None bs)
+given_form : (f : ItemForm) (bs : List ℕ) → (f ≡ form.EmptyCall → ⊥) → IsUtf8 bs → AllWhole (items_by f None bs) → AreGiven [] (items_by f None bs)
 given_form form.Chars bs n u w = given_chars bs u
 given_form (form.Entity c) bs n u w = (IsUtf8-nil, refl, (tt, (w.0, u)), IsUtf8-nil)
 given_form form.Nowiki bs n u w = (IsUtf8-nil, refl, (tt, (w.0, u)), IsUtf8-nil)

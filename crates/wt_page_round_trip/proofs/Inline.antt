@@ -3,8 +3,8 @@ use Rattle.std.proofs.Common.{◌≡◌, ℕ, zero, suc, ◌-◌, ◌<◌, ◌�
 use Rattle.std.specs.Prelude.{◌||◌}
 use Rattle.std.specs.List.{AllByRecursion, list_all, list_any}
 use Rattle.std.proofs.lemmas.Str.{IsUtf8-take, IsUtf8-drop}
-use Rattle.wt_span.specs.declared.form.Form.{Form}
-use Rattle.wt_span.specs.declared.form.Form.TheVariants as form
+use Rattle.wt_span.specs.declared.form.ItemForm.{ItemForm}
+use Rattle.wt_span.specs.declared.form.ItemForm.TheVariants as form
 use Rattle.wt_span.specs.Entities.{entity_at}
 use Rattle.wt_span.specs.Items.{Item, char, whole}
 use Rattle.wt_span.specs.Runs.{runs, AreRuns}
@@ -87,7 +87,7 @@ own_one : (o : Option ℕ) (b : ℕ) (ps : List Part) → OwnIfNone o ps → Own
 own_one None b ps h = (refl, h)
 own_one (Some k) b ps h = tt
 
-own_whole : (o : Option ℕ) (f : Form) (bs : List ℕ) (ps : List Part) → OwnIfNone o ps → OwnIfNone o (inside_part (whole f o bs) ∷ ps)
+own_whole : (o : Option ℕ) (f : ItemForm) (bs : List ℕ) (ps : List Part) → OwnIfNone o ps → OwnIfNone o (inside_part (whole f o bs) ∷ ps)
 own_whole None f bs ps h = ((refl, refl), h)
 own_whole (Some k) f bs ps h = tt
 
@@ -242,7 +242,7 @@ pub record IsInlineParent (parent : Kind) : Type 0 where
   pub text : holds_text parent ≡ true
   pub elements : (k : Kind) → admits Inlines (shape k).class ≡ true → may_hold parent k ≡ true
 
-pub form_node : (k : ℕ) (parent : Kind) (f : Form) (o : Option ℕ) (bs : List ℕ) → k < 199 → IsInlineParent parent → IsPageItem (whole f o bs)
+pub form_node : (k : ℕ) (parent : Kind) (f : ItemForm) (o : Option ℕ) (bs : List ℕ) → k < 199 → IsInlineParent parent → IsPageItem (whole f o bs)
     → IsWrittenNode k parent (whole_tree f o bs)
 form_node k parent form.Chars o bs small p h = absurd h.1
 form_node k parent (form.Entity c) o bs small p h = entity_node k parent o c bs (omega arith) (p.elements kind.Entity refl) h.1
@@ -262,7 +262,7 @@ or_right false c e = e
 pub bold_parent : IsInlineParent kind.Bold
 bold_parent = record { text = refl; elements = λ k h. or_right (is_anywhere (shape k).class) _ h }
 
-form_written : (f : Form) (o : Option ℕ) (bs : List ℕ) → IsPageItem (whole f o bs) → IsWrittenNode 0 kind.Bold (whole_tree f o bs)
+form_written : (f : ItemForm) (o : Option ℕ) (bs : List ℕ) → IsPageItem (whole f o bs) → IsWrittenNode 0 kind.Bold (whole_tree f o bs)
 form_written f o bs h = form_node 0 kind.Bold f o bs (omega arith) bold_parent h
 
 -- items as parts, whichever their characters are

@@ -10,7 +10,7 @@ use Rattle.wt_span.specs.Runs.{put, runs, IsRun, AreRuns}
 use Rattle.wt_span.proofs.RunLaws.{runs_are}
 use Rattle.wt_tree.specs.declared.kind.Kind.{Kind}
 use Rattle.wt_tree.specs.declared.kind.Kind.TheVariants as kind
-use Rattle.wt_tree.specs.declared.row.Class.TheVariants.{List as ListClass, Item as ItemClass, Term, Inline, Character}
+use Rattle.wt_tree.specs.declared.row.Placement.TheVariants.{List as ListClass, Item as ItemClass, Term, Inline, Character}
 use Rattle.wt_tree.specs.declared.row.Holding.TheVariants.{Items, Terms, InlinesThenLists}
 use Rattle.wt_tree.specs.declared.row.Texts.TheVariants.{Separators, Bordered}
 use Rattle.wt_tree.specs.Kinds.{is_class, may_hold, shape, is_anywhere, spelling}

@@ -6,8 +6,8 @@ use Rattle.std.proofs.lemmas.List.{take-append-drop}
 use Rattle.std.proofs.lemmas.Bool.{eq-eqb}
 use Rattle.std.proofs.lemmas.Str.{IsUtf8-append, IsUtf8-nil, IsUtf8-take, IsUtf8-drop}
 use Rattle.wt_span.specs.declared.form.LexKind.{LexKind}
-use Rattle.wt_span.specs.declared.form.Form.{Form}
-use Rattle.wt_span.specs.declared.form.Form.TheVariants as form
+use Rattle.wt_span.specs.declared.form.ItemForm.{ItemForm}
+use Rattle.wt_span.specs.declared.form.ItemForm.TheVariants as form
 use Rattle.wt_span.specs.Items.{Item, char, whole, sources}
 use Rattle.wt_span.specs.Whole.{IsWhole}
 use Rattle.wt_lex.proofs.Forms.{FormFits, begins_low}
@@ -16,12 +16,12 @@ use Rattle.wt_inline.specs.Parts.{same_origin}
 use Rattle.wt_page_round_trip.proofs.TextItems.{continues, IfOther, IsSeam, AreTexts, before_low}
 
 -- a whole form, with a source in UTF-8
-abbrev pub IsPageForm : Form → List ℕ → Type 0
+abbrev pub IsPageForm : ItemForm → List ℕ → Type 0
 IsPageForm form.Chars bs = ⊥
 IsPageForm f bs = IsWhole f bs × IsUtf8 bs
 
 -- the mark of an empty call comes from that call, and any other form from the page or a call
-abbrev pub IsGivenBy : Form → Option ℕ → Type 0
+abbrev pub IsGivenBy : ItemForm → Option ℕ → Type 0
 IsGivenBy form.Chars o = Unit {0}
 IsGivenBy (form.Entity c) o = Unit {0}
 IsGivenBy form.Nowiki o = Unit {0}
@@ -48,7 +48,7 @@ pub record ArePageItems (xs : List Item) : Type 0 where
 pub no_page_items : ArePageItems []
 no_page_items = record { texts = IsUtf8-nil; page = tt }
 
-pub form_page : (f : Form) (o : Option ℕ) (bs : List ℕ) → IsGivenBy f o → IsPageForm f bs → ArePageItems (whole f o bs ∷ [])
+pub form_page : (f : ItemForm) (o : Option ℕ) (bs : List ℕ) → IsGivenBy f o → IsPageForm f bs → ArePageItems (whole f o bs ∷ [])
 form_page f o bs g h = record { texts = (IsUtf8-nil, IsUtf8-nil); page = ((g, h), tt) }
 
 -- ---- characters of one origin
@@ -99,7 +99,7 @@ chars_on run bs n u = subst IsUtf8 (ap (λ x. run ++ x) (sym (take-append-drop n
 
 -- ---- sources
 
-pub form_utf8 : (f : Form) (bs : List ℕ) → IsPageForm f bs → IsUtf8 bs
+pub form_utf8 : (f : ItemForm) (bs : List ℕ) → IsPageForm f bs → IsUtf8 bs
 form_utf8 form.Chars bs h = absurd h
 form_utf8 (form.Entity c) bs h = h.1
 form_utf8 form.Nowiki bs h = h.1

@@ -2,8 +2,8 @@
 -- meaning, too.
 use Rattle.std.proofs.Common.{◌≡◌, ℕ, zero, suc, ◌-◌, ◌<◌, Option, Some, None, List, [], ◌∷◌, ◌++◌, length, map, refl, sym, ap, ap₂, ◌∙◌, subst, cond, arith, append_assoc, append-nil}
 use Rattle.std.specs.List.{AllByRecursion}
-use Rattle.wt_span.specs.declared.form.Form.{Form}
-use Rattle.wt_span.specs.declared.form.Form.TheVariants as form
+use Rattle.wt_span.specs.declared.form.ItemForm.{ItemForm}
+use Rattle.wt_span.specs.declared.form.ItemForm.TheVariants as form
 use Rattle.wt_span.specs.Cuts.{page_of, text_by}
 use Rattle.wt_span.specs.Entities.{entity_at}
 use Rattle.wt_span.specs.Items.{Item, char, whole, source, sources, call_of}
@@ -48,7 +48,7 @@ inside_of_origin o n [] = tt
 inside_of_origin o (suc n) (b ∷ bs) = inside_of_origin o n bs
 inside_of_origin o zero (b ∷ bs) = read_of o (entity_at (b ∷ bs)) b bs (λ n. inside_items o n bs) (λ n. inside_of_origin o n bs)
 
-opened_of_whole : (f : Form) (o : Option ℕ) (bs : List ℕ) → AllOf o (opened_whole f o bs)
+opened_of_whole : (f : ItemForm) (o : Option ℕ) (bs : List ℕ) → AllOf o (opened_whole f o bs)
 opened_of_whole form.Chars o bs = (refl, tt)
 opened_of_whole (form.Entity c) o bs = (refl, tt)
 opened_of_whole form.Nowiki o bs =

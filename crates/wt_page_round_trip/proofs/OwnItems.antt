@@ -3,7 +3,7 @@
 use Rattle.std.proofs.Common.{ℕ, Option, Some, None, List, [], ◌∷◌, ◌++◌, IsUtf8, subst, append-nil}
 use Rattle.std.proofs.lemmas.Str.{IsUtf8-nil}
 use Rattle.wt_span.specs.Items.{Item, char, whole}
-use Rattle.wt_span.specs.declared.form.Form.{Form}
+use Rattle.wt_span.specs.declared.form.ItemForm.{ItemForm}
 use Rattle.wt_inline.specs.ItemTree.{ItemTree, inner, ItemTrees, nothing, further}
 use Rattle.wt_page_round_trip.specs.GroupTexts.{AreOwnTexts, HoldsTexts, AllHoldTexts}
 use Rattle.wt_page_round_trip.proofs.TextItems.{IsSeam, AreTexts, before_first, begin_seam, shift}
@@ -13,7 +13,7 @@ use Rattle.wt_page_round_trip.proofs.PageNodes.{IsPageNode, ArePageNodes}
 
 -- ---- items
 
-form_source : (f : Form) (o : Option ℕ) (bs : List ℕ) → IsPageItem (whole f o bs) → IsUtf8 bs
+form_source : (f : ItemForm) (o : Option ℕ) (bs : List ℕ) → IsPageItem (whole f o bs) → IsUtf8 bs
 form_source f o bs h = subst IsUtf8 (append-nil bs) (page_utf8 (whole f o bs ∷ []) (record { texts = (IsUtf8-nil, IsUtf8-nil); page = (h, tt) }))
 
 mutual

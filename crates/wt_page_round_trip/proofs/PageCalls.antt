@@ -10,7 +10,7 @@ use Rattle.wt_span.specs.declared.form.Mode.TheVariants as mode
 use Rattle.wt_span.specs.declared.form.LexKind.{LexKind}
 use Rattle.wt_span.specs.declared.form.LexKind.TheVariants as lex
 use Rattle.wt_span.specs.Bytes.{is_break}
-use Rattle.wt_span.specs.Braces.{Member, Members, lexeme, call, none, more, listed, width, width_of_all, Sign, pipe, equals, sign_of, in_link, PartAt, parts_of}
+use Rattle.wt_span.specs.Braces.{Member, Members, lexeme, call, none, more, listed, width, width_of_all, PartSign, pipe, equals, sign_of, in_link, PartAt, parts_of}
 use Rattle.wt_span.specs.Items.{Item}
 use Rattle.wt_span.specs.Origins.{Span, OuterCall, IsSoundCall}
 use Rattle.wt_braces.specs.PartMembers.{PartMembers, with_member, with_equals, with_sign_of, later_after, split_members, part_members, placed, name_width, width_of}
@@ -65,7 +65,7 @@ with_equals_few : (n : ℕ) (ps : List PartMembers) → length (with_equals n ps
 with_equals_few n [] = omega arith
 with_equals_few n (p ∷ ps) = omega arith
 
-with_sign_few : (later : Bool) (x : Member) (ss : List Sign) (ps : List PartMembers) → length (with_sign_of later x ss ps) ≤ suc (length ps)
+with_sign_few : (later : Bool) (x : Member) (ss : List PartSign) (ps : List PartMembers) → length (with_sign_of later x ss ps) ≤ suc (length ps)
 with_sign_few later x [] ps = omega (arith, with_member_few x ps)
 with_sign_few later x (pipe at n ∷ ss) ps = omega arith
 with_sign_few true x (equals at n ∷ ss) ps = omega (arith, with_equals_few n ps)
@@ -74,7 +74,7 @@ with_sign_few false x (equals at n ∷ ss) ps = omega (arith, with_member_few x 
 split_few : (later : Bool) (at : ℕ) (before xs : List Member) → length (split_members later at before xs) ≤ suc (length xs)
 split_few later at before [] = omega arith
 split_few later at before (x ∷ xs) =
-    let ss : List Sign = if in_link before xs then [] else sign_of x at in
+    let ss : List PartSign = if in_link before xs then [] else sign_of x at in
     let rest = split_few (later_after later ss) (at + width x) (x ∷ before) xs in
     omega (arith, with_sign_few later x ss (split_members (later_after later ss) (at + width x) (x ∷ before) xs), rest)
 

@@ -6,8 +6,8 @@ use Rattle.std.specs.List.{AllByRecursion}
 use Rattle.std.proofs.lemmas.Str.{IsUtf8-nil, IsUtf8-append}
 use Rattle.std.proofs.lemmas.Bool.Decides.{nat_tests}
 use Rattle.wt_span.specs.Items.{Item, char, whole, is_mark_form}
-use Rattle.wt_span.specs.declared.form.Form.{Form}
-use Rattle.wt_span.specs.declared.form.Form.TheVariants as form
+use Rattle.wt_span.specs.declared.form.ItemForm.{ItemForm}
+use Rattle.wt_span.specs.declared.form.ItemForm.TheVariants as form
 use Rattle.wt_tree.specs.declared.kind.Kind.{Kind}
 use Rattle.wt_tree.specs.declared.kind.Kind.TheVariants as kind
 use Rattle.wt_tree.specs.Kinds.{texts_of_kind, is_inline}
@@ -101,7 +101,7 @@ separated_shown k parent s (node t ∷ ps) a = (a.0.0.shown, separated_shown k p
 
 -- ---- gaps
 
-mark_stands : (f : Form) (o : Option ℕ) (bs : List ℕ) → is_mark_form f ≡ true → goes_first (head_of (whole_tree f o bs)).kind ≡ false
+mark_stands : (f : ItemForm) (o : Option ℕ) (bs : List ℕ) → is_mark_form f ≡ true → goes_first (head_of (whole_tree f o bs)).kind ≡ false
 mark_stands form.Chars o bs e = absurd cc
 mark_stands (form.Entity c) o bs e = absurd cc
 mark_stands form.Nowiki o bs e = absurd cc

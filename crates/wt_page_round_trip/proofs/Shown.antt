@@ -7,8 +7,8 @@ use Rattle.wt_tree.specs.declared.kind.Kind.{Kind}
 use Rattle.wt_tree.specs.declared.kind.Kind.TheVariants as kind
 use Rattle.wt_tree.specs.declared.kind.Showing.{Showing}
 use Rattle.wt_tree.specs.declared.kind.Showing.TheVariants.{Characters, Inside, Nothing, Element}
-use Rattle.wt_tree.specs.declared.row.Class.{Class}
-use Rattle.wt_tree.specs.declared.row.Class.TheVariants as class
+use Rattle.wt_tree.specs.declared.row.Placement.{Placement}
+use Rattle.wt_tree.specs.declared.row.Placement.TheVariants as class
 use Rattle.wt_tree.specs.declared.row.Holding.{Holding}
 use Rattle.wt_tree.specs.declared.row.Holding.TheVariants as holding
 use Rattle.wt_tree.specs.declared.row.Texts.{Texts}
@@ -105,7 +105,7 @@ entity_shown q l s e held shown =
 
 -- ---- what a nowiki shows
 
-nowiki_holds : (h : Holding) (c : Class) → admits h class.Inline ≡ true → (is_anywhere c || admits holding.Entities c) ≡ true
+nowiki_holds : (h : Holding) (c : Placement) → admits h class.Inline ≡ true → (is_anywhere c || admits holding.Entities c) ≡ true
     → (is_anywhere c || admits h c) ≡ true
 nowiki_holds holding.Inlines class.Anywhere a e = refl
 nowiki_holds holding.Inlines class.Mark a e = refl

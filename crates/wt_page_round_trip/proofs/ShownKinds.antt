@@ -4,8 +4,8 @@ use Rattle.std.specs.Prelude.{◌&&◌, ◌||◌, not}
 use Rattle.wt_tree.specs.declared.kind.Kind.{Kind}
 use Rattle.wt_tree.specs.declared.kind.Kind.TheVariants as kind
 use Rattle.wt_tree.specs.declared.kind.Showing.TheVariants.{Nothing, Element}
-use Rattle.wt_tree.specs.declared.row.Class.{Class}
-use Rattle.wt_tree.specs.declared.row.Class.TheVariants as class
+use Rattle.wt_tree.specs.declared.row.Placement.{Placement}
+use Rattle.wt_tree.specs.declared.row.Placement.TheVariants as class
 use Rattle.wt_tree.specs.declared.row.Holding.{Holding}
 use Rattle.wt_tree.specs.declared.row.Holding.TheVariants as holding
 use Rattle.wt_tree.specs.declared.row.Texts.TheVariants.{Separators, Page, OwnCharacter}
@@ -45,13 +45,13 @@ takes_inline holding.Cells = false
 takes_inline holding.InlinesThenLists = false
 takes_inline holding.InlinesThenBlocks = false
 
-abbrev pub is_block_class : Class → Bool
+abbrev pub is_block_class : Placement → Bool
 is_block_class c = is_class c class.Block || is_class c class.List
 
-abbrev pub is_inline_class : Class → Bool
+abbrev pub is_inline_class : Placement → Bool
 is_inline_class c = is_class c class.Inline || is_class c class.Character
 
-pub block_held : (h : Holding) (c : Class) → takes_inline h ≡ true → (is_anywhere c || admits h c) ≡ true → is_block_class c ≡ false
+pub block_held : (h : Holding) (c : Placement) → takes_inline h ≡ true → (is_anywhere c || admits h c) ≡ true → is_block_class c ≡ false
 block_held holding.NoElements class.Block a e = absurd cc
 block_held holding.Inlines class.Block a e = absurd cc
 block_held holding.Entities class.Block a e = absurd cc
@@ -75,7 +75,7 @@ takes_none holding.Cells = true
 takes_none holding.InlinesThenLists = false
 takes_none holding.InlinesThenBlocks = false
 
-pub inline_held : (h : Holding) (c : Class) → takes_none h ≡ true → (is_anywhere c || admits h c) ≡ true → is_inline_class c ≡ false
+pub inline_held : (h : Holding) (c : Placement) → takes_none h ≡ true → (is_anywhere c || admits h c) ≡ true → is_inline_class c ≡ false
 inline_held holding.Inlines class.Inline a e = absurd cc
 inline_held holding.Entities class.Inline a e = absurd cc
 inline_held holding.InlinesThenLists class.Inline a e = absurd cc

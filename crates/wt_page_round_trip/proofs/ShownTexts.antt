@@ -5,8 +5,8 @@ use Rattle.std.specs.List.{prefix_len}
 use Rattle.std.proofs.lemmas.Bool.{eqb-true}
 use Rattle.std.proofs.lemmas.Bool.Decides.{nat_tests}
 use Rattle.std.proofs.lemmas.Str.{IsUtf8-nil, IsUtf8-append}
-use Rattle.wt_span.specs.declared.form.Form.{Form}
-use Rattle.wt_span.specs.declared.form.Form.TheVariants as form
+use Rattle.wt_span.specs.declared.form.ItemForm.{ItemForm}
+use Rattle.wt_span.specs.declared.form.ItemForm.TheVariants as form
 use Rattle.wt_span.specs.Bytes.{is_blank}
 use Rattle.wt_span.specs.Items.{Item, char, whole}
 use Rattle.wt_names.proofs.Utf8.{utf8_around}
@@ -17,7 +17,7 @@ use Rattle.wt_page_round_trip.proofs.TextItems.{AreTexts}
 use Rattle.wt_page_round_trip.proofs.OfPage.{IsPageForm, AreOfPage, ArePageItems}
 use Rattle.wt_page_round_trip.proofs.Forms.{entity_utf8}
 
-whole_shown : (f : Form) (bs : List ℕ) → IsPageForm f bs → IsUtf8 (shown_whole f)
+whole_shown : (f : ItemForm) (bs : List ℕ) → IsPageForm f bs → IsUtf8 (shown_whole f)
 whole_shown form.Chars bs h = absurd h
 whole_shown (form.Entity c) bs h = entity_utf8 c bs h.0
 whole_shown form.Nowiki bs h = IsUtf8-nil
@@ -37,7 +37,7 @@ shown_behind run (whole f o bs ∷ xs) t p = IsUtf8-append run (shown_whole f ++
 pub shown_utf8 : (xs : List Item) → ArePageItems xs → IsUtf8 (text_of xs)
 shown_utf8 xs h = shown_behind [] xs h.texts h.page
 
-same_by : (f : Form) → characters_by f ≡ shown_whole f
+same_by : (f : ItemForm) → characters_by f ≡ shown_whole f
 same_by form.Chars = refl
 same_by (form.Entity c) = refl
 same_by form.Nowiki = refl

@@ -16,8 +16,8 @@ use Rattle.wt_tree.specs.declared.row.Values.TheVariants as value
 use Rattle.wt_tree.specs.declared.row.Own.{Own}
 use Rattle.wt_tree.specs.Kinds.{own, spelling}
 use Rattle.wt_names.proofs.Utf8.{utf8_around}
-use Rattle.wt_attributes.specs.declared.class.Class.{Class}
-use Rattle.wt_attributes.specs.declared.class.Class.TheVariants as class
+use Rattle.wt_attributes.specs.declared.class.ScanClass.{ScanClass}
+use Rattle.wt_attributes.specs.declared.class.ScanClass.TheVariants as class
 use Rattle.wt_attributes.specs.Attributes.{Named, Read, begins_any_case, after_word, name_at, quoted, bare, after_sign, opened, value_at, past_blanks, after_equals, value_in, assigned, with_name, with_value, attribute_at, going_on, readings, same_name, value_of, named_in, attributes}
 use Rattle.wt_attributes.specs.Characters.{text_of}
 use Rattle.wt_attributes.specs.Classes.{run_len}
@@ -43,7 +43,7 @@ abbrev IsNamed : Read Named → Type 0
 IsNamed None = Unit {0}
 IsNamed (Some r) = IsUtf8 r.0.1
 
-quoted_read : (c : Class) (bs : List ℕ) → IsUtf8 bs → IsRead (quoted c bs)
+quoted_read : (c : ScanClass) (bs : List ℕ) → IsUtf8 bs → IsRead (quoted c bs)
 unfolding quoted
 quoted_read c bs u = by_test (nat_lt (run_len c bs) (length bs))
   where

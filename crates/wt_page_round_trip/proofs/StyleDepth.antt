@@ -5,7 +5,7 @@ use Rattle.std.specs.List.{AllByRecursion, prefix_len}
 use Rattle.std.proofs.lemmas.Bool.Decides.{nat_tests}
 use Rattle.std.proofs.lemmas.List.Elements.{All-head, All-tail}
 use Rattle.wt_quotes.specs.declared.chunk.Chunk.{Chunk}
-use Rattle.wt_quotes.specs.declared.turn.Turn.{Turn}
+use Rattle.wt_quotes.specs.declared.turn.PlacedToggle.{PlacedToggle}
 use Rattle.wt_quotes.specs.declared.style.Style.{Style}
 use Rattle.wt_quotes.specs.declared.style.End.{End}
 use Rattle.wt_quotes.specs.Runs.{bytes_of}
@@ -39,7 +39,7 @@ all_if : (P : Style → Type 0) (b : Bool) (u : Style) → P u → AllByRecursio
 all_if P true u h = (h, tt)
 all_if P false u h = tt
 
-begun_all : (P : Style → Type 0) (total : ℕ) (t : Turn) (ts : List Turn) → ((s : Bool) → P (style_from s t (ending s total ts)))
+begun_all : (P : Style → Type 0) (total : ℕ) (t : PlacedToggle) (ts : List PlacedToggle) → ((s : Bool) → P (style_from s t (ending s total ts)))
     → AllByRecursion P (styles_by total ts) → AllByRecursion P (styles_by total (t ∷ ts))
 begun_all P total t ts h hs =
     all_both P (begun t.bold_outside total t ts ++ begun (not t.bold_outside) total t ts) (styles_by total ts)
@@ -54,8 +54,8 @@ behind : (x : Style) (total : ℕ) (had_bold had_italic outside : Bool) (s : ℕ
     (made had_bold had_italic outside (step s b i flag))) + x.close_w
     → AreSteps (s + bytes_by b i) total rs → AllByRecursion (IsApart x) (styles_by total (run had_bold had_italic outside (step s b i flag ∷ rs)))
 behind x total had_bold had_italic outside s b i flag rs e h =
-    let t : Turn = made had_bold had_italic outside (step s b i flag) in
-    let rest : List Turn = run (toggled b had_bold) (toggled i had_italic) (outside_after had_bold had_italic b i flag) rs in
+    let t : PlacedToggle = made had_bold had_italic outside (step s b i flag) in
+    let rest : List PlacedToggle = run (toggled b had_bold) (toggled i had_italic) (outside_after had_bold had_italic b i flag) rs in
     let all : taken t ≡ bytes_by b i = taken_by had_bold had_italic outside s b i flag in
     begun_all (IsApart x) total t rest (λ j. inl (omega (arith, e, (opening_in j t).0)))
     (weaker (λ u. s + bytes_by b i ≤ u.from) (IsApart x) (λ u l. inl (omega (arith, l, e, all))) (styles_by total rest)
@@ -70,13 +70,13 @@ round_bold : (x : Style) (total low : ℕ) (had_italic outside : Bool) (rs : Lis
 round_bold x total low had_italic outside [] h is = tt
 round_bold x total low had_italic outside (step s false false flag ∷ rs) h is = absurd (cc)
 round_bold x total low had_italic outside (step s true i flag ∷ rs) h is =
-    let t : Turn = made true had_italic outside (step s true i flag) in
+    let t : PlacedToggle = made true had_italic outside (step s true i flag) in
     let w : closing_width true t ≡ 3 = refl in
     behind x total true had_italic outside s true i flag rs (omega (arith, is.1, is.2, w, (closing_in true t).1)) h.2
 round_bold x total low false outside (step s false true flag ∷ rs) h is = (inr (ap not (sym is.0)), round_bold x total (s + 2) true true rs h.2 is)
 round_bold x total low true true (step s false true flag ∷ rs) h is = round_bold x total (s + 2) false false rs h.2 is
 round_bold x total low true false (step s false true flag ∷ rs) h is =
-    let t : Turn = made true true false (step s false true flag) in
+    let t : PlacedToggle = made true true false (step s false true flag) in
     let w : closing_width false t ≡ 2 = refl in
     let p : closing_place true t ≡ s + (0 + 0) = refl in
     behind x total true true false s false true flag rs (omega (arith, is.1, w, p)) h.2
@@ -86,13 +86,13 @@ round_italic : (x : Style) (total low : ℕ) (had_bold outside : Bool) (rs : Lis
 round_italic x total low had_bold outside [] h is = tt
 round_italic x total low had_bold outside (step s false false flag ∷ rs) h is = absurd (cc)
 round_italic x total low had_bold outside (step s b true flag ∷ rs) h is =
-    let t : Turn = made had_bold true outside (step s b true flag) in
+    let t : PlacedToggle = made had_bold true outside (step s b true flag) in
     let w : closing_width false t ≡ 2 = refl in
     behind x total had_bold true outside s b true flag rs (omega (arith, is.1, is.2, w, (closing_in false t).1)) h.2
 round_italic x total low false outside (step s true false flag ∷ rs) h is = (inr (ap not (sym is.0)), round_italic x total (s + 3) true false rs h.2 is)
 round_italic x total low true false (step s true false flag ∷ rs) h is = round_italic x total (s + 3) false false rs h.2 is
 round_italic x total low true true (step s true false flag ∷ rs) h is =
-    let t : Turn = made true true true (step s true false flag) in
+    let t : PlacedToggle = made true true true (step s true false flag) in
     let w : closing_width true t ≡ 3 = refl in
     let p : closing_place false t ≡ s + (0 + 0) = refl in
     behind x total true true true s true false flag rs (omega (arith, is.1, w, p)) h.2
@@ -103,13 +103,13 @@ abbrev pub ArePairs : List Style → Type 0
 ArePairs [] = Unit {0}
 ArePairs (u ∷ us) = AllByRecursion (IsApart u) us × ArePairs us
 
-one_bold : (total n : ℕ) (t : Turn) (had_italic outside : Bool) (rs : List Step) → AreSteps n total rs
+one_bold : (total n : ℕ) (t : PlacedToggle) (had_italic outside : Bool) (rs : List Step) → AreSteps n total rs
     → ArePairs (styles_by total (run true had_italic outside rs))
     → ArePairs (style_from true t (ending true total (run true had_italic outside rs)) ∷ styles_by total (run true had_italic outside rs))
 one_bold total n t had_italic outside rs h hs =
     (round_bold (style_from true t (ending true total (run true had_italic outside rs))) total n had_italic outside rs h (refl, refl, refl), hs)
 
-one_italic : (total n : ℕ) (t : Turn) (had_bold outside : Bool) (rs : List Step) → AreSteps n total rs
+one_italic : (total n : ℕ) (t : PlacedToggle) (had_bold outside : Bool) (rs : List Step) → AreSteps n total rs
     → ArePairs (styles_by total (run had_bold true outside rs))
     → ArePairs (style_from false t (ending false total (run had_bold true outside rs)) ∷ styles_by total (run had_bold true outside rs))
 one_italic total n t had_bold outside rs h hs =
@@ -128,14 +128,14 @@ pairs total low false false o (step s false true true ∷ rs) h =
 pairs total low false false o (step s false true false ∷ rs) h =
     one_italic total (s + 2) (made false false o (step s false true false)) false false rs h.2 (pairs total (s + 2) false true false rs h.2)
 pairs total low false false o (step s true true true ∷ rs) h =
-    let t : Turn = made false false o (step s true true true) in
+    let t : PlacedToggle = made false false o (step s true true true) in
     let bold : Style = style_from true t (ending true total (run true true true rs)) in (
       (inr refl, round_bold bold total (s + 5) true true rs h.2 (refl, refl, refl)),
       one_italic total (s + 5) t true true rs h.2
           (pairs total (s + 5) true true true rs h.2),
     )
 pairs total low false false o (step s true true false ∷ rs) h =
-    let t : Turn = made false false o (step s true true false) in
+    let t : PlacedToggle = made false false o (step s true true false) in
     let italic : Style = style_from false t (ending false total (run true true false rs)) in (
       (inr refl, round_italic italic total (s + 5) true false rs h.2 (refl, refl, refl)),
       one_bold total (s + 5) t true false rs h.2

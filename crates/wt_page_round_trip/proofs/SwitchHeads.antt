@@ -7,8 +7,8 @@ use Rattle.std.proofs.Math.Seq.{take-add}
 use Rattle.std.proofs.lemmas.Bool.{eqb-true}
 use Rattle.std.proofs.lemmas.List.{drop-map}
 use Rattle.json.proofs.Printed.Utf8.{are_ascii, IsUtf8-are_ascii}
-use Rattle.wt_span.specs.declared.form.Form.{Form}
-use Rattle.wt_span.specs.declared.form.Form.TheVariants as form
+use Rattle.wt_span.specs.declared.form.ItemForm.{ItemForm}
+use Rattle.wt_span.specs.declared.form.ItemForm.TheVariants as form
 use Rattle.wt_span.specs.Items.{Item, char, whole, sources}
 use Rattle.wt_tree.specs.declared.kind.Kind.TheVariants as node_kind
 use Rattle.wt_tree.specs.declared.kind.AttrName.TheVariants as attr
@@ -28,7 +28,7 @@ use Rattle.wt_tiles.specs.declared.tag.TagShape.TheVariants.{Opening, Alone, Clo
 use Rattle.wt_tiles.specs.declared.target.LinkKind.{LinkKind}
 use Rattle.wt_tiles.specs.declared.target.LinkKind.TheVariants as link_kind
 use Rattle.wt_tiles.specs.declared.target.Target.{Target}
-use Rattle.wt_tiles.specs.declared.glyph.Class.TheVariants as class
+use Rattle.wt_tiles.specs.declared.glyph.GlyphClass.TheVariants as class
 use Rattle.wt_tiles.specs.Glyphs.{glyph_of, glyph_of_form, is_in, begins, first_is, run_len}
 use Rattle.wt_tiles.specs.Tags.{tag_at}
 use Rattle.wt_tiles.specs.Links.{leaf, target_of, target_len, kind_of, has_pipe, inner_len, head_len, link_shape, link_with, link_to, link_by, link_in, link_at}
@@ -172,7 +172,7 @@ tile_switch cx after (glyph.Mark ∷ gs) w k e = absurd (none_switch kind.Mark w
 
 -- ---- its source
 
-form_none : (p : ℕ → Bool) (f : Form) → is_in p (glyph_of_form f) ≡ false
+form_none : (p : ℕ → Bool) (f : ItemForm) → is_in p (glyph_of_form f) ≡ false
 form_none p form.Chars = refl
 form_none p (form.Entity c) = refl
 form_none p form.Nowiki = refl

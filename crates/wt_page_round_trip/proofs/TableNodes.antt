@@ -14,7 +14,7 @@ use Rattle.wt_lex.proofs.Begins.{begins_get, begins_len}
 use Rattle.wt_tree.specs.declared.kind.AttrName.{AttrName}
 use Rattle.wt_tree.specs.declared.kind.Kind.{Kind}
 use Rattle.wt_tree.specs.declared.kind.Kind.TheVariants as kind
-use Rattle.wt_tree.specs.declared.row.Class.TheVariants.{Block, TablePart, TableRow}
+use Rattle.wt_tree.specs.declared.row.Placement.TheVariants.{Block, TablePart, TableRow}
 use Rattle.wt_tree.specs.declared.row.Holding.TheVariants.{TableParts, TableRows, Cells}
 use Rattle.wt_tree.specs.declared.row.Texts.TheVariants.{Separators}
 use Rattle.wt_tree.specs.Kinds.{spelling}

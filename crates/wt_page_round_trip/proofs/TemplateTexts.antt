@@ -8,8 +8,8 @@ use Rattle.std.proofs.lemmas.Bool.{eqb-true}
 use Rattle.std.proofs.lemmas.Str.{IsUtf8-nil, IsUtf8-append, IsUtf8-from_is_utf8}
 use Rattle.json.proofs.Printed.Utf8.{IsUtf8-are_ascii}
 use Rattle.wt_span.specs.declared.form.Mode.TheVariants as mode
-use Rattle.wt_span.specs.declared.form.Form.{Form}
-use Rattle.wt_span.specs.declared.form.Form.TheVariants as form
+use Rattle.wt_span.specs.declared.form.ItemForm.{ItemForm}
+use Rattle.wt_span.specs.declared.form.ItemForm.TheVariants as form
 use Rattle.wt_span.specs.Items.{Item, char, whole}
 use Rattle.wt_names.specs.declared.namespace.Ns.{Ns}
 use Rattle.wt_names.specs.declared.namespace.Ns.TheVariants.{Main, Talk, User, UserTalk, Project, ProjectTalk, File, FileTalk, Template, TemplateTalk, Help, HelpTalk, Category, CategoryTalk}
@@ -209,7 +209,7 @@ more_text : (run : List ℕ) (b : ℕ) (o : Option (List ℕ)) → OptText (run 
 more_text run b None h = tt
 more_text run b (Some cs) h = subst IsUtf8 (append_assoc run (b ∷ []) cs) h
 
-form_text : (f : Form) (bs : List ℕ) → IsPageForm f bs → OptText [] (target_of_form f bs)
+form_text : (f : ItemForm) (bs : List ℕ) → IsPageForm f bs → OptText [] (target_of_form f bs)
 form_text form.Chars bs h = absurd h
 form_text (form.Entity c) bs h = entity_utf8 c bs h.0
 form_text form.Nowiki bs h = tt

@@ -6,7 +6,7 @@ use Rattle.wt_span.specs.Bytes.{begins}
 use Rattle.wt_span.specs.Items.{Item}
 use Rattle.wt_tree.specs.declared.kind.Kind.{Kind}
 use Rattle.wt_tree.specs.declared.kind.Kind.TheVariants as kind
-use Rattle.wt_tree.specs.declared.row.Class.TheVariants.{Block}
+use Rattle.wt_tree.specs.declared.row.Placement.TheVariants.{Block}
 use Rattle.wt_tree.specs.declared.row.Holding.TheVariants.{Inlines}
 use Rattle.wt_tree.specs.declared.row.Texts.TheVariants.{Page}
 use Rattle.wt_tree.specs.Kinds.{texts_of_kind, shape, is_anywhere, spelling}

@@ -11,7 +11,7 @@ use Rattle.wt_span.specs.declared.function.Function.TheVariants.{If, IfEq, Switc
 use Rattle.wt_span.specs.Functions.{function_of}
 use Rattle.wt_span.specs.declared.form.Mode.{Mode}
 use Rattle.wt_span.specs.declared.form.Mode.TheVariants as mode
-use Rattle.wt_span.specs.declared.form.Form.TheVariants as form
+use Rattle.wt_span.specs.declared.form.ItemForm.TheVariants as form
 use Rattle.wt_span.specs.Bytes.{is_break}
 use Rattle.wt_span.specs.Whole.{IsWhole}
 use Rattle.wt_span.specs.Items.{Item, whole}

@@ -2,8 +2,8 @@
 use Rattle.std.proofs.Common.{ℕ, zero, suc, ◌+◌, ◌-◌, Bool, true, false, Option, Some, None, List, [], ◌∷◌, ◌++◌, length, map, take, drop, refl, sym, subst}
 use Rattle.std.specs.Prelude.{◌==◌, if◌then◌else◌}
 use Rattle.std.specs.List.{AllByRecursion, flat_map}
-use Rattle.wt_span.specs.declared.form.Form.{Form}
-use Rattle.wt_span.specs.declared.form.Form.TheVariants as form
+use Rattle.wt_span.specs.declared.form.ItemForm.{ItemForm}
+use Rattle.wt_span.specs.declared.form.ItemForm.TheVariants as form
 use Rattle.wt_span.specs.Items.{Item, char, whole}
 use Rattle.wt_span.specs.Runs.{runs, AreRuns}
 use Rattle.wt_span.proofs.RunLaws.{runs_are}
@@ -36,7 +36,7 @@ use Rattle.wt_page_round_trip.proofs.Bordered.{IsInlineKind, IsLinePart}
 
 -- ---- items by themselves
 
-whole_line : (f : Form) (o : Option ℕ) (bs : List ℕ) → IsPageItem (whole f o bs) → IsInlineKind (head_of (whole_tree f o bs)).kind
+whole_line : (f : ItemForm) (o : Option ℕ) (bs : List ℕ) → IsPageItem (whole f o bs) → IsInlineKind (head_of (whole_tree f o bs)).kind
 unfolding nowiki
 whole_line form.Chars o bs h = absurd h.1
 whole_line (form.Entity c) o bs h = record { block = refl; group = refl }

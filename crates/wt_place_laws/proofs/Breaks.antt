@@ -6,8 +6,8 @@ use Rattle.std.proofs.lemmas.List.Concat.{flat_map-cons}
 use Rattle.wt_span.specs.Bytes.{is_break}
 use Rattle.wt_span.specs.Items.{Item, char, is_char_in, items, items_by, items_of, call_of_origin}
 use Rattle.wt_span.specs.Slice.{bytes_of}
-use Rattle.wt_span.specs.declared.form.Form.{Form}
-use Rattle.wt_span.specs.declared.form.Form.TheVariants as form
+use Rattle.wt_span.specs.declared.form.ItemForm.{ItemForm}
+use Rattle.wt_span.specs.declared.form.ItemForm.TheVariants as form
 use Rattle.wt_span.specs.declared.form.Piece.{Piece}
 use Rattle.wt_lines.specs.Pieces.{AllParted, IsParted, IsPartedBy, ArePartedBytes, is_chars, is_break_piece, no_break, starts_break}
 use Rattle.wt_place_laws.specs.Fronts.{BreaksStandAlone, how_many}
@@ -51,7 +51,7 @@ made o (b ∷ bs) = ap suc (made o bs)
 -- ---- one piece
 
 -- what is said of one piece of this form and these bytes
-record Stands (f : Form) (o : Option ℕ) (bs : List ℕ) : Type 0 where
+record Stands (f : ItemForm) (o : Option ℕ) (bs : List ℕ) : Type 0 where
   breaks : breaks (items_by f o bs) ≡ cond (is_chars f && starts_break bs) 1 0
   alone : (is_chars f && starts_break bs) ≡ true → length (items_by f o bs) ≡ 1
   some : 1 ≤ length (items_by f o bs)
@@ -68,7 +68,7 @@ chars_stand o bs (inr h) =
       some = omega arith;
     }
 
-stand : (f : Form) (o : Option ℕ) (bs : List ℕ) → IsPartedBy (is_chars f) bs → Stands f o bs
+stand : (f : ItemForm) (o : Option ℕ) (bs : List ℕ) → IsPartedBy (is_chars f) bs → Stands f o bs
 stand form.Chars o bs h = chars_stand o bs h
 stand f o bs h = record { breaks = refl; alone = λ t. cc; some = omega arith }
 

@@ -5,7 +5,7 @@ use Rattle.std.proofs.lemmas.Bool.Decides.{nat_tests}
 use Rattle.std.proofs.lemmas.List.Elements.{All-head, All-tail, All-weaker}
 use Rattle.std.proofs.lemmas.List.Sums.{sum_by-append, sum_by-cons}
 use Rattle.wt_quotes.specs.declared.turn.Effect.{Effect}
-use Rattle.wt_quotes.specs.declared.turn.Turn.{Turn}
+use Rattle.wt_quotes.specs.declared.turn.PlacedToggle.{PlacedToggle}
 use Rattle.wt_quotes.specs.declared.style.Style.{Style}
 use Rattle.wt_quotes.specs.declared.style.End.{End}
 use Rattle.wt_quotes.specs.Styles.{effect_of, opening_width, closing_width, closing_place, opening_place, begins, stops, ending, style_from, begun, styles_by}
@@ -46,7 +46,7 @@ count_if : (q : Style → Bool) (b : Bool) (u : Style) → count_by q (if b then
 count_if q true u = omega arith
 count_if q false u = refl
 
-count_two : (q : Style → Bool) (total : ℕ) (t : Turn) (ts : List Turn) (f : Bool) →
+count_two : (q : Style → Bool) (total : ℕ) (t : PlacedToggle) (ts : List PlacedToggle) (f : Bool) →
     count_by q (begun f total t ts ++ begun (not f) total t ts)
     ≡ cond (begins (effect_of true t) && q (style_from true t (ending true total ts))) 1 0
     + cond (begins (effect_of false t) && q (style_from false t (ending false total ts))) 1 0
@@ -64,7 +64,7 @@ count_two q total t ts false = omega (
 )
 
 -- the styles that begin at a toggle, and the others
-pub count_styles : (q : Style → Bool) (total : ℕ) (t : Turn) (ts : List Turn) →
+pub count_styles : (q : Style → Bool) (total : ℕ) (t : PlacedToggle) (ts : List PlacedToggle) →
     count_by q (styles_by total (t ∷ ts))
     ≡ (cond (begins (effect_of true t) && q (style_from true t (ending true total ts))) 1 0
     + cond (begins (effect_of false t) && q (style_from false t (ending false total ts))) 1 0)
@@ -160,8 +160,8 @@ held_after_bold : (p total s : ℕ) (b i flag had_bold had_italic outside : Bool
     → Held true p total (toggled b had_bold) (toggled i had_italic) (outside_after had_bold had_italic b i flag) rs
     → Held true p total had_bold had_italic outside (step s b i flag ∷ rs)
 held_after_bold p total s b i flag had_bold had_italic outside rs l is =
-    let t : Turn = made had_bold had_italic outside (step s b i flag) in
-    let ts : List Turn = run (toggled b had_bold) (toggled i had_italic) (outside_after had_bold had_italic b i flag) rs in
+    let t : PlacedToggle = made had_bold had_italic outside (step s b i flag) in
+    let ts : List PlacedToggle = run (toggled b had_bold) (toggled i had_italic) (outside_after had_bold had_italic b i flag) rs in
     let later : End = ending true total ts in
     let here : End = record { to = closing_place true t; close_w = closing_width true t } in
     let begun_is : holds true p (style_from true t later) ≡ inside p later =
@@ -179,8 +179,8 @@ held_after_italic : (p total s : ℕ) (b i flag had_bold had_italic outside : Bo
     → Held false p total (toggled b had_bold) (toggled i had_italic) (outside_after had_bold had_italic b i flag) rs
     → Held false p total had_bold had_italic outside (step s b i flag ∷ rs)
 held_after_italic p total s b i flag had_bold had_italic outside rs l is =
-    let t : Turn = made had_bold had_italic outside (step s b i flag) in
-    let ts : List Turn = run (toggled b had_bold) (toggled i had_italic) (outside_after had_bold had_italic b i flag) rs in
+    let t : PlacedToggle = made had_bold had_italic outside (step s b i flag) in
+    let ts : List PlacedToggle = run (toggled b had_bold) (toggled i had_italic) (outside_after had_bold had_italic b i flag) rs in
     let later : End = ending false total ts in
     let here : End = record { to = closing_place false t; close_w = closing_width false t } in
     let begun_is : holds false p (style_from false t later) ≡ inside p later =

@@ -3,7 +3,7 @@ use Rattle.std.proofs.Common.{◌≡◌, ℕ, ◌+◌, ◌<◌, ◌≤◌, Bool,
 use Rattle.std.specs.Prelude.{◌&&◌, ◌||◌, if◌then◌else◌, nat_lt, nat_le, count_by}
 use Rattle.std.proofs.lemmas.Bool.{cases_lt}
 use Rattle.std.proofs.lemmas.Bool.Decides.{nat_tests}
-use Rattle.wt_quotes.specs.declared.turn.Turn.{Turn}
+use Rattle.wt_quotes.specs.declared.turn.PlacedToggle.{PlacedToggle}
 use Rattle.wt_quotes.specs.declared.style.Style.{Style}
 use Rattle.wt_quotes.specs.declared.style.End.{End}
 use Rattle.wt_quotes.specs.Styles.{width, opening_bytes, closing_bytes, opening_width, closing_width, closing_place, opening_place, begins, ending, style_from, styles_by}
@@ -139,20 +139,20 @@ cut_before p total s b i flag had_bold had_italic outside rs h l =
 
 -- past the toggle
 
-past_begun : (k : Bool) (p : ℕ) (t : Turn) (later : End) → opening_place k t + opening_width k t ≤ p → delimits p (style_from k t later) ≡ shut p later
+past_begun : (k : Bool) (p : ℕ) (t : PlacedToggle) (later : End) → opening_place k t + opening_width k t ≤ p → delimits p (style_from k t later) ≡ shut p later
 past_begun k p t later l =
     ap (λ x. x || shut p later) (and_false (nat_le (opening_place k t) p) (nat_lt p (opening_place k t + opening_width k t))
     (lt_no p (opening_place k t + opening_width k t) l))
 
-past_here : (k : Bool) (p : ℕ) (t : Turn) → closing_place k t ≤ p → shut p (record { to = closing_place k t; close_w = closing_width k t }) ≡ false
+past_here : (k : Bool) (p : ℕ) (t : PlacedToggle) → closing_place k t ≤ p → shut p (record { to = closing_place k t; close_w = closing_width k t }) ≡ false
 past_here k p t l = and_false (nat_le (closing_place k t) (p + closing_width k t)) (nat_lt p (closing_place k t)) (lt_no p (closing_place k t) l)
 
 cut_after : (p total s : ℕ) (b i flag had_bold had_italic outside : Bool) (rs : List Step) → s + bytes_by b i ≤ p
     → Cut p total (toggled b had_bold) (toggled i had_italic) (outside_after had_bold had_italic b i flag) rs
     → Cut p total had_bold had_italic outside (step s b i flag ∷ rs)
 cut_after p total s b i flag had_bold had_italic outside rs l is =
-    let t : Turn = made had_bold had_italic outside (step s b i flag) in
-    let ts : List Turn = run (toggled b had_bold) (toggled i had_italic) (outside_after had_bold had_italic b i flag) rs in
+    let t : PlacedToggle = made had_bold had_italic outside (step s b i flag) in
+    let ts : List PlacedToggle = run (toggled b had_bold) (toggled i had_italic) (outside_after had_bold had_italic b i flag) rs in
     let all = taken_by had_bold had_italic outside s b i flag in
     let bold = one_kind (shut p) b had_bold (i && ((had_bold && had_italic) && not outside))
     (delimits p (style_from true t (ending true total ts)))
@@ -175,8 +175,8 @@ cut_after p total s b i flag had_bold had_italic outside rs l is =
 cut_at : (p total s : ℕ) (b i flag had_bold had_italic outside : Bool) (rs : List Step) → AreSteps (s + bytes_by b i) total rs
     → s ≤ p → p < s + bytes_by b i → Cut p total had_bold had_italic outside (step s b i flag ∷ rs)
 cut_at p total s b i flag had_bold had_italic outside rs h l m =
-    let t : Turn = made had_bold had_italic outside (step s b i flag) in
-    let ts : List Turn = run (toggled b had_bold) (toggled i had_italic) (outside_after had_bold had_italic b i flag) rs in
+    let t : PlacedToggle = made had_bold had_italic outside (step s b i flag) in
+    let ts : List PlacedToggle = run (toggled b had_bold) (toggled i had_italic) (outside_after had_bold had_italic b i flag) rs in
     let none = count_behind p total (s + bytes_by b i) (toggled b had_bold) (toggled i had_italic) (outside_after had_bold had_italic b i flag) rs h m in
     let no_bold = shut_behind true p total (s + bytes_by b i) (toggled b had_bold) (toggled i had_italic) (outside_after had_bold had_italic b i flag) rs h m in
     let no_italic = shut_behind false p total (s + bytes_by b i) (toggled b had_bold) (toggled i had_italic)

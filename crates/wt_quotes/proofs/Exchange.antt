@@ -9,8 +9,8 @@ use Rattle.std.proofs.lemmas.List.Quantifiers.{position-Some}
 use Rattle.std.proofs.lemmas.Option.{slice_get-get_or}
 use Rattle.wt_quotes.specs.declared.chunk.Chunk.{Chunk}
 use Rattle.wt_quotes.specs.declared.toggle.Toggle.{Toggle}
-use Rattle.wt_quotes.specs.declared.toggle.Class.{Class}
-use Rattle.wt_quotes.specs.declared.toggle.Class.TheVariants.{OneLetter, Middle, Space}
+use Rattle.wt_quotes.specs.declared.toggle.Preceding.{Preceding}
+use Rattle.wt_quotes.specs.declared.toggle.Preceding.TheVariants.{OneLetter, Middle, Space}
 use Rattle.wt_quotes.specs.Runs.{run_length}
 use Rattle.wt_quotes.specs.Toggles.{toggle_of, toggle_at, toggles_by_length, class_at, is_same_class, is_bold_alone, is_three, first_of, exchange_place, exchanged, set_exchanged, exchange_at, is_due, toggles_of, width_of, IsOfRun, Switches}
 
@@ -85,7 +85,7 @@ and_left false b e = e
 abbrev pub IsPlaceOfThree : List Toggle → Toggle → ℕ → Type 0
 IsPlaceOfThree ts d i = (i < length ts) × (is_bold_alone (get_or ts i d) ≡ true)
 
-first_is : (chunks : List Chunk) (class : Class) (ts : List Toggle) (d : Toggle) (i : ℕ) → first_of chunks class ts ≡ Some i → IsPlaceOfThree ts d i
+first_is : (chunks : List Chunk) (class : Preceding) (ts : List Toggle) (d : Toggle) (i : ℕ) → first_of chunks class ts ≡ Some i → IsPlaceOfThree ts d i
 first_is chunks class ts d i e =
     let found = position-Some (is_three chunks class) ts i d e in
     (found.0, and_left (is_bold_alone (get_or ts i d)) (is_same_class (class_at chunks (get_or ts i d).chunk) class) found.1)

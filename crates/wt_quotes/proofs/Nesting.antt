@@ -3,7 +3,7 @@ use Rattle.std.proofs.Common.{◌≡◌, ℕ, ◌+◌, ◌≤◌, zero, suc, Boo
 use Rattle.std.specs.Prelude.{if◌then◌else◌, All}
 use Rattle.std.specs.List.{AllPairs}
 use Rattle.std.proofs.lemmas.List.Elements.{All-nil, All-cons, All-append, All-weaker}
-use Rattle.wt_quotes.specs.declared.turn.Turn.{Turn}
+use Rattle.wt_quotes.specs.declared.turn.PlacedToggle.{PlacedToggle}
 use Rattle.wt_quotes.specs.declared.style.Style.{Style}
 use Rattle.wt_quotes.specs.declared.style.End.{End}
 use Rattle.wt_quotes.specs.Styles.{effect_of, opening_width, closing_width, closing_place, opening_place, begins, stops, ending, style_from, begun, styles_by, taken}
@@ -16,12 +16,12 @@ inner_of : (b : Bool) (n m : ℕ) → ((if b then n else 0) ≤ n) × ((if b the
 inner_of true n m = (omega arith, omega arith)
 inner_of false n m = (omega arith, omega arith)
 
-pub closing_in : (s : Bool) (t : Turn) → (t.start + closing_width s t ≤ closing_place s t)
+pub closing_in : (s : Bool) (t : PlacedToggle) → (t.start + closing_width s t ≤ closing_place s t)
     × (closing_place s t ≤ t.start + (closing_width true t + closing_width false t))
 closing_in true t = let i = inner_of t.bold_outside (closing_width false t) 0 in (omega arith, omega arith)
 closing_in false t = let i = inner_of (not t.bold_outside) (closing_width true t) 0 in (omega arith, omega arith)
 
-pub opening_in : (s : Bool) (t : Turn) → (t.start + (closing_width true t + closing_width false t) ≤ opening_place s t)
+pub opening_in : (s : Bool) (t : PlacedToggle) → (t.start + (closing_width true t + closing_width false t) ≤ opening_place s t)
     × (opening_place s t + opening_width s t ≤ t.start + taken t)
 opening_in true t = let i = inner_of t.bold_outside 0 (opening_width false t) in (omega arith, omega arith)
 opening_in false t = let i = inner_of (not t.bold_outside) 0 (opening_width true t) in (omega arith, omega arith)
@@ -32,7 +32,7 @@ all_if : (P : Style → Type 0) (b : Bool) (u : Style) → P u → All P (if b t
 all_if P true u h = All-cons P u [] h (All-nil P)
 all_if P false u h = All-nil P
 
-begun_all : (P : Style → Type 0) (total : ℕ) (t : Turn) (ts : List Turn) → ((s : Bool) → P (style_from s t (ending s total ts)))
+begun_all : (P : Style → Type 0) (total : ℕ) (t : PlacedToggle) (ts : List PlacedToggle) → ((s : Bool) → P (style_from s t (ending s total ts)))
     → All P (styles_by total ts) → All P (styles_by total (t ∷ ts))
 begun_all P total t ts h hs =
     All-append P (begun t.bold_outside total t ts ++ begun (not t.bold_outside) total t ts) (styles_by total ts)
@@ -47,7 +47,7 @@ pub begin_from : (total low : ℕ) (had_bold had_italic outside : Bool) (rs : Li
     → All (λ u. low ≤ u.from) (styles_by total (run had_bold had_italic outside rs))
 begin_from total low had_bold had_italic outside [] h = All-nil (λ u. low ≤ u.from)
 begin_from total low had_bold had_italic outside (step s b i flag ∷ rs) h =
-    let t : Turn = made had_bold had_italic outside (step s b i flag) in
+    let t : PlacedToggle = made had_bold had_italic outside (step s b i flag) in
     begun_all (λ u. low ≤ u.from) total t (run (toggled b had_bold) (toggled i had_italic) (outside_after had_bold had_italic b i flag) rs)
     (λ k. omega (arith, (opening_in k t).0, h.0))
     (All-weaker (λ u. s + bytes_by b i ≤ u.from) (λ u. low ≤ u.from) (λ u l. omega (arith, h.0, l))
@@ -67,7 +67,7 @@ pub ends_well : (k : Bool) (total low : ℕ) (had_bold had_italic outside : Bool
     → EndsWell low total (ending k total (run had_bold had_italic outside rs))
 ends_well k total low had_bold had_italic outside [] h = (omega (arith, h), omega arith)
 ends_well k total low had_bold had_italic outside (step s b i flag ∷ rs) h =
-    let t : Turn = made had_bold had_italic outside (step s b i flag) in
+    let t : PlacedToggle = made had_bold had_italic outside (step s b i flag) in
     let is = ends_well k total (s + bytes_by b i) (toggled b had_bold) (toggled i had_italic) (outside_after had_bold had_italic b i flag) rs h.2 in
     let last = steps_end (s + bytes_by b i) total rs h.2 in
     let all = taken_by had_bold had_italic outside s b i flag in
@@ -95,7 +95,7 @@ ends_inside false total low (step s true false flag ∷ rs) h = omega (arith, (e
 
 -- a style that is open before toggles, and the styles that begin at them
 
-behind : (x : Style) (total : ℕ) (t : Turn) (ts : List Turn) (k : Bool) → x.to ≡ closing_place k t
+behind : (x : Style) (total : ℕ) (t : PlacedToggle) (ts : List PlacedToggle) (k : Bool) → x.to ≡ closing_place k t
     → All (λ u. t.start + taken t ≤ u.from) (styles_by total ts) → All (IsBehindOrInside x) (styles_by total (t ∷ ts))
 behind x total t ts k e hs =
     begun_all (IsBehindOrInside x) total t ts (λ j. inl (omega (arith, e, (closing_in k t).1, (opening_in j t).0)))
@@ -105,7 +105,7 @@ behind_step : (x : Style) (total : ℕ) (had_bold had_italic outside : Bool) (s 
     → x.to ≡ closing_place k (made had_bold had_italic outside (step s b i flag)) → AreSteps (s + bytes_by b i) total rs
     → All (IsBehindOrInside x) (styles_by total (run had_bold had_italic outside (step s b i flag ∷ rs)))
 behind_step x total had_bold had_italic outside s b i flag rs k e h =
-    let rest : List Turn = run (toggled b had_bold) (toggled i had_italic) (outside_after had_bold had_italic b i flag) rs in
+    let rest : List PlacedToggle = run (toggled b had_bold) (toggled i had_italic) (outside_after had_bold had_italic b i flag) rs in
     let all = taken_by had_bold had_italic outside s b i flag in
     behind x total (made had_bold had_italic outside (step s b i flag)) rest k e
     (All-weaker (λ u. s + bytes_by b i ≤ u.from) (λ u. s + taken (made had_bold had_italic outside (step s b i flag)) ≤ u.from)
@@ -156,13 +156,13 @@ all_pairs (u ∷ us) h i zero d l m = absurd (omega arith)
 all_pairs (u ∷ us) h zero (suc j) d l m = h.0 j d (omega arith)
 all_pairs (u ∷ us) h (suc i) (suc j) d l m = all_pairs us h.1 i j d (omega arith) (omega arith)
 
-one_bold : (total n : ℕ) (t : Turn) (had_italic outside : Bool) (rs : List Step) → AreSteps n total rs
+one_bold : (total n : ℕ) (t : PlacedToggle) (had_italic outside : Bool) (rs : List Step) → AreSteps n total rs
     → opening_place true t + opening_width true t ≤ n → Pairs (styles_by total (run true had_italic outside rs))
     → Pairs (style_from true t (ending true total (run true had_italic outside rs)) ∷ styles_by total (run true had_italic outside rs))
 one_bold total n t had_italic outside rs h l hs =
     (round_bold (style_from true t (ending true total (run true had_italic outside rs))) total n had_italic outside rs h (refl, l, refl, refl), hs)
 
-one_italic : (total n : ℕ) (t : Turn) (had_bold outside : Bool) (rs : List Step) → AreSteps n total rs
+one_italic : (total n : ℕ) (t : PlacedToggle) (had_bold outside : Bool) (rs : List Step) → AreSteps n total rs
     → opening_place false t + opening_width false t ≤ n → Pairs (styles_by total (run had_bold true outside rs))
     → Pairs (style_from false t (ending false total (run had_bold true outside rs)) ∷ styles_by total (run had_bold true outside rs))
 one_italic total n t had_bold outside rs h l hs =
@@ -191,7 +191,7 @@ nested total low false false o (step s false true false ∷ rs) h =
     one_italic total (s + 2) (made false false o (step s false true false)) false false rs h.2
     (opens_within false false false o s false true false) (nested total (s + 2) false true false rs h.2)
 nested total low false false o (step s true true true ∷ rs) h =
-    let t : Turn = made false false o (step s true true true) in
+    let t : PlacedToggle = made false false o (step s true true true) in
     let bold : Style = style_from true t (ending true total (run true true true rs)) in
     let italic : Style = style_from false t (ending false total (run true true true rs)) in
     let rest : List Style = styles_by total (run true true true rs) in (
@@ -200,7 +200,7 @@ nested total low false false o (step s true true true ∷ rs) h =
       one_italic total (s + 5) t true true rs h.2 (opens_within false false false o s true true true) (nested total (s + 5) true true true rs h.2),
     )
 nested total low false false o (step s true true false ∷ rs) h =
-    let t : Turn = made false false o (step s true true false) in
+    let t : PlacedToggle = made false false o (step s true true false) in
     let bold : Style = style_from true t (ending true total (run true true false rs)) in
     let italic : Style = style_from false t (ending false total (run true true false rs)) in
     let rest : List Style = styles_by total (run true true false rs) in (
@@ -242,7 +242,7 @@ pub whole : (total low : ℕ) (had_bold had_italic outside : Bool) (rs : List St
     → All (IsWhole total) (styles_by total (run had_bold had_italic outside rs))
 whole total low had_bold had_italic outside [] h = All-nil (IsWhole total)
 whole total low had_bold had_italic outside (step s b i flag ∷ rs) h =
-    let t : Turn = made had_bold had_italic outside (step s b i flag) in
+    let t : PlacedToggle = made had_bold had_italic outside (step s b i flag) in
     begun_all (IsWhole total) total t (run (toggled b had_bold) (toggled i had_italic) (outside_after had_bold had_italic b i flag) rs)
     (λ k.
     let e = ends_well k total (s + bytes_by b i) (toggled b had_bold) (toggled i had_italic) (outside_after had_bold had_italic b i flag) rs h.2 in

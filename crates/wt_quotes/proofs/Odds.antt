@@ -9,8 +9,8 @@ use Rattle.std.proofs.lemmas.Bool.{cases_lt}
 use Rattle.std.proofs.lemmas.Option.{slice_get-get_or, slice_get_past}
 use Rattle.wt_quotes.specs.declared.chunk.Chunk.{Chunk}
 use Rattle.wt_quotes.specs.declared.toggle.Toggle.{Toggle}
-use Rattle.wt_quotes.specs.declared.toggle.Class.{Class}
-use Rattle.wt_quotes.specs.declared.toggle.Class.TheVariants.{OneLetter, Middle, Space}
+use Rattle.wt_quotes.specs.declared.toggle.Preceding.{Preceding}
+use Rattle.wt_quotes.specs.declared.toggle.Preceding.TheVariants.{OneLetter, Middle, Space}
 use Rattle.wt_quotes.specs.Runs.{run_length}
 use Rattle.wt_quotes.specs.Toggles.{toggle_of, toggle_at, toggles_by_length, class_at, is_same_class, is_bold_alone, is_three, first_of, exchange_place, exchanged, set_exchanged, exchange_at, is_odd, is_due, toggles_of}
 use Rattle.wt_quotes.specs.ToggleLaws.{AtMostOneExchange, NotBothOdd, TogglesAreRuns}
@@ -86,7 +86,7 @@ all_none None None (Some k) e = cc
 all_none None (Some j) c e = cc
 all_none (Some i) b c e = cc
 
-no_class : (alone : Bool) (class : Class) → (alone && is_same_class class OneLetter) ≡ false
+no_class : (alone : Bool) (class : Preceding) → (alone && is_same_class class OneLetter) ≡ false
     → (alone && is_same_class class Middle) ≡ false → (alone && is_same_class class Space) ≡ false → alone ≡ false
 no_class false class e f g = refl
 no_class true OneLetter e f g = e

@@ -7,7 +7,7 @@ use Rattle.std.proofs.lemmas.Bool.Decides.{nat_tests}
 use Rattle.std.proofs.lemmas.Option.{slice_get-get_or}
 use Rattle.wt_quotes.specs.declared.chunk.Chunk.{Chunk}
 use Rattle.wt_quotes.specs.declared.toggle.Toggle.{Toggle}
-use Rattle.wt_quotes.specs.declared.turn.Turn.{Turn}
+use Rattle.wt_quotes.specs.declared.turn.PlacedToggle.{PlacedToggle}
 use Rattle.wt_quotes.specs.Runs.{bytes_of, place_of}
 use Rattle.wt_quotes.specs.Toggles.{width_of, IsOfRun, Switches, toggles_of}
 use Rattle.wt_quotes.specs.Turns.{is_of, toggles_at, since, bold_ends_later, is_bold_outside, is_outside_of, effect_on, is_bold_outside_at, start_of, turn_at, turns_of, flipped}
@@ -73,7 +73,7 @@ outside_more ts i (Some a) (Some b) true true e h k = refl
 outside_more ts i (Some a) (Some b) true false e h k = refl
 outside_more ts i (Some a) (Some b) false true e h k = refl
 
-abbrev turn_with : ℕ → List Toggle → ℕ → Option ℕ → Option ℕ → Bool → Bool → Bool → Turn
+abbrev turn_with : ℕ → List Toggle → ℕ → Option ℕ → Option ℕ → Bool → Bool → Bool → PlacedToggle
 turn_with z ts i a b inside outside flag = record {
   start = z;
   bold = effect_by (toggles_at true ts i) (is_some a) (toggles_at false ts i && inside);
@@ -117,7 +117,7 @@ switches_at ts i sw h =
     let e : slice_get ts i ≡ Some (get_or ts i d) = slice_get-get_or ts i d h in
     ap (λ p. option_map_or (is_of true) p false || option_map_or (is_of false) p false) e ∙ sw i d h
 
-run_more : (chunks : List Chunk) (ts : List Toggle) (i : ℕ) (us : List Turn) (rs : List Step) → All Switches ts → i < length ts
+run_more : (chunks : List Chunk) (ts : List Toggle) (i : ℕ) (us : List PlacedToggle) (rs : List Step) → All Switches ts → i < length ts
     → IfSome (since true ts i) (λ k. k < i) → IfSome (since false ts i) (λ k. k < i)
     → us ≡ run (is_some (since true ts (i + 1))) (is_some (since false ts (i + 1))) (is_outside_of true ts (since true ts (i + 1)) (since false ts (i + 1))) rs
     → turn_at chunks ts i ∷ us ≡ run (is_some (since true ts i)) (is_some (since false ts i))
@@ -127,7 +127,7 @@ run_more chunks ts i us rs sw l h k e =
     let had_italic : Bool = is_some (since false ts i) in
     let b : Bool = toggles_at true ts i in
     let m : Bool = toggles_at false ts i in
-    let first : Turn = made had_bold had_italic (is_outside_of true ts (since true ts i) (since false ts i)) (step_at chunks ts i) in
+    let first : PlacedToggle = made had_bold had_italic (is_outside_of true ts (since true ts i) (since false ts i)) (step_at chunks ts i) in
     ap (λ t. t ∷ us) (turn_made chunks ts i)
     ∙ ap (λ vs. first ∷ vs) (e
     ∙ ap (λ x. run x (is_some (since false ts (i + 1))) (is_outside_of true ts (since true ts (i + 1)) (since false ts (i + 1))) rs) (open_next true ts i l)

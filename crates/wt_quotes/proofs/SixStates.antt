@@ -3,7 +3,7 @@ use Rattle.std.proofs.Common.{◌≡◌, ℕ, ◌+◌, ◌≤◌, Bool, true, fa
 use Rattle.std.specs.Prelude.{◌&&◌, ◌||◌, if◌then◌else◌}
 use Rattle.wt_quotes.specs.declared.turn.Effect.{Effect}
 use Rattle.wt_quotes.specs.declared.turn.Effect.TheVariants.{Nothing, Opens, Closes, Breaks}
-use Rattle.wt_quotes.specs.declared.turn.Turn.{Turn}
+use Rattle.wt_quotes.specs.declared.turn.PlacedToggle.{PlacedToggle}
 use Rattle.wt_quotes.specs.Styles.{taken}
 use Rattle.wt_quotes.proofs.Fitting.{bytes_bits}
 
@@ -18,7 +18,7 @@ effect_by tog had broken = if tog then (if had then Closes else Opens) else (if 
 abbrev pub outside_by : Bool → Bool → Bool → Bool → Bool
 outside_by had_bold had_italic outside flag = if had_bold && had_italic then outside else (if had_bold || had_italic then false else flag)
 
-abbrev pub made : Bool → Bool → Bool → Step → Turn
+abbrev pub made : Bool → Bool → Bool → Step → PlacedToggle
 made had_bold had_italic outside (step s b i flag) = record {
   start = s;
   bold = effect_by b had_bold (i && ((had_bold && had_italic) && not outside));
@@ -34,7 +34,7 @@ toggled false had = had
 abbrev pub outside_after : Bool → Bool → Bool → Bool → Bool → Bool
 outside_after had_bold had_italic b i flag = (toggled b had_bold && toggled i had_italic) && (if had_bold then true else (if had_italic then false else flag))
 
-abbrev pub run : Bool → Bool → Bool → List Step → List Turn
+abbrev pub run : Bool → Bool → Bool → List Step → List PlacedToggle
 run had_bold had_italic outside [] = []
 run had_bold had_italic outside (step s b i flag ∷ rs) =
     made had_bold had_italic outside (step s b i flag) ∷ run (toggled b had_bold) (toggled i had_italic) (outside_after had_bold had_italic b i flag) rs

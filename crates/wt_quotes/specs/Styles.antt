@@ -3,7 +3,7 @@ use Rattle.std.specs.Prelude.{ℕ, ◌+◌, ◌≤◌, Bool, true, false, not, L
 use Rattle.wt_quotes.specs.declared.chunk.Chunk.{Chunk}
 use Rattle.wt_quotes.specs.declared.turn.Effect.{Effect}
 use Rattle.wt_quotes.specs.declared.turn.Effect.TheVariants.{Nothing, Opens, Closes, Breaks}
-use Rattle.wt_quotes.specs.declared.turn.Turn.{Turn}
+use Rattle.wt_quotes.specs.declared.turn.PlacedToggle.{PlacedToggle}
 use Rattle.wt_quotes.specs.declared.style.End.{End}
 use Rattle.wt_quotes.specs.declared.style.Style.{Style}
 use Rattle.wt_quotes.specs.Runs.{bytes_of}
@@ -15,11 +15,11 @@ abbrev pub width : Bool → ℕ
 width true = 3
 width false = 2
 
-abbrev pub effect_of : Bool → Turn → Effect
+abbrev pub effect_of : Bool → PlacedToggle → Effect
 effect_of true t = t.bold
 effect_of false t = t.italic
 
-abbrev pub is_outer : Bool → Turn → Bool
+abbrev pub is_outer : Bool → PlacedToggle → Bool
 is_outer true t = t.bold_outside
 is_outer false t = not t.bold_outside
 
@@ -36,18 +36,18 @@ closing_bytes bold Opens = 0
 closing_bytes bold Closes = width bold
 closing_bytes bold Breaks = 0
 
-abbrev pub opening_width : Bool → Turn → ℕ
+abbrev pub opening_width : Bool → PlacedToggle → ℕ
 opening_width bold t = opening_bytes bold (effect_of bold t)
 
-abbrev pub closing_width : Bool → Turn → ℕ
+abbrev pub closing_width : Bool → PlacedToggle → ℕ
 closing_width bold t = closing_bytes bold (effect_of bold t)
 
 -- closings take the toggle's first bytes, the inner style's before the outer one's: where this one ends
-abbrev pub closing_place : Bool → Turn → ℕ
+abbrev pub closing_place : Bool → PlacedToggle → ℕ
 closing_place bold t = t.start + (closing_width bold t + (if is_outer bold t then closing_width (not bold) t else 0))
 
 -- openings take the bytes after the closings, the outer style's before the inner one's: where this one begins
-abbrev pub opening_place : Bool → Turn → ℕ
+abbrev pub opening_place : Bool → PlacedToggle → ℕ
 opening_place bold t = t.start + (closing_width true t + closing_width false t + (if is_outer bold t then 0 else opening_width (not bold) t))
 
 abbrev pub begins : Effect → Bool
@@ -64,28 +64,28 @@ stops Breaks = true
 
 -- where a style that is open before these toggles ends first: at the toggle that stops it, or by the end of
 -- the context, with an empty delimiter
-abbrev pub ending : Bool → ℕ → List Turn → End
+abbrev pub ending : Bool → ℕ → List PlacedToggle → End
 ending bold total [] = record { to = total; close_w = 0 }
 ending bold total (t ∷ ts) = if stops (effect_of bold t) then record { to = closing_place bold t; close_w = closing_width bold t } else ending bold total ts
 
-abbrev pub style_from : Bool → Turn → End → Style
+abbrev pub style_from : Bool → PlacedToggle → End → Style
 style_from bold t e = record { bold = bold; from = opening_place bold t; open_w = opening_width bold t; to = e.to; close_w = e.close_w }
 
 -- the style that begins at a toggle, if one does
-abbrev pub begun : Bool → ℕ → Turn → List Turn → List Style
+abbrev pub begun : Bool → ℕ → PlacedToggle → List PlacedToggle → List Style
 begun bold total t ts = if begins (effect_of bold t) then style_from bold t (ending bold total ts) ∷ [] else []
 
 -- the styles of toggles in the order of their beginnings, the outer one first
-abbrev pub styles_by : ℕ → List Turn → List Style
+abbrev pub styles_by : ℕ → List PlacedToggle → List Style
 styles_by total [] = []
 styles_by total (t ∷ ts) = (begun t.bold_outside total t ts ++ begun (not t.bold_outside) total t ts) ++ styles_by total ts
 
 -- the bytes that a toggle's delimiters take
-abbrev pub taken : Turn → ℕ
+abbrev pub taken : PlacedToggle → ℕ
 taken t = closing_width true t + closing_width false t + (opening_width true t + opening_width false t)
 
 -- a toggle's delimiters lie in the context
-abbrev pub Fits : ℕ → Turn → Type 0
+abbrev pub Fits : ℕ → PlacedToggle → Type 0
 Fits total t = t.start + taken t ≤ total
 
 -- the styles of a context, in preorder

@@ -4,8 +4,8 @@ use Rattle.std.specs.List.{filter_map, range_with_len}
 use Rattle.std.specs.Option.{option_or}
 use Rattle.wt_quotes.specs.declared.chunk.Chunk.{Chunk}
 use Rattle.wt_quotes.specs.declared.toggle.Toggle.{Toggle}
-use Rattle.wt_quotes.specs.declared.toggle.Class.{Class}
-use Rattle.wt_quotes.specs.declared.toggle.Class.TheVariants.{OneLetter, Middle, Space}
+use Rattle.wt_quotes.specs.declared.toggle.Preceding.{Preceding}
+use Rattle.wt_quotes.specs.declared.toggle.Preceding.TheVariants.{OneLetter, Middle, Space}
 use Rattle.wt_quotes.specs.Runs.{run_length, last_of, before_of, chunk_before}
 
 -- the toggle of a run by its length: two switches italic, three bold, five both; four is one character
@@ -35,21 +35,21 @@ is_ascii_no_space None = false
 is_ascii_no_space (Some c) = nat_lt c 128 && not (c == 32)
 
 -- the class of a run by the last item before it, and the item before that
-abbrev pub class_by : Option ℕ → Option ℕ → Class
+abbrev pub class_by : Option ℕ → Option ℕ → Preceding
 class_by z y = if is_space z then Space else (if is_ascii_no_space z && is_space y then OneLetter else Middle)
 
 -- the class of a run behind a chunk: the apostrophe of a run of four is the last item before its run of three
-abbrev pub class_of : ℕ → Option Chunk → Class
+abbrev pub class_of : ℕ → Option Chunk → Preceding
 class_of n before = if n == 4 then class_by (Some 39) (last_of before) else class_by (last_of before) (before_of before)
 
-abbrev pub class_at : List Chunk → ℕ → Class
+abbrev pub class_at : List Chunk → ℕ → Preceding
 class_at chunks k = class_of (run_length (slice_get chunks k)) (chunk_before chunks k)
 
 -- an odd number of toggles pass the test
 abbrev pub is_odd : (Toggle → Bool) → List Toggle → Bool
 is_odd p ts = count_by p ts % 2 == 1
 
-abbrev pub is_same_class : Class → Class → Bool
+abbrev pub is_same_class : Preceding → Preceding → Bool
 is_same_class OneLetter OneLetter = true
 is_same_class Middle Middle = true
 is_same_class Space Space = true
@@ -65,11 +65,11 @@ abbrev pub is_bold_alone : Toggle → Bool
 is_bold_alone t = t.bold && not t.italic
 
 -- a run of three of a class
-abbrev pub is_three : List Chunk → Class → Toggle → Bool
+abbrev pub is_three : List Chunk → Preceding → Toggle → Bool
 is_three chunks class t = is_bold_alone t && is_same_class (class_at chunks t.chunk) class
 
 -- the place among the toggles of the first run of three of a class
-abbrev pub first_of : List Chunk → Class → List Toggle → Option ℕ
+abbrev pub first_of : List Chunk → Preceding → List Toggle → Option ℕ
 first_of chunks class ts = position (is_three chunks class) ts
 
 -- the place of the run that is exchanged: the first behind one letter, else the first of the middle class,

@@ -7,7 +7,7 @@ use Rattle.wt_quotes.specs.declared.toggle.Toggle.{Toggle}
 use Rattle.wt_quotes.specs.declared.turn.Effect.{Effect}
 use Rattle.wt_quotes.specs.declared.turn.Effect.TheVariants.{Nothing, Opens, Closes, Breaks}
 use Rattle.wt_quotes.specs.declared.turn.Opened.{Opened}
-use Rattle.wt_quotes.specs.declared.turn.Turn.{Turn}
+use Rattle.wt_quotes.specs.declared.turn.PlacedToggle.{PlacedToggle}
 use Rattle.wt_quotes.specs.Runs.{place_of}
 
 -- whether a toggle is of a style: bold, or else italic
@@ -79,15 +79,15 @@ opened_before ts i = record { bold = since true ts i; italic = since false ts i 
 abbrev pub start_of : List Chunk → Toggle → ℕ
 start_of chunks t = place_of chunks t.chunk + t.plain
 
-abbrev pub turn_of : ℕ → List Toggle → ℕ → Opened → Turn
+abbrev pub turn_of : ℕ → List Toggle → ℕ → Opened → PlacedToggle
 turn_of start ts i o = record { start = start; bold = effect_on true ts i o; italic = effect_on false ts i o; bold_outside = is_bold_outside_at ts i o }
 
 -- what the toggle at a place does
-unfoldable pub turn_at : List Chunk → List Toggle → ℕ → Turn
+unfoldable pub turn_at : List Chunk → List Toggle → ℕ → PlacedToggle
 turn_at chunks ts i = turn_of (option_map_or (start_of chunks) (slice_get ts i) 0) ts i (opened_before ts i)
 
 -- what the toggles of a context do
-abbrev pub turns_of : List Chunk → List Toggle → List Turn
+abbrev pub turns_of : List Chunk → List Toggle → List PlacedToggle
 turns_of chunks ts = map (turn_at chunks ts) (range_with_len 0 (length ts))
 
 -- what a toggle makes of the place where its style was opened

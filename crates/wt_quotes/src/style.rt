@@ -7,7 +7,7 @@ ghost use Rattle.wt_quotes.specs.Styles.{width, effect_of, is_outer, opening_byt
 
 use crate::chunk::{Chunk, total_bytes};
 use crate::toggle::toggles_in;
-use crate::turn::{Effect, Turn, turns};
+use crate::turn::{Effect, PlacedToggle, turns};
 use std::alloc::Global;
 use wt_span::{List, NoMemory, rest_of};
 
@@ -38,13 +38,13 @@ fn width(bold: bool) -> u32
     if bold { 3 } else { 2 }
 }
 
-fn effect_of(bold: bool, turn: &Turn) -> Effect
+fn effect_of(bold: bool, turn: &PlacedToggle) -> Effect
     ensures { result ≡ effect_of bold turn.now }
 {
     if bold { turn.bold } else { turn.italic }
 }
 
-fn is_outer(bold: bool, turn: &Turn) -> bool
+fn is_outer(bold: bool, turn: &PlacedToggle) -> bool
     ensures { result ≡ is_outer bold turn.now }
 {
     turn.bold_outside == bold
@@ -70,20 +70,20 @@ fn closing_bytes(bold: bool, effect: Effect) -> u32
     }
 }
 
-fn opening_width(bold: bool, turn: &Turn) -> u32
+fn opening_width(bold: bool, turn: &PlacedToggle) -> u32
     ensures { result ≡ opening_width bold turn.now }
 {
     opening_bytes(bold, effect_of(bold, turn))
 }
 
-fn closing_width(bold: bool, turn: &Turn) -> u32
+fn closing_width(bold: bool, turn: &PlacedToggle) -> u32
     ensures { result ≡ closing_width bold turn.now }
 {
     closing_bytes(bold, effect_of(bold, turn))
 }
 
 /// Where a style that ends at a toggle ends: closings take the first bytes, the inner style's first.
-fn closing_place(total: u32, bold: bool, turn: &Turn) -> u32
+fn closing_place(total: u32, bold: bool, turn: &PlacedToggle) -> u32
     requires { Fits total turn.now }
     ensures { result ≡ closing_place bold turn.now }
 {
@@ -97,7 +97,7 @@ fn closing_place(total: u32, bold: bool, turn: &Turn) -> u32
 
 /// Where a style that begins at a toggle begins: openings take the bytes after the closings, the
 /// outer style's first.
-fn opening_place(total: u32, bold: bool, turn: &Turn) -> u32
+fn opening_place(total: u32, bold: bool, turn: &PlacedToggle) -> u32
     requires { Fits total turn.now }
     ensures { result ≡ opening_place bold turn.now }
 {
@@ -124,7 +124,7 @@ fn stops(effect: Effect) -> bool
 
 /// Where a style that is open before these toggles ends. It looks no further than that, so that
 /// all looks together read each toggle once for bold and once for italic.
-fn ending(bold: bool, total: u32, turns: &[Turn]) -> End
+fn ending(bold: bool, total: u32, turns: &[PlacedToggle]) -> End
     requires { All (Fits total) turns.now }
     ensures { result ≡ ending bold total turns.now }
 {
@@ -142,7 +142,7 @@ fn ending(bold: bool, total: u32, turns: &[Turn]) -> End
     }
 }
 
-fn style_from(total: u32, bold: bool, turn: &Turn, end: End) -> Style
+fn style_from(total: u32, bold: bool, turn: &PlacedToggle, end: End) -> Style
     requires { Fits total turn.now }
     ensures { result ≡ style_from bold turn.now end }
 {
@@ -160,8 +160,8 @@ fn push_begun(
     styles: &mut List<Style>,
     bold: bool,
     total: u32,
-    turn: &Turn,
-    turns: &[Turn],
+    turn: &PlacedToggle,
+    turns: &[PlacedToggle],
 ) -> Result<(), NoMemory>
     requires fits { Fits total turn.now }
     requires fit { All (Fits total) turns.now }
@@ -178,8 +178,8 @@ fn push_begun(
 fn push_both(
     styles: &mut List<Style>,
     total: u32,
-    turn: &Turn,
-    turns: &[Turn],
+    turn: &PlacedToggle,
+    turns: &[PlacedToggle],
 ) -> Result<(), NoMemory>
     requires fits { Fits total turn.now }
     requires fit { All (Fits total) turns.now }
@@ -191,7 +191,7 @@ fn push_both(
     Ok(())
 }
 
-fn styles_by(alloc: Global, total: u32, turns: &[Turn]) -> Result<List<Style>, NoMemory>
+fn styles_by(alloc: Global, total: u32, turns: &[PlacedToggle]) -> Result<List<Style>, NoMemory>
     requires { All (Fits total) turns.now }
     ensures { IfOk result (λ styles. styles ≡ styles_by total turns.now) }
 {

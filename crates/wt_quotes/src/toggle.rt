@@ -24,25 +24,25 @@ pub struct Toggle {
 /// The class of a run of three, by the two items before it, which decides whether it is the one
 /// that is exchanged: one letter stands before it, or a space does, or neither.
 #[derive(Clone, Copy, Debug, PartialEq, Eq)]
-pub enum Class {
+pub enum Preceding {
     OneLetter,
     Middle,
     Space,
 }
 
-fn class_by(last: Option<char>, before: Option<char>) -> Class
+fn class_by(last: Option<char>, before: Option<char>) -> Preceding
     ensures { result ≡ class_by last before }
 {
     match last {
-        Some(' ') => Class::Space,
-        Some(c) if c.is_ascii() && before == Some(' ') => Class::OneLetter,
-        _ => Class::Middle,
+        Some(' ') => Preceding::Space,
+        Some(c) if c.is_ascii() && before == Some(' ') => Preceding::OneLetter,
+        _ => Preceding::Middle,
     }
 }
 
 /// The class of a run behind a chunk. The apostrophe of a run of four is the last item before its
 /// run of three.
-fn class_of(run: u32, before: Option<Chunk>) -> Class
+fn class_of(run: u32, before: Option<Chunk>) -> Preceding
     ensures { result ≡ class_of run before }
 {
     let (last, before) = items_before(before);
@@ -53,7 +53,7 @@ fn class_of(run: u32, before: Option<Chunk>) -> Class
     }
 }
 
-fn class_at(chunks: &[Chunk], at: usize) -> Class
+fn class_at(chunks: &[Chunk], at: usize) -> Preceding
     ensures { result ≡ class_at chunks.now at }
 {
     class_of(
@@ -103,13 +103,13 @@ fn toggles_by_length(alloc: Global, chunks: &[Chunk]) -> Result<Vec<Toggle>, NoM
     Ok(toggles)
 }
 
-fn is_three(chunks: &[Chunk], class: Class, toggle: &Toggle) -> bool
+fn is_three(chunks: &[Chunk], class: Preceding, toggle: &Toggle) -> bool
     ensures { result ≡ is_three chunks.now class toggle.now }
 {
     toggle.bold && !toggle.italic && class_at(chunks, toggle.chunk as usize) == class
 }
 
-fn first_of(chunks: &[Chunk], class: Class, toggles: &[Toggle]) -> Option<usize>
+fn first_of(chunks: &[Chunk], class: Preceding, toggles: &[Toggle]) -> Option<usize>
     ensures { result ≡ first_of chunks.now class toggles.now }
 {
     toggles.iter().position(|t| is_three(chunks, class, t))
@@ -118,9 +118,9 @@ fn first_of(chunks: &[Chunk], class: Class, toggles: &[Toggle]) -> Option<usize>
 fn exchange_place(chunks: &[Chunk], toggles: &[Toggle]) -> Option<usize>
     ensures { result ≡ exchange_place chunks.now toggles.now }
 {
-    first_of(chunks, Class::OneLetter, toggles)
-        .or(first_of(chunks, Class::Middle, toggles))
-        .or(first_of(chunks, Class::Space, toggles))
+    first_of(chunks, Preceding::OneLetter, toggles)
+        .or(first_of(chunks, Preceding::Middle, toggles))
+        .or(first_of(chunks, Preceding::Space, toggles))
 }
 
 /// The exchange is due where both numbers of toggles are odd.

@@ -25,7 +25,7 @@ pub enum Effect {
 /// A toggle with its place: the byte where its delimiters begin, what it does to each style, and
 /// which of the two is outside where it opens or closes both.
 #[derive(Clone, Copy, Debug, PartialEq, Eq)]
-pub struct Turn {
+pub struct PlacedToggle {
     pub start: u32,
     pub bold: Effect,
     pub italic: Effect,
@@ -123,13 +123,13 @@ fn is_bold_outside_at(toggles: &[Toggle], at: usize, opened: Opened) -> bool
     }
 }
 
-fn turn_of(start: u32, toggles: &[Toggle], at: usize, opened: Opened) -> Turn
+fn turn_of(start: u32, toggles: &[Toggle], at: usize, opened: Opened) -> PlacedToggle
     requires switches { All Switches toggles.now }
     requires within { IfSome opened.bold (λ a. a < length toggles.now) }
     requires here { at < length toggles.now }
     ensures { result ≡ turn_of start toggles.now at opened }
 {
-    Turn {
+    PlacedToggle {
         start,
         bold: effect_on(true, toggles, at, opened),
         italic: effect_on(false, toggles, at, opened),
@@ -184,7 +184,11 @@ fn start_of(chunks: &[Chunk], places: &[u32], toggle: &Toggle) -> u32
 }
 
 /// What the toggles of a context do, each with its place.
-pub fn turns(alloc: Global, chunks: &[Chunk], toggles: &[Toggle]) -> Result<Vec<Turn>, NoMemory>
+pub fn turns(
+    alloc: Global,
+    chunks: &[Chunk],
+    toggles: &[Toggle],
+) -> Result<Vec<PlacedToggle>, NoMemory>
     requires bytes { bytes_of chunks.now < 2 ^ 32 }
     requires runs { All (IsOfRun chunks.now) toggles.now }
     requires switches { All Switches toggles.now }

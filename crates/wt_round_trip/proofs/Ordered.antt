@@ -8,8 +8,8 @@ use Rattle.wt_tree.specs.Plain.{text as characters, element as face_of, Plains, 
 use Rattle.wt_tree.specs.Tree.{Label, Tree, tree, Trees, none as no_trees, more as one_more}
 use Rattle.wt_tree.specs.Tiling.{is_group}
 use Rattle.wt_tree.specs.Recut.{is_white, is_blank, is_as_text, shows_block, any_shows_block}
-use Rattle.wt_tree.specs.declared.row.Class.{Class}
-use Rattle.wt_tree.specs.declared.row.Class.TheVariants.{Block, List as ListClass, Inline, Character}
+use Rattle.wt_tree.specs.declared.row.Placement.{Placement}
+use Rattle.wt_tree.specs.declared.row.Placement.TheVariants.{Block, List as ListClass, Inline, Character}
 use Rattle.wt_tree.specs.declared.row.Holding.{Holding}
 use Rattle.wt_tree.specs.declared.row.Holding.TheVariants as holding
 use Rattle.wt_tree.specs.declared.row.Texts.{Texts}
@@ -80,7 +80,7 @@ texts_fit ts k parent i h = by_test (holds_text parent) refl
 -- ---- the order of children
 
 -- of the classes that one kind holds either none is inline or none is a block, but for items, cells and captions
-blocks_alone : (c : Class) → (is_anywhere c || admits holding.Blocks c) ≡ true → (is_class c Inline || is_class c Character) ≡ false
+blocks_alone : (c : Placement) → (is_anywhere c || admits holding.Blocks c) ≡ true → (is_class c Inline || is_class c Character) ≡ false
 blocks_alone Inline e = cc
 blocks_alone Character e = cc
 blocks_alone c e = refl
@@ -98,7 +98,7 @@ holds_blocks holding.Cells = false
 holds_blocks holding.InlinesThenLists = true
 holds_blocks holding.InlinesThenBlocks = true
 
-no_block : (h : Holding) (c : Class) → holds_blocks h ≡ false → (is_anywhere c || admits h c) ≡ true → (is_class c Block || is_class c ListClass) ≡ false
+no_block : (h : Holding) (c : Placement) → holds_blocks h ≡ false → (is_anywhere c || admits h c) ≡ true → (is_class c Block || is_class c ListClass) ≡ false
 no_block holding.NoElements Block m e = cc
 no_block holding.Inlines Block m e = cc
 no_block holding.Entities Block m e = cc

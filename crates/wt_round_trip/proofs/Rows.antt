@@ -12,8 +12,8 @@ use Rattle.wt_tree.specs.declared.kind.Kind.TheVariants as kind
 use Rattle.wt_tree.specs.declared.kind.TagName.{TagName}
 use Rattle.wt_tree.specs.declared.kind.TagName.TheVariants as tag
 use Rattle.wt_tree.specs.declared.kind.Ranges.{Ranges}
-use Rattle.wt_tree.specs.declared.row.Class.{Class}
-use Rattle.wt_tree.specs.declared.row.Class.TheVariants.{Nowhere, Section}
+use Rattle.wt_tree.specs.declared.row.Placement.{Placement}
+use Rattle.wt_tree.specs.declared.row.Placement.TheVariants.{Nowhere, Section}
 use Rattle.wt_tree.specs.declared.row.Holding.{Holding}
 use Rattle.wt_tree.specs.declared.row.Holding.TheVariants as holding
 use Rattle.wt_tree.specs.declared.row.Writing.{Writing}
@@ -622,7 +622,7 @@ switch_kind xs h =
 -- ---- all of them
 
 -- a section is no element with a row
-abbrev pub is_somewhere : Class → Bool
+abbrev pub is_somewhere : Placement → Bool
 is_somewhere Nowhere = false
 is_somewhere Section = false
 is_somewhere c = true
@@ -640,7 +640,7 @@ nowhere holding.Cells e = cc
 nowhere holding.InlinesThenLists e = cc
 nowhere holding.InlinesThenBlocks e = cc
 
-somewhere : (h : Holding) (c : Class) → (is_anywhere c || admits h c) ≡ true → is_class c Section ≡ false → is_somewhere c ≡ true
+somewhere : (h : Holding) (c : Placement) → (is_anywhere c || admits h c) ≡ true → is_class c Section ≡ false → is_somewhere c ≡ true
 somewhere h Nowhere e s = absurd (nowhere h e)
 somewhere h Section e s = absurd (cc s)
 somewhere h c e s = refl

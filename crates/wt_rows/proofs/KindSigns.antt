@@ -7,8 +7,8 @@ use Rattle.std.proofs.Math.Numerals.{one-add}
 use Rattle.std.proofs.lemmas.Bool.Decides.{nat_tests}
 use Rattle.std.proofs.lemmas.List.{drop-map}
 use Rattle.wt_span.specs.Bytes.{begins}
-use Rattle.wt_span.specs.declared.form.Form.{Form}
-use Rattle.wt_span.specs.declared.form.Form.TheVariants as form
+use Rattle.wt_span.specs.declared.form.ItemForm.{ItemForm}
+use Rattle.wt_span.specs.declared.form.ItemForm.TheVariants as form
 use Rattle.wt_span.specs.Items.{Item, char, whole, sign, is_mark, is_mark_form, items, items_of, items_by}
 use Rattle.wt_lines.specs.declared.kind.LineKind.{LineKind}
 use Rattle.wt_lines.specs.declared.kind.LineKind.TheVariants as kind
@@ -91,7 +91,7 @@ past_is test (s ∷ ss) = past_by (test s) test s ss (past_is test ss)
 pub past_idle : (xs : List Item) → past is_idle (signs xs) ≡ signs (drop (idle_len xs) xs)
 past_idle xs = past_is is_idle (signs xs) ∙ drop-map sign (idle_len xs) xs
 
-mark_gone : (f : Form) (ss : List ℕ) → is_mark_form f ≡ true → past is_mark_sign ((if is_mark_form f then 257 else 256) ∷ ss) ≡ past is_mark_sign ss
+mark_gone : (f : ItemForm) (ss : List ℕ) → is_mark_form f ≡ true → past is_mark_sign ((if is_mark_form f then 257 else 256) ∷ ss) ≡ past is_mark_sign ss
 mark_gone f ss e = rw e refl
 
 marks_by : (x : Item) (xs : List Item) (v : Bool) → is_mark x ≡ v → past is_mark_sign (signs xs) ≡ past is_mark_sign (signs (drop (marks_len xs) xs))
@@ -121,7 +121,7 @@ no_mark (x ∷ xs) = no_mark_by x xs (is_mark x) refl (no_mark xs)
 
 -- ---- the first piece behind marks
 
-pub seen_chars : (f : Form) (o : Option ℕ) (bs : List ℕ) → is_chars f ≡ true → IsWhole f bs → get_or bs 0 0 < 256 → IsSeenFirst (items_by f o bs)
+pub seen_chars : (f : ItemForm) (o : Option ℕ) (bs : List ℕ) → is_chars f ≡ true → IsWhole f bs → get_or bs 0 0 < 256 → IsSeenFirst (items_by f o bs)
 seen_chars form.Chars o [] e w l rest h = absurd (omega arith)
 seen_chars form.Chars o (b ∷ bs) e w l rest h = let k : b < 256 = l in grind (arith, nat_tests)
 seen_chars (form.Entity c) o bs e w l rest h = absurd cc
@@ -133,7 +133,7 @@ seen_chars form.Include o bs e w l rest h = absurd cc
 seen_chars form.Hidden o bs e w l rest h = absurd cc
 seen_chars form.EmptyCall o bs e w l rest h = absurd cc
 
-pub seen_form : (f : Form) (o : Option ℕ) (bs : List ℕ) → is_chars f ≡ false → IsSeenFirst (items_by f o bs)
+pub seen_form : (f : ItemForm) (o : Option ℕ) (bs : List ℕ) → is_chars f ≡ false → IsSeenFirst (items_by f o bs)
 seen_form form.Chars o bs e rest h = absurd cc
 seen_form (form.Entity c) o bs e rest h = refl
 seen_form form.Nowiki o bs e rest h = refl

@@ -4,8 +4,8 @@ use Rattle.std.specs.Prelude.{All, not, ◌==◌, ◌&&◌, codes}
 use Rattle.std.specs.List.{prefix_len}
 use Rattle.std.proofs.lemmas.Bool.Decides.{nat_tests}
 use Rattle.std.proofs.lemmas.List.Elements.{All-head, All-tail}
-use Rattle.wt_span.specs.declared.form.Form.{Form}
-use Rattle.wt_span.specs.declared.form.Form.TheVariants as form
+use Rattle.wt_span.specs.declared.form.ItemForm.{ItemForm}
+use Rattle.wt_span.specs.declared.form.ItemForm.TheVariants as form
 use Rattle.wt_span.specs.declared.form.Piece.{Piece}
 use Rattle.wt_span.specs.Slice.{bytes_of}
 use Rattle.wt_span.specs.Whole.{IsWhole}
@@ -69,7 +69,7 @@ no_break_in : (o : Option ℕ) (bs : List ℕ) → IsUnbroken (map (char o) bs) 
 no_break_in o [] h = refl
 no_break_in o (b ∷ bs) h = rw h.0 (no_break_in o bs h.1)
 
-parted_by : (f : Form) (o : Option ℕ) (bs : List ℕ) → IsWhole f bs → IsUnbroken (items_by f o bs) → IsPartedBy (is_chars f) bs
+parted_by : (f : ItemForm) (o : Option ℕ) (bs : List ℕ) → IsWhole f bs → IsUnbroken (items_by f o bs) → IsPartedBy (is_chars f) bs
 parted_by form.Chars o bs w h = inr (w, no_break_in o bs h)
 parted_by (form.Entity c) o bs w h = tt
 parted_by form.Nowiki o bs w h = tt

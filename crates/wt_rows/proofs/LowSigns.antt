@@ -1,14 +1,14 @@
 -- An item with a low sign can stand at an edge.
 use Rattle.std.proofs.Common.{◌≡◌, ◌<◌, ℕ, zero, suc, true, List, [], ◌∷◌, length, map, get_or, refl, arith}
 use Rattle.std.proofs.lemmas.Bool.Decides.{nat_tests}
-use Rattle.wt_span.specs.declared.form.Form.{Form}
-use Rattle.wt_span.specs.declared.form.Form.TheVariants as form
+use Rattle.wt_span.specs.declared.form.ItemForm.{ItemForm}
+use Rattle.wt_span.specs.declared.form.ItemForm.TheVariants as form
 use Rattle.wt_span.specs.Items.{Item, char, whole}
 use Rattle.wt_tiles.specs.Glyphs.{glyph_of, glyph_of_form}
 use Rattle.wt_tiles.specs.Edges.{is_low, low_at}
 use Rattle.wt_page.specs.Rows.{signs}
 
-pub form_low : (f : Form) → is_low (glyph_of_form f) ≡ true
+pub form_low : (f : ItemForm) → is_low (glyph_of_form f) ≡ true
 form_low form.Chars = refl
 form_low (form.Entity c) = refl
 form_low form.Nowiki = refl

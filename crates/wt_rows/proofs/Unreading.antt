@@ -10,8 +10,8 @@ use Rattle.std.proofs.lemmas.List.Sums.{prefix_len_passes}
 use Rattle.std.proofs.lemmas.List.Elements.{All-nil, All-cons, All-head, All-tail}
 use Rattle.std.proofs.lemmas.Str.{IsCharBoundary-after_ascii}
 use Rattle.wt_span.specs.Bytes.{is_break}
-use Rattle.wt_span.specs.declared.form.Form.{Form}
-use Rattle.wt_span.specs.declared.form.Form.TheVariants as form
+use Rattle.wt_span.specs.declared.form.ItemForm.{ItemForm}
+use Rattle.wt_span.specs.declared.form.ItemForm.TheVariants as form
 use Rattle.wt_span.specs.declared.form.Piece.{Piece}
 use Rattle.wt_span.specs.Slice.{bytes_of}
 use Rattle.wt_span.specs.Items.{Item, char, items, items_of, items_by, call_of_origin}
@@ -28,7 +28,7 @@ use Rattle.wt_rows.proofs.Making.{whole_append}
 
 -- ---- a piece of characters in two
 
-chars_items : (f : Form) (o : Option ℕ) (bs : List ℕ) → is_chars f ≡ true → items_by f o bs ≡ map (char o) bs
+chars_items : (f : ItemForm) (o : Option ℕ) (bs : List ℕ) → is_chars f ≡ true → items_by f o bs ≡ map (char o) bs
 chars_items form.Chars o bs e = refl
 chars_items (form.Entity c) o bs e = absurd cc
 chars_items form.Nowiki o bs e = absurd cc
@@ -113,7 +113,7 @@ breaks_own p n own f h e =
 
 -- ---- a line
 
-some_by_form : (f : Form) (o : Option ℕ) (bs : List ℕ) → IsWhole f bs → 0 < length (items_by f o bs)
+some_by_form : (f : ItemForm) (o : Option ℕ) (bs : List ℕ) → IsWhole f bs → 0 < length (items_by f o bs)
 some_by_form form.Chars o [] h = h
 some_by_form form.Chars o (b ∷ bs) h = omega arith
 some_by_form (form.Entity c) o bs h = omega arith

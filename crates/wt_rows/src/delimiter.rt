@@ -25,7 +25,7 @@ use crate::stretch::{StretchAt, before};
 use std::alloc::Global;
 use wt_attributes::read_attributes;
 use wt_headings::content_len;
-use wt_lines::{LineKind, Sign, Signs};
+use wt_lines::{LineKind, LineSign, Signs};
 use wt_span::{List, NoMemory, Piece};
 use wt_tree::Attr;
 
@@ -130,7 +130,7 @@ pub fn table_attrs(alloc: Global, line: &[Piece<'_>]) -> Result<List<Attr>, NoMe
     attrs_behind(alloc, line, 2)
 }
 
-fn is_dash(sign: Sign) -> bool
+fn is_dash(sign: LineSign) -> bool
     ensures { result ≡ is_dash (number sign) }
 {
     sign.is_byte(b'-')

@@ -11,19 +11,19 @@ ghost use Rattle.wt_rows.specs.Prefixes.{list_signs};
 
 use std::alloc::Global;
 use wt_blocks::MOST_SIGNS;
-use wt_lines::{Sign, Signs};
+use wt_lines::{LineSign, Signs};
 use wt_span::{NoMemory, Piece, Str};
 
 /// The text of a sign of lists.
-fn list_sign(sign: Sign) -> Option<&'static str>
+fn list_sign(sign: LineSign) -> Option<&'static str>
     ensures { MatchOption result (is_list_sign (number sign) ≡ false) (λ t. (is_list_sign (number sign) ≡ true) × (t.now ≡ number sign ∷ [])) }
 {
     match sign {
-        Sign::Byte(b'*') => Some("*"),
-        Sign::Byte(b'#') => Some("#"),
-        Sign::Byte(b':') => Some(":"),
-        Sign::Byte(b';') => Some(";"),
-        Sign::Byte(_) | Sign::Atom | Sign::Mark => None,
+        LineSign::Byte(b'*') => Some("*"),
+        LineSign::Byte(b'#') => Some("#"),
+        LineSign::Byte(b':') => Some(":"),
+        LineSign::Byte(b';') => Some(";"),
+        LineSign::Byte(_) | LineSign::Atom | LineSign::Mark => None,
     }
 }
 
@@ -67,7 +67,7 @@ pub fn past<'p, 'a>(signs: Signs<'p, 'a>, n: usize) -> Signs<'p, 'a>
     rest
 }
 
-fn is_blank(sign: Sign) -> bool
+fn is_blank(sign: LineSign) -> bool
     ensures { result ≡ is_blank (number sign) }
 {
     sign.is_byte(b' ') || sign.is_byte(b'\t')

@@ -2,7 +2,7 @@
 use Rattle.std.proofs.Common.{◌≡◌, ℕ, Some, None, List, [], ◌∷◌, ◌++◌, map, Bool, true, false, refl, codes}
 use Rattle.wt_span.specs.declared.form.Mode.TheVariants.{Page, Template}
 use Rattle.wt_span.specs.declared.form.LexKind.TheVariants.{Chars, CommentLine, Comment, Raw, Include, Hidden, Entity, Opens, Closes, LinkOpen, LinkClose, Pipe, Equals}
-use Rattle.wt_span.specs.declared.form.Form.TheVariants.{EmptyCall}
+use Rattle.wt_span.specs.declared.form.ItemForm.TheVariants.{EmptyCall}
 use Rattle.wt_span.specs.declared.origin.Origin.TheVariants as origin
 use Rattle.wt_span.specs.Items.{Item, char, whole}
 use Rattle.wt_span.specs.Origins.{OuterCall, once, span_of_origin}

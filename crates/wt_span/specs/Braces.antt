@@ -115,17 +115,17 @@ abbrev pub in_link : List Member → List Member → Bool
 in_link before after = nat_lt 0 (links_open before) && nat_lt 0 (links_close after)
 
 -- a `|` or a `=` that counts, by its place and how many bytes it takes
-pub data Sign : Type 0 where
-  pipe : ℕ → ℕ → Sign
-  equals : ℕ → ℕ → Sign
+pub data PartSign : Type 0 where
+  pipe : ℕ → ℕ → PartSign
+  equals : ℕ → ℕ → PartSign
 
-abbrev pub sign_of : Member → ℕ → List Sign
+abbrev pub sign_of : Member → ℕ → List PartSign
 sign_of (lexeme (Pipe, n)) at = pipe at n ∷ []
 sign_of (lexeme (Equals, n)) at = equals at n ∷ []
 sign_of m at = []
 
 -- the signs of a call's own level that lie in no link, by their places; the first member begins at `at`
-abbrev pub signs : ℕ → List Member → List Member → List Sign
+abbrev pub signs : ℕ → List Member → List Member → List PartSign
 signs at before [] = []
 signs at before (m ∷ after) = (if in_link before after then [] else sign_of m at) ++ signs (at + width m) (m ∷ before) after
 
@@ -141,7 +141,7 @@ with_name later at [] = []
 with_name later at (p ∷ ps) = if later then record { from = p.from; to = p.to; equals_at = Some at } ∷ ps else p ∷ ps
 
 -- the parts between two places; the first of them is the call's target, or a later part
-abbrev pub parts_between : Bool → ℕ → ℕ → List Sign → List PartAt
+abbrev pub parts_between : Bool → ℕ → ℕ → List PartSign → List PartAt
 parts_between later from to [] = record { from = from; to = to; equals_at = None } ∷ []
 parts_between later from to (pipe at n ∷ ss) = record { from = from; to = at; equals_at = None } ∷ parts_between true (at + n) to ss
 parts_between later from to (equals at n ∷ ss) = with_name later at (parts_between later from to ss)

@@ -1,8 +1,8 @@
 -- The items of an expanded page: bytes of characters, atoms and invisible marks, each with where it comes from.
 use Rattle.std.specs.Prelude.{ℕ, Bool, true, false, Option, Some, None, List, [], ◌∷◌, map, if◌then◌else◌}
 use Rattle.std.specs.List.{flat_map}
-use Rattle.wt_span.specs.declared.form.Form.{Form}
-use Rattle.wt_span.specs.declared.form.Form.TheVariants as form
+use Rattle.wt_span.specs.declared.form.ItemForm.{ItemForm}
+use Rattle.wt_span.specs.declared.form.ItemForm.TheVariants as form
 use Rattle.wt_span.specs.declared.form.Piece.{Piece}
 use Rattle.wt_span.specs.declared.origin.Origin.{Origin}
 use Rattle.wt_span.specs.declared.origin.Origin.TheVariants as origin
@@ -12,7 +12,7 @@ use Rattle.wt_span.specs.Slice.{bytes_of}
 -- outermost call or argument (Some k). One of the page has its own bytes as origin.
 pub data Item : Type 0 where
   char : Option ℕ → ℕ → Item
-  whole : Form → Option ℕ → List ℕ → Item
+  whole : ItemForm → Option ℕ → List ℕ → Item
 
 abbrev pub source : Item → List ℕ
 source (char o b) = b ∷ []
@@ -27,7 +27,7 @@ abbrev pub sources : List Item → List ℕ
 sources items = flat_map source items
 
 -- invisible marks
-abbrev pub is_mark_form : Form → Bool
+abbrev pub is_mark_form : ItemForm → Bool
 is_mark_form form.Chars = false
 is_mark_form (form.Entity c) = false
 is_mark_form form.Nowiki = false
@@ -58,7 +58,7 @@ abbrev pub call_of_origin : Origin → Option ℕ
 call_of_origin (origin.Page r) = None
 call_of_origin (origin.Call k) = Some k
 
-abbrev pub items_by : Form → Option ℕ → List ℕ → List Item
+abbrev pub items_by : ItemForm → Option ℕ → List ℕ → List Item
 items_by form.Chars o bs = map (char o) bs
 items_by (form.Entity c) o bs = whole (form.Entity c) o bs ∷ []
 items_by form.Nowiki o bs = whole form.Nowiki o bs ∷ []

@@ -5,8 +5,8 @@ use Rattle.wt_span.specs.declared.form.Mode.TheVariants.{Page}
 use Rattle.wt_span.specs.declared.range.Range.{Range}
 use Rattle.wt_span.specs.declared.origin.Origin.{Origin}
 use Rattle.wt_span.specs.declared.origin.Origin.TheVariants as origin
-use Rattle.wt_span.specs.declared.form.Form.{Form}
-use Rattle.wt_span.specs.declared.form.Form.TheVariants as form
+use Rattle.wt_span.specs.declared.form.ItemForm.{ItemForm}
+use Rattle.wt_span.specs.declared.form.ItemForm.TheVariants as form
 use Rattle.wt_span.specs.declared.form.Piece.{Piece}
 use Rattle.wt_span.specs.declared.form.Outer.{Outer}
 use Rattle.wt_span.specs.Slice.{bytes_of, start_of, end_of}
@@ -81,7 +81,7 @@ IsPlaced (origin.Page r) s = span_of r ≡ s
 IsPlaced (origin.Call k) s = Unit {0}
 
 -- an empty call comes from a call; a function of the page itself is one as the page is read
-abbrev pub FitsOrigin : Form → Option ℕ → List ℕ → Type 0
+abbrev pub FitsOrigin : ItemForm → Option ℕ → List ℕ → Type 0
 FitsOrigin form.EmptyCall None bs = ⊥
 FitsOrigin form.Function None bs = IsCall Page bs
 FitsOrigin f o bs = Unit {0}

@@ -39,7 +39,7 @@ pub enum LexKind {
 /// one item. `Entity`, `Nowiki`, `Extension` and `Function` are atoms, the rest are invisible
 /// marks. An `EmptyCall` is an outermost call or argument whose output is empty.
 #[derive(Clone, Copy, Debug, PartialEq, Eq)]
-pub enum Form {
+pub enum ItemForm {
     Chars,
     Entity(char),
     Nowiki,
@@ -55,7 +55,7 @@ pub enum Form {
 #[derive(Clone, Copy, Debug)]
 pub struct Piece<'a> {
     pub text: Text<'a>,
-    pub form: Form,
+    pub form: ItemForm,
     pub origin: Origin,
 }
 

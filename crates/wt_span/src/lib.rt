@@ -17,7 +17,7 @@ mod steps;
 mod str;
 mod text;
 
-pub use form::{Form, LexKind, Mode, Outer, Piece};
+pub use form::{ItemForm, LexKind, Mode, Outer, Piece};
 pub use function::Function;
 pub use items::Items;
 pub use laws::one_cut;

@@ -9,7 +9,7 @@ use Rattle.std.proofs.lemmas.List.Elements.{All-head, All-tail}
 use Rattle.std.proofs.lemmas.Str.{encode_ascii}
 use Rattle.wt_names.proofs.Ascii.{IsWide, encode_wide, encode_some}
 use Rattle.wt_guards.specs.Table.{line_start_hazard}
-use Rattle.wt_guards.specs.Content.{Sign, letter, letters, nearest}
+use Rattle.wt_guards.specs.Content.{ContentSign, letter, letters, nearest}
 use Rattle.wt_guards.specs.Letters.{is_bracket, is_escaped, reference, written_by}
 use Rattle.wt_guards.specs.Guards.{Setting, nowiki, nowiki_if, is_between_guard, is_start_guard, is_guarded, is_line_start, is_line_begun, is_empty_line, spelled_from, spelled}
 use Rattle.wt_guards.proofs.Escapes.{is_escapable, escapable, each_escapable}
@@ -95,7 +95,7 @@ within_first : (w x : Bool) → w ≡ false → (not w && x) ≡ false → x ≡
 within_first false x e f = f
 within_first true x e f = cc
 
-unguarded_begins : (s : Setting) (before : List Sign) (c : ℕ) (after : List Sign) → s.within ≡ false → is_line_start (nearest before) ≡ true
+unguarded_begins : (s : Setting) (before : List ContentSign) (c : ℕ) (after : List ContentSign) → s.within ≡ false → is_line_start (nearest before) ≡ true
     → is_line_begun before ≡ true → is_guarded s before (letter c ∷ after) ≡ false → is_free c ≡ true
 unfolding is_guarded is_start_guard
 unguarded_begins s before c after w l b g =
@@ -105,7 +105,7 @@ unguarded_begins s before c after w l b g =
     let f = start_free (is_line_start (nearest before)) (is_line_begun before) (is_empty_line (letter c ∷ after)) (line_start_hazard c) start l b in
     not_both (line_start_hazard c) (c == 10) f.1 (or_parts (c == 10) _ f.0).0
 
-lines_letter : (start : Bool) (s : Setting) (before : List Sign) (c : ℕ) (after : List Sign) (rest : List ℕ) (e : Bool)
+lines_letter : (start : Bool) (s : Setting) (before : List ContentSign) (c : ℕ) (after : List ContentSign) (rest : List ℕ) (e : Bool)
     → is_escaped s.within s.place before c after ≡ e → (start ≡ true → is_free c ≡ true) → are_text_lines (c == 10) rest ≡ true
     → are_text_lines start (written_by e c ++ rest) ≡ true
 lines_letter start s before c after rest true h f r =
@@ -117,7 +117,7 @@ lines_letter start s before c after rest false h f r =
     lines_plain start c rest (λ i. both (is_free c) (not (is_bracket c)) (f i) (ap not b)) r
 
 -- a guard, or none and then a character that may begin the line
-lines_guarded : (start g : Bool) (s : Setting) (before : List Sign) (c : ℕ) (after : List Sign) (rest : List ℕ)
+lines_guarded : (start g : Bool) (s : Setting) (before : List ContentSign) (c : ℕ) (after : List ContentSign) (rest : List ℕ)
     → (start ≡ true → g ≡ false → is_free c ≡ true) → are_text_lines (c == 10) rest ≡ true
     → are_text_lines start (nowiki_if g ++ (written_by (is_escaped s.within s.place before c after) c ++ rest)) ≡ true
 lines_guarded start true s before c after rest f r =
@@ -126,7 +126,7 @@ lines_guarded start true s before c after rest f r =
 lines_guarded start false s before c after rest f r =
     lines_letter start s before c after rest (is_escaped s.within s.place before c after) refl (λ i. f i refl) r
 
-end_guarded : (s : Setting) (before : List Sign) → s.within ≡ false → is_line_start (nearest before) ≡ true → is_guarded s before [] ≡ true
+end_guarded : (s : Setting) (before : List ContentSign) → s.within ≡ false → is_line_start (nearest before) ≡ true → is_guarded s before [] ≡ true
 unfolding is_guarded is_start_guard
 end_guarded s before w l = rw (w, l) (or_last (is_between_guard (nearest before) None) true refl)
 
@@ -135,7 +135,7 @@ lines_end start true h = subst (λ bs. are_text_lines start bs ≡ true) (append
 lines_end true false h = h refl
 lines_end false false h = refl
 
-lines_from : (start : Bool) (s : Setting) (before : List Sign) (cs : List ℕ) → s.within ≡ false → is_line_start (nearest before) ≡ start
+lines_from : (start : Bool) (s : Setting) (before : List ContentSign) (cs : List ℕ) → s.within ≡ false → is_line_start (nearest before) ≡ start
     → is_line_begun before ≡ start → are_text_lines start (spelled_from s before (map letter cs)) ≡ true
 lines_from start s before [] w l b = lines_end start (is_guarded s before []) (λ i. end_guarded s before w (l ∙ i))
 lines_from start s before (c ∷ cs) w l b =

@@ -7,14 +7,14 @@ use Rattle.wt_guards.specs.declared.role.Role.{Role}
 use Rattle.wt_guards.specs.declared.role.Role.TheVariants as role
 use Rattle.wt_guards.specs.declared.side.Place.TheVariants.{Paragraph}
 use Rattle.wt_guards.specs.Table.{hazard}
-use Rattle.wt_guards.specs.Content.{Sign, letter, thing}
+use Rattle.wt_guards.specs.Content.{ContentSign, letter, thing}
 use Rattle.wt_guards.specs.Letters.{is_escaped, reference}
 use Rattle.wt_guards.specs.Guards.{Setting, is_parted, is_between_guard, is_guarded, nowiki, spelled}
 
-abbrev text : List ℕ → List Sign
+abbrev text : List ℕ → List ContentSign
 text bytes = map letter bytes
 
-abbrev node : Role → List ℕ → List Sign
+abbrev node : Role → List ℕ → List ContentSign
 node r source = thing (record { role = r; source = source; place = None }) ∷ []
 
 -- the inside of a link, where no line begins or ends
@@ -22,7 +22,7 @@ abbrev inside : Setting
 inside = record { within = true; place = Paragraph; source = [] }
 
 -- a group that shows a word, with or without `//`
-abbrev group : Bool → List Sign
+abbrev group : Bool → List ContentSign
 group slashes =
     node (role.Group (record {
       slashes = slashes;
@@ -36,31 +36,31 @@ group slashes =
       between_equals = false;
     })) (codes "{{x}}")
 
-abbrev link : List Sign
+abbrev link : List ContentSign
 link = node role.Link (codes "[[a]]")
 
-abbrev external : List Sign
+abbrev external : List ContentSign
 external = node role.External (codes "[http://x]")
 
-abbrev bare : List Sign
+abbrev bare : List ContentSign
 bare = node (role.Bare false) (codes "http://x")
 
-abbrev switch : List Sign
+abbrev switch : List ContentSign
 switch = node role.Switch (codes "__TOC__")
 
-abbrev toggle : List Sign
+abbrev toggle : List ContentSign
 toggle = node role.Toggle (codes "''")
 
-abbrev other : List Sign
+abbrev other : List ContentSign
 other = node role.Node (codes "<br>")
 
 -- whether something is put between them
-abbrev parted : List Sign → List Sign → Bool
+abbrev parted : List ContentSign → List ContentSign → Bool
 parted left right = is_guarded inside left right
 
 -- ---- nodes on the right: a link, an external link, a bare URL, a switch, a group, a delimiter of a style, and another node
 
-abbrev nodes : List (List Sign)
+abbrev nodes : List (List ContentSign)
 nodes = link ∷ external ∷ bare ∷ switch ∷ group false ∷ toggle ∷ other ∷ []
 
 after_letter : map (parted (text (codes "a"))) nodes ≡ false ∷ false ∷ true ∷ false ∷ true ∷ false ∷ false ∷ []
@@ -103,7 +103,7 @@ edges = refl
 
 -- ---- text on the left of a bare URL and of a group: letters of both cases, a digit, `_`; a space, `(`, `,`; `.`, `)`, `-`
 
-abbrev ends : List (List Sign)
+abbrev ends : List (List ContentSign)
 ends = map text (codes "a" ∷ codes "Z" ∷ codes "1" ∷ codes "_" ∷ codes " " ∷ codes "(" ∷ codes "," ∷ codes "." ∷ codes ")" ∷ codes "-" ∷ [])
 
 before_bare : map (λ left. parted left bare) ends ≡ true ∷ true ∷ true ∷ true ∷ false ∷ false ∷ false ∷ false ∷ false ∷ false ∷ []
@@ -116,7 +116,7 @@ before_group = refl
 
 -- ---- text on the right: a small letter, a capital, a digit; a space; `,` `;` `.` `?` `)`; `-`
 
-abbrev beginnings : List (List Sign)
+abbrev beginnings : List (List ContentSign)
 beginnings =
     map text (codes "a" ∷ codes "A" ∷ codes "1" ∷ codes " " ∷ codes "," ∷ codes ";" ∷ codes "." ∷ codes "?" ∷ codes ")" ∷ codes "-" ∷ [])
 

@@ -9,7 +9,7 @@ use Rattle.std.proofs.lemmas.Str.{encode_ascii}
 use Rattle.wt_span.specs.Bytes.{begins, is_blank}
 use Rattle.wt_names.proofs.Ascii.{IsWide, encode_wide}
 use Rattle.wt_guards.specs.declared.side.Place.{Place}
-use Rattle.wt_guards.specs.Content.{Sign, letter, letters}
+use Rattle.wt_guards.specs.Content.{ContentSign, letter, letters}
 use Rattle.wt_guards.specs.Letters.{is_escaped, is_term, are_slashes, reference, written_by}
 use Rattle.wt_guards.specs.Guards.{Setting, nowiki, nowiki_if, is_guarded, spelled_from, spelled}
 use Rattle.wt_guards.proofs.Escapes.{is_escapable, escapable, others_stay, each_escapable}
@@ -73,10 +73,10 @@ calm_wide (b ∷ bs) rest h c =
 -- ---- the three characters where they are left
 
 -- what is spelled after a character
-abbrev after_it : Setting → ℕ → List Sign → List ℕ → List ℕ
+abbrev after_it : Setting → ℕ → List ContentSign → List ℕ → List ℕ
 after_it s c before cs = spelled_from s (letter c ∷ before) (map letter cs)
 
-calm_apostrophe : (s : Setting) (before : List Sign) (cs : List ℕ) → is_escaped s.within s.place before 39 (map letter cs) ≡ false
+calm_apostrophe : (s : Setting) (before : List ContentSign) (cs : List ℕ) → is_escaped s.within s.place before 39 (map letter cs) ≡ false
     → Calm (after_it s 39 before cs) → Calm (39 ∷ after_it s 39 before cs)
 unfolding is_escaped
 calm_apostrophe s before [] e c = let h = or_parts _ true e in absurd (let no : true ≡ false = h.1 in cc)
@@ -86,7 +86,7 @@ calm_apostrophe s before (d ∷ ds) e c =
     let f = ap (λ bs. begins (codes "''") (39 ∷ bs)) n.is ∙ begins_not (codes "''") (39 ∷ n.first ∷ n.others) 1 (omega arith) n.fits in
     record { styles = no_more (codes "''") 39 (after_it s 39 before (d ∷ ds)) f c.styles; switches = c.switches; addresses = c.addresses }
 
-twice : (within : Bool) (p : Place) (before : List Sign) (d : ℕ) (after : List Sign) → is_escaped within p (letter 95 ∷ before) d after ≡ false → d ≢ 95
+twice : (within : Bool) (p : Place) (before : List ContentSign) (d : ℕ) (after : List ContentSign) → is_escaped within p (letter 95 ∷ before) d after ≡ false → d ≢ 95
 unfolding is_escaped
 twice within p before d after e = λ i. let no : true ≡ false = subst (λ k. is_escaped within p (letter 95 ∷ before) k after ≡ false) i e in cc
 
@@ -95,7 +95,7 @@ unfolding nowiki
 line_alone true = record { styles = refl; switches = refl; addresses = refl }
 line_alone false = record { styles = refl; switches = refl; addresses = refl }
 
-calm_low_line : (s : Setting) (before : List Sign) (cs : List ℕ) → Calm (after_it s 95 before cs) → Calm (95 ∷ after_it s 95 before cs)
+calm_low_line : (s : Setting) (before : List ContentSign) (cs : List ℕ) → Calm (after_it s 95 before cs) → Calm (95 ∷ after_it s 95 before cs)
 calm_low_line s before [] c = line_alone (is_guarded s (letter 95 ∷ before) [])
 calm_low_line s before (d ∷ ds) c =
     let n = begin_next (λ x. x ≢ 95) s 95 d before ds refl refl (omega arith) (twice s.within s.place before d (map letter ds)) (λ x h. omega (arith, h)) in
@@ -113,7 +113,7 @@ slash_alone true = refl
 slash_alone false = refl
 
 -- a slash is written as it stands
-slash_is : (s : Setting) (c : ℕ) (before : List Sign) (ds : List ℕ) → (c == 10) ≡ false → is_blank c ≡ false
+slash_is : (s : Setting) (c : ℕ) (before : List ContentSign) (ds : List ℕ) → (c == 10) ≡ false → is_blank c ≡ false
     → after_it s c before (47 ∷ ds) ≡ 47 ∷ after_it s 47 (letter c ∷ before) ds
 slash_is s c before ds e f =
     let after = map letter ds in
@@ -124,7 +124,7 @@ slash_is s c before ds e f =
     ∙ ap (λ bs. bs ++ rest) (encode_ascii 47 (omega arith))
 
 -- no `//` follows a `:` that is left
-no_slashes : (s : Setting) (before : List Sign) (d : ℕ) (ds : List ℕ) → are_slashes (map letter (d ∷ ds)) ≡ false
+no_slashes : (s : Setting) (before : List ContentSign) (d : ℕ) (ds : List ℕ) → are_slashes (map letter (d ∷ ds)) ≡ false
     → begins (codes "://") (58 ∷ after_it s 58 before (d ∷ ds)) ≡ false
 no_slashes s before d ds e = elim (equal_or d 47) [
   | inl i ↦ subst (λ k. begins (codes "://") (58 ∷ after_it s 58 before (k ∷ ds)) ≡ false) (sym i)
@@ -134,7 +134,7 @@ no_slashes s before d ds e = elim (equal_or d 47) [
       ap (λ bs. begins (codes "://") (58 ∷ bs)) n.is ∙ begins_not (codes "://") (58 ∷ n.first ∷ n.others) 1 (omega arith) n.fits
 ]
   where
-    one_slash : (s : Setting) (before : List Sign) (ds : List ℕ) → are_slashes (map letter (47 ∷ ds)) ≡ false
+    one_slash : (s : Setting) (before : List ContentSign) (ds : List ℕ) → are_slashes (map letter (47 ∷ ds)) ≡ false
         → begins (codes "://") (58 ∷ after_it s 58 before (47 ∷ ds)) ≡ false
     one_slash s before [] e =
         ap (λ bs. begins (codes "://") (58 ∷ bs)) (slash_is s 58 before [] refl refl) ∙ slash_alone (is_guarded s (letter 47 ∷ letter 58 ∷ before) [])
@@ -143,7 +143,7 @@ no_slashes s before d ds e = elim (equal_or d 47) [
         ap (λ bs. begins (codes "://") (58 ∷ bs)) (slash_is s 58 before (d ∷ ds) refl refl)
         ∙ ap (λ bs. begins (codes "://") (58 ∷ 47 ∷ bs)) n.is ∙ begins_not (codes "://") (58 ∷ 47 ∷ n.first ∷ n.others) 2 (omega arith) n.fits
 
-calm_colon : (s : Setting) (before : List Sign) (cs : List ℕ) → is_escaped s.within s.place before 58 (map letter cs) ≡ false
+calm_colon : (s : Setting) (before : List ContentSign) (cs : List ℕ) → is_escaped s.within s.place before 58 (map letter cs) ≡ false
     → Calm (after_it s 58 before cs) → Calm (58 ∷ after_it s 58 before cs)
 unfolding is_escaped
 calm_colon s before [] e c = colon_alone (is_guarded s (letter 58 ∷ before) [])
@@ -153,7 +153,7 @@ calm_colon s before (d ∷ ds) e c =
 
 -- ---- all
 
-calm_small : (s : Setting) (before : List Sign) (c : ℕ) (cs : List ℕ) → is_escaped s.within s.place before c (map letter cs) ≡ false
+calm_small : (s : Setting) (before : List ContentSign) (c : ℕ) (cs : List ℕ) → is_escaped s.within s.place before c (map letter cs) ≡ false
     → Calm (after_it s c before cs) → Calm (c ∷ after_it s c before cs)
 calm_small s before c cs e q =
     let P : ℕ → Type 0 = λ k. is_escaped s.within s.place before k (map letter cs) ≡ false → Calm (after_it s k before cs)
@@ -169,19 +169,19 @@ calm_small s before c cs e q =
       ]
     ]
 
-calm_plain : (s : Setting) (before : List Sign) (c : ℕ) (cs : List ℕ) → is_escaped s.within s.place before c (map letter cs) ≡ false
+calm_plain : (s : Setting) (before : List ContentSign) (c : ℕ) (cs : List ℕ) → is_escaped s.within s.place before c (map letter cs) ≡ false
     → Calm (after_it s c before cs) → Calm (encode_utf8 c ++ after_it s c before cs)
 calm_plain s before c cs e q = elim (cases_lt c 128) [
   | inl small ↦ subst (λ bs. Calm (bs ++ after_it s c before cs)) (sym (encode_ascii c small)) (calm_small s before c cs e q)
   | inr wide ↦ calm_wide (encode_utf8 c) (after_it s c before cs) (encode_wide c wide) q
 ]
 
-calm_letter : (s : Setting) (before : List Sign) (c : ℕ) (cs : List ℕ) (e : Bool) → is_escaped s.within s.place before c (map letter cs) ≡ e
+calm_letter : (s : Setting) (before : List ContentSign) (c : ℕ) (cs : List ℕ) (e : Bool) → is_escaped s.within s.place before c (map letter cs) ≡ e
     → Calm (after_it s c before cs) → Calm (written_by e c ++ after_it s c before cs)
 calm_letter s before c cs true h q = calm_reference c (after_it s c before cs) (escapable s.within s.place before c (map letter cs) h) q
 calm_letter s before c cs false h q = calm_plain s before c cs h q
 
-calm_from : (s : Setting) (before : List Sign) (cs : List ℕ) → Calm (spelled_from s before (map letter cs))
+calm_from : (s : Setting) (before : List ContentSign) (cs : List ℕ) → Calm (spelled_from s before (map letter cs))
 calm_from s before [] = calm_alone (is_guarded s before [])
 calm_from s before (c ∷ cs) =
     let after = map letter cs in

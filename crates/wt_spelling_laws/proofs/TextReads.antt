@@ -19,7 +19,7 @@ use Rattle.wt_span.specs.Lexemes.{form_at}
 use Rattle.wt_lex.specs.Words.{is_form_byte}
 use Rattle.wt_names.proofs.Ascii.{IsWide, encode_wide, encode_some}
 use Rattle.wt_guards.specs.declared.side.Place.{Place}
-use Rattle.wt_guards.specs.Content.{Sign, letter, letters}
+use Rattle.wt_guards.specs.Content.{ContentSign, letter, letters}
 use Rattle.wt_guards.specs.Letters.{is_bracket, is_escaped, reference, written_by}
 use Rattle.wt_guards.specs.Guards.{Setting, nowiki, nowiki_if, is_guarded, is_between_guard, is_start_guard, is_end_guard, is_blank_guard, spelled_from, spelled}
 use Rattle.wt_guards.proofs.Escapes.{is_escapable, escapable, each_escapable}
@@ -135,13 +135,13 @@ and_false true = refl
 and_false false = refl
 
 -- nothing is put after a character that is neither a blank nor a line break, where a character follows
-pub unguarded : (s : Setting) (c d : ℕ) (before after : List Sign) → (c == 10) ≡ false → is_blank c ≡ false
+pub unguarded : (s : Setting) (c d : ℕ) (before after : List ContentSign) → (c == 10) ≡ false → is_blank c ≡ false
     → is_guarded s (letter c ∷ before) (letter d ∷ after) ≡ false
 unfolding is_guarded is_between_guard is_start_guard is_end_guard is_blank_guard
 unguarded s c d before after e f = rw (e, f, and_false (d == 10), and_false (not s.within)) refl
 
 -- what is spelled after such a character, where one follows
-pub begin_next : (P : ℕ → Type 0) (s : Setting) (c d : ℕ) (before : List Sign) (ds : List ℕ) → (c == 10) ≡ false → is_blank c ≡ false
+pub begin_next : (P : ℕ → Type 0) (s : Setting) (c d : ℕ) (before : List ContentSign) (ds : List ℕ) → (c == 10) ≡ false → is_blank c ≡ false
     → P 38 → (is_escaped s.within s.place (letter c ∷ before) d (map letter ds) ≡ false → P d) → ((x : ℕ) → 128 ≤ x → P x)
     → Begins P (spelled_from s (letter c ∷ before) (map letter (d ∷ ds)))
 begin_next P s c d before ds e f p q g =
@@ -157,7 +157,7 @@ pub or_parts : (a b : Bool) → (a || b) ≡ false → (a ≡ false) × (b ≡ f
 or_parts true b e = cc
 or_parts false b e = (refl, e)
 
-pub bracket_escaped : (within : Bool) (p : Place) (before : List Sign) (c : ℕ) (after : List Sign) → is_bracket c ≡ true
+pub bracket_escaped : (within : Bool) (p : Place) (before : List ContentSign) (c : ℕ) (after : List ContentSign) → is_bracket c ≡ true
     → is_escaped within p before c after ≡ true
 unfolding is_escaped
 bracket_escaped within p before c after e = rw e refl
@@ -205,7 +205,7 @@ mild_if : (x : ℕ) → (is_ascii_alphabetic x || x == 35) ≡ false → IsMild 
 mild_if x e = let p = or_parts (is_ascii_alphabetic x) _ e in (p.0, apart x 35 p.1)
 
 -- a `<` that is left is followed by a character that makes no tag of it
-good_less : (mode : Mode) (s : Setting) (before : List Sign) (cs t : List ℕ) → is_escaped s.within s.place before 60 (map letter cs) ≡ false
+good_less : (mode : Mode) (s : Setting) (before : List ContentSign) (cs t : List ℕ) → is_escaped s.within s.place before 60 (map letter cs) ≡ false
     → Good mode (spelled_from s (letter 60 ∷ before) (map letter cs)) t → Good mode (60 ∷ spelled_from s (letter 60 ∷ before) (map letter cs)) (60 ∷ t)
 unfolding is_escaped
 good_less mode s before [] t e g = cc
@@ -216,7 +216,7 @@ good_less mode s before (d ∷ ds) t e g =
     good_byte mode 60 (spelled_from s (letter 60 ∷ before) (map letter (d ∷ ds))) t f c g
 
 -- a `&` that is left is followed by a character that makes no reference of it
-good_and : (mode : Mode) (s : Setting) (before : List Sign) (cs t : List ℕ) → is_escaped s.within s.place before 38 (map letter cs) ≡ false
+good_and : (mode : Mode) (s : Setting) (before : List ContentSign) (cs t : List ℕ) → is_escaped s.within s.place before 38 (map letter cs) ≡ false
     → Good mode (spelled_from s (letter 38 ∷ before) (map letter cs)) t → Good mode (38 ∷ spelled_from s (letter 38 ∷ before) (map letter cs)) (38 ∷ t)
 unfolding is_escaped
 good_and mode s before [] t e g = cc
@@ -235,7 +235,7 @@ good_other : (mode : Mode) (c : ℕ) (rest t : List ℕ) → is_bracket c ≡ fa
 good_other mode c rest t b l a e g =
     good_byte mode c rest t (other_byte mode c rest (no_form_byte c b l a e)) (comment_other c rest (apart c 60 l)) g
 
-good_small : (mode : Mode) (s : Setting) (before : List Sign) (c : ℕ) (cs t : List ℕ) → is_escaped s.within s.place before c (map letter cs) ≡ false
+good_small : (mode : Mode) (s : Setting) (before : List ContentSign) (c : ℕ) (cs t : List ℕ) → is_escaped s.within s.place before c (map letter cs) ≡ false
     → Good mode (spelled_from s (letter c ∷ before) (map letter cs)) t → Good mode (c ∷ spelled_from s (letter c ∷ before) (map letter cs)) (c ∷ t)
 good_small mode s before c cs t e g =
     let rest = spelled_from s (letter c ∷ before) (map letter cs) in
@@ -253,7 +253,7 @@ good_small mode s before c cs t e g =
       ]
     ]
 
-good_plain : (mode : Mode) (s : Setting) (before : List Sign) (c : ℕ) (cs t : List ℕ) → is_escaped s.within s.place before c (map letter cs) ≡ false
+good_plain : (mode : Mode) (s : Setting) (before : List ContentSign) (c : ℕ) (cs t : List ℕ) → is_escaped s.within s.place before c (map letter cs) ≡ false
     → Good mode (spelled_from s (letter c ∷ before) (map letter cs)) t
     → Good mode (encode_utf8 c ++ spelled_from s (letter c ∷ before) (map letter cs)) (encode_utf8 c ++ t)
 good_plain mode s before c cs t e g = elim (cases_lt c 128) [
@@ -263,7 +263,7 @@ good_plain mode s before c cs t e g = elim (cases_lt c 128) [
   | inr wide ↦ good_wide mode (encode_utf8 c) (spelled_from s (letter c ∷ before) (map letter cs)) t (encode_wide c wide) g
 ]
 
-good_letter : (mode : Mode) (s : Setting) (before : List Sign) (c : ℕ) (cs t : List ℕ) (e : Bool)
+good_letter : (mode : Mode) (s : Setting) (before : List ContentSign) (c : ℕ) (cs t : List ℕ) (e : Bool)
     → is_escaped s.within s.place before c (map letter cs) ≡ e → Good mode (spelled_from s (letter c ∷ before) (map letter cs)) t
     → Good mode (written_by e c ++ spelled_from s (letter c ∷ before) (map letter cs)) (encode_utf8 c ++ t)
 good_letter mode s before c cs t true h g =
@@ -272,7 +272,7 @@ good_letter mode s before c cs t false h g = good_plain mode s before c cs t h g
 
 -- ---- all
 
-good_from : (mode : Mode) (s : Setting) (before : List Sign) (cs : List ℕ) → Good mode (spelled_from s before (map letter cs)) (flat_map encode_utf8 cs)
+good_from : (mode : Mode) (s : Setting) (before : List ContentSign) (cs : List ℕ) → Good mode (spelled_from s before (map letter cs)) (flat_map encode_utf8 cs)
 good_from mode s before [] =
     subst (λ bs. Good mode bs []) (append-nil (nowiki_if (is_guarded s before []))) (good_guard mode (is_guarded s before []) [] [] (good_nothing mode))
 good_from mode s before (c ∷ cs) =

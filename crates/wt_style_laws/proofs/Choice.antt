@@ -10,8 +10,8 @@ use Rattle.std.proofs.lemmas.List.Quantifiers.{position-Some}
 use Rattle.std.proofs.lemmas.Option.{slice_get-get_or, slice_get_within, get_or_from_slice_get}
 use Rattle.wt_quotes.specs.declared.chunk.Chunk.{Chunk}
 use Rattle.wt_quotes.specs.declared.toggle.Toggle.{Toggle}
-use Rattle.wt_quotes.specs.declared.toggle.Class.{Class}
-use Rattle.wt_quotes.specs.declared.toggle.Class.TheVariants.{OneLetter, Middle, Space}
+use Rattle.wt_quotes.specs.declared.toggle.Preceding.{Preceding}
+use Rattle.wt_quotes.specs.declared.toggle.Preceding.TheVariants.{OneLetter, Middle, Space}
 use Rattle.wt_quotes.specs.Toggles.{toggles_by_length, class_at, is_same_class, is_bold_alone, is_three, first_of, exchange_place, exchanged, set_exchanged, exchange_at, is_due, toggles_of}
 use Rattle.wt_quotes.proofs.Exchange.{nothing}
 use Rattle.wt_style_laws.specs.RunToggles.{rank, IsChosen, OneIsChosen}
@@ -24,17 +24,17 @@ not_lt : (a b : ℕ) → nat_lt a b ≡ false → b ≤ a
 not_lt a b e = grind (arith, nat_tests)
 
 -- no toggle before this place is of a run of three of the class
-abbrev NoneBefore : List Chunk → List Toggle → Class → ℕ → Type 0
+abbrev NoneBefore : List Chunk → List Toggle → Preceding → ℕ → Type 0
 NoneBefore chunks ts class i = (k : ℕ) (u : Toggle) → k < i → slice_get ts k ≡ Some u → is_three chunks class u ≡ false
 
-none_at_all : (chunks : List Chunk) (ts : List Toggle) (class : Class) → first_of chunks class ts ≡ None → NoneBefore chunks ts class (length ts)
+none_at_all : (chunks : List Chunk) (ts : List Toggle) (class : Preceding) → first_of chunks class ts ≡ None → NoneBefore chunks ts class (length ts)
 none_at_all chunks ts class e k u l g =
     let past = not_lt (position_or_len (is_three chunks class) ts) (length ts)
     (none_if (nat_lt (position_or_len (is_three chunks class) ts) (length ts)) (position_or_len (is_three chunks class) ts) e) in
     ap (is_three chunks class) (sym (get_or_from_slice_get ts k u nothing g))
     ∙ fails_before_first (is_three chunks class) ts k nothing (omega (arith, past, l))
 
-none_before : (chunks : List Chunk) (ts : List Toggle) (class : Class) (i : ℕ) → first_of chunks class ts ≡ Some i → NoneBefore chunks ts class i
+none_before : (chunks : List Chunk) (ts : List Toggle) (class : Preceding) (i : ℕ) → first_of chunks class ts ≡ Some i → NoneBefore chunks ts class i
 none_before chunks ts class i e k u l g =
     ap (is_three chunks class) (sym (get_or_from_slice_get ts k u nothing g))
     ∙ (position-Some (is_three chunks class) ts i nothing e).2 k l
@@ -43,19 +43,19 @@ both_true : (a b : Bool) → (a && b) ≡ true → (a ≡ true) × (b ≡ true)
 both_true true b e = (refl, e)
 both_true false b e = cc
 
-same_rank : (c d : Class) → is_same_class c d ≡ true → rank c ≡ rank d
+same_rank : (c d : Preceding) → is_same_class c d ≡ true → rank c ≡ rank d
 same_rank OneLetter OneLetter e = refl
 same_rank Middle Middle e = refl
 same_rank Space Space e = refl
 same_rank c d e = cc
 
-rank_within : (c : Class) → rank c < 3
+rank_within : (c : Preceding) → rank c < 3
 rank_within OneLetter = omega arith
 rank_within Middle = omega arith
 rank_within Space = omega arith
 
 -- a run of three is of the class
-is_of_rank : (c d : Class) → rank c ≡ rank d → is_same_class c d ≡ true
+is_of_rank : (c d : Preceding) → rank c ≡ rank d → is_same_class c d ≡ true
 is_of_rank OneLetter OneLetter e = refl
 is_of_rank Middle Middle e = refl
 is_of_rank Space Space e = refl
@@ -67,7 +67,7 @@ is_of_rank Space OneLetter e = absurd (omega arith)
 is_of_rank Space Middle e = absurd (omega arith)
 
 -- where no run of three of the class stands before the place, one that is of the class stands no earlier
-no_earlier : (chunks : List Chunk) (ts : List Toggle) (class : Class) (i k : ℕ) (u : Toggle) → NoneBefore chunks ts class i
+no_earlier : (chunks : List Chunk) (ts : List Toggle) (class : Preceding) (i k : ℕ) (u : Toggle) → NoneBefore chunks ts class i
     → slice_get ts k ≡ Some u → is_bold_alone u ≡ true → rank (class_at chunks u.chunk) ≡ rank class → i ≤ k
 no_earlier chunks ts class i k u none g alone e = elim (cases_lt k i) [
   | inl l ↦
@@ -78,9 +78,9 @@ no_earlier chunks ts class i k u none g alone e = elim (cases_lt k i) [
 ]
 
 -- what is known of the place i of a class before which no run of three of an earlier class stands at all
-chosen_by : (chunks : List Chunk) (ts : List Toggle) (class : Class) (i : ℕ) (t : Toggle)
+chosen_by : (chunks : List Chunk) (ts : List Toggle) (class : Preceding) (i : ℕ) (t : Toggle)
     → ts ≡ toggles_by_length chunks → slice_get ts i ≡ Some t → is_three chunks class t ≡ true → NoneBefore chunks ts class i
-    → ((d : Class) → rank d < rank class → NoneBefore chunks ts d (length ts)) → IsChosen chunks i t
+    → ((d : Preceding) → rank d < rank class → NoneBefore chunks ts d (length ts)) → IsChosen chunks i t
 chosen_by chunks ts class i t same g three none earlier =
     let parts = both_true (is_bold_alone t) (is_same_class (class_at chunks t.chunk) class) three in
     let at = same_rank (class_at chunks t.chunk) class parts.1 in (
@@ -103,24 +103,24 @@ chosen_by chunks ts class i t same g three none earlier =
 -- the class of the place that is taken, where no earlier class occurs
 place_by : (chunks : List Chunk) (ts : List Toggle) (a b c : Option ℕ) → first_of chunks OneLetter ts ≡ a → first_of chunks Middle ts ≡ b
     → first_of chunks Space ts ≡ c → (i : ℕ) → option_or a (option_or b c) ≡ Some i
-    → (class : Class) × (first_of chunks class ts ≡ Some i) × ((d : Class) → rank d < rank class → first_of chunks d ts ≡ None)
+    → (class : Preceding) × (first_of chunks class ts ≡ Some i) × ((d : Preceding) → rank d < rank class → first_of chunks d ts ≡ None)
 place_by chunks ts (Some j) b c e f g i is = (OneLetter, e ∙ is, λ d l. absurd (omega (arith, l)))
 place_by chunks ts None (Some j) c e f g i is = (Middle, f ∙ is, before_middle)
   where
-    before_middle : (d : Class) → rank d < 1 → first_of chunks d ts ≡ None
+    before_middle : (d : Preceding) → rank d < 1 → first_of chunks d ts ≡ None
     before_middle OneLetter l = e
     before_middle Middle l = absurd (omega arith)
     before_middle Space l = absurd (omega arith)
 place_by chunks ts None None c e f g i is = (Space, g ∙ is, before_space)
   where
-    before_space : (d : Class) → rank d < 2 → first_of chunks d ts ≡ None
+    before_space : (d : Preceding) → rank d < 2 → first_of chunks d ts ≡ None
     before_space OneLetter l = e
     before_space Middle l = f
     before_space Space l = absurd (omega arith)
 
 -- where none is taken no class occurs
 none_by : (chunks : List Chunk) (ts : List Toggle) (a b c : Option ℕ) → first_of chunks OneLetter ts ≡ a → first_of chunks Middle ts ≡ b
-    → first_of chunks Space ts ≡ c → option_or a (option_or b c) ≡ None → (d : Class) → first_of chunks d ts ≡ None
+    → first_of chunks Space ts ≡ c → option_or a (option_or b c) ≡ None → (d : Preceding) → first_of chunks d ts ≡ None
 none_by chunks ts None None None e f g is OneLetter = e
 none_by chunks ts None None None e f g is Middle = f
 none_by chunks ts None None None e f g is Space = g

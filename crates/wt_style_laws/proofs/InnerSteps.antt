@@ -4,7 +4,7 @@ use Rattle.std.specs.Prelude.{◌&&◌, ◌||◌, if◌then◌else◌, All, IfSo
 use Rattle.std.specs.List.{AllPairs}
 use Rattle.std.proofs.lemmas.List.Elements.{All-nil, All-head, All-tail, All-cons, All-weaker}
 use Rattle.std.proofs.lemmas.Option.{same_Some}
-use Rattle.wt_quotes.specs.declared.turn.Turn.{Turn}
+use Rattle.wt_quotes.specs.declared.turn.PlacedToggle.{PlacedToggle}
 use Rattle.wt_quotes.specs.declared.style.Style.{Style}
 use Rattle.wt_quotes.specs.declared.style.End.{End}
 use Rattle.wt_quotes.specs.Styles.{effect_of, closing_place, closing_width, begins, stops, ending, style_from, styles_by}
@@ -204,8 +204,8 @@ pub outer_is : (total low p i : ℕ) (next had_bold had_italic outside : Bool) (
     → Pairs (Outer p (inside r next)) (styles_by total (run had_bold had_italic outside rs))
 outer_is total low p j next had_bold had_italic outside [] r h at l e n = tt
 outer_is total low p zero next had_bold had_italic outside (step s b i f ∷ rs) r h at l e n =
-    let t : Turn = made had_bold had_italic outside (step s b i f) in
-    let rest : List Turn = run (toggled b had_bold) (toggled i had_italic) (outside_after had_bold had_italic b i f) rs in
+    let t : PlacedToggle = made had_bold had_italic outside (step s b i f) in
+    let rest : List PlacedToggle = run (toggled b had_bold) (toggled i had_italic) (outside_after had_bold had_italic b i f) rs in
     let far = behind total (s + bytes_by b i) p (toggled b had_bold) (toggled i had_italic) (outside_after had_bold had_italic b i f) rs h.2 n in
     let none : (x : Style) → All (Outer p (inside r next) x) (styles_by total rest) =
     λ x. All-weaker (λ u. p < u.from) (Outer p (inside r next) x) (λ u m hs hu. absurd (omega (arith, m, hu.0))) (styles_by total rest) far in
@@ -217,8 +217,8 @@ outer_is total low p zero next had_bold had_italic outside (step s b i f ∷ rs)
     (λ d. none (style_from (not t.bold_outside) t (ending (not t.bold_outside) total rest)))
     (pairs_behind p (inside r next) (styles_by total rest) far)
 outer_is total low p (suc j) next had_bold had_italic outside (step s b i f ∷ rs) r h at l e n =
-    let t : Turn = made had_bold had_italic outside (step s b i f) in
-    let rest : List Turn = run (toggled b had_bold) (toggled i had_italic) (outside_after had_bold had_italic b i f) rs in
+    let t : PlacedToggle = made had_bold had_italic outside (step s b i f) in
+    let rest : List PlacedToggle = run (toggled b had_bold) (toggled i had_italic) (outside_after had_bold had_italic b i f) rs in
     let first : (q : Bool) → begins (effect_of q t) ≡ true → (u : Style) → Outer p (inside r next) (style_from q t (ending q total rest)) u =
     λ q c u hs hu. alone q next r
     (kept_open q total (s + bytes_by b i) p j (toggled b had_bold) (toggled i had_italic) (outside_after had_bold had_italic b i f) rs r h.2

@@ -2,8 +2,8 @@
 use Rattle.std.specs.Prelude.{◌≡◌, ◌⊎◌, ℕ, ◌<◌, ◌≤◌, true, false, Some, List, All, slice_get, slice_set}
 use Rattle.wt_quotes.specs.declared.chunk.Chunk.{Chunk}
 use Rattle.wt_quotes.specs.declared.toggle.Toggle.{Toggle}
-use Rattle.wt_quotes.specs.declared.toggle.Class.{Class}
-use Rattle.wt_quotes.specs.declared.toggle.Class.TheVariants.{OneLetter, Middle, Space}
+use Rattle.wt_quotes.specs.declared.toggle.Preceding.{Preceding}
+use Rattle.wt_quotes.specs.declared.toggle.Preceding.TheVariants.{OneLetter, Middle, Space}
 use Rattle.wt_quotes.specs.Runs.{run_length}
 use Rattle.wt_quotes.specs.Toggles.{toggles_by_length, width_of, class_at, is_bold_alone, exchanged, is_due, toggles_of}
 
@@ -20,7 +20,7 @@ abbrev pub TakesMost : List Chunk → Type 0
 TakesMost chunks = All (λ t. IsWidest (run_length (slice_get chunks t.chunk)) (width_of t)) (toggles_by_length chunks)
 
 -- behind one letter comes before the middle class, and that before behind a space
-abbrev pub rank : Class → ℕ
+abbrev pub rank : Preceding → ℕ
 rank OneLetter = 0
 rank Middle = 1
 rank Space = 2

@@ -4,8 +4,8 @@ use Rattle.std.specs.Prelude.{◌&&◌, ◌||◌, slice_index, if◌then◌else�
 use Rattle.std.specs.List.{list_all}
 use Rattle.std.proofs.lemmas.Bool.Decides.{nat_tests}
 use Rattle.std.proofs.lemmas.List.{length-map, drop-map}
-use Rattle.wt_span.specs.declared.form.Form.{Form}
-use Rattle.wt_span.specs.declared.form.Form.TheVariants as form
+use Rattle.wt_span.specs.declared.form.ItemForm.{ItemForm}
+use Rattle.wt_span.specs.declared.form.ItemForm.TheVariants as form
 use Rattle.wt_span.specs.declared.form.Piece.{Piece}
 use Rattle.wt_span.specs.Slice.{bytes_of}
 use Rattle.wt_span.specs.Bytes.{begins}
@@ -48,7 +48,7 @@ all_chars : (o : Option ℕ) (bs : List ℕ) → list_all is_text (map (char o) 
 all_chars o [] = refl
 all_chars o (b ∷ bs) = all_chars o bs
 
-texts_by : (f : Form) (o : Option ℕ) (bs : List ℕ) → list_all is_text (items_by f o bs) ≡ is_text_form f
+texts_by : (f : ItemForm) (o : Option ℕ) (bs : List ℕ) → list_all is_text (items_by f o bs) ≡ is_text_form f
 texts_by form.Chars o bs = all_chars o bs
 texts_by (form.Entity c) o bs = refl
 texts_by form.Nowiki o bs = refl

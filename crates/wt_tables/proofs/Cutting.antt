@@ -4,8 +4,8 @@ use Rattle.std.specs.Prelude.{slice_index}
 use Rattle.std.specs.Str.{IsUtf8, IsCharBoundary}
 use Rattle.std.proofs.lemmas.List.{length-map, length-append, take-map, drop-map, take-append-drop, flat_map_more}
 use Rattle.std.proofs.lemmas.Str.{IsCharBoundary-after_ascii, IsCharBoundary-before_ascii}
-use Rattle.wt_span.specs.declared.form.Form.{Form}
-use Rattle.wt_span.specs.declared.form.Form.TheVariants as form
+use Rattle.wt_span.specs.declared.form.ItemForm.{ItemForm}
+use Rattle.wt_span.specs.declared.form.ItemForm.TheVariants as form
 use Rattle.wt_span.specs.declared.form.Piece.{Piece}
 use Rattle.wt_span.specs.Slice.{bytes_of}
 use Rattle.wt_span.specs.Items.{Item, char, sign, items, items_of, items_by, call_of_origin}
@@ -56,7 +56,7 @@ low_within xs ys n l h some less =
 
 -- ---- pieces
 
-count_by_form : (f : Form) (o : Option ℕ) (bs : List ℕ) → count_by (is_chars f) bs ≡ length (items_by f o bs)
+count_by_form : (f : ItemForm) (o : Option ℕ) (bs : List ℕ) → count_by (is_chars f) bs ≡ length (items_by f o bs)
 count_by_form form.Chars o bs = sym (length-map bs (char o))
 count_by_form (form.Entity c) o bs = refl
 count_by_form form.Nowiki o bs = refl
@@ -70,7 +70,7 @@ count_by_form form.EmptyCall o bs = refl
 pub count_is : (p : Piece) → item_count p ≡ length (items_of p)
 count_is p = count_by_form p.form (call_of_origin p.origin) (bytes_of p.text)
 
-chars_by : (f : Form) (bs : List ℕ) (n : ℕ) → 0 < n → n < count_by (is_chars f) bs → f ≡ form.Chars
+chars_by : (f : ItemForm) (bs : List ℕ) (n : ℕ) → 0 < n → n < count_by (is_chars f) bs → f ≡ form.Chars
 chars_by form.Chars bs n s l = refl
 chars_by (form.Entity c) bs n s l = absurd (omega arith)
 chars_by form.Nowiki bs n s l = absurd (omega arith)
@@ -86,7 +86,7 @@ chars_signs o [] = refl
 chars_signs o (b ∷ bs) = ap (λ (l : List ℕ). b ∷ l) (chars_signs o bs)
 
 items_are : (p : Piece) (n : ℕ) → 0 < n → n < item_count p → items_of p ≡ map (char (call_of_origin p.origin)) (bytes_of p.text)
-items_are p n s l = ap (λ (f : Form). items_by f (call_of_origin p.origin) (bytes_of p.text)) (chars_by p.form (bytes_of p.text) n s l)
+items_are p n s l = ap (λ (f : ItemForm). items_by f (call_of_origin p.origin) (bytes_of p.text)) (chars_by p.form (bytes_of p.text) n s l)
 
 pub cut_low : (p : Piece) (n : ℕ) → 0 < n → n < item_count p → IsLowCut n (items_of p)
     → (slice_index (bytes_of p.text) (n - 1) < 128) ⊎ (slice_index (bytes_of p.text) n < 128)

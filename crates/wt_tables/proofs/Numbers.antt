@@ -2,23 +2,23 @@
 use Rattle.std.proofs.Common.{◌≡◌, ◌<◌, ◌≤◌, ◌+◌, ◌-◌, ℕ, Bool, true, false, List, length, drop, take, get_or, cond, sym, ap, ◌∙◌, subst, arith}
 use Rattle.std.specs.List.{prefix_len}
 use Rattle.std.proofs.lemmas.List.{length-map, length-take, drop-map, take-map, get_or-map, get_or-take, drop_more}
-use Rattle.wt_lines.specs.declared.sign.Sign.{Sign}
+use Rattle.wt_lines.specs.declared.sign.LineSign.{LineSign}
 use Rattle.wt_lines.specs.Signs.{number}
 use Rattle.wt_tables.specs.Views.{numbers, HasSign}
 
 -- what is left behind so many signs
-pub numbers_from : (n : ℕ) (rest ss : List Sign) → rest ≡ drop n ss → numbers rest ≡ drop n (numbers ss)
+pub numbers_from : (n : ℕ) (rest ss : List LineSign) → rest ≡ drop n ss → numbers rest ≡ drop n (numbers ss)
 numbers_from n rest ss e = ap numbers e ∙ sym (drop-map number n ss)
 
 -- so many signs from the front
-pub numbers_front : (n : ℕ) (front ss : List Sign) → front ≡ take n ss → numbers front ≡ take n (numbers ss)
+pub numbers_front : (n : ℕ) (front ss : List LineSign) → front ≡ take n ss → numbers front ≡ take n (numbers ss)
 numbers_front n front ss e = ap numbers e ∙ sym (take-map number n ss)
 
-pub numbers_len : (ss : List Sign) → length (numbers ss) ≡ length ss
+pub numbers_len : (ss : List LineSign) → length (numbers ss) ≡ length ss
 numbers_len ss = length-map ss number
 
 -- the sign at a place
-pub number_at : (i : ℕ) (ss : List Sign) (s : Sign) → i < length ss → number (get_or ss i s) ≡ get_or (numbers ss) i 0
+pub number_at : (i : ℕ) (ss : List LineSign) (s : LineSign) → i < length ss → number (get_or ss i s) ≡ get_or (numbers ss) i 0
 number_at i ss s l = sym (get_or-map number ss i s 0 l)
 
 -- ---- the front whose numbers pass a test

@@ -2,8 +2,8 @@
 use Rattle.std.specs.Prelude.{ℕ, zero, suc, ◌+◌, ◌-◌, ◌==◌, ◌&&◌, ◌||◌, not, Bool, true, false, Option, Some, None, List, [], ◌∷◌, ◌++◌, length, map, take, drop, slice_index, nat_lt, codes, if◌then◌else◌}
 use Rattle.std.specs.List.{list_all, prefix_len, position_or_len, range_with_len}
 use Rattle.wt_span.specs.Bytes.{is_blank, begins}
-use Rattle.wt_span.specs.declared.form.Form.{Form}
-use Rattle.wt_span.specs.declared.form.Form.TheVariants as form
+use Rattle.wt_span.specs.declared.form.ItemForm.{ItemForm}
+use Rattle.wt_span.specs.declared.form.ItemForm.TheVariants as form
 use Rattle.wt_span.specs.Items.{Item, char, whole as whole_item, sign}
 use Rattle.wt_lines.specs.Kinds.{is_idle}
 use Rattle.wt_tables.specs.declared.scan.Splits.{Splits}
@@ -57,7 +57,7 @@ abbrev pub has_link : List ℕ → Bool
 has_link [] = false
 has_link (s ∷ ss) = begins (codes "[[") (s ∷ ss) || has_link ss
 
-abbrev pub is_text_form : Form → Bool
+abbrev pub is_text_form : ItemForm → Bool
 is_text_form form.Chars = true
 is_text_form (form.Entity c) = true
 is_text_form form.Nowiki = false

@@ -5,7 +5,7 @@ use Rattle.wt_span.specs.Bytes.{begins}
 use Rattle.wt_span.specs.Items.{Item, sign, items, items_of}
 use Rattle.wt_span.specs.Origins.{IsSoundPiece}
 use Rattle.wt_tables.specs.declared.cursor.Cursor.{Cursor}
-use Rattle.wt_lines.specs.declared.sign.Sign.{Sign}
+use Rattle.wt_lines.specs.declared.sign.LineSign.{LineSign}
 use Rattle.wt_lines.specs.Signs.{number}
 use Rattle.wt_tables.specs.declared.scan.Splits.{Splits}
 use Rattle.wt_tables.specs.Cells.{splits}
@@ -13,7 +13,7 @@ use Rattle.wt_tables.specs.Cells.{splits}
 -- ---- cells
 
 -- signs in code by their numbers
-abbrev pub numbers : List Sign → List ℕ
+abbrev pub numbers : List LineSign → List ℕ
 numbers ss = map number ss
 
 -- how many items the first cell has, of whose sign `n` items stand at the front

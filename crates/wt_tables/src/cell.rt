@@ -14,8 +14,8 @@ use crate::cursor::Cursor;
 use crate::scan::{Splits, begins_one, blanks_from, has_link, idle_len, signs_of, single_at};
 use std::alloc::Global;
 use wt_attributes::read_attributes;
-use wt_lines::{Line, Sign};
-use wt_span::{Form, List, NoMemory, Piece, front_of, rest_of};
+use wt_lines::{Line, LineSign};
+use wt_span::{ItemForm, List, NoMemory, Piece, front_of, rest_of};
 use wt_tree::Attr;
 
 /// A cell of a line, or a caption. `opening` is its open delimiter: its sign, its attributes with
@@ -29,17 +29,17 @@ pub struct CellAt<'a> {
 }
 
 /// A character, an entity or a mark.
-fn is_text(form: Form) -> bool
+fn is_text(form: ItemForm) -> bool
     ensures { result ≡ is_text_form form }
 {
     match form {
-        Form::Chars
-        | Form::Entity(_)
-        | Form::Comment
-        | Form::Include
-        | Form::Hidden
-        | Form::EmptyCall => true,
-        Form::Nowiki | Form::Extension | Form::Function => false,
+        ItemForm::Chars
+        | ItemForm::Entity(_)
+        | ItemForm::Comment
+        | ItemForm::Include
+        | ItemForm::Hidden
+        | ItemForm::EmptyCall => true,
+        ItemForm::Nowiki | ItemForm::Extension | ItemForm::Function => false,
     }
 }
 
@@ -55,7 +55,7 @@ fn are_texts(pieces: &[Piece<'_>]) -> bool
 }
 
 /// What may stand before the `|` of attributes.
-fn is_plain(pieces: &[Piece<'_>], signs: &[Sign]) -> bool
+fn is_plain(pieces: &[Piece<'_>], signs: &[LineSign]) -> bool
     requires { numbers signs.now ≡ map sign (items pieces.now) }
     ensures { result ≡ is_plain (items pieces.now) }
 {
@@ -85,7 +85,7 @@ fn read_attrs(
     alloc: Global,
     n: usize,
     part: &[Piece<'_>],
-    signs: &[Sign],
+    signs: &[LineSign],
 ) -> Result<(usize, List<Attr>), NoMemory>
     requires sound { All IsSoundPiece part.now }
     requires signs_are { numbers signs.now ≡ map sign (items part.now) }
@@ -114,7 +114,7 @@ fn read_cell<'a>(
     header: bool,
     n: usize,
     part: &[Piece<'a>],
-    signs: &[Sign],
+    signs: &[LineSign],
 ) -> Result<CellAt<'a>, NoMemory>
     requires sound { All IsSoundPiece part.now }
     requires signs_are { numbers signs.now ≡ map sign (items part.now) }
@@ -140,7 +140,7 @@ fn read_cells<'a>(
     header: bool,
     n: usize,
     cursor: Cursor<'_, 'a>,
-    signs: &[Sign],
+    signs: &[LineSign],
 ) -> Result<List<CellAt<'a>>, NoMemory>
     requires sound { AreSound cursor }
     requires signs_are { numbers signs.now ≡ map sign (waiting cursor) }
@@ -173,7 +173,7 @@ fn read_cells<'a>(
 
 /// What splits a line that begins with these signs, whether its cells are header cells, and how many
 /// items its first sign has.
-fn mode(caption: bool, signs: &[Sign]) -> (Splits, bool, usize)
+fn mode(caption: bool, signs: &[LineSign]) -> (Splits, bool, usize)
     ensures by { result.0 ≡ split_by caption (numbers signs.now) }
     ensures header { result.1 ≡ header_by caption (numbers signs.now) }
     ensures len { result.2 ≡ sign_len caption }

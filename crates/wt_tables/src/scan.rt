@@ -10,7 +10,7 @@ ghost use Rattle.wt_tables.specs.Cells.{splits, single_at, has_link, blanks_from
 ghost use Rattle.wt_tables.specs.Views.{numbers, first_len, begins_single};
 
 use std::alloc::Global;
-use wt_lines::Sign;
+use wt_lines::LineSign;
 use wt_span::{List, NoMemory, Piece, rest_of};
 
 /// What splits a line into cells.
@@ -23,26 +23,26 @@ pub enum Splits {
     Nothing,
 }
 
-fn push_signs(out: &mut List<Sign>, piece: &Piece<'_>) -> Result<(), NoMemory>
+fn push_signs(out: &mut List<LineSign>, piece: &Piece<'_>) -> Result<(), NoMemory>
     ensures { OnOk result (numbers out.new ≡ numbers out.old ++ map sign (items_of piece.now)) }
 {
-    match Sign::of_form(piece.form) {
+    match LineSign::of_form(piece.form) {
         Some(sign) => out.push(sign),
         None => push_bytes(out, piece.text.as_str().as_bytes()),
     }
 }
 
-fn push_bytes(out: &mut List<Sign>, bytes: &[u8]) -> Result<(), NoMemory>
+fn push_bytes(out: &mut List<LineSign>, bytes: &[u8]) -> Result<(), NoMemory>
     ensures { OnOk result (numbers out.new ≡ numbers out.old ++ bytes.now) }
 {
     for byte in bytes {
-        out.push(Sign::Byte(*byte))?;
+        out.push(LineSign::Byte(*byte))?;
     }
     Ok(())
 }
 
 /// The signs of pieces.
-pub fn signs_of(alloc: Global, pieces: &[Piece<'_>]) -> Result<List<Sign>, NoMemory>
+pub fn signs_of(alloc: Global, pieces: &[Piece<'_>]) -> Result<List<LineSign>, NoMemory>
     ensures { IfOk result (λ ss. numbers ss ≡ map sign (items pieces.now)) }
 {
     let mut out = List::new(alloc);
@@ -52,14 +52,14 @@ pub fn signs_of(alloc: Global, pieces: &[Piece<'_>]) -> Result<List<Sign>, NoMem
     Ok(out)
 }
 
-fn is_blank(sign: Sign) -> bool
+fn is_blank(sign: LineSign) -> bool
     ensures { result ≡ is_blank (number sign) }
 {
     sign.is_byte(b' ') || sign.is_byte(b'\t')
 }
 
 /// How many blanks and marks stand at the front.
-pub fn idle_len(signs: &[Sign]) -> usize
+pub fn idle_len(signs: &[LineSign]) -> usize
     ensures value { result ≡ prefix_len is_idle (numbers signs.now) }
     ensures within { result ≤ length signs.now }
 {
@@ -71,7 +71,7 @@ pub fn idle_len(signs: &[Sign]) -> usize
     signs.len()
 }
 
-fn blank_len(signs: &[Sign]) -> usize
+fn blank_len(signs: &[LineSign]) -> usize
     ensures value { result ≡ prefix_len is_blank (numbers signs.now) }
     ensures within { result ≤ length signs.now }
 {
@@ -84,7 +84,7 @@ fn blank_len(signs: &[Sign]) -> usize
 }
 
 /// The place behind the blanks that stand at a place.
-pub fn blanks_from(at: usize, signs: &[Sign]) -> usize
+pub fn blanks_from(at: usize, signs: &[LineSign]) -> usize
     requires { at ≤ length signs.now }
     ensures value { result ≡ blanks_from at (numbers signs.now) }
     ensures within { result ≤ length signs.now }
@@ -93,7 +93,7 @@ pub fn blanks_from(at: usize, signs: &[Sign]) -> usize
 }
 
 /// The character stands at the front.
-pub fn begins_one(signs: &[Sign], byte: u8) -> bool
+pub fn begins_one(signs: &[LineSign], byte: u8) -> bool
     ensures { result ≡ begins (byte ∷ []) (numbers signs.now) }
 {
     match signs {
@@ -103,7 +103,7 @@ pub fn begins_one(signs: &[Sign], byte: u8) -> bool
 }
 
 /// The character stands at the front, and once more behind.
-fn begins_two(signs: &[Sign], byte: u8) -> bool
+fn begins_two(signs: &[LineSign], byte: u8) -> bool
     ensures { result ≡ begins (byte ∷ byte ∷ []) (numbers signs.now) }
 {
     match signs {
@@ -115,7 +115,7 @@ fn begins_two(signs: &[Sign], byte: u8) -> bool
 
 impl Splits {
     /// A sign that begins a further cell stands at the front.
-    fn begin(self, signs: &[Sign]) -> bool
+    fn begin(self, signs: &[LineSign]) -> bool
         ensures { result ≡ splits self (numbers signs.now) }
     {
         match self {
@@ -126,7 +126,7 @@ impl Splits {
     }
 
     /// How many items the first cell has, whose sign has `from`.
-    pub fn first_len(self, from: usize, signs: &[Sign]) -> usize
+    pub fn first_len(self, from: usize, signs: &[LineSign]) -> usize
         requires { from ≤ length signs.now }
         ensures value { result ≡ first_len self from (numbers signs.now) }
         ensures within { result ≤ length signs.now }
@@ -144,14 +144,14 @@ impl Splits {
 }
 
 /// A single `|` stands at the front, where one stands before it or not.
-fn begins_single(behind_bar: bool, signs: &[Sign]) -> bool
+fn begins_single(behind_bar: bool, signs: &[LineSign]) -> bool
     ensures { result ≡ begins_single behind_bar (numbers signs.now) }
 {
     !behind_bar && begins_one(signs, b'|') && !begins_two(signs, b'|')
 }
 
 /// The place of the first `|` beside which none stands, or the length.
-pub fn single_at(signs: &[Sign]) -> usize
+pub fn single_at(signs: &[LineSign]) -> usize
     ensures value { result ≡ single_at (numbers signs.now) }
     ensures within { result ≤ length signs.now }
 {
@@ -165,14 +165,14 @@ pub fn single_at(signs: &[Sign]) -> usize
     signs.len()
 }
 
-fn begins_link(signs: &[Sign]) -> bool
+fn begins_link(signs: &[LineSign]) -> bool
     ensures { result ≡ begins (codes "[[") (numbers signs.now) }
 {
     begins_two(signs, b'[')
 }
 
 /// Whether `[[` stands somewhere.
-pub fn has_link(signs: &[Sign]) -> bool
+pub fn has_link(signs: &[LineSign]) -> bool
     ensures { result ≡ has_link (numbers signs.now) }
 {
     for at in 0..signs.len() {

@@ -22,7 +22,7 @@ use crate::reader::{MOST_BYTES, Reader};
 use std::alloc::Global;
 use wt_braces::PartAt;
 use wt_functions::Ask;
-use wt_span::{Form, LexKind, List, Mode, NoMemory, Piece, Text};
+use wt_span::{ItemForm, LexKind, List, Mode, NoMemory, Piece, Text};
 use wt_transclusion::{
     Braces, ExpandRefusal, Handed, Next, ReadText, Values, behind_items, byte_count, charge,
     function_named, is_function, lexeme_piece, name_text, piece_of, spelled, title_of_target,
@@ -244,7 +244,7 @@ impl<'a> TextRun<'a> {
             → is_function (bytes_of source.entry) ≡ true → function_of (drop 2 (bytes_of source.entry)) ≡ None
             → Holds r t self.new (stack self.new.levels) total) }
     {
-        self.levels.give_one(piece_of(source, Form::Function))?;
+        self.levels.give_one(piece_of(source, ItemForm::Function))?;
         self.resume(call.at.end)?;
         Ok(())
     }
@@ -517,7 +517,7 @@ impl<'a> TextRun<'a> {
         let front = self.reader.slice(call.at.start, target.at.start)?;
         let braces = target.at.start.saturating_sub(call.at.start);
         let mut all = List::new(self.alloc);
-        push_piece(&mut all, piece_of(front, Form::Chars))?;
+        push_piece(&mut all, piece_of(front, ItemForm::Chars))?;
         push_all(&mut all, out.as_slice())?;
         let end = call.at.end.saturating_sub(braces);
         self.levels.push(Level {
@@ -535,7 +535,7 @@ impl<'a> TextRun<'a> {
     {
         let back = self.reader.slice(self.reader.cursor.at, call.at.end)?;
         let mut out = out;
-        push_piece(&mut out, piece_of(back, Form::Chars))?;
+        push_piece(&mut out, piece_of(back, ItemForm::Chars))?;
         self.give_free(call.at.end, out.as_slice())?;
         Ok(())
     }

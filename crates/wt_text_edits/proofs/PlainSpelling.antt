@@ -8,7 +8,7 @@ use Rattle.std.proofs.lemmas.Str.{encodes-chars}
 use Rattle.wt_span.specs.Bytes.{is_blank}
 use Rattle.wt_guards.specs.declared.side.Place.TheVariants as place
 use Rattle.wt_guards.specs.Table.{line_start_hazard}
-use Rattle.wt_guards.specs.Content.{Sign, letter, letters, nearest}
+use Rattle.wt_guards.specs.Content.{ContentSign, letter, letters, nearest}
 use Rattle.wt_guards.specs.Letters.{is_escaped}
 use Rattle.wt_guards.specs.Guards.{Setting, is_between_guard, is_start_guard, is_end_guard, is_blank_guard, is_guarded, is_unended, is_empty_line, is_past_node, is_blank_last, spelled}
 use Rattle.wt_guards.specs.WrittenLaws.{itself, IsQuiet}
@@ -55,12 +55,12 @@ begins_line (p ∷ ps) = p == 10
 abbrev paragraph : List ℕ → Setting
 paragraph source = record { within = false; place = place.Paragraph; source = source }
 
-no_blank_guard : (source : List ℕ) (ps : List ℕ) (after : List Sign) → is_blank_guard source (map letter ps) after ≡ false
+no_blank_guard : (source : List ℕ) (ps : List ℕ) (after : List ContentSign) → is_blank_guard source (map letter ps) after ≡ false
 unfolding is_blank_guard
 no_blank_guard source ps after =
     and_false (is_blank_last (nearest (map letter ps))) _ (first_false (is_past_node (map letter ps)) _ (no_node_past ps))
 
-no_end_between : (source : List ℕ) (ps : List ℕ) (c : ℕ) (after : List Sign) → is_end_guard source place.Paragraph (map letter ps) (letter c ∷ after) ≡ false
+no_end_between : (source : List ℕ) (ps : List ℕ) (c : ℕ) (after : List ContentSign) → is_end_guard source place.Paragraph (map letter ps) (letter c ∷ after) ≡ false
 unfolding is_end_guard
 no_end_between source ps c after = or_false _ false (and_false (c == 10) (is_unended (map letter ps)) (no_node_unended ps)) refl
 
@@ -85,10 +85,10 @@ start_by : (t e n h : Bool) → (t ≡ true → (e ≡ false) × (h ≡ false)) 
 start_by false e n h f = refl
 start_by true e n h f = let r = f refl in or_false ((e && n) || false) h (or_false (e && n) false (first_false e n r.0) refl) r.1
 
-shows_line : (c : ℕ) (after : List Sign) → StartsText c → (is_empty_line (letter c ∷ after) ≡ false) × (line_start_hazard c ≡ false)
+shows_line : (c : ℕ) (after : List ContentSign) → StartsText c → (is_empty_line (letter c ∷ after) ≡ false) × (line_start_hazard c ≡ false)
 shows_line c after s = (or_false (c == 10) _ s.break (first_false (is_blank c) (is_empty_line after) s.blank), s.hazard)
 
-no_start : (ps : List ℕ) (c : ℕ) (after : List Sign) → (begins_line ps ≡ true → StartsText c) → is_start_guard (map letter ps) (letter c ∷ after) ≡ false
+no_start : (ps : List ℕ) (c : ℕ) (after : List ContentSign) → (begins_line ps ≡ true → StartsText c) → is_start_guard (map letter ps) (letter c ∷ after) ≡ false
 unfolding is_start_guard
 no_start [] c after f = start_by true (is_empty_line (letter c ∷ after)) true (line_start_hazard c) (λ e. shows_line c after (f e))
 no_start (p ∷ ps) c after f = start_by (p == 10) (is_empty_line (letter c ∷ after)) true (line_start_hazard c) (λ e. shows_line c after (f e))
@@ -97,7 +97,7 @@ no_start_last : (p : ℕ) (ps : List ℕ) → (p == 10) ≡ false → is_start_g
 unfolding is_start_guard
 no_start_last p ps e = or_false _ _ (first_false (p == 10) _ e) (first_false (p == 10) _ e)
 
-no_between : (ps : List ℕ) (c : ℕ) (after : List Sign) → is_between_guard (nearest (map letter ps)) (nearest (letter c ∷ after)) ≡ false
+no_between : (ps : List ℕ) (c : ℕ) (after : List ContentSign) → is_between_guard (nearest (map letter ps)) (nearest (letter c ∷ after)) ≡ false
 unfolding is_between_guard
 no_between [] c after = refl
 no_between (p ∷ ps) c after = refl
@@ -106,7 +106,7 @@ no_between_last : (p : ℕ) (ps : List ℕ) → is_between_guard (nearest (map l
 unfolding is_between_guard
 no_between_last p ps = refl
 
-no_guard : (source : List ℕ) (ps : List ℕ) (c : ℕ) (after : List Sign) → (begins_line ps ≡ true → StartsText c)
+no_guard : (source : List ℕ) (ps : List ℕ) (c : ℕ) (after : List ContentSign) → (begins_line ps ≡ true → StartsText c)
     → is_guarded (paragraph source) (map letter ps) (letter c ∷ after) ≡ false
 unfolding is_guarded
 no_guard source ps c after f =

@@ -5,7 +5,7 @@ use Rattle.std.specs.Fmt.{digits}
 use Rattle.std.specs.Str.{chars, IsUtf8}
 use Rattle.std.proofs.Math.Utf8.{encodes}
 use Rattle.std.proofs.lemmas.Str.{encodes-chars, length-encode, len_utf8_bounds}
-use Rattle.wt_guards.specs.Content.{Sign, letter, letters}
+use Rattle.wt_guards.specs.Content.{ContentSign, letter, letters}
 use Rattle.wt_guards.specs.Letters.{is_escaped, reference, written_by}
 use Rattle.wt_guards.specs.Guards.{Setting, nowiki, nowiki_if, is_guarded, spelled_from, spelled}
 use Rattle.wt_guards.proofs.Escapes.{is_escapable, escapable, each_escapable}
@@ -29,15 +29,15 @@ reference_length c e = each_escapable (λ k. length (reference k) ≤ 6)
 some_bytes : (c : ℕ) → 1 ≤ length (encode_utf8 c)
 some_bytes c = omega (arith, length-encode c, (len_utf8_bounds c).0)
 
-letter_length : (s : Setting) (before after : List Sign) (c : ℕ) (t : Bool) → is_escaped s.within s.place before c after ≡ t
+letter_length : (s : Setting) (before after : List ContentSign) (c : ℕ) (t : Bool) → is_escaped s.within s.place before c after ≡ t
     → length (written_by t c) ≤ 6 * length (encode_utf8 c)
 letter_length s before after c true e = omega (arith, reference_length c (escapable s.within s.place before c after e), some_bytes c)
 letter_length s before after c false e = omega arith
 
-from_length : (s : Setting) (before : List Sign) (cs : List ℕ) → length (spelled_from s before (map letter cs)) ≤ 15 * length (encodes cs) + 9
+from_length : (s : Setting) (before : List ContentSign) (cs : List ℕ) → length (spelled_from s before (map letter cs)) ≤ 15 * length (encodes cs) + 9
 from_length s before [] = guard_length (is_guarded s before [])
 from_length s before (c ∷ cs) =
-    let after : List Sign = map letter cs in
+    let after : List ContentSign = map letter cs in
     let e : Bool = is_escaped s.within s.place before c after in
     let g : Bool = is_guarded s before (letter c ∷ after) in
     let rest : List ℕ = spelled_from s (letter c ∷ before) after in

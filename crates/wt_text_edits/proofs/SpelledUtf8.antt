@@ -5,7 +5,7 @@ use Rattle.std.specs.Fmt.{digits}
 use Rattle.std.specs.Str.{chars, IsUtf8}
 use Rattle.std.proofs.Math.Utf8.{scalar, scalars}
 use Rattle.std.proofs.lemmas.Str.{IsUtf8-append, IsUtf8-nil, IsUtf8-encode, scalars-chars}
-use Rattle.wt_guards.specs.Content.{Sign, letter, letters}
+use Rattle.wt_guards.specs.Content.{ContentSign, letter, letters}
 use Rattle.wt_guards.specs.Letters.{is_escaped, reference, written_by}
 use Rattle.wt_guards.specs.Guards.{Setting, nowiki, nowiki_if, is_guarded, spelled_from, spelled}
 use Rattle.wt_guards.proofs.Escapes.{is_escapable, escapable, each_escapable}
@@ -23,15 +23,15 @@ reference_utf8 c e = each_escapable (λ k. IsUtf8 (reference k))
     (reference 62, (refl, refl)) (reference 60, (refl, refl)) (reference 38, (refl, refl)) (reference 39, (refl, refl)) (reference 95, (refl, refl))
     (reference 58, (refl, refl)) (reference 61, (refl, refl)) (reference 33, (refl, refl)) c e
 
-letter_utf8 : (s : Setting) (before after : List Sign) (c : ℕ) (t : Bool) → is_escaped s.within s.place before c after ≡ t → scalar c ≡ true
+letter_utf8 : (s : Setting) (before after : List ContentSign) (c : ℕ) (t : Bool) → is_escaped s.within s.place before c after ≡ t → scalar c ≡ true
     → IsUtf8 (written_by t c)
 letter_utf8 s before after c true e h = reference_utf8 c (escapable s.within s.place before c after e)
 letter_utf8 s before after c false e h = IsUtf8-encode c h
 
-from_utf8 : (s : Setting) (before : List Sign) (cs : List ℕ) → scalars cs ≡ true → IsUtf8 (spelled_from s before (map letter cs))
+from_utf8 : (s : Setting) (before : List ContentSign) (cs : List ℕ) → scalars cs ≡ true → IsUtf8 (spelled_from s before (map letter cs))
 from_utf8 s before [] h = guard_utf8 (is_guarded s before [])
 from_utf8 s before (c ∷ cs) h =
-    let after : List Sign = map letter cs in
+    let after : List ContentSign = map letter cs in
     let e : Bool = is_escaped s.within s.place before c after in
     let rest : List ℕ = spelled_from s (letter c ∷ before) after in
     IsUtf8-append (nowiki_if (is_guarded s before (letter c ∷ after))) (written_by e c ++ rest) (guard_utf8 (is_guarded s before (letter c ∷ after)))

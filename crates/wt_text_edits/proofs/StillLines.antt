@@ -8,8 +8,8 @@ use Rattle.std.specs.Char.{to_ascii_lowercase, is_ascii_alphabetic}
 use Rattle.std.proofs.lemmas.Bool.Decides.{Decides-eqb, nat_tests}
 use Rattle.std.proofs.lemmas.List.{map-append}
 use Rattle.wt_span.specs.Bytes as bytes
-use Rattle.wt_span.specs.declared.form.Form.{Form}
-use Rattle.wt_span.specs.declared.form.Form.TheVariants as form
+use Rattle.wt_span.specs.declared.form.ItemForm.{ItemForm}
+use Rattle.wt_span.specs.declared.form.ItemForm.TheVariants as form
 use Rattle.wt_span.specs.Items.{Item, char, whole, is_mark_form}
 use Rattle.wt_span.specs.Runs.{put, runs, IsRun, AreRuns}
 use Rattle.wt_span.proofs.RunLaws.{runs_are}
@@ -75,7 +75,7 @@ Still (glyph.Entity c ∷ gs) = Still gs
 Still (glyph.Atom ∷ gs) = Still gs
 Still (glyph.Mark ∷ gs) = ⊥
 
-whole_glyph : (f : Form) (gs : List Glyph) → IsTypedForm f → Still gs → Still (glyph_of_form f ∷ gs)
+whole_glyph : (f : ItemForm) (gs : List Glyph) → IsTypedForm f → Still gs → Still (glyph_of_form f ∷ gs)
 whole_glyph form.Chars gs f h = absurd f
 whole_glyph (form.Entity c) gs f h = h
 whole_glyph form.Nowiki gs f h = h
@@ -87,7 +87,7 @@ whole_glyph form.Hidden gs f h = absurd f
 whole_glyph form.EmptyCall gs f h = absurd f
 
 -- none of them is a mark
-pub no_mark : (f : Form) → IsTypedForm f → is_mark_form f ≡ false
+pub no_mark : (f : ItemForm) → IsTypedForm f → is_mark_form f ≡ false
 no_mark form.Chars h = refl
 no_mark (form.Entity c) h = refl
 no_mark form.Nowiki h = refl

@@ -13,8 +13,8 @@ use Rattle.std.proofs.lemmas.Str.{encode_ascii, encodes-chars}
 use Rattle.wt_span.specs.declared.form.Mode.TheVariants.{Page}
 use Rattle.wt_span.specs.declared.form.LexKind.{LexKind}
 use Rattle.wt_span.specs.declared.form.LexKind.TheVariants.{Chars, Raw, Entity, Equals}
-use Rattle.wt_span.specs.declared.form.Form.{Form}
-use Rattle.wt_span.specs.declared.form.Form.TheVariants as form
+use Rattle.wt_span.specs.declared.form.ItemForm.{ItemForm}
+use Rattle.wt_span.specs.declared.form.ItemForm.TheVariants as form
 use Rattle.wt_span.specs.Bytes as bytes
 use Rattle.wt_span.specs.Comments.{comment_len}
 use Rattle.wt_span.specs.Tags.{opening_tag, tag_after}
@@ -23,7 +23,7 @@ use Rattle.wt_span.specs.Lexemes.{Word, Cut, cuts, closed, words, form_at}
 use Rattle.wt_lex.specs.Words.{is_form_byte}
 use Rattle.wt_lex.proofs.Cuts.{cuts_cons}
 use Rattle.wt_names.proofs.Ascii.{IsWide, encode_wide}
-use Rattle.wt_guards.specs.Content.{Sign, letter, letters}
+use Rattle.wt_guards.specs.Content.{ContentSign, letter, letters}
 use Rattle.wt_guards.specs.Letters.{is_bracket, is_escaped, reference, written_by}
 use Rattle.wt_guards.specs.Guards.{Setting, nowiki, nowiki_if, is_guarded, spelled_from, spelled}
 use Rattle.wt_guards.proofs.Escapes.{is_escapable, escapable, each_escapable}
@@ -180,10 +180,10 @@ typed_byte b bs t f c k g a =
     }
 
 -- a reference or a nowiki, as an item
-abbrev IsAtom : Form → Type 0
+abbrev IsAtom : ItemForm → Type 0
 IsAtom f = IsTypedForm f
 
-atom_front : (f : Form) (xs : List Item) (bs : List ℕ) (own : List ℕ) → IsTypedForm f → (word : List ℕ)
+atom_front : (f : ItemForm) (xs : List Item) (bs : List ℕ) (own : List ℕ) → IsTypedForm f → (word : List ℕ)
     → begins word (map glyph_of (whole f None own ∷ xs)) ≡ true → bytes.begins word bs ≡ true
 atom_front f xs bs own h [] e = refl
 atom_front form.Chars xs bs own h (w ∷ word) e = cc
@@ -196,7 +196,7 @@ atom_front form.Include xs bs own h (w ∷ word) e = cc
 atom_front form.Hidden xs bs own h (w ∷ word) e = cc
 atom_front form.EmptyCall xs bs own h (w ∷ word) e = cc
 
-no_tag_first : (f : Form) (xs : List Item) (own : List ℕ) → IsTypedForm f → starts_tag (map glyph_of (whole f None own ∷ xs)) ≡ false
+no_tag_first : (f : ItemForm) (xs : List Item) (own : List ℕ) → IsTypedForm f → starts_tag (map glyph_of (whole f None own ∷ xs)) ≡ false
 no_tag_first form.Chars xs own h = absurd h
 no_tag_first (form.Entity c) xs own h = refl
 no_tag_first form.Nowiki xs own h = refl
@@ -207,7 +207,7 @@ no_tag_first form.Include xs own h = absurd h
 no_tag_first form.Hidden xs own h = absurd h
 no_tag_first form.EmptyCall xs own h = absurd h
 
-typed_form : (kind : LexKind) (f : Form) (b : ℕ) (q rest t u : List ℕ) → form_at Page false (b ∷ (q ++ rest)) ≡ Some (kind, suc (length q))
+typed_form : (kind : LexKind) (f : ItemForm) (b : ℕ) (q rest t u : List ℕ) → form_at Page false (b ∷ (q ++ rest)) ≡ Some (kind, suc (length q))
     → items_of_word kind (b ∷ q) ≡ whole f None (b ∷ q) ∷ [] → IsTypedForm f → IsOwnForm f (b ∷ q) → shown_item (whole f None (b ∷ q)) ≡ u
     → NoComments (b ∷ (q ++ rest)) → Typed rest t → Typed (b ∷ (q ++ rest)) (u ++ t)
 typed_form kind f b q rest t u e is h o s c g =
@@ -307,10 +307,10 @@ mild_if : (x : ℕ) → (is_ascii_alphabetic x || x == 35) ≡ false → IsMild 
 mild_if x e = let p = or_parts (is_ascii_alphabetic x) _ e in (p.0, apart x 35 p.1)
 
 -- the rest of what is spelled
-abbrev after_it : Setting → ℕ → List Sign → List ℕ → List ℕ
+abbrev after_it : Setting → ℕ → List ContentSign → List ℕ → List ℕ
 after_it s c before cs = spelled_from s (letter c ∷ before) (map letter cs)
 
-typed_less : (s : Setting) (before : List Sign) (cs t : List ℕ) → is_escaped s.within s.place before 60 (map letter cs) ≡ false
+typed_less : (s : Setting) (before : List ContentSign) (cs t : List ℕ) → is_escaped s.within s.place before 60 (map letter cs) ≡ false
     → Typed (after_it s 60 before cs) t → Typed (60 ∷ after_it s 60 before cs) (60 ∷ t)
 unfolding is_escaped
 typed_less s before [] t e g = cc
@@ -324,7 +324,7 @@ typed_less s before (d ∷ ds) t e g =
     no_tag_byte : (x : ℕ) → IsTame x → (is_ascii_alphabetic x || x == 47) ≡ false
     no_tag_byte x h = let k : (x == 47) ≡ false = grind (arith, nat_tests) in rw (h.0, k) refl
 
-typed_and : (s : Setting) (before : List Sign) (cs t : List ℕ) → is_escaped s.within s.place before 38 (map letter cs) ≡ false
+typed_and : (s : Setting) (before : List ContentSign) (cs t : List ℕ) → is_escaped s.within s.place before 38 (map letter cs) ≡ false
     → Typed (after_it s 38 before cs) t → Typed (38 ∷ after_it s 38 before cs) (38 ∷ t)
 unfolding is_escaped
 typed_and s before [] t e g = cc
@@ -374,7 +374,7 @@ typed_other c rest t b l a e g =
     typed_byte c rest t (other_byte Page c rest (no_form_byte c b l a e)) (comment_other c rest (apart c 60 l)) (or_left (c == 91) _ b) g
     (first_false (c == 60) _ l)
 
-typed_small : (s : Setting) (before : List Sign) (c : ℕ) (cs t : List ℕ) → is_escaped s.within s.place before c (map letter cs) ≡ false
+typed_small : (s : Setting) (before : List ContentSign) (c : ℕ) (cs t : List ℕ) → is_escaped s.within s.place before c (map letter cs) ≡ false
     → Typed (after_it s c before cs) t → Typed (c ∷ after_it s c before cs) (c ∷ t)
 typed_small s before c cs t e g =
     let P : ℕ → Type 0 = λ k. is_escaped s.within s.place before k (map letter cs) ≡ false
@@ -391,21 +391,21 @@ typed_small s before c cs t e g =
       ]
     ]
 
-typed_plain : (s : Setting) (before : List Sign) (c : ℕ) (cs t : List ℕ) → is_escaped s.within s.place before c (map letter cs) ≡ false
+typed_plain : (s : Setting) (before : List ContentSign) (c : ℕ) (cs t : List ℕ) → is_escaped s.within s.place before c (map letter cs) ≡ false
     → Typed (after_it s c before cs) t → Typed (encode_utf8 c ++ after_it s c before cs) (encode_utf8 c ++ t)
 typed_plain s before c cs t e g = elim (cases_lt c 128) [
   | inl small ↦ subst (λ bs. Typed (bs ++ after_it s c before cs) (bs ++ t)) (sym (encode_ascii c small)) (typed_small s before c cs t e g)
   | inr wide ↦ typed_wide (encode_utf8 c) (after_it s c before cs) t (encode_wide c wide) g
 ]
 
-typed_letter : (s : Setting) (before : List Sign) (c : ℕ) (cs t : List ℕ) (e : Bool) → is_escaped s.within s.place before c (map letter cs) ≡ e
+typed_letter : (s : Setting) (before : List ContentSign) (c : ℕ) (cs t : List ℕ) (e : Bool) → is_escaped s.within s.place before c (map letter cs) ≡ e
     → Typed (after_it s c before cs) t → Typed (written_by e c ++ after_it s c before cs) (encode_utf8 c ++ t)
 typed_letter s before c cs t true h g = typed_reference c (after_it s c before cs) t (escapable s.within s.place before c (map letter cs) h) g
 typed_letter s before c cs t false h g = typed_plain s before c cs t h g
 
 -- ---- all
 
-typed_from : (s : Setting) (before : List Sign) (cs : List ℕ) → Typed (spelled_from s before (map letter cs)) (encodes cs)
+typed_from : (s : Setting) (before : List ContentSign) (cs : List ℕ) → Typed (spelled_from s before (map letter cs)) (encodes cs)
 typed_from s before [] =
     subst (λ bs. Typed bs []) (append-nil (nowiki_if (is_guarded s before []))) (typed_guard (is_guarded s before []) [] [] typed_nothing)
 typed_from s before (c ∷ cs) =

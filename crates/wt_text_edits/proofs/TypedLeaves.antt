@@ -3,8 +3,8 @@ use Rattle.std.proofs.Common.{◌≡◌, ℕ, false, Some, None, List, [], ◌�
 use Rattle.std.specs.Prelude.{encode_utf8}
 use Rattle.std.specs.List.{flat_map}
 use Rattle.wt_tree.specs.declared.kind.Kind.TheVariants as kind
-use Rattle.wt_span.specs.declared.form.Form.{Form}
-use Rattle.wt_span.specs.declared.form.Form.TheVariants as form
+use Rattle.wt_span.specs.declared.form.ItemForm.{ItemForm}
+use Rattle.wt_span.specs.declared.form.ItemForm.TheVariants as form
 use Rattle.wt_span.specs.Items.{Item, char, whole, sources}
 use Rattle.wt_span.specs.Runs.{put, runs}
 use Rattle.wt_span.specs.Tags.{opening_tag, tag_after}
@@ -19,7 +19,7 @@ use Rattle.wt_text_edits.specs.LonePages.{page_chars, para_of}
 -- ---- items of the page itself
 
 -- a reference, which doesn't end with an open tag, or `<nowiki/>` as it is put
-abbrev pub IsOwnForm : Form → List ℕ → Type 0
+abbrev pub IsOwnForm : ItemForm → List ℕ → Type 0
 IsOwnForm form.Chars bs = ⊥
 IsOwnForm (form.Entity c) bs = ends_open bs ≡ false
 IsOwnForm form.Nowiki bs = bs ≡ nowiki
@@ -51,7 +51,7 @@ with_letter b (letters c cs ∷ ls) = letters b (c ∷ cs) ∷ ls
 with_letter b (reference c bs ∷ ls) = letters b [] ∷ reference c bs ∷ ls
 with_letter b (guard ∷ ls) = letters b [] ∷ guard ∷ ls
 
-abbrev leaf_of : Form → List ℕ → Leaf
+abbrev leaf_of : ItemForm → List ℕ → Leaf
 leaf_of form.Chars bs = guard
 leaf_of (form.Entity c) bs = reference c bs
 leaf_of form.Nowiki bs = guard
@@ -94,7 +94,7 @@ letter_shown b (letters c cs ∷ ls) = refl
 letter_shown b (reference c bs ∷ ls) = refl
 letter_shown b (guard ∷ ls) = refl
 
-form_shown : (f : Form) (bs : List ℕ) → IsOwnForm f bs → leaf_shown (leaf_of f bs) ≡ shown_item (whole f None bs)
+form_shown : (f : ItemForm) (bs : List ℕ) → IsOwnForm f bs → leaf_shown (leaf_of f bs) ≡ shown_item (whole f None bs)
 form_shown form.Chars bs h = absurd h
 form_shown (form.Entity c) bs h = refl
 form_shown form.Nowiki bs h = refl
@@ -127,7 +127,7 @@ letter_source b (letters c cs ∷ ls) = refl
 letter_source b (reference c bs ∷ ls) = refl
 letter_source b (guard ∷ ls) = refl
 
-form_source : (f : Form) (bs : List ℕ) → IsOwnForm f bs → leaf_source (leaf_of f bs) ≡ bs
+form_source : (f : ItemForm) (bs : List ℕ) → IsOwnForm f bs → leaf_source (leaf_of f bs) ≡ bs
 form_source form.Chars bs h = absurd h
 form_source (form.Entity c) bs h = refl
 form_source form.Nowiki bs h = sym h
@@ -159,7 +159,7 @@ letter_shut b (letters c cs ∷ ls) h = h
 letter_shut b (reference c bs ∷ ls) h = h
 letter_shut b (guard ∷ ls) h = h
 
-form_shut : (f : Form) (bs : List ℕ) (ls : List Leaf) → IsOwnForm f bs → AreShut ls → AreShut (leaf_of f bs ∷ ls)
+form_shut : (f : ItemForm) (bs : List ℕ) (ls : List Leaf) → IsOwnForm f bs → AreShut ls → AreShut (leaf_of f bs ∷ ls)
 form_shut form.Chars bs ls h s = absurd h
 form_shut (form.Entity c) bs ls h s = (h, s)
 form_shut form.Nowiki bs ls h s = s
@@ -199,7 +199,7 @@ put_node t (letters c cs ∷ ls) = refl
 put_node t (reference c bs ∷ ls) = refl
 put_node t (guard ∷ ls) = refl
 
-form_run : (f : Form) (bs : List ℕ) → IsOwnForm f bs → node (whole_tree f None bs) ∷ [] ≡ leaf_run (leaf_of f bs)
+form_run : (f : ItemForm) (bs : List ℕ) → IsOwnForm f bs → node (whole_tree f None bs) ∷ [] ≡ leaf_run (leaf_of f bs)
 form_run form.Chars bs h = absurd h
 form_run (form.Entity c) bs h = refl
 form_run form.Nowiki bs h = ap (λ cs. node (nowiki_tree None cs) ∷ []) h

@@ -1,8 +1,8 @@
 -- Items of which text is made, whatever somebody typed: characters, references and nowikis, among which nothing begins.
 use Rattle.std.specs.Prelude.{◌≡◌, ℕ, ◌==◌, ◌&&◌, ◌||◌, Bool, false, List, [], ◌∷◌, map, codes}
 use Rattle.std.specs.Char.{is_ascii_alphabetic}
-use Rattle.wt_span.specs.declared.form.Form.{Form}
-use Rattle.wt_span.specs.declared.form.Form.TheVariants as form
+use Rattle.wt_span.specs.declared.form.ItemForm.{ItemForm}
+use Rattle.wt_span.specs.declared.form.ItemForm.TheVariants as form
 use Rattle.wt_span.specs.Items.{Item, char, whole}
 use Rattle.wt_tiles.specs.declared.glyph.Glyph.{Glyph}
 use Rattle.wt_tiles.specs.declared.glyph.Glyph.TheVariants as glyph
@@ -22,7 +22,7 @@ pub record IsStill (b : ℕ) (gs : List Glyph) : Type 0 where
   pub address : begins (codes "://") (glyph.Byte b ∷ gs) ≡ false
 
 -- a reference, or a nowiki
-abbrev pub IsTypedForm : Form → Type 0
+abbrev pub IsTypedForm : ItemForm → Type 0
 IsTypedForm form.Chars = ⊥
 IsTypedForm (form.Entity c) = Unit {0}
 IsTypedForm form.Nowiki = Unit {0}

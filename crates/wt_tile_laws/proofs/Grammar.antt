@@ -6,7 +6,7 @@ use Rattle.std.proofs.lemmas.Option.{same_Some}
 use Rattle.wt_tiles.specs.declared.glyph.Glyph.{Glyph}
 use Rattle.wt_tiles.specs.declared.glyph.Glyph.TheVariants as glyph
 use Rattle.wt_tiles.specs.Glyphs.{begins}
-use Rattle.wt_tiles.specs.Partners.{Turn, Up, Down, Level, bracket_turn, by_bracket, balanced}
+use Rattle.wt_tiles.specs.Partners.{DepthChange, Up, Down, Level, bracket_turn, by_bracket, balanced}
 use Rattle.wt_tiles.proofs.Balances.{skip}
 use Rattle.wt_tile_laws.specs.Brackets.{Balances, nothing, item, pair, BalancesTo}
 
@@ -16,7 +16,7 @@ Chain zero gs ys = BalancesTo gs ys
 Chain (suc d) gs ys = (zs : List Glyph) × Balances gs zs × (begins (codes "]]") zs ≡ true) × Chain d (drop 2 zs) ys
 
 -- what a turn says of the brackets
-abbrev Means : Turn → List Glyph → Type 0
+abbrev Means : DepthChange → List Glyph → Type 0
 Means Up gs = begins (codes "[[") gs ≡ true
 Means Down gs = begins (codes "]]") gs ≡ true
 Means Level gs = (begins (codes "]]") gs ≡ false) × (begins (codes "[[") gs ≡ false)
@@ -41,7 +41,7 @@ unfolding Chain
 pair_first zero gs ys m (zs, h, e, (k, f)) = (pair gs zs ys m h e k, f)
 pair_first (suc d) gs ys m (zs, h, e, (ws, k, f, rest)) = (ws, pair gs zs ws m h e k, f, rest)
 
-by_turn : (t : Turn) (d : ℕ) (g : Glyph) (gs ys : List Glyph) → Means t (g ∷ gs)
+by_turn : (t : DepthChange) (d : ℕ) (g : Glyph) (gs ys : List Glyph) → Means t (g ∷ gs)
     → ((n e : ℕ) → balanced n e gs ≡ Some ys → Chain e (drop n gs) ys)
     → by_bracket t d (g ∷ gs) (λ n e. balanced n e gs) ≡ Some ys → Chain d (g ∷ gs) ys
 unfolding Chain
@@ -86,7 +86,7 @@ up gs e =
     ap (λ (x : Bool). if x then Down else (if begins (codes "[[") gs then Up else Level)) (apart gs e)
     ∙ ap (λ (x : Bool). if x then Up else Level) e
 
-turned : (t : Turn) (d : ℕ) (g : Glyph) (gs : List Glyph) → bracket_turn (g ∷ gs) ≡ t
+turned : (t : DepthChange) (d : ℕ) (g : Glyph) (gs : List Glyph) → bracket_turn (g ∷ gs) ≡ t
     → balanced 0 d (g ∷ gs) ≡ by_bracket t d (g ∷ gs) (λ n e. balanced n e gs)
 turned t d g gs e = ap (λ u. by_bracket u d (g ∷ gs) (λ n c. balanced n c gs)) e
 

@@ -7,7 +7,7 @@ use Rattle.std.proofs.Math.Seq.{take-append_seam}
 use Rattle.wt_span.specs.Items.{Item, char}
 use Rattle.wt_tiles.specs.declared.glyph.Glyph.{Glyph}
 use Rattle.wt_tiles.specs.declared.glyph.Glyph.TheVariants as glyph
-use Rattle.wt_tiles.specs.declared.glyph.Class.TheVariants as class
+use Rattle.wt_tiles.specs.declared.glyph.GlyphClass.TheVariants as class
 use Rattle.wt_tiles.specs.Glyphs.{glyph_of, is_in, first_is, begins}
 use Rattle.wt_tiles.specs.Links.{target_len, to_close, has_pipe}
 use Rattle.wt_context.specs.Heads.{glyphs, or_none, target_size, visible_source, key_after, key}

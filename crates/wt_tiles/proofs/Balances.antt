@@ -3,7 +3,7 @@ use Rattle.std.proofs.Common.{◌≡◌, ℕ, zero, suc, ◌+◌, ◌-◌, ◌<�
 use Rattle.std.specs.Prelude.{if◌then◌else◌, slice_get}
 use Rattle.wt_tiles.specs.declared.glyph.Glyph.{Glyph}
 use Rattle.wt_tiles.specs.Glyphs.{begins}
-use Rattle.wt_tiles.specs.Partners.{Turn, Up, Down, Level, bracket_turn, by_bracket, balanced}
+use Rattle.wt_tiles.specs.Partners.{DepthChange, Up, Down, Level, bracket_turn, by_bracket, balanced}
 use Rattle.wt_tiles.specs.Tables.{left_of, balances}
 use Rattle.wt_tiles.proofs.Words.{false_true, begins_len}
 use Rattle.wt_tiles.proofs.LinkFits.{OptRest, balanced_fits}
@@ -19,7 +19,7 @@ skip (suc n) d [] = refl
 skip (suc n) d (g ∷ gs) = skip n d gs
 
 -- one more is to be closed: what closes it comes after what closes the others
-two_by : (t : Turn) (d : ℕ) (g : Glyph) (gs : List Glyph) → ((n e : ℕ) → balanced n (suc e) gs ≡ and_then (balanced n e gs) (λ ys. balanced 2 0 ys))
+two_by : (t : DepthChange) (d : ℕ) (g : Glyph) (gs : List Glyph) → ((n e : ℕ) → balanced n (suc e) gs ≡ and_then (balanced n e gs) (λ ys. balanced 2 0 ys))
     → by_bracket t (suc d) (g ∷ gs) (λ n e. balanced n e gs) ≡ and_then (by_bracket t d (g ∷ gs) (λ n e. balanced n e gs)) (λ ys. balanced 2 0 ys)
 two_by Up d g gs ih = ih 1 (suc d)
 two_by Level d g gs ih = ih 0 d
@@ -33,12 +33,12 @@ two zero d (g ∷ gs) = two_by (bracket_turn (g ∷ gs)) d g gs (λ n e. two n e
 
 -- ---- turns
 
-is_up : Turn → Bool
+is_up : DepthChange → Bool
 is_up Up = true
 is_up Down = false
 is_up Level = false
 
-is_down : Turn → Bool
+is_down : DepthChange → Bool
 is_down Up = false
 is_down Down = true
 is_down Level = false
@@ -63,7 +63,7 @@ down_len gs e = by (begins (codes "]]") gs) (begins (codes "[[") gs) (λ h. h) (
 
 -- ---- what the brackets at the front do
 
-turned : (t : Turn) (g : Glyph) (gs : List Glyph) → bracket_turn (g ∷ gs) ≡ t → balanced 0 0 (g ∷ gs) ≡ by_bracket t 0 (g ∷ gs) (λ n e. balanced n e gs)
+turned : (t : DepthChange) (g : Glyph) (gs : List Glyph) → bracket_turn (g ∷ gs) ≡ t → balanced 0 0 (g ∷ gs) ≡ by_bracket t 0 (g ∷ gs) (λ n e. balanced n e gs)
 turned t g gs e = ap (λ u. by_bracket u 0 (g ∷ gs) (λ n e. balanced n e gs)) e
 
 pub down_left : (gs : List Glyph) → bracket_turn gs ≡ Down → balances gs ≡ Some (length gs)

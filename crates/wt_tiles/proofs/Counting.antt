@@ -1,7 +1,7 @@
 -- The partner of a tag by count.
 use Rattle.std.proofs.Common.{◌≡◌, ℕ, zero, suc, ◌+◌, ◌<◌, Bool, true, false, Option, Some, None, List, [], ◌∷◌, length, drop, refl, sym, ap, ◌∙◌, arith, subst}
 use Rattle.wt_tiles.specs.declared.glyph.Glyph.{Glyph}
-use Rattle.wt_tiles.specs.Partners.{Turn, Up, Down, Level, tag_turn, by_tag, partner}
+use Rattle.wt_tiles.specs.Partners.{DepthChange, Up, Down, Level, tag_turn, by_tag, partner}
 use Rattle.wt_tiles.specs.Counts.{opened_by, closed_by, opened, closed, Closes, AreInner}
 use Rattle.wt_tiles.proofs.Words.{false_true}
 
@@ -28,7 +28,7 @@ found_more k d e g gs None first step f = inner_more k d e g gs (length gs) firs
 found_more k d e g gs (Some ys) first step (n, below, is, turn, count, inner) =
     (suc n, omega arith, is, turn, omega arith, inner_more k d e g gs n first step inner)
 
-abbrev is_down : Turn → Bool
+abbrev is_down : DepthChange → Bool
 is_down Up = false
 is_down Down = true
 is_down Level = false
@@ -39,7 +39,7 @@ level_down e = false_true (ap is_down e)
 up_down : {X : Type 0} → Up ≡ Down → X
 up_down e = false_true (ap is_down e)
 
-by_turn : (k : ℕ) (t : Turn) (d : ℕ) (g : Glyph) (gs : List Glyph) → tag_turn k (g ∷ gs) ≡ t
+by_turn : (k : ℕ) (t : DepthChange) (d : ℕ) (g : Glyph) (gs : List Glyph) → tag_turn k (g ∷ gs) ≡ t
     → ((e : ℕ) → Found k e gs (partner k e gs)) → Found k d (g ∷ gs) (by_tag t d (g ∷ gs) (λ e. partner k e gs))
 by_turn k Up d g gs is all =
     let o = ap opened_by is in let c = ap closed_by is in

@@ -15,7 +15,7 @@ use Rattle.wt_tiles.specs.declared.tag.TagShape.TheVariants.{Opening, Alone, Clo
 use Rattle.wt_tiles.specs.declared.tag.Tag.{Tag}
 use Rattle.wt_tiles.specs.Glyphs.{begins}
 use Rattle.wt_tiles.specs.Tags.{tag_at}
-use Rattle.wt_tiles.specs.Partners.{Turn, Up, Down, Level, number, turn_of_tag, tag_turn, by_tag, partner}
+use Rattle.wt_tiles.specs.Partners.{DepthChange, Up, Down, Level, number, turn_of_tag, tag_turn, by_tag, partner}
 use Rattle.wt_tiles.specs.Links.{leaf, link_at}
 use Rattle.wt_tiles.specs.Urls.{ext_link_at, bare_url_at}
 use Rattle.wt_tiles.specs.Tiles.{len_of, pair_or_island, closing_for, shape_of_tag, tag_tile, switch_names, switch_len, switch_at, outside, link_or_url, form_at, tile_with}
@@ -37,7 +37,7 @@ partner_later : (n : ℕ) (g : Glyph) (gs : List Glyph) (o : Option (List Glyph)
 partner_later n g gs None f = tt
 partner_later n g gs (Some rest) (turn, k, e, below) = (turn, suc k, e, omega arith)
 
-partner_by : (n : ℕ) (t : Turn) (d : ℕ) (g : Glyph) (gs : List Glyph) → tag_turn n (g ∷ gs) ≡ t
+partner_by : (n : ℕ) (t : DepthChange) (d : ℕ) (g : Glyph) (gs : List Glyph) → tag_turn n (g ∷ gs) ≡ t
     → ((e : ℕ) → OptPartner n gs (partner n e gs)) → OptPartner n (g ∷ gs) (by_tag t d (g ∷ gs) (λ e. partner n e gs))
 partner_by n Up d g gs e f = partner_later n g gs _ (f (suc d))
 partner_by n Level d g gs e f = partner_later n g gs _ (f d)
@@ -48,7 +48,7 @@ pub partner_fits : (n d : ℕ) (gs : List Glyph) → OptPartner n gs (partner n 
 partner_fits n d [] = tt
 partner_fits n d (g ∷ gs) = partner_by n (tag_turn n (g ∷ gs)) d g gs refl (λ e. partner_fits n e gs)
 
-is_down : Turn → Bool
+is_down : DepthChange → Bool
 is_down Up = false
 is_down Level = false
 is_down Down = true

@@ -5,7 +5,7 @@ use Rattle.std.specs.Option.{option_or}
 use Rattle.std.proofs.lemmas.Bool.{eqb-true}
 use Rattle.wt_tiles.specs.declared.glyph.Glyph.{Glyph}
 use Rattle.wt_tiles.specs.declared.glyph.Glyph.TheVariants as glyph
-use Rattle.wt_tiles.specs.declared.glyph.Class.TheVariants as class
+use Rattle.wt_tiles.specs.declared.glyph.GlyphClass.TheVariants as class
 use Rattle.wt_tiles.specs.declared.shape.Shape.{Shape}
 use Rattle.wt_tiles.specs.declared.shape.TileKind.{TileKind}
 use Rattle.wt_tiles.specs.declared.shape.TileKind.TheVariants as kind
@@ -13,7 +13,7 @@ use Rattle.wt_tiles.specs.declared.target.LinkKind.{LinkKind}
 use Rattle.wt_tiles.specs.declared.target.LinkKind.TheVariants.{Page, Category, Media}
 use Rattle.wt_tiles.specs.declared.target.Target.{Target}
 use Rattle.wt_tiles.specs.Glyphs.{first_is, run_len, begins}
-use Rattle.wt_tiles.specs.Partners.{Turn, Up, Down, Level, bracket_turn, by_bracket, balanced}
+use Rattle.wt_tiles.specs.Partners.{DepthChange, Up, Down, Level, bracket_turn, by_bracket, balanced}
 use Rattle.wt_tiles.specs.Links.{leaf, place, target_of, kind_of, target_len, to_close, inner_len, has_pipe, head_len, page_link, link_shape, link_with, link_to, link_by, link_in, link_at}
 use Rattle.wt_tiles.specs.Searches.{IsHead}
 use Rattle.wt_tiles.specs.Tiles.{size}
@@ -90,7 +90,7 @@ rest_later : (g : Glyph) (gs : List Glyph) (o : Option (List Glyph)) → OptRest
 rest_later g gs None f = tt
 rest_later g gs (Some rest) (turn, k, e, below) = (turn, suc k, e, omega arith)
 
-by_rest : (t : Turn) (d : ℕ) (g : Glyph) (gs : List Glyph) → bracket_turn (g ∷ gs) ≡ t
+by_rest : (t : DepthChange) (d : ℕ) (g : Glyph) (gs : List Glyph) → bracket_turn (g ∷ gs) ≡ t
     → ((n e : ℕ) → OptRest gs (balanced n e gs)) → OptRest (g ∷ gs) (by_bracket t d (g ∷ gs) (λ n e. balanced n e gs))
 by_rest Up d g gs e f = rest_later g gs _ (f 1 (suc d))
 by_rest Level d g gs e f = rest_later g gs _ (f 0 d)
@@ -102,7 +102,7 @@ balanced_fits n d [] = tt
 balanced_fits (suc n) d (g ∷ gs) = rest_later g gs _ (balanced_fits n d gs)
 balanced_fits zero d (g ∷ gs) = by_rest (bracket_turn (g ∷ gs)) d g gs refl (λ n e. balanced_fits n e gs)
 
-turn_number : Turn → ℕ
+turn_number : DepthChange → ℕ
 turn_number Up = 0
 turn_number Level = 0
 turn_number Down = 1

@@ -11,7 +11,7 @@ use Rattle.wt_tiles.specs.declared.tag.TagShape.{TagShape}
 use Rattle.wt_tiles.specs.declared.tag.TagShape.TheVariants.{Opening, Alone, Closing}
 use Rattle.wt_tiles.specs.declared.tag.Tag.{Tag}
 use Rattle.wt_tiles.specs.Tags.{tag_at}
-use Rattle.wt_tiles.specs.Partners.{Turn, Up, Down, Level, number, turn_of_shape, turn_of_name, turn_of_tag, tag_turn, by_tag, partner}
+use Rattle.wt_tiles.specs.Partners.{DepthChange, Up, Down, Level, number, turn_of_shape, turn_of_name, turn_of_tag, tag_turn, by_tag, partner}
 use Rattle.wt_tiles.specs.Tables.{left_of, nearest, nearest_named, nearest_of, own_partner, entry, nearest_by, option_join, AreNearest}
 use Rattle.wt_tiles.proofs.Words.{false_true}
 use Rattle.wt_tiles.proofs.Balances.{and_then}
@@ -19,7 +19,7 @@ use Rattle.wt_tiles.proofs.Fits.{OptPartner, partner_fits}
 
 -- ---- one more is to be closed: what closes it comes after what closes the others
 
-two_by : (k : ℕ) (t : Turn) (d : ℕ) (g : Glyph) (gs : List Glyph) → ((e : ℕ) → partner k (suc e) gs ≡ and_then (partner k e gs) (λ ys. partner k 0 (drop 1 ys)))
+two_by : (k : ℕ) (t : DepthChange) (d : ℕ) (g : Glyph) (gs : List Glyph) → ((e : ℕ) → partner k (suc e) gs ≡ and_then (partner k e gs) (λ ys. partner k 0 (drop 1 ys)))
     → by_tag t (suc d) (g ∷ gs) (λ e. partner k e gs) ≡ and_then (by_tag t d (g ∷ gs) (λ e. partner k e gs)) (λ ys. partner k 0 (drop 1 ys))
 two_by k Up d g gs ih = ih (suc d)
 two_by k Level d g gs ih = ih d
@@ -32,7 +32,7 @@ two k d (g ∷ gs) = two_by k (tag_turn k (g ∷ gs)) d g gs (λ e. two k e gs)
 
 -- ---- what the tag at the front does to each name
 
-turned : (k : ℕ) (t : Turn) (g : Glyph) (gs : List Glyph) → tag_turn k (g ∷ gs) ≡ t → partner k 0 (g ∷ gs) ≡ by_tag t 0 (g ∷ gs) (λ e. partner k e gs)
+turned : (k : ℕ) (t : DepthChange) (g : Glyph) (gs : List Glyph) → tag_turn k (g ∷ gs) ≡ t → partner k 0 (g ∷ gs) ≡ by_tag t 0 (g ∷ gs) (λ e. partner k e gs)
 turned k t g gs e = ap (λ u. by_tag u 0 (g ∷ gs) (λ e. partner k e gs)) e
 
 pub level_nearest : (k : ℕ) (gs : List Glyph) → 0 < length gs → tag_turn k gs ≡ Level → nearest k gs ≡ nearest k (drop 1 gs)
@@ -67,7 +67,7 @@ up_is k (g ∷ gs) h e = turned k Up g gs e ∙ two k 0 gs
 
 -- ---- the tag's own name
 
-is_down : Turn → Bool
+is_down : DepthChange → Bool
 is_down Up = false
 is_down Down = true
 is_down Level = false

@@ -4,8 +4,8 @@ use Rattle.std.specs.List.{All}
 use Rattle.std.specs.Str.{IsUtf8, IsCharBoundary}
 use Rattle.std.proofs.lemmas.Str.{IsCharBoundary-before_ascii, IsCharBoundary-after_ascii}
 use Rattle.std.proofs.lemmas.List.{length-map}
-use Rattle.wt_span.specs.declared.form.Form.{Form}
-use Rattle.wt_span.specs.declared.form.Form.TheVariants as form
+use Rattle.wt_span.specs.declared.form.ItemForm.{ItemForm}
+use Rattle.wt_span.specs.declared.form.ItemForm.TheVariants as form
 use Rattle.wt_span.specs.declared.form.Piece.{Piece}
 use Rattle.wt_span.specs.Slice.{bytes_of}
 use Rattle.wt_span.specs.Items.{char, items_of, items_by, call_of_origin}
@@ -22,7 +22,7 @@ glyphs_of_bytes : (o : Option ℕ) (bs : List ℕ) → map glyph_of (map (char o
 glyphs_of_bytes o [] = refl
 glyphs_of_bytes o (b ∷ bs) = ap (λ gs. glyph.Byte b ∷ gs) (glyphs_of_bytes o bs)
 
-chars_by : (f : Form) (o : Option ℕ) (bs : List ℕ) → is_chars f ≡ true → map glyph_of (items_by f o bs) ≡ byte_glyphs bs
+chars_by : (f : ItemForm) (o : Option ℕ) (bs : List ℕ) → is_chars f ≡ true → map glyph_of (items_by f o bs) ≡ byte_glyphs bs
 chars_by form.Chars o bs e = glyphs_of_bytes o bs
 chars_by (form.Entity c) o bs e = false_true e
 chars_by form.Nowiki o bs e = false_true e
@@ -33,7 +33,7 @@ chars_by form.Include o bs e = false_true e
 chars_by form.Hidden o bs e = false_true e
 chars_by form.EmptyCall o bs e = false_true e
 
-whole_by : (f : Form) (o : Option ℕ) (bs : List ℕ) → is_chars f ≡ false → map glyph_of (items_by f o bs) ≡ glyph_of_form f ∷ []
+whole_by : (f : ItemForm) (o : Option ℕ) (bs : List ℕ) → is_chars f ≡ false → map glyph_of (items_by f o bs) ≡ glyph_of_form f ∷ []
 whole_by form.Chars o bs e = false_true (sym e)
 whole_by (form.Entity c) o bs e = refl
 whole_by form.Nowiki o bs e = refl
@@ -51,7 +51,7 @@ pub piece_whole : (p : Piece) → is_chars p.form ≡ false → map glyph_of (it
 piece_whole p e = whole_by p.form (call_of_origin p.origin) (bytes_of p.text) e
 
 -- a piece that is cut holds characters
-cut_is_chars : (f : Form) (bs : List ℕ) (n : ℕ) → 0 < n → n < count_by (is_chars f) bs → (is_chars f ≡ true) × (n < length bs)
+cut_is_chars : (f : ItemForm) (bs : List ℕ) (n : ℕ) → 0 < n → n < count_by (is_chars f) bs → (is_chars f ≡ true) × (n < length bs)
 cut_is_chars form.Chars bs n s h = (refl, h)
 cut_is_chars (form.Entity c) bs n s h = absurd (omega arith)
 cut_is_chars form.Nowiki bs n s h = absurd (omega arith)

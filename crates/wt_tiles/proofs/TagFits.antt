@@ -4,8 +4,8 @@ use Rattle.std.specs.Prelude.{◌&&◌, if◌then◌else◌}
 use Rattle.std.specs.Option.{option_or}
 use Rattle.std.proofs.lemmas.List.Sums.{prefix_len-le-length}
 use Rattle.wt_tiles.specs.declared.glyph.Glyph.{Glyph}
-use Rattle.wt_tiles.specs.declared.glyph.Class.{Class}
-use Rattle.wt_tiles.specs.declared.glyph.Class.TheVariants as class
+use Rattle.wt_tiles.specs.declared.glyph.GlyphClass.{GlyphClass}
+use Rattle.wt_tiles.specs.declared.glyph.GlyphClass.TheVariants as class
 use Rattle.wt_tiles.specs.declared.tag.Name.{Name}
 use Rattle.wt_tiles.specs.declared.tag.TagShape.{TagShape}
 use Rattle.wt_tiles.specs.declared.tag.TagShape.TheVariants.{Closing}
@@ -33,7 +33,7 @@ if_tag : (gs : List Glyph) (t : Bool) (o : Option Tag) → (t ≡ true → OptTa
 if_tag gs true o f = f refl
 if_tag gs false o f = tt
 
-pub run_le : (k : Class) (gs : List Glyph) → run_len k gs ≤ length gs
+pub run_le : (k : GlyphClass) (gs : List Glyph) → run_len k gs ≤ length gs
 run_le k gs = prefix_len-le-length (in_class k) gs
 
 pub name_le : (gs : List Glyph) → name_len gs ≤ length gs

@@ -9,8 +9,8 @@ use Rattle.wt_tree.specs.declared.kind.TagName.{TagName}
 use Rattle.wt_tiles.specs.declared.context.Context.{Context}
 use Rattle.wt_tiles.specs.declared.glyph.Glyph.{Glyph}
 use Rattle.wt_tiles.specs.declared.glyph.Glyph.TheVariants as glyph
-use Rattle.wt_tiles.specs.declared.glyph.Class.{Class}
-use Rattle.wt_tiles.specs.declared.glyph.Class.TheVariants as class
+use Rattle.wt_tiles.specs.declared.glyph.GlyphClass.{GlyphClass}
+use Rattle.wt_tiles.specs.declared.glyph.GlyphClass.TheVariants as class
 use Rattle.wt_tiles.specs.declared.shape.Shape.{Shape}
 use Rattle.wt_tiles.specs.declared.shape.TileKind.TheVariants as kind
 use Rattle.wt_tiles.specs.declared.tag.Name.{Name}
@@ -48,7 +48,7 @@ no_tag gs e =
     ap (λ (a : Bool). F a (begins (codes "</") gs)) e ∙ ap (F false) (not_first 60 (47 ∷ []) gs e)
 
 -- classes without `<`
-abbrev HasNoLess : Class → Type 0
+abbrev HasNoLess : GlyphClass → Type 0
 HasNoLess k = (g : Glyph) → in_class k g ≡ true → in_class (class.Only 60) g ≡ false
 
 name_no_less : HasNoLess class.Name
@@ -75,7 +75,7 @@ run_some : (t : Bool) (n : ℕ) → 0 < cond t (1 + n) 0 → t ≡ true
 run_some true n h = refl
 run_some false n h = absurd (omega arith)
 
-run_no_less : (k : Class) (gs : List Glyph) (i : ℕ) → HasNoLess k → i < run_len k gs → first_is (class.Only 60) (drop i gs) ≡ false
+run_no_less : (k : GlyphClass) (gs : List Glyph) (i : ℕ) → HasNoLess k → i < run_len k gs → first_is (class.Only 60) (drop i gs) ≡ false
 run_no_less k [] i h below = absurd (omega arith)
 run_no_less k (g ∷ gs) zero h below = h g (run_some (in_class k g) (run_len k gs) below)
 run_no_less k (g ∷ gs) (suc i) h below = run_no_less k gs i h (run_step (in_class k g) (run_len k gs) i below)
@@ -106,7 +106,7 @@ if_inside : (name gs : List Glyph) (t : Bool) (o : Option Tag) → (t ≡ true �
 if_inside name gs true o f = f refl
 if_inside name gs false o f = tt
 
-run_le : (k : Class) (gs : List Glyph) → run_len k gs ≤ length gs
+run_le : (k : GlyphClass) (gs : List Glyph) → run_len k gs ≤ length gs
 run_le k [] = omega arith
 run_le k (g ∷ gs) = by (in_class k g) (run_le k gs)
   where

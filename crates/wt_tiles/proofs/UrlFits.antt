@@ -8,7 +8,7 @@ use Rattle.std.proofs.lemmas.List.{get_or-reverse, length-reverse}
 use Rattle.std.proofs.lemmas.List.Sums.{prefix_len-le-length, prefix_len_passes}
 use Rattle.wt_tiles.specs.declared.glyph.Glyph.{Glyph}
 use Rattle.wt_tiles.specs.declared.glyph.Glyph.TheVariants as glyph
-use Rattle.wt_tiles.specs.declared.glyph.Class.TheVariants as class
+use Rattle.wt_tiles.specs.declared.glyph.GlyphClass.TheVariants as class
 use Rattle.wt_tiles.specs.Glyphs.{is_in, first_is, run_len, begins, begins_like}
 use Rattle.wt_tiles.specs.Urls.{scheme_len, is_url_char, is_url_glyph, url_run, url_items, text_len, ext_shape, ext_link_after, ext_link_of, ext_link_at, is_dropped, has_paren, kept_len, bare_shape, bare_url_of, bare_url_at}
 use Rattle.wt_tiles.specs.Edges.{is_low, low_at, IsEdge}

@@ -8,8 +8,8 @@ use Rattle.std.proofs.lemmas.Bool.Decides.{nat_tests}
 use Rattle.wt_span.specs.Bytes.{is_blank}
 use Rattle.wt_tiles.specs.declared.glyph.Glyph.{Glyph}
 use Rattle.wt_tiles.specs.declared.glyph.Glyph.TheVariants as glyph
-use Rattle.wt_tiles.specs.declared.glyph.Class.{Class}
-use Rattle.wt_tiles.specs.declared.glyph.Class.TheVariants as class
+use Rattle.wt_tiles.specs.declared.glyph.GlyphClass.{GlyphClass}
+use Rattle.wt_tiles.specs.declared.glyph.GlyphClass.TheVariants as class
 use Rattle.wt_tiles.specs.Glyphs.{is_in, in_class, is_small, first_is, run_len, begins, begins_like}
 use Rattle.wt_tiles.specs.Edges.{is_low, low_at, IsEdge}
 
@@ -58,7 +58,7 @@ small_low : IsLowTest is_small
 small_low b e = grind (arith, nat_tests)
 
 -- classes of ASCII characters alone
-abbrev pub IsLowClass : Class → Type 0
+abbrev pub IsLowClass : GlyphClass → Type 0
 IsLowClass class.Blank = Unit {0}
 IsLowClass class.Letter = Unit {0}
 IsLowClass class.Name = Unit {0}
@@ -66,7 +66,7 @@ IsLowClass class.Trail = Unit {0}
 IsLowClass class.Tag = ⊥
 IsLowClass (class.Only one) = one < 128
 
-pub class_low : (k : Class) (g : Glyph) → IsLowClass k → in_class k g ≡ true → is_low g ≡ true
+pub class_low : (k : GlyphClass) (g : Glyph) → IsLowClass k → in_class k g ≡ true → is_low g ≡ true
 class_low class.Blank g h e = in_low is_blank g blank_low e
 class_low class.Letter g h e = in_low is_ascii_alphabetic g letter_low e
 class_low class.Name g h e = in_low is_ascii_alphanumeric g name_low e
@@ -74,11 +74,11 @@ class_low class.Trail g h e = in_low is_small g small_low e
 class_low class.Tag g h e = absurd h
 class_low (class.Only one) g h e = in_low (λ b. b == one) g (only_low one h) e
 
-pub first_low : (k : Class) (gs : List Glyph) → IsLowClass k → first_is k gs ≡ true → low_at gs 0 ≡ true
+pub first_low : (k : GlyphClass) (gs : List Glyph) → IsLowClass k → first_is k gs ≡ true → low_at gs 0 ≡ true
 first_low k [] h e = false_true e
 first_low k (g ∷ gs) h e = class_low k g h e
 
-pub first_some : (k : Class) (gs : List Glyph) → first_is k gs ≡ true → 0 < length gs
+pub first_some : (k : GlyphClass) (gs : List Glyph) → first_is k gs ≡ true → 0 < length gs
 first_some k [] e = false_true e
 first_some k (g ∷ gs) e = omega arith
 
@@ -95,7 +95,7 @@ run_some : (t : Bool) (n : ℕ) → 0 < cond t (1 + n) 0 → t ≡ true
 run_some true n h = refl
 run_some false n h = absurd (omega arith)
 
-pub run_low : (c : Class) (gs : List Glyph) (k : ℕ) → IsLowClass c → k < run_len c gs → low_at gs k ≡ true
+pub run_low : (c : GlyphClass) (gs : List Glyph) (k : ℕ) → IsLowClass c → k < run_len c gs → low_at gs k ≡ true
 run_low c [] k h below = absurd (omega arith)
 run_low c (g ∷ gs) zero h below = class_low c g h (run_some (in_class c g) (run_len c gs) below)
 run_low c (g ∷ gs) (suc k) h below = run_low c gs k h (run_step (in_class c g) (run_len c gs) k below)

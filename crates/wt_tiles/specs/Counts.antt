@@ -1,14 +1,14 @@
 -- Partners by count: how many tags of a name open and close before a place.
 use Rattle.std.specs.Prelude.{◌≡◌, ◌<◌, ℕ, zero, suc, ◌+◌, List, [], ◌∷◌, drop}
 use Rattle.wt_tiles.specs.declared.glyph.Glyph.{Glyph}
-use Rattle.wt_tiles.specs.Partners.{Turn, Up, Down, Level, tag_turn}
+use Rattle.wt_tiles.specs.Partners.{DepthChange, Up, Down, Level, tag_turn}
 
-abbrev pub opened_by : Turn → ℕ
+abbrev pub opened_by : DepthChange → ℕ
 opened_by Up = 1
 opened_by Down = 0
 opened_by Level = 0
 
-abbrev pub closed_by : Turn → ℕ
+abbrev pub closed_by : DepthChange → ℕ
 closed_by Up = 0
 closed_by Down = 1
 closed_by Level = 0

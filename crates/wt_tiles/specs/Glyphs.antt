@@ -2,17 +2,17 @@
 use Rattle.std.specs.Prelude.{ℕ, ◌==◌, ◌&&◌, Bool, true, false, List, [], ◌∷◌, length, map, nat_le}
 use Rattle.std.specs.List.{prefix_len}
 use Rattle.std.specs.Char.{is_ascii_alphabetic, is_ascii_alphanumeric, to_ascii_lowercase}
-use Rattle.wt_span.specs.declared.form.Form.{Form}
-use Rattle.wt_span.specs.declared.form.Form.TheVariants as form
+use Rattle.wt_span.specs.declared.form.ItemForm.{ItemForm}
+use Rattle.wt_span.specs.declared.form.ItemForm.TheVariants as form
 use Rattle.wt_span.specs.Bytes.{is_blank}
 use Rattle.wt_span.specs.Tags.{is_tag_byte}
 use Rattle.wt_span.specs.Items.{Item, char, whole}
 use Rattle.wt_tiles.specs.declared.glyph.Glyph.{Glyph}
 use Rattle.wt_tiles.specs.declared.glyph.Glyph.TheVariants as glyph
-use Rattle.wt_tiles.specs.declared.glyph.Class.{Class}
-use Rattle.wt_tiles.specs.declared.glyph.Class.TheVariants as class
+use Rattle.wt_tiles.specs.declared.glyph.GlyphClass.{GlyphClass}
+use Rattle.wt_tiles.specs.declared.glyph.GlyphClass.TheVariants as class
 
-abbrev pub glyph_of_form : Form → Glyph
+abbrev pub glyph_of_form : ItemForm → Glyph
 glyph_of_form form.Chars = glyph.Atom
 glyph_of_form (form.Entity c) = glyph.Entity c
 glyph_of_form form.Nowiki = glyph.Atom
@@ -45,7 +45,7 @@ is_tag_glyph glyph.Mark = true
 abbrev pub is_small : ℕ → Bool
 is_small b = nat_le 97 b && nat_le b 122
 
-abbrev pub in_class : Class → Glyph → Bool
+abbrev pub in_class : GlyphClass → Glyph → Bool
 in_class class.Blank = is_in is_blank
 in_class class.Letter = is_in is_ascii_alphabetic
 in_class class.Name = is_in is_ascii_alphanumeric
@@ -54,12 +54,12 @@ in_class class.Tag = is_tag_glyph
 in_class (class.Only one) = is_in (λ b. b == one)
 
 -- the first item is of a class
-abbrev pub first_is : Class → List Glyph → Bool
+abbrev pub first_is : GlyphClass → List Glyph → Bool
 first_is k [] = false
 first_is k (g ∷ gs) = in_class k g
 
 -- so many items of a class stand first
-abbrev pub run_len : Class → List Glyph → ℕ
+abbrev pub run_len : GlyphClass → List Glyph → ℕ
 run_len k gs = prefix_len (in_class k) gs
 
 -- a word of ASCII characters stands first, spelled so

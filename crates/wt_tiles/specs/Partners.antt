@@ -13,10 +13,10 @@ use Rattle.wt_tiles.specs.Glyphs.{begins}
 use Rattle.wt_tiles.specs.Tags.{tag_at}
 
 -- one is opened here, one is closed, or neither
-pub data Turn : Type 0 where
-  Up : Turn
-  Down : Turn
-  Level : Turn
+pub data DepthChange : Type 0 where
+  Up : DepthChange
+  Down : DepthChange
+  Level : DepthChange
 
 -- ---- tags
 
@@ -30,25 +30,25 @@ number name.U = 4
 number name.Code = 5
 number name.Span = 6
 
-abbrev pub turn_of_shape : TagShape → Turn
+abbrev pub turn_of_shape : TagShape → DepthChange
 turn_of_shape Opening = Up
 turn_of_shape Alone = Level
 turn_of_shape Closing = Down
 
-abbrev pub turn_of_name : ℕ → Name → TagShape → Turn
+abbrev pub turn_of_name : ℕ → Name → TagShape → DepthChange
 turn_of_name k (Paired m) shape = if number m == k then turn_of_shape shape else Level
 turn_of_name k Break shape = Level
 turn_of_name k Island shape = Level
 
-abbrev pub turn_of_tag : ℕ → Option Tag → Turn
+abbrev pub turn_of_tag : ℕ → Option Tag → DepthChange
 turn_of_tag k None = Level
 turn_of_tag k (Some t) = turn_of_name k t.name t.shape
 
 -- what the tags of a name do here
-abbrev pub tag_turn : ℕ → List Glyph → Turn
+abbrev pub tag_turn : ℕ → List Glyph → DepthChange
 tag_turn k gs = turn_of_tag k (tag_at gs)
 
-abbrev pub by_tag : Turn → ℕ → List Glyph → (ℕ → Option (List Glyph)) → Option (List Glyph)
+abbrev pub by_tag : DepthChange → ℕ → List Glyph → (ℕ → Option (List Glyph)) → Option (List Glyph)
 by_tag Up d here rest = rest (suc d)
 by_tag Level d here rest = rest d
 by_tag Down zero here rest = Some here
@@ -61,10 +61,10 @@ partner k d (g ∷ gs) = by_tag (tag_turn k (g ∷ gs)) d (g ∷ gs) (λ e. part
 
 -- ---- brackets
 
-unfoldable pub bracket_turn : List Glyph → Turn
+unfoldable pub bracket_turn : List Glyph → DepthChange
 bracket_turn gs = if begins (codes "]]") gs then Down else (if begins (codes "[[") gs then Up else Level)
 
-abbrev pub by_bracket : Turn → ℕ → List Glyph → (ℕ → ℕ → Option (List Glyph)) → Option (List Glyph)
+abbrev pub by_bracket : DepthChange → ℕ → List Glyph → (ℕ → ℕ → Option (List Glyph)) → Option (List Glyph)
 by_bracket Up d here rest = rest 1 (suc d)
 by_bracket Level d here rest = rest 0 d
 by_bracket Down zero here rest = Some here

@@ -1,7 +1,7 @@
 -- What is sought in links.
 use Rattle.std.specs.Prelude.{◌≤◌, ℕ, Bool, ◌||◌, Option, List, codes}
 use Rattle.wt_tiles.specs.declared.glyph.Glyph.{Glyph}
-use Rattle.wt_tiles.specs.declared.glyph.Class.TheVariants as class
+use Rattle.wt_tiles.specs.declared.glyph.GlyphClass.TheVariants as class
 use Rattle.wt_tiles.specs.declared.link.Search.{Search}
 use Rattle.wt_tiles.specs.declared.link.Search.TheVariants as search
 use Rattle.wt_tiles.specs.declared.target.LinkKind.{LinkKind}

@@ -1,8 +1,8 @@
 -- What is known of a context's brackets and tags, in tables by the number of items that are left.
 use Rattle.std.specs.Prelude.{◌≡◌, ◌<◌, ◌≤◌, ℕ, ◌+◌, ◌-◌, Option, Some, None, List, [], ◌∷◌, length, drop, slice_get, option_map}
 use Rattle.wt_tiles.specs.declared.glyph.Glyph.{Glyph}
-use Rattle.wt_tiles.specs.declared.bracket.Turn.{Turn as Side}
-use Rattle.wt_tiles.specs.declared.bracket.Turn.TheVariants as side
+use Rattle.wt_tiles.specs.declared.bracket.DepthChange.{DepthChange as Side}
+use Rattle.wt_tiles.specs.declared.bracket.DepthChange.TheVariants as side
 use Rattle.wt_tiles.specs.declared.tag.Name.{Name}
 use Rattle.wt_tiles.specs.declared.tag.Name.TheVariants.{Paired, Break, Island}
 use Rattle.wt_tiles.specs.declared.tag.TagShape.{TagShape}
@@ -13,9 +13,9 @@ use Rattle.wt_tiles.specs.declared.shape.TileKind.TheVariants as kind
 use Rattle.wt_tiles.specs.Tags.{tag_at}
 use Rattle.wt_tiles.specs.Links.{leaf}
 use Rattle.wt_tiles.specs.Tiles.{len_of}
-use Rattle.wt_tiles.specs.Partners.{Turn, Up, Down, Level, number, balanced, partner}
+use Rattle.wt_tiles.specs.Partners.{DepthChange, Up, Down, Level, number, balanced, partner}
 
-abbrev pub turn_value : Side → Turn
+abbrev pub turn_value : Side → DepthChange
 turn_value side.Up = Up
 turn_value side.Down = Down
 turn_value side.Level = Level

@@ -11,7 +11,7 @@ use wt_span::{List, NoMemory, rest_of};
 
 /// Whether one is opened here, closed, or neither.
 #[derive(Clone, Copy, Debug, PartialEq, Eq)]
-pub enum Turn {
+pub enum DepthChange {
     Up,
     Down,
     Level,
@@ -19,15 +19,15 @@ pub enum Turn {
 
 /// What the brackets at the front of the items do.
 #[tactic(auto, unfolding(crate::specs::Partners::bracket_turn))]
-fn bracket_turn(glyphs: &[Glyph]) -> Turn
+fn bracket_turn(glyphs: &[Glyph]) -> DepthChange
     ensures { turn_value result ≡ bracket_turn glyphs.now }
 {
     if begins(b"]]", glyphs) {
-        Turn::Down
+        DepthChange::Down
     } else if begins(b"[[", glyphs) {
-        Turn::Up
+        DepthChange::Up
     } else {
-        Turn::Level
+        DepthChange::Level
     }
 }
 
@@ -61,9 +61,9 @@ fn balance(table: &[Option<usize>], glyphs: &[Glyph]) -> Option<usize>
     ensures { result ≡ balances glyphs.now }
 {
     match bracket_turn(glyphs) {
-        Turn::Down => Some(glyphs.len()),
-        Turn::Up => balance_up(table, glyphs),
-        Turn::Level => entry(table, glyphs.len() - 1),
+        DepthChange::Down => Some(glyphs.len()),
+        DepthChange::Up => balance_up(table, glyphs),
+        DepthChange::Level => entry(table, glyphs.len() - 1),
     }
 }
 

@@ -14,7 +14,7 @@ pub enum Glyph {
 
 /// Items that are alike in how far a run of them goes.
 #[derive(Clone, Copy, Debug, PartialEq, Eq)]
-pub enum Class {
+pub enum GlyphClass {
     /// Spaces and tabs.
     Blank,
     /// ASCII letters.
@@ -29,18 +29,18 @@ pub enum Class {
     Only(u8),
 }
 
-impl Class {
+impl GlyphClass {
     /// Whether a character of one byte is of the class, or a byte of a longer one.
     fn has_byte(self, byte: u8) -> bool
         ensures { result ≡ in_class self (Glyph.Byte byte) }
     {
         match self {
-            Class::Blank => byte == b' ' || byte == b'\t',
-            Class::Letter => byte.is_ascii_alphabetic(),
-            Class::Name => byte.is_ascii_alphanumeric(),
-            Class::Trail => b'a' <= byte && byte <= b'z',
-            Class::Tag => !(byte == b'<' || byte == b'>' || byte == b'\n'),
-            Class::Only(one) => byte == one,
+            GlyphClass::Blank => byte == b' ' || byte == b'\t',
+            GlyphClass::Letter => byte.is_ascii_alphabetic(),
+            GlyphClass::Name => byte.is_ascii_alphanumeric(),
+            GlyphClass::Trail => b'a' <= byte && byte <= b'z',
+            GlyphClass::Tag => !(byte == b'<' || byte == b'>' || byte == b'\n'),
+            GlyphClass::Only(one) => byte == one,
         }
     }
 
@@ -49,8 +49,12 @@ impl Class {
         ensures { result ≡ in_class self Glyph.Mark }
     {
         match self {
-            Class::Tag => true,
-            Class::Blank | Class::Letter | Class::Name | Class::Trail | Class::Only(_) => false,
+            GlyphClass::Tag => true,
+            GlyphClass::Blank
+            | GlyphClass::Letter
+            | GlyphClass::Name
+            | GlyphClass::Trail
+            | GlyphClass::Only(_) => false,
         }
     }
 
@@ -67,7 +71,7 @@ impl Class {
 }
 
 /// Whether the first item is of a class.
-pub fn first_is(class: Class, glyphs: &[Glyph]) -> bool
+pub fn first_is(class: GlyphClass, glyphs: &[Glyph]) -> bool
     ensures { result ≡ first_is class glyphs.now }
 {
     match glyphs.first() {
@@ -77,7 +81,7 @@ pub fn first_is(class: Class, glyphs: &[Glyph]) -> bool
 }
 
 /// How many items of a class stand first.
-pub fn run_len(class: Class, glyphs: &[Glyph]) -> usize
+pub fn run_len(class: GlyphClass, glyphs: &[Glyph]) -> usize
     ensures value { result ≡ run_len class glyphs.now }
     ensures within { result ≤ length glyphs.now }
 {
@@ -97,7 +101,7 @@ pub fn begins(word: &[u8], glyphs: &[Glyph]) -> bool
         return false;
     }
     for (i, byte) in word.iter().enumerate() {
-        if !Class::Only(*byte).has(glyphs[i]) {
+        if !GlyphClass::Only(*byte).has(glyphs[i]) {
             return false;
         }
     }

@@ -19,7 +19,7 @@ mod tile;
 mod url;
 
 pub use context::Context;
-pub use glyph::{Class, Glyph, run_len};
+pub use glyph::{Glyph, GlyphClass, run_len};
 pub use link::{close_len, target_len};
 pub use read::{MOST_PAIRS, shapes};
 pub use shape::{Shape, TileKind};

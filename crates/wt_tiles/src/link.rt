@@ -5,7 +5,7 @@ ghost use Rattle.wt_tiles.specs.Links.{leaf, kind_of, target_len, to_close, inne
 ghost use Rattle.wt_tiles.specs.Searches.{stops, bars, search_place, IsHead};
 
 use crate::bracket::Brackets;
-use crate::glyph::{Class, Glyph, begins, first_is, run_len};
+use crate::glyph::{Glyph, GlyphClass, begins, first_is, run_len};
 use crate::shape::{Shape, TileKind};
 use crate::target::{LinkKind, Target, target_of};
 use std::alloc::Global;
@@ -27,9 +27,9 @@ impl Search {
         ensures { result ≡ stops self glyphs.now }
     {
         match self {
-            Search::Target => first_is(Class::Only(b'|'), glyphs) || begins(b"]]", glyphs),
+            Search::Target => first_is(GlyphClass::Only(b'|'), glyphs) || begins(b"]]", glyphs),
             Search::Close => begins(b"]]", glyphs),
-            Search::Text => first_is(Class::Only(b']'), glyphs),
+            Search::Text => first_is(GlyphClass::Only(b']'), glyphs),
         }
     }
 
@@ -39,7 +39,7 @@ impl Search {
         match self {
             Search::Target => begins(b"[[", glyphs),
             Search::Close => begins(b"[[", glyphs),
-            Search::Text => first_is(Class::Only(b'['), glyphs),
+            Search::Text => first_is(GlyphClass::Only(b'['), glyphs),
         }
     }
 
@@ -123,7 +123,7 @@ fn has_pipe(n: usize, rest: &[Glyph]) -> bool
     requires { n ≤ length rest.now }
     ensures { result ≡ has_pipe n rest.now }
 {
-    first_is(Class::Only(b'|'), rest_of(rest, n))
+    first_is(GlyphClass::Only(b'|'), rest_of(rest, n))
 }
 
 /// How much of the open delimiter follows the `[[`.
@@ -133,7 +133,7 @@ fn head_len(colon: bool, n: usize, rest: &[Glyph]) -> usize
 {
     if has_pipe(n, rest) {
         n + 1
-    } else if colon && first_is(Class::Only(b':'), rest) {
+    } else if colon && first_is(GlyphClass::Only(b':'), rest) {
         1
     } else {
         0
@@ -151,7 +151,7 @@ fn page_link(head: usize, k: usize, rest: &[Glyph]) -> Shape
         opening: 2 + head,
         inside: k - head,
         closing: 2,
-        trail: run_len(Class::Trail, rest_of(rest, k + 2)),
+        trail: run_len(GlyphClass::Trail, rest_of(rest, k + 2)),
     }
 }
 

@@ -3,7 +3,7 @@
 ghost use Rattle.std.specs.Prelude.{◌≡◌, ◌<◌, ◌≤◌, ◌+◌, ◌^◌, length, drop, IfSome};
 ghost use Rattle.wt_tiles.specs.Tags.{live_name, is_style_name, is_phrase_name, is_block_name, is_list_name, is_table_name, is_include_name, is_island_name, name_of, name_len, is_inside, shape_of, tag_after, opening_tag, closing_tag, tag_at};
 
-use crate::glyph::{Class, Glyph, begins, first_is, is_like, run_len};
+use crate::glyph::{Glyph, GlyphClass, begins, first_is, is_like, run_len};
 use wt_span::{front_of, rest_of};
 use wt_tree::TagName;
 
@@ -169,8 +169,8 @@ pub fn name_len(glyphs: &[Glyph]) -> usize
     ensures value { result ≡ name_len glyphs.now }
     ensures within { result ≤ length glyphs.now }
 {
-    if first_is(Class::Letter, glyphs) {
-        run_len(Class::Name, glyphs)
+    if first_is(GlyphClass::Letter, glyphs) {
+        run_len(GlyphClass::Name, glyphs)
     } else {
         0
     }
@@ -181,8 +181,8 @@ fn is_inside(glyphs: &[Glyph]) -> bool
     ensures { result ≡ is_inside glyphs.now }
 {
     glyphs.len() == 0
-        || (first_is(Class::Blank, glyphs)
-            || (glyphs.len() == 1 && first_is(Class::Only(b'/'), glyphs)))
+        || (first_is(GlyphClass::Blank, glyphs)
+            || (glyphs.len() == 1 && first_is(GlyphClass::Only(b'/'), glyphs)))
 }
 
 /// Whether a tag with this inside closes itself.
@@ -190,7 +190,7 @@ fn shape_of(inside: &[Glyph]) -> TagShape
     ensures { result ≡ shape_of inside.now }
 {
     let before_last = inside.len().saturating_sub(1);
-    if first_is(Class::Only(b'/'), rest_of(inside, before_last)) {
+    if first_is(GlyphClass::Only(b'/'), rest_of(inside, before_last)) {
         TagShape::Alone
     } else {
         TagShape::Opening
@@ -203,9 +203,9 @@ fn tag_after(name: &[Glyph], rest: &[Glyph]) -> Option<Tag>
     requires { length name.now + length rest.now < 2 ^ 63 }
     ensures { result ≡ tag_after name.now rest.now }
 {
-    let len = run_len(Class::Tag, rest);
+    let len = run_len(GlyphClass::Tag, rest);
     let inside = front_of(rest, len);
-    if !(first_is(Class::Only(b'>'), rest_of(rest, len)) && is_inside(inside)) {
+    if !(first_is(GlyphClass::Only(b'>'), rest_of(rest, len)) && is_inside(inside)) {
         return None;
     }
     let known = name_of(name)?;
@@ -221,7 +221,7 @@ fn tag_after(name: &[Glyph], rest: &[Glyph]) -> Option<Tag>
 pub fn opening_tag(glyphs: &[Glyph]) -> Option<Tag>
     ensures { result ≡ opening_tag glyphs.now }
 {
-    if !first_is(Class::Only(b'<'), glyphs) {
+    if !first_is(GlyphClass::Only(b'<'), glyphs) {
         return None;
     }
     let rest = rest_of(glyphs, 1);
@@ -242,8 +242,8 @@ pub fn closing_tag(glyphs: &[Glyph]) -> Option<Tag>
     }
     let rest = rest_of(glyphs, 2);
     let n = name_len(rest);
-    let k = run_len(Class::Blank, rest_of(glyphs, 2 + n));
-    if !(n > 0 && first_is(Class::Only(b'>'), rest_of(glyphs, 2 + n + k))) {
+    let k = run_len(GlyphClass::Blank, rest_of(glyphs, 2 + n));
+    if !(n > 0 && first_is(GlyphClass::Only(b'>'), rest_of(glyphs, 2 + n + k))) {
         return None;
     }
     let known = name_of(front_of(rest, n))?;

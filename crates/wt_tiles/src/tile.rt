@@ -17,7 +17,7 @@ use crate::read::shapes;
 use crate::shape::{Shape, TileKind};
 use std::alloc::Global;
 use wt_lines::{Line, chars_piece, is_chars, item_count};
-use wt_span::{Form, List, NoMemory, Piece};
+use wt_span::{ItemForm, List, NoMemory, Piece};
 
 /// A part of a context: a form, or the characters between two. Its parts are told in items: a byte
 /// of a character is an item, and so is any other form.
@@ -36,13 +36,15 @@ pub struct Tile<'a> {
     pub trail: usize,
 }
 
-fn glyph_of_form(form: Form) -> Glyph
+fn glyph_of_form(form: ItemForm) -> Glyph
     ensures { result ≡ glyph_of_form form }
 {
     match form {
-        Form::Entity(character) => Glyph::Entity(character),
-        Form::Chars | Form::Nowiki | Form::Extension | Form::Function => Glyph::Atom,
-        Form::Comment | Form::Include | Form::Hidden | Form::EmptyCall => Glyph::Mark,
+        ItemForm::Entity(character) => Glyph::Entity(character),
+        ItemForm::Chars | ItemForm::Nowiki | ItemForm::Extension | ItemForm::Function =>
+            Glyph::Atom,
+        ItemForm::Comment | ItemForm::Include | ItemForm::Hidden | ItemForm::EmptyCall =>
+            Glyph::Mark,
     }
 }
 

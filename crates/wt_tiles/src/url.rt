@@ -5,7 +5,7 @@ ghost use Rattle.std.specs.List.{list_any, prefix_len};
 ghost use Rattle.wt_tiles.specs.Glyphs.{is_in};
 ghost use Rattle.wt_tiles.specs.Urls.{scheme_len, is_url_char, is_url_glyph, url_run, url_items, text_len, ext_shape, ext_link_after, ext_link_of, ext_link_at, is_word, is_dropped, has_paren, kept_len, bare_shape, bare_url_of, bare_url_at};
 
-use crate::glyph::{Class, Glyph, begins, begins_like, first_is, run_len};
+use crate::glyph::{Glyph, GlyphClass, begins, begins_like, first_is, run_len};
 use crate::link::Search;
 use crate::shape::{Shape, TileKind};
 use wt_span::{front_of, rest_of};
@@ -78,7 +78,7 @@ fn ext_link_after(n: usize, glyphs: &[Glyph]) -> Option<Shape>
     requires { n ≤ length glyphs.now }
     ensures { result ≡ ext_link_after n glyphs.now }
 {
-    let opening = n + run_len(Class::Blank, rest_of(glyphs, n));
+    let opening = n + run_len(GlyphClass::Blank, rest_of(glyphs, n));
     let inside = Search::Text.place(rest_of(glyphs, opening))?;
     Some(Shape {
         kind: TileKind::ExtLink,
@@ -94,7 +94,7 @@ fn ext_link_after(n: usize, glyphs: &[Glyph]) -> Option<Shape>
 pub fn ext_link_at(glyphs: &[Glyph]) -> Option<Shape>
     ensures { result ≡ ext_link_at glyphs.now }
 {
-    if !first_is(Class::Only(b'['), glyphs) {
+    if !first_is(GlyphClass::Only(b'['), glyphs) {
         return None;
     }
     let rest = rest_of(glyphs, 1);
@@ -132,7 +132,7 @@ fn drops(paren: bool, glyph: Glyph) -> bool
 fn has_paren(items: &[Glyph]) -> bool
     ensures { result ≡ has_paren items.now }
 {
-    items.iter().any(|glyph| Class::Only(b'(').has(*glyph))
+    items.iter().any(|glyph| GlyphClass::Only(b'(').has(*glyph))
 }
 
 /// How many of a URL's items are left when those that don't end it are dropped.

@@ -1,8 +1,8 @@
 -- Pieces behind their first items.
 use Rattle.std.proofs.Common.{◌≡◌, ℕ, ◌+◌, ◌-◌, ◌<◌, ◌≤◌, Bool, true, false, List, ◌++◌, length, get_or, drop, map, refl, sym, ap, ◌∙◌, arith}
 use Rattle.std.proofs.lemmas.List.{drop_all}
-use Rattle.wt_span.specs.declared.form.Form.{Form}
-use Rattle.wt_span.specs.declared.form.Form.TheVariants as form
+use Rattle.wt_span.specs.declared.form.ItemForm.{ItemForm}
+use Rattle.wt_span.specs.declared.form.ItemForm.TheVariants as form
 use Rattle.wt_span.specs.declared.form.Piece.{Piece}
 use Rattle.wt_span.specs.Slice.{bytes_of}
 use Rattle.wt_span.specs.Items.{Item, char, call_of_origin, items_by, items_of, items}
@@ -17,7 +17,7 @@ use Rattle.wt_transclusion.proofs.TrimmedPieces.{chars_are, items_split}
 pub other_count : (p : Piece) → is_chars p.form ≡ false → length (items_of p) ≡ 1
 other_count p e = by_form p.form (call_of_origin p.origin) (bytes_of p.text) e
   where
-    by_form : (f : Form) (o : _) (bs : List ℕ) → is_chars f ≡ false → length (items_by f o bs) ≡ 1
+    by_form : (f : ItemForm) (o : _) (bs : List ℕ) → is_chars f ≡ false → length (items_by f o bs) ≡ 1
     by_form form.Chars o bs e = cc
     by_form (form.Entity c) o bs e = refl
     by_form form.Nowiki o bs e = refl

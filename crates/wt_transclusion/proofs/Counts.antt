@@ -2,8 +2,8 @@
 use Rattle.std.proofs.Common.{◌≡◌, ℕ, ◌+◌, ◌<◌, Option, List, [], ◌∷◌, ◌++◌, length, get_or, take, map, refl, sym, ap, ◌∙◌, arith, append-nil, length-append}
 use Rattle.std.specs.Prelude.{min}
 use Rattle.std.proofs.lemmas.List.Concat.{flat_map-append}
-use Rattle.wt_span.specs.declared.form.Form.{Form}
-use Rattle.wt_span.specs.declared.form.Form.TheVariants as form
+use Rattle.wt_span.specs.declared.form.ItemForm.{ItemForm}
+use Rattle.wt_span.specs.declared.form.ItemForm.TheVariants as form
 use Rattle.wt_span.specs.declared.form.Piece.{Piece}
 use Rattle.wt_span.specs.Slice.{bytes_of}
 use Rattle.wt_span.specs.Items.{char, source, sources, call_of_origin, items_by, items_of, items}
@@ -13,7 +13,7 @@ chars_source : (o : Option ℕ) (bs : List ℕ) → sources (map (char o) bs) �
 chars_source o [] = refl
 chars_source o (b ∷ bs) = ap (λ cs. b ∷ cs) (chars_source o bs)
 
-form_source : (f : Form) (o : Option ℕ) (bs : List ℕ) → sources (items_by f o bs) ≡ bs
+form_source : (f : ItemForm) (o : Option ℕ) (bs : List ℕ) → sources (items_by f o bs) ≡ bs
 form_source form.Chars o bs = chars_source o bs
 form_source (form.Entity c) o bs = append-nil bs
 form_source form.Nowiki o bs = append-nil bs

@@ -5,8 +5,8 @@ use Rattle.std.specs.List.{prefix_len}
 use Rattle.std.proofs.lemmas.List.{length-map, drop_more, drop_all, take_more, reverse-append, reverse-reverse, length-reverse}
 use Rattle.std.proofs.lemmas.List.Concat.{flat_map-append}
 use Rattle.std.proofs.lemmas.List.Sums.{prefix_len-le-length}
-use Rattle.wt_span.specs.declared.form.Form.{Form}
-use Rattle.wt_span.specs.declared.form.Form.TheVariants as form
+use Rattle.wt_span.specs.declared.form.ItemForm.{ItemForm}
+use Rattle.wt_span.specs.declared.form.ItemForm.TheVariants as form
 use Rattle.wt_span.specs.declared.form.Piece.{Piece}
 use Rattle.wt_span.specs.Slice.{bytes_of}
 use Rattle.wt_span.specs.Items.{Item, char, is_char_in, call_of_origin, items_by, items_of, items}
@@ -79,7 +79,7 @@ back_chars o bs =
 pub chars_are : (p : Piece) → is_chars p.form ≡ true → items_of p ≡ map (char (call_of_origin p.origin)) (bytes_of p.text)
 chars_are p e = by_form p.form e
   where
-    by_form : (f : Form) → is_chars f ≡ true → items_by f (call_of_origin p.origin) (bytes_of p.text) ≡ map (char (call_of_origin p.origin)) (bytes_of p.text)
+    by_form : (f : ItemForm) → is_chars f ≡ true → items_by f (call_of_origin p.origin) (bytes_of p.text) ≡ map (char (call_of_origin p.origin)) (bytes_of p.text)
     by_form form.Chars e = refl
     by_form (form.Entity c) e = cc
     by_form form.Nowiki e = cc
@@ -99,7 +99,7 @@ pub record Stays (p : Piece) : Type 0 where
 pub other_stays : (p : Piece) → is_chars p.form ≡ false → Stays p
 other_stays p e = let s = by_form p.form (call_of_origin p.origin) (bytes_of p.text) e in record { front = s.0; back = s.1; some = s.2 }
   where
-    by_form : (f : Form) (o : Option ℕ) (bs : List ℕ) → is_chars f ≡ false
+    by_form : (f : ItemForm) (o : Option ℕ) (bs : List ℕ) → is_chars f ≡ false
         → (without_front (is_char_in is_space) (items_by f o bs) ≡ items_by f o bs) ×
         (without_back (is_char_in is_space) (items_by f o bs) ≡ items_by f o bs) × (0 < length (items_by f o bs))
     by_form form.Chars o bs e = cc

@@ -1,7 +1,7 @@
 -- Both ends of texts and items, as the code goes over them.
 use Rattle.std.specs.Prelude.{◌≡◌, ◌<◌, Bool, true, false, Option, Some, None, List, [], length, reverse}
-use Rattle.wt_span.specs.declared.form.Form.{Form}
-use Rattle.wt_span.specs.declared.form.Form.TheVariants as form
+use Rattle.wt_span.specs.declared.form.ItemForm.{ItemForm}
+use Rattle.wt_span.specs.declared.form.ItemForm.TheVariants as form
 use Rattle.wt_span.specs.declared.form.Piece.{Piece}
 use Rattle.wt_span.specs.Items.{Item, items_of}
 use Rattle.wt_expand.specs.Texts.{without_front}
@@ -10,7 +10,7 @@ use Rattle.wt_expand.specs.Texts.{without_front}
 abbrev pub without_back : {A : Type 0} → (A → Bool) → List A → List A
 without_back p xs = reverse (without_front p (reverse xs))
 
-abbrev pub is_chars : Form → Bool
+abbrev pub is_chars : ItemForm → Bool
 is_chars form.Chars = true
 is_chars (form.Entity c) = false
 is_chars form.Nowiki = false

@@ -6,7 +6,7 @@ ghost use Rattle.wt_expand.specs.Expansion.{chars, with_break};
 use crate::item::piece_of;
 use crate::line_start::opens_block;
 use std::alloc::Global;
-use wt_span::{Form, List, NoMemory, Piece, Text};
+use wt_span::{ItemForm, List, NoMemory, Piece, Text};
 
 /// A copy of a value.
 pub fn copied<'a>(alloc: Global, pieces: &[Piece<'a>]) -> Result<List<Piece<'a>>, NoMemory>
@@ -21,7 +21,7 @@ pub fn copied<'a>(alloc: Global, pieces: &[Piece<'a>]) -> Result<List<Piece<'a>>
 fn line_break() -> Piece<'static>
     ensures { items_of result ≡ char None 10 ∷ [] }
 {
-    piece_of(Text::new("\n", 0), Form::Chars)
+    piece_of(Text::new("\n", 0), ItemForm::Chars)
 }
 
 /// Pieces behind a line break.
@@ -54,7 +54,7 @@ fn braces(text: &'static str) -> Piece<'static>
     requires { length text.now < 4 }
     ensures { items_of result ≡ chars text.now }
 {
-    piece_of(Text::new(text, 0), Form::Chars)
+    piece_of(Text::new(text, 0), ItemForm::Chars)
 }
 
 /// An argument without a value and without a default: its own spelling, with its name as it was

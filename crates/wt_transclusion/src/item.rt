@@ -6,7 +6,7 @@ ghost use Rattle.wt_expand.specs.Expansion.{is_removed, lexeme_items};
 ghost use Rattle.wt_transclusion.specs.Given.{option_items};
 
 use wt_expand::form_of;
-use wt_span::{Form, LexKind, Mode, Origin, Piece, Text};
+use wt_span::{ItemForm, LexKind, Mode, Origin, Piece, Text};
 
 /// Whether a lexeme is removed: include tags and hidden parts of a template.
 fn is_removed(mode: Mode, kind: LexKind) -> bool
@@ -32,7 +32,7 @@ fn is_removed(mode: Mode, kind: LexKind) -> bool
 }
 
 /// A piece of this form, from the text itself.
-pub fn piece_of<'a>(text: Text<'a>, form: Form) -> Piece<'a>
+pub fn piece_of<'a>(text: Text<'a>, form: ItemForm) -> Piece<'a>
     ensures items { items_of result ≡ items_by form None (bytes_of text.entry) }
     ensures text { bytes_of result.text ≡ bytes_of text.entry }
 {

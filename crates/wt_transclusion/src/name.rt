@@ -5,15 +5,19 @@ ghost use Rattle.wt_expand.specs.Texts.{shown_text, name_text};
 
 use crate::blanks::trimmed;
 use std::alloc::Global;
-use wt_span::{Form, NoMemory, Piece};
+use wt_span::{ItemForm, NoMemory, Piece};
 
 /// Whether a form is an invisible mark.
-fn is_mark(form: Form) -> bool
+fn is_mark(form: ItemForm) -> bool
     ensures { result ≡ is_mark_form form }
 {
     match form {
-        Form::Chars | Form::Entity(_) | Form::Nowiki | Form::Extension | Form::Function => false,
-        Form::Comment | Form::Include | Form::Hidden | Form::EmptyCall => true,
+        ItemForm::Chars
+        | ItemForm::Entity(_)
+        | ItemForm::Nowiki
+        | ItemForm::Extension
+        | ItemForm::Function => false,
+        ItemForm::Comment | ItemForm::Include | ItemForm::Hidden | ItemForm::EmptyCall => true,
     }
 }
 

@@ -13,7 +13,7 @@ use crate::blanks::{behind, front_len, trimmed};
 use std::alloc::Global;
 use wt_functions::function_in;
 use wt_names::{Ns, Title, read_title};
-use wt_span::{Form, Function, NoMemory, Piece, Str, rest_of};
+use wt_span::{Function, ItemForm, NoMemory, Piece, Str, rest_of};
 
 /// Appends what a piece says in a target: characters, an entity's character, nothing for marks. It
 /// answers false where the piece can't stand in one.
@@ -21,17 +21,17 @@ fn push_target(text: &mut Str, piece: &Piece<'_>) -> Result<bool, NoMemory>
     ensures { IfOk result (λ said. PushesTarget piece.now text.old text.new said) }
 {
     match piece.form {
-        Form::Chars => {
+        ItemForm::Chars => {
             text.push_str(piece.text.as_str())?;
             Ok(true)
         }
-        Form::Entity(character) => {
+        ItemForm::Entity(character) => {
             let mut buffer = [0; 4];
             text.push_str(character.encode_utf8(&mut buffer))?;
             Ok(true)
         }
-        Form::Comment | Form::Include | Form::Hidden | Form::EmptyCall => Ok(true),
-        Form::Nowiki | Form::Extension | Form::Function => Ok(false),
+        ItemForm::Comment | ItemForm::Include | ItemForm::Hidden | ItemForm::EmptyCall => Ok(true),
+        ItemForm::Nowiki | ItemForm::Extension | ItemForm::Function => Ok(false),
     }
 }
 

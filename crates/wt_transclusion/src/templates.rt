@@ -18,7 +18,7 @@ use bumpalo::Bump;
 use std::alloc::Global;
 use wt_devices::Folder;
 use wt_names::{Title, full_name};
-use wt_span::{Form, List, NoMemory, Piece, Str, Text};
+use wt_span::{ItemForm, List, NoMemory, Piece, Str, Text};
 
 /// What is taken for a title.
 #[derive(Drop)]
@@ -44,7 +44,7 @@ fn message<'a>(
         return Err(NoMemory);
     }
     let mut pieces = List::new(alloc);
-    pieces.push(piece_of(Text::new(kept, 0), Form::Chars))?;
+    pieces.push(piece_of(Text::new(kept, 0), ItemForm::Chars))?;
     Ok(pieces)
 }
 

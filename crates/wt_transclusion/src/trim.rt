@@ -6,22 +6,22 @@ ghost use Rattle.wt_transclusion.specs.Ends.{without_back, is_chars, IsLeft};
 
 use crate::blanks::{back_end, front_len};
 use std::alloc::Global;
-use wt_span::{Form, List, NoMemory, Piece, front_of, rest_of};
+use wt_span::{ItemForm, List, NoMemory, Piece, front_of, rest_of};
 
 /// Whether a piece is characters.
-pub fn is_chars(form: Form) -> bool
+pub fn is_chars(form: ItemForm) -> bool
     ensures { result ≡ is_chars form }
 {
     match form {
-        Form::Chars => true,
-        Form::Entity(_)
-        | Form::Nowiki
-        | Form::Extension
-        | Form::Function
-        | Form::Comment
-        | Form::Include
-        | Form::Hidden
-        | Form::EmptyCall => false,
+        ItemForm::Chars => true,
+        ItemForm::Entity(_)
+        | ItemForm::Nowiki
+        | ItemForm::Extension
+        | ItemForm::Function
+        | ItemForm::Comment
+        | ItemForm::Include
+        | ItemForm::Hidden
+        | ItemForm::EmptyCall => false,
     }
 }
 

@@ -11,7 +11,7 @@ use Rattle.wt_tree.specs.declared.kind.Showing.TheVariants.{Element}
 use Rattle.wt_tree.specs.Kinds.{showing}
 use Rattle.wt_tree.specs.Plain.{Face, face, plain}
 use Rattle.wt_tree.specs.Shown.{bracket_of, brackets_of, Adds, IsShownOf}
-use Rattle.wt_tree.specs.Stream.{opens, closes, Sign, byte, bracket, signs_by, signs, signs_of_all, bytes_in, brackets_in}
+use Rattle.wt_tree.specs.Stream.{opens, closes, StreamToken, byte, bracket, signs_by, signs, signs_of_all, bytes_in, brackets_in}
 use Rattle.wt_tree.specs.Tree.{Tree}
 use Rattle.wt_tree.specs.View.{label_of, attrs_of, view, views}
 use Rattle.wt_tree.specs.declared.node.Attr.{Attr}
@@ -22,7 +22,7 @@ use Rattle.wt_tree.proofs.Views.{view_out}
 pub adds_none : (a : Shown) → Adds a a []
 adds_none a = record { text = sym (append-nil a.text.items); brackets = sym (append-nil (brackets_of a.brackets.items)) }
 
-pub adds_more : (a b c : Shown) (s t : List Sign) → Adds a b s → Adds b c t → Adds a c (s ++ t)
+pub adds_more : (a b c : Shown) (s t : List StreamToken) → Adds a b s → Adds b c t → Adds a c (s ++ t)
 adds_more a b c s t h k = record {
   text = k.text ∙ ap (λ xs. xs ++ bytes_in t) h.text ∙ append_assoc a.text.items (bytes_in s) (bytes_in t)
       ∙ ap (λ xs. a.text.items ++ xs) (sym (bytes_join s t));
@@ -65,7 +65,7 @@ pub adds_turn : (a b c : Shown) (xs : List Node) (i : ℕ) (x : Node) → i < le
     → Adds a b (flat_map (λ n. signs (view n)) (take i xs)) → Adds b c (signs (view x))
     → Adds a c (flat_map (λ n. signs (view n)) (take (i + 1) xs))
 adds_turn a b c xs i x lt is h k =
-    let f : Node → List Sign = λ n. signs (view n) in
+    let f : Node → List StreamToken = λ n. signs (view n) in
     let e : flat_map f (take (i + 1) xs) ≡ flat_map f (take i xs) ++ signs (view x) =
     ap (flat_map f) (take_more xs i x lt ∙ ap (λ y. take i xs ++ y ∷ []) (sym is)) ∙ flat_map-append f (take i xs) (x ∷ [])
     ∙ ap (λ s. flat_map f (take i xs) ++ s) (append-nil (signs (view x))) in

@@ -6,15 +6,15 @@ use Rattle.wt_tree.specs.declared.kind.Showing.TheVariants.{Characters, Inside, 
 use Rattle.wt_tree.specs.Kinds.{showing}
 use Rattle.wt_tree.specs.Tree.{Label, Tree, tree, Trees, none, more}
 use Rattle.wt_tree.specs.Plain.{Face, face, Plain, text, element, Plains, ended, along, text_before, shown_before, plain, plain_before, plains_before}
-use Rattle.wt_tree.specs.Stream.{Bracket, opens, closes, Sign, byte, bracket, signs_by, signs, signs_of_all, bytes_in, brackets_in}
+use Rattle.wt_tree.specs.Stream.{Bracket, opens, closes, StreamToken, byte, bracket, signs_by, signs, signs_of_all, bytes_in, brackets_in}
 
 -- characters and brackets of joined streams
-pub bytes_join : (s t : List Sign) → bytes_in (s ++ t) ≡ bytes_in s ++ bytes_in t
+pub bytes_join : (s t : List StreamToken) → bytes_in (s ++ t) ≡ bytes_in s ++ bytes_in t
 bytes_join [] t = refl
 bytes_join (byte b ∷ s) t = ap (λ xs. b ∷ xs) (bytes_join s t)
 bytes_join (bracket k ∷ s) t = bytes_join s t
 
-pub brackets_join : (n : ℕ) (s t : List Sign) → brackets_in n (s ++ t) ≡ brackets_in n s ++ brackets_in (n + length (bytes_in s)) t
+pub brackets_join : (n : ℕ) (s t : List StreamToken) → brackets_in n (s ++ t) ≡ brackets_in n s ++ brackets_in (n + length (bytes_in s)) t
 brackets_join n [] t = let e : n + 0 ≡ n = omega arith in ap (λ m. brackets_in m t) (sym e)
 brackets_join n (byte b ∷ s) t =
     let e : (n + 1) + length (bytes_in s) ≡ n + suc (length (bytes_in s)) = omega arith in
@@ -34,13 +34,13 @@ abbrev HeadFrom : ℕ → List (ℕ × Bracket) → Type 0
 HeadFrom n [] = Unit {0}
 HeadFrom n (p ∷ ps) = n ≤ p.0
 
-places_from : (n m : ℕ) (s : List Sign) → n ≤ m → HeadFrom n (brackets_in m s)
+places_from : (n m : ℕ) (s : List StreamToken) → n ≤ m → HeadFrom n (brackets_in m s)
 places_from n m [] h = tt
 places_from n m (byte b ∷ s) h = places_from n (m + 1) s (omega arith)
 places_from n m (bracket k ∷ s) h = h
 
 -- brackets that come after a character don't stand at its place
-apart : (n : ℕ) (s t : List Sign) (k : Bracket) → brackets_in (n + 1) s ≡ (n, k) ∷ brackets_in n t → ⊥
+apart : (n : ℕ) (s t : List StreamToken) (k : Bracket) → brackets_in (n + 1) s ≡ (n, k) ∷ brackets_in n t → ⊥
 apart n s t k e =
     let P : List (ℕ × Bracket) → Type 0 = HeadFrom (n + 1) in
     let h : n + 1 ≤ n = subst P e (places_from (n + 1) (n + 1) s (omega arith)) in
@@ -52,7 +52,7 @@ head_byte b c xs ys e = (cc, cc)
 head_bracket : (p q : ℕ × Bracket) (xs ys : List (ℕ × Bracket)) → p ∷ xs ≡ q ∷ ys → (p ≡ q) × (xs ≡ ys)
 head_bracket p q xs ys e = (cc, cc)
 
-pub one_stream : (n : ℕ) (s t : List Sign) → bytes_in s ≡ bytes_in t → brackets_in n s ≡ brackets_in n t → s ≡ t
+pub one_stream : (n : ℕ) (s t : List StreamToken) → bytes_in s ≡ bytes_in t → brackets_in n s ≡ brackets_in n t → s ≡ t
 one_stream n [] [] e f = refl
 one_stream n [] (byte b ∷ t) e f = cc
 one_stream n [] (bracket k ∷ t) e f = cc
@@ -72,11 +72,11 @@ one_stream n (bracket j ∷ s) (bracket k ∷ t) e f =
 
 -- the signs of a plain view
 abbrev mutual
-  pub plain_signs : Plains → List Sign
+  pub plain_signs : Plains → List StreamToken
   plain_signs ended = []
   plain_signs (along p ps) = signs_of_plain p ++ plain_signs ps
 
-  pub signs_of_plain : Plain → List Sign
+  pub signs_of_plain : Plain → List StreamToken
   signs_of_plain (text bs) = map byte bs
   signs_of_plain (element f qs) = bracket (opens f) ∷ (plain_signs qs ++ (bracket closes ∷ []))
 
@@ -84,11 +84,11 @@ text_signs : (bs : List ℕ) (ps : Plains) → plain_signs (text_before bs ps) �
 text_signs [] ps = refl
 text_signs (b ∷ bs) ended = refl
 text_signs (b ∷ bs) (along (text cs) ps) =
-    ap (λ (ss : List Sign). byte b ∷ (ss ++ plain_signs ps)) (map-append byte bs cs)
-    ∙ ap (λ (ss : List Sign). byte b ∷ ss) (append_assoc (map byte bs) (map byte cs) (plain_signs ps))
+    ap (λ (ss : List StreamToken). byte b ∷ (ss ++ plain_signs ps)) (map-append byte bs cs)
+    ∙ ap (λ (ss : List StreamToken). byte b ∷ ss) (append_assoc (map byte bs) (map byte cs) (plain_signs ps))
 text_signs (b ∷ bs) (along (element f qs) ps) = refl
 
-signs_before_by : (s : Showing) (l : Label) (held : Plains → Plains) (inner : List Sign) (rest : Plains)
+signs_before_by : (s : Showing) (l : Label) (held : Plains → Plains) (inner : List StreamToken) (rest : Plains)
     → ((ps : Plains) → plain_signs (held ps) ≡ inner ++ plain_signs ps)
     → plain_signs (shown_before s l held rest) ≡ signs_by s l inner ++ plain_signs rest
 signs_before_by Characters l held inner rest h = text_signs l.shown rest
@@ -96,7 +96,7 @@ signs_before_by Inside l held inner rest h = h rest
 signs_before_by Nothing l held inner rest h = refl
 signs_before_by Element l held inner rest h =
     let e : plain_signs (held ended) ≡ inner = h ended ∙ append-nil inner in
-    ap (λ (is : List Sign). (bracket (opens (face l)) ∷ (is ++ (bracket closes ∷ []))) ++ plain_signs rest) e
+    ap (λ (is : List StreamToken). (bracket (opens (face l)) ∷ (is ++ (bracket closes ∷ []))) ++ plain_signs rest) e
 
 mutual
   pub signs_before : (t : Tree) (rest : Plains) → plain_signs (plain_before t rest) ≡ signs t ++ plain_signs rest
@@ -145,60 +145,60 @@ mutual
   all_normal_before (more t ts) rest n = normal_before t (plains_before ts rest) (all_normal_before ts rest n)
 
 -- a stream that goes on after a plain view: not by a character, and not by an opening
-abbrev Stops : List Sign → Type 0
+abbrev Stops : List StreamToken → Type 0
 Stops [] = Unit {0}
 Stops (byte b ∷ s) = ⊥
 Stops (bracket (opens f) ∷ s) = ⊥
 Stops (bracket closes ∷ s) = Unit {0}
 
-abbrev NoByte : List Sign → Type 0
+abbrev NoByte : List StreamToken → Type 0
 NoByte [] = Unit {0}
 NoByte (byte b ∷ s) = ⊥
 NoByte (bracket k ∷ s) = Unit {0}
 
-no_byte : (ps : Plains) (s : List Sign) → begins_text ps ≡ false → Stops s → NoByte (plain_signs ps ++ s)
+no_byte : (ps : Plains) (s : List StreamToken) → begins_text ps ≡ false → Stops s → NoByte (plain_signs ps ++ s)
 no_byte ended [] b h = tt
 no_byte ended (byte c ∷ s) b h = absurd h
 no_byte ended (bracket k ∷ s) b h = tt
 no_byte (along (text bs) ps) s b h = absurd (let e : true ≡ false = b in cc)
 no_byte (along (element f qs) ps) s b h = tt
 
-one_text : (bs cs : List ℕ) (s t : List Sign) → NoByte s → NoByte t → map byte bs ++ s ≡ map byte cs ++ t → (bs ≡ cs) × (s ≡ t)
+one_text : (bs cs : List ℕ) (s t : List StreamToken) → NoByte s → NoByte t → map byte bs ++ s ≡ map byte cs ++ t → (bs ≡ cs) × (s ≡ t)
 one_text [] [] s t m n e = (refl, e)
-one_text [] (c ∷ cs) s t m n e = absurd (let P : List Sign → Type 0 = NoByte in subst P e m)
-one_text (b ∷ bs) [] s t m n e = absurd (let P : List Sign → Type 0 = NoByte in subst P (sym e) n)
+one_text [] (c ∷ cs) s t m n e = absurd (let P : List StreamToken → Type 0 = NoByte in subst P e m)
+one_text (b ∷ bs) [] s t m n e = absurd (let P : List StreamToken → Type 0 = NoByte in subst P (sym e) n)
 one_text (b ∷ bs) (c ∷ cs) s t m n e =
     let x : b ≡ c = cc in
     let y : map byte bs ++ s ≡ map byte cs ++ t = cc in
     let r = one_text bs cs s t m n y in
     (cc (x, r.0), r.1)
 
-regroup : (f g : Face) (rs ws ps qs s t : List Sign) → ((bracket (opens f) ∷ (rs ++ (bracket closes ∷ []))) ++ ps) ++ s
+regroup : (f g : Face) (rs ws ps qs s t : List StreamToken) → ((bracket (opens f) ∷ (rs ++ (bracket closes ∷ []))) ++ ps) ++ s
     ≡ ((bracket (opens g) ∷ (ws ++ (bracket closes ∷ []))) ++ qs) ++ t
     → (f ≡ g) × (rs ++ (bracket closes ∷ (ps ++ s)) ≡ ws ++ (bracket closes ∷ (qs ++ t)))
 regroup f g rs ws ps qs s t e =
-    let one : (x : Face) (xs ys zs : List Sign) → ((bracket (opens x) ∷ (xs ++ (bracket closes ∷ []))) ++ ys) ++ zs
+    let one : (x : Face) (xs ys zs : List StreamToken) → ((bracket (opens x) ∷ (xs ++ (bracket closes ∷ []))) ++ ys) ++ zs
     ≡ bracket (opens x) ∷ (xs ++ (bracket closes ∷ (ys ++ zs))) =
     λ x xs ys zs. simp append_assoc in
     let h : bracket (opens f) ∷ (rs ++ (bracket closes ∷ (ps ++ s))) ≡ bracket (opens g) ∷ (ws ++ (bracket closes ∷ (qs ++ t))) =
     sym (one f rs ps s) ∙ e ∙ one g ws qs t in
     (cc h, cc h)
 
-after_close : (s t : List Sign) → bracket closes ∷ s ≡ bracket closes ∷ t → s ≡ t
+after_close : (s t : List StreamToken) → bracket closes ∷ s ≡ bracket closes ∷ t → s ≡ t
 after_close s t e = cc
 
-stops_close : (s : List Sign) → Stops (bracket closes ∷ s)
+stops_close : (s : List StreamToken) → Stops (bracket closes ∷ s)
 stops_close s = tt
 
 -- a normal list is determined by its signs, whatever follows that ends it
-one_plain : (ps qs : Plains) (s t : List Sign) → Normal ps → Normal qs → Stops s → Stops t → plain_signs ps ++ s ≡ plain_signs qs ++ t → (ps ≡ qs) × (s ≡ t)
+one_plain : (ps qs : Plains) (s t : List StreamToken) → Normal ps → Normal qs → Stops s → Stops t → plain_signs ps ++ s ≡ plain_signs qs ++ t → (ps ≡ qs) × (s ≡ t)
 one_plain ended ended s t m n p q e = (refl, e)
 one_plain ended (along (text []) qs) s t m n p q e = absurd (omega (arith, n.0.0))
-one_plain ended (along (text (b ∷ bs)) qs) s t m n p q e = absurd (let P : List Sign → Type 0 = Stops in subst P e p)
-one_plain ended (along (element f rs) qs) s t m n p q e = absurd (let P : List Sign → Type 0 = Stops in subst P e p)
+one_plain ended (along (text (b ∷ bs)) qs) s t m n p q e = absurd (let P : List StreamToken → Type 0 = Stops in subst P e p)
+one_plain ended (along (element f rs) qs) s t m n p q e = absurd (let P : List StreamToken → Type 0 = Stops in subst P e p)
 one_plain (along (text []) ps) ended s t m n p q e = absurd (omega (arith, m.0.0))
-one_plain (along (text (b ∷ bs)) ps) ended s t m n p q e = absurd (let P : List Sign → Type 0 = Stops in subst P (sym e) q)
-one_plain (along (element f rs) ps) ended s t m n p q e = absurd (let P : List Sign → Type 0 = Stops in subst P (sym e) q)
+one_plain (along (text (b ∷ bs)) ps) ended s t m n p q e = absurd (let P : List StreamToken → Type 0 = Stops in subst P (sym e) q)
+one_plain (along (element f rs) ps) ended s t m n p q e = absurd (let P : List StreamToken → Type 0 = Stops in subst P (sym e) q)
 one_plain (along (text bs) ps) (along (text cs) qs) s t m n p q e =
     let e1 : map byte bs ++ (plain_signs ps ++ s) ≡ map byte cs ++ (plain_signs qs ++ t) =
     sym (append_assoc (map byte bs) (plain_signs ps) s) ∙ e ∙ append_assoc (map byte cs) (plain_signs qs) t in
@@ -206,9 +206,9 @@ one_plain (along (text bs) ps) (along (text cs) qs) s t m n p q e =
     let k = one_plain ps qs s t m.1 n.1 p q r.1 in
     (cc (r.0, k.0), k.1)
 one_plain (along (text []) ps) (along (element g ws) qs) s t m n p q e = absurd (omega (arith, m.0.0))
-one_plain (along (text (b ∷ bs)) ps) (along (element g ws) qs) s t m n p q e = absurd (let P : List Sign → Type 0 = NoByte in subst P (sym e) tt)
+one_plain (along (text (b ∷ bs)) ps) (along (element g ws) qs) s t m n p q e = absurd (let P : List StreamToken → Type 0 = NoByte in subst P (sym e) tt)
 one_plain (along (element f rs) ps) (along (text []) qs) s t m n p q e = absurd (omega (arith, n.0.0))
-one_plain (along (element f rs) ps) (along (text (b ∷ bs)) qs) s t m n p q e = absurd (let P : List Sign → Type 0 = NoByte in subst P e tt)
+one_plain (along (element f rs) ps) (along (text (b ∷ bs)) qs) s t m n p q e = absurd (let P : List StreamToken → Type 0 = NoByte in subst P e tt)
 one_plain (along (element f rs) ps) (along (element g ws) qs) s t m n p q e =
     let e1 = regroup f g (plain_signs rs) (plain_signs ws) (plain_signs ps) (plain_signs qs) s t e in
     let r = one_plain rs ws (bracket closes ∷ (plain_signs ps ++ s)) (bracket closes ∷ (plain_signs qs ++ t)) m.0 n.0 tt tt e1.1 in

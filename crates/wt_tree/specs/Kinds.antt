@@ -11,8 +11,8 @@ use Rattle.wt_tree.specs.declared.row.Writing.{Writing}
 use Rattle.wt_tree.specs.declared.row.Writing.TheVariants.{AsText, AsVoid, RoundCharacter, RoundChildren, AsSection, Unwritten}
 use Rattle.wt_tree.specs.declared.kind.Showing.{Showing}
 use Rattle.wt_tree.specs.declared.kind.Showing.TheVariants.{Characters, Inside, Nothing, Element}
-use Rattle.wt_tree.specs.declared.row.Class.{Class}
-use Rattle.wt_tree.specs.declared.row.Class.TheVariants.{Nowhere, Anywhere, Mark, Block, List as ListClass, Item, Term, TablePart, TableRow, Cell, Inline, Character, Section}
+use Rattle.wt_tree.specs.declared.row.Placement.{Placement}
+use Rattle.wt_tree.specs.declared.row.Placement.TheVariants.{Nowhere, Anywhere, Mark, Block, List as ListClass, Item, Term, TablePart, TableRow, Cell, Inline, Character, Section}
 use Rattle.wt_tree.specs.declared.row.Holding.{Holding}
 use Rattle.wt_tree.specs.declared.row.Holding.TheVariants.{NoElements, Blocks, Inlines, Entities, Items, Terms, TableParts, TableRows, Cells, InlinesThenLists, InlinesThenBlocks}
 use Rattle.wt_tree.specs.declared.row.Texts.{Texts}
@@ -30,7 +30,7 @@ use Rattle.wt_tree.specs.declared.row.Spelling.{Spelling as Spelled}
 
 -- how it is written, whether it has a source of its own, whether it has a number, what the plain view
 -- makes of it, where it may stand, what it holds, what text directly in it is, and its `data-mw`
-abbrev pub row : Writing → Bool → Bool → Showing → Class → Holding → Texts → Payload → Shape
+abbrev pub row : Writing → Bool → Bool → Showing → Placement → Holding → Texts → Payload → Shape
 row w l n s c h t p = record { writing = w; is_leaf = l; is_numbered = n; showing = s; class = c; holding = h; texts = t; payload = p }
 
 abbrev pub shape : Kind → Shape
@@ -97,7 +97,7 @@ payload k = (shape k).payload
 
 -- ---- what may stand in which
 
-abbrev pub number_of_class : Class → ℕ
+abbrev pub number_of_class : Placement → ℕ
 number_of_class Nowhere = 0
 number_of_class Anywhere = 1
 number_of_class Block = 2
@@ -112,10 +112,10 @@ number_of_class Character = 10
 number_of_class Mark = 11
 number_of_class Section = 12
 
-abbrev pub is_class : Class → Class → Bool
+abbrev pub is_class : Placement → Placement → Bool
 is_class c d = number_of_class c == number_of_class d
 
-abbrev pub admits : Holding → Class → Bool
+abbrev pub admits : Holding → Placement → Bool
 admits NoElements c = false
 admits Blocks c = is_class c Block || (is_class c ListClass || is_class c Section)
 admits Inlines c = is_class c Inline || is_class c Character
@@ -129,7 +129,7 @@ admits InlinesThenLists c = is_class c Inline || (is_class c Character || is_cla
 admits InlinesThenBlocks c = is_class c Inline || (is_class c Character || (is_class c Block || is_class c ListClass))
 
 -- marks stand anywhere, too
-abbrev pub is_anywhere : Class → Bool
+abbrev pub is_anywhere : Placement → Bool
 is_anywhere c = is_class c Anywhere || is_class c Mark
 
 -- an element of this kind may stand directly in that one

@@ -5,7 +5,7 @@ use Rattle.wt_tree.specs.declared.compare.Bracket.{Bracket as Mark}
 use Rattle.wt_tree.specs.declared.compare.Bracket.TheVariants.{Open, Close}
 use Rattle.wt_tree.specs.declared.node.Node.{out-Node}
 use Rattle.wt_tree.specs.Plain.{face}
-use Rattle.wt_tree.specs.Stream.{Bracket, opens, closes, Sign, signs, bytes_in, brackets_in}
+use Rattle.wt_tree.specs.Stream.{Bracket, opens, closes, StreamToken, signs, bytes_in, brackets_in}
 use Rattle.wt_tree.specs.Tree.{Tree}
 use Rattle.wt_tree.specs.View.{label_of}
 
@@ -17,7 +17,7 @@ abbrev pub brackets_of : List Mark → List (ℕ × Bracket)
 brackets_of ms = map bracket_of ms
 
 -- these signs are added at the end
-pub record Adds (old new : Shown) (signs : List Sign) : Type 0 where
+pub record Adds (old new : Shown) (signs : List StreamToken) : Type 0 where
   pub text : new.text.items ≡ old.text.items ++ bytes_in signs
   pub brackets : brackets_of new.brackets.items ≡ brackets_of old.brackets.items ++ brackets_in (length old.text.items) signs
 

@@ -11,33 +11,33 @@ pub data Bracket : Type 0 where
   opens : Face → Bracket
   closes : Bracket
 
-pub data Sign : Type 0 where
-  byte : ℕ → Sign
-  bracket : Bracket → Sign
+pub data StreamToken : Type 0 where
+  byte : ℕ → StreamToken
+  bracket : Bracket → StreamToken
 
 -- a node by what its kind shows
-abbrev pub signs_by : Showing → Label → List Sign → List Sign
+abbrev pub signs_by : Showing → Label → List StreamToken → List StreamToken
 signs_by Characters l held = map byte l.shown
 signs_by Inside l held = held
 signs_by Nothing l held = []
 signs_by Element l held = bracket (opens (face l)) ∷ (held ++ (bracket closes ∷ []))
 
 abbrev mutual
-  pub signs : Tree → List Sign
+  pub signs : Tree → List StreamToken
   signs (tree l ts) = signs_by (showing l.kind) l (signs_of_all ts)
 
-  pub signs_of_all : Trees → List Sign
+  pub signs_of_all : Trees → List StreamToken
   signs_of_all none = []
   signs_of_all (more t ts) = signs t ++ signs_of_all ts
 
 -- the characters of a stream
-abbrev pub bytes_in : List Sign → List ℕ
+abbrev pub bytes_in : List StreamToken → List ℕ
 bytes_in [] = []
 bytes_in (byte b ∷ ss) = b ∷ bytes_in ss
 bytes_in (bracket k ∷ ss) = bytes_in ss
 
 -- its brackets, each with the number of characters before it; `n` stand before the stream
-abbrev pub brackets_in : ℕ → List Sign → List (ℕ × Bracket)
+abbrev pub brackets_in : ℕ → List StreamToken → List (ℕ × Bracket)
 brackets_in n [] = []
 brackets_in n (byte b ∷ ss) = brackets_in (n + 1) ss
 brackets_in n (bracket k ∷ ss) = (n, k) ∷ brackets_in n ss

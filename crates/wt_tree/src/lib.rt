@@ -26,7 +26,7 @@ pub use more::More;
 pub use node::{Attr, DataMw, Node, Part};
 pub use node_source::Source;
 pub use recut::recut_texts;
-pub use row::{Class, Fixed, Holding, Own, Payload, Shape, Spelling, Texts, Values, Writing};
+pub use row::{Fixed, Holding, Own, Payload, Placement, Shape, Spelling, Texts, Values, Writing};
 pub use shown::Shown;
 pub use slices::Slices;
 pub use source::flat;

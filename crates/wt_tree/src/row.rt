@@ -17,7 +17,7 @@ pub enum Writing {
 /// the body, and so are comments and include tags (`Mark`). `Nowhere` is what stands in no other element by
 /// a row of its own: the body, texts, separators and groups.
 #[derive(Clone, Copy, Debug)]
-pub enum Class {
+pub enum Placement {
     Nowhere,
     Anywhere,
     Mark,
@@ -76,7 +76,7 @@ pub struct Shape {
     pub is_leaf: bool,
     pub is_numbered: bool,
     pub showing: Showing,
-    pub class: Class,
+    pub class: Placement,
     pub holding: Holding,
     pub texts: Texts,
     pub payload: Payload,

@@ -34,25 +34,27 @@ ghost use Rattle.wt_tree.specs.Kinds.{
 
 use crate::kind::Showing::{Characters, Element, Inside, Nothing};
 use crate::kind::{AttrName, Kind, Showing, TagName};
-use crate::row::Class::{
-    Anywhere, Block, Cell, Character, Inline, Item, List, Mark, Nowhere, Section, TablePart,
-    TableRow, Term,
-};
 use crate::row::Holding::{
     Blocks, Cells, Entities, Inlines, InlinesThenBlocks, InlinesThenLists, Items, NoElements,
     TableParts, TableRows, Terms,
 };
 use crate::row::Payload::{ExtensionTag, GroupParts, NoData};
+use crate::row::Placement::{
+    Anywhere, Block, Cell, Character, Inline, Item, List, Mark, Nowhere, Section, TablePart,
+    TableRow, Term,
+};
 use crate::row::Texts::{Bordered, OwnCharacter, Page, Separators};
 use crate::row::Writing::{AsSection, AsText, AsVoid, RoundCharacter, RoundChildren, Unwritten};
-use crate::row::{Class, Fixed, Holding, Own, Payload, Shape, Spelling, Texts, Values, Writing};
+use crate::row::{
+    Fixed, Holding, Own, Payload, Placement, Shape, Spelling, Texts, Values, Writing,
+};
 
 fn row(
     writing: Writing,
     is_leaf: bool,
     is_numbered: bool,
     showing: Showing,
-    class: Class,
+    class: Placement,
     holding: Holding,
     texts: Texts,
     payload: Payload,
@@ -643,7 +645,7 @@ impl Kind {
     pub fn is_mark(self) -> bool
         ensures { result ≡ is_mark self }
     {
-        matches!(self.shape().class, Class::Mark)
+        matches!(self.shape().class, Placement::Mark)
     }
 
     /// Whether it is a section.
@@ -675,17 +677,17 @@ impl Kind {
     }
 }
 
-impl Class {
+impl Placement {
     fn is_anywhere(self) -> bool
         ensures { result ≡ is_anywhere self }
     {
-        matches!(self, Class::Anywhere | Class::Mark)
+        matches!(self, Placement::Anywhere | Placement::Mark)
     }
 }
 
 impl Holding {
     /// Whether elements of this class are among those that are held.
-    pub fn admits(self, class: Class) -> bool
+    pub fn admits(self, class: Placement) -> bool
         ensures { result ≡ admits self class }
     {
         match self {

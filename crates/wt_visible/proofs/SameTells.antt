@@ -13,7 +13,7 @@ use Rattle.wt_tree.specs.declared.kind.AttrName.{AttrName}
 use Rattle.wt_tree.specs.declared.kind.Kind.{Kind}
 use Rattle.wt_tree.specs.declared.node.DataMw.{DataMw}
 use Rattle.wt_tree.specs.Plain.{Face, plain}
-use Rattle.wt_tree.specs.Stream.{Bracket, opens, closes, Sign, byte, bracket, signs}
+use Rattle.wt_tree.specs.Stream.{Bracket, opens, closes, StreamToken, byte, bracket, signs}
 use Rattle.wt_tree.specs.Tree.{Tree, label}
 use Rattle.wt_tree.specs.View.{attrs_of}
 use Rattle.wt_tree.proofs.Same.{kind_decides, attrs_same}
@@ -57,7 +57,7 @@ bracket_told (opens f) closes = (λ h. cc, λ e. cc)
 bracket_told closes (opens g) = (λ h. cc, λ e. cc)
 bracket_told closes closes = (λ h. refl, λ e. refl)
 
-sign_told : (a b : Sign) → Decides (same_sign a b) (a ≡ b)
+sign_told : (a b : StreamToken) → Decides (same_sign a b) (a ≡ b)
 sign_told (byte a) (byte b) = let d = Decides-eqb a b in (λ h. ap byte (d.0 h), λ e. d.1 cc)
 sign_told (byte a) (bracket k) = (λ h. cc, λ e. cc)
 sign_told (bracket j) (byte b) = (λ h. cc, λ e. cc)

@@ -8,7 +8,7 @@ use Rattle.wt_tree.specs.contracts.node.DataMwPartialEq.TheImpl as data_of
 use Rattle.wt_tree.specs.declared.kind.AttrName.{AttrName}
 use Rattle.wt_tree.specs.declared.node.Attr.{Attr}
 use Rattle.wt_tree.specs.Plain.{Face}
-use Rattle.wt_tree.specs.Stream.{Bracket, opens, closes, Sign, byte, bracket, signs}
+use Rattle.wt_tree.specs.Stream.{Bracket, opens, closes, StreamToken, byte, bracket, signs}
 use Rattle.wt_tree.specs.Tree.{Tree, label}
 
 abbrev pub as_attr : AttrName × List ℕ → Attr
@@ -25,7 +25,7 @@ same_bracket (opens f) closes = false
 same_bracket closes (opens g) = false
 same_bracket closes closes = true
 
-abbrev pub same_sign : Sign → Sign → Bool
+abbrev pub same_sign : StreamToken → StreamToken → Bool
 same_sign (byte a) (byte b) = a == b
 same_sign (byte a) (bracket k) = false
 same_sign (bracket j) (byte b) = false

@@ -1,6 +1,6 @@
 use Rattle.std.proofs.Common.{refl, arith}
 use Rattle.wt_span.specs.Slice.{bytes_of}
-use Rattle.wt_span.specs.declared.form.Form.TheVariants as form
+use Rattle.wt_span.specs.declared.form.ItemForm.TheVariants as form
 use Rattle.wt_span.specs.declared.origin.Origin.TheVariants as origin
 use Rattle.wt_expansion.proofs.FoundLaws.{call_some, call_empty}
 use Rattle.wt_expansion.proofs.found.push_given.Goals as goal

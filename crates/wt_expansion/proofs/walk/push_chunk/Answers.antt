@@ -1,6 +1,6 @@
 use Rattle.std.proofs.Common.{◌∷◌, [], ℕ, Err, List, None, Ok, ap, arith, subst, ◌∙◌}
 use Rattle.std.specs.Prelude.{OnOk, Result, slice_range}
-use Rattle.wt_span.specs.declared.form.Form.{Form}
+use Rattle.wt_span.specs.declared.form.ItemForm.{ItemForm}
 use Rattle.wt_span.specs.Items.{items_by}
 use Rattle.wt_expand.specs.PageCalls.{own}
 use Rattle.wt_expand.specs.PageItems.{form_of}
@@ -21,6 +21,6 @@ returns c =
     let here = reading.at.at_is in
     let bytes = c.in_ok-text.ensures.bytes ∙ ap (λ (xs : List ℕ). slice_range xs at to) reading.read.text_is ∙ ap (λ q. slice_range page q to) here in
     let form = c.form_of.ensures ∙ ap (form_of c.args.kind) (c.as_str.ensures ∙ bytes) in
-    subst (λ (f : Form). Adds old new p (own (items_by f None (slice_range page p to)) ∷ []) to) form
+    subst (λ (f : ItemForm). Adds old new p (own (items_by f None (slice_range page p to)) ∷ []) to) form
     (subst (λ q. Adds old new q (own (items_by c.form_of.result None (slice_range page q to)) ∷ []) to) here
     (adds page p s reading (omega (arith, here, low))))) c.push_slice.ensures.adds

@@ -1,5 +1,5 @@
 use Rattle.std.proofs.Common.{ℕ, None, List, [], ◌∷◌, sym, ap, subst}
-use Rattle.wt_span.specs.declared.form.Form.TheVariants as form
+use Rattle.wt_span.specs.declared.form.ItemForm.TheVariants as form
 use Rattle.wt_span.specs.Items.{whole}
 use Rattle.wt_span.specs.Whole.{IsWhole}
 use Rattle.wt_isolation.specs.GroupItems.{empty_nowiki}

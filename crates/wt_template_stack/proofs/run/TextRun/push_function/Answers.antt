@@ -1,5 +1,5 @@
 use Rattle.std.proofs.Common.{None, ◌∷◌, [], ◌∙◌, subst, sym, append-nil}
-use Rattle.wt_span.specs.declared.form.Form.TheVariants as form
+use Rattle.wt_span.specs.declared.form.ItemForm.TheVariants as form
 use Rattle.wt_span.specs.Items.{whole, items_of}
 use Rattle.wt_span.specs.Slice.{bytes_of}
 use Rattle.wt_expand.specs.Expansion.{just}

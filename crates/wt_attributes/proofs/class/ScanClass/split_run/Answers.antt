@@ -2,7 +2,7 @@ use Rattle.std.proofs.Common.{sym, ap, ◌∙◌, subst}
 use Rattle.std.specs.Str.{IsCharBoundary}
 use Rattle.wt_attributes.specs.Classes.{run_len}
 use Rattle.wt_attributes.proofs.Runs.{border_run}
-use Rattle.wt_attributes.proofs.class.Class.split_run.Goals as goal
+use Rattle.wt_attributes.proofs.class.ScanClass.split_run.Goals as goal
 
 pub split_at-requires : goal.split_at-requires
 split_at-requires c =
