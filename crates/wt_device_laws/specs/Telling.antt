@@ -1,5 +1,5 @@
 -- What is a fault of a device, and what its counts before and after a call tell of that.
-use Rattle.std.specs.Prelude.{◌≡◌, ℕ, ◌<◌, ◌≤◌, ◌↔◌, List, length, Result, Ok, Err, ⊤}
+use Rattle.std.specs.Prelude.{◌≡◌, ℕ, ◌+◌, ◌<◌, ◌≤◌, ◌↔◌, List, length, Result, Ok, Err, ⊤}
 use Rattle.wt_devices.specs.declared.device.Failed.{Failed}
 use Rattle.wt_devices.specs.declared.device.Fetched.{Fetched}
 use Rattle.wt_devices.specs.declared.device.FetchRefusal.{FetchRefusal}
@@ -21,7 +21,8 @@ IsFetchFault (Ok fetched) = ⊥
 IsFetchFault (Err refusals.Failed) = ⊤
 IsFetchFault (Err refusals.NoMemory) = ⊥
 
--- the count is larger afterwards exactly where there was a fault, and never smaller
+-- the count is larger afterwards exactly where there was a fault, then by one, and never smaller
 pub record Tells (fault : Type 0) (before now : ℕ) : Type 0 where
   pub told : fault ↔ (before < now)
+  pub once : now ≤ before + 1
   pub later : before ≤ now

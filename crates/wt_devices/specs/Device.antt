@@ -6,17 +6,17 @@ use Rattle.wt_devices.specs.declared.device.Fetched.TheVariants.{Found, Absent}
 use Rattle.wt_devices.specs.declared.device.FetchRefusal.{FetchRefusal}
 use Rattle.wt_devices.specs.declared.device.FetchRefusal.TheVariants as refusals
 
--- the count rose, or stands at its last value
+-- the count rose by one, or stands at its last value: there was one fault, and no more
 abbrev pub Rose : ℕ → ℕ → Type 0
-Rose before now = min (before + 1) (2 ^ 64 - 1) ≤ now
+Rose before now = now ≡ min (before + 1) (2 ^ 64 - 1)
 
--- the count of a source after a read: it never falls, and it rises only where the read failed
+-- the count of a source after a read: it never falls, and it rises, by one, only where the read failed
 pub record ReadCause (before now : ℕ) (result : Result ℕ Failed) : Type 0 where
   pub later : before ≤ now
   pub failed : OnErr result (Rose before now)
   pub kept : OnOk result (now ≡ before)
 
--- the count of a sink after a write of this piece: it never falls, and it rises only where the write failed or took none of a piece that isn't empty
+-- the count of a sink after a write of this piece: it never falls, and it rises, by one, only where the write failed or took none of a piece that isn't empty
 pub record WriteCause (before now : ℕ) (piece : List ℕ) (result : Result ℕ Failed) : Type 0 where
   pub later : before ≤ now
   pub failed : OnErr result (Rose before now)
@@ -48,6 +48,6 @@ abbrev pub RefusalCause : ℕ → ℕ → FetchRefusal → Type 0
 RefusalCause before now refusals.Failed = (before ≤ now) × Rose before now
 RefusalCause before now refusals.NoMemory = now ≡ before
 
--- the count of a folder after a fetch: it never falls, and it rises only where the fetch failed
+-- the count of a folder after a fetch: it never falls, and it rises, by one, only where the fetch failed
 abbrev pub FetchCause : ℕ → ℕ → Result Fetched FetchRefusal → Type 0
 FetchCause before now result = MatchResult result (λ _. now ≡ before) (λ refusal. RefusalCause before now refusal)
