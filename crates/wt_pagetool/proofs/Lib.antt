@@ -5,11 +5,13 @@ mod NameCases
 pub mod EditLaws
 pub mod EditedLaws
 pub mod ExpandLaws
+pub mod FaultLaws
 pub mod GenLaws
 pub mod GivenBackLaws
 pub mod LeavesLaws
 pub mod PageSections
 pub mod PageLaws
+pub mod PromiseLaws
 pub mod ReadGroups
 pub mod RefusalLines
 pub mod RunLaws

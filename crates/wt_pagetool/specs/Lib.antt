@@ -7,6 +7,7 @@ pub mod Gen
 pub mod GivenBack
 pub mod Inputs
 pub mod Outputs
+pub mod Promises
 pub mod Refusals
 pub mod Reports
 pub mod Selser

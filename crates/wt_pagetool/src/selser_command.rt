@@ -18,8 +18,8 @@ ghost use Rattle.wt_tree.specs.Tree.{label};
 ghost use Rattle.wt_tree.specs.View.{view};
 ghost use Rattle.wt_tree.specs.declared.kind.Kind.TheVariants as kind;
 ghost use Rattle.wt_pagetool.specs.Answers.{input_answer, nodes_answer, selser_told, taken_answer, taken_to, IsNoText};
-ghost use Rattle.wt_pagetool.specs.Causes.{Answered, IsKept, IsOfEdit};
-ghost use Rattle.wt_pagetool.specs.Inputs.{GivesAtMost};
+ghost use Rattle.wt_pagetool.specs.Causes.{found_status, Answered, FailsAlone, IsKept, IsOfEdit};
+ghost use Rattle.wt_pagetool.specs.Inputs.{GivesAtMost, StopsWithin};
 ghost use Rattle.wt_pagetool.specs.Selser.{AnswersSelser, Finds, FindsFor, FindsNew, OrFound};
 ghost use Rattle.wt_pagetool.specs.Tried.{IsBeside, KnowsOf};
 
@@ -193,6 +193,9 @@ fn page_of_text<S: Source, F: Folder>(
     ensures ended { OnOk result (IsAtEnd (S.left input.new)) }
     ensures input_kept { IsKept result (S.fault_count input.old) (S.fault_count input.new) }
     ensures takes { GivesAtMost (HTML_BYTES + PIECE) (S.left input.old) (S.left input.new) }
+    ensures stops { StopsWithin result (S.left input.old) (S.left input.new) }
+    ensures alone { FailsAlone (found_status result) (S.fault_count input.old) (S.fault_count input.new)
+        (F.fault_count folder.old) (F.fault_count folder.new) }
     ensures folder_kept { IsKept result (F.fault_count folder.old) (F.fault_count folder.new) }
     ensures kept { F.pages folder.new ≡ F.pages folder.old }
     ensures few { readings.new ≤ MOST_READINGS }
@@ -228,6 +231,9 @@ pub fn selser_page<S: Source, F: Folder>(
     ensures ended { OnOk result (IsAtEnd (S.left input.new)) }
     ensures input_kept { IsKept result (S.fault_count input.old) (S.fault_count input.new) }
     ensures takes { GivesAtMost (HTML_BYTES + PIECE) (S.left input.old) (S.left input.new) }
+    ensures stops { StopsWithin result (S.left input.old) (S.left input.new) }
+    ensures alone { FailsAlone (found_status result) (S.fault_count input.old) (S.fault_count input.new)
+        (F.fault_count folder.old) (F.fault_count folder.new) }
     ensures folder_kept { IsKept result (F.fault_count folder.old) (F.fault_count folder.new) }
     ensures kept { F.pages folder.new ≡ F.pages folder.old }
     ensures few { readings.new ≤ MOST_READINGS }
