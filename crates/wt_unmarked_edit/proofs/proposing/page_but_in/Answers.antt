@@ -2,7 +2,7 @@ use Rattle.std.proofs.Common.{◌≡◌, ◌∙◌, Err, rules, subst}
 use Rattle.wt_transclusion.proofs.AskedLaws.{asks_then}
 use Rattle.wt_tree.specs.View.{view}
 use Rattle.wt_unmarked_edit.specs.Tried.{HoldsTried}
-use Rattle.wt_unmarked_edit.proofs.TriedLaws.{failed_knows, fault_found, fault_of_edit, proposal_stands}
+use Rattle.wt_unmarked_edit.proofs.TriedLaws.{counted_then, failed_knows, fault_found, fault_of_edit, proposal_stands}
 use Rattle.wt_unmarked_edit.proofs.proposing.page_but_in.Goals as goal
 
 pub last_page-requires-clause-known : goal.last_page-requires-clause-known
@@ -32,11 +32,17 @@ returns-in_err-tried-clause-found g c = λ pages told knows first.
     let e : c.from_residual.result ≡ Err c.in_err-tried.field-0.0 = search rules in
     fault_found pages c.args.edit.now.items.now c.args.edit.now.page.now (view c.args.edit.now.tree.now) (view c.args.edit.now.edited.now) c.args.edit.now.same
     (d.fault_count c.args.folder.now) (d.fault_count c.tried_proposal.new.folder) c.from_residual.result c.in_err-tried.field-0.0 e
-    c.in_err-tried.ensures.of_folder
+    c.in_err-tried.ensures.count
 
-pub returns-in_err-tried-clause-of_edit : goal.returns-in_err-tried-clause-of_edit
-returns-in_err-tried-clause-of_edit g c =
+pub returns-in_err-tried-clause-count : goal.returns-in_err-tried-clause-count
+returns-in_err-tried-clause-count g c =
     let d = g.F.Folder in
     let e : c.from_residual.result ≡ Err c.in_err-tried.field-0.0 = search rules in
     fault_of_edit (d.fault_count c.args.folder.now) (d.fault_count c.tried_proposal.new.folder) c.from_residual.result c.in_err-tried.field-0.0 e
-    c.in_err-tried.ensures.of_folder
+    c.in_err-tried.ensures.count
+
+pub returns-in-Fails-clause-count : goal.returns-in-Fails-clause-count
+returns-in-Fails-clause-count g c =
+    let d = g.F.Folder in
+    counted_then (d.fault_count c.args.folder.now) (d.fault_count c.tried_proposal.new.folder) (d.fault_count c.last_page.new.folder) c.last_page.result
+    c.in_ok-tried.ensures.count c.last_page.ensures.count
