@@ -17,7 +17,6 @@ pub mod RefusalLines
 pub mod RunLaws
 pub mod SectionEdits
 pub mod SelserFound
-pub mod SelserLaws
 pub mod SelserRuns
 pub mod SelserShown
 pub mod SelserUnchanged
@@ -27,5 +26,6 @@ pub mod UnchangedLaws
 pub mod UnchangedShown
 pub mod UnchangedTree
 pub mod UneditedRead
+pub mod UnmarkedEdits
 pub mod WholeEdits
 pub mod WikitextLaws

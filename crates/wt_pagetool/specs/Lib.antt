@@ -12,6 +12,5 @@ pub mod Refusals
 pub mod Reports
 pub mod Selser
 pub mod Statuses
-pub mod Tried
 pub mod Unchanged
 pub mod Words

@@ -17,7 +17,6 @@ use crate::expand_command::expansion_of_title;
 use crate::gen_command::counts_of_made;
 use crate::output::Output;
 use crate::page_command::output_of_title;
-use crate::readings::Readings;
 use crate::refusal::Refusal;
 use crate::report::report;
 use crate::selser_command::selser_page;
@@ -26,6 +25,7 @@ use crate::wikitext_command::{PIECE, wikitext_of_input};
 use std::alloc::Global;
 use wt_devices::{Folder, Sink, Source};
 use wt_span::{HTML_BYTES, List, PAGE_BYTES, Str};
+use wt_unmarked_edit::Readings;
 
 /// What the words ask for, or why it isn't to be had.
 #[tactic(auto, using(crate::proofs::GenLaws::few_sections), unfolding(crate::specs::Answers::answer_told, crate::specs::Asked::names_told))]
