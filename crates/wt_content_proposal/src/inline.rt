@@ -109,7 +109,7 @@ fn push_as_it_stood(
 ) -> Result<(), NoMemory> {
     let source = flat(alloc, old.node)?;
     let role = if keeps {
-        role_in_line(old.role, old.node)
+        role_in_line(old.role, old.node, out.as_slice().last(), old.place)
     } else {
         old.role
     };

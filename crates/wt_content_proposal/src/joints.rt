@@ -25,16 +25,21 @@ pub fn place_of_new() -> Stretch {
     }
 }
 
-/// What writes nothing, and stands beside what ends at this place of the page.
-fn joint_at<'n>(alloc: Global, start: usize) -> Unit<'n> {
+/// What writes nothing, and stands beside what ends and what begins at these places of the page.
+fn joint_at<'n>(alloc: Global, place: Stretch) -> Unit<'n> {
     Unit::Thing(Thing {
         role: Role::Node,
         source: Str::new(alloc),
-        place: Some(Stretch {
-            start,
-            end: NOWHERE,
-        }),
+        place: Some(place),
     })
+}
+
+/// The place of a joint beside what ends at this place alone.
+fn behind(start: usize) -> Stretch {
+    Stretch {
+        start,
+        end: NOWHERE,
+    }
 }
 
 // ---- units
@@ -257,18 +262,50 @@ fn are_five(units: &[Unit<'_>], at: usize) -> bool {
     left != 0 && right != 0 && left != right && outer == 0
 }
 
+// ---- groups
+
+fn placed<'u>(unit: Option<&'u Unit<'_>>) -> Option<(Role, Stretch)> {
+    match unit? {
+        Unit::Thing(thing) => Some((thing.role, thing.place?)),
+        Unit::Text(_) | Unit::Copied(_) => None,
+    }
+}
+
+/// Whether `edit` parts the two wherever they stand.
+fn are_parted_anywhere(left: Role, right: Role) -> bool {
+    match left {
+        Role::Group(_) => matches!(right, Role::Group(_) | Role::External | Role::Bare(_)),
+        Role::External | Role::Bare(_) => right.is_group(),
+        _ => false,
+    }
+}
+
+/// Where two things meet in the page that meet here too, one of them a group.
+fn meeting(units: &[Unit<'_>], at: usize) -> Option<Stretch> {
+    let (left, ended) = placed(before(units, at))?;
+    let (right, begun) = placed(units.get(at))?;
+    if ended.end == begun.start && are_parted_anywhere(left, right) {
+        Some(Stretch {
+            start: ended.end,
+            end: begun.start,
+        })
+    } else {
+        None
+    }
+}
+
 // ---- all
 
 /// Where a joint stands before a unit, its place in the page.
-fn joint_before(spot: Option<Spot>, units: &[Unit<'_>], at: usize) -> Option<usize> {
+fn joint_before(spot: Option<Spot>, units: &[Unit<'_>], at: usize) -> Option<Stretch> {
+    if let Some(place) = meeting(units, at) {
+        return Some(place);
+    }
     if let Some(end) = ended_url(units, at) {
-        return Some(end);
+        return Some(behind(end));
     }
-    if are_five(units, at) {
-        return Some(0);
-    }
-    if may_begin(spot?, units, at) {
-        Some(0)
+    if are_five(units, at) || may_begin(spot?, units, at) {
+        Some(behind(0))
     } else {
         None
     }
@@ -281,8 +318,8 @@ fn push_before<'n>(
     units: &[Unit<'n>],
     at: usize,
 ) -> Result<(), NoMemory> {
-    if let Some(start) = joint_before(spot, units, at) {
-        out.push(joint_at(alloc, start))?;
+    if let Some(place) = joint_before(spot, units, at) {
+        out.push(joint_at(alloc, place))?;
     }
     match spot {
         Some(spot) if is_caption_sign(spot, units, at) => {
