@@ -4,3 +4,4 @@ pub mod SentSlices
 pub mod SentSpliced
 pub mod SentAnswer
 pub mod SentSections
+mod Cases

@@ -1,22 +1,21 @@
 -- The answer to such an edit: it is never refused, unless the new page is longer than a page may be.
-use Rattle.std.proofs.Common.{arith, ◌≡◌, ℕ, ◌≤◌, Bool, true, false, List, [], ◌∷◌, length, refl, sym, ap, ◌∙◌}
-use Rattle.std.specs.Prelude.{Option, None, Ok, Err, option_map, nat_lt, if◌then◌else◌}
+use Rattle.std.proofs.Common.{arith, ◌≡◌, ℕ, ◌≤◌, Bool, false, List, length, ap, ◌∙◌}
+use Rattle.std.specs.Prelude.{Option, Ok, Err, option_map, nat_lt, if◌then◌else◌}
 use Rattle.std.proofs.lemmas.Bool.Decides.{nat_tests}
 use Rattle.wt_span.specs.Origins.{Expanded}
 use Rattle.wt_tree.specs.Source.{flat_of_all}
 use Rattle.wt_tree.specs.Tiling.{NoneIsGroup, InPreorder}
 use Rattle.wt_tree.specs.Tree.{Label, Tree}
 use Rattle.wt_checks.specs.declared.refusal.TreeRefusal.{TreeRefusal}
-use Rattle.wt_checks.specs.Checked.{checked}
 use Rattle.wt_checks.specs.Places.{is_content, page_of}
 use Rattle.wt_checks.specs.PutBack.{have_frame}
-use Rattle.wt_selser.specs.BodySlices.{all_child_slices, slices}
+use Rattle.wt_selser.specs.BodySlices.{slices}
 use Rattle.wt_selser.specs.Changes.{Pair, marked}
 use Rattle.wt_selser.specs.declared.refusal.EditRefusal.{EditRefusal}
 use Rattle.wt_selser.specs.declared.refusal.EditRefusal.TheVariants as refusal
-use Rattle.wt_selser.specs.Edits.{refused_pairs, most_bytes, if_short, unless_refused, pairs_answer, edit_answer}
-use Rattle.wt_selser.specs.Splice.{Change, spliced}
-use Rattle.wt_typed_blocks.specs.Sent.{Sent, old_children, new_children, AreSent, old_body, new_body}
+use Rattle.wt_selser.specs.Edits.{most_bytes, if_short, unless_refused, pairs_answer, edit_answer}
+use Rattle.wt_selser.specs.Splice.{spliced}
+use Rattle.wt_typed_blocks.specs.Sent.{Sent, old_children, AreSent, old_body, new_body}
 use Rattle.wt_typed_blocks.specs.Typed.{new_sources, TakeTexts, StandAt, AreUntangled}
 use Rattle.wt_typed_blocks.proofs.SentKept.{found, passes}
 use Rattle.wt_typed_blocks.proofs.SentSlices.{Same, pairs_of, changes_of, marked_are, slices_are, none_refused}

@@ -1,5 +1,5 @@
 -- An edit that types texts in blocks and sends all else as it stands passes the checks.
-use Rattle.std.proofs.Common.{◌≡◌, ◌≢◌, ℕ, Bool, true, false, List, [], ◌∷◌, ◌++◌, refl, sym, ap, ◌∙◌, subst, inl, inr, ◌⊎◌}
+use Rattle.std.proofs.Common.{◌≡◌, ℕ, Bool, true, false, List, [], ◌∷◌, ◌++◌, refl, sym, ap, ◌∙◌, subst, inl, inr}
 use Rattle.std.specs.Prelude.{◌==◌, ◌&&◌, ◌||◌, not, if◌then◌else◌, Option, Some, None, MatchOption}
 use Rattle.std.specs.List.{AllByRecursion}
 use Rattle.wt_tree.specs.declared.kind.Kind.{Kind}
@@ -7,12 +7,11 @@ use Rattle.wt_tree.specs.declared.kind.Kind.TheVariants as kind
 use Rattle.wt_tree.specs.declared.kind.Mark.TheVariants as marks
 use Rattle.wt_tree.specs.declared.kind.Showing.TheVariants.{Characters}
 use Rattle.wt_tree.specs.Kinds.{showing, writing}
-use Rattle.wt_tree.specs.Opened.{opened}
 use Rattle.wt_tree.specs.Tiling.{is_group, HasNoGroup, NoneIsGroup, InPreorder}
 use Rattle.wt_tree.specs.Tree.{Label, Tree, tree, Trees, none, more, label}
 use Rattle.wt_checks.specs.Checked.{checked}
 use Rattle.wt_checks.specs.Groups.{is_marked}
-use Rattle.wt_checks.specs.Kept.{IsSublist, kept_under, InOrder, GroupAsItWas, HoldsTheSame, NodeAsItWas, is_of_page, GroupKept, NodeKept, WellMarked, MarkKept, Kept}
+use Rattle.wt_checks.specs.Kept.{IsSublist, kept_under, InOrder, GroupAsItWas, HoldsTheSame, NodeAsItWas, GroupKept, NodeKept, MarkKept, Kept}
 use Rattle.wt_checks.specs.Marks.{editing, allows}
 use Rattle.wt_checks.specs.Places.{Place, placed, all_placed, places, number, kind_at, is_kept, is_body, is_content, Page, page_of, parent_below}
 use Rattle.wt_checks.specs.PutBack.{is_frame, has_frame, have_frame}

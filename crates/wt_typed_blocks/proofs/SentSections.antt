@@ -12,7 +12,7 @@ use Rattle.wt_checks.specs.PutBack.{is_frame, has_frame, have_frame, IsOneBody}
 use Rattle.wt_checks.proofs.Repeated.{or_false}
 use Rattle.wt_selser.specs.Edits.{most_bytes, edit_answer}
 use Rattle.wt_selser.proofs.Sections.{answers_same}
-use Rattle.wt_typed_blocks.specs.Sent.{StandsAsIs, AllStandAsIs, Block, paragraph, heading, Sent, stands, typed, old_child, new_child, old_children, new_children, IsSent, AreSent, old_body, new_body}
+use Rattle.wt_typed_blocks.specs.Sent.{StandsAsIs, AllStandAsIs, paragraph, heading, Sent, stands, typed, old_child, new_child, old_children, new_children, IsSent, AreSent, old_body, new_body}
 use Rattle.wt_typed_blocks.specs.Typed.{new_sources, TakeTexts, StandAt, AreUntangled}
 use Rattle.wt_typed_blocks.proofs.SentSlices.{Same}
 use Rattle.wt_typed_blocks.proofs.SentAnswer.{answer_is}

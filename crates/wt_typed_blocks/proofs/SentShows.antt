@@ -1,5 +1,5 @@
 -- What a body that is sent so shows.
-use Rattle.std.proofs.Common.{◌≡◌, ℕ, Bool, true, false, List, [], ◌∷◌, refl, sym, ap, ◌∙◌}
+use Rattle.std.proofs.Common.{◌≡◌, ℕ, Bool, List, [], ◌∷◌, refl, ap, ◌∙◌}
 use Rattle.wt_tree.specs.declared.kind.Kind.{Kind}
 use Rattle.wt_tree.specs.declared.kind.AttrName.{AttrName}
 use Rattle.wt_tree.specs.declared.node.DataMw.{DataMw}
@@ -13,7 +13,7 @@ use Rattle.wt_checks.specs.Places.{Page, page_of}
 use Rattle.wt_visible.specs.Children.{shown_children, listed}
 use Rattle.wt_visible.specs.Restored.{held_by, restored, all_restored, restored_from}
 use Rattle.std.specs.Prelude.{Option}
-use Rattle.wt_typed_blocks.specs.Sent.{IsSentAsIs, StandsAsIs, AllStandAsIs, Block, paragraph, heading, kind_of, text_in, Sent, stands, typed, old_child, new_child, old_children, new_children, IsSent, AreSent, new_body, shows_before, all_show}
+use Rattle.wt_typed_blocks.specs.Sent.{IsSentAsIs, StandsAsIs, AllStandAsIs, paragraph, heading, Sent, stands, typed, old_child, new_child, old_children, new_children, IsSent, AreSent, new_body, shows_before, all_show}
 
 same_face : (l m : Label) → IsSentAsIs l m → face m ≡ face l
 same_face l m s =

@@ -1,22 +1,20 @@
 -- The marked nodes of such an edit, and the slices that stand for them: those in which texts were typed.
-use Rattle.std.proofs.Common.{◌≡◌, ℕ, ◌+◌, Bool, true, false, List, [], ◌∷◌, ◌++◌, length, refl, sym, ap, ◌∙◌}
-use Rattle.std.specs.Prelude.{◌-◌, ◌&&◌, ◌||◌, Option, Some, None, option_map, if◌then◌else◌}
+use Rattle.std.proofs.Common.{◌≡◌, ℕ, ◌+◌, Bool, true, false, List, [], ◌∷◌, ◌++◌, refl, ap, ◌∙◌}
+use Rattle.std.specs.Prelude.{◌-◌, ◌||◌, Option, Some, None, option_map, if◌then◌else◌}
 use Rattle.std.specs.Str.{chars}
 use Rattle.std.specs.List.{AllByRecursion, flat_map}
 use Rattle.std.proofs.lemmas.Grind.{flat_map-append}
 use Rattle.std.proofs.Common.{append-nil}
 use Rattle.wt_span.specs.Origins.{Expanded}
 use Rattle.wt_tree.specs.declared.kind.Mark.{Mark}
-use Rattle.wt_tree.specs.declared.kind.Ranges.{Ranges}
 use Rattle.wt_tree.specs.Tree.{Label, Tree, tree, Trees, none, more, label}
 use Rattle.wt_guards.specs.Content.{letters}
 use Rattle.wt_guards.specs.Guards.{spelled}
 use Rattle.wt_original.specs.Kinds.{shape}
 use Rattle.wt_original.specs.Kept.{kept_with}
 use Rattle.wt_escape.specs.Spelling.{inline_spelling}
-use Rattle.wt_checks.specs.Groups.{is_marked}
 use Rattle.wt_checks.specs.Marks.{is_children}
-use Rattle.wt_checks.specs.Places.{Place, placed, all_placed, places, number, Page, page_of, is_content, parent_below}
+use Rattle.wt_checks.specs.Places.{Place, placed, all_placed, Page, page_of, is_content, parent_below}
 use Rattle.wt_checks.proofs.Found.{Itself}
 use Rattle.wt_checks.proofs.InOrder.{not_zero_kept}
 use Rattle.wt_checks.proofs.Lookups.{each_split}
@@ -27,10 +25,10 @@ use Rattle.wt_selser.specs.BodySlices.{list_at, child_slices, all_child_slices}
 use Rattle.wt_selser.specs.Changes.{Pair, pair_with, is_edited, pair_at, marked, place_in, change_with, inside_of, insides, all_insides}
 use Rattle.wt_selser.specs.declared.refusal.EditRefusal.{EditRefusal}
 use Rattle.wt_selser.specs.declared.refusal.EditRefusal.TheVariants as refusal
-use Rattle.wt_selser.specs.Edits.{first_with, first_of, bad_pair, is_tangled, tangled_pair, refused_pairs}
+use Rattle.wt_selser.specs.Edits.{first_with, first_of, bad_pair, tangled_pair, refused_pairs}
 use Rattle.wt_selser.specs.Splice.{Change}
-use Rattle.wt_typed_blocks.specs.Sent.{StandsAsIs, AllStandAsIs, Block, paragraph, heading, kind_of, text_in, Sent, stands, typed, old_child, new_child, old_children, new_children, IsSent, AreSent, old_body, new_body}
-use Rattle.wt_typed_blocks.specs.Typed.{place_of, block_source, Takes, TakeTexts, StandAt, AreUntangled}
+use Rattle.wt_typed_blocks.specs.Sent.{StandsAsIs, AllStandAsIs, Block, paragraph, heading, text_in, Sent, stands, typed, old_child, new_child, old_children, new_children, AreSent, old_body, new_body}
+use Rattle.wt_typed_blocks.specs.Typed.{place_of, block_source, Takes, TakeTexts, AreUntangled}
 
 abbrev pub Same : Type 0
 Same = Tree → Tree → Bool

@@ -4,13 +4,13 @@ use Rattle.std.specs.Prelude.{Option, Some, false}
 use Rattle.std.proofs.lemmas.List.{take-append-le, take_all, drop-append-le, drop_all}
 use Rattle.wt_tree.specs.declared.kind.Ranges.{Ranges}
 use Rattle.wt_tree.specs.Source.{flat, flat_of_all}
-use Rattle.wt_tree.specs.Tree.{Label, Tree, Trees}
+use Rattle.wt_tree.specs.Tree.{Label, Trees}
 use Rattle.wt_guards.specs.Content.{letters}
 use Rattle.wt_guards.specs.Guards.{spelled}
 use Rattle.wt_selser.specs.Changes.{change_with}
 use Rattle.wt_selser.specs.Splice.{Change, between, spliced_from, spliced}
 use Rattle.wt_typed_blocks.specs.Sent.{Block, paragraph, heading, Sent, stands, typed, old_child, old_children}
-use Rattle.wt_typed_blocks.specs.Typed.{place_of, block_source, new_source, new_sources, StandAt}
+use Rattle.wt_typed_blocks.specs.Typed.{place_of, block_source, new_sources, StandAt}
 use Rattle.wt_typed_blocks.proofs.SentSlices.{Same, written, changes_of, written_is}
 
 -- what stands from a place on in a front, before what follows it
