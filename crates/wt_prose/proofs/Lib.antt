@@ -1,0 +1,6 @@
+pub mod InFront
+pub mod ProseReading
+pub mod ProseLines
+pub mod ProseBlocks
+pub mod ProseTrees
+pub mod ProseTexts
