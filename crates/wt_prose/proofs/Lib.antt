@@ -4,3 +4,7 @@ pub mod ProseLines
 pub mod ProseBlocks
 pub mod ProseTrees
 pub mod ProseTexts
+pub mod BlockFacts
+pub mod ProseFacts
+pub mod ProseTakes
+mod Cases

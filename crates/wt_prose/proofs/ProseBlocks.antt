@@ -1,5 +1,5 @@
 -- The blocks of prose: each paragraph, and the line breaks behind it as one separator.
-use Rattle.std.proofs.Common.{◌≡◌, ℕ, zero, suc, ◌≤◌, false, List, [], ◌∷◌, ◌++◌, drop, map, refl, sym, ap, ◌∙◌, subst, append-nil, append_assoc, arith, None}
+use Rattle.std.proofs.Common.{◌≡◌, ℕ, zero, suc, ◌-◌, ◌≤◌, false, List, [], ◌∷◌, ◌++◌, drop, map, refl, sym, ap, ◌∙◌, subst, append-nil, append_assoc, arith, None}
 use Rattle.std.specs.Prelude.{replicate}
 use Rattle.std.specs.List.{flat_map}
 use Rattle.std.proofs.lemmas.List.{map-append}
@@ -34,13 +34,19 @@ use Rattle.wt_prose.proofs.ProseLines.{first_ended, rest_ended, ended, content_e
 
 -- ---- the rows of all
 
+rows_more : (n k : ℕ) (xs zs : List Item) (b : IsTextBlock xs) → n ≡ suc k
+    → rows_from 0 (full_lines ((xs ++ replicate n break) ++ zs)) ≡ broken_rows n b.first b.others ++ rows_from 0 (full_lines zs)
+rows_more n k xs zs b e =
+    let P : ℕ → Type 0 = λ n. rows_from 0 (full_lines ((xs ++ replicate n break) ++ zs)) ≡ broken_rows n b.first b.others ++ rows_from 0 (full_lines zs) in
+    subst P (sym e) (rows_broken k xs zs b)
+
 prose_are : (ps : List Passage) (h : AreProse ps) (bs : AreBlocks ps) → rows_from 0 (full_lines (prose_items ps)) ≡ prose_rows ps bs
 prose_are [] h bs = absurd h
 prose_are (p ∷ []) h bs = rows_last p.breaks (page_items p.paragraph) bs.0
-prose_are (record { paragraph = t; breaks = zero } ∷ q ∷ ps) h bs = absurd (omega (arith, h.1))
-prose_are (record { paragraph = t; breaks = suc n } ∷ q ∷ ps) h bs =
-    rows_broken n (page_items t) (prose_items (q ∷ ps)) bs.0
-    ∙ ap (λ rs. broken_rows (suc n) bs.0.first bs.0.others ++ rs) (prose_are (q ∷ ps) h.2 bs.1)
+prose_are (p ∷ q ∷ ps) h bs =
+    let is : p.breaks ≡ suc (p.breaks - 1) = omega (arith, h.1) in
+    rows_more p.breaks (p.breaks - 1) (page_items p.paragraph) (prose_items (q ∷ ps)) bs.0 is
+    ∙ ap (λ rs. passage_rows p bs.0 ++ rs) (prose_are (q ∷ ps) h.2 bs.1)
 
 -- ---- each row is a unit
 
@@ -180,14 +186,19 @@ last_read : (read : Reading) (n : ℕ) (xs : List Item) (b : IsTextBlock xs)
 last_read read zero xs b = unbroken_read read xs b
 last_read read (suc n) xs b = broken_read read n xs [] b (no_text_last n)
 
+read_more : (read : Reading) (n k : ℕ) (xs : List Item) (rs : List Row) (b : IsTextBlock xs) → n ≡ suc (suc k)
+    → read_rows read (broken_rows n b.first b.others ++ rs) ≡ broken_stretches n xs ++ read_rows read rs
+read_more read n k xs rs b e =
+    let P : ℕ → Type 0 = λ n. read_rows read (broken_rows n b.first b.others ++ rs) ≡ broken_stretches n xs ++ read_rows read rs in
+    subst P (sym e) (broken_read read (suc k) xs rs b (λ l. refl))
+
 prose_read : (read : Reading) (ps : List Passage) (h : AreProse ps) (bs : AreBlocks ps) → read_rows read (prose_rows ps bs) ≡ flat_map passage_stretches ps
 prose_read read [] h bs = absurd h
 prose_read read (p ∷ []) h bs = last_read read p.breaks (page_items p.paragraph) bs.0
-prose_read read (record { paragraph = t; breaks = zero } ∷ q ∷ ps) h bs = absurd (omega (arith, h.1))
-prose_read read (record { paragraph = t; breaks = suc zero } ∷ q ∷ ps) h bs = absurd (omega (arith, h.1))
-prose_read read (record { paragraph = t; breaks = suc (suc n) } ∷ q ∷ ps) h bs =
-    broken_read read (suc n) (page_items t) (prose_rows (q ∷ ps) bs.1) bs.0 (λ l. refl)
-    ∙ ap (λ ss. broken_stretches (suc (suc n)) (page_items t) ++ ss) (prose_read read (q ∷ ps) h.2 bs.1)
+prose_read read (p ∷ q ∷ ps) h bs =
+    let is : p.breaks ≡ suc (suc (p.breaks - 2)) = omega (arith, h.1) in
+    read_more read p.breaks (p.breaks - 2) (page_items p.paragraph) (prose_rows (q ∷ ps) bs.1) bs.0 is
+    ∙ ap (λ ss. passage_stretches p ++ ss) (prose_read read (q ∷ ps) h.2 bs.1)
 
 blocks_read : (read : Reading) (ps : List Passage) (h : AreProse ps) (bs : AreBlocks ps) → blocks_by read (prose_rows ps bs) ≡ flat_map passage_stretches ps
 blocks_read read ps h bs =

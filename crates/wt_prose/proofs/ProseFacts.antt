@@ -76,7 +76,7 @@ own_of : (q : List ℕ) → IsTypedPage q → AreOwn (page_items q)
 own_of q h = (written q h).1
 
 -- its blocks, from this number and place on
-abbrev FactsOf : List Item → ℕ → List Item → List PassageEdit → Type 0
+abbrev pub FactsOf : List Item → ℕ → List Item → List PassageEdit → Type 0
 FactsOf xs n before es =
     Facts xs n before (all_sendings es) (flat_map leafy (old_passages es)) (prose (old_passages es)) (prose (new_passages es)) (sent_shows es)
 
@@ -126,7 +126,7 @@ abbrev pub prose_shows : List Passage → Plains
 prose_shows [] = ended
 prose_shows (p ∷ ps) = paragraph_shown (flat_map shown_item (page_items p.paragraph)) (prose_shows ps)
 
-abbrev plains_of : ℕ → List Item → List ItemTree → Plains
+abbrev pub plains_of : ℕ → List Item → List ItemTree → Plains
 plains_of n before ts = plains_before (blocks_of n before ts) ended
 
 seps_show : (n : ℕ) (before : List Item) (k : ℕ) (ts : List ItemTree) (ps : Plains) → ((m : ℕ) (after : List Item) → plains_of m after ts ≡ ps)
@@ -135,7 +135,7 @@ unfolding label_at
 seps_show n before zero ts ps f = f n before
 seps_show n before (suc k) ts ps f = f (number_behind n before (sep_tree (suc k))) (items_behind before (sep_tree (suc k)))
 
-abbrev AreOwnAll : List Passage → Type 0
+abbrev pub AreOwnAll : List Passage → Type 0
 AreOwnAll [] = Unit {0}
 AreOwnAll (p ∷ ps) = AreOwn (page_items p.paragraph) × AreOwnAll ps
 

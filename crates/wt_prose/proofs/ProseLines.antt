@@ -1,5 +1,5 @@
 -- The lines of prose as rows: those of each paragraph are rows of text, and each line break more behind them is a blank row.
-use Rattle.std.proofs.Common.{arith, ◌≡◌, ◌≢◌, ℕ, zero, suc, Bool, true, false, not, List, [], ◌∷◌, ◌++◌, map, refl, sym, ap, ◌∙◌, subst, append-nil, append_assoc, All}
+use Rattle.std.proofs.Common.{arith, ◌≡◌, ◌≢◌, ℕ, zero, suc, ◌+◌, Bool, true, false, not, List, [], ◌∷◌, ◌++◌, map, refl, sym, ap, ◌∙◌, subst, append-nil, append_assoc, All}
 use Rattle.std.specs.Prelude.{if◌then◌else◌, replicate}
 use Rattle.std.specs.List.{flat_map}
 use Rattle.std.proofs.lemmas.List.Elements.{All-head}
@@ -101,7 +101,7 @@ content_ended (x ∷ []) e = let n : is_break_item x ≡ false = not_by x (is_br
 content_ended (x ∷ y ∷ ys) e = ap (λ xs. x ∷ xs) (content_ended (y ∷ ys) e)
 
 unled_by : (x : Item) (xs ys : List Item) (v : Bool) → is_mark x ≡ v → marks_len (x ∷ xs) ≡ 0 → marks_len (x ∷ ys) ≡ 0
-unled_by x xs ys true e h = let k : marks_len (x ∷ xs) ≡ suc (marks_len xs) = rw e refl in absurd (omega (arith, k, h))
+unled_by x xs ys true e h = let k : marks_len (x ∷ xs) ≡ 1 + marks_len xs = rw e refl in absurd (omega (arith, k, h))
 unled_by x xs ys false e h = rw e refl
 
 ended_unled : (l : List Item) → marks_len l ≡ 0 → marks_len (l ++ break ∷ []) ≡ 0
@@ -152,7 +152,7 @@ broken_rows zero l ls = map text_row (l ∷ ls)
 broken_rows (suc n) l ls = map text_row (ended l ls) ++ replicate n blank_row
 
 -- in front of other lines, where a line break stands between
-rows_broken : (n : ℕ) (xs zs : List Item) (b : IsTextBlock xs)
+pub rows_broken : (n : ℕ) (xs zs : List Item) (b : IsTextBlock xs)
     → rows_from 0 (full_lines ((xs ++ replicate (suc n) break) ++ zs)) ≡ broken_rows (suc n) b.first b.others ++ rows_from 0 (full_lines zs)
 rows_broken n xs zs b =
     let l : List Item = b.first in
@@ -170,7 +170,7 @@ rows_broken n xs zs b =
     ∙ sym (append_assoc texts (replicate n blank_row) (rows_from 0 (full_lines zs)))
 
 -- at the page's end
-rows_last : (n : ℕ) (xs : List Item) (b : IsTextBlock xs) → rows_from 0 (full_lines ((xs ++ replicate n break) ++ [])) ≡ broken_rows n b.first b.others ++ []
+pub rows_last : (n : ℕ) (xs : List Item) (b : IsTextBlock xs) → rows_from 0 (full_lines ((xs ++ replicate n break) ++ [])) ≡ broken_rows n b.first b.others ++ []
 rows_last zero xs b =
     ap (λ ys. rows_from 0 (full_lines ys)) (append-nil (xs ++ []) ∙ append-nil xs)
     ∙ ap (rows_from 0) (b.are_lines ∙ sym (append-nil (b.first ∷ b.others)))

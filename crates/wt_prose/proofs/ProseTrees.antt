@@ -136,11 +136,6 @@ number_behind n before t = n + count (placed before t)
 abbrev pub items_behind : List Item → ItemTree → List Item
 items_behind before t = before ++ tree_items t
 
-pub para_before : (n : ℕ) (before : List Item) (ls : List Leaf) (ts : List ItemTree) → let t = leaves_para ls in
-    blocks_of n before (t ∷ ts) ≡ more (tree (para_label n before ls) (para_nodes n before ls)) (blocks_of (number_behind n before t) (items_behind before t) ts)
-unfolding label_at
-para_before n before ls ts = refl
-
 abbrev pub sep_items : ℕ → List Item
 sep_items n = page_chars (replicate n 10)
 
@@ -161,8 +156,3 @@ sep_label before n = record {
 
 abbrev pub sep_tree : ℕ → ItemTree
 sep_tree n = loose_leaf Sep (sep_items n)
-
-pub sep_before : (n : ℕ) (before : List Item) (k : ℕ) (ts : List ItemTree) → let t = sep_tree k in
-    blocks_of n before (t ∷ ts) ≡ more (tree (sep_label before k) none) (blocks_of (number_behind n before t) (items_behind before t) ts)
-unfolding label_at
-sep_before n before k ts = refl
