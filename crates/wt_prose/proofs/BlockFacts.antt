@@ -202,9 +202,9 @@ facts_retyped xs n before ls p t text ds ts was now shown le clear shut f =
 
 -- ---- behind a line break no tag is open
 
-repeat_end : (k : ℕ) → replicate (suc k) 10 ≡ replicate k 10 ++ 10 ∷ []
+repeat_end : (k : ℕ) → replicate {A = ℕ} (suc k) 10 ≡ replicate k 10 ++ 10 ∷ []
 repeat_end zero = refl
-repeat_end (suc k) = ap (λ bs. 10 ∷ bs) (repeat_end k)
+repeat_end (suc k) = ap (λ (bs : List ℕ). 10 ∷ bs) (repeat_end k)
 
 break_end : (bs : List ℕ) → ends_open (bs ++ 10 ∷ []) ≡ false
 break_end bs =

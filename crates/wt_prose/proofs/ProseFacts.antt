@@ -18,7 +18,7 @@ use Rattle.wt_text_edits.specs.LoneEdits.{typed_in}
 use Rattle.wt_text_edits.specs.TypedPages.{IsTypedPage}
 use Rattle.wt_text_edits.proofs.TakesAnyText.{typed_again}
 use Rattle.wt_text_edits.proofs.TypedItems.{typed_shows}
-use Rattle.wt_text_edits.proofs.TypedLeaves.{AreOwn, Leaf, leaf_shown, leaf_source, leaves_shown, leaves_source, leaves_shut, leaves_para}
+use Rattle.wt_text_edits.proofs.TypedLeaves.{AreOwn, Leaf, leaves, leaf_shown, leaf_source, leaves_shown, leaves_source, leaves_shut, leaves_para}
 use Rattle.wt_text_edits.proofs.TypedShown.{leaves_show}
 use Rattle.wt_prose.specs.ProsePages.{Passage, prose, AreProse}
 use Rattle.wt_prose.specs.ProseTrees.{separator}
@@ -29,9 +29,9 @@ use Rattle.wt_prose.proofs.BlockFacts.{paragraph_shown, Facts, facts_nothing, fa
 
 -- ---- a paragraph of a page before others
 
-abbrev sent_shown : Sending → Passage → List ℕ
-sent_shown (retyped p t text) q = text
-sent_shown (kept u) q = flat_map leaf_shown (leaves_of q)
+abbrev sent_shown : Sending → List ℕ → List ℕ
+sent_shown (retyped p t text) source = text
+sent_shown (kept u) source = flat_map leaf_shown (leaves (page_items source))
 
 paragraph_is : (q : Passage) → AreOwn (page_items q.paragraph) → flat_map leaf_source (leaves_of q) ≡ q.paragraph
 paragraph_is q h = leaves_source (page_items q.paragraph) h ∙ page_sources q.paragraph
@@ -40,7 +40,7 @@ facts_paragraph : (xs : List Item) (n : ℕ) (before : List Item) (q : Passage) 
     → 1 ≤ n → ends_open (sources before) ≡ false → AreOwn (page_items q.paragraph)
     → Facts xs (number_behind n before (leaves_para (leaves_of q))) (items_behind before (leaves_para (leaves_of q))) ds ts was now shown
     → Facts xs n before (d ∷ ds) (leaves_para (leaves_of q) ∷ ts) (q.paragraph ++ was) (new_paragraph d q.paragraph ++ now)
-    (paragraph_shown (sent_shown d q) shown)
+    (paragraph_shown (sent_shown d q.paragraph) shown)
 facts_paragraph xs n before q (retyped p t text) ds ts was now shown le clear own f =
     let ls : List Leaf = leaves_of q in
     let P : List ℕ → Type 0 = λ cs. Facts xs n before (retyped p t text ∷ ds) (leaves_para ls ∷ ts) (cs ++ was) (typed_in cs text ++ now) (paragraph_shown text shown) in
@@ -55,7 +55,7 @@ facts_paragraph xs n before q (kept u) ds ts was now shown le clear own f =
 
 abbrev pub sent_shows : List PassageEdit → Plains
 sent_shows [] = ended
-sent_shows (e ∷ es) = paragraph_shown (sent_shown e.sending e.passage) (sent_shows es)
+sent_shows (e ∷ es) = paragraph_shown (sent_shown e.sending e.passage.paragraph) (sent_shows es)
 
 -- line breaks behind the last paragraph
 facts_end : (xs : List Item) (n : ℕ) (before : List Item) (k : ℕ) (u : Tree)
@@ -86,7 +86,7 @@ facts_last xs n before q d u h le clear =
     let t : ItemTree = leaves_para (leaves_of q) in
     let bs : List ℕ = replicate q.breaks 10 in
     regrouped xs n before (d ∷ (for_breaks q.breaks u ++ [])) (t ∷ (separator q.breaks ++ [])) q.paragraph (new_paragraph d q.paragraph) bs [] []
-    (paragraph_shown (sent_shown d q) ended)
+    (paragraph_shown (sent_shown d q.paragraph) ended)
     (facts_paragraph xs n before q d (for_breaks q.breaks u ++ []) (separator q.breaks ++ []) (bs ++ []) (bs ++ []) ended le clear (own_of q.paragraph h)
     (facts_end xs (number_behind n before t) (items_behind before t) q.breaks u))
 
@@ -106,7 +106,7 @@ facts_more xs n before q d u es k is h le clear g =
     let shown : Plains = sent_shows es in
     subst P (sym is)
     (regrouped xs n before (d ∷ kept u ∷ all_sendings es) (t ∷ s ∷ flat_map leafy (old_passages es)) q.paragraph (new_paragraph d q.paragraph) bs was now
-    (paragraph_shown (sent_shown d q) shown)
+    (paragraph_shown (sent_shown d q.paragraph) shown)
     (facts_paragraph xs n before q d (kept u ∷ all_sendings es) (s ∷ flat_map leafy (old_passages es)) (bs ++ was) (bs ++ now) shown le clear (own_of q.paragraph h)
     (facts_sep xs m after (suc k) u (all_sendings es) (flat_map leafy (old_passages es)) was now shown
     (g (number_behind m after s) (items_behind after s) (omega (arith, le)) (behind_breaks after k)))))
@@ -160,7 +160,7 @@ prose_own (p ∷ q ∷ ps) h = (own_of p.paragraph h.0, prose_own (q ∷ ps) h.2
 -- ---- the new page shows what was sent
 
 sent_same : (d : Sending) (q : Passage) → IsText d → AreOwn (page_items q.paragraph)
-    → sent_shown d q ≡ flat_map shown_item (page_items (new_paragraph d q.paragraph))
+    → sent_shown d q.paragraph ≡ flat_map shown_item (page_items (new_paragraph d q.paragraph))
 sent_same (retyped p t text) q u h = sym (typed_shows (record { within = false; place = place.Paragraph; source = q.paragraph }) text u)
 sent_same (kept v) q u h = leaves_shown (page_items q.paragraph) h
 

@@ -46,7 +46,7 @@ use Rattle.wt_text_edits.proofs.SpelledUtf8.{spelled_utf8}
 use Rattle.wt_text_edits.proofs.TypedShown.{gathered_shows}
 use Rattle.wt_typed_blocks.specs.Sent.{Sent, old_children, old_body, new_body, AreSent, all_show}
 use Rattle.wt_typed_blocks.specs.Typed.{new_sources}
-use Rattle.wt_typed_blocks.proofs.SentAnswer.{answer_in_sections}
+use Rattle.wt_typed_blocks.proofs.SentSections.{answer_in_sections}
 use Rattle.wt_typed_blocks.proofs.SentShows.{body_shows}
 use Rattle.wt_prose.specs.ProsePages.{Passage, passage_source, prose, AreProse, IsProsePage}
 use Rattle.wt_prose.specs.ProseTrees.{prose_body, prose_page}
