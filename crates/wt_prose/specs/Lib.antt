@@ -1,0 +1,3 @@
+pub mod ProsePages
+pub mod ProseTrees
+pub mod ProseEdits
