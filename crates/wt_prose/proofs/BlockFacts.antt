@@ -185,8 +185,8 @@ facts_retyped xs n before ls p t text ds ts was now shown le clear shut f =
       takes = (tt, f.takes);
       untangled = λ page e. (
         all_false (ends_open (take (width before) page)) (any_ends_open us) (has_faulty_group (of_items xs) us)
-        (ap (λ cs. ends_open (take (width before) cs)) e ∙ ap ends_open (take-append_seam (sources before) (q ++ was)) ∙ clear)
-        (none_open (n + 1) (before ++ []) ls shut) (none_faulty (of_items xs) (n + 1) (before ++ []) ls),
+            (ap (λ cs. ends_open (take (width before) cs)) e ∙ ap ends_open (take-append_seam (sources before) (q ++ was)) ∙ clear)
+            (none_open (n + 1) (before ++ []) ls shut) (none_faulty (of_items xs) (n + 1) (before ++ []) ls),
         f.untangled page (e ∙ behind_source before (held ls ++ []) q was (held_source ls)),
       );
       flat = ap (λ cs. cs ++ flat_of_all (blocks_of m after ts)) (para_source n before ls) ∙ ap (λ cs. q ++ cs) f.flat;

@@ -7,4 +7,5 @@ pub mod ProseTexts
 pub mod BlockFacts
 pub mod ProseFacts
 pub mod ProseTakes
+pub mod ProseUnmarked
 mod Cases

@@ -80,7 +80,7 @@ prose_utf8 (p ∷ q ∷ ps) h = IsUtf8-append (passage_source p) (prose (q ∷ p
 pub page_is : (pages : Pages) (ps : List Passage) → AreProse ps → page_tree pages (prose ps) ≡ prose_page ps
 page_is pages ps h = ap with_sections (prose_tree pages ps h)
 
-abbrev body_label : List Passage → Label
+abbrev pub body_label : List Passage → Label
 body_label ps = sized kind.Body 0 (held_by_all (forest (flat_map leafy ps)) ++ []) [] []
 
 -- what it shows
@@ -92,20 +92,20 @@ page_shows pages ps h =
 
 -- ---- what was sent
 
-abbrev blocks_sent : List PassageEdit → List Sent
+abbrev pub blocks_sent : List PassageEdit → List Sent
 blocks_sent es = sent_children (all_sendings es) (blocks_from 1 [] (old_passages es))
 
-sent_is : (b : Label) (es : List PassageEdit) → AreProse (old_passages es) → sent_prose b es ≡ new_body (body_label (old_passages es)) b (blocks_sent es)
+pub sent_is : (b : Label) (es : List PassageEdit) → AreProse (old_passages es) → sent_prose b es ≡ new_body (body_label (old_passages es)) b (blocks_sent es)
 sent_is b es h =
     let ps : List Passage = old_passages es in
     ap (λ t. new_body (label t) b (sent_children (all_sendings es) (children t))) (prose_blocks ps (prose_written ps h))
 
-kept_so : (es : List PassageEdit) → IsProseEdit es → AreKept (all_sendings es) (blocks_from 1 [] (old_passages es))
+pub kept_so : (es : List PassageEdit) → IsProseEdit es → AreKept (all_sendings es) (blocks_from 1 [] (old_passages es))
 kept_so es h =
     let ps : List Passage = old_passages es in
     subst (λ t. AreKept (all_sendings es) (children t)) (prose_blocks ps (prose_written ps h.are_prose)) h.are_kept
 
-facts_of : (es : List PassageEdit) → IsProseEdit es → FactsOf (page_items (prose (old_passages es))) 1 [] es
+pub facts_of : (es : List PassageEdit) → IsProseEdit es → FactsOf (page_items (prose (old_passages es))) 1 [] es
 facts_of es h = facts_all (page_items (prose (old_passages es))) es h.are_prose 1 [] (omega arith) refl
 
 -- ---- the answer
@@ -115,7 +115,7 @@ as_edit : (new : List ℕ) → length new ≤ PAGE_BYTES → length new ≤ most
 unfolding most_bytes
 as_edit new h = h
 
-opened_is : (pages : Pages) (es : List PassageEdit) (h : IsProseEdit es)
+pub opened_is : (pages : Pages) (es : List PassageEdit) (h : IsProseEdit es)
     → ungathered (expanded_page pages (prose (old_passages es))).outer (expanded_page pages (prose (old_passages es))).items
     ≡ old_body (body_label (old_passages es)) (blocks_sent es)
 opened_is pages es h =

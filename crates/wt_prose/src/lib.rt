@@ -17,6 +17,8 @@ ghost use Rattle.wt_text_edits.specs.LonePages.{of_items};
 ghost use Rattle.wt_text_edits.specs.TypedPages.{IsTypedPage};
 ghost use Rattle.wt_prose.specs.ProsePages.{Passage, prose, AreProse, IsProsePage};
 ghost use Rattle.wt_prose.specs.ProseTrees.{prose_page};
+ghost use Rattle.wt_pagetool.specs.Selser.{DoneByEdit};
+ghost use Rattle.wt_prose.specs.ProseUnmarked.{unmarked_prose, IsUnmarkedEdit};
 ghost use Rattle.wt_prose.specs.ProseEdits.{PassageEdit, old_passages, new_passages, sent_prose, IsProseEdit};
 
 /// Prose calls nothing: it has no calls and no arguments, whatever the folder has, nothing is fetched for it,
@@ -54,4 +56,15 @@ pub fn prose_takes_any_texts()
         → answer_told (Some pages) (Some input) words ≡ Some (done (prose (new_passages es))) }
     ensures lone { (page : List ℕ) → IsTypedPage page → IsProsePage page }
     ensures again { (es : List PassageEdit) → IsProseEdit es → IsProsePage (prose (new_passages es)) }
+{}
+
+/// Without marks, too, as a browser sends it: where each text that was typed is another one than what its paragraph
+/// held, `edit` of the difference is done, whatever marks the input has. So `selser`, which is never refused then
+/// (`run` promises that), takes it.
+#[tactic(auto, using(crate::proofs::ProseUnmarked::unmarked_done))]
+pub fn unmarked_prose_is_taken()
+    ensures { (pages : Pages) (es : List PassageEdit) (stands : Option (List ℕ)) (input : List ℕ) (b : Label) (unsourced : Option ℕ)
+        → IsUnmarkedEdit es → stands ≡ Some (prose (old_passages es)) → length (prose (old_passages es)) ≤ PAGE_BYTES
+        → length (prose (new_passages es)) ≤ PAGE_BYTES → length input ≤ HTML_BYTES
+        → read input ≡ as_page (unmarked_prose b es) unsourced → DoneByEdit pages stands input }
 {}
