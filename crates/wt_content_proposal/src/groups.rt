@@ -17,7 +17,12 @@ fn are_of_line(nodes: &[Node<'_>]) -> bool {
         let is_of_line = match node.kind {
             Kind::Text => !node.shown().as_bytes().contains(&b'\n'),
             Kind::Bold | Kind::Italic | Kind::Tag(_) => are_of_line(node.children.as_slice()),
-            Kind::WikiLink | Kind::ExtLink | Kind::Entity | Kind::Br | Kind::Island | Kind::Category => true,
+            Kind::WikiLink
+            | Kind::ExtLink
+            | Kind::Entity
+            | Kind::Br
+            | Kind::Island
+            | Kind::Category => true,
             _ => false,
         };
         if !is_of_line {
@@ -107,12 +112,7 @@ fn role_of_line(
 
 /// What a node of the page, which stood at this place, is to its neighbours behind `left`, where nothing joins at a
 /// line's start or end.
-pub fn role_in_line(
-    role: Role,
-    node: &Node<'_>,
-    left: Option<&Unit<'_>>,
-    place: Stretch,
-) -> Role {
+pub fn role_in_line(role: Role, node: &Node<'_>, left: Option<&Unit<'_>>, place: Stretch) -> Role {
     let nodes = node.children.as_slice();
     match role {
         Role::Group(group) if is_of_line(nodes) => role_of_line(group, nodes, left, place),
