@@ -339,6 +339,16 @@ fn link_round(
     Ok(Some(out))
 }
 
+/// The text of an external link, apart from its URL where it begins with a blank.
+fn with_blank(alloc: Global, keeps: bool, inside: &str) -> Result<Str, NoMemory> {
+    let mut out = Str::new(alloc);
+    if keeps && inside.starts_with(" ") {
+        out.push_str("<nowiki/>")?;
+    }
+    out.push_str(inside)?;
+    Ok(out)
+}
+
 fn new_source(alloc: Global, keeps: bool, node: &Node<'_>, inside: &str) -> Result<Str, NoMemory> {
     match shape(node.kind).inline {
         InlineForm::PageLink => {
@@ -350,7 +360,10 @@ fn new_source(alloc: Global, keeps: bool, node: &Node<'_>, inside: &str) -> Resu
                 Ok(link)
             }
         }
-        InlineForm::ExternalLink => external_link_of(alloc, node, inside),
+        InlineForm::ExternalLink => {
+            let inside = with_blank(alloc, keeps, inside)?;
+            external_link_of(alloc, node, inside.as_str())
+        }
         InlineForm::Break => Str::copy_of(alloc, "<br>"),
         InlineForm::Nothing
         | InlineForm::Characters

@@ -187,17 +187,41 @@ fn is_plain(within: bool, cut: Cut<'_, '_, '_>, byte: u8) -> bool {
     }
 }
 
-/// Whether a blank ends an inside in which it is shown there: none is dropped but at the end of a heading's and a
-/// paragraph's text.
-fn is_plain_blank(place: Option<Place>, cut: Cut<'_, '_, '_>, byte: u8) -> bool {
-    let is_kept = matches!(
+/// Whether a blank at the end of an inside is shown there.
+fn shows_blanks(place: Option<Place>) -> bool {
+    matches!(
         place,
         Some(Place::Item | Place::Term | Place::Cell | Place::Header)
-    );
-    is_kept
-        && Passed::Blanks.has(byte)
-        && !cut.begins_line()
-        && matches!(cut.ahead(Passed::Blanks), Beside::Edge)
+    )
+}
+
+/// How many blanks end the inside at the end of its last text, behind something in their line.
+fn blanks_at_end(
+    place: Option<Place>,
+    bytes: &[u8],
+    before: Option<&Unit<'_>>,
+    units: &[Unit<'_>],
+) -> usize {
+    if !shows_blanks(place) || !units.is_empty() {
+        return 0;
+    }
+    let mut count: usize = 0;
+    let mut last = match before {
+        Some(unit) => last_of(unit),
+        None => Beside::Edge,
+    };
+    for byte in bytes {
+        if Passed::Blanks.has(*byte) {
+            count = count.saturating_add(1);
+        } else {
+            count = 0;
+            last = Beside::Byte(*byte);
+        }
+    }
+    match last {
+        Beside::Byte(byte) if byte != b'\n' => count,
+        _ => 0,
+    }
 }
 
 // ---- texts
@@ -250,14 +274,20 @@ fn push_text<'u, 'n>(
             before,
             units,
         };
-        if is_plain(place.is_none(), cut, byte) || is_plain_blank(place, cut, byte) {
+        if is_plain(place.is_none(), cut, byte) {
             let end = at.saturating_add(1);
             push_letters(out, piece(text, start, at))?;
             push_plain(alloc, out, piece(text, at, end))?;
             start = end;
         }
     }
-    push_letters(out, piece(text, start, text.len()))
+    let blanks = blanks_at_end(place, bytes, before, units);
+    let end = bytes.len().saturating_sub(blanks);
+    push_letters(out, piece(text, start, end))?;
+    if blanks == 0 {
+        return Ok(());
+    }
+    push_plain(alloc, out, piece(text, end, bytes.len()))
 }
 
 /// The units with the characters of new texts apart that stay as they were typed; `place` is that of the inside, None
