@@ -3,5 +3,7 @@ pub mod SentShows
 pub mod SentSlices
 pub mod SentSpliced
 pub mod SentAnswer
+pub mod SentFrames
 pub mod SentSections
+pub mod SentUnmarked
 mod Cases

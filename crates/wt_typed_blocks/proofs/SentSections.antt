@@ -2,34 +2,20 @@
 use Rattle.std.proofs.Common.{◌≡◌, ℕ, ◌≤◌, Bool, false, List, [], ◌∷◌, length, refl, ap, ◌∙◌}
 use Rattle.std.specs.Prelude.{Ok, ◌||◌}
 use Rattle.wt_span.specs.Origins.{Expanded}
-use Rattle.wt_tree.specs.declared.kind.Kind.{Kind}
 use Rattle.wt_tree.specs.Opened.{without_sections}
 use Rattle.wt_tree.specs.Source.{flat_of_all}
 use Rattle.wt_tree.specs.Tiling.{NoneIsGroup, InPreorder}
-use Rattle.wt_tree.specs.Tree.{Label, Tree, tree, Trees, none, more}
+use Rattle.wt_tree.specs.Tree.{Label, Tree}
 use Rattle.wt_checks.specs.BareSections.{HasBareSections}
-use Rattle.wt_checks.specs.PutBack.{is_frame, has_frame, have_frame, IsOneBody}
+use Rattle.wt_checks.specs.PutBack.{has_frame, have_frame, IsOneBody}
 use Rattle.wt_checks.proofs.Repeated.{or_false}
 use Rattle.wt_selser.specs.Edits.{most_bytes, edit_answer}
 use Rattle.wt_selser.proofs.Sections.{answers_same}
-use Rattle.wt_typed_blocks.specs.Sent.{StandsAsIs, AllStandAsIs, paragraph, heading, Sent, stands, typed, old_child, new_child, old_children, new_children, IsSent, AreSent, old_body, new_body}
+use Rattle.wt_typed_blocks.specs.Sent.{paragraph, heading, Sent, stands, typed, old_child, new_child, old_children, new_children, IsSent, AreSent, old_body, new_body}
 use Rattle.wt_typed_blocks.specs.Typed.{new_sources, TakeTexts, StandAt, AreUntangled}
 use Rattle.wt_typed_blocks.proofs.SentSlices.{Same}
 use Rattle.wt_typed_blocks.proofs.SentAnswer.{answer_is}
-
-mutual
-  no_frame_sent : (t u : Tree) → StandsAsIs t u → has_frame t ≡ false → has_frame u ≡ false
-  no_frame_sent (tree l ts) (tree m us) h f =
-      let d = or_false (is_frame l.kind) (have_frame ts) f in
-      ap (λ (k : Kind). is_frame k || have_frame us) h.0.kind ∙ ap (λ (b : Bool). b || have_frame us) d.0 ∙ none_frame_sent ts us h.1 d.1
-
-  none_frame_sent : (ts us : Trees) → AllStandAsIs ts us → have_frame ts ≡ false → have_frame us ≡ false
-  none_frame_sent none none h f = refl
-  none_frame_sent none (more u us) h f = absurd h
-  none_frame_sent (more t ts) none h f = absurd h
-  none_frame_sent (more t ts) (more u us) h f =
-      let d = or_false (has_frame t) (have_frame ts) f in
-      ap (λ (b : Bool). b || have_frame us) (no_frame_sent t u h.0 d.0) ∙ none_frame_sent ts us h.1 d.1
+use Rattle.wt_typed_blocks.proofs.SentFrames.{no_frame_sent}
 
 child_frameless : (s : Sent) → IsSent s → has_frame (old_child s) ≡ false → has_frame (new_child s) ≡ false
 child_frameless (stands t u) h f = no_frame_sent t u h f
