@@ -64,7 +64,7 @@ form_shown kind b q rest k f r after =
     (subst (λ (n : ℕ). P (cuts Page (is_break b) n (q ++ rest))) (sym z)
     (skip P q rest (is_break b) (λ a. (k, shown_closed (cuts Page a 0 rest) (r a)))))
 
-reads_form : (kind : LexKind) (b : ℕ) (q rest : List ℕ) (xs : List Item) → IsShown kind
+pub reads_form : (kind : LexKind) (b : ℕ) (q rest : List ℕ) (xs : List Item) → IsShown kind
     → form_at Page false (b ∷ (q ++ rest)) ≡ Some (kind, suc (length q)) → NoComments (b ∷ (q ++ rest)) → Reads rest xs
     → Reads (b ∷ (q ++ rest)) (items_of_word kind (b ∷ q) ++ xs)
 reads_form kind b q rest xs k f c r =
@@ -77,10 +77,10 @@ pub record InFront (q : List ℕ) : Type 0 where
   pub items : List Item
   pub reads : (rest : List ℕ) (xs : List Item) → Reads rest xs → Reads (q ++ rest) (items ++ xs)
 
-front_nothing : InFront []
+pub front_nothing : InFront []
 front_nothing = record { items = []; reads = λ rest xs r. r }
 
-front_byte : (b : ℕ) (q : List ℕ) → ((rest : List ℕ) → form_at Page false (b ∷ (q ++ rest)) ≡ None)
+pub front_byte : (b : ℕ) (q : List ℕ) → ((rest : List ℕ) → form_at Page false (b ∷ (q ++ rest)) ≡ None)
     → ((rest : List ℕ) → comment_len (b ∷ (q ++ rest)) ≡ None) → InFront q → InFront (b ∷ q)
 front_byte b q f c g = record {
   items = char None b ∷ g.items;
@@ -193,7 +193,7 @@ front_from s before (c ∷ cs) =
     (front_letter s before c cs e refl (front_from s (letter c ∷ before) cs))
 
 -- what is read of it alone
-its_items : (q : List ℕ) (g : InFront q) → page_items q ≡ g.items
+pub its_items : (q : List ℕ) (g : InFront q) → page_items q ≡ g.items
 its_items q g =
     let r : Reads (q ++ []) (g.items ++ []) = g.reads [] [] reads_nothing in
     ap page_items (sym (append-nil q)) ∙ items_are (q ++ []) (g.items ++ []) r.items ∙ append-nil g.items

@@ -1,1 +1,2 @@
 pub mod LineForms
+pub mod Fronts
