@@ -20,7 +20,7 @@ use Rattle.wt_pagetool.specs.declared.output.Output.{Output}
 use Rattle.wt_pagetool.specs.declared.output.Output.TheVariants.{Text}
 use Rattle.wt_pagetool.specs.declared.refusal.Refusal.{Refusal}
 use Rattle.wt_pagetool.specs.declared.refusal.Refusal.TheVariants.{Checked}
-use Rattle.wt_pagetool.specs.Answers.{Answer, done, refused, edit_by, new_answer, new_expanded, nodes_answer, refusal_of_page, unspelled_answer}
+use Rattle.wt_pagetool.specs.Answers.{done, refused, edit_by, new_answer, new_expanded, nodes_answer, refusal_of_page, unspelled_answer}
 use Rattle.wt_pagetool.specs.Causes.{IsKept, IsOfEdit, Refuses}
 use Rattle.wt_pagetool.specs.Refusals.{refusal_of_selser, status_of}
 use Rattle.wt_pagetool.specs.Selser.{FindsNew, FindsNone, OrFound}
@@ -121,6 +121,9 @@ pub selser_counted : (before after : ℕ) (why : SelserRefusal) (result : Result
 selser_counted before after why (Ok output) is h = absurd is
 selser_counted before after why (Err r) is h = subst (IsOfEdit ⊥ (Rose before after)) (sym is) (counted before after why h)
 
+abbrev refused_as : Refusal → Result Output Refusal
+refused_as r = Err r
+
 kept : (before after : ℕ) (why : SelserRefusal) → IsCountedErr before after why → IsKept (named why) before after
 kept before after (of_selser.Check c) h = λ _. h
 kept before after (of_selser.BadContent n why) h = λ _. h
@@ -134,4 +137,4 @@ pub selser_kept : (before after : ℕ) (why : SelserRefusal) (result : Result Ou
     → IsCountedErr before after why → IsKept result before after
 selser_kept before after why (Ok output) is h = absurd is
 selser_kept before after why (Err r) is h =
-    subst (λ (x : Refusal). IsKept {Output} (Err x) before after) (sym is) (kept before after why h)
+    subst (λ x. IsKept (refused_as x) before after) (sym is) (kept before after why h)

@@ -14,6 +14,7 @@ use Rattle.wt_guards.specs.Letters.{is_escaped, reference}
 use Rattle.wt_guards.specs.Table.{hazard, line_start_hazard}
 use Rattle.wt_typed_blocks.specs.Sent.{StandsAsIs, paragraph, heading, Sent, stands, typed, old_children, all_show}
 use Rattle.wt_typed_blocks.specs.Typed.{new_sources, TakeTexts, StandAt}
+use Rattle.wt_typed_blocks.specs.Unmarked.{AreToldApart}
 
 abbrev a_label : Kind → ℕ → ℕ → ℕ → ℕ → List ℕ → List ℕ → Label
 a_label k id start end width sign own = record {
@@ -99,3 +100,11 @@ other_text h = let e : [] ≡ codes "c" = h.1.0.0.shown refl in absurd (cc)
 -- nor where a mark stands on it
 marked : StandsAsIs line (tree (record (sent_label kind.Sep 0 []) { mark = marks.Content }) none) → ⊥
 marked h = let e = h.0.unmarked in absurd (cc)
+
+-- Without marks the difference tells the paragraph apart from the heading, which is the page's own.
+one_apart : AreToldApart one_typed
+one_apart = (refl, ((record { id = refl; kind = refl; attrs = refl; mw = refl; shown = refl }, tt), ((record { id = refl; kind = refl; attrs = refl; mw = refl; shown = refl }, ((record { id = refl; kind = refl; attrs = refl; mw = refl; shown = refl }, tt), tt)), tt)))
+
+-- where the page's own text is typed there is no difference
+same_text : AreToldApart (as_paragraph (codes "a b") ∷ []) → ⊥
+same_text h = let e = h.0 in absurd (cc)
