@@ -1,8 +1,7 @@
 -- What is spelled of a text reads the same in front of whatever is read behind it: its items stand first, and all its words show something.
 use Rattle.std.proofs.Common.{arith, ◌≡◌, ℕ, suc, ◌-◌, ◌≤◌, ◌==◌, Bool, true, false, List, [], ◌∷◌, ◌++◌, length, map, refl, sym, ap, ◌∙◌, subst, append-nil, append_assoc, Some, None, inl, inr, All}
-use Rattle.std.specs.Prelude.{◌||◌, codes, encode_utf8, if◌then◌else◌}
+use Rattle.std.specs.Prelude.{codes, encode_utf8, if◌then◌else◌}
 use Rattle.std.specs.Str.{chars}
-use Rattle.std.specs.Fmt.{digits}
 use Rattle.std.proofs.lemmas.Bool.{cases_lt}
 use Rattle.std.proofs.lemmas.List.Elements.{All-head, All-tail}
 use Rattle.std.proofs.lemmas.Str.{encode_ascii}
@@ -23,7 +22,7 @@ use Rattle.wt_guards.specs.Guards.{Setting, nowiki, nowiki_if, is_guarded, spell
 use Rattle.wt_guards.proofs.Escapes.{is_escapable, escapable}
 use Rattle.wt_expand.specs.PageItems.{items_of_word, page_items}
 use Rattle.wt_spelling_laws.proofs.Forms.{NoComments, comment_other, comment_not, without_line, other_byte, equals_byte, IsTame, less_byte, and_byte, nowiki_form, reference_form}
-use Rattle.wt_spelling_laws.proofs.TextReads.{begin_next, or_parts, bracket_escaped, not_bracket, equal_or, apart}
+use Rattle.wt_spelling_laws.proofs.TextReads.{begin_next, bracket_escaped, not_bracket, equal_or, apart}
 use Rattle.wt_text_edits.proofs.TypedItems.{ItemsOf, items_byte, items_form, skip, references, wide_form, wide_tame, tame_if, IsMild, wide_mild, mild_if, no_form_byte, after_it, items_are}
 use Rattle.wt_text_edits.proofs.TypedText.{IsShown, AreShown}
 
