@@ -28,7 +28,7 @@ use wt_span::{HTML_BYTES, List, PAGE_BYTES, Str};
 use wt_unmarked_edit::Readings;
 
 /// What the words ask for, or why it isn't to be had.
-#[tactic(auto, using(crate::proofs::GenLaws::few_sections), unfolding(crate::specs::Answers::answer_told, crate::specs::Asked::names_told))]
+#[tactic(auto, using(crate::proofs::GenLaws::few_sections, crate::proofs::FaultLaws::title_alone, crate::proofs::FaultLaws::input_alone), unfolding(crate::specs::Answers::answer_told, crate::specs::Asked::names_told))]
 fn find_answer<S: Source, F: Folder>(
     alloc: Global,
     words: &List<Str>,
