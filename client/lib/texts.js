@@ -168,6 +168,8 @@ class Texts {
     const changed = was.slice(front, was.length - back);
     this.hasNoBreaks = changed.includes("\u00a0");
     this.hasReturns = changed.includes("\r");
+    /** Signs without a width, and page and line feeds, that the page has there. */
+    this.stay = new Set(changed.match(/[\u200b\ufeff\v\f]/g));
   }
 
   /**
@@ -228,7 +230,9 @@ class Texts {
    * @param {boolean} isParagraph
    */
   #typed(text, isParagraph) {
-    let mended = text.replace(/[\u200b\ufeff]/g, "").replace(/[\v\f]/g, " ");
+    const unless = (/** @type {string} */ other) => (/** @type {string} */ sign) =>
+      this.stay.has(sign) ? sign : other;
+    let mended = text.replace(/[\u200b\ufeff]/g, unless("")).replace(/[\v\f]/g, unless(" "));
     if (!this.hasReturns) mended = mended.replace(/\r\n?/g, "\n");
     if (!this.hasNoBreaks) mended = mended.replaceAll("\u00a0", " ");
     return isParagraph ? mended.replace(/\n(?:[ \t]*\n)+/g, "\n") : mended.replace(/\n+/g, " ");

@@ -98,7 +98,7 @@ export class Watch {
   /** @param {Node} node */
   #drop(node) {
     this.#parts.delete(node);
-    if (node.nodeName === "SECTION") for (const child of node.childNodes) this.#drop(child);
+    if (/** @type {Element} */ (node).localName === "section") for (const child of node.childNodes) this.#drop(child);
   }
 }
 

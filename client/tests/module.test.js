@@ -189,6 +189,18 @@ const MENDS = [
     '<p id="mw1">a\u00a0b cd</p>',
   ],
   [
+    "zero-width spaces that were typed go",
+    '<p id="mw1">a b c</p>',
+    '<p id="mw1">a b\u200bx c</p>',
+    '<p id="mw1">a bx c</p>',
+  ],
+  [
+    "zero-width spaces of the page stay between two changes",
+    '<p id="mw1">a b\u200bc <b id="mw2">d\u200be</b> f</p>',
+    '<p id="mw1">x b\u200bc <b id="mw2">d\u200be</b> y</p>',
+    '<p id="mw1">x b\u200bc <b id="mw2">d\u200be</b> y</p>',
+  ],
+  [
     "line breaks of the page come back",
     '<p id="mw1">a b\nc d</p>',
     '<p id="mw1">a bx c d</p>',

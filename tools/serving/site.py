@@ -492,7 +492,7 @@ def check_kept(document: bytes, original: bytes) -> None:
     """Refuses HTML without a mark in which no element of the page is left, as a fragment that a client sent
     for the whole: it would take out all that the page has."""
     kept = set(NUMBERED.findall(original))
-    if kept and kept.isdisjoint(NUMBERED.findall(document)):
+    if kept and kept.isdisjoint((name.lower(), number) for name, number in NUMBERED.findall(document)):
         sentence = "Nothing of the page is left in this HTML: send the whole document, or mark what is to go."
         raise Refusal(422, "NothingKept", sentence)
 

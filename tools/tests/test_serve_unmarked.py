@@ -59,6 +59,20 @@ class Unmarked(ServingCase):
         made = self.new_page("Short", "a ] b", "a ] b", "a ] <strong>b</strong><br>")
         self.assertEqual(made, "a ] '''b'''")
 
+    def test_zero_width_spaces_of_the_page_stay_between_two_changes(self) -> None:
+        made = self.new_page("Short", "a b\u200bc [[d|e\u200bf]] g\u200bh", "a b", "x b")
+        self.assertEqual(made, "x b\u200bc [[d|e\u200bf]] g\u200bh")
+        html, tag = self.html("Short")
+        sent = html.replace(">a b", ">x b").replace("h</p>", "y</p>")
+        self.save("Short", sent, tag)
+        self.assertEqual((self.pages / "Short.wiki").read_text(), "x b\u200bc [[d|e\u200bf]] g\u200by")
+
+    def test_names_of_tags_may_be_in_capitals(self) -> None:
+        (self.pages / "Short.wiki").write_text("a b")
+        html, tag = self.html("Short")
+        capitals = re.sub("</?[a-z0-9]+", lambda name: name[0].upper(), html)
+        self.assertEqual(self.save("Short", capitals.replace("a b<", "a c<"), tag)[0], 200)
+
     def test_of_line_breaks_that_a_deletion_leaves_nothing_is_written(self) -> None:
         categories = "[[Category:X]]\n[[Category:Y]]\n[[Category:Z]]"
         for page, deleted, left, wanted in [

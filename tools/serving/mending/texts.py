@@ -113,6 +113,7 @@ class Texts:
         changed = was[front : len(was) - back]
         self._has_no_breaks = "\u00a0" in changed
         self._has_returns = "\r" in changed
+        self._stay = set(re.findall("[\u200b\ufeff\v\f]", changed))
 
     def mend(self, block: Element, lead: List[Child]) -> None:
         self._pieces(lead, block.name in ("p", "pre"), False)
@@ -149,8 +150,8 @@ class Texts:
 
     def _typed(self, text: str, is_paragraph: bool) -> str:
         """`text` is what was typed or pasted."""
-        mended = re.sub("[\u200b\ufeff]", "", text)
-        mended = re.sub("[\v\f]", " ", mended)
+        mended = re.sub("[\u200b\ufeff]", lambda sign: sign[0] if sign[0] in self._stay else "", text)
+        mended = re.sub("[\v\f]", lambda sign: sign[0] if sign[0] in self._stay else " ", mended)
         if not self._has_returns:
             mended = re.sub("\r\n?", "\n", mended)
         if not self._has_no_breaks:
