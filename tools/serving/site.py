@@ -442,7 +442,7 @@ def unit_of(request: Request, fields: Dict[str, object]) -> str:
 
 def sent_in(request: Request, name: str, fields: Dict[str, object]) -> str:
     """A hash of the edit that a request sends: the same one for the same edit of the same page."""
-    about = json.dumps([name, unit_of(request, fields)]).encode()
+    about = json.dumps([name, unit_of(request, fields), bodies.flag(fields.get("mended"))]).encode()
     return hash_of(hash_of(about) + bodies.encoded(bodies.text_field(fields, "html"))).hex()
 
 
