@@ -15,8 +15,8 @@ import { putBack } from "./strays.js";
 import { append, isBare, isEmpty, tidy } from "./texts.js";
 import { Watch } from "./watch.js";
 import {
-  ATTRIBUTES, CELLS, ITEMS, LINES, LISTS, TAGS, hiddenKind, isBlank, isBlock, isBlockName, isHiddenName, isIsland,
-  isMark, mayHave, nameOf,
+  ATTRIBUTES, CELLS, ITEMS, LINES, LISTS, TAGS, hiddenKind, isBlank, isBlock, isBlockName, isHiddenName,
+  isIsland, isMark, mayHave, nameOf,
 } from "./kinds.js";
 
 /** @typedef {(Part | string)[]} Pieces */

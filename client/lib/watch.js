@@ -98,7 +98,8 @@ export class Watch {
   /** @param {Node} node */
   #drop(node) {
     this.#parts.delete(node);
-    if (/** @type {Element} */ (node).localName === "section") for (const child of node.childNodes) this.#drop(child);
+    const isSection = /** @type {Element} */ (node).localName === "section";
+    if (isSection) for (const child of node.childNodes) this.#drop(child);
   }
 }
 

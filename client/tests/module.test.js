@@ -112,6 +112,11 @@ function category(number) {
   return `<link rel="mw:PageProp/Category" href="./Category:X" id="mw${number}"/>`;
 }
 
+/** @param {string} title */
+function newCategory(title) {
+  return `<link rel="mw:PageProp/Category" href="./Category:${title}"/>`;
+}
+
 /** @param {number} number */
 function reference(number) {
   return `<span typeof="mw:Extension/ref" id="mw${number}"></span>`;
@@ -276,20 +281,19 @@ const MENDS = [
     `<p id="mw1">a\n${category(2)}</p>`,
     '<p id="mw1">a\n<link rel="mw:PageProp/Category" href="./Category:Y" id="mw9" data-parsoid="{}"/></p>' +
       '<meta property="mw:PageProp/notoc"/>',
-    '<p id="mw1">a\n<link rel="mw:PageProp/Category" href="./Category:Y"/></p>' +
-      '<meta property="mw:PageProp/notoc"/>',
+    `<p id="mw1">a\n${newCategory("Y")}</p><meta property="mw:PageProp/notoc"/>`,
   ],
   [
-    "a copy of a category is left out, one that was moved without its id stays",
+    "copies of a category are left out, with its id and without",
     `<p id="mw1">a\n${category(2)}</p><p id="mw3">b</p>`,
-    `<p id="mw1">a\n${category(2)}</p><p id="mw3">b ${category(2)}</p>${category(2).replace(' id="mw2"', "")}`,
+    `<p id="mw1">a\n${category(2)}</p><p id="mw3">b ${category(2)}</p>${newCategory("X")}`,
     `<p id="mw1">a\n${category(2)}</p><p id="mw3">b</p>`,
   ],
   [
     "a category that was moved without its id stays",
     `<p id="mw1">a\n${category(2)}</p><p id="mw3">b</p>`,
-    `<p id="mw1">a</p><p id="mw3">b${category(2).replace(' id="mw2"', "")}</p>`,
-    `<p id="mw1">a</p><p id="mw3">b${category(2).replace(' id="mw2"', "")}</p>`,
+    `<p id="mw1">a</p><p id="mw3">b${newCategory("X")}</p>`,
+    `<p id="mw1">a</p><p id="mw3">b${newCategory("X")}</p>`,
   ],
   [
     "new comments and skips are left out",
@@ -301,7 +305,8 @@ const MENDS = [
     "a new footnote, image or call is one thing, in whatever element it stands",
     TEXT,
     '<p id="mw1">a<sup typeof="mw:Extension/ref" class="x" data-mw="{}">[1]</sup></p>' +
-      '<figure typeof="mw:File/Thumb"><a href="./File:A.png"><img></img></a><figcaption>b</figcaption></figure>' +
+      '<figure typeof="mw:File/Thumb"><a href="./File:A.png"><img></img></a>' +
+      "<figcaption>b</figcaption></figure>" +
       '<p><span typeof="mw:Transclusion">c</span></p>',
     '<p id="mw1">a<span typeof="mw:Extension/ref" data-mw=\'{}\'></span></p>' +
       '<p><span typeof="mw:File/Thumb"></span></p><p><span typeof="mw:Transclusion"></span></p>',
@@ -742,14 +747,13 @@ test("the program takes what is saved", (context) => {
   }
 });
 
-test("a copy of a category that stands in a block that nobody touched is left out, a new one isn't", (context) => {
+test("a copy of a category in a block that nobody touched is left out, a new one isn't", (context) => {
   const JSDOM = findJsdom();
   if (JSDOM === null) return context.skip("there is no jsdom here");
   const html = page(`<p id="mw1">a ${category(2)}</p><p id="mw3">b</p>`);
-  for (const [title, wanted] of [["X", ""], ["Y", '<link rel="mw:PageProp/Category" href="./Category:Y"/>']]) {
+  for (const [title, wanted] of [["X", ""], ["Y", newCategory("Y")]]) {
     const root = open(html, { document: new JSDOM("").window.document });
-    const link = `<link rel="mw:PageProp/Category" href="./Category:${title}"/>`;
-    root.querySelector("#mw3")?.insertAdjacentHTML("beforeend", link);
+    root.querySelector("#mw3")?.insertAdjacentHTML("beforeend", newCategory(title));
     assert.equal(save(root), html.replace("b</p>", `b${wanted}</p>`));
   }
 });

@@ -9,8 +9,8 @@ import re
 from typing import Callable, Dict, Iterable, List, Optional, Set
 
 from .kinds import (
-    ATTRIBUTES, CELLS, ITEMS, LINES, LISTS, TAGS, hidden_kind, is_blank, is_block, is_block_name, is_hidden_name,
-    is_island, is_mark, may_have, name_of,
+    ATTRIBUTES, CELLS, ITEMS, LINES, LISTS, TAGS, hidden_kind, is_blank, is_block, is_block_name,
+    is_hidden_name, is_island, is_mark, may_have, name_of,
 )  # fmt: skip
 from .lines import drop_empty_lines
 from .links import link_target, with_edges_outside
