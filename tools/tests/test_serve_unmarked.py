@@ -67,6 +67,14 @@ class Unmarked(ServingCase):
         self.save("Short", sent, tag)
         self.assertEqual((self.pages / "Short.wiki").read_text(), "x b\u200bc [[d|e\u200bf]] g\u200by")
 
+    def test_signs_of_the_page_stay_in_links_items_and_cells(self) -> None:
+        for text in ("b\u200bc", "b\ufeffc\fd", "b\u00a0c\u200bd"):
+            shown = text.replace("\f", "&#12;")
+            for page in ("[[a|x {} y]]", "* x {} y", "{{|\n| x {} y\n|}}", "== x {} y =="):
+                with self.subTest(page=page, text=text):
+                    made = self.new_page("Short", page.format(text), f"x {shown} y", f"X {shown} Y")
+                    self.assertEqual(made, page.replace("x", "X").replace("y", "Y").format(text))
+
     def test_what_was_moved_into_a_new_block_keeps_its_signs(self) -> None:
         made = self.new_page("Short", "a b\u200bc d\u00a0e", "c d", "c</p><p>d")
         self.assertEqual(made, "a b\u200bc\n\nd\u00a0e")
