@@ -790,9 +790,15 @@ const DELETIONS = [
   ["a\n<ref>r</ref> b", 2, "a\nb"],
   ["a\n<!--k-->\nb\nc", "b", "a\n<!--k-->\nc"],
   ["a\nb\n\nc", "b", "a\n\nc"],
+  ["one two", "one", "two"],
+  ["* one two", "one", "* two"],
+  ["; one two\n: x", "one", "; two\n: x"],
+  ["== one two ==", "one", "== two =="],
+  ["== one two ==", "two", "== one =="],
+  ["{|\n| one two\n|}", "one", "{|\n| two\n|}"],
 ];
 
-test("of line breaks that a deletion leaves nothing is written", (context) => {
+test("of line breaks and blanks that a deletion leaves nothing is written", (context) => {
   const JSDOM = findJsdom();
   if (JSDOM === null) return context.skip("there is no jsdom here");
   if (program === null) return context.skip("there is no wtround here: build it, or name one in WTROUND");
