@@ -2,7 +2,7 @@
 /** The blocks of a page in the editor, which stand in the sections of the page or beside them. */
 
 /**
- * @param {Element} holder  the text, or a section of it
+ * @param {Element | DocumentFragment} holder  the text, or a section of it
  * @returns {Element[]} its blocks, in their order
  */
 export function blocksOf(holder) {

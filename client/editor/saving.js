@@ -111,7 +111,7 @@ export class Saving {
     try {
       const state = await pageThen(this.page.title, prepared);
       await idle();
-      return this.isLocked ? { ...state, read: readAhead(state.html) } : null;
+      return this.isLocked ? { ...state, read: readAhead(state.html, this.page.root) } : null;
     } catch {
       return null; // it is asked for again once the edit is stored
     }

@@ -136,6 +136,7 @@ function nameOf(node) {
 function becomes(node, child, watch) {
   if (typeof child === "string") return isText(node, child);
   const was = watch?.untouched(node);
+  if (was === child) return true;
   if (was !== undefined && hasSameShape(was, child)) {
     if (was.written === "" || was.written !== child.written) turn(/** @type {Element} */ (node), was, child);
     return true;
