@@ -17,6 +17,7 @@ import { Mender } from "./lib/mender.js";
 import { addMarks } from "./lib/marks.js";
 import { Watch } from "./lib/watch.js";
 
+export { bundle } from "./lib/bundles.js";
 export { HtmlRefused } from "./lib/markup.js";
 export { Offsets, rangeOf } from "./lib/offsets.js";
 export { describe, titleOf } from "./lib/names.js";

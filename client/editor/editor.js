@@ -1,7 +1,7 @@
 // @ts-check
 /** The editor of one page: it reads the page from the server, lets it be edited, and gives it back. */
 
-import { isChanged, open, prepareSave, renew } from "../bughtiso.js";
+import { bundle, isChanged, open, prepareSave, renew } from "../bughtiso.js";
 import { blocksOf } from "./blocks.js";
 import { Commands } from "./commands.js";
 import { History } from "./history.js";
@@ -13,6 +13,9 @@ import { selectedThing, thingAt, thingBeside } from "./things.js";
 
 /** From so many on, blocks out of sight aren't laid out. */
 const MANY_BLOCKS = 500;
+
+/** So many of them are laid out together. The browser looks at each such bundle again whenever it draws. */
+const BUNDLED_BLOCKS = 50;
 
 /**
  * @template {HTMLElement} T
@@ -119,6 +122,7 @@ class Editor {
    */
   #prepare(state, inside) {
     this.#take(state, inside);
+    if (this.root.classList.contains("long")) bundle(inside, BUNDLED_BLOCKS);
     this.root.contentEditable = "true";
     document.execCommand("defaultParagraphSeparator", false, "p");
     document.execCommand("styleWithCSS", false, "false");

@@ -549,7 +549,7 @@ test("a page of which an earlier state is known is read the same, and its other 
     }
     return found.map(page);
   };
-  const whole = joined(3).map((html) => new Original(html));
+  const whole = joined(2).map((html) => new Original(html));
   for (const was of joined(2).map((html) => new Original(html))) {
     for (const now of whole) assert.deepEqual(new Original(now.html, was), now);
   }

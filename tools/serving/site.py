@@ -251,6 +251,7 @@ class Site:
         with ThreadPoolExecutor(1) as pool:
             command = self._command_as_it_is(document, fields)
             early = pool.submit(command, name, document) if command is not None else None
+            sent = sent_in(request, name, fields)
             page, state = self._known.taken(name)
             self._check_tag(request, state.tag)
             if early is None:
@@ -262,7 +263,7 @@ class Site:
             else:
                 original = documents.in_form_of(document, state.document, page, unit_of(request, fields))
                 new = self._mended_edit(name, document.decode(), original.decode())
-        return Edit(name, state.tag, page, new, sent_in(request, name, fields), fingerprint, state.html_hash)
+        return Edit(name, state.tag, page, new, sent, fingerprint, state.html_hash)
 
     def _command_as_it_is(self, document: bytes, fields: Dict[str, object]) -> Optional[Callable]:
         """The command that takes an edit as it is, if one does."""
