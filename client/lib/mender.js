@@ -7,6 +7,7 @@
  * is of that node's kind; any other is new.
  */
 
+import { isBundle } from "./bundles.js";
 import { Part, numberOf } from "./markup.js";
 import { Original, kindOf } from "./original.js";
 import { dropEmptyLines } from "./lines.js";
@@ -135,7 +136,7 @@ export class Mender {
       const part = watch.untouched(element);
       const isSection = element.localName === "section" && !element.hasAttribute("id");
       if (part !== undefined) this.#asOpened.set(element, part);
-      else if (isSection) this.#sort(element, watch, touched);
+      else if (isSection || isBundle(element)) this.#sort(element, watch, touched);
       else touched.push(element);
     }
   }

@@ -2,6 +2,7 @@
 /** A page as it was opened: its nodes by their numbers, to compare with what an editor made of them. */
 
 import { Part, readPage, write } from "./markup.js";
+import { readAgain } from "./rereading.js";
 import { isBlock } from "./kinds.js";
 
 /** What browsers and editors put into a text beside what is typed, and what may be pasted. */
@@ -53,9 +54,17 @@ export class Original {
    */
   #signs = null;
 
-  /** @param {string} html  as the program wrote it */
-  constructor(html) {
-    this.page = readPage(html);
+  /**
+   * @param {string} html  as the program wrote it
+   * @param {Original} [before]  an earlier state of the page
+   */
+  constructor(html, before) {
+    const { body, start, end } = (before && readAgain(html, before)) ?? readPage(html);
+    this.html = html;
+    this.page = body;
+    /** Where the inside of the body begins and ends in the HTML. */
+    this.start = start;
+    this.end = end;
   }
 
   /** The document as `save` would write it. */

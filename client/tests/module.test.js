@@ -8,6 +8,7 @@ import { readFileSync } from "node:fs";
 import { HtmlRefused, Offsets, describe, hrefOf, isChanged, open } from "../bughtiso.js";
 import { prepareSave, rangeOf, renew, save } from "../bughtiso.js";
 import { read } from "../lib/markup.js";
+import { Original } from "../lib/original.js";
 import { SmallDocument } from "./small_dom.js";
 import { Wiki, examplePages, findProgram, outsideDocuments } from "./pages.js";
 
@@ -45,7 +46,7 @@ function edited(body) {
       }
     }
   };
-  put(document.body, read(`<html>${body}</html>`));
+  put(document.body, read(`<html>${body}</html>`).root);
   return document.body;
 }
 
@@ -647,6 +648,35 @@ test("a page that isn't the program's renews nothing", () => {
   const root = opened(page(TEXT));
   assert.throws(() => renew(root, page("<p>a")), HtmlRefused);
   assert.equal(save(root), page(TEXT));
+});
+
+test("a page of which an earlier state is known is read the same, and its other blocks stay", () => {
+  const pieces = [
+    "\n", "\n\n", '<p id="mw1">a</p>', '<p id="mw1">ab</p>', "<p>a</p>", '<hr id="mw2"/>',
+    '<section data-mw-section-id="0"><p>a</p>\n</section>', "&amp;",
+  ];
+  const joined = (/** @type {number} */ most) => {
+    let all = [""];
+    const found = [...all];
+    for (let length = 1; length <= most; length += 1) {
+      all = all.flatMap((text) => pieces.map((piece) => text + piece));
+      found.push(...all);
+    }
+    return found.map(page);
+  };
+  const whole = joined(2).map((html) => new Original(html));
+  for (const was of joined(2).map((html) => new Original(html))) {
+    for (const now of whole) assert.deepEqual(new Original(now.html, was), now);
+  }
+  const was = new Original(page(`<hr/>\n${TEXT}\n<p id="mw4">last</p>`));
+  const now = new Original(was.html.replace("four", "five"), was);
+  const [first, , second, , third, , last] = now.page.children;
+  const before = was.page.children;
+  assert.deepEqual([first === before[0], second === before[2], last === before[6]], [true, true, true]);
+  assert.notEqual(third, before[4]);
+  const other = was.html.replace("<body ", '<body id="x" ');
+  assert.deepEqual(new Original(other, was), new Original(other));
+  assert.throws(() => new Original(was.html.replace("four</p>", "four"), was), HtmlRefused);
 });
 
 test("outside documents are renewed, each in the place of another", (context) => {
