@@ -31,28 +31,36 @@ export function nodesIn(holder) {
  * @param {number} most  blocks in each; how many there are is its `--blocks` in CSS
  */
 export function bundle(holder, most) {
-  const document = holder.ownerDocument;
-  /** @type {Element | null} */
-  let last = null;
+  /** @type {Node[]} */
+  let nodes = [];
   let count = 0;
+  const close = () => {
+    if (count > 0) put(holder, nodes, count);
+    nodes = [];
+    count = 0;
+  };
   for (const node of [...holder.childNodes]) {
-    if (/** @type {Element} */ (node).localName === "section") {
-      bundle(/** @type {Element} */ (node), most);
-      last = null;
-      continue;
-    }
-    if (isBlock(node)) {
-      if (last === null || count === most) {
-        last = document.createElement("div");
-        last.setAttribute(MARK, "");
-        holder.insertBefore(last, node);
-        count = 0;
-      }
-      count += 1;
-      last.setAttribute("style", `--blocks: ${count}`);
-    }
-    last?.appendChild(node);
+    const isSection = /** @type {Element} */ (node).localName === "section";
+    const isNext = !isSection && isBlock(node);
+    if (isSection || (isNext && count === most)) close();
+    if (isSection) bundle(/** @type {Element} */ (node), most);
+    else if (isNext || count > 0) nodes.push(node);
+    if (isNext) count += 1;
   }
+  close();
+}
+
+/**
+ * @param {Element | DocumentFragment} holder
+ * @param {Node[]} nodes  that stand side by side in it
+ * @param {number} count  of blocks among them
+ */
+function put(holder, nodes, count) {
+  const element = holder.ownerDocument.createElement("div");
+  element.setAttribute(MARK, "");
+  element.setAttribute("style", `--blocks: ${count}`);
+  holder.insertBefore(element, nodes[0]);
+  element.append(...nodes);
 }
 
 /** @param {Node} node */

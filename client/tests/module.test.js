@@ -654,6 +654,8 @@ test("a page of which an earlier state is known is read the same, and its other 
   const pieces = [
     "\n", "\n\n", '<p id="mw1">a</p>', '<p id="mw1">ab</p>', "<p>a</p>", '<hr id="mw2"/>',
     '<section data-mw-section-id="0"><p>a</p>\n</section>', "&amp;",
+    '<section data-mw-section-id="0"><p>a</p>\n<hr/>b<p>b</p></section>',
+    '<section data-mw-section-id="0"><p>a</p><section data-mw-section-id="1"><p>b</p></section></section>',
   ];
   const joined = (/** @type {number} */ most) => {
     let all = [""];
@@ -674,6 +676,9 @@ test("a page of which an earlier state is known is read the same, and its other 
   const before = was.page.children;
   assert.deepEqual([first === before[0], second === before[2], last === before[6]], [true, true, true]);
   assert.notEqual(third, before[4]);
+  const sections = new Original(page(`<section data-mw-section-id="0">${TEXT}</section>`));
+  const [section] = new Original(sections.html.replace("four", "five"), sections).page.children;
+  assert.equal(section.children[0], sections.page.children[0].children[0]);
   const other = was.html.replace("<body ", '<body id="x" ');
   assert.deepEqual(new Original(other, was), new Original(other));
   assert.throws(() => new Original(was.html.replace("four</p>", "four"), was), HtmlRefused);

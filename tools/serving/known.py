@@ -39,13 +39,13 @@ class KnownStates:
         self._folder = folder
         self._state_of = state_of
         self._tag_of = tag_of
-        self._lock = threading.Lock()
+        self._lock = threading.RLock()  # what is called when a state was made takes it again
         self._known: "OrderedDict[str, Future[Known]]" = OrderedDict()  # by full names
         self._pool = ThreadPoolExecutor(AT_ONCE)
 
     def close(self) -> None:
         with self._lock:
-            for coming in self._known.values():
+            for coming in list(self._known.values()):
                 coming.cancel()
         self._pool.shutdown(wait=False)
 
@@ -58,7 +58,9 @@ class KnownStates:
         known = self._found(name)
         if known is None or known.page != page or not self._is_still(name, known):
             known = self._made(name)
-            self._keep(name, known)
+            coming: "Future[Known]" = Future()
+            coming.set_result(known)
+            self._keep(name, coming)
         return known.page, known.state
 
     def begin(self, name: str) -> None:
@@ -67,9 +69,9 @@ class KnownStates:
         if len(self._folder.read(name)) < LONG_PAGE:
             return
         with self._lock:
-            coming = self._known.get(name)
-            if coming is None or coming.done():
-                self._known[name] = self._pool.submit(self._again, name, coming)
+            before = self._known.get(name)
+            if before is None or before.done():
+                self._keep(name, self._pool.submit(self._again, name, before))
 
     def _again(self, name: str, before: "Optional[Future[Known]]") -> Known:
         known = result_of(before)
@@ -94,22 +96,21 @@ class KnownStates:
             coming = self._known.get(name)
         return result_of(coming)
 
-    def _keep(self, name: str, known: Known) -> None:
-        coming: "Future[Known]" = Future()
-        coming.set_result(known)
+    def _keep(self, name: str, coming: "Future[Known]") -> None:
         with self._lock:
             self._known[name] = coming
             self._known.move_to_end(name)
-            self._forget()
+        coming.add_done_callback(lambda _: self._forget())
 
     def _forget(self) -> None:
         """Forgets states, the oldest first, until those that are left aren't too many, nor too many bytes."""
-        room = MOST_BYTES
-        for count, (name, coming) in enumerate(reversed(list(self._known.items()))):
-            known = result_of(coming) if coming.done() else None
-            room -= len(known.state.document) if known is not None else 0
-            if count >= MOST_KEPT or room < 0:
-                del self._known[name]
+        with self._lock:
+            room = MOST_BYTES
+            for count, (name, coming) in enumerate(reversed(list(self._known.items()))):
+                known = result_of(coming) if coming.done() else None
+                room -= len(known.state.document) if known is not None else 0
+                if count >= MOST_KEPT or room < 0:
+                    del self._known[name]
 
 
 def result_of(coming: "Optional[Future[Known]]") -> Optional[Known]:

@@ -106,6 +106,14 @@ class KnownStates(ServingCase):
             self.assertEqual(status, 200 if path.startswith("/editor") else 422, body)
         self.assertEqual(self.ask("GET", "/editor/Nowhere")[0], 404)
 
+    def test_the_oldest_go(self) -> None:
+        known = self.server.site._known
+        for name in ("Opava", "Template:Lang", "Opava"):
+            with mock.patch("serving.known.MOST_KEPT", 1):
+                known.begin(name)
+                known.taken(name)
+            self.assertEqual(list(known._known), [name])
+
     def test_what_is_too_much_isn_t_kept(self) -> None:
         for limit, value in (("MOST_BYTES", 10), ("MOST_KEPT", 0)):
             with mock.patch(f"serving.known.{limit}", value), self.subTest(limit=limit):
