@@ -1,5 +1,5 @@
 -- What holds of blocks of prose and of what is sent for them, from any number and place on: one block before others.
-use Rattle.std.proofs.Common.{arith, ◌≡◌, ◌≢◌, ℕ, zero, suc, ◌+◌, ◌≤◌, Bool, true, false, Option, Some, None, List, [], ◌∷◌, ◌++◌, length, take, reverse, map, refl, sym, ap, ◌∙◌, subst, append-nil, append_assoc}
+use Rattle.std.proofs.Common.{arith, ◌≡◌, ◌≢◌, ℕ, zero, suc, ◌+◌, ◌≤◌, Bool, true, false, Option, Some, None, List, [], ◌∷◌, ◌++◌, length, take, refl, sym, ap, ◌∙◌, subst, append-nil, append_assoc}
 use Rattle.std.specs.Prelude.{◌||◌, not, replicate}
 use Rattle.std.specs.List.{flat_map, prefix_len}
 use Rattle.std.proofs.Math.Seq.{take-append_seam}
@@ -12,9 +12,8 @@ use Rattle.wt_tree.specs.Source.{flat_of_all}
 use Rattle.wt_tree.specs.Tiling.{NoneIsGroup}
 use Rattle.wt_tree.specs.Tree.{Label, Tree, tree, Trees, none, more}
 use Rattle.wt_span.specs.Items.{Item, source, sources}
-use Rattle.wt_guards.specs.declared.side.Place.TheVariants as place
 use Rattle.wt_guards.specs.Guards.{nowiki}
-use Rattle.wt_inline.specs.ItemTree.{ItemTree, forest}
+use Rattle.wt_inline.specs.ItemTree.{ItemTree}
 use Rattle.wt_checks.specs.PutBack.{have_frame}
 use Rattle.wt_isolation.specs.OpenTags.{is_stop, bare_len, ends_open, any_ends_open}
 use Rattle.wt_isolation.proofs.OpenTags.{none_bare_here}

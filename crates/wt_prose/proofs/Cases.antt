@@ -13,7 +13,7 @@ use Rattle.wt_prose.specs.ProsePages.{Passage, prose}
 use Rattle.wt_prose.specs.ProseEdits.{Sending, retyped, kept, PassageEdit, old_passages, new_passages}
 
 -- two paragraphs, an empty line between them, and a line break at the page's end
-page : List Passage
+abbrev page : List Passage
 page = record { paragraph = codes "a"; breaks = 2 } ∷ record { paragraph = codes "b"; breaks = 1 } ∷ []
 
 its_source : prose page ≡ codes "a\n\nb\n"
@@ -21,7 +21,7 @@ its_source = refl
 
 -- ---- what is typed into it
 
-free : Label
+abbrev free : Label
 free = record {
   kind = kind.Text;
   id = 0;
@@ -37,10 +37,10 @@ free = record {
 }
 
 -- what is kept has no part in the new page's source
-node : Tree
+abbrev node : Tree
 node = tree free none
 
-first_typed : List PassageEdit
+abbrev first_typed : List PassageEdit
 first_typed =
     record { passage = record { paragraph = codes "a"; breaks = 2 }; sending = retyped free free (codes "[c]"); breaks = node }
     ∷ record { passage = record { paragraph = codes "b"; breaks = 1 }; sending = kept node; breaks = node }
@@ -55,7 +55,7 @@ unfolding is_guarded is_between_guard is_start_guard is_end_guard is_blank_guard
 typed_first = refl
 
 -- a paragraph that is emptied is `<nowiki/>`, so it doesn't join its neighbours
-second_emptied : List PassageEdit
+abbrev second_emptied : List PassageEdit
 second_emptied =
     record { passage = record { paragraph = codes "a"; breaks = 2 }; sending = kept node; breaks = node }
     ∷ record { passage = record { paragraph = codes "b"; breaks = 1 }; sending = retyped free free []; breaks = node }

@@ -1,8 +1,7 @@
 -- What is spelled of a text reads the same in front of whatever is read behind it: its items stand first, and all its words show something.
 use Rattle.std.proofs.Common.{arith, ◌≡◌, ℕ, suc, ◌-◌, ◌≤◌, ◌==◌, Bool, true, false, List, [], ◌∷◌, ◌++◌, length, map, refl, sym, ap, ◌∙◌, subst, append-nil, append_assoc, Some, None, inl, inr, All}
-use Rattle.std.specs.Prelude.{◌||◌, codes, encode_utf8, if◌then◌else◌}
+use Rattle.std.specs.Prelude.{codes, encode_utf8, if◌then◌else◌}
 use Rattle.std.specs.Str.{chars}
-use Rattle.std.specs.Fmt.{digits}
 use Rattle.std.proofs.lemmas.Bool.{cases_lt}
 use Rattle.std.proofs.lemmas.List.Elements.{All-head, All-tail}
 use Rattle.std.proofs.lemmas.Str.{encode_ascii}
@@ -23,7 +22,7 @@ use Rattle.wt_guards.specs.Guards.{Setting, nowiki, nowiki_if, is_guarded, spell
 use Rattle.wt_guards.proofs.Escapes.{is_escapable, escapable}
 use Rattle.wt_expand.specs.PageItems.{items_of_word, page_items}
 use Rattle.wt_spelling_laws.proofs.Forms.{NoComments, comment_other, comment_not, without_line, other_byte, equals_byte, IsTame, less_byte, and_byte, nowiki_form, reference_form}
-use Rattle.wt_spelling_laws.proofs.TextReads.{begin_next, or_parts, bracket_escaped, not_bracket, equal_or, apart}
+use Rattle.wt_spelling_laws.proofs.TextReads.{begin_next, bracket_escaped, not_bracket, equal_or, apart}
 use Rattle.wt_text_edits.proofs.TypedItems.{ItemsOf, items_byte, items_form, skip, references, wide_form, wide_tame, tame_if, IsMild, wide_mild, mild_if, no_form_byte, after_it, items_are}
 use Rattle.wt_text_edits.proofs.TypedText.{IsShown, AreShown}
 
@@ -64,7 +63,7 @@ form_shown kind b q rest k f r after =
     (subst (λ (n : ℕ). P (cuts Page (is_break b) n (q ++ rest))) (sym z)
     (skip P q rest (is_break b) (λ a. (k, shown_closed (cuts Page a 0 rest) (r a)))))
 
-reads_form : (kind : LexKind) (b : ℕ) (q rest : List ℕ) (xs : List Item) → IsShown kind
+pub reads_form : (kind : LexKind) (b : ℕ) (q rest : List ℕ) (xs : List Item) → IsShown kind
     → form_at Page false (b ∷ (q ++ rest)) ≡ Some (kind, suc (length q)) → NoComments (b ∷ (q ++ rest)) → Reads rest xs
     → Reads (b ∷ (q ++ rest)) (items_of_word kind (b ∷ q) ++ xs)
 reads_form kind b q rest xs k f c r =
@@ -77,10 +76,10 @@ pub record InFront (q : List ℕ) : Type 0 where
   pub items : List Item
   pub reads : (rest : List ℕ) (xs : List Item) → Reads rest xs → Reads (q ++ rest) (items ++ xs)
 
-front_nothing : InFront []
+pub front_nothing : InFront []
 front_nothing = record { items = []; reads = λ rest xs r. r }
 
-front_byte : (b : ℕ) (q : List ℕ) → ((rest : List ℕ) → form_at Page false (b ∷ (q ++ rest)) ≡ None)
+pub front_byte : (b : ℕ) (q : List ℕ) → ((rest : List ℕ) → form_at Page false (b ∷ (q ++ rest)) ≡ None)
     → ((rest : List ℕ) → comment_len (b ∷ (q ++ rest)) ≡ None) → InFront q → InFront (b ∷ q)
 front_byte b q f c g = record {
   items = char None b ∷ g.items;
@@ -193,7 +192,7 @@ front_from s before (c ∷ cs) =
     (front_letter s before c cs e refl (front_from s (letter c ∷ before) cs))
 
 -- what is read of it alone
-its_items : (q : List ℕ) (g : InFront q) → page_items q ≡ g.items
+pub its_items : (q : List ℕ) (g : InFront q) → page_items q ≡ g.items
 its_items q g =
     let r : Reads (q ++ []) (g.items ++ []) = g.reads [] [] reads_nothing in
     ap page_items (sym (append-nil q)) ∙ items_are (q ++ []) (g.items ++ []) r.items ∙ append-nil g.items

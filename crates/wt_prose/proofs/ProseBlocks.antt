@@ -1,14 +1,12 @@
 -- The blocks of prose: each paragraph, and the line breaks behind it as one separator.
-use Rattle.std.proofs.Common.{◌≡◌, ℕ, zero, suc, ◌-◌, ◌≤◌, false, List, [], ◌∷◌, ◌++◌, drop, map, refl, sym, ap, ◌∙◌, subst, append-nil, append_assoc, arith, None}
+use Rattle.std.proofs.Common.{◌≡◌, ℕ, zero, suc, ◌-◌, false, List, [], ◌∷◌, ◌++◌, drop, map, refl, sym, ap, ◌∙◌, subst, append_assoc, arith, None}
 use Rattle.std.specs.Prelude.{replicate}
 use Rattle.std.specs.List.{flat_map}
 use Rattle.std.proofs.lemmas.List.{map-append}
-use Rattle.std.proofs.lemmas.Grind.{flat_map-append}
 use Rattle.wt_tree.specs.declared.kind.Kind.TheVariants as kind
-use Rattle.wt_span.specs.Items.{Item, char}
+use Rattle.wt_span.specs.Items.{Item}
 use Rattle.wt_span.specs.Runs.{runs, IsRun}
 use Rattle.wt_span.proofs.RunLaws.{runs_cut}
-use Rattle.wt_lines.specs.declared.kind.LineKind.TheVariants as line
 use Rattle.wt_lines.specs.declared.kind.TheConstants.{MOST_TABLES}
 use Rattle.wt_lines.specs.Lines.{full_lines, content}
 use Rattle.wt_tables.specs.Extents.{inner_len}
@@ -25,11 +23,10 @@ use Rattle.wt_page.specs.Texts.{later_parts, later_line, para_parts, para}
 use Rattle.wt_page.specs.Body.{same_block, block_stretches, run_stretches, blocks_by, within, blocks, meaning}
 use Rattle.wt_expand.specs.PageItems.{page_items}
 use Rattle.wt_text_edits.specs.LonePages.{page_chars, para_of}
-use Rattle.wt_text_edits.specs.TypedPages.{IsTypedPage}
 use Rattle.wt_text_edits.proofs.PlainRows.{text_row, last_break, para_is, ending_behind}
-use Rattle.wt_prose.specs.ProsePages.{Passage, prose, AreProse}
+use Rattle.wt_prose.specs.ProsePages.{Passage, AreProse}
 use Rattle.wt_prose.specs.ProseTrees.{separator, passage_blocks, prose_meaning}
-use Rattle.wt_prose.proofs.ProseReading.{break, passage_items, prose_items}
+use Rattle.wt_prose.proofs.ProseReading.{break, prose_items}
 use Rattle.wt_prose.proofs.ProseLines.{first_ended, rest_ended, ended, content_ended, blank_row, IsTextBlock, broken_rows, rows_broken, rows_last, AreBlocks, passage_rows, prose_rows}
 
 -- ---- the rows of all

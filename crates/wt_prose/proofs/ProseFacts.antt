@@ -2,7 +2,6 @@
 use Rattle.std.proofs.Common.{arith, ◌≡◌, ℕ, zero, suc, ◌+◌, ◌-◌, ◌≤◌, false, None, List, [], ◌∷◌, ◌++◌, refl, sym, ap, ◌∙◌, subst, append_assoc}
 use Rattle.std.specs.Prelude.{replicate}
 use Rattle.std.specs.List.{flat_map}
-use Rattle.std.specs.Str.{IsUtf8}
 use Rattle.wt_tree.specs.declared.kind.Kind.TheVariants as kind
 use Rattle.wt_tree.specs.Plain.{element, Plains, ended, along, plains_before}
 use Rattle.wt_tree.specs.Tree.{Tree}
@@ -22,9 +21,9 @@ use Rattle.wt_text_edits.proofs.TypedLeaves.{AreOwn, Leaf, leaves, leaf_shown, l
 use Rattle.wt_text_edits.proofs.TypedShown.{leaves_show}
 use Rattle.wt_prose.specs.ProsePages.{Passage, prose, AreProse}
 use Rattle.wt_prose.specs.ProseTrees.{separator}
-use Rattle.wt_prose.specs.ProseEdits.{Sending, retyped, kept, PassageEdit, old_passages, new_paragraph, new_passage, new_passages, for_breaks, sendings, all_sendings, IsText, AreTyped}
+use Rattle.wt_prose.specs.ProseEdits.{Sending, retyped, kept, PassageEdit, old_passages, new_paragraph, new_passages, for_breaks, all_sendings, IsText, AreTyped}
 use Rattle.wt_prose.proofs.ProseTexts.{written}
-use Rattle.wt_prose.proofs.ProseTrees.{leaves_of, leafy, blocks_of, blocks_from, number_behind, items_behind, sep_tree}
+use Rattle.wt_prose.proofs.ProseTrees.{leaves_of, leafy, blocks_of, number_behind, items_behind, sep_tree}
 use Rattle.wt_prose.proofs.BlockFacts.{paragraph_shown, Facts, facts_nothing, facts_sep, facts_kept, facts_retyped, behind_breaks}
 
 -- ---- a paragraph of a page before others

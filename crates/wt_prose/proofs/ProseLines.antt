@@ -1,9 +1,8 @@
 -- The lines of prose as rows: those of each paragraph are rows of text, and each line break more behind them is a blank row.
 use Rattle.std.proofs.Common.{arith, ◌≡◌, ◌≢◌, ℕ, zero, suc, ◌+◌, Bool, true, false, not, List, [], ◌∷◌, ◌++◌, map, refl, sym, ap, ◌∙◌, subst, append-nil, append_assoc, All}
 use Rattle.std.specs.Prelude.{if◌then◌else◌, replicate}
-use Rattle.std.specs.List.{flat_map}
 use Rattle.std.proofs.lemmas.List.Elements.{All-head}
-use Rattle.wt_span.specs.Items.{Item, char, is_mark}
+use Rattle.wt_span.specs.Items.{Item, is_mark}
 use Rattle.wt_span.specs.Runs.{IsRun, AreRuns}
 use Rattle.wt_span.proofs.RunLaws.{runs_cut, runs_only, runs_are, runs_joined}
 use Rattle.wt_lines.specs.declared.kind.LineKind.{LineKind}
@@ -20,9 +19,9 @@ use Rattle.wt_headings.specs.Lines.{ending}
 use Rattle.wt_page.specs.Rows.{Row, marks_len, whole_row, line_rows, rows_from}
 use Rattle.wt_expand.specs.PageItems.{page_items}
 use Rattle.wt_text_edits.specs.StillItems.{StillItems}
-use Rattle.wt_text_edits.proofs.PlainRows.{no_text, ending_behind, IsTextLine, AreTexts, texts_by, unended, text_row, last_break, break_is}
+use Rattle.wt_text_edits.proofs.PlainRows.{no_text, IsTextLine, AreTexts, texts_by, unended, text_row, last_break, break_is}
 use Rattle.wt_prose.specs.ProsePages.{Passage}
-use Rattle.wt_prose.proofs.ProseReading.{break, passage_items}
+use Rattle.wt_prose.proofs.ProseReading.{break}
 
 -- ---- lines of text, and the same lines with a line break behind the last
 

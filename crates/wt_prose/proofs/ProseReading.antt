@@ -1,5 +1,5 @@
 -- The items of prose: those of each paragraph, and the line breaks behind it; and it calls nothing.
-use Rattle.std.proofs.Common.{◌≡◌, ℕ, zero, suc, List, [], ◌∷◌, ◌++◌, refl, sym, ap, ◌∙◌, subst, append_assoc, None}
+use Rattle.std.proofs.Common.{◌≡◌, ℕ, zero, suc, List, [], ◌∷◌, ◌++◌, sym, subst, append_assoc, None}
 use Rattle.std.specs.Prelude.{replicate}
 use Rattle.std.specs.List.{flat_map}
 use Rattle.wt_span.specs.Items.{Item, char}
@@ -27,7 +27,7 @@ breaks_read : (n : ℕ) (bs : List ℕ) (xs : List Item) → Reads bs xs → Rea
 breaks_read zero bs xs r = r
 breaks_read (suc n) bs xs r = read_break (replicate n 10 ++ bs) (replicate n break ++ xs) (breaks_read n bs xs r)
 
-page_front : (q rest : List ℕ) (xs : List Item) → IsTypedPage q → Reads rest xs → Reads (q ++ rest) (page_items q ++ xs)
+pub page_front : (q rest : List ℕ) (xs : List Item) → IsTypedPage q → Reads rest xs → Reads (q ++ rest) (page_items q ++ xs)
 page_front q rest xs h r = subst (λ q. Reads (q ++ rest) (page_items q ++ xs)) (sym h.is) (typed_front h.setting h.text rest xs r)
 
 passage_reads : (p : Passage) (rest : List ℕ) (xs : List Item) → IsTypedPage p.paragraph → Reads rest xs

@@ -1,22 +1,16 @@
 -- Prose takes any texts in any of its paragraphs: `edit` answers the page with them, as they are spelled.
-use Rattle.std.proofs.Common.{arith, ◌≡◌, ℕ, ◌≤◌, Bool, false, Option, Some, None, List, [], ◌∷◌, ◌++◌, length, nat_lt, refl, sym, ap, ◌∙◌, subst, append-nil}
+use Rattle.std.proofs.Common.{arith, ◌≡◌, ℕ, ◌≤◌, Bool, false, Option, Some, List, [], ◌∷◌, ◌++◌, length, nat_lt, refl, sym, ap, ◌∙◌, subst, append-nil}
 use Rattle.std.specs.Prelude.{Ok, if◌then◌else◌, replicate, zero, suc}
 use Rattle.std.specs.List.{flat_map}
 use Rattle.std.specs.Str.{IsUtf8}
 use Rattle.std.proofs.lemmas.Bool.Decides.{nat_tests}
 use Rattle.std.proofs.lemmas.Str.{IsUtf8-append, IsUtf8-nil}
 use Rattle.wt_span.specs.declared.limits.TheConstants.{HTML_BYTES, PAGE_BYTES}
-use Rattle.wt_span.specs.Items.{Item}
-use Rattle.wt_span.specs.Origins.{Expanded}
 use Rattle.wt_devices.specs.Device.{Pages}
-use Rattle.wt_guards.specs.Content.{letters}
-use Rattle.wt_guards.specs.Guards.{spelled}
 use Rattle.wt_tree.specs.declared.kind.Kind.TheVariants as kind
-use Rattle.wt_tree.specs.Opened.{without_sections}
-use Rattle.wt_tree.specs.Plain.{Plains, ended, plains_before}
 use Rattle.wt_tree.specs.Source.{flat_of_all}
 use Rattle.wt_tree.specs.Tiling.{InPreorder, NoneIsGroup}
-use Rattle.wt_tree.specs.Tree.{Label, Tree, tree, Trees, label}
+use Rattle.wt_tree.specs.Tree.{Label, Tree, tree, label}
 use Rattle.wt_utf8.specs.Places.{not_utf8_place}
 use Rattle.wt_utf8.proofs.PlaceLaws.{no_place}
 use Rattle.wt_inline.specs.ItemTree.{forest, held_by_all}
@@ -44,17 +38,16 @@ use Rattle.wt_text_edits.specs.TypedPages.{IsTypedPage}
 use Rattle.wt_text_edits.proofs.LoneTrees.{sized}
 use Rattle.wt_text_edits.proofs.SpelledUtf8.{spelled_utf8}
 use Rattle.wt_text_edits.proofs.TypedShown.{gathered_shows}
-use Rattle.wt_typed_blocks.specs.Sent.{Sent, old_children, old_body, new_body, AreSent, all_show}
+use Rattle.wt_typed_blocks.specs.Sent.{Sent, old_body, new_body}
 use Rattle.wt_typed_blocks.specs.Typed.{new_sources}
 use Rattle.wt_typed_blocks.proofs.SentSections.{answer_in_sections}
 use Rattle.wt_typed_blocks.proofs.SentShows.{body_shows}
 use Rattle.wt_prose.specs.ProsePages.{Passage, passage_source, prose, AreProse, IsProsePage}
-use Rattle.wt_prose.specs.ProseTrees.{prose_body, prose_page}
-use Rattle.wt_prose.specs.ProseEdits.{Sending, PassageEdit, old_passages, new_passages, sent_children, all_sendings, sent_prose, AreKept, IsProseEdit}
+use Rattle.wt_prose.specs.ProseTrees.{prose_page}
+use Rattle.wt_prose.specs.ProseEdits.{PassageEdit, old_passages, new_passages, sent_children, all_sendings, sent_prose, AreKept, IsProseEdit}
 use Rattle.wt_prose.proofs.ProseReading.{prose_expanded, prose_unrefused}
 use Rattle.wt_prose.proofs.ProseTrees.{leafy, blocks_from, prose_blocks}
 use Rattle.wt_prose.proofs.ProseTexts.{prose_tree, prose_written}
-use Rattle.wt_prose.proofs.BlockFacts.{Facts}
 use Rattle.wt_prose.proofs.ProseFacts.{FactsOf, facts_all, prose_shows, blocks_show, prose_own, shows_same, prose_again}
 
 -- ---- UTF-8

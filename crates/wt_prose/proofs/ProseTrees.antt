@@ -4,7 +4,7 @@ use Rattle.std.specs.Prelude.{replicate}
 use Rattle.std.specs.List.{flat_map}
 use Rattle.wt_tree.specs.declared.kind.Kind.TheVariants as kind
 use Rattle.wt_tree.specs.declared.kind.Mark.TheVariants as marks
-use Rattle.wt_tree.specs.Tree.{Label, Tree, tree, Trees, none, more}
+use Rattle.wt_tree.specs.Tree.{Label, tree, Trees}
 use Rattle.wt_span.specs.Items.{Item, sources}
 use Rattle.wt_guards.specs.Guards.{nowiki}
 use Rattle.wt_inline.specs.declared.loose.Loose.TheVariants.{Sep}

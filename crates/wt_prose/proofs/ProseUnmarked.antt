@@ -5,7 +5,6 @@ use Rattle.std.specs.Str.{IsUtf8}
 use Rattle.std.proofs.lemmas.Bool.Decides.{nat_tests}
 use Rattle.wt_span.specs.declared.limits.TheConstants.{HTML_BYTES, PAGE_BYTES}
 use Rattle.wt_devices.specs.Device.{Pages}
-use Rattle.wt_tree.specs.declared.kind.Kind.TheVariants as kind
 use Rattle.wt_tree.specs.Opened.{without_sections}
 use Rattle.wt_tree.specs.Tiling.{InPreorder, NoneIsGroup}
 use Rattle.wt_tree.specs.Tree.{Label, Tree, tree, label}
@@ -20,7 +19,7 @@ use Rattle.wt_page_round_trip.proofs.Pages.{page_opened}
 use Rattle.wt_page_round_trip.proofs.PageTrees.{ungathered_numbered, page_numbered}
 use Rattle.wt_difference.specs.Remarked.{remarked}
 use Rattle.wt_pagetool.specs.declared.refusal.Refusal.TheVariants.{TooLong}
-use Rattle.wt_pagetool.specs.Answers.{done, refused, text_answer, title_answer, edit_to, IsText}
+use Rattle.wt_pagetool.specs.Answers.{refused, text_answer, title_answer, edit_to, IsText}
 use Rattle.wt_pagetool.specs.Selser.{EditIsDone, DoneByEdit}
 use Rattle.wt_pagetool.proofs.SectionEdits.{page_bare}
 use Rattle.wt_typed_blocks.specs.Sent.{Sent, old_body}
