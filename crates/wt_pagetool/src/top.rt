@@ -28,7 +28,7 @@ use wt_span::{HTML_BYTES, List, PAGE_BYTES, Str};
 use wt_unmarked_edit::Readings;
 
 /// What the words ask for, or why it isn't to be had.
-#[tactic(auto, using(crate::proofs::GenLaws::few_sections, crate::proofs::FaultLaws::title_alone, crate::proofs::FaultLaws::input_alone), unfolding(crate::specs::Answers::answer_told, crate::specs::Asked::names_told))]
+#[tactic(auto, using(crate::proofs::GenLaws::few_sections), unfolding(crate::specs::Answers::answer_told, crate::specs::Asked::names_told))]
 fn find_answer<S: Source, F: Folder>(
     alloc: Global,
     words: &List<Str>,
@@ -47,8 +47,13 @@ fn find_answer<S: Source, F: Folder>(
     ensures names { IfSome (names_told (F.pages folder.old) (S.left input.old) words.now)
         (λ names. AsksNames names (F.answered folder.old) (F.answered folder.new) result) }
     ensures takes { GivesAtMost (HTML_BYTES + PIECE) (S.left input.old) (S.left input.new) }
-    ensures stops { StopsWithin result (S.left input.old) (S.left input.new) }
-    ensures alone { FailsAlone (found_status result) (S.fault_count input.old) (S.fault_count input.new)
+    ensures stops { Reads (command_of words.now)
+        → IfErr result (StopsWithin (S.left input.old) (S.left input.new)) }
+    ensures edit_alone { (title : List ℕ) → command_of words.now ≡ Some (Command.Edit title)
+        → FailsAlone (found_status result) (S.fault_count input.old) (S.fault_count input.new)
+        (F.fault_count folder.old) (F.fault_count folder.new) }
+    ensures selser_alone { (title : List ℕ) → command_of words.now ≡ Some (Command.Selser title)
+        → FailsAlone (found_status result) (S.fault_count input.old) (S.fault_count input.new)
         (F.fault_count folder.old) (F.fault_count folder.new) }
     ensures waits { (title : List ℕ) → command_of words.now ≡ Some (Command.Edit title)
         → IfSome (F.pages folder.old) (λ pages. IsNoText (pages title) → input.new ≡ input.old) }
