@@ -1,44 +1,75 @@
 -- A fault at its place: how far an input that failed was read, and which device failed.
-use Rattle.std.proofs.Common.{◌≡◌, ℕ, ◌≤◌, List, [], length, refl, sym, subst, arith}
+use Rattle.std.proofs.Common.{◌≡◌, ℕ, List, [], refl, sym, subst, arith}
 use Rattle.std.specs.Prelude.{Option, IfErr, Result, Ok, Err}
-use Rattle.std.specs.Io.KnownBytes.{Consumes, Keeps}
-use Rattle.std.proofs.KnownBytes.{Consumes-kept, Consumes-nil}
+use Rattle.std.proofs.KnownBytes.{Consumes-nil}
 use Rattle.wt_span.specs.declared.limits.TheConstants.{HTML_BYTES}
 use Rattle.wt_pagetool.specs.declared.refusal.Refusal.{Refusal}
 use Rattle.wt_pagetool.specs.declared.status.Status.{Status}
 use Rattle.wt_pagetool.specs.declared.status.Status.TheVariants as status
 use Rattle.wt_pagetool.specs.Causes.{found_status, IsTitleStatus, IsOfTitle, IsHtmlStatus, IsOfHtml, IsInputStatus, IsOfInput, IsEditStatus, IsOfEdit, FailsAlone}
-use Rattle.wt_pagetool.specs.Inputs.{GivesAtMost, StopsWithin}
+use Rattle.wt_pagetool.specs.Inputs.{GivesAtMost, StopsAs, StopsWithin}
 use Rattle.wt_pagetool.specs.Refusals.{status_of}
 
 -- ---- how far an input was read
 
--- what it gave before the read that failed
-pub gave_before : (old mid new : Option (List ℕ)) (bytes : List ℕ) → Consumes old mid bytes → Keeps mid new → length bytes ≤ HTML_BYTES
-    → GivesAtMost HTML_BYTES old new
-gave_before old mid new bytes given kept within = (bytes, Consumes-kept old mid new bytes given kept, within)
-
-gave_nothing : (left : Option (List ℕ)) → GivesAtMost HTML_BYTES left left
-gave_nothing left = ([], Consumes-nil left, omega arith)
-
--- it wasn't read
-pub unread_stops : {T : Type 0} (result : Result T Refusal) (left : Option (List ℕ)) → StopsWithin result left left
-unread_stops result left = λ e. gave_nothing left
-
 -- what was read is handed on
 pub passed_stops : {T : Type 0} (result : Result T Refusal) (r : Refusal) (old new : Option (List ℕ)) → result ≡ Err r
-    → (status_of r ≡ status.ReadFault → GivesAtMost HTML_BYTES old new) → StopsWithin result old new
-passed_stops result r old new e h = subst (λ (x : Result T Refusal). StopsWithin x old new) (sym e) h
+    → StopsWithin old new r → IfErr result (StopsWithin old new)
+passed_stops result r old new e h = subst (λ (x : Result T Refusal). IfErr x (StopsWithin old new)) (sym e) h
+
+-- it wasn't read
+unread_by : (s : Status) (left : Option (List ℕ)) → StopsAs s left left
+unread_by status.Done left = tt
+unread_by status.Usage left = tt
+unread_by status.PageRefused left = tt
+unread_by status.HtmlRefused left = tt
+unread_by status.EditRefused left = tt
+unread_by status.ReadFault left = ([], Consumes-nil left, omega arith)
+unread_by status.FolderFault left = tt
+unread_by status.WriteFault left = tt
+unread_by status.NoMemory left = tt
+
+pub unread_stops : {T : Type 0} (result : Result T Refusal) (left : Option (List ℕ)) → IfErr result (StopsWithin left left)
+unread_stops (Ok value) left = tt
+unread_stops (Err r) left = unread_by (status_of r) left
 
 -- all of it was read
-pub html_stops : {T : Type 0} (result : Result T Refusal) (old new : Option (List ℕ)) → IfErr result IsOfHtml → StopsWithin result old new
-html_stops (Ok value) old new h = λ e. absurd (let x : status.Done ≡ status.ReadFault = e in cc)
-html_stops (Err r) old new h = λ e. absurd (subst IsHtmlStatus e h)
+html_by : (s : Status) (old new : Option (List ℕ)) → IsHtmlStatus s → StopsAs s old new
+html_by status.Done old new h = tt
+html_by status.Usage old new h = tt
+html_by status.PageRefused old new h = tt
+html_by status.HtmlRefused old new h = tt
+html_by status.EditRefused old new h = tt
+html_by status.ReadFault old new h = absurd h
+html_by status.FolderFault old new h = tt
+html_by status.WriteFault old new h = tt
+html_by status.NoMemory old new h = tt
+
+pub html_stops : {T : Type 0} (result : Result T Refusal) (old new : Option (List ℕ)) → IfErr result IsOfHtml → IfErr result (StopsWithin old new)
+html_stops (Ok value) old new h = tt
+html_stops (Err r) old new h = html_by (status_of r) old new h
+
+edit_by : (rose : Type 0) (s : Status) (old new : Option (List ℕ)) → IsEditStatus ⊥ rose s → StopsAs s old new
+edit_by rose status.Done old new h = tt
+edit_by rose status.Usage old new h = tt
+edit_by rose status.PageRefused old new h = tt
+edit_by rose status.HtmlRefused old new h = tt
+edit_by rose status.EditRefused old new h = tt
+edit_by rose status.ReadFault old new h = absurd h
+edit_by rose status.FolderFault old new h = tt
+edit_by rose status.WriteFault old new h = tt
+edit_by rose status.NoMemory old new h = tt
 
 pub edit_stops : {T : Type 0} (rose : Type 0) (result : Result T Refusal) (old new : Option (List ℕ)) → IfErr result (IsOfEdit ⊥ rose)
-    → StopsWithin result old new
-edit_stops rose (Ok value) old new h = λ e. absurd (let x : status.Done ≡ status.ReadFault = e in cc)
-edit_stops rose (Err r) old new h = λ e. absurd (subst (IsEditStatus ⊥ rose) e h)
+    → IfErr result (StopsWithin old new)
+edit_stops rose (Ok value) old new h = tt
+edit_stops rose (Err r) old new h = edit_by rose (status_of r) old new h
+
+-- where the input failed
+pub read_fault_stops : {T : Type 0} (result : Result T Refusal) (old new : Option (List ℕ)) → IfErr result (StopsWithin old new)
+    → found_status result ≡ status.ReadFault → GivesAtMost HTML_BYTES old new
+read_fault_stops (Ok value) old new h e = absurd (let x : status.Done ≡ status.ReadFault = e in cc)
+read_fault_stops (Err r) old new h e = subst (λ s. StopsAs s old new) e h
 
 -- ---- which device failed
 

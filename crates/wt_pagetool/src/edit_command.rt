@@ -137,7 +137,7 @@ fn edit_of_text<S: Source, F: Folder>(
     ensures ended { OnOk result (IsAtEnd (S.left input.new)) }
     ensures input_kept { IsKept result (S.fault_count input.old) (S.fault_count input.new) }
     ensures takes { GivesAtMost (HTML_BYTES + PIECE) (S.left input.old) (S.left input.new) }
-    ensures stops { StopsWithin result (S.left input.old) (S.left input.new) }
+    ensures stops { IfErr result (StopsWithin (S.left input.old) (S.left input.new)) }
     ensures alone { FailsAlone (found_status result) (S.fault_count input.old) (S.fault_count input.new)
         (F.fault_count folder.old) (F.fault_count folder.new) }
     ensures folder_kept { IsKept result (F.fault_count folder.old) (F.fault_count folder.new) }
@@ -167,7 +167,7 @@ pub fn edited_page<S: Source, F: Folder>(
     ensures ended { OnOk result (IsAtEnd (S.left input.new)) }
     ensures input_kept { IsKept result (S.fault_count input.old) (S.fault_count input.new) }
     ensures takes { GivesAtMost (HTML_BYTES + PIECE) (S.left input.old) (S.left input.new) }
-    ensures stops { StopsWithin result (S.left input.old) (S.left input.new) }
+    ensures stops { IfErr result (StopsWithin (S.left input.old) (S.left input.new)) }
     ensures alone { FailsAlone (found_status result) (S.fault_count input.old) (S.fault_count input.new)
         (F.fault_count folder.old) (F.fault_count folder.new) }
     ensures folder_kept { IsKept result (F.fault_count folder.old) (F.fault_count folder.new) }

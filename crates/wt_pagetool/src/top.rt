@@ -47,8 +47,13 @@ fn find_answer<S: Source, F: Folder>(
     ensures names { IfSome (names_told (F.pages folder.old) (S.left input.old) words.now)
         (λ names. AsksNames names (F.answered folder.old) (F.answered folder.new) result) }
     ensures takes { GivesAtMost (HTML_BYTES + PIECE) (S.left input.old) (S.left input.new) }
-    ensures stops { StopsWithin result (S.left input.old) (S.left input.new) }
-    ensures alone { FailsAlone (found_status result) (S.fault_count input.old) (S.fault_count input.new)
+    ensures stops { Reads (command_of words.now)
+        → IfErr result (StopsWithin (S.left input.old) (S.left input.new)) }
+    ensures edit_alone { (title : List ℕ) → command_of words.now ≡ Some (Command.Edit title)
+        → FailsAlone (found_status result) (S.fault_count input.old) (S.fault_count input.new)
+        (F.fault_count folder.old) (F.fault_count folder.new) }
+    ensures selser_alone { (title : List ℕ) → command_of words.now ≡ Some (Command.Selser title)
+        → FailsAlone (found_status result) (S.fault_count input.old) (S.fault_count input.new)
         (F.fault_count folder.old) (F.fault_count folder.new) }
     ensures waits { (title : List ℕ) → command_of words.now ≡ Some (Command.Edit title)
         → IfSome (F.pages folder.old) (λ pages. IsNoText (pages title) → input.new ≡ input.old) }

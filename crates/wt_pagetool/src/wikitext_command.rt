@@ -36,7 +36,7 @@ fn feed_all<S: Source>(
     ensures of_input { IfErr result (IsOfInput (S.fault_count input.old) (S.fault_count input.new)) }
     ensures kept { IsKept result (S.fault_count input.old) (S.fault_count input.new) }
     ensures takes { GivesAtMost (HTML_BYTES + PIECE) (S.left input.old) (S.left input.new) }
-    ensures stops { StopsWithin result (S.left input.old) (S.left input.new) }
+    ensures stops { IfErr result (StopsWithin (S.left input.old) (S.left input.new)) }
 {
     let mut taken = 0;
     'pieces: loop {
@@ -66,7 +66,7 @@ pub fn read_all<'a, S: Source>(
     ensures of_input { IfErr result (IsOfInput (S.fault_count input.old) (S.fault_count input.new)) }
     ensures kept { IsKept result (S.fault_count input.old) (S.fault_count input.new) }
     ensures takes { GivesAtMost (HTML_BYTES + PIECE) (S.left input.old) (S.left input.new) }
-    ensures stops { StopsWithin result (S.left input.old) (S.left input.new) }
+    ensures stops { IfErr result (StopsWithin (S.left input.old) (S.left input.new)) }
 {
     let mut buffer = vec![in alloc; 0u8; PIECE]?;
     let mut reader = Reader::new(alloc, arena)?;
@@ -102,7 +102,7 @@ pub fn wikitext_of_input<S: Source>(alloc: Global, input: &mut S) -> Result<Outp
     ensures ended { OnOk result (IsAtEnd (S.left input.new)) }
     ensures kept { IsKept result (S.fault_count input.old) (S.fault_count input.new) }
     ensures takes { GivesAtMost (HTML_BYTES + PIECE) (S.left input.old) (S.left input.new) }
-    ensures stops { StopsWithin result (S.left input.old) (S.left input.new) }
+    ensures stops { IfErr result (StopsWithin (S.left input.old) (S.left input.new)) }
 {
     let arena = Bump::new(alloc);
     let reader = read_all(alloc, &arena, input)?;

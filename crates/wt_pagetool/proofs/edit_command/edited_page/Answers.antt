@@ -3,7 +3,7 @@ use Rattle.wt_pagetool.specs.Answers.{IsText}
 use Rattle.wt_transclusion.proofs.AskedLaws.{asks_then}
 use Rattle.wt_pagetool.proofs.AskedLaws.{edit_names_under, edit_unfetched, edit_untexted, reads_text, waits}
 use Rattle.wt_pagetool.proofs.EditLaws.{edited_title}
-use Rattle.wt_pagetool.proofs.FaultLaws.{fetched_alone, kept_alone, unfetched_alone}
+use Rattle.wt_pagetool.proofs.FaultLaws.{fetched_alone, kept_alone, unfetched_alone, unread_stops}
 use Rattle.wt_pagetool.proofs.edit_command.edited_page.Goals as goal
 
 pub returns-clause-answered : goal.returns-clause-answered
@@ -74,3 +74,12 @@ returns-clause-alone g c =
     fetched_alone _ (g.S.Source.fault_count c.args.input.now) (g.S.Source.fault_count c.edit_of_text.new.input)
     (d.fault_count c.args.folder.now) (d.fault_count c.fetched_page.new.folder) (d.fault_count c.edit_of_text.new.folder)
     (c.in_ok-page.ensures.kept tt) c.edit_of_text.ensures.alone
+
+pub returns-in_err-page-clause-stops : goal.returns-in_err-page-clause-stops
+returns-in_err-page-clause-stops g c = unread_stops c.from_residual.result (g.S.Source.left c.args.input.now)
+
+pub returns-in_err-text-clause-stops : goal.returns-in_err-text-clause-stops
+returns-in_err-text-clause-stops g c = unread_stops c.from_residual-in_err-text.result (g.S.Source.left c.args.input.now)
+
+pub returns-clause-stops : goal.returns-clause-stops
+returns-clause-stops g c = c.edit_of_text.ensures.stops

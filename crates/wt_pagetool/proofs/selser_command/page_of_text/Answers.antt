@@ -1,5 +1,6 @@
 use Rattle.std.proofs.Common.{◌≡◌, Err, rules}
 use Rattle.wt_pagetool.proofs.SelserFound.{input_refused_found, whole_found}
+use Rattle.wt_devices.specs.Device.{Rose}
 use Rattle.wt_pagetool.proofs.FaultLaws.{edit_alone, edit_stops, passed_alone, passed_stops}
 use Rattle.wt_pagetool.proofs.selser_command.page_of_text.Goals as goal
 
@@ -30,11 +31,13 @@ returns-in_err-reader-clause-alone g c =
 
 pub returns-clause-stops : goal.returns-clause-stops
 returns-clause-stops g c =
-    edit_stops _ c.page_of_read.result (g.S.Source.left c.args.input.now) (g.S.Source.left c.read_all.new.input) c.page_of_read.ensures.of_edit
+    edit_stops (Rose (g.F.Folder.fault_count c.args.folder.now) (g.F.Folder.fault_count c.page_of_read.new.folder)) c.page_of_read.result
+    (g.S.Source.left c.args.input.now) (g.S.Source.left c.read_all.new.input) c.page_of_read.ensures.of_edit
 
 pub returns-clause-alone : goal.returns-clause-alone
 returns-clause-alone g c =
     let d = g.S.Source in
-    edit_alone _ c.page_of_read.result (d.fault_count c.args.input.now) (d.fault_count c.read_all.new.input)
+    edit_alone (Rose (g.F.Folder.fault_count c.args.folder.now) (g.F.Folder.fault_count c.page_of_read.new.folder)) c.page_of_read.result
+    (d.fault_count c.args.input.now) (d.fault_count c.read_all.new.input)
     (g.F.Folder.fault_count c.args.folder.now) (g.F.Folder.fault_count c.page_of_read.new.folder) c.page_of_read.ensures.of_edit
     (c.in_ok-reader.ensures.kept tt)

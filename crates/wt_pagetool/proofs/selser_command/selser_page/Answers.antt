@@ -3,7 +3,7 @@ use Rattle.wt_pagetool.specs.Answers.{IsText}
 use Rattle.wt_transclusion.proofs.AskedLaws.{asks_then}
 use Rattle.wt_pagetool.proofs.AskedLaws.{reads_text, waits}
 use Rattle.wt_pagetool.proofs.SelserFound.{title_found, told_found, unfetched_found, untexted_title}
-use Rattle.wt_pagetool.proofs.FaultLaws.{fetched_alone, kept_alone, unfetched_alone}
+use Rattle.wt_pagetool.proofs.FaultLaws.{fetched_alone, kept_alone, unfetched_alone, unread_stops}
 use Rattle.wt_pagetool.proofs.selser_command.selser_page.Goals as goal
 
 pub returns-clause-found : goal.returns-clause-found
@@ -81,3 +81,12 @@ returns-clause-alone g c =
     fetched_alone _ (g.S.Source.fault_count c.args.input.now) (g.S.Source.fault_count c.page_of_text.new.input)
     (d.fault_count c.args.folder.now) (d.fault_count c.fetched_page.new.folder) (d.fault_count c.page_of_text.new.folder)
     (c.in_ok-page.ensures.kept tt) c.page_of_text.ensures.alone
+
+pub returns-in_err-page-clause-stops : goal.returns-in_err-page-clause-stops
+returns-in_err-page-clause-stops g c = unread_stops c.from_residual.result (g.S.Source.left c.args.input.now)
+
+pub returns-in_err-text-clause-stops : goal.returns-in_err-text-clause-stops
+returns-in_err-text-clause-stops g c = unread_stops c.from_residual-in_err-text.result (g.S.Source.left c.args.input.now)
+
+pub returns-clause-stops : goal.returns-clause-stops
+returns-clause-stops g c = c.page_of_text.ensures.stops

@@ -1,4 +1,5 @@
-use Rattle.wt_pagetool.proofs.PromiseLaws.{run_wrote, run_given_back, run_ends_as_edit, run_ends, run_asks_for, run_reads, run_waits}
+use Rattle.std.proofs.Common.{ap}
+use Rattle.wt_pagetool.proofs.PromiseLaws.{run_wrote, run_given_back, run_ends_as_edit, run_alone, run_ends, run_asks_for, run_reads, run_waits}
 use Rattle.wt_pagetool.specs.Asked.{names_told}
 use Rattle.wt_pagetool.specs.Devices.{read_from, fetched_from, written_to}
 use Rattle.wt_pagetool.specs.Words.{command_of}
@@ -34,7 +35,11 @@ returns-clause-ends g c =
     (written_to g.W.Sink c.args.out.now c.report.new.out) (written_to g.E.Sink c.args.err.now c.report.new.err)
     c.find_answer-found.result c.report.result c.code.result c.code.ensures c.find_answer-found.ensures.answered
     c.find_answer-found.ensures.due c.report.ensures c.find_answer-found.ensures.input_kept c.find_answer-found.ensures.folder_kept
-    c.find_answer-found.ensures.alone
+    (run_alone c.args.words.now (read_from g.S.Source c.args.input.now c.find_answer-found.new.input)
+    (fetched_from g.F.Folder c.args.folder.now c.find_answer-found.new.folder) c.find_answer-found.result c.find_answer-found.ensures.due
+    (λ no. ap g.S.Source.fault_count (c.find_answer-found.ensures.unread no))
+    (λ no. ap g.F.Folder.fault_count (c.find_answer-found.ensures.unasked no))
+    c.find_answer-found.ensures.edit_alone c.find_answer-found.ensures.selser_alone)
 
 pub returns-clause-asks_for : goal.returns-clause-asks_for
 returns-clause-asks_for g c =
@@ -52,8 +57,8 @@ returns-clause-reads g c =
     run_reads c.args.words.now (read_from g.S.Source c.args.input.now c.find_answer-found.new.input)
     (fetched_from g.F.Folder c.args.folder.now c.find_answer-found.new.folder)
     (written_to g.W.Sink c.args.out.now c.report.new.out) (written_to g.E.Sink c.args.err.now c.report.new.err)
-    c.find_answer-found.result c.report.result c.code.result c.code.ensures c.report.ensures c.find_answer-found.ensures.takes
-    c.find_answer-found.ensures.stops
+    c.find_answer-found.result c.report.result c.code.result c.code.ensures c.report.ensures c.find_answer-found.ensures.due
+    c.find_answer-found.ensures.takes c.find_answer-found.ensures.stops
 
 pub returns-clause-waits : goal.returns-clause-waits
 returns-clause-waits g c =
