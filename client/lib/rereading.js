@@ -3,8 +3,10 @@
 
 import { HtmlRefused, Part, escaped, readBlocks } from "./markup.js";
 
-/** @typedef {{html: string, page: Part, start: number, end: number}} State  a document, its body, and where the
- *   inside of that begins and ends */
+/**
+ * @typedef {{html: string, page: Part, start: number, end: number}} State  a document, its body, and where
+ *   the inside of that begins and ends
+ */
 
 /** The end of a section, as the program writes it. */
 const SECTION_END = "</section>";
@@ -82,7 +84,8 @@ function writtenOf(child) {
 
 /**
  * Whether a child of the body or a section stands at a place, whole: a text between two tags. (No text or
- * attribute that the program writes has a bare `<` or `>`, so what begins and ends as an element does is one.)
+ * attribute that the program writes has a bare `<` or `>`, so what begins and ends as an element does is
+ * one.)
  * @param {string} html
  * @param {number} place
  * @param {Part | string} child
