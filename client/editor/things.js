@@ -126,7 +126,7 @@ function show(element, name, label) {
  * @param {string} value
  */
 function put(element, name, value) {
-  if (element.getAttribute(name) !== value) element.setAttribute(name, value);
+  if (!element.isConnected || element.getAttribute(name) !== value) element.setAttribute(name, value);
 }
 
 /**

@@ -92,6 +92,7 @@ function writtenOf(child) {
  */
 function standsAt(html, place, child) {
   const written = writtenOf(child);
-  if (written === "" || !html.startsWith(written, place)) return false;
-  return typeof child !== "string" || (html[place - 1] === ">" && html[place + written.length] === "<");
+  const end = place + written.length;
+  if (written === "" || html.slice(place, end) !== written) return false; // `startsWith` takes much longer
+  return typeof child !== "string" || (html[place - 1] === ">" && html[end] === "<");
 }
