@@ -8,8 +8,7 @@ from functools import lru_cache
 from typing import Dict
 
 LIBRARY = "mimalloc"  # in Debian libmimalloc2.0
-# For where there is none: glibc gives out again what was freed without joining it first.
-TUNABLE = "glibc.malloc.tcache_count=65535"
+TUNABLE = "glibc.malloc.hugetlb=1"  # for where there is none: glibc asks for large pages of memory
 SECONDS = 10  # that a program may take to tell that it runs
 
 
