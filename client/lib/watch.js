@@ -97,7 +97,8 @@ export class Watch {
   /** @param {Node} node */
   #drop(node) {
     this.#parts.delete(node);
-    if (node.nodeName === "SECTION" || isBundle(node)) for (const child of node.childNodes) this.#drop(child);
+    const isHolder = /** @type {Element} */ (node).localName === "section" || isBundle(node);
+    if (isHolder) for (const child of node.childNodes) this.#drop(child);
   }
 }
 

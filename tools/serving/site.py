@@ -453,7 +453,7 @@ def unit_of(request: Request, fields: Dict[str, object]) -> str:
 
 def sent_in(request: Request, name: str, fields: Dict[str, object]) -> str:
     """A hash of the edit that a request sends: the same one for the same edit of the same page."""
-    about = json.dumps([name, unit_of(request, fields)]).encode()
+    about = json.dumps([name, unit_of(request, fields), bodies.flag(fields.get("mended"))]).encode()
     return hash_of(hash_of(about) + bodies.encoded(bodies.text_field(fields, "html"))).hex()
 
 
@@ -506,7 +506,7 @@ def check_kept(document: bytes, original: bytes) -> None:
     if first is not None and other is not None and first.groups() == other.groups():
         return  # as mostly: the others needn't be looked at
     kept = set(NUMBERED.findall(original))
-    if kept and kept.isdisjoint(NUMBERED.findall(document)):
+    if kept and kept.isdisjoint((name.lower(), number) for name, number in NUMBERED.findall(document)):
         sentence = "Nothing of the page is left in this HTML: send the whole document, or mark what is to go."
         raise Refusal(422, "NothingKept", sentence)
 
