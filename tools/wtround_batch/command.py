@@ -9,7 +9,8 @@ import sys
 from contextlib import closing, contextmanager
 from typing import Callable, Iterator, TextIO
 
-from .program import ProgramError, digest_of_file, find_program, refuse_unfit
+from .nursery import Nursery, NurseryError
+from .program import ProgramError, find_program, refuse_unfit
 from .progress import Progress, spelled_time
 from .report import About, Report, write_json
 from .report_html import write_html
@@ -18,7 +19,7 @@ from .run import Choice, Counts, Run, Source, Target
 from .siblings import importer
 from .store import Export, Store, StoreError
 from .wiki import Folder, Namespaces
-from .worker import Orders
+from .worker import Orders, work
 
 PROGRAM = "wtround-batch"
 STATE = "wtround-batch.sqlite"
@@ -226,14 +227,16 @@ def write_report(report: Report) -> None:
         os.replace(temporary, path)
 
 
-def run_all(arguments: argparse.Namespace, program: str, store: Store, progress: Progress) -> int:
+def run_all(
+    arguments: argparse.Namespace, program: str, nursery: Nursery, store: Store, progress: Progress
+) -> int:
     with closing(read_source(arguments, store, progress)) as source:
         orders = orders_of(arguments, program, store)
         target = Target(store, orders, arguments.json or arguments.output, arguments.again)
         choice = Choice(Namespaces.chosen(arguments.namespace), arguments.list)
-        run = Run(store, source, choice, orders, target, digest_of_file(program))
+        run = Run(store, source, choice, orders, target)
         with stopped_by_signals(run):
-            run.go(jobs_of(arguments), progress)
+            run.go(nursery, jobs_of(arguments), progress)
         progress.clear()
         is_whole = arguments.export is None or store.about("export whole") == "yes"
         if arguments.report is not None:
@@ -289,12 +292,11 @@ def main_of_run(words: "list[str]") -> int:
     program = find_program(arguments.program)
     refuse_unfit(program, arguments.commands)
     progress = Progress(sys.stderr, arguments.quiet)
-    store = Store(arguments.state)
-    try:
-        return run_all(arguments, program, store, progress)
-    finally:
-        progress.clear()
-        store.close()
+    with closing(Nursery(work)) as nursery, closing(Store(arguments.state)) as store:
+        try:
+            return run_all(arguments, program, nursery, store, progress)
+        finally:
+            progress.clear()
 
 
 def main() -> int:
@@ -309,7 +311,7 @@ def main() -> int:
     except ProgramError as error:
         print(f"{PROGRAM}: {error}", file=sys.stderr)
         return 2
-    except (StoreError, importer.ExportError, sqlite3.Error) as error:
+    except (StoreError, NurseryError, importer.ExportError, sqlite3.Error) as error:
         print(f"{PROGRAM}: {error}", file=sys.stderr)
         return 1
     except OSError as error:

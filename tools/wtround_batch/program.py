@@ -21,7 +21,7 @@ CHUNK = 1 << 20
 PIPE_BYTES = 1 << 20
 SET_PIPE_SIZE = 1031  # F_SETPIPE_SZ of Linux, which Python knows by name since 3.10
 PROBE_SECONDS = 10.0
-END_WITH_PARENT = 1  # PR_SET_PDEATHSIG of Linux
+END_WITH_PARENT, SET_NAME = 1, 15  # PR_SET_PDEATHSIG and PR_SET_NAME of Linux
 LIBC = ctypes.CDLL(None)
 
 
@@ -221,6 +221,11 @@ class Cases:
 def end_with_parent() -> None:
     """Lets this process be ended when the one that started it ends."""
     LIBC.prctl(END_WITH_PARENT, signal.SIGKILL)
+
+
+def name_process(name: str) -> None:
+    """Gives this process a name, of at most fifteen bytes, that `ps` and `top` show."""
+    LIBC.prctl(SET_NAME, name.encode())
 
 
 def read_some(source: int) -> "bytes | None":
