@@ -7,13 +7,11 @@ import signal
 import sqlite3
 import sys
 from contextlib import closing, contextmanager
-from typing import Callable, Iterator, TextIO
+from typing import Callable, Iterator
 
 from .nursery import Nursery, NurseryError
 from .program import ProgramError, find_program, refuse_unfit
 from .progress import Progress, spelled_time
-from .report import About, Report, write_json
-from .report_html import write_html
 from .results import COMMANDS, DIFFERS, FAILURE_WORDS, OUTCOMES
 from .run import Choice, Counts, Run, Source, Target
 from .siblings import importer
@@ -23,6 +21,7 @@ from .worker import Orders, work
 
 PROGRAM = "wtround-batch"
 STATE = "wtround-batch.sqlite"
+WORDS_OF_SPREAD = ("cases", "answers", "gather")
 STOPPING = (signal.SIGINT, signal.SIGTERM, signal.SIGHUP)
 EPILOG = """\
 COMMANDS is one of these words, or several joined by commas:
@@ -206,27 +205,6 @@ def told(counts: Counts, total: int) -> str:
     return f"{text}; {spelled_time(counts.seconds)}{rate}" if counts.seconds else text
 
 
-def told_of(report: Report) -> str:
-    """What came of the pages of a report, in a line."""
-    counts = Counts(pages=report.figures.pages)
-    for outcomes in report.figures.outcomes.values():
-        counts.outcomes.update(outcomes)
-    return told(counts, counts.pages)
-
-
-def write_report(report: Report) -> None:
-    """Writes both files of a report, each whole or not at all."""
-    writers: "list[tuple[str, Callable[[Report, TextIO], None]]]" = [
-        (report.path, write_html),
-        (report.json_path, write_json),
-    ]
-    for path, write in writers:
-        temporary = f"{path}.part-{os.getpid()}"
-        with open(temporary, "w", encoding="utf-8", errors="backslashreplace") as file:
-            write(report, file)
-        os.replace(temporary, path)
-
-
 def run_all(
     arguments: argparse.Namespace, program: str, nursery: Nursery, store: Store, progress: Progress
 ) -> int:
@@ -240,11 +218,7 @@ def run_all(
         progress.clear()
         is_whole = arguments.export is None or store.about("export whole") == "yes"
         if arguments.report is not None:
-            write_report(
-                Report(
-                    store, source, run.number, about_run(arguments, run, source, is_whole), arguments.report
-                )
-            )
+            write_report(arguments, run, store, source, is_whole)
     print(told(run.counts, run.total), file=sys.stderr)
     if run.is_stopped:
         print(f"{PROGRAM}: stopped; the same words go on from here", file=sys.stderr)
@@ -260,8 +234,13 @@ def jobs_of(arguments: argparse.Namespace) -> int:
     return int(arguments.jobs or len(os.sched_getaffinity(0)))
 
 
-def about_run(arguments: argparse.Namespace, run: Run, source: Source, is_whole: bool) -> About:
-    return About(
+def write_report(
+    arguments: argparse.Namespace, run: Run, store: Store, source: Source, is_whole: bool
+) -> None:
+    from .report import About, Report  # only where one is wanted, so that the other runs begin sooner
+    from .report_html import write_files
+
+    about = About(
         source=source.describe(),
         commands=arguments.commands,
         program=run.program,
@@ -271,6 +250,7 @@ def about_run(arguments: argparse.Namespace, run: Run, source: Source, is_whole:
         is_finished=not run.is_stopped,
         export_is_whole=is_whole,
     )
+    write_files(Report(store, source, run.number, about, arguments.report))
 
 
 def refuse_arguments(parser: argparse.ArgumentParser, arguments: argparse.Namespace) -> None:
@@ -300,12 +280,12 @@ def main_of_run(words: "list[str]") -> int:
 
 
 def main() -> int:
-    from . import spread  # which uses what stands above
-
     words = sys.argv[1:]
     sys.stdout.reconfigure(errors="backslashreplace")  # type: ignore[attr-defined]
     try:
-        if words and words[0] in spread.WORDS:
+        if words and words[0] in WORDS_OF_SPREAD:
+            from . import spread  # which uses what stands above
+
             return spread.WORDS[words[0]](words[1:])
         return main_of_run(words)
     except ProgramError as error:
