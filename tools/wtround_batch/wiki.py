@@ -1,6 +1,7 @@
 """The pages of a wiki: those of the folder that `wtround` reads, and those of an XML export."""
 from __future__ import annotations
 
+import io
 import os
 import re
 import time
@@ -12,6 +13,7 @@ from urllib.parse import quote, unquote_to_bytes
 from .siblings import importer
 
 SETTLED_NS = 2_000_000_000  # a file this old was not changed again within one tick of its clock
+PIECE = 1 << 16  # bytes of a file that are read at once
 NAMESPACE_NUMBERS = {
     "Talk": 1, "User": 2, "User talk": 3, "Project": 4, "Project talk": 5, "File": 6, "File talk": 7,
     "Template": 10, "Template talk": 11, "Help": 12, "Help talk": 13, "Category": 14, "Category talk": 15,
@@ -103,6 +105,18 @@ def title_of_file(name: str) -> str:
     return title
 
 
+def read_at_most(file: io.RawIOBase, most: int) -> bytes:
+    """So many bytes of a file at most. By pieces: room for the longest page would cost more than most pages do."""
+    parts: "list[bytes]" = []
+    while most > 0:
+        part = file.read(min(most, PIECE))
+        if not part:
+            break
+        parts.append(part)
+        most -= len(part)
+    return b"".join(parts)
+
+
 class Folder:
     """Pages in files that are named by their titles."""
 
@@ -147,8 +161,8 @@ class Folder:
         Raises OSError where its file is there and cannot be read.
         """
         try:
-            with open(self.file_of(title), "rb") as file:
-                return file.read(importer.PAGE_LIMIT + 1)
+            with open(self.file_of(title), "rb", buffering=0) as file:
+                return read_at_most(file, importer.PAGE_LIMIT + 1)
         except FileNotFoundError:
             return None
         except OSError as error:

@@ -21,7 +21,7 @@ from .results import Examined, Known, Result
 from .store import Export
 from .wiki import Folder
 
-MOST_READ = 1 << 20
+MOST_READ = 1 << 16
 
 
 def write_frame(stream: "IO[bytes]", header: "dict[str, object]", payload: bytes = b"") -> None:
