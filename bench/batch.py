@@ -99,7 +99,7 @@ class Watcher(threading.Thread):
 
 
 def stolen(processors: "set[int]") -> float:
-    """The seconds for which the host has kept these processors from this machine since it began, as Linux counts."""
+    """The seconds for which the host has kept these processors from this machine since it began."""
     lines = (line.split() for line in Path("/proc/stat").read_text().splitlines())
     names = {f"cpu{number}" for number in processors}
     return sum(int(words[8]) for words in lines if words[0] in names) / os.sysconf("SC_CLK_TCK")
@@ -173,9 +173,8 @@ def main() -> None:
         print(f"{arguments.pages:,} pages, {size:,} bytes, {arguments.commands}, load {load:.1f}")
         run(root, everything, words, False)
         for _ in range(arguments.rounds):
-            one, all_of_them = (
-                run(root, processors, words, arguments.watch) for processors in ({min(everything)}, everything)
-            )
+            one = run(root, {min(everything)}, words, arguments.watch)
+            all_of_them = run(root, everything, words, arguments.watch)
             ratios.append(one.seconds / all_of_them.seconds)
             times = all_of_them.used / one.used
             print(told(one, 1, arguments.pages, size))

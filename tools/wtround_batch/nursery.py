@@ -40,7 +40,7 @@ class Nursery:
             return self._ask(FORK, [(socket.SOL_SOCKET, socket.SCM_RIGHTS, descriptors)]), ours
 
     def end(self, worker_id: int) -> int:
-        """Ends a worker, if it hasn't ended by itself. Its exit status, or the negative number of a signal."""
+        """Ends a worker that hasn't ended by itself. Its exit status, or the negative number of a signal."""
         return self._ask(END + b"%d" % worker_id)
 
     def _ask(self, request: bytes, ancillary: "list[tuple]" = []) -> int:

@@ -106,7 +106,10 @@ def title_of_file(name: str) -> str:
 
 
 def read_at_most(file: io.RawIOBase, most: int) -> bytes:
-    """So many bytes of a file at most. By pieces: room for the longest page would cost more than most pages do."""
+    """So many bytes of a file at most.
+
+    They are read by pieces: to ask the system for the room of the longest page takes longer than most pages.
+    """
     parts: "list[bytes]" = []
     while most > 0:
         part = file.read(min(most, PIECE))

@@ -153,7 +153,7 @@ def work(leader: socket.socket) -> None:
         return
     orders = Orders(**{name: value for name, value in first[0].items() if name != "payload"})
     if orders.processor is not None:
-        # The worker and its program take turns: where both run on one processor, neither wakes another one up.
+        # The worker and its program take turns: on one processor, neither has to wake another one up.
         os.sched_setaffinity(0, {orders.processor})
     cases = Cases(orders.program, orders.memory_limit)
     examiner = Examiner(cases, orders.source(), orders.time_limit, orders.output != "nothing")
