@@ -81,7 +81,9 @@ class BatchCase(unittest.TestCase):
 
     def start(self, *words: str) -> "subprocess.Popen[bytes]":
         streams = {"stdin": subprocess.DEVNULL, "stdout": subprocess.PIPE, "stderr": subprocess.PIPE}
-        return subprocess.Popen(self.command(*words), cwd=self.root, env=self.environment(), **streams)
+        return subprocess.Popen(
+            self.command(*words), cwd=self.root, env=self.environment(), start_new_session=True, **streams
+        )
 
     def run_tool(self, *words: str, status: int = 0, stdin: bytes = b"") -> "tuple[bytes, str]":
         """Standard output, and standard error."""
@@ -198,11 +200,11 @@ class TwoThousandPages(BatchCase):
         self.assertEqual((again["kept"], again["outcomes"]), (2000, report["outcomes"]))
         self.assertEqual(len(self.lines()), 2000)
 
-    def stored(self, state: Path) -> int:
+    def stored(self, state: Path, chosen: str = "") -> int:
         try:
             connection = sqlite3.connect(f"file:{state}?mode=ro", uri=True)
             try:
-                return connection.execute("SELECT count(*) FROM result").fetchone()[0]
+                return connection.execute(f"SELECT count(*) FROM result {chosen}").fetchone()[0]
             finally:
                 connection.close()
         except sqlite3.Error:
@@ -222,14 +224,24 @@ class TwoThousandPages(BatchCase):
 
         self.wait_for(lambda: not running())
 
-    def test_interrupted_and_gone_on(self) -> None:
-        self.make()
-        running = self.start("wikitext", "--report", "report.html", "-j", "1")
-        self.wait_for(lambda: self.stored(self.root / "wtround-batch.sqlite") >= 50)
-        running.send_signal(signal.SIGINT)
+    def interrupted(self, number: int) -> None:
+        """A run is stopped as a terminal stops it, or the system: all processes of its group are told."""
+        running = self.start("wikitext", "--again", "--report", "report.html", "-j", "1")
+        self.wait_for(lambda: len(workers_of(running.pid)) == 1 and self.stored_anew() >= 50)
+        os.killpg(running.pid, number)
         told = running.communicate()[1].decode()
         self.assertEqual(running.returncode, 130, told)
         self.assertIn("stopped; the same words go on from here", told)
+        self.assertNotIn("Traceback", told)
+
+    def stored_anew(self) -> int:
+        """How many pages the last run has stored."""
+        return self.stored(self.root / "wtround-batch.sqlite", "WHERE run = (SELECT max(run) FROM result)")
+
+    def test_interrupted_and_gone_on(self) -> None:
+        self.make()
+        for number in (signal.SIGTERM, signal.SIGINT):
+            self.interrupted(number)
         report = json.loads((self.root / "report.json").read_text())
         self.assertFalse(report["finished"])
         self.assertIn("The run was stopped before its end", (self.root / "report.html").read_text())

@@ -9,7 +9,7 @@ import sys
 from contextlib import closing, contextmanager
 from typing import Callable, Iterator
 
-from .nursery import Nursery, NurseryError
+from .nursery import STOPPING, Nursery, NurseryError
 from .program import ProgramError, find_program, refuse_unfit
 from .progress import Progress, spelled_time
 from .results import COMMANDS, DIFFERS, FAILURE_WORDS, OUTCOMES
@@ -22,7 +22,6 @@ from .worker import Orders, work
 PROGRAM = "wtround-batch"
 STATE = "wtround-batch.sqlite"
 WORDS_OF_SPREAD = ("cases", "answers", "gather")
-STOPPING = (signal.SIGINT, signal.SIGTERM, signal.SIGHUP)
 EPILOG = """\
 COMMANDS is one of these words, or several joined by commas:
 

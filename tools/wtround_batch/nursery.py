@@ -7,12 +7,13 @@ import signal
 import socket
 import sys
 import traceback
-from typing import Callable, NoReturn
+from typing import Callable, Iterable, NoReturn
 
 from .program import end_with_parent, name_process
 
 MOST_BYTES = 100  # of a request, and of an answer
 FORK, END = b"fork", b"end"
+STOPPING = (signal.SIGINT, signal.SIGTERM, signal.SIGHUP)  # what a terminal or a system asks a run to stop by
 
 
 class NurseryError(Exception):
@@ -43,7 +44,7 @@ class Nursery:
         """Ends a worker that hasn't ended by itself. Its exit status, or the negative number of a signal."""
         return self._ask(END + b"%d" % worker_id)
 
-    def _ask(self, request: bytes, ancillary: "list[tuple]" = []) -> int:
+    def _ask(self, request: bytes, ancillary: "Iterable[tuple]" = ()) -> int:
         try:
             self._socket.sendmsg([request], ancillary)
             answer = self._socket.recv(MOST_BYTES)
@@ -93,9 +94,8 @@ def work_and_exit(work: "Callable[[], None]", name: str, kept: "list[int]", pare
     try:
         end_with_parent()
         name_process(name)
-        for number in (signal.SIGINT, signal.SIGHUP):  # the process that leads is told too, and ends this one
+        for number in STOPPING:  # the process that leads is told too, and ends this one
             signal.signal(number, signal.SIG_IGN)
-        signal.signal(signal.SIGTERM, signal.SIG_DFL)
         for descriptor in map(int, os.listdir("/proc/self/fd")):
             if descriptor > 2 and descriptor not in kept:
                 close_quietly(descriptor)
