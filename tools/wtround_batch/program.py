@@ -23,9 +23,10 @@ SET_PIPE_SIZE = 1031  # F_SETPIPE_SZ of Linux, which Python knows by name since 
 PROBE_SECONDS = 10.0
 END_WITH_PARENT, SET_NAME = 1, 15  # PR_SET_PDEATHSIG and PR_SET_NAME of Linux
 LIBC = ctypes.CDLL(None)
-# The C library keeps all small pieces of memory that a page gave back for the next one, without joining them:
-# this saves a twentieth of the instructions.
-ENVIRONMENT = {"GLIBC_TUNABLES": "glibc.malloc.tcache_count=65535"}
+# The C library keeps more of the small pieces of memory that a page gave back for the next one, without joining
+# them. With 100 of each size (in place of 7) 3 % of the instructions are saved, with all of them 5 %, but memory is
+# seven times as large.
+ENVIRONMENT = {"GLIBC_TUNABLES": "glibc.malloc.tcache_count=100"}
 
 
 class ProgramError(Exception):
