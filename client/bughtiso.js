@@ -17,6 +17,7 @@ import { Mender } from "./lib/mender.js";
 import { addMarks } from "./lib/marks.js";
 import { Watch } from "./lib/watch.js";
 
+export { bundle } from "./lib/bundles.js";
 export { HtmlRefused } from "./lib/markup.js";
 export { Offsets, rangeOf } from "./lib/offsets.js";
 export { describe, titleOf } from "./lib/names.js";
@@ -35,10 +36,11 @@ const opened = new WeakMap();
  * for it: `<template data-wt-name="meta" ..its attributes..>`, which stays where it is, also when the editor
  * writes and reads its DOM as HTML. `save` undoes the carriers.
  * @param {string} html  what `wtround html TITLE` wrote
- * @param {{into?: Element, document?: Document}} [options] `into`: the element that is to hold what stands in
- *   the page's body; it is emptied first. Without it a new document is made, and its body holds the page.
+ * @param {{into?: Element, document?: Document, prepare?: (inside: DocumentFragment) => void}} [options]
+ *   `into`: the element that is to hold what stands in the page's body; it is emptied first. Without it a new document is made, and its body holds the page.
  *   `document`: the document that makes the elements, where there is no `into` and no global `document`, as
- *   in Node.
+ *   in Node. `prepare`: is given what the page's body holds before it is put into the element, so that what
+ *   an editor sets on it there is styled once
  * @returns {Element} the element that holds the page: `into`, or the new document's body. It is what `save`
  *   takes.
  * @throws {HtmlRefused} where `html` isn't a document as the program writes it
@@ -48,6 +50,7 @@ export function open(html, options = {}) {
   const root = options.into ?? newBody(options.document ?? globalThis.document, original.page);
   const inside = root.ownerDocument.createDocumentFragment();
   fill(inside, root.ownerDocument, original.page);
+  options.prepare?.(inside);
   const watch = opened.get(root)?.watch ?? new Watch(root);
   watch.stop();
   root.replaceChildren(inside);
@@ -59,13 +62,13 @@ export function open(html, options = {}) {
 /**
  * Reads a page ahead of `renew`, which then takes less time.
  * @param {string} html  what `wtround html TITLE` wrote
- * @returns {Original} what `renew` takes in place of it
+ * @param {Element} [root]  the root that will be renewed: blocks that are written as when it was opened aren't
+ *   read again
+ * @returns {Original} what `renew` takes in place of the HTML
  * @throws {HtmlRefused} as `open`
  */
-export function readAhead(html) {
-  const original = new Original(html);
-  void original.nodes; // they are read now
-  return original;
+export function readAhead(html, root) {
+  return new Original(html, root && opened.get(root)?.original);
 }
 
 /**
@@ -79,7 +82,7 @@ export function readAhead(html) {
  * @throws {HtmlRefused} as `open`; the root is as it was
  */
 export function renew(root, html) {
-  const original = typeof html === "string" ? new Original(html) : html;
+  const original = typeof html === "string" ? readAhead(html, root) : html;
   const watch = opened.get(root)?.watch ?? new Watch(root);
   refill(root, root.ownerDocument, original.page, watch);
   watch.start(original.page);

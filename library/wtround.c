@@ -263,7 +263,7 @@ static int fetch_first(const wtround_text *words, size_t word_count, wtround_fet
     static const char expand[] = "expand";
     if (word_count != 2
         || !(is_word(words[0], "html") || is_word(words[0], "ranges") || is_word(words[0], "lint")
-             || is_word(words[0], "edit")))
+             || is_word(words[0], "edit") || is_word(words[0], "selser")))
         return WTROUND_DONE;
     wtround_text quick[] = { { expand, sizeof expand - 1 }, words[1] };
     wtround_room out = { NULL, 0, 0 }, line = { NULL, 0, 0 };

@@ -1,8 +1,8 @@
 /* The commands of wtround as calls of a C library.
  *
  * A command is a list of words, as on the command line: {"html", "Opava"}, {"edit", "Opava"},
- * {"wikitext"}. It may read an input (the HTML of `edit` and `wikitext`), and it takes pages from the
- * caller: through a callback (`wtround_run`), or from a table (`wtround_answer`).
+ * {"wikitext"}. It may read an input (the HTML of `wikitext`, `edit` and `selser`), and it takes pages from
+ * the caller: through a callback (`wtround_run`), or from a table (`wtround_answer`).
  *
  * Nothing is kept between calls, and there is no global state: any number of threads may call at once.
  * A call needs less than 1 MiB of stack, and memory of malloc, realloc and free, which it gives back.
@@ -18,11 +18,12 @@
 extern "C" {
 #endif
 
-/* How a call ends. From 0 to 8 these are the exit statuses of the program wtround. */
+/* How a call ends. From 0 to 8 these are the exit statuses of the program wtround. From 1 to 8 `line` says
+ * why; with 7 and 8 it may be empty. */
 enum wtround_status {
     WTROUND_DONE = 0,         /* the answer is in `out` */
     WTROUND_USAGE = 1,        /* the words are no command */
-    WTROUND_PAGE_REFUSED = 2, /* the page is refused; as for all of these, `line` says why */
+    WTROUND_PAGE_REFUSED = 2, /* the page is refused */
     WTROUND_HTML_REFUSED = 3, /* the HTML is refused */
     WTROUND_EDIT_REFUSED = 4, /* the edit is refused */
     WTROUND_READ_FAULT = 5,   /* the input failed; no call of this library ends so */
@@ -70,12 +71,13 @@ typedef int64_t wtround_fetch(void *context, const char *name, size_t name_lengt
 
 /* Answers the words of a command. Pages are fetched in rounds, one for each level of templates within others,
  * and each round takes about as long as `expand` of the page as far as it is known. The input is read by
- * `wikitext` and `edit` alone, and may be null where it has no bytes; `context` is handed to each call of
- * `fetch`. The result is a wtround_status, never WTROUND_MISSING.
+ * `wikitext`, `edit` and `selser` alone, and may be null where it has no bytes; `context` is handed to each
+ * call of `fetch`. The result is a wtround_status, never WTROUND_MISSING.
  *
- * The names are those that the answer takes, except where the target of a call, or the part that a function
- * such as #if chooses, depends on a template's output: then a page may be asked for that the answer doesn't
- * take in the end. */
+ * The names are those that `expand` of the page takes, also where the answer takes the page alone, as when
+ * the HTML of `edit` is refused; with `selser` those too that the new pages take which it tries. Where the
+ * target of a call, or the part that a function such as #if chooses, depends on a template's output, a page
+ * may be asked for that none of them takes in the end. */
 int wtround_run(const wtround_text *words, size_t word_count, const char *input, size_t input_length,
                 wtround_fetch *fetch, void *context, wtround_room *out, wtround_room *line);
 

@@ -1,18 +1,21 @@
 // @ts-check
 /** The editor of one page: it reads the page from the server, lets it be edited, and gives it back. */
 
-import { isChanged, open, prepareSave, renew } from "../bughtiso.js";
+import { bundle, isChanged, open, prepareSave, renew } from "../bughtiso.js";
 import { blocksOf } from "./blocks.js";
 import { Commands } from "./commands.js";
 import { History } from "./history.js";
 import { pasted } from "./paste.js";
 import { Saving, idle } from "./saving.js";
 import { ServerRefused, page as readPage } from "./server.js";
-import { deleteRests, deleteThing, elementsOf, groupSizes, nameThings, selectThing } from "./things.js";
-import { selectedThing, thingAt, thingBeside, thingsById } from "./things.js";
+import { deleteRests, deleteThing, elementsOf, nameThings, selectThing } from "./things.js";
+import { selectedThing, thingAt, thingBeside } from "./things.js";
 
 /** From so many on, blocks out of sight aren't laid out. */
 const MANY_BLOCKS = 500;
+
+/** So many of them are laid out together. The browser looks at each such bundle again whenever it draws. */
+const BUNDLED_BLOCKS = 50;
 
 /**
  * @template {HTMLElement} T
@@ -33,13 +36,11 @@ class Editor {
     /** The page as it was opened, and the server's name for this state of it. */
     this.html = "";
     this.etag = "";
-    /** @type {Map<string, number>} */
-    this.sizes = new Map();
     /**
-     * The things of the page as it was opened, by their ids.
-     * @type {Map<string, HTMLElement[]>}
+     * The things of the page as it was opened.
+     * @type {import("./things.js").Things}
      */
-    this.things = new Map();
+    this.things = { sizes: new Map(), byId: new Map() };
     /**
      * The thing that is selected as a whole.
      * @type {HTMLElement | null}
@@ -101,11 +102,7 @@ class Editor {
   async read() {
     try {
       const state = await readPage(this.title);
-      open(state.html, { into: this.root });
-      this.#take(state);
-      this.root.contentEditable = "true";
-      document.execCommand("defaultParagraphSeparator", false, "p");
-      document.execCommand("styleWithCSS", false, "false");
+      open(state.html, { into: this.root, prepare: (inside) => this.#prepare(state, inside) });
       byId("save").removeAttribute("disabled");
       byId("waiting").hidden = true;
       this.history.forget();
@@ -119,6 +116,19 @@ class Editor {
   }
 
   /**
+   * Takes a page that will stand in the text, which is edited from now on.
+   * @param {import("./saving.js").State} state
+   * @param {DocumentFragment} inside
+   */
+  #prepare(state, inside) {
+    this.#take(state, inside);
+    if (this.root.classList.contains("long")) bundle(inside, BUNDLED_BLOCKS);
+    this.root.contentEditable = "true";
+    document.execCommand("defaultParagraphSeparator", false, "p");
+    document.execCommand("styleWithCSS", false, "false");
+  }
+
+  /**
    * Shows the page as it was stored. The caret stands where it stood; it is put there before anything looks
    * at it, since the browser takes seconds for a caret that stands in no text of a long page.
    * @param {import("./saving.js").State} state
@@ -128,23 +138,23 @@ class Editor {
     const caret = caretIn(this.root);
     document.getSelection()?.removeAllRanges();
     renew(this.root, state.read ?? state.html);
-    this.#take(state);
+    this.#take(state, this.root);
     window.scrollTo(0, scrolled);
     if (caret !== null) putCaret(this.root, caret);
     this.history.forget();
+    idle().then(() => prepareSave(this.root));
   }
 
   /**
-   * Takes the page that the text shows now as the one that is edited.
-   * @param {{html: string, etag: string}} state
+   * Takes a page as the one that is edited.
+   * @param {import("./saving.js").State} state
+   * @param {Element | DocumentFragment} holder  what its blocks stand in
    */
-  #take({ html, etag }) {
+  #take({ html, etag }, holder) {
     this.html = html;
     this.etag = etag;
-    this.root.classList.toggle("long", blocksOf(this.root).length > MANY_BLOCKS);
-    nameThings(this.root);
-    this.sizes = groupSizes(this.root);
-    this.things = thingsById(this.root);
+    this.root.classList.toggle("long", blocksOf(holder).length > MANY_BLOCKS);
+    this.things = nameThings(holder);
   }
 
   /** @param {string} text */
@@ -267,14 +277,14 @@ class Editor {
     const [, direction] = /^deleteContent(Backward|Forward)$/.exec(event.inputType) ?? [];
     if (direction && event.cancelable && this.#takesThing(direction === "Backward")) event.preventDefault();
     if (/^format(?!Bold|Italic|Remove)/.test(event.inputType)) event.preventDefault();
-    if (event.inputType.startsWith("delete")) setTimeout(() => deleteRests(this.root, this.sizes));
+    if (event.inputType.startsWith("delete")) setTimeout(() => deleteRests(this.root, this.things.sizes));
   }
 
   /** @param {ClipboardEvent} event */
   #paste(event) {
     event.preventDefault();
     if (event.clipboardData === null) return;
-    const { html, leftOut } = pasted(event.clipboardData, this.root, this.things);
+    const { html, leftOut } = pasted(event.clipboardData, this.root, this.things.byId);
     if (html !== "") this.#emptiesAll();
     if (html !== "") this.history.step(() => document.execCommand("insertHTML", false, html));
     if (leftOut > 0) this.say("Templates and references can't be copied: they were left out.");

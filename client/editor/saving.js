@@ -3,6 +3,7 @@
 
 import { readAhead, save } from "../bughtiso.js";
 import { Ahead } from "./ahead.js";
+import { elementAt } from "./blocks.js";
 import { ServerRefused, page as readPage, pageThen, revisionOf, store } from "./server.js";
 import { shownDiff } from "./diff.js";
 import { layOver } from "./overlay.js";
@@ -111,7 +112,7 @@ export class Saving {
     try {
       const state = await pageThen(this.page.title, prepared);
       await idle();
-      return this.isLocked ? { ...state, read: readAhead(state.html) } : null;
+      return this.isLocked ? { ...state, read: readAhead(state.html, this.page.root) } : null;
     } catch {
       return null; // it is asked for again once the edit is stored
     }
@@ -201,8 +202,7 @@ export class Saving {
     if (node === "") return null;
     const root = this.page.root;
     try {
-      if (/^mw\d+$/.test(node)) return root.querySelector(`[id="${node}"]`);
-      return root.querySelector(node.replace(/^body\s*>/, ":scope >"));
+      return /^mw\d+$/.test(node) ? root.querySelector(`[id="${node}"]`) : elementAt(root, node);
     } catch {
       return null;
     }

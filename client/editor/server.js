@@ -62,8 +62,14 @@ export async function titles() {
   return JSON.parse((await ask("/titles")).text).titles;
 }
 
-/** Of the places of elements, which the editor doesn't need, its HTML has those alone that tell a source. */
-const SHAPE = "data_parsoid=sources";
+/**
+ * Of elements' data its HTML has what tells a source alone, and no places, which the editor doesn't need: so
+ * what wasn't changed is written the same after a save.
+ */
+const SHAPE = "data_parsoid=sources&offsetType=none";
+
+/** In which form it is given back. */
+const FORM = { mended: true, offsetType: "none" };
 
 /**
  * @param {string} title
@@ -102,7 +108,7 @@ async function give(title, query, etag, body) {
  * @returns {Promise<Preview>}
  */
 export function preview(title, html, etag, instead) {
-  return give(title, "?preview=1", etag, { html, mended: true, instead });
+  return give(title, "?preview=1", etag, { html, ...FORM, instead });
 }
 
 /**
@@ -145,7 +151,7 @@ export async function store(title, prepared, html, etag) {
     return (await give(title, "", etag, { prepared })).etag;
   } catch (error) {
     if (!(error instanceof ServerRefused) || error.error !== "NotPrepared") throw error;
-    return (await give(title, "", etag, { html, mended: true })).etag;
+    return (await give(title, "", etag, { html, ...FORM })).etag;
   }
 }
 

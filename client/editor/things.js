@@ -43,29 +43,79 @@ const NAMES = {
 };
 
 /**
- * Shows the things below the root as such.
- * @param {HTMLElement} root
+ * The things of a page.
+ * @typedef {{sizes: Map<string, number>, byId: Map<string, HTMLElement[]>}} Things  `sizes`: how many elements
+ *   each group has; `byId`: the elements of each thing that has an `id`
  */
-export function nameThings(root) {
+
+/**
+ * Shows the things of a page as such.
+ * @param {ParentNode} page  the text, or what will stand in it
+ * @returns {Things}
+ */
+export function nameThings(page) {
+  /** @type {Things} */
+  const things = { sizes: new Map(), byId: new Map() };
+  /** @type {Map<string, HTMLElement[]>} */
+  const groups = new Map();
   let references = 0;
-  for (const element of root.querySelectorAll(THINGS)) {
-    if (element.parentElement?.closest("[data-thing]")) continue;
-    const thing = describe(element);
-    const isReference = thing?.kind === "extension" && thing.name === "ref";
-    put(element, "contenteditable", "false");
-    put(element, "data-thing", isReference ? "reference" : thing?.kind ?? "other");
-    if (element.hasAttribute("about") && !element.hasAttribute("data-mw")) continue;
-    if (isReference) references += 1;
-    const kindName = thing === null ? "Preformatted text" : NAMES[thing.kind](thing.name);
-    const name = isReference ? `${kindName} ${references}` : kindName;
-    put(element, "data-name", name);
-    put(element, "data-label", isReference ? `[${references}]` : name);
-    put(element, "title", name);
-    if (!(element.textContent ?? "").trim()) put(element, "data-hollow", "");
-    if (!/^(?:table|ul|ol|dl|pre|meta|link)$/.test(element.localName)) {
-      put(element, "role", "group");
-      put(element, "aria-label", name);
-    }
+  /** @type {HTMLElement | null} */
+  let last = null;
+  for (const element of /** @type {NodeListOf<HTMLElement>} */ (page.querySelectorAll(THINGS))) {
+    const about = element.getAttribute("about") ?? "";
+    if (about !== "") things.sizes.set(about, (things.sizes.get(about) ?? 0) + 1);
+    if (last?.contains(element)) continue;
+    last = element;
+    if (isReference(element)) nameReference(element, (references += 1));
+    else nameThing(element);
+    const elements = (about !== "" && groups.get(about)) || [];
+    elements.push(element);
+    if (about !== "") groups.set(about, elements);
+    if (element.id !== "") things.byId.set(element.id, elements);
+  }
+  return things;
+}
+
+/** @param {Element} element */
+function isReference(element) {
+  return element.getAttribute("typeof") === "mw:Extension/ref" && !element.hasAttribute("about");
+}
+
+/**
+ * @param {Element} element
+ * @param {number} number
+ */
+function nameReference(element, number) {
+  const label = `[${number}]`;
+  if (element.getAttribute("data-label") === label) return; // it has this name
+  put(element, "contenteditable", "false");
+  put(element, "data-thing", "reference");
+  show(element, `${EXTENSIONS.ref} ${number}`, label);
+}
+
+/** @param {Element} element */
+function nameThing(element) {
+  const thing = describe(element);
+  put(element, "contenteditable", "false");
+  put(element, "data-thing", thing?.kind ?? "other");
+  if (element.hasAttribute("about") && !element.hasAttribute("data-mw")) return;
+  const name = thing === null ? "Preformatted text" : NAMES[thing.kind](thing.name);
+  show(element, name, name);
+}
+
+/**
+ * @param {Element} element
+ * @param {string} name
+ * @param {string} label  what stands in its place where it shows nothing
+ */
+function show(element, name, label) {
+  put(element, "data-name", name);
+  put(element, "data-label", label);
+  put(element, "title", name);
+  if (!(element.textContent ?? "").trim()) put(element, "data-hollow", "");
+  if (!/^(?:table|ul|ol|dl|pre|meta|link)$/.test(element.localName)) {
+    put(element, "role", "group");
+    put(element, "aria-label", name);
   }
 }
 
@@ -77,26 +127,6 @@ export function nameThings(root) {
  */
 function put(element, name, value) {
   if (element.getAttribute(name) !== value) element.setAttribute(name, value);
-}
-
-/**
- * The elements of each thing that has an `id`.
- * @param {HTMLElement} root
- * @returns {Map<string, HTMLElement[]>}
- */
-export function thingsById(root) {
-  /** @type {Map<string, HTMLElement[]>} */
-  const things = new Map();
-  /** @type {Map<string, HTMLElement[]>} */
-  const groups = new Map();
-  for (const element of /** @type {NodeListOf<HTMLElement>} */ (root.querySelectorAll("[data-thing]"))) {
-    const about = element.getAttribute("about") ?? "";
-    const elements = (about !== "" && groups.get(about)) || [];
-    elements.push(element);
-    if (about !== "") groups.set(about, elements);
-    if (element.id !== "") things.set(element.id, elements);
-  }
-  return things;
 }
 
 /**

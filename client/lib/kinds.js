@@ -10,7 +10,7 @@ export const ATTRIBUTES = new Set([
 ]);
 
 /** Those that a new part of a table may have. */
-export const TABLE_ATTRIBUTES = new Set(["class", "colspan", "rowspan", "scope", "lang", "dir"]);
+const TABLE_ATTRIBUTES = new Set(["class", "colspan", "rowspan", "scope", "lang", "dir"]);
 
 export const HEADINGS = new Set(["h1", "h2", "h3", "h4", "h5", "h6"]);
 export const LISTS = new Set(["ul", "ol", "dl"]);
@@ -45,6 +45,9 @@ const SAME = new Map([
   ["em", "i"],
 ]);
 
+/** The `typeof` of what is one thing: of the program's, and what other editors write for new ones. */
+const THING = /(?:^|\s)mw:(?:Extension\/|Placeholder|Transclusion|File|Image|Video|Audio)/;
+
 /** Pairs of tags that stand in a page's text: those of the page stay, new ones can't be written. */
 export const TAGS = new Set(["sup", "sub", "small", "s", "u", "code", "span"]);
 
@@ -61,9 +64,20 @@ export function isBlock(part) {
 export function nameOf(element) {
   const name = element.localName;
   if (name === "template") return element.getAttribute("data-wt-name") ?? "";
+  if (isThing(element)) return "span";
   if (LEFT_OUT.has(name)) return "";
   if (BOXES.has(name)) return "box";
   return SAME.get(name) ?? name;
+}
+
+/**
+ * Whether an element of another name is what the program writes as a `span`, as a `figure` or a `sup` of
+ * Parsoid's.
+ * @param {Element} element
+ */
+function isThing(element) {
+  const isOurs = isHiddenName(element.localName) || element.hasAttribute("about");
+  return !isOurs && THING.test(element.getAttribute("typeof") ?? "");
 }
 
 /**
@@ -83,6 +97,14 @@ export function isHiddenName(name) {
 }
 
 /**
+ * What a category, a switch or the like says: two of one kind are the same for the page.
+ * @param {Part} part
+ */
+export function hiddenKind(part) {
+  return ["typeof", "property", "rel", "href"].map((name) => part.value(name)).join(" ");
+}
+
+/**
  * @param {Part} part
  * @returns {boolean} a comment, an include tag or a skip, which no edit of texts compares
  */
@@ -95,7 +117,7 @@ export function isMark(part) {
  * @param {(name: string) => string} value
  */
 export function isIsland(value) {
-  return value("about") !== "" || /^mw:(?:Extension\/|Placeholder)/.test(value("typeof"));
+  return value("about") !== "" || THING.test(value("typeof"));
 }
 
 /**
@@ -104,4 +126,31 @@ export function isIsland(value) {
  */
 export function isBlank(text) {
   return /^[ \t\n\r\f\u00a0]*$/.test(text);
+}
+
+/**
+ * Whether a new element may have an attribute.
+ * @param {string} name
+ * @param {string} attribute
+ * @returns {boolean}
+ */
+export function mayHave(name, attribute) {
+  switch (name) {
+    case "table":
+    case "tr":
+    case "td":
+    case "th":
+      return TABLE_ATTRIBUTES.has(attribute);
+    case "span":
+      return attribute === "typeof" || attribute === "data-mw";
+    case "meta":
+    case "link":
+      return ATTRIBUTES.has(attribute) && attribute !== "id" && attribute !== "data-parsoid";
+    case "body":
+      return attribute === "data-parsoid";
+    case "section":
+      return /^[a-z][a-z0-9:-]*$/.test(attribute) && attribute !== "data-wt-edit";
+    default:
+      return false;
+  }
 }

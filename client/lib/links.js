@@ -1,5 +1,8 @@
 // @ts-check
-/** What a link leads to: a page of the wiki or an address. */
+/** What a link leads to: a page of the wiki or an address; and what stands at its edges. */
+
+import { Part } from "./markup.js";
+import { isEmpty, withoutEnd } from "./texts.js";
 
 /** Addresses of other kinds, which no wikitext of ours links to. */
 const OTHER_SCHEME =
@@ -50,4 +53,22 @@ export function hrefOf(title) {
       .replace(/%(?:2C|3B|3A|40|2F|24)/g, decodeURIComponent),
   );
   return `./${written.join("#")}`;
+}
+
+/**
+ * Blanks at a link's edges that the page's link hadn't stand outside it.
+ * @param {Part} link
+ * @param {string} was  the text of the page's link
+ * @returns {(Part | string)[]}
+ */
+export function withEdgesOutside(link, was) {
+  const first = link.children[0];
+  const front = typeof first === "string" && !/^\s/.test(was) ? /^[ \t\n\u00a0]*/.exec(first)?.[0] ?? "" : "";
+  if (front !== "") link.children[0] = /** @type {string} */ (first).slice(front.length);
+  const last = link.children[link.children.length - 1];
+  const isOpen = typeof last === "string" && !/\s$/.test(was);
+  const back = isOpen ? last.slice(withoutEnd(last, " \t\n\u00a0").length) : "";
+  if (typeof last === "string") link.children.splice(-1, 1, last.slice(0, last.length - back.length));
+  link.children = link.children.filter((piece) => piece !== "");
+  return isEmpty(link.children) ? [front + back] : [front, link, back].filter((piece) => piece !== "");
 }

@@ -128,21 +128,33 @@ function readAttributes(written, place) {
 /** Elements whose children are the page's blocks. */
 const HOLD_BLOCKS = new Set(["body", "section"]);
 
-/** Reads a document, piece after piece. */
+/** Reads a document or a part of it, piece after piece. */
 class Reader {
-  place = 0;
-  top = new Part("");
-  /** The open elements, the innermost last. */
-  stack = [this.top];
-  /** Where each of them begins. */
-  starts = [0];
+  /** Where the inside of the body begins and ends. */
+  inside = { start: 0, end: 0 };
 
-  /** @param {string} html */
-  constructor(html) {
+  /**
+   * @param {string} html
+   * @param {number} place  where it begins to read
+   * @param {Part} top  what is read stands in it; without a name it is the document
+   */
+  constructor(html, place, top) {
     this.html = html;
-    DOCTYPE.lastIndex = 0;
-    DOCTYPE.exec(html);
-    this.place = DOCTYPE.lastIndex;
+    this.place = place;
+    this.top = top;
+    /** The open elements, the innermost last. */
+    this.stack = [top];
+    /** Where each of them begins. */
+    this.starts = [place];
+  }
+
+  /** @param {number} end  where no piece stands over */
+  readTo(end) {
+    while (this.place < end) {
+      if (this.html[this.place] !== "<") this.text();
+      else if (this.html[this.place + 1] === "/") this.end();
+      else this.start();
+    }
   }
 
   get parent() {
@@ -152,7 +164,7 @@ class Reader {
   text() {
     const end = this.html.indexOf("<", this.place);
     const text = this.html.slice(this.place, end < 0 ? this.html.length : end);
-    if (this.parent !== this.top) this.parent.children.push(unescaped(text, this.place));
+    if (this.parent.name !== "") this.parent.children.push(unescaped(text, this.place));
     else if (/[^ \t\r\n]/.test(text)) throw new HtmlRefused(this.place, "text outside the document");
     this.place += text.length;
   }
@@ -163,6 +175,7 @@ class Reader {
     if (end === null || this.parent === this.top) throw new HtmlRefused(this.place, "no end tag");
     const { name } = this.parent;
     if (end[1] !== name) throw new HtmlRefused(this.place, `the end of ${name} is missing`);
+    if (name === "body") this.inside.end = this.place;
     this.place = END.lastIndex;
     const part = /** @type {Part} */ (this.stack.pop());
     this.#close(part, /** @type {number} */ (this.starts.pop()));
@@ -176,6 +189,7 @@ class Reader {
     const begin = this.place;
     this.parent.children.push(part);
     this.place = START.lastIndex;
+    if (part.name === "body") this.inside.start = this.place;
     if (VOID.has(part.name)) {
       this.#close(part, begin);
       return;
@@ -195,34 +209,47 @@ class Reader {
 }
 
 /**
- * Reads a document and answers its root element.
+ * Reads a document.
  * @param {string} html
- * @returns {Part}
+ * @returns {{root: Part, start: number, end: number}} its root element, and where the inside of a body begins
+ *   and ends
  */
 export function read(html) {
-  const reader = new Reader(html);
-  while (reader.place < html.length) {
-    if (html[reader.place] !== "<") reader.text();
-    else if (html[reader.place + 1] === "/") reader.end();
-    else reader.start();
-  }
+  DOCTYPE.lastIndex = 0;
+  DOCTYPE.exec(html);
+  const reader = new Reader(html, DOCTYPE.lastIndex, new Part(""));
+  reader.readTo(html.length);
   const [root, ...others] = reader.top.parts;
   if (reader.parent !== reader.top || root === undefined || others.length > 0) {
     throw new HtmlRefused(html.length, "no whole document");
   }
-  return root;
+  return { root, ...reader.inside };
 }
 
 /**
- * Reads a document and answers its body.
+ * Reads a document of a page.
  * @param {string} html
- * @returns {Part}
+ * @returns {{body: Part, start: number, end: number}} its body, and where the inside of that begins and ends
  */
 export function readPage(html) {
-  const root = read(html);
+  const { root, start, end } = read(html);
   const body = root.parts.find((part) => part.name === "body");
   if (root.name !== "html" || body === undefined) throw new HtmlRefused(0, "no html with a body");
-  return body;
+  return { body, start, end };
+}
+
+/**
+ * Reads blocks of a document that stand side by side in its body.
+ * @param {string} html
+ * @param {number} start  where the first of them begins
+ * @param {number} end  where the last one ends
+ * @returns {(Part | string)[]}
+ */
+export function readBlocks(html, start, end) {
+  const reader = new Reader(html, start, new Part("body"));
+  reader.readTo(end);
+  if (reader.parent !== reader.top || reader.place !== end) throw new HtmlRefused(end, "a block is cut off");
+  return reader.top.children;
 }
 
 const TEXT_SIGNS = /[&<>\u0000-\u0008\u000b-\u001f\ud800-\udfff]/;
@@ -243,8 +270,11 @@ function escapedSign(sign) {
   }
 }
 
-/** @param {string} text */
-function escaped(text) {
+/**
+ * @param {string} text
+ * @returns {string} as it is written
+ */
+export function escaped(text) {
   return TEXT_SIGNS.test(text) ? text.replace(TEXT_SIGN, escapedSign) : text;
 }
 

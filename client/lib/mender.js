@@ -7,16 +7,17 @@
  * is of that node's kind; any other is new.
  */
 
+import { isBundle } from "./bundles.js";
 import { Part, numberOf } from "./markup.js";
 import { Original, kindOf } from "./original.js";
 import { dropEmptyLines } from "./lines.js";
-import { linkTarget } from "./links.js";
+import { linkTarget, withEdgesOutside } from "./links.js";
 import { putBack } from "./strays.js";
-import { append, isBare, isEmpty, tidy, withoutEnd } from "./texts.js";
+import { append, isBare, isEmpty, tidy } from "./texts.js";
 import { Watch } from "./watch.js";
 import {
-  ATTRIBUTES, CELLS, ITEMS, LINES, LISTS, TABLE_ATTRIBUTES, TAGS, isBlank, isBlock, isBlockName, isHiddenName,
-  isIsland, nameOf,
+  ATTRIBUTES, CELLS, ITEMS, LINES, LISTS, TAGS, hiddenKind, isBlank, isBlock, isBlockName, isHiddenName,
+  isIsland, isMark, mayHave, nameOf,
 } from "./kinds.js";
 
 /** @typedef {(Part | string)[]} Pieces */
@@ -55,6 +56,12 @@ export class Mender {
    * @type {Map<Element, Part>}
    */
   #asOpened = new Map();
+
+  /**
+   * The kinds of the page's categories, switches and the like that are still there.
+   * @type {Set<string> | null}
+   */
+  #hiddenKinds = null;
 
   /**
    * @param {Original | undefined} original  the page as it was, where that is known
@@ -129,7 +136,7 @@ export class Mender {
       const part = watch.untouched(element);
       const isSection = element.localName === "section" && !element.hasAttribute("id");
       if (part !== undefined) this.#asOpened.set(element, part);
-      else if (isSection) this.#sort(element, watch, touched);
+      else if (isSection || isBundle(element)) this.#sort(element, watch, touched);
       else touched.push(element);
     }
   }
@@ -580,7 +587,8 @@ export class Mender {
     const type = element.getAttribute("typeof") ?? "";
     const isKept = this.#numberOf(element) !== 0;
     if (isIsland(valuesOf(element))) {
-      return [this.#part(element, "span", []), ...this.#inline(element.childNodes)];
+      const island = this.#part(element, "span", []);
+      return isKept ? [island, ...this.#inline(element.childNodes)] : [island];
     }
     if (!isKept || (type !== "mw:Entity" && type !== "mw:Nowiki")) return this.#inline(element.childNodes);
     const part = this.#part(element, "span", this.#inline(element.childNodes));
@@ -605,7 +613,8 @@ export class Mender {
   }
 
   /**
-   * A comment, an include tag, a skip, a switch, a category: those of the page alone.
+   * A comment, an include tag, a skip, a switch, a category: those of the page; and of new ones what the
+   * program refuses by name, and not passes over.
    * @param {Element} element
    * @param {string} name
    * @returns {Pieces}
@@ -613,8 +622,36 @@ export class Mender {
   #hidden(element, name) {
     const values = valuesOf(element);
     const isOurs = ["typeof", "property", "rel"].some((name) => values(name).startsWith("mw:"));
+    const part = this.#part(element, name, []);
     const isKept = this.original === undefined || this.#numberOf(element) !== 0;
-    return isOurs && isKept ? [this.#part(element, name, [])] : [];
+    return isOurs && (isKept || !(isMark(part) || this.#isCopy(part))) ? [part] : [];
+  }
+
+  /**
+   * Whether the page has such a category or switch, which is still there.
+   * @param {Part} part  a new one
+   */
+  #isCopy(part) {
+    if (this.#hiddenKinds === null) {
+      const blocks = new Set(this.#asOpened.values());
+      const kinds = [...(this.original?.nodes ?? [])].map(([number, kept]) =>
+        isHiddenName(kept.part.name) && this.#isStillThere(number, blocks) ? hiddenKind(kept.part) : "",
+      );
+      this.#hiddenKinds = new Set(kinds);
+    }
+    return this.#hiddenKinds.has(hiddenKind(part));
+  }
+
+  /**
+   * @param {number} number  of a node of the page
+   * @param {Set<Part>} blocks  those that nobody has touched
+   */
+  #isStillThere(number, blocks) {
+    const owner = this.#owners.get(number);
+    if (owner !== undefined) return this.#numberOf(owner) !== 0;
+    let kept = this.#kept(number);
+    while (kept?.parent) kept = kept.parent;
+    return kept !== undefined && blocks.has(kept.part);
   }
 
   /**
@@ -708,32 +745,6 @@ function thingsIn(element) {
 }
 
 /**
- * Whether a new element may have an attribute.
- * @param {string} name
- * @param {string} attribute
- */
-function mayHave(name, attribute) {
-  switch (name) {
-    case "table":
-    case "tr":
-    case "td":
-    case "th":
-      return TABLE_ATTRIBUTES.has(attribute);
-    case "span":
-      return attribute === "typeof" || attribute === "data-mw";
-    case "meta":
-    case "link":
-      return ATTRIBUTES.has(attribute);
-    case "body":
-      return attribute === "data-parsoid";
-    case "section":
-      return /^[a-z][a-z0-9:-]*$/.test(attribute) && attribute !== "data-wt-edit";
-    default:
-      return false;
-  }
-}
-
-/**
  * What stands in an entity, with the entity itself in place of its character.
  * @param {Pieces} pieces
  * @param {string} character
@@ -761,21 +772,4 @@ function cutAt(text, character, entity) {
   const at = character === "" ? -1 : text.indexOf(character);
   if (at < 0) return null;
   return [text.slice(0, at), entity, text.slice(at + character.length)].filter((piece) => piece !== "");
-}
-
-/**
- * Blanks at a link's edges that the page's link hadn't stand outside it.
- * @param {Part} link
- * @param {string} was
- */
-function withEdgesOutside(link, was) {
-  const first = link.children[0];
-  const front = typeof first === "string" && !/^\s/.test(was) ? /^[ \t\n\u00a0]*/.exec(first)?.[0] ?? "" : "";
-  if (front !== "") link.children[0] = /** @type {string} */ (first).slice(front.length);
-  const last = link.children[link.children.length - 1];
-  const isOpen = typeof last === "string" && !/\s$/.test(was);
-  const back = isOpen ? last.slice(withoutEnd(last, " \t\n\u00a0").length) : "";
-  if (typeof last === "string") link.children.splice(-1, 1, last.slice(0, last.length - back.length));
-  link.children = link.children.filter((piece) => piece !== "");
-  return isEmpty(link.children) ? [front + back] : [front, link, back].filter((piece) => piece !== "");
 }

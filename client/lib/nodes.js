@@ -2,6 +2,7 @@
 /** The nodes of a DOM for a page that was read: made new, or taken from those that stand there already. */
 
 import { Part } from "./markup.js";
+import { nodesIn } from "./bundles.js";
 import { ATTRIBUTES } from "./kinds.js";
 import { Watch } from "./watch.js";
 
@@ -60,7 +61,7 @@ function isLostInTables(part) {
  * @param {Watch} [watch]  knows blocks of which needn't be asked what they hold
  */
 export function refill(parent, document, part, watch) {
-  const nodes = [...parent.childNodes];
+  const nodes = nodesIn(parent);
   const { children } = part;
   let at = 0;
   let next = 0;
@@ -72,13 +73,25 @@ export function refill(parent, document, part, watch) {
     }
     const [gone, come] = untilAlike(nodes.slice(at, at + REACH), children.slice(next, next + REACH));
     const behind = nodes[at + gone] ?? null;
-    for (const node of nodes.slice(at, at + gone)) parent.removeChild(node);
+    const holder = behind?.parentNode ?? parent; // a bundle, where it stands in one
     for (const child of children.slice(next, next + come)) {
-      parent.insertBefore(made(document, part, child), behind);
+      holder.insertBefore(made(document, part, child), behind);
     }
+    for (const node of nodes.slice(at, at + gone)) remove(node, parent);
     at += gone;
     next += come;
   }
+}
+
+/**
+ * Takes a node out of a parent or of a bundle in it, which goes when nothing else stands in it.
+ * @param {Node} node
+ * @param {Node} parent
+ */
+function remove(node, parent) {
+  const holder = node.parentNode ?? parent;
+  holder.removeChild(node);
+  if (holder !== parent && holder.firstChild === null) remove(holder, parent);
 }
 
 /**
@@ -136,6 +149,7 @@ function nameOf(node) {
 function becomes(node, child, watch) {
   if (typeof child === "string") return isText(node, child);
   const was = watch?.untouched(node);
+  if (was === child) return true;
   if (was !== undefined && hasSameShape(was, child)) {
     if (was.written === "" || was.written !== child.written) turn(/** @type {Element} */ (node), was, child);
     return true;

@@ -2,7 +2,11 @@
 /** A page as it was opened: its nodes by their numbers, to compare with what an editor made of them. */
 
 import { Part, readPage, write } from "./markup.js";
+import { readAgain } from "./rereading.js";
 import { isBlock } from "./kinds.js";
+
+/** What browsers and editors put into a text beside what is typed, and what may be pasted. */
+export const PUT_SIGNS = /[\r\u00a0\u200b\ufeff\v\f]/g;
 
 /** A node of the page as it was. */
 export class Kept {
@@ -44,9 +48,23 @@ export class Original {
   /** @type {Map<number, Kept> | null} */
   #nodes = null;
 
-  /** @param {string} html  as the program wrote it */
-  constructor(html) {
-    this.page = readPage(html);
+  /**
+   * The signs of the page's text that a browser or an editor may have put, each between its neighbours.
+   * @type {Set<string> | null}
+   */
+  #signs = null;
+
+  /**
+   * @param {string} html  as the program wrote it
+   * @param {Original} [before]  an earlier state of the page
+   */
+  constructor(html, before) {
+    const { body, start, end } = (before && readAgain(html, before)) ?? readPage(html);
+    this.html = html;
+    this.page = body;
+    /** Where the inside of the body begins and ends in the HTML. */
+    this.start = start;
+    this.end = end;
   }
 
   /** The document as `save` would write it. */
@@ -64,6 +82,20 @@ export class Original {
       this.#collect(this.page, null, this.#nodes);
     }
     return this.#nodes;
+  }
+
+  /**
+   * Whether the page's text has a no-break space, a carriage return or a sign without a width between the
+   * same two characters.
+   * @param {string} three  the sign between its neighbours
+   */
+  hasSign(three) {
+    if (this.#signs === null) {
+      const { text } = this.page;
+      const places = [...text.matchAll(PUT_SIGNS)].map(({ index }) => index ?? 0);
+      this.#signs = new Set(places.map((at) => text.slice(Math.max(at - 1, 0), at + 2)));
+    }
+    return this.#signs.has(three);
   }
 
   /**

@@ -2,7 +2,7 @@
 /** What is mended in the texts of a block that an editor changed. */
 
 import { Part } from "./markup.js";
-import { Kept, Original } from "./original.js";
+import { Kept, Original, PUT_SIGNS } from "./original.js";
 import { ITEMS, isBlank, isBlock, isHiddenName, isIsland } from "./kinds.js";
 
 /**
@@ -65,7 +65,7 @@ export function tidy(block, original) {
   const lead = end < 0 ? block.children : block.children.slice(0, end);
   dropLastBreak(lead, end >= 0);
   const was = kept?.part.text ?? "";
-  new Texts(was, block.text).mend(block, lead);
+  new Texts(was, block.text, original).mend(block, lead);
   trimEdges(block, lead, kept, was);
   block.children = [...lead.filter((piece) => piece !== ""), ...(end < 0 ? [] : block.children.slice(end))];
   return block;
@@ -143,6 +143,12 @@ function withoutTrails(text) {
 }
 
 /**
+ * What becomes of signs that browsers and editors put.
+ * @type {Record<string, string>}
+ */
+const MENDED = { "\r": "\n", "\u00a0": " ", "\u200b": "", "\ufeff": "", "\v": " ", "\f": " " };
+
+/**
  * The texts of a block beside those that the page has. Before and behind what was changed the page's white
  * space is put back: browsers put no-break spaces for blanks, and blanks for line breaks, next to what is
  * typed.
@@ -151,23 +157,25 @@ class Texts {
   /**
    * @param {string} was
    * @param {string} now
+   * @param {Original | undefined} original
    */
-  constructor(was, now) {
+  constructor(was, now, original) {
     const most = Math.min(was.length, now.length);
     let back = 0;
     while (back < most && isSameSign(was[was.length - 1 - back], now[now.length - 1 - back])) back += 1;
     let front = 0;
     while (front < most - back && isSameSign(was[front], now[front])) front += 1;
     this.was = was;
+    this.now = now;
+    this.original = original;
     this.from = front;
     this.to = now.length - back;
     /** How much longer the text has become. */
     this.longer = now.length - was.length;
     /** Where in the block's text the next piece begins. */
     this.at = 0;
-    const changed = was.slice(front, was.length - back);
-    this.hasNoBreaks = changed.includes("\u00a0");
-    this.hasReturns = changed.includes("\r");
+    /** The signs that the page has in what was changed. */
+    this.signs = new Set(was.slice(front, was.length - back).match(PUT_SIGNS));
   }
 
   /**
@@ -220,18 +228,29 @@ class Texts {
     const to = Math.min(Math.max(this.to, from), end);
     const front = this.was.slice(start, from);
     const back = this.was.slice(to - this.longer, end - this.longer);
-    return front + this.#typed(text.slice(from - start, to - start), isParagraph) + back;
+    return front + this.#typed(from, to, isParagraph) + back;
   }
 
   /**
-   * @param {string} text  what was typed or pasted
+   * @param {number} from  where what was typed or pasted begins in the block's text
+   * @param {number} to
    * @param {boolean} isParagraph
    */
-  #typed(text, isParagraph) {
-    let mended = text.replace(/[\u200b\ufeff]/g, "").replace(/[\v\f]/g, " ");
-    if (!this.hasReturns) mended = mended.replace(/\r\n?/g, "\n");
-    if (!this.hasNoBreaks) mended = mended.replaceAll("\u00a0", " ");
+  #typed(from, to, isParagraph) {
+    const mended = this.now.slice(from, to).replace(/\r\n|[\r\u00a0\u200b\ufeff\v\f]/g, (found, at) =>
+      this.#isOfPage(from + at) ? found : MENDED[found[0]],
+    );
     return isParagraph ? mended.replace(/\n(?:[ \t]*\n)+/g, "\n") : mended.replace(/\n+/g, " ");
+  }
+
+  /**
+   * Whether a sign stays: the page has one in what was changed, or between the same characters anywhere, as
+   * where the text was moved into a new block.
+   * @param {number} at  where it stands in the block's text
+   */
+  #isOfPage(at) {
+    if (this.signs.has(this.now[at])) return true;
+    return this.original?.hasSign(this.now.slice(Math.max(at - 1, 0), at + 2)) ?? false;
   }
 }
 

@@ -1,6 +1,7 @@
 // @ts-check
 /** Which blocks of a page nobody has touched since it was opened, so that they needn't be looked into. */
 
+import { isBundle, nodesIn } from "./bundles.js";
 import { Part } from "./markup.js";
 import { ATTRIBUTES, isBlock, isHiddenName, nameOf } from "./kinds.js";
 
@@ -67,12 +68,10 @@ export class Watch {
    * @param {Part} part
    */
   #pair(parent, part) {
-    let node = parent.firstChild;
-    for (const child of part.children) {
-      if (node === null) return;
-      if (typeof child !== "string" && node.nodeType === ELEMENT) this.#take(node, child);
-      node = node.nextSibling;
-    }
+    const nodes = nodesIn(parent);
+    part.children.slice(0, nodes.length).forEach((child, at) => {
+      if (typeof child !== "string" && nodes[at].nodeType === ELEMENT) this.#take(nodes[at], child);
+    });
   }
 
   /**
@@ -98,7 +97,8 @@ export class Watch {
   /** @param {Node} node */
   #drop(node) {
     this.#parts.delete(node);
-    if (node.nodeName === "SECTION") for (const child of node.childNodes) this.#drop(child);
+    const isHolder = /** @type {Element} */ (node).localName === "section" || isBundle(node);
+    if (isHolder) for (const child of node.childNodes) this.#drop(child);
   }
 }
 

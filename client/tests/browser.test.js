@@ -104,6 +104,11 @@ test("pages come back from the DOM that open makes", { skip }, async (context) =
   const marked =
     "return module.save(module.open(html, { into: document.createElement('div') }), { marks: true });";
   assert.deepEqual(await changed(all, marked), []);
+  const bundled = `
+    const prepare = (inside) => module.bundle(inside, 2);
+    return module.save(module.open(html, { into: document.createElement("div"), prepare }));
+  `;
+  assert.deepEqual(await changed(all, bundled), []);
   context.diagnostic(`${all.length} pages`);
 });
 
@@ -127,12 +132,18 @@ test("what nobody touched needn't be looked at: the same is saved and renewed", 
   for (let at = 0; at < all.length; at += AT_ONCE) {
     const some = all.slice(at, at + AT_ONCE);
     const answer = tab.js(`(async () => {
-      const { open, save, renew } = module;
+      const { bundle, open, save, renew } = module;
+      const unbundled = (root) => {
+        const copy = root.cloneNode(true);
+        for (const holder of copy.querySelectorAll("[data-wt-bundle]")) holder.replaceWith(...holder.childNodes);
+        return copy;
+      };
       const [randomFrom, mutate] = [${randomFrom}, ${mutate}];
       const other = [];
       const all = ${JSON.stringify(some)};
       for (const [at, html] of all.entries()) {
-        const root = open(html, { into: document.createElement("div") });
+        const prepare = (inside) => at % 2 === 1 && bundle(inside, 2);
+        const root = open(html, { into: document.createElement("div"), prepare });
         const [random, aside] = [randomFrom(at), []];
         for (let step = 0; step < 6; step += 1) {
           mutate(root, random, aside);
@@ -142,7 +153,7 @@ test("what nobody touched needn't be looked at: the same is saved and renewed", 
         }
         renew(root, all[(at + 1) % all.length]);
         const anew = open(all[(at + 1) % all.length], { into: document.createElement("div") });
-        if (!root.isEqualNode(anew)) other.push([${at} + at, "renewed"]);
+        if (!unbundled(root).isEqualNode(anew)) other.push([${at} + at, "renewed"]);
         mutate(root, random, aside);
         renew(root, html);
         if (save(root) !== html) other.push([${at} + at, "renewed again"]);

@@ -8,6 +8,7 @@ import { readFileSync } from "node:fs";
 import { HtmlRefused, Offsets, describe, hrefOf, isChanged, open } from "../bughtiso.js";
 import { prepareSave, rangeOf, renew, save } from "../bughtiso.js";
 import { read } from "../lib/markup.js";
+import { Original } from "../lib/original.js";
 import { SmallDocument } from "./small_dom.js";
 import { Wiki, examplePages, findProgram, outsideDocuments } from "./pages.js";
 
@@ -45,7 +46,7 @@ function edited(body) {
       }
     }
   };
-  put(document.body, read(`<html>${body}</html>`));
+  put(document.body, read(`<html>${body}</html>`).root);
   return document.body;
 }
 
@@ -112,9 +113,24 @@ function category(number) {
   return `<link rel="mw:PageProp/Category" href="./Category:X" id="mw${number}"/>`;
 }
 
+/** @param {string} title */
+function newCategory(title) {
+  return `<link rel="mw:PageProp/Category" href="./Category:${title}"/>`;
+}
+
 /** @param {number} number */
 function reference(number) {
   return `<span typeof="mw:Extension/ref" id="mw${number}"></span>`;
+}
+
+/** @param {string} text */
+function link(text) {
+  return `<a rel="mw:WikiLink" href="./D" id="mw8">${text}</a>`;
+}
+
+/** @param {string} row */
+function cells(row) {
+  return `<table id="mw10"><tbody id="mw11"><tr id="mw12">${row}</tr></tbody></table>`;
 }
 
 const MENDS = [
@@ -189,6 +205,48 @@ const MENDS = [
     '<p id="mw1">a\u00a0b cd</p>',
   ],
   [
+    "zero-width spaces that were typed go",
+    '<p id="mw1">a b c</p>',
+    '<p id="mw1">a b\u200bx c</p>',
+    '<p id="mw1">a bx c</p>',
+  ],
+  [
+    "zero-width spaces of the page stay between two changes",
+    '<p id="mw1">a b\u200bc <b id="mw2">d\u200be</b> f</p>',
+    '<p id="mw1">x b\u200bc <b id="mw2">d\u200be</b> y</p>',
+    '<p id="mw1">x b\u200bc <b id="mw2">d\u200be</b> y</p>',
+  ],
+  [
+    "zero-width spaces of the page stay between two changes of an item, and in a link there",
+    `<ul id="mw1"><li id="mw2">a b\u200bc ${link("d\u200be")} f</li></ul>`,
+    `<ul id="mw1"><li id="mw2">x b\u200bc ${link("d\u200be")} y</li></ul>`,
+    `<ul id="mw1"><li id="mw2">x b\u200bc ${link("d\u200be")} y</li></ul>`,
+  ],
+  [
+    "zero-width spaces of the page stay between two changes of a cell",
+    cells('<td id="mw9">a b\u200bc d</td>'),
+    cells('<td id="mw9">x b\u200bc y</td>'),
+    cells('<td id="mw9">x b\u200bc y</td>'),
+  ],
+  [
+    "form feeds, vertical tabs and byte order marks of the page stay",
+    '<p id="mw1">a\fb c\vd \ufeffe</p>',
+    '<p id="mw1">x\fb c\vd \ufefff</p>',
+    '<p id="mw1">x&#12;b c&#11;d \ufefff</p>',
+  ],
+  [
+    "those that were typed go",
+    TEXT,
+    '<p id="mw1">a\fb c\vd \ufeffe</p>',
+    '<p id="mw1">a b c d e</p>',
+  ],
+  [
+    "what the page has between the same letters stays where its paragraph is split",
+    '<p id="mw1">a b\u200bc d\u200be f\u00a0g</p>',
+    '<p id="mw1">a b\u200bc</p><p id="mw1">d\u200be f\u00a0g \u00a0h\u200b</p>',
+    '<p id="mw1">a b\u200bc</p><p>d\u200be f\u00a0g  h</p>',
+  ],
+  [
     "line breaks of the page come back",
     '<p id="mw1">a b\nc d</p>',
     '<p id="mw1">a bx c d</p>',
@@ -196,6 +254,64 @@ const MENDS = [
   ],
   ["carriage returns are line breaks", TEXT, '<p id="mw1">a&#13;\nb</p>', '<p id="mw1">a\nb</p>'],
   ["blanks at a block's ends go", TEXT, '<p id="mw1">\u00a0x </p>', '<p id="mw1">x</p>'],
+  [
+    "a blank that is left where the first or last word was deleted goes",
+    '<h2 id="mw1">a b c</h2><p id="mw2">a b</p><ul id="mw3"><li id="mw4">a b</li></ul>' +
+      '<dl id="mw5"><dt id="mw6">a b</dt><dd id="mw7">a b</dd></dl>' + cells('<td id="mw9">a b</td>'),
+    '<h2 id="mw1"> b </h2><p id="mw2">\u00a0b</p><ul id="mw3"><li id="mw4"> b</li></ul>' +
+      '<dl id="mw5"><dt id="mw6"> b</dt><dd id="mw7"> b</dd></dl>' + cells('<td id="mw9"> b</td>'),
+    '<h2 id="mw1">b</h2><p id="mw2">b</p><ul id="mw3"><li id="mw4">b</li></ul>' +
+      '<dl id="mw5"><dt id="mw6">b</dt><dd id="mw7">b</dd></dl>' + cells('<td id="mw9">b</td>'),
+  ],
+  [
+    "blanks at the ends of new blocks go, those of the page's stay",
+    cells('<td id="mw9">a </td>'),
+    '<h2> a </h2><p> a </p><ul><li> a </li></ul><dl><dt> a </dt><dd> a </dd></dl>' +
+      cells('<td id="mw9">b </td><td id="mw9">a </td><td> c </td>'),
+    "<h2>a</h2><p>a</p><ul><li>a</li></ul><dl><dt>a</dt><dd>a</dd></dl>" +
+      cells('<td id="mw9">b </td><td>a</td><td>c</td>'),
+  ],
+  [
+    "in a pre they stay",
+    '<pre id="mw1">a b</pre>',
+    '<pre id="mw1"> b </pre>',
+    '<pre id="mw1"> b </pre>',
+  ],
+  [
+    "a new category, a new switch and one that took the place of another stay",
+    `<p id="mw1">a\n${category(2)}</p>`,
+    '<p id="mw1">a\n<link rel="mw:PageProp/Category" href="./Category:Y" id="mw9" data-parsoid="{}"/></p>' +
+      '<meta property="mw:PageProp/notoc"/>',
+    `<p id="mw1">a\n${newCategory("Y")}</p><meta property="mw:PageProp/notoc"/>`,
+  ],
+  [
+    "copies of a category are left out, with its id and without",
+    `<p id="mw1">a\n${category(2)}</p><p id="mw3">b</p>`,
+    `<p id="mw1">a\n${category(2)}</p><p id="mw3">b ${category(2)}</p>${newCategory("X")}`,
+    `<p id="mw1">a\n${category(2)}</p><p id="mw3">b</p>`,
+  ],
+  [
+    "a category that was moved without its id stays",
+    `<p id="mw1">a\n${category(2)}</p><p id="mw3">b</p>`,
+    `<p id="mw1">a</p><p id="mw3">b${newCategory("X")}</p>`,
+    `<p id="mw1">a</p><p id="mw3">b${newCategory("X")}</p>`,
+  ],
+  [
+    "new comments and skips are left out",
+    TEXT,
+    '<p id="mw1">a<meta typeof="mw:Comment"/>b<meta typeof="mw:Skip" id="mw9"/></p>',
+    '<p id="mw1">ab</p>',
+  ],
+  [
+    "a new footnote, image or call is one thing, in whatever element it stands",
+    TEXT,
+    '<p id="mw1">a<sup typeof="mw:Extension/ref" class="x" data-mw="{}">[1]</sup></p>' +
+      '<figure typeof="mw:File/Thumb"><a href="./File:A.png"><img></img></a>' +
+      "<figcaption>b</figcaption></figure>" +
+      '<p><span typeof="mw:Transclusion">c</span></p>',
+    '<p id="mw1">a<span typeof="mw:Extension/ref" data-mw=\'{}\'></span></p>' +
+      '<p><span typeof="mw:File/Thumb"></span></p><p><span typeof="mw:Transclusion"></span></p>',
+  ],
   [
     "a link without rel leads to a page",
     "",
@@ -534,6 +650,40 @@ test("a page that isn't the program's renews nothing", () => {
   assert.equal(save(root), page(TEXT));
 });
 
+test("a page of which an earlier state is known is read the same, and its other blocks stay", () => {
+  const pieces = [
+    "\n", "\n\n", '<p id="mw1">a</p>', '<p id="mw1">ab</p>', "<p>a</p>", '<hr id="mw2"/>',
+    '<section data-mw-section-id="0"><p>a</p>\n</section>', "&amp;",
+    '<section data-mw-section-id="0"><p>a</p>\n<hr/>b<p>b</p></section>',
+    '<section data-mw-section-id="0"><p>a</p><section data-mw-section-id="1"><p>b</p></section></section>',
+  ];
+  const joined = (/** @type {number} */ most) => {
+    let all = [""];
+    const found = [...all];
+    for (let length = 1; length <= most; length += 1) {
+      all = all.flatMap((text) => pieces.map((piece) => text + piece));
+      found.push(...all);
+    }
+    return found.map(page);
+  };
+  const whole = joined(2).map((html) => new Original(html));
+  for (const was of joined(2).map((html) => new Original(html))) {
+    for (const now of whole) assert.deepEqual(new Original(now.html, was), now);
+  }
+  const was = new Original(page(`<hr/>\n${TEXT}\n<p id="mw4">last</p>`));
+  const now = new Original(was.html.replace("four", "five"), was);
+  const [first, , second, , third, , last] = now.page.children;
+  const before = was.page.children;
+  assert.deepEqual([first === before[0], second === before[2], last === before[6]], [true, true, true]);
+  assert.notEqual(third, before[4]);
+  const sections = new Original(page(`<section data-mw-section-id="0">${TEXT}</section>`));
+  const [section] = new Original(sections.html.replace("four", "five"), sections).page.children;
+  assert.equal(section.children[0], sections.page.children[0].children[0]);
+  const other = was.html.replace("<body ", '<body id="x" ');
+  assert.deepEqual(new Original(other, was), new Original(other));
+  assert.throws(() => new Original(was.html.replace("four</p>", "four"), was), HtmlRefused);
+});
+
 test("outside documents are renewed, each in the place of another", (context) => {
   const documents = outsideDocuments();
   if (documents.length === 0) return context.skip("there are no outside documents here");
@@ -632,6 +782,17 @@ test("the program takes what is saved", (context) => {
   }
 });
 
+test("a copy of a category in a block that nobody touched is left out, a new one isn't", (context) => {
+  const JSDOM = findJsdom();
+  if (JSDOM === null) return context.skip("there is no jsdom here");
+  const html = page(`<p id="mw1">a ${category(2)}</p><p id="mw3">b</p>`);
+  for (const [title, wanted] of [["X", ""], ["Y", newCategory("Y")]]) {
+    const root = open(html, { document: new JSDOM("").window.document });
+    root.querySelector("#mw3")?.insertAdjacentHTML("beforeend", newCategory(title));
+    assert.equal(save(root), html.replace("b</p>", `b${wanted}</p>`));
+  }
+});
+
 /**
  * Takes letters out of the first text in which they stand.
  * @param {Element} root
@@ -664,9 +825,15 @@ const DELETIONS = [
   ["a\n<ref>r</ref> b", 2, "a\nb"],
   ["a\n<!--k-->\nb\nc", "b", "a\n<!--k-->\nc"],
   ["a\nb\n\nc", "b", "a\n\nc"],
+  ["one two", "one", "two"],
+  ["* one two", "one", "* two"],
+  ["; one two\n: x", "one", "; two\n: x"],
+  ["== one two ==", "one", "== two =="],
+  ["== one two ==", "two", "== one =="],
+  ["{|\n| one two\n|}", "one", "{|\n| two\n|}"],
 ];
 
-test("of line breaks that a deletion leaves nothing is written", (context) => {
+test("of line breaks and blanks that a deletion leaves nothing is written", (context) => {
   const JSDOM = findJsdom();
   if (JSDOM === null) return context.skip("there is no jsdom here");
   if (program === null) return context.skip("there is no wtround here: build it, or name one in WTROUND");

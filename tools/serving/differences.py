@@ -27,8 +27,22 @@ def lines_of(text: str) -> list:
 
 
 def changes(before: list, after: list) -> list:
-    """Slices (start, end, start, end) of the two that aren't the same, in order: lines that stand once in
-    each, and in the same order, hold the rest in place."""
+    """Slices (start, end, start, end) of the two that aren't the same, in order. What both begin and end with
+    isn't looked into."""
+    front = shared(before, after)
+    back = shared(before[front:][::-1], after[front:][::-1])
+    inner = changes_within(before[front : len(before) - back], after[front : len(after) - back])
+    return [(a + front, b + front, c + front, d + front) for a, b, c, d in inner]
+
+
+def shared(before: list, after: list) -> int:
+    """How many lines both begin with."""
+    pairs = enumerate(zip(before, after))
+    return next((place for place, (old, new) in pairs if old != new), min(len(before), len(after)))
+
+
+def changes_within(before: list, after: list) -> list:
+    """The same, where lines that stand once in each, and in the same order, hold the rest in place."""
     found = []
     for a, b, c, d in gaps(before, after):
         if (b - a) <= SMALL and (d - c) <= SMALL:

@@ -1,5 +1,5 @@
 """What is asked of a document that wtround wrote: without data-parsoid or with sources alone, its body alone,
-offsets in other units."""
+offsets in other units or none."""
 from __future__ import annotations
 
 import re
@@ -12,9 +12,11 @@ DATA_PARSOID = re.compile(rb" data-parsoid='([^'<>]*)'(?=/?>)")
 WITHOUT_SOURCE = re.compile(rb""" data-parsoid='(?![^'<>]*"src":)[^'<>]*'(?=/?>)""")
 ANY_DATA_PARSOID = re.compile(rb"""\sdata-parsoid\s*=\s*("[^"]*"|'[^']*'|[^\s"'>]*)""", re.IGNORECASE)
 SOURCE = re.compile(rb'(?:"|&quot;|&#34;)src(?:"|&quot;|&#34;):')
+PLACES = re.compile(rb"""( data-parsoid='\{(?:"c":"[^'<>]*",)?"dsr":)\[[0-9,]*\]""")
 RANGES = re.compile(rb'"dsr":\[([0-9]+),([0-9]+),([0-9]+),([0-9]+)\]')
 BODY = re.compile(rb"<body[^<>]*>(.*)</body>", re.DOTALL)
 
+NO_UNIT = "none"  # for places that are all 0
 UNITS: Dict[str, Callable[[bytes], int]] = {
     "byte": len,
     "char": lambda part: len(part.decode()),
@@ -48,10 +50,18 @@ def body_of(document: bytes) -> bytes:
     return found[1] if found else document
 
 
+def without_places(document: bytes) -> bytes:
+    """With places and widths that are all 0: so a block's HTML is the same wherever it stands in the page."""
+    return PLACES.sub(rb"\1[0,0,0,0]", document)
+
+
 def with_offsets(document: bytes, page: bytes, unit: str) -> bytes:
-    """The document with the places and widths of `dsr` counted in bytes, characters, or units of UTF-16."""
+    """The document with the places and widths of `dsr` counted in bytes, characters, or units of UTF-16, or
+    in nothing."""
+    if unit == NO_UNIT:
+        return without_places(document)
     if unit not in UNITS:
-        sentence = f"The offsetType must be one of {', '.join(UNITS)}."
+        sentence = f"The offsetType must be one of {', '.join([*UNITS, NO_UNIT])}."
         raise Refusal(400, "BadOffsetType", sentence)
     if unit == "byte" or page.isascii():
         return document

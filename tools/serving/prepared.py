@@ -10,6 +10,7 @@ from functools import cached_property
 from typing import Callable, Optional
 
 from .differences import unified
+from .documents import with_sources_alone, without_places
 from .other_tools import titles
 from .refusals import Refusal
 
@@ -51,6 +52,11 @@ class State:
     document: bytes
     html_hash: bytes
     tag: str
+
+    @cached_property
+    def for_editor(self) -> bytes:
+        """The HTML in the form that the editor page asks for."""
+        return without_places(with_sources_alone(self.document))
 
 
 @dataclass

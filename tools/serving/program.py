@@ -6,9 +6,10 @@ import shutil
 import subprocess
 import tempfile
 import threading
+from contextlib import ExitStack
 from functools import cached_property
 from pathlib import Path
-from typing import Optional, Set
+from typing import BinaryIO, Optional, Set
 
 from .refusals import Refusal, from_line
 
@@ -105,20 +106,39 @@ class Program:
         raise from_line(line, given)
 
     def _finish(self, words: list, given: bytes, room: str) -> tuple:
-        pipe = subprocess.PIPE
-        try:
-            process = subprocess.Popen([self._path, *words], cwd=room, stdin=pipe, stdout=pipe, stderr=pipe)
-        except OSError as error:
-            sentence = f"The program couldn't be started: {error.strerror}."
-            raise Refusal(500, "ProgramFailed", sentence) from None
+        with ExitStack() as opened:
+            try:
+                text, out = (opened.enter_context(file_of(data)) for data in (given, b""))
+                streams = {"stdin": text, "stdout": out, "stderr": subprocess.PIPE}
+                process = subprocess.Popen([self._path, *words], cwd=room, **streams)
+            except OSError as error:
+                sentence = f"The program couldn't be started: {error.strerror}."
+                raise Refusal(500, "ProgramFailed", sentence) from None
+            told = self._told(process)
+            out.seek(0)
+            return out.read(), told.decode("utf-8", "replace"), process.returncode
+
+    def _told(self, process: subprocess.Popen) -> bytes:
+        """What a process writes to its standard error until it ends."""
         with process:
             self._processes.add(process)
             try:
-                out, told = process.communicate(given, self._seconds)
+                return process.communicate(timeout=self._seconds)[1]
             except subprocess.TimeoutExpired:
                 process.kill()
                 sentence = "The page takes too long: shorten it, or start the server with a longer limit."
                 raise Refusal(503, "TimeLimit", sentence, headers={"Retry-After": "60"}) from None
             finally:
                 self._processes.discard(process)
-        return out, told.decode("utf-8", "replace"), process.returncode
+
+
+def file_of(data: bytes) -> BinaryIO:
+    """A file without a name that holds these bytes, in memory where the system can do that. A program reads
+    and writes it without waiting for the server, as it would have to at a pipe."""
+    try:
+        file: BinaryIO = open(os.memfd_create("wtround-serve"), "w+b")
+    except (AttributeError, OSError):
+        file = tempfile.TemporaryFile()
+    file.write(data)
+    file.seek(0)
+    return file

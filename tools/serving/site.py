@@ -12,11 +12,12 @@ from concurrent.futures import ThreadPoolExecutor
 from dataclasses import dataclass, field
 from html import escape
 from pathlib import Path
-from typing import Callable, Dict, List, Optional, Tuple
+from typing import Callable, Dict, List, Optional
 from urllib.parse import quote
 
 from . import bodies, documents
 from .fingerprints import etag, hash_of, names_tag, tags_of
+from .known import KnownStates
 from .mending import marked, mended
 from .other_tools import titles
 from .pages import PAGE_BYTES, PageFolder, full_name, remove_if_there, revision
@@ -78,9 +79,11 @@ class Site:
         self.program = program
         self._texts = TextRoom(folder)
         self._prepared = PreparedEdits(self._state_of)
+        self._known = KnownStates(folder, self._made_state, self._tag)
 
     def close(self) -> None:
         self._prepared.close()
+        self._known.close()
         self._texts.close()
         self.program.close()
 
@@ -105,22 +108,23 @@ class Site:
     def page_html(self, request: Request, title: str, wanted: Optional[str] = None) -> Answer:
         check_accepted(request.headers.get("accept", ""))
         name = full_name(title)
-        page, state = self._taken(name)
+        page, state = self._known.taken(name)
         self._check_revision(page, wanted)
         headers = {"ETag": state.tag, "Vary": "Accept"}
         if names_tag(request.headers.get("if-none-match", ""), state.tag):
             return Answer(b"", HTML_TYPE, 304, headers)
-        return Answer(shaped(state.document, page, request.query), HTML_TYPE, 200, headers)
+        return Answer(in_form(state, page, request.query), HTML_TYPE, 200, headers)
 
-    def _taken(self, name: str) -> Tuple[bytes, State]:
-        """A page, and its HTML with the tag of both. Where the page changes meanwhile the tag is that of no
-        page."""
-        page = self.folder.read(name)
-        return page, self._state(name, page, self.program.html(name))
+    def _made_state(self, name: str, page: bytes) -> State:
+        """The state of a page as it stands, which was read before."""
+        return self._state(name, page, self.program.html(name))
 
     def _state(self, name: str, page: bytes, document: bytes) -> State:
         html_hash = hash_of(document)
-        return State(document, html_hash, etag(self.folder, name, page, html_hash))
+        return State(document, html_hash, self._tag(name, page, html_hash))
+
+    def _tag(self, name: str, page: bytes, html_hash: bytes) -> str:
+        return etag(self.folder, name, page, html_hash)
 
     def page_wikitext(self, request: Request, title: str, wanted: Optional[str] = None) -> Answer:
         page = self.folder.read(full_name(title))
@@ -198,7 +202,7 @@ class Site:
         if kept is not None:
             edit, word = kept.edit, bodies.text_field(fields, "prepared")
             self._check_tag(request, edit.tag)
-            if not self._is_still(edit) and self._taken(name)[1].tag != edit.tag:
+            if not self._is_still(edit) and self._known.taken(name)[1].tag != edit.tag:
                 raise Refusal(412, "Stale", STALE)
         else:
             edit = self._edited(request, name, fields)
@@ -214,7 +218,7 @@ class Site:
             state = self._state_then(request, edit, made)
             found = {**changes_of(edit), "etag": state.tag}
             if bodies.flag(request.query.get("html")):
-                found["html"] = shaped(state.document, edit.new, request.query).decode()
+                found["html"] = in_form(state, edit.new, request.query).decode()
             answer = saved(found)
             if edit.is_changed:
                 self.folder.replace(edit.name, edit.new, note_of_save(edit.tag, edit.sent, edit.new))
@@ -231,11 +235,11 @@ class Site:
             if tag is None or not names_tag(request.headers["if-match"], tag):
                 return None
             self.folder.confirm(name)
-            state = self._state(name, page, self.program.html(name))
+            state = self._made_state(name, page)
         same = Edit(name, state.tag, page, page, sent, None, state.html_hash)
         found = {**changes_of(same), "etag": state.tag, "stored_before": True}
         if bodies.flag(request.query.get("html")):
-            found["html"] = shaped(state.document, page, request.query).decode()
+            found["html"] = in_form(state, page, request.query).decode()
         return saved(found)
 
     def _edited(self, request: Request, name: str, fields: Dict[str, object]) -> Edit:
@@ -247,7 +251,8 @@ class Site:
         with ThreadPoolExecutor(1) as pool:
             command = self._command_as_it_is(document, fields)
             early = pool.submit(command, name, document) if command is not None else None
-            page, state = self._taken(name)
+            sent = sent_in(request, name, fields)
+            page, state = self._known.taken(name)
             self._check_tag(request, state.tag)
             if early is None:
                 check_length(document)
@@ -258,7 +263,7 @@ class Site:
             else:
                 original = documents.in_form_of(document, state.document, page, unit_of(request, fields))
                 new = self._mended_edit(name, document.decode(), original.decode())
-        return Edit(name, state.tag, page, new, sent_in(request, name, fields), fingerprint, state.html_hash)
+        return Edit(name, state.tag, page, new, sent, fingerprint, state.html_hash)
 
     def _command_as_it_is(self, document: bytes, fields: Dict[str, object]) -> Optional[Callable]:
         """The command that takes an edit as it is, if one does."""
@@ -281,7 +286,7 @@ class Site:
             return made
         with ThreadPoolExecutor(1) as pool:
             after = pool.submit(self._state_of, edit) if edit.is_changed else None
-            _, now = self._taken(edit.name)
+            _, now = self._known.taken(edit.name)
             self._check_tag(request, now.tag)
             if now.tag != edit.tag:
                 raise Refusal(412, "Stale", STALE, headers={"ETag": now.tag})
@@ -291,14 +296,14 @@ class Site:
         """Whether the HTML from which an edit was made, and that of the state that it leads to, are what they
         would be if they were made now."""
         is_still = self._is_still(edit)
-        return is_still and etag(self.folder, edit.name, edit.new, state.html_hash) == state.tag
+        return is_still and self._tag(edit.name, edit.new, state.html_hash) == state.tag
 
     def _is_still(self, edit: Edit) -> bool:
         """Whether the page has the state from which an edit was made: no file of the folder was written
         since, and what is named in letters is read again besides."""
         if edit.fingerprint is None or self.folder.fingerprint() != edit.fingerprint:
             return False
-        return etag(self.folder, edit.name, self.folder.read(edit.name), edit.html_hash) == edit.tag
+        return self._tag(edit.name, self.folder.read(edit.name), edit.html_hash) == edit.tag
 
     def _state_of(self, edit: Edit) -> State:
         """The state that a page will have once an edit is stored."""
@@ -310,8 +315,7 @@ class Site:
         """The HTML that a page will have once an edit that was shown is stored, and the tag of that state."""
         kept = self._prepared.find(word, full_name(title))
         state = kept.state() or self._state_of(kept.edit)
-        document = shaped(state.document, kept.edit.new, request.query)
-        return Answer(document, HTML_TYPE, 200, {"ETag": state.tag})
+        return Answer(in_form(state, kept.edit.new, request.query), HTML_TYPE, 200, {"ETag": state.tag})
 
     def _check_tag(self, request: Request, tag: str) -> None:
         wanted = request.headers.get("if-match")
@@ -331,7 +335,7 @@ class Site:
         return Answer(LIST.format(items="\n".join(items)).encode(), PAGE_TYPE)
 
     def editor(self, _: Request, title: str) -> Answer:
-        self.folder.read(full_name(title))  # refuses what is no page
+        self._known.begin(full_name(title))  # refuses what is no page
         return self._client_file("editor/index.html", PAGE_TYPE)
 
     def static(self, _: Request, *names: str) -> Answer:
@@ -423,6 +427,7 @@ class TextPage:
 
 
 SHAPES = ("body_only", "offsetType", "data_parsoid")
+EDITORS_SHAPES = [None, "none", "sources"]  # as the editor page asks for them
 
 
 def shaped(document: bytes, page: bytes, options: Dict[str, str]) -> bytes:
@@ -436,13 +441,19 @@ def shaped(document: bytes, page: bytes, options: Dict[str, str]) -> bytes:
     return documents.body_of(document) if bodies.flag(options.get("body_only")) else document
 
 
+def in_form(state: State, page: bytes, options: Dict[str, str]) -> bytes:
+    """The HTML of a state in the form that a request asks for."""
+    is_editors = [options.get(name) for name in SHAPES] == EDITORS_SHAPES
+    return state.for_editor if is_editors else shaped(state.document, page, options)
+
+
 def unit_of(request: Request, fields: Dict[str, object]) -> str:
     return str(request.query.get("offsetType") or fields.get("offsetType") or "byte")
 
 
 def sent_in(request: Request, name: str, fields: Dict[str, object]) -> str:
     """A hash of the edit that a request sends: the same one for the same edit of the same page."""
-    about = json.dumps([name, unit_of(request, fields)]).encode()
+    about = json.dumps([name, unit_of(request, fields), bodies.flag(fields.get("mended"))]).encode()
     return hash_of(hash_of(about) + bodies.encoded(bodies.text_field(fields, "html"))).hex()
 
 
@@ -491,8 +502,11 @@ def bears_mark(document: bytes) -> bool:
 def check_kept(document: bytes, original: bytes) -> None:
     """Refuses HTML without a mark in which no element of the page is left, as a fragment that a client sent
     for the whole: it would take out all that the page has."""
+    first, other = NUMBERED.search(original), NUMBERED.search(document)
+    if first is not None and other is not None and first.groups() == other.groups():
+        return  # as mostly: the others needn't be looked at
     kept = set(NUMBERED.findall(original))
-    if kept and kept.isdisjoint(NUMBERED.findall(document)):
+    if kept and kept.isdisjoint((name.lower(), number) for name, number in NUMBERED.findall(document)):
         sentence = "Nothing of the page is left in this HTML: send the whole document, or mark what is to go."
         raise Refusal(422, "NothingKept", sentence)
 

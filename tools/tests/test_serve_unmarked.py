@@ -59,6 +59,90 @@ class Unmarked(ServingCase):
         made = self.new_page("Short", "a ] b", "a ] b", "a ] <strong>b</strong><br>")
         self.assertEqual(made, "a ] '''b'''")
 
+    def test_zero_width_spaces_of_the_page_stay_between_two_changes(self) -> None:
+        made = self.new_page("Short", "a b\u200bc [[d|e\u200bf]] g\u200bh", "a b", "x b")
+        self.assertEqual(made, "x b\u200bc [[d|e\u200bf]] g\u200bh")
+        html, tag = self.html("Short")
+        sent = html.replace(">a b", ">x b").replace("h</p>", "y</p>")
+        self.save("Short", sent, tag)
+        self.assertEqual((self.pages / "Short.wiki").read_text(), "x b\u200bc [[d|e\u200bf]] g\u200by")
+
+    def test_signs_of_the_page_stay_in_links_items_and_cells(self) -> None:
+        for text in ("b\u200bc", "b\ufeffc\fd", "b\u00a0c\u200bd"):
+            shown = text.replace("\f", "&#12;")
+            for page in ("[[a|x {} y]]", "* x {} y", "{{|\n| x {} y\n|}}", "== x {} y =="):
+                with self.subTest(page=page, text=text):
+                    made = self.new_page("Short", page.format(text), f"x {shown} y", f"X {shown} Y")
+                    self.assertEqual(made, page.replace("x", "X").replace("y", "Y").format(text))
+
+    def test_what_was_moved_into_a_new_block_keeps_its_signs(self) -> None:
+        made = self.new_page("Short", "a b\u200bc d\u00a0e", "c d", "c</p><p>d")
+        self.assertEqual(made, "a b\u200bc\n\nd\u00a0e")
+
+    def test_blanks_that_show_nothing_are_left_out(self) -> None:
+        row = "</tr><tr><td> a </td><td>b</td></tr>"
+        for page, before, after, wanted in [
+            ("* one ]", ">one ]", "> ]", "* ]"),
+            ("one ]", ">one ]", ">\u00a0]", "]"),
+            ("; one ]\n: x", ">one ]", "> ]", "; ]\n: x"),
+            ("== one ] ==", ">one ]", "> ]", "== ] =="),
+            ("== ] one ==", ">] one", ">] ", "== ] =="),
+            ("{|\n| one ]\n|}", ">one ]", "> ]", "{|\n| ]\n|}"),
+            ("* one ", "</ul>", "<li> a </li></ul>", "* one \n* a"),
+            ("{|\n|-\n| a || b\n|}", "</tr>", row, "{|\n|-\n| a || b\n|-\n| a\n| b\n|}"),
+        ]:
+            with self.subTest(page=page, after=after):
+                self.assertEqual(self.new_page("Short", page, before, after), wanted)
+
+    def test_what_is_new_and_cannot_be_written_is_refused(self) -> None:
+        footnote = """<sup typeof="mw:Extension/ref" data-mw='{"name":"ref"}'>[1]</sup>"""
+        file = '<figure typeof="mw:File"><a href="./File:A.png"><img src="x"></a></figure>'
+        for page, before, after, error in [
+            ("a b", "</p>", '<link rel="mw:PageProp/Category" href="./Category:X"></p>', "BadContent"),
+            ("a b", "</p>", '</p><meta property="mw:PageProp/notoc">', "BadContent"),
+            ("a\n[[Category:X]]", "Category:X", "Category:Y", "BadContent"),
+            ("a b", "</p>", f"{footnote}</p>", "BadContent"),
+            ("a b", "</p>", f"</p>{file}", "ElementDoesNotFit"),
+        ]:
+            with self.subTest(after=after):
+                (self.pages / "Short.wiki").write_text(page)
+                html, tag = self.html("Short", "?data_parsoid=false")
+                self.assertIn(before, html)
+                status, told = self.save("Short", html.replace(before, after, 1), tag)
+                self.assertEqual((status, told["error"], self.page("Short")), (422, error, page))
+
+    def test_a_copy_of_what_shows_nothing_is_left_out(self) -> None:
+        page = "a\n[[Category:X]]\n__NOTOC__"
+        category = '<link rel="mw:PageProp/Category" href="./Category:X">'
+        for copy in (category, '<meta property="mw:PageProp/notoc">'):
+            self.assertEqual(self.new_page("Short", page, "</p>", f"{copy}</p>"), page)
+
+    def test_carriage_returns_of_the_page_stay(self) -> None:
+        page = "a b\r\nc d\n\ne f\r\ng h"
+        (self.pages / "Short.wiki").write_bytes(page.encode())
+        html, tag = self.html("Short")
+        self.assertEqual(html.count("&#13;"), 2)
+        sent = html.replace("&#13;", "\r").replace("e f", "e x\r\ny").replace("h<", "i<")
+        self.assertEqual(self.save("Short", sent, tag)[0], 200)
+        self.assertEqual(self.page("Short"), page.replace("e f", "e x\r\ny").replace("h", "i"))
+
+    def test_the_same_html_mended_or_not_is_two_edits(self) -> None:
+        (self.pages / "Short.wiki").write_text("a b")
+        html, tag = self.html("Short")
+        headers = {"Content_Type": "application/json", "If_Match": tag}
+        statuses = []
+        for fields in ({"mended": True}, {"mended": "1"}, {"mended": False}, {}):
+            body = json.dumps({"html": html.replace("a b<", "a c\u00a0d<"), **fields}).encode()
+            statuses.append(self.ask("POST", "/save/Short", body, **headers)[0])
+        self.assertEqual(statuses, [200, 200, 412, 412])
+        self.assertEqual(self.page("Short"), "a c\u00a0d")
+
+    def test_names_of_tags_may_be_in_capitals(self) -> None:
+        (self.pages / "Short.wiki").write_text("a b")
+        html, tag = self.html("Short")
+        capitals = re.sub("</?[a-z0-9]+", lambda name: name[0].upper(), html)
+        self.assertEqual(self.save("Short", capitals.replace("a b<", "a c<"), tag)[0], 200)
+
     def test_of_line_breaks_that_a_deletion_leaves_nothing_is_written(self) -> None:
         categories = "[[Category:X]]\n[[Category:Y]]\n[[Category:Z]]"
         for page, deleted, left, wanted in [

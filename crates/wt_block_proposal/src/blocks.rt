@@ -5,7 +5,7 @@ use crate::delimiters::{
     shares_line,
 };
 use crate::items::sign_of;
-use crate::kinds::{is_item, is_list};
+use crate::kinds::{is_cell, is_item, is_lined, is_list};
 use std::alloc::Global;
 use wt_checks::original;
 use wt_content_proposal::{Block, Edges, Known, Writing, block_of, edges_of, spelled};
@@ -126,6 +126,26 @@ fn push_inside(
     out.push_str(source.as_str())
 }
 
+/// Appends the line breaks before a block that a node holds: two in a cell between what one would join.
+fn push_break(
+    out: &mut Str,
+    node: Kind,
+    before: Option<&Node<'_>>,
+    child: Kind,
+) -> Result<(), NoMemory> {
+    out.push_str("\n")?;
+    match before {
+        Some(before) if is_cell(node) && are_joined(before.kind, child) => out.push_str("\n"),
+        _ => Ok(()),
+    }
+}
+
+/// Whether one line break between two blocks would make them one.
+fn are_joined(left: Kind, right: Kind) -> bool {
+    let are_lists = is_list(left) && is_list(right);
+    are_lists || !(is_lined(left) || is_lined(right))
+}
+
 /// Appends all that a node holds behind its inside, each on a line of its own but a cell that shared one.
 #[cycle(blocks)]
 fn push_held(
@@ -138,7 +158,7 @@ fn push_held(
     for child in node.children.as_slice() {
         if is_block_part(child.kind) {
             if !shares_line(alloc, around.known, before, child)? {
-                out.push_str("\n")?;
+                push_break(out, node.kind, before, child.kind)?;
             }
             push_block(alloc, out, around.within(), child)?;
             before = Some(child);
@@ -253,6 +273,15 @@ fn push_rows(
     Ok(())
 }
 
+/// The sign of a new cell: without its blank where a block is all that is in it.
+fn sign_before<'s>(sign: &'s str, node: &Node<'_>) -> &'s str {
+    if inside(node).is_empty() && !node.children.as_slice().is_empty() {
+        sign.strip_suffix(" ").unwrap_or(sign)
+    } else {
+        sign
+    }
+}
+
 #[cycle(blocks)]
 fn push_cell(
     alloc: Global,
@@ -261,7 +290,7 @@ fn push_cell(
     sign: &str,
     node: &Node<'_>,
 ) -> Result<(), NoMemory> {
-    push_opening(alloc, out, around.known, node, sign)?;
+    push_opening(alloc, out, around.known, node, sign_before(sign, node))?;
     push_inside(alloc, out, around.in_table(), node)?;
     push_held(alloc, out, around.in_table(), node)
 }

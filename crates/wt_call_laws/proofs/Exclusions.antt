@@ -3,6 +3,8 @@ use Rattle.std.proofs.Common.{arith, ◌≡◌, ℕ, ◌-◌, ◌^◌, ◌<◌, 
 use Rattle.std.specs.Io.KnownBytes.{Appends, Keeps}
 use Rattle.wt_devices.specs.Device.{Rose}
 use Rattle.wt_pagetool.specs.Calls.{Call, IsDue, IsDueAs}
+use Rattle.wt_pagetool.specs.Devices.{FolderFailed, SourceFailed}
+use Rattle.wt_pagetool.specs.Promises.{Ends}
 use Rattle.wt_pagetool.specs.Refusals.{line_of, status_of}
 use Rattle.wt_pagetool.specs.Reports.{ErrFailed, OutFailed, WasDone, WasRefused}
 use Rattle.wt_pagetool.specs.Statuses.{code}
@@ -55,3 +57,17 @@ kept_or_more (Some xs) (Some ys) taken bytes e h k a =
 pub done_not_refused : (c : Call) → (ended : ℕ) → (taken : List ℕ) → c.err.taken_before ≡ Some taken → WasDone c → WasRefused c ended → ⊥
 done_not_refused c ended taken e d w =
     kept_or_more c.err.taken_before c.err.taken_after taken (line_of w.refusal) e (some_line w.refusal) d.silent.taken w.line.taken
+
+-- ---- one device
+
+pub read_alone : (c : Call) → (ended : ℕ) → Ends c ended → ended ≡ code status.ReadFault → SourceFailed c.input × (c.folder.faults_after ≡ c.folder.faults_before) × (c.out.faults_after ≡ c.out.faults_before) × (c.err.faults_after ≡ c.err.faults_before)
+read_alone c ended e is =
+    let w = e.refused (λ h. let x = sym is ∙ h in omega (arith, x)) (λ h. let x = sym is ∙ h in omega (arith, x)) in
+    let due = due_not c w.refusal status.ReadFault (apart (status_of w.refusal) status.ReadFault (sym w.named ∙ is)) w.due in
+    (due.1, e.read_fault is, w.nothing.count, w.line.count)
+
+pub fetch_alone : (c : Call) → (ended : ℕ) → Ends c ended → ended ≡ code status.FolderFault → FolderFailed c.folder × (c.input.faults_after ≡ c.input.faults_before) × (c.out.faults_after ≡ c.out.faults_before) × (c.err.faults_after ≡ c.err.faults_before)
+fetch_alone c ended e is =
+    let w = e.refused (λ h. let x = sym is ∙ h in omega (arith, x)) (λ h. let x = sym is ∙ h in omega (arith, x)) in
+    let due = due_not c w.refusal status.FolderFault (apart (status_of w.refusal) status.FolderFault (sym w.named ∙ is)) w.due in
+    (due.1, e.folder_fault is, w.nothing.count, w.line.count)

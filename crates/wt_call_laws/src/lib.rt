@@ -13,7 +13,7 @@ mod written;
 
 pub use counts::counts_are_of_numbers;
 pub use devices::{inputs_are_fed_whole, inputs_give_a_front, uses_of_sinks_add_up};
-pub use ends::calls_end_in_one_way;
+pub use ends::{calls_end_in_one_way, faults_are_of_one_device};
 pub use refusals::late_refusals_are_of_edits;
 pub use statuses::statuses_are_told_by_numbers;
 pub use unchanged::own_html_is_unchanged;

@@ -1,6 +1,6 @@
-//! Groups that may stand at the start or end of a line though they stood at none in the page.
+//! Groups that may stand at the start or end of a line though they stood at none in the page, and beside anything.
 
-use wt_guards::{Role, Transclusion, line_start_hazard};
+use wt_guards::{Role, Stretch, Transclusion, Unit, line_start_hazard};
 use wt_tree::{Kind, Node};
 
 /// Whether a text may begin a line: it begins with no sign of a block.
@@ -11,13 +11,18 @@ fn may_begin(text: &str) -> bool {
     }
 }
 
-/// Whether nodes are of one line: texts without line breaks, styles, links and tags.
+/// Whether nodes are of one line: texts without line breaks, styles, links, tags, and what stands for a sign.
 fn are_of_line(nodes: &[Node<'_>]) -> bool {
     for node in nodes {
         let is_of_line = match node.kind {
             Kind::Text => !node.shown().as_bytes().contains(&b'\n'),
             Kind::Bold | Kind::Italic | Kind::Tag(_) => are_of_line(node.children.as_slice()),
-            Kind::WikiLink | Kind::ExtLink | Kind::Entity | Kind::Br => true,
+            Kind::WikiLink
+            | Kind::ExtLink
+            | Kind::Entity
+            | Kind::Br
+            | Kind::Island
+            | Kind::Category => true,
             _ => false,
         };
         if !is_of_line {
@@ -51,10 +56,66 @@ fn anywhere(group: Transclusion) -> Transclusion {
     }
 }
 
-/// What a node is to its neighbours, where nothing joins at a line's start or end.
-pub fn role_in_line(role: Role, node: &Node<'_>) -> Role {
+/// Whether a group of one line begins and ends with nothing that joins its neighbours: no apostrophe and no URL.
+fn is_plain(group: Transclusion) -> bool {
+    !group.slashes
+        && !group.is_invisible
+        && !group.is_blank
+        && !group.opens_with_apostrophe
+        && !group.closes_with_apostrophe
+}
+
+fn begins_with_letter(nodes: &[Node<'_>]) -> bool {
+    match nodes.first() {
+        Some(node) => node
+            .shown()
+            .chars()
+            .next()
+            .is_some_and(|first| first.is_ascii_lowercase()),
+        None => false,
+    }
+}
+
+/// Whether a link ends before what begins at a place of the page, and didn't end there in the page.
+fn is_behind_new_link(left: Option<&Unit<'_>>, place: Stretch) -> bool {
+    match left {
+        Some(Unit::Thing(thing)) if matches!(thing.role, Role::Link) => match thing.place {
+            Some(before) => before.end != place.start,
+            None => true,
+        },
+        _ => false,
+    }
+}
+
+/// What a group is that is like a node which isn't one: a link where it ends with one, which takes letters behind it.
+fn role_of_plain(nodes: &[Node<'_>]) -> Role {
+    match nodes.last() {
+        Some(node) if matches!(node.kind, Kind::WikiLink) => Role::Link,
+        _ => Role::Node,
+    }
+}
+
+/// What a group of one line is to its neighbours.
+fn role_of_line(
+    group: Transclusion,
+    nodes: &[Node<'_>],
+    left: Option<&Unit<'_>>,
+    place: Stretch,
+) -> Role {
+    let is_taken = begins_with_letter(nodes) && is_behind_new_link(left, place);
+    if is_plain(group) && !is_taken {
+        role_of_plain(nodes)
+    } else {
+        Role::Group(anywhere(group))
+    }
+}
+
+/// What a node of the page, which stood at this place, is to its neighbours behind `left`, where nothing joins at a
+/// line's start or end.
+pub fn role_in_line(role: Role, node: &Node<'_>, left: Option<&Unit<'_>>, place: Stretch) -> Role {
+    let nodes = node.children.as_slice();
     match role {
-        Role::Group(group) if is_of_line(node.children.as_slice()) => Role::Group(anywhere(group)),
+        Role::Group(group) if is_of_line(nodes) => role_of_line(group, nodes, left, place),
         other => other,
     }
 }

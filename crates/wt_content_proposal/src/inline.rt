@@ -1,9 +1,10 @@
 //! Inline content as wikitext: what stood in the page as it stood, texts too, and what is new as `edit` spells it.
 
 use crate::groups::role_in_line;
-use crate::joints::{Spot, place_of_new, with_joints};
+use crate::joints::{NOWHERE, Spot, place_of_new, with_joints};
 use crate::known::{Block, Known, first_text, last_text};
-use crate::links::{is_bare_url, with_colons, with_fragment};
+use crate::links::{is_bare_url, shortened, with_colons, with_fragment};
+use crate::plain::with_plain;
 use crate::texts::{ends_with_apostrophe, push_letters, push_nowiki, push_text};
 use std::alloc::Global;
 use wt_escape::{external_link_of, href_of, page_link_of};
@@ -109,7 +110,7 @@ fn push_as_it_stood(
 ) -> Result<(), NoMemory> {
     let source = flat(alloc, old.node)?;
     let role = if keeps {
-        role_in_line(old.role, old.node)
+        role_in_line(old.role, old.node, out.as_slice().last(), old.place)
     } else {
         old.role
     };
@@ -309,6 +310,11 @@ fn push_link_end(out: &mut Str, old: &Node<'_>) -> Result<(), NoMemory> {
     push_texts(out, old.closing())
 }
 
+fn has_own_text(alloc: Global, old: &Node<'_>) -> Result<bool, NoMemory> {
+    let opening = joined(alloc, old.opening())?;
+    Ok(has_target(opening.as_str()))
+}
+
 /// A link of the page whose text alone was changed: its target stands as it was written. None where the target
 /// was changed, too, or no text is left.
 fn link_round(
@@ -326,7 +332,21 @@ fn link_round(
     };
     out.push_str(inside)?;
     push_link_end(&mut out, old)?;
+    if has_own_text(alloc, old)? {
+        return Ok(Some(out));
+    }
+    let out = shortened(alloc, out)?;
     Ok(Some(out))
+}
+
+/// The text of an external link, apart from its URL where it begins with a blank.
+fn with_blank(alloc: Global, keeps: bool, inside: &str) -> Result<Str, NoMemory> {
+    let mut out = Str::new(alloc);
+    if keeps && inside.starts_with(" ") {
+        out.push_str("<nowiki/>")?;
+    }
+    out.push_str(inside)?;
+    Ok(out)
 }
 
 fn new_source(alloc: Global, keeps: bool, node: &Node<'_>, inside: &str) -> Result<Str, NoMemory> {
@@ -334,12 +354,16 @@ fn new_source(alloc: Global, keeps: bool, node: &Node<'_>, inside: &str) -> Resu
         InlineForm::PageLink => {
             let link = page_link_of(alloc, node, inside)?;
             if keeps {
-                with_fragment(alloc, link, inside)
+                let link = with_fragment(alloc, link, inside)?;
+                shortened(alloc, link)
             } else {
                 Ok(link)
             }
         }
-        InlineForm::ExternalLink => external_link_of(alloc, node, inside),
+        InlineForm::ExternalLink => {
+            let inside = with_blank(alloc, keeps, inside)?;
+            external_link_of(alloc, node, inside.as_str())
+        }
         InlineForm::Break => Str::copy_of(alloc, "<br>"),
         InlineForm::Nothing
         | InlineForm::Characters
@@ -544,24 +568,32 @@ fn units_of<'n, 't, 'a>(
     writing: Writing<'_, 't, 'a>,
     nodes: &'n [Node<'_>],
     edges: Edges<'t, 'a>,
-    spot: Option<Spot>,
+    spot: Option<Spot<'_>>,
 ) -> Result<Vec<Unit<'n>>, NoMemory> {
     let mut units = Vec::new(alloc);
     push_units(alloc, &mut units, writing, nodes, edges)?;
     if !writing.keeps {
         return Ok(units);
     }
+    let place = match spot {
+        Some(spot) => Some(spot.place),
+        None => None,
+    };
+    let units = with_plain(alloc, place, units.as_slice())?;
     with_joints(alloc, spot, units.as_slice())
 }
 
-fn spot_of(writing: Writing<'_, '_, '_>) -> Spot {
+fn spot_of<'w>(writing: Writing<'w, '_, '_>) -> Spot<'w> {
+    let (before, start) = match writing.block {
+        Some(block) => (block.before, block.inside),
+        None => (b' ', NOWHERE),
+    };
     Spot {
         place: writing.place,
-        before: match writing.block {
-            Some(block) => block.before,
-            None => b' ',
-        },
+        before,
         in_tables: writing.known.has_tables,
+        page: writing.known.page.as_bytes(),
+        start,
     }
 }
 

@@ -1,21 +1,37 @@
 //! Where two neighbours stand beside each other though `edit` would part them: they don't join there. Whether that
 //! is so is told when the page is read back, so these rules need be right nearly always, and no more.
 
+use crate::texts::push_nowiki;
 use std::alloc::Global;
 use wt_guards::{Place, Role, Stretch, Thing, Unit};
 use wt_span::{NoMemory, Str};
 
 /// Where an inside is written: in what kind of block, the last byte of the delimiter before it (a space where there is
-/// none), and whether a table may be open there.
+/// none), whether a table may be open there, the page, and where it has this inside, in bytes.
 #[derive(Clone, Copy)]
-pub struct Spot {
+pub struct Spot<'w> {
     pub place: Place,
     pub before: u8,
     pub in_tables: bool,
+    pub page: &'w [u8],
+    pub start: usize,
+}
+
+impl<'w> Spot<'w> {
+    /// Whether what starts at a place of the page begins a line there, or the inside.
+    fn began(self, start: usize) -> bool {
+        if start == self.start {
+            return true;
+        }
+        match start.checked_sub(1) {
+            Some(at) => self.page.get(at) == Some(&b'\n'),
+            None => true,
+        }
+    }
 }
 
 /// A place in the page at which nothing ends.
-const NOWHERE: usize = 18_446_744_073_709_551_615;
+pub const NOWHERE: usize = 18_446_744_073_709_551_615;
 
 /// The place of a node that the page doesn't have.
 pub fn place_of_new() -> Stretch {
@@ -25,21 +41,26 @@ pub fn place_of_new() -> Stretch {
     }
 }
 
-/// What writes nothing, and stands beside what ends at this place of the page.
-fn joint_at<'n>(alloc: Global, start: usize) -> Unit<'n> {
+/// What writes nothing, and stands beside what ends and what begins at these places of the page.
+fn joint_at<'n>(alloc: Global, place: Stretch) -> Unit<'n> {
     Unit::Thing(Thing {
         role: Role::Node,
         source: Str::new(alloc),
-        place: Some(Stretch {
-            start,
-            end: NOWHERE,
-        }),
+        place: Some(place),
     })
+}
+
+/// The place of a joint beside what ends at this place alone.
+fn behind(start: usize) -> Stretch {
+    Stretch {
+        start,
+        end: NOWHERE,
+    }
 }
 
 // ---- units
 
-fn source_of<'u>(unit: &'u Unit<'_>) -> &'u [u8] {
+pub fn source_of<'u>(unit: &'u Unit<'_>) -> &'u [u8] {
     match unit {
         Unit::Text(text) => text.as_bytes(),
         Unit::Copied(text) => text.as_str().as_bytes(),
@@ -47,14 +68,14 @@ fn source_of<'u>(unit: &'u Unit<'_>) -> &'u [u8] {
     }
 }
 
-fn role_of(unit: &Unit<'_>) -> Option<Role> {
+pub fn role_of(unit: &Unit<'_>) -> Option<Role> {
     match unit {
         Unit::Thing(thing) => Some(thing.role),
         Unit::Text(_) | Unit::Copied(_) => None,
     }
 }
 
-fn copy_of<'n>(alloc: Global, unit: &Unit<'n>) -> Result<Unit<'n>, NoMemory> {
+pub fn copy_of<'n>(alloc: Global, unit: &Unit<'n>) -> Result<Unit<'n>, NoMemory> {
     match unit {
         Unit::Text(text) => Ok(Unit::Text(*text)),
         Unit::Copied(text) => {
@@ -76,7 +97,7 @@ fn before<'u, 'n>(units: &'u [Unit<'n>], at: usize) -> Option<&'u Unit<'n>> {
     units.get(at.checked_sub(1)?)
 }
 
-fn units_from<'u, 'n>(units: &'u [Unit<'n>], at: usize) -> &'u [Unit<'n>] {
+pub fn units_from<'u, 'n>(units: &'u [Unit<'n>], at: usize) -> &'u [Unit<'n>] {
     if at <= units.len() {
         &units[at..]
     } else {
@@ -119,7 +140,7 @@ fn is_rule(source: &[u8], next: &[u8]) -> bool {
 }
 
 /// Whether a line of a paragraph that begins with these would be another block.
-fn begins_block(spot: Spot, first: u8, units: &[Unit<'_>]) -> bool {
+fn begins_block(spot: Spot<'_>, first: u8, units: &[Unit<'_>]) -> bool {
     match first {
         b'-' => is_rule(source_at(units, 0), source_at(units, 1)),
         b'=' => may_end_with_equals(units),
@@ -133,7 +154,7 @@ fn is_list_sign(byte: u8) -> bool {
 }
 
 /// Whether an inside that begins with a byte would be read with the delimiter before it.
-fn joins_delimiter(spot: Spot, first: u8, units: &[Unit<'_>]) -> bool {
+fn joins_delimiter(spot: Spot<'_>, first: u8, units: &[Unit<'_>]) -> bool {
     if is_blank(first) {
         return true;
     }
@@ -151,7 +172,7 @@ fn ends_line(unit: &Unit<'_>) -> bool {
 }
 
 /// Whether text that begins a line or the inside may do so as it is.
-fn may_begin(spot: Spot, units: &[Unit<'_>], at: usize) -> bool {
+fn may_begin(spot: Spot<'_>, units: &[Unit<'_>], at: usize) -> bool {
     let Some(Unit::Text(text)) = units.get(at) else {
         return false;
     };
@@ -167,15 +188,76 @@ fn may_begin(spot: Spot, units: &[Unit<'_>], at: usize) -> bool {
     }
 }
 
+/// Whether a byte may begin a block where it begins a line.
+fn is_sign(byte: u8) -> bool {
+    is_blank(byte) || is_list_sign(byte) || matches!(byte, b'=' | b'-' | b'!')
+}
+
+/// Whether what stands in the page would be read otherwise at the start of a line or of the inside, where it begins
+/// with a byte.
+fn is_read_otherwise(spot: Spot<'_>, first: u8, units: &[Unit<'_>], at: usize) -> bool {
+    let rest = units_from(units, at);
+    match before(units, at) {
+        None => joins_delimiter(spot, first, rest),
+        Some(unit) if ends_line(unit) => is_blank(first) || begins_block(spot, first, rest),
+        Some(_) => false,
+    }
+}
+
+/// Whether what stands in the page begins a line or the inside here, didn't there, and would be read otherwise.
+fn is_new_start(spot: Spot<'_>, units: &[Unit<'_>], at: usize) -> bool {
+    let Some(Unit::Thing(thing)) = units.get(at) else {
+        return false;
+    };
+    let (Some(place), Some(first)) = (thing.place, thing.source.as_str().as_bytes().first()) else {
+        return false;
+    };
+    is_sign(*first) && !spot.began(place.start) && is_read_otherwise(spot, *first, units, at)
+}
+
+/// Whether a unit is as it begins the inside in the page.
+fn is_standing_first(spot: Spot<'_>, unit: &Unit<'_>) -> bool {
+    match unit {
+        Unit::Thing(thing) => match thing.place {
+            Some(place) => place.start == spot.start,
+            None => false,
+        },
+        Unit::Text(_) | Unit::Copied(_) => false,
+    }
+}
+
 /// Whether the inside of a cell would make its sign that of a caption.
-fn is_caption_sign(spot: Spot, units: &[Unit<'_>], at: usize) -> bool {
-    match units.get(at) {
-        Some(Unit::Text(text)) => {
-            at == 0
-                && matches!(spot.place, Place::Cell)
-                && spot.before == b'|'
-                && text.starts_with("+")
-        }
+fn is_caption_sign(spot: Spot<'_>, units: &[Unit<'_>], at: usize) -> bool {
+    let Some(unit) = units.get(at) else {
+        return false;
+    };
+    at == 0
+        && matches!(spot.place, Place::Cell)
+        && spot.before == b'|'
+        && source_of(unit).starts_with(b"+")
+        && !is_standing_first(spot, unit)
+}
+
+// ---- behind a link
+
+/// Where a link that is new or changed ends; where it ends in the page.
+fn link_end(unit: &Unit<'_>) -> Option<usize> {
+    match unit {
+        Unit::Thing(thing) if matches!(thing.role, Role::Link) => match thing.place {
+            Some(place) => Some(place.end),
+            None => Some(NOWHERE),
+        },
+        _ => None,
+    }
+}
+
+/// Whether letters that stand in the page come behind a link that they weren't behind, and would join it.
+fn joins_link(units: &[Unit<'_>], at: usize) -> bool {
+    let (Some(left), Some((Role::Node, place))) = (before(units, at), placed(units.get(at))) else {
+        return false;
+    };
+    match (link_end(left), source_at(units, at).first()) {
+        (Some(end), Some(first)) => first.is_ascii_lowercase() && end != place.start,
         _ => false,
     }
 }
@@ -257,43 +339,75 @@ fn are_five(units: &[Unit<'_>], at: usize) -> bool {
     left != 0 && right != 0 && left != right && outer == 0
 }
 
+// ---- groups
+
+fn placed<'u>(unit: Option<&'u Unit<'_>>) -> Option<(Role, Stretch)> {
+    match unit? {
+        Unit::Thing(thing) => Some((thing.role, thing.place?)),
+        Unit::Text(_) | Unit::Copied(_) => None,
+    }
+}
+
+/// Whether `edit` parts the two wherever they stand.
+fn are_parted_anywhere(left: Role, right: Role) -> bool {
+    match left {
+        Role::Group(_) => matches!(right, Role::Group(_) | Role::External | Role::Bare(_)),
+        Role::External | Role::Bare(_) => right.is_group(),
+        _ => false,
+    }
+}
+
+/// Where two things meet in the page that meet here too, one of them a group.
+fn meeting(units: &[Unit<'_>], at: usize) -> Option<Stretch> {
+    let (left, ended) = placed(before(units, at))?;
+    let (right, begun) = placed(units.get(at))?;
+    if ended.end == begun.start && are_parted_anywhere(left, right) {
+        Some(Stretch {
+            start: ended.end,
+            end: begun.start,
+        })
+    } else {
+        None
+    }
+}
+
 // ---- all
 
 /// Where a joint stands before a unit, its place in the page.
-fn joint_before(spot: Option<Spot>, units: &[Unit<'_>], at: usize) -> Option<usize> {
+fn joint_before(spot: Option<Spot<'_>>, units: &[Unit<'_>], at: usize) -> Option<Stretch> {
+    if let Some(place) = meeting(units, at) {
+        return Some(place);
+    }
     if let Some(end) = ended_url(units, at) {
-        return Some(end);
+        return Some(behind(end));
     }
-    if are_five(units, at) {
-        return Some(0);
-    }
-    if may_begin(spot?, units, at) {
-        Some(0)
+    if are_five(units, at) || may_begin(spot?, units, at) {
+        Some(behind(0))
     } else {
         None
+    }
+}
+
+/// Whether a unit would be read otherwise at the start of a line or of the inside, and no table of neighbours says so.
+fn is_at_start(spot: Option<Spot<'_>>, units: &[Unit<'_>], at: usize) -> bool {
+    match spot {
+        Some(spot) => is_caption_sign(spot, units, at) || is_new_start(spot, units, at),
+        None => false,
     }
 }
 
 fn push_before<'n>(
     alloc: Global,
     out: &mut Vec<Unit<'n>>,
-    spot: Option<Spot>,
+    spot: Option<Spot<'_>>,
     units: &[Unit<'n>],
     at: usize,
 ) -> Result<(), NoMemory> {
-    if let Some(start) = joint_before(spot, units, at) {
-        out.push(joint_at(alloc, start))?;
+    if let Some(place) = joint_before(spot, units, at) {
+        out.push(joint_at(alloc, place))?;
     }
-    match spot {
-        Some(spot) if is_caption_sign(spot, units, at) => {
-            let source = Str::copy_of(alloc, "<nowiki/>")?;
-            out.push(Unit::Thing(Thing {
-                role: Role::Node,
-                source,
-                place: None,
-            }))?;
-        }
-        _ => {}
+    if joins_link(units, at) || is_at_start(spot, units, at) {
+        push_nowiki(alloc, out)?;
     }
     Ok(())
 }
@@ -302,7 +416,7 @@ fn push_before<'n>(
 /// none ends there: it is the inside of a link or tag.
 pub fn with_joints<'n>(
     alloc: Global,
-    spot: Option<Spot>,
+    spot: Option<Spot<'_>>,
     units: &[Unit<'n>],
 ) -> Result<Vec<Unit<'n>>, NoMemory> {
     let mut out = Vec::new(alloc);

@@ -69,15 +69,24 @@ fn push_sides<'t, 'a>(out: &mut Vec<Sides<'t, 'a>>, nodes: &'t [Node<'a>]) -> Re
 // ---- a block
 
 /// A block of the page, or its body: its nodes with their texts beside them, in preorder, the number of the
-/// first, which is its own, where it stands in the page, in bytes, and the last byte of its opening delimiter
-/// (`last_byte`).
+/// first, which is its own, where it and its inside start in the page, in bytes, and the last byte of its opening
+/// delimiter (`last_byte`).
 #[derive(Drop)]
 pub struct Block<'t, 'a> {
     pub page: Page<'t, 'a>,
     pub sides: Vec<Sides<'t, 'a>>,
     pub first: u32,
     pub start: usize,
+    pub inside: usize,
     pub before: u8,
+}
+
+fn length_of(texts: &[Text<'_>]) -> usize {
+    let mut length: usize = 0;
+    for text in texts {
+        length = length.saturating_add(text.as_str().len());
+    }
+    length
 }
 
 /// The last byte of a delimiter; a space where there is none, and of `||`, behind which any text may stand.
@@ -123,6 +132,7 @@ pub fn block_of<'t, 'a>(alloc: Global, node: &'t Node<'a>) -> Result<Block<'t, '
         sides,
         first: node.id,
         start,
+        inside: start.saturating_add(length_of(node.opening())),
         before: last_byte(node.opening()),
     })
 }

@@ -8,6 +8,7 @@ mod inline;
 mod joints;
 mod known;
 mod links;
+mod plain;
 mod texts;
 
 pub use inline::{Edges, Writing, edges_of, joined, spelled};

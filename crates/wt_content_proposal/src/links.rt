@@ -86,3 +86,65 @@ fn target_of(link: &str) -> Option<&str> {
         None
     }
 }
+
+// ---- links that show their target
+
+/// Whether a byte may stand in the target of a link that is written short.
+fn is_plain(byte: u8) -> bool {
+    !matches!(byte, b':' | b'#' | b'/' | b'&' | b'<' | b'{' | b'|' | b'\'')
+}
+
+fn are_plain(bytes: &[u8]) -> bool {
+    for byte in bytes {
+        if !is_plain(*byte) {
+            return false;
+        }
+    }
+    true
+}
+
+fn are_letters(bytes: &[u8]) -> bool {
+    for byte in bytes {
+        if !byte.is_ascii_lowercase() {
+            return false;
+        }
+    }
+    true
+}
+
+/// Whether two names are one but for the case of the first letter.
+fn are_one(name: &[u8], other: &[u8]) -> bool {
+    match (name.split_first(), other.split_first()) {
+        (Some((first, rest)), Some((one, others))) => {
+            first.to_ascii_lowercase() == one.to_ascii_lowercase() && rest == others
+        }
+        _ => false,
+    }
+}
+
+/// The text of a link in two: what shows its target, and the letters behind that; None where it doesn't show it.
+fn target_and_letters(link: &str) -> Option<(&str, &str)> {
+    let (target, text) = link
+        .strip_prefix("[[")?
+        .strip_suffix("]]")?
+        .split_once("|")?;
+    let (name, letters) = text.split_at_checked(target.len())?;
+    let is_shown = are_one(target.as_bytes(), name.as_bytes());
+    if is_shown && are_plain(target.as_bytes()) && are_letters(letters.as_bytes()) {
+        Some((name, letters))
+    } else {
+        None
+    }
+}
+
+/// A link in the short form where its text is its target but for the case of the first letter, or that and letters.
+pub fn shortened(alloc: Global, link: Str) -> Result<Str, NoMemory> {
+    let Some((name, letters)) = target_and_letters(link.as_str()) else {
+        return Ok(link);
+    };
+    let mut out = Str::copy_of(alloc, "[[")?;
+    out.push_str(name)?;
+    out.push_str("]]")?;
+    out.push_str(letters)?;
+    Ok(out)
+}

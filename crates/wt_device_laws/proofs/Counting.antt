@@ -1,5 +1,5 @@
 -- What counts of faults tell.
-use Rattle.std.proofs.Common.{arith, ◌≡◌, ◌↔◌, ℕ, ◌+◌, ◌-◌, ◌^◌, ◌<◌, ◌≤◌, List, [], ◌∷◌, suc, refl, Ok, Err, Result}
+use Rattle.std.proofs.Common.{arith, ◌≡◌, ◌↔◌, ℕ, ◌+◌, ◌-◌, ◌^◌, ◌<◌, ◌≤◌, List, [], ◌∷◌, zero, suc, refl, Ok, Err, Result}
 use Rattle.wt_devices.specs.Device.{Rose, ReadCause, WriteCause, FetchCause}
 use Rattle.wt_devices.specs.declared.device.Failed.{Failed}
 use Rattle.wt_devices.specs.declared.device.Fetched.{Fetched}
@@ -30,8 +30,8 @@ read_tells before now (Err e) h = (
 )
 
 written_once : (before now n : ℕ) (piece : List ℕ) → WriteCause before now piece (Ok n) → now ≤ before + 1
-written_once before now 0 [] c = let i = c.idle refl in omega arith
-written_once before now 0 (b ∷ bs) c = rose_once before now (c.stuck refl (omega arith))
+written_once before now zero [] c = let i = c.idle refl in omega arith
+written_once before now zero (b ∷ bs) c = rose_once before now (c.stuck refl (omega arith))
 written_once before now (suc n) piece c = let k = c.kept (omega arith) in omega arith
 
 pub write_tells : (before now : ℕ) (piece : List ℕ) (result : Result ℕ Failed) → before < 2 ^ 64 - 1 → (WriteCause before now piece result) ↔ (Tells (IsWriteFault piece result) before now)

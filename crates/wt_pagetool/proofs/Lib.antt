@@ -5,17 +5,18 @@ mod NameCases
 pub mod EditLaws
 pub mod EditedLaws
 pub mod ExpandLaws
+pub mod FaultLaws
 pub mod GenLaws
 pub mod GivenBackLaws
 pub mod LeavesLaws
 pub mod PageSections
 pub mod PageLaws
+pub mod PromiseLaws
 pub mod ReadGroups
 pub mod RefusalLines
 pub mod RunLaws
 pub mod SectionEdits
 pub mod SelserFound
-pub mod SelserLaws
 pub mod SelserRuns
 pub mod SelserShown
 pub mod SelserUnchanged
@@ -25,5 +26,6 @@ pub mod UnchangedLaws
 pub mod UnchangedShown
 pub mod UnchangedTree
 pub mod UneditedRead
+pub mod UnmarkedEdits
 pub mod WholeEdits
 pub mod WikitextLaws

@@ -29,7 +29,7 @@ use Rattle.wt_pagetool.specs.Asked.{AnswersAll, AnswersFirst, AsksAs, AsksNames}
 use Rattle.wt_pagetool.specs.Causes.{Answered, RefusesAs, IsKept, found_status}
 use Rattle.wt_pagetool.specs.Calls.{call, IsDueAs, IsDue, KeptCounts, NothingFailed}
 use Rattle.wt_pagetool.specs.Reports.{Reported, WasDone, WasRefused, OutFailed, ErrFailed, WrotePage, WroteExpansion, WroteEdit, WroteCounts, WroteSource}
-use Rattle.wt_pagetool.proofs.StatusLaws.{is_done, is_folder_fault, is_write_fault, is_answer, IsUnansweredBy, unanswered}
+use Rattle.wt_pagetool.proofs.StatusLaws.{is_done, is_read_fault, is_folder_fault, is_write_fault, is_answer, IsUnansweredBy, unanswered}
 use Rattle.wt_pagetool.proofs.AnswerLaws.{input_done}
 use Rattle.wt_pagetool.proofs.AskedLaws.{first_named}
 use Rattle.wt_pagetool.proofs.EditLaws.{wrote_edit, told_edit}
@@ -342,13 +342,28 @@ fault_found found s f (inl e) = sym e ∙ f
 fault_found found s f (inr (inl e)) = absurd (let z : status.NoMemory ≡ status.FolderFault = sym e ∙ f in cc)
 fault_found found s f (inr (inr e)) = absurd (let z : status.WriteFault ≡ status.FolderFault = sym e ∙ f in cc)
 
+read_found : (found : Result Output Refusal) (s : Status) → s ≡ status.ReadFault
+    → (s ≡ found_status found) ⊎ ((s ≡ status.NoMemory) ⊎ (s ≡ status.WriteFault)) → found_status found ≡ status.ReadFault
+read_found found s f (inl e) = sym e ∙ f
+read_found found s f (inr (inl e)) = absurd (let z : status.NoMemory ≡ status.ReadFault = sym e ∙ f in cc)
+read_found found s f (inr (inr e)) = absurd (let z : status.WriteFault ≡ status.ReadFault = sym e ∙ f in cc)
+
+-- a call that ends by a fault of the input or the folder found it
+pub found_read_fault : (found : Result Output Refusal) (s : Status) (ended : ℕ) (out err : SinkUse) → ended ≡ code s
+    → Reported found s out err → ended ≡ code status.ReadFault → found_status found ≡ status.ReadFault
+found_read_fault found s ended out err is r h = read_found found s (is_read_fault s (sym is ∙ h)) (ended_as found s out err r)
+
+pub found_folder_fault : (found : Result Output Refusal) (s : Status) (ended : ℕ) (out err : SinkUse) → ended ≡ code s
+    → Reported found s out err → ended ≡ code status.FolderFault → found_status found ≡ status.FolderFault
+found_folder_fault found s ended out err is r h = fault_found found s (is_folder_fault s (sym is ∙ h)) (ended_as found s out err r)
+
 -- one that ends by a fault of the folder asked for the next of them, too
 pub run_fewer : (told before after : Option (List (List ℕ))) (found : Result Output Refusal) (s : Status) (ended : ℕ) (out err : SinkUse) → ended ≡ code s
     → Reported found s out err → IfSome told (λ names. AsksNames names before after found) → ended ≡ code status.FolderFault
     → IfSome told (λ names. AnswersFewer names before after)
 run_fewer None before after found s ended out err is r named h = tt
 run_fewer (Some names) before after found s ended out err is r named h =
-    subst (λ (v : Status). AsksAs v names before after) (fault_found found s (is_folder_fault s (sym is ∙ h)) (ended_as found s out err r)) named
+    subst (λ (v : Status). AsksAs v names before after) (found_folder_fault found s ended out err is r h) named
 
 -- ---- the clauses of the commands
 

@@ -2,7 +2,6 @@
 use Rattle.std.proofs.Common.{◌≡◌, ℕ, ◌≤◌, List, length, Bool, refl, sym, ap, ◌∙◌, subst}
 use Rattle.std.specs.Prelude.{Option, Some, None, IfSome, IsErrAnd, Result, Ok, Err}
 use Rattle.wt_checks.specs.Checked.{nodes_checked}
-use Rattle.wt_checks.specs.declared.refusal.TreeRefusal.{TreeRefusal}
 use Rattle.wt_difference.specs.Difference.{are_none, difference}
 use Rattle.wt_difference.specs.Remarked.{remarked}
 use Rattle.wt_expand.specs.PageCalls.{expanded_page}
@@ -20,11 +19,8 @@ use Rattle.wt_span.specs.declared.limits.TheConstants.{HTML_BYTES}
 use Rattle.wt_transclusion.specs.Answers.{IsRefused}
 use Rattle.wt_transclusion.specs.declared.refusal.ExpandRefusal.{ExpandRefusal}
 use Rattle.wt_tree.specs.Tree.{Tree}
-use Rattle.wt_tree.specs.View.{view}
 use Rattle.wt_pagetool.specs.declared.output.Output.{Output}
 use Rattle.wt_pagetool.specs.declared.refusal.Refusal.{Refusal}
-use Rattle.wt_pagetool.specs.declared.refusal.Refusal.TheVariants as refusal
-use Rattle.wt_pagetool.specs.declared.selser_command.Beside.{Beside}
 use Rattle.wt_pagetool.specs.declared.status.Status.{Status}
 use Rattle.wt_pagetool.specs.declared.status.Status.TheVariants as status
 use Rattle.wt_pagetool.specs.Answers.{Answer, done, refused, expanded_by, input_answer, nodes_answer, refusal_alone, refusal_of_page, remarked_of, selser_told, taken_answer, taken_from, taken_of, taken_to, title_answer, IsText}
@@ -32,7 +28,6 @@ use Rattle.wt_pagetool.specs.Causes.{Answered, Refuses, RefusesInput, RefusesTit
 use Rattle.wt_pagetool.specs.Inputs.{FedWhole}
 use Rattle.wt_pagetool.specs.Refusals.{status_of}
 use Rattle.wt_pagetool.specs.Selser.{AnswersSelser, Finds, FindsFor, FindsNew, FindsNone, FindsUnder, OrFound}
-use Rattle.wt_pagetool.specs.Tried.{IsBeside}
 use Rattle.wt_pagetool.proofs.AnswerLaws.{input_within}
 use Rattle.wt_pagetool.proofs.ExpandLaws.{fetched_as, refusal_is}
 use Rattle.wt_pagetool.proofs.PageLaws.{title_stands}
@@ -80,55 +75,6 @@ failed_under pages None x r h = tt
 failed_under pages (Some page) x r h = failed_for pages page x r h
 
 -- ---- from the tree of the page
-
--- a node of the edited tree is refused
-pub nodes_refused_found : (page : List ℕ) (o : Option TreeRefusal) (F : Type 0) (c : TreeRefusal) (r : Refusal) → o ≡ Some c → r ≡ refusal.Checked c
-    → OrFound (nodes_answer page o) F (failed r)
-nodes_refused_found page o F c r is same =
-    subst (λ x. OrFound (nodes_answer page x) F (failed r)) (sym is)
-    (subst (λ (x : Refusal). OrFound (refused (refusal.Checked c)) F (failed x)) (sym same) refl)
-
--- none is
-pub nodes_taken_found : (page : List ℕ) (o : Option TreeRefusal) (F : Type 0) (result : Result Output Refusal) → o ≡ None → F → OrFound (nodes_answer page o) F result
-nodes_taken_found page o F result none f = subst (λ x. OrFound (nodes_answer page x) F result) (sym none) f
-
--- memory ran out
-pub memory_found : (a : Answer) (pages : Pages) (items : Expanded) (page : List ℕ) (t u : Tree) (same : Bool) (result : Result Output Refusal)
-    → IsErrAnd result (λ r. r ≡ refusal.NoMemory) → OrFound a (FindsNew pages items page t u same result) result
-memory_found a pages items page t u same (Ok output) is = absurd is
-memory_found a pages items page t u same (Err r) is =
-    subst (λ (x : Refusal). OrFound a (FindsNew pages items page t u same (failed x)) (failed x)) (sym is)
-    (failed_or a (FindsNew pages items page t u same (failed refusal.NoMemory)) refusal.NoMemory tt tt)
-
--- the edited tree beside the tree that was found
-beside_at : (pages : Pages) (items : Expanded) (page : List ℕ) (t edited : Tree) (c : Beside) (result : Result Output Refusal) → IsBeside t edited c
-    → FindsNew pages items page t (view c.edited) c.same result
-    → FindsNew pages items page t (remarked t edited) (are_none (difference t edited)) result
-beside_at pages items page t edited c result h f =
-    subst (λ v. FindsNew pages items page t (remarked t edited) v result) h.same
-    (subst (λ (u : Tree). FindsNew pages items page t u c.same result) h.marked f)
-
-pub beside_found : (pages : Pages) (items : Expanded) (page : List ℕ) (t v edited : Tree) (c : Beside) (result : Result Output Refusal) → v ≡ t
-    → IsBeside v edited c → c.refused ≡ None → FindsNew pages items page v (view c.edited) c.same result
-    → OrFound (nodes_answer page (nodes_checked t (remarked t edited)))
-    (FindsNew pages items page t (remarked t edited) (are_none (difference t edited)) result) result
-beside_found pages items page t v edited c result is h none f =
-    subst (λ (x : Tree). OrFound (nodes_answer page (nodes_checked x (remarked x edited)))
-    (FindsNew pages items page x (remarked x edited) (are_none (difference x edited)) result) result) is
-    (nodes_taken_found page (nodes_checked v (remarked v edited))
-    (FindsNew pages items page v (remarked v edited) (are_none (difference v edited)) result) result (sym h.refused ∙ none)
-    (beside_at pages items page v edited c result h f))
-
-pub beside_refused : (pages : Pages) (items : Expanded) (page : List ℕ) (t v edited : Tree) (c : Beside) (check : TreeRefusal) → v ≡ t
-    → IsBeside v edited c → c.refused ≡ Some check
-    → OrFound (nodes_answer page (nodes_checked t (remarked t edited)))
-    (FindsNew pages items page t (remarked t edited) (are_none (difference t edited)) (failed (refusal.Checked check))) (failed (refusal.Checked check))
-beside_refused pages items page t v edited c check is h some =
-    subst (λ (x : Tree). OrFound (nodes_answer page (nodes_checked x (remarked x edited)))
-    (FindsNew pages items page x (remarked x edited) (are_none (difference x edited)) (failed (refusal.Checked check))) (failed (refusal.Checked check))) is
-    (nodes_refused_found page (nodes_checked v (remarked v edited))
-    (FindsNew pages items page v (remarked v edited) (are_none (difference v edited)) (failed (refusal.Checked check))) check (refusal.Checked check)
-    (sym h.refused ∙ some) refl)
 
 pub expanded_found : (pages : Pages) (page : List ℕ) (items : Expanded) (t edited : Tree) (result : Result Output Refusal)
     → refusal_of_page pages page ≡ None → items ≡ expanded_page pages page → t ≡ page_tree pages page

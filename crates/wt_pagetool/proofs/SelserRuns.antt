@@ -32,7 +32,8 @@ use Rattle.wt_pagetool.specs.Devices.{SourceUse, FolderUse, SinkUse}
 use Rattle.wt_pagetool.specs.Outputs.{output_bytes}
 use Rattle.wt_pagetool.specs.Refusals.{status_of}
 use Rattle.wt_pagetool.specs.Reports.{Reported, WroteSelser}
-use Rattle.wt_pagetool.specs.Selser.{AnswersSelser, DoneByEdit, EditIsDone, Finds, FindsFor, FindsNew, FindsNone, FindsUnder, IsNoNewPage, NoneFor, NoneUnder, OrFound, ReadsBack, RefusedSelser, RefusesSelser}
+use Rattle.wt_unmarked_edit.specs.Found.{ReadsBack}
+use Rattle.wt_pagetool.specs.Selser.{AnswersSelser, DoneByEdit, EditIsDone, Finds, FindsFor, FindsNew, FindsNone, FindsUnder, IsUnfound, NoneFor, NoneUnder, OrFound, RefusedSelser, RefusesSelser}
 use Rattle.wt_pagetool.specs.Statuses.{code, IsAnswer, IsDoneOrRefused, IsFaultOrNoMemory}
 use Rattle.wt_pagetool.specs.Words.{command_of, Reads}
 use Rattle.wt_pagetool.proofs.AnswerLaws.{input_done, input_within}
@@ -42,6 +43,7 @@ use Rattle.wt_pagetool.proofs.RunLaws.{FoundDone, ended_of, found_done}
 use Rattle.wt_pagetool.proofs.SelserShown.{remarked_shown}
 use Rattle.wt_pagetool.proofs.ShownLaws.{same_shown, page_face, read_face}
 use Rattle.wt_pagetool.proofs.EditLaws.{restored_bare}
+use Rattle.wt_pagetool.proofs.UnmarkedEdits.{done_back, reads_back}
 use Rattle.wt_pagetool.proofs.StatusLaws.{is_answer, is_done, IsUnansweredBy, unanswered}
 
 -- ---- a page that is taken
@@ -107,7 +109,7 @@ shows_new : (pages : Pages) (page input : List ℕ) (edited : Tree) (unsourced :
 shows_new pages page input edited unsourced new reads back =
     let t = page_tree pages page in
     let u = remarked_of pages page edited in
-    let m = title_made new new (new_expanded pages t u) back in
+    let m = title_made new new (new_expanded pages t u) (reads_back pages t u new back) in
     let n = new_done (unspelled_answer pages t u new) new (refusal_of_page pages new) m.is in
     let shown = shown_children (restored_from t u) in
     let d = unspelled_done new new (differing 1 (shown_children (page_tree pages new)) shown) n.1 in
@@ -116,7 +118,7 @@ shows_new pages page input edited unsourced new reads back =
 
 new_unrefused : (pages : Pages) (t u : Tree) (new : List ℕ) → ReadsBack pages t u new → IsUnrefused pages new
 new_unrefused pages t u new back =
-    let m = title_made new new (new_expanded pages t u) back in
+    let m = title_made new new (new_expanded pages t u) (reads_back pages t u new back) in
     let n = new_done (unspelled_answer pages t u new) new (refusal_of_page pages new) m.is in
     record { text = page_text new m.within m.text; unrefused = n.0 }
 
@@ -182,7 +184,7 @@ refused_for r x status.WriteFault a h = absurd a
 refused_for r x status.NoMemory a h = absurd a
 
 none_by : (pages : Pages) (items : Expanded) (page : List ℕ) (t u : Tree) (same : Bool) (r : Refusal) (s : Status) → IsAnswer s
-    → FindsNone pages items page t u same r s → IsNoNewPage pages items page t u same r
+    → FindsNone pages items page t u same r s → IsUnfound pages items page t u same r
 none_by pages items page t u same r status.Done a h = absurd h
 none_by pages items page t u same r status.Usage a h = absurd h
 none_by pages items page t u same r status.PageRefused a h = absurd h
@@ -260,7 +262,8 @@ edited_finds pages items page t u same new (Err r) e h = by (status_of r) h
     by status.Usage h = h
     by status.PageRefused h = h
     by status.HtmlRefused h = h
-    by status.EditRefused h = h.unedited new e
+    by status.EditRefused h =
+        let x = done_back pages t u (edit_answer same_node items page t u) new e in h.none.unedited x.0 x.1.0 x.1.1
     by status.ReadFault h = tt
     by status.FolderFault h = tt
     by status.WriteFault h = tt

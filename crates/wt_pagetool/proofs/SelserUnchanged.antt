@@ -36,7 +36,8 @@ use Rattle.wt_pagetool.specs.Devices.{SinkUse}
 use Rattle.wt_pagetool.specs.GivenBack.{GaveBack}
 use Rattle.wt_pagetool.specs.Refusals.{status_of}
 use Rattle.wt_pagetool.specs.Reports.{Reported}
-use Rattle.wt_pagetool.specs.Selser.{PageMustDo, FindsNone, FindsNew, FindsFor, FindsUnder, IsUnchanged, OrFound, AnswersSelser}
+use Rattle.wt_unmarked_edit.specs.Found.{PageMustDo}
+use Rattle.wt_pagetool.specs.Selser.{FindsNone, FindsNew, FindsFor, FindsUnder, IsUnchanged, OrFound, AnswersSelser}
 use Rattle.wt_pagetool.specs.Statuses.{code}
 use Rattle.wt_pagetool.proofs.AnswerLaws.{input_within}
 use Rattle.wt_pagetool.proofs.GivenBackLaws.{gave_step}
@@ -48,6 +49,7 @@ use Rattle.wt_pagetool.proofs.UnchangedLaws.{IsInSections, sections_shown, none_
 use Rattle.wt_pagetool.proofs.UnchangedShown.{unchanged_unmarked}
 use Rattle.wt_pagetool.proofs.UnchangedTree.{unchanged_checked}
 use Rattle.wt_pagetool.proofs.UneditedRead.{unedited_read}
+use Rattle.wt_pagetool.proofs.UnmarkedEdits.{back}
 
 -- ---- without a mark, groups have none
 
@@ -105,7 +107,7 @@ refused_by pages items page t u same r status.Done m f = f
 refused_by pages items page t u same r status.Usage m f = absurd f
 refused_by pages items page t u same r status.PageRefused m f = absurd f
 refused_by pages items page t u same r status.HtmlRefused m f = absurd f
-refused_by pages items page t u same r status.EditRefused m f = absurd (f.itself m)
+refused_by pages items page t u same r status.EditRefused m f = absurd (f.none.itself m)
 refused_by pages items page t u same r status.ReadFault m f = tt
 refused_by pages items page t u same r status.FolderFault m f = tt
 refused_by pages items page t u same r status.WriteFault m f = tt
@@ -136,7 +138,7 @@ found_itself pages page bytes found h a =
     let shown : shown_children t ≡ shown_children (restored_from t x) =
     shown_same t (restored_from t x) (page_face pages page) (restored_bare t x (read_face bytes x h.unsourced h.reads)) h.shows in
     let must : PageMustDo pages page t (remarked t x) (are_none (difference t x)) =
-    (ap are_none h.same, page_back pages page x h.answered shown) in
+    (ap are_none h.same, back pages t (remarked t x) page (page_back pages page x h.answered shown)) in
     let f : FindsFor pages page (read bytes) found =
     or_found (taken_of pages (Some page) bytes) page (FindsUnder pages (Some page) (read bytes) found) found taken a in
     found_page pages (expanded_page pages page) page t (remarked t x) (are_none (difference t x)) found must

@@ -32,6 +32,17 @@ is_write_fault FolderFault e = absurd (omega (arith, e))
 is_write_fault WriteFault e = refl
 is_write_fault NoMemory e = absurd (omega (arith, e))
 
+pub is_read_fault : (s : Status) → code s ≡ code ReadFault → s ≡ ReadFault
+is_read_fault Done e = absurd (omega (arith, e))
+is_read_fault Usage e = absurd (omega (arith, e))
+is_read_fault PageRefused e = absurd (omega (arith, e))
+is_read_fault HtmlRefused e = absurd (omega (arith, e))
+is_read_fault EditRefused e = absurd (omega (arith, e))
+is_read_fault ReadFault e = refl
+is_read_fault FolderFault e = absurd (omega (arith, e))
+is_read_fault WriteFault e = absurd (omega (arith, e))
+is_read_fault NoMemory e = absurd (omega (arith, e))
+
 pub is_folder_fault : (s : Status) → code s ≡ code FolderFault → s ≡ FolderFault
 is_folder_fault Done e = absurd (omega (arith, e))
 is_folder_fault Usage e = absurd (omega (arith, e))

@@ -28,7 +28,7 @@ use Rattle.wt_pagetool.proofs.PageLaws.{page_text}
 -- ---- the answer
 
 -- what the edit answers, as the program names it
-abbrev answer_as : Result (List ℕ) WholeRefusal → Answer
+abbrev pub answer_as : Result (List ℕ) WholeRefusal → Answer
 answer_as (Ok new) = done new
 answer_as (Err e) = refused (refusal_of_whole e)
 
@@ -38,7 +38,7 @@ as_new_by new (Some k) None = refl
 as_new_by new None (Some r) = refl
 as_new_by new (Some k) (Some r) = refl
 
-as_new : (pages : Pages) (t edited : Tree) (new : List ℕ) → IsPage new → new_answer pages t edited new ≡ answer_as (new_edit pages t edited new)
+pub as_new : (pages : Pages) (t edited : Tree) (new : List ℕ) → IsPage new → new_answer pages t edited new ≡ answer_as (new_edit pages t edited new)
 as_new pages t edited new h =
     page_text new h.within (no_place new h.text) (new_expanded pages t edited)
     ∙ as_new_by new (differing 1 (shown_children (page_tree pages new)) (shown_children (restored_from t edited))) (refusal_of_page pages new)

@@ -196,3 +196,9 @@ IsOfFolder before after r = IsFolderStatus before after (status_of r)
 -- the count of a device is kept where a call is answered
 abbrev pub IsKept : {T : Type 0} → Result T Refusal → ℕ → ℕ → Type 0
 IsKept found before after = IsAnswer (found_status found) → after ≡ before
+
+-- Of the input and the folder one alone failed: a fault of the input ends a step in which the folder's count is kept, and a fault of the
+-- folder one in which the input's is.
+pub record FailsAlone (s : Status) (input_before input_after folder_before folder_after : ℕ) : Type 0 where
+  pub input : s ≡ status.ReadFault → folder_after ≡ folder_before
+  pub folder : s ≡ status.FolderFault → input_after ≡ input_before

@@ -7,10 +7,10 @@ pub mod Gen
 pub mod GivenBack
 pub mod Inputs
 pub mod Outputs
+pub mod Promises
 pub mod Refusals
 pub mod Reports
 pub mod Selser
 pub mod Statuses
-pub mod Tried
 pub mod Unchanged
 pub mod Words

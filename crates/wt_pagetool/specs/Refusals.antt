@@ -11,6 +11,8 @@ use Rattle.wt_selser.specs.declared.refusal.EditRefusal.{EditRefusal}
 use Rattle.wt_selser.specs.declared.refusal.EditRefusal.TheVariants as of_edit
 use Rattle.wt_edit.specs.declared.refusal.EditRefusal.{EditRefusal as WholeRefusal}
 use Rattle.wt_edit.specs.declared.refusal.EditRefusal.TheVariants as of_whole
+use Rattle.wt_unmarked_edit.specs.declared.refusal.SelserRefusal.{SelserRefusal}
+use Rattle.wt_unmarked_edit.specs.declared.refusal.SelserRefusal.TheVariants as of_selser
 use Rattle.wt_content.specs.declared.reason.ContentWhy.{ContentWhy}
 use Rattle.wt_content.specs.declared.reason.ContentWhy.TheVariants as bad
 use Rattle.wt_pagetool.specs.declared.status.Status.{Status}
@@ -62,6 +64,16 @@ refusal_of_whole (of_whole.NewExpansion e) = NewExpansion
 refusal_of_whole (of_whole.Unspelled k) = Unspelled k
 refusal_of_whole of_whole.FolderFault = FolderFault
 refusal_of_whole of_whole.NoMemory = NoMemory
+
+-- why an edit without marks is refused
+abbrev pub refusal_of_selser : SelserRefusal → Refusal
+refusal_of_selser (of_selser.Check c) = Checked c
+refusal_of_selser (of_selser.BadContent n why) = BadContent n why
+refusal_of_selser of_selser.NewPageTooLong = NewPageTooLong
+refusal_of_selser of_selser.NewExpansion = NewExpansion
+refusal_of_selser (of_selser.Unspelled k) = Unspelled k
+refusal_of_selser of_selser.FolderFault = FolderFault
+refusal_of_selser of_selser.NoMemory = NoMemory
 
 unfoldable pub html_why : HtmlWhy → List ℕ
 html_why ill.NotUtf8 = codes "NotUtf8"

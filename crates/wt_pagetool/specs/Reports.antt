@@ -31,7 +31,7 @@ use Rattle.wt_pagetool.specs.Gen.{back, gen_line, gen_page, gen_pages}
 use Rattle.wt_pagetool.specs.Statuses.{code}
 use Rattle.wt_pagetool.specs.Refusals.{status_of, line_of}
 use Rattle.wt_pagetool.specs.Answers.{done, answer_of_edit, checked_edit, page_output, refusal_of_page, remarked_of, IsUnrefused}
-use Rattle.wt_pagetool.specs.Selser.{IsMade}
+use Rattle.wt_unmarked_edit.specs.Found.{IsMade}
 use Rattle.wt_pagetool.specs.Calls.{Call, known_answer, IsDue}
 
 -- ---- what was found goes to the sinks

@@ -16,8 +16,8 @@ ghost use Rattle.wt_tree.specs.View.{view};
 ghost use Rattle.wt_tree.specs.declared.kind.Kind.TheVariants as kind;
 ghost use Rattle.wt_pagetool.specs.Answers.{answer_of_edit, input_answer, edit_by, edit_to, edited_answer, edit_told, refusal_of_page, IsNoText};
 ghost use Rattle.wt_pagetool.specs.Asked.{AsksNames, edit_names, edited_work, input_work, new_work, work_behind, work_done};
-ghost use Rattle.wt_pagetool.specs.Causes.{Answered, IsOfEdit, IsKept};
-ghost use Rattle.wt_pagetool.specs.Inputs.{GivesAtMost};
+ghost use Rattle.wt_pagetool.specs.Causes.{found_status, Answered, FailsAlone, IsOfEdit, IsKept};
+ghost use Rattle.wt_pagetool.specs.Inputs.{GivesAtMost, StopsWithin};
 
 use crate::fetch::fetched_page;
 use crate::output::Output;
@@ -137,6 +137,9 @@ fn edit_of_text<S: Source, F: Folder>(
     ensures ended { OnOk result (IsAtEnd (S.left input.new)) }
     ensures input_kept { IsKept result (S.fault_count input.old) (S.fault_count input.new) }
     ensures takes { GivesAtMost (HTML_BYTES + PIECE) (S.left input.old) (S.left input.new) }
+    ensures stops { IfErr result (StopsWithin (S.left input.old) (S.left input.new)) }
+    ensures alone { FailsAlone (found_status result) (S.fault_count input.old) (S.fault_count input.new)
+        (F.fault_count folder.old) (F.fault_count folder.new) }
     ensures folder_kept { IsKept result (F.fault_count folder.old) (F.fault_count folder.new) }
     ensures kept { F.pages folder.new ≡ F.pages folder.old }
 {
@@ -164,6 +167,9 @@ pub fn edited_page<S: Source, F: Folder>(
     ensures ended { OnOk result (IsAtEnd (S.left input.new)) }
     ensures input_kept { IsKept result (S.fault_count input.old) (S.fault_count input.new) }
     ensures takes { GivesAtMost (HTML_BYTES + PIECE) (S.left input.old) (S.left input.new) }
+    ensures stops { IfErr result (StopsWithin (S.left input.old) (S.left input.new)) }
+    ensures alone { FailsAlone (found_status result) (S.fault_count input.old) (S.fault_count input.new)
+        (F.fault_count folder.old) (F.fault_count folder.new) }
     ensures folder_kept { IsKept result (F.fault_count folder.old) (F.fault_count folder.new) }
     ensures kept { F.pages folder.new ≡ F.pages folder.old }
 {

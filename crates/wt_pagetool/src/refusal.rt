@@ -10,6 +10,7 @@ use wt_edit::{ContentWhy, EditRefusal};
 use wt_html_in::{FitWhy, HtmlRefusal, HtmlWhy};
 use wt_span::{NoMemory, Str};
 use wt_transclusion::ExpandRefusal;
+use wt_unmarked_edit::SelserRefusal;
 
 /// Why a call gives no answer. Places are bytes of the page, or of the input for `Html`; elements are
 /// counted from 1 in document order.
@@ -138,6 +139,24 @@ impl From<EditRefusal> for Refusal {
             EditRefusal::Unspelled(child) => Refusal::Unspelled(child),
             EditRefusal::FolderFault => Refusal::FolderFault,
             EditRefusal::NoMemory => Refusal::NoMemory,
+        }
+    }
+}
+
+impl From<SelserRefusal> for Refusal {
+    ghost use Rattle.wt_pagetool.specs.Refusals.{refusal_of_selser};
+
+    ghost from_gives = { λ refusal r. r ≡ refusal_of_selser refusal };
+
+    fn from(refusal: SelserRefusal) -> Refusal {
+        match refusal {
+            SelserRefusal::Check(check) => Refusal::Checked(check),
+            SelserRefusal::BadContent(node, why) => Refusal::BadContent { node, why },
+            SelserRefusal::NewPageTooLong => Refusal::NewPageTooLong,
+            SelserRefusal::NewExpansion => Refusal::NewExpansion,
+            SelserRefusal::Unspelled(child) => Refusal::Unspelled(child),
+            SelserRefusal::FolderFault => Refusal::FolderFault,
+            SelserRefusal::NoMemory => Refusal::NoMemory,
         }
     }
 }

@@ -1,10 +1,8 @@
 //! The command that changes a page as its HTML was changed, without marks.
 
-ghost use Rattle.std.specs.Prelude.{◌≡◌, ◌≤◌, ◌+◌, ℕ, List, length, Some, IfSome, IfOk, IfErr, OnOk};
+ghost use Rattle.std.specs.Prelude.{◌≡◌, ◌≤◌, ◌+◌, ℕ, List, length, Some, IfSome, IfErr, OnOk};
 ghost use Rattle.std.specs.Io.KnownBytes.{IsAtEnd};
 ghost use Rattle.wt_checks.specs.Checked.{nodes_checked};
-ghost use Rattle.wt_checks.specs.Places.{page_of};
-ghost use Rattle.wt_checks.specs.View.{indexed};
 ghost use Rattle.wt_difference.specs.Difference.{are_none, difference};
 ghost use Rattle.wt_difference.specs.Remarked.{remarked};
 ghost use Rattle.wt_expand.specs.Work.{Pages};
@@ -13,83 +11,46 @@ ghost use Rattle.wt_schema.specs.Read.{read};
 ghost use Rattle.wt_html_in.specs.Feeding.{IsFed};
 ghost use Rattle.wt_devices.specs.Device.{Rose};
 ghost use Rattle.wt_transclusion.specs.Asked.{Asks};
-ghost use Rattle.wt_tree.specs.Tiling.{InPreorder};
 ghost use Rattle.wt_tree.specs.Tree.{label};
 ghost use Rattle.wt_tree.specs.View.{view};
 ghost use Rattle.wt_tree.specs.declared.kind.Kind.TheVariants as kind;
 ghost use Rattle.wt_pagetool.specs.Answers.{input_answer, nodes_answer, selser_told, taken_answer, taken_to, IsNoText};
-ghost use Rattle.wt_pagetool.specs.Causes.{Answered, IsKept, IsOfEdit};
-ghost use Rattle.wt_pagetool.specs.Inputs.{GivesAtMost};
+ghost use Rattle.wt_pagetool.specs.Causes.{found_status, Answered, FailsAlone, IsKept, IsOfEdit};
+ghost use Rattle.wt_pagetool.specs.Inputs.{GivesAtMost, StopsWithin};
 ghost use Rattle.wt_pagetool.specs.Selser.{AnswersSelser, Finds, FindsFor, FindsNew, OrFound};
-ghost use Rattle.wt_pagetool.specs.Tried.{IsBeside, KnowsOf};
+ghost use Rattle.wt_unmarked_edit.specs.Tried.{KnowsOf};
 
 use crate::fetch::fetched_page;
 use crate::output::Output;
 use crate::page::text_of_page;
-use crate::proposing::new_page;
-use crate::reading_back::{EditedPage, Memory, new_expansion};
-use crate::readings::{MOST_READINGS, Readings};
 use crate::refusal::Refusal;
 use crate::wikitext_command::{PIECE, read_all};
 use bumpalo::Bump;
 use std::alloc::Global;
-use wt_checks::{TreeRefusal, Visit, check_nodes, numbered_nodes};
 use wt_devices::{Folder, Source};
-use wt_difference::{has_mark, remark};
 use wt_edit::{KnownPage, known_page};
 use wt_html_in::Reader;
-use wt_span::{HTML_BYTES, NoMemory, PAGE_BYTES};
+use wt_span::{HTML_BYTES, PAGE_BYTES};
+use wt_template_stack::Expansion;
 use wt_tree::Node;
-
-/// An edited tree beside the page's.
-#[derive(Drop)]
-struct Beside<'a> {
-    /// The edited tree with the marks of its difference from the page's, and no others.
-    edited: Node<'a>,
-    /// Whether nothing differs.
-    same: bool,
-    /// The first check that refuses one of its nodes.
-    refused: Option<TreeRefusal>,
-}
-
-/// Sets an edited tree beside a page's, whose nodes `index` has by their numbers.
-fn set_beside<'a>(
-    alloc: Global,
-    page: &Node<'a>,
-    index: &[Visit<'_, 'a>],
-    edited: Node<'a>,
-) -> Result<Beside<'a>, NoMemory>
-    requires body { (label (view page.now)).kind ≡ kind.Body }
-    requires numbered { ∥ InPreorder (view page.now) ∥₁ }
-    requires index { indexed index.now ≡ page_of (view page.now) }
-    ensures { IfOk result (λ c. IsBeside (view page.now) (view edited.entry) c) }
-{
-    let edited = remark(alloc, index, edited)?;
-    let same = !has_mark(&edited);
-    let refused = check_nodes(alloc, &*page, &edited)?;
-    Ok(Beside {
-        edited,
-        same,
-        refused,
-    })
-}
+use wt_unmarked_edit::{MOST_READINGS, Memory, Readings, selser};
 
 /// The new page of a page that was expanded, by the tree to which it was edited.
-fn page_of_found<'a, F: Folder>(
+fn page_of_known<'a, F: Folder>(
     page: &str,
-    found: KnownPage<'a>,
+    known: KnownPage<'a>,
     edited: Node<'a>,
     memory: Memory<'a>,
     folder: &mut F,
     readings: &mut Readings,
 ) -> Result<Output, Refusal>
-    requires body { (label (view found.annotated.tree.body)).kind ≡ kind.Body }
-    requires known { HoldsPages found.expansion }
+    requires body { (label (view known.annotated.tree.body)).kind ≡ kind.Body }
+    requires known { HoldsPages known.expansion }
     requires unread { readings.old ≡ 0 }
-    ensures answered { (pages : Pages) → F.pages folder.old ≡ Some pages → KnowsOf pages found.entry.expansion
-        → let t = view found.entry.annotated.tree.body in
+    ensures answered { (pages : Pages) → F.pages folder.old ≡ Some pages → KnowsOf pages known.entry.expansion
+        → let t = view known.entry.annotated.tree.body in
         OrFound (nodes_answer page.now (nodes_checked t (remarked t (view edited.entry))))
-        (FindsNew pages found.entry.annotated.items page.now t (remarked t (view edited.entry))
+        (FindsNew pages known.entry.annotated.items page.now t (remarked t (view edited.entry))
         (are_none (difference t (view edited.entry))) result) result }
     ensures asks { Asks (F.answered folder.old) (F.answered folder.new) (F.most_asked folder.old)
         (F.most_asked folder.new) }
@@ -98,28 +59,8 @@ fn page_of_found<'a, F: Folder>(
     ensures kept { F.pages folder.new ≡ F.pages folder.old }
     ensures few { readings.new ≤ MOST_READINGS }
 {
-    let KnownPage {
-        annotated,
-        expansion,
-    } = found;
-    let tree = annotated.body();
-    let index = numbered_nodes(memory.alloc, tree)?;
-    let beside = set_beside(memory.alloc, tree, index.as_slice(), edited)?;
-    match beside.refused {
-        Some(check) => Err(Refusal::Checked(check)),
-        None => {
-            let edit = EditedPage {
-                page,
-                tree,
-                index: index.as_slice(),
-                items: annotated.items(),
-                edited: &beside.edited,
-                same: beside.same,
-                memory,
-            };
-            new_page(&edit, folder, expansion, readings)
-        }
-    }
+    let new = selser(page, known, edited, memory, folder, readings)?;
+    Ok(Output::Text(new))
 }
 
 /// The new page of a page that is text, by the tree to which it was edited.
@@ -142,9 +83,9 @@ fn page_to<'a, F: Folder>(
     ensures kept { F.pages folder.new ≡ F.pages folder.old }
     ensures few { readings.new ≤ MOST_READINGS }
 {
-    let expansion = new_expansion(memory.alloc, memory.arena);
+    let expansion = Expansion::new(memory.alloc, memory.arena);
     let found = known_page(memory.alloc, page, memory.arena, folder, expansion)?;
-    page_of_found(page, found, edited, memory, folder, readings)
+    page_of_known(page, found, edited, memory, folder, readings)
 }
 
 /// The new page of a page that is text, by the HTML that was fed.
@@ -193,6 +134,9 @@ fn page_of_text<S: Source, F: Folder>(
     ensures ended { OnOk result (IsAtEnd (S.left input.new)) }
     ensures input_kept { IsKept result (S.fault_count input.old) (S.fault_count input.new) }
     ensures takes { GivesAtMost (HTML_BYTES + PIECE) (S.left input.old) (S.left input.new) }
+    ensures stops { IfErr result (StopsWithin (S.left input.old) (S.left input.new)) }
+    ensures alone { FailsAlone (found_status result) (S.fault_count input.old) (S.fault_count input.new)
+        (F.fault_count folder.old) (F.fault_count folder.new) }
     ensures folder_kept { IsKept result (F.fault_count folder.old) (F.fault_count folder.new) }
     ensures kept { F.pages folder.new ≡ F.pages folder.old }
     ensures few { readings.new ≤ MOST_READINGS }
@@ -228,6 +172,9 @@ pub fn selser_page<S: Source, F: Folder>(
     ensures ended { OnOk result (IsAtEnd (S.left input.new)) }
     ensures input_kept { IsKept result (S.fault_count input.old) (S.fault_count input.new) }
     ensures takes { GivesAtMost (HTML_BYTES + PIECE) (S.left input.old) (S.left input.new) }
+    ensures stops { IfErr result (StopsWithin (S.left input.old) (S.left input.new)) }
+    ensures alone { FailsAlone (found_status result) (S.fault_count input.old) (S.fault_count input.new)
+        (F.fault_count folder.old) (F.fault_count folder.new) }
     ensures folder_kept { IsKept result (F.fault_count folder.old) (F.fault_count folder.new) }
     ensures kept { F.pages folder.new ≡ F.pages folder.old }
     ensures few { readings.new ≤ MOST_READINGS }

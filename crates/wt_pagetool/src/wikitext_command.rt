@@ -4,7 +4,7 @@ ghost use Rattle.wt_schema.specs.Read.{page, read};
 ghost use Rattle.wt_html_in.specs.Answers.{body_of, unsourced_of};
 ghost use Rattle.wt_html_in.specs.Feeding.{IsFed, taken_of};
 ghost use Rattle.wt_pagetool.specs.Answers.{source_answer, wikitext_answer};
-ghost use Rattle.wt_pagetool.specs.Inputs.{FedWhole, GivesAtMost};
+ghost use Rattle.wt_pagetool.specs.Inputs.{FedWhole, GivesAtMost, StopsWithin};
 ghost use Rattle.wt_pagetool.specs.Causes.{Answered, RefusesInput, IsOfHtml, IsOfInput, IsKept};
 
 use crate::output::Output;
@@ -36,6 +36,7 @@ fn feed_all<S: Source>(
     ensures of_input { IfErr result (IsOfInput (S.fault_count input.old) (S.fault_count input.new)) }
     ensures kept { IsKept result (S.fault_count input.old) (S.fault_count input.new) }
     ensures takes { GivesAtMost (HTML_BYTES + PIECE) (S.left input.old) (S.left input.new) }
+    ensures stops { IfErr result (StopsWithin (S.left input.old) (S.left input.new)) }
 {
     let mut taken = 0;
     'pieces: loop {
@@ -65,6 +66,7 @@ pub fn read_all<'a, S: Source>(
     ensures of_input { IfErr result (IsOfInput (S.fault_count input.old) (S.fault_count input.new)) }
     ensures kept { IsKept result (S.fault_count input.old) (S.fault_count input.new) }
     ensures takes { GivesAtMost (HTML_BYTES + PIECE) (S.left input.old) (S.left input.new) }
+    ensures stops { IfErr result (StopsWithin (S.left input.old) (S.left input.new)) }
 {
     let mut buffer = vec![in alloc; 0u8; PIECE]?;
     let mut reader = Reader::new(alloc, arena)?;
@@ -100,6 +102,7 @@ pub fn wikitext_of_input<S: Source>(alloc: Global, input: &mut S) -> Result<Outp
     ensures ended { OnOk result (IsAtEnd (S.left input.new)) }
     ensures kept { IsKept result (S.fault_count input.old) (S.fault_count input.new) }
     ensures takes { GivesAtMost (HTML_BYTES + PIECE) (S.left input.old) (S.left input.new) }
+    ensures stops { IfErr result (StopsWithin (S.left input.old) (S.left input.new)) }
 {
     let arena = Bump::new(alloc);
     let reader = read_all(alloc, &arena, input)?;

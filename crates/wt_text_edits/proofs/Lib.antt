@@ -13,6 +13,7 @@ pub mod TypedShown
 pub mod SpelledUtf8
 pub mod SpelledLength
 pub mod TypedAgain
+pub mod TypedNodes
 pub mod TypedTrees
 pub mod TypedPages
 pub mod TakesAnyText

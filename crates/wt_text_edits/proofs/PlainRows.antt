@@ -45,30 +45,47 @@ still_content : (l : List Item) → StillItems l → StillItems (content l)
 still_content l c = still_left (content l) (ending l) (subst StillItems (sym (is_both l)) c)
 
 -- what ends a list hangs on its last item
-ending_behind : (xs : List Item) (y : Item) (ys : List Item) → ending (xs ++ y ∷ ys) ≡ ending (y ∷ ys)
+pub ending_behind : (xs : List Item) (y : Item) (ys : List Item) → ending (xs ++ y ∷ ys) ≡ ending (y ∷ ys)
 ending_behind [] y ys = refl
 ending_behind (x ∷ []) y ys = refl
 ending_behind (x ∷ z ∷ zs) y ys = ending_behind (z ∷ zs) y ys
 
 -- ---- lines of text
 
--- each is text, and nothing begins in it
+no_marks : (l : List Item) → StillItems l → marks_len l ≡ 0
+no_marks [] e = refl
+no_marks (char o b ∷ xs) e = refl
+no_marks (whole f o bs ∷ xs) e = rw (no_mark f e.0) refl
+
+line_is : (l : List Item) → StillItems l → line_parts (content l) ≡ parts Text (content l)
+unfolding context_parts
+line_is l e = still_within most_contexts in_line (content l) (still_content l e)
+
+-- a line of text: no mark stands before it, and its parts are its characters, references and nowikis
+pub record IsTextLine (l : List Item) : Type 0 where
+  pub kind : kind_at 0 l ≡ line.Text
+  pub unled : marks_len l ≡ 0
+  pub is : line_parts (content l) ≡ parts Text (content l)
+
 abbrev pub AreTexts : List (List Item) → Type 0
 AreTexts [] = Unit {0}
-AreTexts (l ∷ ls) = (kind_at 0 l ≡ line.Text) × StillItems l × AreTexts ls
+AreTexts (l ∷ ls) = IsTextLine l × AreTexts ls
 
 pub no_text : kind_of_signs 0 [] ≡ line.Text → ⊥
 unfolding kind_of_signs
 no_text e = cc
 
-abbrev IsText : List Item → Type 0
+abbrev pub IsText : List Item → Type 0
 IsText l = line_kind 0 l ≡ line.Text
 
-texts_by : (ls : List (List Item)) (ends : List (List Item)) → All IsText (map content ls ++ ends) → StillItems (joined ls) → AreTexts ls
+pub texts_by : (ls : List (List Item)) (ends : List (List Item)) → All IsText (map content ls ++ ends) → StillItems (joined ls) → AreTexts ls
 texts_by [] ends a e = tt
 texts_by (l ∷ ls) ends a e = (
-  All-head IsText (content l) (map content ls ++ ends) a,
-  still_left l (joined ls) e,
+  record {
+    kind = All-head IsText (content l) (map content ls ++ ends) a;
+    unled = no_marks l (still_left l (joined ls) e);
+    is = line_is l (still_left l (joined ls) e);
+  },
   texts_by ls ends (All-tail IsText (content l) (map content ls ++ ends) a) (still_right l (joined ls) e),
 )
 
@@ -78,27 +95,22 @@ unended_by x true [] a = absurd (no_text (All-head IsText [] [] a))
 unended_by x true (z ∷ zs) a = unended_by x true zs (All-tail IsText z (zs ++ [] ∷ []) a)
 unended_by x false zs a = refl
 
-unended : (xs : List Item) (zs : List (List Item)) → All IsText (zs ++ empty_end xs) → ending xs ≡ []
+pub unended : (xs : List Item) (zs : List (List Item)) → All IsText (zs ++ empty_end xs) → ending xs ≡ []
 unended [] zs a = refl
 unended (x ∷ []) zs a = unended_by x (is_break_item x) zs a
 unended (x ∷ y ∷ ys) zs a = unended (y ∷ ys) zs a
 
 -- ---- rows
 
-abbrev text_row : List Item → Row
+abbrev pub text_row : List Item → Row
 text_row l = record { kind = line.Text; lead = []; items = content l; ending = ending l }
-
-no_marks : (l : List Item) → StillItems l → marks_len l ≡ 0
-no_marks [] e = refl
-no_marks (char o b ∷ xs) e = refl
-no_marks (whole f o bs ∷ xs) e = rw (no_mark f e.0) refl
 
 rows_are : (ls : List (List Item)) → AreTexts ls → rows_from 0 ls ≡ map text_row ls
 rows_are [] h = refl
 rows_are (l ∷ ls) h =
-    ap (λ (k : LineKind). line_rows k l ++ rows_from (behind 0 k) ls) h.0
-    ∙ ap (λ (n : ℕ). whole_row line.Text n l ∷ rows_from 0 ls) (no_marks l h.1)
-    ∙ ap (λ rs. text_row l ∷ rs) (rows_are ls h.2)
+    ap (λ (k : LineKind). line_rows k l ++ rows_from (behind 0 k) ls) h.0.kind
+    ∙ ap (λ (n : ℕ). whole_row line.Text n l ∷ rows_from 0 ls) h.0.unled
+    ∙ ap (λ rs. text_row l ∷ rs) (rows_are ls h.1)
 
 abbrev single : List Item → List Row
 single l = text_row l ∷ []
@@ -139,12 +151,8 @@ parts_append : (xs ys : List Item) → parts Text (xs ++ ys) ≡ parts Text xs +
 parts_append [] ys = refl
 parts_append (x ∷ xs) ys = ap (λ ps. part Text x ∷ ps) (parts_append xs ys)
 
-line_is : (l : List Item) → StillItems l → line_parts (content l) ≡ parts Text (content l)
-unfolding context_parts
-line_is l e = still_within most_contexts in_line (content l) (still_content l e)
-
 -- the line break that ends the last line
-abbrev last_break : List Item → List (List Item) → List Item
+abbrev pub last_break : List Item → List (List Item) → List Item
 last_break break [] = break
 last_break break (l ∷ ls) = last_break (ending l) ls
 
@@ -152,12 +160,12 @@ abbrev later : List Item → List (List Item) → List Part
 later break ls = later_parts later_line break (map text_row ls)
 
 -- a line, and what is told of its line break and the lines behind it
-with_line : (l : List Item) (ls : List (List Item)) → StillItems l
+with_line : (l : List Item) (ls : List (List Item)) → IsTextLine l
     → later (ending l) ls ++ parts Text (last_break (ending l) ls) ≡ parts Text (ending l ++ joined ls)
     → (line_parts (content l) ++ later (ending l) ls) ++ parts Text (last_break (ending l) ls) ≡ parts Text (l ++ joined ls)
 with_line l ls e h =
     append_assoc (line_parts (content l)) (later (ending l) ls) (parts Text (last_break (ending l) ls))
-    ∙ ap (λ ps. ps ++ (later (ending l) ls ++ parts Text (last_break (ending l) ls))) (line_is l e)
+    ∙ ap (λ ps. ps ++ (later (ending l) ls ++ parts Text (last_break (ending l) ls))) e.is
     ∙ ap (λ ps. parts Text (content l) ++ ps) h
     ∙ sym (parts_append (content l) (ending l ++ joined ls))
     ∙ ap (parts Text) (sym (append_assoc (content l) (ending l) (joined ls)) ∙ ap (λ xs. xs ++ joined ls) (is_both l))
@@ -167,26 +175,26 @@ later_are : (break : List Item) (ls : List (List Item)) → AreTexts ls
 later_are break [] h = ap (parts Text) (sym (append-nil break))
 later_are break (l ∷ ls) h =
     append_assoc (parts Text break) (line_parts (content l) ++ later (ending l) ls) (parts Text (last_break (ending l) ls))
-    ∙ ap (λ ps. parts Text break ++ ps) (with_line l ls h.1 (later_are (ending l) ls h.2))
+    ∙ ap (λ ps. parts Text break ++ ps) (with_line l ls h.0 (later_are (ending l) ls h.1))
     ∙ sym (parts_append break (l ++ joined ls))
 
-break_is : (l : List Item) (ls : List (List Item)) → AreTexts ls → last_break (ending l) ls ≡ ending (joined (l ∷ ls))
+pub break_is : (l : List Item) (ls : List (List Item)) → AreTexts ls → last_break (ending l) ls ≡ ending (joined (l ∷ ls))
 break_is l [] h = ap ending (sym (append-nil l))
-break_is l ([] ∷ ls) h = absurd (no_text h.0)
-break_is l ((x ∷ m) ∷ ls) h = break_is (x ∷ m) ls h.2 ∙ sym (ending_behind l x (m ++ joined ls))
+break_is l ([] ∷ ls) h = absurd (no_text h.0.kind)
+break_is l ((x ∷ m) ∷ ls) h = break_is (x ∷ m) ls h.1 ∙ sym (ending_behind l x (m ++ joined ls))
 
 last_is : (l : List Item) (ls : List (List Item)) → last_ending (map text_row (l ∷ ls)) ≡ last_break (ending l) ls
 last_is l [] = refl
 last_is l (m ∷ ls) = last_is m ls
 
 -- what stands in it
-para_is : (xs : List Item) (l : List Item) (ls : List (List Item)) → joined (l ∷ ls) ≡ xs → AreTexts (l ∷ ls)
+pub para_is : (xs : List Item) (l : List Item) (ls : List (List Item)) → joined (l ∷ ls) ≡ xs → AreTexts (l ∷ ls)
     → last_break (ending l) ls ≡ [] → para (map text_row (l ∷ ls)) ≡ para_of xs
 unfolding para
 para_is xs l ls is h e =
     let ps : List Part = line_parts (content l) ++ later (ending l) ls in
     let all : ps ≡ parts Text xs =
-    sym (append-nil ps) ∙ ap (λ xs. ps ++ parts Text xs) (sym e) ∙ with_line l ls h.1 (later_are (ending l) ls h.2) ∙ ap (parts Text) is in
+    sym (append-nil ps) ∙ ap (λ xs. ps ++ parts Text xs) (sym e) ∙ with_line l ls h.0 (later_are (ending l) ls h.1) ∙ ap (parts Text) is in
     ap (λ qs. inner (plain kind.Para) [] (forest (children qs)) []) all
 
 -- ---- all of it
@@ -199,7 +207,7 @@ body_by : (x : Item) (xs : List Item) (ls : List (List Item)) → joined ls ≡ 
 unfolding children
 body_by x xs [] is h e = cc
 body_by x xs (l ∷ ls) is h e =
-    let break : last_break (ending l) ls ≡ [] = break_is l ls h.2 ∙ ap ending is ∙ e in
+    let break : last_break (ending l) ls ≡ [] = break_is l ls h.1 ∙ ap ending is ∙ e in
     let rs : List Row = map text_row (l ∷ ls) in
     ap (λ rs. body_of (within MOST_TABLES rs)) (rows_are (l ∷ ls) h)
     ∙ ap body_of (within_are MOST_TABLES l ls)

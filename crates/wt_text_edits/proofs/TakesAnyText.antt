@@ -35,7 +35,8 @@ use Rattle.wt_text_edits.proofs.TypedPages.{typed_tree, typed_tree_shows}
 use Rattle.wt_text_edits.proofs.TypedAgain.{old_page, sent_shows, typed_answer}
 use Rattle.wt_text_edits.proofs.TypedItems.{typed_own}
 use Rattle.wt_text_edits.proofs.TypedLeaves.{leaves}
-use Rattle.wt_text_edits.proofs.TypedTrees.{nodes, leaves_flat, leaves_shut_off, leaves_faultless}
+use Rattle.wt_text_edits.proofs.TypedNodes.{nodes}
+use Rattle.wt_text_edits.proofs.TypedTrees.{leaves_flat, leaves_shut_off, leaves_faultless}
 use Rattle.wt_text_edits.proofs.PlainSpelling.{plain_spelled}
 
 abbrev as_typed : List ℕ → Setting

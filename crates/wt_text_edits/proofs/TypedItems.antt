@@ -43,11 +43,11 @@ use Rattle.wt_text_edits.proofs.TypedLeaves.{IsOwnForm, AreOwn}
 
 -- ---- the items of a text from a place on
 
-abbrev items_cut : List ℕ → Cut → List Item
+abbrev pub items_cut : List ℕ → Cut → List Item
 items_cut bs c = page_chars (take c.0 bs) ++ items_of_words c.1 (drop c.0 bs)
 
 -- whether a line break stands before or not
-abbrev ItemsOf : List ℕ → List Item → Type 0
+abbrev pub ItemsOf : List ℕ → List Item → Type 0
 ItemsOf bs xs = (after : Bool) → items_cut bs (cuts Page after 0 bs) ≡ xs
 
 closed_if : (n : ℕ) (t : Bool) (bs : List ℕ) (ws : List Word) → (n == 0) ≡ t → items_of_words (if t then ws else (Chars, n) ∷ ws) bs ≡ items_cut bs (n, ws)
@@ -60,11 +60,11 @@ closed_items : (bs : List ℕ) (c : Cut) → items_of_words (closed c.0 c.1) bs 
 unfolding closed
 closed_items bs (n, ws) = closed_if n (n == 0) bs ws refl
 
-items_byte : (b : ℕ) (bs : List ℕ) (xs : List Item) → ((after : Bool) → form_at Page after (b ∷ bs) ≡ None) → ItemsOf bs xs → ItemsOf (b ∷ bs) (char None b ∷ xs)
+pub items_byte : (b : ℕ) (bs : List ℕ) (xs : List Item) → ((after : Bool) → form_at Page after (b ∷ bs) ≡ None) → ItemsOf bs xs → ItemsOf (b ∷ bs) (char None b ∷ xs)
 items_byte b bs xs f r after =
     ap (items_cut (b ∷ bs)) (cuts_cons Page after b bs None (f after)) ∙ ap (λ ys. char None b ∷ ys) (r (bytes.is_break b))
 
-skip : (P : Cut → Type 0) (q rest : List ℕ) (after : Bool) → ((a : Bool) → P (cuts Page a 0 rest)) → P (cuts Page after (length q) (q ++ rest))
+pub skip : (P : Cut → Type 0) (q rest : List ℕ) (after : Bool) → ((a : Bool) → P (cuts Page a 0 rest)) → P (cuts Page after (length q) (q ++ rest))
 skip P [] rest after f = f after
 skip P (b ∷ q) rest after f = skip P q rest (bytes.is_break b) f
 
@@ -83,7 +83,7 @@ form_items b q rest xs kind c r =
     ∙ ap (λ bs. items_of_word kind (b ∷ q) ++ items_of_words (closed c.0 c.1) bs) (drop_front q rest)
     ∙ ap (λ ys. items_of_word kind (b ∷ q) ++ ys) (closed_items rest c ∙ r)
 
-items_form : (kind : LexKind) (b : ℕ) (q rest : List ℕ) (xs : List Item) → ((after : Bool) → form_at Page after (b ∷ (q ++ rest)) ≡ Some (kind, suc (length q)))
+pub items_form : (kind : LexKind) (b : ℕ) (q rest : List ℕ) (xs : List Item) → ((after : Bool) → form_at Page after (b ∷ (q ++ rest)) ≡ Some (kind, suc (length q)))
     → ItemsOf rest xs → ItemsOf (b ∷ (q ++ rest)) (items_of_word kind (b ∷ q) ++ xs)
 items_form kind b q rest xs f r after =
     let z : suc (length q) - 1 ≡ length q = omega arith in
@@ -237,12 +237,12 @@ typed_guard true rest t g = typed_nowiki rest t g
 typed_guard false rest t g = g
 
 -- the bytes of a reference
-record IsReference (c : ℕ) : Type 0 where
-  others : List ℕ
-  is : reference c ≡ 38 ∷ others
-  clean : (rest : List ℕ) → NoComments rest → NoComments (38 ∷ (others ++ rest))
+pub record IsReference (c : ℕ) : Type 0 where
+  pub others : List ℕ
+  pub is : reference c ≡ 38 ∷ others
+  pub clean : (rest : List ℕ) → NoComments rest → NoComments (38 ∷ (others ++ rest))
 
-references : (c : ℕ) → is_escapable c ≡ true → IsReference c
+pub references : (c : ℕ) → is_escapable c ≡ true → IsReference c
 unfolding reference digits comment_len
 references c e = each_escapable IsReference
     (record { others = codes "#91;"; is = refl; clean = λ rest h. (refl, (refl, (refl, (refl, (refl, h))))) })
@@ -273,7 +273,7 @@ typed_reference c rest t e g =
 
 -- ---- characters as they are
 
-wide_form : (b : ℕ) → 128 ≤ b → is_form_byte b ≡ false
+pub wide_form : (b : ℕ) → 128 ≤ b → is_form_byte b ≡ false
 wide_form b h = grind (arith, nat_tests)
 
 wide_not : (b : ℕ) → 128 ≤ b → ((b == 91) ≡ false) × ((b == 60) ≡ false)
@@ -288,26 +288,26 @@ typed_wide (b ∷ bs) rest t h g =
     typed_byte b (bs ++ rest) (bs ++ t) (other_byte Page b (bs ++ rest) (wide_form b w)) (comment_other b (bs ++ rest) other) n.0
     (typed_wide bs rest t (All-tail IsWide b bs h) g) (first_false (b == 60) _ n.1)
 
-wide_tame : (x : ℕ) → 128 ≤ x → IsTame x
+pub wide_tame : (x : ℕ) → 128 ≤ x → IsTame x
 wide_tame x h = (grind (arith, nat_tests), omega (arith, h), omega (arith, h))
 
-tame_if : (x : ℕ) → (is_ascii_alphabetic x || (x == 47 || x == 33)) ≡ false → IsTame x
+pub tame_if : (x : ℕ) → (is_ascii_alphabetic x || (x == 47 || x == 33)) ≡ false → IsTame x
 tame_if x e =
     let p = or_parts (is_ascii_alphabetic x) _ e in
     let q = or_parts (x == 47) (x == 33) p.1 in
     (p.0, apart x 33 q.1, apart x 47 q.0)
 
-abbrev IsMild : ℕ → Type 0
+abbrev pub IsMild : ℕ → Type 0
 IsMild x = (is_ascii_alphabetic x ≡ false) × (x ≢ 35)
 
-wide_mild : (x : ℕ) → 128 ≤ x → IsMild x
+pub wide_mild : (x : ℕ) → 128 ≤ x → IsMild x
 wide_mild x h = (grind (arith, nat_tests), omega (arith, h))
 
-mild_if : (x : ℕ) → (is_ascii_alphabetic x || x == 35) ≡ false → IsMild x
+pub mild_if : (x : ℕ) → (is_ascii_alphabetic x || x == 35) ≡ false → IsMild x
 mild_if x e = let p = or_parts (is_ascii_alphabetic x) _ e in (p.0, apart x 35 p.1)
 
 -- the rest of what is spelled
-abbrev after_it : Setting → ℕ → List ContentSign → List ℕ → List ℕ
+abbrev pub after_it : Setting → ℕ → List ContentSign → List ℕ → List ℕ
 after_it s c before cs = spelled_from s (letter c ∷ before) (map letter cs)
 
 typed_less : (s : Setting) (before : List ContentSign) (cs t : List ℕ) → is_escaped s.within s.place before 60 (map letter cs) ≡ false
@@ -359,7 +359,7 @@ typed_equals rest t g =
       own = g.own;
     }
 
-no_form_byte : (c : ℕ) → is_bracket c ≡ false → (c == 60) ≡ false → (c == 38) ≡ false → (c == 61) ≡ false → is_form_byte c ≡ false
+pub no_form_byte : (c : ℕ) → is_bracket c ≡ false → (c == 60) ≡ false → (c == 38) ≡ false → (c == 61) ≡ false → is_form_byte c ≡ false
 no_form_byte c b l a e =
     let p91 = or_parts (c == 91) _ b in
     let p93 = or_parts (c == 93) _ p91.1 in
@@ -414,7 +414,7 @@ typed_from s before (c ∷ cs) =
     typed_guard (is_guarded s before (letter c ∷ after)) (written_by e c ++ after_it s c before cs) (encode_utf8 c ++ encodes cs)
     (typed_letter s before c cs (encodes cs) e refl (typed_from s (letter c ∷ before) cs))
 
-items_are : (bs : List ℕ) (xs : List Item) → ItemsOf bs xs → page_items bs ≡ xs
+pub items_are : (bs : List ℕ) (xs : List Item) → ItemsOf bs xs → page_items bs ≡ xs
 unfolding page_items words
 items_are bs xs r = closed_items bs (cuts Page false 0 bs) ∙ r false
 

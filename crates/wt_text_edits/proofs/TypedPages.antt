@@ -24,7 +24,8 @@ use Rattle.wt_text_edits.proofs.TypedLeaves.{leaves, HasAny, has_any}
 use Rattle.wt_text_edits.proofs.TypedItems.{typed_still, typed_own, typed_shows}
 use Rattle.wt_text_edits.proofs.TypedShown.{page_shows}
 use Rattle.wt_text_edits.proofs.TypedAgain.{old_page}
-use Rattle.wt_text_edits.proofs.TypedTrees.{nodes, leaves_tree}
+use Rattle.wt_text_edits.proofs.TypedNodes.{nodes}
+use Rattle.wt_text_edits.proofs.TypedTrees.{leaves_tree}
 
 abbrev IsText : List Item → Type 0
 IsText l = line_kind 0 l ≡ line.Text

@@ -38,7 +38,7 @@ shown_chars (b ∷ bs) = ap (λ cs. b ∷ cs) (shown_chars bs)
 
 -- ---- the leaves, wherever they stand and whatever their numbers
 
-leaves_show : (n : ℕ) (before : List Item) (ls : List Leaf) (rest : Plains)
+pub leaves_show : (n : ℕ) (before : List Item) (ls : List Leaf) (rest : Plains)
     → plains_before (all_cut_texts (all_with_numbers n (all_placed before (forest (map leaf_tree ls))))) rest ≡ text_before (flat_map leaf_shown ls) rest
 unfolding label_at
 leaves_show n before [] rest = refl
@@ -59,21 +59,21 @@ leaves_show n before (guard ∷ ls) rest =
 
 -- ---- all items are of the page, and no node is empty
 
-abbrev AllOfPage : List Item → Type 0
+abbrev pub AllOfPage : List Item → Type 0
 AllOfPage xs = list_all is_page xs ≡ true
 
 and_true : (a b : Bool) → a ≡ true → b ≡ true → (a && b) ≡ true
 and_true true b e f = f
 and_true false b e f = cc
 
-both_of_page : (xs ys : List Item) → AllOfPage xs → AllOfPage ys → AllOfPage (xs ++ ys)
+pub both_of_page : (xs ys : List Item) → AllOfPage xs → AllOfPage ys → AllOfPage (xs ++ ys)
 both_of_page [] ys h k = k
 both_of_page (char None b ∷ xs) ys h k = both_of_page xs ys h k
 both_of_page (char (Some j) b ∷ xs) ys h k = cc
 both_of_page (whole f None bs ∷ xs) ys h k = both_of_page xs ys h k
 both_of_page (whole f (Some j) bs ∷ xs) ys h k = cc
 
-chars_of_page : (bs : List ℕ) → AllOfPage (page_chars bs)
+pub chars_of_page : (bs : List ℕ) → AllOfPage (page_chars bs)
 chars_of_page [] = refl
 chars_of_page (b ∷ bs) = chars_of_page bs
 
@@ -83,12 +83,12 @@ leaf_of_page (letters b bs) = both_of_page (page_chars (b ∷ bs)) [] (chars_of_
 leaf_of_page (reference c bs) = refl
 leaf_of_page guard = refl
 
-leaves_of_page : (ls : List Leaf) → AllOfPage (held_by_all (forest (map leaf_tree ls)))
+pub leaves_of_page : (ls : List Leaf) → AllOfPage (held_by_all (forest (map leaf_tree ls)))
 leaves_of_page [] = refl
 leaves_of_page (l ∷ ls) =
     both_of_page (tree_items (leaf_tree l)) (held_by_all (forest (map leaf_tree ls))) (leaf_of_page l) (leaves_of_page ls)
 
-none_empty : (ls : List Leaf) → AllNonEmpty (forest (map leaf_tree ls))
+pub none_empty : (ls : List Leaf) → AllNonEmpty (forest (map leaf_tree ls))
 unfolding nowiki
 none_empty [] = tt
 none_empty (letters b bs ∷ ls) = (refl, tt, none_empty ls)
@@ -117,7 +117,7 @@ unfolding annotated_plainly label_at
 body_shows ls = ap (λ ps. element (record { kind = kind.Para; attrs = []; mw = None }) ps ∷ []) (leaves_show 2 [] ls ended)
 
 -- with its sections a body shows what it shows without
-gathered_shows : (t : Tree) → shown_children (with_sections t) ≡ shown_children t
+pub gathered_shows : (t : Tree) → shown_children (with_sections t) ≡ shown_children t
 gathered_shows (tree l ts) = ap listed (plains_stay ts ended)
 
 pub page_shows : (xs : List Item) → AreOwn xs → HasAny (leaves xs)

@@ -24,7 +24,7 @@ use Rattle.wt_text_edits.specs.LonePages.{of_items}
 
 -- ---- words that show something
 
-abbrev IsShown : LexKind → Type 0
+abbrev pub IsShown : LexKind → Type 0
 IsShown Chars = Unit {0}
 IsShown CommentLine = ⊥
 IsShown Comment = ⊥
@@ -39,7 +39,7 @@ IsShown LinkClose = ⊥
 IsShown Pipe = ⊥
 IsShown Equals = Unit {0}
 
-abbrev AreShown : List Word → Type 0
+abbrev pub AreShown : List Word → Type 0
 AreShown [] = Unit {0}
 AreShown ((kind, n) ∷ ws) = IsShown kind × AreShown ws
 
@@ -127,6 +127,29 @@ no_work r start bs [] h = refl
 no_work r start bs (lexeme (kind, n) ∷ ms) h = no_work r (is_break (slice_index bs (n - 1))) (drop n bs) ms h
 no_work r start bs (call k inside ∷ ms) h = absurd h
 
+-- ---- a page whose words show something
+
+page_members : (bs : List ℕ) → AreShown (words Page bs) → AreLexemes (reduced (words Page bs))
+page_members bs h = reduced_lexemes (words Page bs) h
+
+pub shown_expanded : (pages : Pages) (bs : List ℕ) → AreShown (words Page bs) → expanded_page pages bs ≡ of_items (page_items bs)
+unfolding text_members
+shown_expanded pages bs h = without_calls pages bs (no_calls (reduced (words Page bs)) (page_members bs h))
+
+shown_work : (pages : Pages) (bs : List ℕ) → AreShown (words Page bs) → page_work pages bs ≡ entered None ∷ []
+unfolding page_work text_members
+shown_work pages bs h = ap (λ es. entered None ∷ es) (no_work (page_reading pages) true bs (reduced (words Page bs)) (page_members bs h))
+
+shown_flat : (bs : List ℕ) → AreShown (words Page bs) → deep_place Page bs ≡ None
+unfolding deep_place too_deep calls
+shown_flat bs h = ap too_deep (no_places 0 0 None (reduced (words Page bs)) (page_members bs h))
+
+pub shown_unrefused : (pages : Pages) (bs : List ℕ) → AreShown (words Page bs) → first_refusal pages bs (page_work pages bs) ≡ None
+unfolding first_refusal
+shown_unrefused pages bs h =
+    ap (refusal_from pages bs 0) (shown_work pages bs h)
+    ∙ ap (λ (o : Option ℕ). option_or (option_map (braces_too_deep None) o) None) (shown_flat bs h)
+
 -- ---- a page that is what was typed
 
 typed_words : (s : Setting) (text : List ℕ) → IsUtf8 text → AreShown (words Page (spelled s (letters text)))
@@ -135,29 +158,10 @@ typed_words s text u =
     let bs : List ℕ = spelled s (letters text) in
     all_shown (words Page bs) bs text (text_reads_back Page s text u)
 
-typed_members : (s : Setting) (text : List ℕ) → IsUtf8 text → AreLexemes (reduced (words Page (spelled s (letters text))))
-typed_members s text u = reduced_lexemes (words Page (spelled s (letters text))) (typed_words s text u)
-
 pub typed_expanded : (pages : Pages) (s : Setting) (text : List ℕ) → IsUtf8 text
     → expanded_page pages (spelled s (letters text)) ≡ of_items (page_items (spelled s (letters text)))
-unfolding text_members
-typed_expanded pages s text u =
-    let bs : List ℕ = spelled s (letters text) in
-    without_calls pages bs (no_calls (reduced (words Page bs)) (typed_members s text u))
-
-typed_work : (pages : Pages) (s : Setting) (text : List ℕ) → IsUtf8 text → page_work pages (spelled s (letters text)) ≡ entered None ∷ []
-unfolding page_work text_members
-typed_work pages s text u =
-    let bs : List ℕ = spelled s (letters text) in
-    ap (λ es. entered None ∷ es) (no_work (page_reading pages) true bs (reduced (words Page bs)) (typed_members s text u))
-
-typed_flat : (s : Setting) (text : List ℕ) → IsUtf8 text → deep_place Page (spelled s (letters text)) ≡ None
-unfolding deep_place too_deep calls
-typed_flat s text u = ap too_deep (no_places 0 0 None (reduced (words Page (spelled s (letters text)))) (typed_members s text u))
+typed_expanded pages s text u = shown_expanded pages (spelled s (letters text)) (typed_words s text u)
 
 pub typed_unrefused : (pages : Pages) (s : Setting) (text : List ℕ) → IsUtf8 text
     → first_refusal pages (spelled s (letters text)) (page_work pages (spelled s (letters text))) ≡ None
-unfolding first_refusal
-typed_unrefused pages s text u =
-    ap (refusal_from pages (spelled s (letters text)) 0) (typed_work pages s text u)
-    ∙ ap (λ (o : Option ℕ). option_or (option_map (braces_too_deep None) o) None) (typed_flat s text u)
+typed_unrefused pages s text u = shown_unrefused pages (spelled s (letters text)) (typed_words s text u)

@@ -1,88 +1,32 @@
 -- The tree of a page of typed text: one paragraph, and in it the leaves, by their places and numbers.
-use Rattle.std.proofs.Common.{arith, ◌≡◌, ℕ, ◌+◌, Bool, false, List, [], ◌∷◌, ◌++◌, length, map, refl, ap, ◌∙◌, append-nil}
-use Rattle.std.specs.Prelude.{◌||◌}
-use Rattle.std.specs.List.{flat_map}
-use Rattle.std.proofs.lemmas.Grind.{flat_map-append}
+use Rattle.std.proofs.Common.{arith, ◌≡◌, ℕ, ◌+◌, false, List, [], ◌∷◌, ◌++◌, length, map, refl, ap, ◌∙◌, append-nil}
 use Rattle.wt_tree.specs.declared.kind.Kind.TheVariants as kind
 use Rattle.wt_tree.specs.Kinds.{spelling}
 use Rattle.wt_tree.specs.Source.{flat, flat_of_all}
 use Rattle.wt_tree.specs.Tree.{Tree, tree, Trees, none, more}
-use Rattle.wt_span.specs.Items.{Item, source, sources}
+use Rattle.wt_span.specs.Items.{Item, sources}
 use Rattle.wt_span.specs.Origins.{Expanded}
-use Rattle.wt_guards.specs.Guards.{nowiki}
-use Rattle.wt_inline.specs.ItemTree.{plain, inner, nothing, further, forest, tree_items, held_by_all}
+use Rattle.wt_inline.specs.ItemTree.{plain, inner, nothing, further, forest, held_by_all}
 use Rattle.wt_original.specs.Kinds.{shape}
-use Rattle.wt_isolation.specs.OpenTags.{ends_open, any_ends_open}
+use Rattle.wt_isolation.specs.OpenTags.{any_ends_open}
 use Rattle.wt_selser.specs.GroupFaults.{has_faulty_group}
 use Rattle.wt_annotated.specs.Annotated.{annotated}
-use Rattle.wt_annotated.specs.CutTexts.{cut_texts, all_cut_texts}
+use Rattle.wt_annotated.specs.CutTexts.{cut_texts}
 use Rattle.wt_annotated.specs.GroupData.{group_data}
 use Rattle.wt_annotated.specs.Labels.{width, label_at}
-use Rattle.wt_annotated.specs.Numbering.{count, all_with_numbers}
-use Rattle.wt_annotated.specs.WithoutCalls.{annotated as annotated_plainly, placed, all_placed}
+use Rattle.wt_annotated.specs.WithoutCalls.{annotated as annotated_plainly}
 use Rattle.wt_annotated.proofs.AnnotatedTree.{without_calls}
 use Rattle.wt_sections.specs.Sections.{with_sections}
-use Rattle.wt_text_edits.specs.LonePages.{page_chars, page_of}
+use Rattle.wt_text_edits.specs.LonePages.{page_of}
 use Rattle.wt_text_edits.proofs.LoneTrees.{sized}
-use Rattle.wt_text_edits.proofs.TypedLeaves.{AreOwn, Leaf, letters, reference, guard, leaves, HasAny, leaf_source, leaves_source, AreShut, leaves_shut, leaf_tree, para_leaves}
+use Rattle.wt_text_edits.proofs.TypedLeaves.{AreOwn, Leaf, letters, reference, guard, leaves, HasAny, leaves_source, leaves_shut, leaf_tree, para_leaves}
+use Rattle.wt_text_edits.proofs.TypedNodes.{nodes, next, behind, nodes_flat, held_sources, none_open}
 use Rattle.wt_text_edits.proofs.TypedShown.{body_of, is_plain_page}
 use Rattle.wt_text_edits.proofs.TypedAgain.{old_para, old_page}
 
--- from this number and place on
-abbrev pub nodes : ℕ → List Item → List Leaf → Trees
-nodes n before ls = all_cut_texts (all_with_numbers n (all_placed before (forest (map leaf_tree ls))))
-
-abbrev next : ℕ → List Item → Leaf → ℕ
-next n before l = n + count (placed before (leaf_tree l))
-
-abbrev behind : List Item → Leaf → List Item
-behind before l = before ++ tree_items (leaf_tree l)
-
--- ---- their source
-
-chars_source : (bs : List ℕ) → sources (page_chars bs ++ []) ≡ bs
-chars_source [] = refl
-chars_source (b ∷ bs) = ap (λ cs. b ∷ cs) (chars_source bs)
-
-nodes_flat : (n : ℕ) (before : List Item) (ls : List Leaf) → flat_of_all (nodes n before ls) ≡ flat_map leaf_source ls
-unfolding label_at nowiki
-nodes_flat n before [] = refl
-nodes_flat n before (letters b bs ∷ ls) =
-    let l : Leaf = letters b bs in
-    ap (λ cs. cs ++ flat_of_all (nodes (next n before l) (behind before l) ls)) (chars_source (b ∷ bs))
-    ∙ ap (λ cs. (b ∷ bs) ++ cs) (nodes_flat (next n before l) (behind before l) ls)
-nodes_flat n before (reference c bs ∷ ls) =
-    let l : Leaf = reference c bs in
-    ap (λ cs. cs ++ flat_of_all (nodes (next n before l) (behind before l) ls)) (append-nil bs)
-    ∙ ap (λ cs. bs ++ cs) (nodes_flat (next n before l) (behind before l) ls)
-nodes_flat n before (guard ∷ ls) = ap (λ cs. nowiki ++ cs) (nodes_flat (next n before guard) (behind before guard) ls)
-
-leaf_items : (l : Leaf) → sources (tree_items (leaf_tree l)) ≡ leaf_source l
-unfolding nowiki
-leaf_items (letters b bs) = chars_source (b ∷ bs)
-leaf_items (reference c bs) = append-nil bs
-leaf_items guard = refl
-
-held_sources : (ls : List Leaf) → sources (held_by_all (forest (map leaf_tree ls))) ≡ flat_map leaf_source ls
-held_sources [] = refl
-held_sources (l ∷ ls) =
-    flat_map-append source (tree_items (leaf_tree l)) (held_by_all (forest (map leaf_tree ls)))
-    ∙ ap (λ cs. cs ++ sources (held_by_all (forest (map leaf_tree ls)))) (leaf_items l)
-    ∙ ap (λ cs. leaf_source l ++ cs) (held_sources ls)
-
 -- ---- nothing in them refuses an edit
 
-none_open : (n : ℕ) (before : List Item) (ls : List Leaf) → AreShut ls → any_ends_open (nodes n before ls) ≡ false
-unfolding label_at nowiki shape
-none_open n before [] h = refl
-none_open n before (letters b bs ∷ ls) h = none_open (next n before (letters b bs)) (behind before (letters b bs)) ls h
-none_open n before (reference c bs ∷ ls) h =
-    let l : Leaf = reference c bs in
-    ap (λ (o : Bool). o || any_ends_open (nodes (next n before l) (behind before l) ls)) (ap ends_open (append-nil bs) ∙ h.0)
-    ∙ none_open (next n before l) (behind before l) ls h.1
-none_open n before (guard ∷ ls) h = none_open (next n before guard) (behind before guard) ls h
-
-none_faulty : (items : Expanded) (n : ℕ) (before : List Item) (ls : List Leaf) → has_faulty_group items (nodes n before ls) ≡ false
+pub none_faulty : (items : Expanded) (n : ℕ) (before : List Item) (ls : List Leaf) → has_faulty_group items (nodes n before ls) ≡ false
 unfolding label_at shape
 none_faulty items n before [] = refl
 none_faulty items n before (letters b bs ∷ ls) = none_faulty items (next n before (letters b bs)) (behind before (letters b bs)) ls

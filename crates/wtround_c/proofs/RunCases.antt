@@ -29,4 +29,4 @@ no_more NoMemory e = cc
 
 -- so no call ends with 9
 never_nine : (c : Call) (before after : Option (List (List ℕ))) → Ran c 9 before after → ⊥
-never_nine c before after r = no_more _ (r.refused (λ e. no_more Done e) (λ e. no_more WriteFault e)).named
+never_nine c before after r = no_more _ (r.ends.refused (λ e. no_more Done e) (λ e. no_more WriteFault e)).named

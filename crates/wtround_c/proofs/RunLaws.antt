@@ -3,8 +3,12 @@ use Rattle.std.proofs.Common.{◌≡◌, ℕ, List, [], ap, subst}
 use Rattle.std.specs.Prelude.{Option, Some, None, IfSome}
 use Rattle.wtround_c.specs.declared.source.BufferSource.{BufferSource}
 use Rattle.wt_devices.specs.Device.{Pages}
+use Rattle.wt_pagetool.specs.declared.command.Command.{Command}
+use Rattle.wt_pagetool.specs.declared.command.Command.TheVariants.{Page, Expand, Edit, Selser, Gen, Wikitext}
+use Rattle.wt_pagetool.specs.Answers.{IsNoText}
 use Rattle.wt_pagetool.specs.Calls.{call}
 use Rattle.wt_pagetool.specs.Devices.{SourceUse, FolderUse, SinkUse}
+use Rattle.wt_pagetool.specs.Promises.{Waits}
 use Rattle.wtround_c.specs.Runs.{Ran, Answers, from_buffer, from_table, to_memory}
 
 abbrev source : Option (List ℕ) → List ℕ → SourceUse
@@ -15,6 +19,11 @@ folder pages before after = record { pages_before = pages; faults_before = befor
 
 abbrev sink : Option (List ℕ) → List ℕ → ℕ → ℕ → SinkUse
 sink taken bytes before after = record { taken_before = taken; taken_after = Some bytes; faults_before = before; faults_after = after }
+
+left_by : (p : Option Pages) (P : Pages → Type 0) (old new : BufferSource) → IfSome p (λ pages. P pages → new ≡ old)
+    → IfSome p (λ pages. P pages → Some new.left.now ≡ Some old.left.now)
+left_by None P old new h = tt
+left_by (Some pages) P old new h = λ it. ap (λ (s : BufferSource). Some s.left.now) (h it)
 
 pub of_library : (words : List (List ℕ)) (ended : ℕ)
     (l : Option (List ℕ)) (input left : List ℕ)
@@ -42,7 +51,12 @@ of_library words ended l input left p pages f ff t out o oo e line k kk b names 
     }
 
 -- where a source is as it was, it has left what it had
-pub waits_left : (p : Option Pages) (P : Pages → Type 0) (new old : BufferSource) → (IfSome p (λ pages. P pages → new ≡ old))
-    → IfSome p (λ pages. P pages → Some new.left.now ≡ Some old.left.now)
-waits_left None P new old h = h
-waits_left (Some pages) P new old h = λ it. ap (λ (s : BufferSource). Some s.left.now) (h it)
+pub waits_left : (command : Option Command) (p : Option Pages) (old new : BufferSource) → Waits command p old new
+    → Waits command p (Some old.left.now) (Some new.left.now)
+waits_left None p old new h = tt
+waits_left (Some (Page of title)) p old new h = tt
+waits_left (Some (Expand title)) p old new h = tt
+waits_left (Some (Edit title)) p old new h = left_by p (λ pages. IsNoText (pages title)) old new h
+waits_left (Some (Selser title)) p old new h = left_by p (λ pages. IsNoText (pages title)) old new h
+waits_left (Some (Gen n)) p old new h = tt
+waits_left (Some Wikitext) p old new h = tt

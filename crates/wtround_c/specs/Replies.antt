@@ -58,6 +58,10 @@ PutBy true told out line missing status =
 PutBy false told out line missing status =
     (status ≡ SHORT) × (out.after ≡ out.before) × (line.after ≡ line.before) × (missing.after ≡ missing.before)
 
+-- nothing is told of a text, and its room is as it was
+abbrev pub IsLeftAlone : Room → Type 0
+IsLeftAlone r = (r.needed ≡ 0) × (r.after ≡ r.before)
+
 pub record IsHandedBack (told : Told) (out line missing : Room) (status : ℕ) : Type 0 where
   pub out_needed : out.needed ≡ length told.out
   pub line_needed : line.needed ≡ length told.line

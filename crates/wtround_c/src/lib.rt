@@ -4,7 +4,7 @@
 ghost use Rattle.std.specs.Prelude.{◌≡◌, ◌⊎◌};
 ghost use Rattle.wt_pagetool.specs.Statuses.{code};
 ghost use Rattle.wt_pagetool.specs.declared.status.Status.TheVariants.{NoMemory as no_memory};
-ghost use Rattle.wtround_c.specs.Replies.{room, Told, IsTold, IsHandedBack};
+ghost use Rattle.wtround_c.specs.Replies.{room, Told, IsTold, IsHandedBack, IsLeftAlone};
 
 mod folder;
 mod index;
@@ -46,7 +46,9 @@ pub extern "C" fn wtround_proved_answer(
 ) -> u8
     ensures { ((told : Told) × IsTold words.now input.now pages.now told
         × IsHandedBack told (room out.old out.new out_length.new) (room line.old line.new line_length.new)
-        (room missing.old missing.new missing_length.new) result) ⊎ (result ≡ code no_memory) }
+        (room missing.old missing.new missing_length.new) result) ⊎ ((result ≡ code no_memory)
+        × IsLeftAlone (room out.old out.new out_length.new) × IsLeftAlone (room line.old line.new line_length.new)
+        × IsLeftAlone (room missing.old missing.new missing_length.new)) }
 {
     *out_length = 0;
     *line_length = 0;

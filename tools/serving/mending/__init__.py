@@ -12,12 +12,14 @@ from .original import Original
 
 __all__ = ["marked", "mended"]
 
+RETURN = "&#13;"  # as wtround writes a carriage return of a page
+
 
 def marked(document: str, page: str) -> str:
     """The document of an edited page, mended, with the marks that `edit` asks for. `page` is its HTML as
     wtround wrote it. Raises Refusal."""
     original = Original(read_body(page))
-    body = Mender(original).page(read_body(document))
+    body = Mender(original).page(read_body(document, RETURN in page))
     add_marks(body, original)
     return written(body)
 
@@ -25,5 +27,6 @@ def marked(document: str, page: str) -> str:
 def mended(document: str, page: Optional[str] = None) -> str:
     """The document of a page, mended. `page` is its HTML as wtround wrote it, where that is known. Raises
     Refusal."""
-    original = Original(read_body(page)) if page is not None else None
-    return written(Mender(original).page(read_body(document)))
+    if page is None:
+        return written(Mender(None).page(read_body(document)))
+    return written(Mender(Original(read_body(page))).page(read_body(document, RETURN in page)))

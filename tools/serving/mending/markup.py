@@ -261,12 +261,12 @@ def of_number(digits: str, base: int) -> str:
     return "\ufffd" if number > 0x10FFFF or 0xD800 <= number <= 0xDFFF else chr(number)
 
 
-def read_body(document: str) -> Element:
+def read_body(document: str, has_returns: bool = False) -> Element:
     """The body of a document, or of a part of one, as an element `body`. Line breaks of two characters become
-    one."""
+    one, unless the page itself `has_returns`, which browsers write as they are."""
     if document.startswith("\ufeff"):
         document = document[1:]
-    if "\r" in document:
+    if "\r" in document and not has_returns:
         document = document.replace("\r\n", "\n").replace("\r", "\n")
     root = Reader(document).read()
     top = next((e for e in root.elements() if e.name == "html"), root)

@@ -9,11 +9,11 @@ import re
 from typing import Callable, Dict, Iterable, List, Optional, Set
 
 from .kinds import (
-    ATTRIBUTES, CELLS, ITEMS, LINES, LISTS, TABLE_ATTRIBUTES, TAGS, is_blank, is_block, is_block_name,
-    is_hidden_name, is_island, name_of,
+    ATTRIBUTES, CELLS, ITEMS, LINES, LISTS, TAGS, hidden_kind, is_blank, is_block, is_block_name,
+    is_hidden_name, is_island, is_mark, may_have, name_of,
 )  # fmt: skip
 from .lines import drop_empty_lines
-from .links import link_target
+from .links import link_target, with_edges_outside
 from .markup import Child, Element
 from .original import Kept, Original, kind_of
 from .strays import put_back
@@ -24,8 +24,6 @@ Pieces = List[Child]
 NOT_WHITE = re.compile("[^ \t\n\r]")
 ITALIC = re.compile(r"font-style:\s*(?:italic|oblique)", re.IGNORECASE)
 BOLD = re.compile(r"font-weight:\s*(?:bold|[6-9]00)", re.IGNORECASE)
-SECTION_ATTRIBUTE = re.compile("[a-z][a-z0-9:-]*")
-EDGE = " \t\n\u00a0"
 
 
 class Mender:
@@ -35,6 +33,8 @@ class Mender:
         self.original = original
         self._owners: Dict[int, Element] = {}  # which element has a number, of several that have it
         self._in_link = False
+        # The kinds of the page's categories, switches and the like that are still there.
+        self._hidden_kinds: Optional[Set[str]] = None
 
     def page(self, root: Element) -> Element:
         """The body of the page that stands in this element."""
@@ -378,7 +378,8 @@ class Mender:
         """A `span` with a `typeof`: an entity, a nowiki, an island."""
         kind = element.get("typeof")
         if is_island(element.get):
-            return [self._part(element, "span", []), *self._inline(element.children)]
+            island = self._part(element, "span", [])
+            return [island, *self._inline(element.children)] if self._number_of(element) != 0 else [island]
         if self._number_of(element) == 0 or kind not in ("mw:Entity", "mw:Nowiki"):
             return self._inline(element.children)
         part = self._part(element, "span", self._inline(element.children))
@@ -408,10 +409,20 @@ class Mender:
         return part.children if found is None else found
 
     def _hidden(self, element: Element, name: str) -> Pieces:
-        """A comment, an include tag, a skip, a switch, a category: those of the page alone."""
+        """A comment, an include tag, a skip, a switch, a category: those of the page; and of new ones what
+        the program refuses by name, and not passes over."""
         is_ours = any(element.get(key).startswith("mw:") for key in ("typeof", "property", "rel"))
+        part = self._part(element, name, [])
         is_kept = self.original is None or self._number_of(element) != 0
-        return [self._part(element, name, [])] if is_ours and is_kept else []
+        return [part] if is_ours and (is_kept or not (is_mark(part) or self._is_copy(part))) else []
+
+    def _is_copy(self, part: Element) -> bool:
+        """Whether the page has such a category or switch as this new one, which is still there."""
+        if self._hidden_kinds is None:
+            nodes = self.original.nodes if self.original is not None else {}
+            parts = [nodes[number].part for number in self._owners if number in nodes]
+            self._hidden_kinds = {hidden_kind(part) for part in parts if is_hidden_name(part.name)}
+        return hidden_kind(part) in self._hidden_kinds
 
     def _as_it_stands(self, element: Element, name: str) -> Element:
         """A group or a part of one: nothing in it is mended."""
@@ -489,19 +500,6 @@ def is_hollow(element: Element) -> bool:
     return is_blank(element.text()) and not any("id" in inner.attributes for inner in element.walk())
 
 
-def may_have(name: str, attribute: str) -> bool:
-    """Whether a new element may have an attribute."""
-    if name in ("table", "tr", "td", "th"):
-        return attribute in TABLE_ATTRIBUTES
-    if name == "span":
-        return attribute in ("typeof", "data-mw")
-    if name in ("meta", "link"):
-        return attribute in ATTRIBUTES
-    if name == "section":
-        return bool(SECTION_ATTRIBUTE.fullmatch(attribute)) and attribute != "data-wt-edit"
-    return name == "body" and attribute == "data-parsoid"
-
-
 def with_entity(pieces: Pieces, character: str, entity: Element) -> Optional[Pieces]:
     """What stands in an entity, with the entity itself in place of its character; nothing where that isn't
     there."""
@@ -522,23 +520,4 @@ def cut_at(text: str, character: str, entity: Element) -> Optional[Pieces]:
     if not found:
         return None
     pieces: Pieces = [before, entity, behind]
-    return [piece for piece in pieces if piece != ""]
-
-
-def with_edges_outside(link: Element, was: str) -> Pieces:
-    """Blanks at a link's edges that the page's link hadn't stand outside it."""
-    front = back = ""
-    children = link.children
-    if children and isinstance(children[0], str) and not was[:1].isspace():
-        text = children[0]
-        front = text[: len(text) - len(text.lstrip(EDGE))]
-        children[0] = text[len(front) :]
-    if children and isinstance(children[-1], str) and not was[-1:].isspace():
-        text = children[-1]
-        back = text[len(text.rstrip(EDGE)) :]
-        children[-1] = text[: len(text) - len(back)]
-    link.children = [piece for piece in children if piece != ""]
-    if is_empty(link.children):
-        return [front + back]
-    pieces: Pieces = [front, link, back]
     return [piece for piece in pieces if piece != ""]

@@ -1,10 +1,14 @@
 """A page as it was opened: its nodes by their numbers, to compare with what an editor made of them."""
 from __future__ import annotations
 
-from typing import Callable, Dict, Optional
+import re
+from typing import Callable, Dict, Optional, Set
 
 from .kinds import is_block
 from .markup import Element
+
+# What browsers and editors put into a text beside what is typed, and what may be pasted.
+PUT_SIGNS = re.compile("[\r\u00a0\u200b\ufeff\v\f]")
 
 
 def kind_of(name: str, value: Callable[[str], str]) -> str:
@@ -35,7 +39,17 @@ class Original:
     def __init__(self, page: Element) -> None:
         self.page = page
         self.nodes: Dict[int, Kept] = {}
+        self._signs: Optional[Set[str]] = None  # those of the page's text, each between its neighbours
         self._collect(page, None)
+
+    def has_sign(self, three: str) -> bool:
+        """Whether the page's text has a no-break space, a carriage return or a sign without a width between
+        the same two characters. `three` is the sign between its neighbours."""
+        if self._signs is None:
+            text = self.page.text()
+            places = (found.start() for found in PUT_SIGNS.finditer(text))
+            self._signs = {text[max(at - 1, 0) : at + 2] for at in places}
+        return three in self._signs
 
     def _collect(self, part: Element, parent: Optional[Kept]) -> None:
         for at, child in enumerate(part.children):

@@ -7,9 +7,12 @@ from typing import Iterable, Iterator, List, Optional, Tuple
 
 from .kinds import ITEMS, is_blank, is_block, is_hidden_name, is_island
 from .markup import Child, Element
-from .original import Kept, Original
+from .original import PUT_SIGNS, Kept, Original
 
 WHITE = " \t\n"
+# What becomes of signs that browsers and editors put.
+MENDED = {"\r": "\n", "\u00a0": " ", "\u200b": "", "\ufeff": "", "\v": " ", "\f": " "}
+PUT = re.compile("\r\n|[\r\u00a0\u200b\ufeff\v\f]")
 
 
 def append(pieces: List[Child], piece: Child) -> None:
@@ -63,7 +66,7 @@ def tidy(block: Element, original: Optional[Original]) -> Element:
     lead = block.children[:end] if end >= 0 else block.children[:]
     drop_last_break(lead, end >= 0)
     was = kept.part.text() if kept is not None else ""
-    Texts(was, block.text()).mend(block, lead)
+    Texts(was, block.text(), original).mend(block, lead)
     trim_edges(block, lead, kept, was)
     block.children = [piece for piece in lead if piece != ""] + (block.children[end:] if end >= 0 else [])
     return block
@@ -101,18 +104,19 @@ class Texts:
     white space is put back: browsers put no-break spaces for blanks, and blanks for line breaks, next to what
     is typed."""
 
-    def __init__(self, was: str, now: str) -> None:
+    def __init__(self, was: str, now: str, original: Optional[Original]) -> None:
         most = min(len(was), len(now))
         back = count_same(zip(reversed(was), reversed(now)), most)
         front = count_same(zip(was, now), most - back)
         self._was = was
+        self._now = now
+        self._original = original
         self._from = front
         self._to = len(now) - back
         self._longer = len(now) - len(was)
         self._at = 0  # where in the block's text the next piece begins
-        changed = was[front : len(was) - back]
-        self._has_no_breaks = "\u00a0" in changed
-        self._has_returns = "\r" in changed
+        # The signs that the page has in what was changed.
+        self._signs = set(PUT_SIGNS.findall(was[front : len(was) - back]))
 
     def mend(self, block: Element, lead: List[Child]) -> None:
         self._pieces(lead, block.name in ("p", "pre"), False)
@@ -145,17 +149,24 @@ class Texts:
         end = min(max(self._to, start), last)
         front = self._was[first:start]
         back = self._was[end - self._longer : last - self._longer] if end < last else ""
-        return front + self._typed(text[start - first : end - first], is_paragraph) + back
+        return front + self._typed(start, end, is_paragraph) + back
 
-    def _typed(self, text: str, is_paragraph: bool) -> str:
-        """`text` is what was typed or pasted."""
-        mended = re.sub("[\u200b\ufeff]", "", text)
-        mended = re.sub("[\v\f]", " ", mended)
-        if not self._has_returns:
-            mended = re.sub("\r\n?", "\n", mended)
-        if not self._has_no_breaks:
-            mended = mended.replace("\u00a0", " ")
+    def _typed(self, start: int, end: int, is_paragraph: bool) -> str:
+        """What was typed or pasted from a place of the block's text to another."""
+
+        def put(found: "re.Match[str]") -> str:
+            return found[0] if self._is_of_page(start + found.start()) else MENDED[found[0][0]]
+
+        mended = PUT.sub(put, self._now[start:end])
         return re.sub("\n(?:[ \t]*\n)+", "\n", mended) if is_paragraph else re.sub("\n+", " ", mended)
+
+    def _is_of_page(self, at: int) -> bool:
+        """Whether the sign at a place of the block's text stays: the page has one in what was changed, or
+        between the same characters anywhere, as where the text was moved into a new block."""
+        if self._now[at] in self._signs:
+            return True
+        three = self._now[max(at - 1, 0) : at + 2]
+        return self._original is not None and self._original.has_sign(three)
 
 
 def without_trails(text: str) -> str:

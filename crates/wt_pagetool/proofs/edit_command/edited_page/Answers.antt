@@ -3,6 +3,7 @@ use Rattle.wt_pagetool.specs.Answers.{IsText}
 use Rattle.wt_transclusion.proofs.AskedLaws.{asks_then}
 use Rattle.wt_pagetool.proofs.AskedLaws.{edit_names_under, edit_unfetched, edit_untexted, reads_text, waits}
 use Rattle.wt_pagetool.proofs.EditLaws.{edited_title}
+use Rattle.wt_pagetool.proofs.FaultLaws.{fetched_alone, kept_alone, unfetched_alone, unread_stops}
 use Rattle.wt_pagetool.proofs.edit_command.edited_page.Goals as goal
 
 pub returns-clause-answered : goal.returns-clause-answered
@@ -53,3 +54,32 @@ returns-clause-asks g c =
     asks_then (d.answered c.args.folder.now) (d.answered c.fetched_page.new.folder) (d.answered c.edit_of_text.new.folder)
     (d.most_asked c.args.folder.now) (d.most_asked c.fetched_page.new.folder) (d.most_asked c.edit_of_text.new.folder)
     c.in_ok-page.ensures.asks c.edit_of_text.ensures.asks
+
+pub returns-in_err-page-clause-alone : goal.returns-in_err-page-clause-alone
+returns-in_err-page-clause-alone g c =
+    let d = g.F.Folder in
+    let e : c.from_residual.result ≡ Err c.in_err-page.field-0.0 = search rules in
+    unfetched_alone c.from_residual.result c.in_err-page.field-0.0 (g.S.Source.fault_count c.args.input.now) (d.fault_count c.args.folder.now)
+    (d.fault_count c.fetched_page.new.folder) e c.in_err-page.ensures.of_title
+
+pub returns-in_err-text-clause-alone : goal.returns-in_err-text-clause-alone
+returns-in_err-text-clause-alone g c =
+    let d = g.F.Folder in
+    kept_alone _ (g.S.Source.fault_count c.args.input.now) (d.fault_count c.args.folder.now) (d.fault_count c.fetched_page.new.folder)
+    (c.in_ok-page.ensures.kept tt)
+
+pub returns-clause-alone : goal.returns-clause-alone
+returns-clause-alone g c =
+    let d = g.F.Folder in
+    fetched_alone _ (g.S.Source.fault_count c.args.input.now) (g.S.Source.fault_count c.edit_of_text.new.input)
+    (d.fault_count c.args.folder.now) (d.fault_count c.fetched_page.new.folder) (d.fault_count c.edit_of_text.new.folder)
+    (c.in_ok-page.ensures.kept tt) c.edit_of_text.ensures.alone
+
+pub returns-in_err-page-clause-stops : goal.returns-in_err-page-clause-stops
+returns-in_err-page-clause-stops g c = unread_stops c.from_residual.result (g.S.Source.left c.args.input.now)
+
+pub returns-in_err-text-clause-stops : goal.returns-in_err-text-clause-stops
+returns-in_err-text-clause-stops g c = unread_stops c.from_residual-in_err-text.result (g.S.Source.left c.args.input.now)
+
+pub returns-clause-stops : goal.returns-clause-stops
+returns-clause-stops g c = c.edit_of_text.ensures.stops

@@ -1,6 +1,6 @@
 use Rattle.std.proofs.Common.{ap}
 use Rattle.std.specs.Prelude.{Some}
-use Rattle.wt_pagetool.specs.Answers.{IsNoText}
+use Rattle.wt_pagetool.specs.Words.{command_of}
 use Rattle.wtround_c.specs.Indexes.{entries_of}
 use Rattle.wtround_c.specs.Tables.{pages_of}
 use Rattle.wtround_c.proofs.RunLaws.{of_library, waits_left}
@@ -20,25 +20,14 @@ returns c =
     (ap Some c.new-line.ensures.bytes) c.new-line.ensures.faults
     c.new-folder.ensures.answered
     (record {
-      page = h.page;
-      expansion = h.expansion;
-      wikitext = h.wikitext;
-      edit = h.edit;
-      counted = h.counted;
+      wrote = h.wrote;
       gives_back = h.gives_back;
-      changes_nothing = h.changes_nothing;
-      exact = h.exact;
-      done = h.done;
-      refused = h.refused;
-      write_fault = h.write_fault;
-      complete = h.complete;
-      kept = h.kept;
-      first_names = h.first_names;
-      all_names = h.all_names;
-      fewer_names = h.fewer_names;
-      takes = h.takes;
-      waits = λ title is. waits_left (Some (pages_of (entries_of c.new-folder.result.index.now))) (λ pages. IsNoText (pages title))
-          c.run-status.new.input c.new-source.result (h.waits title is);
+      ends_as_edit = h.ends_as_edit;
+      ends = h.ends;
+      asks_for = h.asks_for;
+      reads = h.reads;
+      waits = waits_left (command_of c.args.words.now) (Some (pages_of (entries_of c.new-folder.result.index.now)))
+          c.new-source.result c.run-status.new.input h.waits;
       unread = λ no. ap (λ s. Some s.left.now) (h.unread no);
       unasked = λ no. ap (λ f. Some f.answered) (h.unasked no);
     })

@@ -1,0 +1,314 @@
+//! Characters that stay as they were typed where they mean nothing, though `edit` writes references for them: it takes
+//! a typed piece for a whole text, and some characters for signs wherever they stand.
+
+use crate::joints::{copy_of, role_of, source_of, units_from};
+use crate::texts::push_letters;
+use std::alloc::Global;
+use wt_guards::{Place, Role, Thing, Unit};
+use wt_span::{NoMemory, Str};
+
+// ---- what is beside a character
+
+/// What is beside a place: the end of what is written, a byte, or what may begin and end with any.
+#[derive(Clone, Copy)]
+enum Beside {
+    Edge,
+    Byte(u8),
+    Unknown,
+}
+
+impl Beside {
+    fn is_known(self) -> bool {
+        !matches!(self, Beside::Unknown)
+    }
+
+    fn is(self, byte: u8) -> bool {
+        match self {
+            Beside::Byte(found) => found == byte,
+            Beside::Edge | Beside::Unknown => false,
+        }
+    }
+}
+
+/// What is passed over before the byte that is asked for.
+#[derive(Clone, Copy)]
+enum Passed {
+    Nothing,
+    Blanks,
+    Letters,
+}
+
+impl Passed {
+    fn has(self, byte: u8) -> bool {
+        match self {
+            Passed::Nothing => false,
+            Passed::Blanks => byte == b' ' || byte == b'\t',
+            Passed::Letters => byte.is_ascii_alphanumeric(),
+        }
+    }
+}
+
+/// Whether a unit may begin and end with any byte, or is no part of what is read as text.
+fn is_unknown(unit: &Unit<'_>) -> bool {
+    matches!(
+        role_of(unit),
+        Some(Role::Group(_) | Role::Mark { .. } | Role::Function | Role::Bare(_))
+    )
+}
+
+fn first_past(source: &[u8], passed: Passed) -> Option<u8> {
+    for byte in source {
+        if !passed.has(*byte) {
+            return Some(*byte);
+        }
+    }
+    None
+}
+
+fn ahead_in(units: &[Unit<'_>], passed: Passed) -> Beside {
+    for unit in units {
+        if is_unknown(unit) {
+            return Beside::Unknown;
+        }
+        if let Some(byte) = first_past(source_of(unit), passed) {
+            return Beside::Byte(byte);
+        }
+    }
+    Beside::Edge
+}
+
+fn last_of(unit: &Unit<'_>) -> Beside {
+    match source_of(unit).last() {
+        Some(byte) if !is_unknown(unit) => Beside::Byte(*byte),
+        _ => Beside::Unknown,
+    }
+}
+
+/// A text among the units, cut round one of its characters of one byte.
+#[derive(Clone, Copy)]
+struct Cut<'t, 'u, 'n> {
+    front: &'t [u8],
+    rest: &'t [u8],
+    before: Option<&'u Unit<'n>>,
+    units: &'u [Unit<'n>],
+}
+
+impl<'t, 'u, 'n> Cut<'t, 'u, 'n> {
+    fn behind(self) -> Beside {
+        match self.front.last() {
+            Some(byte) => Beside::Byte(*byte),
+            None => match self.before {
+                Some(unit) => last_of(unit),
+                None => Beside::Edge,
+            },
+        }
+    }
+
+    fn ahead(self, passed: Passed) -> Beside {
+        match first_past(self.rest, passed) {
+            Some(byte) => Beside::Byte(byte),
+            None => ahead_in(self.units, passed),
+        }
+    }
+
+    fn next(self) -> Beside {
+        self.ahead(Passed::Nothing)
+    }
+
+    /// Whether neither neighbour is this byte.
+    fn is_alone(self, byte: u8) -> bool {
+        let behind = self.behind();
+        let next = self.next();
+        behind.is_known() && next.is_known() && !behind.is(byte) && !next.is(byte)
+    }
+
+    /// Whether a line, or what is written, begins here.
+    fn begins_line(self) -> bool {
+        match self.behind() {
+            Beside::Byte(byte) => byte == b'\n',
+            Beside::Edge | Beside::Unknown => true,
+        }
+    }
+}
+
+// ---- the characters
+
+/// Whether `&` begins no reference: `;` doesn't end the letters behind it.
+fn is_plain_ampersand(cut: Cut<'_, '_, '_>) -> bool {
+    match cut.ahead(Passed::Letters) {
+        Beside::Edge => true,
+        Beside::Byte(byte) => byte != b';' && byte != b'#' && byte != b'{',
+        Beside::Unknown => false,
+    }
+}
+
+/// Whether `<` begins no tag.
+fn is_plain_angle(cut: Cut<'_, '_, '_>) -> bool {
+    match cut.next() {
+        Beside::Byte(byte) => {
+            !byte.is_ascii_alphabetic() && byte != b'/' && byte != b'!' && byte != b'{'
+        }
+        Beside::Edge | Beside::Unknown => false,
+    }
+}
+
+/// Whether `=` neither begins nor ends its line.
+fn is_plain_equals(cut: Cut<'_, '_, '_>) -> bool {
+    match cut.ahead(Passed::Blanks) {
+        Beside::Byte(byte) => byte != b'\n' && !cut.begins_line(),
+        Beside::Edge | Beside::Unknown => false,
+    }
+}
+
+/// Whether a bracket begins and ends no link, call, argument or table. (Behind `|` and at an edge a brace may make a
+/// table's sign or another paragraph's call.)
+fn is_plain_bracket(cut: Cut<'_, '_, '_>, byte: u8) -> bool {
+    let next = cut.next();
+    let behind = cut.behind();
+    cut.is_alone(byte)
+        && match byte {
+            b'[' => !next.is(b'{'),
+            b'{' => !next.is(b'|') && !matches!(next, Beside::Edge),
+            b'}' => !behind.is(b'|') && !matches!(behind, Beside::Edge),
+            _ => true,
+        }
+}
+
+/// Whether a character means nothing where it stands. In a link's text (`within`, which is that of a tag too) brackets
+/// may end the link.
+fn is_plain(within: bool, cut: Cut<'_, '_, '_>, byte: u8) -> bool {
+    match byte {
+        b'\'' => cut.is_alone(byte),
+        b'&' => is_plain_ampersand(cut),
+        b'<' => is_plain_angle(cut),
+        b'=' => is_plain_equals(cut),
+        b'[' | b']' | b'{' | b'}' => !within && is_plain_bracket(cut, byte),
+        _ => false,
+    }
+}
+
+/// Whether a blank at the end of an inside is shown there.
+fn shows_blanks(place: Option<Place>) -> bool {
+    matches!(
+        place,
+        Some(Place::Item | Place::Term | Place::Cell | Place::Header)
+    )
+}
+
+/// How many blanks end the inside at the end of its last text, behind something in their line.
+fn blanks_at_end(
+    place: Option<Place>,
+    bytes: &[u8],
+    before: Option<&Unit<'_>>,
+    units: &[Unit<'_>],
+) -> usize {
+    if !shows_blanks(place) || !units.is_empty() {
+        return 0;
+    }
+    let mut count: usize = 0;
+    let mut last = match before {
+        Some(unit) => last_of(unit),
+        None => Beside::Edge,
+    };
+    for byte in bytes {
+        if Passed::Blanks.has(*byte) {
+            count = count.saturating_add(1);
+        } else {
+            count = 0;
+            last = Beside::Byte(*byte);
+        }
+    }
+    match last {
+        Beside::Byte(byte) if byte != b'\n' => count,
+        _ => 0,
+    }
+}
+
+// ---- texts
+
+fn from(bytes: &[u8], at: usize) -> &[u8] {
+    if at <= bytes.len() { &bytes[at..] } else { &[] }
+}
+
+fn up_to(bytes: &[u8], at: usize) -> &[u8] {
+    if at <= bytes.len() {
+        &bytes[..at]
+    } else {
+        bytes
+    }
+}
+
+/// A text between two of its places.
+fn piece(text: &str, start: usize, end: usize) -> &str {
+    let (front, _) = text.split_at_checked(end).unwrap_or((text, ""));
+    let (_, rest) = front.split_at_checked(start).unwrap_or((front, ""));
+    rest
+}
+
+fn push_plain(alloc: Global, out: &mut Vec<Unit<'_>>, text: &str) -> Result<(), NoMemory> {
+    let source = Str::copy_of(alloc, text)?;
+    out.push(Unit::Thing(Thing {
+        role: Role::Node,
+        source,
+        place: None,
+    }))?;
+    Ok(())
+}
+
+/// Appends a text with its plain characters as they are.
+fn push_text<'u, 'n>(
+    alloc: Global,
+    out: &mut Vec<Unit<'n>>,
+    place: Option<Place>,
+    text: &'n str,
+    before: Option<&'u Unit<'n>>,
+    units: &'u [Unit<'n>],
+) -> Result<(), NoMemory> {
+    let bytes = text.as_bytes();
+    let mut start = 0;
+    for at in 0..bytes.len() {
+        let byte = bytes[at];
+        let cut = Cut {
+            front: up_to(bytes, at),
+            rest: from(bytes, at.saturating_add(1)),
+            before,
+            units,
+        };
+        if is_plain(place.is_none(), cut, byte) {
+            let end = at.saturating_add(1);
+            push_letters(out, piece(text, start, at))?;
+            push_plain(alloc, out, piece(text, at, end))?;
+            start = end;
+        }
+    }
+    let blanks = blanks_at_end(place, bytes, before, units);
+    let end = bytes.len().saturating_sub(blanks);
+    push_letters(out, piece(text, start, end))?;
+    if blanks == 0 {
+        return Ok(());
+    }
+    push_plain(alloc, out, piece(text, end, bytes.len()))
+}
+
+/// The units with the characters of new texts apart that stay as they were typed; `place` is that of the inside, None
+/// in a link or tag.
+pub fn with_plain<'n>(
+    alloc: Global,
+    place: Option<Place>,
+    units: &[Unit<'n>],
+) -> Result<Vec<Unit<'n>>, NoMemory> {
+    let mut out = Vec::new(alloc);
+    let mut before = None;
+    for at in 0..units.len() {
+        let unit = &units[at];
+        match unit {
+            Unit::Text(text) => {
+                let behind = units_from(units, at + 1);
+                push_text(alloc, &mut out, place, *text, before, behind)?;
+            }
+            Unit::Copied(_) | Unit::Thing(_) => out.push(copy_of(alloc, unit)?)?,
+        }
+        before = Some(unit);
+    }
+    Ok(out)
+}

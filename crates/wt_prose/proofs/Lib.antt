@@ -1,0 +1,11 @@
+pub mod InFront
+pub mod ProseReading
+pub mod ProseLines
+pub mod ProseBlocks
+pub mod ProseTrees
+pub mod ProseTexts
+pub mod BlockFacts
+pub mod ProseFacts
+pub mod ProseTakes
+pub mod ProseUnmarked
+mod Cases

@@ -1,0 +1,4 @@
+pub mod ProsePages
+pub mod ProseTrees
+pub mod ProseEdits
+pub mod ProseUnmarked

@@ -1,0 +1,110 @@
+-- Worked cases, by computing: the page of a paragraph, an empty line and a heading, in which texts are typed.
+use Rattle.std.proofs.Common.{◌≡◌, ℕ, List, [], ◌∷◌, refl}
+use Rattle.std.specs.Prelude.{None, Some, codes}
+use Rattle.std.specs.Fmt.{digits}
+use Rattle.std.specs.Str.{chars}
+use Rattle.wt_tree.specs.declared.kind.Kind.{Kind}
+use Rattle.wt_tree.specs.declared.kind.Kind.TheVariants as kind
+use Rattle.wt_tree.specs.declared.kind.Mark.TheVariants as marks
+use Rattle.wt_tree.specs.Plain.{ended, along, text, element}
+use Rattle.wt_tree.specs.Source.{flat_of_all}
+use Rattle.wt_tree.specs.Tree.{Label, Tree, tree, Trees, none, more}
+use Rattle.wt_guards.specs.Guards.{nowiki, is_guarded, is_between_guard, is_start_guard, is_end_guard, is_blank_guard, is_parted}
+use Rattle.wt_guards.specs.Letters.{is_escaped, reference}
+use Rattle.wt_guards.specs.Table.{hazard, line_start_hazard}
+use Rattle.wt_typed_blocks.specs.Sent.{StandsAsIs, paragraph, heading, Sent, stands, typed, old_children, all_show}
+use Rattle.wt_typed_blocks.specs.Typed.{new_sources, TakeTexts, StandAt}
+use Rattle.wt_typed_blocks.specs.Unmarked.{AreToldApart}
+
+abbrev a_label : Kind → ℕ → ℕ → ℕ → ℕ → List ℕ → List ℕ → Label
+a_label k id start end width sign own = record {
+  kind = k;
+  id = id;
+  ranges = Some (record { start = start; end = end; open_w = width; close_w = width });
+  opening = sign;
+  closing = sign;
+  own = own;
+  shown = own;
+  attrs = [];
+  origin = None;
+  mark = marks.Nothing;
+  mw = None;
+}
+
+-- as it is sent: it tells nothing of its place
+abbrev sent_label : Kind → ℕ → List ℕ → Label
+sent_label k id shown = record (a_label k id 0 0 0 [] shown) { ranges = None; own = [] }
+
+abbrev words : ℕ → ℕ → List ℕ → Trees
+words start end bs = more (tree (a_label kind.Text 0 start end 0 [] bs) none) none
+
+abbrev sent_words : List ℕ → Trees
+sent_words bs = more (tree (sent_label kind.Text 0 bs) none) none
+
+-- ---- the page `a b`, an empty line, `==c==`
+
+abbrev first_block : Label
+first_block = a_label kind.Para 1 0 3 0 [] []
+
+abbrev line : Tree
+line = tree (a_label kind.Sep 0 3 5 0 [] (codes "\n\n")) none
+
+abbrev second_block : Label
+second_block = a_label (kind.Heading 2) 2 5 10 2 (codes "==") []
+
+abbrev gap : Sent
+gap = stands line (tree (sent_label kind.Sep 0 (codes "\n\n")) none)
+
+abbrev as_paragraph : List ℕ → Sent
+as_paragraph bs = typed paragraph first_block (words 0 3 (codes "a b")) (sent_label kind.Para 0 []) (sent_label kind.Text 0 []) bs
+
+abbrev as_heading : List ℕ → Sent
+as_heading bs = typed (heading 2) second_block (words 7 8 (codes "c")) (sent_label (kind.Heading 2) 0 []) (sent_label kind.Text 0 []) bs
+
+-- `[d]` is typed in the paragraph, and the heading is sent as it stands
+abbrev one_typed : List Sent
+one_typed = as_paragraph (codes "[d]") ∷ gap
+    ∷ stands (tree second_block (words 7 8 (codes "c"))) (tree (sent_label (kind.Heading 2) 2 []) (sent_words (codes "c"))) ∷ []
+
+one_page : flat_of_all (old_children one_typed) ≡ codes "a b\n\n==c=="
+one_page = refl
+
+one_new_page : new_sources one_typed ≡ codes "&#91;d&#93;\n\n==c=="
+unfolding is_guarded is_between_guard is_start_guard is_end_guard is_blank_guard is_parted hazard line_start_hazard nowiki is_escaped reference digits chars lib.Utf8.encode
+one_new_page = refl
+
+one_place : StandAt 0 one_typed
+one_place = (refl, tt)
+
+one_shows : all_show one_typed
+    ≡ along (element (record { kind = kind.Para; attrs = []; mw = None }) (along (text (codes "[d]")) ended))
+    (along (element (record { kind = kind.Heading 2; attrs = []; mw = None }) (along (text (codes "c")) ended)) ended)
+one_shows = refl
+
+-- nothing is typed in the paragraph, and `[d]` in the heading
+both_typed : new_sources (as_paragraph [] ∷ gap ∷ as_heading (codes "[d]") ∷ []) ≡ codes "<nowiki/>\n\n==&#91;d&#93;=="
+unfolding is_guarded is_between_guard is_start_guard is_end_guard is_blank_guard is_parted hazard line_start_hazard nowiki is_escaped reference digits chars lib.Utf8.encode
+both_typed = refl
+
+both_places : StandAt 0 (as_paragraph [] ∷ gap ∷ as_heading (codes "[d]") ∷ [])
+both_places = (refl, (refl, tt))
+
+-- a heading takes no line break
+two_lines : TakeTexts (as_heading (codes "d\ne") ∷ []) → ⊥
+two_lines h = let e = h.0 in absurd (cc)
+
+-- a heading isn't sent as it stands where its text isn't in it
+other_text : StandsAsIs (tree second_block (words 7 8 (codes "c"))) (tree (sent_label (kind.Heading 2) 2 []) (sent_words [])) → ⊥
+other_text h = let e : [] ≡ codes "c" = h.1.0.0.shown refl in absurd (cc)
+
+-- nor where a mark stands on it
+marked : StandsAsIs line (tree (record (sent_label kind.Sep 0 []) { mark = marks.Content }) none) → ⊥
+marked h = let e = h.0.unmarked in absurd (cc)
+
+-- Without marks the difference tells the paragraph apart from the heading, which is the page's own.
+one_apart : AreToldApart one_typed
+one_apart = (refl, ((record { id = refl; kind = refl; attrs = refl; mw = refl; shown = refl }, tt), ((record { id = refl; kind = refl; attrs = refl; mw = refl; shown = refl }, ((record { id = refl; kind = refl; attrs = refl; mw = refl; shown = refl }, tt), tt)), tt)))
+
+-- where the page's own text is typed there is no difference
+same_text : AreToldApart (as_paragraph (codes "a b") ∷ []) → ⊥
+same_text h = let e = h.0 in absurd (cc)

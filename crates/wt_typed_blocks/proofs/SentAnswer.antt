@@ -1,0 +1,46 @@
+-- The answer to such an edit: it is never refused, unless the new page is longer than a page may be.
+use Rattle.std.proofs.Common.{arith, ◌≡◌, ℕ, ◌≤◌, Bool, false, List, length, ap, ◌∙◌}
+use Rattle.std.specs.Prelude.{Option, Ok, Err, option_map, nat_lt, if◌then◌else◌}
+use Rattle.std.proofs.lemmas.Bool.Decides.{nat_tests}
+use Rattle.wt_span.specs.Origins.{Expanded}
+use Rattle.wt_tree.specs.Source.{flat_of_all}
+use Rattle.wt_tree.specs.Tiling.{NoneIsGroup, InPreorder}
+use Rattle.wt_tree.specs.Tree.{Label, Tree}
+use Rattle.wt_checks.specs.declared.refusal.TreeRefusal.{TreeRefusal}
+use Rattle.wt_checks.specs.Places.{is_content, page_of}
+use Rattle.wt_checks.specs.PutBack.{have_frame}
+use Rattle.wt_selser.specs.BodySlices.{slices}
+use Rattle.wt_selser.specs.Changes.{Pair, marked}
+use Rattle.wt_selser.specs.declared.refusal.EditRefusal.{EditRefusal}
+use Rattle.wt_selser.specs.declared.refusal.EditRefusal.TheVariants as refusal
+use Rattle.wt_selser.specs.Edits.{most_bytes, if_short, unless_refused, pairs_answer, edit_answer}
+use Rattle.wt_selser.specs.Splice.{spliced}
+use Rattle.wt_typed_blocks.specs.Sent.{Sent, old_children, AreSent, old_body, new_body}
+use Rattle.wt_typed_blocks.specs.Typed.{new_sources, TakeTexts, StandAt, AreUntangled}
+use Rattle.wt_typed_blocks.proofs.SentKept.{found, passes}
+use Rattle.wt_typed_blocks.proofs.SentSlices.{Same, pairs_of, changes_of, marked_are, slices_are, none_refused}
+use Rattle.wt_typed_blocks.proofs.SentSpliced.{spliced_is}
+
+slices_of_body : (same : Same) (l b : Label) (ss : List Sent) → InPreorder (old_body l ss) → have_frame (old_children ss) ≡ false → AreSent ss
+    → slices same (old_body l ss) (new_body l b ss) ≡ changes_of same ss
+slices_of_body same l b ss pre f h = slices_are same (page_of (old_body l ss)) 0 (is_content l.mark) ss h (found l ss pre)
+
+not_longer : (n m : ℕ) → n ≤ m → nat_lt m n ≡ false
+not_longer n m h = grind (arith, nat_tests)
+
+short : (new : List ℕ) → length new ≤ most_bytes → if_short new ≡ Ok new
+short new h = ap (λ (t : Bool). if t then Err refusal.NewPageTooLong else Ok new) (not_longer (length new) most_bytes h)
+
+pub answer_is : (same : Same) (items : Expanded) (page : List ℕ) (l b : Label) (ss : List Sent) → InPreorder (old_body l ss) → NoneIsGroup (old_children ss)
+    → have_frame (old_children ss) ≡ false → AreSent ss → TakeTexts ss → AreUntangled items page ss → page ≡ flat_of_all (old_children ss) → StandAt 0 ss
+    → length (new_sources ss) ≤ most_bytes → edit_answer same items page (old_body l ss) (new_body l b ss) ≡ Ok (new_sources ss)
+unfolding edit_answer
+answer_is same items page l b ss pre g f h t a is at le =
+    let old : Tree = old_body l ss in
+    let new : Tree = new_body l b ss in
+    ap (λ (c : Option TreeRefusal). unless_refused (option_map refusal.Check c) (pairs_answer same items page (marked old new) (slices same old new)))
+    (passes l b ss pre g f h)
+    ∙ ap (λ (ps : List Pair). pairs_answer same items page ps (slices same old new)) (marked_are l b ss h (found l ss pre))
+    ∙ ap (pairs_answer same items page (pairs_of ss)) (slices_of_body same l b ss pre f h)
+    ∙ ap (λ (r : Option EditRefusal). unless_refused r (if_short (spliced page (changes_of same ss)))) (none_refused same items page ss t a)
+    ∙ ap if_short (spliced_is same page ss is at) ∙ short (new_sources ss) le

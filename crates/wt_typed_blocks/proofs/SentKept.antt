@@ -1,0 +1,305 @@
+-- An edit that types texts in blocks and sends all else as it stands passes the checks.
+use Rattle.std.proofs.Common.{◌≡◌, ℕ, Bool, true, false, List, [], ◌∷◌, ◌++◌, refl, sym, ap, ◌∙◌, subst, inl, inr}
+use Rattle.std.specs.Prelude.{◌==◌, ◌&&◌, ◌||◌, not, if◌then◌else◌, Option, Some, None, MatchOption}
+use Rattle.std.specs.List.{AllByRecursion}
+use Rattle.wt_tree.specs.declared.kind.Kind.{Kind}
+use Rattle.wt_tree.specs.declared.kind.Kind.TheVariants as kind
+use Rattle.wt_tree.specs.declared.kind.Mark.TheVariants as marks
+use Rattle.wt_tree.specs.declared.kind.Showing.TheVariants.{Characters}
+use Rattle.wt_tree.specs.Kinds.{showing, writing}
+use Rattle.wt_tree.specs.Tiling.{is_group, HasNoGroup, NoneIsGroup, InPreorder}
+use Rattle.wt_tree.specs.Tree.{Label, Tree, tree, Trees, none, more, label}
+use Rattle.wt_checks.specs.Checked.{checked}
+use Rattle.wt_checks.specs.Groups.{is_marked}
+use Rattle.wt_checks.specs.Kept.{IsSublist, kept_under, InOrder, GroupAsItWas, HoldsTheSame, NodeAsItWas, GroupKept, NodeKept, MarkKept, Kept}
+use Rattle.wt_checks.specs.Marks.{editing, allows}
+use Rattle.wt_checks.specs.Places.{Place, placed, all_placed, places, number, kind_at, is_kept, is_body, is_content, Page, page_of, parent_below}
+use Rattle.wt_checks.specs.PutBack.{is_frame, has_frame, have_frame}
+use Rattle.wt_checks.specs.Unmarked.{Entry, text as entry_text, child as entry_child, is_compared, entry_by, entry, entries, own_character}
+use Rattle.wt_checks.proofs.Found.{Itself, each_itself, found_has, found_root}
+use Rattle.wt_checks.proofs.Frames.{no_frame, bare_root}
+use Rattle.wt_checks.proofs.InOrder.{not_zero_kept}
+use Rattle.wt_checks.proofs.Lookups.{each_split, each_join}
+use Rattle.wt_checks.proofs.Repeated.{or_false}
+use Rattle.wt_checks.proofs.WhatIsKept.{increasing, unrefused}
+use Rattle.wt_typed_blocks.specs.Sent.{IsSentAsIs, StandsAsIs, AllStandAsIs, Block, paragraph, heading, kind_of, text_in, Sent, stands, typed, old_child, new_child, old_children, new_children, IsSent, AreSent, old_body, new_body}
+
+-- ---- numbers in their order
+
+one_sublist : (xs : List ℕ) → IsSublist xs xs
+one_sublist [] = tt
+one_sublist (x ∷ xs) = inl (refl, one_sublist xs)
+
+more_sublist : (xs us vs : List ℕ) → IsSublist xs vs → IsSublist xs (us ++ vs)
+more_sublist [] us vs h = tt
+more_sublist (x ∷ xs) [] vs h = h
+more_sublist (x ∷ xs) (u ∷ us) vs h = inr (more_sublist (x ∷ xs) us vs h)
+
+both_sublists : (xs ys us vs : List ℕ) → IsSublist xs us → IsSublist ys vs → IsSublist (xs ++ ys) (us ++ vs)
+both_sublists [] ys us vs h k = more_sublist ys us vs k
+both_sublists (x ∷ xs) ys [] vs h k = absurd h
+both_sublists (x ∷ xs) ys (u ∷ us) vs (inl h) k = inl (h.0, both_sublists xs ys us vs h.1 k)
+both_sublists (x ∷ xs) ys (u ∷ us) vs (inr h) k = inr (both_sublists (x ∷ xs) ys us vs h k)
+
+join_by : (b : Bool) (m : ℕ) (ms all ns : List ℕ) → all ≡ ms ++ ns → (if b then m ∷ all else all) ≡ (if b then m ∷ ms else ms) ++ ns
+join_by true m ms all ns e = ap (λ ks. m ∷ ks) e
+join_by false m ms all ns e = e
+
+under_join : (n : ℕ) (ps qs : List Place) → kept_under n (ps ++ qs) ≡ kept_under n ps ++ kept_under n qs
+under_join n [] qs = refl
+under_join n (p ∷ ps) qs = join_by (is_kept p && p.parent == n) (number p) (kept_under n ps) (kept_under n (ps ++ qs)) (kept_under n qs) (under_join n ps qs)
+
+mutual
+  same_under : (n m : ℕ) (v w : Bool) (t u : Tree) → StandsAsIs t u → kept_under n (placed m w u) ≡ kept_under n (placed m v t)
+  same_under n m v w (tree l ts) (tree k us) h =
+      let rest : ℕ → List ℕ = λ i. kept_under n (all_placed (parent_below m i) (w || is_content k.mark) us) in
+      ap (λ (i : ℕ). if not (i == 0) && m == n then i ∷ rest i else rest i) h.0.id
+      ∙ ap (λ (ks : List ℕ). if not (l.id == 0) && m == n then l.id ∷ ks else ks)
+      (all_same_under n (parent_below m l.id) (v || is_content l.mark) (w || is_content k.mark) ts us h.1)
+
+  all_same_under : (n m : ℕ) (v w : Bool) (ts us : Trees) → AllStandAsIs ts us → kept_under n (all_placed m w us) ≡ kept_under n (all_placed m v ts)
+  all_same_under n m v w none none h = refl
+  all_same_under n m v w none (more u us) h = absurd h
+  all_same_under n m v w (more t ts) none h = absurd h
+  all_same_under n m v w (more t ts) (more u us) h =
+      under_join n (placed m w u) (all_placed m w us)
+      ∙ ap (λ ks. ks ++ kept_under n (all_placed m w us)) (same_under n m v w t u h.0)
+      ∙ ap (λ ks. kept_under n (placed m v t) ++ ks) (all_same_under n m v w ts us h.1)
+      ∙ sym (under_join n (placed m v t) (all_placed m v ts))
+
+under_text : (n m : ℕ) (w : Bool) (x : Label) (text : List ℕ) → kept_under n (all_placed m w (text_in x text)) ≡ []
+under_text n m w x [] = refl
+under_text n m w x (b ∷ bs) = refl
+
+typed_under : (b : Bool) (i : ℕ) (xs ys : List ℕ) → xs ≡ [] → IsSublist (if b then i ∷ xs else xs) (if b then i ∷ ys else ys)
+typed_under true i xs ys e = inl (refl, subst (λ (zs : List ℕ). IsSublist zs ys) (sym e) tt)
+typed_under false i xs ys e = subst (λ (zs : List ℕ). IsSublist zs ys) (sym e) tt
+
+child_under : (n m : ℕ) (v w : Bool) (s : Sent) → IsSent s → IsSublist (kept_under n (placed m w (new_child s))) (kept_under n (placed m v (old_child s)))
+child_under n m v w (stands t u) h =
+    subst (λ (ks : List ℕ). IsSublist ks (kept_under n (placed m v t))) (sym (same_under n m v w t u h)) (one_sublist (kept_under n (placed m v t)))
+child_under n m v w (typed k l ts p x text) h =
+    typed_under (not (l.id == 0) && m == n) l.id (kept_under n (all_placed (parent_below m l.id) (w || true) (text_in x text)))
+    (kept_under n (all_placed (parent_below m l.id) (v || is_content l.mark) ts)) (under_text n (parent_below m l.id) (w || true) x text)
+
+children_under : (n m : ℕ) (v w : Bool) (ss : List Sent) → AreSent ss
+    → IsSublist (kept_under n (all_placed m w (new_children ss))) (kept_under n (all_placed m v (old_children ss)))
+children_under n m v w [] h = tt
+children_under n m v w (s ∷ ss) h =
+    let xs : List ℕ = kept_under n (placed m w (new_child s)) in
+    let ys : List ℕ = kept_under n (all_placed m w (new_children ss)) in
+    let us : List ℕ = kept_under n (placed m v (old_child s)) in
+    let vs : List ℕ = kept_under n (all_placed m v (old_children ss)) in
+    subst (λ (zs : List ℕ). IsSublist zs (kept_under n (placed m v (old_child s) ++ all_placed m v (old_children ss))))
+    (sym (under_join n (placed m w (new_child s)) (all_placed m w (new_children ss))))
+    (subst (λ (zs : List ℕ). IsSublist (xs ++ ys) zs) (sym (under_join n (placed m v (old_child s)) (all_placed m v (old_children ss))))
+    (both_sublists xs ys us vs (child_under n m v w s h.0) (children_under n m v w ss h.1)))
+
+ordered : (l b : Label) (ss : List Sent) → AreSent ss → InOrder (places (old_body l ss)) (places (new_body l b ss))
+ordered l b ss h = λ n. children_under n 0 (is_content l.mark) false ss h
+
+-- ---- no groups
+
+mutual
+  ungrouped : (m : ℕ) (w : Bool) (t : Tree) → HasNoGroup t → AllByRecursion (λ q. is_group (kind_at q) ≡ false) (placed m w t)
+  ungrouped m w (tree l ts) h = (h.0, all_ungrouped (parent_below m l.id) (w || is_content l.mark) ts h.1)
+
+  all_ungrouped : (m : ℕ) (w : Bool) (ts : Trees) → NoneIsGroup ts → AllByRecursion (λ q. is_group (kind_at q) ≡ false) (all_placed m w ts)
+  all_ungrouped m w none h = tt
+  all_ungrouped m w (more t ts) h =
+      each_join (λ q. is_group (kind_at q) ≡ false) (placed m w t) (all_placed m w ts) (ungrouped m w t h.0) (all_ungrouped m w ts h.1)
+
+no_group : (o : Option Place) (u : Tree) → ((q : Place) → o ≡ Some q → is_group (kind_at q) ≡ false)
+    → MatchOption o (Unit {0}) (λ q. is_group (kind_at q) ≡ true → GroupAsItWas false q.node u)
+no_group None u f = tt
+no_group (Some q) u f = λ g. let e : is_group (kind_at q) ≡ false = f q refl in absurd (cc)
+
+each : (P : Place → Type 0) → ((p : Place) → P p) → (ps : List Place) → AllByRecursion P ps
+each P f [] = tt
+each P f (p ∷ ps) = (f p, each P f ps)
+
+groups_stand : (l b : Label) (ss : List Sent) → NoneIsGroup (old_children ss)
+    → AllByRecursion (GroupKept false (page_of (old_body l ss))) (places (new_body l b ss))
+groups_stand l b ss g =
+    let t : Tree = old_body l ss in
+    each (GroupKept false (page_of t)) (λ p. λ k. no_group (page_of t (number p)) p.node
+    (λ q e. (found_has (λ r. is_group (kind_at r) ≡ false) (number p) q (places t) (refl, all_ungrouped 0 (is_content l.mark) (old_children ss) g) e).0))
+    (places (new_body l b ss))
+
+-- ---- nodes as they were
+
+own_same : (k : Kind) (s z : List ℕ) → (showing k ≡ Characters → z ≡ s) → own_character (writing k) s ≡ own_character (writing k) z
+own_same kind.Entity s z f = sym (f refl)
+own_same k s z f = refl
+
+one_entry : (k : Kind) (l m : Label) (es fs : List Entry) → m.id ≡ l.id → (showing k ≡ Characters → m.shown ≡ l.shown) → es ≡ fs
+    → (if is_compared (showing k) then entry_by (writing k) l ∷ es else es) ≡ (if is_compared (showing k) then entry_by (writing k) m ∷ fs else fs)
+one_entry kind.Text l m es fs i f e = ap (λ (z : List ℕ). entry_text z ∷ es) (sym (f refl)) ∙ ap (λ (zs : List Entry). entry_text m.shown ∷ zs) e
+one_entry kind.Sep l m es fs i f e = e
+one_entry kind.Comment l m es fs i f e = e
+one_entry kind.Include l m es fs i f e = e
+one_entry kind.Skip l m es fs i f e = e
+one_entry kind.Empty l m es fs i f e = e
+one_entry k l m es fs i f e = ap (λ (z : ℕ). entry_child z ∷ es) (sym i) ∙ ap (λ (zs : List Entry). entry_child m.id ∷ zs) e
+
+entry_same : (t u : Tree) (es fs : List Entry) → StandsAsIs t u → es ≡ fs
+    → (if is_compared (showing (label t).kind) then entry (label t) ∷ es else es) ≡ (if is_compared (showing (label u).kind) then entry (label u) ∷ fs else fs)
+entry_same (tree l ts) (tree m us) es fs h e =
+    one_entry l.kind l m es fs h.0.id h.0.shown e
+    ∙ ap (λ (k : Kind). if is_compared (showing k) then entry_by (writing k) m ∷ fs else fs) (sym h.0.kind)
+
+entries_same : (ts us : Trees) → AllStandAsIs ts us → entries ts ≡ entries us
+entries_same none none h = refl
+entries_same none (more u us) h = absurd h
+entries_same (more t ts) none h = absurd h
+entries_same (more t ts) (more u us) h = entry_same t u (entries ts) (entries us) h.0 (entries_same ts us h.1)
+
+as_it_was : (l m : Label) (ts us : Trees) → IsSentAsIs l m → AllStandAsIs ts us → have_frame ts ≡ false → NodeAsItWas (tree l ts) (tree m us)
+as_it_was l m ts us s h f =
+    let holds : HoldsTheSame (tree l ts) (tree m us) = record {
+      character = own_same l.kind l.shown m.shown s.shown ∙ ap (λ (k : Kind). own_character (writing k) m.shown) (sym s.kind);
+      held = ap entries (bare_root (tree l ts) f) ∙ entries_same ts us h;
+    } in
+    record { kind = sym s.kind; attrs = sym s.attrs; mw = inr (sym s.mw); holds = inr holds }
+
+kept_by : (page : Page) (p q : Place) → page (number p) ≡ Some q → NodeAsItWas q.node p.node → NodeKept page p
+kept_by page p q e h = λ a b. subst (λ (o : Option Place). MatchOption o (Unit {0}) (λ r. is_group (kind_at r) ≡ false → NodeAsItWas r.node p.node)) (sym e) (λ g. h)
+
+kept_of : (a b : Bool) → (a || b) ≡ true → b ≡ false → a ≡ true
+kept_of true b e f = refl
+kept_of false b e f = absurd (cc)
+
+node_kept : (page : Page) (i j : ℕ) (v w : Bool) (l m : Label) (ts us : Trees) → IsSentAsIs l m → AllStandAsIs ts us → is_frame l.kind ≡ false
+    → have_frame ts ≡ false → Itself page (record { node = tree l ts; parent = i; in_content = v })
+    → NodeKept page (record { node = tree m us; parent = j; in_content = w })
+node_kept page i j v w l m ts us s h f d it = λ a b.
+    let k : not (m.id == 0) ≡ true = kept_of (not (m.id == 0)) (is_body m.kind) a (ap is_body s.kind ∙ (no_frame l.kind f).0) in
+    let e : page m.id ≡ Some (record { node = tree l ts; parent = i; in_content = v }) =
+    ap page s.id ∙ it (ap (λ (n : ℕ). not (n == 0)) (sym s.id) ∙ k) in
+    kept_by page (record { node = tree m us; parent = j; in_content = w }) (record { node = tree l ts; parent = i; in_content = v }) e
+    (as_it_was l m ts us s h d) a b
+
+mutual
+  nodes_kept : (page : Page) (i j : ℕ) (v w : Bool) (t u : Tree) → StandsAsIs t u → has_frame t ≡ false → AllByRecursion (Itself page) (placed i v t)
+      → AllByRecursion (NodeKept page) (placed j w u)
+  nodes_kept page i j v w (tree l ts) (tree m us) h f it =
+      let d = or_false (is_frame l.kind) (have_frame ts) f in (
+        node_kept page i j v w l m ts us h.0 h.1 d.0 d.1 it.0,
+        all_nodes_kept page (parent_below i l.id) (parent_below j m.id) (v || is_content l.mark) (w || is_content m.mark) ts us h.1 d.1 it.1,
+      )
+
+  all_nodes_kept : (page : Page) (i j : ℕ) (v w : Bool) (ts us : Trees) → AllStandAsIs ts us → have_frame ts ≡ false
+      → AllByRecursion (Itself page) (all_placed i v ts) → AllByRecursion (NodeKept page) (all_placed j w us)
+  all_nodes_kept page i j v w none none h f it = tt
+  all_nodes_kept page i j v w none (more u us) h f it = absurd h
+  all_nodes_kept page i j v w (more t ts) none h f it = absurd h
+  all_nodes_kept page i j v w (more t ts) (more u us) h f it =
+      let d = or_false (has_frame t) (have_frame ts) f in
+      let s = each_split (Itself page) (placed i v t) (all_placed i v ts) it in
+      each_join (NodeKept page) (placed j w u) (all_placed j w us) (nodes_kept page i j v w t u h.0 d.0 s.0) (all_nodes_kept page i j v w ts us h.1 d.1 s.1)
+
+text_kept : (page : Page) (j : ℕ) (w : Bool) (x : Label) (text : List ℕ) → AllByRecursion (NodeKept page) (all_placed j w (text_in x text))
+text_kept page j w x [] = tt
+text_kept page j w x (c ∷ cs) = (λ a b. absurd (cc), tt)
+
+child_kept : (page : Page) (i j : ℕ) (v w : Bool) (s : Sent) → IsSent s → has_frame (old_child s) ≡ false → AllByRecursion (Itself page) (placed i v (old_child s))
+    → AllByRecursion (NodeKept page) (placed j w (new_child s))
+child_kept page i j v w (stands t u) h f it = nodes_kept page i j v w t u h f it
+child_kept page i j v w (typed k l ts m x text) h f it =
+    let old : Tree = old_child (typed k l ts m x text) in
+    let new : Tree = new_child (typed k l ts m x text) in
+    let was : NodeAsItWas old new = record { kind = refl; attrs = refl; mw = inr refl; holds = inl refl } in (
+      kept_by page (record { node = new; parent = j; in_content = w }) (record { node = old; parent = i; in_content = v }) (it.0 (not_zero_kept l.id h)) was,
+      text_kept page (parent_below j l.id) (w || true) x text,
+    )
+
+children_kept : (page : Page) (i j : ℕ) (v w : Bool) (ss : List Sent) → AreSent ss → have_frame (old_children ss) ≡ false
+    → AllByRecursion (Itself page) (all_placed i v (old_children ss)) → AllByRecursion (NodeKept page) (all_placed j w (new_children ss))
+children_kept page i j v w [] h f it = tt
+children_kept page i j v w (s ∷ ss) h f it =
+    let d = or_false (has_frame (old_child s)) (have_frame (old_children ss)) f in
+    let p = each_split (Itself page) (placed i v (old_child s)) (all_placed i v (old_children ss)) it in
+    each_join (NodeKept page) (placed j w (new_child s)) (all_placed j w (new_children ss)) (child_kept page i j v w s h.0 d.0 p.0)
+    (children_kept page i j v w ss h.1 d.1 p.1)
+
+child_entry : (s : Sent) (es fs : List Entry) → IsSent s → es ≡ fs
+    → (if is_compared (showing (label (old_child s)).kind) then entry (label (old_child s)) ∷ es else es)
+    ≡ (if is_compared (showing (label (new_child s)).kind) then entry (label (new_child s)) ∷ fs else fs)
+child_entry (stands t u) es fs h e = entry_same t u es fs h e
+child_entry (typed paragraph l ts m x text) es fs h e = ap (λ (zs : List Entry). entry_child l.id ∷ zs) e
+child_entry (typed (heading n) l ts m x text) es fs h e = ap (λ (zs : List Entry). entry_child l.id ∷ zs) e
+
+child_entries : (ss : List Sent) → AreSent ss → entries (old_children ss) ≡ entries (new_children ss)
+child_entries [] h = refl
+child_entries (s ∷ ss) h = child_entry s (entries (old_children ss)) (entries (new_children ss)) h.0 (child_entries ss h.1)
+
+-- what is found by its number in the page
+pub found : (l : Label) (ss : List Sent) → InPreorder (old_body l ss)
+    → AllByRecursion (Itself (page_of (old_body l ss))) (all_placed 0 (is_content l.mark) (old_children ss))
+found l ss pre = (each_itself (places (old_body l ss)) (increasing (old_body l ss) refl pre)).1
+
+nodes_stand : (l b : Label) (ss : List Sent) → InPreorder (old_body l ss) → have_frame (old_children ss) ≡ false → AreSent ss
+    → AllByRecursion (NodeKept (page_of (old_body l ss))) (places (new_body l b ss))
+nodes_stand l b ss pre f h =
+    let t : Tree = old_body l ss in
+    let u : Tree = new_body l b ss in
+    let holds : HoldsTheSame t u = record { character = refl; held = ap entries (bare_root t f) ∙ child_entries ss h } in
+    let was : NodeAsItWas t u = record { kind = refl; attrs = refl; mw = inr refl; holds = inr holds } in (
+      kept_by (page_of t) (record { node = u; parent = 0; in_content = false }) (record { node = t; parent = 0; in_content = false }) (found_root t refl) was,
+      children_kept (page_of t) 0 0 (is_content l.mark) false ss h f (found l ss pre),
+    )
+
+-- ---- marks
+
+mutual
+  marks_none : (page : Page) (j : ℕ) (w : Bool) (t u : Tree) → StandsAsIs t u → AllByRecursion (MarkKept page) (placed j w u)
+  marks_none page j w (tree l ts) (tree m us) h = (
+    λ e. let n : is_marked m.mark ≡ false = ap is_marked h.0.unmarked in absurd (cc),
+    all_marks_none page (parent_below j m.id) (w || is_content m.mark) ts us h.1,
+  )
+
+  all_marks_none : (page : Page) (j : ℕ) (w : Bool) (ts us : Trees) → AllStandAsIs ts us → AllByRecursion (MarkKept page) (all_placed j w us)
+  all_marks_none page j w none none h = tt
+  all_marks_none page j w none (more u us) h = absurd h
+  all_marks_none page j w (more t ts) none h = absurd h
+  all_marks_none page j w (more t ts) (more u us) h =
+      each_join (MarkKept page) (placed j w u) (all_placed j w us) (marks_none page j w t u h.0) (all_marks_none page j w ts us h.1)
+
+text_unmarked : (page : Page) (j : ℕ) (w : Bool) (x : Label) (text : List ℕ) → AllByRecursion (MarkKept page) (all_placed j w (text_in x text))
+text_unmarked page j w x [] = tt
+text_unmarked page j w x (c ∷ cs) = (λ e. absurd (cc), tt)
+
+allowed_in : (k : Block) (o : Option Place) → allows (editing (kind_of k)) marks.Content o ≡ true
+allowed_in paragraph o = refl
+allowed_in (heading n) o = refl
+
+child_marked : (page : Page) (j : ℕ) (s : Sent) → IsSent s → AllByRecursion (MarkKept page) (placed j false (new_child s))
+child_marked page j (stands t u) h = marks_none page j false t u h
+child_marked page j (typed k l ts m x text) h = (
+  λ e. record {
+    outside = refl;
+    old = ap (λ (b : Bool). b || is_body (kind_of k)) (not_zero_kept l.id h);
+    allowed = allowed_in k (page l.id);
+  },
+  text_unmarked page (parent_below j l.id) true x text,
+)
+
+children_marked : (page : Page) (j : ℕ) (ss : List Sent) → AreSent ss → AllByRecursion (MarkKept page) (all_placed j false (new_children ss))
+children_marked page j [] h = tt
+children_marked page j (s ∷ ss) h =
+    each_join (MarkKept page) (placed j false (new_child s)) (all_placed j false (new_children ss)) (child_marked page j s h.0) (children_marked page j ss h.1)
+
+-- ---- all of it
+
+pub passes : (l b : Label) (ss : List Sent) → InPreorder (old_body l ss) → NoneIsGroup (old_children ss) → have_frame (old_children ss) ≡ false → AreSent ss
+    → checked false (old_body l ss) (new_body l b ss) ≡ None
+passes l b ss pre g f h =
+    let t : Tree = old_body l ss in
+    let u : Tree = new_body l b ss in
+    let all : Kept false t u = record {
+      order = ordered l b ss h;
+      groups = groups_stand l b ss g;
+      nodes = nodes_stand l b ss pre f h;
+      marks = (λ e. absurd (cc), children_marked (page_of t) 0 ss h);
+    } in
+    unrefused false t u refl pre all

@@ -1,0 +1,104 @@
+-- What an editor sends for the children of a page's body: each as it stands, or a paragraph or heading in which a text was typed.
+use Rattle.std.specs.Prelude.{◌≡◌, ◌≢◌, ℕ, List, [], ◌∷◌}
+use Rattle.wt_tree.specs.declared.kind.Kind.{Kind}
+use Rattle.wt_tree.specs.declared.kind.Kind.TheVariants as kind
+use Rattle.wt_tree.specs.declared.kind.Mark.TheVariants as marks
+use Rattle.wt_tree.specs.declared.kind.Showing.TheVariants.{Characters}
+use Rattle.wt_tree.specs.Kinds.{showing}
+use Rattle.wt_tree.specs.Plain.{Plains, ended, along, element, face, text_before, plain_before}
+use Rattle.wt_tree.specs.Tree.{Label, Tree, tree, Trees, none, more}
+
+-- ---- a node that is sent as it stands
+
+-- It is of the page's kind, with its number, its attributes, its data and, where it shows characters, with these, and no mark stands on it.
+-- Where it says that it stands, and its source, may be anything.
+pub record IsSentAsIs (l m : Label) : Type 0 where
+  pub kind : m.kind ≡ l.kind
+  pub id : m.id ≡ l.id
+  pub attrs : m.attrs ≡ l.attrs
+  pub mw : m.mw ≡ l.mw
+  pub shown : showing l.kind ≡ Characters → m.shown ≡ l.shown
+  pub unmarked : m.mark ≡ marks.Nothing
+
+-- and so is all that it holds
+abbrev mutual
+  pub StandsAsIs : Tree → Tree → Type 0
+  StandsAsIs (tree l ts) (tree m us) = IsSentAsIs l m × AllStandAsIs ts us
+
+  pub AllStandAsIs : Trees → Trees → Type 0
+  AllStandAsIs none none = Unit {0}
+  AllStandAsIs none (more u us) = ⊥
+  AllStandAsIs (more t ts) none = ⊥
+  AllStandAsIs (more t ts) (more u us) = StandsAsIs t u × AllStandAsIs ts us
+
+-- ---- a block in which a text was typed
+
+-- a paragraph, or a heading of this level
+pub data Block : Type 0 where
+  paragraph : Block
+  heading : ℕ → Block
+
+abbrev pub kind_of : Block → Kind
+kind_of paragraph = kind.Para
+kind_of (heading n) = kind.Heading n
+
+-- one text, and no node where nothing was typed
+abbrev pub text_in : Label → List ℕ → Trees
+text_in x [] = none
+text_in x (b ∷ bs) = more (tree (record x { kind = kind.Text; id = 0; shown = b ∷ bs; mark = marks.Nothing }) none) none
+
+-- ---- a child of the body
+
+-- One that stands, in the page and as it is sent; or a block of the page with this label and these children, for which a block with the next
+-- label is sent, marked, and in it this text with the last one.
+pub data Sent : Type 0 where
+  stands : Tree → Tree → Sent
+  typed : Block → Label → Trees → Label → Label → List ℕ → Sent
+
+abbrev pub old_child : Sent → Tree
+old_child (stands t u) = t
+old_child (typed k l ts m x text) = tree (record l { kind = kind_of k }) ts
+
+abbrev pub new_child : Sent → Tree
+new_child (stands t u) = u
+new_child (typed k l ts m x text) =
+    tree (record m { kind = kind_of k; id = l.id; attrs = l.attrs; mark = marks.Content; mw = l.mw }) (text_in x text)
+
+-- all of them, in the page and as they are sent
+abbrev pub old_children : List Sent → Trees
+old_children [] = none
+old_children (s ∷ ss) = more (old_child s) (old_children ss)
+
+abbrev pub new_children : List Sent → Trees
+new_children [] = none
+new_children (s ∷ ss) = more (new_child s) (new_children ss)
+
+-- What stands is sent as it is, and a block in which a text was typed has a number.
+abbrev pub IsSent : Sent → Type 0
+IsSent (stands t u) = StandsAsIs t u
+IsSent (typed k l ts m x text) = l.id ≢ 0
+
+abbrev pub AreSent : List Sent → Type 0
+AreSent [] = Unit {0}
+AreSent (s ∷ ss) = IsSent s × AreSent ss
+
+-- ---- the body
+
+-- in the page, with this label
+abbrev pub old_body : Label → List Sent → Tree
+old_body l ss = tree (record l { kind = kind.Body; id = 0 }) (old_children ss)
+
+-- as it is sent, where the second label is free
+abbrev pub new_body : Label → Label → List Sent → Tree
+new_body l b ss = tree (record b { kind = kind.Body; id = 0; attrs = l.attrs; mark = marks.Nothing; mw = l.mw }) (new_children ss)
+
+-- ---- what it shows
+
+-- a child that stands shows what it does in the page, and a block in which a text was typed this text
+abbrev pub shows_before : Sent → Plains → Plains
+shows_before (stands t u) rest = plain_before t rest
+shows_before (typed k l ts m x text) rest = along (element (face (record l { kind = kind_of k })) (text_before text ended)) rest
+
+abbrev pub all_show : List Sent → Plains
+all_show [] = ended
+all_show (s ∷ ss) = shows_before s (all_show ss)
