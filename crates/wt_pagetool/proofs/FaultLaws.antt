@@ -15,7 +15,7 @@ use Rattle.wt_pagetool.specs.Refusals.{status_of}
 -- what was read is handed on
 pub passed_stops : {T : Type 0} (result : Result T Refusal) (r : Refusal) (old new : Option (List ℕ)) → result ≡ Err r
     → StopsWithin old new r → IfErr result (StopsWithin old new)
-passed_stops result r old new e h = subst (λ (x : Result T Refusal). IfErr x (StopsWithin old new)) (sym e) h
+passed_stops {T} result r old new e h = subst (λ (x : Result T Refusal). IfErr x (StopsWithin old new)) (sym e) h
 
 -- it wasn't read
 unread_by : (s : Status) (left : Option (List ℕ)) → StopsAs s left left
@@ -90,11 +90,11 @@ input_alone (Err r) i j f h = record { input = λ e. refl; folder = λ e. absurd
 -- what refuses a title or an input is handed on
 pub unfetched_alone : {T : Type 0} (result : Result T Refusal) (r : Refusal) (i f g : ℕ) → result ≡ Err r → IsOfTitle f g r
     → FailsAlone (found_status result) i i f g
-unfetched_alone result r i f g e h = title_alone result i f g (subst (λ (x : Result T Refusal). IfErr x (IsOfTitle f g)) (sym e) h)
+unfetched_alone {T} result r i f g e h = title_alone result i f g (subst (λ (x : Result T Refusal). IfErr x (IsOfTitle f g)) (sym e) h)
 
 pub passed_alone : {T : Type 0} (result : Result T Refusal) (r : Refusal) (i j f : ℕ) → result ≡ Err r → IsOfInput i j r
     → FailsAlone (found_status result) i j f f
-passed_alone result r i j f e h = input_alone result i j f (subst (λ (x : Result T Refusal). IfErr x (IsOfInput i j)) (sym e) h)
+passed_alone {T} result r i j f e h = input_alone result i j f (subst (λ (x : Result T Refusal). IfErr x (IsOfInput i j)) (sym e) h)
 
 -- the input was read before, and its count is kept
 pub edit_alone : {T : Type 0} (rose : Type 0) (result : Result T Refusal) (i j f g : ℕ) → IfErr result (IsOfEdit ⊥ rose) → j ≡ i
