@@ -11,7 +11,7 @@
  */
 
 import { Part, write } from "./lib/markup.js";
-import { fill, refill } from "./lib/nodes.js";
+import { fillBlocks, refill } from "./lib/nodes.js";
 import { Original } from "./lib/original.js";
 import { Mender } from "./lib/mender.js";
 import { addMarks } from "./lib/marks.js";
@@ -37,7 +37,8 @@ const opened = new WeakMap();
  * writes and reads its DOM as HTML. `save` undoes the carriers.
  * @param {string} html  what `wtround html TITLE` wrote
  * @param {{into?: Element, document?: Document, prepare?: (inside: DocumentFragment) => void}} [options]
- *   `into`: the element that is to hold what stands in the page's body; it is emptied first. Without it a new document is made, and its body holds the page.
+ *   `into`: the element that is to hold what stands in the page's body; it is emptied first. Without it a new
+ *   document is made, and its body holds the page.
  *   `document`: the document that makes the elements, where there is no `into` and no global `document`, as
  *   in Node. `prepare`: is given what the page's body holds before it is put into the element, so that what
  *   an editor sets on it there is styled once
@@ -49,7 +50,7 @@ export function open(html, options = {}) {
   const original = new Original(html);
   const root = options.into ?? newBody(options.document ?? globalThis.document, original.page);
   const inside = root.ownerDocument.createDocumentFragment();
-  fill(inside, root.ownerDocument, original.page);
+  fillBlocks(inside, root.ownerDocument, original.page);
   options.prepare?.(inside);
   const watch = opened.get(root)?.watch ?? new Watch(root);
   watch.stop();
@@ -62,8 +63,8 @@ export function open(html, options = {}) {
 /**
  * Reads a page ahead of `renew`, which then takes less time.
  * @param {string} html  what `wtround html TITLE` wrote
- * @param {Element} [root]  the root that will be renewed: blocks that are written as when it was opened aren't
- *   read again
+ * @param {Element} [root]  the root that will be renewed: blocks that are written as when it was opened
+ *   aren't read again
  * @returns {Original} what `renew` takes in place of the HTML
  * @throws {HtmlRefused} as `open`
  */

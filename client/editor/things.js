@@ -44,8 +44,8 @@ const NAMES = {
 
 /**
  * The things of a page.
- * @typedef {{sizes: Map<string, number>, byId: Map<string, HTMLElement[]>}} Things  `sizes`: how many elements
- *   each group has; `byId`: the elements of each thing that has an `id`
+ * @typedef {{sizes: Map<string, number>, byId: Map<string, HTMLElement[]>}} Things  `sizes`: how many
+ *   elements each group has; `byId`: the elements of each thing that has an `id`
  */
 
 /**
@@ -126,7 +126,7 @@ function show(element, name, label) {
  * @param {string} value
  */
 function put(element, name, value) {
-  if (element.getAttribute(name) !== value) element.setAttribute(name, value);
+  if (!element.isConnected || element.getAttribute(name) !== value) element.setAttribute(name, value);
 }
 
 /**

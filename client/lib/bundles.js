@@ -1,7 +1,7 @@
 // @ts-check
 /**
- * Bundles of blocks of a long page: elements in which an editor puts blocks that stand side by side, so that a
- * browser passes over them together while they are out of sight. What stands in a bundle counts as standing
+ * Bundles of blocks of a long page: elements in which an editor puts blocks that stand side by side, so that
+ * a browser passes over them together while they are out of sight. What stands in a bundle counts as standing
  * where the bundle stands.
  */
 
@@ -25,8 +25,8 @@ export function nodesIn(holder) {
 }
 
 /**
- * Puts the blocks of a holder, and of the sections in it, into bundles: each begins with a block, and holds what
- * stands up to the next bundle or section.
+ * Puts the blocks of a holder, and of the sections in it, into bundles: each begins with a block, and holds
+ * what stands up to the next bundle or section.
  * @param {Element | DocumentFragment} holder  that holds no bundles
  * @param {number} most  blocks in each; how many there are is its `--blocks` in CSS
  */

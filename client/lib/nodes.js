@@ -4,6 +4,7 @@
 import { Part } from "./markup.js";
 import { nodesIn } from "./bundles.js";
 import { ATTRIBUTES } from "./kinds.js";
+import { isPlain, parsed } from "./parsing.js";
 import { Watch } from "./watch.js";
 
 const ELEMENT = 1;
@@ -27,8 +28,48 @@ const REACH = 12;
  * @param {Document} document
  * @param {Part} part
  */
-export function fill(parent, document, part) {
+function fill(parent, document, part) {
   for (const child of part.children) parent.appendChild(made(document, part, child));
+}
+
+/**
+ * The same for the body and for a section, which may hold many blocks.
+ * @param {Node} parent
+ * @param {Document} document
+ * @param {Part} part
+ */
+export function fillBlocks(parent, document, part) {
+  const { children } = part;
+  for (let at = 0, end = 0; at < children.length; at = end) {
+    end = at;
+    while (end < children.length && isPlain(children[end])) end += 1;
+    const nodes = parsed(document, children.slice(at, end));
+    end = Math.max(end, at + 1);
+    const one = (/** @type {Part | string} */ child) => madeBlock(document, part, child);
+    for (const node of nodes ?? children.slice(at, end).map(one)) parent.appendChild(node);
+  }
+}
+
+/**
+ * @param {Document} document
+ * @param {Part} parent
+ * @param {Part | string} child  of the parent
+ * @returns {Node}
+ */
+function madeBlock(document, parent, child) {
+  if (typeof child === "string" || child.name !== "section") return made(document, parent, child);
+  const section = withAttributes(document.createElement("section"), child);
+  fillBlocks(section, document, child);
+  return section;
+}
+
+/**
+ * @param {Element} element
+ * @param {Part} part
+ */
+function withAttributes(element, part) {
+  for (const [name, value] of part.attributes) element.setAttribute(name, value);
+  return element;
 }
 
 /**
@@ -42,8 +83,7 @@ function made(document, parent, child) {
   const carried = TABLE_PARTS.has(parent.name) && isLostInTables(child);
   const element = document.createElement(carried ? "template" : child.name);
   if (carried) element.setAttribute("data-wt-name", child.name);
-  for (const [name, value] of child.attributes) element.setAttribute(name, value);
-  fill(element, document, child);
+  fill(withAttributes(element, child), document, child);
   return element;
 }
 

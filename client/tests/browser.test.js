@@ -125,6 +125,28 @@ test("pages are renewed, each in the place of another", { skip }, async (context
   context.diagnostic(`${all.length} pages`);
 });
 
+test("the browser's parser makes the nodes of paragraphs and headings as calls do", { skip }, async (context) => {
+  const found = documents().flatMap((html) => html.match(/<(p|h[1-6])(?: [^<>]*)?>.*?<\/\1>/gs) ?? []);
+  const blocks = [...new Set(found)].filter((_, at, all) => at % Math.ceil(all.length / 3000) === 0);
+  const nested = `${"<span>".repeat(70)}x${"</span>".repeat(70)}`;
+  const texts = [
+    "\n a", "&#39;&nbsp;&quot;&apos;&lt;", "&#128;&#0;", "&#13;", "\r", "\u000c\u0001\ufeff\ufffd", "<br/>a <br />",
+    "<b><b><b><b>x</b></b></b></b>", "<i>a<span><b>c</b></span></i>", "<i>a<b>c</b></i><b></b>",
+    '<a href="a">b<span>c<a href="d">e</a></span></a>', '<a href="a">b</a><a href="c">d</a>', nested,
+    '<span title="&lt;&#39;&amp;amp;" id=\'"\'></span>', '<meta property="a"/>b', "<u><s>a</s></u><code>b</code>",
+  ];
+  const all = [...blocks, ...texts.flatMap((text) => [`<p>${text}</p>`, `<h2 id="mw1">${text}</h2>`])];
+  const pages = all.map((block) => `<html><body>${`${block}\n\n`.repeat(20)}</body></html>`);
+  const body = `
+    const made = document.createElement("div");
+    module.renew(made, html);
+    const opened = module.open(html, { into: document.createElement("div") });
+    return made.isEqualNode(opened) ? html : "";
+  `;
+  assert.deepEqual(await changed(pages, body), []);
+  context.diagnostic(`${pages.length} blocks`);
+});
+
 test("what nobody touched needn't be looked at: the same is saved and renewed", { skip }, async (context) => {
   const all = documents().filter((_, at) => at % SHARE === 0 || at < 30);
   if (all.length === 0) return context.skip("there are no pages here: build wtround, or name one in WTROUND");
@@ -135,7 +157,8 @@ test("what nobody touched needn't be looked at: the same is saved and renewed", 
       const { bundle, open, save, renew } = module;
       const unbundled = (root) => {
         const copy = root.cloneNode(true);
-        for (const holder of copy.querySelectorAll("[data-wt-bundle]")) holder.replaceWith(...holder.childNodes);
+        const bundles = copy.querySelectorAll("[data-wt-bundle]");
+        for (const element of bundles) element.replaceWith(...element.childNodes);
         return copy;
       };
       const [randomFrom, mutate] = [${randomFrom}, ${mutate}];

@@ -11,6 +11,7 @@ from functools import cached_property
 from pathlib import Path
 from typing import BinaryIO, Optional, Set
 
+from .allocators import environment
 from .refusals import Refusal, from_line
 
 REPOSITORY = Path(__file__).resolve().parent.parent.parent
@@ -58,8 +59,17 @@ def started_once(path: str) -> str:
 class Program:
     """The commands of wtround over one folder of pages."""
 
-    def __init__(self, path: str, pages: str, seconds: float = SECONDS, at_once: int = AT_ONCE) -> None:
+    def __init__(
+        self,
+        path: str,
+        pages: str,
+        seconds: float = SECONDS,
+        at_once: int = AT_ONCE,
+        is_quick: bool = True,
+    ) -> None:
+        """`is_quick`: with another allocator than the C library's, where that makes it quicker."""
         self._path = path
+        self._environment = environment(path) if is_quick else None
         self._seconds = seconds
         self._running = threading.BoundedSemaphore(at_once)
         self._processes: Set[subprocess.Popen] = set()
@@ -110,7 +120,8 @@ class Program:
             try:
                 text, out = (opened.enter_context(file_of(data)) for data in (given, b""))
                 streams = {"stdin": text, "stdout": out, "stderr": subprocess.PIPE}
-                process = subprocess.Popen([self._path, *words], cwd=room, **streams)
+                command = [self._path, *words]
+                process = subprocess.Popen(command, cwd=room, env=self._environment, **streams)
             except OSError as error:
                 sentence = f"The program couldn't be started: {error.strerror}."
                 raise Refusal(500, "ProgramFailed", sentence) from None
