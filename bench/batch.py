@@ -1,13 +1,14 @@
 #!/usr/bin/env python3
 """Measures `wtround-batch`: pages a second, there and back, on one processor and on all of them.
 
-  bench/batch.py [--pages N] [--rounds N] [--from FOLDER] [--commands WORDS] [--watch]
+  bench/batch.py [--pages N] [--rounds N] [--from FOLDER] [--commands WORDS] [--program FILE] [--watch]
 
 It makes N pages (10,000) from those of examples/ and from the sections that `wtround gen` makes, one to
 forty of them, or takes N copies of the pages of FOLDER in turn. Then it runs `tools/batch` over them in
-turn on one processor and on all, each time from nothing, and prints for each run the pages and megabytes
-a second, the processor time of all its processes, on how many processors they ran at once on average, and
-the peak memory of the largest.
+turn on one processor and on all, each time from nothing, after one run that doesn't count. It prints for
+each run the pages and megabytes a second, the processor time of all its processes, on how many processors
+they ran at once on average, how much of these processors' time the host of a virtual machine gave to
+others, and the peak memory of the largest process; and at the end the middle one of the rates' ratios.
 
 On a machine that does other work the rates depend on that work. What can be told there is how far more
 processors would help: the rates of two runs are as their processors divided by their processor times, as
@@ -19,11 +20,13 @@ import argparse
 import os
 import resource
 import shutil
+import statistics
 import subprocess
 import sys
 import tempfile
 import threading
 import time
+from dataclasses import dataclass
 from pathlib import Path
 
 TOP = Path(__file__).resolve().parent.parent
@@ -95,24 +98,28 @@ class Watcher(threading.Thread):
         return sum(ran + waited for ran, waited in self._seen.values()) / 1e9
 
 
-def run(
-    root: Path, processors: "set[int]", commands: str, is_watched: bool
-) -> "tuple[float, float, float | None, float]":
-    """Seconds, seconds of processor time, those that were wanted, and MB of the largest process."""
+def stolen(processors: "set[int]") -> float:
+    """The seconds for which the host has kept these processors from this machine since it began."""
+    lines = (line.split() for line in Path("/proc/stat").read_text().splitlines())
+    names = {f"cpu{number}" for number in processors}
+    return sum(int(words[8]) for words in lines if words[0] in names) / os.sysconf("SC_CLK_TCK")
+
+
+@dataclass(frozen=True)
+class Measured:
+    seconds: float
+    used: float  # seconds of processor time of all processes
+    wanted: "float | None"  # and with what they waited for
+    stolen: float  # seconds
+    peak: float  # MB of the largest process
+
+
+def run(root: Path, processors: "set[int]", words: "list[str]", is_watched: bool) -> Measured:
     for name in ("state", "state.lock", "state-wal", "state-shm"):
         (root / name).unlink(missing_ok=True)
-    before = resource.getrusage(resource.RUSAGE_CHILDREN)
+    before, stolen_before = resource.getrusage(resource.RUSAGE_CHILDREN), stolen(processors)
     started = time.monotonic()
-    command = [
-        sys.executable,
-        str(TOOL),
-        commands,
-        "--quiet",
-        "--state",
-        "state",
-        "-j",
-        str(len(processors)),
-    ]
+    command = [sys.executable, str(TOOL), *words, "--quiet", "--state", "state", "-j", str(len(processors))]
     process = subprocess.Popen(
         command, cwd=root, stderr=subprocess.DEVNULL, preexec_fn=lambda: os.sched_setaffinity(0, processors)
     )
@@ -127,7 +134,18 @@ def run(
         watcher.join()
     after = resource.getrusage(resource.RUSAGE_CHILDREN)
     used = after.ru_utime + after.ru_stime - before.ru_utime - before.ru_stime
-    return seconds, used, watcher.wanted() if is_watched else None, after.ru_maxrss / 1000
+    wanted = watcher.wanted() if is_watched else None
+    return Measured(seconds, used, wanted, stolen(processors) - stolen_before, after.ru_maxrss / 1000)
+
+
+def told(measured: Measured, processors: int, pages: int, size: int) -> str:
+    seconds, used = measured.seconds, measured.used
+    wanted = "" if measured.wanted is None else f"{measured.wanted / seconds:.2f} wanted, "
+    return (
+        f"{processors} processors: {pages / seconds:,.0f} pages/s, {size / seconds / 1e6:.2f} MB/s, "
+        f"{seconds:.2f} s, {used:.1f} s of processor time, on {used / seconds:.2f} processors, {wanted}"
+        f"{100 * measured.stolen / seconds / processors:.0f} % taken by the host, peak {measured.peak:.0f} MB"
+    )
 
 
 def main() -> None:
@@ -138,34 +156,35 @@ def main() -> None:
     parser.add_argument("--rounds", type=int, default=3)
     parser.add_argument("--from", dest="folder", type=Path)
     parser.add_argument("--commands", default="wikitext")
+    parser.add_argument("--program")
     parser.add_argument("--watch", action="store_true")
     arguments = parser.parse_args()
     taken = sorted(arguments.folder.glob("*.wiki")) if arguments.folder else []
+    words = [arguments.commands]
+    if arguments.program is not None:
+        words += ["--program", os.path.realpath(arguments.program)]
     everything = os.sched_getaffinity(0)
+    count = len(everything)
+    ratios = []
     with tempfile.TemporaryDirectory() as folder:
         root = Path(folder)
         size = make_pages(root / "pages", arguments.pages, taken)
-        print(
-            f"{arguments.pages:,} pages, {size:,} bytes, {arguments.commands}, load {os.getloadavg()[0]:.1f}"
-        )
+        load = os.getloadavg()[0]
+        print(f"{arguments.pages:,} pages, {size:,} bytes, {arguments.commands}, load {load:.1f}")
+        run(root, everything, words, False)
         for _ in range(arguments.rounds):
-            rates, times = {}, {}
-            for processors in ({min(everything)}, everything):
-                seconds, used, wanted, peak = run(root, processors, arguments.commands, arguments.watch)
-                count = len(processors)
-                rates[count], times[count] = arguments.pages / seconds, used
-                print(
-                    f"{count} processors: {rates[count]:,.0f} pages/s, {size / seconds / 1e6:.2f} MB/s, "
-                    f"{seconds:.1f} s, {used:.1f} s of processor time, on {used / seconds:.2f} processors, "
-                    + ("" if wanted is None else f"{wanted / seconds:.2f} wanted, ")
-                    + f"peak {peak:.0f} MB"
-                )
-            count = len(everything)
+            one = run(root, {min(everything)}, words, arguments.watch)
+            all_of_them = run(root, everything, words, arguments.watch)
+            ratios.append(one.seconds / all_of_them.seconds)
+            times = all_of_them.used / one.used
+            print(told(one, 1, arguments.pages, size))
+            print(told(all_of_them, count, arguments.pages, size))
             print(
-                f"rates {rates[count] / rates[1]:.2f} to 1; processor times {times[count] / times[1]:.3f} to 1, "
-                f"so {min(count, count * times[1] / times[count]):.2f} to 1 where {count} processors are free",
+                f"rates {ratios[-1]:.2f} to 1; processor times {times:.3f} to 1, "
+                f"so {min(count, count / times):.2f} to 1 where {count} processors are free",
                 flush=True,
             )
+    print(f"the middle one of {len(ratios)}: {statistics.median(ratios):.2f} to 1")
 
 
 if __name__ == "__main__":

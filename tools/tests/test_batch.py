@@ -9,11 +9,16 @@ import sys
 import tempfile
 import time
 import unittest
+from itertools import product
 from pathlib import Path
-from urllib.parse import quote
+from urllib.parse import quote, unquote
 from xml.sax.saxutils import escape
 
 from loading import REPOSITORY, TOOLS
+
+sys.dont_write_bytecode = True
+sys.path.insert(0, str(TOOLS))
+from wtround_batch import wiki  # noqa: E402
 
 try:
     import pty
@@ -76,7 +81,9 @@ class BatchCase(unittest.TestCase):
 
     def start(self, *words: str) -> "subprocess.Popen[bytes]":
         streams = {"stdin": subprocess.DEVNULL, "stdout": subprocess.PIPE, "stderr": subprocess.PIPE}
-        return subprocess.Popen(self.command(*words), cwd=self.root, env=self.environment(), **streams)
+        return subprocess.Popen(
+            self.command(*words), cwd=self.root, env=self.environment(), start_new_session=True, **streams
+        )
 
     def run_tool(self, *words: str, status: int = 0, stdin: bytes = b"") -> "tuple[bytes, str]":
         """Standard output, and standard error."""
@@ -93,6 +100,12 @@ class BatchCase(unittest.TestCase):
 
     def lines(self, name: str = "lines") -> "list[dict]":
         return [json.loads(line) for line in (self.root / name).read_bytes().splitlines()]
+
+    def wait_for(self, holds) -> None:
+        end = time.monotonic() + 120
+        while not holds():
+            self.assertLess(time.monotonic(), end)
+            time.sleep(0.01)
 
     def failures(self, report: dict) -> "list[tuple[str, str, str]]":
         return sorted((f["title"], f["command"], f["line"]) for f in report["failures"])
@@ -187,21 +200,15 @@ class TwoThousandPages(BatchCase):
         self.assertEqual((again["kept"], again["outcomes"]), (2000, report["outcomes"]))
         self.assertEqual(len(self.lines()), 2000)
 
-    def stored(self, state: Path) -> int:
+    def stored(self, state: Path, chosen: str = "") -> int:
         try:
             connection = sqlite3.connect(f"file:{state}?mode=ro", uri=True)
             try:
-                return connection.execute("SELECT count(*) FROM result").fetchone()[0]
+                return connection.execute(f"SELECT count(*) FROM result {chosen}").fetchone()[0]
             finally:
                 connection.close()
         except sqlite3.Error:
             return 0
-
-    def wait_for(self, holds) -> None:
-        end = time.monotonic() + 120
-        while not holds():
-            self.assertLess(time.monotonic(), end)
-            time.sleep(0.01)
 
     def assert_nothing_runs(self) -> None:
         """No process that works in this test's folder is left."""
@@ -217,14 +224,24 @@ class TwoThousandPages(BatchCase):
 
         self.wait_for(lambda: not running())
 
-    def test_interrupted_and_gone_on(self) -> None:
-        self.make()
-        running = self.start("wikitext", "--report", "report.html", "-j", "1")
-        self.wait_for(lambda: self.stored(self.root / "wtround-batch.sqlite") >= 50)
-        running.send_signal(signal.SIGINT)
+    def interrupted(self, number: int) -> None:
+        """A run is stopped as a terminal stops it, or the system: all processes of its group are told."""
+        running = self.start("wikitext", "--again", "--report", "report.html", "-j", "1")
+        self.wait_for(lambda: len(workers_of(running.pid)) == 1 and self.stored_anew() >= 50)
+        os.killpg(running.pid, number)
         told = running.communicate()[1].decode()
         self.assertEqual(running.returncode, 130, told)
         self.assertIn("stopped; the same words go on from here", told)
+        self.assertNotIn("Traceback", told)
+
+    def stored_anew(self) -> int:
+        """How many pages the last run has stored."""
+        return self.stored(self.root / "wtround-batch.sqlite", "WHERE run = (SELECT max(run) FROM result)")
+
+    def test_interrupted_and_gone_on(self) -> None:
+        self.make()
+        for number in (signal.SIGTERM, signal.SIGINT):
+            self.interrupted(number)
         report = json.loads((self.root / "report.json").read_text())
         self.assertFalse(report["finished"])
         self.assertIn("The run was stopped before its end", (self.root / "report.html").read_text())
@@ -592,7 +609,7 @@ class Limits(BatchCase):
         running = self.start("wikitext", "--report", "report.html", "-j", "2")
         ended = 0
         while ended < 3 and running.poll() is None:
-            workers = [process_id for process_id in children_of(running.pid) if is_worker(process_id)]
+            workers = workers_of(running.pid)
             if len(workers) == 2:
                 os.kill(workers[ended % 2], signal.SIGKILL)
                 ended += 1
@@ -603,6 +620,22 @@ class Limits(BatchCase):
         outcomes = json.loads((self.root / "report.json").read_text())["outcomes"]["wikitext"]
         self.assertEqual(sum(outcomes.values()), 2000)
         self.assertGreaterEqual(outcomes["came back"], 1997)
+
+
+    def test_the_nursery_is_ended(self) -> None:
+        """Then no worker can be started any more: the run says so, ends, and can be gone on with."""
+        self.program = PROGRAM
+        for k in range(2000):
+            self.write(f"P{k}", "some words\n" * 500)
+        running = self.start("wikitext", "-j", "2")
+        self.wait_for(lambda: len(workers_of(running.pid)) == 2 or running.poll() is not None)
+        self.assertIsNone(running.poll(), "it was too fast to be disturbed")
+        os.kill(nursery_of(running.pid)[0], signal.SIGKILL)
+        told = running.communicate()[1].decode()
+        self.assertEqual(running.returncode, 1, told)
+        self.assertIn("the process that starts the others was ended", told)
+        self.assertNotIn("Traceback", told)
+        self.assertEqual(self.report("wikitext")["outcomes"]["wikitext"], {"came back": 2000})
 
 
 def children_of(process_id: int) -> "list[int]":
@@ -616,11 +649,21 @@ def children_of(process_id: int) -> "list[int]":
     return children
 
 
-def is_worker(process_id: int) -> bool:
+def is_named(process_id: int, name: str) -> bool:
     try:
-        return b"wtround_batch.worker" in Path(f"/proc/{process_id}/cmdline").read_bytes()
+        return Path(f"/proc/{process_id}/comm").read_text().rstrip("\n") == name
     except OSError:
         return False
+
+
+def nursery_of(leader: int) -> "list[int]":
+    """The process that forks the workers, where it is there by now."""
+    return [process_id for process_id in children_of(leader) if is_named(process_id, "batch-nursery")]
+
+
+def workers_of(leader: int) -> "list[int]":
+    children = [child for nursery in nursery_of(leader) for child in children_of(nursery)]
+    return [process_id for process_id in children if is_named(process_id, "batch-worker")]
 
 
 class Lint(BatchCase):
@@ -669,6 +712,34 @@ class OtherBytes(BatchCase):
         self.assertEqual(
             self.failures(report), [("Bad", "wikitext", "the page that came back differs from byte 1 on")]
         )
+
+
+class FileNames(unittest.TestCase):
+    """Names of files that need no reading are taken for the title that reading them gives."""
+
+    def title_by_reading(self, name: str) -> "str | None":
+        try:
+            title = wiki.full_name(unquote(name[: -len(".wiki")]))
+        except wiki.importer.BadTitle:
+            return None
+        return title if wiki.importer.file_name(title) == name else None
+
+    def title_of_file(self, name: str) -> "str | None":
+        try:
+            return wiki.title_of_file(name)
+        except wiki.importer.BadTitle:
+            return None
+
+    def test_every_short_name(self) -> None:
+        signs = ["A", "b", "7", "_", "-", ".", "~", ":", " ", "é", "%", "%3A", "%2F", "%C3%A9", "Talk", "\n"]
+        stems = ["".join(stem) for length in range(5) for stem in product(signs, repeat=length)]
+        stems += [letter * count for letter in ("A", "A_", "7-") for count in (127, 128, 254, 255, 256)]
+        plain = 0
+        for stem in stems:
+            name = stem + ".wiki"
+            self.assertEqual(self.title_of_file(name), self.title_by_reading(name), name)
+            plain += wiki.PLAIN_FILE.fullmatch(name) is not None
+        self.assertGreater(plain, 500)
 
 
 class Words(BatchCase):

@@ -7,22 +7,21 @@ import signal
 import sqlite3
 import sys
 from contextlib import closing, contextmanager
-from typing import Callable, Iterator, TextIO
+from typing import Callable, Iterator
 
-from .program import ProgramError, digest_of_file, find_program, refuse_unfit
+from .nursery import STOPPING, Nursery, NurseryError
+from .program import ProgramError, find_program, refuse_unfit
 from .progress import Progress, spelled_time
-from .report import About, Report, write_json
-from .report_html import write_html
 from .results import COMMANDS, DIFFERS, FAILURE_WORDS, OUTCOMES
 from .run import Choice, Counts, Run, Source, Target
 from .siblings import importer
 from .store import Export, Store, StoreError
 from .wiki import Folder, Namespaces
-from .worker import Orders
+from .worker import Orders, work
 
 PROGRAM = "wtround-batch"
 STATE = "wtround-batch.sqlite"
-STOPPING = (signal.SIGINT, signal.SIGTERM, signal.SIGHUP)
+WORDS_OF_SPREAD = ("cases", "answers", "gather")
 EPILOG = """\
 COMMANDS is one of these words, or several joined by commas:
 
@@ -205,43 +204,20 @@ def told(counts: Counts, total: int) -> str:
     return f"{text}; {spelled_time(counts.seconds)}{rate}" if counts.seconds else text
 
 
-def told_of(report: Report) -> str:
-    """What came of the pages of a report, in a line."""
-    counts = Counts(pages=report.figures.pages)
-    for outcomes in report.figures.outcomes.values():
-        counts.outcomes.update(outcomes)
-    return told(counts, counts.pages)
-
-
-def write_report(report: Report) -> None:
-    """Writes both files of a report, each whole or not at all."""
-    writers: "list[tuple[str, Callable[[Report, TextIO], None]]]" = [
-        (report.path, write_html),
-        (report.json_path, write_json),
-    ]
-    for path, write in writers:
-        temporary = f"{path}.part-{os.getpid()}"
-        with open(temporary, "w", encoding="utf-8", errors="backslashreplace") as file:
-            write(report, file)
-        os.replace(temporary, path)
-
-
-def run_all(arguments: argparse.Namespace, program: str, store: Store, progress: Progress) -> int:
+def run_all(
+    arguments: argparse.Namespace, program: str, nursery: Nursery, store: Store, progress: Progress
+) -> int:
     with closing(read_source(arguments, store, progress)) as source:
         orders = orders_of(arguments, program, store)
         target = Target(store, orders, arguments.json or arguments.output, arguments.again)
         choice = Choice(Namespaces.chosen(arguments.namespace), arguments.list)
-        run = Run(store, source, choice, orders, target, digest_of_file(program))
+        run = Run(store, source, choice, orders, target)
         with stopped_by_signals(run):
-            run.go(jobs_of(arguments), progress)
+            run.go(nursery, jobs_of(arguments), progress)
         progress.clear()
         is_whole = arguments.export is None or store.about("export whole") == "yes"
         if arguments.report is not None:
-            write_report(
-                Report(
-                    store, source, run.number, about_run(arguments, run, source, is_whole), arguments.report
-                )
-            )
+            write_report(arguments, run, store, source, is_whole)
     print(told(run.counts, run.total), file=sys.stderr)
     if run.is_stopped:
         print(f"{PROGRAM}: stopped; the same words go on from here", file=sys.stderr)
@@ -257,8 +233,13 @@ def jobs_of(arguments: argparse.Namespace) -> int:
     return int(arguments.jobs or len(os.sched_getaffinity(0)))
 
 
-def about_run(arguments: argparse.Namespace, run: Run, source: Source, is_whole: bool) -> About:
-    return About(
+def write_report(
+    arguments: argparse.Namespace, run: Run, store: Store, source: Source, is_whole: bool
+) -> None:
+    from .report import About, Report  # only where one is wanted, so that the other runs begin sooner
+    from .report_html import write_files
+
+    about = About(
         source=source.describe(),
         commands=arguments.commands,
         program=run.program,
@@ -268,6 +249,7 @@ def about_run(arguments: argparse.Namespace, run: Run, source: Source, is_whole:
         is_finished=not run.is_stopped,
         export_is_whole=is_whole,
     )
+    write_files(Report(store, source, run.number, about, arguments.report))
 
 
 def refuse_arguments(parser: argparse.ArgumentParser, arguments: argparse.Namespace) -> None:
@@ -289,27 +271,26 @@ def main_of_run(words: "list[str]") -> int:
     program = find_program(arguments.program)
     refuse_unfit(program, arguments.commands)
     progress = Progress(sys.stderr, arguments.quiet)
-    store = Store(arguments.state)
-    try:
-        return run_all(arguments, program, store, progress)
-    finally:
-        progress.clear()
-        store.close()
+    with closing(Nursery(work)) as nursery, closing(Store(arguments.state)) as store:
+        try:
+            return run_all(arguments, program, nursery, store, progress)
+        finally:
+            progress.clear()
 
 
 def main() -> int:
-    from . import spread  # which uses what stands above
-
     words = sys.argv[1:]
     sys.stdout.reconfigure(errors="backslashreplace")  # type: ignore[attr-defined]
     try:
-        if words and words[0] in spread.WORDS:
+        if words and words[0] in WORDS_OF_SPREAD:
+            from . import spread  # which uses what stands above
+
             return spread.WORDS[words[0]](words[1:])
         return main_of_run(words)
     except ProgramError as error:
         print(f"{PROGRAM}: {error}", file=sys.stderr)
         return 2
-    except (StoreError, importer.ExportError, sqlite3.Error) as error:
+    except (StoreError, NurseryError, importer.ExportError, sqlite3.Error) as error:
         print(f"{PROGRAM}: {error}", file=sys.stderr)
         return 1
     except OSError as error:

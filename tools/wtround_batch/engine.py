@@ -3,15 +3,14 @@ from __future__ import annotations
 
 import os
 import selectors
-import subprocess
-import sys
+import socket
+import time
 from collections import deque
 from dataclasses import asdict, dataclass, replace
 from typing import Callable, Generator, Iterator
 
-from .program import end_with_parent
+from .nursery import Nursery
 from .results import DIED, Examined, Known, Result
-from .siblings import PACKAGE_PARENT
 from .worker import FrameReader, Orders, examined_from_json, known_as_json, write_frame
 
 BATCH_PAGES = 16
@@ -50,28 +49,25 @@ class Done:
 
 
 class Worker:
-    def __init__(self, orders: Orders) -> None:
-        environment = {**os.environ, "PYTHONPATH": PACKAGE_PARENT}
-        self.process = subprocess.Popen(
-            [sys.executable, "-B", "-m", "wtround_batch.worker"],
-            stdin=subprocess.PIPE,
-            stdout=subprocess.PIPE,
-            env=environment,
-            preexec_fn=end_with_parent,
-        )
+    """A process that works off batches, as the one that leads sees it."""
+
+    def __init__(self, nursery: Nursery, orders: Orders) -> None:
+        self._nursery = nursery
+        self._process_id, self.stream = nursery.start()
+        self._target = self.stream.makefile("wb")
+        self._frames = FrameReader(self.stream)
         self.batches: "deque[list[Task]]" = deque()
         self.processor = orders.processor
-        assert self.process.stdin is not None and self.process.stdout is not None
-        self.output = self.process.stdout.fileno()
-        self._frames = FrameReader(self.output)
-        write_frame(self.process.stdin, asdict(orders))
+        self._write(asdict(orders))
 
     def send(self, batch: "list[Task]") -> None:
         self.batches.append(batch)
-        assert self.process.stdin is not None
+        self._write({"pages": [task.as_json() for task in batch]})
+
+    def _write(self, header: "dict[str, object]") -> None:
         try:
-            write_frame(self.process.stdin, {"pages": [task.as_json() for task in batch]})
-        except BrokenPipeError:
+            write_frame(self._target, header)
+        except ConnectionError:
             pass  # its end is found when it is read
 
     def receive(self) -> "list[Done] | None":
@@ -86,26 +82,29 @@ class Worker:
             for header, output in frames
         ]
 
-    def close(self) -> None:
-        """Lets the worker end, which ends its program; one that doesn't is ended."""
-        assert self.process.stdin is not None and self.process.stdout is not None
+    def let_end(self) -> None:
+        """Lets the worker end when it is through with what it has; that it has is seen when it is read."""
         try:
-            self.process.stdin.close()
-        except BrokenPipeError:
-            pass
-        self.process.stdout.close()
-        try:
-            self.process.wait(timeout=0.5)
-        except subprocess.TimeoutExpired:
-            self.process.kill()
-            self.process.wait()
+            self.stream.shutdown(socket.SHUT_WR)
+        except OSError:
+            pass  # it has ended
+
+    def end(self) -> int:
+        """Ends the worker, and returns its exit status."""
+        self.stream.close()
+        return self._nursery.end(self._process_id)
 
 
-def batches_of(tasks: "Iterator[Task]", most: int) -> "Iterator[list[Task]]":
+def batches_of(tasks: "Iterator[Task]", pages: int, jobs: int) -> "Iterator[list[Task]]":
+    """The tasks by batches. `pages`: how many tasks there are at most.
+
+    The last batches are small, so that all workers end at about the same time.
+    """
     batch: "list[Task]" = []
-    size = 0
+    size, left = 0, pages
     for task in tasks:
-        if batch and (len(batch) >= most or size + task.size > BATCH_BYTES):
+        if batch and (len(batch) >= min(BATCH_PAGES, left // (jobs * 8)) or size + task.size > BATCH_BYTES):
+            left -= len(batch)
             yield batch
             batch, size = [], 0
         batch.append(task)
@@ -117,8 +116,10 @@ def batches_of(tasks: "Iterator[Task]", most: int) -> "Iterator[list[Task]]":
 class Engine:
     """Works tasks off on several processes. A process that ends takes no more than one page with it."""
 
-    def __init__(self, orders: Orders, jobs: int, is_stopped: "Callable[[], bool]") -> None:
-        """The processes begin at once, since beginning takes them a while in which the pages can be counted."""
+    def __init__(
+        self, nursery: Nursery, orders: Orders, jobs: int, is_stopped: "Callable[[], bool]"
+    ) -> None:
+        self._nursery = nursery
         self._orders = orders
         self._is_stopped = is_stopped
         self._jobs = jobs
@@ -127,17 +128,21 @@ class Engine:
         self._again: "deque[list[Task]]" = deque()  # pages whose worker ended, each by itself
         processors = sorted(os.sched_getaffinity(0))
         self._free_processors = processors if len(processors) == jobs else []
-        for _ in range(jobs):
-            self._start_worker()
 
     def close(self) -> None:
+        """Lets all workers end, and waits for them a little while."""
         for worker in self._workers:
-            worker.close()
+            worker.let_end()
+        end = time.monotonic() + STOP_SECONDS
+        while self._workers and time.monotonic() < end:
+            for key, _ in self._selector.select(max(0.0, end - time.monotonic())):
+                if key.data.receive() is None:
+                    self._remove(key.data)
         self._selector.close()
 
     def run(self, tasks: "Iterator[Task]", pages: int) -> "Generator[Done, None, None]":
         """`pages`: how many tasks there are at most."""
-        batches = batches_of(tasks, max(1, min(BATCH_PAGES, pages // (self._jobs * 8))))
+        batches = batches_of(tasks, pages, self._jobs)
         try:
             while not self._is_stopped():
                 self._hand_out(batches)
@@ -163,26 +168,30 @@ class Engine:
 
     def _start_worker(self) -> None:
         processor = self._free_processors.pop(0) if self._free_processors else None
-        worker = Worker(replace(self._orders, processor=processor))
+        worker = Worker(self._nursery, replace(self._orders, processor=processor))
         self._workers.append(worker)
-        self._selector.register(worker.output, selectors.EVENT_READ, worker)
+        self._selector.register(worker.stream, selectors.EVENT_READ, worker)
+
+    def _remove(self, worker: Worker) -> int:
+        """Takes a worker away that has ended, and returns its exit status."""
+        self._selector.unregister(worker.stream)
+        self._workers.remove(worker)
+        if worker.processor is not None:
+            self._free_processors.append(worker.processor)
+        return worker.end()
 
     def _received(self, worker: Worker) -> "list[Done]":
         done = worker.receive()
         if done is not None:
             return done
-        self._selector.unregister(worker.output)
-        self._workers.remove(worker)
-        worker.close()
-        if worker.processor is not None:
-            self._free_processors.append(worker.processor)
+        status = self._remove(worker)
         # Each page is tried by itself, so that the one at fault is found.
         at_fault = worker.batches.popleft() if worker.batches and len(worker.batches[0]) == 1 else []
         self._again.extend([task] for batch in worker.batches for task in batch)
         if not at_fault:
             return []
         task = at_fault[0]
-        failure = Result(DIED, f"the worker ended with status {worker.process.returncode}")
+        failure = Result(DIED, f"the worker ended with status {status}")
         nothing = Known("", b"", [], b"")
         return [
             Done(

@@ -281,8 +281,8 @@ class Examiner:
 def explanation(line: str, title: str, text: bytes, look: "Callable[[str], bytes | None]") -> str:
     """What `explain` says of a refusal, as JSON; empty where it says nothing."""
     try:
-        refusal = explainer.read_refusal(line)
-    except explainer.ExplainError:
+        refusal = explainer().read_refusal(line)
+    except explainer().ExplainError:
         return ""
     said: "dict[str, object]" = {"advice": refusal.advice}
     page, data = title, text
@@ -290,12 +290,12 @@ def explanation(line: str, title: str, text: bytes, look: "Callable[[str], bytes
         page, data = refusal.title, look(refusal.title) or b""
     place = refusal.locate(data, refusal.number) if refusal.locate is not None else None
     if place is not None:
-        spot = explainer.spot(data, place)
+        spot = explainer().spot(data, place)
         said.update(
             page=page,
             line=spot.line,
             column=spot.column,
-            shown=explainer.line_with_caret(spot.before, spot.after),
+            shown=explainer().line_with_caret(spot.before, spot.after),
         )
     return json.dumps(said, ensure_ascii=False)
 

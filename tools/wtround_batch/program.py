@@ -21,8 +21,12 @@ CHUNK = 1 << 20
 PIPE_BYTES = 1 << 20
 SET_PIPE_SIZE = 1031  # F_SETPIPE_SZ of Linux, which Python knows by name since 3.10
 PROBE_SECONDS = 10.0
-END_WITH_PARENT = 1  # PR_SET_PDEATHSIG of Linux
+END_WITH_PARENT, SET_NAME = 1, 15  # PR_SET_PDEATHSIG and PR_SET_NAME of Linux
 LIBC = ctypes.CDLL(None)
+# The C library keeps more of the small pieces of memory that a page gave back for the next one, without joining
+# them. With 100 of each size (in place of 7) 3 % of the instructions are saved, with all of them 5 %, but memory is
+# seven times as large.
+ENVIRONMENT = {"GLIBC_TUNABLES": "glibc.malloc.tcache_count=100"}
 
 
 class ProgramError(Exception):
@@ -104,6 +108,7 @@ class Cases:
         self._process: "subprocess.Popen[bytes] | None" = None
         self._is_fresh = True
         self._left = b""
+        self._room = memoryview(bytearray(CHUNK))
 
     def ask(self, line: bytes, deadline: float) -> Answer:
         """The answer to a case, before this moment of `time.monotonic`. Raises Died or TooSlow.
@@ -142,6 +147,7 @@ class Cases:
             stdout=subprocess.PIPE,
             stderr=subprocess.DEVNULL,
             bufsize=0,
+            env={**ENVIRONMENT, **os.environ},
             preexec_fn=self._limit,
         )
         for stream in (process.stdin, process.stdout):
@@ -175,7 +181,7 @@ class Cases:
             if not len(rest):
                 poll = select.poll()
                 poll.register(source, select.POLLIN)
-            chunk = read_some(source)
+            chunk = self._read_some(source)
             if chunk == b"":
                 raise Died(self._ending(process))
             if chunk:
@@ -184,6 +190,16 @@ class Cases:
                 if mark:
                     self._left = left
                     return b"".join(parts)
+
+    def _read_some(self, source: int) -> "bytes | None":
+        """What can be read now; None where nothing is there yet, empty at the end.
+
+        It is read into room that stays: the C library would ask the system for so much anew each time.
+        """
+        try:
+            return bytes(self._room[: os.readv(source, [self._room])])
+        except BlockingIOError:
+            return None
 
     def _write_some(self, target: int, rest: memoryview) -> int:
         try:
@@ -223,12 +239,9 @@ def end_with_parent() -> None:
     LIBC.prctl(END_WITH_PARENT, signal.SIGKILL)
 
 
-def read_some(source: int) -> "bytes | None":
-    """What can be read now; None where nothing is there yet, empty at the end."""
-    try:
-        return os.read(source, CHUNK)
-    except BlockingIOError:
-        return None
+def name_process(name: str) -> None:
+    """Gives this process a name, of at most fifteen bytes, that `ps` and `top` show."""
+    LIBC.prctl(SET_NAME, name.encode())
 
 
 def widen(descriptor: int) -> None:

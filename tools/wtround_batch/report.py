@@ -172,8 +172,8 @@ class Report:
             return ""
         if data is None or start > len(data):
             return ""
-        spot = explainer.spot(data, start)
-        return explainer.line_with_caret(spot.before, spot.after)
+        spot = explainer().spot(data, start)
+        return explainer().line_with_caret(spot.before, spot.after)
 
 
 # ---------------------------------------------------------------- JSON

@@ -1,12 +1,13 @@
 """The report as one HTML file, which needs nothing but a browser."""
 from __future__ import annotations
 
+import os
 import time
-from typing import Iterator, TextIO
+from typing import Callable, Iterator, TextIO
 
 from .charts import Bar, bars, escaped, histogram
 from .progress import spelled_time
-from .report import MOST_EXAMPLES, STEPS_OF_TIME, Failure, Report, step_of_time
+from .report import MOST_EXAMPLES, STEPS_OF_TIME, Failure, Report, step_of_time, write_json
 from .results import ANSWERED, DIFFERS, FAILURE_WORDS, OUTCOMES, REFUSED, SAME
 
 MOST_LISTED = 500  # pages of one reason; the JSON has all
@@ -342,3 +343,16 @@ def table(heads: "tuple[str, ...]", rows: "Iterator[tuple[str, ...]]") -> "Itera
 
 def write_html(report: Report, file: TextIO) -> None:
     Page(report, file).write()
+
+
+def write_files(report: Report) -> None:
+    """Writes both files of a report, each whole or not at all."""
+    writers: "list[tuple[str, Callable[[Report, TextIO], None]]]" = [
+        (report.path, write_html),
+        (report.json_path, write_json),
+    ]
+    for path, write in writers:
+        temporary = f"{path}.part-{os.getpid()}"
+        with open(temporary, "w", encoding="utf-8", errors="backslashreplace") as file:
+            write(report, file)
+        os.replace(temporary, path)

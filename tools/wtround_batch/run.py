@@ -5,9 +5,12 @@ import os
 import time
 from collections import Counter
 from dataclasses import dataclass, field
+from functools import cached_property
 from typing import BinaryIO, Iterator, Union
 
 from .engine import Done, Engine, Task
+from .nursery import Nursery
+from .program import digest_of_file
 from .progress import Progress
 from .results import FAILURE_WORDS, LIMITED, Examined, Known
 from .siblings import importer
@@ -28,6 +31,13 @@ class Choice:
 
     def titles(self, source: Source) -> "Iterator[Union[str, Skipped]]":
         return source.titles(self.namespaces) if self.list_path is None else listed_titles(self.list_path)
+
+    def count(self, source: Source) -> int:
+        """How many titles these are, with what is skipped."""
+        if self.list_path is None:
+            return source.count(self.namespaces)
+        with open(self.list_path, encoding="utf-8", errors="replace") as file:
+            return sum(1 for line in file if line.strip())
 
 
 def listed_titles(path: str) -> "Iterator[Union[str, Skipped]]":
@@ -118,35 +128,38 @@ class Target:
 
 class Run:
     def __init__(
-        self, store: Store, source: Source, choice: Choice, orders: Orders, target: Target, program: str
+        self, store: Store, source: Source, choice: Choice, orders: Orders, target: Target
     ) -> None:
         self._store = store
         self._source = source
         self._choice = choice
         self._orders = orders
         self._target = target
-        self.program = program  # its digest
-        self._makings = target.makings(program, orders)
         self._digests: "dict[str, bytes | None]" = {}
         self._next_commit = 0.0
         self.counts = Counts()
         self.is_stopped = False  # is set when the run shall end
         self.number = 0
-        self.total = 0
+        self._titles = 0  # with what is skipped
 
-    def go(self, jobs: int, progress: Progress) -> None:
+    @cached_property
+    def program(self) -> str:
+        """The digest of the program, made when it is first wanted: of a new wiki, while the workers work."""
+        return digest_of_file(self._orders.program)
+
+    @cached_property
+    def _makings(self) -> "tuple[str, str]":
+        return self._target.makings(self.program, self._orders)
+
+    def go(self, nursery: Nursery, jobs: int, progress: Progress) -> None:
         """Tries every chosen page, until it is stopped. What was stored stays stored, however this ends."""
         started = time.monotonic()
         self._store.clear_skipped("list")
         self.number = self._store.count_up("run")
-        engine = Engine(self._orders, jobs, lambda: self.is_stopped)
-        try:
-            self.total = self._count()
-            self._store.begin()
-        except BaseException:
-            engine.close()
-            raise
-        results = engine.run(self._tasks(), self.total)
+        self._titles = self._choice.count(self._source)
+        engine = Engine(nursery, self._orders, jobs, lambda: self.is_stopped)
+        self._store.begin()
+        results = engine.run(self._tasks(), self._titles)
         try:
             for done in results:
                 self._take(done)
@@ -156,16 +169,10 @@ class Run:
             self._commit()
             self.counts.seconds = time.monotonic() - started
 
-    def _count(self) -> int:
-        """The number of chosen pages; what is no page is told on the way."""
-        pages = 0
-        for title in self._choice.titles(self._source):
-            if isinstance(title, Skipped):
-                self.counts.skipped += 1
-                self._store.add_skipped(title, "list")
-            else:
-                pages += 1
-        return pages
+    @property
+    def total(self) -> int:
+        """The number of chosen pages, as far as is known which titles are none."""
+        return self._titles - self.counts.skipped
 
     def _tasks(self) -> "Iterator[Task]":
         """The pages that have to be tried. Those whose results hold are counted here."""
@@ -174,6 +181,8 @@ class Run:
             if self.is_stopped:
                 return
             if isinstance(title, Skipped):
+                self.counts.skipped += 1
+                self._store.add_skipped(title, "list")
                 continue
             entry = self._source.entry(title)
             known = None if is_new else self._store.known(title)

@@ -4,6 +4,7 @@ from __future__ import annotations
 import importlib.util
 import os
 import sys
+from functools import lru_cache
 from importlib.machinery import SourceFileLoader
 from types import ModuleType
 
@@ -34,4 +35,9 @@ def load(*names: str) -> ModuleType:
 
 
 importer = load("import-export-xml", "wtround-import")
-explainer = load("explain", "wtround-explain")
+
+
+@lru_cache(maxsize=None)
+def explainer() -> ModuleType:
+    """`explain`. It is loaded when it is first wanted, which most processes never do."""
+    return load("explain", "wtround-explain")

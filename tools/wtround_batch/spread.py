@@ -13,8 +13,9 @@ from .outputs import Lines, read_line
 from .program import Cases, case, find_program, refuse_unfit
 from .progress import Progress
 from .report import About, Report
+from .report_html import write_files
 from .results import Examined, Known
-from .run import Choice, Source
+from .run import Choice, Counts, Source
 from .siblings import importer
 from .store import Export, Store, digest_of, taken_digest
 from .wiki import Folder, Namespaces, Skipped
@@ -221,11 +222,19 @@ def gather(words: "list[str]") -> int:
                 export_is_whole=True,
             )
             report = Report(store, source, run, about, arguments.report)
-            one_machine.write_report(report)
-        print(one_machine.told_of(report), file=sys.stderr)
+            write_files(report)
+        print(told_of(report), file=sys.stderr)
     finally:
         store.close()
     return 0 if is_whole else 1
+
+
+def told_of(report: Report) -> str:
+    """What came of the pages of a report, in a line."""
+    counts = Counts(pages=report.figures.pages)
+    for outcomes in report.figures.outcomes.values():
+        counts.outcomes.update(outcomes)
+    return one_machine.told(counts, counts.pages)
 
 
 def take_answers(store: Store, run: int, files: "list[str]") -> "tuple[set[str], bool]":

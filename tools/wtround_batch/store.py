@@ -303,6 +303,12 @@ class Export:
                 if namespaces.hold(title, namespace):
                     yield title
 
+    def count(self, namespaces: Namespaces) -> int:
+        """How many titles `titles` gives."""
+        if namespaces.are_all:
+            return (self._one("SELECT count(*) FROM page") or (0,))[0]
+        return sum(1 for _ in self.titles(namespaces))
+
     def entry(self, title: str) -> Entry:
         row = self._one("SELECT digest, bytes, revision FROM page WHERE title = ?", title)
         return (

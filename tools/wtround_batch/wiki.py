@@ -1,6 +1,7 @@
 """The pages of a wiki: those of the folder that `wtround` reads, and those of an XML export."""
 from __future__ import annotations
 
+import io
 import os
 import re
 import time
@@ -12,6 +13,7 @@ from urllib.parse import quote, unquote_to_bytes
 from .siblings import importer
 
 SETTLED_NS = 2_000_000_000  # a file this old was not changed again within one tick of its clock
+PIECE = 1 << 16  # bytes of a file that are read at once
 NAMESPACE_NUMBERS = {
     "Talk": 1, "User": 2, "User talk": 3, "Project": 4, "Project talk": 5, "File": 6, "File talk": 7,
     "Template": 10, "Template talk": 11, "Help": 12, "Help talk": 13, "Category": 14, "Category talk": 15,
@@ -71,8 +73,12 @@ class Namespaces:
                 names.add("file" if name == "image" else name)
         return cls(frozenset(numbers), frozenset(names))
 
+    @property
+    def are_all(self) -> bool:
+        return not self.numbers and not self.names
+
     def hold(self, title: str, number: int) -> bool:
-        if not self.numbers and not self.names:
+        if self.are_all:
             return True
         prefix, colon, _ = title.partition(":")
         return number in self.numbers or bool(colon) and prefix.lower() in self.names
@@ -81,15 +87,37 @@ class Namespaces:
 # ---------------------------------------------------------------- a folder
 
 
+# Names of files that hold a title as it stands: no namespace, nothing escaped, one space between words.
+PLAIN_FILE = re.compile(r"[A-Z0-9][A-Za-z0-9-]*(_[A-Za-z0-9-]+)*\.wiki")
+
+
 def title_of_file(name: str) -> str:
     """The full name of the page that a file holds. Raises BadTitle where `wtround` never reads this file."""
+    stem = name[: -len(".wiki")]
+    if len(stem) <= importer.TITLE_LIMIT and PLAIN_FILE.fullmatch(name):
+        return stem.replace("_", " ")
     try:
-        title = full_name(unquote_to_bytes(name[: -len(".wiki")]).decode())
+        title = full_name(unquote_to_bytes(stem).decode())
     except UnicodeDecodeError:
         raise importer.BadTitle("its file name is not UTF-8") from None
     if importer.file_name(title) != name:
         raise importer.BadTitle(f"its file would be named {importer.file_name(title)}")
     return title
+
+
+def read_at_most(file: io.RawIOBase, most: int) -> bytes:
+    """So many bytes of a file at most.
+
+    They are read by pieces: to ask the system for the room of the longest page takes longer than most pages.
+    """
+    parts: "list[bytes]" = []
+    while most > 0:
+        part = file.read(min(most, PIECE))
+        if not part:
+            break
+        parts.append(part)
+        most -= len(part)
+    return b"".join(parts)
 
 
 class Folder:
@@ -99,17 +127,25 @@ class Folder:
         self.path = path
 
     def titles(self, namespaces: Namespaces) -> "Iterator[Union[str, Skipped]]":
+        for name in self._names():
+            try:
+                title = title_of_file(name)
+            except importer.BadTitle as error:
+                yield Skipped(name, str(error))
+                continue
+            if namespaces.hold(title, namespace_number(title)):
+                yield title
+
+    def _names(self) -> "Iterator[str]":
+        """The names of the files that hold pages, if what they are named is a title."""
         with os.scandir(self.path) as files:
             for file in files:
-                if not file.name.endswith(".wiki") or file.name.startswith(".import-"):
-                    continue
-                try:
-                    title = title_of_file(file.name)
-                except importer.BadTitle as error:
-                    yield Skipped(file.name, str(error))
-                    continue
-                if namespaces.hold(title, namespace_number(title)):
-                    yield title
+                if file.name.endswith(".wiki") and not file.name.startswith(".import-"):
+                    yield file.name
+
+    def count(self, namespaces: Namespaces) -> int:
+        """How many titles `titles` gives, with what is skipped."""
+        return sum(1 for _ in (self._names() if namespaces.are_all else self.titles(namespaces)))
 
     def file_of(self, title: str) -> str:
         return os.path.join(self.path, importer.file_name(title))
@@ -128,8 +164,8 @@ class Folder:
         Raises OSError where its file is there and cannot be read.
         """
         try:
-            with open(self.file_of(title), "rb") as file:
-                return file.read(importer.PAGE_LIMIT + 1)
+            with open(self.file_of(title), "rb", buffering=0) as file:
+                return read_at_most(file, importer.PAGE_LIMIT + 1)
         except FileNotFoundError:
             return None
         except OSError as error:

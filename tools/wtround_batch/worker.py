@@ -1,4 +1,4 @@
-"""A process that works off batches of pages with a `wtround_cases` of its own.
+"""What a process does that works off batches of pages with a `wtround_cases` of its own.
 
 It reads and writes frames: a line of JSON, with the number of bytes that follow it under `payload`. The
 first frame says what to do; each further one holds a batch, and is answered by one. It ends where its
@@ -9,8 +9,7 @@ from __future__ import annotations
 import json
 import os
 import queue
-import signal
-import sys
+import socket
 import threading
 from dataclasses import dataclass
 from typing import IO
@@ -22,7 +21,7 @@ from .results import Examined, Known, Result
 from .store import Export
 from .wiki import Folder
 
-PIPE_READ = 1 << 20
+MOST_READ = 1 << 16
 
 
 def write_frame(stream: "IO[bytes]", header: "dict[str, object]", payload: bytes = b"") -> None:
@@ -41,16 +40,19 @@ def read_frame(stream: "IO[bytes]") -> "tuple[dict, bytes] | None":
 
 
 class FrameReader:
-    """Reads frames from a pipe as they come, for a process that waits for several pipes at once."""
+    """Reads frames from a socket as they come, for a process that waits for several at once."""
 
-    def __init__(self, descriptor: int) -> None:
-        self._descriptor = descriptor
+    def __init__(self, stream: socket.socket) -> None:
+        self._stream = stream
         self._buffer = bytearray()
         self._header: "dict | None" = None
 
     def read(self) -> "list[tuple[dict, bytes]] | None":
-        """The frames that are whole after one more read; None at the end of the pipe."""
-        data = os.read(self._descriptor, PIPE_READ)
+        """The frames that are whole after one more read; None at the end."""
+        try:
+            data = self._stream.recv(MOST_READ)
+        except ConnectionError:  # the other side ended with something unread
+            data = b""
         if not data:
             return None
         self._buffer += data
@@ -132,49 +134,50 @@ def examined_from_json(value: dict) -> Examined:
     return Examined(value["title"], value["bytes"], known, results)
 
 
-def read_ahead(stream: "IO[bytes]", batches: "queue.Queue") -> None:
+def read_ahead(stream: "IO[bytes]", batches: "queue.SimpleQueue") -> None:
     """Takes what comes at once, so that the process that sends it never waits."""
-    while True:
-        frame = read_frame(stream)
+    frame: "tuple[dict, bytes] | None" = ({}, b"")
+    while frame is not None:
+        try:
+            frame = read_frame(stream)
+        except ConnectionError:
+            frame = None
         batches.put(frame)
-        if frame is None:
-            return
 
 
-def main() -> int:
-    signal.signal(signal.SIGINT, signal.SIG_IGN)  # the process that started this one ends it
-    first = read_frame(sys.stdin.buffer)
+def work(leader: socket.socket) -> None:
+    """What a worker does, with a socket to the process that leads."""
+    source, target = leader.makefile("rb"), leader.makefile("wb")
+    first = read_frame(source)
     if first is None:
-        return 0
+        return
     orders = Orders(**{name: value for name, value in first[0].items() if name != "payload"})
     if orders.processor is not None:
-        # The worker and its program take turns: where both run on one processor, neither wakes another one up.
+        # The worker and its program take turns: on one processor, neither has to wake another one up.
         os.sched_setaffinity(0, {orders.processor})
     cases = Cases(orders.program, orders.memory_limit)
-    sink = orders.sink()
     examiner = Examiner(cases, orders.source(), orders.time_limit, orders.output != "nothing")
-    batches: "queue.Queue" = queue.Queue()
-    threading.Thread(target=read_ahead, args=(sys.stdin.buffer, batches), daemon=True).start()
-    while True:
-        frame = batches.get()
-        if frame is None:
-            break
-        lines, done = [], []
-        for task in frame[0]["pages"]:
-            examined = examiner.examine(
-                task["title"],
-                task["stamp"],
-                orders.commands,
-                known_from_json(task["known"]),
-                held_from_json(task["held"]),
-            )
-            if examined.results:
-                lines.append(sink.take(examined, task["revision"]))
-            done.append(examined_as_json(examined))
-        write_frame(sys.stdout.buffer, {"pages": done}, sink.finish(b"".join(lines)))
+    sink = orders.sink()
+    batches: "queue.SimpleQueue" = queue.SimpleQueue()
+    threading.Thread(target=read_ahead, args=(source, batches), daemon=True).start()
+    try:
+        for frame in iter(batches.get, None):
+            pages, output = worked_off(frame[0]["pages"], orders.commands, examiner, sink)
+            write_frame(target, {"pages": pages}, output)
+    except ConnectionError:
+        pass  # nobody waits for it any more
     cases.close()
-    return 0
 
 
-if __name__ == "__main__":
-    sys.exit(main())
+def worked_off(
+    tasks: "list[dict]", commands: "list[str]", examiner: Examiner, sink: "Files | Lines | Nothing"
+) -> "tuple[list[dict], bytes]":
+    """What comes of the pages of a batch, and the bytes of their output where all goes into one file."""
+    lines, done = [], []
+    for task in tasks:
+        known, held = known_from_json(task["known"]), held_from_json(task["held"])
+        examined = examiner.examine(task["title"], task["stamp"], commands, known, held)
+        if examined.results:
+            lines.append(sink.take(examined, task["revision"]))
+        done.append(examined_as_json(examined))
+    return done, sink.finish(b"".join(lines))

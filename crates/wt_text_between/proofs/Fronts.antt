@@ -4,7 +4,7 @@ use Rattle.std.specs.Prelude.{if◌then◌else◌}
 use Rattle.std.proofs.lemmas.List.{take-append-drop}
 use Rattle.wt_span.specs.declared.form.Mode.TheVariants.{Page}
 use Rattle.wt_span.specs.declared.form.LexKind.{LexKind}
-use Rattle.wt_span.specs.declared.form.LexKind.TheVariants.{Chars, CommentLine, Comment, Raw, Include, Hidden, Entity, Opens, Closes, LinkOpen, LinkClose, Pipe, Equals}
+use Rattle.wt_span.specs.declared.form.LexKind.TheVariants.{Chars, Opens, Closes}
 use Rattle.wt_span.specs.Bytes.{is_break}
 use Rattle.wt_span.specs.Items.{Item}
 use Rattle.wt_span.specs.Lexemes.{Word, Cut, cuts, closed, words, form_at}
@@ -19,44 +19,35 @@ use Rattle.wt_spelling_laws.proofs.TextReads.{apart}
 use Rattle.wt_text_edits.specs.LonePages.{of_items}
 use Rattle.wt_text_edits.specs.TypedPages.{IsTypedPage}
 use Rattle.wt_text_edits.proofs.TypedItems.{items_cut, ItemsOf, items_are}
-use Rattle.wt_text_edits.proofs.TypedText.{IsShown, AreShown, shown_expanded, shown_unrefused}
+use Rattle.wt_text_edits.proofs.TypedText.{IsNoBrace, HaveNoBraces, shown_expanded, shown_unrefused}
 use Rattle.wt_prose.proofs.InFront.{Reads, InFront, reads_form, front_nothing, front_byte, its_items, read_items, read_words}
 use Rattle.wt_prose.proofs.ProseReading.{page_front}
-use Rattle.wt_text_between.specs.Between.{HasNoTag, EndsLine, HasNoComment, IsCalm, AreCalm, StandsBefore, StandsBehind}
+use Rattle.wt_text_between.specs.Between as is_spec
+use Rattle.wt_text_between.specs.Between.{HasNoTag, EndsLine, HasNoComment, StandsBefore, StandsBehind}
 use Rattle.wt_text_between.proofs.LineForms.{line_form, line_form_alone}
 
--- ---- lexemes that show something
+-- ---- lexemes that aren't runs of braces
 
-shown_kind : (kind : LexKind) → IsCalm kind → IsShown kind
-shown_kind Chars h = tt
-shown_kind CommentLine h = h
-shown_kind Comment h = h
-shown_kind Raw h = tt
-shown_kind Include h = h
-shown_kind Hidden h = h
-shown_kind (Entity c) h = tt
-shown_kind Opens h = h
-shown_kind Closes h = h
-shown_kind LinkOpen h = h
-shown_kind LinkClose h = h
-shown_kind Pipe h = h
-shown_kind Equals h = tt
+kind_same : (kind : LexKind) → is_spec.IsNoBrace kind → IsNoBrace kind
+kind_same Opens h = h
+kind_same Closes h = h
+kind_same k h = tt
 
-all_shown : (ws : List Word) → AreCalm ws → AreShown ws
-all_shown [] h = tt
-all_shown ((kind, n) ∷ ws) h = (shown_kind kind h.0, all_shown ws h.1)
+all_same : (ws : List Word) → is_spec.HaveNoBraces ws → HaveNoBraces ws
+all_same [] h = tt
+all_same ((kind, n) ∷ ws) h = (kind_same kind h.0, all_same ws h.1)
 
-open_by : (t : Bool) (n : ℕ) (ws : List Word) → AreShown (if t then ws else (Chars, n) ∷ ws) → AreShown ws
+open_by : (t : Bool) (n : ℕ) (ws : List Word) → HaveNoBraces (if t then ws else (Chars, n) ∷ ws) → HaveNoBraces ws
 open_by true n ws h = h
 open_by false n ws h = h.1
 
-opened : (c : Cut) → AreShown (closed c.0 c.1) → AreShown c.1
+opened : (c : Cut) → HaveNoBraces (closed c.0 c.1) → HaveNoBraces c.1
 unfolding closed
 opened (n, ws) h = open_by (n == 0) n ws h
 
-words_shown : (bs : List ℕ) → AreCalm (words Page bs) → AreShown (cuts Page false 0 bs).1
+words_shown : (bs : List ℕ) → is_spec.HaveNoBraces (words Page bs) → HaveNoBraces (cuts Page false 0 bs).1
 unfolding words
-words_shown bs h = opened (cuts Page false 0 bs) (all_shown (closed (cuts Page false 0 bs).0 (cuts Page false 0 bs).1) h)
+words_shown bs h = opened (cuts Page false 0 bs) (all_same (closed (cuts Page false 0 bs).0 (cuts Page false 0 bs).1) h)
 
 -- ---- one form in front
 
@@ -64,7 +55,7 @@ no_comments : (q rest : List ℕ) → HasNoTag q → NoComments rest → NoComme
 no_comments [] rest t n = n
 no_comments (b ∷ q) rest t n = (comment_other b (q ++ rest) (apart b 60 t.0), no_comments q rest t.1 n)
 
-front_form : (kind : LexKind) (b : ℕ) (q r : List ℕ) → IsShown kind → HasNoTag (b ∷ q)
+front_form : (kind : LexKind) (b : ℕ) (q r : List ℕ) → IsNoBrace kind → HasNoTag (b ∷ q)
     → ((rest : List ℕ) → form_at Page false (b ∷ (q ++ (r ++ rest))) ≡ Some (kind, suc (length q))) → InFront r → InFront (b ∷ (q ++ r))
 front_form kind b q r k t f g =
     let own : List Item = items_of_word kind (b ∷ q) in
@@ -99,10 +90,10 @@ none_dropped [] = refl
 none_dropped (b ∷ q) = refl
 
 by_form : (x : ℕ) (q : List ℕ) (a : Bool) (o : Option Word) → form_at Page false (x ∷ q) ≡ o → HasNoTag (x ∷ q) → EndsLine (x ∷ q)
-    → AreShown (cuts Page a 0 (x ∷ q)).1 → ((j : ℕ) → j ≤ length q → AreShown (cuts Page (is_break x) j q).1 → InFront (drop j q)) → InFront (x ∷ q)
+    → HaveNoBraces (cuts Page a 0 (x ∷ q)).1 → ((j : ℕ) → j ≤ length q → HaveNoBraces (cuts Page (is_break x) j q).1 → InFront (drop j q)) → InFront (x ∷ q)
 by_form x q a None is t e h go =
-    let shown : AreShown (cuts Page (is_break x) 0 q).1 =
-    subst (λ (c : Cut). AreShown c.1) (cuts_cons Page a x q None (line_form_alone a x q t e ∙ is)) h in
+    let shown : HaveNoBraces (cuts Page (is_break x) 0 q).1 =
+    subst (λ (c : Cut). HaveNoBraces c.1) (cuts_cons Page a x q None (line_form_alone a x q t e ∙ is)) h in
     front_byte x q (λ rest. line_form false x q rest t e ∙ is) (λ rest. comment_other x (q ++ rest) (apart x 60 t.0))
     (subst InFront (none_dropped q) (go 0 (omega arith) shown))
 by_form x q a (Some (kind, zero)) is t e h go = let f = form_fits Page false (x ∷ q) (kind, zero) is in absurd (omega (arith, f.some))
@@ -110,9 +101,9 @@ by_form x q a (Some (kind, suc j)) is t e h go =
     let f = form_fits Page false (x ∷ q) (kind, suc j) is in
     let le : j ≤ length q = omega (arith, f.within) in
     let z : suc j - 1 ≡ j = omega arith in
-    let s = subst (λ (c : Cut). AreShown c.1) (cuts_cons Page a x q (Some (kind, suc j)) (line_form_alone a x q t e ∙ is)) h in
-    let shown : AreShown (cuts Page (is_break x) j q).1 =
-    subst (λ (n : ℕ). AreShown (cuts Page (is_break x) n q).1) z (opened (cuts Page (is_break x) (suc j - 1) q) s.1) in
+    let s = subst (λ (c : Cut). HaveNoBraces c.1) (cuts_cons Page a x q (Some (kind, suc j)) (line_form_alone a x q t e ∙ is)) h in
+    let shown : HaveNoBraces (cuts Page (is_break x) j q).1 =
+    subst (λ (n : ℕ). HaveNoBraces (cuts Page (is_break x) n q).1) z (opened (cuts Page (is_break x) (suc j - 1) q) s.1) in
     let long : length (take j q) ≡ j = taken_long j q le in
     let split : take j q ++ drop j q ≡ q = take-append-drop j q in
     let form : (rest : List ℕ) → form_at Page false (x ∷ (take j q ++ (drop j q ++ rest))) ≡ Some (kind, suc (length (take j q))) =
@@ -120,7 +111,7 @@ by_form x q a (Some (kind, suc j)) is t e h go =
     ∙ line_form false x q rest t e ∙ is ∙ ap (λ (n : ℕ). Some (kind, suc n)) (sym long) in
     subst (λ bs. InFront (x ∷ bs)) split (front_form kind x (take j q) (drop j q) s.0 (t.0, no_tag_taken j q t.1) form (go j le shown))
 
-front_lines : (n : ℕ) (a : Bool) (q : List ℕ) → n ≤ length q → HasNoTag q → EndsLine q → AreShown (cuts Page a n q).1 → InFront (drop n q)
+front_lines : (n : ℕ) (a : Bool) (q : List ℕ) → n ≤ length q → HasNoTag q → EndsLine q → HaveNoBraces (cuts Page a n q).1 → InFront (drop n q)
 front_lines zero a [] le t e h = front_nothing
 front_lines (suc n) a [] le t e h = absurd (omega (arith, le))
 front_lines (suc n) a (x ∷ q) le t e h = front_lines n (is_break x) q (omega (arith, le)) t.1 (ends_behind x q e) h
@@ -128,7 +119,7 @@ front_lines zero a (x ∷ q) le t e h =
     by_form x q a (form_at Page false (x ∷ q)) refl t e h (λ j le shown. front_lines j (is_break x) q le t.1 (ends_behind x q e) shown)
 
 before_reads : (bs : List ℕ) → StandsBefore bs → InFront bs
-before_reads bs h = subst InFront (none_dropped bs) (front_lines 0 false bs (omega arith) h.untagged h.ends (words_shown bs h.calm))
+before_reads bs h = subst InFront (none_dropped bs) (front_lines 0 false bs (omega arith) h.untagged h.ends (words_shown bs h.uncalled))
 
 -- ---- what stands behind
 
@@ -150,7 +141,7 @@ behind_reads bs h =
     let items : ItemsOf bs xs = λ after. ap (items_cut bs) (cuts_same after bs n) in
     let reads : Reads bs xs = record {
       items = items;
-      shown = λ after. subst (λ (c : Cut). AreShown c.1) (sym (cuts_same after bs n)) (words_shown bs h.calm);
+      shown = λ after. subst (λ (c : Cut). HaveNoBraces c.1) (sym (cuts_same after bs n)) (words_shown bs h.uncalled);
       clean = n;
     } in
     subst (Reads bs) (sym (items_are bs xs items)) reads

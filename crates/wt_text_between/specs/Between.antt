@@ -26,35 +26,35 @@ HasNoComment (b ∷ bs) = (comment_len (b ∷ bs) ≡ None) × HasNoComment bs
 
 -- ---- lexemes
 
--- characters, references, `=`, nowikis and extensions: no braces that stand side by side, no `[[`, `]]` or `|`, no comment and no include tag
-abbrev pub IsCalm : LexKind → Type 0
-IsCalm Chars = Unit {0}
-IsCalm CommentLine = ⊥
-IsCalm Comment = ⊥
-IsCalm Raw = Unit {0}
-IsCalm Include = ⊥
-IsCalm Hidden = ⊥
-IsCalm (Entity c) = Unit {0}
-IsCalm Opens = ⊥
-IsCalm Closes = ⊥
-IsCalm LinkOpen = ⊥
-IsCalm LinkClose = ⊥
-IsCalm Pipe = ⊥
-IsCalm Equals = Unit {0}
+-- no run of braces, of which calls and arguments are made
+abbrev pub IsNoBrace : LexKind → Type 0
+IsNoBrace Chars = Unit {0}
+IsNoBrace CommentLine = Unit {0}
+IsNoBrace Comment = Unit {0}
+IsNoBrace Raw = Unit {0}
+IsNoBrace Include = Unit {0}
+IsNoBrace Hidden = Unit {0}
+IsNoBrace (Entity c) = Unit {0}
+IsNoBrace Opens = ⊥
+IsNoBrace Closes = ⊥
+IsNoBrace LinkOpen = Unit {0}
+IsNoBrace LinkClose = Unit {0}
+IsNoBrace Pipe = Unit {0}
+IsNoBrace Equals = Unit {0}
 
-abbrev pub AreCalm : List Word → Type 0
-AreCalm [] = Unit {0}
-AreCalm ((kind, n) ∷ ws) = IsCalm kind × AreCalm ws
+abbrev pub HaveNoBraces : List Word → Type 0
+HaveNoBraces [] = Unit {0}
+HaveNoBraces ((kind, n) ∷ ws) = IsNoBrace kind × HaveNoBraces ws
 
 -- ---- the parts of a page
 
--- Before the text: lines, as of paragraphs, headings, lists and rules, with bold and italic text, addresses and references.
+-- Before the text: nothing, or lines of any kind without `<` and without two braces side by side.
 pub record StandsBefore (bs : List ℕ) : Type 0 where
   pub ends : EndsLine bs
   pub untagged : HasNoTag bs
-  pub calm : AreCalm (words Page bs)
+  pub uncalled : HaveNoBraces (words Page bs)
 
--- Behind it: the same, where tags may stand, too, but no comments.
+-- Behind it: anything in which no comment begins and no two braces stand side by side.
 pub record StandsBehind (bs : List ℕ) : Type 0 where
   pub uncommented : HasNoComment bs
-  pub calm : AreCalm (words Page bs)
+  pub uncalled : HaveNoBraces (words Page bs)
