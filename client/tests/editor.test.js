@@ -366,7 +366,7 @@ test("a template that is cut and pasted in its paragraph moves", { skip }, async
   await tab.press("Delete");
   await select(" and more", 4);
   await paste(html, "Troppau");
-  assert.equal(await stored(), PAGE.replace("{{lang|de|Troppau}} and", " and{{lang|de|Troppau}}"));
+  assert.equal(await stored(), PAGE.replace("{{lang|de|Troppau}} and", " and<nowiki/>{{lang|de|Troppau}}"));
 });
 
 test("a copied template becomes its text, a copied reference is left out with a word", { skip }, async () => {
