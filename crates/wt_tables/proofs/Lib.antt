@@ -4,7 +4,6 @@ pub mod CellSteps
 pub mod Cuts
 pub mod Cutting
 pub mod Ends
-pub mod Nesting
 pub mod Numbers
 pub mod Opens
 pub mod PartLines

@@ -1,14 +1,13 @@
 -- Worked cases of the definitions, each by computing.
 use Rattle.std.proofs.Common.{◌≡◌, ℕ, Bool, true, false, None, List, [], ◌∷◌, ◌++◌, map, refl}
-use Rattle.std.specs.Prelude.{codes, replicate}
+use Rattle.std.specs.Prelude.{codes}
 use Rattle.wt_span.specs.declared.form.ItemForm.TheVariants as form
 use Rattle.wt_span.specs.Items.{Item, char, whole}
 use Rattle.wt_tree.specs.declared.kind.AttrName.TheVariants as attr
 use Rattle.wt_lines.specs.declared.kind.LineKind.{LineKind}
 use Rattle.wt_lines.specs.declared.kind.LineKind.TheVariants as kind
-use Rattle.wt_lines.specs.Kinds.{kind_of_signs}
 use Rattle.wt_attributes.specs.Attributes.{Named, begins_any_case, name_at, quoted, bare, value_at, past_blanks, assigned, attribute_at, attributes}
-use Rattle.wt_tables.specs.Extents.{kinds, inner_len}
+use Rattle.wt_tables.specs.Extents.{inner_len}
 use Rattle.wt_tables.specs.Cells.{Cell, single_at, bar_at, cell_of, cells, table_attributes, row_attributes}
 use Rattle.wt_tables.specs.Parts.{RowOf, table_of}
 
@@ -16,14 +15,6 @@ abbrev text : List ℕ → List Item
 text bs = map (char None) bs
 
 -- ---- extents
-
--- a table with a header line, a row line and a line of cells
-abbrev five : List (List Item)
-five = text (codes "{| class=\"t\"") ∷ text (codes "! x !! y") ∷ text (codes "|-") ∷ text (codes "| a || b") ∷ text (codes "|}") ∷ []
-
-five_kinds : kinds 0 five ≡ kind.TableOpen ∷ kind.Header ∷ kind.Row ∷ kind.Cell ∷ kind.TableEnd ∷ []
-unfolding kind_of_signs
-five_kinds = refl
 
 -- how far a table goes, of the lines behind the one that opens it
 five_lines : inner_len (kind.Header ∷ kind.Row ∷ kind.Cell ∷ kind.TableEnd ∷ []) ≡ 4
@@ -39,18 +30,6 @@ unclosed = refl
 nested : inner_len (kind.TableOpen ∷ kind.TableEnd ∷ kind.TableOpen ∷ kind.TableEnd ∷ kind.TableEnd ∷ kind.Text ∷ []) ≡ 5
 unfolding inner_len
 nested = refl
-
--- outside a table no line ends one
-outside : kinds 0 (text (codes "|}") ∷ text (codes "{|") ∷ text (codes "|}") ∷ text (codes "|}") ∷ []) ≡ kind.Text
-    ∷ kind.TableOpen ∷ kind.TableEnd ∷ kind.Text ∷ []
-unfolding kind_of_signs
-outside = refl
-
--- the seventeenth of nested tables isn't opened, and then the first line that ends one ends the sixteenth
-seventeen : kinds 0 (replicate 17 (text (codes "{|")) ++ text (codes "|}") ∷ text (codes "{|") ∷ []) ≡ replicate 16 kind.TableOpen
-    ++ (kind.Text ∷ kind.TableEnd ∷ kind.TableOpen ∷ [])
-unfolding kind_of_signs
-seventeen = refl
 
 -- ---- cells
 

@@ -1,14 +1,11 @@
 -- How far tables go, by counts over the kinds of lines.
-use Rattle.std.specs.Prelude.{◌≡◌, ℕ, suc, ◌+◌, ◌-◌, ◌==◌, Bool, true, false, Some, List, [], ◌∷◌, length, take, drop, min, slice_get}
+use Rattle.std.specs.Prelude.{ℕ, suc, ◌-◌, ◌==◌, Bool, true, false, List, length, take, min}
 use Rattle.std.specs.List.{count_by, position_or_len, range_with_len}
-use Rattle.wt_span.specs.Items.{Item}
 use Rattle.wt_lines.specs.declared.kind.LineKind.{LineKind}
 use Rattle.wt_lines.specs.declared.kind.LineKind.TheVariants as kind
-use Rattle.wt_lines.specs.Kinds.{line_kind}
 
--- ---- the kinds of lines
-
--- how many tables are open behind a line of this kind, at which so many are
+-- How many tables are open behind a line of this kind, at which so many are. A table is open at the lines after the one that opens it,
+-- up to and with the one that ends it.
 abbrev pub behind : ℕ → LineKind → ℕ
 behind n kind.Blank = n
 behind n kind.TableOpen = suc n
@@ -22,12 +19,6 @@ behind n kind.Rule = n
 behind n kind.List = n
 behind n kind.Pre = n
 behind n kind.Text = n
-
--- Kinds are given from the first line on, at which `n` tables are open. A table is open at the lines after the one that opens
--- it, up to and with the one that ends it.
-abbrev pub kinds : ℕ → List (List Item) → List LineKind
-kinds n [] = []
-kinds n (l ∷ ls) = line_kind n l ∷ kinds (behind n (line_kind n l)) ls
 
 -- ---- extents
 
@@ -67,17 +58,3 @@ closes ks k = count_by is_end (take (suc k) ks) == suc (count_by is_open (take (
 -- how many of them belong to the table: up to and with the first that closes it, or all
 unfoldable pub inner_len : List LineKind → ℕ
 inner_len ks = min (suc (position_or_len (closes ks) (range_with_len 0 (length ks)))) (length ks)
-
--- the place behind the last line of the table that line `at` opens
-abbrev pub table_end : List LineKind → ℕ → ℕ
-table_end ks at = suc at + inner_len (drop (suc at) ks)
-
--- ---- laws
-
-abbrev pub OpensAt : List LineKind → ℕ → Type 0
-OpensAt ks at = slice_get ks at ≡ Some kind.TableOpen
-
--- the kind of a line, by how many lines before it open and end tables
-abbrev pub KindByCounts : ℕ → List (List Item) → ℕ → Type 0
-KindByCounts n ls k = (l : List Item) → slice_get ls k ≡ Some l
-    → slice_get (kinds n ls) k ≡ Some (line_kind ((n + count_by is_open (take k (kinds n ls))) - count_by is_end (take k (kinds n ls))) l)

@@ -1,27 +1,15 @@
 //! What holds of any tables and any lines of cells.
 
-ghost use Rattle.std.specs.Prelude.{◌≡◌, ◌<◌, ◌≤◌, ◌⊎◌, ℕ, Bool, List, ◌∷◌, true, false};
+ghost use Rattle.std.specs.Prelude.{◌≡◌, ℕ, Bool, List, ◌∷◌, true, false};
 ghost use Rattle.std.specs.List.{flat_map};
 ghost use Rattle.wt_span.specs.Items.{Item};
 ghost use Rattle.wt_lines.specs.declared.kind.LineKind.{LineKind as Kind};
 ghost use Rattle.wt_lines.specs.declared.kind.LineKind.TheVariants as kind;
 ghost use Rattle.wt_lines.specs.Kinds.{line_kind};
 ghost use Rattle.wt_tables.specs.declared.scan.Splits.{Splits as By};
-ghost use Rattle.wt_tables.specs.Extents.{table_end, OpensAt, KindByCounts};
 ghost use Rattle.wt_tables.specs.Cells.{parts, cells, whole, from_sign, begins_cell};
 ghost use Rattle.wt_tables.specs.CutLaws.{AreCut, has_cells};
 ghost use Rattle.wt_tables.specs.Parts.{table_of, table_lines};
-
-/// Of two tables the later one lies behind the other or within it.
-pub fn tables_nest()
-    ensures { (ks : List Kind) (i j : ℕ) → i < j → OpensAt ks i → OpensAt ks j → (table_end ks i ≤ j) ⊎ (table_end ks j ≤ table_end ks i) }
-{}
-
-/// The kind of a line is that at which so many tables are open as lines before it have opened, less
-/// those that they have ended.
-pub fn kinds_by_counts()
-    ensures { (n : ℕ) (ls : List (List Item)) (k : ℕ) → KindByCounts n ls k }
-{}
 
 /// The cells of a line cut it, from its sign on, before each sign of a further cell from the left,
 /// and nothing else is such a cut.

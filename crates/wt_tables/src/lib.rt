@@ -12,7 +12,5 @@ mod scan;
 mod table;
 
 pub use cell::{CellAt, cells};
-pub use laws::{
-    cells_join, kinds_by_counts, lines_of_cells, one_cut_of_cells, parts_join, tables_nest,
-};
+pub use laws::{cells_join, lines_of_cells, one_cut_of_cells, parts_join};
 pub use table::behind;
