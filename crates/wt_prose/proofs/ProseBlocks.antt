@@ -149,11 +149,11 @@ block_ended xs b =
 
 -- ---- the stretches of a paragraph and the line breaks behind it
 
-abbrev broken_stretches : ℕ → List Item → List Stretch
+abbrev pub broken_stretches : ℕ → List Item → List Stretch
 broken_stretches zero xs = gap [] ∷ tree_block (para_of xs) ∷ gap [] ∷ []
 broken_stretches (suc n) xs = gap [] ∷ tree_block (para_of xs) ∷ gap (break ∷ []) ∷ replicate n (gap (break ∷ []))
 
-abbrev passage_stretches : Passage → List Stretch
+abbrev pub passage_stretches : Passage → List Stretch
 passage_stretches p = broken_stretches p.breaks (page_items p.paragraph)
 
 unbroken_read : (read : Reading) (xs : List Item) (b : IsTextBlock xs)
@@ -201,16 +201,16 @@ blocks_read : (read : Reading) (ps : List Passage) (h : AreProse ps) (bs : AreBl
 blocks_read read ps h bs =
     ap (λ us. flat_map (run_stretches read) (runs same_block (drop 1 us))) (units_flat (prose_rows ps bs) (prose_flat ps bs)) ∙ prose_read read ps h bs
 
-within_read : (n : ℕ) (ps : List Passage) (h : AreProse ps) (bs : AreBlocks ps) → within n (prose_rows ps bs) ≡ flat_map passage_stretches ps
+pub within_read : (n : ℕ) (ps : List Passage) (h : AreProse ps) (bs : AreBlocks ps) → within n (prose_rows ps bs) ≡ flat_map passage_stretches ps
 within_read zero ps h bs = blocks_read gaps ps h bs
 within_read (suc n) ps h bs = blocks_read (within n) ps h bs
 
 -- ---- their parts
 
-abbrev sep : Part
+abbrev pub sep : Part
 sep = loose Sep None 10
 
-abbrev passage_parts : Passage → List Part
+abbrev pub passage_parts : Passage → List Part
 passage_parts p = node (para_of (page_items p.paragraph)) ∷ replicate p.breaks sep
 
 gaps_parts : (n : ℕ) (ss : List Stretch) → flat_map stretch_parts (replicate n (gap (break ∷ [])) ++ ss) ≡ replicate n sep ++ flat_map stretch_parts ss
@@ -222,7 +222,7 @@ broken_parts : (n : ℕ) (xs : List Item) (ss : List Stretch)
 broken_parts zero xs ss = refl
 broken_parts (suc n) xs ss = ap (λ ps. node (para_of xs) ∷ sep ∷ ps) (gaps_parts n ss)
 
-all_parts : (ps : List Passage) → flat_map stretch_parts (flat_map passage_stretches ps) ≡ flat_map passage_parts ps
+pub all_parts : (ps : List Passage) → flat_map stretch_parts (flat_map passage_stretches ps) ≡ flat_map passage_parts ps
 all_parts [] = refl
 all_parts (p ∷ ps) =
     broken_parts p.breaks (page_items p.paragraph) (flat_map passage_stretches ps) ∙ ap (λ qs. passage_parts p ++ qs) (all_parts ps)

@@ -132,7 +132,7 @@ blank_alone line.Pre = refl
 blank_alone line.Text = refl
 
 -- the row of an empty line
-abbrev empty_row : Item → Row
+abbrev pub empty_row : Item → Row
 empty_row b = record { kind = line.Blank; lead = []; items = b ∷ []; ending = [] }
 
 blocks_cut : (read : Reading) (b : Item) (xs ys : List Row) → open_behind 0 xs ≡ 0
@@ -146,7 +146,7 @@ blocks_cut read b xs ys e =
     ∙ ap (flat_map (run_stretches read)) (runs_alone same_block own us vs (λ u. blank_alone (unit_kind kind_of u)) (λ v. refl))
     ∙ flat_map-append (run_stretches read) (runs same_block us) ((own ∷ []) ∷ runs same_block vs)
 
-parts_cut : (b : Item) (xs ys : List Row) → open_behind 0 xs ≡ 0
+pub parts_cut : (b : Item) (xs ys : List Row) → open_behind 0 xs ≡ 0
     → body_parts (xs ++ empty_row b ∷ ys) ≡ body_parts xs ++ (parts Sep (b ∷ []) ++ body_parts ys)
 unfolding blocks
 parts_cut b xs ys e =
@@ -170,7 +170,7 @@ empty_kind : (b : Item) → is_break_item b ≡ true → kind_at 0 (b ∷ []) �
 unfolding kind_of_signs
 empty_kind b e = rw e refl
 
-empty_first : (b : Item) (ys : List Item) → is_break_item b ≡ true → rows (b ∷ ys) ≡ empty_row b ∷ rows ys
+pub empty_first : (b : Item) (ys : List Item) → is_break_item b ≡ true → rows (b ∷ ys) ≡ empty_row b ∷ rows ys
 unfolding rows
 empty_first b ys e =
     let k = empty_kind b e in
