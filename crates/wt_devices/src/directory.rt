@@ -13,8 +13,8 @@ use wt_span::List;
 /// its full name. Such a name has no `/` and is neither `.` nor `..`, so no full name leads out of the
 /// directory. It tells nothing of its pages.
 ///
-/// A file that isn't there is an absent page, and every other error is a fault, also that a name is
-/// longer than the file system allows.
+/// A file that isn't there is an absent page, also one that can't be there, since its name is longer than the
+/// file system allows. Every other error is a fault.
 #[derive(Drop)]
 pub struct DirFolder<'r, R> {
     rt: &'r R,
@@ -69,6 +69,12 @@ fn read_most<F: Read>(alloc: Global, file: &mut F, most: usize) -> FileRead
     }
 }
 
+/// Whether an error of `open` says that there is no file of this name: it isn't there, or its name is longer than
+/// the file system allows, so that none can be.
+fn is_absent(kind: ErrorKind) -> bool {
+    kind == ErrorKind::NotFound || kind == ErrorKind::InvalidFilename
+}
+
 fn read_file<R: Files>(alloc: Global, rt: &R, path: &str, most: usize) -> FileRead
     ensures { IsWithin most result }
 {
@@ -78,7 +84,7 @@ fn read_file<R: Files>(alloc: Global, rt: &R, path: &str, most: usize) -> FileRe
             read_most(alloc, &mut file, most)
         }
         Err(e) => {
-            if e.kind() == ErrorKind::NotFound {
+            if is_absent(e.kind()) {
                 FileRead::Absent
             } else {
                 FileRead::Failed
