@@ -1,4 +1,4 @@
--- The children of a body, section by section.
+-- The children of a body, portion by portion.
 use Rattle.std.proofs.Common.{◌≡◌, true, List, [], ◌∷◌, ◌++◌, length, refl, sym, ap, ◌∙◌, arith, append_assoc, append-nil, None}
 use Rattle.std.specs.Prelude.{◌==◌}
 use Rattle.std.proofs.lemmas.Bool.Decides.{nat_tests}
@@ -15,9 +15,9 @@ use Rattle.wt_page.specs.Body.{within, blocks, body_parts, meaning}
 use Rattle.wt_rows.specs.declared.row.RowAt.{RowAt}
 use Rattle.wt_rows.specs.Views.{rows_view}
 use Rattle.wt_rows.specs.Unread.{AreBreaks}
-use Rattle.wt_rows.specs.Sections.{AreFirst}
+use Rattle.wt_rows.specs.Portions.{AreFirst}
 use Rattle.wt_build.specs.Carrying.{Carries}
-use Rattle.wt_rows.proofs.Sections.{no_parts, breaks_first}
+use Rattle.wt_rows.proofs.Portions.{no_parts, breaks_first}
 
 pub carries_by : (g h : Grown) (xs ys : List Item) (added : List Part) → body_parts (rows xs) ≡ added ++ body_parts (rows ys) → Grows g added h
     → Carries g xs h ys
@@ -40,9 +40,9 @@ pub parts_are : (ps qs : List Piece) (rs ts : List RowAt) → ps ≡ qs → rs �
 unfolding blocks
 parts_are ps qs rs ts ep er = ap stretches_parts (ap (λ us. within 16 (rows_view us rs)) ep ∙ ap (λ us. within 16 (rows_view qs us)) er)
 
-pub carries_section : (g h : Grown) (xs ys : List Item) (ps qs : List Piece) (rs ts : List RowAt) → ps ≡ qs → rs ≡ ts
+pub carries_portion : (g h : Grown) (xs ys : List Item) (ps qs : List Piece) (rs ts : List RowAt) → ps ≡ qs → rs ≡ ts
     → Grows g (stretches_parts (within 16 (rows_view ps rs))) h → AreFirst (rows_view qs ts) xs ys → Carries g xs h ys
-carries_section g h xs ys ps qs rs ts ep er grows first =
+carries_portion g h xs ys ps qs rs ts ep er grows first =
     carries_by g h xs ys (stretches_parts (within 16 (rows_view ps rs)))
     (first ∙ ap (λ us. us ++ body_parts (rows ys)) (sym (parts_are ps qs rs ts ep er))) grows
 

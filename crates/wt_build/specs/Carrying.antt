@@ -1,4 +1,4 @@
--- The children of a body while they are made, section by section.
+-- The children of a body while they are made, portion by portion.
 -- the first children with what the first items give are the second with what the second give
 use Rattle.std.specs.Prelude.{◌≡◌, List, ◌++◌}
 use Rattle.wt_span.specs.Items.{Item}

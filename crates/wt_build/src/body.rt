@@ -14,7 +14,7 @@ use crate::text::plain_node;
 use std::alloc::Global;
 use wt_inline::{Children, Loose, PieceTree};
 use wt_lines::MOST_TABLES;
-use wt_rows::{Unread, next_section};
+use wt_rows::{Unread, next_portion};
 use wt_span::{Items, List, NoMemory, Piece};
 use wt_tree::Kind;
 
@@ -40,8 +40,8 @@ impl<'a> Tree<'a> {
     }
 }
 
-/// The children of a body with the blocks of the next section; and what is left behind it.
-fn with_section<'p, 'a>(
+/// The children of a body with the blocks of the next portion; and what is left behind it.
+fn with_portion<'p, 'a>(
     alloc: Global,
     children: Children<'a>,
     rest: Unread<'p, 'a>,
@@ -52,14 +52,14 @@ fn with_section<'p, 'a>(
     ensures sound_after { IfOk result (λ r. All IsSoundPiece (left r.1)) }
     ensures fewer { IfOk result (λ r. length (items (left r.1)) < length (items (left rest.entry))) }
 {
-    let (page, after) = next_section(alloc, rest)?;
+    let (page, after) = next_portion(alloc, rest)?;
     let pieces = page.pieces.as_slice();
     let rows = page.rows.as_slice();
     let grown = with_blocks(alloc, children, pieces, rows, MOST_TABLES as usize)?;
     Ok((grown, after))
 }
 
-/// The children of a body with the empty lines that come next, or else with the next section; and
+/// The children of a body with the empty lines that come next, or else with the next portion; and
 /// what is left behind.
 fn with_next<'p, 'a>(
     alloc: Global,
@@ -73,7 +73,7 @@ fn with_next<'p, 'a>(
     ensures fewer { IfOk result (λ r. length (items (left r.1)) < length (items (left rest.entry))) }
 {
     match rest.split_breaks() {
-        None => with_section(alloc, children, rest),
+        None => with_portion(alloc, children, rest),
         Some((breaks, after)) => {
             let grown = children.with_pieces(alloc, Loose::Sep, &[breaks])?;
             Ok((grown, after))

@@ -8,8 +8,8 @@ use Rattle.wt_lines.specs.Lines.{is_break_item, goes_on, full_lines, empty_end}
 use Rattle.wt_tables.specs.Extents.{behind}
 use Rattle.wt_headings.specs.Lines.{kind_at}
 use Rattle.wt_page.specs.Rows.{Row, line_rows, rows_from, rows}
-use Rattle.wt_rows.specs.Sections.{open_behind}
-use Rattle.wt_rows.proofs.Sections.{count_step}
+use Rattle.wt_rows.specs.Portions.{open_behind}
+use Rattle.wt_rows.proofs.Portions.{count_step}
 use Rattle.wt_paragraph_laws.specs.Between.{written_rows, tables_behind, AreClosed}
 
 -- ---- lines

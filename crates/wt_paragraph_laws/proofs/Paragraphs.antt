@@ -11,8 +11,8 @@ use Rattle.wt_page.specs.Rows.{Row, rows, rows_from}
 use Rattle.wt_page.specs.Stretches.{stretch_parts}
 use Rattle.wt_page.specs.Body.{within, blocks, body_parts, meaning}
 use Rattle.wt_expand.specs.PageItems.{page_items}
-use Rattle.wt_rows.specs.Sections.{open_behind}
-use Rattle.wt_rows.proofs.Sections.{no_parts, breaks_first, parts_cut, empty_first}
+use Rattle.wt_rows.specs.Portions.{open_behind}
+use Rattle.wt_rows.proofs.Portions.{no_parts, breaks_first, parts_cut, empty_first}
 use Rattle.wt_text_edits.specs.LonePages.{para_of}
 use Rattle.wt_text_edits.specs.TypedPages.{IsTypedPage}
 use Rattle.wt_text_edits.proofs.PlainRows.{text_row}

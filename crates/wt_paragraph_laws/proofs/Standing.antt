@@ -13,7 +13,7 @@ use Rattle.wt_inline.specs.Parts.{Part, loose, node, parts, one_leaf, child, chi
 use Rattle.wt_page.specs.Rows.{Row, rows}
 use Rattle.wt_page.specs.Stretches.{node_of}
 use Rattle.wt_page.specs.Body.{body_parts, meaning}
-use Rattle.wt_rows.proofs.Sections.{parts_cut, empty_first}
+use Rattle.wt_rows.proofs.Portions.{parts_cut, empty_first}
 use Rattle.wt_text_edits.specs.LonePages.{para_of}
 use Rattle.wt_paragraph_laws.specs.Between.{written_rows, AreClosed, children_before, parts_behind, body_round}
 use Rattle.wt_paragraph_laws.proofs.Joining.{none_open, rows_before}

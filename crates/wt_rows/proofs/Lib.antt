@@ -15,9 +15,9 @@ pub mod LowSigns
 pub mod Making
 pub mod OpenedLines
 pub mod OpenedParts
+pub mod Portions
 pub mod Prefixing
 pub mod RowsSoFar
-pub mod Sections
 pub mod Straying
 pub mod Stretching
 pub mod UnitSteps

@@ -152,7 +152,7 @@ blank_rows k line len e w =
     ∙ ap (λ (j : LineKind). row_of j [] line [] ∷ []) e
     ∙ ap (λ (j : LineKind). line_rows j (items line)) (sym e)
 
--- ---- a section with one line more
+-- ---- a portion with one line more
 
 pub has_line : (k : LineKind) (before all : List Piece) (rows : List RowAt) (start : ℕ) → AreMade before rows → IsBehind before all
     → start ≡ length before → AreWhole (drop (length before) all) → IsUnbroken (content (items (drop (length before) all)))
@@ -173,10 +173,10 @@ rows_behind k before all rows start news h e en =
     en ∙ ap (λ qs. rows_view qs rows ++ line_rows k (items (drop start all))) (before_line before all start h e)
     ∙ ap (λ n. rows_view before rows ++ line_rows k (items (drop n all))) e
 
-pub section_more : (k : LineKind) (made news all : List Row) (tables after : ℕ) (l : List Item) (before left : List Piece) → news ≡ made ++ line_rows k l
+pub portion_more : (k : LineKind) (made news all : List Row) (tables after : ℕ) (l : List Item) (before left : List Piece) → news ≡ made ++ line_rows k l
     → k ≡ kind_at tables l → after ≡ behind tables k → full_lines (items before) ≡ l ∷ full_lines (items left) → IsRowsSoFar made tables before all
     → IsRowsSoFar news after left all
-section_more k made news all tables after l before left en ek ea cut so_far =
+portion_more k made news all tables after l before left en ek ea cut so_far =
     ap (λ rs. rs ++ rows_from after (full_lines (items left))) en
     ∙ append_assoc made (line_rows k l) (rows_from after (full_lines (items left)))
     ∙ ap (λ n. made ++ (line_rows k l ++ rows_from n (full_lines (items left)))) ea

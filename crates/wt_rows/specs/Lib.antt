@@ -2,9 +2,9 @@ pub mod Building
 pub mod Delimiters
 pub mod Groups
 pub mod GroupViews
+pub mod Portions
 pub mod Prefixes
 pub mod Ready
-pub mod Sections
 pub mod Units
 pub mod Unread
 pub mod Views

@@ -1,4 +1,4 @@
-//! The rows of a page, made section by section from its pieces, and what a row gives by itself: the
+//! The rows of a page, made portion by portion from its pieces, and what a row gives by itself: the
 //! prefix of a list's line, the cells of a line, the delimiters of a table and of its rows. Nodes and
 //! the gaps between them are stretches.
 #![tactic(auto)]
@@ -8,10 +8,10 @@ mod cuts;
 mod delimiter;
 mod group;
 mod part;
+mod portion;
 mod prefix;
 mod row;
 mod rows;
-mod section;
 mod stretch;
 mod unit;
 mod unread;
@@ -21,10 +21,10 @@ pub use cuts::cut;
 pub use delimiter::gaps;
 pub use group::{Group, captions_len, going_len, groups};
 pub use part::{opened_row, whole_table};
+pub use portion::next_portion;
 pub use prefix::{prefix_of, with_blanks};
 pub use row::{RowAt, between};
 pub use rows::PageRows;
-pub use section::next_section;
 pub use stretch::{
     StretchAt, before, enclosed, opened_by, opened_line, with_separators, with_stretches,
 };

@@ -1,5 +1,5 @@
-//! Sections of a page: lines up to an empty one that stands in no table. No block reaches over such
-//! a line, so each section is made to blocks by itself.
+//! Portions of a page: lines up to an empty one that stands in no table. No block reaches over such
+//! a line, so each portion is made to blocks by itself.
 
 ghost use Rattle.std.specs.Prelude.{◌≡◌, ◌<◌, All, List, true, false, length, IfOk};
 ghost use Rattle.wt_span.specs.Items.{items};
@@ -7,7 +7,7 @@ ghost use Rattle.wt_span.specs.Origins.{IsSoundPiece};
 ghost use Rattle.wt_page.specs.Rows.{Row, rows};
 ghost use Rattle.wt_rows.specs.Building.{ArePageRows, made_rows};
 ghost use Rattle.wt_rows.specs.Unread.{left};
-ghost use Rattle.wt_rows.specs.Sections.{IsSection, IsSectionOf, IsEnd, AreFirst};
+ghost use Rattle.wt_rows.specs.Portions.{IsPortion, IsPortionOf, IsEnd, AreFirst};
 
 use crate::rows::{PageRows, line_kind};
 use crate::unread::Unread;
@@ -17,21 +17,21 @@ use wt_tables::behind;
 
 /// The rows of lines that are read, how many tables are open behind them, and what is not yet read.
 #[derive(Drop)]
-pub struct Section<'p, 'a> {
+pub struct Portion<'p, 'a> {
     made: PageRows<'a>,
     tables: u32,
     rest: Unread<'p, 'a>,
 }
 
-impl<'p, 'a> Section<'p, 'a> {
-    /// A section that begins here.
-    fn begun(alloc: Global, rest: Unread<'p, 'a>) -> Section<'p, 'a>
+impl<'p, 'a> Portion<'p, 'a> {
+    /// A portion that begins here.
+    fn begun(alloc: Global, rest: Unread<'p, 'a>) -> Portion<'p, 'a>
         requires { All IsSoundPiece (left rest) }
-        ensures section { IsSection result }
-        ensures all { IsSectionOf (rows (items (left rest.entry))) result }
+        ensures portion { IsPortion result }
+        ensures all { IsPortionOf (rows (items (left rest.entry))) result }
         ensures rest { result.rest ≡ rest.entry }
     {
-        Section {
+        Portion {
             made: PageRows::new(alloc),
             tables: 0,
             rest,
@@ -39,21 +39,21 @@ impl<'p, 'a> Section<'p, 'a> {
     }
 
     /// One line more.
-    fn with_line(self, alloc: Global) -> Result<Section<'p, 'a>, NoMemory>
-        requires section { IsSection self }
+    fn with_line(self, alloc: Global) -> Result<Portion<'p, 'a>, NoMemory>
+        requires portion { IsPortion self }
         requires some { 0 < length (left self.rest) }
-        ensures section_after { IfOk result (λ s. IsSection s) }
-        ensures all { IfOk result (λ s. (all : List Row) → IsSectionOf all self.entry → IsSectionOf all s) }
+        ensures portion_after { IfOk result (λ s. IsPortion s) }
+        ensures all { IfOk result (λ s. (all : List Row) → IsPortionOf all self.entry → IsPortionOf all s) }
         ensures fewer { IfOk result (λ s. length (items (left s.rest)) < length (items (left self.entry.rest))) }
     {
-        let Section { made, tables, rest } = self;
+        let Portion { made, tables, rest } = self;
         let PageRows { pieces, rows } = made;
         let start = pieces.len();
         let (pieces, after) = rest.push_line(pieces)?;
         let kind = line_kind(rest_of(pieces.as_slice(), start), tables);
         let page = PageRows { pieces, rows };
         let made = page.with_line_from(alloc, start, kind)?;
-        Ok(Section {
+        Ok(Portion {
             made,
             tables: behind(tables, kind),
             rest: after,
@@ -75,8 +75,8 @@ impl<'p, 'a> Section<'p, 'a> {
     }
 }
 
-/// The rows of the first section, and what is left behind it.
-pub fn next_section<'p, 'a>(
+/// The rows of the first portion, and what is left behind it.
+pub fn next_portion<'p, 'a>(
     alloc: Global,
     rest: Unread<'p, 'a>,
 ) -> Result<(PageRows<'a>, Unread<'p, 'a>), NoMemory>
@@ -87,11 +87,11 @@ pub fn next_section<'p, 'a>(
     ensures sound_after { IfOk result (λ r. All IsSoundPiece (left r.1)) }
     ensures fewer { IfOk result (λ r. length (items (left r.1)) < length (items (left rest.entry))) }
 {
-    let mut section = Section::begun(alloc, rest).with_line(alloc)?;
-    while section.goes_on() {
-        section = section.with_line(alloc)?;
+    let mut portion = Portion::begun(alloc, rest).with_line(alloc)?;
+    while portion.goes_on() {
+        portion = portion.with_line(alloc)?;
     }
-    let Section { made, tables, rest } = section;
+    let Portion { made, tables, rest } = portion;
     let rows = made.with_ends(tables)?;
     Ok((rows, rest))
 }

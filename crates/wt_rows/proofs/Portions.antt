@@ -1,4 +1,4 @@
--- A page is cut into sections: its units, blocks and the parts of its body are those of the sections, one after the other.
+-- A page is cut into portions: its units, blocks and the parts of its body are those of the portions, one after the other.
 use Rattle.std.proofs.Common.{◌≡◌, ◌<◌, ℕ, zero, suc, ◌-◌, Bool, true, false, List, [], ◌∷◌, ◌++◌, length, drop, map, replicate, refl, sym, ap, ◌∙◌, arith, append-nil, inl, inr}
 use Rattle.std.specs.List.{flat_map}
 use Rattle.std.specs.Prelude.{◌⊎◌}
@@ -24,7 +24,7 @@ use Rattle.wt_page.specs.Tables.{Reading}
 use Rattle.wt_page.specs.Body.{one_block, same_block, run_stretches, blocks_by, within, blocks, body_parts}
 use Rattle.wt_rows.specs.Building.{IsRowsSoFar}
 use Rattle.wt_rows.specs.Unread.{AreBreaks, begins_break}
-use Rattle.wt_rows.specs.Sections.{open_behind, AreFirst}
+use Rattle.wt_rows.specs.Portions.{open_behind, AreFirst}
 use Rattle.wt_rows.proofs.FirstUnits.{unit_one}
 
 -- ---- units, by how many tables are open
@@ -177,7 +177,7 @@ empty_first b ys e =
     ap (rows_from 0) (runs_cut goes_on (b ∷ []) ys (lone_line b ys e))
     ∙ ap (λ j. line_rows j (b ∷ []) ++ rows_from (behind 0 j) (full_lines ys)) k
 
--- rows of a section before an empty line, or at the end
+-- rows of a portion before an empty line, or at the end
 parts_before : (xs : List Row) (ys : List Item) → open_behind 0 xs ≡ 0 → begins_break ys ≡ true
     → body_parts (xs ++ rows ys) ≡ body_parts xs ++ body_parts (rows ys)
 parts_before xs [] e h = absurd cc
@@ -198,7 +198,7 @@ breaks_first (b ∷ bs) ys h =
     ∙ parts_first b (rows (bs ++ ys))
     ∙ ap (λ ps. parts Sep (b ∷ []) ++ ps) (breaks_first bs ys h.1)
 
--- ---- the rows of a section
+-- ---- the rows of a portion
 
 pub open_append : (n : ℕ) (xs ys : List Row) → open_behind n (xs ++ ys) ≡ open_behind (open_behind n xs) ys
 open_append n [] ys = refl
@@ -244,13 +244,13 @@ first_by made final all tables left ef et so_far (inr h) =
     sym (ap body_parts whole) ∙ parts_before made (items left) (et ∙ h.0) h.1
     ∙ ap (λ rs. body_parts rs ++ body_parts (rows (items left))) (sym same)
 
-pub section_first : (made final : List Row) (tables : ℕ) (xs : List Item) (left : List Piece) → final ≡ made ++ replicate tables unwritten_end
+pub portion_first : (made final : List Row) (tables : ℕ) (xs : List Item) (left : List Piece) → final ≡ made ++ replicate tables unwritten_end
     → open_behind 0 made ≡ tables → IsRowsSoFar made tables left (rows xs) → (left ≡ []) ⊎ ((tables ≡ 0) × (begins_break (items left) ≡ true))
     → AreFirst final xs (items left)
-section_first made final tables xs left ef et so_far end = first_by made final (rows xs) tables left ef et so_far end
+portion_first made final tables xs left ef et so_far end = first_by made final (rows xs) tables left ef et so_far end
 
 -- ---- steps of the code
 
-pub section_begins : (made : List Row) (ps : List Piece) → made ≡ [] → IsRowsSoFar made 0 ps (rows (items ps))
+pub portion_begins : (made : List Row) (ps : List Piece) → made ≡ [] → IsRowsSoFar made 0 ps (rows (items ps))
 unfolding rows
-section_begins made ps e = ap (λ rs. rs ++ rows_from 0 (full_lines (items ps))) e
+portion_begins made ps e = ap (λ rs. rs ++ rows_from 0 (full_lines (items ps))) e
