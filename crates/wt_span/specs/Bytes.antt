@@ -2,13 +2,14 @@
 use Rattle.std.specs.Prelude.{ℕ, ◌+◌, ◌==◌, ◌||◌, Bool, List, [], ◌∷◌, length, slice_index, map, nat_eq, if◌then◌else◌}
 use Rattle.std.specs.Char.{is_ascii_alphabetic, is_ascii_alphanumeric, to_ascii_lowercase}
 use Rattle.std.specs.List.{starts_with, prefix_len}
+use Rattle.wt_span.specs.Characters as byte
 
 abbrev pub is_break : ℕ → Bool
-is_break b = b == 10
+is_break b = b == byte.line_break
 
 -- a space or a tab
 abbrev pub is_blank : ℕ → Bool
-is_blank b = b == 32 || b == 9
+is_blank b = b == byte.space || b == byte.tab
 
 abbrev pub begins : List ℕ → List ℕ → Bool
 begins word bs = starts_with nat_eq bs word

@@ -5,6 +5,7 @@ use Rattle.std.specs.List.{prefix_len}
 use Rattle.std.specs.Char.{is_ascii_digit, is_ascii_hexdigit}
 use Rattle.std.specs.Str.Parse.{digits_value}
 use Rattle.wt_span.specs.Bytes.{begins}
+use Rattle.wt_span.specs.Characters as byte
 
 -- the first entry of a table that begins a text
 abbrev pub named_in : List (List ℕ × ℕ) → List ℕ → Option (ℕ × ℕ)
@@ -35,7 +36,7 @@ abbrev pub numbered : ℕ → ℕ → ℕ → (ℕ → Bool) → List ℕ → Op
 numbered start most base is_digit bs =
     let n = prefix_len is_digit (drop start bs) in
     let c = digits_value base (take n (drop start bs)) in
-    if nat_lt 0 n && (nat_le n most && (slice_index bs (start + n) == 59 && is_entity_number c)) then Some (c, start + n + 1) else None
+    if nat_lt 0 n && (nat_le n most && (slice_index bs (start + n) == byte.semicolon && is_entity_number c)) then Some (c, start + n + 1) else None
 
 unfoldable pub decimal_entity : List ℕ → Option (ℕ × ℕ)
 decimal_entity bs = if begins (codes "&#") bs then numbered 2 7 10 is_ascii_digit bs else None

@@ -8,6 +8,7 @@ use Rattle.wt_span.specs.declared.form.Mode.TheVariants.{Page, Template}
 use Rattle.wt_span.specs.declared.form.LexKind.{LexKind}
 use Rattle.wt_span.specs.declared.form.LexKind.TheVariants.{Include, Hidden}
 use Rattle.wt_span.specs.Bytes.{is_blank, begins, name_len, blank_len, lower}
+use Rattle.wt_span.specs.Characters as byte
 
 -- ---- tags
 
@@ -19,7 +20,7 @@ pub record Tag : Type 0 where
 
 -- what may stand in a tag: no `<`, no `>`, no line break
 abbrev pub is_tag_byte : ℕ → Bool
-is_tag_byte b = not (b == 60 || (b == 62 || b == 10))
+is_tag_byte b = not (b == byte.less_than || (b == byte.greater_than || b == byte.line_break))
 
 -- what stands between the name and the `>`: nothing, `/`, or a space or tab and more
 abbrev pub is_tag_inside : List ℕ → Bool
