@@ -2,6 +2,7 @@
 use Rattle.std.specs.Prelude.{◌≡◌, ◌<◌, ◌⊎◌, ℕ, zero, suc, ◌==◌, not, Bool, true, false, Some, None, List, [], ◌∷◌, ◌++◌, length, drop, slice_index, codes}
 use Rattle.std.specs.List.{AllByRecursion}
 use Rattle.wt_span.specs.Bytes.{is_blank, lower}
+use Rattle.wt_span.specs.Characters as byte
 use Rattle.wt_tree.specs.declared.kind.AttrName.{AttrName}
 use Rattle.wt_tree.specs.declared.kind.AttrName.TheVariants as attr
 use Rattle.wt_attributes.specs.Classes.{is_bare}
@@ -25,7 +26,7 @@ spell_value (quoted q v) = q ∷ (v ++ q ∷ [])
 spell_value (bare v) = v
 
 abbrev pub spell : Spelled → List ℕ
-spell s = s.word ++ (s.before ++ (61 ∷ (s.after ++ spell_value s.value)))
+spell s = s.word ++ (s.before ++ (byte.equals_sign ∷ (s.after ++ spell_value s.value)))
 
 abbrev pub characters_of : Value → List ℕ
 characters_of (quoted q v) = v
@@ -62,7 +63,7 @@ EndsAt p (b ∷ bs) = p b ≡ false
 
 -- a value before what follows it: one without quotes goes on as far as it can
 abbrev pub IsValue : Value → List ℕ → Type 0
-IsValue (quoted q v) rest = ((q ≡ 34) ⊎ (q ≡ 39)) × Each (λ b. not (b == q)) v
+IsValue (quoted q v) rest = ((q ≡ byte.quotation_mark) ⊎ (q ≡ byte.apostrophe)) × Each (λ b. not (b == q)) v
 IsValue (bare v) rest = (0 < length v) × Each is_bare v × EndsAt is_bare rest
 
 -- an attribute before what follows it

@@ -3,11 +3,12 @@ use Rattle.std.specs.Prelude.{ℕ, ◌+◌, ◌-◌, ◌/◌, min, List, length,
 use Rattle.std.specs.List.{prefix_len}
 use Rattle.wt_span.specs.Bytes.{blank_len}
 use Rattle.wt_span.specs.Items.{Item, sign}
+use Rattle.wt_span.specs.Characters as byte
 use Rattle.wt_lines.specs.Kinds.{is_idle}
 
 -- how many `=` the signs begin with
 abbrev pub equals : List ℕ → ℕ
-equals ss = prefix_len (λ s. s == 61) ss
+equals ss = prefix_len (λ s. s == byte.equals_sign) ss
 
 -- up to the last sign that is neither blank nor mark
 abbrev pub core : List ℕ → List ℕ

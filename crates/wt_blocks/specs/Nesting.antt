@@ -2,6 +2,7 @@
 use Rattle.std.specs.Prelude.{◌≡◌, ◌<◌, ◌≤◌, ℕ, zero, suc, ◌==◌, ◌&&◌, ◌||◌, Bool, true, false, List, [], ◌∷◌, length, drop, map, filter, slice_index, nat_lt}
 use Rattle.std.specs.List.{list_all}
 use Rattle.wt_span.specs.Runs.{runs}
+use Rattle.wt_span.specs.Characters as byte
 use Rattle.wt_blocks.specs.declared.limits.TheConstants.{MOST_SIGNS}
 use Rattle.wt_blocks.specs.ListTree.{ListTree, node, forest}
 
@@ -19,7 +20,7 @@ numbered n (p ∷ ps) = record { number = n; prefix = p } ∷ numbered (suc n) p
 
 -- `;` or `:`
 abbrev pub is_definition : ℕ → Bool
-is_definition c = c == 59 || c == 58
+is_definition c = c == byte.semicolon || c == byte.colon
 
 -- `;` and `:` count as the same
 abbrev pub same_list : ℕ → ℕ → Bool
@@ -27,7 +28,7 @@ same_list c d = c == d || (is_definition c && is_definition d)
 
 -- `*`, `#`, `:` or `;`
 abbrev pub is_list_sign : ℕ → Bool
-is_list_sign c = c == 42 || (c == 35 || is_definition c)
+is_list_sign c = c == byte.asterisk || (c == byte.hash || is_definition c)
 
 -- one sign at least, of which so many count
 abbrev pub IsPrefix : List ℕ → Type 0

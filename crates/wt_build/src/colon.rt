@@ -4,6 +4,7 @@ ghost use Rattle.std.specs.Prelude.{ℕ, ◌≡◌, ◌≤◌, ◌==◌, ◌++�
 ghost use Rattle.std.specs.List.{prefix_len, flat_map};
 ghost use Rattle.wt_span.specs.Items.{items};
 ghost use Rattle.wt_span.specs.Origins.{IsSoundPiece};
+ghost use Rattle.wt_span.specs.Characters as byte;
 ghost use Rattle.wt_lines.specs.Signs.{left, number};
 ghost use Rattle.wt_tables.specs.Views.{numbers};
 ghost use Rattle.wt_tiles.specs.Tiles.{tiles};
@@ -78,7 +79,7 @@ fn seen_signs(alloc: Global, line: &[Piece<'_>]) -> Result<List<LineSign>, NoMem
 
 /// How many signs stand before the first `:`.
 fn colon_at(signs: &[LineSign]) -> usize
-    ensures value { result ≡ prefix_len (λ s. not (s == 58)) (numbers signs.now) }
+    ensures value { result ≡ prefix_len (λ s. not (s == byte.colon)) (numbers signs.now) }
     ensures within { result ≤ length signs.now }
 {
     for (i, sign) in signs.iter().enumerate() {

@@ -3,6 +3,7 @@
 ghost use Rattle.std.specs.Prelude.{◌≡◌, ◌==◌, [], true, false, Some, All, IfOk};
 ghost use Rattle.wt_span.specs.Items.{items};
 ghost use Rattle.wt_span.specs.Origins.{IsSoundPiece};
+ghost use Rattle.wt_span.specs.Characters as byte;
 ghost use Rattle.wt_inline.specs.ItemTree.{plain, inner, forest};
 ghost use Rattle.wt_inline.specs.Parts.{children};
 ghost use Rattle.wt_inline.specs.View.{item_tree};
@@ -109,7 +110,7 @@ fn item_by<'a>(
 /// Whether an item holds nothing but what stands on its line, in which no `:` is looked for.
 fn is_plain(sign: char, inside: &[StretchAt<'_>]) -> bool
     ensures none { result ≡ true → inside.now ≡ [] }
-    ensures no_term { result ≡ true → (sign == 59) ≡ false }
+    ensures no_term { result ≡ true → (sign == byte.semicolon) ≡ false }
 {
     inside.is_empty() && sign != ';'
 }

@@ -13,12 +13,13 @@ use Rattle.wt_tree.specs.declared.node.Part.TheVariants as part
 use Rattle.wt_span.specs.Origins.{Span, OuterCall}
 use Rattle.wt_span.specs.declared.function.Function.{Function}
 use Rattle.wt_span.specs.Functions.{name_of, function_of}
+use Rattle.wt_span.specs.Characters as byte
 
 -- ---- texts of a call
 
 -- a space, a tab or a line break
 abbrev pub is_white : ℕ → Bool
-is_white b = b == 32 || (b == 9 || b == 10)
+is_white b = b == byte.space || (b == byte.tab || b == byte.line_break)
 
 -- without those in front
 abbrev pub without_lead : List ℕ → List ℕ

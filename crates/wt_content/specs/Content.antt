@@ -1,6 +1,7 @@
 -- What may stand in the content of a marked node: text, the block's own inline nodes, and new bold, italic, links and line breaks.
 use Rattle.std.specs.Prelude.{ℕ, ◌+◌, ◌==◌, ◌&&◌, ◌||◌, Bool, true, false, not, is_some, Option, Some, None, List, [], ◌∷◌, ◌++◌, length, nat_lt, if◌then◌else◌}
 use Rattle.std.specs.List.{list_any}
+use Rattle.wt_span.specs.Characters as byte
 use Rattle.wt_names.specs.Written.{read_link}
 use Rattle.wt_tree.specs.Tiling.{is_group}
 use Rattle.wt_tree.specs.Tree.{Label, Tree, tree, Trees, none, more, label}
@@ -99,7 +100,7 @@ abbrev pub link_fault : Bool → List ContentWhy
 link_fault good = if good then [] else why.Href ∷ []
 
 abbrev pub has_break : List ℕ → Bool
-has_break text = list_any (λ b. b == 10) text
+has_break text = list_any (λ b. b == byte.line_break) text
 
 abbrev pub break_fault : Bool → List ℕ → List ContentWhy
 break_fault in_paragraph text = if not in_paragraph && has_break text then why.LineBreak ∷ [] else []

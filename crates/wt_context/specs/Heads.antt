@@ -11,6 +11,7 @@ use Rattle.wt_tree.specs.declared.kind.AttrName.{AttrName}
 use Rattle.wt_tree.specs.declared.kind.AttrName.TheVariants as attr
 use Rattle.wt_span.specs.Bytes.{is_blank}
 use Rattle.wt_span.specs.Items.{Item, sources}
+use Rattle.wt_span.specs.Characters as byte
 use Rattle.wt_names.specs.Written.{link_to}
 use Rattle.wt_attributes.specs.Attributes.{attributes}
 use Rattle.wt_tiles.specs.declared.glyph.Glyph.{Glyph}
@@ -83,7 +84,7 @@ abbrev pub text_of : List Item → List ℕ
 text_of xs = flat_map shown_item xs
 
 abbrev pub behind_bracket : List ℕ → List ℕ
-behind_bracket bs = if slice_index bs 0 == 91 then drop 1 bs else bs
+behind_bracket bs = if slice_index bs 0 == byte.opening_bracket then drop 1 bs else bs
 
 abbrev pub before_blank : List ℕ → List ℕ
 before_blank bs = take (prefix_len (λ b. not (is_blank b)) bs) bs

@@ -1,14 +1,15 @@
 -- Tokens and the stretch behind them, which may go on.
 use Rattle.std.specs.Prelude.{◌≡◌, ℕ, ◌==◌, Bool, true, false, not, List, ◌++◌}
 use Rattle.wt_span.specs.Items.{Item, items}
+use Rattle.wt_span.specs.Characters as byte
 use Rattle.wt_context.specs.declared.loose.Loosening.{Loosening}
 use Rattle.wt_context.specs.Segments.{Segment, loose_segments}
 use Rattle.wt_context.specs.Tokens.{segments_of}
 
 -- an apostrophe, or else none
 abbrev pub is_alike : Bool → ℕ → Bool
-is_alike true b = b == 39
-is_alike false b = not (b == 39)
+is_alike true b = b == byte.apostrophe
+is_alike false b = not (b == byte.apostrophe)
 
 -- the segments where these items come next
 abbrev pub loosened : Loosening → List Item → List Segment

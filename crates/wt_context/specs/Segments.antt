@@ -4,6 +4,7 @@ use Rattle.std.specs.Prelude.{Bool, false, not, ◌==◌, ◌||◌, List, [], �
 use Rattle.std.specs.List.{flat_map, list_all}
 use Rattle.wt_span.specs.Items.{Item, is_char_in}
 use Rattle.wt_span.specs.Runs.{runs}
+use Rattle.wt_span.specs.Characters as byte
 use Rattle.wt_inline.specs.declared.loose.Loose.TheVariants.{Text}
 use Rattle.wt_inline.specs.ItemTree.{ItemTree}
 use Rattle.wt_inline.specs.Parts.{Part, node, parts}
@@ -15,7 +16,7 @@ pub record Segment : Type 0 where
   pub parts : List Part
 
 abbrev pub is_quote : Item → Bool
-is_quote x = is_char_in (λ b. b == 39) x
+is_quote x = is_char_in (λ b. b == byte.apostrophe) x
 
 -- neighbours in one stretch
 abbrev pub one_stretch : Item → Item → Bool

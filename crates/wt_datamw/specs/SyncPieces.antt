@@ -1,5 +1,6 @@
 -- The text of `data-parsoid`, piece by piece as it is written.
 use Rattle.std.specs.Prelude.{List, [], ◌∷◌, ◌++◌, Option, Some, None, ℕ, codes, decimal}
+use Rattle.wt_span.specs.Characters as byte
 use Rattle.json.specs.Print.{quoted}
 use Rattle.wt_tree.specs.declared.kind.Ranges.{Ranges}
 use Rattle.wt_datamw.specs.declared.sync.Sync.{Sync}
@@ -7,7 +8,7 @@ use Rattle.wt_datamw.specs.declared.sync.Sync.{Sync}
 -- a delimiter before the places under the key `c`, left out where it is empty
 abbrev pub closing_text : List ℕ → List ℕ
 closing_text [] = []
-closing_text (b ∷ bs) = quoted (codes "c") ++ (58 ∷ (quoted (b ∷ bs) ++ codes ","))
+closing_text (b ∷ bs) = quoted (codes "c") ++ (byte.colon ∷ (quoted (b ∷ bs) ++ codes ","))
 
 -- a number behind another one
 abbrev pub next_text : ℕ → List ℕ
@@ -20,7 +21,7 @@ dsr_text r =
 
 -- a text behind the places under a key
 abbrev pub later_text : List ℕ → List ℕ → List ℕ
-later_text key text = codes "," ++ (quoted key ++ (58 ∷ quoted text))
+later_text key text = codes "," ++ (quoted key ++ (byte.colon ∷ quoted text))
 
 abbrev pub opening_text : List ℕ → List ℕ
 opening_text [] = []

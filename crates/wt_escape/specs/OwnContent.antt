@@ -1,6 +1,7 @@
 -- The content of a block of the page that is spelled to its own source.
 use Rattle.std.specs.Prelude.{◌≡◌, ◌≢◌, ℕ, ◌<◌, Bool, true, false, List, [], ◌∷◌}
 use Rattle.std.specs.Str.{IsUtf8}
+use Rattle.wt_span.specs.Characters as byte
 use Rattle.wt_tree.specs.Tree.{Label, Tree, tree, Trees, none, more, label}
 use Rattle.wt_tree.specs.Kinds.{is_leaf}
 use Rattle.wt_tree.specs.Source.{flat}
@@ -33,8 +34,8 @@ pub record IsStyle (sign : List ℕ) (l : Label) (inside : List ContentSign) : T
 abbrev pub IsPlainBy : InlineForm → Page → Place → Label → Trees → Type 0 → Type 0
 IsPlainBy inline.Nothing p pl l ts held = flat (tree l ts) ≡ []
 IsPlainBy inline.Characters p pl l ts held = (flat (tree l ts) ≡ l.shown) × IsUtf8 l.shown
-IsPlainBy inline.Bold p pl l ts held = held × IsStyle (39 ∷ 39 ∷ 39 ∷ []) l (signs_of_all p pl ts)
-IsPlainBy inline.Italic p pl l ts held = held × IsStyle (39 ∷ 39 ∷ []) l (signs_of_all p pl ts)
+IsPlainBy inline.Bold p pl l ts held = held × IsStyle (byte.apostrophe ∷ byte.apostrophe ∷ byte.apostrophe ∷ []) l (signs_of_all p pl ts)
+IsPlainBy inline.Italic p pl l ts held = held × IsStyle (byte.apostrophe ∷ byte.apostrophe ∷ []) l (signs_of_all p pl ts)
 IsPlainBy inline.Shown p pl l ts held = l.id ≢ 0
 IsPlainBy inline.PageLink p pl l ts held = l.id ≢ 0
 IsPlainBy inline.ExternalLink p pl l ts held = l.id ≢ 0

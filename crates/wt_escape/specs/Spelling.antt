@@ -1,6 +1,7 @@
 -- The spelling: the signs of the edited content, and what is written for a block.
 use Rattle.std.specs.Prelude.{ℕ, ◌+◌, ◌-◌, Bool, true, false, ◌==◌, Option, Some, None, List, [], ◌∷◌, ◌++◌, length, if◌then◌else◌, codes, replicate, encode_utf8}
 use Rattle.std.specs.Str.{bytes_eq}
+use Rattle.wt_span.specs.Characters as byte
 use Rattle.wt_names.specs.declared.namespace.Ns.{Ns}
 use Rattle.wt_names.specs.declared.namespace.Ns.TheVariants as ns
 use Rattle.wt_names.specs.declared.title.Title.{Title}
@@ -132,13 +133,13 @@ colon ns.User = []
 colon ns.UserTalk = []
 colon ns.Project = []
 colon ns.ProjectTalk = []
-colon ns.File = 58 ∷ []
+colon ns.File = byte.colon ∷ []
 colon ns.FileTalk = []
 colon ns.Template = []
 colon ns.TemplateTalk = []
 colon ns.Help = []
 colon ns.HelpTalk = []
-colon ns.Category = 58 ∷ []
+colon ns.Category = byte.colon ∷ []
 colon ns.CategoryTalk = []
 
 abbrev pub nowiki_or : List ℕ → List ℕ
@@ -148,19 +149,19 @@ nowiki_or (b ∷ bs) = b ∷ bs
 -- `|` and the inside, unless the content is one text that is the full name
 abbrev pub link_text : Bool → List ℕ → List ℕ
 link_text true inside = []
-link_text false inside = 124 ∷ nowiki_or inside
+link_text false inside = byte.vertical_bar ∷ nowiki_or inside
 
 -- A link to a page. (A link that leads to none is refused before.)
 abbrev pub page_link : Option Title → Trees → List ℕ → List ℕ
 page_link None ts inside = []
-page_link (Some t) ts inside = 91 ∷ 91 ∷ (colon t.ns ++ (text_of t ++ (link_text (is_text (only_text ts) (full_name_of t)) inside ++ (93 ∷ 93 ∷ []))))
+page_link (Some t) ts inside = byte.opening_bracket ∷ byte.opening_bracket ∷ (colon t.ns ++ (text_of t ++ (link_text (is_text (only_text ts) (full_name_of t)) inside ++ (byte.closing_bracket ∷ byte.closing_bracket ∷ []))))
 
 abbrev pub after_space : List ℕ → List ℕ
 after_space [] = []
-after_space (b ∷ bs) = 32 ∷ b ∷ bs
+after_space (b ∷ bs) = byte.space ∷ b ∷ bs
 
 abbrev pub external_link : List ℕ → List ℕ → List ℕ
-external_link url inside = 91 ∷ (url ++ (after_space inside ++ (93 ∷ [])))
+external_link url inside = byte.opening_bracket ∷ (url ++ (after_space inside ++ (byte.closing_bracket ∷ [])))
 
 -- a changed tag has its old delimiters
 abbrev pub tag_pair : Option Kept → List ℕ → List ℕ
@@ -176,8 +177,8 @@ break_tag = codes "<br>"
 abbrev pub signs_by : InlineForm → Page → Place → Option Kept → Label → Trees → List ContentSign → List ContentSign
 signs_by inline.Nothing p pl k l ts inside = []
 signs_by inline.Characters p pl k l ts inside = letters l.shown
-signs_by inline.Bold p pl k l ts inside = style (39 ∷ 39 ∷ 39 ∷ []) k inside
-signs_by inline.Italic p pl k l ts inside = style (39 ∷ 39 ∷ []) k inside
+signs_by inline.Bold p pl k l ts inside = style (byte.apostrophe ∷ byte.apostrophe ∷ byte.apostrophe ∷ []) k inside
+signs_by inline.Italic p pl k l ts inside = style (byte.apostrophe ∷ byte.apostrophe ∷ []) k inside
 signs_by inline.Shown p pl k l ts inside = unless_kept p k (tree l ts) (letters (shown (tree l ts)))
 signs_by inline.PageLink p pl k l ts inside = unless_kept p k (tree l ts)
     (new_thing role.Link (page_link (read_link (href_of l)) ts (spelled_within p pl inside)) k)
@@ -220,9 +221,9 @@ place_in form.NoBlock = place.Paragraph
 
 abbrev pub framed : BlockForm → ℕ → List ℕ → List ℕ
 framed form.Paragraph sign inside = inside
-framed (form.Heading n) sign inside = equals n ++ (32 ∷ (inside ++ (32 ∷ equals n)))
+framed (form.Heading n) sign inside = equals n ++ (byte.space ∷ (inside ++ (byte.space ∷ equals n)))
 framed form.Rule sign inside = codes "----"
-framed form.Item sign inside = encode_utf8 sign ++ (32 ∷ inside)
+framed form.Item sign inside = encode_utf8 sign ++ (byte.space ∷ inside)
 framed form.NoBlock sign inside = inside
 
 abbrev pub form_of : Tree → BlockForm

@@ -17,6 +17,7 @@ use Rattle.wt_names.specs.Namespace.{full_name_of}
 use Rattle.wt_braces.specs.PartMembers.{PartMembers, part_members}
 use Rattle.wt_span.specs.declared.function.Function.{Function}
 use Rattle.wt_span.specs.declared.function.Function.TheVariants.{If, IfEq, Switch}
+use Rattle.wt_span.specs.Characters as byte
 use Rattle.wt_functions.specs.Choice.{chosen, told_count}
 use Rattle.wt_expand.specs.PageItems.{form_of}
 use Rattle.wt_expand.specs.Texts.{trimmed_items, name_text}
@@ -162,20 +163,20 @@ argument_output frame ps =
 
 -- the characters `*`, `#`, `:` and `;`, and `{` with `|` behind it
 abbrev pub is_block_sign : ℕ → Bool
-is_block_sign b = b == 42 || (b == 35 || (b == 58 || b == 59))
+is_block_sign b = b == byte.asterisk || (b == byte.hash || (b == byte.colon || b == byte.semicolon))
 
 abbrev pub begins_with_bar : List Item → Bool
 begins_with_bar [] = false
-begins_with_bar (x ∷ xs) = is_char_in (λ b. b == 124) x
+begins_with_bar (x ∷ xs) = is_char_in (λ b. b == byte.vertical_bar) x
 
 abbrev pub opens_block : List Item → Bool
 opens_block [] = false
-opens_block (x ∷ xs) = is_char_in is_block_sign x || (is_char_in (λ b. b == 123) x && begins_with_bar xs)
+opens_block (x ∷ xs) = is_char_in is_block_sign x || (is_char_in (λ b. b == byte.opening_brace) x && begins_with_bar xs)
 
 -- a line break before what only counts at the start of a line, unless the call stands there; the texts that stand for a page
 -- that isn't taken begin with other characters
 abbrev pub with_break : Bool → List Item → List Item
-with_break at_start xs = if opens_block xs && not at_start then char None 10 ∷ xs else xs
+with_break at_start xs = if opens_block xs && not at_start then char None byte.line_break ∷ xs else xs
 
 abbrev pub page_output : Reading → Bool → Title → List PartOutput → Output
 page_output r at_start t ps =

@@ -8,6 +8,7 @@ use Rattle.wt_names.specs.declared.title.Title.{Title}
 use Rattle.wt_names.specs.Good.{is_good, read_text}
 use Rattle.wt_span.specs.declared.function.Function.{Function}
 use Rattle.wt_span.specs.Functions.{function_of}
+use Rattle.wt_span.specs.Characters as byte
 use Rattle.wt_expand.specs.Texts.{is_space, without_front, trimmed, target_text}
 
 abbrev pub is_main : Ns → Bool
@@ -43,7 +44,7 @@ title_behind colon text = option_and_then (placed_title colon) (option_and_then 
 
 -- the title that a target's text names: a leading colon names the page as it is
 unfoldable pub title_in_target : List ℕ → Option Title
-title_in_target text = let bs = trimmed text in title_behind (slice_index bs 0 == 58) bs
+title_in_target text = let bs = trimmed text in title_behind (slice_index bs 0 == byte.colon) bs
 
 -- the title of a target that was expanded
 unfoldable pub title_of_target : List Item → Option Title
@@ -52,7 +53,7 @@ title_of_target items = option_and_then title_in_target (target_text items)
 -- The first character of a call's target past blanks and line breaks is `#`. The target ends with the call or with a `|`,
 -- so this is the first such character behind the two braces.
 unfoldable pub is_function : List ℕ → Bool
-is_function source = slice_index (without_front is_space (drop 2 source)) 0 == 35
+is_function source = slice_index (without_front is_space (drop 2 source)) 0 == byte.hash
 
 -- What a call is: an argument; a function by text, with how many bytes of its target stand before its part 0; another function,
 -- which is kept as it stands; the call of a page; or text.

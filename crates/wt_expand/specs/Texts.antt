@@ -4,10 +4,11 @@ use Rattle.std.specs.List.{flat_map, prefix_len}
 use Rattle.wt_span.specs.declared.form.ItemForm.{ItemForm}
 use Rattle.wt_span.specs.declared.form.ItemForm.TheVariants as form
 use Rattle.wt_span.specs.Items.{Item, char, whole, is_mark_form, is_char_in}
+use Rattle.wt_span.specs.Characters as byte
 
 -- a space, a tab or a line break
 abbrev pub is_space : ℕ → Bool
-is_space b = b == 32 || (b == 9 || b == 10)
+is_space b = b == byte.space || (b == byte.tab || b == byte.line_break)
 
 abbrev pub without_front : {A : Type 0} → (A → Bool) → List A → List A
 without_front p xs = drop (prefix_len p xs) xs

@@ -3,6 +3,7 @@
 use Rattle.std.specs.Prelude.{ℕ, ◌+◌, Bool, true, false, not, ◌||◌, ◌&&◌, ◌==◌, nat_eq, Option, Some, None, List, [], ◌∷◌, ◌++◌, length, if◌then◌else◌, codes, slice_get}
 use Rattle.std.specs.List.{ends_with}
 use Rattle.wt_span.specs.Bytes.{is_blank}
+use Rattle.wt_span.specs.Characters as byte
 use Rattle.wt_guards.specs.declared.role.Role.{Role}
 use Rattle.wt_guards.specs.declared.role.Role.TheVariants.{Link, External, Bare, Switch, Toggle, Mark, Group, Function, Node}
 use Rattle.wt_guards.specs.declared.role.Stretch.{Stretch}
@@ -36,20 +37,20 @@ is_reached (Some at) start = is_this start at
 
 -- Its source ends with `{`, which would make a longer run of the braces of a call or function behind it.
 abbrev pub has_brace_last : List ℕ → Bool
-has_brace_last source = ends_with nat_eq source (123 ∷ [])
+has_brace_last source = ends_with nat_eq source (byte.opening_brace ∷ [])
 
 -- ---- starts of lines
 
 -- A line begins at the content's start, after a line break, and after a mark whose source ends with one.
 abbrev pub is_line_start : Option ContentSign → Bool
 is_line_start None = true
-is_line_start (Some (letter c)) = c == 10
+is_line_start (Some (letter c)) = c == byte.line_break
 is_line_start (Some (thing t)) = ends_line t.role
 
 -- The line has no character but spaces and tabs from here on, and no node but marks.
 abbrev pub is_empty_line : List ContentSign → Bool
 is_empty_line [] = true
-is_empty_line (letter c ∷ after) = c == 10 || (is_blank c && is_empty_line after)
+is_empty_line (letter c ∷ after) = c == byte.line_break || (is_blank c && is_empty_line after)
 is_empty_line (thing t ∷ after) = ends_line t.role || (is_invisible t.role && is_empty_line after)
 
 -- the next sign is a mark whose source ends with a line break, before which nothing is put
@@ -61,7 +62,7 @@ is_line_mark_next (Some (thing t)) = ends_line t.role
 -- nothing but marks stands between the line's start and this place
 abbrev pub is_line_begun : List ContentSign → Bool
 is_line_begun [] = true
-is_line_begun (letter c ∷ before) = c == 10
+is_line_begun (letter c ∷ before) = c == byte.line_break
 is_line_begun (thing t ∷ before) = ends_line t.role || (is_invisible t.role && is_line_begun before)
 
 -- the next sign is a character that may not begin a line
@@ -102,7 +103,7 @@ is_end (Some (thing t)) = false
 
 abbrev pub is_line_end : Option ContentSign → Bool
 is_line_end None = true
-is_line_end (Some (letter c)) = c == 10
+is_line_end (Some (letter c)) = c == byte.line_break
 is_line_end (Some (thing t)) = false
 
 -- a group that didn't end its line in the page, or a bare URL that ends with `=`

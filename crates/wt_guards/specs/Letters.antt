@@ -2,24 +2,25 @@
 use Rattle.std.specs.Prelude.{ℕ, Bool, true, false, not, ◌||◌, ◌&&◌, ◌==◌, Option, Some, None, List, [], ◌∷◌, ◌++◌, if◌then◌else◌, codes, decimal, encode_utf8}
 use Rattle.std.specs.Char.{is_ascii_alphabetic}
 use Rattle.wt_span.specs.Bytes.{is_blank}
+use Rattle.wt_span.specs.Characters as byte
 use Rattle.wt_guards.specs.declared.side.Place.{Place}
 use Rattle.wt_guards.specs.declared.side.Place.TheVariants.{Paragraph, Heading, Item, Term, Cell, Header}
 use Rattle.wt_guards.specs.Content.{ContentSign, letter, thing, nearest, ends_line, is_invisible, shows_blanks}
 
 -- `[` `]` `{` `}` `|` `>`: written otherwise wherever they stand
 abbrev pub is_bracket : ℕ → Bool
-is_bracket c = c == 91 || (c == 93 || (c == 123 || (c == 125 || (c == 124 || c == 62))))
+is_bracket c = c == byte.opening_bracket || (c == byte.closing_bracket || (c == byte.opening_brace || (c == byte.closing_brace || (c == byte.vertical_bar || c == byte.greater_than))))
 
 -- the next sign is no character, or one that makes a tag of a `<`: an ASCII letter, `/` or `!`
 abbrev pub opens_tag : Option ContentSign → Bool
 opens_tag None = true
-opens_tag (Some (letter c)) = is_ascii_alphabetic c || (c == 47 || c == 33)
+opens_tag (Some (letter c)) = is_ascii_alphabetic c || (c == byte.slash || c == byte.exclamation_mark)
 opens_tag (Some (thing t)) = true
 
 -- the next sign is no character, or one that makes an entity of a `&`: an ASCII letter or `#`
 abbrev pub opens_entity : Option ContentSign → Bool
 opens_entity None = true
-opens_entity (Some (letter c)) = is_ascii_alphabetic c || c == 35
+opens_entity (Some (letter c)) = is_ascii_alphabetic c || c == byte.hash
 opens_entity (Some (thing t)) = true
 
 -- the nearest sign is this character
@@ -31,19 +32,19 @@ is_next d (Some (thing t)) = false
 -- the nearest sign is no character, or an apostrophe
 abbrev pub is_apostrophe_or_end : Option ContentSign → Bool
 is_apostrophe_or_end None = true
-is_apostrophe_or_end (Some (letter c)) = c == 39
+is_apostrophe_or_end (Some (letter c)) = c == byte.apostrophe
 is_apostrophe_or_end (Some (thing t)) = true
 
 -- `//` follows
 abbrev pub are_slashes : List ContentSign → Bool
 are_slashes [] = false
-are_slashes (letter c ∷ after) = c == 47 && is_next 47 (nearest after)
+are_slashes (letter c ∷ after) = c == byte.slash && is_next byte.slash (nearest after)
 are_slashes (thing t ∷ after) = false
 
 -- only spaces and tabs follow, up to a line break or the end of the text
 abbrev pub is_blank_to_end : List ContentSign → Bool
 is_blank_to_end [] = true
-is_blank_to_end (letter c ∷ after) = if is_blank c then is_blank_to_end after else c == 10
+is_blank_to_end (letter c ∷ after) = if is_blank c then is_blank_to_end after else c == byte.line_break
 is_blank_to_end (thing t ∷ after) = true
 
 abbrev pub is_term : Place → Bool
@@ -65,7 +66,7 @@ is_header Header = true
 -- On its line nothing stands before but groups that show spaces and tabs alone, marks, spaces and tabs.
 abbrev pub is_clear : List ContentSign → Bool
 is_clear [] = true
-is_clear (letter c ∷ before) = c == 10 || (is_blank c && is_clear before)
+is_clear (letter c ∷ before) = c == byte.line_break || (is_blank c && is_clear before)
 is_clear (thing t ∷ before) = ends_line t.role || ((is_invisible t.role || shows_blanks t.role) && is_clear before)
 
 -- And one of them is such a group: a `!` would begin a line of header cells.
@@ -78,21 +79,21 @@ is_indented (thing t ∷ before) = not (ends_line t.role) && ((shows_blanks t.ro
 unfoldable pub is_escaped : Bool → Place → List ContentSign → ℕ → List ContentSign → Bool
 is_escaped within place before c after =
     if is_bracket c then true
-    else if c == 60 then opens_tag (nearest after)
-    else if c == 38 then opens_entity (nearest after)
-    else if c == 39 then is_apostrophe_or_end (nearest before) || is_apostrophe_or_end (nearest after)
-    else if c == 95 then is_next 95 (nearest before)
-    else if c == 58 then is_term place || are_slashes after
-    else if c == 61 then is_blank_to_end after
-    else if c == 33 then (is_header place && (is_next 33 (nearest before) || is_next 33 (nearest after))) || (not within && is_indented before)
+    else if c == byte.less_than then opens_tag (nearest after)
+    else if c == byte.ampersand then opens_entity (nearest after)
+    else if c == byte.apostrophe then is_apostrophe_or_end (nearest before) || is_apostrophe_or_end (nearest after)
+    else if c == byte.underscore then is_next byte.underscore (nearest before)
+    else if c == byte.colon then is_term place || are_slashes after
+    else if c == byte.equals_sign then is_blank_to_end after
+    else if c == byte.exclamation_mark then (is_header place && (is_next byte.exclamation_mark (nearest before) || is_next byte.exclamation_mark (nearest after))) || (not within && is_indented before)
     else false
 
 -- `>`, `<` and `&` by their names, and others by their numbers
 unfoldable pub reference : ℕ → List ℕ
 reference c =
-    if c == 62 then codes "&gt;"
-    else if c == 60 then codes "&lt;"
-    else if c == 38 then codes "&amp;"
+    if c == byte.greater_than then codes "&gt;"
+    else if c == byte.less_than then codes "&lt;"
+    else if c == byte.ampersand then codes "&amp;"
     else codes "&#" ++ (decimal c ++ codes ";")
 
 abbrev pub written_by : Bool → ℕ → List ℕ

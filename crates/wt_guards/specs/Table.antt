@@ -3,12 +3,13 @@
 use Rattle.std.specs.Prelude.{ℕ, Bool, true, false, not, ◌||◌, ◌&&◌, ◌==◌}
 use Rattle.std.specs.Char.{is_ascii_alphanumeric, is_ascii_lowercase}
 use Rattle.wt_span.specs.Bytes.{is_blank}
+use Rattle.wt_span.specs.Characters as byte
 use Rattle.wt_guards.specs.declared.side.Side.{Side}
 use Rattle.wt_guards.specs.declared.side.Side.TheVariants.{Edge, Text, Link, Bare, Switch, Group, Toggle, Node}
 
 -- an ASCII letter, a digit or `_`: a URL doesn't begin after it
 abbrev pub is_word : ℕ → Bool
-is_word c = is_ascii_alphanumeric c || c == 95
+is_word c = is_ascii_alphanumeric c || c == byte.underscore
 
 -- an ASCII lower-case letter: it joins the link before it
 abbrev pub is_trail : ℕ → Bool
@@ -16,15 +17,15 @@ is_trail c = is_ascii_lowercase c
 
 -- a space, a tab or a line break
 abbrev pub is_space : ℕ → Bool
-is_space c = is_blank c || c == 10
+is_space c = is_blank c || c == byte.line_break
 
 -- after these a group may stand: a space, a tab, `(`, `,`, or the start of a line
 abbrev pub leads_group : ℕ → Bool
-leads_group c = is_space c || (c == 40 || c == 44)
+leads_group c = is_space c || (c == byte.opening_parenthesis || c == byte.comma)
 
 -- `,` `;` `.` `?` `)`: these end a URL
 abbrev pub ends_url : ℕ → Bool
-ends_url c = c == 44 || (c == 59 || (c == 46 || (c == 63 || c == 41)))
+ends_url c = c == byte.comma || (c == byte.semicolon || (c == byte.full_stop || (c == byte.question_mark || c == byte.closing_parenthesis)))
 
 -- these may stand after a group: a space, a tab, the end of a line, and where it shows no `//` also what ends a URL
 abbrev pub follows_group : Bool → ℕ → Bool
@@ -123,4 +124,4 @@ hazard Node right = after_node right
 
 -- a space, a tab, `=` `*` `#` `:` `;` `-` `!`: at the start of a line these begin a block of another kind
 unfoldable pub line_start_hazard : ℕ → Bool
-line_start_hazard c = is_blank c || (c == 61 || (c == 42 || (c == 35 || (c == 58 || (c == 59 || (c == 45 || c == 33))))))
+line_start_hazard c = is_blank c || (c == byte.equals_sign || (c == byte.asterisk || (c == byte.hash || (c == byte.colon || (c == byte.semicolon || (c == byte.hyphen || c == byte.exclamation_mark))))))

@@ -1,6 +1,7 @@
 -- What the laws of the spelling speak of.
 use Rattle.std.specs.Prelude.{◌≡◌, ℕ, suc, ◌==◌, false, List, [], ◌∷◌, if◌then◌else◌, encode_utf8}
 use Rattle.std.specs.List.{flat_map}
+use Rattle.wt_span.specs.Characters as byte
 use Rattle.wt_guards.specs.Content.{ContentSign, letter, thing}
 use Rattle.wt_guards.specs.Letters.{is_bracket, is_escaped, reference}
 use Rattle.wt_guards.specs.Guards.{Setting, nowiki, is_guarded}
@@ -58,4 +59,4 @@ pub record Pieces (text bytes : List ℕ) : Type 0 where
 -- how many line breaks are among the bytes
 abbrev pub breaks : List ℕ → ℕ
 breaks [] = 0
-breaks (b ∷ bs) = if b == 10 then suc (breaks bs) else breaks bs
+breaks (b ∷ bs) = if b == byte.line_break then suc (breaks bs) else breaks bs

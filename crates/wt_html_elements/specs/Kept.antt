@@ -2,6 +2,7 @@
 -- isn't whole yet.
 use Rattle.std.specs.Prelude.{◌≡◌, ℕ, ◌<◌, Bool, true, false, List, [], ◌∷◌, ◌++◌, length, map}
 use Rattle.std.specs.Char.{to_ascii_lowercase}
+use Rattle.wt_span.specs.Characters as byte
 use Rattle.wt_html_grammar.specs.Signs.{in_text, is_void, IsName, IsGap}
 use Rattle.wt_html_grammar.specs.Grammar.{Piece, spell_piece, IsPiece, Attribute, spell_attributes, AreAttributes, Slash, bare, slash, spell_slash, doctype as doctype_word}
 use Rattle.wt_html_grammar.specs.Machine.{State, start, doctype, inside}
@@ -14,8 +15,8 @@ pub data Token : Type 0 where
   sign : Piece → Token
 
 abbrev pub spell_token : Token → List ℕ
-spell_token (start_tag name attributes gap end) = 60 ∷ (name ++ (spell_attributes attributes ++ (gap ++ spell_slash end)))
-spell_token (end_tag name gap) = 60 ∷ 47 ∷ (name ++ (gap ++ 62 ∷ []))
+spell_token (start_tag name attributes gap end) = byte.less_than ∷ (name ++ (spell_attributes attributes ++ (gap ++ spell_slash end)))
+spell_token (end_tag name gap) = byte.less_than ∷ byte.slash ∷ (name ++ (gap ++ byte.greater_than ∷ []))
 spell_token (declaration word) = word
 spell_token (sign p) = spell_piece p
 

@@ -1,5 +1,6 @@
 -- What each byte tells, and how the tree is built from that.
 use Rattle.std.specs.Prelude.{ℕ, ◌==◌, Option, Some, None, Result, Ok, Err, List, [], ◌∷◌, ◌++◌, encode_utf8, if◌then◌else◌}
+use Rattle.wt_span.specs.Characters as byte
 use Rattle.wt_html_grammar.specs.declared.why.HtmlWhy.{HtmlWhy}
 use Rattle.wt_html_grammar.specs.declared.event.Event.{Event}
 use Rattle.wt_html_grammar.specs.declared.event.Event.TheVariants as ev
@@ -8,10 +9,10 @@ use Rattle.wt_html_grammar.specs.Markup.{Pair, Markup, Markups, node, empty, mor
 use Rattle.wt_html_grammar.specs.Machine.{State, start, first, inside, less, naming, gap, attribute, equals, value, valued, slashed, closing, closed, escaping, Escape, letters, digits, wide, Tag, mended, step}
 
 abbrev pub out_open : Tag → ℕ → Event
-out_open t b = if b == 62 then (if is_void t.name then ev.Void else ev.Opened) else ev.Quiet
+out_open t b = if b == byte.greater_than then (if is_void t.name then ev.Void else ev.Opened) else ev.Quiet
 
 abbrev pub out_end : ℕ → Event
-out_end b = if b == 62 then ev.Closed else ev.Quiet
+out_end b = if b == byte.greater_than then ev.Closed else ev.Quiet
 
 -- a byte, or a character, of a value or of a text
 abbrev pub unit_byte : State → ℕ → Event
@@ -24,7 +25,7 @@ unit_char s c = ev.Char c
 
 -- the character that an escape stands for, at its `;`
 abbrev pub at_semicolon : ℕ → ℕ → Option ℕ
-at_semicolon c b = if b == 59 then Some c else None
+at_semicolon c b = if b == byte.semicolon then Some c else None
 
 abbrev pub decoded : Escape → ℕ → Option ℕ
 decoded (letters n []) b = at_semicolon (character_of n) b
@@ -49,7 +50,7 @@ out (less ns) b = out_name b
 out (naming ns n) b = if is_name_byte b then ev.Name b else out_open (record { outer = ns; name = n; seen = [] }) b
 out (gap t) b = if is_attribute_byte b then ev.KeyBegin b else out_open t b
 out (attribute t a) b = if is_attribute_byte b then ev.Key b else ev.Quiet
-out (equals t) b = if b == 34 then ev.ValueBegin else if b == 39 then ev.ValueBegin else ev.Quiet
+out (equals t) b = if b == byte.quotation_mark then ev.ValueBegin else if b == byte.apostrophe then ev.ValueBegin else ev.Quiet
 out (value t q) b = if in_value q b then ev.ValueByte b else if b == q then ev.ValueEnd else ev.Quiet
 out (valued t) b = out_open t b
 out (slashed t) b = ev.Void

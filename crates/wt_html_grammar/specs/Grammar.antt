@@ -2,6 +2,7 @@
 -- with its white space, quotes and escapes.
 use Rattle.std.specs.Prelude.{◌≡◌, ℕ, suc, ◌<◌, ◌≤◌, Bool, true, false, List, [], ◌∷◌, ◌++◌, length, map, codes, encode_utf8}
 use Rattle.std.specs.Char.{to_ascii_lowercase}
+use Rattle.wt_span.specs.Characters as byte
 use lib.Utf8.{scalar}
 use Rattle.wt_html_grammar.specs.declared.names.EscapeName.{EscapeName}
 use Rattle.wt_html_grammar.specs.declared.names.Radix.{Radix}
@@ -16,8 +17,8 @@ pub data Piece : Type 0 where
 
 abbrev pub spell_piece : Piece → List ℕ
 spell_piece (plain c) = encode_utf8 c
-spell_piece (named n) = 38 ∷ (letters_of n ++ 59 ∷ [])
-spell_piece (number r ds) = 38 ∷ 35 ∷ (sign_of r ++ (ds ++ 59 ∷ []))
+spell_piece (named n) = byte.ampersand ∷ (letters_of n ++ byte.semicolon ∷ [])
+spell_piece (number r ds) = byte.ampersand ∷ byte.hash ∷ (sign_of r ++ (ds ++ byte.semicolon ∷ []))
 
 -- where a character that stands for itself meets the test; an escape is that of a character
 abbrev pub IsPiece : (ℕ → Bool) → Piece → Type 0
@@ -43,7 +44,7 @@ pub record Attribute : Type 0 where
   pub value : List Piece
 
 abbrev pub spell_attribute : Attribute → List ℕ
-spell_attribute a = a.gap ++ (a.name ++ (a.left ++ (61 ∷ (a.right ++ (a.quote ∷ (spell_pieces a.value ++ a.quote ∷ []))))))
+spell_attribute a = a.gap ++ (a.name ++ (a.left ++ (byte.equals_sign ∷ (a.right ++ (a.quote ∷ (spell_pieces a.value ++ a.quote ∷ []))))))
 
 abbrev pub IsAttribute : Attribute → Type 0
 IsAttribute a = IsWideGap a.gap × IsAttributeName a.name × ArePieces (in_value a.quote) a.value × (is_quote a.quote ≡ true) × IsGap a.left × IsGap a.right
@@ -81,8 +82,8 @@ mutual
 abbrev mutual
   pub spell : Element → List ℕ
   spell (element name attributes gap items end) =
-      60 ∷ (name ++ (spell_attributes attributes ++ (gap ++ (62 ∷ (spell_items items ++ (60 ∷ 47 ∷ (name ++ (end ++ 62 ∷ []))))))))
-  spell (void name attributes gap end) = 60 ∷ (name ++ (spell_attributes attributes ++ (gap ++ spell_slash end)))
+      byte.less_than ∷ (name ++ (spell_attributes attributes ++ (gap ++ (byte.greater_than ∷ (spell_items items ++ (byte.less_than ∷ byte.slash ∷ (name ++ (end ++ byte.greater_than ∷ []))))))))
+  spell (void name attributes gap end) = byte.less_than ∷ (name ++ (spell_attributes attributes ++ (gap ++ spell_slash end)))
 
   pub spell_items : Items → List ℕ
   spell_items none = []

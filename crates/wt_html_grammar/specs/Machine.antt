@@ -1,6 +1,7 @@
 -- The machine that reads byte by byte: where it is, and what a byte does there.
 use Rattle.std.specs.Prelude.{ℕ, zero, suc, ◌+◌, ◌*◌, ◌==◌, ◌&&◌, ◌||◌, nat_lt, nat_le, Bool, Option, Some, None, Result, Ok, Err, List, [], ◌∷◌, ◌++◌, length, codes, if◌then◌else◌}
 use Rattle.std.specs.Char.{to_ascii_lowercase}
+use Rattle.wt_span.specs.Characters as byte
 use lib.Utf8.{scalar}
 use Rattle.wt_html_grammar.specs.declared.why.HtmlWhy.{HtmlWhy}
 use Rattle.wt_html_grammar.specs.declared.why.HtmlWhy.TheVariants as why
@@ -39,11 +40,11 @@ is_whole k n = nat_lt 0 k && scalar n
 abbrev pub in_digits : Radix → ℕ → ℕ → ℕ → EscapeStep
 in_digits r k n b =
     if is_digit_of r b then (if is_begun r (k + 1) (n * base_of r + digit_value b) then on (digits r (k + 1) (n * base_of r + digit_value b)) else stop)
-    else if b == 59 then (if is_whole k n then ended else stop) else stop
+    else if b == byte.semicolon then (if is_whole k n then ended else stop) else stop
 
 abbrev pub in_escape : Escape → ℕ → EscapeStep
 in_escape ampersand b =
-    if b == 35 then on sharp
+    if b == byte.hash then on sharp
     else if b == 97 then on apart
     else if b == 108 then on (letters Lt (codes "t"))
     else if b == 103 then on (letters Gt (codes "t"))
@@ -52,7 +53,7 @@ in_escape ampersand b =
 in_escape apart b =
     if b == 109 then on (letters Amp (codes "p")) else if b == 112 then on (letters Apos (codes "os")) else stop
 in_escape (letters n (c ∷ cs)) b = if b == c then on (letters n cs) else stop
-in_escape (letters n []) b = if b == 59 then ended else stop
+in_escape (letters n []) b = if b == byte.semicolon then ended else stop
 in_escape sharp b = if b == 120 then on (digits Hexadecimal 0 0) else in_digits Decimal 0 0 b
 in_escape (digits r k n) b = in_digits r k n b
 in_escape (wide low high zero) b = if between low high b then ended else stop
@@ -89,7 +90,7 @@ end_tag (n ∷ ns) = Ok (closing n ns)
 
 -- behind the name of an end tag
 abbrev pub at_end : List (List ℕ) → ℕ → Result State HtmlWhy
-at_end ns b = if is_space b then Ok (closed ns) else if b == 62 then Ok (inside ns) else Err why.Syntax
+at_end ns b = if is_space b then Ok (closed ns) else if b == byte.greater_than then Ok (inside ns) else Err why.Syntax
 
 -- the names that are open behind a start tag
 abbrev pub opened : Tag → List (List ℕ)
@@ -99,8 +100,8 @@ opened t = if is_void t.name then t.outer else t.name ∷ t.outer
 abbrev pub at_open : Tag → ℕ → Result State HtmlWhy
 at_open t b =
     if is_space b then Ok (gap t)
-    else if b == 62 then Ok (inside (opened t))
-    else if b == 47 then (if is_void t.name then Ok (slashed t) else Err why.Syntax) else Err why.Syntax
+    else if b == byte.greater_than then Ok (inside (opened t))
+    else if b == byte.slash then (if is_void t.name then Ok (slashed t) else Err why.Syntax) else Err why.Syntax
 
 -- a byte in a text or in a value that isn't plain: it begins an escape, or a character
 abbrev pub begins : State → Option Follow → Result State HtmlWhy
@@ -108,14 +109,14 @@ begins s None = Err why.NotUtf8
 begins s (Some f) = Ok (escaping s (wide f.low f.high f.more))
 
 abbrev pub special : State → ℕ → Result State HtmlWhy
-special s b = if b == 38 then Ok (escaping s ampersand) else begins s (follow b)
+special s b = if b == byte.ampersand then Ok (escaping s ampersand) else begins s (follow b)
 
 abbrev pub with_seen : Tag → List ℕ → Tag
 with_seen t a = record { outer = t.outer; name = t.name; seen = t.seen ++ a ∷ [] }
 
 -- behind the name of an attribute
 abbrev pub at_name : Tag → ℕ → Result State HtmlWhy
-at_name t b = if is_space b then Ok (named_so t) else if b == 61 then Ok (equals t) else Err why.Syntax
+at_name t b = if is_space b then Ok (named_so t) else if b == byte.equals_sign then Ok (equals t) else Err why.Syntax
 
 abbrev pub why_of : Escape → HtmlWhy
 why_of (wide low high n) = why.NotUtf8
@@ -131,22 +132,22 @@ abbrev pub is_plain : (ℕ → Bool) → ℕ → Bool
 is_plain p b = nat_lt b 128 && p b
 
 abbrev pub in_contents : List (List ℕ) → ℕ → Result State HtmlWhy
-in_contents ns b = if is_plain in_text b then Ok (inside ns) else if b == 60 then Ok (less ns) else special (inside ns) b
+in_contents ns b = if is_plain in_text b then Ok (inside ns) else if b == byte.less_than then Ok (less ns) else special (inside ns) b
 
 -- in a doctype
 abbrev pub in_doctype : List ℕ → ℕ → Result State HtmlWhy
-in_doctype [] b = if is_space b then Ok (doctype []) else if b == 60 then Ok (less []) else Err why.Syntax
+in_doctype [] b = if is_space b then Ok (doctype []) else if b == byte.less_than then Ok (less []) else Err why.Syntax
 in_doctype (c ∷ cs) b = if to_ascii_lowercase b == c then Ok (doctype cs) else Err why.Syntax
 
 abbrev pub step : State → ℕ → Result State HtmlWhy
-step start b = if is_space b then Ok start else if b == 60 then Ok first else Err why.Syntax
-step first b = if is_lower b then Ok (naming [] (b ∷ [])) else if b == 33 then Ok (doctype (codes "doctype html>")) else Err why.Syntax
+step start b = if is_space b then Ok start else if b == byte.less_than then Ok first else Err why.Syntax
+step first b = if is_lower b then Ok (naming [] (b ∷ [])) else if b == byte.exclamation_mark then Ok (doctype (codes "doctype html>")) else Err why.Syntax
 step (doctype cs) b = in_doctype cs b
 step (inside []) b = if is_space b then Ok (inside []) else Err why.Syntax
 step (inside (n ∷ ns)) b = in_contents (n ∷ ns) b
 step (less ns) b =
     if is_lower b then (if nat_lt (length ns) NESTED_ELEMENTS then Ok (naming ns (b ∷ [])) else Err why.TooDeep)
-    else if b == 47 then end_tag ns else Err why.Syntax
+    else if b == byte.slash then end_tag ns else Err why.Syntax
 step (naming ns n) b =
     if is_name_byte b then Ok (naming ns (n ++ b ∷ [])) else at_open (record { outer = ns; name = n; seen = [] }) b
 step (gap t) b = if is_attribute_byte b then Ok (attribute t (b ∷ [])) else at_open t b
@@ -158,7 +159,7 @@ step (named_so t) b = at_name t b
 step (equals t) b = if is_quote b then Ok (value t b) else if is_space b then Ok (equals t) else Err why.Syntax
 step (value t q) b = if is_plain (in_value q) b then Ok (value t q) else if b == q then Ok (valued t) else special (value t q) b
 step (valued t) b = at_open t b
-step (slashed t) b = if b == 62 then Ok (inside t.outer) else Err why.Syntax
+step (slashed t) b = if b == byte.greater_than then Ok (inside t.outer) else Err why.Syntax
 step (closing (c ∷ cs) ns) b = if b == c then Ok (closing cs ns) else Err why.EndTag
 step (closing [] ns) b = if is_name_byte b then Err why.EndTag else at_end ns b
 step (closed ns) b = at_end ns b

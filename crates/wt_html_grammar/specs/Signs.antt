@@ -3,6 +3,7 @@
 use Rattle.std.specs.Prelude.{◌≡◌, ℕ, zero, suc, ◌+◌, ◌-◌, ◌*◌, ◌==◌, ◌&&◌, ◌||◌, Bool, true, false, not, nat_le, nat_lt, Option, Some, None, List, [], ◌∷◌, codes, if◌then◌else◌}
 use Rattle.std.specs.List.{AllByRecursion}
 use Rattle.std.specs.Str.{bytes_eq}
+use Rattle.wt_span.specs.Characters as byte
 use Rattle.wt_html_grammar.specs.declared.names.EscapeName.{EscapeName}
 use Rattle.wt_html_grammar.specs.declared.names.EscapeName.TheVariants.{Amp, Lt, Gt, Quot, Apos, Nbsp}
 use Rattle.wt_html_grammar.specs.declared.names.Radix.{Radix}
@@ -19,7 +20,7 @@ is_digit b = between 48 57 b
 
 -- space, tab, line break, carriage return
 abbrev pub is_space : ℕ → Bool
-is_space b = b == 32 || b == 9 || b == 10 || b == 13
+is_space b = b == byte.space || b == byte.tab || b == byte.line_break || b == byte.carriage_return
 
 -- the name of an element goes on with lower-case letters and digits
 abbrev pub is_name_byte : ℕ → Bool
@@ -27,17 +28,17 @@ is_name_byte b = is_lower b || is_digit b
 
 -- the name of an attribute has `-` and `:` too
 abbrev pub is_attribute_byte : ℕ → Bool
-is_attribute_byte b = is_lower b || is_digit b || b == 45 || b == 58
+is_attribute_byte b = is_lower b || is_digit b || b == byte.hyphen || b == byte.colon
 
 abbrev pub is_quote : ℕ → Bool
-is_quote b = b == 34 || b == 39
+is_quote b = b == byte.quotation_mark || b == byte.apostrophe
 
 -- a character that stands for itself: in a text, and in a value that stands in this quote
 abbrev pub in_text : ℕ → Bool
-in_text c = not (c == 60) && not (c == 38)
+in_text c = not (c == byte.less_than) && not (c == byte.ampersand)
 
 abbrev pub in_value : ℕ → ℕ → Bool
-in_value quote c = not (c == quote) && not (c == 38)
+in_value quote c = not (c == quote) && not (c == byte.ampersand)
 
 abbrev pub Each : (ℕ → Bool) → List ℕ → Type 0
 Each p bs = AllByRecursion (λ b. p b ≡ true) bs

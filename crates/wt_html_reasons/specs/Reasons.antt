@@ -1,6 +1,7 @@
 -- The reasons for which an input is refused, each by what stands before the place and behind it.
 use Rattle.std.specs.Prelude.{◌≡◌, ℕ, ◌==◌, ◌⊎◌, Bool, true, not, nat_lt, List, [], ◌∷◌, ◌++◌, length, take, drop}
 use Rattle.std.specs.Str.{IsUtf8}
+use Rattle.wt_span.specs.Characters as byte
 use Rattle.wt_html_grammar.specs.declared.why.HtmlWhy.{HtmlWhy}
 use Rattle.wt_html_grammar.specs.declared.why.HtmlWhy.TheVariants as why
 use Rattle.wt_html_grammar.specs.Signs.{is_lower, is_name_byte, is_attribute_byte, is_among, Each, IsAttributeName, IsWideGap}
@@ -21,19 +22,19 @@ BeginsNoText before (b ∷ behind) = (more : List ℕ) → IsUtf8 (before ++ b �
 -- as many elements are open as may be, and behind `<` the name of one more begins
 abbrev pub IsTooDeep : List ℕ → List ℕ → Type 0
 IsTooDeep before behind =
-    (levels : List Level) × (outside : List ℕ) × Within levels outside × (length levels ≡ NESTED_ELEMENTS) × (before ≡ outside ++ 60 ∷ []) × Next is_lower behind
+    (levels : List Level) × (outside : List ℕ) × Within levels outside × (length levels ≡ NESTED_ELEMENTS) × (before ≡ outside ++ byte.less_than ∷ []) × Next is_lower behind
 
 -- Behind `</`, in the name of the element that is open; or behind the whole name, where a byte
 -- stands with which a name goes on.
 abbrev pub InEndTagName : List ℕ → List ℕ → Type 0
 InEndTagName before behind =
     (l : Level) × (outer : List Level) × (outside got left : List ℕ) × Within (l ∷ outer) outside × (got ++ left ≡ l.name)
-    × (before ≡ outside ++ (60 ∷ 47 ∷ got)) × (left ≡ [] → Next is_name_byte behind)
+    × (before ≡ outside ++ (byte.less_than ∷ byte.slash ∷ got)) × (left ≡ [] → Next is_name_byte behind)
 
 -- in contents or in a value, behind `&` and before the next `;`
 abbrev pub InEscape : List ℕ → Type 0
 InEscape before =
-    (outside got : List ℕ) × (InContents outside ⊎ InValue outside) × (before ≡ outside ++ (38 ∷ got)) × Each (λ b. not (b == 59)) got
+    (outside got : List ℕ) × (InContents outside ⊎ InValue outside) × (before ≡ outside ++ (byte.ampersand ∷ got)) × Each (λ b. not (b == byte.semicolon)) got
 
 -- directly behind the name of an attribute that came before in the element
 abbrev pub IsRepeated : List ℕ → List ℕ → Type 0

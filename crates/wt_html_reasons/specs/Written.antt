@@ -1,5 +1,6 @@
 -- What is written of a document up to a place: which elements are open there, and what is begun.
 use Rattle.std.specs.Prelude.{◌≡◌, ℕ, suc, ◌<◌, false, List, [], ◌∷◌, ◌++◌, length, map}
+use Rattle.wt_span.specs.Characters as byte
 use Rattle.wt_html_grammar.specs.Signs.{is_void, is_among, IsName, IsGap}
 use Rattle.wt_html_grammar.specs.Grammar.{spell_pieces, Attribute, IsAttribute, spell_attributes, AreAttributes, Items, spell_items, AreItems, Head, spell_head, IsHead}
 use Rattle.wt_html_grammar.specs.declared.limits.TheConstants.{NESTED_ELEMENTS}
@@ -12,7 +13,7 @@ pub record Level : Type 0 where
   pub contents : Items
 
 abbrev pub spell_level : Level → List ℕ
-spell_level l = 60 ∷ (l.name ++ (spell_attributes l.attributes ++ (l.gap ++ (62 ∷ spell_items l.contents))))
+spell_level l = byte.less_than ∷ (l.name ++ (spell_attributes l.attributes ++ (l.gap ++ (byte.greater_than ∷ spell_items l.contents))))
 
 -- it stands within k others
 abbrev pub IsLevel : ℕ → Level → Type 0
@@ -44,11 +45,11 @@ names_of attributes = map (λ a. a.name) attributes
 abbrev pub InStartTag : List Attribute → List ℕ → Type 0
 InStartTag attributes bytes =
     (levels : List Level) × (outside name : List ℕ) × Within levels outside × (length levels < NESTED_ELEMENTS) × IsName name × AreAttributes [] attributes
-    × (bytes ≡ outside ++ (60 ∷ (name ++ spell_attributes attributes)))
+    × (bytes ≡ outside ++ (byte.less_than ∷ (name ++ spell_attributes attributes)))
 
 -- an attribute up to the quote that ends its value
 abbrev pub spell_unended : Attribute → List ℕ
-spell_unended a = a.gap ++ (a.name ++ (a.left ++ (61 ∷ (a.right ++ (a.quote ∷ spell_pieces a.value)))))
+spell_unended a = a.gap ++ (a.name ++ (a.left ++ (byte.equals_sign ∷ (a.right ++ (a.quote ∷ spell_pieces a.value)))))
 
 -- in the value of an attribute
 abbrev pub InValue : List ℕ → Type 0

@@ -5,6 +5,7 @@ ghost use Rattle.std.specs.Str.{IsCharBoundary};
 ghost use Rattle.wt_span.specs.Bytes.{lower};
 ghost use Rattle.wt_span.specs.Slice.{bytes_of};
 ghost use Rattle.wt_span.specs.Tags.{opening_tag};
+ghost use Rattle.wt_span.specs.Characters as byte;
 ghost use Rattle.wt_inline.specs.RawTag.{before_closing, len_of, name_of, is_alone, opening_len, opening_of, inside_of, closing_of};
 
 use wt_lex::{closing_len, opening_tag};
@@ -14,7 +15,7 @@ use wt_span::{Text, rest_of};
 fn before_closing(name: &[u8], bytes: &[u8]) -> usize
     ensures value { result ≡ before_closing (lower name.now) bytes.now }
     ensures within { result ≤ length bytes.now }
-    ensures sign { result < length bytes.now → slice_index bytes.now result ≡ 60 }
+    ensures sign { result < length bytes.now → slice_index bytes.now result ≡ byte.less_than }
 {
     for at in 0..bytes.len() {
         if closing_len(name, rest_of(bytes, at)).is_some() {

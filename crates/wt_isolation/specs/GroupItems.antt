@@ -4,6 +4,7 @@ use Rattle.std.specs.Prelude.{ℕ, ◌+◌, ◌&&◌, Bool, false, not, Option, 
 use Rattle.wt_span.specs.declared.form.ItemForm.TheVariants as form
 use Rattle.wt_span.specs.Items.{Item, char, whole, source, call_of}
 use Rattle.wt_span.specs.Origins.{OuterCall, Span, same_call, span_of_entry}
+use Rattle.wt_span.specs.Characters as byte
 use Rattle.wt_expand.specs.Expansion.{opens_block}
 use Rattle.wt_tree.specs.declared.kind.Ranges.{Ranges}
 
@@ -44,7 +45,7 @@ needs_break calls k given = is_template (slice_get calls k) && opens_block given
 
 abbrev pub break_of : List OuterCall → Option ℕ → List Item → List Item
 break_of calls None xs = []
-break_of calls (Some k) xs = if needs_break calls k (given_first k xs) then char (Some k) 10 ∷ [] else []
+break_of calls (Some k) xs = if needs_break calls k (given_first k xs) then char (Some k) byte.line_break ∷ [] else []
 
 abbrev pub break_before : List OuterCall → List Item → List Item
 break_before calls [] = []

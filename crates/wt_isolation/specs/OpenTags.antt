@@ -3,6 +3,7 @@
 use Rattle.std.specs.Prelude.{◌≡◌, ℕ, ◌+◌, ◌-◌, ◌==◌, ◌&&◌, ◌||◌, Bool, true, false, not, Option, Some, None, List, [], ◌∷◌, ◌++◌, length, reverse, take, nat_lt, slice_index}
 use Rattle.std.specs.Char.{is_ascii_alphabetic}
 use Rattle.std.specs.List.{list_any, prefix_len}
+use Rattle.wt_span.specs.Characters as byte
 use Rattle.wt_tree.specs.declared.kind.Ranges.{Ranges}
 use Rattle.wt_tree.specs.Source.{flat}
 use Rattle.wt_tree.specs.Tree.{Tree, tree, Trees, none, more}
@@ -11,7 +12,7 @@ use Rattle.wt_original.specs.declared.kinds.InlineForm.TheVariants as inline
 use Rattle.wt_original.specs.Kinds.{shape}
 
 abbrev pub is_stop : ℕ → Bool
-is_stop b = b == 60 || (b == 62 || b == 10)
+is_stop b = b == byte.less_than || (b == byte.greater_than || b == byte.line_break)
 
 -- how many bytes stand behind the last `<`, `>` or line break
 abbrev pub bare_len : List ℕ → ℕ
@@ -21,14 +22,14 @@ bare_len bs = prefix_len (λ b. not (is_stop b)) (reverse bs)
 abbrev pub ends_open : List ℕ → Bool
 ends_open bs =
     let n = bare_len bs in
-    nat_lt 0 n && (nat_lt n (length bs) && (slice_index bs (length bs - (n + 1)) == 60 && is_ascii_alphabetic (slice_index bs (length bs - n))))
+    nat_lt 0 n && (nat_lt n (length bs) && (slice_index bs (length bs - (n + 1)) == byte.less_than && is_ascii_alphabetic (slice_index bs (length bs - n))))
 
 -- The same in other words: a `<`, a letter, and no `<`, `>` or line break up to the end.
 pub record EndsOpen (bs : List ℕ) : Type 0 where
   pub front : List ℕ
   pub letter : ℕ
   pub rest : List ℕ
-  pub is : bs ≡ front ++ 60 ∷ letter ∷ rest
+  pub is : bs ≡ front ++ byte.less_than ∷ letter ∷ rest
   pub is_letter : is_ascii_alphabetic letter ≡ true
   pub bare : list_any is_stop (letter ∷ rest) ≡ false
 

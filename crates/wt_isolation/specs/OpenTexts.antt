@@ -1,5 +1,6 @@
 -- Texts that could go on behind their end: one that holds the beginning of a tag or of a link.
 use Rattle.std.specs.Prelude.{ℕ, ◌==◌, ◌&&◌, ◌||◌, Bool, false, List, [], ◌∷◌, ◌++◌, reverse, nat_lt, true, if◌then◌else◌}
+use Rattle.wt_span.specs.Characters as byte
 use Rattle.wt_tree.specs.Tree.{Tree, tree, Trees, none, more}
 use Rattle.wt_tiles.specs.Glyphs.{byte_glyphs}
 use Rattle.wt_tiles.specs.Urls.{scheme_len}
@@ -9,12 +10,12 @@ use Rattle.wt_original.specs.Kinds.{shape}
 
 abbrev pub begins_bracket : List ℕ → Bool
 begins_bracket [] = false
-begins_bracket (b ∷ bs) = b == 91
+begins_bracket (b ∷ bs) = b == byte.opening_bracket
 
 -- these bytes begin with `<`, with `[[`, or with `[` and the beginning of a URL
 abbrev pub begins_open : List ℕ → Bool
 begins_open [] = false
-begins_open (b ∷ bs) = b == 60 || (b == 91 && (begins_bracket bs || nat_lt 0 (scheme_len (byte_glyphs bs))))
+begins_open (b ∷ bs) = b == byte.less_than || (b == byte.opening_bracket && (begins_bracket bs || nat_lt 0 (scheme_len (byte_glyphs bs))))
 
 -- such bytes stand somewhere in the text
 abbrev pub holds_open : List ℕ → Bool

@@ -2,6 +2,7 @@
 use Rattle.std.specs.Prelude.{◌≡◌, ◌<◌, ◌≤◌, ◌-◌, ◌==◌, ◌&&◌, ℕ, Bool, List, length, take, nat_lt, slice_index, if◌then◌else◌}
 use Rattle.std.specs.List.{list_any}
 use Rattle.wt_span.specs.Origins.{Expanded, Span}
+use Rattle.wt_span.specs.Characters as byte
 use Rattle.wt_tree.specs.declared.kind.Ranges.{Ranges}
 use Rattle.wt_isolation.specs.OpenTags.{ends_open}
 use Rattle.wt_isolation.specs.TextCalls.{share_byte}
@@ -15,7 +16,7 @@ use Rattle.wt_isolation.specs.declared.tag_pass.TagPass.{TagPass}
 
 -- the last byte is a `<`
 abbrev pub ends_with_less : List ℕ → Bool
-ends_with_less bs = nat_lt 0 (length bs) && slice_index bs (length bs - 1) == 60
+ends_with_less bs = nat_lt 0 (length bs) && slice_index bs (length bs - 1) == byte.less_than
 
 -- how a text ends: in an open tag, directly behind a `<`, or else outside
 unfoldable pub ending_of : List ℕ → Ending

@@ -6,6 +6,7 @@ use Rattle.wt_span.specs.declared.text.Text.{Text}
 use Rattle.wt_span.specs.Slice.{bytes_of, start_of}
 use Rattle.wt_span.specs.Items.{Item, call_of_origin, items_of}
 use Rattle.wt_span.specs.Origins.{OuterCall, Span, IsSoundPiece, IsAmong, FollowFrom, once, span_of_origin}
+use Rattle.wt_span.specs.Characters as byte
 use Rattle.wt_tree.specs.declared.kind.Ranges.{Ranges}
 use Rattle.wt_expand.specs.Expansion.{is_block_sign}
 use Rattle.wt_lines.specs.Pieces.{is_chars}
@@ -43,8 +44,8 @@ IsPieceOf xs found = MatchOption found (xs ≡ []) (λ p. IsSoundPiece p × (ite
 -- the signs of what opens a block
 abbrev pub begins_with_bar : List ℕ → Bool
 begins_with_bar [] = false
-begins_with_bar (b ∷ bs) = b == 124
+begins_with_bar (b ∷ bs) = b == byte.vertical_bar
 
 abbrev pub signs_open : List ℕ → Bool
 signs_open [] = false
-signs_open (b ∷ bs) = is_block_sign b || (b == 123 && begins_with_bar bs)
+signs_open (b ∷ bs) = is_block_sign b || (b == byte.opening_brace && begins_with_bar bs)

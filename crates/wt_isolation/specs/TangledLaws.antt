@@ -2,6 +2,7 @@
 use Rattle.std.specs.Prelude.{ℕ, ◌≡◌, ◌≤◌, ◌<◌, ◌⊎◌, Bool, true, false, List, [], ◌∷◌, ◌++◌, replicate}
 use Rattle.std.specs.List.{flat_map, list_all, list_any}
 use Rattle.wt_span.specs.Origins.{Span}
+use Rattle.wt_span.specs.Characters as byte
 use Rattle.wt_tree.specs.declared.kind.Ranges.{Ranges}
 use Rattle.wt_tiles.specs.declared.glyph.Glyph.{Glyph}
 use Rattle.wt_tiles.specs.declared.glyph.Glyph.TheVariants as glyph
@@ -64,7 +65,7 @@ HasNoBreak l = list_any is_break_glyph l ≡ false
 abbrev pub AreLines : List (List Glyph) → List Glyph → Type 0
 AreLines [] gs = ⊥
 AreLines (l ∷ []) gs = HasNoBreak l × (gs ≡ l)
-AreLines (l ∷ m ∷ ls) gs = (rest : List Glyph) × HasNoBreak l × (gs ≡ l ++ glyph.Byte 10 ∷ rest) × AreLines (m ∷ ls) rest
+AreLines (l ∷ m ∷ ls) gs = (rest : List Glyph) × HasNoBreak l × (gs ≡ l ++ glyph.Byte byte.line_break ∷ rest) × AreLines (m ∷ ls) rest
 
 -- So many apostrophes each time, with one other item between each two runs, are the items.
 abbrev pub AreRuns : List ℕ → List Glyph → Type 0

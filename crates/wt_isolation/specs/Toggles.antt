@@ -4,6 +4,7 @@ use Rattle.std.specs.Prelude.{ℕ, suc, ◌==◌, ◌%◌, ◌||◌, Bool, List,
 use Rattle.std.specs.List.{list_any}
 use Rattle.wt_span.specs.Bytes.{is_break}
 use Rattle.wt_span.specs.Items.{Item}
+use Rattle.wt_span.specs.Characters as byte
 use Rattle.wt_tiles.specs.declared.glyph.Glyph.{Glyph}
 use Rattle.wt_tiles.specs.declared.shape.Shape.{Shape}
 use Rattle.wt_tiles.specs.declared.shape.TileKind.{TileKind}
@@ -29,7 +30,7 @@ lines (g ∷ gs) = if is_break_glyph g then [] ∷ lines gs else onto g (lines g
 -- ---- runs of apostrophes
 
 abbrev pub is_quote : Glyph → Bool
-is_quote g = is_in (λ b. b == 39) g
+is_quote g = is_in (λ b. b == byte.apostrophe) g
 
 -- the lengths of the runs, where so many apostrophes stand before these; that no apostrophe stands between two others is a run, too
 abbrev pub quote_runs : ℕ → List Glyph → List ℕ

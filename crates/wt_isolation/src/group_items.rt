@@ -5,6 +5,7 @@ ghost use Rattle.std.specs.List.{prefix_len};
 ghost use Rattle.wt_span.specs.Slice.{bytes_of};
 ghost use Rattle.wt_span.specs.Items.{char, call_of_origin, items, items_of};
 ghost use Rattle.wt_span.specs.Origins.{IsAmong, IsSoundPiece, outer_call, same_call, span_of};
+ghost use Rattle.wt_span.specs.Characters as byte;
 ghost use Rattle.wt_lines.specs.Signs.{left, number};
 ghost use Rattle.wt_expand.specs.Expansion.{is_block_sign, opens_block};
 ghost use Rattle.wt_isolation.specs.GroupItems.{break_before, empty_nowiki, is_template, items_alone, lies_in, needs_break, with_break_anew};
@@ -232,7 +233,7 @@ fn needs_break(given: &[Piece<'_>], outer: &[Outer<'_>], call: u32) -> bool
 fn broken_call(pieces: &[Piece<'_>], outer: &[Outer<'_>]) -> Option<u32>
     requires { All IsSoundPiece pieces.now }
     ensures { MatchOption result (break_before (map outer_call outer.now) (items pieces.now) ≡ [])
-        (λ call. break_before (map outer_call outer.now) (items pieces.now) ≡ char (Some call) 10 ∷ []) }
+        (λ call. break_before (map outer_call outer.now) (items pieces.now) ≡ char (Some call) byte.line_break ∷ []) }
 {
     if pieces.len() == 0 {
         return None;

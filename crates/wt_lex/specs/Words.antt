@@ -8,10 +8,11 @@ use Rattle.wt_span.specs.Comments.{comment_len}
 use Rattle.wt_span.specs.Tags.{raw_len, include_at}
 use Rattle.wt_span.specs.Entities.{entity_at}
 use Rattle.wt_span.specs.Lexemes.{Word, as_word, comment_line_word, entity_word, sign_word}
+use Rattle.wt_span.specs.Characters as byte
 
 -- a byte with which a form begins anywhere: one of `<`, `&`, `{`, `}`, `[`, `]`, `|`, `=`
 abbrev pub is_form_byte : ℕ → Bool
-is_form_byte b = b == 60 || (b == 38 || (b == 123 || (b == 125 || (b == 91 || (b == 93 || (b == 124 || b == 61))))))
+is_form_byte b = b == byte.less_than || (b == byte.ampersand || (b == byte.opening_brace || (b == byte.closing_brace || (b == byte.opening_bracket || (b == byte.closing_bracket || (b == byte.vertical_bar || b == byte.equals_sign))))))
 
 -- a byte with which a form may begin, after a line break or elsewhere
 abbrev pub may_begin : Bool → ℕ → Bool

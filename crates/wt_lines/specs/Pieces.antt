@@ -7,6 +7,7 @@ use Rattle.wt_span.specs.declared.form.Piece.{Piece}
 use Rattle.wt_span.specs.Slice.{bytes_of}
 use Rattle.wt_span.specs.Bytes.{is_break}
 use Rattle.wt_span.specs.Items.{Item, char, whole, is_mark, is_mark_form, items}
+use Rattle.wt_span.specs.Characters as byte
 use Rattle.wt_lines.specs.declared.line.Line.{Line}
 
 -- the items of a line
@@ -24,7 +25,7 @@ no_break bs = list_all (λ b. not (is_break b)) bs
 
 -- of characters: a line break alone, or some bytes without one
 abbrev pub ArePartedBytes : List ℕ → Type 0
-ArePartedBytes bs = (bs ≡ 10 ∷ []) ⊎ ((0 < length bs) × (no_break bs ≡ true))
+ArePartedBytes bs = (bs ≡ byte.line_break ∷ []) ⊎ ((0 < length bs) × (no_break bs ≡ true))
 
 abbrev pub IsPartedBy : Bool → List ℕ → Type 0
 IsPartedBy true bs = ArePartedBytes bs

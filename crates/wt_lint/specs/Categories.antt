@@ -2,6 +2,7 @@
 use Rattle.std.specs.Prelude.{ℕ, ◌==◌, not, Bool, List, [], ◌∷◌, ◌++◌, take, if◌then◌else◌}
 use Rattle.std.specs.List.{prefix_len, list_any}
 use Rattle.std.specs.Str.{bytes_eq}
+use Rattle.wt_span.specs.Characters as byte
 use Rattle.wt_tree.specs.declared.kind.AttrName.{AttrName}
 use Rattle.wt_tree.specs.declared.kind.AttrName.TheVariants as attr
 use Rattle.wt_tree.specs.Kinds.{order}
@@ -14,7 +15,7 @@ href_in ((name, value) ∷ attrs) = if order name == order attr.Href then value 
 
 -- no `#`, behind which the key stands
 abbrev pub is_title_byte : ℕ → Bool
-is_title_byte b = not (b == 35)
+is_title_byte b = not (b == byte.hash)
 
 abbrev pub title_in : List ℕ → List ℕ
 title_in href = take (prefix_len is_title_byte href) href

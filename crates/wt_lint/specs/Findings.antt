@@ -5,6 +5,7 @@ use Rattle.std.specs.BTreeSet.{insert_key}
 use Rattle.std.specs.Ordering.{ordering_then, nat_cmp}
 use Rattle.std.specs.declared.cmp.Ordering.{Ordering}
 use Rattle.wt_span.specs.Bytes.{is_blank}
+use Rattle.wt_span.specs.Characters as byte
 use Rattle.wt_annotated.specs.Slices.{slice}
 use Rattle.wt_tree.specs.declared.kind.Ranges.{Ranges}
 use Rattle.wt_tree.specs.Tree.{Label, Tree}
@@ -28,7 +29,7 @@ is_unclosed r = r.close_w == 0
 
 -- no closing delimiter, and no apostrophe behind it
 abbrev pub is_open_style : List ℕ → Ranges → Bool
-is_open_style page r = is_unclosed r && not (slice_index page r.end == 39)
+is_open_style page r = is_unclosed r && not (slice_index page r.end == byte.apostrophe)
 
 abbrev pub is_empty : Ranges → Bool
 is_empty r = r.start == r.end

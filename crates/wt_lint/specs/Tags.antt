@@ -4,6 +4,7 @@ use Rattle.std.specs.Char.{is_ascii_alphanumeric}
 use Rattle.std.specs.List.{prefix_len, list_any}
 use Rattle.std.specs.Str.{bytes_eq}
 use Rattle.wt_span.specs.Bytes.{begins, lower}
+use Rattle.wt_span.specs.Characters as byte
 
 -- the name that stands at a place of the source, in lower case: letters and digits
 abbrev pub name_at : ℕ → List ℕ → List ℕ
@@ -15,7 +16,7 @@ is_paired_name name =
 
 -- a `/` stands before the last byte
 abbrev pub closes_itself : List ℕ → Bool
-closes_itself source = nat_lt 1 (length source) && slice_index source (length source - 2) == 47
+closes_itself source = nat_lt 1 (length source) && slice_index source (length source - 2) == byte.slash
 
 -- the source is an opening tag, and doesn't close itself
 abbrev pub is_open_tag : List ℕ → Bool

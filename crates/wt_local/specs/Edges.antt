@@ -1,5 +1,6 @@
 -- The bytes at the edges of a block, as lists of those that may stand there.
 use Rattle.std.specs.Prelude.{◌≡◌, ℕ, List, [], ◌∷◌, ◌++◌}
+use Rattle.wt_span.specs.Characters as byte
 
 -- what ends before a block: a line, a mark or an extension, a call or a table, a rule
 pub data EndsBefore : ℕ → Type 0 where
@@ -27,4 +28,4 @@ pub record MeetsPlainly (before new behind : List ℕ) : Type 0 where
   pub right : (b : ℕ) (rest : List ℕ) → behind ≡ b ∷ rest → BeginsBehind b
   pub some : new ≡ [] → ⊥
   pub first : (b : ℕ) (rest : List ℕ) → new ≡ b ∷ rest → BeginsNone b → ⊥
-  pub no_rule : (front rest : List ℕ) → before ≡ front ++ 45 ∷ [] → new ≡ 45 ∷ rest → ⊥
+  pub no_rule : (front rest : List ℕ) → before ≡ front ++ byte.hyphen ∷ [] → new ≡ byte.hyphen ∷ rest → ⊥

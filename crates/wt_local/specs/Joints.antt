@@ -5,6 +5,7 @@ use Rattle.wt_span.specs.declared.form.Mode.TheVariants.{Page}
 use Rattle.wt_span.specs.Bytes.{is_blank, is_break, begins}
 use Rattle.wt_span.specs.Lexemes.{Word, form_at}
 use Rattle.wt_span.specs.Tags.{is_raw_name, to_closing}
+use Rattle.wt_span.specs.Characters as byte
 use Rattle.wt_guards.specs.Guards.{has_brace_last}
 use Rattle.wt_scans.specs.Scans.{Scanner, after_all, Passes}
 use Rattle.wt_isolation.specs.OpenTags.{ends_open}
@@ -29,21 +30,21 @@ last_byte bs = slice_get bs (length bs - 1)
 -- nothing stands before the block, or a line break, a mark or an extension, a call or a table's end, or a rule
 abbrev pub may_end_before : Option ℕ → Bool
 may_end_before None = true
-may_end_before (Some b) = is_break b || (b == 62 || (b == 125 || b == 45))
+may_end_before (Some b) = is_break b || (b == byte.greater_than || (b == byte.closing_brace || b == byte.hyphen))
 
 -- nothing stands behind it, or a line break, or the call that gives its line break
 abbrev pub may_begin_behind : List ℕ → Bool
 may_begin_behind [] = true
-may_begin_behind (b ∷ bs) = is_break b || b == 123
+may_begin_behind (b ∷ bs) = is_break b || b == byte.opening_brace
 
 abbrev pub is_dash : Option ℕ → Bool
 is_dash None = false
-is_dash (Some b) = b == 45
+is_dash (Some b) = b == byte.hyphen
 
 -- no blank, line break or `}`, and behind a `-` no `-`
 abbrev pub may_begin : Option ℕ → List ℕ → Bool
 may_begin last [] = false
-may_begin last (b ∷ bs) = not (is_blank b || (is_break b || b == 125)) && not (b == 45 && is_dash last)
+may_begin last (b ∷ bs) = not (is_blank b || (is_break b || b == byte.closing_brace)) && not (b == byte.hyphen && is_dash last)
 
 -- ---- a block and its page
 

@@ -14,6 +14,7 @@ use Rattle.wt_span.specs.Items.{Item, sign, is_mark, call_of}
 use Rattle.wt_span.specs.Lexemes.{Word, words}
 use Rattle.wt_span.specs.Origins.{Expanded, Span, OuterCall, same_call}
 use Rattle.wt_span.specs.Tags.{Tag, opening_tag}
+use Rattle.wt_span.specs.Characters as byte
 use Rattle.wt_lines.specs.declared.kind.LineKind.TheVariants as line
 use Rattle.wt_lines.specs.Kinds.{line_kind}
 use Rattle.wt_lines.specs.Lines.{lines, is_break_item}
@@ -65,7 +66,7 @@ reaches_end page (Some r) = r.end == length page
 
 -- It stands on lines of its own; none follows it at the page's end.
 abbrev pub on_own_lines : Bool → List ℕ → List ℕ
-on_own_lines at_end source = 10 ∷ (source ++ (if at_end then [] else 10 ∷ []))
+on_own_lines at_end source = byte.line_break ∷ (source ++ (if at_end then [] else byte.line_break ∷ []))
 
 abbrev pub read_as : List ℕ → Tree → List ℕ → List ℕ
 read_as page block inside = on_own_lines (reaches_end page (label block).ranges) (new_source block inside)
@@ -136,7 +137,7 @@ are_spelled page slices text at ((kind, n) ∷ ws) =
 -- a `<` before a letter, `/` or `!`
 abbrev pub begins_markup : List ℕ → Bool
 begins_markup bs =
-    slice_index bs 0 == 60 && (is_ascii_alphabetic (slice_index bs 1) || (slice_index bs 1 == 47 || slice_index bs 1 == 33))
+    slice_index bs 0 == byte.less_than && (is_ascii_alphabetic (slice_index bs 1) || (slice_index bs 1 == byte.slash || slice_index bs 1 == byte.exclamation_mark))
 
 abbrev pub is_at : ℕ → Span → Bool
 is_at p s = nat_le s.0 p && nat_lt p s.1
@@ -162,7 +163,7 @@ slice_calls n (s ∷ ss) =
 
 -- the begin of a text, or behind a line break
 abbrev pub is_line_start : List ℕ → ℕ → Bool
-is_line_start text at = at == 0 || slice_index text (at - 1) == 10
+is_line_start text at = at == 0 || slice_index text (at - 1) == byte.line_break
 
 abbrev pub start_of : Option Ranges → ℕ
 start_of None = 0
@@ -246,7 +247,7 @@ begins_with held (s ∷ ss) = s.at == 0 && (is_group (label s.node).kind && (lab
 -- visible; a `-`, which would make a rule before it longer, only in that group
 abbrev pub BeginsWell : Bool → List Item → Type 0
 BeginsWell same_group [] = ⊥
-BeginsWell same_group (x ∷ xs) = (is_mark x ≡ false) × ((sign x == 45) ≡ true → same_group ≡ true)
+BeginsWell same_group (x ∷ xs) = (is_mark x ≡ false) × ((sign x == byte.hyphen) ≡ true → same_group ≡ true)
 
 abbrev pub is_own : Option ℕ → Bool
 is_own None = true

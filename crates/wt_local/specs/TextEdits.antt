@@ -7,6 +7,7 @@ use Rattle.wt_span.specs.declared.form.ItemForm.TheVariants as form
 use Rattle.wt_span.specs.Items.{Item, char, whole}
 use Rattle.wt_span.specs.Origins.{Expanded}
 use Rattle.wt_span.specs.Tags.{Tag, opening_tag, with_inside}
+use Rattle.wt_span.specs.Characters as byte
 use Rattle.wt_names.specs.Good.{holds}
 use Rattle.wt_tree.specs.declared.kind.Ranges.{Ranges}
 use Rattle.wt_tree.specs.Tree.{Tree, label}
@@ -62,10 +63,10 @@ are_tied (Some k) None = false
 are_tied (Some k) (Some j) = is_group (label k.node).kind && (is_group (label j.node).kind && (k.place.end == j.place.start && is_between_equals j.role))
 
 abbrev pub ends_in_break : List ℕ → Bool
-ends_in_break text = ends_with nat_eq text (10 ∷ [])
+ends_in_break text = ends_with nat_eq text (byte.line_break ∷ [])
 
 abbrev pub breaks_of : List ℕ → ℕ
-breaks_of text = count_by (λ b. b == 10) text
+breaks_of text = count_by (λ b. b == byte.line_break) text
 
 -- What was typed in place of a text of the page: with as many line breaks; before a mark that ends a line it ends with a line break
 -- where the old text did, and is empty where that was; and between two groups that `=` tie it stays empty.

@@ -1,27 +1,28 @@
 -- Escapes: how the characters of texts and attribute values are written.
 use Rattle.std.specs.Prelude.{ℕ, List, [], ◌∷◌, ◌++◌, Bool, ◌==◌, ◌&&◌, not, nat_lt, codes, decimal, if◌then◌else◌}
 use Rattle.std.specs.List.{flat_map}
+use Rattle.wt_span.specs.Characters as byte
 
 -- a control character, which is written by its number: below the space, but for tab and line break
 abbrev pub is_control : ℕ → Bool
-is_control b = nat_lt b 32 && not (b == 9) && not (b == 10)
+is_control b = nat_lt b 32 && not (b == byte.tab) && not (b == byte.line_break)
 
 -- a byte of a text
 unfoldable pub escape : ℕ → List ℕ
 escape b =
-    if b == 38 then codes "&amp;"
-    else (if b == 60 then codes "&lt;"
-    else (if b == 62 then codes "&gt;"
+    if b == byte.ampersand then codes "&amp;"
+    else (if b == byte.less_than then codes "&lt;"
+    else (if b == byte.greater_than then codes "&gt;"
     else (if is_control b then codes "&#" ++ (decimal b ++ codes ";")
     else b ∷ [])))
 
 -- a byte of a value that stands in `"`
 unfoldable pub escape_double : ℕ → List ℕ
-escape_double b = if b == 34 then codes "&quot;" else escape b
+escape_double b = if b == byte.quotation_mark then codes "&quot;" else escape b
 
 -- a byte of a value that stands in `'`
 unfoldable pub escape_single : ℕ → List ℕ
-escape_single b = if b == 39 then codes "&#39;" else escape b
+escape_single b = if b == byte.apostrophe then codes "&#39;" else escape b
 
 abbrev pub escaped : List ℕ → List ℕ
 escaped bs = flat_map escape bs

@@ -3,6 +3,7 @@ use Rattle.std.specs.Prelude.{ℕ, List, [], ◌∷◌, Bool, false, not, ◌&&�
 use Rattle.std.specs.List.{list_any, starts_with, ends_with}
 use Rattle.std.specs.Char.{is_ascii_hexdigit}
 use Rattle.std.specs.Str.{bytes_eq}
+use Rattle.wt_span.specs.Characters as byte
 use Rattle.wt_names.specs.declared.title.Title.{Title}
 use Rattle.wt_names.specs.declared.good.TheConstants.{FULL_NAME_BYTES}
 use Rattle.wt_names.specs.Namespace.{full_name_of}
@@ -35,7 +36,7 @@ ends word text = ends_with nat_eq text word
 
 -- `%` and two hexadecimal digits
 abbrev pub begins_with_escape : List ℕ → Bool
-begins_with_escape (percent ∷ high ∷ low ∷ rest) = percent == 37 && (is_ascii_hexdigit high && is_ascii_hexdigit low)
+begins_with_escape (percent ∷ high ∷ low ∷ rest) = percent == byte.percent && (is_ascii_hexdigit high && is_ascii_hexdigit low)
 begins_with_escape _ = false
 
 abbrev pub has_escape : List ℕ → Bool
@@ -80,7 +81,7 @@ is_short t = nat_le (length (full_name_of t)) FULL_NAME_BYTES
 
 -- the name doesn't begin with a colon
 abbrev pub has_no_colon_first : Title → Bool
-has_no_colon_first t = not (slice_index t.name 0 == 58)
+has_no_colon_first t = not (slice_index t.name 0 == byte.colon)
 
 -- the conditions on what was read
 unfoldable pub is_good : Title → Bool

@@ -1,6 +1,7 @@
 -- How a text is read as a title, in the order of the steps. Texts are lists of bytes: 32 is a space, 35 `#`, 58 `:`, 95 `_`.
 use Rattle.std.specs.Prelude.{ℕ, List, [], ◌∷◌, Bool, false, ◌&&◌, ◌==◌, Option, Some, None, option_map, unwrap_or, if◌then◌else◌, map, length}
 use Rattle.std.specs.Char.{to_ascii_uppercase}
+use Rattle.wt_span.specs.Characters as byte
 use Rattle.wt_names.specs.declared.namespace.Ns.{Ns}
 use Rattle.wt_names.specs.declared.namespace.Ns.TheVariants.{Main}
 use Rattle.wt_names.specs.declared.title.Title.{Title}
@@ -25,21 +26,21 @@ split_once sign (b ∷ bs) =
 
 abbrev pub begins_with_space : List ℕ → Bool
 begins_with_space [] = false
-begins_with_space (b ∷ bs) = b == 32
+begins_with_space (b ∷ bs) = b == byte.space
 
 -- runs of spaces become one: a space before another one is left out
 abbrev pub squeezed : List ℕ → List ℕ
 squeezed [] = []
-squeezed (b ∷ bs) = if b == 32 && begins_with_space bs then squeezed bs else b ∷ squeezed bs
+squeezed (b ∷ bs) = if b == byte.space && begins_with_space bs then squeezed bs else b ∷ squeezed bs
 
 -- without the spaces at its start, at its end, and at both
 abbrev pub trimmed_start : List ℕ → List ℕ
 trimmed_start [] = []
-trimmed_start (b ∷ bs) = if b == 32 then trimmed_start bs else b ∷ bs
+trimmed_start (b ∷ bs) = if b == byte.space then trimmed_start bs else b ∷ bs
 
 abbrev pub trimmed_end : List ℕ → List ℕ
 trimmed_end [] = []
-trimmed_end (b ∷ bs) = if b == 32 && length (trimmed_end bs) == 0 then [] else b ∷ trimmed_end bs
+trimmed_end (b ∷ bs) = if b == byte.space && length (trimmed_end bs) == 0 then [] else b ∷ trimmed_end bs
 
 abbrev pub trimmed : List ℕ → List ℕ
 trimmed bs = trimmed_end (trimmed_start bs)

@@ -2,6 +2,7 @@
 //! empty function.
 ghost use Rattle.std.specs.Prelude.{◌≡◌, ◌≢◌, ◌==◌, ℕ, ◌+◌, ◌*◌, ◌<◌, ◌≤◌, ◌⊎◌, List, [], true, false, Some, None, All, IsUtf8, length, slice_index};
 ghost use Rattle.std.specs.List.{list_any, slice_split};
+ghost use Rattle.wt_span.specs.Characters as byte;
 ghost use Rattle.wt_names.specs.declared.title.Title.{Title};
 ghost use Rattle.wt_names.specs.Namespace.{full_name_of};
 ghost use Rattle.wt_names.specs.Good.{read_text, is_step, is_relative};
@@ -31,7 +32,7 @@ pub fn full_names_read_back()
 /// The eight forms of a step that make a full name bad say together: one of its parts between
 /// slashes is `.` or `..`, the dot segments of RFC 3986.
 pub fn steps_are_parts()
-    ensures { (full : List ℕ) → is_relative full ≡ list_any is_step (slice_split (λ b. b == 47) full) }
+    ensures { (full : List ℕ) → is_relative full ≡ list_any is_step (slice_split (λ b. b == byte.slash) full) }
 {}
 
 /// Two full names that aren't the same but for spaces and `_` have two files; two titles that are
@@ -47,9 +48,9 @@ pub fn files_differ()
 /// `_`, `.` and `%` alone, so no `/`; it is neither `.` nor `..`; and it begins with a dot only where
 /// the full name does or is empty. It may be longer than a file system allows.
 pub fn files_stay_in_their_folder()
-    ensures bytes { (full : List ℕ) → All (λ b. (stays_in_file b ≡ true) ⊎ (b ≡ 37)) (file_of full) }
+    ensures bytes { (full : List ℕ) → All (λ b. (stays_in_file b ≡ true) ⊎ (b ≡ byte.percent)) (file_of full) }
     ensures no_slash { (full : List ℕ) → All (λ b. b ≢ 47) (file_of full) }
     ensures no_step { (full : List ℕ) → is_step (file_of full) ≡ false }
-    ensures dot { (full : List ℕ) → slice_index (file_of full) 0 ≡ 46 → (full ≡ []) ⊎ (slice_index full 0 ≡ 46) }
+    ensures dot { (full : List ℕ) → slice_index (file_of full) 0 ≡ byte.full_stop → (full ≡ []) ⊎ (slice_index full 0 ≡ byte.full_stop) }
     ensures bound { (full : List ℕ) → length (file_of full) ≤ 3 * length full + 5 }
 {}

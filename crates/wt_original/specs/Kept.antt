@@ -2,6 +2,7 @@
 use Rattle.std.specs.Prelude.{ℕ, ◌+◌, ◌-◌, Bool, true, false, not, ◌||◌, ◌&&◌, ◌==◌, nat_lt, nat_eq, Option, Some, None, List, [], ◌∷◌, ◌++◌, map, find, length, take, drop, slice_get, if◌then◌else◌, codes}
 use Rattle.std.specs.List.{filter, list_all, ends_with, starts_with}
 use Rattle.wt_span.specs.Bytes.{is_blank}
+use Rattle.wt_span.specs.Characters as byte
 use Rattle.wt_names.specs.Good.{holds}
 use Rattle.wt_tree.specs.Tree.{Label, Tree, tree, Trees, none, more, label}
 use Rattle.wt_tree.specs.declared.kind.Showing.{Showing}
@@ -68,7 +69,7 @@ is_blank_item invisible = false
 -- only spaces and tabs up to a line break or the end
 abbrev pub are_blank_to_end : List Item → Bool
 are_blank_to_end [] = true
-are_blank_to_end (character c ∷ xs) = c == 10 || (is_blank c && are_blank_to_end xs)
+are_blank_to_end (character c ∷ xs) = c == byte.line_break || (is_blank c && are_blank_to_end xs)
 are_blank_to_end (opaque ∷ xs) = false
 are_blank_to_end (invisible ∷ xs) = are_blank_to_end xs
 
@@ -86,7 +87,7 @@ seen_inside block = take (length (seen block) - length (label block).closing) (s
 
 abbrev pub is_break_at : Option ℕ → Bool
 is_break_at None = false
-is_break_at (Some b) = b == 10
+is_break_at (Some b) = b == byte.line_break
 
 -- It began its line, or the content: the byte before it is a line break, or the opening delimiter ends there.
 abbrev pub began_line : Tree → Extent → Bool
@@ -102,7 +103,7 @@ ended_content block s = s.end == length (flat block) - length (label block).clos
 -- the visible items nearest to its start on both sides are `=`
 abbrev pub between_equals : Tree → Extent → Bool
 between_equals block s =
-    nat_lt 0 s.from && (is_character (λ c. c == 61) (slice_get (seen block) (s.from - 1)) && is_character (λ c. c == 61) (slice_get (seen block) s.from))
+    nat_lt 0 s.from && (is_character (λ c. c == byte.equals_sign) (slice_get (seen block) (s.from - 1)) && is_character (λ c. c == byte.equals_sign) (slice_get (seen block) s.from))
 
 -- ---- what it is to its neighbours
 
@@ -122,7 +123,7 @@ abbrev mutual
   shown_in (more t ts) = shown t ++ shown_in ts
 
 abbrev pub is_apostrophe : Option Item → Bool
-is_apostrophe x = is_character (λ c. c == 39) x
+is_apostrophe x = is_character (λ c. c == byte.apostrophe) x
 
 abbrev pub transclusion : Tree → Extent → Tree → Transclusion
 transclusion block s t = record {
@@ -139,7 +140,7 @@ transclusion block s t = record {
 
 -- a URL without an opening delimiter is bare
 abbrev pub url : List ℕ → List ℕ → Role
-url [] text = role.Bare (ends_with nat_eq text (61 ∷ []))
+url [] text = role.Bare (ends_with nat_eq text (byte.equals_sign ∷ []))
 url (b ∷ opening) text = role.External
 
 -- an island that begins with `{{` is a function of the preprocessor
@@ -151,9 +152,9 @@ abbrev pub role_by : Sort → Tree → Extent → Tree → Role
 role_by sort.PageLink block s t = role.Link
 role_by sort.Url block s t = url (label t).opening (shown t)
 role_by sort.Switch block s t = role.Switch
-role_by sort.Mark block s t = role.Mark (ends_with nat_eq (flat t) (10 ∷ [])) (began_line block s)
+role_by sort.Mark block s t = role.Mark (ends_with nat_eq (flat t) (byte.line_break ∷ [])) (began_line block s)
 role_by sort.Group block s t = role.Group (transclusion block s t)
-role_by sort.Island block s t = island (starts_with nat_eq (flat t) (123 ∷ 123 ∷ []))
+role_by sort.Island block s t = island (starts_with nat_eq (flat t) (byte.opening_brace ∷ byte.opening_brace ∷ []))
 role_by sort.Other block s t = role.Node
 
 abbrev pub role_of : Tree → Extent → Tree → Role

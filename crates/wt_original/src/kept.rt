@@ -2,6 +2,7 @@
 
 ghost use Rattle.std.specs.Prelude.{◌≡◌, ◌==◌, ◌<◌, ◌-◌, [], ◌∷◌, List, length, take, map, IfOk, option_map, slice_get, string_bytes, codes, nat_eq};
 ghost use Rattle.std.specs.List.{list_all, starts_with, ends_with};
+ghost use Rattle.wt_span.specs.Characters as byte;
 ghost use Rattle.wt_names.specs.Good.{holds};
 ghost use Rattle.wt_tree.specs.Source.{flat};
 ghost use Rattle.wt_tree.specs.Tree.{Tree};
@@ -93,7 +94,7 @@ fn is_break_before(source: &[u8], place: usize) -> bool
 }
 
 fn is_equals(items: &[Item], at: usize) -> bool
-    ensures { result ≡ is_character (λ d. d == 61) (slice_get (items_seen items.now) at) }
+    ensures { result ≡ is_character (λ d. d == byte.equals_sign) (slice_get (items_seen items.now) at) }
 {
     is_character(b'=', items.get(at).copied())
 }
@@ -148,19 +149,19 @@ fn holds_slashes(text: &str) -> bool
 }
 
 fn ends_with_equals(text: &str) -> bool
-    ensures { result ≡ ends_with nat_eq text.now (61 ∷ []) }
+    ensures { result ≡ ends_with nat_eq text.now (byte.equals_sign ∷ []) }
 {
     text.as_bytes().ends_with(b"=")
 }
 
 fn ends_with_break(text: &str) -> bool
-    ensures { result ≡ ends_with nat_eq text.now (10 ∷ []) }
+    ensures { result ≡ ends_with nat_eq text.now (byte.line_break ∷ []) }
 {
     text.as_bytes().ends_with(b"\n")
 }
 
 fn begins_with_braces(text: &str) -> bool
-    ensures { result ≡ starts_with nat_eq text.now (123 ∷ 123 ∷ []) }
+    ensures { result ≡ starts_with nat_eq text.now (byte.opening_brace ∷ byte.opening_brace ∷ []) }
 {
     text.as_bytes().starts_with(b"{{")
 }
@@ -265,7 +266,7 @@ fn url(opening: &str, text: &str) -> Role
 }
 
 fn island(source: &str) -> Role
-    ensures { result ≡ island (starts_with nat_eq source.now (123 ∷ 123 ∷ [])) }
+    ensures { result ≡ island (starts_with nat_eq source.now (byte.opening_brace ∷ byte.opening_brace ∷ [])) }
 {
     if begins_with_braces(source) {
         Role::Function
@@ -289,7 +290,7 @@ fn mark_of(
     node: &Node<'_>,
 ) -> Result<Role, NoMemory>
     ensures { (block : Tree) → IsFactsOf block facts.entry
-        → IfOk result (λ r. r ≡ role.Mark (ends_with nat_eq (flat (view node.now)) (10 ∷ [])) (began_line block extent)) }
+        → IfOk result (λ r. r ≡ role.Mark (ends_with nat_eq (flat (view node.now)) (byte.line_break ∷ [])) (began_line block extent)) }
 {
     let source = flat(alloc, node)?;
     Ok(Role::Mark {
@@ -299,7 +300,7 @@ fn mark_of(
 }
 
 fn island_of(alloc: Global, node: &Node<'_>) -> Result<Role, NoMemory>
-    ensures { IfOk result (λ r. r ≡ island (starts_with nat_eq (flat (view node.now)) (123 ∷ 123 ∷ []))) }
+    ensures { IfOk result (λ r. r ≡ island (starts_with nat_eq (flat (view node.now)) (byte.opening_brace ∷ byte.opening_brace ∷ []))) }
 {
     let source = flat(alloc, node)?;
     Ok(island(source.as_str()))

@@ -5,6 +5,7 @@ use Rattle.wt_tree.specs.declared.kind.Kind.{Kind}
 use Rattle.wt_tree.specs.declared.kind.Kind.TheVariants as kind
 use Rattle.wt_span.specs.Bytes.{is_blank}
 use Rattle.wt_span.specs.Items.{Item}
+use Rattle.wt_span.specs.Characters as byte
 use Rattle.wt_blocks.specs.ListTree.{ListTree, node as list_node, ListTrees, none, more, forest as list_forest}
 use Rattle.wt_blocks.specs.Nesting.{is_list_sign, nested}
 use Rattle.wt_inline.specs.ItemTree.{plain, ItemTree, inner, forest}
@@ -56,19 +57,19 @@ seen_signs (w, xs) = if is_bare w.kind then signs xs else replicate (length xs) 
 
 -- how many items of a context stand before the first `:` that lies in no tile
 unfoldable pub colon_at : List Item → ℕ
-colon_at xs = prefix_len (λ s. not (s == 58)) (flat_map seen_signs (tiles in_line xs))
+colon_at xs = prefix_len (λ s. not (s == byte.colon)) (flat_map seen_signs (tiles in_line xs))
 
 -- where a term ends: behind a prefix whose last sign is `;`, at the first such `:`
 abbrev pub term_len : ℕ → List Item → Option ℕ
-term_len sign xs = if sign == 59 then (if nat_lt (colon_at xs) (length xs) then Some (colon_at xs) else None) else None
+term_len sign xs = if sign == byte.semicolon then (if nat_lt (colon_at xs) (length xs) then Some (colon_at xs) else None) else None
 
 -- ---- items
 
 abbrev pub item_kind : ℕ → Kind
-item_kind sign = if sign == 59 then kind.Dt else if sign == 58 then kind.Dd else kind.Li
+item_kind sign = if sign == byte.semicolon then kind.Dt else if sign == byte.colon then kind.Dd else kind.Li
 
 abbrev pub list_kind : ℕ → Kind
-list_kind sign = if sign == 42 then kind.Ul else if sign == 35 then kind.Ol else kind.Dl
+list_kind sign = if sign == byte.asterisk then kind.Ul else if sign == byte.hash then kind.Ol else kind.Dl
 
 -- a term, which ends at its `:`
 abbrev pub term : List Item → List Item → ItemTree

@@ -4,6 +4,7 @@
 use Rattle.std.specs.Prelude.{ℕ, ◌==◌, Bool, List, [], ◌∷◌, ◌++◌, map, take, drop, replicate, if◌then◌else◌}
 use Rattle.std.specs.List.{flat_map, prefix_len}
 use Rattle.wt_span.specs.Items.{Item, sign, is_mark}
+use Rattle.wt_span.specs.Characters as byte
 use Rattle.wt_lines.specs.declared.kind.LineKind.{LineKind}
 use Rattle.wt_lines.specs.declared.kind.LineKind.TheVariants as line
 use Rattle.wt_lines.specs.Kinds.{is_idle, is_idle_all}
@@ -61,7 +62,7 @@ sign_rows k lead len l =
 
 -- how many `-` stand at the front
 abbrev pub dashes : List Item → ℕ
-dashes xs = prefix_len (λ s. s == 45) (signs xs)
+dashes xs = prefix_len (λ s. s == byte.hyphen) (signs xs)
 
 -- The table of rows: a blank line is a row without lead and end, `|}` and the run of `-` of a rule are signs.
 abbrev pub line_rows : LineKind → List Item → List Row

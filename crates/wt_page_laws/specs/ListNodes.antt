@@ -1,5 +1,6 @@
 -- The nodes of lists in a tree, and how the signs of lines name them.
 use Rattle.std.specs.Prelude.{◌≡◌, ◌⊎◌, ℕ, suc, ◌==◌, List, [], ◌∷◌, ◌++◌, if◌then◌else◌}
+use Rattle.wt_span.specs.Characters as byte
 use Rattle.wt_tree.specs.declared.kind.Kind.{Kind}
 use Rattle.wt_tree.specs.declared.kind.Kind.TheVariants as kind
 use Rattle.wt_blocks.specs.Starts.{Row}
@@ -20,10 +21,10 @@ abbrev mutual
 -- ---- by signs: `*` makes `ul` with `li`, `#` makes `ol` with `li`, `;` and `:` make `dl` with `dt` and `dd`
 
 abbrev pub list_name : ℕ → Kind
-list_name sign = if sign == 42 then kind.Ul else if sign == 35 then kind.Ol else kind.Dl
+list_name sign = if sign == byte.asterisk then kind.Ul else if sign == byte.hash then kind.Ol else kind.Dl
 
 abbrev pub item_name : ℕ → Kind
-item_name sign = if sign == 59 then kind.Dt else if sign == 58 then kind.Dd else kind.Li
+item_name sign = if sign == byte.semicolon then kind.Dt else if sign == byte.colon then kind.Dd else kind.Li
 
 abbrev pub name : Row → Kind
 name r = if r.item then item_name r.sign else list_name r.sign

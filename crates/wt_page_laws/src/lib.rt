@@ -5,6 +5,7 @@ ghost use Rattle.std.specs.Prelude.{◌≡◌, ◌==◌, ℕ, Bool, false, Some,
 ghost use Rattle.std.specs.List.{AllByRecursion};
 ghost use Rattle.wt_span.specs.Bytes.{begins};
 ghost use Rattle.wt_span.specs.Items.{Item, sign};
+ghost use Rattle.wt_span.specs.Characters as byte;
 ghost use Rattle.wt_blocks.specs.Nesting.{IsPrefix, numbered};
 ghost use Rattle.wt_blocks.specs.Starts.{begun};
 ghost use Rattle.wt_tables.specs.Cells.{Cell, cells_from};
@@ -62,7 +63,7 @@ pub fn spaces_are_skipped()
 pub fn terms_end_at_the_first_colon()
     ensures first { (xs : List Item) (n : ℕ) → term_len 59 xs ≡ Some n → IsFirstColon n (tiles in_line xs) }
     ensures none { (xs : List Item) → term_len 59 xs ≡ None → AllByRecursion HidesColons (tiles in_line xs) }
-    ensures others { (s : ℕ) (xs : List Item) → (s == 59) ≡ false → term_len s xs ≡ None }
+    ensures others { (s : ℕ) (xs : List Item) → (s == byte.semicolon) ≡ false → term_len s xs ≡ None }
 {}
 
 /// Each node of a list or a table stands where it belongs: items in lists alone, and lists in items,

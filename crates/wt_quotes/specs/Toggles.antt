@@ -2,6 +2,7 @@
 use Rattle.std.specs.Prelude.{ℕ, ◌≡◌, ◌+◌, ◌-◌, ◌%◌, ◌<◌, ◌==◌, ◌&&◌, ◌||◌, Bool, true, false, not, Option, Some, None, List, if◌then◌else◌, nat_lt, count_by, slice_get, slice_set, length, position}
 use Rattle.std.specs.List.{filter_map, range_with_len}
 use Rattle.std.specs.Option.{option_or}
+use Rattle.wt_span.specs.Characters as byte
 use Rattle.wt_quotes.specs.declared.chunk.Chunk.{Chunk}
 use Rattle.wt_quotes.specs.declared.toggle.Toggle.{Toggle}
 use Rattle.wt_quotes.specs.declared.toggle.Preceding.{Preceding}
@@ -28,11 +29,11 @@ toggles_by_length chunks = filter_map (toggle_at chunks) (range_with_len 0 (leng
 
 abbrev pub is_space : Option ℕ → Bool
 is_space None = false
-is_space (Some c) = c == 32
+is_space (Some c) = c == byte.space
 
 abbrev pub is_ascii_no_space : Option ℕ → Bool
 is_ascii_no_space None = false
-is_ascii_no_space (Some c) = nat_lt c 128 && not (c == 32)
+is_ascii_no_space (Some c) = nat_lt c 128 && not (c == byte.space)
 
 -- the class of a run by the last item before it, and the item before that
 abbrev pub class_by : Option ℕ → Option ℕ → Preceding

@@ -4,6 +4,7 @@ use Rattle.std.specs.Prelude.{ℕ, ◌==◌, ◌&&◌, ◌||◌, Bool, true, fal
 use Rattle.std.specs.List.{list_all, list_any}
 use Rattle.std.specs.Str.{bytes_eq}
 use Rattle.wt_span.specs.Bytes.{begins}
+use Rattle.wt_span.specs.Characters as byte
 use Rattle.wt_tree.specs.declared.kind.AttrName.{AttrName}
 use Rattle.wt_tree.specs.declared.kind.AttrName.TheVariants as attr
 use Rattle.wt_tree.specs.declared.kind.Kind.{Kind}
@@ -38,7 +39,7 @@ open_by stands.Astray group about = None
 
 -- white space: a space, a tab, a line break or a carriage return
 abbrev pub is_gap : List ℕ → Bool
-is_gap bs = list_all (λ b. is_white b || b == 13) bs
+is_gap bs = list_all (λ b. is_white b || b == byte.carriage_return) bs
 
 abbrev pub is_further : Standing → Bool
 is_further stands.Alone = false

@@ -7,6 +7,7 @@ use Rattle.wt_tree.specs.Source.{flat}
 use Rattle.wt_tree.specs.Tiling.{end_of}
 use Rattle.wt_tree.specs.Tree.{Tree, tree, Trees, none, more, label}
 use Rattle.wt_span.specs.Bytes.{is_blank}
+use Rattle.wt_span.specs.Characters as byte
 use Rattle.wt_escape.specs.Spelling.{block_spelling}
 use Rattle.wt_checks.specs.Kept.{children}
 use Rattle.wt_checks.specs.Marks.{is_children}
@@ -26,7 +27,7 @@ use Rattle.wt_selser.specs.Steps.{Step, stays, goes, kept, comes, steps}
 abbrev pub holds_break : Tree → Bool
 holds_break t =
     if is_space (label t).kind then has_break (flat t) else
-    (if is_mark (label t).kind then ends_with nat_eq (flat t) (10 ∷ []) else false)
+    (if is_mark (label t).kind then ends_with nat_eq (flat t) (byte.line_break ∷ []) else false)
 
 -- the separators up to some place hold a line break, or lie at an end of the body, where the others do or this one does
 abbrev pub parts_with : Tree → Bool → Bool
@@ -59,7 +60,7 @@ past f (comes u) = record f { is_start = false }
 -- Nothing stands for a removed child where the separators before it and those behind it each hold a line break or lie at an end of the
 -- body; else one line break does.
 abbrev pub for_removed : Bool → List ℕ
-for_removed parted = if parted then [] else 10 ∷ []
+for_removed parted = if parted then [] else byte.line_break ∷ []
 
 abbrev pub removed_with : Option Ranges → List ℕ → List Change
 removed_with None by = []
@@ -69,7 +70,7 @@ removed_with (Some r) by = record { start = r.start; end = r.end; by = by } ∷ 
 
 -- Two line breaks stand before a new child, but not at the body's start.
 abbrev pub before_new : Bool → List ℕ
-before_new is_start = if is_start then [] else 10 ∷ 10 ∷ []
+before_new is_start = if is_start then [] else byte.line_break ∷ byte.line_break ∷ []
 
 abbrev pub is_new : Step → Bool
 is_new (stays t) = false
@@ -130,11 +131,11 @@ leaves_blank f (s ∷ ss) = said_or (blank_at (f.is_parted && is_parted ss) s) (
 
 -- Where a kept child follows: one line break if a line break is left up to it, else two.
 abbrev pub tail_before : List Step → List ℕ
-tail_before ss = if leaves_break ss then 10 ∷ [] else 10 ∷ 10 ∷ []
+tail_before ss = if leaves_break ss then byte.line_break ∷ [] else byte.line_break ∷ byte.line_break ∷ []
 
 -- Where none follows: one line break if a space or tab is left next, else nothing.
 abbrev pub tail_at_end : Front → List Step → List ℕ
-tail_at_end f ss = if leaves_blank f ss then 10 ∷ [] else []
+tail_at_end f ss = if leaves_blank f ss then byte.line_break ∷ [] else []
 
 -- behind the last of new children that stand together
 abbrev pub tail : Front → List Step → List ℕ

@@ -1,5 +1,6 @@
 -- The slices of a list whose items come and go.
 use Rattle.std.specs.Prelude.{ℕ, ◌==◌, Bool, Option, Some, None, List, [], ◌∷◌, ◌++◌, if◌then◌else◌}
+use Rattle.wt_span.specs.Characters as byte
 use Rattle.wt_tree.specs.declared.kind.Kind.{Kind}
 use Rattle.wt_tree.specs.declared.kind.Kind.TheVariants as kind
 use Rattle.wt_tree.specs.declared.kind.Ranges.{Ranges}
@@ -41,7 +42,7 @@ from_kept (more u us) = if is_kept_item u then more u us else from_kept us
 
 -- A new item before it stands at its start, with a line break behind it.
 abbrev pub new_one_before : (Tree → Tree → Bool) → ℕ → ℕ → Tree → List Change
-new_one_before same sign place u = if is_item u then at_place place (block_spelling same u sign ++ (10 ∷ [])) ∷ [] else []
+new_one_before same sign place u = if is_item u then at_place place (block_spelling same u sign ++ (byte.line_break ∷ [])) ∷ [] else []
 
 abbrev pub new_before : (Tree → Tree → Bool) → ℕ → ℕ → Trees → List Change
 new_before same sign place none = []
@@ -67,7 +68,7 @@ item_slices same page sign at (stays t ∷ ss) = item_slices same page sign at s
 item_slices same page sign at (goes t ∷ ss) =
     record { start = at; end = end_of (label t).ranges; by = [] } ∷ item_slices same page sign (end_of (label t).ranges) ss
 item_slices same page sign at (kept t u ∷ ss) = insides same page u ++ item_slices same page sign (end_of (label t).ranges) ss
-item_slices same page sign at (comes u ∷ ss) = at_place at (10 ∷ block_spelling same u sign) ∷ item_slices same page sign at ss
+item_slices same page sign at (comes u ∷ ss) = at_place at (byte.line_break ∷ block_spelling same u sign) ∷ item_slices same page sign at ss
 
 -- ---- of a list of these nodes, edited to those
 

@@ -2,6 +2,7 @@
 
 ghost use Rattle.std.specs.Prelude.{◌≡◌, ◌≤◌, ◌&&◌, ◌++◌, ◌∷◌, [], Bool, List, drop, length, nat_eq, option_map, IfOk, OnOk};
 ghost use Rattle.std.specs.List.{ends_with};
+ghost use Rattle.wt_span.specs.Characters as byte;
 ghost use Rattle.wt_tree.specs.Source.{flat};
 ghost use Rattle.wt_tree.specs.Tree.{Tree};
 ghost use Rattle.wt_tree.specs.View.{view, views};
@@ -45,7 +46,7 @@ fn has_break_in(alloc: Global, node: &Node<'_>) -> Result<bool, NoMemory>
 }
 
 fn ends_with_break(alloc: Global, node: &Node<'_>) -> Result<bool, NoMemory>
-    ensures { IfOk result (λ b. b ≡ ends_with nat_eq (flat (view node.now)) (10 ∷ [])) }
+    ensures { IfOk result (λ b. b ≡ ends_with nat_eq (flat (view node.now)) (byte.line_break ∷ [])) }
 {
     let source = flat(alloc, node)?;
     Ok(source.as_str().as_bytes().ends_with(b"\n"))

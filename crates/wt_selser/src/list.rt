@@ -1,6 +1,7 @@
 //! The slices of a list whose items come and go.
 
 ghost use Rattle.std.specs.Prelude.{◌≡◌, ◌≤◌, ◌++◌, ◌∷◌, [], Bool, List, drop, length, IfOk, OnOk};
+ghost use Rattle.wt_span.specs.Characters as byte;
 ghost use Rattle.wt_tree.specs.Tiling.{end_of};
 ghost use Rattle.wt_tree.specs.Tree.{Tree};
 ghost use Rattle.wt_tree.specs.View.{view, views};
@@ -102,7 +103,7 @@ fn push_broken(
     node: &Node<'_>,
 ) -> Result<(), NoMemory>
     ensures { (same : Tree → Tree → Bool) → TellsSame same → OnOk result (changes_view found.new.items
-        ≡ changes_view found.old.items ++ at_place place (block_spelling same (view node.now) sign ++ (10 ∷ [])) ∷ []) }
+        ≡ changes_view found.old.items ++ at_place place (block_spelling same (view node.now) sign ++ (byte.line_break ∷ [])) ∷ []) }
 {
     let mut by = spell_block(alloc, node, sign)?;
     by.push_str("\n")?;
@@ -189,7 +190,7 @@ fn push_new(
     node: &Node<'_>,
 ) -> Result<(), NoMemory>
     ensures { (same : Tree → Tree → Bool) → TellsSame same → OnOk result (changes_view found.new.items
-        ≡ changes_view found.old.items ++ at_place at (10 ∷ block_spelling same (view node.now) sign) ∷ []) }
+        ≡ changes_view found.old.items ++ at_place at (byte.line_break ∷ block_spelling same (view node.now) sign) ∷ []) }
 {
     let item = spell_block(alloc, node, sign)?;
     let mut by = Str::new(alloc);

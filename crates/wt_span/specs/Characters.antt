@@ -31,11 +31,20 @@ ampersand = 38
 abbrev pub apostrophe : ℕ
 apostrophe = 39
 
+abbrev pub opening_parenthesis : ℕ
+opening_parenthesis = 40
+
+abbrev pub closing_parenthesis : ℕ
+closing_parenthesis = 41
+
 abbrev pub asterisk : ℕ
 asterisk = 42
 
 abbrev pub plus : ℕ
 plus = 43
+
+abbrev pub comma : ℕ
+comma = 44
 
 abbrev pub hyphen : ℕ
 hyphen = 45
@@ -66,6 +75,9 @@ question_mark = 63
 
 abbrev pub opening_bracket : ℕ
 opening_bracket = 91
+
+abbrev pub backslash : ℕ
+backslash = 92
 
 abbrev pub closing_bracket : ℕ
 closing_bracket = 93

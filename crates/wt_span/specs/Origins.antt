@@ -14,6 +14,7 @@ use Rattle.wt_span.specs.Items.{Item, call_of_origin}
 use Rattle.wt_span.specs.Braces.{IsCall}
 use Rattle.wt_span.specs.Functions.{function_of}
 use Rattle.wt_span.specs.Whole.{IsWhole}
+use Rattle.wt_span.specs.Characters as byte
 
 -- two places, the second after the last byte
 abbrev pub Span : Type 0
@@ -58,7 +59,7 @@ LieFrom c at ((from, to) ∷ ps) = (at ≤ from) × (from ≤ to) × IsBorder c 
 -- for each part none, or the place of a `=` in it
 abbrev pub IsNameEnd : OuterCall → Span → Option ℕ → Type 0
 IsNameEnd c (from, to) None = Unit {0}
-IsNameEnd c (from, to) (Some place) = (from ≤ place) × (place < to) × (slice_index c.source (place - c.start) ≡ 61)
+IsNameEnd c (from, to) (Some place) = (from ≤ place) × (place < to) × (slice_index c.source (place - c.start) ≡ byte.equals_sign)
 
 abbrev pub AreNameEnds : OuterCall → List Span → List (Option ℕ) → Type 0
 AreNameEnds c [] [] = Unit {0}

@@ -24,17 +24,17 @@ is_tag_byte b = not (b == byte.less_than || (b == byte.greater_than || b == byte
 
 -- what stands between the name and the `>`: nothing, `/`, or a space or tab and more
 abbrev pub is_tag_inside : List ℕ → Bool
-is_tag_inside bs = length bs == 0 || (is_blank (slice_index bs 0) || (length bs == 1 && slice_index bs 0 == 47))
+is_tag_inside bs = length bs == 0 || (is_blank (slice_index bs 0) || (length bs == 1 && slice_index bs 0 == byte.slash))
 
 -- the last byte before the `>` is a `/`
 abbrev pub closes_itself : List ℕ → Bool
-closes_itself bs = nat_lt 0 (length bs) && slice_index bs (length bs - 1) == 47
+closes_itself bs = nat_lt 0 (length bs) && slice_index bs (length bs - 1) == byte.slash
 
 -- the tag of this name, by what follows the name
 unfoldable pub tag_after : List ℕ → List ℕ → Option Tag
 tag_after name bs =
     let inside = take (prefix_len is_tag_byte bs) bs in
-    if slice_index bs (length inside) == 62 && is_tag_inside inside
+    if slice_index bs (length inside) == byte.greater_than && is_tag_inside inside
     then Some (record { name = lower name; len = 2 + length name + length inside; alone = closes_itself inside })
     else None
 
@@ -42,14 +42,14 @@ tag_after name bs =
 unfoldable pub opening_tag : List ℕ → Option Tag
 opening_tag bs =
     let n = name_len (drop 1 bs) in
-    if slice_index bs 0 == 60 && nat_lt 0 n then tag_after (take n (drop 1 bs)) (drop (1 + n) bs) else None
+    if slice_index bs 0 == byte.less_than && nat_lt 0 n then tag_after (take n (drop 1 bs)) (drop (1 + n) bs) else None
 
 -- a closing tag: `</`, a name, blanks, `>`
 unfoldable pub closing_tag : List ℕ → Option Tag
 closing_tag bs =
     let n = name_len (drop 2 bs) in
     let k = blank_len (drop (2 + n) bs) in
-    if begins (codes "</") bs && (nat_lt 0 n && slice_index bs (2 + n + k) == 62)
+    if begins (codes "</") bs && (nat_lt 0 n && slice_index bs (2 + n + k) == byte.greater_than)
     then Some (record { name = lower (take n (drop 2 bs)); len = 3 + n + k; alone = false })
     else None
 

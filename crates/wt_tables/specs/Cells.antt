@@ -5,6 +5,7 @@ use Rattle.wt_span.specs.Bytes.{is_blank, begins}
 use Rattle.wt_span.specs.declared.form.ItemForm.{ItemForm}
 use Rattle.wt_span.specs.declared.form.ItemForm.TheVariants as form
 use Rattle.wt_span.specs.Items.{Item, char, whole as whole_item, sign}
+use Rattle.wt_span.specs.Characters as byte
 use Rattle.wt_lines.specs.Kinds.{is_idle}
 use Rattle.wt_tables.specs.declared.scan.Splits.{Splits}
 use Rattle.wt_tables.specs.declared.scan.Splits.TheVariants as split
@@ -47,7 +48,7 @@ parts by zero (x ∷ xs) = if splits_at by (x ∷ xs) then [] ∷ onto x (parts 
 
 -- a `|` stands at a place and none beside it
 abbrev pub is_single : List ℕ → ℕ → Bool
-is_single ss k = slice_index ss k == 124 && (not (nat_lt 0 k && slice_index ss (k - 1) == 124) && not (slice_index ss (k + 1) == 124))
+is_single ss k = slice_index ss k == byte.vertical_bar && (not (nat_lt 0 k && slice_index ss (k - 1) == byte.vertical_bar) && not (slice_index ss (k + 1) == byte.vertical_bar))
 
 -- the place of the first such one, or the length
 unfoldable pub single_at : List ℕ → ℕ
@@ -154,7 +155,7 @@ whole c = c.opening ++ c.rest
 -- ---- attributes of a table and of a row, by the line that opens it: behind `{|`, and behind all `-` of `|-`
 
 abbrev pub is_dash : ℕ → Bool
-is_dash s = s == 45
+is_dash s = s == byte.hyphen
 
 abbrev pub row_sign_len : List ℕ → ℕ
 row_sign_len ss = 1 + prefix_len is_dash (drop 1 ss)

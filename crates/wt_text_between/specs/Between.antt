@@ -5,18 +5,19 @@ use Rattle.wt_span.specs.declared.form.LexKind.{LexKind}
 use Rattle.wt_span.specs.declared.form.LexKind.TheVariants.{Chars, CommentLine, Comment, Raw, Include, Hidden, Entity, Opens, Closes, LinkOpen, LinkClose, Pipe, Equals}
 use Rattle.wt_span.specs.Comments.{comment_len}
 use Rattle.wt_span.specs.Lexemes.{Word, words}
+use Rattle.wt_span.specs.Characters as byte
 
 -- ---- lines
 
 -- no `<` stands in it
 abbrev pub HasNoTag : List ℕ → Type 0
 HasNoTag [] = Unit {0}
-HasNoTag (b ∷ bs) = ((b == 60) ≡ false) × HasNoTag bs
+HasNoTag (b ∷ bs) = ((b == byte.less_than) ≡ false) × HasNoTag bs
 
 -- nothing, or lines, the last of which ends
 abbrev pub EndsLine : List ℕ → Type 0
 EndsLine [] = Unit {0}
-EndsLine (b ∷ []) = b ≡ 10
+EndsLine (b ∷ []) = b ≡ byte.line_break
 EndsLine (b ∷ c ∷ cs) = EndsLine (c ∷ cs)
 
 -- no comment begins in it

@@ -2,6 +2,7 @@
 use Rattle.std.specs.Prelude.{◌≡◌, ℕ, ◌==◌, ◌&&◌, ◌||◌, Bool, true, false, not, List, [], ◌∷◌, map}
 use Rattle.std.specs.List.{list_all}
 use Rattle.std.specs.Str.{chars, IsUtf8}
+use Rattle.wt_span.specs.Characters as byte
 use Rattle.wt_lex.specs.Words.{is_form_byte}
 use Rattle.wt_guards.specs.declared.side.Place.TheVariants as place
 use Rattle.wt_guards.specs.Content.{letter}
@@ -20,12 +21,12 @@ are_as_typed before (c ∷ cs) = not (is_escaped false place.Paragraph (map lett
 
 -- Only a paragraph begins with it: no space or tab, no `*` `#` `:` `;` `-` `!`, and no line break.
 abbrev pub begins_text : ℕ → Bool
-begins_text c = not (line_start_hazard c || c == 10)
+begins_text c = not (line_start_hazard c || c == byte.line_break)
 
 -- Each line begins with such a character, so that none is empty. `start` tells whether a line begins here.
 abbrev pub are_text_lines : Bool → List ℕ → Bool
 are_text_lines start [] = not start
-are_text_lines start (c ∷ cs) = (not start || begins_text c) && are_text_lines (c == 10) cs
+are_text_lines start (c ∷ cs) = (not start || begins_text c) && are_text_lines (c == byte.line_break) cs
 
 -- One line or more of such text.
 pub record IsPlainText (text : List ℕ) : Type 0 where

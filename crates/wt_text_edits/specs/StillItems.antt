@@ -4,6 +4,7 @@ use Rattle.std.specs.Char.{is_ascii_alphabetic}
 use Rattle.wt_span.specs.declared.form.ItemForm.{ItemForm}
 use Rattle.wt_span.specs.declared.form.ItemForm.TheVariants as form
 use Rattle.wt_span.specs.Items.{Item, char, whole}
+use Rattle.wt_span.specs.Characters as byte
 use Rattle.wt_tiles.specs.declared.glyph.Glyph.{Glyph}
 use Rattle.wt_tiles.specs.declared.glyph.Glyph.TheVariants as glyph
 use Rattle.wt_tiles.specs.Glyphs.{glyph_of, is_in, begins}
@@ -11,12 +12,12 @@ use Rattle.wt_tiles.specs.Glyphs.{glyph_of, is_in, begins}
 -- a letter or `/` stands first, which would make a tag of a `<`
 abbrev pub starts_tag : List Glyph → Bool
 starts_tag [] = false
-starts_tag (g ∷ gs) = is_in (λ c. is_ascii_alphabetic c || c == 47) g
+starts_tag (g ∷ gs) = is_in (λ c. is_ascii_alphabetic c || c == byte.slash) g
 
 -- by what follows: no link, tag, switch or address begins here, and no second apostrophe stands behind one
 pub record IsStill (b : ℕ) (gs : List Glyph) : Type 0 where
-  pub bracket : (b == 91) ≡ false
-  pub tag : ((b == 60) && starts_tag gs) ≡ false
+  pub bracket : (b == byte.opening_bracket) ≡ false
+  pub tag : ((b == byte.less_than) && starts_tag gs) ≡ false
   pub quotes : begins (codes "''") (glyph.Byte b ∷ gs) ≡ false
   pub switch : begins (codes "__") (glyph.Byte b ∷ gs) ≡ false
   pub address : begins (codes "://") (glyph.Byte b ∷ gs) ≡ false

@@ -4,6 +4,7 @@ use Rattle.std.specs.Char.{to_ascii_lowercase}
 use Rattle.wt_tree.specs.declared.kind.AttrName.TheVariants as attr
 use Rattle.wt_span.specs.Bytes.{is_blank}
 use Rattle.wt_span.specs.Items.{Item, char}
+use Rattle.wt_span.specs.Characters as byte
 use Rattle.wt_tiles.specs.declared.shape.TileKind.TheVariants as kind
 use Rattle.wt_tiles.specs.Glyphs.{glyph_of, is_in, byte_glyphs}
 use Rattle.wt_tiles.specs.Links.{leaf}
@@ -26,7 +27,7 @@ BeginsBlank (b ∷ bs) = is_blank b ≢ false
 abbrev pub LeadsToUrl : Option ℕ → List Item → List Item → Type 0
 LeadsToUrl o url blanks =
     AreUrlItems url → BeginsBlank (text_of blanks)
-    → (ext_link_head (char o 91 ∷ (url ++ blanks))).attrs ≡ (attr.Href, text_of url) ∷ []
+    → (ext_link_head (char o byte.opening_bracket ∷ (url ++ blanks))).attrs ≡ (attr.Href, text_of url) ∷ []
 
 -- a URL of characters alone leads to them
 abbrev pub LeadsToItself : Option ℕ → List ℕ → Type 0
@@ -50,4 +51,4 @@ HasNo sign xs = All (λ x. is_in (λ b. b == sign) (glyph_of x) ≡ false) xs
 abbrev pub KeyIsBehindFirstPipe : Option ℕ → List Item → List Item → Type 0
 KeyIsBehindFirstPipe o target text =
     HasNo 124 target → HasNo 91 target → HasNo 93 target → HasNo 91 text → HasNo 93 text
-    → key (char o 91 ∷ char o 91 ∷ (target ++ (char o 124 ∷ (text ++ (char o 93 ∷ char o 93 ∷ []))))) ≡ Some (visible_source text)
+    → key (char o byte.opening_bracket ∷ char o byte.opening_bracket ∷ (target ++ (char o byte.vertical_bar ∷ (text ++ (char o byte.closing_bracket ∷ char o byte.closing_bracket ∷ []))))) ≡ Some (visible_source text)

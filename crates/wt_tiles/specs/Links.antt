@@ -2,6 +2,7 @@
 use Rattle.std.specs.Prelude.{ℕ, suc, ◌+◌, ◌-◌, ◌==◌, ◌&&◌, ◌||◌, Bool, true, false, Option, Some, None, List, [], ◌∷◌, length, take, drop, reverse, slice_index, codes, encode_utf8, option_map, if◌then◌else◌}
 use Rattle.std.specs.List.{list_any, flat_map, prefix_len}
 use Rattle.wt_span.specs.Bytes.{is_blank, is_break}
+use Rattle.wt_span.specs.Characters as byte
 use Rattle.wt_names.specs.declared.title.Title.{Title}
 use Rattle.wt_names.specs.declared.namespace.Ns.{Ns}
 use Rattle.wt_names.specs.declared.namespace.Ns.TheVariants as ns
@@ -60,7 +61,7 @@ aimed colon o = option_map (λ t. record { colon = colon; title = t }) o
 
 -- the target that a text is: a title, after a colon that may stand first
 abbrev pub target_in : List ℕ → Option Target
-target_in bs = if slice_index bs 0 == 58 then aimed true (read_bytes (drop 1 bs)) else aimed false (read_bytes bs)
+target_in bs = if slice_index bs 0 == byte.colon then aimed true (read_bytes (drop 1 bs)) else aimed false (read_bytes bs)
 
 -- the target that items are: no atom but entities may stand among them
 unfoldable pub target_of : List Glyph → Option Target

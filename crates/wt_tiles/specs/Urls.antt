@@ -2,6 +2,7 @@
 use Rattle.std.specs.Prelude.{ℕ, suc, ◌+◌, ◌-◌, ◌==◌, ◌&&◌, ◌||◌, Bool, false, not, Option, Some, None, List, [], ◌∷◌, length, take, drop, reverse, nat_lt, codes, option_map, if◌then◌else◌}
 use Rattle.std.specs.List.{list_any, prefix_len}
 use Rattle.std.specs.Char.{is_ascii_alphanumeric}
+use Rattle.wt_span.specs.Characters as byte
 use Rattle.wt_tiles.specs.declared.glyph.Glyph.{Glyph}
 use Rattle.wt_tiles.specs.declared.glyph.Glyph.TheVariants as glyph
 use Rattle.wt_tiles.specs.declared.glyph.GlyphClass.TheVariants as class
@@ -18,7 +19,7 @@ scheme_len gs =
 
 -- the characters of URLs: above the space, but for U+007F and `[ ] < > "`
 unfoldable pub is_url_char : ℕ → Bool
-is_url_char c = nat_lt 32 c && not (c == 127 || (c == 91 || (c == 93 || (c == 60 || (c == 62 || c == 34)))))
+is_url_char c = nat_lt 32 c && not (c == 127 || (c == byte.opening_bracket || (c == byte.closing_bracket || (c == byte.less_than || (c == byte.greater_than || c == byte.quotation_mark)))))
 
 -- such a character, or an entity of one
 abbrev pub is_url_glyph : Glyph → Bool
@@ -61,14 +62,14 @@ ext_link_at gs = if first_is (class.Only 91) gs then ext_link_of (scheme_len (dr
 
 -- a letter, digit or `_`, after which no bare URL begins
 abbrev pub is_word : ℕ → Bool
-is_word b = is_ascii_alphanumeric b || b == 95
+is_word b = is_ascii_alphanumeric b || b == byte.underscore
 
 -- a character that doesn't end a URL: one of `, ; . : ! ?`, and `)` where the URL has no `(`
 unfoldable pub is_dropped : Bool → ℕ → Bool
-is_dropped paren b = b == 44 || (b == 59 || (b == 46 || (b == 58 || (b == 33 || (b == 63 || (not paren && b == 41))))))
+is_dropped paren b = b == byte.comma || (b == byte.semicolon || (b == byte.full_stop || (b == byte.colon || (b == byte.exclamation_mark || (b == byte.question_mark || (not paren && b == byte.closing_parenthesis))))))
 
 abbrev pub has_paren : List Glyph → Bool
-has_paren us = list_any (is_in (λ b. b == 40)) us
+has_paren us = list_any (is_in (λ b. b == byte.opening_parenthesis)) us
 
 -- how many of a URL's items are left when such characters are dropped from its end
 unfoldable pub kept_len : List Glyph → ℕ

@@ -1,6 +1,7 @@
 //! What calls and arguments give, from what was read of them.
 ghost use Rattle.std.specs.Prelude.{◌≡◌, ◌<◌, ◌∷◌, ◌++◌, [], None, IfOk, codes, length};
 ghost use Rattle.wt_span.specs.Items.{char, items, items_of};
+ghost use Rattle.wt_span.specs.Characters as byte;
 ghost use Rattle.wt_expand.specs.Expansion.{chars, with_break};
 
 use crate::item::piece_of;
@@ -19,14 +20,14 @@ pub fn copied<'a>(alloc: Global, pieces: &[Piece<'a>]) -> Result<List<Piece<'a>>
 
 /// A piece of one line break, which stands for itself.
 fn line_break() -> Piece<'static>
-    ensures { items_of result ≡ char None 10 ∷ [] }
+    ensures { items_of result ≡ char None byte.line_break ∷ [] }
 {
     piece_of(Text::new("\n", 0), ItemForm::Chars)
 }
 
 /// Pieces behind a line break.
 fn behind_break<'a>(alloc: Global, pieces: &[Piece<'a>]) -> Result<List<Piece<'a>>, NoMemory>
-    ensures { IfOk result (λ ps. items ps ≡ char None 10 ∷ items pieces.now) }
+    ensures { IfOk result (λ ps. items ps ≡ char None byte.line_break ∷ items pieces.now) }
 {
     let mut out = List::new(alloc);
     out.push(line_break())?;

@@ -7,6 +7,7 @@ ghost use Rattle.wt_span.specs.Items.{items, items_of};
 ghost use Rattle.wt_expand.specs.Texts.{target_of_form, target_text, both};
 ghost use Rattle.wt_expand.specs.Targets.{as_template, if_good, is_function, is_main, is_template, placed_title, title_behind, title_in_target, title_of_target, without_fragment};
 ghost use Rattle.wt_span.specs.Functions.{function_of};
+ghost use Rattle.wt_span.specs.Characters as byte;
 ghost use Rattle.wt_transclusion.specs.Target.{PushesTarget, is_that_template};
 
 use crate::blanks::{behind, front_len, trimmed};
@@ -110,7 +111,7 @@ fn placed(alloc: Global, colon: bool, title: Title) -> Result<Option<Title>, NoM
 
 /// The title that a trimmed text names behind a colon or without one.
 fn title_behind(alloc: Global, colon: bool, text: &str) -> Result<Option<Title>, NoMemory>
-    requires { colon ≡ (slice_index text.now 0 == 58) }
+    requires { colon ≡ (slice_index text.now 0 == byte.colon) }
     ensures { IfOk result (λ t. t ≡ title_behind colon text.now) }
 {
     let name = if colon { behind(text, 1) } else { text };

@@ -5,6 +5,7 @@
 -- block that follows. All else is text.
 use Rattle.std.specs.Prelude.{ℕ, ◌+◌, ◌-◌, ◌==◌, ◌&&◌, ◌||◌, nat_lt, Bool, true, false, Option, Some, None, List, [], ◌∷◌, ◌++◌, length, if◌then◌else◌}
 use Rattle.std.specs.List.{list_all, list_any}
+use Rattle.wt_span.specs.Characters as byte
 use Rattle.wt_tree.specs.declared.kind.Kind.{Kind}
 use Rattle.wt_tree.specs.declared.kind.Kind.TheVariants as kind
 use Rattle.wt_tree.specs.declared.kind.Mark.TheVariants as mark
@@ -18,10 +19,10 @@ use Rattle.wt_tree.specs.Tree.{Label, Tree, tree, Trees, none, more, label}
 -- ---- characters
 
 abbrev pub is_space : ℕ → Bool
-is_space b = b == 32 || b == 9
+is_space b = b == byte.space || b == byte.tab
 
 abbrev pub is_break : ℕ → Bool
-is_break b = b == 10
+is_break b = b == byte.line_break
 
 -- a space, a tab or a line break
 abbrev pub is_white : ℕ → Bool
