@@ -1,21 +1,21 @@
 -- Pages with typed paragraphs: they are UTF-8, no tag is open where a paragraph begins, and with other typed texts they are such pages again.
-use Rattle.std.proofs.Common.{◌≡◌, ℕ, true, false, None, Some, Bool, List, [], ◌∷◌, ◌++◌, refl, sym, ap, ◌∙◌, subst, append_assoc, inl, inr}
-use Rattle.std.specs.Prelude.{◌⊎◌, ◌==◌}
+use Rattle.std.proofs.Common.{arith, ◌≡◌, ℕ, true, false, List, [], ◌∷◌, ◌++◌, refl, sym, ap, ◌∙◌, subst, append_assoc, inl, inr}
+use Rattle.std.specs.Prelude.{◌⊎◌, ◌==◌, not}
+use Rattle.std.specs.List.{prefix_len}
+use Rattle.std.proofs.lemmas.List.{reverse-append}
 use Rattle.std.specs.Str.{IsUtf8}
 use Rattle.std.proofs.lemmas.Str.{IsUtf8-append}
 use Rattle.std.proofs.lemmas.Grind.{flat_map-append}
+use Rattle.std.proofs.lemmas.Bool.Decides.{nat_tests}
 use Rattle.wt_span.specs.Bytes.{is_break}
 use Rattle.wt_span.specs.Items.{Item, char, whole, source, sources}
 use Rattle.wt_lines.specs.Lines.{is_break_item}
-use Rattle.wt_isolation.specs.OpenTags.{ends_open}
+use Rattle.wt_isolation.specs.OpenTags.{is_stop, bare_len, ends_open}
+use Rattle.wt_isolation.proofs.OpenTags.{none_bare_here}
 use Rattle.wt_expand.specs.PageItems.{page_items}
 use Rattle.wt_expand.proofs.PageLaws.{page_sources}
-use Rattle.wt_text_edits.specs.LonePages.{page_chars}
 use Rattle.wt_text_edits.specs.TypedPages.{IsTypedPage}
 use Rattle.wt_text_edits.proofs.SpelledUtf8.{spelled_utf8}
-use Rattle.wt_text_edits.proofs.TypedNodes.{chars_source}
-use Rattle.wt_prose.proofs.ProseReading.{break}
-use Rattle.wt_prose.proofs.BlockFacts.{behind_breaks}
 use Rattle.wt_paragraph_laws.specs.Spots.{Spot, spots_source, EndsEmpty, BeginsEmptily, IsSpot, AreFurther, AreSpots, SameRound, AllTyped}
 
 -- ---- UTF-8
@@ -36,17 +36,17 @@ spots_utf8 (s ∷ ss) behind h = spot_utf8 s (spots_source ss behind) h.0 (furth
 
 -- ---- no tag is open behind an empty line
 
+break_byte : (b : ℕ) → is_break b ≡ true → b ≡ 10
+break_byte b e = grind (arith, nat_tests)
+
 break_source : (x : Item) → is_break_item x ≡ true → source x ≡ 10 ∷ []
-break_source (char o b) e = ap (λ (c : ℕ). c ∷ []) (same_number b e)
-  where
-    same_number : (b : ℕ) → is_break b ≡ true → b ≡ 10
-    same_number b e = ?
+break_source (char o b) e = ap (λ (c : ℕ). c ∷ []) (break_byte b e)
 break_source (whole f o bs) e = cc
 
-chars_clear : (cs : List ℕ) → ends_open (cs ++ 10 ∷ []) ≡ false
-chars_clear cs =
-    ap ends_open (sym (flat_map-append source (page_chars cs) (break ∷ []) ∙ ap (λ bs. bs ++ 10 ∷ []) (chars_source cs)))
-    ∙ behind_breaks (page_chars cs) 0
+chars_clear : (bs : List ℕ) → ends_open (bs ++ 10 ∷ []) ≡ false
+chars_clear bs =
+    let z : bare_len (bs ++ 10 ∷ []) ≡ 0 = ap (prefix_len (λ b. not (is_stop b))) (reverse-append bs (10 ∷ [])) in
+    sym (none_bare_here (bs ++ 10 ∷ []) (bare_len (bs ++ 10 ∷ [])) refl z)
 
 pub clear_behind : (front bs : List ℕ) → EndsEmpty (page_items bs) → ends_open (front ++ bs) ≡ false
 clear_behind front bs h =

@@ -110,6 +110,15 @@ spots_tree ss behind h =
     ap (annotated [] (group_data [])) (spots_meaning ss behind h ∙ ap body_with (as_leaves ss behind (are_typed ss behind h)))
     ∙ plain_tree (leafy_blocks ss behind) (spots_plain ss behind h)
 
+-- in other words
+pub tree_of_spots : (ss : List Spot) (behind : List ℕ) → AreSpots ss behind
+    → part_tree (spots_source ss behind) ≡ cut_texts (annotated_plainly (body_with (page_blocks ss behind)))
+tree_of_spots ss behind h =
+    let e : page_blocks ss behind ≡ leafy_blocks ss behind = as_leaves ss behind (are_typed ss behind h) in
+    ap (annotated [] (group_data [])) (spots_meaning ss behind h ∙ ap body_with e)
+    ∙ without_calls [] (group_data []) (body_with (leafy_blocks ss behind)) (spots_plain ss behind h)
+    ∙ ap (λ ts. cut_texts (annotated_plainly (body_with ts))) (sym e)
+
 -- of a part by itself: it has no groups there
 pub part_ungrouped : (bs : List ℕ) → HasNoGroups bs → NoneIsGroup (blocks_of 1 [] (blocks_in (page_items bs)))
 part_ungrouped bs h =
