@@ -13,7 +13,7 @@ use Rattle.wt_expand.specs.PageItems.{page_items}
 use Rattle.wt_rows.proofs.Portions.{no_parts, breaks_first}
 use Rattle.wt_text_edits.specs.LonePages.{para_of}
 use Rattle.wt_text_edits.specs.TypedPages.{IsTypedPage}
-use Rattle.wt_prose.proofs.InFront.{front_nothing, its_items}
+use Rattle.wt_prose.proofs.InFront.{reads_nothing, read_items}
 use Rattle.wt_paragraph_laws.specs.Between.{BeginsEmpty, EndsParagraph, parts_behind}
 use Rattle.wt_paragraph_laws.specs.Spots.{Spot, spots_source, page_blocks, body_with, EndsEmpty, BeginsEmptily, IsSpot, AreFurther, AreSpots}
 use Rattle.wt_paragraph_laws.proofs.Standing.{empty_line, round_node}
@@ -43,7 +43,7 @@ before_parts xs ys h =
 
 first_parts : (bs : List ℕ) (ys : List Item) → (bs ≡ []) ⊎ EndsEmpty (page_items bs) → parts_in (page_items bs ++ ys) ≡ parts_in (page_items bs) ++ parts_in ys
 first_parts bs ys (inl e) =
-    let z : page_items bs ≡ [] = ap page_items e ∙ its_items [] front_nothing in
+    let z : page_items bs ≡ [] = ap page_items e ∙ read_items [] [] reads_nothing in
     ap (λ xs. parts_in (xs ++ ys)) z ∙ ap (λ ps. ps ++ parts_in ys) (sym (ap parts_in z ∙ no_parts))
 first_parts bs ys (inr h) = before_parts (page_items bs) ys h
 
