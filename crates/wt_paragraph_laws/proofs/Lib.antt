@@ -5,3 +5,4 @@ pub mod SpotsReading
 pub mod SpotsMeaning
 pub mod SpotsTrees
 pub mod SpotsAgain
+mod Cases
