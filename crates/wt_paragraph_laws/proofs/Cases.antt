@@ -1,5 +1,5 @@
 -- Worked cases of pages with typed paragraphs, and of what may stand round these, by computing.
-use Rattle.std.proofs.Common.{◌≡◌, ℕ, true, None, List, [], ◌∷◌, refl}
+use Rattle.std.proofs.Common.{◌≡◌, ℕ, true, None, List, [], ◌∷◌, refl, inr}
 use Rattle.std.specs.Prelude.{codes}
 use Rattle.wt_span.specs.Comments.{comment_len, comment_line_len}
 use Rattle.wt_span.specs.Entities.{named_entity, entity_names, decimal_entity, hex_entity, entity_at}
@@ -30,64 +30,86 @@ use Rattle.wt_page.specs.Body.{blocks, meaning}
 use Rattle.wt_annotated.specs.Annotated.{annotated}
 use Rattle.wt_annotated.specs.GroupData.{group_data}
 use Rattle.wt_annotated.specs.Labels.{label_at}
-use Rattle.wt_paragraph_laws.specs.Between.{AreClosed, EndsParagraph}
-use Rattle.wt_paragraph_laws.specs.Spots.{Spot, spots_source, EndsEmpty, BeginsEmptily, HasNoGroups}
+use Rattle.wt_paragraph_laws.specs.Between.{rows_of_lines, AreClosed, EndApart, EndsApart, EndsParagraph}
+use Rattle.wt_paragraph_laws.specs.Spots.{Spot, spots_source, BeginsApart, HasNoGroups}
 
--- a heading and a list, a paragraph, a table, a paragraph, and a rule
+-- a list, a paragraph, a table and a heading, a paragraph, and a rule
 abbrev page : List Spot
 page =
-    record { before = codes "== h ==\n* a\n\n"; paragraph = codes "x" }
-    ∷ record { before = codes "\n\n{|\n| b\n|}\n\n"; paragraph = codes "y" }
+    record { before = codes "* a\n\n"; paragraph = codes "x" }
+    ∷ record { before = codes "\n{|\n| b\n|}\n\n== h ==\n"; paragraph = codes "y" }
     ∷ []
 
-its_source : spots_source page (codes "\n\n----\n") ≡ codes "== h ==\n* a\n\nx\n\n{|\n| b\n|}\n\ny\n\n----\n"
+its_source : spots_source page (codes "\n----\n") ≡ codes "* a\n\nx\n{|\n| b\n|}\n\n== h ==\ny\n----\n"
 its_source = refl
 
 -- ---- what stands before a paragraph
 
-heading_and_list : EndsEmpty (page_items (codes "== h ==\n* a\n\n"))
+-- lines up to an empty one
+list_above : EndsApart (page_items (codes "== h ==\n* a\n\n"))
 unfolding page_items words closed form_at comment_len comment_line_len raw_len opening_tag closing_tag include_at entity_at named_entity decimal_entity
     hex_entity entity_names sign_word kind_of_signs
-heading_and_list = record {
-  others = page_items (codes "== h ==\n* a\n");
-  last = char None 10;
+list_above = record {
+  front = page_items (codes "== h ==\n* a\n\n");
+  others = [];
   is = refl;
+  ends_empty = inr (record {
+    others = page_items (codes "== h ==\n* a\n");
+    last = char None 10;
+    is = refl;
+    are_closed = record { whole = refl; closed = refl };
+    is_break = refl;
+  });
   are_closed = record { whole = refl; closed = refl };
-  is_break = refl;
+  apart = tt;
 }
 
-table : EndsEmpty (page_items (codes "\n\n{|\n| b\n|}\n\n"))
+-- a table, an empty line, and a heading directly above the paragraph
+heading_above : EndsApart (page_items (codes "\n{|\n|}\n\n== h ==\n"))
 unfolding page_items words closed form_at comment_len comment_line_len raw_len opening_tag closing_tag include_at entity_at named_entity decimal_entity
     hex_entity entity_names sign_word kind_of_signs
-table = record {
-  others = page_items (codes "\n\n{|\n| b\n|}\n");
-  last = char None 10;
+heading_above = record {
+  front = page_items (codes "\n{|\n|}\n\n");
+  others = page_items (codes "== h ==\n");
   is = refl;
+  ends_empty = inr (record {
+    others = page_items (codes "\n{|\n|}\n");
+    last = char None 10;
+    is = refl;
+    are_closed = record { whole = refl; closed = refl };
+    is_break = refl;
+  });
   are_closed = record { whole = refl; closed = refl };
-  is_break = refl;
+  apart = (refl, refl);
 }
 
-table_apart : BeginsEmptily (page_items (codes "\n\n{|\n| b\n|}\n\n"))
+-- and a table directly behind the paragraph before
+table_apart : BeginsApart (page_items (codes "\n{|\n|}\n\n== h ==\n"))
 unfolding page_items words closed form_at comment_len comment_line_len raw_len opening_tag closing_tag include_at entity_at named_entity decimal_entity
-    hex_entity entity_names sign_word
-table_apart = (refl, refl)
+    hex_entity entity_names sign_word kind_of_signs
+table_apart = (refl, (record { whole = refl; closed = refl }), refl)
 
--- an open table takes the paragraph in, and a list directly behind one has no empty line
+-- an open table takes the paragraph in, and with a line of text directly above it is one paragraph
 open_table : AreClosed (page_items (codes "{|\n| b\n")) → ⊥
 unfolding page_items words closed form_at comment_len comment_line_len raw_len opening_tag closing_tag include_at entity_at named_entity decimal_entity
     hex_entity entity_names sign_word kind_of_signs
 open_table h = let e = h.closed in absurd (cc)
 
-list_behind : BeginsEmptily (page_items (codes "\n* a\n\n")) → ⊥
+text_above : EndApart (rows_of_lines (page_items (codes "a\n"))) → ⊥
 unfolding page_items words closed form_at comment_len comment_line_len raw_len opening_tag closing_tag include_at entity_at named_entity decimal_entity
-    hex_entity entity_names sign_word
-list_behind h = let e = h.1 in absurd (cc)
+    hex_entity entity_names sign_word kind_of_signs
+text_above h = let e = h.1 in absurd (cc)
+
+text_behind : BeginsApart (page_items (codes "\na\n")) → ⊥
+unfolding page_items words closed form_at comment_len comment_line_len raw_len opening_tag closing_tag include_at entity_at named_entity decimal_entity
+    hex_entity entity_names sign_word kind_of_signs
+text_behind h = let e = h.2 in absurd (cc)
 
 -- ---- what stands behind the last
 
-rule_behind : EndsParagraph (page_items (codes "\n\n----\n"))
+rule_behind : EndsParagraph (page_items (codes "\n----\n"))
 unfolding page_items words closed form_at comment_len comment_line_len raw_len opening_tag closing_tag include_at entity_at named_entity decimal_entity
-    hex_entity entity_names sign_word
+    hex_entity entity_names sign_word kind_of_signs rows
 rule_behind = (refl, refl)
 
 -- ---- no groups

@@ -1,3 +1,4 @@
+pub mod Apart
 pub mod Joining
 pub mod Standing
 pub mod Paragraphs
