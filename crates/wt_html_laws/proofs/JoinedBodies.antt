@@ -14,7 +14,7 @@ use Rattle.wt_datamw.specs.declared.sync.Sync.{Sync}
 use Rattle.wt_html_grammar.specs.Markup.{Pair, Markup, Markups, text, node, empty, more}
 use Rattle.wt_schema.specs.declared.why.FitWhy.TheVariants as why
 use Rattle.wt_schema.specs.Data.{Data}
-use Rattle.wt_schema.specs.Fit.{Misfit, label_for, elements_of_all, texts_in, are_blank, with_children, within, fit_nodes, is_marked_root, elements_in, Found, body_in, fit_body_told, body_data, fit_body, fit}
+use Rattle.wt_schema.specs.Fit.{Misfit, label_for, elements_of_all, texts_in, are_blank, with_children, within, fit_nodes, is_marked_root, elements_in, BodyElement, body_in, fit_body_told, body_data, fit_body, fit}
 use Rattle.wt_schema.specs.Groups.{Piece, gathered}
 use Rattle.wt_schema.specs.Sections.{is_section_name, is_mark_pair, all_bared, opened_if_fit}
 use Rattle.wt_html_laws.specs.SameBodies.{is_body_name}
@@ -57,7 +57,7 @@ plain_by ps (Some s) m shown ts us h = ap (λ v. along (element (face (label_for
 flat_by : (l : Label) (ts us : Trees) → AreAlike ts us → flat (tree l ts) ≡ flat (tree l us)
 flat_by l ts us h = ap (λ v. if is_leaf l.kind then l.own else l.opening ++ v ++ l.closing) h.0
 
-abbrev found : ℕ → List Pair → Markups → Found
+abbrev found : ℕ → List Pair → Markups → BodyElement
 found n ps c = record { number = n; attributes = ps; contents = c }
 
 from_tree : (t u : Tree) → Path (Result Tree Misfit) (Ok t) (Ok u) → t ≡ u
@@ -105,7 +105,7 @@ body_joins n ps c t e = by_data (body_data ps) e
 
 -- ---- documents
 
-abbrev found_if : Bool → ℕ → List Pair → Markups → Option Found
+abbrev found_if : Bool → ℕ → List Pair → Markups → Option BodyElement
 found_if b n ps c = if b then Some (found n ps c) else None
 
 no_body : (t : Tree) → fit_body None ≡ Ok t → FitsAlike (fit_body None) t
