@@ -23,7 +23,7 @@ is_text RoundChildren = false
 is_text (AsSection n) = false
 is_text Unwritten = false
 
--- What shows nothing is passed over. A group stands for itself: what it shows is the template's.
+-- What shows nothing is passed over. A group counts as itself: what it shows is the template's.
 abbrev mutual
   pub tokens : Tree → List Token
   tokens (tree l ts) = if is_compared (showing l.kind) then

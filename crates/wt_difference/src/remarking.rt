@@ -33,7 +33,7 @@ fn is_marked(mark: Mark) -> bool
     }
 }
 
-/// Whether a mark stands on a node or inside it. A remarked tree has one exactly where something differs.
+/// Whether a mark is on a node or inside it. A remarked tree has one exactly where something differs.
 #[cycle(marked)]
 pub fn has_mark(node: &Node<'_>) -> bool
     ensures { result ≡ has_mark (view node.now) }
