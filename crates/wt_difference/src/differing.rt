@@ -102,7 +102,7 @@ pub fn same_inside(alloc: Global, old: &Node<'_>, new: &Node<'_>) -> Result<bool
     are_same(alloc, inside(old), inside(new))
 }
 
-/// Whether a node holds the same children behind its inside, each by its number.
+/// Whether a node holds the same children after its inside, each by its number.
 pub fn same_children(
     alloc: Global,
     index: &[Visit<'_, '_>],

@@ -1,5 +1,5 @@
 //! The difference of an edited page: which places of the page were changed, found by the numbers of its
-//! nodes, without marks, and told by the marks that the edited tree gets.
+//! nodes, without marks, and said by the marks that the edited tree gets.
 #![tactic(auto)]
 
 mod differing;

@@ -142,7 +142,7 @@ fn same_tokens(old: &[Token<'_, '_>], new: &[Token<'_, '_>]) -> bool
 
 // ---- node by node
 
-/// Whether two nodes are told to be the same by themselves, without their tokens.
+/// Whether two nodes are seen to be the same by themselves, without their tokens.
 #[cycle(in_step)]
 fn same_in_step(old: &Node<'_>, new: &Node<'_>) -> bool
     ensures { result ≡ true → same_tokens (tokens (view old.now)) (tokens (view new.now)) ≡ true }
@@ -159,8 +159,8 @@ fn same_in_step(old: &Node<'_>, new: &Node<'_>) -> bool
     same_label(old, new) && all_same_in_step(old.children.as_slice(), new.children.as_slice())
 }
 
-/// Whether two lists of as many nodes are told to be the same one by one. Most of a page wasn't changed,
-/// and is told so here.
+/// Whether two lists of as many nodes are seen to be the same one by one. Most of a page wasn't changed,
+/// and this is seen here.
 #[cycle(in_step)]
 fn all_same_in_step(old: &[Node<'_>], new: &[Node<'_>]) -> bool
     ensures { result ≡ true → same_tokens (all_tokens (views old.now)) (all_tokens (views new.now)) ≡ true }

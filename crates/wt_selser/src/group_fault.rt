@@ -105,7 +105,7 @@ fn is_faulty(alloc: Global, pieces: &[Piece<'_>], group: &Node<'_>) -> Result<bo
     Ok(unended)
 }
 
-/// Whether a group of the page that stands here has a fault.
+/// Whether a group of the page at this place has a fault.
 fn is_faulty_at(
     alloc: Global,
     page: &Items<'_>,
