@@ -11,11 +11,11 @@ use Rattle.wt_template_stack.specs.Stacks.{with_given}
 -- where fewer bytes are left, they may be read twice and three steps be taken
 pub fewer_twice : (n m : ℕ) → n < m → most_steps n + most_steps n + 3 ≤ most_steps m
 fewer_twice n zero h = omega (arith, h)
-fewer_twice n (suc m) h = by_case (eq-or-lt_of_le {n = n} {m = m} (omega (arith, h)))
+fewer_twice n (suc m) h = by_case (eq-or-lt_of_le {n = n} {m = m} (omega (arith, h))) (λ l. fewer_twice n m l)
   where
-    by_case : (n ≡ m) ⊎ (n < m) → most_steps n + most_steps n + 3 ≤ most_steps (suc m)
-    by_case (inl e) = omega (arith, ap most_steps e)
-    by_case (inr l) = omega (arith, fewer_twice n m l)
+    by_case : (n ≡ m) ⊎ (n < m) → (n < m → most_steps n + most_steps n + 3 ≤ most_steps m) → most_steps n + most_steps n + 3 ≤ most_steps (suc m)
+    by_case (inl e) before = omega (arith, ap most_steps e)
+    by_case (inr l) before = omega (arith, before l)
 
 most_rise : (n m : ℕ) → n ≤ m → most_steps n ≤ most_steps m
 most_rise n m h = by_case (eq-or-lt_of_le {n = n} {m = m} h)

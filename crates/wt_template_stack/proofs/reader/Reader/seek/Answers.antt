@@ -7,8 +7,8 @@ returns-clause-reading c = λ mode bytes p s h before. record {
   read = h.read;
   at = record {
     at_is = refl;
-    lexeme_is = (c.seek.ensures.at p h.at before).lexeme_is;
-    call_is = (c.seek.ensures.at p h.at before).call_is;
+    lexeme_is = (c.seek-cursor.ensures.at p h.at before).lexeme_is;
+    call_is = (c.seek-cursor.ensures.at p h.at before).call_is;
   };
-  starts = c.seek.ensures.at_start ∙ ap (λ xs. starts xs c.args.to) h.read.text_is;
+  starts = c.seek-cursor.ensures.at_start ∙ ap (λ xs. starts xs c.args.to) h.read.text_is;
 }
