@@ -1,0 +1,4 @@
+pub mod KeptBlocks
+pub mod PageKinds
+pub mod SpotFacts
+pub mod PageTakes

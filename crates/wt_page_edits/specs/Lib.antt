@@ -1,0 +1,2 @@
+pub mod PageEdits
+pub mod Unmarked
