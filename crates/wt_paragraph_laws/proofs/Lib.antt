@@ -1,3 +1,7 @@
 pub mod Joining
 pub mod Standing
 pub mod Paragraphs
+pub mod SpotsReading
+pub mod SpotsMeaning
+pub mod SpotsTrees
+pub mod SpotsAgain

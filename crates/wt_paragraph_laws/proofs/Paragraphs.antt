@@ -57,7 +57,7 @@ ended_parts q (y ∷ ys) h b e =
     (ap body_parts (sym (append-nil T)) ∙ ap (λ rs. body_parts (rs ++ [])) (sym (append-nil T)) ∙ own_parts 1 q h b)
     ∙ ap (λ ps. node (para_of (page_items q)) ∷ sep ∷ ps) (sym (breaks_first (y ∷ []) ys (e, tt)))
 
-paragraph_parts : (q : List ℕ) (tail : List Item) → IsTypedPage q → EndsParagraph tail
+pub paragraph_parts : (q : List ℕ) (tail : List Item) → IsTypedPage q → EndsParagraph tail
     → body_parts (rows (page_items q ++ tail)) ≡ node (para_of (page_items q)) ∷ parts_behind tail
 unfolding rows
 paragraph_parts q [] h e =

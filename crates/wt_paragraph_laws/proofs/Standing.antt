@@ -20,7 +20,7 @@ use Rattle.wt_paragraph_laws.proofs.Joining.{none_open, rows_before}
 
 -- ---- an empty line before items
 
-empty_line : (xs : List Item) (b : Item) (ys : List Item) → AreClosed xs → is_break_item b ≡ true
+pub empty_line : (xs : List Item) (b : Item) (ys : List Item) → AreClosed xs → is_break_item b ≡ true
     → body_parts (rows (xs ++ b ∷ ys)) ≡ body_parts (written_rows 0 (full_lines xs)) ++ (parts Sep (b ∷ []) ++ body_parts (rows ys))
 empty_line xs b ys h e =
     let made : List Row = written_rows 0 (full_lines xs) in
@@ -35,7 +35,7 @@ node_last t (node u) = refl
 node_first : (t : ItemTree) (p : Part) → one_leaf (node t) p ≡ false
 node_first t p = refl
 
-round_node : (t : ItemTree) (ps qs : List Part) → children (ps ++ node t ∷ qs) ≡ children ps ++ t ∷ children qs
+pub round_node : (t : ItemTree) (ps qs : List Part) → children (ps ++ node t ∷ qs) ≡ children ps ++ t ∷ children qs
 unfolding children
 round_node t ps qs =
     ap (map child) (runs_alone one_leaf (node t) ps qs (node_last t) (node_first t))
