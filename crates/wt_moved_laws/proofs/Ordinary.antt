@@ -9,14 +9,14 @@ use Rattle.wt_tree.specs.Recut.{is_blank, text_leaf, sep_leaf, is_text, is_borde
 use Rattle.wt_tree.specs.Tiling.{is_group, HasNoGroup, NoneIsGroup}
 use Rattle.wt_tree.specs.Tree.{Tree, tree, Trees, none, more, label}
 use Rattle.wt_span.specs.Items.{Item}
-use Rattle.wt_checks.specs.PutBack.{is_frame, has_frame, have_frame}
+use Rattle.wt_checks.specs.PutBack.{has_frame, have_frame}
 use Rattle.wt_inline.specs.ItemTree.{ItemTree, inner, ItemTrees, nothing, further, tree_items}
 use Rattle.wt_annotated.specs.Annotated.{unplaced, all_unplaced}
 use Rattle.wt_annotated.specs.CutTexts.{cut_as, cut_texts, all_cut_texts}
 use Rattle.wt_annotated.specs.Labels.{label_at}
 use Rattle.wt_annotated.specs.Numbering.{next_after, count, with_numbers, all_with_numbers}
 use Rattle.wt_annotated.specs.WithoutCalls.{inside_by, placed, all_placed}
-use Rattle.wt_moved_laws.specs.Standing.{standing, all_standing, IsOrdinary, AreOrdinary}
+use Rattle.wt_moved_laws.specs.Standing.{standing, IsOrdinary, AreOrdinary}
 
 either : (v : Bool) (us vs : Trees) → AreOrdinary us → AreOrdinary vs → AreOrdinary (cond v us vs)
 either true us vs h k = h
@@ -67,9 +67,12 @@ as_ordinary OwnCharacter us h = h
 
 mutual
   texts_ordinary : (t : Tree) → IsOrdinary t → IsOrdinary (cut_texts t)
-  texts_ordinary (tree l ts) h =
-      (h.0, h.1, either (is_group l.kind) ts (cut_as (texts_of_kind l.kind) (all_cut_texts ts)) h.2
-      (as_ordinary (texts_of_kind l.kind) (all_cut_texts ts) (all_texts_ordinary ts h.2)))
+  texts_ordinary (tree l ts) h = (
+    h.0,
+    h.1,
+    either (is_group l.kind) ts (cut_as (texts_of_kind l.kind) (all_cut_texts ts)) h.2
+        (as_ordinary (texts_of_kind l.kind) (all_cut_texts ts) (all_texts_ordinary ts h.2)),
+  )
 
   all_texts_ordinary : (ts : Trees) → AreOrdinary ts → AreOrdinary (all_cut_texts ts)
   all_texts_ordinary none h = tt

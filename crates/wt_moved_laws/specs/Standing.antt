@@ -4,18 +4,14 @@ use Rattle.wt_tree.specs.Tiling.{is_group}
 use Rattle.wt_tree.specs.Tree.{Tree, tree, Trees, none, more}
 use Rattle.wt_checks.specs.PutBack.{is_frame}
 use Rattle.wt_span.specs.Items.{Item}
-use Rattle.wt_inline.specs.ItemTree.{ItemTree, ItemTrees}
-use Rattle.wt_annotated.specs.CutTexts.{cut_texts, all_cut_texts}
-use Rattle.wt_annotated.specs.Numbering.{with_numbers, all_with_numbers}
-use Rattle.wt_annotated.specs.WithoutCalls.{placed, all_placed}
+use Rattle.wt_inline.specs.ItemTree.{ItemTree}
+use Rattle.wt_annotated.specs.CutTexts.{cut_texts}
+use Rattle.wt_annotated.specs.Numbering.{with_numbers}
+use Rattle.wt_annotated.specs.WithoutCalls.{placed}
 
--- With this number, or the first free one behind it, where it stands behind these items of the page.
+-- with this number, where it has one, behind these items of the page
 abbrev pub standing : ℕ → List Item → ItemTree → Tree
 standing n before t = cut_texts (with_numbers n (placed before t))
-
--- nodes one after the other
-abbrev pub all_standing : ℕ → List Item → ItemTrees → Trees
-all_standing n before ts = all_cut_texts (all_with_numbers n (all_placed before ts))
 
 -- neither a body nor a section nor a group, nor is anything in it
 abbrev mutual

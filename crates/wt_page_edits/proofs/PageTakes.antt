@@ -97,7 +97,7 @@ facts_of pages e h =
     let ss : List Spot = old_spots e.spots in
     let page : List ℕ = old_page e in
     let ordinary = page_ordinary pages page (page_blocks ss e.behind) (spots_utf8 ss e.behind h.are_spots) (spots_unrefused pages ss e.behind h.are_spots)
-        (spots_expanded pages ss e.behind h.are_spots) (spots_meaning ss e.behind h.are_spots) in
+    (spots_expanded pages ss e.behind h.are_spots) (spots_meaning ss e.behind h.are_spots) in
     facts_all (page_items page) e.spots e.others e.behind h.before h.behind (ordinary_parts ss e.behind ordinary) (are_typed ss e.behind h.are_spots)
     1 [] (omega arith) (spots_clear ss e.behind h.are_spots)
 

@@ -89,7 +89,7 @@ facts_spot xs e ds vs was now shown n before sent o own le clear k =
     let end : Plains = paragraph_shown (sent_shown e.sending q) shown in
     let its : blocks_source ts ≡ front = part_source front in
     let P : List ℕ → Type 0 = λ bs. Facts xs n before (all_kept e.others ++ e.sending ∷ ds) (ts ++ t ∷ vs) (bs ++ (q ++ was))
-        (bs ++ (new_paragraph e.sending q ++ now)) (blocks_shown ts end) in
+    (bs ++ (new_paragraph e.sending q ++ now)) (blocks_shown ts end) in
     subst P its
     (facts_others xs e.others ts sent o (e.sending ∷ ds) (t ∷ vs) (q ++ was) (new_paragraph e.sending q ++ now) end n before
     (λ m after more is.
