@@ -23,7 +23,7 @@ use Rattle.wt_prose.specs.ProseEdits.{Sending, kept}
 use Rattle.wt_prose.proofs.ProseTrees.{blocks_of, number_behind, items_behind}
 use Rattle.wt_prose.proofs.BlockFacts.{behind_source, behind_width, sent_of, Facts, facts_nothing}
 use Rattle.wt_prose.proofs.ProseFacts.{regrouped, plains_of}
-use Rattle.wt_paragraph_laws.specs.Spots.{blocks_in}
+use Rattle.wt_paragraph_laws.specs.Between.{blocks_in}
 use Rattle.wt_page_edits.specs.PageEdits.{all_kept}
 
 -- ---- what blocks show, and their source

@@ -25,7 +25,7 @@ use Rattle.wt_page_round_trip.proofs.ShownNodes.{NodeIsShown, IsOrdered, IsShown
 use Rattle.wt_edit.specs.Edits.{refusal_of_page}
 use Rattle.wt_text_edits.specs.LonePages.{of_items}
 use Rattle.wt_moved_laws.specs.Standing.{IsOrdinary, AreOrdinary}
-use Rattle.wt_paragraph_laws.specs.Spots.{body_with}
+use Rattle.wt_paragraph_laws.specs.Between.{body_with}
 
 -- ---- a node that is shown in another
 

@@ -1,6 +1,5 @@
 -- What holds of all blocks of a page in whose paragraphs texts were typed, and what the new page shows.
-use Rattle.std.proofs.Common.{arith, ◌≡◌, ℕ, ◌+◌, ◌≤◌, false, None, List, [], ◌∷◌, ◌++◌, length, refl, sym, ap, ap₂, ◌∙◌, subst, append-nil, append_assoc, inl, inr}
-use Rattle.std.specs.Prelude.{◌⊎◌}
+use Rattle.std.proofs.Common.{arith, ◌≡◌, ℕ, ◌+◌, ◌≤◌, false, None, List, [], ◌∷◌, ◌++◌, length, refl, sym, ap, ap₂, ◌∙◌, subst, append-nil}
 use Rattle.std.specs.List.{flat_map}
 use Rattle.std.proofs.lemmas.Grind.{flat_map-append}
 use Rattle.wt_tree.specs.declared.kind.Kind.TheVariants as kind
@@ -23,8 +22,9 @@ use Rattle.wt_prose.specs.ProseEdits.{Sending, new_paragraph}
 use Rattle.wt_prose.proofs.ProseTrees.{held, number_behind, items_behind}
 use Rattle.wt_prose.proofs.BlockFacts.{held_source, paragraph_shown, Facts, facts_nothing}
 use Rattle.wt_prose.proofs.ProseFacts.{sent_shown, paragraph_is, facts_paragraph, own_of, plains_of, sent_same, new_typed}
-use Rattle.wt_paragraph_laws.specs.Spots.{Spot, spots_source, blocks_in, page_blocks, EndsEmpty, IsSpot, AreFurther, AreSpots, SameRound, AllTyped}
-use Rattle.wt_paragraph_laws.proofs.SpotsAgain.{clear_behind}
+use Rattle.wt_paragraph_laws.specs.Between.{blocks_in}
+use Rattle.wt_paragraph_laws.specs.Spots.{Spot, spots_source, page_blocks, AreFurther, AreSpots, SameRound, AllTyped}
+use Rattle.wt_paragraph_laws.proofs.SpotsAgain.{clear_behind, clear_first}
 use Rattle.wt_paragraph_laws.proofs.SpotsTrees.{leafy_blocks}
 use Rattle.wt_page_edits.specs.PageEdits.{SpotEdit, old_spots, new_spots, all_kept, spot_sendings, IsSentFor, AreSentFor, AreTexts}
 use Rattle.wt_page_edits.proofs.KeptBlocks.{blocks_shown, blocks_source, part_source, facts_others, others_show}
@@ -40,15 +40,11 @@ AreClear front (s ∷ ss) = (ends_open (front ++ s.before) ≡ false) × AreClea
 further_clear : (front : List ℕ) (ss : List Spot) (behind : List ℕ) → AreFurther ss behind → AreClear front ss
 further_clear front [] behind h = tt
 further_clear front (s ∷ ss) behind h =
-    (clear_behind front s.before h.2, further_clear ((front ++ s.before) ++ s.paragraph) ss behind h.3)
-
-first_clear : (bs : List ℕ) → (bs ≡ []) ⊎ EndsEmpty (page_items bs) → ends_open bs ≡ false
-first_clear bs (inl e) = ap ends_open e
-first_clear bs (inr h) = clear_behind [] bs h
+    (clear_behind front s.before h.0.before.ends h.1, further_clear ((front ++ s.before) ++ s.paragraph) ss behind h.3)
 
 pub spots_clear : (ss : List Spot) (behind : List ℕ) → AreSpots ss behind → AreClear [] ss
 spots_clear [] behind h = absurd h
-spots_clear (s ∷ ss) behind h = (first_clear s.before h.1, further_clear (s.before ++ s.paragraph) ss behind h.2)
+spots_clear (s ∷ ss) behind h = (clear_first s.before h.0.before.ends, further_clear (s.before ++ s.paragraph) ss behind h.2)
 
 abbrev IsOrdinaryPart : List ℕ → Type 0
 IsOrdinaryPart part = AreOrdinary (all_unplaced (forest (blocks_in (page_items part))))

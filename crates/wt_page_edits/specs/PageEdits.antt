@@ -5,7 +5,8 @@ use Rattle.wt_checks.specs.Kept.{children}
 use Rattle.wt_expand.specs.PageItems.{page_items}
 use Rattle.wt_typed_blocks.specs.Sent.{new_body}
 use Rattle.wt_prose.specs.ProseEdits.{Sending, kept, new_paragraph, sent_children, AreKept, IsText}
-use Rattle.wt_paragraph_laws.specs.Spots.{Spot, spots_source, blocks_in, part_tree, AreSpots}
+use Rattle.wt_paragraph_laws.specs.Between.{blocks_in}
+use Rattle.wt_paragraph_laws.specs.Spots.{Spot, spots_source, part_tree, AreSpots}
 
 -- ---- what is done to a page
 

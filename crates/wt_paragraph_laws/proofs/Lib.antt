@@ -1,3 +1,4 @@
+pub mod Apart
 pub mod Joining
 pub mod Standing
 pub mod Paragraphs
@@ -5,3 +6,4 @@ pub mod SpotsReading
 pub mod SpotsMeaning
 pub mod SpotsTrees
 pub mod SpotsAgain
+mod Cases

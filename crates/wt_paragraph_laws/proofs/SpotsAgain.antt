@@ -1,22 +1,20 @@
 -- Pages with typed paragraphs: they are UTF-8, no tag is open where a paragraph begins, and with other typed texts they are such pages again.
-use Rattle.std.proofs.Common.{arith, ◌≡◌, ℕ, true, false, List, [], ◌∷◌, ◌++◌, refl, sym, ap, ◌∙◌, subst, append_assoc, inl, inr}
-use Rattle.std.specs.Prelude.{◌⊎◌, ◌==◌, not}
+use Rattle.std.proofs.Common.{◌≡◌, ℕ, false, List, [], ◌∷◌, ◌++◌, refl, sym, ap, ◌∙◌, subst, append_assoc}
+use Rattle.std.specs.Prelude.{not}
 use Rattle.std.specs.List.{prefix_len}
-use Rattle.std.proofs.lemmas.List.{reverse-append}
 use Rattle.std.specs.Str.{IsUtf8}
+use Rattle.std.proofs.lemmas.List.{reverse-append}
 use Rattle.std.proofs.lemmas.Str.{IsUtf8-append}
-use Rattle.std.proofs.lemmas.Grind.{flat_map-append}
-use Rattle.std.proofs.lemmas.Bool.Decides.{nat_tests}
-use Rattle.wt_span.specs.Bytes.{is_break}
-use Rattle.wt_span.specs.Items.{Item, char, whole, source, sources}
-use Rattle.wt_lines.specs.Lines.{is_break_item}
+use Rattle.wt_span.specs.Characters as byte
 use Rattle.wt_isolation.specs.OpenTags.{is_stop, bare_len, ends_open}
 use Rattle.wt_isolation.proofs.OpenTags.{none_bare_here}
 use Rattle.wt_expand.specs.PageItems.{page_items}
-use Rattle.wt_expand.proofs.PageLaws.{page_sources}
 use Rattle.wt_text_edits.specs.TypedPages.{IsTypedPage}
 use Rattle.wt_text_edits.proofs.SpelledUtf8.{spelled_utf8}
-use Rattle.wt_paragraph_laws.specs.Spots.{Spot, spots_source, EndsEmpty, BeginsEmptily, IsSpot, AreFurther, AreSpots, SameRound, AllTyped}
+use Rattle.wt_prose.proofs.InFront.{reads_nothing, read_items}
+use Rattle.wt_text_between.specs.Between.{EndsLine}
+use Rattle.wt_paragraph_laws.specs.Between.{EndsApart}
+use Rattle.wt_paragraph_laws.specs.Spots.{Spot, spots_source, BeginsApart, IsSpot, AreFurther, AreSpots, SameRound, AllTyped}
 
 -- ---- UTF-8
 
@@ -34,26 +32,25 @@ pub spots_utf8 : (ss : List Spot) (behind : List ℕ) → AreSpots ss behind →
 spots_utf8 [] behind h = absurd h
 spots_utf8 (s ∷ ss) behind h = spot_utf8 s (spots_source ss behind) h.0 (further_utf8 ss behind h.2)
 
--- ---- no tag is open behind an empty line
+-- ---- no tag is open behind a line
 
-break_byte : (b : ℕ) → is_break b ≡ true → b ≡ 10
-break_byte b e = grind (arith, nat_tests)
+break_clear : (bs : List ℕ) → ends_open (bs ++ byte.line_break ∷ []) ≡ false
+break_clear bs =
+    let z : bare_len (bs ++ byte.line_break ∷ []) ≡ 0 = ap (prefix_len (λ b. not (is_stop b))) (reverse-append bs (byte.line_break ∷ [])) in
+    sym (none_bare_here (bs ++ byte.line_break ∷ []) (bare_len (bs ++ byte.line_break ∷ [])) refl z)
 
-break_source : (x : Item) → is_break_item x ≡ true → source x ≡ 10 ∷ []
-break_source (char o b) e = ap (λ (c : ℕ). c ∷ []) (break_byte b e)
-break_source (whole f o bs) e = cc
+lines_clear : (front : List ℕ) (b : ℕ) (bs : List ℕ) → EndsLine (b ∷ bs) → ends_open (front ++ b ∷ bs) ≡ false
+lines_clear front b [] e = ap (λ (c : ℕ). ends_open (front ++ c ∷ [])) e ∙ break_clear front
+lines_clear front b (c ∷ bs) e = ap ends_open (sym (append_assoc front (b ∷ []) (c ∷ bs))) ∙ lines_clear (front ++ b ∷ []) c bs e
 
-chars_clear : (bs : List ℕ) → ends_open (bs ++ 10 ∷ []) ≡ false
-chars_clear bs =
-    let z : bare_len (bs ++ 10 ∷ []) ≡ 0 = ap (prefix_len (λ b. not (is_stop b))) (reverse-append bs (10 ∷ [])) in
-    sym (none_bare_here (bs ++ 10 ∷ []) (bare_len (bs ++ 10 ∷ [])) refl z)
+-- at the page's start, and behind a paragraph
+pub clear_first : (bs : List ℕ) → EndsLine bs → ends_open bs ≡ false
+clear_first [] e = refl
+clear_first (b ∷ bs) e = lines_clear [] b bs e
 
-pub clear_behind : (front bs : List ℕ) → EndsEmpty (page_items bs) → ends_open (front ++ bs) ≡ false
-clear_behind front bs h =
-    let own : List ℕ = sources h.others in
-    let is : bs ≡ own ++ 10 ∷ [] =
-    sym (page_sources bs) ∙ ap sources h.is ∙ flat_map-append source h.others (h.last ∷ []) ∙ ap (λ cs. own ++ (cs ++ [])) (break_source h.last h.is_break) in
-    ap (λ cs. ends_open (front ++ cs)) is ∙ ap ends_open (sym (append_assoc front own (10 ∷ []))) ∙ chars_clear (front ++ own)
+pub clear_behind : (front bs : List ℕ) → EndsLine bs → BeginsApart (page_items bs) → ends_open (front ++ bs) ≡ false
+clear_behind front [] e h = absurd (subst BeginsApart (read_items [] [] reads_nothing) h)
+clear_behind front (b ∷ bs) e h = lines_clear front b bs e
 
 -- ---- with other texts
 
@@ -68,8 +65,8 @@ further_again [] (r ∷ rs) behind h e t = absurd e
 further_again (s ∷ ss) [] behind h e t = absurd e
 further_again (s ∷ ss) (r ∷ rs) behind h e t = (
   spot_again s r h.0 e.0 t.0,
-  subst (λ bs. BeginsEmptily (page_items bs)) (sym e.0) h.1,
-  subst (λ bs. EndsEmpty (page_items bs)) (sym e.0) h.2,
+  subst (λ bs. BeginsApart (page_items bs)) (sym e.0) h.1,
+  subst (λ bs. EndsApart (page_items bs)) (sym e.0) h.2,
   further_again ss rs behind h.3 e.1 t.1,
 )
 
@@ -78,6 +75,6 @@ spots_again [] rs behind h e t = absurd h
 spots_again (s ∷ ss) [] behind h e t = absurd e
 spots_again (s ∷ ss) (r ∷ rs) behind h e t = (
   spot_again s r h.0 e.0 t.0,
-  subst (λ bs. (bs ≡ []) ⊎ EndsEmpty (page_items bs)) (sym e.0) h.1,
+  subst (λ bs. EndsApart (page_items bs)) (sym e.0) h.1,
   further_again ss rs behind h.2 e.1 t.1,
 )

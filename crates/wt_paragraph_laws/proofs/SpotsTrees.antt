@@ -1,7 +1,5 @@
 -- The tree of a page with typed paragraphs: the nodes of its parts and its paragraphs, by numbers and places.
 use Rattle.std.proofs.Common.{◌≡◌, ℕ, List, [], ◌∷◌, ◌++◌, refl, sym, ap, ◌∙◌, subst, append-nil, append_assoc, inl, inr}
-use Rattle.std.specs.Str.{IsUtf8}
-use Rattle.std.proofs.lemmas.Str.{IsUtf8-append}
 use Rattle.wt_tree.specs.declared.kind.Kind.TheVariants as kind
 use Rattle.wt_tree.specs.Tiling.{HasNoGroup, NoneIsGroup}
 use Rattle.wt_tree.specs.Tree.{tree}
@@ -22,7 +20,8 @@ use Rattle.wt_text_edits.proofs.TypedLeaves.{leaves, leaves_para, para_leaves}
 use Rattle.wt_text_edits.proofs.TypedShown.{AllOfPage, both_of_page, is_plain_page}
 use Rattle.wt_prose.proofs.ProseTexts.{written}
 use Rattle.wt_prose.proofs.ProseTrees.{blocks_of}
-use Rattle.wt_paragraph_laws.specs.Spots.{Spot, spots_source, blocks_in, page_blocks, body_with, part_tree, HasNoGroups, AreFurther, AreSpots, SameRound, AllTyped}
+use Rattle.wt_paragraph_laws.specs.Between.{blocks_in, body_with}
+use Rattle.wt_paragraph_laws.specs.Spots.{Spot, spots_source, page_blocks, part_tree, HasNoGroups, AreFurther, AreSpots, AllTyped}
 use Rattle.wt_paragraph_laws.proofs.SpotsMeaning.{spots_meaning, part_meaning}
 
 -- ---- by leaves

@@ -1,22 +1,20 @@
 -- A page with typed paragraphs among any other blocks: its parts, one after the other, and what each makes.
-use Rattle.std.specs.Prelude.{◌≡◌, ◌⊎◌, ℕ, true, None, List, [], ◌∷◌, ◌++◌}
+use Rattle.std.specs.Prelude.{◌≡◌, ℕ, false, None, List, [], ◌∷◌, ◌++◌}
 use Rattle.std.specs.Str.{IsUtf8}
-use Rattle.wt_tree.specs.declared.kind.Kind.TheVariants as kind
 use Rattle.wt_tree.specs.Tiling.{HasNoGroup}
 use Rattle.wt_tree.specs.Tree.{Tree}
 use Rattle.wt_span.specs.Items.{Item, char}
-use Rattle.wt_lines.specs.Lines.{is_break_item}
-use Rattle.wt_inline.specs.ItemTree.{plain, ItemTree, inner, forest}
-use Rattle.wt_inline.specs.Parts.{children}
-use Rattle.wt_page.specs.Rows.{rows}
-use Rattle.wt_page.specs.Body.{body_parts, meaning}
+use Rattle.wt_blocks.specs.Paragraphs.{is_text}
+use Rattle.wt_inline.specs.ItemTree.{ItemTree}
+use Rattle.wt_page.specs.Rows.{Row}
+use Rattle.wt_page.specs.Body.{meaning}
 use Rattle.wt_expand.specs.PageItems.{page_items}
 use Rattle.wt_annotated.specs.Annotated.{annotated}
 use Rattle.wt_annotated.specs.GroupData.{group_data}
 use Rattle.wt_text_edits.specs.LonePages.{para_of}
 use Rattle.wt_text_edits.specs.TypedPages.{IsTypedPage}
 use Rattle.wt_text_between.specs.Between.{StandsBefore, StandsBehind}
-use Rattle.wt_paragraph_laws.specs.Between.{AreClosed, EndsParagraph}
+use Rattle.wt_paragraph_laws.specs.Between.{rows_of_lines, AreClosed, EndsApart, EndsParagraph, blocks_in}
 
 -- ---- the page's source
 
@@ -33,32 +31,21 @@ spots_source (s ∷ ss) behind = s.before ++ (s.paragraph ++ spots_source ss beh
 
 -- ---- what it means
 
--- the blocks that items make by themselves, with the separators round them
-abbrev pub blocks_in : List Item → List ItemTree
-blocks_in xs = children (body_parts (rows xs))
-
 abbrev pub page_blocks : List Spot → List ℕ → List ItemTree
 page_blocks [] behind = blocks_in (page_items behind)
 page_blocks (s ∷ ss) behind = blocks_in (page_items s.before) ++ para_of (page_items s.paragraph) ∷ page_blocks ss behind
 
-abbrev pub body_with : List ItemTree → ItemTree
-body_with ts = inner (plain kind.Body) [] (forest ts) []
-
 -- ---- where the parts stand by themselves
 
--- whole lines behind which no table is open, and an empty line
-pub record EndsEmpty (xs : List Item) : Type 0 where
-  pub others : List Item
-  pub last : Item
-  pub is : xs ≡ others ++ last ∷ []
-  pub are_closed : AreClosed others
-  pub is_break : is_break_item last ≡ true
+-- there is a row, and the first isn't text
+abbrev pub SomeApart : List Row → Type 0
+SomeApart [] = ⊥
+SomeApart (r ∷ rs) = is_text r.kind ≡ false
 
--- the line break that ends a paragraph, and an empty line
-abbrev pub BeginsEmptily : List Item → Type 0
-BeginsEmptily [] = ⊥
-BeginsEmptily (x ∷ []) = ⊥
-BeginsEmptily (x ∷ y ∷ ys) = (x ≡ char None 10) × (is_break_item y ≡ true)
+-- the line break that ends a paragraph, and whole lines, of which the first isn't text
+abbrev pub BeginsApart : List Item → Type 0
+BeginsApart [] = ⊥
+BeginsApart (x ∷ xs) = (x ≡ char None 10) × AreClosed xs × SomeApart (rows_of_lines xs)
 
 -- the tree of this part as a page by itself, without sections
 abbrev pub part_tree : List ℕ → Tree
@@ -83,12 +70,12 @@ pub record IsEnd (behind : List ℕ) : Type 0 where
 -- behind a paragraph
 abbrev pub AreFurther : List Spot → List ℕ → Type 0
 AreFurther [] behind = IsEnd behind
-AreFurther (s ∷ ss) behind = IsSpot s × BeginsEmptily (page_items s.before) × EndsEmpty (page_items s.before) × AreFurther ss behind
+AreFurther (s ∷ ss) behind = IsSpot s × BeginsApart (page_items s.before) × EndsApart (page_items s.before) × AreFurther ss behind
 
--- There is one paragraph at least. Nothing stands before the first, or other blocks and an empty line, as between all others.
+-- There is one paragraph at least; nothing need stand before the first.
 abbrev pub AreSpots : List Spot → List ℕ → Type 0
 AreSpots [] behind = ⊥
-AreSpots (s ∷ ss) behind = IsSpot s × ((s.before ≡ []) ⊎ EndsEmpty (page_items s.before)) × AreFurther ss behind
+AreSpots (s ∷ ss) behind = IsSpot s × EndsApart (page_items s.before) × AreFurther ss behind
 
 -- ---- pages that are the same but for their paragraphs
 

@@ -1,11 +1,9 @@
 //! Laws of a typed paragraph of a page, whatever stands before and behind it.
 #![tactic(auto)]
 
-ghost use Rattle.std.specs.Prelude.{◌≡◌, ℕ, true, None, List, [], ◌∷◌, ◌++◌};
+ghost use Rattle.std.specs.Prelude.{◌≡◌, ℕ, None, List, ◌++◌};
 ghost use Rattle.std.specs.Str.{IsUtf8};
 ghost use Rattle.wt_span.specs.Items.{Item};
-ghost use Rattle.wt_lines.specs.Lines.{is_break_item};
-ghost use Rattle.wt_inline.specs.Parts.{children};
 ghost use Rattle.wt_page.specs.Body.{meaning};
 ghost use Rattle.wt_devices.specs.Device.{Pages};
 ghost use Rattle.wt_expand.specs.PageCalls.{expanded_page};
@@ -15,23 +13,20 @@ ghost use Rattle.wt_annotated.specs.WithoutCalls.{annotated};
 ghost use Rattle.wt_edit.specs.Edits.{refusal_of_page};
 ghost use Rattle.wt_text_edits.specs.LonePages.{of_items};
 ghost use Rattle.wt_text_edits.specs.TypedPages.{IsTypedPage};
-ghost use Rattle.wt_paragraph_laws.specs.Between.{AreClosed, EndsParagraph, children_before, parts_behind, body_round};
-ghost use Rattle.wt_paragraph_laws.specs.Spots.{Spot, spots_source, page_blocks, body_with, part_tree, AreSpots, SameRound, AllTyped};
+ghost use Rattle.wt_paragraph_laws.specs.Between.{EndsApart, EndsParagraph, blocks_in, body_with, body_round};
+ghost use Rattle.wt_paragraph_laws.specs.Spots.{Spot, spots_source, page_blocks, part_tree, AreSpots, SameRound, AllTyped};
 
-/// A typed paragraph that stands behind an empty line, or at the page's start, and before an empty line or the
-/// page's end, outside tables, is a paragraph of the body; and the body's other children hang on what stands before
-/// and behind it alone, and not on its text.
-#[tactic(auto, using(crate::proofs::Paragraphs::between, crate::proofs::Paragraphs::at_start))]
+/// A typed paragraph that stands behind lines that leave no table open and end with no text, or at the page's start,
+/// and before something else than text, or the page's end, is a paragraph of the body. The body's other children are
+/// those that what stands before it and what stands behind it make by themselves, whatever its text is.
+#[tactic(auto, using(crate::proofs::Paragraphs::stands_between))]
 pub fn typed_paragraph_stands_by_itself()
-    ensures between { (xs : List Item) (a : Item) (q : List ℕ) (tail : List Item) → AreClosed xs → is_break_item a ≡ true → IsTypedPage q
-        → EndsParagraph tail
-        → meaning (xs ++ a ∷ (page_items q ++ tail)) ≡ body_round (children_before xs a) (page_items q) (children (parts_behind tail)) }
-    ensures first { (q : List ℕ) (tail : List Item) → IsTypedPage q → EndsParagraph tail
-        → meaning (page_items q ++ tail) ≡ body_round [] (page_items q) (children (parts_behind tail)) }
+    ensures { (xs : List Item) (q : List ℕ) (tail : List Item) → EndsApart xs → IsTypedPage q → EndsParagraph tail
+        → meaning (xs ++ (page_items q ++ tail)) ≡ body_round (blocks_in xs) (page_items q) (blocks_in tail) }
 {}
 
-/// A page of typed paragraphs among any other blocks, with empty lines round them, has what each of its parts makes
-/// as a page by itself, and the paragraphs between. It calls nothing, whatever the folder has, and nothing refuses
+/// A page of typed paragraphs among any other blocks has what each of its parts makes as a page by itself, and the
+/// paragraphs between. It calls nothing, whatever the folder has, and nothing refuses
 /// it. With any other typed paragraphs it is such a page again, so its other blocks stay what they were, and where
 /// they stand hangs on how long the paragraphs before them are.
 #[tactic(auto, using(crate::proofs::SpotsReading::spots_expanded, crate::proofs::SpotsReading::spots_unrefused, crate::proofs::SpotsMeaning::spots_meaning, crate::proofs::SpotsTrees::tree_of_spots, crate::proofs::SpotsAgain::spots_utf8, crate::proofs::SpotsAgain::spots_again))]
