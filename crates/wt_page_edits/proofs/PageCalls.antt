@@ -25,7 +25,7 @@ answer_is c e h s =
     ∙ ap (λ (given : Option (List ℕ)). answer_told (Some s.pages) given c.words) s.given
     ∙ command_takes_texts s.pages e c.words s.title s.input s.label s.unsourced s.words s.found h s.old_within s.new_within s.within s.reads
 
-held : Answer → List ℕ → List ℕ
+abbrev held : Answer → List ℕ → List ℕ
 held (done bytes) other = bytes
 held a other = other
 
