@@ -16,9 +16,9 @@ ghost use Rattle.wt_difference.specs.Difference.{
 ghost use Rattle.wt_difference.specs.Views.{child_views};
 
 use crate::insides::{Child, held, inside};
-use crate::tokens::{are_same, is_compared};
+use crate::tokens::are_same;
 use std::alloc::Global;
-use wt_checks::{Visit, original, same_attrs, same_kind};
+use wt_checks::{Visit, is_compared, original, same_attrs, same_kind};
 use wt_span::NoMemory;
 use wt_tree::Node;
 

@@ -11,5 +11,5 @@ mod tokens;
 pub use differing::{same_children, same_inside, stays_in};
 pub use insides::{Child, ends_inside, has_inside, held, inside, is_block_part};
 pub use laws::{comparisons, marks_alone, nothing_differs};
-pub use remarking::{has_mark, remark};
-pub use tokens::{are_same, is_compared};
+pub use remarking::remark;
+pub use tokens::are_same;

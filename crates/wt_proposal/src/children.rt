@@ -6,8 +6,9 @@ use std::alloc::Global;
 use wt_block_proposal::{
     Surroundings, is_cell, is_item, is_lined, is_list, is_part, push_block, signs_of,
 };
+use wt_checks::is_compared;
 use wt_content_proposal::{Known, last_text};
-use wt_difference::{Child, inside, is_compared};
+use wt_difference::{Child, inside};
 use wt_selser::Change;
 use wt_span::{NoMemory, Str};
 use wt_tree::{Kind, Node, same_kind};

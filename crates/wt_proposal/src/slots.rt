@@ -38,9 +38,9 @@ ghost use Rattle.wt_proposal.specs.Views.{slots_of, places_within};
 use crate::reached::Reached;
 use crate::slot::Slot;
 use std::alloc::Global;
-use wt_checks::{Visit, original};
+use wt_checks::{Visit, is_compared, original};
 use wt_difference::{
-    Child, ends_inside, has_inside, held, inside, is_block_part, is_compared, same_inside, stays_in,
+    Child, ends_inside, has_inside, held, inside, is_block_part, same_inside, stays_in,
 };
 use wt_span::{NoMemory, Text};
 use wt_tree::{Node, Ranges};
