@@ -1,5 +1,5 @@
 -- Worked cases of pages with typed paragraphs, and of what may stand round these, by computing.
-use Rattle.std.proofs.Common.{◌≡◌, ℕ, true, None, List, [], ◌∷◌, refl, inr}
+use Rattle.std.proofs.Common.{◌≡◌, None, List, [], ◌∷◌, refl, inr}
 use Rattle.std.specs.Prelude.{codes}
 use Rattle.wt_span.specs.Comments.{comment_len, comment_line_len}
 use Rattle.wt_span.specs.Entities.{named_entity, entity_names, decimal_entity, hex_entity, entity_at}

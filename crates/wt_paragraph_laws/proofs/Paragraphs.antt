@@ -3,15 +3,14 @@ use Rattle.std.proofs.Common.{◌≡◌, ℕ, true, None, List, [], ◌∷◌, �
 use Rattle.std.specs.List.{flat_map}
 use Rattle.std.specs.Prelude.{replicate}
 use Rattle.wt_span.specs.Items.{Item, char}
-use Rattle.wt_lines.specs.declared.kind.LineKind.TheVariants as line
 use Rattle.wt_lines.specs.declared.kind.TheConstants.{MOST_TABLES}
 use Rattle.wt_lines.specs.Lines.{is_break_item, full_lines}
 use Rattle.wt_inline.specs.declared.loose.Loose.TheVariants.{Sep}
 use Rattle.wt_inline.specs.ItemTree.{ItemTree}
-use Rattle.wt_inline.specs.Parts.{Part, node, parts, children}
+use Rattle.wt_inline.specs.Parts.{node, parts}
 use Rattle.wt_page.specs.Rows.{Row, rows, rows_from}
 use Rattle.wt_page.specs.Stretches.{stretch_parts}
-use Rattle.wt_page.specs.Body.{within, blocks, body_parts, meaning}
+use Rattle.wt_page.specs.Body.{blocks, body_parts, meaning}
 use Rattle.wt_expand.specs.PageItems.{page_items}
 use Rattle.wt_rows.proofs.Portions.{no_parts, breaks_first}
 use Rattle.wt_text_edits.specs.LonePages.{para_of}
@@ -20,9 +19,9 @@ use Rattle.wt_text_edits.proofs.PlainRows.{text_row}
 use Rattle.wt_prose.specs.ProsePages.{Passage}
 use Rattle.wt_prose.proofs.ProseReading.{break}
 use Rattle.wt_prose.proofs.ProseLines.{ended, first_ended, rest_ended, IsTextBlock, broken_rows, rows_broken, rows_last}
-use Rattle.wt_prose.proofs.ProseBlocks.{sep, passage_stretches, within_read, all_parts}
+use Rattle.wt_prose.proofs.ProseBlocks.{sep, within_read, all_parts}
 use Rattle.wt_prose.proofs.ProseTexts.{written}
-use Rattle.wt_paragraph_laws.specs.Between.{BeginApart, EndsApart, EndsParagraph, blocks_in, body_round}
+use Rattle.wt_paragraph_laws.specs.Between.{EndsApart, EndsParagraph, blocks_in, body_with, body_round}
 use Rattle.wt_paragraph_laws.proofs.Apart.{BeginsText, after_text}
 use Rattle.wt_paragraph_laws.proofs.Standing.{parts_in, parts_before, round_node, body_is}
 
@@ -94,4 +93,4 @@ pub stands_between : (xs : List Item) (q : List ℕ) (tail : List Item) → Ends
 stands_between xs q tail c h e =
     let t : ItemTree = para_of (page_items q) in
     body_is (xs ++ (page_items q ++ tail)) (parts_in xs ++ node t ∷ parts_in tail) (paragraph_between xs q tail c h e)
-    ∙ ap Rattle.wt_paragraph_laws.specs.Between.body_with (round_node t (parts_in xs) (parts_in tail))
+    ∙ ap body_with (round_node t (parts_in xs) (parts_in tail))

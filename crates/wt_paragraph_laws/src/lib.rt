@@ -1,4 +1,4 @@
-//! Laws of a typed paragraph of a page, whatever stands before and behind it.
+//! Laws of typed paragraphs among any other blocks of a page.
 #![tactic(auto)]
 
 ghost use Rattle.std.specs.Prelude.{◌≡◌, ℕ, None, List, ◌++◌};
@@ -16,9 +16,9 @@ ghost use Rattle.wt_text_edits.specs.TypedPages.{IsTypedPage};
 ghost use Rattle.wt_paragraph_laws.specs.Between.{EndsApart, EndsParagraph, blocks_in, body_with, body_round};
 ghost use Rattle.wt_paragraph_laws.specs.Spots.{Spot, spots_source, page_blocks, part_tree, AreSpots, SameRound, AllTyped};
 
-/// A typed paragraph that stands behind lines that leave no table open and end with no text, or at the page's start,
-/// and before something else than text, or the page's end, is a paragraph of the body. The body's other children are
-/// those that what stands before it and what stands behind it make by themselves, whatever its text is.
+/// A typed paragraph after lines that leave no table open and don't end with text, or at the page's start, and before
+/// something else than text, or the page's end, is a paragraph of the body. The body's other children are those that
+/// what comes before it and what comes after it make by themselves, whatever its text is.
 #[tactic(auto, using(crate::proofs::Paragraphs::stands_between))]
 pub fn typed_paragraph_stands_by_itself()
     ensures { (xs : List Item) (q : List ℕ) (tail : List Item) → EndsApart xs → IsTypedPage q → EndsParagraph tail
@@ -26,9 +26,9 @@ pub fn typed_paragraph_stands_by_itself()
 {}
 
 /// A page of typed paragraphs among any other blocks has what each of its parts makes as a page by itself, and the
-/// paragraphs between. It calls nothing, whatever the folder has, and nothing refuses
-/// it. With any other typed paragraphs it is such a page again, so its other blocks stay what they were, and where
-/// they stand hangs on how long the paragraphs before them are.
+/// paragraphs between. It calls nothing, whatever the folder has, and nothing refuses it. With any other typed
+/// paragraphs it is such a page again: its other blocks are what they were, and where they are depends only on how
+/// long the paragraphs before them are.
 #[tactic(auto, using(crate::proofs::SpotsReading::spots_expanded, crate::proofs::SpotsReading::spots_unrefused, crate::proofs::SpotsMeaning::spots_meaning, crate::proofs::SpotsTrees::tree_of_spots, crate::proofs::SpotsAgain::spots_utf8, crate::proofs::SpotsAgain::spots_again))]
 pub fn blocks_stand_round_typed_paragraphs()
     ensures expanded { (pages : Pages) (ss : List Spot) (behind : List ℕ) → AreSpots ss behind
