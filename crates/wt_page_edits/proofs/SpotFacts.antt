@@ -1,5 +1,5 @@
 -- What holds of all blocks of a page in whose paragraphs texts were typed, and what the new page shows.
-use Rattle.std.proofs.Common.{arith, ◌≡◌, ℕ, ◌+◌, ◌≤◌, false, None, List, [], ◌∷◌, ◌++◌, length, refl, sym, ap, ap₂, ◌∙◌, subst, append-nil}
+use Rattle.std.proofs.Common.{arith, ◌≡◌, ℕ, ◌+◌, ◌≤◌, false, None, List, [], ◌∷◌, ◌++◌, refl, sym, ap, ap₂, ◌∙◌, subst, append-nil}
 use Rattle.std.specs.List.{flat_map}
 use Rattle.std.proofs.lemmas.Grind.{flat_map-append}
 use Rattle.wt_tree.specs.declared.kind.Kind.TheVariants as kind
@@ -7,15 +7,14 @@ use Rattle.wt_tree.specs.Plain.{element, Plains, ended, along}
 use Rattle.wt_tree.specs.Tree.{Tree}
 use Rattle.wt_span.specs.Items.{Item, source, sources}
 use Rattle.wt_inline.specs.Carried.{shown_item}
-use Rattle.wt_inline.specs.ItemTree.{ItemTree, forest, tree_items}
+use Rattle.wt_inline.specs.ItemTree.{ItemTree, forest}
 use Rattle.wt_isolation.specs.OpenTags.{ends_open}
 use Rattle.wt_annotated.specs.Annotated.{all_unplaced}
 use Rattle.wt_annotated.specs.Labels.{label_at}
 use Rattle.wt_expand.specs.PageItems.{page_items}
 use Rattle.wt_moved_laws.specs.Standing.{AreOrdinary}
 use Rattle.wt_text_edits.specs.LonePages.{para_of}
-use Rattle.wt_text_edits.specs.TypedPages.{IsTypedPage}
-use Rattle.wt_text_edits.proofs.TypedLeaves.{AreOwn, Leaf, leaves, leaf_shown, leaf_source, leaves_shown, leaves_para}
+use Rattle.wt_text_edits.proofs.TypedLeaves.{AreOwn, Leaf, leaves, leaf_shown, leaves_shown, leaves_para}
 use Rattle.wt_text_edits.proofs.TypedShown.{leaves_show}
 use Rattle.wt_prose.specs.ProsePages.{Passage}
 use Rattle.wt_prose.specs.ProseEdits.{Sending, new_paragraph}
