@@ -57,7 +57,6 @@ pub fn unmarked_texts_are_taken()
 /// So every call that keeps what `run` promises (`Ends`, `EndsAsEdit`) ends, whatever else the page holds: `edit`
 /// has written the new page and no line, and `selser` is done; or a device failed, or memory ran out. Where no
 /// device failed, only want of memory may come in the place of the new page.
-#[tactic(auto, using(crate::proofs::PageCalls::edit_ends, crate::proofs::PageCalls::edit_completes, crate::proofs::PageCalls::selser_ends))]
 pub fn calls_take_any_texts()
     ensures edit { (c : Call) (ended : ℕ) (e : PageEdit) → IsPageEdit e → Sends c Edit e sent_page → Ends c ended
         → ((ended ≡ code status.Done) × Took c.out (new_page e) × Untouched c.err) ⊎ IsFaultOrNoMemory ended }
