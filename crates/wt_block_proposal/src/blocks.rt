@@ -236,16 +236,11 @@ fn push_item_of(
     }
 }
 
-/// The list that is all that a new item holds, where its line may be that of its first item, too.
-fn list_alone<'n, 'b>(
-    around: Surroundings<'_, '_, '_>,
-    item: &'n Node<'b>,
-) -> Option<&'n Node<'b>> {
-    let first = item.children.as_slice().first()?;
-    if around.keeps && item.id == 0 && is_list(first.kind) {
-        Some(first)
-    } else {
-        None
+/// Whether a new item holds lists alone, where its line may be that of their first item, too.
+fn holds_lists_alone(around: Surroundings<'_, '_, '_>, item: &Node<'_>) -> bool {
+    match item.children.as_slice().first() {
+        Some(first) => around.keeps && item.id == 0 && is_list(first.kind),
+        None => false,
     }
 }
 
@@ -257,7 +252,7 @@ fn push_first_item(
     around: Surroundings<'_, '_, '_>,
     item: &Node<'_>,
 ) -> Result<(), NoMemory> {
-    if list_alone(around, item).is_none() {
+    if !holds_lists_alone(around, item) {
         return push_item(alloc, out, around, item);
     }
     let mut is_first = true;

@@ -274,7 +274,7 @@ fn push_part_of(
 ) -> Result<(), NoMemory> {
     match gap.behind {
         Some(cell)
-            if place.end == gap.place.end
+            if place.end == range_of(cell).start
                 && is_doubled(page, cell)
                 && leaves_line_start(page, place.start, by.as_str()) => {
             by.push_str(if matches!(cell.kind, Kind::Th) {
