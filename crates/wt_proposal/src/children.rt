@@ -247,8 +247,13 @@ fn is_doubled_at(page: &str, at: usize) -> bool {
     (sign == b'|' || sign == b'!') && sign == byte_at(page, at.saturating_add(1))
 }
 
+/// Whether a node is such a cell. One with a single sign may hold nothing before the two of the next.
 fn is_doubled(page: &str, node: &Node<'_>) -> bool {
-    is_cell(node.kind) && is_doubled_at(page, range_of(node).start)
+    let width = match node.ranges {
+        Some(ranges) => ranges.open_w,
+        None => 0,
+    };
+    is_cell(node.kind) && width > 1 && is_doubled_at(page, range_of(node).start)
 }
 
 /// Whether what stands at a place of the page begins a line there.
