@@ -1,11 +1,11 @@
 -- A paragraph of one text, typed or written, is read the same before nothing and before a line break, and is a block of text.
-use Rattle.std.proofs.Common.{arith, ◌≡◌, ℕ, ◌==◌, Bool, true, false, Option, Some, None, List, [], ◌∷◌, ◌++◌, refl, sym, ap, ◌∙◌, subst, append-nil, append_assoc, inl, inr}
+use Rattle.std.proofs.Common.{◌≡◌, ℕ, Bool, true, false, Some, None, List, [], ◌∷◌, ◌++◌, refl, sym, ap, ◌∙◌, subst, append-nil, append_assoc, inl, inr}
 use Rattle.std.specs.Str.{IsUtf8}
 use Rattle.wt_span.specs.declared.form.Mode.TheVariants.{Page}
 use Rattle.wt_span.specs.declared.form.ItemForm.{ItemForm}
 use Rattle.wt_span.specs.declared.form.ItemForm.TheVariants as form
 use Rattle.wt_span.specs.Items.{Item, char, whole, sources}
-use Rattle.wt_span.specs.Lexemes.{Cut, cuts}
+use Rattle.wt_span.specs.Lexemes.{Cut}
 use Rattle.wt_lex.proofs.Cuts.{cuts_cons}
 use Rattle.wt_isolation.specs.OpenTags.{ends_open, EndsOpen}
 use Rattle.wt_isolation.proofs.OpenTags.{opened}
