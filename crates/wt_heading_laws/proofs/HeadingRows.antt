@@ -1,7 +1,6 @@
 -- A heading's line as a row and as a tree, before others and behind others.
-use Rattle.std.proofs.Common.{arith, ◌≡◌, ℕ, zero, suc, ◌+◌, ◌-◌, ◌≤◌, Bool, true, false, not, None, List, [], ◌∷◌, ◌++◌, length, take, drop, map, refl, sym, ap, ◌∙◌, subst, append-nil, append_assoc}
+use Rattle.std.proofs.Common.{arith, ◌≡◌, ℕ, zero, suc, ◌+◌, ◌≤◌, false, not, None, List, [], ◌∷◌, ◌++◌, length, take, drop, map, refl, sym, ap, ◌∙◌, subst, append-nil, append_assoc}
 use Rattle.std.specs.List.{flat_map}
-use Rattle.std.specs.Prelude.{replicate}
 use Rattle.std.proofs.Math.Seq.{take-append_seam, drop-append_seam, take-append-add, drop-append-add}
 use Rattle.std.proofs.lemmas.List.{map-append, length-replicate, length-map}
 use Rattle.wt_tree.specs.declared.kind.Kind.TheVariants as kind
@@ -10,7 +9,7 @@ use Rattle.wt_span.specs.Runs.{runs, IsRun}
 use Rattle.wt_span.proofs.RunLaws.{runs_cut}
 use Rattle.wt_lines.specs.declared.kind.LineKind.{LineKind}
 use Rattle.wt_lines.specs.declared.kind.LineKind.TheVariants as line
-use Rattle.wt_lines.specs.Lines.{is_break_item, goes_on, full_lines, content}
+use Rattle.wt_lines.specs.Lines.{goes_on, full_lines, content}
 use Rattle.wt_blocks.specs.Headings.{core, level_of, open_len, inside_len, level, opening, inside, closing}
 use Rattle.wt_lines.specs.Kinds.{kind_of_signs}
 use Rattle.wt_tables.specs.Extents.{behind, is_open}
@@ -19,7 +18,7 @@ use Rattle.wt_inline.specs.declared.loose.Loose.TheVariants.{Text, Sep}
 use Rattle.wt_inline.specs.ItemTree.{plain, ItemTree, inner, forest}
 use Rattle.wt_inline.specs.Parts.{Part, node, parts, children}
 use Rattle.wt_tiles.specs.Contexts.{in_line}
-use Rattle.wt_context.specs.Line.{most_contexts, context_parts, line_parts, line_trees}
+use Rattle.wt_context.specs.Line.{most_contexts, context_parts, line_trees}
 use Rattle.wt_headings.specs.Headings.{heading}
 use Rattle.wt_headings.specs.Lines.{kind_at, ending}
 use Rattle.wt_page.specs.Rows.{Row, kind_of, line_rows, rows, rows_from}
@@ -30,7 +29,7 @@ use Rattle.wt_text_edits.proofs.StillLines.{still_within}
 use Rattle.wt_text_edits.proofs.PlainRows.{ending_behind}
 use Rattle.wt_rows.proofs.Portions.{breaks_first}
 use Rattle.wt_prose.proofs.ProseLines.{content_ended}
-use Rattle.wt_paragraph_laws.specs.Between.{rows_of_lines, AreClosed, blocks_in, body_with}
+use Rattle.wt_paragraph_laws.specs.Between.{AreClosed, blocks_in, body_with}
 use Rattle.wt_paragraph_laws.proofs.Apart.{Apart, page_units, units_beside, parts_beside}
 use Rattle.wt_paragraph_laws.proofs.Joining.{rows_before, rows_alone}
 use Rattle.wt_paragraph_laws.proofs.Standing.{parts_in, round_node, body_is}

@@ -1,5 +1,5 @@
 -- The signs of a heading's line: its kind, its level, and where its delimiters end.
-use Rattle.std.proofs.Common.{arith, ◌≡◌, ℕ, zero, suc, ◌+◌, ◌-◌, ◌<◌, ◌≤◌, Bool, true, false, not, List, [], ◌∷◌, ◌++◌, length, take, drop, map, refl, sym, ap, ◌∙◌, append-nil, append_assoc, length-append}
+use Rattle.std.proofs.Common.{arith, ◌≡◌, ℕ, zero, suc, ◌+◌, ◌-◌, ◌<◌, ◌≤◌, Bool, true, false, not, List, [], ◌∷◌, ◌++◌, length, take, drop, refl, sym, ap, ◌∙◌, append-nil, append_assoc, length-append}
 use Rattle.std.specs.Prelude.{◌/◌, ◌==◌, ◌&&◌, ◌||◌, if◌then◌else◌, min, replicate, reverse, codes}
 use Rattle.std.specs.List.{prefix_len}
 use Rattle.std.specs.Option.{unwrap_or}
@@ -9,7 +9,7 @@ use Rattle.std.proofs.lemmas.List.{reverse-append, length-replicate}
 use Rattle.wt_span.specs.Bytes.{is_blank, blank_len, begins}
 use Rattle.wt_lines.specs.declared.kind.LineKind.{LineKind}
 use Rattle.wt_lines.specs.declared.kind.LineKind.TheVariants as line
-use Rattle.wt_lines.specs.Kinds.{is_mark_sign, is_idle, past, is_idle_all, is_alone, is_heading, is_list, first_of, open_kind, rows as kind_rows, kind_of_signs}
+use Rattle.wt_lines.specs.Kinds.{is_mark_sign, is_idle, past, is_idle_all, is_heading, is_list, first_of, open_kind, rows as kind_rows, kind_of_signs}
 use Rattle.wt_blocks.specs.Headings.{equals, core, level_of, open_len, trimmed_len, inside_len}
 use Rattle.wt_heading_laws.specs.TypedHeadings.{BeginsSeen, EndsSeen}
 
