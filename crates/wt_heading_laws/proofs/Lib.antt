@@ -1,2 +1,3 @@
 pub mod HeadingSigns
 pub mod HeadingRows
+pub mod TypedTexts
