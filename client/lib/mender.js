@@ -542,7 +542,9 @@ export class Mender {
    */
   #styled(element, name) {
     const isStyle = name === "b" || name === "i";
-    if (isStyle && this.#styles.has(name) && !this.#hasAbove(element, name)) return this.#inline(element.childNodes);
+    if (isStyle && this.#styles.has(name) && !this.#hasAbove(element, name)) {
+      return this.#inline(element.childNodes);
+    }
     const children = this.#flat(this.#within(isStyle ? [name] : [], element.childNodes), () => false);
     return isBare(children) && this.#mayVanish(element) ? children : [this.#part(element, name, children)];
   }

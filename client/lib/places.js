@@ -7,7 +7,7 @@
 import { Part } from "./markup.js";
 import { Original } from "./original.js";
 import { CELLS, ITEMS, LINES, LISTS, isBlank, isBlock, isHiddenName } from "./kinds.js";
-import { isLineBreak, tidy } from "./texts.js";
+import { append, isLineBreak, tidy } from "./texts.js";
 
 /** @typedef {(Part | string)[]} Pieces */
 
@@ -59,7 +59,7 @@ export class Places {
     let line = [];
     const close = () => {
       if (line.some((piece) => isShown(piece, mayBe === IN_BODY))) out.push(this.#new("p", line));
-      else for (const piece of line) if (!isLineBreak(piece)) out.push(asSeparator(piece));
+      else for (const piece of line) if (!isLineBreak(piece)) append(out, asSeparator(piece));
       line = [];
     };
     for (const piece of pieces) {
@@ -83,10 +83,11 @@ export class Places {
    */
   #items(pieces, list) {
     const kinds = list === "dl" ? ["dd", "dt"] : ["li"];
-    const isOther = (/** @type {Part} */ part) => ITEMS.has(part.name) && !kinds.includes(part.name) && !isGroup(part);
-    const items = pieces.map((piece) =>
-      typeof piece !== "string" && isOther(piece) ? new Part(kinds[0], new Map(), piece.children) : piece,
-    );
+    const items = pieces.map((piece) => {
+      if (typeof piece === "string" || isGroup(piece)) return piece;
+      const isOther = ITEMS.has(piece.name) && !kinds.includes(piece.name);
+      return isOther ? new Part(kinds[0], new Map(), piece.children) : piece;
+    });
     return this.#filled(items, new Set(kinds), list, kinds[0]);
   }
 
@@ -104,12 +105,14 @@ export class Places {
     const close = () => {
       if (line.some((piece) => isShown(piece, false))) {
         const list = out[out.length - 1];
-        const isOpen = list instanceof Part && list.name === "dl" && !isGroup(list);
         const indented = this.#new("dd", withoutBreaks(line));
-        if (isOpen) out[out.length - 1] = new Part("dl", new Map(list.attributes), [...list.children, indented]);
-        else out.push(new Part("dl", new Map(), [indented]));
+        if (typeof list !== "string" && isNamed(list, "dl")) {
+          out[out.length - 1] = new Part("dl", new Map(list.attributes), [...list.children, indented]);
+        } else {
+          out.push(new Part("dl", new Map(), [indented]));
+        }
       } else {
-        for (const piece of line) if (!isLineBreak(piece)) out.push(piece);
+        for (const piece of line) if (!isLineBreak(piece)) append(out, piece);
       }
       line = [];
     };
@@ -153,11 +156,15 @@ export class Places {
     }
     this.fit(body);
     const holds = new Set(held);
-    return pieces.flatMap((piece) => {
-      if (piece === held[0]) return [body];
-      if (holds.has(piece)) return [];
-      return [isNamed(piece, "caption") ? this.fit(/** @type {Part} */ (piece)) : asSeparator(piece)];
-    });
+    /** @type {Pieces} */
+    const out = [];
+    let isPut = false;
+    for (const piece of pieces) {
+      if (typeof piece !== "string" && isNamed(piece, "caption")) out.push(this.fit(piece));
+      else if (!holds.has(piece)) append(out, asSeparator(piece));
+      else if (!isPut) isPut = out.push(body) > 0;
+    }
+    return out;
   }
 
   /**

@@ -1,5 +1,5 @@
-"""The tags of a document, found without reading it as HTML: whether an element bears a mark, and which numbers
-its elements have. What a value in quotes or a comment holds is no tag."""
+"""The tags of a document, found without reading it as HTML: whether an element bears a mark, and which
+numbers its elements have. What a value in quotes or a comment holds is no tag."""
 from __future__ import annotations
 
 import re

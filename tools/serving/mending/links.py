@@ -59,8 +59,8 @@ def with_edges_outside(link: Element, was: str) -> List[Child]:
 
 
 class Line:
-    """What stands in a line, as it is put together. A blank that is left at an edge of a link, where a word of
-    it was deleted, goes where there is one beside it."""
+    """What stands in a line, as it is put together. A blank that is left at an edge of a link, where a word
+    of it was deleted, goes where there is one beside it."""
 
     def __init__(self) -> None:
         self._pieces: List[Child] = []

@@ -7,7 +7,7 @@ from typing import AbstractSet, List, Optional
 from .kinds import CELLS, ITEMS, LINES, LISTS, is_blank, is_block, is_hidden_name
 from .markup import Child, Element
 from .original import Original
-from .texts import NOT_WHITE, is_blank_text, is_line_break, tidy
+from .texts import NOT_WHITE, append, is_blank_text, is_line_break, tidy
 
 Pieces = List[Child]
 
@@ -59,7 +59,9 @@ class Places:
             if any(is_shown(piece, may_be is IN_BODY) for piece in line):
                 out.append(self._new("p", line))
             else:
-                out.extend(as_separator(piece) for piece in line if not is_line_break(piece))
+                for piece in line:
+                    if not is_line_break(piece):
+                        append(out, as_separator(piece))
             line = []
 
         for piece in pieces:
@@ -94,12 +96,14 @@ class Places:
             nonlocal line
             if any(is_shown(piece, False) for piece in line):
                 indented, made = self._new("dd", without_breaks(line)), out[-1]
-                if not isinstance(made, str) and made.name == "dl" and not is_group(made):
+                if not isinstance(made, str) and is_named(made, "dl"):
                     out[-1] = Element("dl", dict(made.attributes), [*made.children, indented])
                 else:
                     out.append(Element("dl", {}, [indented]))
             else:
-                out.extend(piece for piece in line if not is_line_break(piece))
+                for piece in line:
+                    if not is_line_break(piece):
+                        append(out, piece)
             line = []
 
         for piece in pieces:
@@ -133,7 +137,7 @@ class Places:
         is_put = False
         for piece in pieces:
             if is_free(piece, IN_TABLE):
-                out.append(as_separator(piece))
+                append(out, as_separator(piece))
             elif not isinstance(piece, str) and is_named(piece, "caption"):
                 out.append(self.fit(piece))
             elif not is_put:
@@ -155,8 +159,9 @@ class Places:
 
         for piece in pieces:
             is_outer = is_named(piece, outer)
-            is_fit = is_free(piece, may_be) or is_outer or (not isinstance(piece, str) and piece.name in may_be)
-            if not is_fit or (inside and is_of_group(piece, inside[-1])):
+            is_one = not isinstance(piece, str) and piece.name in may_be
+            is_further = bool(inside) and is_of_group(piece, inside[-1])
+            if is_further or not (is_one or is_outer or is_free(piece, may_be)):
                 inside.append(piece)
                 continue
             close()
