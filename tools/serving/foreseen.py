@@ -1,5 +1,5 @@
-"""The page that an edit will probably make, where it changed letters of one text: so that the HTML of this page
-can be made while the program makes the page. What was foreseen wrongly is thrown away."""
+"""The page that an edit will probably make, where it changed letters of one text: so that the HTML of this
+page can be made while the program makes the page. What was foreseen wrongly is thrown away."""
 from __future__ import annotations
 
 import html

@@ -7,7 +7,7 @@ from unittest import mock
 
 from serving_case import SECONDS, ServingCase
 
-from serving.documents import with_sources_alone, without_places  # (serving_case has put the tools on the path)
+from serving.documents import with_sources_alone, without_places
 from serving.foreseen import foreseen, shared
 from serving.known import KnownStates
 from serving.pages import STEP
@@ -30,7 +30,8 @@ CHANGES: List[Tuple[str, str, str, str]] = [
     ('id="mw3"', 'id="mw4"', "", ""),
 ]
 PAGE = (
-    "'''[[Opava]]''' is a town in the east.\n\nIt lies on the [[Moravice (river)|Moravice]], between East & West.\n\n"
+    "'''[[Opava]]''' is a town in the east.\n\n"
+    "It lies on the [[Moravice (river)|Moravice]], between East & West.\n\n"
     "The river flows ''slowly''\n\nThis is a town in another land.\n"
 )
 
@@ -55,11 +56,16 @@ class Pages(ServingCase):
         document = self.html("Town")[0].encode()
         given = without_places(with_sources_alone(document))
         edited = b"city".join(given.rsplit(b"town", 1))
-        self.assertEqual(foreseen(page.encode(), document, given, edited), "city".join(page.rsplit("town", 1)).encode())
+        wanted = "city".join(page.rsplit("town", 1)).encode()
+        self.assertEqual(foreseen(page.encode(), document, given, edited), wanted)
 
     def test_what_both_begin_and_end_with(self) -> None:
         for old, new, front, back in [
-            (b"", b"", 0, 0), (b"a", b"", 0, 0), (b"abc", b"abc", 3, 3), (b"abcd", b"abd", 2, 1), (b"aaa", b"aa", 2, 2),
+            (b"", b"", 0, 0),
+            (b"a", b"", 0, 0),
+            (b"abc", b"abc", 3, 3),
+            (b"abcd", b"abd", 2, 1),
+            (b"aaa", b"aa", 2, 2),
         ]:
             self.assertEqual((shared(old, new, False), shared(old, new, True)), (front, back))
 

@@ -1,5 +1,5 @@
-//! Where two neighbours stand beside each other though `edit` would part them: they don't join there. Whether that
-//! is so is told when the page is read back, so these rules need be right nearly always, and no more.
+//! Where two neighbours are beside each other though `edit` would part them: they don't join there. Whether that
+//! is so is seen when the page is read back, so these rules need to be right nearly always, and no more.
 
 use crate::texts::push_nowiki;
 use std::alloc::Global;
@@ -7,7 +7,8 @@ use wt_guards::{Place, Role, Stretch, Thing, Unit};
 use wt_span::{NoMemory, Str};
 
 /// Where an inside is written: in what kind of block, the last byte of the delimiter before it (a space where there is
-/// none), whether a table may be open there, the page, and where it has this inside, in bytes.
+/// none), whether a table may be open there, the page, where it has this inside, in bytes, and whether the inside is
+/// that of preformatted text, behind whose space no block begins.
 #[derive(Clone, Copy)]
 pub struct Spot<'w> {
     pub place: Place,
@@ -15,6 +16,7 @@ pub struct Spot<'w> {
     pub in_tables: bool,
     pub page: &'w [u8],
     pub start: usize,
+    pub is_preformatted: bool,
 }
 
 impl<'w> Spot<'w> {
@@ -41,7 +43,7 @@ pub fn place_of_new() -> Stretch {
     }
 }
 
-/// What writes nothing, and stands beside what ends and what begins at these places of the page.
+/// What writes nothing, and is beside what ends and what begins at these places of the page.
 fn joint_at<'n>(alloc: Global, place: Stretch) -> Unit<'n> {
     Unit::Thing(Thing {
         role: Role::Node,
@@ -105,7 +107,7 @@ pub fn units_from<'u, 'n>(units: &'u [Unit<'n>], at: usize) -> &'u [Unit<'n>] {
     }
 }
 
-/// The bytes that are written first, and those behind them; none where there are none.
+/// The bytes that are written first, and those after them; none where there are none.
 fn source_at<'u>(units: &'u [Unit<'_>], at: usize) -> &'u [u8] {
     match units.get(at) {
         Some(unit) => source_of(unit),
@@ -155,6 +157,9 @@ fn is_list_sign(byte: u8) -> bool {
 
 /// Whether an inside that begins with a byte would be read with the delimiter before it.
 fn joins_delimiter(spot: Spot<'_>, first: u8, units: &[Unit<'_>]) -> bool {
+    if spot.is_preformatted {
+        return false;
+    }
     if is_blank(first) {
         return true;
     }
@@ -193,7 +198,7 @@ fn is_sign(byte: u8) -> bool {
     is_blank(byte) || is_list_sign(byte) || matches!(byte, b'=' | b'-' | b'!')
 }
 
-/// Whether what stands in the page would be read otherwise at the start of a line or of the inside, where it begins
+/// Whether what is in the page would be read otherwise at the start of a line or of the inside, where it begins
 /// with a byte.
 fn is_read_otherwise(spot: Spot<'_>, first: u8, units: &[Unit<'_>], at: usize) -> bool {
     let rest = units_from(units, at);
@@ -204,7 +209,7 @@ fn is_read_otherwise(spot: Spot<'_>, first: u8, units: &[Unit<'_>], at: usize) -
     }
 }
 
-/// Whether what stands in the page begins a line or the inside here, didn't there, and would be read otherwise.
+/// Whether what is in the page begins a line or the inside here, didn't there, and would be read otherwise.
 fn is_new_start(spot: Spot<'_>, units: &[Unit<'_>], at: usize) -> bool {
     let Some(Unit::Thing(thing)) = units.get(at) else {
         return false;
@@ -238,7 +243,7 @@ fn is_caption_sign(spot: Spot<'_>, units: &[Unit<'_>], at: usize) -> bool {
         && !is_standing_first(spot, unit)
 }
 
-// ---- behind a link
+// ---- after a link
 
 /// Where a link that is new or changed ends; where it ends in the page.
 fn link_end(unit: &Unit<'_>) -> Option<usize> {
@@ -251,7 +256,7 @@ fn link_end(unit: &Unit<'_>) -> Option<usize> {
     }
 }
 
-/// Whether letters that stand in the page come behind a link that they weren't behind, and would join it.
+/// Whether letters that are in the page come after a link that they weren't after, and would join it.
 fn joins_link(units: &[Unit<'_>], at: usize) -> bool {
     let (Some(left), Some((Role::Node, place))) = (before(units, at), placed(units.get(at))) else {
         return false;
@@ -262,7 +267,7 @@ fn joins_link(units: &[Unit<'_>], at: usize) -> bool {
     }
 }
 
-// ---- behind a bare URL
+// ---- after a bare URL
 
 /// What is no part of a URL at its end.
 fn is_dropped(byte: u8, has_bracket: bool) -> bool {
@@ -278,13 +283,23 @@ fn is_no_url(byte: u8) -> bool {
     byte <= b' ' || byte == b'<' || byte == b'>' || byte == b'[' || byte == b']' || byte == b'"'
 }
 
-fn first_kept(source: &[u8], has_bracket: bool) -> Option<u8> {
-    for byte in source {
-        if !is_dropped(*byte, has_bracket) {
-            return Some(*byte);
+/// The bytes from the first one on that isn't dropped.
+fn kept_of(source: &[u8], has_bracket: bool) -> &[u8] {
+    for at in 0..source.len() {
+        if !is_dropped(source[at], has_bracket) {
+            return &source[at..];
         }
     }
-    None
+    &[]
+}
+
+/// Whether a URL ends before these bytes, of which there are some: before a byte that is none of it, or two
+/// apostrophes.
+fn begins_behind_url(kept: &[u8]) -> bool {
+    match kept.first() {
+        Some(byte) => is_no_url(*byte) || kept.starts_with(b"''"),
+        None => false,
+    }
 }
 
 /// Whether a URL ends before these units.
@@ -296,8 +311,9 @@ fn ends_url(url: &[u8], units: &[Unit<'_>]) -> bool {
             Some(Role::Group(_) | Role::Mark { .. } | Role::Bare(_)) => return false,
             _ => {}
         }
-        if let Some(byte) = first_kept(source_of(unit), has_bracket) {
-            return is_no_url(byte);
+        let kept = kept_of(source_of(unit), has_bracket);
+        if !kept.is_empty() {
+            return begins_behind_url(kept);
         }
     }
     true
@@ -331,6 +347,39 @@ fn toggle_length(unit: Option<&Unit<'_>>) -> usize {
     }
 }
 
+/// Whether a bare URL begins behind a delimiter that is written anew, which it doesn't join.
+fn is_url_in_style(units: &[Unit<'_>], at: usize) -> bool {
+    toggle_length(before(units, at)) != 0 && matches!(units.get(at), Some(unit) if is_bare(unit))
+}
+
+fn is_bare(unit: &Unit<'_>) -> bool {
+    matches!(role_of(unit), Some(Role::Bare(_)))
+}
+
+/// The length of a delimiter that stands in the page; 0 of anything else.
+fn standing_toggle(unit: Option<&Unit<'_>>) -> usize {
+    match unit {
+        Some(Unit::Thing(thing)) if matches!(thing.role, Role::Node) && thing.place.is_some() => {
+            match thing.source.as_str() {
+                "''" => 2,
+                "'''" => 3,
+                _ => 0,
+            }
+        }
+        _ => 0,
+    }
+}
+
+/// Whether a delimiter that is written anew and one that stands in the page meet that are of one length: they would
+/// make one run that is longer.
+fn meets_like(units: &[Unit<'_>], at: usize) -> bool {
+    let left = before(units, at);
+    let right = units.get(at);
+    let is_new_first = toggle_length(left) != 0 && toggle_length(left) == standing_toggle(right);
+    let is_new_last = toggle_length(right) != 0 && toggle_length(right) == standing_toggle(left);
+    is_new_first || is_new_last
+}
+
 /// Whether two delimiters that are written anew make one run of five.
 fn are_five(units: &[Unit<'_>], at: usize) -> bool {
     let left = toggle_length(before(units, at));
@@ -348,7 +397,7 @@ fn placed<'u>(unit: Option<&'u Unit<'_>>) -> Option<(Role, Stretch)> {
     }
 }
 
-/// Whether `edit` parts the two wherever they stand.
+/// Whether `edit` always parts the two.
 fn are_parted_anywhere(left: Role, right: Role) -> bool {
     match left {
         Role::Group(_) => matches!(right, Role::Group(_) | Role::External | Role::Bare(_)),
@@ -373,7 +422,7 @@ fn meeting(units: &[Unit<'_>], at: usize) -> Option<Stretch> {
 
 // ---- all
 
-/// Where a joint stands before a unit, its place in the page.
+/// Where a joint comes before a unit, its place in the page.
 fn joint_before(spot: Option<Spot<'_>>, units: &[Unit<'_>], at: usize) -> Option<Stretch> {
     if let Some(place) = meeting(units, at) {
         return Some(place);
@@ -381,7 +430,7 @@ fn joint_before(spot: Option<Spot<'_>>, units: &[Unit<'_>], at: usize) -> Option
     if let Some(end) = ended_url(units, at) {
         return Some(behind(end));
     }
-    if are_five(units, at) || may_begin(spot?, units, at) {
+    if are_five(units, at) || is_url_in_style(units, at) || may_begin(spot?, units, at) {
         Some(behind(0))
     } else {
         None
@@ -406,13 +455,13 @@ fn push_before<'n>(
     if let Some(place) = joint_before(spot, units, at) {
         out.push(joint_at(alloc, place))?;
     }
-    if joins_link(units, at) || is_at_start(spot, units, at) {
+    if joins_link(units, at) || meets_like(units, at) || is_at_start(spot, units, at) {
         push_nowiki(alloc, out)?;
     }
     Ok(())
 }
 
-/// The units with joints between those that stand beside each other as they are. Without a spot no line begins and
+/// The units with joints between those that are beside each other as they are. Without a spot no line begins and
 /// none ends there: it is the inside of a link or tag.
 pub fn with_joints<'n>(
     alloc: Global,

@@ -2,7 +2,9 @@
 -- of a page have ranges.
 use Rattle.std.specs.Prelude.{ℕ, ◌+◌, ◌-◌, ◌==◌, ◌&&◌, ◌||◌, not, nat_lt, Bool, true, false, Option, Some, None, List, [], ◌∷◌, ◌++◌, length, if◌then◌else◌}
 use Rattle.wt_tree.specs.declared.kind.Ranges.{Ranges}
-use Rattle.wt_tree.specs.Kinds.{showing}
+use Rattle.wt_tree.specs.declared.row.Placement.{Placement}
+use Rattle.wt_tree.specs.declared.row.Placement.TheVariants.{Nowhere, Anywhere, Mark, Block, List as ListClass, Item, Term, TablePart, TableRow, Cell, Inline, Character, Section}
+use Rattle.wt_tree.specs.Kinds.{shape, showing}
 use Rattle.wt_tree.specs.Source.{flat_of_all}
 use Rattle.wt_tree.specs.Tiling.{end_of}
 use Rattle.wt_tree.specs.Tree.{Tree, tree, Trees, none, more, label}
@@ -22,6 +24,30 @@ abbrev pub start_of : Option Ranges → ℕ
 start_of None = 0
 start_of (Some r) = r.start
 
+-- where the sign with which a cell begins ends: two bytes at most, as `||` has
+abbrev pub sign_end : Option Ranges → ℕ
+sign_end None = 0
+sign_end (Some r) = r.start + (if nat_lt 2 r.open_w then 2 else r.open_w)
+
+abbrev pub is_of_row : Placement → Bool
+is_of_row Nowhere = false
+is_of_row Anywhere = false
+is_of_row Mark = false
+is_of_row Block = false
+is_of_row ListClass = false
+is_of_row Item = false
+is_of_row Term = false
+is_of_row TablePart = false
+is_of_row TableRow = false
+is_of_row Cell = true
+is_of_row Inline = false
+is_of_row Character = false
+is_of_row Section = false
+
+-- Where the gap before it ends: the sign of a cell may become another one there.
+abbrev pub gap_end : Tree → ℕ
+gap_end t = if is_of_row (shape (label t).kind).class then sign_end (label t).ranges else start_of (label t).ranges
+
 -- where its opening delimiter ends, and where its closing one begins
 abbrev pub inside_start : Option Ranges → ℕ
 inside_start None = 0
@@ -31,7 +57,7 @@ abbrev pub inside_stop : Option Ranges → ℕ
 inside_stop None = 0
 inside_stop (Some r) = r.end - r.close_w
 
--- where its inside ends, which is as long as the sources of what stands in it
+-- where its inside ends, which is as long as the sources of what is in it
 abbrev pub inside_end : Tree → ℕ
 inside_end t = inside_start (label t).ranges + length (flat_of_all (inside t))
 
@@ -41,7 +67,7 @@ inside_place t u = if same_inside t u then [] else slot (inside_start (label t).
 
 -- ---- its children
 
--- the page's children before the one with this number, and those behind it
+-- the page's children before the one with this number, and those after it
 abbrev pub before_number : ℕ → Trees → Trees
 before_number n none = none
 before_number n (more t ts) = if (label t).id == n then none else more t (before_number n ts)
@@ -72,7 +98,7 @@ goes_on r u = r.inside && not (ends_inside u)
 abbrev pub counts : Reached → Tree → Bool
 counts r u = is_compared (showing (label u).kind) && not (goes_on r u)
 
--- An edited child stays in its turn where it stays, and the page has it behind all that did before it.
+-- An edited child stays in its turn where it stays, and the page has it after all that did before it.
 abbrev pub is_in_turn : Page → ℕ → Reached → Tree → Bool
 is_in_turn page holder r u = counts r u && (stays_in page holder u && nat_lt r.number (label u).id)
 
@@ -84,19 +110,19 @@ node_or u (Some q) = q.node
 abbrev pub partner : Page → Tree → Tree
 partner page u = node_or u (page (label u).id)
 
--- behind it, by whether it is in its turn
+-- after it, by whether it is in its turn
 abbrev pub arrived : Bool → Tree → Reached → Tree → Reached
 arrived true t r u = record { end = end_of (label t).ranges; number = (label u).id; came = false; inside = false }
 arrived false t r u = record { end = r.end; number = r.number; came = r.came || counts r u; inside = goes_on r u }
 
--- what the page has behind it then
+-- what the page has after it then
 abbrev pub rest_behind : Bool → Tree → Trees → Trees
 rest_behind true u ts = behind_number (label u).id ts
 rest_behind false u ts = ts
 
--- the gap before a child in its turn, up to the page's child
+-- the gap before a child in its turn, up to the page's child, of a cell with its sign
 abbrev pub gap_before : Reached → Trees → Tree → Tree → List Slot
-gap_before r ts t u = gap (r.came || some_count (before_number (label u).id ts)) r.end (start_of (label t).ranges)
+gap_before r ts t u = gap (r.came || some_count (before_number (label u).id ts)) r.end (gap_end t)
 
 abbrev pub if_in_turn : Bool → List Slot → List Slot
 if_in_turn true ss = ss

@@ -1,6 +1,7 @@
 //! The places of a page that may be written anew.
 
 ghost use Rattle.std.specs.Prelude.{◌≡◌, ◌≤◌, ◌<◌, ◌+◌, ◌++◌, ◌||◌, true, false, length, take, drop, OnOk, IfOk, option_map};
+ghost use Rattle.wt_tree.specs.Kinds.{shape};
 ghost use Rattle.wt_tree.specs.Source.{flat, flat_of_all};
 ghost use Rattle.wt_tree.specs.Tiling.{end_of};
 ghost use Rattle.wt_tree.specs.Tree.{Tree, Trees, label, more};
@@ -18,6 +19,7 @@ ghost use Rattle.wt_proposal.specs.Places.{
   counts,
   gap,
   gap_before,
+  gap_end,
   goes_on,
   if_in_turn,
   inside_end,
@@ -25,11 +27,13 @@ ghost use Rattle.wt_proposal.specs.Places.{
   inside_start,
   inside_stop,
   is_in_turn,
+  is_of_row,
   partner,
   places,
   places_in,
   arrived,
   rest_behind,
+  sign_end,
   some_count,
   start_of,
 };
@@ -38,16 +42,16 @@ ghost use Rattle.wt_proposal.specs.Views.{slots_of, places_within};
 use crate::reached::Reached;
 use crate::slot::Slot;
 use std::alloc::Global;
-use wt_checks::{Visit, original};
+use wt_checks::{Visit, is_compared, original};
 use wt_difference::{
-    Child, ends_inside, has_inside, held, inside, is_block_part, is_compared, same_inside, stays_in,
+    Child, ends_inside, has_inside, held, inside, is_block_part, same_inside, stays_in,
 };
 use wt_span::{NoMemory, Text};
-use wt_tree::{Node, Ranges};
+use wt_tree::{Kind, Node, Placement, Ranges};
 
 // ---- a node
 
-fn start_of(ranges: Option<Ranges>) -> usize
+pub fn start_of(ranges: Option<Ranges>) -> usize
     ensures { result ≡ start_of ranges }
 {
     match ranges {
@@ -62,6 +66,55 @@ fn end_of(ranges: Option<Ranges>) -> usize
     match ranges {
         Some(ranges) => ranges.end as usize,
         None => 0,
+    }
+}
+
+/// Where the sign of a cell with these ranges ends, which has two bytes at most.
+fn sign_end(ranges: Option<Ranges>) -> usize
+    ensures { result ≡ sign_end ranges }
+{
+    match ranges {
+        Some(ranges) => {
+            let width = if 2 < ranges.open_w {
+                2
+            } else {
+                ranges.open_w as usize
+            };
+            ranges.start as usize + width
+        }
+        None => 0,
+    }
+}
+
+/// Whether a node of this kind is a cell.
+fn is_of_row(kind: Kind) -> bool
+    ensures { result ≡ is_of_row (shape kind).class }
+{
+    match kind.shape().class {
+        Placement::Cell => true,
+        Placement::Nowhere
+        | Placement::Anywhere
+        | Placement::Mark
+        | Placement::Block
+        | Placement::List
+        | Placement::Item
+        | Placement::Term
+        | Placement::TablePart
+        | Placement::TableRow
+        | Placement::Inline
+        | Placement::Character
+        | Placement::Section => false,
+    }
+}
+
+/// Where the gap before a node of the page ends: behind the sign of a cell, which may become another one.
+fn gap_end(node: &Node<'_>) -> usize
+    ensures { result ≡ gap_end (view node.now) }
+{
+    if is_of_row(node.kind) {
+        sign_end(node.ranges)
+    } else {
+        start_of(node.ranges)
     }
 }
 
@@ -221,7 +274,7 @@ fn goes_on(reached: Reached, child: &Node<'_>) -> bool
     reached.inside && !ends_inside(child)
 }
 
-/// Whether a child counts: it shows something, and stands behind the inside.
+/// Whether a child counts: it shows something, and comes after the inside.
 pub fn counts(reached: Reached, child: &Node<'_>) -> bool
     ensures { result ≡ counts reached (view child.now) }
 {
@@ -246,7 +299,7 @@ fn partner<'t, 'a>(index: &[Visit<'t, 'a>], node: &'t Node<'a>) -> Visit<'t, 'a>
     })
 }
 
-/// Behind a child in its turn, which is this node of the page.
+/// After a child in its turn, which is this node of the page.
 pub fn reached_behind(old: &Node<'_>, reached: Reached, child: &Node<'_>) -> Reached
     ensures { result ≡ arrived true (view old.now) reached (view child.now) }
 {
@@ -258,7 +311,7 @@ pub fn reached_behind(old: &Node<'_>, reached: Reached, child: &Node<'_>) -> Rea
     }
 }
 
-/// Behind any other child.
+/// After any other child.
 pub fn reached_past(reached: Reached, child: &Node<'_>) -> Reached
     ensures { (t : Tree) → result ≡ arrived false t reached (view child.now) }
 {
@@ -272,7 +325,7 @@ pub fn reached_past(reached: Reached, child: &Node<'_>) -> Reached
 
 // ---- one child
 
-/// Where the walk stands before a child: the number of the node whose children these are, those of the page's
+/// How far the walk has come before a child: the number of the node whose children these are, those of the page's
 /// children that are still to come, and how far it has come.
 #[derive(Clone, Copy)]
 pub struct Beside<'w, 't, 'a> {
@@ -282,7 +335,7 @@ pub struct Beside<'w, 't, 'a> {
 }
 
 /// What a child gives: the gap before it, where that is a place; the page's node that it is, where it may have
-/// places of its own; how far one has come behind it; and how many of the page's children are passed then, which are
+/// places of its own; how far one has come after it; and how many of the page's children are passed then, which are
 /// none where it isn't in its turn.
 #[derive(Clone, Copy)]
 pub struct ChildOutcome<'t, 'a> {
@@ -320,7 +373,7 @@ fn turn_of<'t, 'a>(
     let place = place_of(beside.rest, child.id);
     let differs = beside.reached.came || some_count(&beside.rest[..place]);
     ChildOutcome {
-        gap: gap(differs, beside.reached.end, start_of(old.ranges)),
+        gap: gap(differs, beside.reached.end, gap_end(old)),
         within: within(old, child),
         reached: reached_behind(old, beside.reached, child),
         passed: past(place, beside.rest.len()),
@@ -371,7 +424,7 @@ fn push_gap(out: &mut Vec<Slot>, gap: Option<Slot>) -> Result<(), NoMemory>
     Ok(())
 }
 
-/// Appends the gap behind the last child that stays in its turn, up to the end of the node's inside.
+/// Appends the gap after the last child that stays in its turn, up to the end of the node's inside.
 fn push_last(
     out: &mut Vec<Slot>,
     reached: Reached,
