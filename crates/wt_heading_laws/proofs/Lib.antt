@@ -1,3 +1,4 @@
 pub mod HeadingSigns
 pub mod HeadingRows
 pub mod TypedTexts
+mod Cases
