@@ -248,8 +248,13 @@ fn is_doubled_at(page: &str, at: usize) -> bool {
     (sign == b'|' || sign == b'!') && sign == byte_at(page, at.saturating_add(1))
 }
 
+/// Whether a node is such a cell. One with a single sign may hold nothing before the two of the next.
 fn is_doubled(page: &str, node: &Node<'_>) -> bool {
-    is_cell(node.kind) && is_doubled_at(page, range_of(node).start)
+    let width = match node.ranges {
+        Some(ranges) => ranges.open_w,
+        None => 0,
+    };
+    is_cell(node.kind) && width > 1 && is_doubled_at(page, range_of(node).start)
 }
 
 /// Whether what is at a place of the page begins a line there.
@@ -322,15 +327,15 @@ fn push_gone(
     Ok(())
 }
 
-/// The line breaks that are wanted between the two that stay.
-fn wanted_between(gap: Gap<'_, '_, '_>) -> usize {
-    match gap.before {
-        None => 0,
-        Some(before) => match gap.behind {
-            None => 0,
-            Some(behind) => least_between(gap.in_item, kind_at_end(before), kind_at_start(behind)),
-        },
+/// The line breaks that are wanted between the two that stay: one before a cell that doesn't go on in a line.
+fn wanted_between(page: &str, gap: Gap<'_, '_, '_>) -> usize {
+    let (Some(before), Some(behind)) = (gap.before, gap.behind) else {
+        return 0;
+    };
+    if is_cell(behind.kind) && !is_doubled(page, behind) {
+        return 1;
     }
+    least_between(gap.in_item, kind_at_end(before), kind_at_start(behind))
 }
 
 // ---- what comes
@@ -777,7 +782,7 @@ fn push_part<'t, 'a>(
             page,
             gap,
             slices.as_slice(),
-            wanted_between(gap),
+            wanted_between(page, gap),
         ),
         Some(coming) => {
             push_new(alloc, out, page, gap, slices.as_slice(), coming)?;
