@@ -11,7 +11,8 @@ use Rattle.wt_annotated.specs.Labels.{width, label_at}
 use Rattle.wt_annotated.specs.Numbering.{next_after, count, with_numbers, all_with_numbers}
 use Rattle.wt_annotated.specs.WithoutCalls.{inside_by, placed, all_placed}
 use Rattle.wt_moved_laws.specs.Standing.{standing}
-use Rattle.wt_moved_laws.proofs.Placeless.{placeless_label, placeless, all_placeless, shown_placeless}
+use Rattle.wt_moved_laws.specs.Placeless.{placeless_label, placeless, all_placeless}
+use Rattle.wt_moved_laws.proofs.Placeless.{shown_placeless}
 use Rattle.wt_moved_laws.proofs.Recuts.{texts_same}
 
 -- ---- numbers

@@ -1,21 +1,11 @@
--- A tree without its numbers and places: what it is wherever it stands.
-use Rattle.std.proofs.Common.{◌≡◌, Bool, true, false, None, refl, ap, ◌∙◌, cond}
+-- What a tree shows hangs on neither numbers nor places.
+use Rattle.std.proofs.Common.{◌≡◌, Bool, true, false, refl, ap, ◌∙◌, cond}
 use Rattle.wt_tree.specs.declared.kind.Showing.{Showing}
 use Rattle.wt_tree.specs.declared.kind.Showing.TheVariants.{Characters, Inside, Nothing, Element}
 use Rattle.wt_tree.specs.Kinds.{showing}
 use Rattle.wt_tree.specs.Plain.{Plains, ended, along, element, face, shown_before, plain_before, plains_before}
 use Rattle.wt_tree.specs.Tree.{Label, Tree, tree, Trees, none, more}
-
-abbrev pub placeless_label : Label → Label
-placeless_label l = record l { id = 0; ranges = None }
-
-abbrev mutual
-  pub placeless : Tree → Tree
-  placeless (tree l ts) = tree (placeless_label l) (all_placeless ts)
-
-  pub all_placeless : Trees → Trees
-  all_placeless none = none
-  all_placeless (more t ts) = more (placeless t) (all_placeless ts)
+use Rattle.wt_moved_laws.specs.Placeless.{placeless_label, placeless, all_placeless}
 
 -- the same nodes by this test
 pub either : (v : Bool) (us vs xs ys : Trees) → all_placeless us ≡ xs → all_placeless vs ≡ ys → all_placeless (cond v us vs) ≡ cond v xs ys

@@ -9,7 +9,8 @@ use Rattle.wt_tree.specs.Recut.{is_blank, has_break, text_leaf, sep_leaf, is_tex
 use Rattle.wt_tree.specs.Tiling.{is_group}
 use Rattle.wt_tree.specs.Tree.{Tree, tree, Trees, none, more}
 use Rattle.wt_annotated.specs.CutTexts.{cut_as, cut_texts, all_cut_texts}
-use Rattle.wt_moved_laws.proofs.Placeless.{placeless_label, placeless, all_placeless, either}
+use Rattle.wt_moved_laws.specs.Placeless.{placeless_label, placeless, all_placeless}
+use Rattle.wt_moved_laws.proofs.Placeless.{either}
 
 -- ---- which children show blocks
 

@@ -4,4 +4,5 @@ pub mod SpotFacts
 pub mod PageTakes
 pub mod PageUnmarked
 pub mod PageCalls
+pub mod OtherBlocks
 mod Cases

@@ -11,7 +11,9 @@ ghost use Rattle.wt_page_round_trip.specs.PageTree.{page_tree};
 ghost use Rattle.wt_pagetool.specs.Answers.{answer_told, done, edit_of, edit_to};
 ghost use Rattle.wt_pagetool.specs.Words.{command_of};
 ghost use Rattle.wt_pagetool.specs.declared.command.Command.TheVariants.{Edit};
-ghost use Rattle.wt_paragraph_laws.specs.Spots.{Spot, spots_source, part_tree, AreSpots};
+ghost use Rattle.wt_checks.specs.Kept.{children};
+ghost use Rattle.wt_moved_laws.specs.Placeless.{all_placeless, by_themselves};
+ghost use Rattle.wt_paragraph_laws.specs.Spots.{Spot, spots_source, page_blocks, part_tree, AreSpots};
 ghost use Rattle.wt_pagetool.specs.declared.command.Command.TheVariants.{Selser};
 ghost use Rattle.wt_pagetool.specs.declared.status.Status.TheVariants as status;
 ghost use Rattle.wt_pagetool.specs.Calls.{Call, NothingFailed};
@@ -64,4 +66,12 @@ pub fn calls_take_any_texts()
         → ((ended ≡ code status.Done) × Took c.out (new_page e) × Untouched c.err) ⊎ (ended ≡ code status.NoMemory) }
     ensures selser { (c : Call) (ended : ℕ) (e : PageEdit) → IsUnmarkedPageEdit e → Sends c Selser e unmarked_page → EndsAsEdit c ended
         → (ended ≡ code status.Done) ⊎ IsFaultOrNoMemory ended }
+{}
+
+/// And no other block becomes another one: numbers and places aside, the tree of such a page has, one after the
+/// other, what each of its blocks is by itself, and of these only the paragraphs are others in the new page.
+#[tactic(auto, using(crate::proofs::OtherBlocks::blocks_alone))]
+pub fn other_blocks_stay_the_same()
+    ensures { (ss : List Spot) (behind : List ℕ) → AreSpots ss behind
+        → all_placeless (children (part_tree (spots_source ss behind))) ≡ by_themselves (page_blocks ss behind) }
 {}

@@ -7,8 +7,8 @@ use Rattle.wt_span.specs.Items.{char}
 use Rattle.wt_span.specs.Lexemes.{sign_word, form_at, closed, words}
 use Rattle.wt_span.specs.Tags.{opening_tag, closing_tag, raw_len, include_at}
 use Rattle.wt_lines.specs.Kinds.{kind_of_signs}
+use Rattle.wt_lines.specs.Lines.{full_lines}
 use Rattle.wt_expand.specs.PageItems.{page_items}
-use Rattle.wt_text_edits.specs.StillItems.{StillItems}
 use Rattle.wt_blocks.specs.Nesting.{nested}
 use Rattle.wt_inline.specs.Parts.{children}
 use Rattle.wt_tables.specs.Extents.{inner_len}
@@ -33,7 +33,7 @@ use Rattle.wt_annotated.specs.GroupData.{group_data}
 use Rattle.wt_annotated.specs.Labels.{label_at}
 use Rattle.wt_paragraph_laws.specs.Between.{rows_of_lines, AreClosed, EndApart, EndsApart, EndsParagraph}
 use Rattle.wt_paragraph_laws.specs.Spots.{Spot, spots_source, BeginsApart, HasNoGroups}
-use Rattle.wt_paragraph_laws.specs.Texts.{AreLetters}
+use Rattle.wt_paragraph_laws.specs.Texts.{AreLetters, AreOneText}
 
 -- a list, a paragraph, a table, a paragraph, and a rule
 abbrev page : List Spot
@@ -140,17 +140,10 @@ unfolding page_items words closed form_at comment_len comment_line_len raw_len o
     hex_entity entity_names sign_word
 reference_written = (tt, tt)
 
--- nothing begins at `*` and `=` in a line
-signs_still : StillItems (page_items (codes "*="))
+-- no link begins at a bracket before a blank
+bracket_written : AreOneText (full_lines (page_items (codes "a [ b")))
 unfolding page_items words closed form_at comment_len comment_line_len raw_len opening_tag closing_tag include_at entity_at named_entity decimal_entity
     hex_entity entity_names sign_word
-signs_still = (
-  record { bracket = refl; tag = refl; quotes = refl; switch = refl; address = refl },
-  (record { bracket = refl; tag = refl; quotes = refl; switch = refl; address = refl }, tt),
-)
-
--- a link begins at `[`
-link_begins : StillItems (page_items (codes "[")) → ⊥
-unfolding page_items words closed form_at comment_len comment_line_len raw_len opening_tag closing_tag include_at entity_at named_entity decimal_entity
-    hex_entity entity_names sign_word
-link_begins h = let e = h.0.bracket in absurd (cc)
+    context_parts segments tiles shapes tiles_closed tile_form_at link_or_url link_at ext_link_at bare_url_at scheme_len kept_len
+    tag_tile tag_at tile_opening_tag tile_closing_tag switch_at loose_segments chunks with_styles style_tree_of toggles_of toggle_at
+bracket_written = (refl, refl, tt)

@@ -29,7 +29,7 @@ abbrev pub leafy_blocks : List Spot → List ℕ → List ItemTree
 leafy_blocks [] behind = blocks_in (page_items behind)
 leafy_blocks (s ∷ ss) behind = blocks_in (page_items s.before) ++ leaves_para (leaves (page_items s.paragraph)) ∷ leafy_blocks ss behind
 
-as_leaves : (ss : List Spot) (behind : List ℕ) → AllTyped ss → page_blocks ss behind ≡ leafy_blocks ss behind
+pub as_leaves : (ss : List Spot) (behind : List ℕ) → AllTyped ss → page_blocks ss behind ≡ leafy_blocks ss behind
 as_leaves [] behind h = refl
 as_leaves (s ∷ ss) behind h =
     let own : List ItemTree = blocks_in (page_items s.before) in

@@ -18,12 +18,19 @@ use Rattle.wt_text_edits.proofs.SpelledUtf8.{spelled_utf8}
 use Rattle.wt_text_edits.proofs.TypedLeaves.{IsOwnForm, AreOwn}
 use Rattle.wt_text_edits.proofs.TypedText.{HaveNoBraces}
 use Rattle.wt_prose.proofs.InFront.{Reads, InFront, reads_nothing, its_items, read_break, read_items}
-use Rattle.wt_prose.proofs.ProseLines.{text_block}
+use Rattle.wt_prose.proofs.ProseLines.{lines_block}
 use Rattle.wt_prose.proofs.ProseReading.{page_front}
 use Rattle.wt_prose.proofs.ProseTexts.{IsWritten, some_leaf, written}
 use Rattle.wt_text_between.specs.Between.{HasNoTag, HasNoComment}
 use Rattle.wt_text_between.proofs.Fronts.{before_reads, behind_reads, read_alone, cuts_same}
-use Rattle.wt_paragraph_laws.specs.Texts.{IsReference, AreLetters, IsWrittenText, IsParagraph}
+use Rattle.std.specs.Prelude.{All, map}
+use Rattle.std.proofs.lemmas.List.Elements.{All-head, All-tail}
+use Rattle.wt_lines.specs.declared.kind.LineKind.TheVariants as line
+use Rattle.wt_lines.specs.Kinds.{line_kind}
+use Rattle.wt_lines.specs.Lines.{full_lines, content, empty_end}
+use Rattle.wt_lines.proofs.FullLines.{same_lines}
+use Rattle.wt_text_edits.proofs.PlainRows.{AreTexts}
+use Rattle.wt_paragraph_laws.specs.Texts.{IsReference, AreLetters, AreOneText, IsWrittenText, IsParagraph}
 
 -- ---- no `<`
 
@@ -68,10 +75,21 @@ letters_own (whole f (Some k) bs ∷ xs) a h = absurd a
 untagged : (q : List ℕ) → IsWrittenText q → HasNoTag q
 untagged q h = (tags_split q (10 ∷ []) h.stands.untagged).0
 
+abbrev IsText : List Item → Type 0
+IsText l = line_kind 0 l ≡ line.Text
+
+one_texts : (ls ends : List (List Item)) → All IsText (map content ls ++ ends) → AreOneText ls → AreTexts ls
+one_texts [] ends a h = tt
+one_texts (l ∷ ls) ends a h = (
+  record { kind = All-head IsText (content l) (map content ls ++ ends) a; unled = h.0; is = h.1 },
+  one_texts ls ends (All-tail IsText (content l) (map content ls ++ ends) a) h.2,
+)
+
 text_written : (q : List ℕ) → IsWrittenText q → IsWritten q
 text_written q h =
     let xs : List Item = page_items q in
-    (text_block xs h.still h.are_lines, letters_own xs h.are_letters (subst HasNoTag (sym (page_sources q)) (untagged q h)), some_leaf xs h.are_lines)
+    let texts : AreTexts (full_lines xs) = one_texts (full_lines xs) (empty_end xs) (subst (All IsText) (same_lines xs) h.are_lines) h.are_one in
+    (lines_block xs texts h.are_lines, letters_own xs h.are_letters (subst HasNoTag (sym (page_sources q)) (untagged q h)), some_leaf xs h.are_lines)
 
 pub paragraph_written : (q : List ℕ) → IsParagraph q → IsWritten q
 paragraph_written q (inl t) = written q t

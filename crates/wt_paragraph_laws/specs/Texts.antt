@@ -9,9 +9,12 @@ use Rattle.wt_span.specs.Items.{Item, char, whole}
 use Rattle.wt_span.specs.Lexemes.{words}
 use Rattle.wt_lines.specs.declared.kind.LineKind.TheVariants as line
 use Rattle.wt_lines.specs.Kinds.{line_kind}
-use Rattle.wt_lines.specs.Lines.{lines}
+use Rattle.wt_lines.specs.Lines.{lines, full_lines, content}
+use Rattle.wt_inline.specs.declared.loose.Loose.TheVariants.{Text}
+use Rattle.wt_inline.specs.Parts.{parts}
+use Rattle.wt_context.specs.Line.{line_parts}
+use Rattle.wt_page.specs.Rows.{marks_len}
 use Rattle.wt_expand.specs.PageItems.{page_items}
-use Rattle.wt_text_edits.specs.StillItems.{StillItems}
 use Rattle.wt_text_edits.specs.TypedPages.{IsTypedPage}
 use Rattle.wt_text_between.specs.Between.{HaveNoBraces, StandsBefore}
 
@@ -39,15 +42,20 @@ AreLetters (whole f (Some k) bs ∷ xs) = ⊥
 abbrev pub IsTextLine : List Item → Type 0
 IsTextLine l = line_kind 0 l ≡ line.Text
 
+-- Lines before which no mark stands, and each of which is one text: no link, style, switch or address begins in it.
+abbrev pub AreOneText : List (List Item) → Type 0
+AreOneText [] = Unit {0}
+AreOneText (l ∷ ls) = (marks_len l ≡ 0) × (line_parts (content l) ≡ parts Text (content l)) × AreOneText ls
+
 -- Lines of text without `<` and without two braces side by side, whether a line break stands behind them or the page ends there. They are
--- characters and references, among which no link, style, switch or address begins.
+-- characters and references, and nothing else.
 pub record IsWrittenText (q : List ℕ) : Type 0 where
   pub utf8 : IsUtf8 q
   pub stands : StandsBefore (q ++ byte.line_break ∷ [])
   pub uncalled : HaveNoBraces (words Page q)
   pub ended : page_items (q ++ byte.line_break ∷ []) ≡ page_items q ++ char None byte.line_break ∷ []
   pub are_letters : AreLetters (page_items q)
-  pub still : StillItems (page_items q)
+  pub are_one : AreOneText (full_lines (page_items q))
   pub are_lines : All IsTextLine (lines (page_items q))
 
 -- ---- any such paragraph

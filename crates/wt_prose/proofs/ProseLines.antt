@@ -144,6 +144,13 @@ text_block xs still a =
     let all : All IsText (map content ls ++ empty_end xs) = subst (All IsText) (same_lines xs) a in
     block_by xs ls refl is (texts_by ls (empty_end xs) all (subst StillItems (sym is) still)) (unended xs (map content ls) all) (some_item xs a)
 
+-- by its lines
+pub lines_block : (xs : List Item) → AreTexts (full_lines xs) → All IsText (lines xs) → IsTextBlock xs
+lines_block xs h a =
+    let ls : List (List Item) = full_lines xs in
+    let all : All IsText (map content ls ++ empty_end xs) = subst (All IsText) (same_lines xs) a in
+    block_by xs ls refl (runs_joined goes_on xs) h (unended xs (map content ls) all) (some_item xs a)
+
 -- ---- the rows of a paragraph and the line breaks behind it
 
 abbrev pub broken_rows : ℕ → List Item → List (List Item) → List Row
