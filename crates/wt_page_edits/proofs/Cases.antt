@@ -1,5 +1,5 @@
 -- Worked cases of a page with a heading, a list and a table round a paragraph, by computing.
-use Rattle.std.proofs.Common.{◌≡◌, None, List, [], ◌∷◌, refl}
+use Rattle.std.proofs.Common.{◌≡◌, None, [], ◌∷◌, refl}
 use Rattle.std.specs.Prelude.{codes}
 use Rattle.std.specs.Fmt.{digits}
 use Rattle.std.specs.Str.{chars}

@@ -1,12 +1,10 @@
 -- Numbers and places aside, the tree of such a page has what each of its blocks is by itself.
-use Rattle.std.proofs.Common.{◌≡◌, ℕ, List, [], ◌∷◌, ◌++◌, refl, sym, ap, ap₂, ◌∙◌}
-use Rattle.wt_tree.specs.declared.kind.Kind.TheVariants as kind
-use Rattle.wt_tree.specs.Tree.{Tree, tree, Trees, more}
+use Rattle.std.proofs.Common.{◌≡◌, ℕ, List, [], ◌∷◌, refl, sym, ap, ap₂, ◌∙◌}
+use Rattle.wt_tree.specs.Tree.{more}
 use Rattle.wt_span.specs.Items.{Item}
 use Rattle.wt_inline.specs.ItemTree.{ItemTree}
 use Rattle.wt_checks.specs.Kept.{children}
-use Rattle.wt_expand.specs.PageItems.{page_items}
-use Rattle.wt_moved_laws.specs.Placeless.{placeless, all_placeless, by_themselves}
+use Rattle.wt_moved_laws.specs.Placeless.{all_placeless, by_themselves}
 use Rattle.wt_moved_laws.proofs.Moved.{moved}
 use Rattle.wt_prose.proofs.ProseTrees.{blocks_of, number_behind, items_behind}
 use Rattle.wt_paragraph_laws.specs.Spots.{Spot, spots_source, page_blocks, part_tree, AreSpots}
