@@ -26,6 +26,7 @@ from .pages import PAGE_BYTES, PageFolder, full_name, remove_if_there, revision
 from .prepared import Edit, Foreseen, Kept, PreparedEdits, State
 from .program import Program
 from .refusals import Refusal
+from .tags import bears_mark, numbers
 
 CLIENT = Path(__file__).resolve().parent.parent.parent / "client"
 STATIC = re.compile(r"(?!tests/)(?:[A-Za-z0-9_-]+/)*[A-Za-z0-9_-][A-Za-z0-9_.-]*\.(?:js|css|svg)")
@@ -39,13 +40,6 @@ JSON_TYPE = "application/json; charset=utf-8"
 PAGE_TYPE = "text/html; charset=utf-8"
 
 MENDED_BYTES = 16_777_216  # of HTML that is mended, which takes much more time and memory than wtround
-# An element's name and number, where it has one.
-NUMBERED = re.compile(
-    rb"<([a-z][a-z0-9]*)\s(?:[^<>\"']|\"[^\"]*\"|'[^']*')*?"
-    rb"\bid\s*=\s*[\"']?(mw[1-9][0-9]*)\b",
-    re.IGNORECASE,
-)
-MARK = re.compile(rb"<[a-z][a-z0-9]*\s(?:[^<>\"']|\"[^\"]*\"|'[^']*')*?\bdata-wt-edit\s*=")
 STALE = "The page, or a template that it takes, was changed since you opened it: open it again, and edit that."
 
 
@@ -532,19 +526,14 @@ def check_accepted(field: str) -> None:
         raise Refusal(406, "NotAcceptable", sentence)
 
 
-def bears_mark(document: bytes) -> bool:
-    """Whether an element has the attribute of a mark. Where its name stands nowhere no tag is looked at."""
-    return b"data-wt-edit" in document and MARK.search(document) is not None
-
-
 def check_kept(document: bytes, original: bytes) -> None:
     """Refuses HTML without a mark in which no element of the page is left, as a fragment that a client sent
     for the whole: it would take out all that the page has."""
-    first, other = NUMBERED.search(original), NUMBERED.search(document)
-    if first is not None and other is not None and first.groups() == other.groups():
+    first, other = next(numbers(original), None), next(numbers(document), None)
+    if first is not None and first == other:
         return  # as mostly: the others needn't be looked at
-    kept = set(NUMBERED.findall(original))
-    if kept and kept.isdisjoint((name.lower(), number) for name, number in NUMBERED.findall(document)):
+    kept = set(numbers(original))
+    if kept and kept.isdisjoint(numbers(document)):
         sentence = "Nothing of the page is left in this HTML: send the whole document, or mark what is to go."
         raise Refusal(422, "NothingKept", sentence)
 

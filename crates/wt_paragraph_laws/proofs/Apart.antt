@@ -75,7 +75,7 @@ each_unit : (us vs : List (List Row)) → AllByRecursion IsUnit us → AllByRecu
 each_unit [] vs h g = g
 each_unit (u ∷ us) vs (h, hs) g = (h, each_unit us vs hs g)
 
-units_beside : (rs ss : List Row) → AreUnits (units kind_of rs) rs → AreUnits (units kind_of ss) ss
+pub units_beside : (rs ss : List Row) → AreUnits (units kind_of rs) rs → AreUnits (units kind_of ss) ss
     → units kind_of (rs ++ ss) ≡ units kind_of rs ++ units kind_of ss
 units_beside rs ss h g =
     let us : List (List Row) = units kind_of rs in
@@ -106,7 +106,7 @@ parts_are : (rs : List Row) → body_parts rs ≡ parts_of_units (units kind_of 
 unfolding blocks
 parts_are rs = refl
 
-parts_beside : (rs ss : List Row) → units kind_of (rs ++ ss) ≡ units kind_of rs ++ units kind_of ss
+pub parts_beside : (rs ss : List Row) → units kind_of (rs ++ ss) ≡ units kind_of rs ++ units kind_of ss
     → Apart same_block (units kind_of rs) (units kind_of ss) → body_parts (rs ++ ss) ≡ body_parts rs ++ body_parts ss
 parts_beside rs ss h e =
     parts_are (rs ++ ss)
