@@ -34,6 +34,12 @@ class Allocators(ServingCase):
     def test_a_library_that_a_user_preloads_stays_alone(self) -> None:
         self.assertEqual(self.found("libmimalloc.so.2", LD_PRELOAD="other.so")["LD_PRELOAD"], "other.so")
 
+    def test_large_pages_unless_a_user_wants_none(self) -> None:
+        name = "MIMALLOC_LARGE_OS_PAGES"
+        self.assertEqual(self.found("libc.so.6")[name], "1")
+        environment.cache_clear()
+        self.assertEqual(self.found("libc.so.6", **{name: "0"})[name], "0")
+
     def test_a_program_that_does_not_run(self) -> None:
         for path in ("/nowhere", "/bin/true", "/bin/false"):
             self.assertNotIn("LD_PRELOAD", self.found("libc.so.6", path))

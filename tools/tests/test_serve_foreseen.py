@@ -151,7 +151,8 @@ class LongPages(ServingCase):
 
     def test_an_edit_that_is_refused_or_stale(self) -> None:
         html, tag = self.html("Opava", EDITORS)
-        edit = {"html": html.replace("is a town in", "is an old town in"), "mended": True, "offsetType": "none"}
+        html = html.replace("is a town in", "is an old town in")
+        edit = {"html": html, "mended": True, "offsetType": "none"}
         before = self.page()
         self.assertEqual(self.post(edit, 'W/"1/2"', "?preview=1")[0], 412)
         refused = mock.patch.object(Program, "selser", side_effect=Refusal(422, "Moved", "No."))
