@@ -11,7 +11,8 @@ import { isBundle } from "./bundles.js";
 import { Part, numberOf } from "./markup.js";
 import { Original, kindOf } from "./original.js";
 import { dropEmptyLines } from "./lines.js";
-import { linkTarget, withEdgesOutside } from "./links.js";
+import { Line, linkTarget, withEdgesOutside } from "./links.js";
+import { Places } from "./places.js";
 import { putBack } from "./strays.js";
 import { append, isBare, isEmpty, tidy } from "./texts.js";
 import { Watch } from "./watch.js";
@@ -86,6 +87,7 @@ export class Mender {
     if (!this.#claimTouched(root)) this.#claim(root.querySelectorAll("[id]"));
     const attributes = this.original?.page.attributes ?? this.#attributes(root, "body", 0);
     const page = new Part("body", new Map(attributes), this.#blocks(root.childNodes));
+    new Places(this.original).fit(page);
     if (this.original !== undefined) putBack(page, this.original);
     dropEmptyLines(page, this.original);
     return page;
@@ -354,7 +356,9 @@ export class Mender {
     }
     if (LISTS.has(name)) return this.#list(element, name);
     if (name === "hr") return [this.#part(element, name, [])];
-    if (name === "pre") return [this.#tidied(element, name, this.#inline(element.childNodes))];
+    if (name === "pre") {
+      return [this.#tidied(element, name, this.#flat(this.#inline(element.childNodes), () => false))];
+    }
     if (name === "section") return [this.#part(element, name, this.#blocks(element.childNodes))];
     if (name === "table" || name === "tbody" || name === "tr") return [this.#tablePart(element, name)];
     return this.#blocks(element.childNodes);
@@ -499,14 +503,16 @@ export class Mender {
    * @returns {Pieces} texts, inline elements, and the blocks that stand among them
    */
   #inline(nodes) {
-    /** @type {Pieces} */
-    const out = [];
+    const line = new Line();
     for (const node of nodes) {
-      if (node.nodeType === TEXT) append(out, textOf(node));
+      if (node.nodeType === TEXT) line.add(textOf(node));
       if (node.nodeType !== ELEMENT) continue;
-      for (const piece of this.#inlineElement(/** @type {Element} */ (node))) append(out, piece);
+      const element = /** @type {Element} */ (node);
+      const pieces = this.#inlineElement(element);
+      if (nameOf(element) === "a" && this.#numberOf(element) !== 0) line.addLink(pieces);
+      else for (const piece of pieces) line.add(piece);
     }
-    return out;
+    return line.end();
   }
 
   /**
@@ -536,17 +542,21 @@ export class Mender {
    */
   #styled(element, name) {
     const isStyle = name === "b" || name === "i";
-    if (isStyle && this.#styles.has(name) && !this.#hasAbove(element, name)) return this.#inline(element.childNodes);
+    if (isStyle && this.#styles.has(name) && !this.#hasAbove(element, name)) {
+      return this.#inline(element.childNodes);
+    }
     const children = this.#flat(this.#within(isStyle ? [name] : [], element.childNodes), () => false);
     return isBare(children) && this.#mayVanish(element) ? children : [this.#part(element, name, children)];
   }
 
   /**
-   * Whether the page has the element inside another one of this name.
+   * Whether the page has the element inside another one of this name; of a page that isn't known, whether it
+   * may have it so.
    * @param {Element} element
    * @param {string} name
    */
   #hasAbove(element, name) {
+    if (this.original === undefined) return this.#numberOf(element) !== 0;
     let above = this.#kept(this.#numberOf(element))?.parent;
     while (above && above.part.name !== name) above = above.parent;
     return Boolean(above);
@@ -713,7 +723,8 @@ export class Mender {
   }
 
   /**
-   * Blocks where none may stand become their inside, with a line break to what stands before and behind them.
+   * Blocks where none may stand become their inside, with a line break to what stands before and behind them;
+   * groups stay.
    * @param {Pieces} pieces
    * @param {(block: Part) => boolean} stays  whether a block may stand there
    * @returns {Pieces}
@@ -723,10 +734,11 @@ export class Mender {
     const out = [];
     let isBehindBlock = false;
     for (const piece of pieces) {
-      const isInner = typeof piece !== "string" && isBlock(piece) && !stays(piece);
+      const isOne = typeof piece !== "string" && isBlock(piece);
+      const isInner = isOne && !piece.attributes.has("about") && !stays(piece);
       const content = isInner ? this.#flat(piece.children, () => false) : [piece];
       if (isEmpty(content) && (isInner || isBehindBlock)) continue;
-      const isStaying = !isInner && typeof piece !== "string" && isBlock(piece);
+      const isStaying = isOne && !isInner;
       if ((isInner || isBehindBlock) && !isStaying && !isEmpty(out)) append(out, new Part("br"));
       for (const inner of content) append(out, inner);
       isBehindBlock = isInner;

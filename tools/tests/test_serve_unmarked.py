@@ -193,6 +193,26 @@ class Unmarked(ServingCase):
         status, _, answer = self.ask("POST", "/save/Opava", body, **headers)
         self.assertEqual((status, json.loads(answer)["error"]), (422, "NothingKept"))
 
+    def test_a_mark_in_a_value_is_none(self) -> None:
+        """Older browsers write `<` in values as it is: what a call holds isn't an element of the document."""
+        page = "{{Lang|de|<p data-wt-edit=x>}} a"
+        (self.pages / "Value.wiki").write_text(page)
+        html, tag = self.html("Value")
+        sent = html.replace("&lt;p data-wt-edit=x&gt;", "<p data-wt-edit=x>").replace(" a<", " b<")
+        self.assertIn("<p data-wt-edit=x>", sent)
+        status, told = self.save("Value", sent, tag)
+        self.assertEqual((status, self.page("Value")), (200, page.replace(" a", " b")), told)
+
+    def test_text_behind_a_list_of_an_item(self) -> None:
+        (self.pages / "Behind.wiki").write_text("* a\n** b\n* c\n\n{|\n| d\n* e\n|}")
+        html, tag = self.html("Behind")
+        for old, new in (("b</li></ul>", "b</li></ul><p>x <b>y</b></p>"), ("e</li></ul>", "e</li></ul>z <i>w</i>")):
+            self.assertIn(old, html)
+            html = html.replace(old, new)
+        status, told = self.save("Behind", html, tag)
+        wanted = "* a\n** b\n*: x '''y'''\n* c\n\n{|\n| d\n* e\n\nz ''w''\n|}"
+        self.assertEqual((status, self.page("Behind")), (200, wanted), told)
+
 
 class OwnTemplate(ServingCase):
     """A page that shows itself, as the documentation of a template does."""
