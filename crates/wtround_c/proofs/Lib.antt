@@ -1,4 +1,6 @@
 mod Cases
+mod FetchCases
+mod FetchLaws
 mod IndexLaws
 mod RunLaws
 mod RunCases
