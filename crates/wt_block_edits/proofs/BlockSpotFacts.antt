@@ -84,7 +84,7 @@ facts_spot : (xs : List Item) (e : SpotEdit) (ds : List Sending) (vs : List Item
     → IsSentFor e.others e.spot.before → IsOrdinaryPart e.spot.before → IsOrdinary (unplaced (block_of e.spot)) → AreOwn (page_items e.spot.text)
     → AreOwn (page_items (new_of e)) → IsText e.spot.block e.typing → 1 ≤ n → ends_open (sources before ++ e.spot.before) ≡ false
     → ((m : ℕ) (after : List Item) → 1 ≤ m → sources after ≡ (sources before ++ e.spot.before) ++ source_of e.spot.block e.spot.text
-        → Facts xs after ds (blocks_of m after vs) was now shown)
+    → Facts xs after ds (blocks_of m after vs) was now shown)
     → Facts xs before (all_kept e.others ++ sending_for e.spot.block e.typing ∷ ds)
     (blocks_of n before (blocks_in (page_items e.spot.before) ++ block_of e.spot ∷ vs))
     (e.spot.before ++ (source_of e.spot.block e.spot.text ++ was)) (e.spot.before ++ (source_of e.spot.block (new_of e) ++ now))

@@ -7,3 +7,4 @@ pub mod BlockSpotFacts
 pub mod BlocksTake
 pub mod BlocksUnmarked
 pub mod BlocksCalls
+mod Cases

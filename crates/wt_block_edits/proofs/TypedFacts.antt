@@ -11,7 +11,7 @@ use Rattle.wt_tree.specs.Plain.{element, Plains, ended, along, text_before}
 use Rattle.wt_tree.specs.Source.{flat, flat_of_all}
 use Rattle.wt_tree.specs.Tiling.{HasNoGroup, NoneIsGroup}
 use Rattle.wt_tree.specs.Tree.{Label, Tree, tree, Trees, none, more}
-use Rattle.wt_span.specs.Items.{Item, char, source, sources}
+use Rattle.wt_span.specs.Items.{Item, source, sources}
 use Rattle.wt_guards.specs.Guards.{Setting}
 use Rattle.wt_inline.specs.ItemTree.{ItemTree, forest, tree_items, held_by_all}
 use Rattle.wt_checks.specs.PutBack.{has_frame, have_frame}
@@ -37,7 +37,7 @@ use Rattle.wt_prose.proofs.ProseTrees.{items_behind}
 use Rattle.wt_prose.proofs.BlockFacts.{behind_source, behind_width}
 use Rattle.wt_page_edits.proofs.KeptBlocks.{block_shown}
 use Rattle.wt_heading_laws.specs.TypedHeadings.{equals, space}
-use Rattle.wt_block_edits.specs.Blocks.{opening, closing, source_of}
+use Rattle.wt_block_edits.specs.Blocks.{opening, source_of}
 use Rattle.wt_block_edits.specs.BlockEdits.{Sending, retyped, kept, sent_children, AreKept, Typing, types, keeps, typed_as, new_text, sending_for, IsText}
 use Rattle.wt_block_edits.proofs.BlockTrees.{open_items, close_items, leaf_block}
 
