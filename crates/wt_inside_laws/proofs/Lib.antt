@@ -1,0 +1,5 @@
+pub mod Shifted
+pub mod Behind
+pub mod Before
+pub mod InSections
+pub mod OneParagraph
