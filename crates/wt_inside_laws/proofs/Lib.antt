@@ -3,3 +3,4 @@ pub mod Behind
 pub mod Before
 pub mod InSections
 pub mod OneParagraph
+pub mod AllParagraphs

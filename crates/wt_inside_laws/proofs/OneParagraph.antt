@@ -130,11 +130,11 @@ front_source (s ∷ ss) before h =
     blocks_joined own (p ∷ page_blocks ss before)
     ∙ ap₂ (λ xs ys. xs ++ ys) (part_source s.before) (ap₂ (λ xs ys. xs ++ ys) (para_source s.paragraph h.0) (front_source ss before h.1))
 
-typed_front : (ss rs : List Spot) → AllTyped (ss ++ rs) → AllTyped ss
+pub typed_front : (ss rs : List Spot) → AllTyped (ss ++ rs) → AllTyped ss
 typed_front [] rs h = tt
 typed_front (s ∷ ss) rs h = (h.0, typed_front ss rs h.1)
 
-typed_rest : (ss rs : List Spot) → AllTyped (ss ++ rs) → AllTyped rs
+pub typed_rest : (ss rs : List Spot) → AllTyped (ss ++ rs) → AllTyped rs
 typed_rest [] rs h = h
 typed_rest (s ∷ ss) rs h = typed_rest ss rs h.1
 
@@ -193,8 +193,8 @@ para_so p old new h k =
 
 -- ---- the body
 
-abbrev blocks_with : Place → List ℕ → List ItemTree
-blocks_with p q = page_blocks p.spots p.before ++ para_of (page_items q) ∷ page_blocks p.further p.behind
+abbrev blocks_with : Place → List ItemTree → List ℕ → List ItemTree
+blocks_with p vs q = page_blocks p.spots p.before ++ para_of (page_items q) ∷ vs
 
 abbrev body_label : List ItemTree → Label
 body_label ts = sized kind.Body 0 (held_by_all (forest ts) ++ []) [] []
@@ -206,11 +206,12 @@ body_made : (ts : List ItemTree) → cut_texts (annotated_plainly (body_with ts)
 unfolding annotated_plainly label_at
 body_made ts = refl
 
-tree_so : (p : Place) (q : List ℕ) → AreSpots (spots_with p q) p.behind → part_tree (page_with p q) ≡ body_of (blocks_with p q)
-tree_so p q h =
-    tree_of_spots (spots_with p q) p.behind h
-    ∙ ap (λ ts. cut_texts (annotated_plainly (body_with ts))) (split p.spots p.further (record { before = p.before; paragraph = q }) p.behind)
-    ∙ body_made (blocks_with p q)
+tree_so : (p : Place) (rs : List Spot) (behind q : List ℕ) → AreSpots (spots_with p q rs) behind
+    → part_tree (page_with p q rs behind) ≡ body_of (blocks_with p (page_blocks rs behind) q)
+tree_so p rs behind q h =
+    tree_of_spots (spots_with p q rs) behind h
+    ∙ ap (λ ts. cut_texts (annotated_plainly (body_with ts))) (split p.spots rs (record { before = p.before; paragraph = q }) behind)
+    ∙ body_made (blocks_with p (page_blocks rs behind) q)
 
 body_width : (ts : List ItemTree) → width (held_by_all (forest ts) ++ []) ≡ length (blocks_source ts)
 body_width ts = ap width (append-nil (held_by_all (forest ts))) ∙ ap length (held_blocks ts)
@@ -218,13 +219,12 @@ body_width ts = ap width (append-nil (held_by_all (forest ts))) ∙ ap length (h
 front_width : (p : Place) → AllTyped p.spots → length (blocks_source (page_blocks p.spots p.before)) ≡ length (source_before p)
 front_width p h = ap length (front_source p.spots p.before h)
 
-whole_width : (p : Place) (q : List ℕ) → AllTyped p.spots → IsParagraph q
-    → width (held_by_all (forest (blocks_with p q)) ++ []) ≡ length (source_before p) + (length q + length (blocks_source (page_blocks p.further p.behind)))
-whole_width p q h k =
+whole_width : (p : Place) (vs : List ItemTree) (q : List ℕ) → AllTyped p.spots → IsParagraph q
+    → width (held_by_all (forest (blocks_with p vs q)) ++ []) ≡ length (source_before p) + (length q + length (blocks_source vs))
+whole_width p vs q h k =
     let us : List ItemTree = page_blocks p.spots p.before in
-    let vs : List ItemTree = page_blocks p.further p.behind in
     let t : ItemTree = para_of (page_items q) in
-    let a = body_width (blocks_with p q) in
+    let a = body_width (blocks_with p vs q) in
     let b = ap length (blocks_joined us (t ∷ vs)) in
     let c = length-append (blocks_source us) (blocks_source (t ∷ vs)) in
     let d = length-append (sources (tree_items t)) (blocks_source vs) in
@@ -232,12 +232,11 @@ whole_width p q h k =
     let w = para_width q k in
     omega (arith, a, b, c, d, f, w)
 
-blocks_so : (p : Place) (old new : List ℕ) → AllTyped p.spots → IsParagraph old → IsParagraph new
-    → all_with_inside (replaced_by p old new) (blocks_of 1 [] (blocks_with p old)) ≡ blocks_of 1 [] (blocks_with p new)
-blocks_so p old new f h k =
+blocks_so : (p : Place) (vs : List ItemTree) (old new : List ℕ) → AllTyped p.spots → IsParagraph old → IsParagraph new
+    → all_with_inside (replaced_by p old new) (blocks_of 1 [] (blocks_with p vs old)) ≡ blocks_of 1 [] (blocks_with p vs new)
+blocks_so p vs old new f h k =
     let e : Edit = replaced_by p old new in
     let us : List ItemTree = page_blocks p.spots p.before in
-    let vs : List ItemTree = page_blocks p.further p.behind in
     let was : ItemTree = para_of (page_items old) in
     let now : ItemTree = para_of (page_items new) in
     let n : ℕ = number_after 1 [] us in
@@ -269,18 +268,18 @@ blocks_so p old new f h k =
       new_place = omega (arith, at, w, u, old_width, new_width);
     })))
 
-label_so : (p : Place) (old new : List ℕ) → AllTyped p.spots → IsParagraph old → IsParagraph new
-    → moved_label (replaced_by p old new) (body_label (blocks_with p old)) ≡ body_label (blocks_with p new)
-label_so p old new f h k =
+label_so : (p : Place) (vs : List ItemTree) (old new : List ℕ) → AllTyped p.spots → IsParagraph old → IsParagraph new
+    → moved_label (replaced_by p old new) (body_label (blocks_with p vs old)) ≡ body_label (blocks_with p vs new)
+label_so p vs old new f h k =
     let e : Edit = replaced_by p old new in
-    let l : Label = body_label (blocks_with p old) in
+    let l : Label = body_label (blocks_with p vs old) in
     let some = filled old h in
-    let was = whole_width p old f h in
-    let now = whole_width p new f k in
+    let was = whole_width p vs old f h in
+    let now = whole_width p vs new f k in
     ap₂ (λ (i : ℕ) (r : Option Ranges). record l { id = i; ranges = r }) (zero_stays e)
     (ap₂ (λ (x y : ℕ). Some (record { start = x; end = y; open_w = 0; close_w = 0 }))
     (moved_before e 0 (omega (arith, some)))
-    (moved_behind e (0 + width (held_by_all (forest (blocks_with p old)) ++ [])) (0 + width (held_by_all (forest (blocks_with p new)) ++ []))
+    (moved_behind e (0 + width (held_by_all (forest (blocks_with p vs old)) ++ [])) (0 + width (held_by_all (forest (blocks_with p vs new)) ++ []))
     (omega (arith, was)) (omega (arith, was, now))))
 
 -- of a body, whatever is in it: it has no number
@@ -290,11 +289,11 @@ opened p old new ts us =
     let e : Edit = replaced_by p old new in
     ap (tree (moved_label e (body_label ts))) (not_number (0 == e.number) e.inside (all_with_inside e us) (test_below 0 e.number (omega arith)))
 
-body_so : (p : Place) (old new : List ℕ) → AllTyped p.spots → IsParagraph old → IsParagraph new
-    → with_inside (replaced_by p old new) (body_of (blocks_with p old)) ≡ body_of (blocks_with p new)
-body_so p old new f h k =
-    opened p old new (blocks_with p old) (blocks_of 1 [] (blocks_with p old))
-    ∙ ap₂ tree (label_so p old new f h k) (blocks_so p old new f h k)
+body_so : (p : Place) (vs : List ItemTree) (old new : List ℕ) → AllTyped p.spots → IsParagraph old → IsParagraph new
+    → with_inside (replaced_by p old new) (body_of (blocks_with p vs old)) ≡ body_of (blocks_with p vs new)
+body_so p vs old new f h k =
+    opened p old new (blocks_with p vs old) (blocks_of 1 [] (blocks_with p vs old))
+    ∙ ap₂ tree (label_so p vs old new f h k) (blocks_so p vs old new f h k)
 
 -- ---- the page
 
@@ -312,21 +311,22 @@ typed_so : (ss rs : List Spot) (before new : List ℕ) → AllTyped ss → IsPar
 typed_so [] rs before new h k r = (k, r)
 typed_so (s ∷ ss) rs before new h k r = (h.0, typed_so ss rs before new h.1 k r)
 
-pub tree_replaced : (pages : Pages) (p : Place) (old new : List ℕ) → AreSpots (spots_with p old) p.behind → IsParagraph new
-    → page_tree pages (page_with p new) ≡ with_inside (replaced_by p old new) (page_tree pages (page_with p old))
-tree_replaced pages p old new h k =
+pub tree_replaced : (pages : Pages) (p : Place) (old new : List ℕ) (rs : List Spot) (behind : List ℕ) → AreSpots (spots_with p old rs) behind → IsParagraph new
+    → page_tree pages (page_with p new rs behind) ≡ with_inside (replaced_by p old new) (page_tree pages (page_with p old rs behind))
+tree_replaced pages p old new rs behind h k =
     let e : Edit = replaced_by p old new in
     let s : Spot = record { before = p.before; paragraph = old } in
-    let typed : AllTyped (spots_with p old) = are_typed (spots_with p old) p.behind h in
-    let front : AllTyped p.spots = typed_front p.spots (s ∷ p.further) typed in
-    let rest : AllTyped (s ∷ p.further) = typed_rest p.spots (s ∷ p.further) typed in
-    let again : AreSpots (spots_with p new) p.behind =
-    spots_again (spots_with p old) (spots_with p new) p.behind h (round_so p.spots p.further p.before old new)
-    (typed_so p.spots p.further p.before new front k rest.1) in
-    let ts : List ItemTree = blocks_with p old in
+    let typed : AllTyped (spots_with p old rs) = are_typed (spots_with p old rs) behind h in
+    let front : AllTyped p.spots = typed_front p.spots (s ∷ rs) typed in
+    let rest : AllTyped (s ∷ rs) = typed_rest p.spots (s ∷ rs) typed in
+    let again : AreSpots (spots_with p new rs) behind =
+    spots_again (spots_with p old rs) (spots_with p new rs) behind h (round_so p.spots rs p.before old new)
+    (typed_so p.spots rs p.before new front k rest.1) in
+    let vs : List ItemTree = page_blocks rs behind in
+    let ts : List ItemTree = blocks_with p vs old in
     let us : Trees = blocks_of 1 [] ts in
-    page_is pages (spots_with p new) p.behind again
-    ∙ ap with_sections (tree_so p new again ∙ sym (body_so p old new front rest.0 k))
+    page_is pages (spots_with p new rs) behind again
+    ∙ ap with_sections (tree_so p rs behind new again ∙ sym (body_so p vs old new front rest.0 k))
     ∙ sections_moved e (body_label ts) us (opened p old new ts us) (opened p old new ts (gathered us)) (omega arith)
-    ∙ ap (λ t. with_inside e (with_sections t)) (sym (tree_so p old h))
-    ∙ ap (with_inside e) (sym (page_is pages (spots_with p old) p.behind h))
+    ∙ ap (λ t. with_inside e (with_sections t)) (sym (tree_so p rs behind old h))
+    ∙ ap (with_inside e) (sym (page_is pages (spots_with p old rs) behind h))

@@ -1,4 +1,4 @@
--- One paragraph of a page becomes another one: by what the tree of the new page differs from that of the old one.
+-- Paragraphs of a page become other ones: by what the tree of the new page differs from that of the old one.
 use Rattle.std.specs.Prelude.{ℕ, ◌+◌, List, [], ◌∷◌, ◌++◌, length}
 use Rattle.wt_tree.specs.Tree.{Tree}
 use Rattle.wt_inline.specs.ItemTree.{ItemTree, forest}
@@ -9,30 +9,29 @@ use Rattle.wt_annotated.specs.WithoutCalls.{placed, all_placed}
 use Rattle.wt_local.specs.Replaced.{Edit}
 use Rattle.wt_text_edits.specs.LonePages.{para_of}
 use Rattle.wt_moved_laws.specs.Standing.{standing}
+use Rattle.wt_prose.specs.ProseEdits.{new_paragraph}
 use Rattle.wt_paragraph_laws.specs.Spots.{Spot, spots_source, page_blocks}
+use Rattle.wt_page_edits.specs.PageEdits.{SpotEdit, PageEdit}
 
 -- ---- the page
 
--- A page with a paragraph that is looked at: the spots before its own, what stands between them and it, its source, and the spots and what
--- stands behind.
+-- What stands before a paragraph: the spots before its own, and what stands between them and it.
 pub record Place : Type 0 where
   pub spots : List Spot
   pub before : List ℕ
-  pub further : List Spot
-  pub behind : List ℕ
 
--- its spots, with this paragraph there
-abbrev pub spots_with : Place → List ℕ → List Spot
-spots_with p paragraph = p.spots ++ record { before = p.before; paragraph = paragraph } ∷ p.further
-
-abbrev pub page_with : Place → List ℕ → List ℕ
-page_with p paragraph = spots_source (spots_with p paragraph) p.behind
-
--- what stands before the paragraph
 abbrev pub source_before : Place → List ℕ
 source_before p = spots_source p.spots p.before
 
--- ---- the edit
+-- the spots of a page that has this paragraph there, and these spots behind it
+abbrev pub spots_with : Place → List ℕ → List Spot → List Spot
+spots_with p paragraph further = p.spots ++ record { before = p.before; paragraph = paragraph } ∷ further
+
+-- the page itself, behind whose last paragraph this stands
+abbrev pub page_with : Place → List ℕ → List Spot → List ℕ → List ℕ
+page_with p paragraph further behind = spots_source (spots_with p paragraph further) behind
+
+-- ---- one paragraph
 
 -- how many nodes of these blocks have a number
 abbrev pub numbered : List ItemTree → ℕ
@@ -60,3 +59,15 @@ replaced_by p old new = record {
   old_last = number_at p + numbered_inside old;
   new_last = number_at p + numbered_inside new;
 }
+
+-- ---- the paragraphs of an edit
+
+-- One after the other, behind these spots. The last is replaced first, so each finds what stands before it as it was.
+abbrev pub replaced_behind : List Spot → List SpotEdit → List Edit
+replaced_behind front [] = []
+replaced_behind front (e ∷ es) =
+    replaced_by (record { spots = front; before = e.spot.before }) e.spot.paragraph (new_paragraph e.sending e.spot.paragraph)
+    ∷ replaced_behind (front ++ e.spot ∷ []) es
+
+abbrev pub all_replaced : PageEdit → List Edit
+all_replaced e = replaced_behind [] e.spots
