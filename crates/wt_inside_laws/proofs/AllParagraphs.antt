@@ -1,14 +1,13 @@
 -- The tree of a page in which texts were typed in any of its paragraphs: each is replaced, the last one first.
 use Rattle.std.proofs.Common.{◌≡◌, ℕ, List, [], ◌∷◌, ◌++◌, refl, sym, ap, ◌∙◌, subst, append_assoc}
-use Rattle.wt_tree.specs.Tree.{Tree}
 use Rattle.wt_devices.specs.Device.{Pages}
 use Rattle.wt_page_round_trip.specs.PageTree.{page_tree}
-use Rattle.wt_local.specs.Replaced.{Edit, with_inside, with_insides}
+use Rattle.wt_local.specs.Replaced.{with_inside, with_insides}
 use Rattle.wt_prose.specs.ProseEdits.{new_paragraph}
 use Rattle.wt_paragraph_laws.specs.Spots.{Spot, spots_source, AreSpots, SameRound, AllTyped}
 use Rattle.wt_paragraph_laws.proofs.SpotsAgain.{spots_again}
 use Rattle.wt_paragraph_laws.proofs.SpotsTrees.{are_typed}
-use Rattle.wt_page_edits.specs.PageEdits.{SpotEdit, PageEdit, old_spots, new_spots, new_spot, old_page, new_page, IsPageEdit}
+use Rattle.wt_page_edits.specs.PageEdits.{SpotEdit, PageEdit, old_spots, new_spots, old_page, new_page, IsPageEdit}
 use Rattle.wt_page_edits.proofs.SpotFacts.{new_round, new_all_typed}
 use Rattle.wt_inside_laws.specs.ParagraphEdits.{Place, replaced_by, replaced_behind, all_replaced}
 use Rattle.wt_inside_laws.proofs.OneParagraph.{typed_front, typed_rest, tree_replaced}

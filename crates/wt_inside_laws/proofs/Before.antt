@@ -1,14 +1,14 @@
 -- Before the paragraph: no number and no place changes.
-use Rattle.std.proofs.Common.{arith, true≢false, ◌≡◌, ℕ, ◌+◌, ◌-◌, ◌<◌, ◌≤◌, ◌==◌, nat_lt, nat_le, Bool, true, false, Option, Some, None, List, [], ◌∷◌, ◌++◌, length, refl, sym, ap, ap₂, ◌∙◌, cond}
+use Rattle.std.proofs.Common.{arith, true≢false, ◌≡◌, ℕ, ◌+◌, ◌-◌, ◌<◌, ◌≤◌, ◌==◌, nat_lt, Bool, true, false, Option, Some, None, List, [], ◌∷◌, ◌++◌, length, refl, sym, ap, ap₂, cond}
 use Rattle.std.specs.Prelude.{◌||◌, if◌then◌else◌}
 use Rattle.std.proofs.lemmas.Bool.Decides.{nat_tests}
 use Rattle.wt_tree.specs.declared.kind.Ranges.{Ranges}
 use Rattle.wt_tree.specs.declared.row.Texts.{Texts}
 use Rattle.wt_tree.specs.declared.row.Texts.TheVariants.{Separators, Page, Bordered, OwnCharacter}
 use Rattle.wt_tree.specs.Kinds.{is_leaf, is_numbered, texts_of_kind}
-use Rattle.wt_tree.specs.Recut.{is_blank, text_leaf, sep_leaf, is_text, is_border, leads_to_block, place_in, front_ranges, rest_ranges, joined_ranges, text_onto, joined_texts, from_start, front_of, rest_of, parts_before, text_before, cut_from}
+use Rattle.wt_tree.specs.Recut.{is_blank, text_leaf, sep_leaf, is_text, is_border, leads_to_block, front_ranges, rest_ranges, joined_ranges, text_onto, joined_texts, from_start, front_of, rest_of, parts_before, text_before, cut_from}
 use Rattle.wt_tree.specs.Tiling.{is_group}
-use Rattle.wt_tree.specs.Tree.{Label, Tree, tree, Trees, none, more, label}
+use Rattle.wt_tree.specs.Tree.{Tree, tree, Trees, none, more}
 use Rattle.wt_span.specs.Items.{Item}
 use Rattle.wt_inline.specs.ItemTree.{ItemTree, inner, ItemTrees, nothing, further, tree_items, held_by_all}
 use Rattle.wt_annotated.specs.CutTexts.{cut_as, cut_texts, all_cut_texts}
@@ -69,19 +69,22 @@ mutual
       let three = width_three o (held_by_all ts) c in
       let at : width before ≤ b = omega (arith, fits) in
       let own : m + cond v 1 0 ≤ n = omega (arith, le) in
-      let rest : m + cond v 1 0 + inside ≤ n = omega (arith, le) in
-      (number_below v n m first own, (at, fits),
-      inside_below n b (next_after h.kind m) (m + cond v 1 0) (is_group h.kind) (is_leaf h.kind) us (group_leaf h.kind) rest
-      (λ all. all_placed_below n b (next_after h.kind m) (before ++ o) ts first (omega (arith, all, next_is v m)) (omega (arith, fits, w, three))))
+      let rest : m + cond v 1 0 + inside ≤ n = omega (arith, le) in (
+        number_below v n m first own,
+        (at, fits),
+        inside_below n b (next_after h.kind m) (m + cond v 1 0) (is_group h.kind) (is_leaf h.kind) us (group_leaf h.kind) rest
+            (λ all. all_placed_below n b (next_after h.kind m) (before ++ o) ts first (omega (arith, all, next_is v m)) (omega (arith, fits, w, three))),
+      )
 
   all_placed_below : (n b m : ℕ) (before : List Item) (ts : ItemTrees) → 1 ≤ n → m + count_all (all_placed before ts) ≤ n
       → width before + width (held_by_all ts) ≤ b → AllBelow n b (all_with_numbers m (all_placed before ts))
   all_placed_below n b m before nothing first le fits = tt
   all_placed_below n b m before (further t ts) first le fits =
       let w = width_append before (tree_items t) in
-      let u = width_append (tree_items t) (held_by_all ts) in
-      (placed_below n b m before t first (omega (arith, le)) (omega (arith, fits, u)),
-      all_placed_below n b (m + count (placed before t)) (before ++ tree_items t) ts first (omega (arith, le)) (omega (arith, fits, w, u)))
+      let u = width_append (tree_items t) (held_by_all ts) in (
+        placed_below n b m before t first (omega (arith, le)) (omega (arith, fits, u)),
+        all_placed_below n b (m + count (placed before t)) (before ++ tree_items t) ts first (omega (arith, le)) (omega (arith, fits, w, u)),
+      )
 
 -- ---- joining and cutting
 

@@ -1,6 +1,5 @@
 -- Sections are gathered round the same children, before the inside of a block is replaced or afterwards.
-use Rattle.std.proofs.Common.{arith, true≢false, ◌≡◌, ℕ, ◌+◌, ◌-◌, ◌≤◌, ◌==◌, nat_lt, Bool, true, false, Option, Some, None, List, [], ◌∷◌, map, refl, sym, ap, ap₂, ◌∙◌, cond}
-use Rattle.wt_tree.specs.declared.kind.Kind.TheVariants as kind
+use Rattle.std.proofs.Common.{arith, true≢false, ◌≡◌, ℕ, ◌+◌, ◌-◌, ◌≤◌, ◌==◌, Bool, true, false, Option, Some, None, List, [], ◌∷◌, map, refl, sym, ap, ap₂, ◌∙◌, cond}
 use Rattle.wt_tree.specs.declared.kind.Ranges.{Ranges}
 use Rattle.wt_tree.specs.Tree.{Label, Tree, tree, Trees, none, more, label}
 use Rattle.wt_sections.specs.Sections.{spanned, last_ranges, section_label, section, Part, level_of, ends, before, from, put, opens, parts, part_trees, lead_if_any, with_lead, gathered, with_sections}

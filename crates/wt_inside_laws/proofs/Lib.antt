@@ -4,3 +4,4 @@ pub mod Before
 pub mod InSections
 pub mod OneParagraph
 pub mod AllParagraphs
+mod Cases

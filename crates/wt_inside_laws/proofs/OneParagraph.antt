@@ -1,16 +1,14 @@
 -- The tree of a page in which one paragraph became another one.
-use Rattle.std.proofs.Common.{arith, true≢false, ◌≡◌, ℕ, suc, ◌+◌, ◌-◌, ◌<◌, ◌≤◌, ◌==◌, Bool, true, false, Option, Some, None, List, [], ◌∷◌, ◌++◌, length, refl, sym, ap, ap₂, ◌∙◌, subst, cond, append-nil, append_assoc}
+use Rattle.std.proofs.Common.{arith, true≢false, ◌≡◌, ℕ, ◌+◌, ◌-◌, ◌<◌, ◌≤◌, ◌==◌, Bool, true, false, Option, Some, List, [], ◌∷◌, ◌++◌, length, refl, sym, ap, ap₂, ◌∙◌, cond, append-nil, append_assoc}
 use Rattle.std.proofs.lemmas.Grind.{flat_map-append}
 use Rattle.std.proofs.lemmas.List.{length-append}
 use Rattle.std.proofs.lemmas.Bool.Decides.{nat_tests}
 use Rattle.wt_tree.specs.declared.kind.Kind.TheVariants as kind
 use Rattle.wt_tree.specs.declared.kind.Ranges.{Ranges}
-use Rattle.wt_tree.specs.Tree.{Label, Tree, tree, Trees, none, more, label}
+use Rattle.wt_tree.specs.Tree.{Label, Tree, tree, Trees, more, label}
 use Rattle.wt_span.specs.Items.{Item, source, sources}
 use Rattle.wt_span.specs.Lexemes.{words, closed}
-use Rattle.wt_inline.specs.ItemTree.{plain, ItemTree, inner, ItemTrees, forest, tree_items, held_by_all}
-use Rattle.wt_inline.specs.Parts.{children as parts_of, parts}
-use Rattle.wt_inline.specs.declared.loose.Loose.TheVariants.{Text}
+use Rattle.wt_inline.specs.ItemTree.{ItemTree, forest, tree_items, held_by_all}
 use Rattle.wt_checks.specs.Kept.{children}
 use Rattle.wt_devices.specs.Device.{Pages}
 use Rattle.wt_expand.specs.PageItems.{page_items}
@@ -18,16 +16,16 @@ use Rattle.wt_expand.proofs.PageLaws.{page_sources}
 use Rattle.wt_sections.specs.Sections.{gathered, with_sections}
 use Rattle.wt_annotated.specs.CutTexts.{cut_texts}
 use Rattle.wt_annotated.specs.Labels.{width, label_at}
-use Rattle.wt_annotated.specs.Numbering.{count, count_all, with_numbers}
+use Rattle.wt_annotated.specs.Numbering.{count, count_all}
 use Rattle.wt_annotated.specs.WithoutCalls.{annotated as annotated_plainly, placed, all_placed}
 use Rattle.wt_annotated.proofs.Widths.{width_append}
 use Rattle.wt_page_round_trip.specs.PageTree.{page_tree}
-use Rattle.wt_local.specs.Replaced.{Edit, moved, renumbered, moved_range, moved_label, with_inside, all_with_inside}
+use Rattle.wt_local.specs.Replaced.{Edit, moved, moved_label, with_inside, all_with_inside}
 use Rattle.wt_text_edits.specs.LonePages.{para_of}
 use Rattle.wt_text_edits.proofs.LoneTrees.{sized}
-use Rattle.wt_text_edits.proofs.TypedLeaves.{AreOwn, HasAny, leaves, leaves_para, para_leaves}
+use Rattle.wt_text_edits.proofs.TypedLeaves.{AreOwn, HasAny, leaves, para_leaves}
 use Rattle.wt_moved_laws.specs.Standing.{standing}
-use Rattle.wt_prose.proofs.ProseTrees.{held, blocks_of, number_behind, items_behind}
+use Rattle.wt_prose.proofs.ProseTrees.{blocks_of, number_behind, items_behind}
 use Rattle.wt_prose.proofs.BlockFacts.{held_source}
 use Rattle.wt_prose.proofs.ProseFacts.{paragraph_is}
 use Rattle.wt_paragraph_laws.specs.Between.{blocks_in, body_with}
@@ -38,9 +36,9 @@ use Rattle.wt_paragraph_laws.proofs.SpotsTrees.{are_typed, tree_of_spots}
 use Rattle.wt_paragraph_laws.proofs.SpotsAgain.{spots_again}
 use Rattle.wt_page_edits.proofs.KeptBlocks.{blocks_source, part_source}
 use Rattle.wt_page_edits.proofs.PageTakes.{page_is}
-use Rattle.wt_inside_laws.specs.ParagraphEdits.{Place, spots_with, page_with, source_before, numbered, number_at, numbered_inside, paragraph_at, replaced_by}
-use Rattle.wt_inside_laws.proofs.Shifted.{shifted, count_shifted, standing_shifted, placed_count}
-use Rattle.wt_inside_laws.proofs.Behind.{IsBehind, test_no_less, test_not_up, test_up, test_below, blocks_moved}
+use Rattle.wt_inside_laws.specs.ParagraphEdits.{Place, spots_with, page_with, source_before, number_at, numbered_inside, paragraph_at, replaced_by}
+use Rattle.wt_inside_laws.proofs.Shifted.{shifted, standing_shifted, placed_count}
+use Rattle.wt_inside_laws.proofs.Behind.{test_no_less, test_not_up, test_up, test_below, blocks_moved}
 use Rattle.wt_inside_laws.proofs.Before.{standing_stays}
 use Rattle.wt_inside_laws.proofs.InSections.{zero_stays, not_number, sections_moved}
 
