@@ -124,7 +124,7 @@ are_spots = (
     before_utf8 = IsUtf8-nil;
     ungrouped = (refl, tt);
     leads = record { whole = refl; closed = refl };
-    block = typed_h;
+    block = inl typed_h;
   },
   (
     record {
@@ -141,7 +141,7 @@ are_spots = (
         before_utf8 = break_utf8;
         ungrouped = (refl, ((refl, tt), tt));
         leads = record { whole = refl; closed = refl };
-        block = typed_e;
+        block = inl typed_e;
       },
       (refl, (record { whole = refl; closed = refl }), tt),
       record {
