@@ -1,5 +1,5 @@
 -- What a page with typed paragraphs and headings means: a body with what each of its parts makes by itself, and these blocks between.
-use Rattle.std.proofs.Common.{arith, ◌≡◌, ℕ, zero, suc, List, [], ◌∷◌, ◌++◌, refl, ap, ◌∙◌, subst, sym}
+use Rattle.std.proofs.Common.{arith, ◌≡◌, ℕ, zero, suc, List, [], ◌∷◌, ◌++◌, refl, ap, ◌∙◌, subst, sym, ◌≤◌, inl, inr}
 use Rattle.wt_span.specs.Items.{Item}
 use Rattle.wt_inline.specs.ItemTree.{ItemTree}
 use Rattle.wt_inline.specs.Parts.{Part, node, children}
@@ -20,19 +20,31 @@ use Rattle.wt_block_edits.proofs.BlockReading.{spots_items, items_of_spots}
 
 -- ---- a block by itself
 
-heading_text : (n : ℕ) (q : List ℕ) → IsTypedHeading n q → IsHeadingText (page_items q)
-heading_text n q h =
+typed_is_text : (n : ℕ) (q : List ℕ) → IsTypedHeading n q → IsHeadingText (page_items q)
+typed_is_text n q h =
     subst (λ (q : List ℕ). IsHeadingText (page_items q)) (sym h.is) (typed_heading_text h.setting h.text h.of_block h.of_heading h.utf8 h.one_line)
+
+heading_text : (n : ℕ) (q : List ℕ) → IsBlock (heading n) q → IsHeadingText (page_items q)
+heading_text n q (inl t) = typed_is_text n q t
+heading_text n q (inr w) = w.is_text
+
+pub level_some : (n : ℕ) (q : List ℕ) → IsBlock (heading n) q → 1 ≤ n
+level_some n q (inl t) = t.some
+level_some n q (inr w) = w.some
+
+pub level_most : (n : ℕ) (q : List ℕ) → IsBlock (heading n) q → n ≤ 6
+level_most n q (inl t) = t.most
+level_most n q (inr w) = w.most
 
 block_between : (k : Block) (xs : List Item) (q : List ℕ) (tail : List Item) → LeadsTo k xs → IsBlock k q → EndsBlock k tail
     → parts_in (xs ++ (block_items k q ++ tail)) ≡ parts_in xs ++ node (block_tree k q) ∷ parts_in tail
 block_between paragraph xs q tail c h e = paragraph_between xs q tail c h e
-block_between (heading n) xs q tail c h e = heading_between xs n (page_items q) tail c h.some h.most (heading_text n q h) e
+block_between (heading n) xs q tail c h e = heading_between xs n (page_items q) tail c (level_some n q h) (level_most n q h) (heading_text n q h) e
 
 -- ---- what stands behind one
 
-heading_first : (n : ℕ) (q : List ℕ) (tail : List Item) → IsTypedHeading n q → EndsLine tail → BeginApart (rows (heading_line n (page_items q) ++ tail))
-heading_first zero q tail h e = absurd (omega (arith, h.some))
+heading_first : (n : ℕ) (q : List ℕ) (tail : List Item) → IsBlock (heading n) q → EndsLine tail → BeginApart (rows (heading_line n (page_items q) ++ tail))
+heading_first zero q tail h e = absurd (omega (arith, level_some zero q h))
 heading_first (suc n) q tail h e =
     let f = first_row n (page_items q) tail (heading_text (suc n) q h).unbroken e in
     subst BeginApart (sym f.2) refl

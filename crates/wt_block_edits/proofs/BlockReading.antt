@@ -1,5 +1,5 @@
 -- The items of a page with typed paragraphs and headings: those of its parts, each read as a page of its own; and it calls nothing.
-use Rattle.std.proofs.Common.{arith, refl, ◌≡◌, ℕ, zero, suc, Bool, false, List, [], ◌∷◌, ◌++◌, sym, ap, ◌∙◌, subst, append_assoc, None}
+use Rattle.std.proofs.Common.{arith, refl, ◌≡◌, ℕ, zero, suc, Bool, false, List, [], ◌∷◌, ◌++◌, sym, ap, ◌∙◌, subst, append-nil, append_assoc, None, inl, inr}
 use Rattle.std.specs.Prelude.{replicate}
 use Rattle.wt_span.specs.declared.form.Mode.TheVariants.{Page}
 use Rattle.wt_span.specs.declared.form.LexKind.TheVariants.{Equals}
@@ -20,12 +20,12 @@ use Rattle.wt_text_edits.proofs.TypedText.{HaveNoBraces, shown_expanded, shown_u
 use Rattle.wt_typed_blocks.specs.Sent.{Block, paragraph, heading}
 use Rattle.wt_prose.proofs.InFront.{Reads, InFront, reads_form, its_items, read_items, read_words}
 use Rattle.wt_prose.proofs.ProseReading.{page_front}
-use Rattle.wt_text_between.specs.Between.{StandsBefore}
+use Rattle.wt_text_between.specs.Between.{HasNoTag, StandsBefore}
 use Rattle.wt_text_between.proofs.Fronts.{before_reads, behind_reads}
 use Rattle.wt_paragraph_laws.specs.Between.{EndsParagraph}
-use Rattle.wt_paragraph_laws.proofs.Texts.{EndsHere, paragraph_front}
+use Rattle.wt_paragraph_laws.proofs.Texts.{tags_split, no_comment, EndsHere, read_rest, rest_is, nothing_is, paragraph_front}
 use Rattle.wt_heading_laws.specs.TypedHeadings.{equals, space, heading_line, EndsLine}
-use Rattle.wt_block_edits.specs.Blocks.{opening, closing, source_of, block_items, IsTypedHeading, IsBlock, EndsBlock, BeginsApart, BeginsLine, BeginsBetween}
+use Rattle.wt_block_edits.specs.Blocks.{opening, closing, source_of, block_items, IsTypedHeading, IsWrittenHeading, IsBlock, EndsBlock, BeginsApart, BeginsLine, BeginsBetween}
 use Rattle.wt_block_edits.specs.BlockSpots.{BlockSpot, spots_source, IsBlockSpot, AreFurtherBlocks, AreBlockSpots}
 
 -- ---- a heading
@@ -51,9 +51,9 @@ read_run (suc n) bs xs r = read_equals (replicate n 61 ++ bs) (equals n ++ xs) (
 pub typed_text : (n : ℕ) (q : List ℕ) → IsTypedHeading n q → IsTypedPage q
 typed_text n q h = record { setting = h.setting; text = h.text; utf8 = h.utf8; of_block = h.of_block; is = h.is }
 
-heading_front : (n : ℕ) (q rest : List ℕ) (xs : List Item) → IsTypedHeading n q → Reads rest xs
+typed_front : (n : ℕ) (q rest : List ℕ) (xs : List Item) → IsTypedHeading n q → Reads rest xs
     → Reads ((opening n ++ (q ++ closing n)) ++ rest) (heading_line n (page_items q) ++ xs)
-heading_front n q rest xs h r =
+typed_front n q rest xs h r =
     let own : List Item = page_items q in
     let run : List ℕ = replicate n 61 in
     let end : List ℕ = closing n ++ rest in
@@ -69,10 +69,46 @@ heading_front n q rest xs h r =
     append_assoc (equals n) (space ∷ (own ++ space ∷ equals n)) xs ∙ ap (λ (zs : List Item). equals n ++ space ∷ zs) (append_assoc own (space ∷ equals n) xs) in
     subst (λ bs. Reads bs (heading_line n own ++ xs)) (sym source) (subst (λ ys. Reads (run ++ 32 ∷ (q ++ end)) ys) (sym items) b)
 
+-- one that was written by hand, before a line break, or where the page ends
+before_break : (n : ℕ) (q r : List ℕ) (xs : List Item) → IsWrittenHeading n q → Reads (10 ∷ r) xs
+    → Reads (source_of (heading n) q ++ 10 ∷ r) (heading_line n (page_items q) ++ xs)
+before_break n q r xs h s =
+    let line : List ℕ = source_of (heading n) q in
+    let own : List Item = heading_line n (page_items q) in
+    let g : InFront (line ++ 10 ∷ []) = before_reads (line ++ 10 ∷ []) h.stands in
+    let a : Reads ((line ++ 10 ∷ []) ++ r) (g.items ++ page_items r) = g.reads r (page_items r) (read_rest r xs s) in
+    let items : g.items ≡ own ++ char None 10 ∷ [] = sym (its_items (line ++ 10 ∷ []) g) ∙ h.ended in
+    let all : g.items ++ page_items r ≡ own ++ xs =
+    ap (λ zs. zs ++ page_items r) items ∙ append_assoc own (char None 10 ∷ []) (page_items r) ∙ ap (λ zs. own ++ zs) (sym (rest_is r xs s)) in
+    subst (λ bs. Reads bs (own ++ xs)) (append_assoc line (10 ∷ []) r) (subst (λ ys. Reads ((line ++ 10 ∷ []) ++ r) ys) all a)
+
+untagged : (n : ℕ) (q : List ℕ) → IsWrittenHeading n q → HasNoTag (source_of (heading n) q)
+untagged n q h = (tags_split (source_of (heading n) q) (10 ∷ []) h.stands.untagged).0
+
+pub text_untagged : (n : ℕ) (q : List ℕ) → IsWrittenHeading n q → HasNoTag q
+text_untagged n q h = (tags_split q (closing n) (tags_split (opening n) (q ++ closing n) (untagged n q h)).1).0
+
+written_front : (n : ℕ) (q rest : List ℕ) (xs : List Item) → IsWrittenHeading n q → EndsHere rest → Reads rest xs
+    → Reads (source_of (heading n) q ++ rest) (heading_line n (page_items q) ++ xs)
+written_front n q [] xs h e r =
+    let line : List ℕ = source_of (heading n) q in
+    let own : List Item = heading_line n (page_items q) in
+    let alone : Reads line (page_items line) = behind_reads line (record { uncommented = no_comment line (untagged n q h); uncalled = h.uncalled }) in
+    subst (λ ys. Reads (line ++ []) (own ++ ys)) (sym (nothing_is xs r))
+    (subst (λ bs. Reads bs (own ++ [])) (sym (append-nil line)) (subst (λ ys. Reads line ys) (h.unended ∙ sym (append-nil own)) alone))
+written_front n q (b ∷ r) xs h e s =
+    let P : ℕ → Type 0 = λ (c : ℕ). Reads (c ∷ r) xs → Reads (source_of (heading n) q ++ c ∷ r) (heading_line n (page_items q) ++ xs) in
+    subst P (sym e) (λ k. before_break n q r xs h k) s
+
+heading_front : (n : ℕ) (q rest : List ℕ) (xs : List Item) → IsBlock (heading n) q → EndsHere rest → Reads rest xs
+    → Reads (source_of (heading n) q ++ rest) (heading_line n (page_items q) ++ xs)
+heading_front n q rest xs (inl t) e r = typed_front n q rest xs t r
+heading_front n q rest xs (inr w) e r = written_front n q rest xs w e r
+
 block_front : (k : Block) (q rest : List ℕ) (xs : List Item) → IsBlock k q → EndsHere rest → Reads rest xs
     → Reads (source_of k q ++ rest) (block_items k q ++ xs)
 block_front paragraph q rest xs h e r = paragraph_front q rest xs h e r
-block_front (heading n) q rest xs h e r = heading_front n q rest xs h r
+block_front (heading n) q rest xs h e r = heading_front n q rest xs h e r
 
 -- ---- the parts
 

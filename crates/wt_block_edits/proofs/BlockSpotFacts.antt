@@ -24,6 +24,7 @@ use Rattle.wt_page_edits.proofs.PageKinds.{both_ordinary}
 use Rattle.wt_block_edits.specs.Blocks.{source_of, IsTypedHeading, IsBlock}
 use Rattle.wt_block_edits.specs.BlockSpots.{BlockSpot, spots_source, SameRound, AreBlocks}
 use Rattle.wt_block_edits.specs.BlockEdits.{Sending, kept, Typing, types, keeps, typed_as, new_text, SpotEdit, old_spots, new_spots, all_kept, sending_for, spot_sendings, IsSentFor, AreSentFor, IsText, AreTexts}
+use Rattle.wt_block_edits.proofs.BlockMeaning.{level_some, level_most}
 use Rattle.wt_block_edits.proofs.BlockTrees.{leaf_block, leafy_blocks, block_own}
 use Rattle.wt_block_edits.proofs.BlocksAgain.{AreClear}
 use Rattle.wt_block_edits.proofs.TypedFacts.{Facts, facts_nothing, facts_kept, facts_text, items_source}
@@ -179,10 +180,10 @@ typed_paragraph source text u = record {
   is = refl;
 }
 
-typed_heading : (n : ℕ) (source text q : List ℕ) → IsUtf8 text → has_break text ≡ false → IsTypedHeading n q → IsTypedHeading n (typed_as (heading n) source text)
-typed_heading n source text q u line h = record {
-  some = h.some;
-  most = h.most;
+typed_heading : (n : ℕ) (source text : List ℕ) → IsUtf8 text → has_break text ≡ false → 1 ≤ n → n ≤ 6 → IsTypedHeading n (typed_as (heading n) source text)
+typed_heading n source text u line some most = record {
+  some = some;
+  most = most;
   setting = record { within = false; place = place.Heading; source = source };
   text = text;
   utf8 = u;
@@ -194,7 +195,7 @@ typed_heading n source text q u line h = record {
 
 new_is : (k : Block) (y : Typing) (q : List ℕ) → IsText k y → IsBlock k q → IsBlock k (new_text k y q)
 new_is paragraph (types p t text) q u h = inl (typed_paragraph (source_of paragraph q) text u.0)
-new_is (heading n) (types p t text) q u h = typed_heading n (source_of (heading n) q) text q u.0 u.1 h
+new_is (heading n) (types p t text) q u h = inl (typed_heading n (source_of (heading n) q) text u.0 u.1 (level_some n q h) (level_most n q h))
 new_is paragraph (keeps v) q u h = h
 new_is (heading n) (keeps v) q u h = h
 

@@ -1,10 +1,11 @@
 -- The tree of a page with typed paragraphs and headings: the nodes of its parts and these blocks, by numbers and places.
-use Rattle.std.proofs.Common.{◌≡◌, ℕ, zero, suc, true, List, [], ◌∷◌, ◌++◌, map, refl, ap, ◌∙◌, inl}
+use Rattle.std.proofs.Common.{◌≡◌, ℕ, zero, suc, true, List, [], ◌∷◌, ◌++◌, map, refl, sym, ap, ◌∙◌, subst, inl, inr}
 use Rattle.wt_tree.specs.declared.kind.Kind.TheVariants as kind
 use Rattle.wt_tree.specs.Tree.{tree}
 use Rattle.wt_span.specs.Items.{Item}
 use Rattle.wt_inline.specs.ItemTree.{plain, ItemTree, inner, forest, held_by_all}
 use Rattle.wt_expand.specs.PageItems.{page_items}
+use Rattle.wt_expand.proofs.PageLaws.{page_sources}
 use Rattle.wt_annotated.specs.Annotated.{annotated}
 use Rattle.wt_annotated.specs.GroupData.{group_data}
 use Rattle.wt_annotated.specs.WithoutCalls.{holds_page}
@@ -12,16 +13,16 @@ use Rattle.wt_text_edits.proofs.LoneTrees.{sized}
 use Rattle.wt_text_edits.proofs.TypedLeaves.{AreOwn, Leaf, leaves, leaf_tree, para_leaves}
 use Rattle.wt_text_edits.proofs.TypedShown.{AllOfPage, both_of_page, leaves_of_page, none_empty, is_plain_page}
 use Rattle.wt_typed_blocks.specs.Sent.{Block, paragraph, heading, kind_of}
-use Rattle.wt_prose.proofs.ProseTexts.{IsWritten}
+use Rattle.wt_text_between.specs.Between.{HasNoTag}
 use Rattle.wt_prose.proofs.ProseTrees.{blocks_of}
 use Rattle.wt_paragraph_laws.specs.Between.{blocks_in, body_with}
 use Rattle.wt_paragraph_laws.specs.Spots.{part_tree, HasNoGroups}
-use Rattle.wt_paragraph_laws.proofs.Texts.{paragraph_written}
+use Rattle.wt_paragraph_laws.proofs.Texts.{letters_own, paragraph_written}
 use Rattle.wt_paragraph_laws.proofs.SpotsTrees.{ArePlain, plain_joined, part_plain, plain_tree}
 use Rattle.wt_heading_laws.specs.TypedHeadings.{equals, space}
 use Rattle.wt_block_edits.specs.Blocks.{block_tree, IsBlock}
 use Rattle.wt_block_edits.specs.BlockSpots.{BlockSpot, spots_source, page_blocks, AreFurtherBlocks, AreBlockSpots, AreBlocks}
-use Rattle.wt_block_edits.proofs.BlockReading.{typed_text}
+use Rattle.wt_block_edits.proofs.BlockReading.{typed_text, text_untagged}
 use Rattle.wt_block_edits.proofs.BlockMeaning.{spots_meaning}
 
 -- ---- by leaves
@@ -44,12 +45,13 @@ block_leaves : (k : Block) (q : List ℕ) → AreOwn (page_items q) → block_tr
 block_leaves paragraph q h = para_leaves (page_items q) h
 block_leaves (heading n) q h = ap (as_heading n) (para_leaves (page_items q) h)
 
-block_written : (k : Block) (q : List ℕ) → IsBlock k q → IsWritten q
-block_written paragraph q h = paragraph_written q h
-block_written (heading n) q h = paragraph_written q (inl (typed_text n q h))
+heading_own : (n : ℕ) (q : List ℕ) → IsBlock (heading n) q → AreOwn (page_items q)
+heading_own n q (inl t) = (paragraph_written q (inl (typed_text n q t))).1
+heading_own n q (inr w) = letters_own (page_items q) w.are_letters (subst HasNoTag (sym (page_sources q)) (text_untagged n q w))
 
 pub block_own : (k : Block) (q : List ℕ) → IsBlock k q → AreOwn (page_items q)
-block_own k q h = (block_written k q h).1
+block_own paragraph q h = (paragraph_written q h).1
+block_own (heading n) q h = heading_own n q h
 
 abbrev pub leafy_blocks : List BlockSpot → List ℕ → List ItemTree
 leafy_blocks [] behind = blocks_in (page_items behind)

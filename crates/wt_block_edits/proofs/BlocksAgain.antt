@@ -1,6 +1,6 @@
 -- Pages with typed paragraphs and headings: they are UTF-8, no tag is open where such a block begins, and with other typed texts they are such
 -- pages again.
-use Rattle.std.proofs.Common.{◌≡◌, ℕ, zero, suc, false, List, [], ◌∷◌, ◌++◌, refl, sym, subst, inl}
+use Rattle.std.proofs.Common.{◌≡◌, ℕ, zero, suc, false, List, [], ◌∷◌, ◌++◌, refl, sym, subst, inl, inr}
 use Rattle.std.specs.Prelude.{replicate}
 use Rattle.std.specs.Str.{IsUtf8}
 use Rattle.std.proofs.lemmas.Str.{IsUtf8-append, IsUtf8-nil}
@@ -29,12 +29,16 @@ run_utf8 : (n : ℕ) → IsUtf8 (replicate n 61)
 run_utf8 zero = IsUtf8-nil
 run_utf8 (suc n) = IsUtf8-append (61 ∷ []) (replicate n 61) equals_utf8 (run_utf8 n)
 
+text_utf8 : (n : ℕ) (q : List ℕ) → IsBlock (heading n) q → IsUtf8 q
+text_utf8 n q (inl t) = paragraph_utf8 q (inl (typed_text n q t))
+text_utf8 n q (inr w) = w.utf8
+
 block_utf8 : (k : Block) (q : List ℕ) → IsBlock k q → IsUtf8 (source_of k q)
 block_utf8 paragraph q h = paragraph_utf8 q h
 block_utf8 (heading n) q h =
     let close : IsUtf8 (closing n) = IsUtf8-append (32 ∷ []) (replicate n 61) space_utf8 (run_utf8 n) in
     let begin : IsUtf8 (opening n) = IsUtf8-append (replicate n 61) (32 ∷ []) (run_utf8 n) space_utf8 in
-    IsUtf8-append (opening n) (q ++ closing n) begin (IsUtf8-append q (closing n) (paragraph_utf8 q (inl (typed_text n q h))) close)
+    IsUtf8-append (opening n) (q ++ closing n) begin (IsUtf8-append q (closing n) (text_utf8 n q h) close)
 
 spot_utf8 : (s : BlockSpot) (rest : List ℕ) → IsBlockSpot s → IsUtf8 rest → IsUtf8 (s.before ++ (source_of s.block s.text ++ rest))
 spot_utf8 s rest h u =

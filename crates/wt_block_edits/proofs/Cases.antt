@@ -25,7 +25,7 @@ use Rattle.wt_annotated.specs.Labels.{label_at}
 use Rattle.wt_expand.specs.PageItems.{page_items}
 use Rattle.wt_text_edits.specs.TypedPages.{IsTypedPage}
 use Rattle.wt_typed_blocks.specs.Sent.{paragraph, heading}
-use Rattle.wt_block_edits.specs.Blocks.{IsTypedHeading, BeginsBetween}
+use Rattle.wt_block_edits.specs.Blocks.{IsTypedHeading, IsWrittenHeading, BeginsBetween}
 use Rattle.wt_block_edits.specs.BlockSpots.{AreBlockSpots}
 use Rattle.wt_block_edits.specs.BlockEdits.{BlockEdit, types, keeps, retyped, kept, old_spots, old_page, new_page, sendings}
 
@@ -124,7 +124,7 @@ are_spots = (
     before_utf8 = IsUtf8-nil;
     ungrouped = (refl, tt);
     leads = record { whole = refl; closed = refl };
-    block = typed_h;
+    block = inl typed_h;
   },
   (
     record {
@@ -141,7 +141,7 @@ are_spots = (
         before_utf8 = break_utf8;
         ungrouped = (refl, ((refl, tt), tt));
         leads = record { whole = refl; closed = refl };
-        block = typed_e;
+        block = inl typed_e;
       },
       (refl, (record { whole = refl; closed = refl }), tt),
       record {
@@ -153,6 +153,33 @@ are_spots = (
     ),
   ),
 )
+
+-- a heading that was written by hand: a heading spells this ampersand as a reference
+written_heading : IsWrittenHeading 2 (codes "Q&A")
+unfolding page_items words closed form_at comment_len comment_line_len raw_len opening_tag closing_tag include_at entity_at named_entity decimal_entity
+    hex_entity entity_names sign_word lib.Utf8.encode
+written_heading = record {
+  some = omega arith;
+  most = omega arith;
+  utf8 = (codes "Q&A", (refl, refl));
+  stands = record { ends = refl; untagged = (refl, (refl, (refl, (refl, (refl, (refl, (refl, (refl, (refl, (refl, tt)))))))))); uncalled = (tt, (tt, (tt, (tt, (tt, (tt, tt)))))) };
+  uncalled = (tt, (tt, (tt, (tt, (tt, tt)))));
+  ended = refl;
+  unended = refl;
+  are_letters = tt;
+  is_text = record {
+    still = (
+      record { bracket = refl; tag = refl; quotes = refl; switch = refl; address = refl },
+      (
+        record { bracket = refl; tag = refl; quotes = refl; switch = refl; address = refl },
+        (record { bracket = refl; tag = refl; quotes = refl; switch = refl; address = refl }, tt),
+      ),
+    );
+    unbroken = (refl, (refl, (refl, tt)));
+    begins = refl;
+    ends = refl;
+  };
+}
 
 -- two paragraphs with one line break between them would be one
 two_paragraphs : BeginsBetween paragraph paragraph (page_items (codes "\n")) → ⊥

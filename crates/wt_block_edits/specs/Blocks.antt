@@ -1,8 +1,10 @@
 -- A paragraph or a heading with a text: its source, what it is, and what may stand round it.
-use Rattle.std.specs.Prelude.{◌≡◌, ◌≤◌, ℕ, false, List, [], ◌∷◌, ◌++◌, None, replicate}
+use Rattle.std.specs.Prelude.{◌≡◌, ◌≤◌, ◌⊎◌, ℕ, false, List, [], ◌∷◌, ◌++◌, None, replicate}
 use Rattle.std.specs.Str.{IsUtf8}
+use Rattle.wt_span.specs.declared.form.Mode.TheVariants.{Page}
 use Rattle.wt_span.specs.Characters as byte
 use Rattle.wt_span.specs.Items.{Item, char}
+use Rattle.wt_span.specs.Lexemes.{words}
 use Rattle.wt_blocks.specs.Paragraphs.{is_text}
 use Rattle.wt_guards.specs.declared.side.Place.TheVariants as place
 use Rattle.wt_guards.specs.Content.{letters}
@@ -13,9 +15,10 @@ use Rattle.wt_page.specs.Rows.{Row}
 use Rattle.wt_expand.specs.PageItems.{page_items}
 use Rattle.wt_text_edits.specs.LonePages.{para_of}
 use Rattle.wt_typed_blocks.specs.Sent.{Block, paragraph, heading}
-use Rattle.wt_paragraph_laws.specs.Texts.{IsParagraph}
+use Rattle.wt_text_between.specs.Between.{HaveNoBraces, StandsBefore}
+use Rattle.wt_paragraph_laws.specs.Texts.{AreLetters, IsParagraph}
 use Rattle.wt_paragraph_laws.specs.Between.{rows_of_lines, AreClosed, EndsApart, EndsParagraph}
-use Rattle.wt_heading_laws.specs.TypedHeadings.{heading_line, heading_with, EndsLine}
+use Rattle.wt_heading_laws.specs.TypedHeadings.{heading_line, heading_with, IsHeadingText, EndsLine}
 
 -- ---- its source
 
@@ -54,9 +57,22 @@ pub record IsTypedHeading (n : ℕ) (q : List ℕ) : Type 0 where
   pub of_heading : setting.place ≡ place.Heading
   pub is : q ≡ spelled setting (letters text)
 
+-- A heading that somebody wrote by hand, without `<` and without two braces side by side, whether a line break is after it or the page ends
+-- there: its text is characters and references, is read in its line as it is by itself, and neither begins nor ends with a blank.
+pub record IsWrittenHeading (n : ℕ) (q : List ℕ) : Type 0 where
+  pub some : 1 ≤ n
+  pub most : n ≤ 6
+  pub utf8 : IsUtf8 q
+  pub stands : StandsBefore (source_of (heading n) q ++ byte.line_break ∷ [])
+  pub uncalled : HaveNoBraces (words Page (source_of (heading n) q))
+  pub ended : page_items (source_of (heading n) q ++ byte.line_break ∷ []) ≡ heading_line n (page_items q) ++ char None byte.line_break ∷ []
+  pub unended : page_items (source_of (heading n) q) ≡ heading_line n (page_items q)
+  pub are_letters : AreLetters (page_items q)
+  pub is_text : IsHeadingText (page_items q)
+
 abbrev pub IsBlock : Block → List ℕ → Type 0
 IsBlock paragraph q = IsParagraph q
-IsBlock (heading n) q = IsTypedHeading n q
+IsBlock (heading n) q = IsTypedHeading n q ⊎ IsWrittenHeading n q
 
 -- ---- what stands before it
 
