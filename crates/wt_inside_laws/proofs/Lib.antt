@@ -2,6 +2,6 @@ pub mod Shifted
 pub mod Behind
 pub mod Before
 pub mod InSections
-pub mod OneParagraph
-pub mod AllParagraphs
+pub mod OneText
+pub mod AllTexts
 mod Cases

@@ -48,7 +48,7 @@ inside_shifted d true false us vs h e = absurd (true≢false (sym (h refl)))
 inside_shifted d false true us vs h e = refl
 inside_shifted d false false us vs h e = e
 
-abbrev range_like : Option Ranges → ℕ → ℕ → Option Ranges
+abbrev pub range_like : Option Ranges → ℕ → ℕ → Option Ranges
 range_like None at to = None
 range_like (Some r) at to = Some (record { start = at; end = to; open_w = r.open_w; close_w = r.close_w })
 

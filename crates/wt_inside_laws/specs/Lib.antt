@@ -1,1 +1,1 @@
-pub mod ParagraphEdits
+pub mod TextsReplaced
