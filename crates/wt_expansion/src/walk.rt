@@ -154,7 +154,7 @@ impl<'a> PageWalk<'a> {
         Err(ExpandRefusal::NoMemory)
     }
 
-    /// What stands next, and where it ends.
+    /// What is next, and where it ends.
     #[cycle(walking)]
     fn step<F: Folder>(
         &mut self,
@@ -189,7 +189,7 @@ impl<'a> PageWalk<'a> {
         }
     }
 
-    /// A call that stands next.
+    /// A call that is next.
     #[cycle(walking)]
     fn walk_call<F: Folder>(
         &mut self,
@@ -338,7 +338,7 @@ impl<'a> PageWalk<'a> {
         Ok(title)
     }
 
-    /// What stands behind the target of a call that is text.
+    /// What comes after the target of a call that is text.
     #[cycle(walking)]
     fn behind_target<F: Folder>(
         &mut self,

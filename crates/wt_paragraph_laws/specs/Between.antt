@@ -1,4 +1,4 @@
--- A typed paragraph between empty lines of a page, whatever stands before and behind.
+-- A typed paragraph between empty lines of a page, whatever comes before and after.
 use Rattle.std.specs.Prelude.{◌≡◌, ℕ, true, None, List, [], ◌∷◌, ◌++◌}
 use Rattle.wt_tree.specs.declared.kind.Kind.TheVariants as kind
 use Rattle.wt_span.specs.Items.{Item, char}
@@ -19,23 +19,23 @@ abbrev pub written_rows : ℕ → List (List Item) → List Row
 written_rows tables [] = []
 written_rows tables (l ∷ ls) = line_rows (kind_at tables l) l ++ written_rows (behind tables (kind_at tables l)) ls
 
--- and how many are open behind the last
+-- and how many are open after the last
 abbrev pub tables_behind : ℕ → List (List Item) → ℕ
 tables_behind tables [] = tables
 tables_behind tables (l ∷ ls) = tables_behind (behind tables (kind_at tables l)) ls
 
--- Whole lines, or nothing, behind which no table is open.
+-- Whole lines, or nothing, after which no table is open.
 pub record AreClosed (xs : List Item) : Type 0 where
   pub whole : empty_end xs ≡ [] ∷ []
   pub closed : tables_behind 0 (full_lines xs) ≡ 0
 
 -- ---- the page's children
 
--- before it: what these lines make, and the empty line behind them
+-- before it: what these lines make, and the empty line after them
 abbrev pub children_before : List Item → Item → List ItemTree
 children_before xs b = children (body_parts (written_rows 0 (full_lines xs)) ++ parts Sep (b ∷ []))
 
--- A paragraph ends at the page's end, or with a line break behind which the page ends or an empty line stands.
+-- A paragraph ends at the page's end, or with a line break after which the page ends or an empty line stands.
 abbrev pub BeginsEmpty : List Item → Type 0
 BeginsEmpty [] = Unit {0}
 BeginsEmpty (y ∷ ys) = is_break_item y ≡ true
@@ -44,7 +44,7 @@ abbrev pub EndsParagraph : List Item → Type 0
 EndsParagraph [] = Unit {0}
 EndsParagraph (y ∷ ys) = (y ≡ char None 10) × BeginsEmpty ys
 
--- behind it: this line break, and what the items behind that make
+-- after it: this line break, and what the items after that make
 abbrev pub parts_behind : List Item → List Part
 parts_behind [] = []
 parts_behind (y ∷ ys) = parts Sep (y ∷ []) ++ body_parts (rows ys)

@@ -1,4 +1,4 @@
-//! Laws of a typed paragraph of a page, whatever stands before and behind it.
+//! Laws of a typed paragraph of a page, whatever comes before and after it.
 #![tactic(auto)]
 
 ghost use Rattle.std.specs.Prelude.{◌≡◌, ℕ, true, List, [], ◌∷◌, ◌++◌};
@@ -10,9 +10,9 @@ ghost use Rattle.wt_expand.specs.PageItems.{page_items};
 ghost use Rattle.wt_text_edits.specs.TypedPages.{IsTypedPage};
 ghost use Rattle.wt_paragraph_laws.specs.Between.{AreClosed, EndsParagraph, children_before, parts_behind, body_round};
 
-/// A typed paragraph that stands behind an empty line, or at the page's start, and before an empty line or the
-/// page's end, outside tables, is a paragraph of the body; and the body's other children hang on what stands before
-/// and behind it alone, and not on its text.
+/// A typed paragraph that comes after an empty line, or at the page's start, and before an empty line or the
+/// page's end, outside tables, is a paragraph of the body; and the body's other children hang on what comes before
+/// and after it alone, and not on its text.
 #[tactic(auto, using(crate::proofs::Paragraphs::between, crate::proofs::Paragraphs::at_start))]
 pub fn typed_paragraph_stands_by_itself()
     ensures between { (xs : List Item) (a : Item) (q : List ℕ) (tail : List Item) → AreClosed xs → is_break_item a ≡ true → IsTypedPage q

@@ -34,7 +34,7 @@ impl<'a> Reader<'a> {
         }
     }
 
-    /// A later place, behind the first byte. A place that the text hasn't is answered as want of
+    /// A later place, after the first byte. A place that the text hasn't is answered as want of
     /// memory.
     pub fn seek(self, to: u32) -> Result<Reader<'a>, NoMemory>
         ensures { IfOk result (λ x. (mode : TextMode) (bytes : List ℕ) (p : ℕ) (s : Bool) → IsReading mode bytes self.entry p s → p ≤ to
@@ -49,7 +49,7 @@ impl<'a> Reader<'a> {
         })
     }
 
-    /// A later place that stands behind braces, and so at no start of a line.
+    /// A later place that comes after braces, and so at no start of a line.
     pub fn within(self, to: u32) -> Result<Reader<'a>, NoMemory>
         ensures { IfOk result (λ x. (mode : TextMode) (bytes : List ℕ) (p : ℕ) (s : Bool) → IsReading mode bytes self.entry p s → p ≤ to
             → IsReading mode bytes x to false) }
@@ -63,7 +63,7 @@ impl<'a> Reader<'a> {
         })
     }
 
-    /// What stands here in front of the place `end`.
+    /// What is here in front of the place `end`.
     pub fn next(self, end: u32) -> Next
         requires { self.cursor.at < end }
         ensures { (mode : TextMode) (bytes : List ℕ) (p : ℕ) (s : Bool) (xs : List TextMember) → IsReading mode bytes self.entry p s
