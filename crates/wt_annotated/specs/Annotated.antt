@@ -38,7 +38,7 @@ abbrev pub open_by : Bool → Kind → List ℕ → List ℕ → ℕ
 open_by true k source opening = leaf_open k (length source)
 open_by false k source opening = length opening
 
--- the label of a node that is kept, from a byte on, by what stands on the page for all of it and for its delimiters
+-- the label of a node that is kept, from a byte on, by what is on the page for all of it and for its delimiters
 abbrev pub kept_label : Bool → Head → ℕ → List ℕ → List ℕ → List ℕ → Label
 kept_label is h at source opening closing = record {
   kind = h.kind;
@@ -59,7 +59,7 @@ kept_label is h at source opening closing = record {
   mw = h.mw;
 }
 
--- the label of a group, from a byte on, by what stands on the page for it and by what its element carries; its word is an
+-- the label of a group, from a byte on, by what is on the page for it and by what its element carries; its word is an
 -- attribute
 abbrev pub group_label : ℕ → List ℕ → Option DataMw → Label
 group_label at source mw = record {

@@ -1,6 +1,6 @@
 -- Clean nodes: those that can be edited by themselves, since no call reaches over one of their places.
 -- Cuts are counted in the items that the whole tree holds, in which each `nowiki` stands opened. So the places between what
--- stands in a `nowiki` of the page are free cuts, and those in one of a call are not, as between any other characters.
+-- is in a `nowiki` of the page are free cuts, and those in one of a call are not, as between any other characters.
 use Rattle.std.specs.Prelude.{ℕ, ◌+◌, Bool, true, false, ◌&&◌, ◌||◌, Option, Some, None, List, ◌++◌, length}
 use Rattle.std.specs.List.{list_all, list_any}
 use Rattle.wt_tree.specs.declared.kind.Kind.{Kind}
@@ -28,7 +28,7 @@ own_by true opening inside closing = opening ++ (inside ++ closing)
 own_by false opening inside closing = opening ++ closing
 
 -- Its four places are free cuts, none of its own items comes from a call, and it is the body or holds an item that is no
--- call's. `n` items stand before it.
+-- call's. `n` items come before it.
 abbrev pub is_clean : List Item → ℕ → ItemTree → Bool
 is_clean all n (inner h opening ts closing) =
     is_free all n && (is_free all (n + length opening)

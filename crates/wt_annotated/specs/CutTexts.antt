@@ -9,7 +9,7 @@ use Rattle.wt_tree.specs.Recut.{recut}
 use Rattle.wt_tree.specs.Tiling.{is_group}
 use Rattle.wt_tree.specs.Tree.{Tree, tree, Trees, none, more}
 
--- what stands in a node with such texts
+-- what is in a node with such texts
 abbrev pub cut_as : Texts → Trees → Trees
 cut_as Separators ts = ts
 cut_as Page ts = ts
@@ -32,6 +32,6 @@ AreCutAs Page ts = Unit {0}
 AreCutAs Bordered ts = AreCut false ts
 AreCutAs OwnCharacter ts = Unit {0}
 
--- each text and separator in a node stands as it should
+-- each text and separator in a node is as it should be
 abbrev pub HasCutTexts : Tree → Type 0
 HasCutTexts (tree l ts) = AreCutAs (texts_of_kind l.kind) ts

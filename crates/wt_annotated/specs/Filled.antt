@@ -9,7 +9,7 @@ abbrev pub are_some : ItemTrees → Bool
 are_some nothing = false
 are_some (further t ts) = true
 
--- delimiters of the page, round children or not; where there are none, an item stands in them
+-- delimiters of the page, round children or not; where there are none, an item is in them
 abbrev pub is_round : List Item → Bool → List Item → Bool
 is_round opening some closing =
     list_all is_page opening && (list_all is_page closing && (some || (list_any is_page opening || list_any is_page closing)))

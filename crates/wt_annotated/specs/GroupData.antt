@@ -9,7 +9,7 @@ use Rattle.wt_span.specs.Origins.{OuterCall}
 use Rattle.wt_call_data.specs.CallData.{call_part, next_call}
 use Rattle.wt_annotated.specs.GroupParts.{Part, called, between}
 
--- a call before which so many calls of the group stand; one that isn't there is none
+-- a call before which there are so many calls of the group; one that isn't there is none
 abbrev pub call_parts : Option OuterCall → ℕ → List Datum
 call_parts None i = []
 call_parts (Some c) i = call_part c i ∷ []

@@ -9,7 +9,7 @@ pub data Part : Type 0 where
   called : ℕ → Part
   between : List ℕ → Part
 
--- a call, and how many items stand before its first one
+-- a call, and how many items come before its first one
 abbrev pub Begun : Type 0
 Begun = ℕ × ℕ
 
@@ -31,7 +31,7 @@ abbrev pub slice_part : List ℕ → List Part
 slice_part [] = []
 slice_part (b ∷ bs) = between (b ∷ bs) ∷ []
 
--- what stands on the page after the first call up to the second
+-- what is on the page after the first call up to the second
 abbrev pub text_after : List OuterCall → List Item → Begun → Begun → List ℕ
 text_after calls all (n, k) (m, j) =
     drop (length (source_of_call (slice_get calls k))) (text_between calls all n (m - n))

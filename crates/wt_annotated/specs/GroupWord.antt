@@ -13,7 +13,7 @@ transclusion_word = codes "mw:Transclusion"
 unfoldable pub argument_word : List ℕ
 argument_word = codes "mw:Param"
 
--- by a part that stands first
+-- by a part that is first
 abbrev pub part_word : Part → List ℕ
 part_word (part.Template target href params i) = transclusion_word
 part_word (part.Function name target params i) = transclusion_word

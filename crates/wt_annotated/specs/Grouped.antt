@@ -18,7 +18,7 @@ mutual
     ended : GroupedAll
     along : Grouped → GroupedAll → GroupedAll
 
--- A child of a clean node: how many items stand before it and in it, its tree, whether it is clean, and what it is if it is.
+-- A child of a clean node: how many items come before it and in it, its tree, whether it is clean, and what it is if it is.
 pub record Child : Type 0 where
   pub from : ℕ
   pub size : ℕ
@@ -26,7 +26,7 @@ pub record Child : Type 0 where
   pub clean : Bool
   pub whole : Grouped
 
--- two neighbours stand in one group where the cut between them isn't free
+-- two neighbours are in one group where the cut between them isn't free
 abbrev pub is_tied : List Item → Child → Child → Bool
 is_tied all c d = not (is_free all d.from)
 
@@ -48,7 +48,7 @@ abbrev pub of_runs : List (List Child) → GroupedAll
 of_runs [] = ended
 of_runs (r ∷ rs) = along (of_run r) (of_runs rs)
 
--- The tree with its groups; `n` of all items stand before it.
+-- The tree with its groups; `n` of all items come before it.
 abbrev mutual
   pub grouped : List Item → ℕ → ItemTree → Grouped
   grouped all n (inner h opening ts closing) =

@@ -1,5 +1,5 @@
 -- What the one pass over trees makes where no node is a group, from a place on and with a next number: their annotated trees
--- with their texts cut anew, and the place and the number behind them.
+-- with their texts cut anew, and the place and the number after them.
 use Rattle.std.specs.Prelude.{◌≡◌, ℕ, ◌+◌, ◌++◌}
 use Rattle.wt_tree.specs.Kinds.{is_leaf}
 use Rattle.wt_tree.specs.Tree.{Tree, tree, Trees, none, more}

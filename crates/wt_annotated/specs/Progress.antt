@@ -5,7 +5,7 @@ use Rattle.wt_span.specs.Origins.{OuterCall}
 use Rattle.wt_annotated.specs.declared.page_text.Progress.{Progress}
 use Rattle.wt_annotated.specs.Seams.{last_of, text_from}
 
--- behind an item of this call, with nothing read
+-- after an item of this call, with nothing read
 abbrev pub outset : Option ℕ → Progress
 outset o = record { last = o; width = 0 }
 

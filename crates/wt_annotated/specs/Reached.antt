@@ -70,7 +70,7 @@ abbrev mutual
 
 -- ---- the smallest groups
 
--- no cut between neighbours is free; `n` items stand before them
+-- no cut between neighbours is free; `n` items come before them
 abbrev pub NoFreeCut : List Item → ℕ → ItemTrees → Type 0
 NoFreeCut all n nothing = Unit {0}
 NoFreeCut all n (further t nothing) = Unit {0}

@@ -5,7 +5,7 @@ use Rattle.wt_span.specs.Items.{Item, source, call_of}
 use Rattle.wt_span.specs.Origins.{OuterCall, same_call}
 use Rattle.wt_span.specs.Cuts.{text_by}
 
--- the call of the last item, behind one of this call
+-- the call of the last item, after one of this call
 abbrev pub last_of : Option ℕ → List Item → Option ℕ
 last_of o [] = o
 last_of o (x ∷ xs) = last_of (call_of x) xs
@@ -24,11 +24,11 @@ first_found (x ∷ xs) = Some (call_of x)
 abbrev pub parted : Option ℕ → Option ℕ → Bool
 parted o p = not (same_call o p)
 
--- what stands on the page for an item behind one of this call
+-- what is on the page for an item after one of this call
 abbrev pub text_step : List OuterCall → Option ℕ → Item → List ℕ
 text_step calls o x = if parted o (call_of x) then text_by calls (call_of x) (source x) else []
 
--- what stands on the page for items behind one of this call
+-- what is on the page for items after one of this call
 abbrev pub text_from : List OuterCall → Option ℕ → List Item → List ℕ
 text_from calls o [] = []
 text_from calls o (x ∷ xs) = text_step calls o x ++ text_from calls (call_of x) xs

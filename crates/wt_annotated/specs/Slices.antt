@@ -1,4 +1,4 @@
--- Each range of a tree is a slice of the page: from its start to its end stands the node's source, and its widths are the
+-- Each range of a tree is a slice of the page: from its start to its end is the node's source, and its widths are the
 -- lengths of the delimiters.
 use Rattle.std.specs.Prelude.{◌≡◌, ◌≤◌, ℕ, Bool, true, false, Option, Some, None, List, length, take, drop}
 use Rattle.std.specs.List.{AllByRecursion}
@@ -8,7 +8,7 @@ use Rattle.wt_tree.specs.Source.{flat}
 use Rattle.wt_tree.specs.Tree.{Label, Tree, label, subtrees}
 use Rattle.wt_annotated.specs.Labels.{leaf_open}
 
--- what stands in the page from one place to another
+-- what is in the page from one place to another
 abbrev pub slice : List ℕ → ℕ → ℕ → List ℕ
 slice page start end = drop start (take end page)
 
@@ -20,7 +20,7 @@ opening_by false l = l.opening
 abbrev pub opening_of : Label → List ℕ
 opening_of l = opening_by (is_leaf l.kind) l
 
--- the source stands in the page at this range, with delimiters of these widths
+-- the source is in the page at this range, with delimiters of these widths
 pub record StandsAt (page : List ℕ) (r : Ranges) (source opening closing : List ℕ) : Type 0 where
   pub ordered : r.start ≤ r.end
   pub within : r.end ≤ length page

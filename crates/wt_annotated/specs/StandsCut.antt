@@ -1,5 +1,5 @@
--- Children that are known to stand cut, so that cutting them anew leaves them as they are: what is found of each by looking at
--- it and at the one behind it. Of None nothing is said.
+-- Children that are known to be cut, so that cutting them anew leaves them as they are: what is found of each by looking at
+-- it and at the one after it. Of None nothing is said.
 use Rattle.std.specs.Prelude.{◌≡◌, Bool, true, false, ◌||◌, Option, Some, None}
 use Rattle.wt_tree.specs.Cutting.{begins_with_break, begins_with_text, IsWhole, IsFront, StandsBy}
 use Rattle.wt_tree.specs.Recut.{are_spaces, has_break, is_blank, is_border, is_text, leads_to_block, sep_leaf, text_leaf}
@@ -13,12 +13,12 @@ IsGap t = (t ≡ sep_leaf (label t).ranges (label t).own) × (is_blank (label t)
 abbrev pub IsWords : Tree → Type 0
 IsWords t = (t ≡ text_leaf (label t).ranges (label t).own) × (has_break (label t).own ≡ false) × (are_spaces (label t).own ≡ false)
 
--- it stands cut by itself, whatever leads from it to a block
+-- it is cut by itself, whatever leads from it to a block
 abbrev pub WholeStands : Bool → Tree → Option Bool → Type 0
 WholeStands behind t None = Unit {0}
 WholeStands behind t (Some now) = ((leads : Bool) → IsWhole behind leads t) × (now ≡ (behind || is_border t))
 
--- a text stands cut before the separator behind it
+-- a text is cut before the separator after it
 abbrev pub FrontStands : Bool → Tree → Tree → Option Bool → Type 0
 FrontStands behind t s None = Unit {0}
 FrontStands behind t s (Some now) = ((ts : Trees) → IsFront behind t (more s ts)) × (now ≡ (behind || is_border t))

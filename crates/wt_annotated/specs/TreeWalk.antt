@@ -1,4 +1,4 @@
--- A walk through a tree behind an item of some call: how far it has come at the end of the opening, of the inside and of all.
+-- A walk through a tree after an item of some call: how far it has come at the end of the opening, of the inside and of all.
 use Rattle.std.specs.Prelude.{◌≡◌, ℕ, ◌+◌, Option, List, length}
 use Rattle.wt_span.specs.Items.{items}
 use Rattle.wt_span.specs.Origins.{OuterCall}
@@ -21,7 +21,7 @@ pub record HasLasts (o : Option ℕ) (n : PieceTree) (w : TreeProgress) : Type 0
   pub filled : w.filled.last ≡ filled o n
   pub closed : w.closed.last ≡ last_of o (tree_items (item_tree n))
 
--- how many bytes of the page stand up to the end of the opening, behind the inside, and in all
+-- how many bytes of the page there are up to the end of the opening, after the inside, and in all
 pub record HasWidths (calls : List OuterCall) (o : Option ℕ) (n : PieceTree) (w : TreeProgress) : Type 0 where
   pub opening : w.opened.width ≡ length (text_from calls o (items (out-PieceTree n).opening))
   pub closing : w.closed.width ≡ w.filled.width + length (text_from calls (filled o n) (items (out-PieceTree n).closing))

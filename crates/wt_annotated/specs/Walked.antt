@@ -33,7 +33,7 @@ clean_at o p (inner h opening ts closing) =
 
 -- ---- the parts of a group
 
--- what stands since the last call, if there was one
+-- what is since the last call, if there was one
 abbrev pub longer : Option (List ℕ) → List ℕ → Option (List ℕ)
 longer None bs = None
 longer (Some cs) bs = Some (cs ++ bs)
@@ -48,7 +48,7 @@ part_step false o bs since rest = rest since
 part_step true None bs since rest = rest (longer since bs)
 part_step true (Some k) bs since rest = slice_since since ++ called k ∷ rest (Some [])
 
--- the parts among items behind one of this call, where this stands since the last call
+-- the parts among items after one of this call, where this is since the last call
 abbrev pub parts_from : Option ℕ → Option (List ℕ) → List Item → List Part
 parts_from o since [] = []
 parts_from o since (x ∷ xs) = part_step (parted o (call_of x)) (call_of x) (source x) since
@@ -56,7 +56,7 @@ parts_from o since (x ∷ xs) = part_step (parted o (call_of x)) (call_of x) (so
 
 -- ---- trees
 
--- A child with what stands round it: the calls before and after it, the byte at which it begins, whether the cut before it is
+-- A child with what is round it: the calls before and after it, the byte at which it begins, whether the cut before it is
 -- free, whether it is clean, and what it is if it is.
 pub record Near : Type 0 where
   pub tree : ItemTree
@@ -74,7 +74,7 @@ abbrev pub near_nodes : List Near → ItemTrees
 near_nodes [] = nothing
 near_nodes (c ∷ cs) = further c.tree (near_nodes cs)
 
--- a group of these nodes, behind an item of this call and from this byte on
+-- a group of these nodes, after an item of this call and from this byte on
 abbrev pub group_at : List OuterCall → (List Part → Option DataMw) → Option ℕ → ℕ → ItemTrees → Tree
 group_at calls carried o at ts =
     tree (group_label at (text_from calls o (held_by_all ts)) (carried (parts_from o None (held_by_all ts))))

@@ -1,4 +1,4 @@
--- The annotated tree where no item comes from a call and no node is a group: each node gets its place by what stands before
+-- The annotated tree where no item comes from a call and no node is a group: each node gets its place by what comes before
 -- it, and then the nodes of the whole tree get their numbers.
 use Rattle.std.specs.Prelude.{◌≡◌, Bool, true, false, ◌||◌, List, [], ◌++◌}
 use Rattle.std.specs.List.{list_all, list_any}
@@ -15,7 +15,7 @@ abbrev pub inside_by : Bool → Trees → Trees
 inside_by true ts = none
 inside_by false ts = ts
 
--- a tree behind these items, whose nodes have no numbers so far
+-- a tree after these items, whose nodes have no numbers so far
 abbrev mutual
   pub placed : List Item → ItemTree → Tree
   placed before (inner h opening ts closing) = tree (label_at (width before) 0 (is_leaf h.kind) h opening (opening ++ (held_by_all ts ++ closing)) closing)
@@ -34,7 +34,7 @@ annotated t = with_numbers 1 (placed [] t)
 abbrev pub holds_page : ItemTree → Bool
 holds_page (inner h opening ts closing) = is_body h.kind || list_any is_page (opening ++ (held_by_all ts ++ closing))
 
--- what stands in a node that is a leaf or isn't
+-- what is in a node that is a leaf or isn't
 abbrev pub InsideOf : Bool → Type 0 → Type 0
 InsideOf true inside = Unit {0}
 InsideOf false inside = inside

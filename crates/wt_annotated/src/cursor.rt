@@ -5,7 +5,7 @@ use crate::number::{next_after, number_of};
 use wt_span::NoMemory;
 use wt_tree::Kind;
 
-/// Where a pass over a tree stands: the place of the next byte, and the number of the next node that
+/// Where a pass over a tree is: the place of the next byte, and the number of the next node that
 /// has one.
 #[derive(Clone, Copy)]
 pub struct Cursor {
@@ -21,7 +21,7 @@ impl Cursor {
         number_of(kind, self.next)
     }
 
-    /// Behind so many bytes that a node of this kind begins with.
+    /// After so many bytes that a node of this kind begins with.
     pub fn after(self, kind: Kind, width: u32) -> Result<Cursor, NoMemory>
         requires { self.place + width < 2 ^ 32 }
         ensures place { IfOk result (λ c. c.place ≡ self.place + width) }

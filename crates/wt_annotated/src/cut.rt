@@ -11,7 +11,7 @@ use std::alloc::Global;
 use wt_span::{List, NoMemory};
 use wt_tree::{Kind, Node, Texts, recut_texts};
 
-/// What stands in an item, a cell or a caption, cut anew; where it is known to stand cut, as it is.
+/// What is in an item, a cell or a caption, cut anew; where it is known to be cut, as it is.
 #[tactic(auto, using(crate::proofs::StandsCut::stay))]
 fn cut_bordered<'a>(alloc: Global, nodes: List<Node<'a>>) -> Result<List<Node<'a>>, NoMemory>
     ensures { IfOk result (λ ns. views ns ≡ recut (views nodes.entry)) }
@@ -22,7 +22,7 @@ fn cut_bordered<'a>(alloc: Global, nodes: List<Node<'a>>) -> Result<List<Node<'a
     recut_texts(alloc, nodes)
 }
 
-/// What stands in a node of this kind, cut as its kind asks.
+/// What is in a node of this kind, cut as its kind asks.
 pub fn cut_as<'a>(
     alloc: Global,
     kind: Kind,

@@ -10,7 +10,7 @@ use crate::seam::{are_of_page, has_page_item};
 use wt_inline::PieceTree;
 use wt_span::Piece;
 
-/// Whether delimiters are the page's, and where they don't stand round nodes, an item is in them.
+/// Whether delimiters are the page's, and where they aren't round nodes, an item is in them.
 fn is_round(opening: &[Piece<'_>], some: bool, closing: &[Piece<'_>]) -> bool
     ensures { result ≡ is_round (items opening.now) some (items closing.now) }
 {

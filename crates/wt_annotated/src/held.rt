@@ -36,7 +36,7 @@ pub fn pieces_of_all<'a>(
     Ok(out)
 }
 
-/// These pieces, which aren't copied, with what trees and other pieces hold behind them.
+/// These pieces, which aren't copied, with what trees and other pieces hold after them.
 fn with_held<'a>(
     opening: List<Piece<'a>>,
     children: &[PieceTree<'a>],

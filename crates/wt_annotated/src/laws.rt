@@ -83,7 +83,7 @@ pub fn plain_view_stays()
         → plain_view (annotated calls carried t) ≡ plain_view (cut_texts (placed calls carried (tree_items t) (grouped (tree_items t) 0 t))) }
 {}
 
-/// Texts and separators cut anew: in each node that is reached they stand as they should, a tree in
+/// Texts and separators cut anew: in each node that is reached they are as they should be, a tree in
 /// which they do is left as it is, the source stays, and there are no more numbers than before.
 pub fn texts_cut_anew()
     ensures cut { (t : Tree) → AllByRecursion HasCutTexts (reached (cut_texts t)) }
@@ -94,7 +94,7 @@ pub fn texts_cut_anew()
 
 /// Where no item comes from a call and no node is empty, there is no group: the annotated tree is
 /// that of a page without calls, its texts and separators cut anew; and just that tree, where they
-/// stand as they should. The tree of a body has no group only where it is so.
+/// are as they should be. The tree of a body has no group only where it is so.
 pub fn annotated_without_calls()
     ensures anew { (calls : List OuterCall) (carried : List Part → Option DataMw) (t : ItemTree) → IsPlain t
         → annotated calls carried t ≡ cut_texts (annotated_plainly t) }

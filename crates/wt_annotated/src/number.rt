@@ -13,7 +13,7 @@ pub fn number_of(kind: Kind, next: u32) -> u32
     if kind.is_numbered() { next } else { 0 }
 }
 
-/// The next number behind a node of this kind itself. Nodes that would take the last of 2^32 numbers
+/// The next number after a node of this kind itself. Nodes that would take the last of 2^32 numbers
 /// don't fit into memory.
 pub fn next_after(kind: Kind, next: u32) -> Result<u32, NoMemory>
     ensures { IfOk result (λ n. n ≡ next_after kind next) }

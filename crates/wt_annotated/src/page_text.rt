@@ -1,4 +1,4 @@
-//! What stands on the page for pieces: a call's own source once, where its first item is.
+//! What is on the page for pieces: a call's own source once, where its first item is.
 
 ghost use Rattle.std.specs.Prelude.{◌≡◌, ◌^◌, ◌<◌, ◌++◌, length, slice_get, IfOk, OnOk};
 ghost use Rattle.wt_span.specs.Cuts.{source_of_call};
@@ -32,7 +32,7 @@ fn call_source<'a>(calls: &[Outer<'a>], call: u32) -> Option<Text<'a>>
     }
 }
 
-/// What stands on the page for the items of a piece, behind an item of the call `before`.
+/// What is on the page for the items of a piece, after an item of the call `before`.
 #[tactic(auto, using(crate::proofs::PieceWalks::text_piece))]
 fn page_text<'a>(calls: &[Outer<'a>], before: Option<u32>, piece: Piece<'a>) -> Option<Text<'a>>
     ensures { bytes_if_any result ≡ text_from (outer_calls calls.now) before (items_of piece.entry) }
@@ -56,7 +56,7 @@ fn text_width(text: Option<Text<'_>>) -> u32
     }
 }
 
-/// The start of a walk, behind an item of the call `before`.
+/// The start of a walk, after an item of the call `before`.
 pub fn outset(before: Option<u32>) -> Progress
     ensures { result ≡ outset before }
 {
@@ -89,7 +89,7 @@ pub fn past_pieces<'a>(calls: &[Outer<'a>], from: Progress, pieces: &[Piece<'a>]
     at
 }
 
-/// How many bytes of the page stand for pieces, behind an item of the call `before`.
+/// How many bytes of the page stand for pieces, after an item of the call `before`.
 pub fn page_width<'a>(calls: &[Outer<'a>], before: Option<u32>, pieces: &[Piece<'a>]) -> u32
     requires { length (text_from (outer_calls calls.now) before (items pieces.now)) < 2 ^ 32 }
     ensures { result ≡ length (text_from (outer_calls calls.now) before (items pieces.now)) }
@@ -116,7 +116,7 @@ fn one_or_none<'a>(text: Option<Text<'a>>) -> Slices<'a>
     }
 }
 
-/// What stands on the page for pieces, in a list.
+/// What is on the page for pieces, in a list.
 fn listed_texts<'a>(
     alloc: Global,
     calls: &[Outer<'a>],
@@ -134,7 +134,7 @@ fn listed_texts<'a>(
     Ok(texts)
 }
 
-/// What stands on the page for pieces, behind an item of the call `before`.
+/// What is on the page for pieces, after an item of the call `before`.
 pub fn page_texts<'a>(
     alloc: Global,
     calls: &[Outer<'a>],

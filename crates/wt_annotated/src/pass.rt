@@ -24,14 +24,14 @@ use wt_inline::{NodeHead, PieceTree, with_room};
 use wt_span::{List, NoMemory, Piece};
 use wt_tree::Node;
 
-/// A node, and where the pass stands behind it.
+/// A node, and where the pass comes after it.
 #[derive(Drop)]
 pub struct Made<'a> {
     pub node: Node<'a>,
     pub behind: Cursor,
 }
 
-/// The children of a node, and where the pass stands behind them.
+/// The children of a node, and where the pass comes after them.
 #[derive(Drop)]
 struct AllMade<'a> {
     nodes: List<Node<'a>>,
@@ -113,7 +113,7 @@ fn annotated_all<'a>(
     Ok(AllMade { nodes, behind })
 }
 
-/// The node of a tree that begins where the pass stands.
+/// The node of a tree that begins where the pass is.
 #[cycle(annotating)]
 pub fn annotated_node<'a>(
     alloc: Global,

@@ -39,7 +39,7 @@ pub fn is_hollow(piece: Piece<'_>) -> bool
     }
 }
 
-/// The call of the last item of a piece, behind one of the call `before`.
+/// The call of the last item of a piece, after one of the call `before`.
 #[tactic(auto, using(crate::proofs::PieceWalks::last_piece))]
 pub fn last_of_piece(before: Option<u32>, piece: Piece<'_>) -> Option<u32>
     ensures { result ≡ last_of before (items_of piece.entry) }

@@ -1,4 +1,4 @@
-//! Children that are known to stand cut, as nearly all do: those needn't be cut anew.
+//! Children that are known to be cut, as nearly all are: those needn't be cut anew.
 
 ghost use Rattle.std.specs.Prelude.{◌≡◌, ◌||◌, [], true, false};
 ghost use Rattle.wt_span.specs.Slice.{bytes_of};
@@ -224,7 +224,7 @@ fn any_shows_block(nodes: &[Node<'_>]) -> bool
     false
 }
 
-/// Whether the border is passed behind a node that is no text.
+/// Whether the border is passed after a node that is no text.
 fn is_passed_by(behind: bool, node: &Node<'_>) -> bool
     requires { is_text (view node.now) ≡ false }
     ensures { result ≡ (behind || is_border (view node.now)) }
@@ -281,7 +281,7 @@ fn found_before(behind: bool, first: &Node<'_>, next: &Node<'_>) -> Option<bool>
     found_alone(behind, first)
 }
 
-/// Whether the border is passed behind the first of these nodes, where that is known to stand cut.
+/// Whether the border is passed after the first of these nodes, where that is known to be cut.
 #[tactic(auto, using(crate::proofs::StandsCut::alone_first, crate::proofs::StandsCut::before_first))]
 fn found_first(behind: bool, nodes: &[Node<'_>]) -> Option<bool>
     ensures { FirstStands behind (views nodes.now) result }
@@ -293,7 +293,7 @@ fn found_first(behind: bool, nodes: &[Node<'_>]) -> Option<bool>
     }
 }
 
-/// Whether texts and separators of an item, a cell or a caption are known to stand cut. They may do
+/// Whether texts and separators of an item, a cell or a caption are known to be cut. They may be
 /// so where this is false.
 #[tactic(auto, using(crate::proofs::StandsCut::known_more, crate::proofs::StandsCut::known_all))]
 pub fn stand_cut(nodes: &[Node<'_>]) -> bool

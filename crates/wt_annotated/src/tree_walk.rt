@@ -44,7 +44,7 @@ fn past_trees<'a>(calls: &[Outer<'a>], from: Progress, trees: &[PieceTree<'a>]) 
     at
 }
 
-/// A walk through a tree, behind an item of the call `before`.
+/// A walk through a tree, after an item of the call `before`.
 pub fn walk_through<'a>(
     calls: &[Outer<'a>],
     before: Option<u32>,

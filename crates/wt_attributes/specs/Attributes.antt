@@ -104,12 +104,12 @@ abbrev pub attribute_if : Bool → List ℕ → Read Named
 attribute_if true bs = attribute_at bs
 attribute_if false bs = None
 
--- an attribute that was read, or what stands there without one
+-- an attribute that was read, or what is there without one
 abbrev pub going_on : Read Named → List ℕ → (ℕ → List Named) → List Named → List Named
 going_on None bs after without = without
 going_on (Some (a, rest)) bs after without = a ∷ after (length bs - length rest)
 
--- From the left. `fresh` tells whether an attribute may begin at the front: at the text's start, or after a space or tab. Of
+-- From the left. `fresh` says whether an attribute may begin at the front: at the text's start, or after a space or tab. Of
 -- the text `n` bytes still lie in an attribute, whose last byte is no blank.
 abbrev pub readings : Bool → ℕ → List ℕ → List Named
 readings fresh n [] = []

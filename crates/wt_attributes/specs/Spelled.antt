@@ -75,17 +75,17 @@ pub record IsSpelled (s : Spelled) (rest : List ℕ) : Type 0 where
 
 -- ---- all attributes of a text
 
--- an attribute may begin at a place: at the text's start, where `fresh` tells it, or after a blank
+-- an attribute may begin at a place: at the text's start, where `fresh` says it, or after a blank
 abbrev pub may_begin : Bool → List ℕ → ℕ → Bool
 may_begin fresh bs zero = fresh
 may_begin fresh bs (suc k) = is_blank (slice_index bs k)
 
--- at none of the first `n` places where one may begin stands an attribute
+-- at none of the first `n` places where one may begin is an attribute
 abbrev pub NoneBefore : Bool → ℕ → List ℕ → Type 0
 NoneBefore fresh n bs = (k : ℕ) → k < n → may_begin fresh bs k ≡ true → attribute_at (drop k bs) ≡ None
 
--- The attributes are those of a text: each is the first that stands where one may begin, behind the one before it, and
--- behind the last one none stands.
+-- The attributes are those of a text: each is the first that is where one may begin, after the one before it, and
+-- after the last one comes none.
 abbrev pub AreReadings : Bool → List Named → List ℕ → Type 0
 AreReadings fresh [] bs = NoneBefore fresh (length bs) bs
 AreReadings fresh (a ∷ others) bs =

@@ -61,7 +61,7 @@ fn name_at(text: &str) -> Option<(AttrName, &str)>
         .or_else(|| after_word(AttrName::Dir, b"dir", text))
 }
 
-/// The value whose opening quote stands before the text, and what is left after the quote that ends
+/// The value whose opening quote comes before the text, and what is left after the quote that ends
 /// it.
 #[tactic(auto, unfolding(crate::specs::Attributes::quoted))]
 fn quoted(no_quote: ScanClass, text: &str) -> Option<(&str, &str)>

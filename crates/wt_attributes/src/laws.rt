@@ -12,7 +12,7 @@ pub fn spelled_attributes()
         → (s : Spelled) × IsSpelled s rest × (bs ≡ spell s ++ rest) × (a ≡ meaning s) }
 {}
 
-/// The attributes of a text are those that stand, one behind the other, at its start or after a
+/// The attributes of a text are those that stand, one after the other, at its start or after a
 /// blank, the first that does each time; and no other list is so.
 pub fn one_reading()
     ensures are { (bs : List ℕ) → AreReadings true (readings true 0 bs) bs }

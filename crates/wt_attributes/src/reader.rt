@@ -67,7 +67,7 @@ fn attributes_in(alloc: Global, text: &str) -> Result<List<Attr>, NoMemory>
 /// into HTML, with their values as characters (not escaped).
 ///
 /// The pieces are what the sign of a table, row or cell, or the name of a tag, leaves. Their
-/// characters are read as text, entities as the characters for which they stand, and marks and
+/// characters are read as text, entities as the characters that they stand for, and marks and
 /// other atoms as nothing. At the text's start or after a blank `NAME=VALUE` is read: the name in
 /// any case, blanks round the `=`, and the value in `"` or `'`, or without quotes up to a blank, a
 /// quote or a `=`. Other text is passed over, as MediaWiki's `Sanitizer` passes over what is no

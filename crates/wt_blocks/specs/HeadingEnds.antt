@@ -1,10 +1,10 @@
--- A heading in other words: what stands at its ends.
+-- A heading in other words: what is at its ends.
 use Rattle.std.specs.Prelude.{◌≡◌, ◌<◌, ◌*◌, ℕ, Bool, true, List, ◌++◌, length, take, reverse, replicate}
 use Rattle.std.specs.List.{AllByRecursion}
 use Rattle.wt_span.specs.Bytes.{is_blank}
 use Rattle.wt_lines.specs.Kinds.{is_idle}
 
--- so many `=` stand at both ends, and something between them
+-- so many `=` are at both ends, and something between them
 abbrev pub StandAtEnds : ℕ → List ℕ → Type 0
 StandAtEnds n ss = (take n ss ≡ replicate n 61) × (take n (reverse ss) ≡ replicate n 61) × (2 * n < length ss)
 

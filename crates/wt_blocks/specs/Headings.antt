@@ -28,7 +28,7 @@ open_len c = level_of c + blank_len (drop (level_of c) c)
 abbrev pub trimmed_len : List ℕ → ℕ
 trimmed_len ss = length ss - blank_len (reverse ss)
 
--- What stands between the delimiters. The close delimiter is the rest: the blanks before the last `=`, as many of these as
+-- What is between the delimiters. The close delimiter is the rest: the blanks before the last `=`, as many of these as
 -- the level, and all after them.
 abbrev pub inside_len : List ℕ → ℕ
 inside_len c = trimmed_len (take (length c - level_of c - open_len c) (drop (open_len c) c))

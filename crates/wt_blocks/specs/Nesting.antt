@@ -43,7 +43,7 @@ sign_of l = slice_index l.prefix 0
 abbrev pub one_list : ListLine → ListLine → Bool
 one_list l m = same_list (sign_of l) (sign_of m)
 
--- the prefix goes on behind its first sign
+-- the prefix goes on after its first sign
 abbrev pub goes_on : ListLine → Bool
 goes_on l = nat_lt 1 (length l.prefix)
 

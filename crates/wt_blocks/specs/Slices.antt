@@ -16,7 +16,7 @@ AreLeft depth ps = All (λ p. (depth < length p) × (length p ≤ MOST_SIGNS)) p
 abbrev pub one_list_at : ℕ → List ℕ → List ℕ → Bool
 one_list_at depth p q = same_list (slice_index p depth) (slice_index q depth)
 
--- the second prefix goes on behind this place
+-- the second prefix goes on after this place
 abbrev pub one_item_at : ℕ → List ℕ → List ℕ → Bool
 one_item_at depth p q = nat_lt (depth + 1) (length q)
 

@@ -1,4 +1,4 @@
--- Lists and items from the first to the last, and which of them begin at each line: the nest once more, told by neighbouring lines.
+-- Lists and items from the first to the last, and which of them begin at each line: the nest once more, by neighbouring lines.
 use Rattle.std.specs.Prelude.{ℕ, suc, ◌+◌, ◌-◌, ◌*◌, ◌==◌, Bool, true, false, List, [], ◌∷◌, ◌++◌, length, drop, if◌then◌else◌}
 use Rattle.wt_blocks.specs.ListTree.{ListTree, node, ListTrees, none, more}
 use Rattle.wt_blocks.specs.Nesting.{ListLine, same_list}

@@ -1,4 +1,4 @@
-//! How many signs of a class stand at the front or at the back of a line.
+//! How many signs of a class are at the front or at the back of a line.
 
 ghost use Rattle.std.specs.Prelude.{◌≡◌, min, drop};
 ghost use Rattle.std.specs.List.{prefix_len};
@@ -29,7 +29,7 @@ impl SignClass {
     }
 }
 
-/// How many signs of the class stand at the front; `most` at most are counted.
+/// How many signs of the class are at the front; `most` at most are counted.
 pub fn front_len(signs: Signs<'_, '_>, class: SignClass, most: usize) -> usize
     ensures value { result ≡ min most (prefix_len (is_of class) (left signs.entry)) }
 {
@@ -60,7 +60,7 @@ pub fn past_front<'p, 'a>(signs: Signs<'p, 'a>, count: usize) -> Signs<'p, 'a>
     rest
 }
 
-/// How many signs of the class stand at the back; `most` at most are counted.
+/// How many signs of the class are at the back; `most` at most are counted.
 pub fn back_len(signs: BackSigns<'_, '_>, class: SignClass, most: usize) -> usize
     ensures value { result ≡ min most (prefix_len (is_of class) (right signs.entry)) }
 {

@@ -23,7 +23,7 @@ fn level_by(core_len: usize, first: usize, last: usize) -> usize
     level.min(MOST_LEVEL)
 }
 
-/// Where a heading is cut: its level (1 to 6), and how many items stand in its open delimiter and
+/// Where a heading is cut: its level (1 to 6), and how many items are in its open delimiter and
 /// between the delimiters.
 #[derive(Clone, Copy, Debug, PartialEq, Eq)]
 pub struct HeadingCuts {

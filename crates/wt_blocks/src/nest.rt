@@ -142,7 +142,7 @@ fn node_at(
     }
 }
 
-/// The lines of an item that go on behind this sign: all, or all but the first.
+/// The lines of an item that go on after this sign: all, or all but the first.
 fn inside_item(item: &[Str], depth: usize) -> &[Str]
     requires some { 0 < length item.now }
     requires left { AreLeft depth item.now }

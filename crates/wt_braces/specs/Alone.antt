@@ -6,7 +6,7 @@ use Rattle.wt_span.specs.Lexemes.{Word, words}
 use Rattle.wt_span.specs.Braces.{Member, Members, lexeme, call, none, more, width, width_of_all, reduced}
 use Rattle.wt_braces.specs.Words.{total_width}
 
--- The bytes of each call of a text, as a text of their own, are this very call and nothing else: what stands round a call has no
+-- The bytes of each call of a text, as a text of their own, are this very call and nothing else: what is round a call has no
 -- part in how it is read. The members begin at `at`.
 abbrev mutual
   pub IsAlone : Mode → List ℕ → ℕ → Member → Type 0
@@ -25,7 +25,7 @@ pub record IsOneCall (mode : Mode) (bs : List ℕ) : Type 0 where
   pub is : reduced (words mode bs) ≡ call braces inside ∷ []
 
 -- A call is made of lexemes: of an opening run its last `opening` braces, of a closing run its first `closing` ones, and what
--- stands between. These lexemes alone are this call.
+-- is between. These lexemes alone are this call.
 pub record IsMadeAlone (all : List Word) (at k : ℕ) (ms : Members) : Type 0 where
   pub before : List Word
   pub unused : ℕ

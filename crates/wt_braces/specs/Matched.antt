@@ -24,8 +24,8 @@ abbrev mutual
 
 -- ---- what is read
 
--- The open runs that have two braces left, the nearest first; the signs behind them that may count, and for each open `[[`
--- how many signs stand before it; the calls in the order of their last bytes.
+-- The open runs that have two braces left, the nearest first; the signs after them that may count, and for each open `[[`
+-- how many signs come before it; the calls in the order of their last bytes.
 pub record Matched : Type 0 where
   pub runs : List OpenRun
   pub signs : List PartSign
@@ -93,7 +93,7 @@ matched at (x ∷ before) = with_member (end_of at before) x (matched at before)
 
 -- ---- a call is made
 
--- what is behind a run is gone
+-- what is after a run is gone
 abbrev pub cut_at : OpenRun → Matched → Matched
 cut_at r m = record { runs = m.runs; signs = take r.signs m.signs; links = take r.links m.links; closed = m.closed }
 

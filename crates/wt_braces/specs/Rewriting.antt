@@ -1,4 +1,4 @@
--- The reduction as single rewritings of a text: its runs and signs, and whatever stands between them, from left to right.
+-- The reduction as single rewritings of a text: its runs and signs, and whatever is between them, from left to right.
 use Rattle.std.specs.Prelude.{◌≡◌, ◌≤◌, ℕ, zero, suc, ◌-◌, false, List, [], ◌∷◌, ◌++◌}
 use Rattle.wt_span.specs.declared.form.LexKind.TheVariants.{Opens, Closes}
 use Rattle.wt_span.specs.Lexemes.{Word}
@@ -14,7 +14,7 @@ abbrev pub NoOpen : List Member → Type 0
 NoOpen [] = Unit {0}
 NoOpen (x ∷ xs) = (has_two x ≡ false) × NoOpen xs
 
--- no closing run that has two braces left stands behind an open run that has two left
+-- no closing run that has two braces left comes after an open run that has two left
 abbrev pub NoPair : List Member → Type 0
 NoPair xs = (left between right : List Member) (n c : ℕ) → xs ≡ (left ++ lexeme (Opens, n) ∷ between) ++ lexeme (Closes, c) ∷ right → 2 ≤ n → 2 ≤ c → ⊥
 

@@ -42,7 +42,7 @@ pub fn members_have_places()
 {}
 
 /// The bytes of each call of a text, read by themselves, are this very call and nothing else: what
-/// stands round a call has no part in how it is read. So a call of some text is a call of its own
+/// is round a call has no part in how it is read. So a call of some text is a call of its own
 /// bytes alone.
 pub fn calls_are_alone()
     ensures alone { (mode : TextMode) (text : List ℕ) → AreAlone mode text 0 (members (reduced (words mode text))) }

@@ -1,6 +1,6 @@
 //! One pass over the lexemes of a text. A closing run takes from the nearest open run that has two
-//! braces left, so whatever stands behind that run is the inside of the call that it makes. What
-//! lies behind the nearest such run is read as one level: its signs, without those between a `[[`
+//! braces left, so whatever comes after that run is the inside of the call that it makes. What
+//! lies after the nearest such run is read as one level: its signs, without those between a `[[`
 //! and the `]]` that pairs with it.
 
 ghost use Rattle.std.specs.Prelude.{◌≡◌, ◌≤◌, ◌<◌, ℕ, ◌+◌, ◌-◌, ◌^◌, List, [], ◌∷◌, false, map, reverse, length, drop, OnOk, IfOk};
@@ -25,7 +25,7 @@ pub struct OpenRun {
     pub at: u32,
     /// How many braces it has left, from the first on.
     pub left: u32,
-    /// How many signs, links and calls stand before it.
+    /// How many signs, links and calls come before it.
     pub signs: usize,
     pub links: usize,
     pub calls: usize,
@@ -96,9 +96,9 @@ impl Runs {
 #[derive(Drop)]
 pub struct Matching {
     runs: Runs,
-    /// The signs behind each of these, without those in a link.
+    /// The signs after each of these, without those in a link.
     signs: Vec<PartSign>,
-    /// For each `[[` that is open, how many signs stand before it.
+    /// For each `[[` that is open, how many signs come before it.
     links: Vec<usize>,
     /// The calls and arguments so far, in the order of their last bytes.
     closed: Vec<Closed>,
@@ -174,7 +174,7 @@ impl Matching {
         Ok(())
     }
 
-    /// The parts of a call whose inside begins behind a run.
+    /// The parts of a call whose inside begins after a run.
     #[tactic(auto, using(crate::proofs::Ends::drop_map, crate::proofs::PartSteps::fit_le))]
     fn parts_behind(
         &self,
@@ -194,7 +194,7 @@ impl Matching {
         )
     }
 
-    /// Forgets what is behind a run, but for the calls.
+    /// Forgets what is after a run, but for the calls.
     #[tactic(auto, using(crate::proofs::Ends::take_map))]
     fn cut(&mut self, run: OpenRun)
         ensures { self.new ≡ cut_at run self.old }

@@ -51,7 +51,7 @@ later_from k (r ∷ rs) = later_parts (later_of k) r.ending rs
 
 -- ---- blocks
 
--- how cells are read in which so many tables may stand one inside the other
+-- how cells are read in which so many tables may be one inside the other
 abbrev pub reading_at : ℕ → Reading
 reading_at zero = gaps
 reading_at (suc n) = within n
@@ -88,7 +88,7 @@ is_lone line.List = false
 is_lone line.Pre = false
 is_lone line.Text = false
 
--- blank lines, headings and rules stand alone, and lines of lists and of preformatted text among such
+-- blank lines, headings and rules are alone, and lines of lists and of preformatted text among such
 pub record AreOneBlock (k : LineKind) (rs : List RowAt) : Type 0 where
   pub some : 0 < length rs
   pub kind : unit_kind kind_at rs ≡ k

@@ -22,7 +22,7 @@ FirstBegins caption (r ∷ rs) = BeginsCell caption (signs r.items)
 abbrev pub AllBegin : Bool → List (List Row) → Type 0
 AllBegin caption gs = AllByRecursion (FirstBegins caption) gs
 
--- the first row has the sign of a row of the table, of a caption or of a cell, as its kind tells
+-- the first row has the sign of a row of the table, of a caption or of a cell, as its kind says
 pub record IsPartRow (r : Row) : Type 0 where
   pub row : is_row r.kind ≡ true → begins (codes "|-") (signs r.items) ≡ true
   pub caption : is_caption r.kind ≡ true → BeginsCell true (signs r.items)

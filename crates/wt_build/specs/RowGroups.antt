@@ -30,6 +30,6 @@ abbrev pub body_of_groups : Reading → List (List Row) → List Stretch
 body_of_groups read [] = []
 body_of_groups read (g ∷ gs) = enclosed (plain kind.Tbody) (rows_of_groups read (g ∷ gs))
 
--- what stands in a table behind its open delimiter
+-- what is in a table after its open delimiter
 abbrev pub inside_groups : Reading → List (List Row) → List Stretch
 inside_groups read gs = flat_map (cell_stretches read true) (take (captions_count kind_of gs) gs) ++ body_of_groups read (drop (captions_count kind_of gs) gs)

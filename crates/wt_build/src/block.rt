@@ -52,7 +52,7 @@ fn opens_table(kind: LineKind) -> bool
     matches!(kind, LineKind::TableOpen)
 }
 
-/// Whether neighbouring rows of these kinds stand in one block.
+/// Whether neighbouring rows of these kinds are in one block.
 fn one_block(kind: LineKind, next: LineKind) -> bool
     ensures { result ≡ one_block kind next }
 {
@@ -182,7 +182,7 @@ fn node_block<'a>(
     with_separators(alloc, tree, rows[0], rows[rows.len() - 1])
 }
 
-/// What a block gives, in which so many tables may stand one inside the other.
+/// What a block gives, in which so many tables may be one inside the other.
 #[cycle(tabling)]
 fn block<'a>(
     alloc: Global,
@@ -211,7 +211,7 @@ fn block<'a>(
     }
 }
 
-/// The blocks of rows, in which so many tables may stand one inside the other.
+/// The blocks of rows, in which so many tables may be one inside the other.
 #[cycle(tabling)]
 pub fn blocks<'a>(
     alloc: Global,
@@ -256,7 +256,7 @@ fn with_node_block<'a>(
     behind.with_pieces(alloc, Loose::Sep, last.ending(pieces))
 }
 
-/// The children of a body with a block, in which so many tables may stand one inside the other.
+/// The children of a body with a block, in which so many tables may be one inside the other.
 fn with_block<'a>(
     alloc: Global,
     children: Children<'a>,
@@ -291,7 +291,7 @@ fn with_block<'a>(
     }
 }
 
-/// The children of a body with the blocks of rows, in which so many tables may stand one inside the
+/// The children of a body with the blocks of rows, in which so many tables may be one inside the
 /// other.
 pub fn with_blocks<'a>(
     alloc: Global,

@@ -40,7 +40,7 @@ impl<'a> Tree<'a> {
     }
 }
 
-/// The children of a body with the blocks of the next portion; and what is left behind it.
+/// The children of a body with the blocks of the next portion; and what is left after it.
 fn with_portion<'p, 'a>(
     alloc: Global,
     children: Children<'a>,
@@ -60,7 +60,7 @@ fn with_portion<'p, 'a>(
 }
 
 /// The children of a body with the empty lines that come next, or else with the next portion; and
-/// what is left behind.
+/// what is left after.
 fn with_next<'p, 'a>(
     alloc: Global,
     children: Children<'a>,
@@ -81,7 +81,7 @@ fn with_next<'p, 'a>(
     }
 }
 
-/// The meaning of pieces as a page: blocks with what stands in them, and separators between them, by
+/// The meaning of pieces as a page: blocks with what is in them, and separators between them, by
 /// MediaWiki's block pass in the profile's form. Joined, the sources of the tree are the texts of
 /// the pieces.
 pub fn build_pieces<'a>(alloc: Global, pieces: &[Piece<'a>]) -> Result<Tree<'a>, NoMemory>

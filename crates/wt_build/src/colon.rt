@@ -18,7 +18,7 @@ use wt_lines::{LineSign, Signs};
 use wt_span::{List, NoMemory, Piece};
 use wt_tiles::{Context, Tile, TileKind, tiles_in};
 
-/// Whether the characters of a tile stand in no form.
+/// Whether the characters of a tile are in no form.
 fn is_bare(kind: TileKind) -> bool
     ensures { result ≡ is_bare kind }
 {
@@ -38,7 +38,7 @@ fn is_bare(kind: TileKind) -> bool
     }
 }
 
-/// The sign of an item, by whether it stands in no form.
+/// The sign of an item, by whether it is in no form.
 fn seen_sign(bare: bool, sign: LineSign) -> LineSign
     ensures { number result ≡ seen_sign bare (number sign) }
 {
@@ -77,7 +77,7 @@ fn seen_signs(alloc: Global, line: &[Piece<'_>]) -> Result<List<LineSign>, NoMem
     Ok(out)
 }
 
-/// How many signs stand before the first `:`.
+/// How many signs come before the first `:`.
 fn colon_at(signs: &[LineSign]) -> usize
     ensures value { result ≡ prefix_len (λ s. not (s == byte.colon)) (numbers signs.now) }
     ensures within { result ≤ length signs.now }
@@ -90,7 +90,7 @@ fn colon_at(signs: &[LineSign]) -> usize
     signs.len()
 }
 
-/// How many items stand before the first `:` that lies in no tile, if there is one.
+/// How many items come before the first `:` that lies in no tile, if there is one.
 fn colon_len(alloc: Global, line: &[Piece<'_>]) -> Result<Option<usize>, NoMemory>
     requires { All IsSoundPiece line.now }
     ensures { IfOk result (λ o. o ≡ term_len 59 (items line.now)) }
@@ -103,7 +103,7 @@ fn colon_len(alloc: Global, line: &[Piece<'_>]) -> Result<Option<usize>, NoMemor
     Ok(None)
 }
 
-/// How many items a term has, if it ends: behind a prefix whose last sign is `;`, at the first `:`
+/// How many items a term has, if it ends: after a prefix whose last sign is `;`, at the first `:`
 /// that lies in no tile.
 pub fn term_len(alloc: Global, sign: char, line: &[Piece<'_>]) -> Result<Option<usize>, NoMemory>
     requires { All IsSoundPiece line.now }

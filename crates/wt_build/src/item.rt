@@ -33,7 +33,7 @@ pub fn item_kind(sign: char) -> Kind
     }
 }
 
-/// How many items the open delimiter of an item has: the prefix of its line, and the blanks behind.
+/// How many items the open delimiter of an item has: the prefix of its line, and the blanks after.
 fn item_opening_len(alloc: Global, line: &[Piece<'_>]) -> Result<usize, NoMemory>
     ensures { IfOk result (λ n. n ≡ item_opening_len (items line.now)) }
 {
@@ -60,7 +60,7 @@ fn term<'a>(
     })
 }
 
-/// A term and the definition behind it, which holds what follows.
+/// A term and the definition after it, which holds what follows.
 fn term_and_definition<'a>(
     alloc: Global,
     n: usize,
@@ -85,7 +85,7 @@ fn term_and_definition<'a>(
     before(alloc, StretchAt::Tree(node), definition)
 }
 
-/// An item with what stands on its line behind the open delimiter, and with what follows in it.
+/// An item with what is on its line after the open delimiter, and with what follows in it.
 fn item_by<'a>(
     alloc: Global,
     sign: char,
@@ -107,7 +107,7 @@ fn item_by<'a>(
     }
 }
 
-/// Whether an item holds nothing but what stands on its line, in which no `:` is looked for.
+/// Whether an item holds nothing but what is on its line, in which no `:` is looked for.
 fn is_plain(sign: char, inside: &[StretchAt<'_>]) -> bool
     ensures none { result ≡ true → inside.now ≡ [] }
     ensures no_term { result ≡ true → (sign == byte.semicolon) ≡ false }
@@ -115,7 +115,7 @@ fn is_plain(sign: char, inside: &[StretchAt<'_>]) -> bool
     inside.is_empty() && sign != ';'
 }
 
-/// An item with an open delimiter that holds nothing but what stands on its line.
+/// An item with an open delimiter that holds nothing but what is on its line.
 fn plain_item<'a>(
     alloc: Global,
     row: RowAt,

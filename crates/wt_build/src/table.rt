@@ -24,7 +24,7 @@ use wt_rows::{
 use wt_span::{List, NoMemory, Piece, front_of, rest_of};
 use wt_tree::Kind;
 
-/// How the rows of a cell are read, in which so many tables may stand one inside the other.
+/// How the rows of a cell are read, in which so many tables may be one inside the other.
 #[cycle(tabling)]
 fn read_rows<'a>(
     alloc: Global,
@@ -42,7 +42,7 @@ fn read_rows<'a>(
     Ok(List::from_vec(found))
 }
 
-/// The cells, or the caption, of the first row, and the rows behind it that belong to the last of
+/// The cells, or the caption, of the first row, and the rows after it that belong to the last of
 /// them.
 #[cycle(tabling)]
 fn cell_stretches<'a>(
@@ -157,7 +157,7 @@ fn body<'a>(
     enclosed(alloc, NodeHead::plain(Kind::Tbody), pieces, found)
 }
 
-/// What stands in a table behind its open delimiter: captions, and rows.
+/// What is in a table after its open delimiter: captions, and rows.
 #[cycle(tabling)]
 fn inside<'a>(
     alloc: Global,

@@ -100,7 +100,7 @@ pub enum TextKind {
     Pre,
 }
 
-/// The children of a block with a line behind another one, whose end is text.
+/// The children of a block with a line after another one, whose end is text.
 fn with_next<'a>(
     alloc: Global,
     children: Children<'a>,

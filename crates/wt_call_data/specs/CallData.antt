@@ -32,7 +32,7 @@ without_tail bs = take (length bs - prefix_len is_white (reverse bs)) bs
 unfoldable pub trimmed : List ℕ → List ℕ
 trimmed bs = without_tail (without_lead bs)
 
--- what stands in a call's source between two places of the page
+-- what is in a call's source between two places of the page
 abbrev pub source_slice : OuterCall → ℕ → ℕ → List ℕ
 source_slice c from to = slice_range c.source (from - c.start) (to - c.start)
 
@@ -41,7 +41,7 @@ source_slice c from to = slice_range c.source (from - c.start) (to - c.start)
 abbrev pub Param : Type 0
 Param = List ℕ × List ℕ
 
--- a part behind the target: one with a name by its name and value, both trimmed, any other by its number among those
+-- a part after the target: one with a name by its name and value, both trimmed, any other by its number among those
 unfoldable pub param_by : OuterCall → ℕ → Span → Option ℕ → Param
 param_by c n (from, to) None = (decimal (n + 1), source_slice c from to)
 param_by c n (from, to) (Some place) = (trimmed (source_slice c from place), trimmed (source_slice c (place + 1) to))
@@ -55,7 +55,7 @@ params_from c n [] es = []
 params_from c n (p ∷ ps) [] = []
 params_from c n (p ∷ ps) (e ∷ es) = param_by c n p e ∷ params_from c (next_number n e) ps es
 
--- in byte order of their names; of one name the last stands
+-- in byte order of their names; of one name the last counts
 abbrev pub put_param : List Param → Param → List Param
 put_param ps p = insert_entry (slice_cmp nat_cmp) ps p.0 p.1
 
@@ -72,7 +72,7 @@ abbrev pub target_by : OuterCall → List Span → List ℕ
 target_by c [] = []
 target_by c ((from, to) ∷ ps) = source_slice c from to
 
--- the function that a call names behind its two braces
+-- the function that a call names after its two braces
 abbrev pub function_named : OuterCall → Option (Function × ℕ)
 function_named c = function_of (drop 2 c.source)
 

@@ -6,7 +6,7 @@ use Rattle.wt_span.specs.Origins.{Span, OuterCall, IsBorder, IsNameEnd}
 use Rattle.wt_call_data.specs.declared.param.Param.{Param}
 use Rattle.wt_call_data.specs.CallData.{Param as Pair}
 
--- a part lies in its call, at character borders, and so does the sign behind its name
+-- a part lies in its call, at character borders, and so does the sign after its name
 abbrev pub IsSoundPart : OuterCall → Span → Option ℕ → Type 0
 IsSoundPart c p e = (c.start ≤ p.0) × (p.0 ≤ p.1) × (p.1 ≤ c.start + length c.source) × IsBorder c p.0 × IsBorder c p.1 × IsNameEnd c p e
 

@@ -19,7 +19,7 @@ fn is_white(byte: u8) -> bool
     byte == b' ' || byte == b'\t' || byte == b'\n'
 }
 
-/// How many bytes of white space stand in front.
+/// How many bytes of white space are in front.
 fn lead_len(text: &str) -> usize
     ensures { result ≡ prefix_len is_white text.now }
 {
@@ -29,7 +29,7 @@ fn lead_len(text: &str) -> usize
         .count()
 }
 
-/// How many bytes of white space stand at the end.
+/// How many bytes of white space are at the end.
 fn tail_len(text: &str) -> usize
     ensures { result ≡ prefix_len is_white (reverse text.now) }
 {
@@ -62,7 +62,7 @@ pub fn trimmed(text: &str) -> &str
     without_tail(without_lead(text))
 }
 
-/// What stands in a call's source between two places of the page.
+/// What is in a call's source between two places of the page.
 pub fn source_slice<'a>(outer: &Outer<'a>, from: u32, to: u32) -> &'a str
     requires start { (outer_call outer.now).start ≤ from }
     requires order { from ≤ to }

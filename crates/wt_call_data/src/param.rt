@@ -32,7 +32,7 @@ fn digits(alloc: Global, number: usize) -> Result<String, NoMemory>
     Ok(text)
 }
 
-/// A part behind the target, before which so many parts have no name.
+/// A part after the target, before which so many parts have no name.
 #[tactic(auto, unfolding(crate::specs::CallData::param_by))]
 fn read_param<'a>(
     alloc: Global,

@@ -31,7 +31,7 @@ fn link(alloc: Global, href: &Option<Str>) -> Result<Str, NoMemory>
     }
 }
 
-/// The function that a call names behind its two braces.
+/// The function that a call names after its two braces.
 #[tactic(auto, using(crate::proofs::ShortCalls::short_names_none))]
 fn function_named(outer: &Outer<'_>) -> Option<(Function, u32)>
     ensures { result ≡ function_named (outer_call outer.now) }
@@ -43,7 +43,7 @@ fn function_named(outer: &Outer<'_>) -> Option<(Function, u32)>
     function_in(rest_of(source, 2))
 }
 
-/// A call as a part of a group, before which so many calls of the group stand.
+/// A call as a part of a group, before which there are so many calls of the group.
 #[tactic(auto, unfolding(crate::specs::CallData::call_part))]
 pub fn call_part<'a>(alloc: Global, outer: &Outer<'a>, number: u32) -> Result<Part, NoMemory>
     requires { IsSoundCall (outer_call outer.now) }

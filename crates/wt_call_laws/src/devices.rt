@@ -9,7 +9,7 @@ ghost use Rattle.wt_span.specs.declared.limits.TheConstants.{HTML_BYTES};
 ghost use Rattle.wt_call_laws.specs.Uses.{both, Meet};
 
 /// A sink that took some bytes and then others took them all, in their order; one that took some and then
-/// failed behind a front of the others failed behind a front of all. One that was left as it was took
+/// failed after a front of the others failed after a front of all. One that was left as it was took
 /// nothing.
 pub fn uses_of_sinks_add_up()
     ensures took { (a b : SinkUse) → (front rest : List ℕ) → Meet a b → Took a front → Took b rest → Took (both a b) (front ++ rest) }

@@ -9,7 +9,7 @@ ghost use Rattle.wt_pagetool.specs.declared.status.Status.TheVariants as status;
 
 /// A call ends in one way: it is done, it is refused, its answer isn't taken whole, or the line isn't. No two
 /// of them are told of one call, where the counts of the sinks aren't at their last value, and (of an answer
-/// and a refusal) `err` tells what it took. The number of a refusal is neither that of an answer nor that of a
+/// and a refusal) `err` says what it took. The number of a refusal is neither that of an answer nor that of a
 /// write fault.
 pub fn calls_end_in_one_way()
     ensures refused { (c : Call) → (ended : ℕ) → WasRefused c ended → (ended ≡ code status.Done → ⊥) × (ended ≡ code status.WriteFault → ⊥) }

@@ -1,5 +1,5 @@
 //! Laws of calls of the program (`wt_pagetool`), in other words than the definitions that its contracts cite:
-//! what the number tells with which a call ends, what calls of devices do together, and what a call that
+//! what the number with which a call ends says, what calls of devices do together, and what a call that
 //! ended so can have written.
 #![tactic(auto)]
 

@@ -8,7 +8,7 @@ ghost use Rattle.wt_pagetool.specs.Refusals.{refusal_of_edit, refusal_of_selser,
 ghost use Rattle.wt_pagetool.specs.declared.status.Status.TheVariants as status;
 
 /// A refusal of `selser` is that of the first new page, or what `edit` names for the marks of the difference;
-/// what refuses a new page is told as the refusal of an edit.
+/// what refuses a new page is reported as the refusal of an edit.
 pub fn late_refusals_are_of_edits()
     ensures done { (new : List ℕ) → (first : Fault) → late_refusal (Ok new) first ≡ refusal_of_fault first }
     ensures either { (e : EditRefusal) → (first : Fault) → (late_refusal (Err e) first ≡ refusal_of_fault first)

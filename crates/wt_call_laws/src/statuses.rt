@@ -1,4 +1,4 @@
-//! What the number tells with which a call ends.
+//! What the number with which a call ends says.
 ghost use Rattle.std.specs.Prelude.{◌≡◌, ◌↔◌, ℕ, ◌≤◌};
 ghost use Rattle.wt_pagetool.specs.Statuses.{IsAnswer, IsDoneOrRefused, IsFaultOrNoMemory, code};
 ghost use Rattle.wt_pagetool.specs.declared.status.Status.{Status};

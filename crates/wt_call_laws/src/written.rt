@@ -6,7 +6,7 @@ ghost use Rattle.wt_pagetool.specs.declared.command.PageCommand.{PageCommand};
 ghost use Rattle.wt_selser.specs.Splice.{spliced, OutsideStands};
 ghost use Rattle.wt_tree.specs.Tree.{Tree};
 
-/// What a call writes of a page, of an input, or of both, behind what a sink had, is determined by them.
+/// What a call writes of a page, of an input, or of both, after what a sink had, is determined by them.
 pub fn what_is_written_is_one()
     ensures page { (of : PageCommand) → (pages : Pages) → (title old new other : List ℕ) → WrotePage of pages title (Some old) (Some new) → WrotePage of pages title (Some old) (Some other) → new ≡ other }
     ensures source { (input old new other : List ℕ) → (left : Option (List ℕ)) → WroteSource input left (Some old) (Some new) → WroteSource input left (Some old) (Some other) → new ≡ other }

@@ -28,7 +28,7 @@ unfoldable pub checked : Bool → Tree → Tree → Option TreeRefusal
 checked values page edited = refused values (page_of page) (places edited)
 
 -- of the nodes alone: unknown and repeated numbers, and groups; where nodes stand isn't asked, nor what
--- stands outside groups
+-- is outside groups
 abbrev pub nodes_refused : Page → List Place → Option TreeRefusal
 nodes_refused page edited =
     or_else (first (is_unknown page) edited) UnknownId
@@ -38,7 +38,7 @@ nodes_refused page edited =
 unfoldable pub nodes_checked : Tree → Tree → Option TreeRefusal
 nodes_checked page edited = nodes_refused (page_of page) (places edited)
 
--- a refusal of a node, and not of where it stands or of a change outside groups
+-- a refusal of a node, and not of where it is or of a change outside groups
 abbrev pub is_of_nodes : TreeRefusal → Bool
 is_of_nodes (UnknownId n) = true
 is_of_nodes (RepeatedId n) = true

@@ -31,7 +31,7 @@ written_for ts = or_empty_span (as_elements (all_bare (plains_before ts ended)))
 
 -- ---- as they are read
 
--- An element of a group that was read, as it stands: its texts, and the elements in it; what is a
+-- An element of a group that was read, as it is: its texts, and the elements in it; what is a
 -- separator there doesn't count, a mark does.
 abbrev pub read_by : Writing → Showing → Label → Plains → Plains → Plains
 read_by AsText Characters l held rest = along (text l.shown) rest

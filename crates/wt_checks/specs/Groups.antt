@@ -16,7 +16,7 @@ is_marked marks.Content = true
 is_marked marks.Children = true
 is_marked marks.Other = true
 
--- a mark stands on the node or inside it
+-- a mark is on the node or inside it
 abbrev mutual
   pub has_mark : Tree → Bool
   has_mark (tree l ts) = is_marked l.mark || have_mark ts

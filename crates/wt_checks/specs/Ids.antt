@@ -16,7 +16,7 @@ is_unknown page before p after = is_kept p && not (is_there (page (number p)))
 abbrev pub stands : ℕ → List Place → Bool
 stands n ps = list_any (λ q. number q == n) ps
 
--- RepeatedId: the number stands on another element, before or after it.
+-- RepeatedId: the number is on another element, before or after it.
 abbrev pub is_repeated : Condition
 is_repeated before p after = is_kept p && (stands (number p) before || stands (number p) after)
 
@@ -24,10 +24,10 @@ abbrev pub has_parent : ℕ → Option Place → Bool
 has_parent n None = false
 has_parent n (Some q) = q.parent == n
 
--- a kept node with this kept parent and a greater number than this stands among these places
+-- a kept node with this kept parent and a greater number than this is among these places
 abbrev pub greater_stands : ℕ → ℕ → List Place → Bool
 greater_stands parent n ps = list_any (λ q. is_kept q && (q.parent == parent && nat_lt n (number q))) ps
 
--- Moved: the kept parent isn't the page's, or a greater number with the same kept parent stands before.
+-- Moved: the kept parent isn't the page's, or a greater number with the same kept parent comes before.
 abbrev pub is_moved : Page → Condition
 is_moved page before p after = is_kept p && (not (has_parent p.parent (page (number p))) || greater_stands p.parent (number p) before)

@@ -80,7 +80,7 @@ abbrev pub NodeKept : Page → Place → Type 0
 NodeKept page p = is_of_page p ≡ true → p.in_content ≡ false
     → MatchOption (page (number p)) (Unit {0}) (λ q. is_group (kind_at q) ≡ false → NodeAsItWas q.node p.node)
 
--- a mark that may stand there
+-- a mark that may be there
 pub record WellMarked (page : Page) (p : Place) : Type 0 where
   pub outside : p.in_content ≡ false
   pub old : is_of_page p ≡ true
@@ -90,7 +90,7 @@ abbrev pub MarkKept : Page → Place → Type 0
 MarkKept page p = is_marked (label p.node).mark ≡ true → WellMarked page p
 
 -- Everything that isn't marked is kept: kept nodes in their order, groups as they were, each other node
--- of the page outside marked content as it was, and marks where they may stand.
+-- of the page outside marked content as it was, and marks where they may be.
 pub record Kept (values : Bool) (page edited : Tree) : Type 0 where
   pub order : InOrder (places page) (places edited)
   pub groups : AllByRecursion (GroupKept values (page_of page)) (places edited)

@@ -1,4 +1,4 @@
--- The nodes of a tree in preorder, each with what stands round it. All conditions of an edit are said
+-- The nodes of a tree in preorder, each with what is round it. All conditions of an edit are said
 -- of such a list: of a place, and of the places before and after it.
 use Rattle.std.specs.Prelude.{ℕ, ◌==◌, ◌||◌, not, Bool, true, false, Option, Some, None, List, [], ◌∷◌, ◌++◌, if◌then◌else◌}
 use Rattle.wt_tree.specs.declared.kind.Kind.{Kind}
@@ -7,7 +7,7 @@ use Rattle.wt_tree.specs.declared.kind.Mark.{Mark}
 use Rattle.wt_tree.specs.declared.kind.Mark.TheVariants as marks
 use Rattle.wt_tree.specs.Tree.{Tree, tree, Trees, none, more, label}
 
--- a node, the number of its kept parent, and whether it stands inside a node that is marked `content`
+-- a node, the number of its kept parent, and whether it is inside a node that is marked `content`
 pub record Place : Type 0 where
   pub node : Tree
   pub parent : ℕ

@@ -42,7 +42,7 @@ abbrev pub numbered_or : Tree → ℕ → Trees → Tree
 numbered_or t n none = t
 numbered_or t n (more v vs) = if (label v).id == n then v else numbered_or t n vs
 
--- the first trees, each with a number as it stands among the second ones, where it stands there
+-- the first trees, each with a number as it is among the second ones, where it is there
 abbrev pub as_they_stand : Trees → Trees → Trees
 as_they_stand none vs = none
 as_they_stand (more t ts) vs = more (if (label t).id == 0 then t else numbered_or t (label t).id vs) (as_they_stand ts vs)
@@ -50,7 +50,7 @@ as_they_stand (more t ts) vs = more (if (label t).id == 0 then t else numbered_o
 -- What a node holds, by its mark, whether it is a group, what the page has for it, and what it holds
 -- itself once all is put back inside. The inside of a group and of a node that is marked `content` is the
 -- page's. A node that is marked `children` has the page's children: new ones are gone, missing ones are
--- there again, and each other one is as it stands. Any other node holds what it holds.
+-- there again, and each other one is as it is. Any other node holds what it holds.
 abbrev pub inside_back : Mark → Bool → Option Place → Trees → Trees
 inside_back marks.Nothing group o vs = if group then inside o else vs
 inside_back marks.Content group o vs = inside o
@@ -95,7 +95,7 @@ abbrev mutual
   have_frame none = false
   have_frame (more t ts) = has_frame t || have_frame ts
 
--- the root is a body, and in it stand no other one and no section
+-- the root is a body, and in it are no other one and no section
 pub record IsOneBody (t : Tree) : Type 0 where
   pub root : is_body (label t).kind ≡ true
   pub alone : have_frame (children t) ≡ false
@@ -115,7 +115,7 @@ abbrev pub AreAsRead : Tree → Type 0
 AreAsRead edited = AllByRecursion IsAsRead (places edited)
 
 -- The edited tree is the page's but for what may differ: with that put back, all that is compared is
--- the page's. Of what that doesn't see, kept nodes stand in their order, groups are as they were, and so
+-- the page's. Of what that doesn't see, kept nodes are in their order, groups are as they were, and so
 -- are, outside marked content, kept marks and skips and the kept nodes inside new elements; marks stand
 -- where they may.
 pub record IsThePage (values : Bool) (page edited : Tree) : Type 0 where

@@ -65,8 +65,8 @@ same_entries [] (b ∷ ys) = false
 same_entries (a ∷ xs) [] = false
 same_entries (a ∷ xs) (b ∷ ys) = same_entry a b && same_entries xs ys
 
--- the page's node and an edited one hold the same, where what stands in a section of the page counts as
--- standing in its body
+-- the page's node and an edited one hold the same, where what is in a section of the page counts as
+-- in its body
 abbrev pub holds_same : Tree → Tree → Bool
 holds_same (tree l ts) (tree m us) = bytes_eq (own_character (writing l.kind) l.shown)
     (own_character (writing m.kind) m.shown) && same_entries (entries (opened ts)) (entries us)

@@ -15,7 +15,7 @@ all_seen vs = map seen vs
 abbrev pub indexed : List Visit → Page
 indexed vs n = option_map seen (slice_get vs n)
 
--- the first visit, which is the body's, and behind it those of nodes with a number
+-- the first visit, which is the body's, and after it those of nodes with a number
 abbrev pub has_number : Visit → Bool
 has_number v = not ((out-Node v.node.now).id == 0)
 

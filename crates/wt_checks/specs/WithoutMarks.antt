@@ -16,7 +16,7 @@ abbrev mutual
   all_unmarked none = none
   all_unmarked (more t ts) = more (unmarked t) (all_unmarked ts)
 
--- no mark stands on a group or inside one
+-- no mark is on a group or inside one
 abbrev mutual
   pub groups_unmarked : Tree → Bool
   groups_unmarked (tree l ts) = if is_group l.kind then not (has_mark (tree l ts)) else all_groups_unmarked ts

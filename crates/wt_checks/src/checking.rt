@@ -50,7 +50,7 @@ fn check_visits(
     Ok(None)
 }
 
-/// The body, and behind it the page's nodes with numbers: a node stands at its number.
+/// The body, and after it the page's nodes with numbers: a node is at its number.
 pub fn numbered_nodes<'t, 'a>(
     alloc: Global,
     page: &'t Node<'a>,

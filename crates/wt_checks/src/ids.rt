@@ -60,7 +60,7 @@ fn note_visit(noted: &mut [bool], visit: Visit<'_, '_>) -> bool
     note(noted, number)
 }
 
-/// The first number that stands on two elements.
+/// The first number that is on two elements.
 pub fn first_repeated(
     alloc: Global,
     size: usize,
@@ -127,7 +127,7 @@ fn pass(greatest: &mut Vec<u32>, visit: Visit<'_, '_>)
     }
 }
 
-/// The first node that stands elsewhere than in the page.
+/// The first node that is elsewhere than in the page.
 pub fn first_moved(
     alloc: Global,
     index: &[Visit<'_, '_>],

@@ -38,8 +38,8 @@ fn push_first<'t, 'a>(
     Ok(())
 }
 
-/// The body, and behind it the nodes with a number: of a page whose numbers count from 1 in preorder
-/// each stands at its number.
+/// The body, and after it the nodes with a number: of a page whose numbers count from 1 in preorder
+/// each is at its number.
 pub fn index_of<'t, 'a>(
     alloc: Global,
     visits: &[Visit<'t, 'a>],

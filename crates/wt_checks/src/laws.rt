@@ -25,7 +25,7 @@ ghost use Rattle.wt_tree.specs.Plain.{plain};
 
 /// Nothing is refused exactly where all that isn't marked is kept: under each kept parent the kept
 /// nodes are some of the page's in their order, each node of the page has its kind, attributes and
-/// data, and its texts and children where it isn't marked, groups are as they were, and marks stand
+/// data, and its texts and children where it isn't marked, groups are as they were, and marks are
 /// where they may.
 pub fn what_is_kept()
     ensures { (values : Bool) (page edited : Tree) → (label page).kind ≡ kind.Body → InPreorder page
@@ -58,8 +58,8 @@ pub fn edited_is_the_page()
 
 /// And nothing else is taken. Of a tree whose only body is the root, and in which texts and what shows
 /// nothing hold nothing, nothing is refused exactly where with all put back that may differ it is the
-/// page's, kept nodes stand in their order, groups are as they were, and so are, outside
-/// marked content, hidden nodes and the kept nodes inside new elements; marks stand where they may.
+/// page's, kept nodes are in their order, groups are as they were, and so are, outside
+/// marked content, hidden nodes and the kept nodes inside new elements; marks are where they may be.
 pub fn only_the_page_is_taken()
     ensures { (values : Bool) (page edited : Tree) → IsOneBody page → InPreorder page → TextsHoldNoNumber page
         → IsOneBody edited → AreAsRead edited
@@ -83,7 +83,7 @@ pub fn comparisons()
     ensures shown { (xs ys : List StreamToken) → Decides (same_signs xs ys) (xs ≡ ys) }
 {}
 
-/// The check of nodes alone answers what the whole check does where that refuses a node, or nothing. (Behind
+/// The check of nodes alone answers what the whole check does where that refuses a node, or nothing. (After
 /// a node that was moved there may be a changed group.)
 pub fn nodes_as_checked()
     ensures refused { (page edited : Tree) (c : TreeRefusal) → checked false page edited ≡ Some c → is_of_nodes c ≡ true

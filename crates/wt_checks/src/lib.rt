@@ -1,5 +1,5 @@
 //! The checks of an edit that compare two trees alone, the page's and the edited one: unknown,
-//! repeated and moved numbers, changed groups, marks where none may stand, and changes without a mark.
+//! repeated and moved numbers, changed groups, marks where none may be, and changes without a mark.
 #![tactic(auto)]
 
 mod alike;

@@ -131,7 +131,7 @@ fn is_wrongly_marked(index: &[Visit<'_, '_>], visit: Visit<'_, '_>) -> bool
     )
 }
 
-/// The first node with a mark where it may not stand.
+/// The first node with a mark where it may not be.
 pub fn first_wrongly_marked(index: &[Visit<'_, '_>], edited: &[Visit<'_, '_>]) -> Option<u32>
     ensures { result ≡ first (is_wrongly_marked (indexed index.now)) (all_seen edited.now) }
 {

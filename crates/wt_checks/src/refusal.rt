@@ -6,11 +6,11 @@ pub enum TreeRefusal {
     UnknownId(u32),
     /// Two elements have this number.
     RepeatedId(u32),
-    /// The node stands elsewhere than in the page.
+    /// The node is elsewhere than in the page.
     Moved(u32),
     /// A mark or a change on or inside what templates show.
     InTemplate(u32),
-    /// A mark where none may stand.
+    /// A mark where none may be.
     NotEditable(u32),
     /// A change of a node that isn't marked.
     UnmarkedChange(u32),

@@ -58,7 +58,7 @@ fn compared_from(nodes: &[Node<'_>], from: usize) -> usize
     nodes.len()
 }
 
-/// The place behind the edited children from `from` on that are what the page's node is, or, where it is a
+/// The place after the edited children from `from` on that are what the page's node is, or, where it is a
 /// section, what it holds; None where they are something else.
 #[cycle(passing)]
 fn behind_same(page: &Node<'_>, edited: &[Node<'_>], from: usize) -> Option<usize>

@@ -88,7 +88,7 @@ fn push_open(out: &mut Vec<Written<'_, '_>>, in_span: bool) -> Result<(), NoMemo
     Ok(())
 }
 
-/// A text at the top; it gives whether a `span` is open behind it.
+/// A text at the top; it gives whether a `span` is open after it.
 fn push_top_text(
     out: &mut Vec<Written<'_, '_>>,
     in_span: bool,

@@ -1,4 +1,4 @@
--- What may stand among the children of a node that is marked `children`: kept ones, and new blocks or items.
+-- What may be among the children of a node that is marked `children`: kept ones, and new blocks or items.
 use Rattle.std.specs.Prelude.{◌==◌, ◌&&◌, ◌||◌, not, Bool, true, false, Option, List, [], ◌∷◌, ◌++◌, if◌then◌else◌}
 use Rattle.wt_tree.specs.declared.kind.Kind.{Kind}
 use Rattle.wt_tree.specs.declared.kind.Kind.TheVariants as kind
@@ -13,7 +13,7 @@ use Rattle.wt_content.specs.declared.reason.ContentWhy.{ContentWhy}
 use Rattle.wt_content.specs.declared.reason.ContentWhy.TheVariants as why
 use Rattle.wt_content.specs.Content.{all_faults, first_why, held, outermost}
 
--- ---- children and what stands between them
+-- ---- children and what is between them
 
 -- white space
 abbrev pub is_space : Kind → Bool
@@ -35,7 +35,7 @@ abbrev pub is_child : Holder → Kind → Bool
 is_child holder.Body k = not (is_space k)
 is_child holder.List k = not (is_separator k)
 
--- a child that stands in the page
+-- a child that is in the page
 abbrev pub is_kept_child : Holder → Tree → Bool
 is_kept_child h t = is_child h (label t).kind && not ((label t).id == 0)
 

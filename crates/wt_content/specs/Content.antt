@@ -1,4 +1,4 @@
--- What may stand in the content of a marked node: text, the block's own inline nodes, and new bold, italic, links and line breaks.
+-- What may be in the content of a marked node: text, the block's own inline nodes, and new bold, italic, links and line breaks.
 use Rattle.std.specs.Prelude.{ℕ, ◌+◌, ◌==◌, ◌&&◌, ◌||◌, Bool, true, false, not, is_some, Option, Some, None, List, [], ◌∷◌, ◌++◌, length, nat_lt, if◌then◌else◌}
 use Rattle.std.specs.List.{list_any}
 use Rattle.wt_span.specs.Characters as byte
@@ -42,9 +42,9 @@ is_link inline.Tag = false
 is_link inline.Break = false
 is_link inline.AsItStood = false
 
--- ---- how a node stands to the page
+-- ---- what a node is to the page
 
--- What a changed node comes to, by its inline form in the page: one that stands as it stood, and a line break, may
+-- What a changed node comes to, by its inline form in the page: one that is as it was, and a line break, may
 -- only be replaced.
 abbrev pub changed_from : InlineForm → Standing
 changed_from inline.Nothing = stands.Changed
@@ -105,7 +105,7 @@ has_break text = list_any (λ b. b == byte.line_break) text
 abbrev pub break_fault : Bool → List ℕ → List ContentWhy
 break_fault in_paragraph text = if not in_paragraph && has_break text then why.LineBreak ∷ [] else []
 
--- An entity may not be new, and what a changed one shows is a text that stands elsewhere than directly in a paragraph.
+-- An entity may not be new, and what a changed one shows is a text that is elsewhere than directly in a paragraph.
 abbrev pub shown_faults : Standing → List ℕ → List ContentWhy
 shown_faults stands.New text = why.Element ∷ []
 shown_faults stands.Changed text = break_fault false text
@@ -116,7 +116,7 @@ abbrev pub nested_fault : Bool → List ContentWhy
 nested_fault nested = if nested then why.Nested ∷ [] else []
 
 -- By the inline form of its kind. Bold, italic, links and line breaks may be new; a tag, an entity and a nowiki may be
--- changed, as links may; everything else is as it stands in the page, and nothing takes its place with its number.
+-- changed, as links may; everything else is as it is in the page, and nothing takes its place with its number.
 abbrev pub own_faults : InlineForm → Surroundings → Standing → Label → List ContentWhy
 own_faults inline.Nothing x s l = []
 own_faults inline.Characters x s l = break_fault x.in_paragraph l.shown
@@ -156,7 +156,7 @@ if_any (Some w) = w ∷ []
 
 -- ---- of all nodes
 
--- a link stands in it, itself or within, outside groups
+-- a link is in it, itself or within, outside groups
 abbrev mutual
   pub holds_link : Tree → Bool
   holds_link (tree l ts) = is_link (shape l.kind).inline || (not (is_group l.kind) && any_holds_link ts)
@@ -165,16 +165,16 @@ abbrev mutual
   any_holds_link none = false
   any_holds_link (more t ts) = holds_link t || any_holds_link ts
 
--- it brings a link where it stands: it is one, or it isn't looked into and holds one
+-- it brings a link where it is: it is one, or it isn't looked into and holds one
 abbrev pub brings_link : InlineForm → Standing → Bool → Bool
 brings_link w s holds = if is_open w s then is_link w else holds
 
--- where the children of a node stand
+-- where the children of a node are
 abbrev pub below : Surroundings → InlineForm → Surroundings
 below x w = record { in_paragraph = false; in_link = x.in_link || is_link w }
 
 -- What is wrong from a node on: that it brings a link into a link, what is wrong with it by itself, and what is wrong inside it.
--- `holds` tells whether a link stands in it.
+-- `holds` says whether a link is in it.
 abbrev pub faults_by : InlineForm → Surroundings → Standing → Label → Bool → List ContentWhy → List ContentWhy
 faults_by w x s l holds inside =
     nested_fault (x.in_link && brings_link w s holds) ++ (own_faults w x s l ++ (if is_open w s then inside else []))
@@ -239,7 +239,7 @@ is_paragraph form.Rule = false
 is_paragraph form.Item = false
 is_paragraph form.NoBlock = false
 
--- where the children of a marked node stand
+-- where the children of a marked node are
 abbrev pub outermost : Tree → Surroundings
 outermost old = record { in_paragraph = is_paragraph (shape (label old).kind).form; in_link = false }
 

@@ -1,4 +1,4 @@
--- What a reason tells, in other words.
+-- What a reason says, in other words.
 use Rattle.std.specs.Prelude.{◌≡◌, ℕ, ◌+◌, ◌<◌, false, Option, Some, None, List, [], ◌∷◌, ◌++◌, length}
 use Rattle.std.specs.List.{Contains}
 use Rattle.wt_tiles.specs.declared.glyph.Glyph.{Glyph}

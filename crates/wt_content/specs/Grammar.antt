@@ -1,4 +1,4 @@
--- What may stand in the content of a marked node, as a grammar: text; the block's own nodes as they were; new and changed bold,
+-- What may be in the content of a marked node, as a grammar: text; the block's own nodes as they were; new and changed bold,
 -- italic and links; new line breaks; changed tags and entities; nested at will, but no link inside a link.
 use Rattle.std.specs.Prelude.{◌≡◌, ◌⊎◌, Bool, true, false, is_some}
 use Rattle.wt_names.specs.Written.{read_link}
@@ -14,7 +14,7 @@ use Rattle.wt_content.specs.declared.content.Standing.TheVariants as stands
 use Rattle.wt_content.specs.Content.{below, has_break, holds_link, is_url, standing}
 use Rattle.wt_content.specs.Typed.{MayStand}
 
--- it is new, or stands in the place of a node of the page that may be changed
+-- it is new, or is in the place of a node of the page that may be changed
 abbrev pub IsWritten : Standing → Type 0
 IsWritten stands.New = Unit {0}
 IsWritten stands.Changed = Unit {0}
@@ -36,13 +36,13 @@ IsApart x holds = x.in_link ≡ true → holds ≡ false
 abbrev pub IsKept : Surroundings → Standing → Bool → Type 0
 IsKept x s holds = (s ≡ stands.Same) × IsApart x holds
 
--- A link, which stands in no link: as it was; or written anew, and it leads somewhere.
+-- A link, which is in no link: as it was; or written anew, and it leads somewhere.
 abbrev pub IsLinkOf : Surroundings → Standing → Type 0 → Type 0 → Type 0
 IsLinkOf x s leads inside = (x.in_link ≡ false) × ((s ≡ stands.Same) ⊎ (IsWritten s × leads × inside))
 
 -- By the inline form of the node's kind: white space between elements; text, which directly in a paragraph may have line
--- breaks; bold and italic; what an entity or a `nowiki` shows; links; tags; a line break; and all else. `holds` tells whether a
--- link stands in it, `inside` that what it holds is of the grammar.
+-- breaks; bold and italic; what an entity or a `nowiki` shows; links; tags; a line break; and all else. `holds` says whether a
+-- link is in it, `inside` that what it holds is of the grammar.
 abbrev pub IsContentBy : InlineForm → Surroundings → Standing → Label → Bool → Type 0 → Type 0
 IsContentBy inline.Nothing x s l holds inside = IsApart x holds
 IsContentBy inline.Characters x s l holds inside = MayStand x.in_paragraph l.shown × IsApart x holds

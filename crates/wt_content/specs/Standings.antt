@@ -1,4 +1,4 @@
--- For which nodes it counts how they stand to the page.
+-- For which nodes it counts what they are to the page.
 use Rattle.std.specs.Prelude.{◌≡◌, Bool, true, false}
 use Rattle.wt_tree.specs.Tree.{Label}
 use Rattle.wt_original.specs.declared.kinds.InlineForm.{InlineForm}

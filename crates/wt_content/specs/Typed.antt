@@ -21,7 +21,7 @@ abbrev pub MayStand : Bool → List ℕ → Type 0
 MayStand true text = Unit {0}
 MayStand false text = has_break text ≡ false
 
--- all but line breaks and what stands as it stood
+-- all but line breaks and what is as it was
 abbrev pub may_change : InlineForm → Bool
 may_change inline.Nothing = true
 may_change inline.Characters = true

@@ -1,4 +1,4 @@
-//! What may stand among the children of a node whose children come and go: kept ones, and new blocks or
+//! What may be among the children of a node whose children come and go: kept ones, and new blocks or
 //! items.
 
 ghost use Rattle.std.specs.Prelude.{◌≡◌, ◌++◌, Bool, List, [], IfOk, OnOk};
@@ -27,7 +27,7 @@ pub enum Holder {
     List,
 }
 
-// ---- children and what stands between them
+// ---- children and what is between them
 
 /// Whether a node is white space between others.
 pub fn is_space(kind: Kind) -> bool
@@ -49,7 +49,7 @@ pub fn is_mark(kind: Kind) -> bool
     }
 }
 
-/// Whether a node stands between children: white space and marks.
+/// Whether a node is between children: white space and marks.
 pub fn is_separator(kind: Kind) -> bool
     ensures { result ≡ is_separator kind }
 {
@@ -66,7 +66,7 @@ pub fn is_child(holder: Holder, kind: Kind) -> bool
     }
 }
 
-/// Whether a node is a child that stands in the page.
+/// Whether a node is a child that is in the page.
 pub fn is_kept_child(holder: Holder, node: &Node<'_>) -> bool
     ensures { result ≡ is_kept_child holder (view node.now) }
 {

@@ -1,4 +1,4 @@
-//! What may stand in the inside of a marked node: text, the block's own inline nodes, and new bold,
+//! What may be in the inside of a marked node: text, the block's own inline nodes, and new bold,
 //! italic, links and line breaks.
 
 ghost use Rattle.std.specs.Prelude.{◌≡◌, ◌&&◌, ◌++◌, ◌∷◌, Bool, List, [], Some, is_some, IfOk, OnOk};
@@ -24,7 +24,7 @@ use wt_original::{BlockForm, InlineForm, Kept, Page, is_unchanged, page_of_block
 use wt_span::NoMemory;
 use wt_tree::{Kind, Node};
 
-/// How a node of the edited tree stands to the page: it is new; or the page has a node with its number,
+/// What a node of the edited tree is to the page: it is new; or the page has a node with its number,
 /// which it changed, which it took the place of although that may not change, or which it still is.
 #[derive(Clone, Copy)]
 pub enum Standing {
@@ -34,7 +34,7 @@ pub enum Standing {
     Same,
 }
 
-/// Where a node of the inside stands.
+/// Where a node of the inside is.
 #[derive(Clone, Copy)]
 pub struct Surroundings {
     /// Directly in a paragraph.
@@ -140,7 +140,7 @@ fn is_group(kind: Kind) -> bool
     }
 }
 
-/// Whether a link stands in a node, itself or within, outside groups.
+/// Whether a link is in a node, itself or within, outside groups.
 #[cycle(linking)]
 fn holds_link(node: &Node<'_>) -> bool
     ensures { result ≡ holds_link (view node.now) }
@@ -163,7 +163,7 @@ fn any_holds_link(nodes: &[Node<'_>]) -> bool
 
 // ---- one node
 
-/// Whether a line break stands in a text.
+/// Whether a line break is in a text.
 pub fn has_break(text: &[u8]) -> bool
     ensures { result ≡ has_break text.now }
 {
@@ -190,7 +190,7 @@ fn changed_from(inline: InlineForm) -> Standing
     }
 }
 
-/// How a kept node stands to the page's.
+/// What a kept node is to the page's.
 fn standing_of(
     alloc: Global,
     page: &Page<'_, '_>,
@@ -208,7 +208,7 @@ fn standing_of(
     }
 }
 
-/// How a node stands to the page of its block.
+/// What a node is to the page of its block.
 fn standing_in(alloc: Global, page: &Page<'_, '_>, node: &Node<'_>) -> Result<Standing, NoMemory>
     ensures { (same : Tree → Tree → Bool) → TellsSame same
         → IfOk result (λ s. s ≡ standing (page_view same page.now) (view node.now)) }
@@ -270,7 +270,7 @@ fn replaced_fault(standing: Standing) -> Option<ContentWhy>
     }
 }
 
-/// What is wrong with a node that stands as it stood.
+/// What is wrong with a node that is as it was.
 fn unless_same(standing: Standing) -> Option<ContentWhy>
     ensures { if_any result ≡ unless_same standing (ContentWhy.Element ∷ []) }
 {
@@ -344,7 +344,7 @@ fn is_open(inline: InlineForm, standing: Standing) -> bool
     }
 }
 
-/// How bold or italic stands to the page. It may hold whatever it does, so it isn't compared with a node of
+/// What bold or italic is to the page. It may hold whatever it does, so it isn't compared with a node of
 /// the page that may change.
 fn style_standing(alloc: Global, page: &Page<'_, '_>, node: &Node<'_>) -> Result<Standing, NoMemory>
     ensures { (same : Tree → Tree → Bool) → TellsSame same
@@ -366,7 +366,7 @@ fn style_standing(alloc: Global, page: &Page<'_, '_>, node: &Node<'_>) -> Result
     }
 }
 
-/// How a node stands to the page, where that counts for a node that is written so.
+/// What a node is to the page, where that counts for a node that is written so.
 fn standing_by(
     alloc: Global,
     inline: InlineForm,
@@ -396,7 +396,7 @@ fn standing_by(
 
 // ---- all nodes
 
-/// Whether a node brings a link where it stands: it is one, or it isn't looked into and holds one.
+/// Whether a node brings a link where it is: it is one, or it isn't looked into and holds one.
 fn brings_link(inline: InlineForm, standing: Standing, node: &Node<'_>) -> bool
     ensures { result ≡ brings_link inline standing (holds_link (view node.now)) }
 {
@@ -486,7 +486,7 @@ fn is_paragraph(form: BlockForm) -> bool
     }
 }
 
-/// Where the children of a marked node stand, by what it was in the page.
+/// Where the children of a marked node are, by what it was in the page.
 pub fn outermost(old: &Node<'_>) -> Surroundings
     ensures { result ≡ outermost (view old.now) }
 {

@@ -1,4 +1,4 @@
-//! Laws of what may stand in a content, which do nothing when they are called.
+//! Laws of what may be in a content, which do nothing when they are called.
 
 ghost use Rattle.std.specs.Prelude.{◌≡◌, ℕ, Bool, true, false, List, [], None};
 ghost use Rattle.wt_tree.specs.Tree.{Tree, Trees, label};
@@ -20,7 +20,7 @@ pub fn typed_text_stands()
         → bad_content same old new ≡ None }
 {}
 
-/// A node is as it was where the page's node with its number is of its kind and has its plain view, and no group stands in it.
+/// A node is as it was where the page's node with its number is of its kind and has its plain view, and no group is in it.
 #[tactic(auto, using(crate::proofs::Untouched::untouched_is_same))]
 pub fn untouched_nodes_stand()
     ensures { (same : Tree → Tree → Bool) (old t : Tree) → TellsSame same → HasNoGroup t → IsUntouched old t
@@ -35,7 +35,7 @@ pub fn first_reason()
         → IsFirstReason (children_faults same (holder_of (label new).kind) (held new)) (bad_children same new) }
 {}
 
-/// A URL that a new link may have is read as it stands, whatever follows that doesn't belong to URLs.
+/// A URL that a new link may have is read as it is, whatever follows that doesn't belong to URLs.
 #[tactic(auto, using(crate::proofs::UrlsRead::read_whole))]
 pub fn urls_are_read()
     ensures { (bs : List ℕ) → is_url bs ≡ true → IsReadWhole bs }

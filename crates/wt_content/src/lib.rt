@@ -1,4 +1,4 @@
-//! What may stand in the content of a marked node, and among children that come and go: why it can't be
+//! What may be in the content of a marked node, and among children that come and go: why it can't be
 //! written, if something is wrong with it.
 #![tactic(auto)]
 

@@ -1,10 +1,10 @@
 //! Why a content can't be written.
 
-/// Why what stands in a marked node can't be written: the first of these that holds anywhere in it.
+/// Why what is in a marked node can't be written: the first of these that holds anywhere in it.
 #[derive(Clone, Copy, Debug, PartialEq, Eq)]
 pub enum ContentWhy {
     /// A new element that isn't bold, italic, a link or a line break, or a changed one that is written as
-    /// it stands in the page; among children, a new block that may not stand there, or a node of the page
+    /// it is in the page; among children, a new block that may not be there, or a node of the page
     /// inside a new one.
     Element,
     /// A new or changed link whose `href` leads to no title, or isn't a URL.

@@ -21,7 +21,7 @@ fn is_url_byte(byte: u8) -> bool
             || byte == b'"')
 }
 
-/// Whether a URL goes on with a byte; `after` tells whether an apostrophe stands before it, with which
+/// Whether a URL goes on with a byte; `after` says whether an apostrophe comes before it, with which
 /// another one would end the URL.
 fn goes_on(after: bool, byte: u8) -> bool
     ensures { result ≡ is_url_char byte && not (after && byte == 39) }
@@ -29,7 +29,7 @@ fn goes_on(after: bool, byte: u8) -> bool
     is_url_byte(byte) && !(after && byte == b'\'')
 }
 
-/// Whether all bytes belong to a URL: each may stand in one, and no two apostrophes stand side by side.
+/// Whether all bytes belong to a URL: each may be in one, and no two apostrophes are side by side.
 fn are_url_bytes(bytes: &[u8]) -> bool
     ensures { result ≡ (url_run (byte_glyphs bytes.now) == length bytes.now) }
 {

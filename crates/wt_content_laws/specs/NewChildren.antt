@@ -1,4 +1,4 @@
--- What may stand among the children of a node that is marked `children`, by what each child is.
+-- What may be among the children of a node that is marked `children`, by what each child is.
 use Rattle.std.specs.Prelude.{◌≡◌, ◌≢◌, ◌⊎◌, ℕ, Bool}
 use Rattle.wt_tree.specs.declared.kind.Kind.{Kind}
 use Rattle.wt_tree.specs.declared.kind.Kind.TheVariants as kind
@@ -14,7 +14,7 @@ abbrev pub IsNewBlock : Holder → Kind → Type 0
 IsNewBlock holder.Body k = (k ≡ kind.Para) ⊎ ((level : ℕ) × (k ≡ kind.Heading level)) ⊎ (k ≡ kind.Rule)
 IsNewBlock holder.List k = k ≡ kind.Li
 
--- a rule holds nothing, any other new block what may stand in a content of which the page has no node
+-- a rule holds nothing, any other new block what may be in a content of which the page has no node
 abbrev pub HoldsWell : (Tree → Tree → Bool) → Tree → Type 0
 HoldsWell same u =
     (((label u).kind ≡ kind.Rule) × (held u ≡ none))

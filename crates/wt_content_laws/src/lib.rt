@@ -1,4 +1,4 @@
-//! Laws of what may stand in a marked node, in the words of somebody who edits.
+//! Laws of what may be in a marked node, in the words of somebody who edits.
 #![tactic(auto)]
 
 ghost use Rattle.std.specs.Prelude.{◌≡◌, ◌↔◌, Bool, None};
@@ -9,8 +9,8 @@ ghost use Rattle.wt_content.specs.Content.{bad_content, held, outermost};
 ghost use Rattle.wt_content_laws.specs.NewChildren.{AreChildren};
 ghost use Rattle.wt_content_laws.specs.TextEdits.{AreTextEdits};
 
-/// Text that is typed round groups and other nodes of the page isn't refused for what stands in the
-/// block, where line breaks stand directly in a paragraph alone.
+/// Text that is typed round groups and other nodes of the page isn't refused for what is in the
+/// block, where line breaks are directly in a paragraph alone.
 #[tactic(auto, using(crate::proofs::TextEditsStand::text_edits_stand))]
 pub fn text_edits_stand()
     ensures { (same : Tree → Tree → Bool) (old new : Tree) → TellsSame same → AreTextEdits old (outermost old).in_paragraph (held new)

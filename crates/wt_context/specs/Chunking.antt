@@ -1,5 +1,5 @@
--- Chunks while segments are read: those that are made, the visible items since the last run, and how many apostrophes stand
--- behind them, which may go on.
+-- Chunks while segments are read: those that are made, the visible items since the last run, and how many apostrophes are
+-- after them, which may go on.
 use Rattle.std.specs.Prelude.{◌≡◌, ℕ, suc, ◌==◌, Some, List, [], ◌∷◌, ◌++◌, nat_le, if◌then◌else◌}
 use Rattle.wt_quotes.specs.declared.chunk.Chunk.{Chunk}
 use Rattle.wt_quotes.specs.declared.chunk.Chunk.TheVariants as chunk
@@ -36,7 +36,7 @@ IsChunked c added d = (us : List Segment) → chunked d us ≡ chunked c (added 
 abbrev pub IsClosed : Chunking → Chunking → Type 0
 IsClosed c d = (d.quotes ≡ 0) × ((next : Seen → List Chunk) → d.chunks ++ next d.seen ≡ c.chunks ++ flushed c.seen c.quotes next)
 
--- a segment that is no run behind the first
+-- a segment that is no run after the first
 abbrev pub IsOther : Chunking → Seen → Chunking → Type 0
 IsOther c s d = (d.chunks ≡ c.chunks ++ other s ∷ []) × (d.seen ≡ s) × (d.quotes ≡ 0)
 

@@ -43,7 +43,7 @@ abbrev pub or_none : Option ℕ → ℕ
 or_none None = 0
 or_none (Some n) = n
 
--- how many items the target takes, which stands behind the `[[`
+-- how many items the target takes, which comes after the `[[`
 unfoldable pub target_size : List Glyph → ℕ
 target_size gs = or_none (target_len (drop 2 gs))
 
@@ -61,11 +61,11 @@ link_head xs = with_href kind.WikiLink (href_to (target (glyphs xs)))
 abbrev pub visible_source : List Item → List ℕ
 visible_source xs = sources (visible xs)
 
--- what stands between the `|` after so many items and the `]]`
+-- what is between the `|` after so many items and the `]]`
 unfoldable pub key_after : ℕ → List Item → Option (List ℕ)
 key_after n xs = option_map (λ k. visible_source (take k (drop (n + 1) xs))) (to_close (drop (n + 1) (glyphs xs)))
 
--- a category's key: the source behind the first `|`
+-- a category's key: the source after the first `|`
 unfoldable pub key : List Item → Option (List ℕ)
 key xs = let n = 2 + target_size (glyphs xs) in if has_pipe n (glyphs xs) then key_after n xs else None
 
@@ -101,11 +101,11 @@ bare_url_head xs = with_href kind.ExtLink (text_of xs)
 
 -- ---- tags
 
--- how many items stand up to the end of the tag's name
+-- how many items there are up to the end of the tag's name
 unfoldable pub name_end : List Glyph → ℕ
 name_end gs = let n = name_len (drop 1 gs) in if n == 0 then 0 else 1 + n
 
--- of an opening tag: what stands between its name and the `>`
+-- of an opening tag: what is between its name and the `>`
 unfoldable pub attribute_items : List Item → List Item
 attribute_items opening =
     let n = name_end (glyphs opening) in
@@ -138,7 +138,7 @@ pair_head opening = pair_by (tag_at (glyphs opening)) opening
 
 -- ---- switches
 
--- the names of switches, as they are written and as they are told
+-- the names of switches, as they are written and as they are named
 unfoldable pub switch_names : List (List ℕ × List ℕ)
 switch_names =
     (codes "__NOTOC__", codes "notoc") ∷ (codes "__FORCETOC__", codes "forcetoc") ∷ (codes "__TOC__", codes "toc")

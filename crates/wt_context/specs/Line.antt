@@ -10,16 +10,16 @@ use Rattle.wt_inline.specs.Parts.{Part, parts, children}
 use Rattle.wt_context.specs.Nodes.{Reading, segments}
 use Rattle.wt_context.specs.Styled.{with_styles}
 
--- one context, where what stands inside its tiles is read so
+-- one context, where what is inside its tiles is read so
 abbrev pub read_by : Reading → Reading
 read_by read = λ cx xs. with_styles (segments read cx xs)
 
--- a context in which so many more may stand one inside the other
+-- a context in which so many more may be one inside the other
 abbrev pub within : ℕ → Reading
 within zero = λ cx xs. parts Text xs
 within (suc n) = read_by (within n)
 
--- A text of a link and `MOST_PAIRS` pairs of tags may stand one inside the other in a line: the law `contexts_nest` says that no
+-- A text of a link and `MOST_PAIRS` pairs of tags may be one inside the other in a line: the law `contexts_nest` says that no
 -- context is ever read without its inside.
 abbrev pub most_contexts : ℕ
 most_contexts = MOST_PAIRS + 2

@@ -1,4 +1,4 @@
--- Tokens and the stretch behind them, which may go on.
+-- Tokens and the stretch after them, which may go on.
 use Rattle.std.specs.Prelude.{◌≡◌, ℕ, ◌==◌, Bool, true, false, not, List, ◌++◌}
 use Rattle.wt_span.specs.Items.{Item, items}
 use Rattle.wt_span.specs.Characters as byte

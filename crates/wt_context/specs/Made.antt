@@ -3,7 +3,7 @@ use Rattle.std.specs.Prelude.{List, [], None}
 use Rattle.wt_inline.specs.Parts.{Part}
 use Rattle.wt_inline.specs.Grown.{Grown, Grows}
 
--- what stands in a node
+-- what is in a node
 abbrev pub Inside : Type 0
 Inside = List Part
 

@@ -1,4 +1,4 @@
--- Tiles as nodes, and the segments of a context. What stands in a link or in a pair of tags is read as a context of its own, by the
+-- Tiles as nodes, and the segments of a context. What is in a link or in a pair of tags is read as a context of its own, by the
 -- function that is handed in.
 use Rattle.std.specs.Prelude.{ℕ, ◌+◌, ◌==◌, Option, Some, None, List, [], ◌∷◌, ◌++◌, take, drop, if◌then◌else◌}
 use Rattle.std.specs.List.{flat_map}
@@ -59,7 +59,7 @@ round_parts h opening ps closing = inner h opening (forest (children ps)) closin
 unfoldable pub bare_url : Shape → List Item → ItemTree
 bare_url w xs = round_parts (bare_url_head (inside_of w xs)) (opening_of w xs) (parts Text (inside_of w xs)) (closing_of w xs)
 
--- letters that join a link stand in it, behind its `]]`, which is then a node by itself
+-- letters that join a link are in it, after its `]]`, which is then a node by itself
 abbrev pub trail_parts : List Item → List Item → List Part
 trail_parts closing trail = node (leaf (plain node_kind.Skip) closing) ∷ parts Text trail
 

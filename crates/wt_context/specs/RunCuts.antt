@@ -1,4 +1,4 @@
--- What the chunks of a context say of its runs: where they stand, and which items stand before them.
+-- What the chunks of a context say of its runs: where they are, and which items come before them.
 use Rattle.std.specs.Prelude.{◌≡◌, ◌≤◌, ◌||◌, ℕ, Bool, true, false, List, [], ◌∷◌, ◌++◌, length}
 use Rattle.std.specs.List.{AllByRecursion}
 use Rattle.wt_quotes.specs.declared.chunk.Chunk.{Chunk}
@@ -21,12 +21,12 @@ pub record IsRunBetween (us run vs : List Segment) : Type 0 where
   pub before : ends_with_quote us ≡ false
   pub behind : begins_with_quote vs ≡ false
 
--- two apostrophes stand side by side
+-- two apostrophes are side by side
 abbrev pub has_run : List Segment → Bool
 has_run [] = false
 has_run (u ∷ []) = false
 has_run (u ∷ v ∷ us) = both_quotes u v || has_run (v ∷ us)
 
--- The last chunk tells the last visible item of all the segments, and the one before it.
+-- The last chunk has the last visible item of all the segments, and the one before it.
 abbrev pub IsTold : List Segment → Type 0
 IsTold us = (cs : List Chunk) × (n : ℕ) × (chunks us ≡ cs ++ chunk.Text n (last_letter (segment_items us)) (letter_before (segment_items us)) ∷ [])

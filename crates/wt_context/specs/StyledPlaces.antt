@@ -1,4 +1,4 @@
--- Where the parts of a context stand: in a delimiter of a style, or within bold and italic ones.
+-- Where the parts of a context are: in a delimiter of a style, or within bold and italic ones.
 use Rattle.std.specs.Prelude.{ℕ, suc, ◌%◌, ◌==◌, ◌||◌, Bool, Option, Some, None, List, [], ◌∷◌, ◌++◌, map, count_by, if◌then◌else◌}
 use Rattle.wt_span.specs.Items.{Item}
 use Rattle.wt_quotes.specs.declared.chunk.Chunk.{Chunk}
@@ -10,14 +10,14 @@ use Rattle.wt_context.specs.Unstyled.{Role, style, characters, other, role}
 
 -- ---- in the trees
 
--- for one style, bold or else italic: of each item of a delimiter nothing, and of each other part whether it stands in such a style
+-- for one style, bold or else italic: of each item of a delimiter nothing, and of each other part whether it is in such a style
 abbrev pub Places : Type 0
 Places = List (Option Bool)
 
 abbrev pub no_places : List Item → Places
 no_places xs = map (λ x. None) xs
 
--- by its role: of a node that stands in such a style or not, with these delimiters and what stands between them
+-- by its role: of a node that is in such a style or not, with these delimiters and what is between them
 abbrev pub places_by : Role → Bool → Bool → List Item → (Bool → Places) → List Item → Places
 places_by (style bold) kind now opening inside closing = no_places opening ++ (inside (now || is_kind kind bold) ++ no_places closing)
 places_by characters kind now opening inside closing = map (λ x. Some now) opening
@@ -33,7 +33,7 @@ abbrev mutual
 
 -- ---- by the toggles
 
--- an apostrophe that switches stands in a delimiter; any other segment stands in the style where an odd number of its toggles is before it
+-- an apostrophe that switches is in a delimiter; any other segment is in the style where an odd number of its toggles is before it
 abbrev pub toggled : Bool → List Chunk → ℕ → Option Bool
 toggled kind cs p = if is_switch cs p then None else Some (count_by (switches_before kind cs p) (toggles_of cs) % 2 == 1)
 

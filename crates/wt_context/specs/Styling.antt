@@ -12,7 +12,7 @@ abbrev pub Fill : ℕ → ℕ → Forest → Type 0
 Fill low high bare = low ≤ high
 Fill low high (grown s inside after) = (low ≤ s.from) × Fill (s.from + s.open_w) (s.to - s.close_w) inside × (s.close_w ≤ s.to) × Fill s.to high after
 
--- from the place `low` on `before` is left of a context; the parts of a style and of the segments before it come behind `g`
+-- from the place `low` on `before` is left of a context; the parts of a style and of the segments before it come after `g`
 abbrev pub IsStyle : ℕ → Style → List Style → List Segment → Grown → List Segment → Grown → Type 0
 IsStyle low s ss before g after h =
     (us : List Segment) → drop low us ≡ before

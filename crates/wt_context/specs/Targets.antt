@@ -10,7 +10,7 @@ use Rattle.wt_tiles.specs.declared.target.Target.{Target}
 use Rattle.wt_tiles.specs.Tiles.{tiles}
 use Rattle.wt_context.specs.Heads.{glyphs, target}
 
--- in the items of the tile stands a target, and the link to its title leads back to that
+-- in the items of the tile is a target, and the link to its title leads back to that
 abbrev pub IsLed : List Item → Type 0
 IsLed xs = (t : Target) × (target (glyphs xs) ≡ Some t) × (read_link (link_to t.title) ≡ Some t.title)
 

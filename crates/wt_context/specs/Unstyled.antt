@@ -1,4 +1,4 @@
--- What stands in a context, its styles taken away, and what stands there where apostrophes are read as characters.
+-- What is in a context, its styles taken away, and what is there where apostrophes are read as characters.
 use Rattle.std.specs.Prelude.{Bool, true, false, Option, Some, None, List, [], ◌∷◌, ◌++◌}
 use Rattle.std.specs.List.{flat_map}
 use Rattle.wt_tree.specs.declared.kind.Kind.{Kind}
@@ -64,7 +64,7 @@ by_role (style bold) t opening inside closing = parts Text opening ++ (inside ++
 by_role characters t opening inside closing = parts Text opening
 by_role other t opening inside closing = node t ∷ []
 
--- A style is what stands in it, between its delimiters as characters. A node that is no style stays whole.
+-- A style is what is in it, between its delimiters as characters. A node that is no style stays whole.
 abbrev mutual
   pub unstyled : ItemTree → List Part
   unstyled (inner h opening ts closing) = by_role (role h.kind) (inner h opening ts closing) opening (all_unstyled ts) closing

@@ -11,7 +11,7 @@ use std::alloc::Global;
 use wt_quotes::Chunk;
 use wt_span::{List, NoMemory, Piece};
 
-/// Chunks, the visible items since the last run, and the apostrophes behind them, which may go on.
+/// Chunks, the visible items since the last run, and the apostrophes after them, which may go on.
 #[derive(Debug, Drop)]
 struct Chunking {
     chunks: List<Chunk>,
@@ -23,7 +23,7 @@ impl Chunking {
     ghost use Rattle.wt_context.specs.Segments.{Segment};
     ghost use Rattle.wt_context.specs.Chunking.{IsOther, IsRunOn, IsChunked, IsClosed};
 
-    /// A segment that is no run behind these, with what was seen up to it.
+    /// A segment that is no run after these, with what was seen up to it.
     fn with_other(self, seen: Seen) -> Result<Chunking, NoMemory>
         ensures { IfOk result (λ c. IsOther self seen c) }
     {
@@ -40,7 +40,7 @@ impl Chunking {
         })
     }
 
-    /// A run behind these.
+    /// A run after these.
     fn with_run(self, quotes: u32) -> Result<Chunking, NoMemory>
         ensures { IfOk result (λ c. IsRunOn self quotes c) }
     {
@@ -68,7 +68,7 @@ impl Chunking {
         self.with_other(seen)
     }
 
-    /// A segment of these pieces that is no apostrophe behind these.
+    /// A segment of these pieces that is no apostrophe after these.
     fn with_pieces(self, pieces: &[Piece<'_>]) -> Result<Chunking, NoMemory>
         ensures none { IfOk result (λ c. c.quotes ≡ 0) }
         ensures value { IfOk result (λ c. (u : Segment) → u.quote ≡ false → u.items ≡ items pieces.now → IsChunked self (u ∷ []) c) }
@@ -78,7 +78,7 @@ impl Chunking {
         closed.with_other(seen)
     }
 
-    /// So many apostrophes behind these.
+    /// So many apostrophes after these.
     fn with_quotes(self, n: u32) -> Chunking
         requires { self.quotes + n < 2 ^ 32 }
         ensures chunks { result.chunks ≡ self.chunks }

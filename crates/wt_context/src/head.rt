@@ -93,7 +93,7 @@ pub fn link_head<'a>(alloc: Global, pieces: &[Piece<'a>]) -> Result<NodeHead<'a>
     with_href(alloc, Kind::WikiLink, href)
 }
 
-/// What stands between the `|` after n items and the `]]`.
+/// What is between the `|` after n items and the `]]`.
 #[tactic(auto, unfolding(crate::specs::Heads::key_after))]
 fn key_after(
     alloc: Global,
@@ -168,7 +168,7 @@ pub fn category_head<'a>(alloc: Global, pieces: &[Piece<'a>]) -> Result<NodeHead
     with_href(alloc, Kind::Category, href)
 }
 
-/// How many bytes stand before the first blank.
+/// How many bytes come before the first blank.
 fn unblank_len(bytes: &[u8]) -> usize
     ensures value { result ≡ prefix_len (λ b. not (is_blank b)) bytes.now }
     ensures within { result ≤ length bytes.now }
@@ -181,14 +181,14 @@ fn unblank_len(bytes: &[u8]) -> usize
     bytes.len()
 }
 
-/// What stands before the first blank.
+/// What comes before the first blank.
 fn before_blank(text: &str) -> &str
     ensures { result.now ≡ before_blank text.entry.now }
 {
     text.split_at(unblank_len(text.as_bytes())).0
 }
 
-/// What stands behind a `[` that begins the text.
+/// What comes after a `[` that begins the text.
 fn behind_bracket(text: &str) -> &str
     ensures { result.now ≡ behind_bracket text.entry.now }
 {
@@ -228,7 +228,7 @@ pub fn bare_url_head<'a>(alloc: Global, pieces: &[Piece<'a>]) -> Result<NodeHead
     with_href(alloc, Kind::ExtLink, href)
 }
 
-/// What a switch that is written so is told as.
+/// What a switch that is written so is named as.
 #[tactic(auto, unfolding(crate::specs::Heads::switch_names))]
 fn switch_name(written: &str) -> &'static str
     ensures { result.now ≡ named switch_names written.now }

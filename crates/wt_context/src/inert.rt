@@ -1,5 +1,5 @@
 //! Characters that are text in every context: most lines of a page are these alone, and so is most of
-//! what stands in links and tags, and no tile is sought in them.
+//! what is in links and tags, and no tile is sought in them.
 
 ghost use Rattle.std.specs.Prelude.{◌≡◌, ◌&&◌, true, take, map, ℕ, Option};
 ghost use Rattle.std.specs.List.{list_all};

@@ -27,7 +27,7 @@ pub fn line_keeps_its_items()
     ensures trees_source { (xs : List Item) → sources (held_by_all (forest (line_trees xs))) ≡ sources xs }
 {}
 
-/// Every context in at most sixteen pairs is its segments with styles round them, where what stands
+/// Every context in at most sixteen pairs is its segments with styles round them, where what is
 /// inside its tiles is read so again, and no other reading is so: none is left without its inside.
 pub fn contexts_nest()
     ensures are { IsReading context_parts }
@@ -47,8 +47,8 @@ pub fn chunks_tell_items_before_runs()
     ensures told { (us : List Segment) → 0 < length us → has_run us ≡ false → IsTold us }
 {}
 
-/// Each part of a context stands in bold where an odd number of bold toggles is before it, and
-/// elsewhere in none; likewise italic. The apostrophes that switch stand in delimiters, and nothing
+/// Each part of a context is in bold where an odd number of bold toggles is before it, and
+/// elsewhere in none; likewise italic. The apostrophes that switch are in delimiters, and nothing
 /// else does.
 pub fn parts_stand_in_styles()
     ensures { (kind : Bool) (cx : Where) (xs : List Item) → cx.pairs ≤ MOST_PAIRS

@@ -13,10 +13,10 @@ use wt_inline::{Children, PieceTree};
 use wt_span::{List, NoMemory, Piece};
 use wt_tiles::{Context, MOST_PAIRS};
 
-/// How many contexts may stand one inside the other: a line, the text of a link, and pairs of tags.
+/// How many contexts may be one inside the other: a line, the text of a link, and pairs of tags.
 const MOST_CONTEXTS: u32 = MOST_PAIRS + 2;
 
-/// The children of a node with what stands on a line, or in a cell.
+/// The children of a node with what is on a line, or in a cell.
 #[tactic(auto, unfolding(crate::specs::Line::context_parts))]
 pub fn with_line<'a>(
     alloc: Global,
@@ -29,7 +29,7 @@ pub fn with_line<'a>(
     with_context(alloc, children, MOST_CONTEXTS, Context::line(), pieces)
 }
 
-/// What stands on a line, or in a cell, as the children of its node.
+/// What is on a line, or in a cell, as the children of its node.
 #[tactic(auto, unfolding(crate::specs::Line::line_trees))]
 pub fn line_children<'a>(
     alloc: Global,

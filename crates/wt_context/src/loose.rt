@@ -22,7 +22,7 @@ fn is_quote(byte: u8) -> bool
     byte == b'\''
 }
 
-/// How many bytes stand first that are apostrophes, or else that are none.
+/// How many bytes are first that are apostrophes, or else that are none.
 fn alike_len(quotes: bool, bytes: &[u8]) -> usize
     ensures value { result ≡ prefix_len (is_alike quotes) bytes.now }
     ensures within { result ≤ length bytes.now }
@@ -71,7 +71,7 @@ fn split_alike<'a>(text: Text<'a>) -> Alike<'a>
     }
 }
 
-/// Tokens, and the stretch behind them, which may go on.
+/// Tokens, and the stretch after them, which may go on.
 #[derive(Drop)]
 struct Loosening<'a> {
     tokens: List<Token<'a>>,
@@ -170,7 +170,7 @@ impl<'a> Loosening<'a> {
     }
 }
 
-/// The tokens of these pieces behind others.
+/// The tokens of these pieces after others.
 pub fn with_loose<'a>(
     alloc: Global,
     tokens: List<Token<'a>>,

@@ -21,7 +21,7 @@ use wt_span::{List, NoMemory, Piece};
 use wt_tiles::Tile;
 use wt_tree::Kind;
 
-/// A tile in which a context of its own stands.
+/// A tile that has a context of its own.
 #[derive(Clone, Copy, Debug, PartialEq, Eq)]
 pub enum Nested {
     Link,

@@ -16,7 +16,7 @@ use wt_span::{List, NoMemory, Piece, rest_of};
 use wt_tiles::{Glyph, GlyphClass, Name, Rest, Tag, glyphs_of, run_len, tag_at};
 use wt_tree::{Attr, Kind, TagName};
 
-/// How many items stand up to the end of the name of a tag.
+/// How many items there are up to the end of the name of a tag.
 #[tactic(auto, unfolding(crate::specs::Heads::name_end))]
 fn name_end(glyphs: &[Glyph]) -> usize
     ensures value { result ≡ name_end glyphs.now }
@@ -32,7 +32,7 @@ fn name_end(glyphs: &[Glyph]) -> usize
     1 + run_len(GlyphClass::Name, rest)
 }
 
-/// The pieces that stand between the name of an opening tag and its `>`.
+/// The pieces that are between the name of an opening tag and its `>`.
 #[tactic(auto, unfolding(crate::specs::Heads::attribute_items))]
 fn attribute_pieces<'a>(alloc: Global, opening: &[Piece<'a>]) -> Result<List<Piece<'a>>, NoMemory>
     requires { All IsSoundPiece opening.now }

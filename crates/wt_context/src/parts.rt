@@ -11,7 +11,7 @@ use std::alloc::Global;
 use wt_span::{List, NoMemory, Piece};
 use wt_tiles::{Rest, Tile, take_items};
 
-/// The pieces of a tile's open delimiter, of what stands between its delimiters, of its close
+/// The pieces of a tile's open delimiter, of what is between its delimiters, of its close
 /// delimiter, and of the letters that join a link.
 #[derive(Debug, Drop)]
 pub struct TileParts<'a> {

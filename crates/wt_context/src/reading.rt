@@ -1,4 +1,4 @@
-//! Contexts, each read with what stands in its tiles.
+//! Contexts, each read with what is in its tiles.
 
 ghost use Rattle.std.specs.Prelude.{◌≡◌, ◌<◌, ◌+◌, ◌^◌, ◌++◌, map, option_map, All, IfOk};
 ghost use Rattle.std.specs.List.{flat_map};
@@ -24,7 +24,7 @@ use wt_inline::{Children, PieceTree};
 use wt_span::{List, NoMemory, Piece};
 use wt_tiles::{Context, Tile, TileKind, tiles_in};
 
-/// The node of a tile in which a context stands.
+/// The node of a tile that has a context of its own.
 #[cycle(reading)]
 fn nested<'a>(
     alloc: Global,
@@ -152,7 +152,7 @@ fn tokens_of<'a>(
     Ok(tokens)
 }
 
-/// The children of a node with what stands in a context, where so many more contexts may stand one
+/// The children of a node with what is in a context, where so many more contexts may be one
 /// inside the other. What holds no sign of a tile or a style is text.
 #[cycle(reading)]
 pub fn with_context<'a>(

@@ -13,7 +13,7 @@ use std::vec::IntoIter;
 use wt_inline::Children;
 use wt_span::{List, NoMemory, Piece};
 
-/// What is left of tokens: apostrophes of one that was cut, and the tokens behind it.
+/// What is left of tokens: apostrophes of one that was cut, and the tokens after it.
 #[derive(Drop)]
 pub struct Rest<'a> {
     quotes: Option<Quotes<'a>>,
@@ -31,7 +31,7 @@ impl<'a> Rest<'a> {
         }
     }
 
-    /// The next token, and what is left behind it.
+    /// The next token, and what is left after it.
     fn next(self) -> (Option<Token<'a>>, Rest<'a>)
         ensures value { MatchOption result.0 (rest_segments self.entry ≡ []) (λ t. rest_segments self.entry ≡ token_segments t ++ rest_segments result.1) }
         ensures none { MatchOption result.0 (rest_segments result.1 ≡ []) (λ t. result.1.quotes ≡ None) }
@@ -56,7 +56,7 @@ impl<'a> Rest<'a> {
         )
     }
 
-    /// The next token, of which no more than n segments are taken, and what is left behind them.
+    /// The next token, of which no more than n segments are taken, and what is left after them.
     fn take(self, n: usize) -> (Option<Token<'a>>, Rest<'a>)
         requires { 0 < n }
         ensures value { MatchOption result.0 (rest_segments self.entry ≡ []) (λ t. rest_segments self.entry ≡ token_segments t ++ rest_segments result.1) }
@@ -71,7 +71,7 @@ impl<'a> Rest<'a> {
         (Some(front), Rest { quotes, tokens })
     }
 
-    /// The first n segments as children of a node behind others, and what is left.
+    /// The first n segments as children of a node after others, and what is left.
     pub fn onto(
         self,
         alloc: Global,

@@ -42,7 +42,7 @@ fn lies_in(inner: &Style, outer: &Style) -> bool
         && u64::from(inner.to) + u64::from(outer.close_w) <= u64::from(outer.to)
 }
 
-/// How many of the styles behind one lie in it.
+/// How many of the styles after one lie in it.
 fn inner_count(style: &Style, later: &[Style]) -> usize
     ensures value { result ≡ prefix_len (λ u. lies_in u style.now) later.now }
     ensures within { result ≤ length later.now }
@@ -73,7 +73,7 @@ fn style_node<'a>(
     }
 }
 
-/// A style that begins at the place `low` or behind it, with the segments before it; `inner` are
+/// A style that begins at the place `low` or after it, with the segments before it; `inner` are
 /// the styles in it.
 #[cycle(styling)]
 fn with_style<'a>(

@@ -9,7 +9,7 @@ use wt_inline::push_shown;
 use wt_lines::is_mark;
 use wt_span::{NoMemory, Piece, Str};
 
-/// The text of pieces: characters, and the characters for which entities stand.
+/// The text of pieces: characters, and the characters that entities stand for.
 pub fn text_of(alloc: Global, pieces: &[Piece<'_>]) -> Result<Str, NoMemory>
     ensures { IfOk result (λ s. s ≡ text_of (items pieces.now)) }
 {

@@ -70,7 +70,7 @@ impl<'a> Token<'a> {
         }
     }
 
-    /// Its pieces, behind others.
+    /// Its pieces, after others.
     pub fn push_pieces(self, out: &mut List<Piece<'a>>) -> Result<(), NoMemory>
         ensures { OnOk result (items out.new ≡ items out.old ++ segment_items (token_segments self.entry)) }
     {

@@ -12,7 +12,7 @@ use Rattle.wt_tree.specs.declared.node.Part.TheVariants as part
 abbrev pub wt_data : List ℕ → Data
 wt_data text = object (member (codes "wt") (string text) no_members)
 
--- the parameters of a template by their names: of one name the last stands, and `put` keeps the
+-- the parameters of a template by their names: of one name the last counts, and `put` keeps the
 -- names in byte order
 abbrev pub params_from : Members → List (List ℕ × List ℕ) → Members
 params_from ms ps = fold (λ ms p. put p.0 (wt_data p.1) ms) ms ps

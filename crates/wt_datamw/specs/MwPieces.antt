@@ -14,7 +14,7 @@ key_text key = quoted key ++ codes ":"
 
 -- ---- parameters
 
--- what stands between the name of a parameter and its source
+-- what is between the name of a parameter and its source
 unfoldable pub value_start : List ℕ
 value_start = codes ":{" ++ key_text (codes "wt")
 
@@ -22,7 +22,7 @@ value_start = codes ":{" ++ key_text (codes "wt")
 abbrev pub param_text : List ℕ × List ℕ → List ℕ
 param_text p = quoted p.0 ++ (value_start ++ (quoted p.1 ++ codes "}"))
 
--- a parameter behind another one
+-- a parameter after another one
 abbrev pub later_param : List ℕ × List ℕ → List ℕ
 later_param p = codes "," ++ param_text p
 
@@ -30,7 +30,7 @@ abbrev pub params_listed : List (List ℕ × List ℕ) → List ℕ
 params_listed [] = []
 params_listed (p ∷ ps) = param_text p ++ flat_map later_param ps
 
--- parameters as they stand, where their names are distinct and in byte order
+-- parameters as they are, where their names are distinct and in byte order
 unfoldable pub ordered_params : List (List ℕ × List ℕ) → List ℕ
 ordered_params ps = codes "{" ++ (params_listed ps ++ codes "}")
 
@@ -76,7 +76,7 @@ part_text (part.Function name target ps i) = function_text name target ps i
 part_text (part.Param source) = argument_start ++ (quoted source ++ codes "}}")
 part_text (part.Literal text) = quoted text
 
--- a part behind another one
+-- a part after another one
 abbrev pub later_part : Part → List ℕ
 later_part p = codes "," ++ part_text p
 

@@ -17,7 +17,7 @@ use Rattle.wt_datamw.specs.SyncRead.{is_among, has_only, is_number, small_number
 
 -- ---- shapes
 
--- what stands under a key passes a test; it fails where the key is missing
+-- what is under a key passes a test; it fails where the key is missing
 abbrev pub holds : (Data → Bool) → Option Data → Bool
 holds test None = false
 holds test (Some d) = test d
@@ -96,7 +96,7 @@ is_group d = has_only (is_among (codes "parts" ∷ [])) (as_object d) && are_par
 abbrev pub is_body : Data → Bool
 is_body d = has_only (is_among (codes "extsrc" ∷ [])) (as_object d) && has_text (codes "extsrc") d
 
--- a test of what stands under a key, if anything does
+-- a test of what is under a key, if anything does
 abbrev pub holds_if_any : (Data → Bool) → Option Data → Bool
 holds_if_any test None = true
 holds_if_any test (Some d) = test d
@@ -129,7 +129,7 @@ are_small_parts (Some ds) = all_items part_is_small ds
 unfoldable pub has_small_numbers : Data → Bool
 has_small_numbers d = are_small_parts (parts_in d)
 
--- ---- values: what data of the shape says (the empty text stands where there is none)
+-- ---- values: what data of the shape says (the empty text is where there is none)
 
 abbrev pub text_or_empty : Option (List ℕ) → List ℕ
 text_or_empty text = unwrap_or text []

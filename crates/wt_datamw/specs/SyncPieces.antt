@@ -10,7 +10,7 @@ abbrev pub closing_text : List ℕ → List ℕ
 closing_text [] = []
 closing_text (b ∷ bs) = quoted (codes "c") ++ (byte.colon ∷ (quoted (b ∷ bs) ++ codes ","))
 
--- a number behind another one
+-- a number after another one
 abbrev pub next_text : ℕ → List ℕ
 next_text n = codes "," ++ decimal n
 
@@ -19,7 +19,7 @@ unfoldable pub dsr_text : Ranges → List ℕ
 dsr_text r =
     quoted (codes "dsr") ++ (codes ":[" ++ (decimal r.start ++ (next_text r.end ++ (next_text r.open_w ++ (next_text r.close_w ++ codes "]")))))
 
--- a text behind the places under a key
+-- a text after the places under a key
 abbrev pub later_text : List ℕ → List ℕ → List ℕ
 later_text key text = codes "," ++ (quoted key ++ (byte.colon ∷ quoted text))
 

@@ -21,7 +21,7 @@ fn hex_digit(number: u8) -> u8
     }
 }
 
-/// What stands in a string of JSON for a byte.
+/// What is in a string of JSON for a byte.
 #[tactic(auto, unfolding(json::specs::Print::escape_byte))]
 fn push_byte(out: &mut Vec<u8>, byte: u8) -> Result<(), NoMemory>
     ensures { OnOk result (out.new.items ≡ out.old.items ++ escape_byte byte) }
@@ -80,7 +80,7 @@ fn push_some(out: &mut Vec<u8>, bytes: &[u8]) -> Result<usize, NoMemory>
     }
 }
 
-/// What stands in a string of JSON for a text.
+/// What is in a string of JSON for a text.
 fn push_escaped(out: &mut Vec<u8>, bytes: &[u8]) -> Result<(), NoMemory>
     ensures { OnOk result (out.new.items ≡ out.old.items ++ escape bytes.now) }
 {

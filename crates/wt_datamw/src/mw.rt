@@ -85,7 +85,7 @@ pub fn to_text(alloc: Global, d: &DataMw) -> Result<Str, NoMemory>
     ensures text { IfOk result (λ text. text ≡ mw_text d.now) }
     ensures json { IfOk result (λ text. read text ≡ Some (mw_data d.now)) }
     // it reads back as the same value, if the parameters of each transclusion have distinct names
-    // that stand in byte order
+    // that are in byte order
     ensures back { HasOrderedNames d.now → IfOk result (λ text. mw_told text ≡ Ok d.now) }
 {
     check_mw(d);

@@ -210,7 +210,7 @@ fn mw_of_value(alloc: Global, value: &Value) -> Result<DataMw, DataRefusal>
 }
 
 /// What a text of `data-mw` says: the parts of a group of templates, or an extension tag. Its keys
-/// may stand in any order; other keys make the shape bad, and so does one that is missing, but for
+/// may be in any order; other keys make the shape bad, and so does one that is missing, but for
 /// the `body` of an extension. Of a key that comes twice the last one counts. The parameters of a
 /// transclusion come in the byte order of their names.
 #[tactic(auto, unfolding(crate::specs::MwRead::mw_told))]

@@ -41,7 +41,7 @@ fn push_param(out: &mut Vec<u8>, name: &Str, source: &Str) -> Result<(), NoMemor
     Ok(())
 }
 
-/// The parameters behind the first one.
+/// The parameters after the first one.
 fn push_later_params(out: &mut Vec<u8>, params: &[(Str, Str)]) -> Result<(), NoMemory>
     ensures { OnOk result (out.new.items ≡ out.old.items ++ flat_map later_param params.now) }
 {
@@ -65,7 +65,7 @@ fn push_params_listed(out: &mut Vec<u8>, params: &[(Str, Str)]) -> Result<(), No
     }
 }
 
-/// Parameters as they stand.
+/// Parameters as they are.
 #[tactic(auto, unfolding(crate::specs::MwPieces::ordered_params))]
 fn push_as_they_stand(out: &mut Vec<u8>, params: &[(Str, Str)]) -> Result<(), NoMemory>
     ensures { OnOk result (out.new.items ≡ out.old.items ++ ordered_params params.now) }
@@ -76,7 +76,7 @@ fn push_as_they_stand(out: &mut Vec<u8>, params: &[(Str, Str)]) -> Result<(), No
     Ok(())
 }
 
-/// Parameters whose names are distinct and stand in byte order.
+/// Parameters whose names are distinct and are in byte order.
 #[tactic(auto, using(crate::proofs::MwPieces::params_ordered))]
 fn push_ordered_params(out: &mut Vec<u8>, params: &[(Str, Str)]) -> Result<(), NoMemory>
     requires { IsStrictlySortedBy (slice_cmp nat_cmp) (map (λ p. p.0) params.now) }
@@ -85,14 +85,14 @@ fn push_ordered_params(out: &mut Vec<u8>, params: &[(Str, Str)]) -> Result<(), N
     push_as_they_stand(out, params)
 }
 
-/// Whether a name stands before another one in byte order.
+/// Whether a name comes before another one in byte order.
 fn precedes(name: &Str, other: &Str) -> bool
     ensures { result ≡ is_lt (slice_cmp nat_cmp name.now other.now) }
 {
     name.as_str().cmp(other.as_str()).is_lt()
 }
 
-/// Whether the names of parameters are distinct and stand in byte order.
+/// Whether the names of parameters are distinct and are in byte order.
 fn are_ordered(params: &[(Str, Str)]) -> bool
     ensures { result ≡ true → IsStrictlySortedBy (slice_cmp nat_cmp) (map (λ p. p.0) params.now) }
 {
@@ -249,7 +249,7 @@ fn push_part(alloc: Global, out: &mut Vec<u8>, part: &Part) -> Result<(), NoMemo
     }
 }
 
-/// The parts behind the first one.
+/// The parts after the first one.
 fn push_later_parts(alloc: Global, out: &mut Vec<u8>, parts: &[Part]) -> Result<(), NoMemory>
     ensures { OnOk result (out.new.items ≡ out.old.items ++ flat_map later_part parts.now) }
 {

@@ -8,7 +8,7 @@ use std::alloc::Global;
 use wt_span::{NoMemory, Str};
 use wt_tree::Ranges;
 
-/// What `data-parsoid` says of an element: where it stands in the page, its delimiters, and of a
+/// What `data-parsoid` says of an element: where it is in the page, its delimiters, and of a
 /// leaf or a group its source. This is what Parsoid calls `dsr`, with the source beside it.
 #[derive(Debug, Drop)]
 pub struct Sync {

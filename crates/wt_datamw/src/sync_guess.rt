@@ -10,7 +10,7 @@ use std::str::FromStr;
 use wt_span::{NoMemory, Str};
 use wt_tree::Ranges;
 
-/// The texts of the common form, as they stand there.
+/// The texts of the common form, as they are there.
 #[derive(Clone, Copy)]
 struct Fields<'t> {
     closing: &'t str,
@@ -38,7 +38,7 @@ fn ranges_of(text: &str) -> Option<Ranges> {
     })
 }
 
-/// The closing delimiter, and what stands behind the bracket of the places.
+/// The closing delimiter, and what comes after the bracket of the places.
 fn split_closing<'t>(text: &'t str) -> Option<(&'t str, &'t str)> {
     match text.strip_prefix("{\"c\":\"") {
         Some(rest) => rest.split_once("\",\"dsr\":["),
@@ -46,7 +46,7 @@ fn split_closing<'t>(text: &'t str) -> Option<(&'t str, &'t str)> {
     }
 }
 
-/// The opening delimiter or the source, of what stands behind the places.
+/// The opening delimiter or the source, of what comes after the places.
 fn later_texts<'t>(text: &'t str) -> Option<(&'t str, Option<&'t str>)> {
     if text == "}" {
         return Some(("", None));

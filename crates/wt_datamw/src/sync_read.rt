@@ -129,7 +129,7 @@ fn read_json(alloc: Global, text: &str) -> Result<Sync, DataRefusal>
     }
 }
 
-/// What a text of `data-parsoid` says. Its keys may stand in any order, and `o` and `c` may be empty
+/// What a text of `data-parsoid` says. Its keys may be in any order, and `o` and `c` may be empty
 /// or missing; other keys make the shape bad. Of a key that comes twice the last one counts.
 pub fn read_sync(alloc: Global, text: &str) -> Result<Sync, DataRefusal>
     ensures { ReadsAs (sync_told text.now) result }

@@ -25,7 +25,7 @@ fn push_closing(out: &mut Vec<u8>, text: &str) -> Result<(), NoMemory>
     }
 }
 
-/// A number behind another one.
+/// A number after another one.
 fn push_next(out: &mut Vec<u8>, number: u32) -> Result<(), NoMemory>
     ensures { OnOk result (out.new.items ≡ out.old.items ++ next_text number) }
 {

@@ -14,7 +14,7 @@ pub record IsFirstNamed (entries : List (List ℕ × List ℕ)) (name page : Lis
   pub whole : entries ≡ before ++ (name, page) ∷ behind
   pub first : NoneIsNamed name before
 
--- a page stands under the name that begins with these bytes, which are at most so many; if they are fewer, they are all of it
+-- a page is under the name that begins with these bytes, which are at most so many; if they are fewer, they are all of it
 pub record IsFrontOfPage (pages : Pages) (name : List ℕ) (most : ℕ) (bytes : List ℕ) : Type 0 where
   pub rest : List ℕ
   pub found : pages name ≡ Some (bytes ++ rest)

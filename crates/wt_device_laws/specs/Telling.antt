@@ -1,4 +1,4 @@
--- What is a fault of a device, and what its counts before and after a call tell of that.
+-- What is a fault of a device, and what its counts before and after a call say of that.
 use Rattle.std.specs.Prelude.{◌≡◌, ℕ, ◌+◌, ◌<◌, ◌≤◌, ◌↔◌, List, length, Result, Ok, Err, ⊤}
 use Rattle.wt_devices.specs.declared.device.Failed.{Failed}
 use Rattle.wt_devices.specs.declared.device.Fetched.{Fetched}

@@ -2,7 +2,7 @@
 ghost use Rattle.std.specs.Prelude.{◌≡◌, ◌⊎◌, ◌↔◌, ℕ, ◌≤◌, List, Option, Some, None, length, take};
 ghost use Rattle.wt_transclusion.specs.Asked.{AreFirst, Asks, AsksAtMost};
 
-/// Names that were asked stand as they were in front of those that are asked later, and the most bytes
+/// Names that were asked are as they were in front of those that are asked later, and the most bytes
 /// that were asked are those of before or at most the new ones. What is asked in two calls, one after the
 /// other, is asked by both.
 pub fn asked_names_stay()

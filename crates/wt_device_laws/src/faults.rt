@@ -1,4 +1,4 @@
-//! What counts of faults tell.
+//! What counts of faults say.
 ghost use Rattle.std.specs.Prelude.{◌≡◌, ℕ, ◌-◌, ◌^◌, ◌<◌, ◌↔◌, List, Result};
 ghost use Rattle.wt_devices.specs.Device.{Rose, ReadCause, WriteCause, FetchCause};
 ghost use Rattle.wt_devices.specs.declared.device.Failed.{Failed};

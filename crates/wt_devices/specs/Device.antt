@@ -1,4 +1,4 @@
--- What a call of a device does to what the device holds, where it tells that, and to its count of faults.
+-- What a call of a device does to what the device holds, where it says that, and to its count of faults.
 use Rattle.std.specs.Prelude.{◌≡◌, ℕ, ◌+◌, ◌-◌, ◌^◌, ◌<◌, ◌≤◌, min, List, length, take, Option, Some, None, option_map, ⊤, OnOk, OnErr, IfOk, Result, MatchResult}
 use Rattle.wt_devices.specs.declared.device.Failed.{Failed}
 use Rattle.wt_devices.specs.declared.device.Fetched.{Fetched}
@@ -6,7 +6,7 @@ use Rattle.wt_devices.specs.declared.device.Fetched.TheVariants.{Found, Absent}
 use Rattle.wt_devices.specs.declared.device.FetchRefusal.{FetchRefusal}
 use Rattle.wt_devices.specs.declared.device.FetchRefusal.TheVariants as refusals
 
--- the count rose by one, or stands at its last value: there was one fault, and no more
+-- the count rose by one, or is at its last value: there was one fault, and no more
 abbrev pub Rose : ℕ → ℕ → Type 0
 Rose before now = now ≡ min (before + 1) (2 ^ 64 - 1)
 
@@ -24,7 +24,7 @@ pub record WriteCause (before now : ℕ) (piece : List ℕ) (result : Result ℕ
   pub kept : IfOk result (λ n. 0 < n → now ≡ before)
   pub idle : OnOk result (length piece ≡ 0 → now ≡ before)
 
--- the pages of a folder: what stands under each full name
+-- the pages of a folder: what is under each full name
 abbrev pub Pages : Type 0
 Pages = List ℕ → Option (List ℕ)
 
@@ -33,7 +33,7 @@ abbrev pub page_of : Fetched → Option (List ℕ)
 page_of (Found bytes) = Some bytes
 page_of Absent = None
 
--- a fetch gives what stands under the name, cut to `most` bytes, where the folder tells its pages
+-- a fetch gives what is under the name, cut to `most` bytes, where the folder tells its pages
 abbrev pub Gives : Option Pages → List ℕ → ℕ → Fetched → Type 0
 Gives None name most fetched = ⊤
 Gives (Some pages) name most fetched = page_of fetched ≡ option_map (take most) (pages name)

@@ -4,7 +4,7 @@ ghost use Rattle.std.specs.Io.KnownBytes.{ReadConsumes, WriteAppends};
 use std::alloc::Global;
 use wt_span::List;
 
-/// A device failed: its count of faults rose, or stands at its last value, 2^64 - 1.
+/// A device failed: its count of faults rose, or is at its last value, 2^64 - 1.
 #[derive(Clone, Copy, Debug, PartialEq, Eq)]
 pub struct Failed;
 
@@ -30,7 +30,7 @@ pub enum FetchRefusal {
 pub trait Source {
     ghost use Rattle.wt_devices.specs.Device.{ReadCause};
 
-    // the bytes that it has left, where it tells them
+    // the bytes that it has left, where they can be named
     ghost left: { Self → Option (List ℕ) };
 
     // how often it has failed
@@ -52,7 +52,7 @@ pub trait Source {
 pub trait Sink {
     ghost use Rattle.wt_devices.specs.Device.{WriteCause};
 
-    // the bytes that it has taken, where it tells them
+    // the bytes that it has taken, where they can be named
     ghost taken: { Self → Option (List ℕ) };
 
     // how often it has failed
@@ -73,13 +73,13 @@ pub trait Sink {
 pub trait Folder {
     ghost use Rattle.wt_devices.specs.Device.{Pages, Gives, IsAtMost, FetchCause};
 
-    // its pages, where it tells them
+    // its pages, where they can be named
     ghost pages: { Self → Option Pages };
 
-    // the names that it has answered, in order, where it tells them
+    // the names that it has answered, in order, where they can be named
     ghost answered: { Self → Option (List (List ℕ)) };
 
-    // the most bytes that a call asked for which it answered, where it tells this
+    // the most bytes that a call asked for which it answered, where this can be named
     ghost most_asked: { Self → Option ℕ };
 
     // how often it has failed

@@ -11,7 +11,7 @@ use wt_span::List;
 
 /// A directory of the machine, in which each page is the file that `wt_names::file_name` gives for
 /// its full name. Such a name has no `/` and is neither `.` nor `..`, so no full name leads out of the
-/// directory. It tells nothing of its pages.
+/// directory. Contracts can name none of its pages.
 ///
 /// A file that isn't there is an absent page, also one that can't be there, since its name is longer than the
 /// file system allows. Every other error is a fault.

@@ -1,6 +1,6 @@
 //! The devices that a program is handed: sources of bytes, sinks of bytes and folders of pages.
 //!
-//! Each has a count of its faults, and tells what it holds or doesn't tell it. The layers above speak
+//! Each has a count of its faults, and what it holds can be named or not. The layers above speak
 //! to devices through the three traits alone, so that every promise about a device is one about the trait.
 #![tactic(auto)]
 

@@ -3,7 +3,7 @@ ghost use Rattle.std.specs.Prelude.{◌≡◌};
 use crate::device::{Failed, Sink, Source};
 use std::io::{Read, Write};
 
-/// A source over a reader of std. It tells what it has left where the reader does: standard input doesn't.
+/// A source over a reader of std. It says what it has left where the reader does: standard input doesn't.
 #[derive(Debug, Drop)]
 pub struct StdSource<R> {
     inner: R,
@@ -39,7 +39,7 @@ impl<R: Read> Source for StdSource<R> {
     }
 }
 
-/// A sink over a writer of std. It tells what it took where the writer does: standard output doesn't.
+/// A sink over a writer of std. It says what it took where the writer does: standard output doesn't.
 #[derive(Debug, Drop)]
 pub struct StdSink<W> {
     inner: W,

@@ -1,4 +1,4 @@
--- What stands in a tree, and what of it stands in no leaf.
+-- What is in a tree, and what of it is in no leaf.
 use Rattle.std.specs.Prelude.{◌≡◌, true, List, [], ◌∷◌, ◌++◌, if◌then◌else◌}
 use Rattle.std.specs.List.{AllByRecursion}
 use Rattle.wt_tree.specs.Kinds.{is_leaf}
@@ -8,7 +8,7 @@ use Rattle.wt_tree.specs.Tree.{Tree, tree, Trees, none, more, label, subtrees_of
 abbrev pub IsUnnumberedInside : Tree → Type 0
 IsUnnumberedInside (tree l ts) = is_leaf l.kind ≡ true → AllByRecursion (λ u. (label u).id ≡ 0) (subtrees_of_all ts)
 
--- a node and those below it that stand in no leaf
+-- a node and those below it that are in no leaf
 abbrev mutual
   pub outside_leaves : Tree → List Tree
   outside_leaves (tree l ts) = tree l ts ∷ (if is_leaf l.kind then [] else all_outside_leaves ts)

@@ -1,5 +1,5 @@
 //! Laws of the trees of edits (`wt_selser`), in other words than the definitions that its contracts cite: what
-//! stands in leaves, and what stands outside them.
+//! is in leaves, and what is outside them.
 #![tactic(auto)]
 
 ghost use Rattle.std.specs.Prelude.{◌≡◌, ◌↔◌, false};
@@ -15,7 +15,7 @@ pub fn leaves_are_told_one_by_one()
     ensures { (t : Tree) → (LeavesHoldNoNumber t) ↔ (AllByRecursion IsUnnumberedInside (subtrees t)) }
 {}
 
-/// That no frame stands below the root is said of each node that stands below it and in no leaf: it is neither
+/// That no frame is below the root is said of each node that is below it and in no leaf: it is neither
 /// a body nor a section. Of the root itself nothing is said.
 pub fn frames_are_told_one_by_one()
     ensures { (t : Tree) → (HoldsNoFrame t) ↔ (AllByRecursion (λ u. is_frame (label u).kind ≡ false) (below t)) }

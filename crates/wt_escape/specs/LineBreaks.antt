@@ -15,12 +15,12 @@ use Rattle.wt_original.specs.Kept.{Kept, kept_with, shown}
 use Rattle.wt_original.specs.Page.{Page, is_unchanged}
 use Rattle.wt_escape.specs.Spelling.{is_text, only_text, href_of}
 
--- as many as stand in the page, if it is kept
+-- as many as are in the page, if it is kept
 abbrev pub breaks_as_it_stood : Option Kept → ℕ
 breaks_as_it_stood None = 0
 breaks_as_it_stood (Some k) = breaks (flat k.node)
 
--- as many as stand in the page where it is unchanged
+-- as many as are in the page where it is unchanged
 abbrev pub breaks_unless_kept : Page → Option Kept → Tree → ℕ → ℕ
 breaks_unless_kept p None t new = new
 breaks_unless_kept p (Some k) t new = if is_unchanged p k t then breaks (flat k.node) else new

@@ -29,7 +29,7 @@ pub record IsStyle (sign : List ℕ) (l : Label) (inside : List ContentSign) : T
   pub no_leaf : is_leaf l.kind ≡ false
   pub some : HasSigns inside
 
--- What a node of the page is like that is spelled to its own source: a separator without bytes, a text that stands in the source
+-- What a node of the page is like that is spelled to its own source: a separator without bytes, a text that is in the source
 -- as it is shown, a style with the usual delimiters and some such nodes in it, or another node that has a number.
 abbrev pub IsPlainBy : InlineForm → Page → Place → Label → Trees → Type 0 → Type 0
 IsPlainBy inline.Nothing p pl l ts held = flat (tree l ts) ≡ []
@@ -60,7 +60,7 @@ abbrev mutual
   AreBare none = Unit {0}
   AreBare (more t ts) = IsBare t × AreBare ts
 
--- what the content of a block stands in
+-- what the content of a block is in
 abbrev pub setting_in : Page → Place → Setting
 setting_in p pl = record { within = false; place = pl; source = p.source }
 

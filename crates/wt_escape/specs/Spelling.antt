@@ -34,7 +34,7 @@ abbrev pub place_of : Option Kept → Option Stretch
 place_of None = None
 place_of (Some k) = Some k.place
 
--- a kept node as it stands in the page
+-- a kept node as it is in the page
 abbrev pub kept_thing : Kept → ContentSign
 kept_thing k = thing (record { role = k.role; source = flat k.node; place = Some k.place })
 
@@ -42,7 +42,7 @@ kept_thing k = thing (record { role = k.role; source = flat k.node; place = Some
 abbrev pub new_thing : Role → List ℕ → Option Kept → List ContentSign
 new_thing r source k = thing (record { role = r; source = source; place = place_of k }) ∷ []
 
--- as it stands in the page, if it is kept
+-- as it is in the page, if it is kept
 abbrev pub as_it_stood : Option Kept → List ContentSign
 as_it_stood None = new_thing role.Node [] None
 as_it_stood (Some k) = kept_thing k ∷ []
@@ -69,7 +69,7 @@ is_style inline.AsItStood = false
 abbrev pub stretch : ℕ → ℕ → Option Stretch
 stretch start end = if start == end then None else Some (record { start = start; end = end })
 
--- where the delimiters of a style stand in the page, if they aren't empty
+-- where the delimiters of a style are in the page, if they aren't empty
 abbrev pub opening_place : Option Kept → Option Stretch
 opening_place None = None
 opening_place (Some k) = if is_style (shape (label k.node).kind).inline then stretch k.place.start (k.place.start + length (label k.node).opening) else None
@@ -204,7 +204,7 @@ children_of (tree l ts) = ts
 abbrev pub content : Page → Place → Tree → List ℕ
 content p pl new = spelled (record { within = false; place = pl; source = p.source }) (signs_of_all p pl (children_of new))
 
--- of a block that stands in the page
+-- of a block that is in the page
 unfoldable pub inline_spelling : (Tree → Tree → Bool) → Tree → Tree → Place → List ℕ
 inline_spelling same old new pl = content (page_of same old) pl new
 

@@ -19,7 +19,7 @@ pub fn spelled_back()
 {}
 
 /// The content of an edited block is written with as many line breaks as it shows: those of its
-/// texts, of its nodes that stay as they stand in the page, and of what is written for the others.
+/// texts, of its nodes that stay as they are in the page, and of what is written for the others.
 #[tactic(auto, using(crate::proofs::ShownBreaks::breaks_shown))]
 pub fn line_breaks_shown()
     ensures { (same : Tree → Tree → Bool) (old new : Tree) (place : Place) → HaveTexts (children_of new)

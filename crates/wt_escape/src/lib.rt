@@ -2,7 +2,7 @@
 //!
 //! `spell_inline` writes the content of a block of the page that was marked, `spell_block` a new
 //! block. `hazard` and `line_start_hazard` are the tables by which `<nowiki/>` is put between what
-//! stands next to each other and before what begins a line.
+//! is next to each other and before what begins a line.
 #![tactic(auto)]
 
 mod laws;

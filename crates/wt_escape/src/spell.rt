@@ -33,9 +33,9 @@ fn content(
     Ok(spelling)
 }
 
-/// The content of an edited block, as wikitext: `old` is the block as it stands in the page, `new`
+/// The content of an edited block, as wikitext: `old` is the block as it is in the page, `new`
 /// the block as it was edited, of which only the children count, and `place` what kind of block it
-/// is. A node of `new` with the number of a node in `old` that shows the same is written as it stands
+/// is. A node of `new` with the number of a node in `old` that shows the same is written as it is
 /// in the page. The delimiters of the block aren't written. It takes time in the size of both, where
 /// the numbers in `old` count up in preorder, as a page's do; others are looked up one by one.
 #[tactic(auto, unfolding(crate::specs::Spelling::inline_spelling))]

@@ -1,4 +1,4 @@
-//! The edited content as units: texts as they stand in the edited tree, and nodes with what they
+//! The edited content as units: texts as they are in the edited tree, and nodes with what they
 //! write.
 
 ghost use Rattle.std.specs.Prelude.{◌≡◌, [], ◌∷◌, ◌++◌, OnOk, IfOk, List, Bool, Some, None, option_map, string_bytes};
@@ -62,7 +62,7 @@ fn push_thing(
     Ok(())
 }
 
-/// A kept node as it stands in the page.
+/// A kept node as it is in the page.
 fn push_kept(alloc: Global, out: &mut Vec<Unit<'_>>, kept: Kept<'_, '_>) -> Result<(), NoMemory>
     ensures { OnOk result (all_signs out.new.items ≡ all_signs out.old.items ++ kept_thing (kept_view kept.entry) ∷ []) }
 {
@@ -118,7 +118,7 @@ fn push_shown(alloc: Global, out: &mut Vec<Unit<'_>>, node: &Node<'_>) -> Result
 
 // ---- unchanged nodes
 
-/// Appends a kept node as it stands in the page where it is unchanged, and says whether it is.
+/// Appends a kept node as it is in the page where it is unchanged, and says whether it is.
 fn push_old(
     alloc: Global,
     out: &mut Vec<Unit<'_>>,
@@ -187,7 +187,7 @@ fn is_style(inline: InlineForm) -> bool
     }
 }
 
-/// Where the opening delimiter of a kept style stands.
+/// Where the opening delimiter of a kept style is.
 fn opening_place(alloc: Global, kept: Option<Kept<'_, '_>>) -> Result<Option<Stretch>, NoMemory>
     ensures { IfOk result (λ place. place ≡ opening_place (option_map kept_view kept.entry)) }
 {

@@ -2,7 +2,7 @@
 use Rattle.std.specs.Prelude.{◌≡◌, ℕ, List, [], ◌∷◌, ◌++◌, Contains}
 use Rattle.wt_span.specs.Braces.{Member, Members, lexeme, call, none, more}
 
--- no name stands twice
+-- no name is there twice
 abbrev pub AreOnce : List (List ℕ) → Type 0
 AreOnce [] = Unit {0}
 AreOnce (n ∷ ns) = (Contains ns n → ⊥) × AreOnce ns

@@ -7,7 +7,7 @@ use Rattle.wt_functions.specs.Choice.{asked}
 use Rattle.wt_expand.specs.Texts.{name_text, trimmed_items}
 use Rattle.wt_expand.specs.Expansion.{Output, PartOutput, just, given, with_break, later_parts, told_outputs, chosen_output, function_output}
 
--- which parts behind the target have a name
+-- which parts after the target have a name
 abbrev pub have_names : List PartOutput → List Bool
 have_names ps = map (λ p. is_some p.name) (later_parts ps)
 
@@ -23,7 +23,7 @@ next_of (Tell part) f ps o rest = record { items = rest.items; work = o.work ++ 
 next_of (Give part) f ps o rest = chosen_output f (Some part) ps
 next_of Nothing f ps o rest = just []
 
--- What is told and given from here on, where these texts were told and these outputs are those of the parts behind them.
+-- What is told and given from here on, where these texts were told and these outputs are those of the parts after them.
 abbrev pub asking : Function → List Bool → List PartOutput → List (List ℕ) → List Output → Output
 asking f names ps texts [] = answer_of (asked (record { function = f; equals = names; texts = texts })) f ps
 asking f names ps texts (o ∷ os) =

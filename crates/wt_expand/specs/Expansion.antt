@@ -91,7 +91,7 @@ abbrev pub part_by : Option (List Member × ℕ) → List Output → PartOutput
 part_by None os = record { name = None; value = joined os; all = joined os }
 part_by (Some (xs, w)) os = record { name = Some (joined (take (length xs) os)); value = joined (drop (length xs + 1) os); all = joined os }
 
--- the outputs of a call's members, part by part; a `|` stands between two parts
+-- the outputs of a call's members, part by part; a `|` is between two parts
 abbrev pub part_outputs : List PartMembers → List Output → List PartOutput
 part_outputs [] os = []
 part_outputs (p ∷ ps) os = part_by p.name (take (member_count p) os) ∷ part_outputs ps (drop (member_count p + 1) os)
@@ -161,7 +161,7 @@ argument_output frame ps =
     let o = if_value (value_of (name_text name.items) frame) (default_output name (later_parts ps)) in
     given [] (name.work ++ o.work) o.items
 
--- the characters `*`, `#`, `:` and `;`, and `{` with `|` behind it
+-- the characters `*`, `#`, `:` and `;`, and `{` with `|` after it
 abbrev pub is_block_sign : ℕ → Bool
 is_block_sign b = b == byte.asterisk || (b == byte.hash || (b == byte.colon || b == byte.semicolon))
 
@@ -173,7 +173,7 @@ abbrev pub opens_block : List Item → Bool
 opens_block [] = false
 opens_block (x ∷ xs) = is_char_in is_block_sign x || (is_char_in (λ b. b == byte.opening_brace) x && begins_with_bar xs)
 
--- a line break before what only counts at the start of a line, unless the call stands there; the texts that stand for a page
+-- a line break before what only counts at the start of a line, unless the call is there; the texts that stand for a page
 -- that isn't taken begin with other characters
 abbrev pub with_break : Bool → List Item → List Item
 with_break at_start xs = if opens_block xs && not at_start then char None byte.line_break ∷ xs else xs
@@ -227,7 +227,7 @@ front_braces k source = take k source
 abbrev pub back_braces : ℕ → List ℕ → List ℕ
 back_braces k source = drop (length source - k) source
 
--- a call that is text: its braces, bars and `=` are characters, and what stands between them is as it was expanded
+-- a call that is text: its braces, bars and `=` are characters, and what is between them is as it was expanded
 abbrev pub text_output : ℕ → List ℕ → List Output → Output
 text_output k source os = then_output (just (chars (front_braces k source))) (then_output (joined os) (just (chars (back_braces k source))))
 
@@ -243,7 +243,7 @@ call_output r at_start k source parts os =
     let ps = part_outputs parts os in
     called_output (called k source (target_part ps).items) r at_start k source ps os
 
--- The members of a text, which begin with these bytes. `at_start`: they begin the text or stand behind a line break.
+-- The members of a text, which begin with these bytes. `at_start`: they begin the text or come after a line break.
 abbrev mutual
   pub output_of : Reading → Bool → List ℕ → Member → Output
   output_of r at_start bs (lexeme (kind, n)) = just (lexeme_items r.mode kind (take n bs))

@@ -11,7 +11,7 @@ use Rattle.wt_expand.specs.Targets.{Called, argument, choice, function, page, te
 use Rattle.wt_expand.specs.Work.{Pages}
 use Rattle.wt_expand.specs.Expansion.{chars, front_braces, back_braces, target_part, part_outputs, Reading, output_of, outputs_of, text_members, page_reading}
 
--- what a stretch of the page gives: items of the page itself, or an outermost call with what it gives; and where a text call stands
+-- what a stretch of the page gives: items of the page itself, or an outermost call with what it gives; and where a text call is
 pub data Stretch : Type 0 where
   own : List Item → Stretch
   outer : OuterCall → List Item → Stretch

@@ -1,4 +1,4 @@
--- Where the pieces of a page stand on it, and how many of its bytes they cover.
+-- Where the pieces of a page are on it, and how many of its bytes they cover.
 use Rattle.std.specs.Prelude.{◌≡◌, ℕ, ◌+◌, List, [], ◌∷◌, length}
 use Rattle.wt_span.specs.declared.origin.Origin.{Origin}
 use Rattle.wt_span.specs.declared.origin.Origin.TheVariants as origin
@@ -13,7 +13,7 @@ abbrev pub IsBegin : Origin → ℕ → ℕ → Type 0
 IsBegin (origin.Page r) at start = at ≡ start
 IsBegin (origin.Call k) at start = Unit {0}
 
--- The cut before each piece of the page has the piece's first byte as its place; `n` of all items stand before these pieces.
+-- The cut before each piece of the page has the piece's first byte as its place; `n` of all items come before these pieces.
 abbrev pub BeginFrom : List OuterCall → List Item → ℕ → List Piece → Type 0
 BeginFrom calls all n [] = Unit {0}
 BeginFrom calls all n (p ∷ ps) = IsBegin p.origin (place calls all n) (start_of p.text) × BeginFrom calls all (n + length (items_of p)) ps

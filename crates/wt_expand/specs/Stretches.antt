@@ -10,7 +10,7 @@ given_items (own xs ∷ ss) = xs ++ given_items ss
 given_items (outer c xs ∷ ss) = xs ++ given_items ss
 given_items (text_call s ∷ ss) = given_items ss
 
--- what stands on the page for them
+-- what is on the page for them
 abbrev pub page_bytes : List Stretch → List ℕ
 page_bytes [] = []
 page_bytes (own xs ∷ ss) = sources xs ++ page_bytes ss

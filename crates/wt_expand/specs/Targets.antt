@@ -26,7 +26,7 @@ as_template t = record { ns = ns.Template; name = t.name; fragment = t.fragment 
 abbrev pub if_good : Title → Option Title
 if_good t = if is_good t then Some t else None
 
--- a title without a namespace is a template's, unless a colon stood before it
+-- a title without a namespace is a template's, unless a colon came before it
 abbrev pub placed_title : Bool → Title → Option Title
 placed_title true t = Some t
 placed_title false t = if is_main t.ns then if_good (as_template t) else Some t
@@ -51,12 +51,12 @@ unfoldable pub title_of_target : List Item → Option Title
 title_of_target items = option_and_then title_in_target (target_text items)
 
 -- The first character of a call's target past blanks and line breaks is `#`. The target ends with the call or with a `|`,
--- so this is the first such character behind the two braces.
+-- so this is the first such character after the two braces.
 unfoldable pub is_function : List ℕ → Bool
 is_function source = slice_index (without_front is_space (drop 2 source)) 0 == byte.hash
 
--- What a call is: an argument; a function by text, with how many bytes of its target stand before its part 0; another function,
--- which is kept as it stands; the call of a page; or text.
+-- What a call is: an argument; a function by text, with how many bytes of its target come before its part 0; another function,
+-- which is kept as it is; the call of a page; or text.
 pub data Called : Type 0 where
   argument : Called
   choice : Function → ℕ → Called
@@ -74,7 +74,7 @@ called_function None = function
 called_function (Some (f, n)) = choice f n
 
 -- By its braces, its source, and its target as it was expanded. The word of a function by text holds no sign of a call, so it
--- stands in the target if it stands behind the two braces.
+-- is in the target if it comes after the two braces.
 unfoldable pub called : ℕ → List ℕ → List Item → Called
 called k source target =
     if k == 3 then argument

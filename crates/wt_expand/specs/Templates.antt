@@ -8,17 +8,17 @@ begins_only bs = begins (codes "<onlyinclude>") bs
 unfoldable pub ends_only : List ℕ → Bool
 ends_only bs = begins (codes "</onlyinclude>") bs
 
--- a `</onlyinclude>` stands somewhere
+-- a `</onlyinclude>` is somewhere
 abbrev pub has_end : List ℕ → Bool
 has_end [] = false
 has_end (b ∷ bs) = if ends_only (b ∷ bs) then true else has_end bs
 
--- an `<onlyinclude>` stands somewhere with a `</onlyinclude>` behind it
+-- an `<onlyinclude>` is somewhere with a `</onlyinclude>` after it
 abbrev pub has_only : List ℕ → Bool
 has_only [] = false
 has_only (b ∷ bs) = if begins_only (b ∷ bs) then has_end (drop 13 (b ∷ bs)) else has_only bs
 
--- What stands between each `<onlyinclude>` and the next `</onlyinclude>` or the end, joined; the first n bytes lie in a tag, and
+-- What is between each `<onlyinclude>` and the next `</onlyinclude>` or the end, joined; the first n bytes lie in a tag, and
 -- what follows is inside or not.
 abbrev pub insides : ℕ → Bool → List ℕ → List ℕ
 insides n inside [] = []

@@ -41,7 +41,7 @@ name_text xs = trimmed (shown_text xs)
 
 -- ---- what a target says
 
--- an entity is its character, marks are nothing, and no other atom stands in a target
+-- an entity is its character, marks are nothing, and no other atom is in a target
 abbrev pub target_of_form : ItemForm → List ℕ → Option (List ℕ)
 target_of_form form.Chars bs = Some bs
 target_of_form (form.Entity c) bs = Some (encode_utf8 c)

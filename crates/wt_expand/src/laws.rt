@@ -70,7 +70,7 @@ pub fn absent_page_is_a_link()
 {}
 
 /// The names that are asked for are those that are fetched, each once; and as the work goes on, names
-/// are appended: so they stand in the order of their first fetch.
+/// are appended: so they are in the order of their first fetch.
 pub fn names_are_asked_once()
     ensures once { (work : List Entry) → AreOnce (names_asked work) }
     ensures asked { (work : List Entry) (name : List ℕ) → Contains (fetches work) name → Contains (names_asked work) name }
@@ -107,7 +107,7 @@ pub fn cut_page_is_refused()
     ensures { (title bytes : List ℕ) → template_refusal title (take (most_bytes + 1) bytes) ≡ template_refusal title bytes }
 {}
 
-/// Work is refused as the entry is behind a front of it that is done, and this front is all that comes
+/// Work is refused as the entry is after a front of it that is done, and this front is all that comes
 /// before: so there is one such front. Each other front is the beginning of it. Work of which no entry
 /// is refused is done whole.
 pub fn work_stops_at_its_first_refusal()

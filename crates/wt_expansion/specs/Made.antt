@@ -14,7 +14,7 @@ pub record IsOwn (at : ℕ) (p : Piece) : Type 0 where
   pub start : start_of p.text ≡ at
   pub origin : IsOfPage (at, end_of p.text) p.origin
 
--- such pieces, one behind the other between two places
+-- such pieces, one after the other between two places
 abbrev pub AreOwn : ℕ → List Piece → ℕ → Type 0
 AreOwn at [] to = at ≡ to
 AreOwn at (p ∷ ps) to = IsOwn at p × AreOwn (end_of p.text) ps to
@@ -24,7 +24,7 @@ abbrev pub AreCalled : ℕ → List Piece → Type 0
 AreCalled k [] = Unit {0}
 AreCalled k (p ∷ ps) = (0 < length (items_of p)) × (p.origin ≡ origin.Call k) × AreCalled k ps
 
--- The pieces give these stretches, which stand between two places, where `k` outermost calls come before.
+-- The pieces give these stretches, which are between two places, where `k` outermost calls come before.
 abbrev pub Give : ℕ → ℕ → List Stretch → List Piece → ℕ → Type 0
 Give at k [] ps to = (ps ≡ []) × (at ≡ to)
 Give at k (own xs ∷ ss) ps to =

@@ -67,7 +67,7 @@ AnswersWalk pages page before ss work at to old new store spent answered (Err e)
 
 -- ---- step by step
 
--- So much of a stretch that ends at `end` is found, and its work is done: the rest of it stands at a place.
+-- So much of a stretch that ends at `end` is found, and its work is done: the rest of it is at a place.
 pub record Left (pages : Pages) (page : List ℕ) (before : Ledger) (ss : List Stretch) (work : List Entry) (at place end : ℕ) (at_start : Bool)
     (old new : Collected) (store : Store) (spent : ℕ) (answered : Option (List (List ℕ))) : Type 0 where
   pub left : List Member
@@ -84,7 +84,7 @@ AnswersStep pages page before ss work at end old new store spent answered (Ok to
     (at ≤ to) × Left pages page before ss work at to end (starts page to) old new store spent answered
 AnswersStep pages page before ss work at end old new store spent answered (Err e) = Refuses pages page before work answered e
 
--- where the reader of a walk stands
+-- where the reader of a walk is
 pub record Going (pages : Pages) (page : List ℕ) (before : Ledger) (ss : List Stretch) (work : List Entry) (at end : ℕ) (old new : Collected)
     (reader : Reader) (store : Store) (spent : ℕ) (answered : Option (List (List ℕ))) : Type 0 where
   pub place : ℕ
@@ -101,7 +101,7 @@ call_stretches_at pages page b c s = stretches_of (at_page pages) c.at s (drop c
 abbrev pub call_work : (pages : Pages) (page : List ℕ) (b : Braces) → IsCallOf mode.Page page b → Bool → List Entry
 call_work pages page b c s = (output_of (at_page pages) s (drop c.at page) (call c.braces c.inside)).work
 
--- a call where the reader stands
+-- a call where the reader is
 pub record IsCallNext (page : List ℕ) (b : Braces) (reader : Reader) (s : Bool) : Type 0 where
   pub is : IsCallOf mode.Page page b
   pub reading : IsReading mode.Page page reader is.at s
@@ -147,7 +147,7 @@ abbrev pub AnswersTarget : (pages : Pages) (page : List ℕ) → Ledger → (b :
 AnswersTarget pages page before b c old new store spent answered (Ok title) = TargetRead pages page before b c title old new store spent answered
 AnswersTarget pages page before b c old new store spent answered (Err e) = Refuses pages page before (target_output pages page b c).work answered e
 
--- what stands behind the target of a call that is text
+-- what comes after the target of a call that is text
 abbrev pub behind_stretches : (pages : Pages) (page : List ℕ) (b : Braces) → IsCallOf mode.Page page b → List Stretch
 behind_stretches pages page b c =
     let ps = part_members 0 c.inside in

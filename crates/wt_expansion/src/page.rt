@@ -32,7 +32,7 @@ pub struct ExpandedPage<'a> {
 /// folder, each once; their texts are kept in the expansion's arena.
 ///
 /// The machine's stack grows by the templates that are expanded one inside another, and by the
-/// targets of the page that stand one inside another.
+/// targets of the page that are one inside another.
 ///
 /// # Errors
 ///
@@ -85,7 +85,7 @@ pub fn expand_knowing<'a, F: Folder>(
 /// calls. The templates are taken from a folder, each once, and their texts are kept in the arena.
 ///
 /// The machine's stack grows by the templates that are expanded one inside another, and by the
-/// targets of the page that stand one inside another.
+/// targets of the page that are one inside another.
 ///
 /// # Errors
 ///

@@ -147,7 +147,7 @@ impl<'a> PageWalk<'a> {
         Ok(())
     }
 
-    /// What stands next, and where it ends.
+    /// What is next, and where it ends.
     #[cycle(walking)]
     fn step<F: Folder>(
         &mut self,
@@ -181,7 +181,7 @@ impl<'a> PageWalk<'a> {
         }
     }
 
-    /// A call that stands next.
+    /// A call that is next.
     #[cycle(walking)]
     fn walk_call<F: Folder>(
         &mut self,
@@ -323,7 +323,7 @@ impl<'a> PageWalk<'a> {
         Ok(title)
     }
 
-    /// What stands behind the target of a call that is text.
+    /// What comes after the target of a call that is text.
     #[cycle(walking)]
     fn behind_target<F: Folder>(
         &mut self,

@@ -1,4 +1,4 @@
--- All texts and all values of attributes that stand in a tree of elements.
+-- All texts and all values of attributes that are in a tree of elements.
 use Rattle.std.specs.Prelude.{ℕ, List, [], ◌∷◌, ◌++◌, map}
 use Rattle.wt_html_grammar.specs.Markup.{Markup, Markups, text, node, empty, more}
 

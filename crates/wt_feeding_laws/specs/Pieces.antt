@@ -1,4 +1,4 @@
--- Bytes behind which the same may follow, and the node of a piece.
+-- Bytes after which the same may follow, and the node of a piece.
 use Rattle.std.specs.Prelude.{◌↔◌, ℕ, List, ◌++◌}
 use Rattle.wt_html_grammar.specs.Grammar.{Well}
 

@@ -12,7 +12,7 @@ ghost use Rattle.wt_html_in.specs.declared.refusal.HtmlRefusal.TheVariants as re
 ghost use Rattle.wt_feeding_laws.specs.Pieces.{GoOnAlike};
 
 /// Bytes are answered by one page at most, and refused in one way at most, and never both: want of memory
-/// alone may stand beside another answer.
+/// alone may be beside another answer.
 pub fn page_answers_are_one()
     ensures page { (bytes : List ℕ) → (a b : Edited) → Answers (Ok a) bytes → Answers (Ok b) bytes → (body_of a ≡ body_of b) × (unsourced_of a ≡ unsourced_of b) }
     ensures refused { (bytes : List ℕ) → (a : Edited) → (r : HtmlRefusal) → Answers (Ok a) bytes → RefusedFor bytes r → r ≡ refusals.NoMemory }

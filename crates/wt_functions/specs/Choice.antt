@@ -1,5 +1,5 @@
--- Which parts of a function call are told, and which one is given, by the texts of its parts. Part 0 is what stands behind the
--- function's colon in the target; the others follow it, each behind its `|`. The text of a part is what it expands to, trimmed.
+-- Which parts of a function call are told, and which one is given, by the texts of its parts. Part 0 is what comes after the
+-- function's colon in the target; the others follow it, each after its `|`. The text of a part is what it expands to, trimmed.
 -- Of a `#switch` a part with a `=` is told by its name and gives its value; every other part is told and given whole.
 use Rattle.std.specs.Prelude.{ℕ, zero, suc, ◌+◌, ◌==◌, ◌&&◌, Bool, true, false, Option, Some, None, List, [], ◌∷◌, drop, length, codes, if◌then◌else◌, nat_lt, min, position, slice_index_or}
 use Rattle.std.specs.Option.{option_map, option_or, option_and_then, unwrap_or}
@@ -27,7 +27,7 @@ if_there equals part = if nat_lt (length equals) part then None else Some part
 abbrev pub first_from : {A : Type 0} → ℕ → (A → Bool) → List A → Option ℕ
 first_from at p xs = option_map (λ k. at + k) (position p (drop at xs))
 
--- the first part behind part 0 whose text is equal to that of part 0
+-- the first part after part 0 whose text is equal to that of part 0
 unfoldable pub equal_part : List (List ℕ) → Option ℕ
 equal_part texts = first_from 1 (λ t. bytes_eq t (text_at texts 0)) texts
 
@@ -43,7 +43,7 @@ last_whole equals = if slice_index_or (true ∷ equals) (length equals) true the
 abbrev pub is_default : List Bool → List (List ℕ) → ℕ → Bool
 is_default equals texts part = slice_index_or (false ∷ equals) part false && bytes_eq (text_at texts part) (codes "#default")
 
--- the last such part among the first so many behind part 0
+-- the last such part among the first so many after part 0
 abbrev pub last_default : List Bool → List (List ℕ) → ℕ → Option ℕ
 last_default equals texts zero = None
 last_default equals texts (suc n) = if is_default equals texts (suc n) then Some (suc n) else last_default equals texts n

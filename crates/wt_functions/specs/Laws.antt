@@ -8,7 +8,7 @@ use Rattle.wt_functions.specs.declared.chooser.Ask.TheVariants.{Tell, Give}
 use Rattle.wt_span.specs.Functions.{is_space, word_of}
 use Rattle.wt_functions.specs.Choice.{Telling, text_at, told_count, chosen, given, asked}
 
--- A target that names a function: blanks and line breaks, the function's word in any case, and anything; part 0 begins behind
+-- A target that names a function: blanks and line breaks, the function's word in any case, and anything; part 0 begins after
 -- the word.
 pub record Names (f : Function) (part_0 : ℕ) (target : List ℕ) : Type 0 where
   pub space : List ℕ
@@ -27,7 +27,7 @@ TellsInOrder t = (part : ℕ) → asked t ≡ Tell part → (part ≡ length t.t
 abbrev pub GivesAPart : Telling → Type 0
 GivesAPart t = (part : ℕ) → asked t ≡ Give part → (0 < part) × (part ≤ length t.equals)
 
--- of `#if` part 0 alone is told, of `#ifeq` part 1 too, and of `#switch` no part behind one that is equal to part 0
+-- of `#if` part 0 alone is told, of `#ifeq` part 1 too, and of `#switch` no part after one that is equal to part 0
 abbrev pub IsNeeded : Function → ℕ → List (List ℕ) → Type 0
 IsNeeded If part texts = part ≡ 0
 IsNeeded IfEq part texts = part ≤ 1

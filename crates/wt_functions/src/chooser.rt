@@ -7,7 +7,7 @@ use std::alloc::Global;
 use std::marker::Model;
 use wt_span::{Function, List, NoMemory, Str, rest_of};
 
-/// What a chooser asks next. Parts are counted from 0, which is what stands behind the function's
+/// What a chooser asks next. Parts are counted from 0, which is what comes after the function's
 /// colon in the target.
 #[derive(Clone, Copy, Debug, PartialEq, Eq)]
 pub enum Ask {

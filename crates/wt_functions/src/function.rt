@@ -13,7 +13,7 @@ fn is_space(byte: u8) -> bool
     byte == b' ' || byte == b'\t' || byte == b'\n'
 }
 
-/// How many blanks and line breaks stand first.
+/// How many blanks and line breaks are first.
 fn space_len(bytes: &[u8]) -> usize
     ensures value { result ≡ space_len bytes.now }
     ensures within { result ≤ length bytes.now }
@@ -61,9 +61,9 @@ pub fn function_in(target: &[u8]) -> Option<(Function, u32)>
     Some((function, (space + function.word().len()) as u32))
 }
 
-/// The function that a call's target names, and the place of the byte behind its colon, in bytes from
+/// The function that a call's target names, and the place of the byte after its colon, in bytes from
 /// the target's start: there part 0 begins. `None` where no function is named; such a call is an
-/// ordinary one, or, where the target begins with `#`, kept as it stands.
+/// ordinary one, or, where the target begins with `#`, kept as it is.
 pub fn function_of(target: &str) -> Option<(Function, u32)>
     requires { length target.now ≤ PAGE_BYTES }
     ensures { result ≡ function_of target.now }

@@ -18,7 +18,7 @@ pub fn parts_in_order(chooser: &Chooser)
     ensures given { GivesAPart chooser.now }
 {}
 
-/// Only what decides is told: of `If` part 0, of `IfEq` parts 0 and 1, of `Switch` no part behind one
+/// Only what decides is told: of `If` part 0, of `IfEq` parts 0 and 1, of `Switch` no part after one
 /// that is equal to part 0.
 pub fn nothing_behind_equal(chooser: &Chooser)
     ensures { TellsWhatIsNeeded chooser.now }

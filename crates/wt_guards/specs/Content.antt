@@ -7,7 +7,7 @@ use Rattle.wt_guards.specs.declared.role.Stretch.{Stretch}
 use Rattle.wt_guards.specs.declared.side.Side.{Side}
 use Rattle.wt_guards.specs.declared.side.Side.TheVariants as side
 
--- A node of the content, or one delimiter of a style: what it is, what it writes, and where it stands in the page, if it does.
+-- A node of the content, or one delimiter of a style: what it is, what it writes, and where it is in the page, if it does.
 pub record Thing : Type 0 where
   pub role : Role
   pub source : List ℕ

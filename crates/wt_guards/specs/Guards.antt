@@ -35,7 +35,7 @@ abbrev pub is_reached : Option ℕ → Option ℕ → Bool
 is_reached None start = false
 is_reached (Some at) start = is_this start at
 
--- Its source ends with `{`, which would make a longer run of the braces of a call or function behind it.
+-- Its source ends with `{`, which would make a longer run of the braces of a call or function after it.
 abbrev pub has_brace_last : List ℕ → Bool
 has_brace_last source = ends_with nat_eq source (byte.opening_brace ∷ [])
 
@@ -59,7 +59,7 @@ is_line_mark_next None = false
 is_line_mark_next (Some (letter c)) = false
 is_line_mark_next (Some (thing t)) = ends_line t.role
 
--- nothing but marks stands between the line's start and this place
+-- nothing but marks is between the line's start and this place
 abbrev pub is_line_begun : List ContentSign → Bool
 is_line_begun [] = true
 is_line_begun (letter c ∷ before) = c == byte.line_break
@@ -71,7 +71,7 @@ is_start_hazard None = false
 is_start_hazard (Some (letter c)) = line_start_hazard c
 is_start_hazard (Some (thing t)) = false
 
--- a group, or a mark whose source doesn't end with a line break, that didn't stand at the start of its line or of the content
+-- a group, or a mark whose source doesn't end with a line break, that wasn't at the start of its line or of the content
 abbrev pub is_new_at_start : Role → Bool
 is_new_at_start Link = false
 is_new_at_start External = false
@@ -153,7 +153,7 @@ is_brace_last source (Some (letter c)) = false
 is_brace_last source (Some (thing t)) = has_brace_last t.source && not (is_reached (end_of t.place) (Some (length source)))
 
 -- At the content's end `<nowiki/>` keeps a last space or tab; and in a paragraph a group from being all of it, and a last `{` from
--- the braces of a call behind the paragraph.
+-- the braces of a call after the paragraph.
 abbrev pub is_content_end_guard : List ℕ → Place → Option ContentSign → Bool
 is_content_end_guard source place.Paragraph last = is_group_last last || is_brace_last source last
 is_content_end_guard source place.Heading last = is_blank_last last
@@ -185,7 +185,7 @@ is_group_or_bare (Group g) = true
 is_group_or_bare Function = false
 is_group_or_bare Node = false
 
--- only spaces and tabs stand between the last node and this place
+-- only spaces and tabs are between the last node and this place
 abbrev pub is_past_node : List ContentSign → Bool
 is_past_node [] = false
 is_past_node (letter c ∷ before) = is_blank c && is_past_node before
@@ -196,7 +196,7 @@ abbrev pub past : List ℕ → ℕ → Option ℕ → Option ℕ
 past source c None = None
 past source c (Some at) = if is_this (slice_get source at) c then Some (at + 1) else None
 
--- Where one comes in the page from the end of the last node on, where the page goes on with the characters that stand here.
+-- Where one comes in the page from the end of the last node on, where the page goes on with the characters that are here.
 abbrev pub reached : List ℕ → List ContentSign → Option ℕ
 reached source [] = None
 reached source (letter c ∷ before) = past source c (reached source before)
@@ -262,16 +262,16 @@ is_always_parted (Group g) right = is_parted_from_group g right
 is_always_parted Function right = false
 is_always_parted Node right = false
 
--- both stood in the page, the second where the first one ends
+-- both was in the page, the second where the first one ends
 abbrev pub is_adjacent : Thing → Thing → Bool
 is_adjacent a b = is_reached (end_of a.place) (start_of b.place)
 
--- what stands on the left: after a mark that ends a line there is none, since a line begins there
+-- what is on the left: after a mark that ends a line there is none, since a line begins there
 abbrev pub left_side : Role → Side
 left_side r = if ends_line r then side.Edge else side_of r
 
--- Two nodes: a function is parted from a `{`; marks from each other, unless they stood next to each other or the first one ends a
--- line; and others by the table, unless they stood next to each other and aren't always parted.
+-- Two nodes: a function is parted from a `{`; marks from each other, unless they were next to each other or the first one ends a
+-- line; and others by the table, unless they were next to each other and aren't always parted.
 unfoldable pub is_parted : Thing → Thing → Bool
 is_parted a b =
     if is_function b.role && has_brace_last a.source then true
@@ -297,7 +297,7 @@ is_between_guard (Some (thing a)) next = is_parted_from_thing a next
 -- ---- all guards, and the content
 
 -- What the spelling of a content depends on: whether it is the inside of a link or tag, where no line begins or ends; what it
--- stands in; and the source of its block in the page.
+-- is in; and the source of its block in the page.
 pub record Setting : Type 0 where
   pub within : Bool
   pub place : Place

@@ -7,7 +7,7 @@ use Rattle.wt_guards.specs.declared.side.Place.{Place}
 use Rattle.wt_guards.specs.declared.side.Place.TheVariants.{Paragraph, Heading, Item, Term, Cell, Header}
 use Rattle.wt_guards.specs.Content.{ContentSign, letter, thing, nearest, ends_line, is_invisible, shows_blanks}
 
--- `[` `]` `{` `}` `|` `>`: written otherwise wherever they stand
+-- `[` `]` `{` `}` `|` `>`: written otherwise wherever they are
 abbrev pub is_bracket : ℕ → Bool
 is_bracket c = c == byte.opening_bracket || (c == byte.closing_bracket || (c == byte.opening_brace || (c == byte.closing_brace || (c == byte.vertical_bar || c == byte.greater_than))))
 
@@ -63,7 +63,7 @@ is_header Term = false
 is_header Cell = false
 is_header Header = true
 
--- On its line nothing stands before but groups that show spaces and tabs alone, marks, spaces and tabs.
+-- On its line nothing comes before but groups that show spaces and tabs alone, marks, spaces and tabs.
 abbrev pub is_clear : List ContentSign → Bool
 is_clear [] = true
 is_clear (letter c ∷ before) = c == byte.line_break || (is_blank c && is_clear before)

@@ -1,5 +1,5 @@
--- Which neighbours may not stand next to each other: the table of pairs, a row for what stands on the left and in it a cell for
--- what stands on the right, and the characters that may not begin a line.
+-- Which neighbours may not be next to each other: the table of pairs, a row for what is on the left and in it a cell for
+-- what is on the right, and the characters that may not begin a line.
 use Rattle.std.specs.Prelude.{ℕ, Bool, true, false, not, ◌||◌, ◌&&◌, ◌==◌}
 use Rattle.std.specs.Char.{is_ascii_alphanumeric, is_ascii_lowercase}
 use Rattle.wt_span.specs.Bytes.{is_blank}
@@ -19,7 +19,7 @@ is_trail c = is_ascii_lowercase c
 abbrev pub is_space : ℕ → Bool
 is_space c = is_blank c || c == byte.line_break
 
--- after these a group may stand: a space, a tab, `(`, `,`, or the start of a line
+-- after these a group may be: a space, a tab, `(`, `,`, or the start of a line
 abbrev pub leads_group : ℕ → Bool
 leads_group c = is_space c || (c == byte.opening_parenthesis || c == byte.comma)
 
@@ -27,7 +27,7 @@ leads_group c = is_space c || (c == byte.opening_parenthesis || c == byte.comma)
 abbrev pub ends_url : ℕ → Bool
 ends_url c = c == byte.comma || (c == byte.semicolon || (c == byte.full_stop || (c == byte.question_mark || c == byte.closing_parenthesis)))
 
--- these may stand after a group: a space, a tab, the end of a line, and where it shows no `//` also what ends a URL
+-- these may be after a group: a space, a tab, the end of a line, and where it shows no `//` also what ends a URL
 abbrev pub follows_group : Bool → ℕ → Bool
 follows_group slashes c = is_space c || (not slashes && ends_url c)
 
@@ -111,7 +111,7 @@ after_node (Group s) = true
 after_node Toggle = false
 after_node Node = false
 
--- These two may not stand next to each other.
+-- These two may not be next to each other.
 unfoldable pub hazard : Side → Side → Bool
 hazard Edge right = after_edge right
 hazard (Text c) right = after_text c right

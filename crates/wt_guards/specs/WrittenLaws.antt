@@ -6,7 +6,7 @@ use Rattle.wt_guards.specs.Content.{ContentSign, letter, thing}
 use Rattle.wt_guards.specs.Letters.{is_bracket, is_escaped, reference}
 use Rattle.wt_guards.specs.Guards.{Setting, nowiki, is_guarded}
 
--- what a sign shows as it stands, without guards and references
+-- what a sign shows as it is, without guards and references
 abbrev pub itself : ContentSign → List ℕ
 itself (letter c) = encode_utf8 c
 itself (thing t) = t.source

@@ -10,11 +10,11 @@ use crate::ahead::is_blank;
 use crate::role::Stretch;
 use crate::signs::ContentSign;
 
-/// What the signs before a place are: the one next to it; whether nothing but marks stands between
+/// What the signs before a place are: the one next to it; whether nothing but marks is between
 /// the line's start and the place; whether the last of the line wants a guard at its end; whether
-/// nothing on the line but groups that show blanks, marks and blanks stands before, and whether one
+/// nothing on the line but groups that show blanks, marks and blanks comes before, and whether one
 /// such group does; whether the nearest node, past blanks and marks, is a group or a bare URL; whether
-/// only blanks stand between the last node and the place; and where the page goes on, if it has the
+/// only blanks are between the last node and the place; and where the page goes on, if it has the
 /// same text between them.
 #[derive(Clone, Copy)]
 pub struct Behind<'u> {

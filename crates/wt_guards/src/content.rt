@@ -44,7 +44,7 @@ fn push_guard(
     push_nowiki_if(out, is_guarded)
 }
 
-/// Appends a sign as it is written, by what stands before and after it.
+/// Appends a sign as it is written, by what comes before and after it.
 fn push_sign(
     out: &mut String,
     setting: Setting<'_>,

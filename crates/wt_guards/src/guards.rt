@@ -15,7 +15,7 @@ use crate::side::{Place, Side, hazard};
 use crate::signs::{ContentSign, Signs, Thing};
 
 /// What the spelling of a content depends on: whether it is the inside of a link or tag, where no
-/// line begins or ends; what it stands in; and the source of its block in the page.
+/// line begins or ends; what it is in; and the source of its block in the page.
 #[derive(Clone, Copy)]
 pub struct Setting<'s> {
     pub within: bool,
@@ -58,7 +58,7 @@ fn has_brace_last(source: &str) -> bool
     source.as_bytes().ends_with(b"{")
 }
 
-/// Both stood in the page, the second where the first one ends.
+/// Both was in the page, the second where the first one ends.
 fn is_adjacent(a: &Thing, b: &Thing) -> bool
     ensures { result ≡ is_adjacent (thing_of a.now) (thing_of b.now) }
 {

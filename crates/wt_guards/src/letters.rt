@@ -11,7 +11,7 @@ use crate::side::Place;
 use crate::signs::Signs;
 use std::alloc::AllocError;
 
-/// Written otherwise wherever they stand.
+/// Written otherwise wherever they are.
 fn is_bracket(c: char) -> bool
     ensures { result ≡ is_bracket c }
 {
@@ -36,7 +36,7 @@ fn is_header(place: Place) -> bool
     }
 }
 
-/// Whether a character is written as a reference, by what stands before and after it. In the inside
+/// Whether a character is written as a reference, by what comes before and after it. In the inside
 /// of a link or tag (`within`) no line begins.
 #[tactic(auto, unfolding(crate::specs::Letters::is_escaped))]
 fn is_escaped(within: bool, place: Place, behind: Behind<'_>, c: char, after: Signs<'_, '_>) -> bool
@@ -96,7 +96,7 @@ fn push_written(out: &mut String, is_escaped: bool, c: char) -> Result<(), Alloc
     Ok(())
 }
 
-/// Appends a character of text, by what stands before and after it.
+/// Appends a character of text, by what comes before and after it.
 pub fn push_letter(
     out: &mut String,
     within: bool,

@@ -1,8 +1,8 @@
-//! What stands next to what in wikitext: where `<nowiki/>` is put between the signs of a content, how
+//! What is next to what in wikitext: where `<nowiki/>` is put between the signs of a content, how
 //! a character of text is written, and the content from the left.
 //!
 //! A content is a list of units, texts and nodes with what they write. `hazard` and
-//! `line_start_hazard` are the tables by which `<nowiki/>` is put between what stands next to each
+//! `line_start_hazard` are the tables by which `<nowiki/>` is put between what is next to each
 //! other and before what begins a line; `spelling_of` writes the content.
 #![tactic(auto)]
 

@@ -8,7 +8,7 @@ use crate::side::Side;
 
 /// What is asked of a group of templates: whether what it shows holds `//`; whether all its items are
 /// invisible; whether it shows spaces and tabs alone, and some; whether its first and its last item is
-/// an apostrophe; and of where it stood in the page: whether at the start of its line or of the
+/// an apostrophe; and of where it was in the page: whether at the start of its line or of the
 /// content, at the end of its line or of the content past spaces, tabs and marks, directly at the
 /// content's end, and whether the visible items nearest to its start are both `=`.
 #[derive(Clone, Copy, Debug)]
@@ -26,7 +26,7 @@ pub struct Transclusion {
 
 /// What a node of the content is: a link to a page, an external link in brackets, a bare URL, by
 /// whether what it shows ends with `=`, a switch, a delimiter of bold or italic, a mark (a comment or
-/// an include tag), by whether its source ends with a line break and whether it stood at the start
+/// an include tag), by whether its source ends with a line break and whether it was at the start
 /// of its line or of the content in the page, a group, a function of the preprocessor, or any other.
 #[derive(Clone, Copy, Debug)]
 pub enum Role {
@@ -41,7 +41,7 @@ pub enum Role {
     Node,
 }
 
-/// Where a node stands in the source of its block, in bytes from the block's start.
+/// Where a node is in the source of its block, in bytes from the block's start.
 #[derive(Clone, Copy, Debug)]
 pub struct Stretch {
     pub start: usize,
@@ -182,7 +182,7 @@ impl Role {
         }
     }
 
-    /// A group or mark before which a line start is guarded, since it stood at none in the page.
+    /// A group or mark before which a line start is guarded, since it was at none in the page.
     pub fn is_new_at_start(self) -> bool
         ensures { result ≡ is_new_at_start self }
     {
@@ -202,7 +202,7 @@ impl Role {
         }
     }
 
-    /// A group after which a line end is guarded, since it stood at none in the page; or a bare URL
+    /// A group after which a line end is guarded, since it was at none in the page; or a bare URL
     /// that ends with `=`.
     pub fn is_new_at_end(self) -> bool
         ensures { result ≡ is_new_at_end self }
@@ -220,7 +220,7 @@ impl Role {
         }
     }
 
-    /// A group after which the content's end is guarded, since it didn't stand there in the page.
+    /// A group after which the content's end is guarded, since it wasn't there in the page.
     pub fn is_new_last(self) -> bool
         ensures { result ≡ is_new_last self }
     {
@@ -254,7 +254,7 @@ impl Role {
         }
     }
 
-    /// Whether the two are parted though they stood next to each other in the page.
+    /// Whether the two are parted though they were next to each other in the page.
     pub fn is_always_parted(self, right: Role) -> bool
         ensures { result ≡ is_always_parted self right }
     {

@@ -1,9 +1,9 @@
-//! What stands next to what, and which neighbours may not stand so.
+//! What is next to what, and which neighbours may not be so.
 
 ghost use Rattle.std.specs.Prelude.{◌≡◌};
 ghost use Rattle.wt_guards.specs.Table.{hazard, line_start_hazard, is_word, is_space, leads_group, ends_url, follows_group, after_text, after_link, after_bare, after_switch, after_group, after_toggle, after_node};
 
-/// What the content stands in. `Term` is the term of a definition (`;`), `Header` a header cell
+/// What the content is in. `Term` is the term of a definition (`;`), `Header` a header cell
 /// (`!`); `Item` is any other item of a list, and `Cell` any other cell or a caption.
 #[derive(Clone, Copy, Debug, PartialEq, Eq)]
 pub enum Place {
@@ -15,7 +15,7 @@ pub enum Place {
     Header,
 }
 
-/// What stands on one side of a place in the content: the start or end of the content, a text by the
+/// What is on one side of a place in the content: the start or end of the content, a text by the
 /// character next to the place, a link to a page, a bare URL, a switch such as `__TOC__`, a group of
 /// templates, which shows `//` or doesn't, the delimiter of bold or italic, or any other node.
 #[derive(Clone, Copy, Debug)]
@@ -120,8 +120,8 @@ fn after_node(right: Side) -> bool
     matches!(right, Side::Group { .. })
 }
 
-/// Whether the two may not stand next to each other in wikitext, so that `<nowiki/>` is put between
-/// them; nodes that stood next to each other in the page are an exception for the caller. The rules
+/// Whether the two may not be next to each other in wikitext, so that `<nowiki/>` is put between
+/// them; nodes that was next to each other in the page are an exception for the caller. The rules
 /// are those that Parsoid's escaping meets case by case: a link takes the letters after it, a URL
 /// goes on until a space and begins anywhere but after a word, a group of templates may begin and
 /// end with any sign, and the apostrophes of two delimiters join.

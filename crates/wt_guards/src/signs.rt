@@ -9,7 +9,7 @@ use crate::role::{Role, Stretch};
 use wt_span::Str;
 
 /// A node of the content, or one delimiter of a style: what it is, what it writes, and where it
-/// stands in the page, if it does.
+/// is in the page, if it does.
 #[derive(Drop)]
 pub struct Thing {
     pub role: Role,

@@ -14,16 +14,16 @@ pub record AreReady (ps : List Piece) : Type 0 where
   pub sound : All IsSoundPiece ps
   pub few : length (sources (items ps)) < 2 ^ 32
 
--- a heading of this level that is cut behind so many items, and so many more
+-- a heading of this level that is cut after so many items, and so many more
 abbrev pub heading_by : ℕ → ℕ → ℕ → List Item → ItemTree
 heading_by level open_len inside_len line =
     let rest = drop open_len line in
     inner (plain (kind.Heading level)) (take open_len line) (forest (line_trees (take inside_len rest))) (drop inside_len rest)
 
--- an ASCII character, if anything, stands before a cut
+-- an ASCII character, if anything, comes before a cut
 abbrev pub IsOpenCut : ℕ → List Item → Type 0
 IsOpenCut n xs = 0 < n → (n - 1 < length xs) × (slice_index (map sign xs) (n - 1) < 128)
 
--- behind the first so many items and so many more a character begins
+-- after the first so many items and so many more a character begins
 abbrev pub IsInsideCut : ℕ → ℕ → List Item → Type 0
 IsInsideCut n m xs = 0 < m → begins_char (slice_get xs (n + m)) ≡ true

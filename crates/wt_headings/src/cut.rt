@@ -1,4 +1,4 @@
-//! Where a line's break stands among its pieces.
+//! Where a line's break is among its pieces.
 
 ghost use Rattle.std.specs.Prelude.{◌≡◌, ◌≤◌, length, take, drop};
 ghost use Rattle.wt_span.specs.Items.{items};
@@ -9,7 +9,7 @@ ghost use Rattle.wt_headings.specs.Lines.{ending};
 use wt_lines::is_break;
 use wt_span::Piece;
 
-/// How many pieces stand before the last line break.
+/// How many pieces come before the last line break.
 pub fn content_len(pieces: &[Piece<'_>]) -> usize
     requires { AllParted pieces.now }
     ensures within { result ≤ length pieces.now }

@@ -1,4 +1,4 @@
-//! Headings as trees, and where a line's break stands.
+//! Headings as trees, and where a line's break is.
 #![tactic(auto)]
 
 mod cut;

@@ -85,7 +85,7 @@ fn split_first<'a>(
     Ok((first, rest))
 }
 
-/// Pieces, cut behind a number of items: the last of them is an ASCII character.
+/// Pieces, cut after a number of items: the last of them is an ASCII character.
 fn split_some<'a>(
     alloc: Global,
     pieces: &[Piece<'a>],
@@ -105,7 +105,7 @@ fn split_some<'a>(
     Ok((front, rest))
 }
 
-/// Pieces, cut behind a number of items: the last of them, if there is one, is an ASCII character.
+/// Pieces, cut after a number of items: the last of them, if there is one, is an ASCII character.
 pub fn split_behind<'a>(
     alloc: Global,
     pieces: &[Piece<'a>],
@@ -125,7 +125,7 @@ pub fn split_behind<'a>(
     }
 }
 
-/// Pieces, cut behind a number of items, where a character begins or nothing stands before.
+/// Pieces, cut after a number of items, where a character begins or nothing comes before.
 pub fn split_before<'a>(
     alloc: Global,
     pieces: &[Piece<'a>],

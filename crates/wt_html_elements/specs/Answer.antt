@@ -17,7 +17,7 @@ abbrev pub RefusedFor : List ℕ → HtmlRefusal → Type 0
 RefusedFor bytes (refusals.Html place w) = Refused bytes place w
 RefusedFor bytes refusals.NoMemory = Unit {0}
 
--- what is read of these bytes: the tree for which they stand, or where and why they are no HTML
+-- what is read of these bytes: the tree that they stand for, or where and why they are no HTML
 abbrev pub Answers : Result Content HtmlRefusal → List ℕ → Type 0
 Answers (Ok c) bytes = Stands bytes (view_content c)
 Answers (Err e) bytes = RefusedFor bytes e

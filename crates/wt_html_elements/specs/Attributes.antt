@@ -1,4 +1,4 @@
--- The whole attributes of a tag, in their order: the first, and the rest behind them.
+-- The whole attributes of a tag, in their order: the first, and the rest after them.
 use Rattle.std.specs.Prelude.{List, ◌++◌, map}
 use Rattle.wt_html_grammar.specs.Markup.{Pair}
 use Rattle.wt_html_elements.specs.declared.attributes.Attributes.{Attributes}

@@ -106,7 +106,7 @@ is_some_attribute (p ∷ ps) = true
 abbrev pub is_new : Building → Bool
 is_new x = not (is_among x.key (map (λ p. p.0) x.attributes))
 
--- characters and escapes stand in texts and values only
+-- characters and escapes are in texts and values only
 abbrev pub has_signs : State → Bool
 has_signs start = false
 has_signs first = false
@@ -125,7 +125,7 @@ has_signs (closing cs ns) = false
 has_signs (closed ns) = false
 has_signs (escaping s e) = false
 
--- what is built fits to the state: nothing is open before the root, no attribute stands in a tag's name, and none
+-- what is built fits to the state: nothing is open before the root, no attribute is in a tag's name, and none
 -- comes twice
 abbrev pub fits : State → Building → Bool
 fits start x = not (is_some_open x.opened)

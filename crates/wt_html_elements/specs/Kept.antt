@@ -47,7 +47,7 @@ pub record IsBegun (bytes : List ℕ) : Type 0 where
   pub some : 0 < length more
   pub spelled : bytes ++ more ≡ spell_token token
 
--- Of these bytes so many are held: whole tokens stand before them, and they begin one more.
+-- Of these bytes so many are held: whole tokens come before them, and they begin one more.
 pub record IsKept (bytes : List ℕ) (count : ℕ) : Type 0 where
   pub tokens : List Token
   pub are_tokens : AreTokens tokens
@@ -56,7 +56,7 @@ pub record IsKept (bytes : List ℕ) (count : ℕ) : Type 0 where
   pub split : bytes ≡ spell_tokens tokens ++ held
   pub long : length held ≡ count
 
--- the machine stands between two tokens
+-- the machine is between two tokens
 abbrev pub is_between : State → Bool
 is_between start = true
 is_between (doctype []) = true

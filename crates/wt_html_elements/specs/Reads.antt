@@ -32,7 +32,7 @@ Reads g bytes count =
 abbrev pub held_behind : State → ℕ → ℕ
 held_behind s k = if is_between s then 0 else k
 
--- a byte was taken behind these bytes, or why it wasn't
+-- a byte was taken after these bytes, or why it wasn't
 abbrev pub TookByte : Result Unit Fault → Reading → List ℕ → ℕ → ℕ → Type 0
 TookByte (Ok u) g bytes b count = Reads g (bytes ++ b ∷ []) (held_behind (state_of g) (count + 1))
 TookByte (Err (faults.Html w)) g bytes b count = (run start (bytes ++ b ∷ []) ≡ Err w) × (taken start (bytes ++ b ∷ []) ≡ length bytes)

@@ -46,7 +46,7 @@ other_names (f ∷ fs) = names fs
 abbrev pub attribute_names : Building → List (List ℕ)
 attribute_names x = map (λ p. p.0) x.attributes
 
--- the start tag that is read; and behind the name of an attribute, which is then one of its names
+-- the start tag that is read; and after the name of an attribute, which is then one of its names
 abbrev pub tag_of : Building → Tag
 tag_of x = record { outer = names x.opened; name = x.name; seen = attribute_names x }
 
@@ -81,11 +81,11 @@ inside_of (withins.Character f) s = escaping s (wide f.low f.high f.more)
 abbrev pub view : Machine → Building → State
 view m x = inside_of m.within (place_of m x)
 
--- the state once what a byte tells is built
+-- the state once what a byte says is built
 abbrev pub view_after : Machine → Building → Event → State
 view_after m x e = view m (moved x e)
 
--- what a step answers: what the byte tells, with the state behind it, or why it can't stand there
+-- what a step answers: what the byte says, with the state after it, or why it can't be there
 abbrev pub Takes : Result State HtmlWhy → Event → Result Event HtmlWhy → (Event → State) → Type 0
 Takes o v (Ok e) f = (o ≡ Ok (f e)) × (e ≡ v)
 Takes o v (Err w) f = o ≡ Err w

@@ -32,7 +32,7 @@ fn is_among(name: &[u8], attributes: &[Attribute]) -> bool
     false
 }
 
-/// These and the rest behind them.
+/// These and the rest after them.
 fn with_rest(
     first: Vec<Attribute>,
     rest: IndexMap<Vec<u8>, Vec<u8>>,

@@ -176,7 +176,7 @@ impl Builder {
         Ok(())
     }
 
-    /// Takes what a byte tells.
+    /// Takes what a byte says.
     pub fn put(&mut self, alloc: Global, event: Event) -> Result<(), NoMemory>
         requires { may_be_put (building self.old) event ≡ true }
         ensures { OnOk result (building self.new ≡ moved (building self.old) event) }

@@ -13,7 +13,7 @@ pub struct Attribute {
     pub value: Vec<u8>,
 }
 
-/// What stands in an element: the text between two tags, in UTF-8 with the escapes decoded, or an
+/// What is in an element: the text between two tags, in UTF-8 with the escapes decoded, or an
 /// element with its contents. No text is empty.
 #[derive(Drop)]
 pub enum Content {
@@ -40,7 +40,7 @@ fn text_of(run: Vec<u8>) -> Content
     Content::Text(run)
 }
 
-/// The contents with the text behind them, where it isn't empty.
+/// The contents with the text after them, where it isn't empty.
 fn flushed(contents: Vec<Content>, run: Vec<u8>) -> Result<Vec<Content>, NoMemory>
     ensures { IfOk result (λ v. views v.items ≡ append (views contents.items) (flush run.items empty)) }
 {
@@ -72,7 +72,7 @@ impl OpenElement {
         })
     }
 
-    /// The element with a child behind what it holds.
+    /// The element with a child after what it holds.
     pub fn with_child(self, alloc: Global, child: Content) -> Result<OpenElement, NoMemory>
         ensures { IfOk result (λ e. frame e ≡ with_child (frame self) (view_content child)) }
     {

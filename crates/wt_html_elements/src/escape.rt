@@ -7,7 +7,7 @@ ghost use Rattle.wt_html_elements.specs.View.{escape_of, Turns};
 use crate::signs::is_digit_of;
 use wt_html_grammar::{EscapeName, Radix};
 
-/// How far an escape has come: behind `&`, behind `&a`, in a name, behind `&#`, or in a number, with
+/// How far an escape has come: after `&`, after `&a`, in a name, after `&#`, or in a number, with
 /// the count of its digits and their value.
 #[derive(Clone, Copy)]
 pub enum EscapeAt {
@@ -18,7 +18,7 @@ pub enum EscapeAt {
     Digits(Radix, u32, u32),
 }
 
-/// What a byte does in an escape: it can't stand there, it goes on, or it ends it, and the escape
+/// What a byte does in an escape: it can't be there, it goes on, or it ends it, and the escape
 /// stands for this character.
 #[derive(Clone, Copy)]
 pub enum TurnTo {

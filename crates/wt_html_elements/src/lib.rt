@@ -1,5 +1,5 @@
 //! Reads HTML by the grammar of `wt_html_grammar`, byte by byte and in any pieces: the tree of
-//! elements and texts for which it stands, or the exact place and reason of its first fault.
+//! elements and texts that it stands for, or the exact place and reason of its first fault.
 #![tactic(auto)]
 
 mod attributes;

@@ -538,7 +538,7 @@ impl Machine {
         }
     }
 
-    /// Takes a byte and says what it tells, or why it can't stand there.
+    /// Takes a byte and says what it tells, or why it can't be there.
     pub fn take(&mut self, builder: &Builder, byte: u8) -> Result<Event, HtmlWhy>
         requires fits { fits (view self.old (building builder.now)) (building builder.now) ≡ true }
         ensures { Takes (mended byte (step (view self.old (building builder.now)) byte)) (out (view self.old (building builder.now)) byte) result (view_after self.new (building builder.now)) }
@@ -580,7 +580,7 @@ impl Machine {
         }
     }
 
-    /// Whether the machine stands between two tags, characters or escapes.
+    /// Whether the machine is between two tags, characters or escapes.
     pub fn is_between(&self) -> bool
         ensures { (x : Building) → result ≡ is_between (view self.now x) }
     {

@@ -40,7 +40,7 @@ impl Reading {
         }
     }
 
-    /// Builds what a run of bytes tells that stand for themselves.
+    /// Builds what a run of bytes says that stand for themselves.
     fn put_run(&mut self, run: &[u8]) -> Result<(), NoMemory>
         requires place { self.old.machine.within ≡ Within.Nothing }
         ensures built { OnOk result (parts_of self.new ≡ put_run (parts_of self.old) (state_of self.old) run.now) }

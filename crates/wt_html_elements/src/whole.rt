@@ -6,7 +6,7 @@ use crate::fault::HtmlRefusal;
 use crate::reader::Reader;
 use std::alloc::Global;
 
-/// The root element for which the whole input stands, or the place and the reason of its first
+/// The root element that the whole input stands for, or the place and the reason of its first
 /// fault.
 pub fn read_elements(alloc: Global, input: &[u8]) -> Result<Content, HtmlRefusal>
     requires { length input.now < 2 ^ 32 }

@@ -1,4 +1,4 @@
--- What each byte tells, and how the tree is built from that.
+-- What each byte says, and how the tree is built from that.
 use Rattle.std.specs.Prelude.{ℕ, ◌==◌, Option, Some, None, Result, Ok, Err, List, [], ◌∷◌, ◌++◌, encode_utf8, if◌then◌else◌}
 use Rattle.wt_span.specs.Characters as byte
 use Rattle.wt_html_grammar.specs.declared.why.HtmlWhy.{HtmlWhy}

@@ -34,7 +34,7 @@ abbrev pub ArePieces : (ℕ → Bool) → List Piece → Type 0
 ArePieces t [] = Unit {0}
 ArePieces t (p ∷ ps) = IsPiece t p × ArePieces t ps
 
--- an attribute, with the white space before it, before its `=` and behind that
+-- an attribute, with the white space before it, before its `=` and after that
 pub record Attribute : Type 0 where
   pub gap : List ℕ
   pub name : List ℕ
@@ -53,7 +53,7 @@ abbrev pub spell_attributes : List Attribute → List ℕ
 spell_attributes [] = []
 spell_attributes (a ∷ others) = spell_attribute a ++ spell_attributes others
 
--- attributes behind those with these names, each name once
+-- attributes after those with these names, each name once
 abbrev pub AreAttributes : List (List ℕ) → List Attribute → Type 0
 AreAttributes before [] = Unit {0}
 AreAttributes before (a ∷ others) = IsAttribute a × (is_among a.name before ≡ false) × AreAttributes (before ++ a.name ∷ []) others
@@ -67,7 +67,7 @@ abbrev pub spell_slash : Slash → List ℕ
 spell_slash bare = codes ">"
 spell_slash slash = codes "/>"
 
--- An element: its name, its attributes, the white space behind them, its contents, and the white
+-- An element: its name, its attributes, the white space after them, its contents, and the white
 -- space in its end tag. A void element has no contents and no end tag.
 mutual
   pub data Element : Type 0 where
@@ -90,7 +90,7 @@ abbrev mutual
   spell_items (sign p items) = spell_piece p ++ spell_items items
   spell_items (child e items) = spell e ++ spell_items items
 
--- an element that stands within k others: at most `NESTED_ELEMENTS` are nested
+-- an element that is within k others: at most `NESTED_ELEMENTS` are nested
 abbrev mutual
   pub IsElement : ℕ → Element → Type 0
   IsElement k (element name attributes gap items end) =
@@ -102,7 +102,7 @@ abbrev mutual
   AreItems k (sign p items) = IsPiece in_text p × AreItems k items
   AreItems k (child e items) = IsElement k e × AreItems k items
 
--- what stands before the root: white space, maybe a doctype, white space
+-- what comes before the root: white space, maybe a doctype, white space
 abbrev pub doctype : List ℕ
 doctype = codes "<!doctype html>"
 

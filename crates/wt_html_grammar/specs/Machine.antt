@@ -12,8 +12,8 @@ use Rattle.wt_html_grammar.specs.declared.names.Radix.TheVariants.{Decimal, Hexa
 use Rattle.wt_html_grammar.specs.Signs.{is_lower, is_name_byte, is_attribute_byte, is_space, is_quote, in_text, in_value, is_among, is_void, Follow, follow, between, begins_character, base_of, most_digits, is_digit_of, digit_value}
 use Rattle.wt_html_grammar.specs.declared.limits.TheConstants.{NESTED_ELEMENTS}
 
--- Inside a character or an escape: behind `&`; behind `&a`; in a name, with the letters that are
--- left; behind `&#`; in a number, with the digits so far, their count and their number; in a
+-- Inside a character or an escape: after `&`; after `&a`; in a name, with the letters that are
+-- left; after `&#`; in a number, with the digits so far, their count and their number; in a
 -- character of several bytes, with the bounds of the next byte and how many more there are.
 pub data Escape : Type 0 where
   ampersand : Escape
@@ -29,11 +29,11 @@ pub data EscapeStep : Type 0 where
   on : Escape → EscapeStep
   ended : EscapeStep
 
--- so many digits of this number may stand there: they can go on to a scalar value
+-- so many digits of this number may be there: they can go on to a scalar value
 abbrev pub is_begun : Radix → ℕ → ℕ → Bool
 is_begun r k n = nat_le k (most_digits r) && (nat_le n 1114111 && (nat_lt k (most_digits r) || scalar n))
 
--- a whole number stands there
+-- a whole number is there
 abbrev pub is_whole : ℕ → ℕ → Bool
 is_whole k n = nat_lt 0 k && scalar n
 
@@ -59,7 +59,7 @@ in_escape (digits r k n) b = in_digits r k n b
 in_escape (wide low high zero) b = if between low high b then ended else stop
 in_escape (wide low high (suc n)) b = if between low high b then on (wide 128 191 n) else stop
 
--- a start tag behind its name: the names round it, its own, and those of its attributes so far
+-- a start tag after its name: the names round it, its own, and those of its attributes so far
 pub record Tag : Type 0 where
   pub outer : List (List ℕ)
   pub name : List ℕ
@@ -88,11 +88,11 @@ abbrev pub end_tag : List (List ℕ) → Result State HtmlWhy
 end_tag [] = Err why.Syntax
 end_tag (n ∷ ns) = Ok (closing n ns)
 
--- behind the name of an end tag
+-- after the name of an end tag
 abbrev pub at_end : List (List ℕ) → ℕ → Result State HtmlWhy
 at_end ns b = if is_space b then Ok (closed ns) else if b == byte.greater_than then Ok (inside ns) else Err why.Syntax
 
--- the names that are open behind a start tag
+-- the names that are open after a start tag
 abbrev pub opened : Tag → List (List ℕ)
 opened t = if is_void t.name then t.outer else t.name ∷ t.outer
 
@@ -114,7 +114,7 @@ special s b = if b == byte.ampersand then Ok (escaping s ampersand) else begins 
 abbrev pub with_seen : Tag → List ℕ → Tag
 with_seen t a = record { outer = t.outer; name = t.name; seen = t.seen ++ a ∷ [] }
 
--- behind the name of an attribute
+-- after the name of an attribute
 abbrev pub at_name : Tag → ℕ → Result State HtmlWhy
 at_name t b = if is_space b then Ok (named_so t) else if b == byte.equals_sign then Ok (equals t) else Err why.Syntax
 
@@ -165,7 +165,7 @@ step (closing [] ns) b = if is_name_byte b then Err why.EndTag else at_end ns b
 step (closed ns) b = at_end ns b
 step (escaping s e) b = turned s e (in_escape e b)
 
--- a byte that continues no UTF-8 is refused for that, wherever it stands
+-- a byte that continues no UTF-8 is refused for that, wherever it is
 abbrev pub mended : ℕ → Result State HtmlWhy → Result State HtmlWhy
 mended b (Ok s) = Ok s
 mended b (Err w) = if begins_character b then Err w else Err why.NotUtf8

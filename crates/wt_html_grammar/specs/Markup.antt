@@ -32,7 +32,7 @@ abbrev pub flush : List ℕ → Markups → Markups
 flush [] ts = ts
 flush (c ∷ cs) ts = more (text (c ∷ cs)) ts
 
--- the contents behind a text since the last tag
+-- the contents after a text since the last tag
 abbrev mutual
   pub meaning : Element → Markup
   meaning (element name attributes gap items end) = node name (map pair_of attributes) (contents [] items)

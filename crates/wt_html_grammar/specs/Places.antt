@@ -1,4 +1,4 @@
--- Where a refusal stands, and why.
+-- Where a refusal is, and why.
 use Rattle.std.specs.Prelude.{◌≡◌, ℕ, suc, ◌<◌, ◌≤◌, Bool, true, false, Result, Ok, Err, List, [], ◌∷◌, length, take}
 use Rattle.wt_html_grammar.specs.declared.why.HtmlWhy.{HtmlWhy}
 use Rattle.wt_html_grammar.specs.declared.why.HtmlWhy.TheVariants as why
@@ -33,7 +33,7 @@ abbrev pub taken : State → List ℕ → ℕ
 taken s [] = 0
 taken s (b ∷ bs) = count_on (λ t. taken t bs) (mended b (step s b))
 
--- behind the root: nothing more is needed
+-- after the root: nothing more is needed
 abbrev pub is_accepted : State → Bool
 is_accepted (inside []) = true
 is_accepted s = false

@@ -33,7 +33,7 @@ is_attribute_byte b = is_lower b || is_digit b || b == byte.hyphen || b == byte.
 abbrev pub is_quote : ℕ → Bool
 is_quote b = b == byte.quotation_mark || b == byte.apostrophe
 
--- a character that stands for itself: in a text, and in a value that stands in this quote
+-- a character that stands for itself: in a text, and in a value that is in this quote
 abbrev pub in_text : ℕ → Bool
 in_text c = not (c == byte.less_than) && not (c == byte.ampersand)
 
@@ -108,7 +108,7 @@ is_digit_of Hexadecimal b = is_digit b || between 97 102 b || between 65 70 b
 abbrev pub digit_value : ℕ → ℕ
 digit_value b = if nat_le b 57 then b - 48 else if nat_le b 70 then b - 55 else b - 87
 
--- the number that digits stand for, behind those that stand for n
+-- the number that digits stand for, after those that stand for n
 abbrev pub number_from : Radix → ℕ → List ℕ → ℕ
 number_from r n [] = n
 number_from r n (d ∷ ds) = number_from r (n * base_of r + digit_value d) ds
@@ -131,7 +131,7 @@ follow b =
     else if b == 244 then Some (record { low = 128; high = 143; more = 2 })
     else None
 
--- the bytes behind the first
+-- the bytes after the first
 abbrev pub IsFollow : ℕ → ℕ → ℕ → List ℕ → Type 0
 IsFollow low high n [] = ⊥
 IsFollow low high zero (b ∷ bs) = (between low high b ≡ true) × (bs ≡ [])

@@ -1,4 +1,4 @@
-/// What a byte tells about the tree: nothing; a byte of a name (the first of one begins it); a byte of
+/// What a byte says about the tree: nothing; a byte of a name (the first of one begins it); a byte of
 /// a value or of a text, or the character that an escape there stands for; that a value begins or
 /// ends, that an element is opened or closed, or that a void element is whole.
 #[derive(Clone, Copy, Debug, PartialEq, Eq)]

@@ -8,7 +8,7 @@ ghost use Rattle.wt_html_grammar.specs.Markup.{Markup, Stands, more, empty};
 ghost use Rattle.wt_html_grammar.specs.Events.{built, calm};
 ghost use Rattle.wt_html_grammar.specs.declared.why.HtmlWhy.{HtmlWhy};
 
-/// The machine reads the grammar: it stands behind the root exactly where the bytes are well-formed,
+/// The machine reads the grammar: it comes after the root exactly where the bytes are well-formed,
 /// and it goes on exactly while they begin a well-formed input.
 pub fn exact_reading()
     ensures read { (bytes : List ℕ) → Well bytes → run start bytes ≡ Ok (inside []) }
@@ -27,7 +27,7 @@ pub fn one_place()
     ensures { (bytes : List ℕ) (m n : ℕ) → IsPlace bytes m → IsPlace bytes n → m ≡ n }
 {}
 
-/// White space before and behind a well-formed input leaves it well-formed.
+/// White space before and after a well-formed input leaves it well-formed.
 pub fn white_space()
     ensures before { (gap bytes : List ℕ) → IsGap gap → Well bytes → Well (gap ++ bytes) }
     ensures behind { (gap bytes : List ℕ) → IsGap gap → Well bytes → Well (bytes ++ gap) }
@@ -39,7 +39,7 @@ pub fn characters_in_table()
     ensures whole { (c : ℕ) → scalar c ≡ true → 128 ≤ c → (b : ℕ) × (bs : List ℕ) × (encode_utf8 c ≡ b ∷ bs) × Follows (follow b) bs }
 {}
 
-/// What the events of the bytes build is the tree for which they stand; they stand for one at most.
+/// What the events of the bytes build is the tree that they stand for; they stand for one at most.
 pub fn built_from_spelling()
     ensures built { (bytes : List ℕ) (t : Markup) → Stands bytes t → built bytes ≡ calm [] (more t empty) }
     ensures one_tree { (bytes : List ℕ) (t u : Markup) → Stands bytes t → Stands bytes u → t ≡ u }

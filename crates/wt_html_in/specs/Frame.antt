@@ -35,7 +35,7 @@ abbrev pub number_behind_one : Markup → Option ℕ
 number_behind_one (text bs) = None
 number_behind_one (node head hs hc) = if bytes_eq head (codes "head") then Some (3 + elements_of_all hc) else None
 
--- the number of the element behind these: nothing, or a head
+-- the number of the element after these: nothing, or a head
 abbrev pub number_behind : Markups → Option ℕ
 number_behind empty = Some 2
 number_behind (more m empty) = number_behind_one m
@@ -47,7 +47,7 @@ body_as m None = None
 body_as (text bs) (Some n) = None
 body_as (node name ps c) (Some n) = if bytes_eq name (codes "body") then Some (found_of n ps (all_bared c)) else None
 
--- what is told of the page that a body is
+-- what is reported of the page that a body is
 abbrev pub FitsBody : Option FoundBody → Result Edited FitFault → Type 0
 FitsBody f (Ok e) = (fit_body f ≡ Ok (body_of e)) × (unsourced_body f ≡ unsourced_of e)
 FitsBody f (Err (faults.Unfit n w)) = fit_body f ≡ Err (n, w)

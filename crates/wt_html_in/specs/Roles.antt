@@ -22,7 +22,7 @@ abbrev pub roles : Option (List ℕ) → Markups → List Role
 roles group empty = []
 roles group (more t ts) = role_at group t ts ∷ roles (open_after group t ts) ts
 
--- how an element of this role stands
+-- how an element of this role is
 abbrev pub standing_in : Role → Standing
 standing_in are.Gap = stands.Alone
 standing_in are.Text = stands.Alone
@@ -33,7 +33,7 @@ abbrev pub about_of : Markup → Option (List ℕ)
 about_of (text bs) = None
 about_of (node name ps c) = value_of (codes "about") ps
 
--- the group that is open behind a text or an element of this role
+-- the group that is open after a text or an element of this role
 abbrev pub open_behind : Role → Option (List ℕ) → Markup → Option (List ℕ)
 open_behind are.Gap group m = group
 open_behind are.Text group m = None

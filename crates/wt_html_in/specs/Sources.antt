@@ -1,4 +1,4 @@
--- The ranges, delimiters and source of a node, as `data-parsoid` tells them.
+-- The ranges, delimiters and source of a node, as `data-parsoid` says them.
 use Rattle.std.specs.Prelude.{ℕ, Option, Some, None, List, []}
 use Rattle.wt_tree.specs.declared.kind.Ranges.{Ranges}
 use Rattle.wt_tree.specs.Tree.{Label}

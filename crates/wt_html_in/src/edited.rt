@@ -39,7 +39,7 @@ impl<'a> Edited<'a> {
 }
 
 #[tactic(auto, unfolding(crate::specs::Answers::unsourced_of))]
-/// The number of the first element that doesn't tell where it comes from: one in the body without
+/// The number of the first element that doesn't say where it comes from: one in the body without
 /// `data-parsoid` or with the mark of an edit, or the body itself with such a mark.
 pub fn unsourced(e: &Edited<'_>) -> Option<u32>
     ensures { result ≡ unsourced_of e.now }

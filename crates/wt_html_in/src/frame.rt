@@ -70,7 +70,7 @@ fn elements_in(alloc: Global, contents: Vec<Content>) -> Result<Vec<Content>, No
     Ok(elements)
 }
 
-/// The number of the element behind a head.
+/// The number of the element after a head.
 fn number_behind_one(content: &Content) -> Option<u32>
     requires { elements (view_content content.now) + 2 < 2 ^ 32 }
     ensures { result ≡ number_behind_one (view_content content.now) }
@@ -87,7 +87,7 @@ fn number_behind_one(content: &Content) -> Option<u32>
     }
 }
 
-/// The number of the element behind these: behind nothing, or behind a head.
+/// The number of the element after these: after nothing, or after a head.
 fn number_behind(before: &[Content]) -> Option<u32>
     requires { elements_of_all (views before.now) + 2 < 2 ^ 32 }
     ensures { result ≡ number_behind (views before.now) }
@@ -178,7 +178,7 @@ fn find_body(alloc: Global, root: Content) -> Result<Option<BodyElement>, NoMemo
     }
 }
 
-/// The walk over what stands in the body. The body's attributes are let go.
+/// The walk over what is in the body. The body's attributes are freed.
 fn walk_in(number: u32, attributes: Vec<Attribute>) -> Traversal
     requires { number + 1 < 2 ^ 32 }
     ensures next { result.next ≡ number + 1 }
@@ -216,7 +216,7 @@ fn edited<'a>(
     Ok(Edited::of(body, walk.unsourced))
 }
 
-/// The page that a tree of elements is. Each element is let go as soon as its node is made.
+/// The page that a tree of elements is. Each element is freed as soon as its node is made.
 pub fn page<'a>(
     alloc: Global,
     arena: &'a Bump<Global>,

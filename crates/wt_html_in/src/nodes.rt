@@ -56,7 +56,7 @@ fn sep_leaf<'a>(alloc: Global, arena: &'a Bump<Global>, text: &str) -> Result<No
     Ok(Node::leaf(alloc, Kind::Sep, None, own, Shown::none()))
 }
 
-/// What a text is that stands directly in an element of the kind `outer`: no node where it is the
+/// What a text is that is directly in an element of the kind `outer`: no node where it is the
 /// element's character.
 pub fn leaf_in<'a>(
     alloc: Global,
@@ -168,7 +168,7 @@ fn sourced<'a>(
     })
 }
 
-/// What an element of this kind holds, when the nodes that stand in it are these: in an item, a cell or
+/// What an element of this kind holds, when the nodes that are in it are these: in an item, a cell or
 /// a caption texts and separators are cut at the border between them, but for those in groups.
 fn children_in<'a>(
     alloc: Global,

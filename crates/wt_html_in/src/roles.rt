@@ -12,7 +12,7 @@ use wt_schema::Standing;
 use wt_span::{NoMemory, rest_of};
 
 /// What a text or an element is: white space between two elements of a group, which is nothing, another
-/// text, or an element by how it stands.
+/// text, or an element by how it is.
 #[derive(Clone, Copy)]
 pub enum Role {
     Gap,
@@ -76,7 +76,7 @@ fn is_gap(text: &[u8]) -> bool
 }
 
 /// Whether these go on with a further element of the open group, white space apart. (No two texts
-/// stand side by side in what was read, so this looks at no more than two of them.)
+/// are side by side in what was read, so this looks at no more than two of them.)
 fn goes_on(group: Option<&[u8]>, contents: &[Content]) -> bool
     ensures { result ≡ goes_on (option_map (λ v. v.now) group.entry) (views contents.now) }
 {
@@ -139,7 +139,7 @@ fn about_of(content: &Content) -> Option<&[u8]>
     }
 }
 
-/// The group that is open behind an element that stands so.
+/// The group that is open after an element in this position.
 fn open_by<'t>(
     standing: Standing,
     group: Option<&'t [u8]>,
@@ -155,7 +155,7 @@ fn open_by<'t>(
     }
 }
 
-/// The group that is open behind a text or an element of this role.
+/// The group that is open after a text or an element of this role.
 fn open_behind<'t>(role: Role, group: Option<&'t [u8]>, content: &'t Content) -> Option<&'t [u8]>
     ensures { option_map (λ v. v.now) result ≡ open_behind role (option_map (λ v. v.now) group.entry) (view_content content.now) }
 {

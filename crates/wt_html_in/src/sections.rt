@@ -1,5 +1,5 @@
 //! Sections of an edited page: of their attributes the mark of an edit alone counts, and what they hold
-//! stands in their place.
+//! is in their place.
 
 ghost use Rattle.std.specs.Prelude.{◌≡◌, filter, IfOk, OnOk};
 ghost use Rattle.wt_tree.specs.Opened.{opened, opened_before, without_sections};
@@ -67,7 +67,7 @@ fn bared(alloc: Global, content: Content) -> Result<Content, NoMemory>
     }
 }
 
-/// What stands in a body or in a section, where the attributes of sections go that don't count.
+/// What is in a body or in a section, where the attributes of sections go that don't count.
 #[cycle(baring)]
 pub fn all_bared(alloc: Global, contents: Vec<Content>) -> Result<Vec<Content>, NoMemory>
     ensures { IfOk result (λ v. views v.items ≡ all_bared (views contents.items)) }
@@ -104,7 +104,7 @@ fn push_all_opened<'a>(out: &mut Vec<Node<'a>>, nodes: List<Node<'a>>) -> Result
     Ok(())
 }
 
-/// What stands in a body, where what sections hold stands in their place.
+/// What is in a body, where what sections hold is in their place.
 fn opened<'a>(alloc: Global, nodes: List<Node<'a>>) -> Result<List<Node<'a>>, NoMemory>
     ensures { IfOk result (λ l. trees l ≡ opened (trees nodes.entry)) }
 {

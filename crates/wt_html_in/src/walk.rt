@@ -72,7 +72,7 @@ fn enter(
     number
 }
 
-/// What an element is. Its name and its attributes are let go.
+/// What an element is. Its name and its attributes are freed.
 fn begin(
     alloc: Global,
     walk: &mut Traversal,
@@ -118,7 +118,7 @@ pub enum Converted<'a> {
     Further(Node<'a>),
 }
 
-/// What the node of an element is, by how it stands.
+/// What the node of an element is, by how it is.
 fn made_of<'a>(standing: Standing, group: Option<Head>, node: Node<'a>) -> Converted<'a>
     ensures { piece_of result ≡ Some (piece_by group standing (view node.entry)) }
 {
@@ -191,7 +191,7 @@ fn group_node<'a>(
     node_of(alloc, arena, true, group, List::from_vec(children))
 }
 
-/// Puts what was made behind others.
+/// Puts what was made after others.
 fn push_made<'a>(
     alloc: Global,
     arena: &'a Bump<Global>,
@@ -245,7 +245,7 @@ fn text_made<'a>(
     }
 }
 
-/// What an element is made into, when the nodes that stand in it are these, in a group or not.
+/// What an element is made into, when the nodes that are in it are these, in a group or not.
 fn made_with<'a>(
     alloc: Global,
     arena: &'a Bump<Global>,
@@ -265,14 +265,14 @@ fn made_with<'a>(
     Ok(made_of(standing, group, node))
 }
 
-/// Whether what stands in an element is in a group.
+/// Whether what is in an element is in a group.
 fn is_within(inside: bool, standing: Standing) -> bool
     ensures { result ≡ (inside || is_grouped standing) }
 {
     inside || is_grouped(standing)
 }
 
-/// What a text or an element of this role is made into, where it stands.
+/// What a text or an element of this role is made into, where it is.
 #[cycle(fitting)]
 fn piece<'a>(
     alloc: Global,
@@ -314,7 +314,7 @@ fn piece<'a>(
     }
 }
 
-/// What stands in an element of the kind `outer`, in a group or not. Each text and element is let go as
+/// What is in an element of the kind `outer`, in a group or not. Each text and element is freed as
 /// soon as its node is made.
 #[cycle(fitting)]
 pub fn nodes<'a>(

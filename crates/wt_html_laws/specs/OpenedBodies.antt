@@ -1,4 +1,4 @@
--- A document whose sections are taken out: what they hold stands in their place.
+-- A document whose sections are taken out: what they hold is in their place.
 use Rattle.std.specs.Prelude.{if◌then◌else◌}
 use Rattle.wt_html_grammar.specs.Markup.{Markup, Markups, text, node, empty, more}
 use Rattle.wt_schema.specs.Sections.{is_section_name}

@@ -14,7 +14,7 @@ abbrev pub AreSameInside : Bool → Markups → Markups → Type 0 → Type 0
 AreSameInside true c d again = again
 AreSameInside false c d again = c ≡ d
 
--- What stands in a body or a section, and what stands in another one, are the same but for attributes of
+-- What is in a body or a section, and what is in another one, are the same but for attributes of
 -- sections.
 abbrev mutual
   pub IsSamePart : Markup → Markup → Type 0

@@ -11,8 +11,8 @@ ghost use Rattle.wt_html_laws.specs.SameBodies.{IsSameDocument};
 ghost use Rattle.wt_html_laws.specs.JoinedTexts.{FitsAlike, body_texts_joined};
 ghost use Rattle.wt_html_laws.specs.OpenedBodies.{sections_opened};
 
-/// A page that is read is one body: in it stands neither another body nor a section, however deep, since
-/// what a section holds stands in its place.
+/// A page that is read is one body: in it is neither another body nor a section, however deep, since
+/// what a section holds is in its place.
 pub fn what_is_read_is_one_body()
     ensures { (bytes : List ℕ) (t : Tree) (unsourced : Option ℕ) → read bytes ≡ page t unsourced → IsOneBody t }
 {}
@@ -23,7 +23,7 @@ pub fn section_attributes_count_for_nothing()
     ensures { (m n : Markup) → IsSameDocument m n → fit m ≡ fit n }
 {}
 
-/// A document that is a page is the same page with its sections taken out, where what they held stands in
+/// A document that is a page is the same page with its sections taken out, where what they held is in
 /// their place.
 pub fn sections_may_be_taken_out()
     ensures { (m : Markup) (t : Tree) → fit m ≡ Ok t → fit (sections_opened m) ≡ Ok t }

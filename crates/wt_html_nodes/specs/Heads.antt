@@ -1,4 +1,4 @@
--- What an element is as a node, without what stands in it: its head, by its kind, its attributes and its
+-- What an element is as a node, without what is in it: its head, by its kind, its attributes and its
 -- data, and the answers of the code, which are what the definitions say unless memory ran out.
 use Rattle.std.specs.Prelude.{◌≡◌, ℕ, Bool, true, false, Option, Some, None, Result, Ok, Err, List, []}
 use Rattle.wt_tree.specs.declared.kind.Kind.{Kind}
@@ -40,7 +40,7 @@ pub record IsHeadOf (k : Kind) (ps : List Pair) (d : Data) (shown : List ℕ) (h
   pub kind : h.kind ≡ k
   pub label : label_of_head h ≡ label_for k ps d shown
 
--- ---- elements, by how they stand
+-- ---- elements, by how they are
 
 abbrev pub is_first : Standing → Bool
 is_first stands.Alone = false
@@ -73,7 +73,7 @@ abbrev pub made_by : Headed → Result Tree Misfit → Result (Option Piece) Mis
 made_by h (Ok t) = Ok (Some (piece_by h.group h.standing t))
 made_by h (Err e) = Err e
 
--- what an element of a known kind is, in a group or not, whatever comes of what stands in it
+-- what an element of a known kind is, in a group or not, whatever comes of what is in it
 abbrev pub HeadFits : Bool → ((Kind → Result (List Piece) Misfit) → Result (Option Piece) Misfit) → Result Headed FitFault → Type 0
 HeadFits inside told (Ok h) =
     (held : Kind → Result (List Piece) Misfit)

@@ -49,7 +49,7 @@ pub fn has(name: &[u8], attributes: &[Attribute]) -> bool
     value_of(name, attributes).is_some()
 }
 
-/// Whether an attribute is there that, with the name, tells the kind.
+/// Whether an attribute is there that, with the name, decides the kind.
 pub fn is_typed(attributes: &[Attribute]) -> bool
     ensures { result ≡ is_typed (pairs attributes.now) }
 {
@@ -86,7 +86,7 @@ pub fn is_marked(attributes: &[Attribute]) -> bool
     has(b"data-wt-edit".as_slice(), attributes)
 }
 
-/// Whether an element of the body doesn't tell where it comes from.
+/// Whether an element of the body doesn't say where it comes from.
 pub fn is_unsourced(attributes: &[Attribute]) -> bool
     ensures { result ≡ is_unsourced (pairs attributes.now) }
 {

@@ -72,7 +72,7 @@ fn read_as(alloc: Global, values: Values, value: &str) -> Result<Str, NoMemory>
     }
 }
 
-/// Puts an attribute behind others, where it is there.
+/// Puts an attribute after others, where it is there.
 fn push_own(
     alloc: Global,
     attrs: &mut List<Attr>,

@@ -360,7 +360,7 @@ fn data_alone(
     }
 }
 
-/// The data of an element of this kind by how it stands, in a group or not.
+/// The data of an element of this kind by how it is, in a group or not.
 pub fn data_for(
     alloc: Global,
     inside: bool,

@@ -23,7 +23,7 @@ use wt_schema::{FitWhy, Standing};
 use wt_span::{List, NoMemory, Str};
 use wt_tree::{Attr, DataMw, Kind, Mark, TagName};
 
-/// What an element is, without what stands in it. `id` is 0 where the node has no number; `shown` has its
+/// What an element is, without what is in it. `id` is 0 where the node has no number; `shown` has its
 /// characters where its texts are no texts of the page; `sync` and `mw` are what `data-parsoid` and
 /// `data-mw` say of it, where they say something.
 #[derive(Drop)]
@@ -63,7 +63,7 @@ fn head_with(
     })
 }
 
-/// What an element is by how it stands among its siblings: of a group's first one the group's head, too.
+/// What an element is by how it is among its siblings: of a group's first one the group's head, too.
 #[derive(Drop)]
 pub struct Headed {
     pub standing: Standing,
@@ -195,7 +195,7 @@ pub fn body_head(
     }
 }
 
-/// Whether an element of this kind may stand in one of the kind `outer`, behind a block or not.
+/// Whether an element of this kind may be in one of the kind `outer`, after a block or not.
 fn has_place(outer: Kind, behind: bool, kind: Kind) -> bool
     ensures { result ≡ has_place outer behind kind }
 {
@@ -217,7 +217,7 @@ fn is_none(contents: &[Content]) -> bool
     }
 }
 
-/// The same of an element by how it stands: in a group an empty `span` may stand anywhere.
+/// The same of an element by how it is: in a group an empty `span` may be anywhere.
 fn fits_place(
     outer: Kind,
     behind: bool,
@@ -230,7 +230,7 @@ fn fits_place(
     has_place(outer, behind, kind) || (is_grouped(standing) && (is_span(kind) && is_none(contents)))
 }
 
-/// Where something stands: in an element of this kind, in a group or not, behind a block or not.
+/// Where something is: in an element of this kind, in a group or not, after a block or not.
 #[derive(Clone, Copy)]
 pub struct Position {
     pub outer: Kind,
@@ -238,7 +238,7 @@ pub struct Position {
     pub behind: bool,
 }
 
-/// What an element of this name is where it stands, and as it does.
+/// What an element of this name is where it is, and as it does.
 fn headed_in(
     alloc: Global,
     element: Element<'_>,
@@ -271,8 +271,8 @@ fn headed_in(
     }
 }
 
-/// What the element of this number is where it stands, and as it does; `Unfit` names that number. `contents`
-/// is what stands in the element: its texts are looked at, and no element in it.
+/// What the element of this number is where it is, and as it does; `Unfit` names that number. `contents`
+/// is what is in the element: its texts are looked at, and no element in it.
 pub fn headed_by(
     alloc: Global,
     number: u32,

@@ -1,4 +1,4 @@
-//! What an element of an edited page's HTML is as a node, before what stands in it is read: its kind by its
+//! What an element of an edited page's HTML is as a node, before what is in it is read: its kind by its
 //! name and attributes, its number, its data, the attributes that it keeps, and of a group's first element
 //! what the group is; or the reason why it is none.
 #![tactic(auto)]

@@ -100,7 +100,7 @@ fn is_groups(name: &[u8]) -> bool
         || is_word(name, b"data-wt-edit")
 }
 
-/// What stands behind the word that begins a `typeof`, where something does.
+/// What comes after the word that begins a `typeof`, where something does.
 fn behind<'t>(word: &[u8], type_name: &'t [u8]) -> Option<&'t [u8]>
     requires { is_word_of word.now type_name.now ≡ true }
     ensures { option_map (λ v. v.now) result ≡ behind word.now type_name.now }
@@ -139,7 +139,7 @@ fn push_copy(
     Ok(())
 }
 
-/// Puts a `typeof` behind other attributes, where there is one.
+/// Puts a `typeof` after other attributes, where there is one.
 fn push_type(alloc: Global, own: &mut Vec<Attribute>, value: Option<&[u8]>) -> Result<(), NoMemory>
     ensures { OnOk result (pairs own.new.items ≡ pairs own.old.items ++ type_pairs (option_map (λ v. v.now) value.entry)) }
 {
@@ -149,7 +149,7 @@ fn push_type(alloc: Global, own: &mut Vec<Attribute>, value: Option<&[u8]>) -> R
     }
 }
 
-/// Puts what of an attribute is the element's own behind others.
+/// Puts what of an attribute is the element's own after others.
 fn push_own(alloc: Global, own: &mut Vec<Attribute>, attribute: &Attribute) -> Result<(), NoMemory>
     ensures { OnOk result (pairs own.new.items ≡ pairs own.old.items ++ own_pair (pair attribute.now)) }
 {

@@ -72,7 +72,7 @@ fn values_at(order: u8, own: &[Own]) -> Option<Values>
 }
 
 /// Whether what a row says of an attribute holds of its value: one that the row has not may not be
-/// there, and one that tells the kind must be.
+/// there, and one that decides the kind must be.
 fn agrees(values: Option<Values>, value: Option<&[u8]>) -> bool
     ensures { result ≡ agrees values (option_map (λ v. v.now) value.entry) }
 {
@@ -239,7 +239,7 @@ fn are_blank(contents: &[Content]) -> bool
     true
 }
 
-/// Whether the texts directly in an element of this kind may stand there.
+/// Whether the texts directly in an element of this kind may be there.
 pub fn text_fits(kind: Kind, contents: &[Content]) -> bool
     ensures { result ≡ text_fits kind (views contents.now) }
 {

@@ -4,7 +4,7 @@ ghost use Rattle.wt_html_nodes.specs.Heads.{is_first};
 
 use wt_schema::Standing;
 
-/// Whether an element that stands so is the first one of a group.
+/// Whether an element in this position is the first one of a group.
 pub fn is_first(standing: Standing) -> bool
     ensures { result ≡ is_first standing }
 {
@@ -16,7 +16,7 @@ pub fn is_first(standing: Standing) -> bool
     }
 }
 
-/// Whether an element that stands so is in a group.
+/// Whether an element in this position is in a group.
 pub fn is_grouped(standing: Standing) -> bool
     ensures { result ≡ is_grouped standing }
 {

@@ -1,4 +1,4 @@
-//! The values of attributes that tell a kind, or may stand in it.
+//! The values of attributes that decide a kind, or may be in it.
 
 ghost use Rattle.std.specs.Prelude.{◌≡◌};
 ghost use Rattle.std.specs.Str.{bytes_eq};

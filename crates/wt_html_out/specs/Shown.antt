@@ -26,7 +26,7 @@ abbrev mutual
   shown_html_of_all none = []
   shown_html_of_all (more t ts) = shown_html t ++ shown_html_of_all ts
 
--- ---- at its top: where the writer stands, at the start, in the element of a text or behind an element
+-- ---- at its top: where the writer is, at the start, in the element of a text or after an element
 
 abbrev pub is_start : Progress → Bool
 is_start at.Start = true

@@ -36,7 +36,7 @@ fn push_if_any(out: &mut Vec<u8>, fixed: Option<Fixed>) -> Result<(), NoMemory>
     Ok(())
 }
 
-/// The attribute that the kind alone tells.
+/// The attribute that the kind alone decides.
 pub fn push_fixed(out: &mut Vec<u8>, kind: Kind) -> Result<(), NoMemory>
     ensures { OnOk result (out.new.items ≡ out.old.items ++ attributes (fixed_attributes kind)) }
 {
@@ -65,7 +65,7 @@ fn push_id(out: &mut Vec<u8>, id: u32) -> Result<(), NoMemory>
     Ok(())
 }
 
-/// Escapes what stands behind a place, as a value that stands in `'`. Mostly nothing of it needs an
+/// Escapes what comes after a place, as a value that is in `'`. Mostly nothing of it needs an
 /// escape, and it stays as it is.
 fn escape_behind(alloc: Global, out: &mut Vec<u8>, at: usize) -> Result<(), NoMemory>
     requires { at ≤ length out.old.items }
@@ -81,7 +81,7 @@ fn escape_behind(alloc: Global, out: &mut Vec<u8>, at: usize) -> Result<(), NoMe
     Ok(())
 }
 
-/// The text of `data-mw`, as a value that stands in `'`.
+/// The text of `data-mw`, as a value that is in `'`.
 fn push_mw_escaped(alloc: Global, out: &mut Vec<u8>, mw: &DataMw) -> Result<(), NoMemory>
     ensures { OnOk result (out.new.items ≡ out.old.items ++ escaped_single (mw_text mw.now)) }
 {
@@ -104,7 +104,7 @@ fn push_mw(alloc: Global, out: &mut Vec<u8>, mw: Option<&DataMw>) -> Result<(), 
     Ok(())
 }
 
-/// Texts as one: a single text where it stands, several put together.
+/// Texts as one: a single text where it is, several put together.
 fn joined<'t>(alloc: Global, texts: &'t [Text<'_>]) -> Result<Shown<'t>, NoMemory>
     ensures { IfOk result (λ s. s ≡ texts_of texts.now) }
 {
@@ -161,7 +161,7 @@ fn push_sync_of(
     push_inner_sync(alloc, out, node, dsr)
 }
 
-/// The same as a value that stands in `'`.
+/// The same as a value that is in `'`.
 fn push_sync_escaped(
     alloc: Global,
     out: &mut Vec<u8>,

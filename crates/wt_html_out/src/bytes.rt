@@ -101,7 +101,7 @@ fn push_some(out: &mut Vec<u8>, bytes: &[u8]) -> Result<usize, NoMemory>
     }
 }
 
-/// Some of a value that stands in `"`.
+/// Some of a value that is in `"`.
 fn push_some_double(out: &mut Vec<u8>, bytes: &[u8]) -> Result<usize, NoMemory>
     requires { 0 < length bytes.now }
     ensures wrote { IfOk result (λ n. out.new.items ≡ out.old.items ++ escaped_double (take n bytes.now)) }
@@ -118,7 +118,7 @@ fn push_some_double(out: &mut Vec<u8>, bytes: &[u8]) -> Result<usize, NoMemory>
     }
 }
 
-/// Some of a value that stands in `'`.
+/// Some of a value that is in `'`.
 fn push_some_single(out: &mut Vec<u8>, bytes: &[u8]) -> Result<usize, NoMemory>
     requires { 0 < length bytes.now }
     ensures wrote { IfOk result (λ n. out.new.items ≡ out.old.items ++ escaped_single (take n bytes.now)) }
@@ -146,7 +146,7 @@ pub fn push_escaped(out: &mut Vec<u8>, bytes: &[u8]) -> Result<(), NoMemory>
     Ok(())
 }
 
-/// A value that stands in `"`.
+/// A value that is in `"`.
 pub fn push_escaped_double(out: &mut Vec<u8>, bytes: &[u8]) -> Result<(), NoMemory>
     ensures { OnOk result (out.new.items ≡ out.old.items ++ escaped_double bytes.now) }
 {
@@ -157,7 +157,7 @@ pub fn push_escaped_double(out: &mut Vec<u8>, bytes: &[u8]) -> Result<(), NoMemo
     Ok(())
 }
 
-/// A value that stands in `'`.
+/// A value that is in `'`.
 pub fn push_escaped_single(out: &mut Vec<u8>, bytes: &[u8]) -> Result<(), NoMemory>
     ensures { OnOk result (out.new.items ≡ out.old.items ++ escaped_single bytes.now) }
 {

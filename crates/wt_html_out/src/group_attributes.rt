@@ -100,7 +100,7 @@ fn push_word(
     }
 }
 
-/// The attributes of an element of this kind, behind the word that its group has.
+/// The attributes of an element of this kind, after the word that its group has.
 fn push_typed(out: &mut Vec<u8>, words: &[Attr], kind: Kind, attrs: &[Attr]) -> Result<(), NoMemory>
     ensures { OnOk result (out.new.items ≡ out.old.items ++ attributes (with_type (attrs_of words.now) (fixed_attributes kind ++ attrs_of attrs.now))) }
 {

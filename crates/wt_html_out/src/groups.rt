@@ -19,7 +19,7 @@ use wt_devices::push;
 use wt_span::{List, NoMemory};
 use wt_tree::{Attr, Kind, Node, Showing, TagName, Writing};
 
-/// Where the writer of a group stands: at its start, in the element of a text, or behind an element.
+/// Where the writer of a group is: at its start, in the element of a text, or after an element.
 #[derive(Clone, Copy)]
 pub enum Progress {
     Start,

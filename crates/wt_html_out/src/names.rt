@@ -5,7 +5,7 @@ use wt_devices::{push, push_number};
 use wt_span::NoMemory;
 use wt_tree::Kind;
 
-/// The level of an element, behind its name.
+/// The level of an element, after its name.
 fn push_level(out: &mut Vec<u8>, level: Option<u8>) -> Result<(), NoMemory>
     ensures { OnOk result (out.new.items ≡ out.old.items ++ level_digits level) }
 {

@@ -29,7 +29,7 @@ pub fn is_group(kind: Kind) -> bool
     matches!(kind, Kind::Group)
 }
 
-/// The number of a group behind so many others. More groups than there are numbers don't fit into
+/// The number of a group after so many others. More groups than there are numbers don't fit into
 /// memory.
 pub fn next_group(before: u32) -> Result<u32, NoMemory>
     ensures { IfOk result (λ n. n ≡ suc before) }
@@ -51,8 +51,8 @@ fn stop_past(most: usize, out: &[u8]) -> Result<(), LengthRefusal>
     Ok(())
 }
 
-/// A node behind so many groups; it gives how many stand before what follows it. The writer stops
-/// behind the first child with which the text is too long.
+/// A node after so many groups; it gives how many come before what follows it. The writer stops
+/// after the first child with which the text is too long.
 #[cycle(html)]
 fn push_html(
     alloc: Global,

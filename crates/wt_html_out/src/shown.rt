@@ -1,4 +1,4 @@
-//! What stands inside an element of a group: nodes as what they show.
+//! What is inside an element of a group: nodes as what they show.
 
 ghost use Rattle.std.specs.Prelude.{◌≡◌, ◌++◌, OnOk};
 ghost use Rattle.wt_html_out.specs.Shown.{shown_html, shown_html_of_all};

@@ -1,4 +1,4 @@
--- The reasons for which an input is refused, each by what stands before the place and behind it.
+-- The reasons for which an input is refused, each by what comes before the place and after it.
 use Rattle.std.specs.Prelude.{◌≡◌, ℕ, ◌==◌, ◌⊎◌, Bool, true, not, nat_lt, List, [], ◌∷◌, ◌++◌, length, take, drop}
 use Rattle.std.specs.Str.{IsUtf8}
 use Rattle.wt_span.specs.Characters as byte
@@ -19,30 +19,30 @@ abbrev pub BeginsNoText : List ℕ → List ℕ → Type 0
 BeginsNoText before [] = ⊥
 BeginsNoText before (b ∷ behind) = (more : List ℕ) → IsUtf8 (before ++ b ∷ more) → ⊥
 
--- as many elements are open as may be, and behind `<` the name of one more begins
+-- as many elements are open as may be, and after `<` the name of one more begins
 abbrev pub IsTooDeep : List ℕ → List ℕ → Type 0
 IsTooDeep before behind =
     (levels : List Level) × (outside : List ℕ) × Within levels outside × (length levels ≡ NESTED_ELEMENTS) × (before ≡ outside ++ byte.less_than ∷ []) × Next is_lower behind
 
--- Behind `</`, in the name of the element that is open; or behind the whole name, where a byte
+-- After `</`, in the name of the element that is open; or after the whole name, where a byte
 -- stands with which a name goes on.
 abbrev pub InEndTagName : List ℕ → List ℕ → Type 0
 InEndTagName before behind =
     (l : Level) × (outer : List Level) × (outside got left : List ℕ) × Within (l ∷ outer) outside × (got ++ left ≡ l.name)
     × (before ≡ outside ++ (byte.less_than ∷ byte.slash ∷ got)) × (left ≡ [] → Next is_name_byte behind)
 
--- in contents or in a value, behind `&` and before the next `;`
+-- in contents or in a value, after `&` and before the next `;`
 abbrev pub InEscape : List ℕ → Type 0
 InEscape before =
     (outside got : List ℕ) × (InContents outside ⊎ InValue outside) × (before ≡ outside ++ (byte.ampersand ∷ got)) × Each (λ b. not (b == byte.semicolon)) got
 
--- directly behind the name of an attribute that came before in the element
+-- directly after the name of an attribute that came before in the element
 abbrev pub IsRepeated : List ℕ → List ℕ → Type 0
 IsRepeated before behind =
     (attributes : List Attribute) × (tag gap name : List ℕ) × InStartTag attributes tag × IsWideGap gap × IsAttributeName name
     × (is_among name (names_of attributes) ≡ true) × (before ≡ tag ++ (gap ++ name)) × (Next is_attribute_byte behind → ⊥)
 
--- The reason holds between the bytes before the place and those behind it. `Syntax` holds at each
+-- The reason holds between the bytes before the place and those after it. `Syntax` holds at each
 -- place; so it is the reason where no other one holds.
 abbrev pub HoldsBetween : HtmlWhy → List ℕ → List ℕ → Type 0
 HoldsBetween why.NotUtf8 before behind = BeginsNoText before behind

@@ -15,7 +15,7 @@ pub record Level : Type 0 where
 abbrev pub spell_level : Level → List ℕ
 spell_level l = byte.less_than ∷ (l.name ++ (spell_attributes l.attributes ++ (l.gap ++ (byte.greater_than ∷ spell_items l.contents))))
 
--- it stands within k others
+-- it is within k others
 abbrev pub IsLevel : ℕ → Level → Type 0
 IsLevel k l = (k < NESTED_ELEMENTS) × IsName l.name × AreAttributes [] l.attributes × IsGap l.gap × AreItems (suc k) l.contents × (is_void l.name ≡ false)
 
@@ -41,7 +41,7 @@ InContents bytes = (l : Level) × (outer : List Level) × Within (l ∷ outer) b
 abbrev pub names_of : List Attribute → List (List ℕ)
 names_of attributes = map (λ a. a.name) attributes
 
--- in a start tag, directly behind its name and these attributes
+-- in a start tag, directly after its name and these attributes
 abbrev pub InStartTag : List Attribute → List ℕ → Type 0
 InStartTag attributes bytes =
     (levels : List Level) × (outside name : List ℕ) × Within levels outside × (length levels < NESTED_ELEMENTS) × IsName name × AreAttributes [] attributes

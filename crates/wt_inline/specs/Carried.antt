@@ -46,7 +46,7 @@ includeonly_typeof = codes "mw:Includes/IncludeOnly"
 abbrev pub include_name : List ℕ → List ℕ
 include_name name = if is_noinclude name then noinclude_typeof else onlyinclude_typeof
 
--- an opening tag that stands alone, or a closing tag
+-- an opening tag that is alone, or a closing tag
 abbrev pub include_typeof : Option Tag → Option Tag → List ℕ
 include_typeof None closing = include_name (name_of closing) ++ codes "/End"
 include_typeof (Some t) closing = include_name t.name
@@ -54,7 +54,7 @@ include_typeof (Some t) closing = include_name t.name
 abbrev pub typeof : List ℕ → List (AttrName × List ℕ)
 typeof value = (attr.Typeof, value) ∷ []
 
--- The kind alone tells what an entity, a `nowiki` and a comment are, so they have no attribute of their own.
+-- The kind alone says what an entity, a `nowiki` and a comment are, so they have no attribute of their own.
 abbrev pub attrs_whole : ItemForm → List ℕ → List (AttrName × List ℕ)
 attrs_whole form.Chars bs = []
 attrs_whole (form.Entity c) bs = []

@@ -1,4 +1,4 @@
--- What stands in a node is a list of parts: characters by themselves, and nodes. Characters that are neighbours make one
+-- What is in a node is a list of parts: characters by themselves, and nodes. Characters that are neighbours make one
 -- leaf where they are of one kind and of one origin.
 use Rattle.std.specs.Prelude.{◌≡◌, ℕ, Bool, true, false, ◌==◌, ◌&&◌, Option, Some, None, List, [], ◌∷◌, map}
 use Rattle.std.specs.List.{flat_map, list_all}
@@ -73,7 +73,7 @@ child [] = loose_leaf Text []
 child (loose k o b ∷ ps) = loose_leaf k (char o b ∷ held_parts ps)
 child (node t ∷ ps) = t
 
--- what stands in a node, as trees
+-- what is in a node, as trees
 unfoldable pub children : List Part → List ItemTree
 children ps = map child (runs one_leaf ps)
 

@@ -2,7 +2,7 @@
 use Rattle.std.specs.Prelude.{ℕ, ◌+◌, Bool, false, Option, Some, None, List, [], ◌∷◌, take, drop, is_some, if◌then◌else◌}
 use Rattle.wt_span.specs.Tags.{Tag, opening_tag, closing_tag, len_if_named}
 
--- how many bytes stand before the next closing tag of this name; all where there is none
+-- how many bytes come before the next closing tag of this name; all where there is none
 abbrev pub before_closing : List ℕ → List ℕ → ℕ
 before_closing name [] = 0
 before_closing name (b ∷ bs) = if is_some (len_if_named name (closing_tag (b ∷ bs))) then 0 else 1 + before_closing name bs
@@ -23,7 +23,7 @@ is_alone (Some t) = t.alone
 abbrev pub opening_len : List ℕ → ℕ
 opening_len bs = len_of (opening_tag bs)
 
--- what stands behind the opening tag
+-- what comes after the opening tag
 abbrev pub behind : List ℕ → List ℕ
 behind bs = drop (opening_len bs) bs
 

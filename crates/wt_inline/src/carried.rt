@@ -160,7 +160,7 @@ fn closing_name(bytes: &[u8]) -> &[u8]
     }
 }
 
-/// The attributes of an include tag that stands by itself.
+/// The attributes of an include tag that is by itself.
 fn include_attrs(alloc: Global, bytes: &[u8]) -> Result<List<Attr>, NoMemory>
     ensures { IfOk result (λ l. attrs_of l ≡ typeof (include_typeof (opening_tag bytes.now) (closing_tag bytes.now))) }
 {

@@ -23,7 +23,7 @@ fn entity_at(bytes: &[u8]) -> Option<(char, usize)>
     }
 }
 
-/// The entity that begins a text, behind which the text may be cut.
+/// The entity that begins a text, after which the text may be cut.
 fn front_entity(text: &str) -> Option<(char, usize)>
     ensures value { result ≡ entity_at text.now }
     ensures fits { IfSome result (λ e. (0 < e.1) × (e.1 ≤ length text.now) × IsCharBoundary text.now e.1) }
@@ -31,7 +31,7 @@ fn front_entity(text: &str) -> Option<(char, usize)>
     entity_at(text.as_bytes())
 }
 
-/// How many bytes stand before the first entity; all where there is none.
+/// How many bytes come before the first entity; all where there is none.
 fn chars_len(bytes: &[u8]) -> usize
     ensures within { result ≤ length bytes.now }
     ensures chars { (k : ℕ) → k < result → entity_at (drop k bytes.now) ≡ None }
@@ -77,7 +77,7 @@ fn split_entity<'a>(
     (piece, back)
 }
 
-/// How many characters stand before the first entity, where none begins the text.
+/// How many characters come before the first entity, where none begins the text.
 fn front_len(text: &str) -> usize
     requires some { 0 < length text.now }
     requires none { entity_at text.now ≡ None }

@@ -3,7 +3,7 @@ ghost use Rattle.wt_inline.specs.Parts.{same_loose, loose_kind};
 
 use wt_tree::Kind;
 
-/// Of which leaves the characters are that stand by themselves: of texts, or of separators between
+/// Of which leaves the characters are that are by themselves: of texts, or of separators between
 /// blocks.
 #[derive(Clone, Copy, Debug, PartialEq, Eq)]
 pub enum Loose {

@@ -46,7 +46,7 @@ impl<'a> Children<'a> {
         Ok(children)
     }
 
-    /// These and what stands on a line, or in another context that is read alone.
+    /// These and what is on a line, or in another context that is read alone.
     pub fn with_line(self, alloc: Global, pieces: &[Piece<'a>]) -> Result<Children<'a>, NoMemory>
         ensures { IfOk result (λ c. Grows (growth self.entry) (inline_parts (items pieces.now)) (growth c)) }
     {

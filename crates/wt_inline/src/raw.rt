@@ -11,7 +11,7 @@ ghost use Rattle.wt_inline.specs.RawTag.{before_closing, len_of, name_of, is_alo
 use wt_lex::{closing_len, opening_tag};
 use wt_span::{Text, rest_of};
 
-/// How many bytes stand before the next closing tag of this name; all where there is none.
+/// How many bytes come before the next closing tag of this name; all where there is none.
 fn before_closing(name: &[u8], bytes: &[u8]) -> usize
     ensures value { result ≡ before_closing (lower name.now) bytes.now }
     ensures within { result ≤ length bytes.now }
@@ -54,7 +54,7 @@ fn front_tag(text: &str) -> FrontTag<'_>
     }
 }
 
-/// How many bytes stand before the next closing tag of this name.
+/// How many bytes come before the next closing tag of this name.
 fn inside_len(name: &[u8], text: &str) -> usize
     ensures value { result ≡ before_closing (lower name.now) text.now }
     ensures within { result ≤ length text.now }

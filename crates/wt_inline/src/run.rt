@@ -24,7 +24,7 @@ fn is_same_origin(a: Origin, b: Origin) -> bool
     }
 }
 
-/// Characters of one origin that stand in one leaf so far.
+/// Characters of one origin that are in one leaf so far.
 #[derive(Drop)]
 pub struct Run<'a> {
     pub loose: Loose,

@@ -9,7 +9,7 @@ use wt_span::{List, NoMemory, Piece};
 use wt_tree::{Attr, Kind, More, Shown};
 
 /// What a node is, and what its element has beside its source and children: the characters that it
-/// shows (a text's and an entity's), the attributes that its kind doesn't tell, and the data of an
+/// shows (a text's and an entity's), the attributes that its kind doesn't decide, and the data of an
 /// extension. It is given where the node is made.
 #[derive(Drop)]
 pub struct NodeHead<'a> {

@@ -1,4 +1,4 @@
--- The items of the page that stand in a slice of it, and how the slice is read by itself: behind a `<nowiki/>`, with what its
+-- The items of the page that are in a slice of it, and how the slice is read by itself: after a `<nowiki/>`, with what its
 -- calls gave in the page.
 use Rattle.std.specs.Prelude.{ℕ, ◌+◌, ◌&&◌, Bool, false, not, Option, Some, None, List, [], ◌∷◌, ◌++◌, length, nat_le, slice_get, codes, if◌then◌else◌}
 use Rattle.wt_span.specs.declared.form.ItemForm.TheVariants as form
@@ -10,7 +10,7 @@ use Rattle.wt_tree.specs.declared.kind.Ranges.{Ranges}
 
 -- ---- the items of a slice
 
--- where an item stands in the page: at its own bytes, or where its call does
+-- where an item is in the page: at its own bytes, or where its call does
 abbrev pub span_by : List OuterCall → ℕ → ℕ → Option ℕ → Span
 span_by calls at n None = (at, at + n)
 span_by calls at n (Some k) = span_of_entry (slice_get calls k)
@@ -21,7 +21,7 @@ span_at calls at x = span_by calls at (length (source x)) (call_of x)
 abbrev pub lies_in : Ranges → Span → Bool
 lies_in r s = nat_le r.start s.0 && nat_le s.1 r.end
 
--- of items that stand in the page from this byte on, those that lie in the slice
+-- of items that are in the page from this byte on, those that lie in the slice
 abbrev pub items_in : List OuterCall → Ranges → ℕ → List Item → List Item
 items_in calls r at [] = []
 items_in calls r at (x ∷ xs) =
@@ -51,7 +51,7 @@ abbrev pub break_before : List OuterCall → List Item → List Item
 break_before calls [] = []
 break_before calls (x ∷ xs) = break_of calls (call_of x) (x ∷ xs)
 
--- The line break before a call that opens a block is taken anew, since the call doesn't stand at the start of a line here.
+-- The line break before a call that opens a block is taken anew, since the call isn't at the start of a line here.
 abbrev pub with_break_anew : List OuterCall → List Item → List Item
 with_break_anew calls xs = break_before calls xs ++ xs
 
@@ -61,6 +61,6 @@ with_break_anew calls xs = break_before calls xs ++ xs
 unfoldable pub empty_nowiki : Item
 empty_nowiki = whole form.Nowiki None (codes "<nowiki/>")
 
--- the items of a slice on a line of its own, directly behind `<nowiki/>`
+-- the items of a slice on a line of its own, directly after `<nowiki/>`
 abbrev pub items_alone : List OuterCall → List Item → Ranges → List Item
 items_alone calls all r = empty_nowiki ∷ with_break_anew calls (items_in calls r 0 all)

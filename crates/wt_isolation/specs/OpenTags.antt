@@ -1,4 +1,4 @@
--- Where a block touches an open tag: a `<` with a letter directly behind it, which neither a `<` nor a `>` nor a line break follows up
+-- Where a block touches an open tag: a `<` with a letter directly after it, which neither a `<` nor a `>` nor a line break follows up
 -- to the block, or up to the end of one of its nodes.
 use Rattle.std.specs.Prelude.{◌≡◌, ℕ, ◌+◌, ◌-◌, ◌==◌, ◌&&◌, ◌||◌, Bool, true, false, not, Option, Some, None, List, [], ◌∷◌, ◌++◌, length, reverse, take, nat_lt, slice_index}
 use Rattle.std.specs.Char.{is_ascii_alphabetic}
@@ -14,11 +14,11 @@ use Rattle.wt_original.specs.Kinds.{shape}
 abbrev pub is_stop : ℕ → Bool
 is_stop b = b == byte.less_than || (b == byte.greater_than || b == byte.line_break)
 
--- how many bytes stand behind the last `<`, `>` or line break
+-- how many bytes come after the last `<`, `>` or line break
 abbrev pub bare_len : List ℕ → ℕ
 bare_len bs = prefix_len (λ b. not (is_stop b)) (reverse bs)
 
--- the last of these is a `<`, and the byte behind it a letter
+-- the last of these is a `<`, and the byte after it a letter
 abbrev pub ends_open : List ℕ → Bool
 ends_open bs =
     let n = bare_len bs in
@@ -56,11 +56,11 @@ abbrev mutual
   any_ends_open none = false
   any_ends_open (more t ts) = node_ends_open t || any_ends_open ts
 
--- what stands in the page before a node
+-- what is in the page before a node
 abbrev pub before : List ℕ → Option Ranges → List ℕ
 before page None = []
 before page (Some r) = take r.start page
 
--- a block, with what stands before it in the page
+-- a block, with what comes before it in the page
 abbrev pub touches_open_tag : List ℕ → Tree → Bool
 touches_open_tag before (tree l ts) = ends_open before || any_ends_open ts

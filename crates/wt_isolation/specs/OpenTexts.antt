@@ -1,4 +1,4 @@
--- Texts that could go on behind their end: one that holds the beginning of a tag or of a link.
+-- Texts that could go on after their end: one that holds the beginning of a tag or of a link.
 use Rattle.std.specs.Prelude.{ℕ, ◌==◌, ◌&&◌, ◌||◌, Bool, false, List, [], ◌∷◌, ◌++◌, reverse, nat_lt, true, if◌then◌else◌}
 use Rattle.wt_span.specs.Characters as byte
 use Rattle.wt_tree.specs.Tree.{Tree, tree, Trees, none, more}
@@ -17,7 +17,7 @@ abbrev pub begins_open : List ℕ → Bool
 begins_open [] = false
 begins_open (b ∷ bs) = b == byte.less_than || (b == byte.opening_bracket && (begins_bracket bs || nat_lt 0 (scheme_len (byte_glyphs bs))))
 
--- such bytes stand somewhere in the text
+-- such bytes are somewhere in the text
 abbrev pub holds_open : List ℕ → Bool
 holds_open [] = false
 holds_open (b ∷ bs) = begins_open (b ∷ bs) || holds_open bs
@@ -67,11 +67,11 @@ is_text inline.Tag = false
 is_text inline.Break = false
 is_text inline.AsItStood = false
 
--- A node behind a text, by the inline form of its kind: a text goes on with it, and any other node ends it.
+-- A node after a text, by the inline form of its kind: a text goes on with it, and any other node ends it.
 abbrev pub open_text_by : InlineForm → List ℕ → List ℕ → Bool → (List ℕ → Bool) → Bool
 open_text_by w text shown inside rest = if is_text w then rest (text ++ shown) else ended_by w text inside rest
 
--- a text directly among these nodes, or in their bold and italic nodes, where a text stands before them
+-- a text directly among these nodes, or in their bold and italic nodes, where a text comes before them
 abbrev mutual
   pub open_text_at : List ℕ → Tree → (List ℕ → Bool) → Bool
   open_text_at text (tree l ts) rest = open_text_by (shape l.kind).inline text l.shown (has_open_text [] ts) rest

@@ -18,18 +18,18 @@ use Rattle.wt_isolation.specs.declared.tag_pass.TagPass.{TagPass}
 abbrev pub ends_with_less : List ℕ → Bool
 ends_with_less bs = nat_lt 0 (length bs) && slice_index bs (length bs - 1) == byte.less_than
 
--- how a text ends: in an open tag, directly behind a `<`, or else outside
+-- how a text ends: in an open tag, directly after a `<`, or else outside
 unfoldable pub ending_of : List ℕ → Ending
 ending_of bs = if ends_open bs then ending.InTag else (if ends_with_less bs then ending.BehindLess else ending.Outside)
 
--- the page was read up to this place, and what stands before it ends so
+-- the page was read up to this place, and what comes before it ends so
 pub record IsReadTo (page : List ℕ) (p : TagPass) : Type 0 where
   pub within : p.place ≤ length page
   pub ends : p.ending ≡ ending_of (take p.place page)
 
 -- ---- text calls
 
--- Of the calls that were passed: a block that ends at `reached` or behind it shares a byte with one of them exactly where it begins
+-- Of the calls that were passed: a block that ends at `reached` or after it shares a byte with one of them exactly where it begins
 -- before `furthest`.
 pub record ArePassed (calls : List Span) (p : CallPass) : Type 0 where
   pub within : p.passed ≤ length calls

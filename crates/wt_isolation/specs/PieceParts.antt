@@ -1,4 +1,4 @@
--- What stands of the page's pieces in a slice of it.
+-- What is of the page's pieces in a slice of it.
 use Rattle.std.specs.Prelude.{◌≡◌, ◌-◌, ℕ, ◌&&◌, ◌||◌, ◌==◌, Bool, false, All, Option, List, [], ◌∷◌, map, take, drop, is_none, MatchOption}
 use Rattle.std.specs.List.{flat_map}
 use Rattle.wt_span.specs.declared.form.Piece.{Piece}
@@ -12,7 +12,7 @@ use Rattle.wt_expand.specs.Expansion.{is_block_sign}
 use Rattle.wt_lines.specs.Pieces.{is_chars}
 use Rattle.wt_isolation.specs.GroupItems.{items_in}
 
--- where a piece stands in the page: at its own bytes, or where its call does
+-- where a piece is in the page: at its own bytes, or where its call does
 abbrev pub span_of_piece : List OuterCall → Piece → Span
 span_of_piece calls p = span_of_origin calls p.origin
 
@@ -23,7 +23,7 @@ part_of calls r p = items_in calls r (span_of_piece calls p).0 (items_of p)
 abbrev pub parts_of : List OuterCall → Ranges → List Piece → List Item
 parts_of calls r ps = flat_map (part_of calls r) ps
 
--- pieces that stand in the page one after the other, each at a place that is known
+-- pieces that are in the page one after the other, each at a place that is known
 pub record AreOrderly (calls : List OuterCall) (ps : List Piece) : Type 0 where
   pub sound : All IsSoundPiece ps
   pub named : All (IsAmong calls) (map (λ p. p.origin) ps)
@@ -33,7 +33,7 @@ pub record AreOrderly (calls : List OuterCall) (ps : List Piece) : Type 0 where
 abbrev pub is_page_chars : Piece → Bool
 is_page_chars p = is_chars p.form && is_none (call_of_origin p.origin)
 
--- the bytes of a text that stand in the slice
+-- the bytes of a text that are in the slice
 abbrev pub bytes_in : Ranges → Text → List ℕ
 bytes_in r t = drop (r.start - start_of t) (take (r.end - start_of t) (bytes_of t))
 

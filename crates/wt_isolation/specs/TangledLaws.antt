@@ -32,12 +32,12 @@ AreTexts ts = list_all is_text_node ts ≡ true
 abbrev pub shown_in : List Tree → List ℕ
 shown_in ts = flat_map (λ t. (label t).shown) ts
 
--- the inline form of what stands first
+-- the inline form of what is first
 abbrev pub first_way : List Tree → InlineForm
 first_way [] = inline.Nothing
 first_way (t ∷ ts) = (shape (label t).kind).inline
 
--- Among the nodes stand texts, one directly behind the other, behind which no text follows, and what they show together could go on
+-- Among the nodes are texts, one directly after the other, after which no text follows, and what they show together could go on
 -- before what follows.
 abbrev pub StandsOpen : List Tree → Type 0
 StandsOpen ts =
@@ -61,7 +61,7 @@ HasOpenText ts = StandsOpen (listed ts) ⊎ HasOpenStyle ts
 abbrev pub HasNoBreak : List Glyph → Type 0
 HasNoBreak l = list_any is_break_glyph l ≡ false
 
--- These lines, with a line break between each two, are the items, and no line break stands in a line.
+-- These lines, with a line break between each two, are the items, and no line break is in a line.
 abbrev pub AreLines : List (List Glyph) → List Glyph → Type 0
 AreLines [] gs = ⊥
 AreLines (l ∷ []) gs = HasNoBreak l × (gs ≡ l)

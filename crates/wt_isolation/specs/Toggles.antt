@@ -32,7 +32,7 @@ lines (g ∷ gs) = if is_break_glyph g then [] ∷ lines gs else onto g (lines g
 abbrev pub is_quote : Glyph → Bool
 is_quote g = is_in (λ b. b == byte.apostrophe) g
 
--- the lengths of the runs, where so many apostrophes stand before these; that no apostrophe stands between two others is a run, too
+-- the lengths of the runs, where so many apostrophes come before these; that no apostrophe is between two others is a run, too
 abbrev pub quote_runs : ℕ → List Glyph → List ℕ
 quote_runs n [] = n ∷ []
 quote_runs n (g ∷ gs) = if is_quote g then quote_runs (suc n) gs else n ∷ quote_runs 0 gs

@@ -1,4 +1,4 @@
-//! How a text ends, by what stands behind the last `<`, `>` or line break of it: found byte by byte, and
+//! How a text ends, by what comes after the last `<`, `>` or line break of it: found byte by byte, and
 //! without memory for the source of a node.
 
 ghost use Rattle.std.specs.Prelude.{◌≡◌, ◌++◌, ◌∷◌, [], ℕ, List};

@@ -1,4 +1,4 @@
-//! The pieces of the page that stand in a slice of it, and the slice as it is read by itself.
+//! The pieces of the page that are in a slice of it, and the slice as it is read by itself.
 
 ghost use Rattle.std.specs.Prelude.{◌≡◌, ◌<◌, ◌≤◌, ◌++◌, ◌∷◌, [], true, false, All, IfOk, OnOk, MatchOption, Some, None, length, map, drop, slice_get};
 ghost use Rattle.std.specs.List.{prefix_len};
@@ -16,7 +16,7 @@ use wt_lines::{LineSign, Signs, chars_piece, is_chars};
 use wt_span::{ItemForm, Items, List, NoMemory, Origin, Outer, Piece, Range, Text, front_of};
 use wt_tree::Ranges;
 
-/// Where a piece stands in the page: at its own bytes, or where its call does.
+/// Where a piece is in the page: at its own bytes, or where its call does.
 fn place_of(piece: &Piece<'_>, outer: &[Outer<'_>]) -> Range
     requires { IsAmong (map outer_call outer.now) piece.now.origin }
     ensures { span_of result ≡ span_of_piece (map outer_call outer.now) piece.now }
@@ -33,7 +33,7 @@ fn lies_in(span: Range, ranges: Ranges) -> bool
     ranges.start <= span.start && span.end <= ranges.end
 }
 
-/// What stands of a text in a slice of the page, where anything does.
+/// What is of a text in a slice of the page, where anything does.
 fn text_in<'a>(text: Text<'a>, ranges: Ranges) -> Result<Option<Text<'a>>, NoMemory>
     ensures { IfOk result (λ found. MatchOption found (bytes_in ranges text.entry ≡ [])
         (λ part. (0 < length (bytes_of part)) × (bytes_of part ≡ bytes_in ranges text.entry))) }
@@ -62,7 +62,7 @@ fn is_page_chars(piece: &Piece<'_>) -> bool
     }
 }
 
-/// What stands of the page's characters in a slice.
+/// What is of the page's characters in a slice.
 fn chars_part<'a>(piece: &Piece<'a>, ranges: Ranges) -> Result<Option<Piece<'a>>, NoMemory>
     requires { is_page_chars piece.now ≡ true }
     ensures { IfOk result (λ found. IsPieceOf (map (char None) (bytes_in ranges piece.now.text)) found) }
@@ -179,7 +179,7 @@ fn begins_with_bar(signs: Signs<'_, '_>) -> bool
     }
 }
 
-/// Whether what stands first only counts at the start of a line.
+/// Whether what is first only counts at the start of a line.
 #[tactic(auto, using(crate::proofs::SlicedBreaks::opens_by_signs))]
 fn opens_block(pieces: &[Piece<'_>]) -> bool
     ensures { result ≡ opens_block (items pieces.now) }
@@ -282,7 +282,7 @@ fn push_break<'a>(
     Ok(())
 }
 
-/// Pieces directly behind `<nowiki/>`, with the line break before a call at their beginning.
+/// Pieces directly after `<nowiki/>`, with the line break before a call at their beginning.
 fn behind_nowiki<'a>(
     alloc: Global,
     pieces: &[Piece<'a>],
@@ -299,7 +299,7 @@ fn behind_nowiki<'a>(
     Ok(alone)
 }
 
-/// The pieces of a slice of the page on a line of its own, directly behind `<nowiki/>`. The line break
+/// The pieces of a slice of the page on a line of its own, directly after `<nowiki/>`. The line break
 /// before a call at its beginning is taken anew.
 ///
 /// # Errors

@@ -1,4 +1,4 @@
-//! What tangles a block of a page with what stands round it, so that it can't be read by itself: a call that
+//! What tangles a block of a page with what is round it, so that it can't be read by itself: a call that
 //! is text, an open tag, and of a group its apostrophes and its texts. And the slice of a group, as it is
 //! read alone.
 #![tactic(auto)]

@@ -1,4 +1,4 @@
-//! Whether a block touches an open tag: a `<` with a letter behind it that nothing closes before the
+//! Whether a block touches an open tag: a `<` with a letter after it that nothing closes before the
 //! block, or before the end of one of its nodes.
 
 ghost use Rattle.std.specs.Prelude.{◌≡◌};
@@ -20,7 +20,7 @@ fn source_ends_open(node: &Node<'_>) -> bool
     Ending::start().behind_node(node).is_in_tag()
 }
 
-/// Whether the source of a node that stands in the content, or in bold or italic text of it, ends inside an
+/// Whether the source of a node that is in the content, or in bold or italic text of it, ends inside an
 /// open tag.
 #[cycle(open_tags)]
 fn node_ends_open(node: &Node<'_>) -> bool

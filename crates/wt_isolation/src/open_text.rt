@@ -1,4 +1,4 @@
-//! Texts that could go on behind their end: one that holds the beginning of a tag or of a link.
+//! Texts that could go on after their end: one that holds the beginning of a tag or of a link.
 
 ghost use Rattle.std.specs.Prelude.{◌≡◌, ◌||◌, ◌∷◌, [], List, ℕ, Bool, IfOk};
 ghost use Rattle.wt_tree.specs.View.{view, views};
@@ -19,14 +19,14 @@ fn begins_bracket(text: &[u8]) -> bool
     }
 }
 
-/// Whether `<`, `[[`, or `[` and the beginning of a URL stand first.
+/// Whether `<`, `[[`, or `[` and the beginning of a URL are first.
 fn begins_open(byte: u8, rest: &[u8]) -> bool
     ensures { result ≡ begins_open (byte ∷ rest.now) }
 {
     byte == b'<' || byte == b'[' && (begins_bracket(rest) || 0 < scheme_len(rest))
 }
 
-/// Whether such bytes stand somewhere in a text.
+/// Whether such bytes are somewhere in a text.
 fn holds_open(text: &[u8]) -> bool
     ensures { result ≡ holds_open text.now }
 {
@@ -49,7 +49,7 @@ fn ends_with_bracket(text: &[u8]) -> bool
     }
 }
 
-/// Whether a text that ends before a node of this kind could go on behind its end.
+/// Whether a text that ends before a node of this kind could go on after its end.
 fn is_open_before(inline: InlineForm, text: &[u8]) -> bool
     ensures { result ≡ is_open_before inline text.now }
 {
@@ -94,7 +94,7 @@ fn in_style(alloc: Global, inline: InlineForm, held: &[Node<'_>]) -> Result<bool
     }
 }
 
-/// Ends the text before a node: whether it could go on behind its end, or one in the node could.
+/// Ends the text before a node: whether it could go on after its end, or one in the node could.
 #[cycle(texts)]
 fn ends_open(
     alloc: Global,
@@ -113,7 +113,7 @@ fn ends_open(
     in_style(alloc, inline, held)
 }
 
-/// Reads one more node behind a text: whether the text ends there and could go on, or one in the node could.
+/// Reads one more node after a text: whether the text ends there and could go on, or one in the node could.
 #[cycle(texts)]
 fn follow(alloc: Global, text: &mut Vec<u8>, node: &Node<'_>) -> Result<bool, NoMemory>
     ensures { IfOk result (λ b. (rest : List ℕ → Bool) → open_text_at text.old.items (view node.now) rest ≡ (b || rest text.new.items)) }
@@ -126,7 +126,7 @@ fn follow(alloc: Global, text: &mut Vec<u8>, node: &Node<'_>) -> Result<bool, No
     ends_open(alloc, text, inline, node.children.as_slice())
 }
 
-/// Whether a text directly among these nodes, or in their bold and italic nodes, could go on behind its end.
+/// Whether a text directly among these nodes, or in their bold and italic nodes, could go on after its end.
 #[cycle(texts)]
 pub fn has_open_text(alloc: Global, nodes: &[Node<'_>]) -> Result<bool, NoMemory>
     ensures { IfOk result (λ b. b ≡ has_open_text [] (views nodes.now)) }

@@ -33,7 +33,7 @@ impl Passes {
     }
 
     /// Whether a block of the page with these items touches a text call or an open tag. Goes on to the block;
-    /// what was passed already is gone through again only for a block that stands before it.
+    /// what was passed already is gone through again only for a block that comes before it.
     pub fn touches(&mut self, items: &Items<'_>, page: &[u8], block: &Node<'_>) -> bool
         requires { AreOf items.now page.now self.old }
         ensures value { result ≡ (touches_text_call items.now.text_calls (out-Node block.now).ranges
@@ -48,7 +48,7 @@ impl Passes {
     }
 }
 
-/// The text calls of a page. That they stand in the order of their first bytes is known of its pieces.
+/// The text calls of a page. That they are in the order of their first bytes is known of its pieces.
 fn text_calls<'i>(items: &'i Items<'_>) -> &'i [Range]
     ensures value { map span_of result.now ≡ items.now.text_calls }
     ensures in_order { AreInOrder items.now.text_calls }

@@ -4,7 +4,7 @@ ghost use Rattle.std.specs.Prelude.{◌≡◌, ◌≤◌, length};
 ghost use Rattle.wt_tiles.specs.Glyphs.{begins_like, byte_glyphs};
 ghost use Rattle.wt_tiles.specs.Urls.{scheme_len};
 
-/// Whether a word in lower case stands first, without ASCII case.
+/// Whether a word in lower case is first, without ASCII case.
 fn begins_like(word: &[u8], bytes: &[u8]) -> bool
     ensures { result ≡ begins_like word.now (byte_glyphs bytes.now) }
 {

@@ -9,7 +9,7 @@ ghost use Rattle.wt_isolation.specs.GroupItems.{items_in, lies_in};
 ghost use Rattle.wt_isolation.specs.PieceParts.{bytes_in, is_page_chars, part_of, parts_of, span_of_piece};
 
 /// What lies of the page's items in a slice lies there piece by piece: of the page's characters those bytes
-/// that stand between its two places, and any other piece, as what a call gave, where all of it lies in the
+/// that are between its two places, and any other piece, as what a call gave, where all of it lies in the
 /// slice, by the place of its own bytes or of its call.
 #[tactic(auto, using(crate::proofs::SlicedPieces::by_pieces, crate::proofs::SliceItems::chars_part, crate::proofs::SliceItems::uncut_part))]
 pub fn slice_lies_by_pieces()

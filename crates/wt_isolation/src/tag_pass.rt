@@ -1,4 +1,4 @@
-//! One pass over the page, which tells of the blocks one after the other whether they stand in an open tag.
+//! One pass over the page, which says of the blocks one after the other whether they are in an open tag.
 
 ghost use Rattle.std.specs.Prelude.{◌≡◌, ◌<◌, ◌≤◌, ◌+◌, ◌^◌, ℕ, List, length, slice_index, take};
 ghost use Rattle.wt_isolation.specs.OpenTags.{before, ends_open};
@@ -7,7 +7,7 @@ ghost use Rattle.wt_isolation.specs.Passes.{IsReadTo, ending_of};
 use crate::ending::Ending;
 use wt_tree::Ranges;
 
-/// A place up to which the page was read, and how what stands before it ends.
+/// A place up to which the page was read, and how what comes before it ends.
 #[derive(Clone, Copy)]
 pub struct TagPass {
     place: usize,
@@ -63,7 +63,7 @@ impl TagPass {
         pass
     }
 
-    /// Whether what stands before a node ends in an open tag. Goes on to the node, from the page's beginning
+    /// Whether what comes before a node ends in an open tag. Goes on to the node, from the page's beginning
     /// if it was past it.
     pub fn is_in_tag(&mut self, page: &[u8], ranges: Option<Ranges>) -> bool
         requires { IsReadTo page.now self.old }

@@ -23,26 +23,26 @@ pub fn open_texts_are_cut()
     ensures { (text : List ℕ) → (holds_open text ≡ true) ↔ HoldsOpen text }
 {}
 
-/// The lines of items are those that give the items where line breaks stand between them, and hold none.
+/// The lines of items are those that give the items where line breaks are between them, and hold none.
 #[tactic(auto, using(crate::proofs::LinesJoined::lines_joined))]
 pub fn lines_are_joined()
     ensures { (ls : List (List Glyph)) (gs : List Glyph) → AreLines ls gs ↔ (ls ≡ lines gs) }
 {}
 
-/// The lengths of the runs of apostrophes are those that give the items where one other item stands between each two.
+/// The lengths of the runs of apostrophes are those that give the items where one other item is between each two.
 #[tactic(auto, using(crate::proofs::RunsJoined::runs_joined))]
 pub fn runs_are_joined()
     ensures { (ns : List ℕ) (gs : List Glyph) → AreRuns ns gs ↔ (ns ≡ quote_runs 0 gs) }
 {}
 
-/// Nodes have a text that could go on exactly where such texts stand among them, one directly behind the other, or in a bold or an
+/// Nodes have a text that could go on exactly where such texts are among them, one directly after the other, or in a bold or an
 /// italic node.
 #[tactic(auto, using(crate::proofs::StandingOpen::standing_open))]
 pub fn open_texts_stand()
     ensures { (ts : Trees) → (has_open_text [] ts ≡ true) ↔ HasOpenText ts }
 {}
 
-/// A text ends in an open tag exactly where a `<` with an ASCII letter behind it stands in it, and from
+/// A text ends in an open tag exactly where a `<` with an ASCII letter after it is in it, and from
 /// there on no `<`, `>` or line break.
 pub fn open_tags()
     ensures { (text : List ℕ) → (ends_open text ≡ true) ↔ EndsOpen text }

@@ -1,4 +1,4 @@
-//! One pass over the text calls of the page, which tells of the blocks one after the other whether they touch one.
+//! One pass over the text calls of the page, which says of the blocks one after the other whether they touch one.
 
 ghost use Rattle.std.specs.Prelude.{◌≡◌, ◌<◌, ◌≤◌, ◌+◌, ◌^◌, List, length, map, drop, false, max, nat_lt, slice_index_or, if◌then◌else◌};
 ghost use Rattle.std.specs.List.{list_any};
@@ -32,7 +32,7 @@ impl CallPass {
         }
     }
 
-    /// Before the first call, if calls behind this place may have been passed.
+    /// Before the first call, if calls after this place may have been passed.
     fn not_past(self, place: u32) -> CallPass
         ensures passed { (calls : List Span) → ArePassed calls self → ArePassed calls result }
         ensures before { result.reached ≤ place }
@@ -43,7 +43,7 @@ impl CallPass {
         self
     }
 
-    /// For blocks that end at this place or behind it.
+    /// For blocks that end at this place or after it.
     fn reaching(self, place: u32) -> CallPass
         ensures passed { (calls : List Span) → ArePassed calls self → ArePassed calls result }
         ensures reached { result.reached ≡ place }
@@ -102,7 +102,7 @@ impl CallPass {
         pass
     }
 
-    /// Whether a block that stands here touches one of these calls. Goes on to the block, from the first call
+    /// Whether a block that is here touches one of these calls. Goes on to the block, from the first call
     /// on if it was past it.
     pub fn touches(&mut self, calls: &[Range], block: Option<Ranges>) -> bool
         requires passed { ArePassed (map span_of calls.now) self.old }

@@ -28,7 +28,7 @@ fn is_quote(glyph: Glyph) -> bool
     }
 }
 
-/// Reads one more item behind so many apostrophes, of which there are then so many.
+/// Reads one more item after so many apostrophes, of which there are then so many.
 fn push_glyph(out: &mut Vec<usize>, count: usize, glyph: Glyph) -> Result<usize, NoMemory>
     requires { count + 1 < 2 ^ 64 }
     ensures runs { IfOk result (λ n. (gs : List Sign) → out.new.items ++ quote_runs n gs ≡ out.old.items ++ quote_runs count (glyph ∷ gs)) }
@@ -75,7 +75,7 @@ fn front(glyphs: &[Glyph], n: usize) -> &[Glyph]
     front_of(glyphs, n)
 }
 
-/// The items behind the first n.
+/// The items after the first n.
 fn rest(glyphs: &[Glyph], n: usize) -> &[Glyph]
     ensures { result.now ≡ drop n glyphs.now }
 {
@@ -141,7 +141,7 @@ fn is_odd_line(alloc: Global, line: &[Glyph]) -> Result<bool, NoMemory>
     Ok(are_odd(runs.as_slice()))
 }
 
-/// How many items stand before the first line break.
+/// How many items come before the first line break.
 fn line_len(glyphs: &[Glyph]) -> usize
     ensures value { result ≡ prefix_len (λ g. not (is_break_glyph g)) glyphs.now }
     ensures within { result ≤ length glyphs.now }

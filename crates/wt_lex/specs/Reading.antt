@@ -1,4 +1,4 @@
--- The lexemes of a text as a relation: a list of words, each of which stands where it should.
+-- The lexemes of a text as a relation: a list of words, each of which is where it should be.
 use Rattle.std.specs.Prelude.{◌≡◌, ℕ, zero, suc, ◌-◌, ◌<◌, ◌≤◌, Bool, Some, None, List, [], ◌∷◌, length, drop, slice_index}
 use Rattle.wt_span.specs.declared.form.Mode.{Mode}
 use Rattle.wt_span.specs.declared.form.LexKind.{LexKind}
@@ -22,7 +22,7 @@ IsForm LinkClose = Unit {0}
 IsForm Pipe = Unit {0}
 IsForm Equals = Unit {0}
 
--- a line break stands before the k-th byte; `after` tells it of the first
+-- a line break comes before the k-th byte; `after` says it of the first
 abbrev pub break_before : Bool → List ℕ → ℕ → Bool
 break_before after bs zero = after
 break_before after bs (suc k) = is_break (slice_index bs k)
@@ -43,8 +43,8 @@ abbrev pub Apart : LexKind → List Word → Type 0
 Apart Chars ws = BeginsWithForm ws
 Apart kind ws = Unit {0}
 
--- The words are the lexemes of a text: joined they are the text, each stands where it should, and no two runs are
--- neighbours. `after` tells whether the text begins after a line break.
+-- The words are the lexemes of a text: joined they are the text, each is where it should be, and no two runs are
+-- neighbours. `after` says whether the text begins after a line break.
 abbrev pub AreLexemes : Mode → Bool → List Word → List ℕ → Type 0
 AreLexemes mode after [] bs = bs ≡ []
 AreLexemes mode after ((kind, n) ∷ ws) bs = (0 < n) ×

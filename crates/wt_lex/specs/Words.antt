@@ -18,7 +18,7 @@ is_form_byte b = b == byte.less_than || (b == byte.ampersand || (b == byte.openi
 abbrev pub may_begin : Bool → ℕ → Bool
 may_begin after b = is_form_byte b || (after && is_blank b)
 
--- a line break stands before a place of a text
+-- a line break comes before a place of a text
 abbrev pub after_break : List ℕ → ℕ → Bool
 after_break text at = nat_lt 0 at && is_break (slice_index text (at - 1))
 

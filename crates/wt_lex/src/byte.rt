@@ -12,7 +12,7 @@ pub enum ByteClass {
     Blank,
     /// ASCII letters and digits.
     Name,
-    /// What may stand in a tag: no `<`, no `>`, no line break.
+    /// What may be in a tag: no `<`, no `>`, no line break.
     Tag,
     Digit,
     HexDigit,
@@ -69,7 +69,7 @@ pub fn name_len(bytes: &[u8]) -> usize
     }
 }
 
-/// How many bytes stand up to and with the first place of a word; all where it stands nowhere.
+/// How many bytes there are up to and with the first place of a word; all where it is nowhere.
 pub fn through(word: &[u8], bytes: &[u8]) -> usize
     ensures value { result ≡ through word.now bytes.now }
     ensures within { result ≤ length bytes.now }

@@ -55,7 +55,7 @@ impl<'a> Closings<'a> {
         self.text
     }
 
-    /// How many bytes stand from a place up to and with the next closing tag of a name.
+    /// How many bytes there are from a place up to and with the next closing tag of a name.
     pub fn next(&mut self, name: &'a [u8], from: usize) -> Result<Option<usize>, NoMemory>
         requires { from ≤ length self.old }
         ensures kept { self.new ≡ self.old }

@@ -19,7 +19,7 @@ use crate::tag::{is_raw_name, opening_tag};
 use std::alloc::Global;
 use wt_span::{LexKind, List, Mode, NoMemory, Range, rest_of};
 
-/// Whether a line break stands before a place.
+/// Whether a line break comes before a place.
 fn is_after_break(text: &[u8], at: usize) -> bool
     ensures { result ≡ after_break text.now at }
 {

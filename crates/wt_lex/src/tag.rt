@@ -24,7 +24,7 @@ pub fn is_same_name(a: &[u8], b: &[u8]) -> bool
     a.eq_ignore_ascii_case(b)
 }
 
-/// Whether this may stand between a tag's name and its `>`.
+/// Whether this may be between a tag's name and its `>`.
 fn is_tag_inside(bytes: &[u8]) -> bool
     ensures { result ≡ is_tag_inside bytes.now }
 {
@@ -110,7 +110,7 @@ pub fn closing_len(name: &[u8], bytes: &[u8]) -> Option<usize>
     }
 }
 
-/// How many bytes stand up to and with the next closing tag of this name.
+/// How many bytes there are up to and with the next closing tag of this name.
 pub fn to_closing(name: &[u8], bytes: &[u8]) -> Option<usize>
     ensures value { result ≡ to_closing (lower name.now) bytes.now }
     ensures within { IfSome result (λ n. n ≤ length bytes.now) }

@@ -1,4 +1,4 @@
--- Pieces, and how their lengths are told in items.
+-- Pieces, and how their lengths are counted in items.
 use Rattle.std.specs.Prelude.{◌≡◌, ◌<◌, ◌⊎◌, ℕ, ◌&&◌, ◌||◌, Bool, true, false, not, Option, Some, None, List, [], ◌∷◌, length, take, drop, nat_lt, nat_le}
 use Rattle.std.specs.List.{list_all, prefix_len, AllByRecursion}
 use Rattle.wt_span.specs.declared.form.ItemForm.{ItemForm}
@@ -50,7 +50,7 @@ is_break_piece p = is_chars p.form && starts_break (bytes_of p.text)
 abbrev pub is_mark_piece : Piece → Bool
 is_mark_piece p = is_mark_form p.form
 
--- so many pieces are the marks that stand at the front
+-- so many pieces are the marks that are at the front
 abbrev pub AreLeadingMarks : List Piece → ℕ → Type 0
 AreLeadingMarks ps n = (take (prefix_len is_mark (items ps)) (items ps) ≡ items (take n ps)) ×
     (drop (prefix_len is_mark (items ps)) (items ps) ≡ items (drop n ps))

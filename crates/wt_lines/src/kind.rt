@@ -66,7 +66,7 @@ fn open_kind(tables: u32) -> LineKind
     }
 }
 
-/// The kind of a line where it stands in a table that tells it, by what the line has from its first
+/// The kind of a line where it is in a table that tells it, by what the line has from its first
 /// visible item on that is no blank.
 fn table_kind(sign: Signs<'_, '_>, tables: u32) -> Option<LineKind>
     ensures { result ≡ first_of (if nat_lt 0 tables then table_rows (left sign.entry) else []) }
@@ -107,9 +107,9 @@ fn text_kind(first: Signs<'_, '_>, line: BackSigns<'_, '_>) -> LineKind
 
 /// The kind of the line that these pieces are, at which `tables` tables are open, by MediaWiki's rules
 /// in the profile's form. In a table means that `tables` isn't 0; where `MOST_TABLES` are open, a line
-/// that begins with `{|`, behind blanks or not, is text.
+/// that begins with `{|`, after blanks or not, is text.
 /// The call takes no memory, and reads the line's ends: it stops at the first and the last visible
-/// item that tell the kind.
+/// item that decide the kind.
 pub fn kind_of_pieces(pieces: &[Piece<'_>], tables: u32) -> LineKind
     ensures { result ≡ line_kind tables (items pieces.now) }
 {

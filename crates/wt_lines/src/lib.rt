@@ -1,6 +1,6 @@
 //! Lines of an expanded page, and what each is.
 //!
-//! `kind_of_pieces` tells the kind of a line by its ends. The layers above read pieces of many
+//! `kind_of_pieces` decides the kind of a line by its ends. The layers above read pieces of many
 //! characters as items by the calls of `partition`, `scan`, `split`, `sign` and `back`, each of whose
 //! contracts says in items what it does with pieces. What lines are is a definition with laws.
 #![tactic(auto)]

@@ -27,7 +27,7 @@ pub fn is_break(piece: &Piece<'_>) -> bool
     is_chars(piece.form) && piece.text.as_str().as_bytes().starts_with(b"\n")
 }
 
-/// How many bytes stand before the first line break.
+/// How many bytes come before the first line break.
 pub fn unbroken_len(bytes: &[u8]) -> usize
     ensures value { result ≡ prefix_len (λ b. not (is_break b)) bytes.now }
     ensures within { result ≤ length bytes.now }

@@ -1,4 +1,4 @@
-//! The marks that stand before what is visible.
+//! The marks that come before what is visible.
 
 ghost use Rattle.std.specs.Prelude.{◌≡◌, ◌≤◌, All, length};
 ghost use Rattle.std.specs.List.{prefix_len};
@@ -33,7 +33,7 @@ fn front_marks(pieces: &[Piece<'_>]) -> usize
     pieces.len()
 }
 
-/// How many marks stand before the first visible piece.
+/// How many marks come before the first visible piece.
 pub fn marks_len(pieces: &[Piece<'_>]) -> usize
     requires { All IsSoundPiece pieces.now }
     ensures cut { AreLeadingMarks pieces.now result }

@@ -148,7 +148,7 @@ impl<'p, 'a> Signs<'p, 'a> {
         }
     }
 
-    /// What is left after a word, where the word stands there.
+    /// What is left after a word, where the word is there.
     pub fn after(self, word: &[u8]) -> Option<Signs<'p, 'a>>
         ensures { MatchOption result (begins word.now (left self.entry) ≡ false)
             (λ r. (begins word.now (left self.entry) ≡ true) × (left r ≡ drop (length word.now) (left self.entry))) }
@@ -160,7 +160,7 @@ impl<'p, 'a> Signs<'p, 'a> {
         Some(rest)
     }
 
-    /// The word stands there.
+    /// The word is there.
     pub fn begins(self, word: &[u8]) -> bool
         ensures { result ≡ begins word.now (left self.entry) }
     {
@@ -180,7 +180,7 @@ impl<'p, 'a> Signs<'p, 'a> {
         self.past_idle().is_empty()
     }
 
-    /// The word stands there, and nothing else visible but blanks after it.
+    /// The word is there, and nothing else visible but blanks after it.
     pub fn is_alone(self, word: &[u8]) -> bool
         ensures { result ≡ is_alone word.now (left self.entry) }
     {

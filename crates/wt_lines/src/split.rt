@@ -71,9 +71,9 @@ fn push_split<'a>(
     Ok(0)
 }
 
-/// Pieces, cut after `n` items: all of them stand before the cut where there are fewer. No
+/// Pieces, cut after `n` items: all of them come before the cut where there are fewer. No
 /// character may lie on both sides of it, which holds wherever a byte of an ASCII character, an
-/// atom or a mark stands behind the cut.
+/// atom or a mark comes after the cut.
 pub fn split_items<'a>(
     alloc: Global,
     pieces: &[Piece<'a>],

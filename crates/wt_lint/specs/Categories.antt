@@ -13,7 +13,7 @@ abbrev pub href_in : List (AttrName × List ℕ) → List ℕ
 href_in [] = []
 href_in ((name, value) ∷ attrs) = if order name == order attr.Href then value else href_in attrs
 
--- no `#`, behind which the key stands
+-- no `#`, after which the key comes
 abbrev pub is_title_byte : ℕ → Bool
 is_title_byte b = not (b == byte.hash)
 

@@ -1,4 +1,4 @@
--- What stands before a place of a page: whole lines, and the beginning of its own.
+-- What comes before a place of a page: whole lines, and the beginning of its own.
 use Rattle.std.specs.Prelude.{◌≡◌, ℕ, ◌+◌, true, List, [], ◌∷◌, ◌++◌, length, reverse, slice_index, take}
 use Rattle.wt_span.specs.Bytes.{is_break}
 use Rattle.wt_lint.specs.Lines.{breaks, column_of, line_of}
@@ -8,7 +8,7 @@ abbrev pub AreWhole : List ℕ → Type 0
 AreWhole [] = Unit {0}
 AreWhole (b ∷ bs) = is_break (slice_index (reverse (b ∷ bs)) 0) ≡ true
 
--- The lines that stand before the line of a place, with their line breaks, one fewer than the number of its line; and what stands
+-- The lines that come before the line of a place, with their line breaks, one fewer than the number of its line; and what is
 -- before the place on its line, which has no line break and is a byte shorter than the number of its column.
 pub record CountsBack (page : List ℕ) (at : ℕ) : Type 0 where
   pub lines : List ℕ

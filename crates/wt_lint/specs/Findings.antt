@@ -27,7 +27,7 @@ use Rattle.wt_lint.specs.Texts.{when, runs, pairs, table_ends}
 abbrev pub is_unclosed : Ranges → Bool
 is_unclosed r = r.close_w == 0
 
--- no closing delimiter, and no apostrophe behind it
+-- no closing delimiter, and no apostrophe after it
 abbrev pub is_open_style : List ℕ → Ranges → Bool
 is_open_style page r = is_unclosed r && not (slice_index page r.end == byte.apostrophe)
 
@@ -60,12 +60,12 @@ is_unequal page r =
 abbrev pub whole : Bool → Ranges → List Span
 whole is r = when is ((r.start, r.end) ∷ [])
 
--- of a text that stands directly in a paragraph, each end of a table
+-- of a text that is directly in a paragraph, each end of a table
 abbrev pub stray_ends : List ℕ → Option ℕ → Ranges → List Span
 stray_ends page None r = []
 stray_ends page (Some from) r = table_ends page from r.start (slice page r.start r.end)
 
--- What is found of a kind at a node of this sort, label and range, which stands at this place behind categories of these titles.
+-- What is found of a kind at a node of this sort, label and range, which is at this place after categories of these titles.
 abbrev pub found : List ℕ → List (List ℕ) → Place → Sort → Label → Ranges → Kind → List Span
 found page titles p s l r OpenStyle = whole ((is_style s && is_open_style page r) || (is_group s && is_empty r)) r
 found page titles p s l r OpenTable = whole (is_table s && is_unclosed r) r
@@ -93,7 +93,7 @@ at_ranges page titles p l (Some r) = at_range page titles p l r
 abbrev pub titles_after : Label → List (List ℕ) → List (List ℕ)
 titles_after l titles = if is_category (sort_of l.kind) then noted (title_of l) titles else titles
 
--- all that is found at these nodes, behind categories of these titles
+-- all that is found at these nodes, after categories of these titles
 abbrev pub found_from : List ℕ → List (List ℕ) → List Stand → List KindAndRange
 found_from page titles [] = []
 found_from page titles ((p, l) ∷ ns) = at_ranges page titles p l l.ranges ++ found_from page (titles_after l titles) ns

@@ -1,4 +1,4 @@
--- What is found: a kind and a range, the place of its first byte and the one behind its last.
+-- What is found: a kind and a range, the place of its first byte and the one after its last.
 use Rattle.std.specs.Prelude.{ℕ, List, map}
 use Rattle.wt_lint.specs.declared.finding.Kind.{Kind}
 use Rattle.wt_lint.specs.declared.bare_finding.BareFinding.{BareFinding}

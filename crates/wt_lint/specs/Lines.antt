@@ -1,4 +1,4 @@
--- Where findings stand, and the list of a page's findings.
+-- Where findings are, and the list of a page's findings.
 use Rattle.std.specs.Prelude.{ℕ, ◌+◌, not, List, [], ◌∷◌, map, take, if◌then◌else◌}
 use Rattle.wt_span.specs.Bytes.{is_break}
 use Rattle.wt_tree.specs.Tree.{Tree}
@@ -17,7 +17,7 @@ breaks (b ∷ bs) = if is_break b then 1 + breaks bs else breaks bs
 abbrev pub line_of : List ℕ → ℕ → ℕ
 line_of page at = 1 + breaks (take at page)
 
--- the byte of its line at which a place stands, from 1
+-- the byte of its line at which a place is, from 1
 abbrev pub column_of : List ℕ → ℕ → ℕ
 column_of page at = 1 + suffix_len (λ b. not (is_break b)) (take at page)
 

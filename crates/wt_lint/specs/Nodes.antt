@@ -1,4 +1,4 @@
--- The nodes of a page that are looked at, and where each stands.
+-- The nodes of a page that are looked at, and where each is.
 use Rattle.std.specs.Prelude.{ℕ, Bool, true, false, ◌||◌, List, [], ◌∷◌, ◌++◌, Option, Some, None, if◌then◌else◌}
 use Rattle.wt_tree.specs.declared.kind.Kind.{Kind}
 use Rattle.wt_tree.specs.declared.kind.Kind.TheVariants as kind
@@ -80,7 +80,7 @@ abbrev pub is_category : Sort → Bool
 is_category Category = true
 is_category s = false
 
--- ---- where a node stands: whether in a table or a `nowiki`; and, of what stands directly in a paragraph that is in no table, where
+-- ---- where a node is: whether in a table or a `nowiki`; and, of what is directly in a paragraph that is in no table, where
 -- the paragraph begins
 
 abbrev pub top : Place
@@ -90,7 +90,7 @@ abbrev pub paragraph_below : Bool → Sort → ℕ → Option ℕ
 paragraph_below in_table Paragraph start = if in_table then None else Some start
 paragraph_below in_table s start = None
 
--- where what stands directly in a node stands, which begins at `start`
+-- where what is directly in a node is, which begins at `start`
 abbrev pub below : Place → Sort → ℕ → Place
 below p s start = record {
   in_table = p.in_table || is_table s;

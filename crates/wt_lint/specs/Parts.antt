@@ -16,7 +16,7 @@ sign_findings page in_nowiki r =
     ++ (as_all OpenLink (when (not in_nowiki) (pairs 91 r.start (slice page r.start r.end)))
     ++ as_all StrayLinkEnd (when (not in_nowiki) (pairs 93 r.start (slice page r.start r.end)))))
 
--- a tag that stands alone
+-- a tag that is alone
 abbrev pub tag_findings : List ℕ → Ranges → List KindAndRange
 tag_findings page r =
     as_all OpenTag (whole (is_open_tag (slice page r.start r.end)) r)

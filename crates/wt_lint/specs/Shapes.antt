@@ -1,4 +1,4 @@
--- What stands in the page at the range of a finding of each kind.
+-- What is in the page at the range of a finding of each kind.
 use Rattle.std.specs.Prelude.{◌≡◌, ◌≤◌, ℕ, true, List, codes, length}
 use Rattle.std.specs.List.{AllByRecursion}
 use Rattle.wt_annotated.specs.Slices.{slice}
@@ -12,7 +12,7 @@ pub record AreOnly (byte : ℕ) (bs : List ℕ) : Type 0 where
   pub two : 2 ≤ length bs
   pub only : AllByRecursion (λ b. b ≡ byte) bs
 
--- by the kind; of styles, tables, headings and categories the tree tells what they are
+-- by the kind; of styles, tables, headings and categories the tree says what they are
 abbrev pub HasShape : Kind → List ℕ → Type 0
 HasShape OpenStyle bs = Unit {0}
 HasShape OpenTable bs = Unit {0}

@@ -13,25 +13,25 @@ when false xs = []
 
 -- ---- runs of braces
 
--- the run of a byte that begins a text which stands at this place, where it has two or more of them
+-- the run of a byte that begins a text which is at this place, where it has two or more of them
 abbrev pub run_at : ℕ → ℕ → List ℕ → List Span
 run_at byte at bs = let n = prefix_len (λ b. b == byte) bs in when (nat_lt 1 n) ((at, at + n) ∷ [])
 
--- The whole runs of two or more of a byte: one begins where the byte stands and not before (`behind` tells whether it does).
+-- The whole runs of two or more of a byte: one begins where the byte stands and not before (`behind` says whether it does).
 abbrev pub runs : ℕ → ℕ → Bool → List ℕ → List Span
 runs byte at behind [] = []
 runs byte at behind (b ∷ bs) = (if behind then [] else run_at byte at (b ∷ bs)) ++ runs byte (at + 1) (b == byte) bs
 
 -- ---- brackets
 
--- each two of a byte that stand side by side, from the left; none is taken twice
+-- each two of a byte that are side by side, from the left; none is taken twice
 abbrev pub pairs : ℕ → ℕ → List ℕ → List Span
 pairs byte at (b ∷ c ∷ bs) = if b == byte && c == byte then (at, at + 2) ∷ pairs byte (at + 2) bs else pairs byte (at + 1) (c ∷ bs)
 pairs byte at bs = []
 
 -- ---- ends of tables
 
--- only spaces and tabs stand behind the last line break, or in the whole text where it has none
+-- only spaces and tabs come after the last line break, or in the whole text where it has none
 abbrev pub is_front : List ℕ → Bool
 is_front bs = let n = suffix_len is_blank bs in n == length bs || slice_index bs (length bs - 1 - n) == 10
 
@@ -43,11 +43,11 @@ stands_first page from at = is_front (slice page from at)
 abbrev pub ends_table : List ℕ → Bool
 ends_table bs = slice_index bs 0 == 124 && slice_index bs 1 == 125
 
--- the `|}` that begins a text which stands at this place, where it stands first
+-- the `|}` that begins a text which is at this place, where it is first
 abbrev pub end_at : List ℕ → ℕ → ℕ → List ℕ → List Span
 end_at page from at bs = when (ends_table bs && stands_first page from at) ((at, at + 2) ∷ [])
 
--- each `|}` that stands first
+-- each `|}` that is first
 abbrev pub table_ends : List ℕ → ℕ → ℕ → List ℕ → List Span
 table_ends page from at [] = []
 table_ends page from at (b ∷ bs) = end_at page from at (b ∷ bs) ++ table_ends page from (at + 1) bs

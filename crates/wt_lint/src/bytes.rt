@@ -8,7 +8,7 @@ ghost use Rattle.wt_lint.specs.Bytes.{suffix_len, is_equals};
 
 use wt_span::{front_of, rest_of};
 
-/// What stands from one place to another.
+/// What is from one place to another.
 pub fn slice(page: &[u8], start: u32, end: u32) -> &[u8]
     requires { end ≤ length page.now }
     ensures { result.now ≡ slice page.now start end }
@@ -20,7 +20,7 @@ pub fn slice(page: &[u8], start: u32, end: u32) -> &[u8]
     rest_of(front, start as usize)
 }
 
-/// The byte at a place; 0 behind the end.
+/// The byte at a place; 0 after the end.
 pub fn byte_at(bytes: &[u8], at: usize) -> u8
     ensures { result ≡ slice_index bytes.now at }
 {

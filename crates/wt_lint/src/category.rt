@@ -27,7 +27,7 @@ fn is_title_byte(byte: u8) -> bool
     byte != b'#'
 }
 
-/// How many bytes of a link stand before its key.
+/// How many bytes of a link come before its key.
 fn title_len(href: &[u8]) -> usize
     ensures value { result ≡ prefix_len is_title_byte href.now }
     ensures within { result ≤ length href.now }

@@ -28,7 +28,7 @@ impl Cursor {
         }
     }
 
-    /// The place behind the next byte.
+    /// The place after the next byte.
     fn stepped(self, page: &[u8]) -> Cursor
         requires room { length page.now ≤ PAGE_BYTES }
         requires is { IsAt page.now self.at self }
@@ -51,7 +51,7 @@ impl Cursor {
         }
     }
 
-    /// A place that doesn't stand before this one.
+    /// A place that doesn't come before this one.
     fn counted(self, page: &[u8], place: u32) -> Cursor
         requires room { length page.now ≤ PAGE_BYTES }
         requires is { IsAt page.now self.at self }
@@ -67,8 +67,8 @@ impl Cursor {
         cursor
     }
 
-    /// A place, which counts as the end of the page where it stands behind it. It is counted on from this
-    /// one, or from the start where it stands before this one.
+    /// A place, which counts as the end of the page where it comes after it. It is counted on from this
+    /// one, or from the start where it comes before this one.
     pub fn moved(self, page: &[u8], place: u32) -> Cursor
         requires room { length page.now ≤ PAGE_BYTES }
         requires is { IsAt page.now self.at self }

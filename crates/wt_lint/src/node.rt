@@ -24,7 +24,7 @@ use std::alloc::Global;
 use wt_span::NoMemory;
 use wt_tree::{Node, Ranges};
 
-/// Takes the ends of tables of a text that stands directly in a paragraph.
+/// Takes the ends of tables of a text that is directly in a paragraph.
 fn push_stray_ends(
     found: &mut Vec<BareFinding>,
     page: &[u8],
@@ -66,7 +66,7 @@ fn push_signs(
     Ok(())
 }
 
-/// Takes a tag that stands alone.
+/// Takes a tag that is alone.
 fn push_tag(found: &mut Vec<BareFinding>, page: &[u8], range: Ranges) -> Result<(), NoMemory>
     requires within { range.end ≤ length page.now }
     requires ordered { range.start ≤ range.end }

@@ -37,7 +37,7 @@ fn in_order(alloc: Global, found: &[BareFinding]) -> Result<BTreeSet<BareFinding
     Ok(set)
 }
 
-/// A finding, where the cursor stands at its start.
+/// A finding, where the cursor is at its start.
 fn finding_at(cursor: Cursor, spot: BareFinding) -> Finding
     ensures { (page : List ℕ) → IsAt page spot.start cursor → as_located result ≡ located page (seen spot) }
 {

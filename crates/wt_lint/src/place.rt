@@ -1,4 +1,4 @@
-//! Where a node stands.
+//! Where a node is.
 
 ghost use Rattle.std.specs.Prelude.{◌≡◌};
 ghost use Rattle.wt_tree.specs.Tiling.{is_group};
@@ -47,7 +47,7 @@ pub fn sort_of(kind: Kind) -> Sort
     }
 }
 
-/// Whether a node stands in a table or in a `nowiki`, and, of what stands directly in a paragraph that is
+/// Whether a node is in a table or in a `nowiki`, and, of what is directly in a paragraph that is
 /// in no table, where the paragraph begins.
 #[derive(Clone, Copy, Debug)]
 pub struct Place {
@@ -56,7 +56,7 @@ pub struct Place {
     pub paragraph: Option<u32>,
 }
 
-/// Where a body stands.
+/// Where a body is.
 pub fn top() -> Place
     ensures { result ≡ top }
 {
@@ -96,7 +96,7 @@ fn paragraph_below(in_table: bool, sort: Sort, start: u32) -> Option<u32>
     }
 }
 
-/// Where what stands directly in a node stands; the node begins at `start`.
+/// Where what is directly in a node is; the node begins at `start`.
 pub fn below(place: Place, sort: Sort, start: u32) -> Place
     ensures { result ≡ below place sort start }
 {

@@ -13,7 +13,7 @@ pub fn is_unclosed(range: Ranges) -> bool
     range.close_w == 0
 }
 
-/// Whether bold or italic text has no closing delimiter, and no apostrophe stands behind it.
+/// Whether bold or italic text has no closing delimiter, and no apostrophe comes after it.
 pub fn is_open_style(page: &[u8], range: Ranges) -> bool
     ensures { result ≡ is_open_style page.now range }
 {

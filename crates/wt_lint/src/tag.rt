@@ -1,4 +1,4 @@
-//! Tags that are kept as they stand, since nothing closes them or they close nothing.
+//! Tags that are kept as they are, since nothing closes them or they close nothing.
 
 ghost use Rattle.std.specs.Prelude.{◌≡◌, ◌≤◌, length};
 ghost use Rattle.std.specs.Char.{is_ascii_alphanumeric};
@@ -20,7 +20,7 @@ fn name_len(bytes: &[u8]) -> usize
         .count()
 }
 
-/// The name that stands at a place.
+/// The name that is at a place.
 fn name_at(source: &[u8], at: usize) -> &[u8]
     requires { at ≤ length source.now }
     ensures { lower result.now ≡ name_at at source.now }
@@ -43,7 +43,7 @@ fn is_paired_name(name: &[u8]) -> bool
         || is_same_name(name, b"span")
 }
 
-/// Whether a `/` stands before the last byte.
+/// Whether a `/` comes before the last byte.
 fn closes_itself(source: &[u8]) -> bool
     ensures { result ≡ closes_itself source.now }
 {

@@ -54,8 +54,8 @@ pub fn push_runs(
     Ok(())
 }
 
-/// Takes the two bytes of which the second stands at this place, where both are of a pair: the one before is
-/// the first of one (`held`) and this one is such a byte. Tells whether this one is the first of a pair.
+/// Takes the two bytes of which the second is at this place, where both are of a pair: the one before is
+/// the first of one (`held`) and this one is such a byte. Says whether this one is the first of a pair.
 fn push_pair(
     found: &mut Vec<BareFinding>,
     kind: Kind,
@@ -78,7 +78,7 @@ fn push_pair(
     Ok(!held)
 }
 
-/// Takes each two of a byte that stand side by side, from the left.
+/// Takes each two of a byte that are side by side, from the left.
 pub fn push_pairs(
     found: &mut Vec<BareFinding>,
     kind: Kind,
@@ -98,7 +98,7 @@ pub fn push_pairs(
     Ok(())
 }
 
-/// Whether only spaces and tabs stand behind the last line break, or in the whole text where it has none.
+/// Whether only spaces and tabs come after the last line break, or in the whole text where it has none.
 fn is_front(bytes: &[u8]) -> bool
     ensures { result ≡ is_front bytes.now }
 {
@@ -122,7 +122,7 @@ fn stands_first(page: &[u8], from: u32, at: u32) -> bool
     is_front(slice(page, from, at))
 }
 
-/// Takes the `|}` that begins a text, where it stands first on its line.
+/// Takes the `|}` that begins a text, where it is first on its line.
 fn push_table_end(
     found: &mut Vec<BareFinding>,
     page: &[u8],
@@ -141,7 +141,7 @@ fn push_table_end(
     Ok(())
 }
 
-/// Takes each `|}` of a text that stands first on its line of the paragraph that begins at `from`.
+/// Takes each `|}` of a text that is first on its line of the paragraph that begins at `from`.
 pub fn push_table_ends(
     found: &mut Vec<BareFinding>,
     page: &[u8],

@@ -18,7 +18,7 @@ impl Titles {
         }
     }
 
-    /// Notes a title, and tells whether it was noted before.
+    /// Notes a title, and says whether it was noted before.
     pub fn note(&mut self, alloc: Global, title: &[u8]) -> Result<bool, NoMemory>
         ensures repeated { IfOk result (λ repeated. repeated ≡ is_among title.now (names self.old)) }
         ensures noted { OnOk result (names self.new ≡ noted title.now (names self.old)) }

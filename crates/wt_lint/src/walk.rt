@@ -19,7 +19,7 @@ use std::alloc::Global;
 use wt_span::NoMemory;
 use wt_tree::Node;
 
-/// Takes what is doubtful at a node and below it. What stands in a group isn't looked at.
+/// Takes what is doubtful at a node and below it. What is in a group isn't looked at.
 #[cycle(walk)]
 fn push_of_tree(
     alloc: Global,

@@ -5,7 +5,7 @@ use wt_devices::{push, push_number};
 use wt_span::NoMemory;
 use wt_tree::Kind;
 
-/// Appends a level behind a word.
+/// Appends a level after a word.
 fn push_level(out: &mut Vec<u8>, level: Option<u8>) -> Result<(), NoMemory>
     ensures { OnOk result (out.new.items ≡ out.old.items ++ level_digits level) }
 {

@@ -1,11 +1,11 @@
--- The content of a block as texts with what stands between them: elements, and where bold and italic text begins and ends.
+-- The content of a block as texts with what is between them: elements, and where bold and italic text begins and ends.
 use Rattle.std.specs.Prelude.{ℕ, List, [], ◌∷◌, ◌++◌, Option, Some, None}
 use Rattle.wt_tree.specs.Tree.{Tree, tree, Trees, none, more}
 use Rattle.wt_original.specs.declared.kinds.InlineForm.{InlineForm}
 use Rattle.wt_original.specs.declared.kinds.InlineForm.TheVariants as inline
 use Rattle.wt_original.specs.Kinds.{shape}
 
--- ---- what stands between texts
+-- ---- what is between texts
 
 -- an element, and the begin of bold and of italic text, each with its number; and the end of such text
 pub data Border : Type 0 where
@@ -86,13 +86,13 @@ abbrev mutual
   all_texts_before none after = after
   all_texts_before (more t ts) after = texts_before t (all_texts_before ts after)
 
--- The text before each border, and that behind the last one; characters that nothing parts are one text.
+-- The text before each border, and that after the last one; characters that nothing parts are one text.
 abbrev pub texts : Trees → List (List ℕ)
 texts ts = all_texts_before ts ([] ∷ [])
 
 -- ---- texts with the borders beside them
 
--- a text, and what stands on its left and right, unless the content begins or ends there
+-- a text, and what is on its left and right, unless the content begins or ends there
 pub record Slot : Type 0 where
   pub left : Option Border
   pub text : List ℕ

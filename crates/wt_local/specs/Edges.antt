@@ -1,4 +1,4 @@
--- The bytes at the edges of a block, as lists of those that may stand there.
+-- The bytes at the edges of a block, as lists of those that may be there.
 use Rattle.std.specs.Prelude.{◌≡◌, ℕ, List, [], ◌∷◌, ◌++◌}
 use Rattle.wt_span.specs.Characters as byte
 
@@ -9,7 +9,7 @@ pub data EndsBefore : ℕ → Type 0 where
   closed : EndsBefore 125
   rule_end : EndsBefore 45
 
--- what begins behind it: a line, or the call that gives its line break
+-- what begins after it: a line, or the call that gives its line break
 pub data BeginsBehind : ℕ → Type 0 where
   next_line : BeginsBehind 10
   call : BeginsBehind 123
@@ -22,7 +22,7 @@ pub data BeginsNone : ℕ → Type 0 where
   brace : BeginsNone 125
 
 -- The bytes on both sides of the edges of what was typed: at the left one of the first list or none, at the right one of the second or
--- none, and what was typed begins with some byte that is none of the third, and not with a `-` behind a `-`.
+-- none, and what was typed begins with some byte that is none of the third, and not with a `-` after a `-`.
 pub record MeetsPlainly (before new behind : List ℕ) : Type 0 where
   pub left : (front : List ℕ) (b : ℕ) → before ≡ front ++ b ∷ [] → EndsBefore b
   pub right : (b : ℕ) (rest : List ℕ) → behind ≡ b ∷ rest → BeginsBehind b

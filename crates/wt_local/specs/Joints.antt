@@ -27,12 +27,12 @@ unbraced_lexer = record { form = λ after bs. unbraced (form_at Page after bs); 
 abbrev pub last_byte : List ℕ → Option ℕ
 last_byte bs = slice_get bs (length bs - 1)
 
--- nothing stands before the block, or a line break, a mark or an extension, a call or a table's end, or a rule
+-- nothing comes before the block, or a line break, a mark or an extension, a call or a table's end, or a rule
 abbrev pub may_end_before : Option ℕ → Bool
 may_end_before None = true
 may_end_before (Some b) = is_break b || (b == byte.greater_than || (b == byte.closing_brace || b == byte.hyphen))
 
--- nothing stands behind it, or a line break, or the call that gives its line break
+-- nothing comes after it, or a line break, or the call that gives its line break
 abbrev pub may_begin_behind : List ℕ → Bool
 may_begin_behind [] = true
 may_begin_behind (b ∷ bs) = is_break b || b == byte.opening_brace
@@ -41,14 +41,14 @@ abbrev pub is_dash : Option ℕ → Bool
 is_dash None = false
 is_dash (Some b) = b == byte.hyphen
 
--- no blank, line break or `}`, and behind a `-` no `-`
+-- no blank, line break or `}`, and after a `-` no `-`
 abbrev pub may_begin : Option ℕ → List ℕ → Bool
 may_begin last [] = false
 may_begin last (b ∷ bs) = not (is_blank b || (is_break b || b == byte.closing_brace)) && not (b == byte.hyphen && is_dash last)
 
 -- ---- a block and its page
 
--- What stands before the block, its old and its new source, and what stands behind it. No form but a run of braces goes over an edge of
+-- What comes before the block, its old and its new source, and what comes after it. No form but a run of braces goes over an edge of
 -- the old source; the new one ends with a `{` before a `{` only where the old one did; and it closes no raw tag of the page that stood
 -- open.
 pub record Joints (before old new behind : List ℕ) : Type 0 where

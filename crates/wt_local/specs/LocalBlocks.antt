@@ -1,5 +1,5 @@
 -- When the new inside of one block is local: read by itself, with its kept slices as they were expanded in the page, it is a block of
--- its kind, and what stands round it can't tell it from the old one.
+-- its kind, and what is round it can't tell it from the old one.
 use Rattle.std.specs.Prelude.{◌≡◌, ◌⊎◌, ◌≤◌, ◌+◌, ◌-◌, ◌==◌, ◌&&◌, ◌||◌, ℕ, Bool, true, false, not, Option, Some, None, List, [], ◌∷◌, ◌++◌, drop, length, nat_le, nat_lt, slice_get, slice_index, take, codes, if◌then◌else◌}
 use Rattle.std.specs.Char.{is_ascii_alphabetic}
 use Rattle.std.specs.List.{AllByRecursion, list_any}
@@ -35,7 +35,7 @@ use Rattle.wt_selser.specs.Splice.{between}
 
 -- ---- kept slices
 
--- a node of the page whose source stands in the new inside, and where
+-- a node of the page whose source is in the new inside, and where
 pub record Slice : Type 0 where
   pub node : Tree
   pub at : ℕ
@@ -50,7 +50,7 @@ pub record IsSlice (block : Tree) (inside : List ℕ) (s : Slice) : Type 0 where
   pub same : kept.node ≡ s.node
   pub stands : between s.at (end_of s) inside ≡ flat s.node
 
--- They follow one another from a place on, and none stands in another.
+-- They follow one another from a place on, and none is in another.
 abbrev pub AreSlices : Tree → List ℕ → ℕ → List Slice → Type 0
 AreSlices block inside at [] = Unit {0}
 AreSlices block inside at (s ∷ ss) = (at ≤ s.at) × IsSlice block inside s × AreSlices block inside (end_of s) ss
@@ -64,7 +64,7 @@ abbrev pub reaches_end : List ℕ → Option Ranges → Bool
 reaches_end page None = false
 reaches_end page (Some r) = r.end == length page
 
--- It stands on lines of its own; none follows it at the page's end.
+-- It is on lines of its own; none follows it at the page's end.
 abbrev pub on_own_lines : Bool → List ℕ → List ℕ
 on_own_lines at_end source = byte.line_break ∷ (source ++ (if at_end then [] else byte.line_break ∷ []))
 
@@ -161,7 +161,7 @@ slice_calls n (s ∷ ss) =
     let ms = members (reduced (words Page (flat s.node))) in
     calls_of_all s.at None n ms ++ slice_calls (n + call_count_of_all ms) ss
 
--- the begin of a text, or behind a line break
+-- the begin of a text, or after a line break
 abbrev pub is_line_start : List ℕ → ℕ → Bool
 is_line_start text at = at == 0 || slice_index text (at - 1) == byte.line_break
 
@@ -186,7 +186,7 @@ opens_behind_break (x ∷ xs) = is_break_item x && opens_block xs
 abbrev pub may_open_block : List Item → Bool
 may_open_block xs = opens_block xs || opens_behind_break xs
 
--- A slice with a call at its begin stands at the start of a line where it did in the page, unless the call opens no block.
+-- A slice with a call at its begin is at the start of a line where it did in the page, unless the call opens no block.
 abbrev pub KeepsStart : Expanded → List ℕ → Tree → List ℕ → Slice → Type 0
 KeepsStart items page block inside s =
     let was = start_of (label s.node).ranges in
@@ -220,7 +220,7 @@ line_or_none (Some l) = l
 abbrev pub last_line : List (List Item) → List Item
 last_line ls = line_or_none (slice_get ls (length ls - 1))
 
--- something visible stands on its line before it: a rule, or the end of a table
+-- something visible is on its line before it: a rule, or the end of a table
 abbrev pub is_behind_block : Expanded → Option Ranges → Bool
 is_behind_block items None = false
 is_behind_block items (Some r) =
@@ -229,7 +229,7 @@ is_behind_block items (Some r) =
 abbrev pub IsTextLine : ℕ → List Item → Type 0
 IsTextLine tables l = line_kind tables l ≡ line.Text
 
--- behind a rule or a table the first line is text whatever it holds
+-- after a rule or a table the first line is text whatever it holds
 abbrev pub AreTextLines : Bool → ℕ → List (List Item) → Type 0
 AreTextLines behind tables [] = Unit {0}
 AreTextLines true tables (l ∷ ls) = AllByRecursion (IsTextLine tables) ls
@@ -281,7 +281,7 @@ abbrev pub is_table : Kind → Bool
 is_table kind.Table = true
 is_table k = false
 
--- how many tables stand round the node with a number, among those in which so many are open
+-- how many tables are round the node with a number, among those in which so many are open
 abbrev mutual
   pub tables_round : ℕ → ℕ → Tree → Option ℕ
   tables_round n open_ (tree l ts) =

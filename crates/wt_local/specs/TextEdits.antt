@@ -39,12 +39,12 @@ element_at ks (Some (bold n)) = None
 element_at ks (Some (italic n)) = None
 element_at ks (Some end) = None
 
--- the text stands directly before a mark that ends a line
+-- the text comes directly before a mark that ends a line
 abbrev pub is_line_mark : Option Kept → Bool
 is_line_mark None = false
 is_line_mark (Some k) = ends_line k.role
 
--- a group that stands between two `=` of the page
+-- a group that is between two `=` of the page
 abbrev pub is_between_equals : Role → Bool
 is_between_equals role.Link = false
 is_between_equals role.External = false
@@ -56,7 +56,7 @@ is_between_equals (role.Group g) = g.between_equals
 is_between_equals role.Function = false
 is_between_equals role.Node = false
 
--- two groups that stand next to each other in the page, and the visible items nearest to the place between them are both `=`
+-- two groups that are next to each other in the page, and the visible items nearest to the place between them are both `=`
 abbrev pub are_tied : Option Kept → Option Kept → Bool
 are_tied None right = false
 are_tied (Some k) None = false

@@ -13,7 +13,7 @@ ghost use Rattle.wt_local.specs.Swaps.{Swap};
 
 pub use edges::blocks_meet_plainly;
 
-/// Between the texts of a content stand its borders: there is one text more than borders.
+/// Between the texts of a content are its borders: there is one text more than borders.
 #[tactic(auto, using(crate::proofs::Between::texts_between))]
 pub fn texts_stand_between_borders()
     ensures { (ts : Trees) → length (texts ts) ≡ suc (length (borders ts)) }

@@ -16,11 +16,11 @@ escape b =
     else (if is_control b then codes "&#" ++ (decimal b ++ codes ";")
     else b ∷ [])))
 
--- a byte of a value that stands in `"`
+-- a byte of a value that is in `"`
 unfoldable pub escape_double : ℕ → List ℕ
 escape_double b = if b == byte.quotation_mark then codes "&quot;" else escape b
 
--- a byte of a value that stands in `'`
+-- a byte of a value that is in `'`
 unfoldable pub escape_single : ℕ → List ℕ
 escape_single b = if b == byte.apostrophe then codes "&#39;" else escape b
 

@@ -58,7 +58,7 @@ sync_attribute l (Some r) = sync_value (sync_text (sync_of l r))
 abbrev pub carried_attributes : Label → List ℕ
 carried_attributes l = id_attribute l.id ++ (mw_attribute l.mw ++ sync_attribute l l.ranges)
 
--- the attributes of an element, in their order: the one that the kind alone tells, the node's own, its
+-- the attributes of an element, in their order: the one that the kind alone decides, the node's own, its
 -- number and its data
 unfoldable pub attributes_of : Label → List ℕ
 attributes_of l = attributes (fixed_attributes l.kind) ++ (attributes l.attrs ++ carried_attributes l)
@@ -107,11 +107,11 @@ element_by RoundChildren k attrs inside = tag_of k attrs (codes ">") ++ (inside 
 element_by (AsSection n) k attrs inside = []
 element_by Unwritten k attrs inside = []
 
--- the attribute that the kind alone tells, and the node's own
+-- the attribute that the kind alone decides, and the node's own
 abbrev pub face_attributes : Face → List (AttrName × List ℕ)
 face_attributes f = fixed_attributes f.kind ++ f.attrs
 
--- What stands inside an element of a group has neither number nor data.
+-- What is inside an element of a group has neither number nor data.
 abbrev mutual
   pub plain_html : Plain → List ℕ
   plain_html (text bs) = escaped bs
@@ -126,7 +126,7 @@ unfoldable pub about_attribute : ℕ → List ℕ
 about_attribute k = codes " about=\"#mwt" ++ (decimal k ++ codes "\"")
 
 -- The attributes of a group's first element: the group's word (`mw:Transclusion` or `mw:Param`) is its
--- `typeof`, and stands before the element's own, where it has one.
+-- `typeof`, and comes before the element's own, where it has one.
 abbrev pub joined_type : AttrName × List ℕ → AttrName × List ℕ → List (AttrName × List ℕ)
 joined_type g x = if order x.0 == order g.0 then (g.0, g.1 ++ codes " " ++ x.1) ∷ [] else g ∷ x ∷ []
 
@@ -186,7 +186,7 @@ abbrev mutual
 
 -- ---- trees
 
--- A tree behind k groups. Groups count from 1 in preorder; what a group holds is written as its plain view.
+-- A tree after k groups. Groups count from 1 in preorder; what a group holds is written as its plain view.
 abbrev mutual
   pub html : ℕ → Tree → List ℕ
   html k (tree l ts) = if is_group l.kind then group_html (suc k) l (plains_before ts ended) else written (writing l.kind) l (html_of_all k ts)

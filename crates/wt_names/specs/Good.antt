@@ -13,7 +13,7 @@ use Rattle.wt_names.specs.Reading.{title_in}
 unfoldable pub is_forbidden : ℕ → Bool
 is_forbidden b = nat_lt b 32 || b == 127 || list_any (λ c. c == b) (codes "<>[]{}|")
 
--- none of these stands anywhere in the text
+-- none of these is anywhere in the text
 unfoldable pub is_allowed : List ℕ → Bool
 is_allowed text = not (list_any is_forbidden text)
 
@@ -22,7 +22,7 @@ abbrev pub anywhere : (List ℕ → Bool) → List ℕ → Bool
 anywhere test [] = test []
 anywhere test (b ∷ bs) = test (b ∷ bs) || anywhere test bs
 
--- the word stands at the start of the text
+-- the word is at the start of the text
 abbrev pub begins : List ℕ → List ℕ → Bool
 begins word text = starts_with nat_eq text word
 

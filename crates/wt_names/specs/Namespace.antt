@@ -39,7 +39,7 @@ is_called text ns = str_eq_ignore_ascii_case text (name_of ns)
 unfoldable pub namespace_named : List ℕ → Option Ns
 namespace_named text = find (is_called text) named_spaces
 
--- what stands before the name in a full name: nothing, or the namespace and a colon
+-- what comes before the name in a full name: nothing, or the namespace and a colon
 unfoldable pub prefix_of : Ns → List ℕ
 prefix_of Main = []
 prefix_of ns = name_of ns ++ codes ":"

@@ -13,7 +13,7 @@ use Rattle.wt_names.specs.Good.{read_text}
 abbrev pub underscored : List ℕ → List ℕ
 underscored bs = replaced 32 95 bs
 
--- the ASCII characters that stand in a link, and in the name of a file, as they are
+-- the ASCII characters that are in a link, and in the name of a file, as they are
 unfoldable pub stays_in_link : ℕ → Bool
 stays_in_link b = nat_lt b 128 && (is_ascii_alphanumeric b || list_any (λ c. c == b) (codes "-_.~!*(),;:@/$"))
 

@@ -16,7 +16,7 @@ fn begins(text: &str, word: &str) -> bool
     text.starts_with(word)
 }
 
-/// Whether the word stands anywhere in the text.
+/// Whether the word is anywhere in the text.
 fn holds(text: &str, word: &str) -> bool
     ensures { result ≡ holds word.now text.now }
 {
@@ -30,7 +30,7 @@ fn ends(text: &str, word: &str) -> bool
     text.ends_with(word)
 }
 
-/// Whether a byte may stand in no title.
+/// Whether a byte may be in no title.
 #[tactic(auto, unfolding(crate::specs::Good::is_forbidden))]
 fn is_forbidden(byte: u8) -> bool
     ensures { result ≡ is_forbidden byte }
@@ -41,14 +41,14 @@ fn is_forbidden(byte: u8) -> bool
     )
 }
 
-/// Whether a forbidden byte stands among the bytes.
+/// Whether a forbidden byte is among the bytes.
 fn has_forbidden(bytes: &[u8]) -> bool
     ensures { result ≡ list_any is_forbidden bytes.now }
 {
     bytes.iter().any(|byte| is_forbidden(*byte))
 }
 
-/// Whether no forbidden byte stands in the text.
+/// Whether no forbidden byte is in the text.
 #[tactic(auto, unfolding(crate::specs::Good::is_allowed))]
 fn is_allowed(text: &str) -> bool
     ensures { result ≡ is_allowed text.now }
@@ -66,7 +66,7 @@ fn begins_with_escape(bytes: &[u8]) -> bool
     }
 }
 
-/// Whether `%` and two hexadecimal digits stand anywhere in the name.
+/// Whether `%` and two hexadecimal digits are anywhere in the name.
 fn has_escape(name: &[u8]) -> bool
     ensures { result ≡ has_escape name.now }
 {
@@ -78,7 +78,7 @@ fn has_escape(name: &[u8]) -> bool
     false
 }
 
-/// Whether three tildes stand in the name.
+/// Whether three tildes are in the name.
 #[tactic(auto, unfolding(crate::specs::Good::has_signature))]
 fn has_signature(name: &str) -> bool
     ensures { result ≡ has_signature name.now }
@@ -102,7 +102,7 @@ fn begins_with_step(full: &str) -> bool
     begins(full, "./") || begins(full, "../")
 }
 
-/// Whether one stands inside.
+/// Whether one is inside.
 #[tactic(auto, unfolding(crate::specs::Good::holds_step))]
 fn holds_step(full: &str) -> bool
     ensures { result ≡ holds_step full.now }
@@ -118,7 +118,7 @@ fn ends_with_step(full: &str) -> bool
     ends(full, "/.") || ends(full, "/..")
 }
 
-/// Whether a step to this folder or the one above stands in the full name.
+/// Whether a step to this folder or the one above is in the full name.
 fn is_relative(full: &str) -> bool
     ensures { result ≡ is_relative full.now }
 {

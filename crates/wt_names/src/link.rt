@@ -50,7 +50,7 @@ fn push_file_escaped(out: &mut String, text: &str) -> Result<(), AllocError>
     utf8_percent_encode(text, FILE).append_to(out)
 }
 
-/// Appends a text as it stands in a link.
+/// Appends a text as it is in a link.
 #[tactic(auto, unfolding(crate::specs::Written::link_text))]
 fn push_link_text(alloc: Global, out: &mut String, text: &str) -> Result<(), AllocError>
     ensures { OnOk result (string_bytes out.new ≡ string_bytes out.old ++ link_text text.now) }
@@ -89,7 +89,7 @@ pub fn href_of(alloc: Global, t: &Title) -> Result<Str, NoMemory>
     Ok(Str::from_string(href))
 }
 
-/// The name of the file that holds the page of this full name. It stands in its folder whatever the
+/// The name of the file that holds the page of this full name. It is in its folder whatever the
 /// text is; it may have up to three times its bytes and five more, which is more than many file
 /// systems allow.
 #[tactic(auto, unfolding(crate::specs::Written::file_of))]

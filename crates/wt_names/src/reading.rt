@@ -61,7 +61,7 @@ fn fragment_in(alloc: Global, text: &str) -> Result<Option<Str>, NoMemory>
     }
 }
 
-/// The part of a text with spaces that names the page: what stands before its first `#`, or all.
+/// The part of a text with spaces that names the page: what comes before its first `#`, or all.
 fn page_part(text: &str) -> &str
     ensures { result.now ≡ page_part (split_once 35 text.now) text.now }
 {

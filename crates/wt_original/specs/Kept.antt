@@ -76,7 +76,7 @@ are_blank_to_end (invisible ∷ xs) = are_blank_to_end xs
 abbrev pub last_of : List Item → Option Item
 last_of xs = slice_get xs (length xs - 1)
 
--- ---- where a node stood: the bytes of its block before it and up to its end, and the visible items before it and up to its end
+-- ---- where a node was: the bytes of its block before it and up to its end, and the visible items before it and up to its end
 
 -- the visible items of the whole block, and of it without its closing delimiter
 abbrev pub seen : Tree → List Item
@@ -93,7 +93,7 @@ is_break_at (Some b) = b == byte.line_break
 abbrev pub began_line : Tree → Extent → Bool
 began_line block s = s.start == length (label block).opening || (nat_lt 0 s.start && is_break_at (slice_get (flat block) (s.start - 1)))
 
--- It ended its line, or the content: only spaces, tabs and marks stood after it.
+-- It ended its line, or the content: only spaces, tabs and marks came after it.
 abbrev pub ended_line : Tree → Extent → Bool
 ended_line block s = are_blank_to_end (drop s.to (seen_inside block))
 
@@ -162,7 +162,7 @@ role_of block s t = role_by (shape (label t).kind).sort block s t
 
 -- ---- the kept nodes of a block
 
--- a node of the page with a number, and where it stands in its block
+-- a node of the page with a number, and where it is in its block
 pub record KeptNode : Type 0 where
   pub node : Tree
   pub extent : Extent
@@ -195,7 +195,7 @@ abbrev mutual
   found_in at from none = []
   found_in at from (more t ts) = found_from at from t ++ found_in (at + length (flat t)) (from + length (visible (items t))) ts
 
--- such a node, what it is, and where it stands in the source of its block
+-- such a node, what it is, and where it is in the source of its block
 pub record Kept : Type 0 where
   pub node : Tree
   pub role : Role

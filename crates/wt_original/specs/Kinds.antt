@@ -14,7 +14,7 @@ use Rattle.wt_original.specs.declared.kinds.Spelled.{Spelled}
 abbrev pub row : ItemsOf → Sort → InlineForm → BlockForm → Spelled
 row i s w f = record { items = i; sort = s; inline = w; form = f }
 
--- what items a node has, what it is to its neighbours as it stands in the page, how it is written where it is new or changed, and
+-- what items a node has, what it is to its neighbours as it is in the page, how it is written where it is new or changed, and
 -- what a new block of this kind is written with
 unfoldable pub shape : Kind → Spelled
 shape kind.Body = row item.Delimited sort.Other inline.AsItStood form.NoBlock

@@ -13,7 +13,7 @@ pub record Page : Type 0 where
   pub source : List ℕ
   pub same : Tree → Tree → Bool
 
--- the test tells nodes of one kind with one plain view
+-- the test says whether two nodes have one kind and one plain view
 abbrev pub TellsSame : (Tree → Tree → Bool) → Type 0
 TellsSame same = (t u : Tree) → Decides (same t u) (((label t).kind ≡ (label u).kind) × (plain t ≡ plain u))
 

@@ -15,7 +15,7 @@ use std::alloc::{AllocError, Global};
 use wt_span::{List, NoMemory, Text};
 use wt_tree::{Kind, Node, flat};
 
-/// Where a node stands in its block: the bytes before it and up to its end, and the visible items
+/// Where a node is in its block: the bytes before it and up to its end, and the visible items
 /// before it and up to its end.
 #[derive(Clone, Copy, Debug)]
 pub struct Extent {
@@ -25,7 +25,7 @@ pub struct Extent {
     pub to: usize,
 }
 
-/// A node with a number, and where it stands in its block.
+/// A node with a number, and where it is in its block.
 #[derive(Clone, Copy)]
 pub struct KeptNode<'t, 'a> {
     pub node: &'t Node<'a>,

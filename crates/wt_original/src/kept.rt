@@ -80,7 +80,7 @@ fn blank_ends(alloc: Global, items: &[Item]) -> Result<Vec<bool>, AllocError>
     Ok(ends)
 }
 
-// ---- where a node stood
+// ---- where a node was
 
 /// The byte before a place is a line break.
 fn is_break_before(source: &[u8], place: usize) -> bool
@@ -134,7 +134,7 @@ impl<'s> Facts<'s> {
 
 // ---- what a node is
 
-/// A node of the page with a number, what it is, and where it stands in the source of its block.
+/// A node of the page with a number, what it is, and where it is in the source of its block.
 #[derive(Clone, Copy)]
 pub struct Kept<'t, 'a> {
     pub node: &'t Node<'a>,

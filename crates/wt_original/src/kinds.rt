@@ -17,7 +17,7 @@ pub enum ItemsOf {
     Nodes,
 }
 
-/// What a node is to its neighbours as it stands in the page. A `Url` is bare or in brackets, by its
+/// What a node is to its neighbours as it is in the page. A `Url` is bare or in brackets, by its
 /// delimiter; an `Island` is a function of the preprocessor or not, by its source.
 #[derive(Clone, Copy, Debug)]
 pub enum Sort {

@@ -1,4 +1,4 @@
-//! The page of a block that stands in it, and of a new one.
+//! The page of a block that is in it, and of a new one.
 
 ghost use Rattle.std.specs.Prelude.{◌≡◌, [], IfOk, map, string_bytes};
 ghost use Rattle.wt_tree.specs.Source.{flat};

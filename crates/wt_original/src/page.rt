@@ -42,7 +42,7 @@ fn kept_at<'t, 'a>(kept: &[Kept<'t, 'a>], at: usize) -> Option<Kept<'t, 'a>>
     kept.get(at).copied()
 }
 
-/// Where the numbers count up, a node stands at its number.
+/// Where the numbers count up, a node is at its number.
 fn find_by_place<'t, 'a>(kept: &[Kept<'t, 'a>], first: u32, id: u32) -> Option<Kept<'t, 'a>>
     requires { counts_up first (map kept_view kept.now) ≡ true }
     ensures { option_map kept_view result ≡ first_with id (map kept_view kept.now) }

@@ -1,4 +1,4 @@
--- What stands in a body or in a cell: its rows, cut into blocks. A table is one block with all its rows.
+-- What is in a body or in a cell: its rows, cut into blocks. A table is one block with all its rows.
 use Rattle.std.specs.Prelude.{◌≡◌, ℕ, zero, suc, ◌&&◌, ◌||◌, Bool, true, false, List, [], ◌∷◌}
 use Rattle.std.specs.List.{flat_map}
 use Rattle.wt_tree.specs.declared.kind.Kind.TheVariants as kind
@@ -63,7 +63,7 @@ rule_row r = with_separators (rule r.items) (r ∷ [])
 abbrev pub heading_row : Row → List Stretch
 heading_row r = with_separators (heading r.items) (r ∷ [])
 
--- The table of blocks, where blocks in cells are read so. The lines that a table is made of stand in tables alone, so those that
+-- The table of blocks, where blocks in cells are read so. The lines that a table is made of are in tables alone, so those that
 -- would be left over are read as text.
 abbrev pub block_stretches : Reading → LineKind → List Row → List Stretch
 block_stretches read line.Blank rs = gaps rs
@@ -85,7 +85,7 @@ run_stretches read us = block_stretches read (unit_kind kind_of (joined us)) (jo
 abbrev pub blocks_by : Reading → Reading
 blocks_by read = λ rs. flat_map (run_stretches read) (runs same_block (units kind_of rs))
 
--- rows in which so many tables may stand one inside the other
+-- rows in which so many tables may be one inside the other
 abbrev pub within : ℕ → Reading
 within zero = blocks_by gaps
 within (suc n) = blocks_by (within n)
@@ -94,7 +94,7 @@ within (suc n) = blocks_by (within n)
 unfoldable pub blocks : Reading
 blocks rs = within MOST_TABLES rs
 
--- what stands in a body
+-- what is in a body
 abbrev pub body_parts : List Row → List Part
 body_parts rs = stretches_parts (blocks rs)
 

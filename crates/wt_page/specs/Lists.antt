@@ -1,4 +1,4 @@
--- Lists: the nest of the lines' prefixes, with what stands on the lines.
+-- Lists: the nest of the lines' prefixes, with what is on the lines.
 use Rattle.std.specs.Prelude.{ℕ, ◌+◌, ◌==◌, not, min, Bool, true, false, Option, Some, None, List, [], ◌∷◌, ◌++◌, length, map, take, drop, replicate, nat_lt, get_or, if◌then◌else◌}
 use Rattle.std.specs.List.{flat_map, prefix_len}
 use Rattle.wt_tree.specs.declared.kind.Kind.{Kind}
@@ -22,21 +22,21 @@ use Rattle.wt_page.specs.Stretches.{Stretch, gap, block, tree_block, opened_by, 
 
 -- ---- prefixes
 
--- `MOST_SIGNS` signs at most count; what stands behind them is text
+-- `MOST_SIGNS` signs at most count; what comes after them is text
 abbrev pub prefix_of : List Item → List ℕ
 prefix_of xs = take (min MOST_SIGNS (prefix_len is_list_sign (signs xs))) (signs xs)
 
--- so many items, and the blanks behind them
+-- so many items, and the blanks after them
 abbrev pub with_blanks : ℕ → List Item → ℕ
 with_blanks n xs = n + prefix_len is_blank (drop n (signs xs))
 
--- the open delimiter of the innermost item that a line begins: the prefix with the blanks behind it
+-- the open delimiter of the innermost item that a line begins: the prefix with the blanks after it
 abbrev pub item_opening_len : List Item → ℕ
 item_opening_len xs = with_blanks (length (prefix_of xs)) xs
 
 -- ---- terms and definitions
 
--- whether the characters of a tile stand in none
+-- whether the characters of a tile are in none
 abbrev pub is_bare : TileKind → Bool
 is_bare tile.Link = false
 is_bare tile.Category = false
@@ -55,11 +55,11 @@ is_bare tile.Chars = true
 abbrev pub seen_signs : Shape × List Item → List ℕ
 seen_signs (w, xs) = if is_bare w.kind then signs xs else replicate (length xs) 256
 
--- how many items of a context stand before the first `:` that lies in no tile
+-- how many items of a context come before the first `:` that lies in no tile
 unfoldable pub colon_at : List Item → ℕ
 colon_at xs = prefix_len (λ s. not (s == byte.colon)) (flat_map seen_signs (tiles in_line xs))
 
--- where a term ends: behind a prefix whose last sign is `;`, at the first such `:`
+-- where a term ends: after a prefix whose last sign is `;`, at the first such `:`
 abbrev pub term_len : ℕ → List Item → Option ℕ
 term_len sign xs = if sign == byte.semicolon then (if nat_lt (colon_at xs) (length xs) then Some (colon_at xs) else None) else None
 
@@ -75,8 +75,8 @@ list_kind sign = if sign == byte.asterisk then kind.Ul else if sign == byte.hash
 abbrev pub term : List Item → List Item → ItemTree
 term opening xs = inner (plain kind.Dt) opening (forest (children (line_parts xs))) []
 
--- An item with what stands on its line, and with what follows in it: behind a term a definition follows, whose open delimiter is the `:`
--- with the blanks behind it, and what follows lies in this.
+-- An item with what is on its line, and with what follows in it: after a term a definition follows, whose open delimiter is the `:`
+-- with the blanks after it, and what follows lies in this.
 abbrev pub item_by : ℕ → Option ℕ → List Item → List Item → List Stretch → List Stretch
 item_by sign None opening xs ss = opened_by (plain (item_kind sign)) opening (block (line_parts xs) ∷ ss)
 item_by sign (Some n) opening xs ss =

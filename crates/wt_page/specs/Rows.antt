@@ -1,5 +1,5 @@
--- Rows: the lines of a page as blocks take them. A row knows what stands before its first sign and what ends it. A rule and the end of
--- a table make a row of their own where something is seen behind them on their line, and a table that no line ends is ended behind
+-- Rows: the lines of a page as blocks take them. A row knows what comes before its first sign and what ends it. A rule and the end of
+-- a table make a row of their own where something is seen after them on their line, and a table that no line ends is ended after
 -- the last line.
 use Rattle.std.specs.Prelude.{ℕ, ◌==◌, Bool, List, [], ◌∷◌, ◌++◌, map, take, drop, replicate, if◌then◌else◌}
 use Rattle.std.specs.List.{flat_map, prefix_len}
@@ -12,8 +12,8 @@ use Rattle.wt_lines.specs.Lines.{full_lines, content}
 use Rattle.wt_tables.specs.Extents.{behind}
 use Rattle.wt_headings.specs.Lines.{kind_at, ending}
 
--- What a row is; what stands before the block that begins there (marks, and before a sign of a table blanks too); the row itself; and
--- what ends it, which lies outside a block that ends there (its line break, and behind a rule or a table blanks and marks too).
+-- What a row is; what comes before the block that begins there (marks, and before a sign of a table blanks too); the row itself; and
+-- what ends it, which lies outside a block that ends there (its line break, and after a rule or a table blanks and marks too).
 pub record Row : Type 0 where
   pub kind : LineKind
   pub lead : List Item
@@ -31,14 +31,14 @@ all_items rs = flat_map row_items rs
 abbrev pub signs : List Item → List ℕ
 signs xs = map sign xs
 
--- how many marks stand at the front, and how many marks and blanks
+-- how many marks are at the front, and how many marks and blanks
 abbrev pub marks_len : List Item → ℕ
 marks_len xs = prefix_len is_mark xs
 
 abbrev pub idle_len : List Item → ℕ
 idle_len xs = prefix_len is_idle (signs xs)
 
--- a line, of which so many items stand before its first sign
+-- a line, of which so many items come before its first sign
 abbrev pub whole_row : LineKind → ℕ → List Item → Row
 whole_row k lead l = record { kind = k; lead = take lead l; items = content (drop lead l); ending = ending (drop lead l) }
 
@@ -53,14 +53,14 @@ behind_sign lead len l = drop len (drop lead l)
 abbrev pub is_unseen : List Item → Bool
 is_unseen xs = is_idle_all (signs (content xs))
 
--- What stands behind a sign ends its row where nothing is seen there, and else it is a row of text.
+-- What comes after a sign ends its row where nothing is seen there, and else it is a row of text.
 abbrev pub sign_rows : LineKind → ℕ → ℕ → List Item → List Row
 sign_rows k lead len l =
     let rest = behind_sign lead len l in
     if is_unseen rest then sign_row k lead len l rest ∷ []
     else sign_row k lead len l [] ∷ whole_row line.Text (marks_len rest) rest ∷ []
 
--- how many `-` stand at the front
+-- how many `-` are at the front
 abbrev pub dashes : List Item → ℕ
 dashes xs = prefix_len (λ s. s == byte.hyphen) (signs xs)
 

@@ -1,4 +1,4 @@
--- What stands in a body, an item or a cell, as a list of stretches: gaps of separators, and blocks between them. A separator belongs to
+-- What is in a body, an item or a cell, as a list of stretches: gaps of separators, and blocks between them. A separator belongs to
 -- the innermost node whose inside holds both its neighbours, so gaps at the ends of what a node holds lie outside the node.
 use Rattle.std.specs.Prelude.{ℕ, ◌-◌, Bool, true, false, List, [], ◌∷◌, ◌++◌, length, take, drop, reverse}
 use Rattle.std.specs.List.{flat_map, prefix_len}

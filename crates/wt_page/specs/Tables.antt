@@ -41,7 +41,7 @@ cells_by caption [] ss = ss
 cells_by caption (c ∷ []) ss = cell_by caption c ss
 cells_by caption (c ∷ d ∷ cs) ss = cell_by caption c [] ++ cells_by caption (d ∷ cs) ss
 
--- the cells, or the caption, of a line and of the rows behind it that belong to the last of them
+-- the cells, or the caption, of a line and of the rows after it that belong to the last of them
 unfoldable pub cell_stretches : Reading → Bool → List Row → List Stretch
 cell_stretches read caption [] = []
 cell_stretches read caption (r ∷ rs) = gap r.lead ∷ cells_by caption (cells_from caption r.items) (gap r.ending ∷ read rs)
@@ -61,8 +61,8 @@ abbrev pub from_sign : List Row → List Item
 from_sign [] = []
 from_sign (r ∷ rs) = r.items ++ (r.ending ++ all_items rs)
 
--- A line that opens a table or a row takes the lines behind it up to the last that isn't blank, whole tables too. The line break
--- of the last one and the blank lines behind it are separators.
+-- A line that opens a table or a row takes the lines after it up to the last that isn't blank, whole tables too. The line break
+-- of the last one and the blank lines after it are separators.
 abbrev pub delimiter : List Row → List Item
 delimiter rs = content (from_sign (take (stray_len rs) rs))
 
@@ -94,7 +94,7 @@ rows_stretches read (r ∷ rs) = enclosed (plain kind.Tbody) (flat_map (row_stre
 
 -- ---- tables
 
--- what stands in a table behind its open delimiter
+-- what is in a table after its open delimiter
 abbrev pub table_inside : Reading → TableOf Row → List Stretch
 table_inside read t = flat_map (cell_stretches read true) t.captions ++ rows_stretches read t.rows
 

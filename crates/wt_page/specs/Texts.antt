@@ -9,7 +9,7 @@ use Rattle.wt_context.specs.Line.{line_parts}
 use Rattle.wt_page.specs.Rows.{Row, first_lead, last_ending}
 use Rattle.wt_page.specs.Stretches.{Stretch, gap, tree_block}
 
--- a block of rows: what stands before the first and what ends the last lie outside it
+-- a block of rows: what comes before the first and what ends the last lie outside it
 abbrev pub with_separators : ItemTree → List Row → List Stretch
 with_separators t rs = gap (first_lead rs) ∷ tree_block t ∷ gap (last_ending rs) ∷ []
 

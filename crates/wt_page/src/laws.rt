@@ -13,7 +13,7 @@ pub fn rows_join()
     ensures { (xs : List Item) → all_items (rows xs) ≡ xs }
 {}
 
-/// What stands in a body, or in a cell, holds the items of its rows in their order, but that a
+/// What is in a body, or in a cell, holds the items of its rows in their order, but that a
 /// `nowiki` may be opened in it. This holds of any rows.
 pub fn blocks_hold_their_rows()
     ensures { (rs : List RowOf) → opened_all (held_parts (body_parts rs)) ≡ opened_all (all_items rs) }

@@ -1,4 +1,4 @@
-//! What stands in a body, a cell or an item: the rows of lines, cut into blocks, each block as a
+//! What is in a body, a cell or an item: the rows of lines, cut into blocks, each block as a
 //! tree over items.
 //!
 //! The definitions in `specs/` say what rows, blocks, lists and tables are; the laws say that they

@@ -11,7 +11,7 @@ abbrev pub begins_blank : List ℕ → Bool
 begins_blank [] = false
 begins_blank (s ∷ ss) = is_blank s
 
--- The line begins with the delimiter, this has the given signs and only blanks behind them, and behind it stands no further blank.
+-- The line begins with the delimiter, this has the given signs and only blanks after them, and after it is no further blank.
 pub record TakesBlanks (first : List ℕ) (delimiter : List Item) (line : List Item) : Type 0 where
   pub blanks : List ℕ
   pub rest : List Item
@@ -24,7 +24,7 @@ pub record TakesBlanks (first : List ℕ) (delimiter : List Item) (line : List I
 abbrev pub delimiter_of : ItemTree → List (List Item)
 delimiter_of t = if is_of_list (role_of t) then opening_of t ∷ [] else []
 
--- The one item of a line takes its prefix with the blanks behind it; a definition behind a term takes one sign with those behind it.
+-- The one item of a line takes its prefix with the blanks after it; a definition after a term takes one sign with those after it.
 abbrev pub AreDelimiters : List ℕ → List Item → List (List Item) → Type 0
 AreDelimiters prefix line [] = ⊥
 AreDelimiters prefix line (d ∷ []) = TakesBlanks prefix d line

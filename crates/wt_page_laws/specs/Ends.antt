@@ -1,4 +1,4 @@
--- Where separators stand: between the members of a list or a table, behind an open delimiter that nothing follows on its line, and at
+-- Where separators are: between the members of a list or a table, after an open delimiter that nothing follows on its line, and at
 -- the ends of the body and of a table; and at no end of any other node.
 use Rattle.std.specs.Prelude.{◌≡◌, Bool, false, List, [], ◌∷◌}
 use Rattle.std.specs.List.{AllByRecursion}
@@ -33,7 +33,7 @@ EndsWithNone ts = last_is false (tested is_separator ts) ≡ false
 abbrev pub HasNone : ItemTrees → Type 0
 HasNone ts = AllByRecursion (λ b. b ≡ false) (tested is_separator ts)
 
--- By what a node is, where its children are so. What stands on a line is not looked into. (A mark may end the line of an item or a
+-- By what a node is, where its children are so. What is on a line is not looked into. (A mark may end the line of an item or a
 -- cell, and so the item or the cell.)
 abbrev pub IsTightBy : Role → ItemTrees → Type 0 → Type 0
 IsTightBy outer ts inside = inside
@@ -50,7 +50,7 @@ IsTightBy skipped ts inside = Unit {0}
 IsTightBy other ts inside = Unit {0}
 
 -- No list and no body of a table begins or ends with a separator or a mark, no row ends with one, no item or cell ends with a
--- separator, and none stands in a paragraph, a heading or preformatted text.
+-- separator, and none is in a paragraph, a heading or preformatted text.
 abbrev mutual
   pub IsTight : ItemTree → Type 0
   IsTight (inner h opening ts closing) = IsTightBy (role h.kind) ts (AreTight ts)

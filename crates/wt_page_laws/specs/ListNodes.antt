@@ -9,7 +9,7 @@ use Rattle.wt_page_laws.specs.Roles.{role, is_of_list}
 
 -- ---- in a tree
 
--- Preorder: a list or an item with the number of lists and items round it, then all in it. What stands on a line holds none.
+-- Preorder: a list or an item with the number of lists and items round it, then all in it. What is on a line holds none.
 abbrev mutual
   pub list_nodes : ℕ → ItemTree → List (ℕ × Kind)
   list_nodes d (inner h opening ts closing) = if is_of_list (role h.kind) then (d, h.kind) ∷ list_nodes_of_all (suc d) ts else []
@@ -29,7 +29,7 @@ item_name sign = if sign == byte.semicolon then kind.Dt else if sign == byte.col
 abbrev pub name : Row → Kind
 name r = if r.item then item_name r.sign else list_name r.sign
 
--- a node of this name, or a term with a definition behind it
+-- a node of this name, or a term with a definition after it
 abbrev pub IsNamed : Row → List (ℕ × Kind) → List (ℕ × Kind) → Type 0
 IsNamed r others ns =
     (ns ≡ (r.depth, name r) ∷ others) ⊎ ((name r ≡ kind.Dt) × (ns ≡ (r.depth, kind.Dt) ∷ (r.depth, kind.Dd) ∷ others))

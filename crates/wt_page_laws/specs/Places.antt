@@ -1,9 +1,9 @@
--- What stands directly in what, beside separators, marks and what stands on a line.
+-- What is directly in what, beside separators, marks and what is on a line.
 use Rattle.std.specs.Prelude.{◌≡◌, ◌⊎◌, List, [], ◌∷◌}
 use Rattle.wt_inline.specs.ItemTree.{ItemTree, inner, ItemTrees, nothing, further}
 use Rattle.wt_page_laws.specs.Roles.{Role, outer, lines, list, item, rows, table, row, cell, caption, separator, skipped, other, role, role_of}
 
--- lists stand in an item; captions and one kind of body in a table; blocks in the body, a cell or a caption
+-- lists are in an item; captions and one kind of body in a table; blocks in the body, a cell or a caption
 abbrev pub holds : Role → List Role
 holds outer = lines ∷ list ∷ table ∷ []
 holds lines = []
@@ -25,7 +25,7 @@ IsOneOf r (q ∷ qs) = (r ≡ q) ⊎ IsOneOf r qs
 abbrev pub MayStand : Role → Role → Type 0
 MayStand parent r = IsOneOf r (separator ∷ other ∷ holds parent)
 
--- what stands on a line is not looked into
+-- what is on a line is not looked into
 abbrev pub IsHousedBy : Role → Type 0 → Type 0
 IsHousedBy outer inside = inside
 IsHousedBy lines inside = Unit {0}
@@ -40,7 +40,7 @@ IsHousedBy separator inside = Unit {0}
 IsHousedBy skipped inside = Unit {0}
 IsHousedBy other inside = Unit {0}
 
--- each child may stand there, and so on below
+-- each child may be there, and so on below
 abbrev mutual
   pub IsHoused : ItemTree → Type 0
   IsHoused (inner h opening ts closing) = IsHousedBy (role h.kind) (AreHoused (role h.kind) ts)

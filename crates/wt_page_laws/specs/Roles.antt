@@ -5,7 +5,7 @@ use Rattle.wt_tree.specs.declared.kind.Kind.TheVariants as kind
 use Rattle.wt_inline.specs.ItemTree.{Head, ItemTree, inner}
 
 -- `outer` is the body, `lines` a paragraph, a heading, preformatted text or a rule, `rows` the body of a table, `skipped` a space that is
--- read over, and `other` what stands on a line, and marks.
+-- read over, and `other` what is on a line, and marks.
 pub data Role : Type 0 where
   outer : Role
   lines : Role
@@ -123,7 +123,7 @@ is_skipped separator = false
 is_skipped skipped = true
 is_skipped other = false
 
--- what stands between the members of a list or a table: separators, and marks
+-- what is between the members of a list or a table: separators, and marks
 abbrev pub is_between : Role → Bool
 is_between outer = false
 is_between lines = false

@@ -14,7 +14,7 @@ HasNoColon xs = AllByRecursion (λ x. (sign x == byte.colon) ≡ false) xs
 abbrev pub HidesColons : Shape × List Item → Type 0
 HidesColons (w, xs) = w.kind ≡ kind.Chars → HasNoColon xs
 
--- so many items stand before a `:` among the characters of these tiles, and before it none among characters
+-- so many items come before a `:` among the characters of these tiles, and before it none among characters
 pub record IsFirstColon (n : ℕ) (ts : List (Shape × List Item)) : Type 0 where
   pub before : List (Shape × List Item)
   pub shape : Shape

@@ -27,16 +27,16 @@ ghost use Rattle.wt_page_laws.specs.Places.{IsHoused};
 ghost use Rattle.wt_page_laws.specs.Terms.{HidesColons, IsFirstColon};
 
 /// No list and no body of a table begins or ends with a separator or a mark, no row of one ends with
-/// them, no item or cell ends with a separator, and none stands in a paragraph, a heading or
+/// them, no item or cell ends with a separator, and none is in a paragraph, a heading or
 /// preformatted text.
 pub fn separators_stand_between()
     ensures { (xs : List Item) → IsTight (meaning xs) }
 {}
 
 /// The lists and items in the trees of lists, in preorder with the number of those round each, are
-/// those that begin at each line in turn, told by neighbouring lines alone: `*` makes `ul` with `li`,
+/// those that begin at each line in turn, by neighbouring lines alone: `*` makes `ul` with `li`,
 /// `#` makes `ol` with `li`, `;` and `:` make `dl` with `dt` and `dd`. A term may have a definition
-/// behind it on its line.
+/// after it on its line.
 pub fn lists_are_named_by_signs()
     ensures { (rs : List Row) → All IsPrefix (prefixes rs) → AreNamed (begun 0 [] (numbered 0 (prefixes rs)))
         (list_nodes_of_all 0 (forest (children (stretches_parts (lists rs))))) }
@@ -57,25 +57,25 @@ pub fn spaces_are_skipped()
     ensures later { (r : Row) (rs : List Row) → skipped_among (children_of (pre (r ∷ rs))) ≡ map (λ (s : Row). take 1 s.items) rs }
 {}
 
-/// A term ends at the first `:` among the characters of its line: before it stand other characters,
+/// A term ends at the first `:` among the characters of its line: before it are other characters,
 /// and tiles (links, tags, atoms, marks) with whatever colons in them. Where there is none among
-/// characters it doesn't end, and nor does anything behind another sign than `;`.
+/// characters it doesn't end, and nor does anything after another sign than `;`.
 pub fn terms_end_at_the_first_colon()
     ensures first { (xs : List Item) (n : ℕ) → term_len 59 xs ≡ Some n → IsFirstColon n (tiles in_line xs) }
     ensures none { (xs : List Item) → term_len 59 xs ≡ None → AllByRecursion HidesColons (tiles in_line xs) }
     ensures others { (s : ℕ) (xs : List Item) → (s == byte.semicolon) ≡ false → term_len s xs ≡ None }
 {}
 
-/// Each node of a list or a table stands where it belongs: items in lists alone, and lists in items,
+/// Each node of a list or a table is where it belongs: items in lists alone, and lists in items,
 /// cells, captions and the body; rows in a body of a table, cells in rows, captions and such bodies in
 /// a table; and paragraphs, headings and the like, lists and tables in the body, cells and captions.
-/// Separators, marks and what stands on a line may stand beside them.
+/// Separators, marks and what is on a line may be beside them.
 pub fn members_stand_in_their_own()
     ensures { (xs : List Item) → IsHoused (meaning xs) }
 {}
 
-/// The open delimiter of the item that a line begins is the line's prefix with all blanks behind it,
-/// and that of a definition behind a term one sign with all behind that, so that no text of theirs
+/// The open delimiter of the item that a line begins is the line's prefix with all blanks after it,
+/// and that of a definition after a term one sign with all after that, so that no text of theirs
 /// begins with a blank; nor does that of a cell.
 pub fn delimiters_take_the_blanks()
     ensures items { (s : ℕ) (r : Row) (ss : List Stretch) → AreDelimiters (prefix_of r.items) r.items

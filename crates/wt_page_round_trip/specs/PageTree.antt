@@ -1,4 +1,4 @@
--- The annotated tree of a page with its templates: its items, what they mean, and where each part of that stands, in sections.
+-- The annotated tree of a page with its templates: its items, what they mean, and where each part of that is, in sections.
 use Rattle.std.specs.Prelude.{ℕ, List}
 use Rattle.wt_span.specs.Origins.{Expanded}
 use Rattle.wt_tree.specs.Tree.{Tree}

@@ -31,7 +31,7 @@ ghost use Rattle.wt_page_round_trip.specs.PageTree.{page_tree};
 
 /// The HTML of a page with its templates is read as the page's own annotated tree, without its sections and
 /// the ranges of its texts and separators, and with the nodes of a group's elements in the place of its own. Each
-/// element outside groups, and each group, tells where it comes from, and the source is the page. It
+/// element outside groups, and each group, says where it comes from, and the source is the page. It
 /// holds of each page in UTF-8 of fewer than 2^30 bytes whose expansion nothing refuses, which so gives
 /// at most 2^23 bytes more.
 pub fn page_is_read()
@@ -44,7 +44,7 @@ pub fn page_is_read()
         → flat (unranged (without_sections (page_tree pages page))) ≡ page }
 {}
 
-/// What stands on a page for the meaning of its expanded items, each of its own once and of each
+/// What is on a page for the meaning of its expanded items, each of its own once and of each
 /// outermost call the source, is the page.
 pub fn items_are_the_page()
     ensures { (pages : Pages) (page : List ℕ) → IsUtf8 page → first_refusal pages page (page_work pages page) ≡ None

@@ -19,7 +19,7 @@ abbrev pub written_rows : ℕ → List (List Item) → List Row
 written_rows tables [] = []
 written_rows tables (l ∷ ls) = line_rows (kind_at tables l) l ++ written_rows (behind tables (kind_at tables l)) ls
 
--- and how many are open behind the last
+-- and how many are open after the last
 abbrev pub tables_behind : ℕ → List (List Item) → ℕ
 tables_behind tables [] = tables
 tables_behind tables (l ∷ ls) = tables_behind (behind tables (kind_at tables l)) ls

@@ -7,7 +7,7 @@ ghost use Rattle.wt_braces.specs.declared.call.BraceRefusal.TheVariants as refus
 ghost use Rattle.wt_braces.specs.declared.call.Call.{Call};
 ghost use Rattle.wt_place_laws.specs.Deepest.{IsFirstDeep, NoneIsDeep};
 
-/// The place that is told is that of the first call with too many calls round it; calls are found exactly
+/// The place that is reported is that of the first call with too many calls round it; calls are found exactly
 /// where none has.
 pub fn the_first_deep_call_is_told()
     ensures refused { (cs : List CallAt) → (place : ℕ) → (AnswersCalls cs (Err (refusal.BracesTooDeep place))) ↔ (IsFirstDeep cs place) }

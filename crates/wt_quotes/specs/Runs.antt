@@ -40,7 +40,7 @@ ends_in_run [] = false
 ends_in_run (c ∷ []) = is_run c
 ends_in_run (c ∷ d ∷ cs) = ends_in_run (d ∷ cs)
 
--- how many apostrophes stand at a place: 0 where no run does
+-- how many apostrophes are at a place: 0 where no run does
 abbrev pub run_length : Option Chunk → ℕ
 run_length None = 0
 run_length (Some (Run n)) = n

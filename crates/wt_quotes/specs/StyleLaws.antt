@@ -13,7 +13,7 @@ use Rattle.wt_quotes.specs.Styles.{style_tree_of}
 abbrev pub IsWhole : ℕ → Style → Type 0
 IsWhole total s = (s.from + s.open_w + s.close_w ≤ s.to) × (s.to ≤ total)
 
--- a later style lies behind an earlier one, or between its delimiters, and is then of the other kind
+-- a later style lies after an earlier one, or between its delimiters, and is then of the other kind
 abbrev pub IsBehindOrInside : Style → Style → Type 0
 IsBehindOrInside s u = (s.to ≤ u.from) ⊎ ((s.from + s.open_w ≤ u.from) × (u.to + s.close_w ≤ s.to) × (u.bold ≡ not s.bold))
 

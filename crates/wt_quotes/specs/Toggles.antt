@@ -19,7 +19,7 @@ toggle_of k n =
     else (if n == 4 then Some (record { chunk = k; plain = 1; italic = false; bold = true })
     else Some (record { chunk = k; plain = n - 5; italic = true; bold = true }))))
 
--- the toggle of what stands at a place
+-- the toggle of what is at a place
 unfoldable pub toggle_at : List Chunk → ℕ → Option Toggle
 toggle_at chunks k = toggle_of k (run_length (slice_get chunks k))
 
@@ -39,7 +39,7 @@ is_ascii_no_space (Some c) = nat_lt c 128 && not (c == byte.space)
 abbrev pub class_by : Option ℕ → Option ℕ → Preceding
 class_by z y = if is_space z then Space else (if is_ascii_no_space z && is_space y then OneLetter else Middle)
 
--- the class of a run behind a chunk: the apostrophe of a run of four is the last item before its run of three
+-- the class of a run after a chunk: the apostrophe of a run of four is the last item before its run of three
 abbrev pub class_of : ℕ → Option Chunk → Preceding
 class_of n before = if n == 4 then class_by (Some 39) (last_of before) else class_by (last_of before) (before_of before)
 
@@ -73,8 +73,8 @@ is_three chunks class t = is_bold_alone t && is_same_class (class_at chunks t.ch
 abbrev pub first_of : List Chunk → Preceding → List Toggle → Option ℕ
 first_of chunks class ts = position (is_three chunks class) ts
 
--- the place of the run that is exchanged: the first behind one letter, else the first of the middle class,
--- else the first behind a space
+-- the place of the run that is exchanged: the first after one letter, else the first of the middle class,
+-- else the first after a space
 abbrev pub exchange_place : List Chunk → List Toggle → Option ℕ
 exchange_place chunks ts = option_or (first_of chunks OneLetter ts) (option_or (first_of chunks Middle ts) (first_of chunks Space ts))
 

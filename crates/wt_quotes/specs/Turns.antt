@@ -75,7 +75,7 @@ is_bold_outside_at ts i o = if is_some o.bold || is_some o.italic then is_outsid
 abbrev pub opened_before : List Toggle → ℕ → Opened
 opened_before ts i = record { bold = since true ts i; italic = since false ts i }
 
--- the place of a toggle's first byte behind its plain apostrophes
+-- the place of a toggle's first byte after its plain apostrophes
 abbrev pub start_of : List Chunk → Toggle → ℕ
 start_of chunks t = place_of chunks t.chunk + t.plain
 

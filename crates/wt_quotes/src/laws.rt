@@ -8,7 +8,7 @@ ghost use Rattle.wt_quotes.specs.StyleLaws.{StylesNest, EachByteIsStyled, EachSw
 use crate::chunk::Chunk;
 
 /// At most one run is exchanged, and after it the numbers of bold and of italic toggles are not
-/// both odd, but where no run of three stands in the context.
+/// both odd, but where no run of three is in the context.
 pub fn one_run_is_exchanged(chunks: &[Chunk])
     ensures one { AtMostOneExchange chunks.now }
     ensures even { NotBothOdd chunks.now }
@@ -19,7 +19,7 @@ pub fn toggles_are_runs(chunks: &[Chunk])
     ensures { TogglesAreRuns chunks.now }
 {}
 
-/// Styles nest: each later one lies behind an earlier one or between its delimiters, and a bold
+/// Styles nest: each later one lies after an earlier one or between its delimiters, and a bold
 /// style never lies in a bold one, nor an italic one in an italic one.
 pub fn styles_nest(chunks: &[Chunk])
     ensures { StylesNest chunks.now }

@@ -2,7 +2,7 @@
 //! that they make of a line. The rules are those of MediaWiki's `doQuotes`, in the profile's form.
 //! The layer above cuts a context (a line, the text of a link, the inside of a tag, a cell) into
 //! chunks, and may use that `toggles` and `style_tree` give what the definitions say. A call of one
-//! of the functions that do nothing, as `styles_nest`, tells what holds of a context.
+//! of the functions that do nothing, as `styles_nest`, says what holds of a context.
 #![tactic(auto)]
 
 mod chunk;

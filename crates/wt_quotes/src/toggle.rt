@@ -11,7 +11,7 @@ use std::alloc::Global;
 use wt_span::{List, NoMemory};
 
 /// A run of apostrophes that switches styles: its place among the chunks, how many of its
-/// apostrophes are plain characters and stand first in it, and which styles the rest switches:
+/// apostrophes are plain characters and are first in it, and which styles the rest switches:
 /// italic (two apostrophes), bold (three), or both (five).
 #[derive(Clone, Copy, Debug, PartialEq, Eq)]
 pub struct Toggle {
@@ -22,7 +22,7 @@ pub struct Toggle {
 }
 
 /// The class of a run of three, by the two items before it, which decides whether it is the one
-/// that is exchanged: one letter stands before it, or a space does, or neither.
+/// that is exchanged: one letter comes before it, or a space does, or neither.
 #[derive(Clone, Copy, Debug, PartialEq, Eq)]
 pub enum Preceding {
     OneLetter,
@@ -40,7 +40,7 @@ fn class_by(last: Option<char>, before: Option<char>) -> Preceding
     }
 }
 
-/// The class of a run behind a chunk. The apostrophe of a run of four is the last item before its
+/// The class of a run after a chunk. The apostrophe of a run of four is the last item before its
 /// run of three.
 fn class_of(run: u32, before: Option<Chunk>) -> Preceding
     ensures { result ≡ class_of run before }

@@ -149,7 +149,7 @@ fn flipped(toggles: bool, at: usize, since: Option<usize>) -> Option<usize>
     }
 }
 
-/// What is open behind a toggle.
+/// What is open after a toggle.
 fn opened_after(toggles: &[Toggle], at: usize, opened: Opened) -> Opened
     ensures bold { result.bold ≡ flipped (toggles_at true toggles.now at) at opened.bold }
     ensures italic { result.italic ≡ flipped (toggles_at false toggles.now at) at opened.italic }

@@ -27,7 +27,7 @@ nears_of calls cs = map (near_of calls) cs
 abbrev pub children_at : List OuterCall → Option ℕ → ℕ → Option ℕ → List ItemTree → List Near
 children_at calls o at p ts = near calls (group_data calls) o at p (forest ts)
 
--- ---- trees with the call of the first item behind them
+-- ---- trees with the call of the first item after them
 
 abbrev pub tree_after : Followed → ItemTree × Option ℕ
 tree_after f = (item_tree f.tree, f.after)

@@ -10,7 +10,7 @@ use Rattle.wt_annotated.specs.Pieces.{is_hollow}
 use Rattle.wt_annotated.specs.Seams.{last_of, parted}
 use Rattle.wt_annotated.specs.Walked.{longer, parts_from}
 
--- a piece that stands for items, behind a free cut
+-- a piece that stands for items, after a free cut
 abbrev pub begins_at : Option ℕ → Piece → Bool
 begins_at o p = not (is_hollow p) && parted o (call_of_origin p.origin)
 
@@ -26,7 +26,7 @@ pub record CallFound (calls : List OuterCall) (found : PartsSoFar) (k : ℕ) (no
   pub number : now.number ≡ next_number (slice_get calls k) found.number
   pub since : now.since ≡ Some []
 
--- all parts, where these items come next behind an item of this call
+-- all parts, where these items come next after an item of this call
 abbrev pub all_parts : List OuterCall → PartsSoFar → Option ℕ → List Item → List Datum
 all_parts calls f o xs = f.parts ++ data_parts calls f.number (parts_from o f.since xs)
 

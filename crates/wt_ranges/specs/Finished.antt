@@ -1,5 +1,5 @@
 -- What becomes of a placed tree where the next number is this: the tree with its numbers and with its texts cut anew, and the
--- number behind it. Of a whole page's tree this is the annotated tree, since texts have no numbers.
+-- number after it. Of a whole page's tree this is the annotated tree, since texts have no numbers.
 use Rattle.std.specs.Prelude.{◌≡◌, ℕ, ◌+◌}
 use Rattle.wt_tree.specs.Tree.{Tree, tree, Trees}
 use Rattle.wt_annotated.specs.CutTexts.{cut_texts, all_cut_texts}

@@ -30,7 +30,7 @@ pub record IsRunOf (cs : List Child) (r : Run) : Type 0 where
   pub becomes : (calls : List OuterCall)
       → run_tree calls r ≡ near_run calls (group_data calls) (nears_of calls cs)
 
--- a child begins another run behind the one that waits
+-- a child begins another run after the one that waits
 abbrev pub begins_run : List Child → Child → Bool
 begins_run [] d = false
 begins_run (c ∷ cs) d = d.free

@@ -15,8 +15,8 @@ use wt_call_data::call_part;
 use wt_span::{List, NoMemory, Outer, Piece, Str, Text};
 use wt_tree::{DataMw, Part};
 
-/// What is found of a group's parts so far: those that are whole, how many calls stand among them
-/// without arguments, and what stands since the last call; none before the first.
+/// What is found of a group's parts so far: those that are whole, how many calls are among them
+/// without arguments, and what is since the last call; none before the first.
 #[derive(Drop)]
 pub struct PartsSoFar {
     pub parts: List<Part>,
@@ -24,7 +24,7 @@ pub struct PartsSoFar {
     pub since: Option<Str>,
 }
 
-/// The number of the call behind this one; more calls than there are numbers don't fit into memory.
+/// The number of the call after this one; more calls than there are numbers don't fit into memory.
 fn next_number(outer: &Outer<'_>, number: u32) -> Result<u32, NoMemory>
     ensures { IfOk result (λ n. n ≡ next_number (Some (outer_call outer.now)) number) }
 {
@@ -132,7 +132,7 @@ fn begins(before: Option<u32>, piece: Piece<'_>) -> bool
     !is_hollow(piece) && is_parted(before, call_of(piece.origin))
 }
 
-/// What is found with another piece, behind an item of the call `before`.
+/// What is found with another piece, after an item of the call `before`.
 fn with_piece<'a>(
     alloc: Global,
     calls: &[Outer<'a>],
@@ -152,7 +152,7 @@ fn with_piece<'a>(
     }
 }
 
-/// What the element of a group carries that holds these pieces, behind an item of the call `before`.
+/// What the element of a group carries that holds these pieces, after an item of the call `before`.
 #[tactic(auto, unfolding(wt_annotated::specs::GroupData::group_data))]
 pub fn group_data<'a>(
     alloc: Global,

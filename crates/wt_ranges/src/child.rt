@@ -34,8 +34,8 @@ use wt_inline::{PieceTree, with_room};
 use wt_span::{List, NoMemory, Outer};
 use wt_tree::Kind;
 
-/// A child with what stands round it: the calls of the last item before it and of the first item
-/// behind it, the byte of the page at which it begins, whether the cut before it is free, and
+/// A child with what is round it: the calls of the last item before it and of the first item
+/// after it, the byte of the page at which it begins, whether the cut before it is free, and
 /// whether it is clean.
 #[derive(Drop)]
 pub struct Child<'a> {
@@ -47,7 +47,7 @@ pub struct Child<'a> {
     pub clean: bool,
 }
 
-/// A tree with the call of the first item behind it.
+/// A tree with the call of the first item after it.
 #[derive(Drop)]
 struct Followed<'a> {
     tree: PieceTree<'a>,
@@ -64,7 +64,7 @@ struct Findings {
     clean: bool,
 }
 
-/// Whether the four cuts of a node are free, which stands between items of these calls.
+/// Whether the four cuts of a node are free, which is between items of these calls.
 fn has_free_places(
     before: Option<u32>,
     after: Option<u32>,
@@ -104,7 +104,7 @@ fn is_body(kind: Kind) -> bool
     }
 }
 
-/// Whether a node is clean that stands between items of these calls.
+/// Whether a node is clean that is between items of these calls.
 fn is_clean(
     before: Option<u32>,
     after: Option<u32>,
@@ -120,7 +120,7 @@ fn is_clean(
     is_body(tree.head.kind) || holds_page_item(tree)
 }
 
-/// Reads what a child holds that stands between items of these calls.
+/// Reads what a child holds that is between items of these calls.
 fn read_child<'a>(
     calls: &[Outer<'a>],
     tree: &PieceTree<'a>,
@@ -142,7 +142,7 @@ fn read_child<'a>(
     }
 }
 
-/// Trees with the call of the first item behind each, from the last tree to the first.
+/// Trees with the call of the first item after each, from the last tree to the first.
 fn with_followers<'a>(
     alloc: Global,
     trees: List<PieceTree<'a>>,
@@ -161,7 +161,7 @@ fn with_followers<'a>(
     Ok(followed)
 }
 
-/// The children of a node, of which the first begins behind an item of the call `before` and at
+/// The children of a node, of which the first begins after an item of the call `before` and at
 /// `byte`, and the last ends before an item of the call `after`.
 pub fn children<'a>(
     alloc: Global,

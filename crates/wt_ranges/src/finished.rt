@@ -26,14 +26,14 @@ use wt_inline::NodeHead;
 use wt_span::{List, NoMemory, Outer};
 use wt_tree::Node;
 
-/// A node with all its numbers, and the next number behind it.
+/// A node with all its numbers, and the next number after it.
 #[derive(Drop)]
 pub struct Finished<'a> {
     pub node: Node<'a>,
     pub next: u32,
 }
 
-/// Nodes with all their numbers, and the next number behind them.
+/// Nodes with all their numbers, and the next number after them.
 #[derive(Drop)]
 pub struct AllFinished<'a> {
     pub nodes: List<Node<'a>>,

@@ -26,7 +26,7 @@ use wt_inline::{NodeHead, PieceTree, with_room};
 use wt_span::{List, NoMemory, Outer, Piece};
 use wt_tree::{DataMw, Kind, Mark, More, Node, Ranges, Shown, Slices};
 
-/// Where a group begins: behind an item of which call, and at which byte of the page.
+/// Where a group begins: after an item of which call, and at which byte of the page.
 #[derive(Clone, Copy)]
 struct Start {
     before: Option<u32>,

@@ -24,7 +24,7 @@ use wt_span::{List, NoMemory, Outer};
 use wt_tree::{Kind, Node, Ranges, Slices};
 
 /// What a kept node takes from the page beside its children: its ranges and delimiters, and the
-/// call before its first child, the byte at which that begins, and the call behind its last.
+/// call before its first child, the byte at which that begins, and the call after its last.
 #[derive(Drop)]
 pub struct Frame<'a> {
     pub ranges: Ranges,

@@ -67,7 +67,7 @@ impl<'a> Annotated<'a> {
         &self.items
     }
 
-    /// Where the page's text calls outside its outermost calls stand, in order of the first byte.
+    /// Where the page's text calls outside its outermost calls are, in order of the first byte.
     pub fn text_calls(&self) -> &[Range]
         ensures { map span_of result.now ≡ self.now.items.text_calls }
     {
@@ -101,7 +101,7 @@ fn in_sections<'a>(
 }
 
 /// The annotated tree of a page by its items and their meaning, the tree over them: its groups and the nodes
-/// that are kept, each with its place in bytes of the page, its source as it stands there, and its number; each
+/// that are kept, each with its place in bytes of the page, its source as it is there, and its number; each
 /// group carries its parts; the texts and separators of items and cells are cut anew; the body's children stand
 /// in sections. The items are kept beside the tree.
 pub fn group<'a>(

@@ -36,7 +36,7 @@ fn run_of<'a>(children: wt_span::List<Child<'a>>) -> Run<'a>
     Run::Group(wt_span::List::from_vec(children))
 }
 
-/// Whether a child begins another run behind the one that waits.
+/// Whether a child begins another run after the one that waits.
 fn begins_run(run: &[Child<'_>], child: &Child<'_>) -> bool
     ensures { result ≡ begins_run run.now child.now }
 {

@@ -1,4 +1,4 @@
--- Which elements of a group stand together: pieces among siblings, and the trees that they make.
+-- Which elements of a group are together: pieces among siblings, and the trees that they make.
 use Rattle.std.specs.Prelude.{◌≡◌, Bool, true, false, List, [], ◌∷◌, ◌++◌, map}
 use Rattle.wt_tree.specs.Tree.{Label, Tree, tree, Trees, none as no_trees, more as one_more}
 use Rattle.wt_schema.specs.Groups.{Piece, single, begun, further}
@@ -7,7 +7,7 @@ abbrev pub trees : List Tree → Trees
 trees [] = no_trees
 trees (t ∷ ts) = one_more t (trees ts)
 
--- a further element of a group stands only behind another element of a group
+-- a further element of a group comes only after another element of a group
 abbrev pub IsPlaced : Bool → List Piece → Type 0
 IsPlaced open_group [] = Unit {0}
 IsPlaced open_group (single t ∷ xs) = IsPlaced false xs
@@ -20,7 +20,7 @@ BeginsAnew (single t ∷ xs) = Unit {0}
 BeginsAnew (begun l t ∷ xs) = Unit {0}
 BeginsAnew (further t ∷ xs) = ⊥
 
--- A node by itself is a tree; the first element of a group and all further ones behind it up to what isn't one are one tree.
+-- A node by itself is a tree; the first element of a group and all further ones after it up to what isn't one are one tree.
 pub data AreGathered : List Piece → Trees → Type 0 where
   nothing : AreGathered [] no_trees
   alone : (t : Tree) (xs : List Piece) (ts : Trees) → AreGathered xs ts → AreGathered (single t ∷ xs) (one_more t ts)

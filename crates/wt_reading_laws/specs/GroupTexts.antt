@@ -1,4 +1,4 @@
--- What the parts of a group stand for on the page. A group has so many items (`size`) behind so many others (`from`).
+-- What the parts of a group stand for on the page. A group has so many items (`size`) after so many others (`from`).
 use Rattle.std.specs.Prelude.{◌≡◌, ◌≢◌, ℕ, suc, ◌+◌, ◌-◌, ◌<◌, ◌≤◌, true, Some, List, [], ◌∷◌, slice_get}
 use Rattle.wt_span.specs.Items.{Item}
 use Rattle.wt_span.specs.Origins.{OuterCall}
@@ -6,7 +6,7 @@ use Rattle.wt_span.specs.Cuts.{is_free, call_of_item, source_of_call}
 use Rattle.wt_annotated.specs.GroupParts.{Part, called, between}
 use Rattle.wt_reading_laws.specs.Places.{IsFirst, IsNowhere}
 
--- in the group, behind `before` of all items, an item stands that comes from this call, and the item before it doesn't
+-- in the group, after `before` of all items, an item stands that comes from this call, and the item before it doesn't
 pub record CallBegins (all : List Item) (from size before call : ℕ) : Type 0 where
   pub starts : from ≤ before
   pub ends : before < from + size
@@ -28,14 +28,14 @@ calls_among [] = []
 calls_among (called k ∷ ps) = k ∷ calls_among ps
 calls_among (between bs ∷ ps) = calls_among ps
 
--- These are the calls that begin in the group: the first that begins, and behind it again these, and none else.
+-- These are the calls that begin in the group: the first that begins, and after it again these, and none else.
 abbrev pub AreItsCalls : List Item → ℕ → ℕ → List ℕ → Type 0
 AreItsCalls all from size [] = IsNowhere (Begins all from size)
 AreItsCalls all from size (call ∷ more) =
     (before : ℕ) × IsFirst (Begins all from size) before × CallBegins all from size before call
     × AreItsCalls all (suc before) ((from + size) - suc before) more
 
--- parts that follow a call: each text stands alone between two calls and isn't empty
+-- parts that follow a call: each text is alone between two calls and isn't empty
 abbrev pub FollowCall : List Part → Type 0
 FollowCall [] = Unit {0}
 FollowCall (called k ∷ ps) = FollowCall ps

@@ -13,12 +13,12 @@ pub data BeginsPart : LineKind → Type 0 where
   cell : BeginsPart kind.Cell
   header : BeginsPart kind.Header
 
--- lines that begin cells where no row or cell stands before
+-- lines that begin cells where no row or cell comes before
 pub data BeginsFirstCell : LineKind → Type 0 where
   first_cell : BeginsFirstCell kind.Cell
   first_header : BeginsFirstCell kind.Header
 
--- and behind a row or cell, where a caption is a cell too
+-- and after a row or cell, where a caption is a cell too
 pub data BeginsCell : LineKind → Type 0 where
   plain_cell : BeginsCell kind.Cell
   header_cell : BeginsCell kind.Header
@@ -32,13 +32,13 @@ abbrev pub BeginsNone : {A : Type 0} → (A → LineKind) → List A → Type 0
 BeginsNone kind_of u = BeginsPart (unit_kind kind_of u) → ⊥
 
 -- What follows the line of a delimiter: stray units, which belong to it and of which the last isn't blank, and blank ones
--- behind them, which don't.
+-- after them, which don't.
 pub record Follow {A : Type 0} (kind_of : A → LineKind) (stray blank : List (List A)) : Type 0 where
   pub begin_none : AllByRecursion (BeginsNone kind_of) stray
   pub ends : (front : List (List A)) (u : List A) → stray ≡ front ++ (u ∷ []) → unit_kind kind_of u ≡ kind.Blank → ⊥
   pub blanks : AllByRecursion (λ u. unit_kind kind_of u ≡ kind.Blank) blank
 
--- a part: the unit that begins it, and those behind it, of which none begins one
+-- a part: the unit that begins it, and those after it, of which none begins one
 pub record IsPart {A : Type 0} (kind_of : A → LineKind) (Begins : LineKind → Type 0) (us : List (List A)) : Type 0 where
   pub first : List A
   pub others : List (List A)
@@ -56,7 +56,7 @@ pub record LaidRow (A : Type 0) : Type 0 where
 abbrev pub row_units : {A : Type 0} → LaidRow A → List (List A)
 row_units r = r.line ++ (r.stray ++ (r.blank ++ joined r.cells))
 
--- the row's lines: the stray ones stand in its delimiter
+-- the row's lines: the stray ones are in its delimiter
 abbrev pub row_made : {A : Type 0} → LaidRow A → RowOf A
 row_made r = record { opening = joined (r.line ++ r.stray); between = joined r.blank; cells = map joined r.cells }
 

@@ -1,4 +1,4 @@
--- What stands between white space.
+-- What is between white space.
 use Rattle.std.specs.Prelude.{◌≡◌, ℕ, List, [], ◌∷◌, ◌++◌}
 use Rattle.std.specs.List.{AllByRecursion}
 

@@ -8,9 +8,9 @@ ghost use Rattle.wt_annotated.specs.GroupParts.{parts};
 ghost use Rattle.wt_reading_laws.specs.Places.{IsFirst, IsLast};
 ghost use Rattle.wt_reading_laws.specs.GroupTexts.{AreItsCalls, AreParted, Begins, calls_among, page_text};
 
-/// The parts of a group, joined, are what stands on the page from its first call to the end of its last.
+/// The parts of a group, joined, are what is on the page from its first call to the end of its last.
 /// The calls among them are those that begin in the group, in order; between two of them at most one text
-/// stands, which isn't empty, and none before the first or behind the last.
+/// stands, which isn't empty, and none before the first or after the last.
 pub fn parts_of_groups()
     ensures joined { (calls : List OuterCall) → (all : List Item) → (from : ℕ) → (size : ℕ)
         → (first : ℕ) → (last : ℕ)

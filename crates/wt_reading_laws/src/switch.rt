@@ -5,7 +5,7 @@ ghost use Rattle.wt_functions.specs.Choice.{chosen};
 ghost use Rattle.wt_reading_laws.specs.Places.{IsFirst, IsLast, IsNowhere};
 ghost use Rattle.wt_reading_laws.specs.Switches.{IsValue, IsWholeEnd, IsDefault};
 
-/// The first part with a `=` that is equal to part 0 or behind such a part is given; where there is
+/// The first part with a `=` that is equal to part 0 or after such a part is given; where there is
 /// none, the last part, if it has no `=`; where that has one too, the last part with the name
 /// `#default`; and else nothing.
 pub fn part_of_switch()

@@ -44,7 +44,7 @@ abbrev pub is_block_face : Plain → Bool
 is_block_face (text bs) = false
 is_block_face (element f qs) = is_block f.kind
 
--- behind a block no inline element stands
+-- after a block comes no inline element
 abbrev pub may_stand_behind : Bool → Plain → Bool
 may_stand_behind behind (text bs) = true
 may_stand_behind behind (element f qs) = may_follow behind f.kind
@@ -53,7 +53,7 @@ abbrev pub in_order : Bool → Plains → Bool
 in_order behind ended = true
 in_order behind (along p ps) = may_stand_behind behind p && in_order (behind || is_block_face p) ps
 
--- the same of the elements of a group, but that an empty `span` may stand anywhere
+-- the same of the elements of a group, but that an empty `span` may be anywhere
 abbrev pub is_anywhere : Plain → Bool
 is_anywhere (text bs) = false
 is_anywhere (element f qs) = is_empty_span f qs

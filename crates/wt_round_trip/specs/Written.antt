@@ -67,14 +67,14 @@ abbrev pub shown_of : Kind → List ℕ → List ℕ
 shown_of kind.Sep own = []
 shown_of k own = own
 
--- directly in the body stand separators, which are spaces, tabs and line breaks; elsewhere texts
+-- directly in the body are separators, which are spaces, tabs and line breaks; elsewhere texts
 abbrev pub leaf_kind : Kind → Kind
 leaf_kind parent = if holds_text parent then kind.Text else kind.Sep
 
 abbrev pub may_stand : Kind → List ℕ → Bool
 may_stand parent own = if holds_text parent then true else is_blank own
 
--- in an item, a cell or a caption both may stand
+-- in an item, a cell or a caption both may be
 abbrev pub HasLeafKind : Texts → Kind → Kind → Type 0
 HasLeafKind Separators j k = k ≡ j
 HasLeafKind Page j k = k ≡ j
@@ -137,7 +137,7 @@ IsShown true bs = IsUtf8 bs
 IsShown false bs = bs ≡ []
 
 -- Attributes of the node's own: those that its row has, in their order, each with a value that may
--- stand there and is read as it is. One that tells the kind is there.
+-- are there and is read as it is. One that decides the kind is there.
 abbrev pub AreOwn : List Own → List (AttrName × List ℕ) → Type 0
 AreOwn [] xs = xs ≡ []
 AreOwn (o ∷ os) xs =
@@ -204,7 +204,7 @@ abbrev pub begins_with_characters : Plains → Bool
 begins_with_characters ended = false
 begins_with_characters (along p ps) = is_characters p
 
--- what stands in an element of a group: no two texts stand next to each other
+-- what is in an element of a group: no two texts are next to each other
 abbrev mutual
   pub PlainIn : ℕ → Kind → Plain → Type 0
   PlainIn k parent (text bs) = (holds_text parent ≡ true) × IsUtf8 bs × (is_empty bs ≡ false)
@@ -215,7 +215,7 @@ abbrev mutual
   PlainsIn k parent ended = Unit {0}
   PlainsIn k parent (along p ps) = PlainIn k parent p × ((is_characters p && begins_with_characters ps) ≡ false) × PlainsIn k parent ps
 
--- an element of a group fits where the group stands; an empty `span` does so anywhere
+-- an element of a group fits where the group is; an empty `span` does so anywhere
 abbrev pub TopIn : ℕ → Kind → Plain → Type 0
 TopIn k parent (text bs) = ⊥
 TopIn k parent (element f qs) = ((may_hold parent f.kind || is_empty_span f qs) ≡ true) ×
@@ -263,7 +263,7 @@ is_childless (more t ts) = false
 
 -- A node by how it is written, within k elements, the innermost of which has the kind `parent`. HTML
 -- nests at most `NESTED_ELEMENTS` elements. No leaf has children. A group is written as its elements. No
--- section stands in a node.
+-- section is in a node.
 abbrev pub NodeIsWritten : Writing → ℕ → Kind → Label → Bool → Type 0 → Type 0 → Type 0
 NodeIsWritten AsText k parent l childless inside group = IsTextIn parent l × (childless ≡ true)
 NodeIsWritten (AsSection n) k parent l childless inside group = ⊥
@@ -271,14 +271,14 @@ NodeIsWritten Unwritten k parent l childless inside group = group
 NodeIsWritten w k parent l childless inside group = (k < NESTED_ELEMENTS) × (may_hold parent l.kind ≡ true) × IsElementLabel l ×
     ((not (is_leaf l.kind) || childless) ≡ true) × inside
 
--- Two texts that stand next to each other would be read as one: that is well where they are cut again.
+-- Two texts that are next to each other would be read as one: that is well where they are cut again.
 abbrev pub joins : Texts → Bool → Bool
 joins Separators b = b
 joins Page b = b
 joins Bordered b = false
 joins OwnCharacter b = b
 
--- no inline element stands behind a block
+-- no inline element comes after a block
 abbrev pub goes_behind : Bool → Tree → Bool
 goes_behind behind (tree l ts) = if is_group l.kind then all_follow behind (elements_for ts) else may_follow behind l.kind
 
@@ -304,8 +304,8 @@ abbrev mutual
   AllWrittenIn k parent (more t ts) = WrittenIn k parent t ×
       (joins (texts_of_kind parent) (is_text t && begins_with_text ts) ≡ false) × AllWrittenIn k parent ts
 
--- What stands in the body or in a section, within k elements, by how it is written: a section, with what
--- stands in it, or a node.
+-- What is in the body or in a section, within k elements, by how it is written: a section, with what
+-- is in it, or a node.
 abbrev pub PartIsWritten : Writing → ℕ → Type 0 → Type 0 → Type 0
 PartIsWritten AsText k inside node = node
 PartIsWritten AsVoid k inside node = node
@@ -314,7 +314,7 @@ PartIsWritten RoundChildren k inside node = node
 PartIsWritten (AsSection n) k inside node = (k < NESTED_ELEMENTS) × (n < 2 ^ 32) × inside
 PartIsWritten Unwritten k inside node = node
 
--- No two texts stand next to each other there. No section's number is read: what stands in one is read in a
+-- No two texts are next to each other there. No section's number is read: what is in one is read in a
 -- section of number 0.
 abbrev mutual
   pub PartIn : ℕ → Kind → Tree → Type 0
@@ -324,6 +324,6 @@ abbrev mutual
   PartsIn k parent none = Unit {0}
   PartsIn k parent (more t ts) = PartIn k parent t × ((is_text t && begins_with_text ts) ≡ false) × PartsIn k parent ts
 
--- the tree of a page: a body, which stands within `html`
+-- the tree of a page: a body, which is within `html`
 abbrev pub IsWritten : Tree → Type 0
 IsWritten (tree l ts) = (l.kind ≡ kind.Body) × IsElementLabel l × PartsIn 2 kind.Body ts

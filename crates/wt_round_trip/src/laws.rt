@@ -15,8 +15,8 @@ ghost use Rattle.wt_schema.specs.Read.{read, page};
 ghost use Rattle.wt_round_trip.specs.Written.{unranged, WrittenIn, PartIn, IsWritten};
 
 /// What is written for a page's tree is well-formed HTML. It stands for this very tree, but for its
-/// sections, in whose place stands what they hold, and for what stands in its groups: in their place
-/// stand the nodes of the elements that show it. It is read as this tree, and every element outside groups tells where it comes from, as every group does. The
+/// sections, in whose place stands what they hold, and for what is in its groups: in their place
+/// stand the nodes of the elements that show it. It is read as this tree, and every element outside groups says where it comes from, as every group does. The
 /// ranges of texts and separators, which no HTML has, aren't read; the source that the tree stands
 /// for is the same without them. (A group's number is a number of 64 bits.)
 pub fn written_is_read()
@@ -34,8 +34,8 @@ pub fn without_ranges()
     ensures numbers { (t : Tree) → numbers (unranged t) ≡ numbers t }
 {}
 
-/// A node that may be written within some elements may be written within fewer; one that may stand in
-/// the body may stand in a section; and where a node may stand, it is a part of the body or of the
+/// A node that may be written within some elements may be written within fewer; one that may be in
+/// the body may be in a section; and where a node may be, it is a part of the body or of the
 /// section.
 pub fn nodes_stand_in_sections()
     ensures shallower { (t : Tree) (k j : ℕ) (parent : Kind) → j ≤ k → WrittenIn k parent t → WrittenIn j parent t }

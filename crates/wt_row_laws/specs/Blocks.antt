@@ -19,7 +19,7 @@ use Rattle.wt_page.specs.Tables.{Reading, table_by}
 use Rattle.wt_page.specs.Body.{within}
 use Rattle.wt_row_laws.specs.Units.{IsUnit}
 
--- A block by its rows: the first and those behind it. Of a table: the row that opens it, those inside it, and the one that ends it.
+-- A block by its rows: the first and those after it. Of a table: the row that opens it, those inside it, and the one that ends it.
 pub data Block : Type 0 where
   blank : Row → Block
   table : Row → List Row → Row → Block
@@ -46,7 +46,7 @@ abbrev pub BeginOtherwise : LineKind → List Row → Type 0
 BeginOtherwise k [] = Unit {0}
 BeginOtherwise k (r ∷ rs) = r.kind ≡ k → ⊥
 
--- A block is made of rows of its kind, with these others behind it. Lists, preformatted text and paragraphs go as far as they can.
+-- A block is made of rows of its kind, with these others after it. Lists, preformatted text and paragraphs go as far as they can.
 abbrev pub IsBlock : Block → List Row → Type 0
 IsBlock (blank r) others = r.kind ≡ line.Blank
 IsBlock (table r rs last) others = (r.kind ≡ line.TableOpen) × IsUnit (r ∷ (rs ++ last ∷ []))
@@ -56,7 +56,7 @@ IsBlock (lists r rs) others = AllAre line.List (r ∷ rs) × BeginOtherwise line
 IsBlock (preformatted r rs) others = AllAre line.Pre (r ∷ rs) × BeginOtherwise line.Pre others
 IsBlock (paragraph r rs) others = AllAre line.Text (r ∷ rs) × BeginOtherwise line.Text others
 
--- these rows are these blocks, one behind the other
+-- these rows are these blocks, one after the other
 abbrev pub AreBlocks : List Block → List Row → Type 0
 AreBlocks [] rs = rs ≡ []
 AreBlocks (b ∷ bs) rs = (others : List Row) × (rs ≡ block_rows b ++ others) × IsBlock b others × AreBlocks bs others
@@ -72,7 +72,7 @@ block_parts read (preformatted r rs) = with_separators (pre (r ∷ rs)) (r ∷ r
 block_parts read (paragraph r rs) = with_separators (para (r ∷ rs)) (r ∷ rs)
 
 -- This tree is the meaning where the items can be cut into lines, the rows of these into blocks, and what these make into leaves.
--- (Fifteen tables may stand one inside the other in a cell.)
+-- (Fifteen tables may be one inside the other in a cell.)
 pub record IsMeaningByCases (t : ItemTree) (xs : List Item) : Type 0 where
   pub its_lines : List (List Item)
   pub its_blocks : List Block

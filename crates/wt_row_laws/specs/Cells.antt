@@ -1,11 +1,11 @@
--- What stands in cells, as blocks by cases.
+-- What is in cells, as blocks by cases.
 use Rattle.std.specs.Prelude.{◌≡◌, true, List, [], ◌∷◌}
 use Rattle.std.specs.List.{AllByRecursion}
 use Rattle.wt_tables.specs.Parts.{RowOf, TableOf, begins_part}
 use Rattle.wt_page.specs.Rows.{Row}
 use Rattle.wt_row_laws.specs.Blocks.{Block, AreBlocks}
 
--- a line of cells or of a caption, and behind it rows that are blocks
+-- a line of cells or of a caption, and after it rows that are blocks
 abbrev pub HoldsBlocks : List Row → Type 0
 HoldsBlocks [] = ⊥
 HoldsBlocks (r ∷ rs) = (begins_part r.kind ≡ true) × (bs : List Block) × AreBlocks bs rs

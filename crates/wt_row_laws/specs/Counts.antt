@@ -16,7 +16,7 @@ abbrev pub ended : List Row → ℕ
 ended rs = count_by (λ r. is_end r.kind) rs
 
 -- A line's kind is that at which so many tables are open as the rows before it have opened, less those that they have ended; by
--- it the line makes its rows, which stand between the rows of the lines before it and the others.
+-- it the line makes its rows, which are between the rows of the lines before it and the others.
 pub record KindIsCounted (ls : List (List Item)) (l : List Item) (ms : List (List Item)) : Type 0 where
   pub before : List Row
   pub others : List Row

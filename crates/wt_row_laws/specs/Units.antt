@@ -13,12 +13,12 @@ pub record IsUnit (u : List Row) : Type 0 where
   pub balances : opened u ≡ ended u
   pub ends_fewer : (n : ℕ) → 0 < n → n < length u → ended (take n u) < opened (take n u)
 
--- these rows are units, one behind the other
+-- these rows are units, one after the other
 pub record AreUnits (us : List (List Row)) (rs : List Row) : Type 0 where
   pub join : joined us ≡ rs
   pub each : AllByRecursion IsUnit us
 
--- Behind the row that opens a table stand whole units, and then the row that ends it.
+-- After the row that opens a table are whole units, and then the row that ends it.
 pub record HoldsUnits (rs : List Row) : Type 0 where
   pub inside : List Row
   pub last : Row

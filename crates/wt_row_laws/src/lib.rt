@@ -29,20 +29,20 @@ pub fn units_are_counted()
     ensures only { (us : List (List Row)) (rs : List Row) → AreUnits us rs → us ≡ units kind_of rs }
 {}
 
-/// Tables nest: between the row that opens a table and the one that ends it stand whole units, so of two
-/// tables the later one lies behind the other or within it.
+/// Tables nest: between the row that opens a table and the one that ends it are whole units, so of two
+/// tables the later one lies after the other or within it.
 pub fn tables_hold_units()
     ensures { (r : Row) (rs : List Row) → r.kind ≡ kind.TableOpen → IsUnit (r ∷ rs) → HoldsUnits rs }
 {}
 
-/// Rows that are blocks one behind the other, by the cases of their kinds, are read as what these make,
+/// Rows that are blocks one after the other, by the cases of their kinds, are read as what these make,
 /// however cells are read.
 pub fn blocks_are_read_by_cases()
     ensures { (read : Reading) (bs : List Block) (rs : List Row) → AreBlocks bs rs
         → blocks_by read rs ≡ flat_map (block_parts read) bs }
 {}
 
-/// In a table whose inside is whole units, what stands behind each line of cells or of a caption is blocks,
+/// In a table whose inside is whole units, what comes after each line of cells or of a caption is blocks,
 /// told by cases of their rows.
 pub fn cells_hold_blocks()
     ensures { (first : Row) (inside : List Row) → AreUnits (units kind_of inside) inside

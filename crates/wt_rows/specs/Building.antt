@@ -21,7 +21,7 @@ pub record AreWhole (ps : List Piece) : Type 0 where
   pub sound : All IsSoundPiece ps
   pub parted : AllParted ps
 
--- what may be a row: whole pieces, which begin as its kind tells
+-- what may be a row: whole pieces, which begin as its kind says
 pub record IsRowOf (k : LineKind) (before own after : List Piece) : Type 0 where
   pub lead : AreWhole before
   pub inside : AreWhole own
@@ -50,20 +50,20 @@ ArePageRows r = AreMade r.pieces r.rows
 abbrev pub made_rows : PageRows → List Row
 made_rows r = rows_view r.pieces r.rows
 
--- ---- rows by what stands on a line and what ends it
+-- ---- rows by what is on a line and what ends it
 
 -- a row with so many items as lead
 abbrev pub cut_row : LineKind → ℕ → List Item → List Item → Row
 cut_row k n content end = record { kind = k; lead = take n content; items = drop n content; ending = end }
 
--- a row with a sign of so many items, and a second one of what is seen behind it
+-- a row with a sign of so many items, and a second one of what is seen after it
 abbrev pub signed_rows : LineKind → List Item → ℕ → List Item → List Item → List Row
 signed_rows k lead n content end =
     let rest = drop n content in
     if is_idle_all (signs rest) then record { kind = k; lead = lead; items = take n content; ending = rest ++ end } ∷ []
     else record { kind = k; lead = lead; items = take n content; ending = [] } ∷ cut_row line.Text (marks_len rest) rest end ∷ []
 
--- the end of a table behind blanks and marks, and a rule behind marks
+-- the end of a table after blanks and marks, and a rule after marks
 abbrev pub table_end_rows : List Item → List Item → List Row
 table_end_rows content end =
     let n = idle_len content in
@@ -78,7 +78,7 @@ rule_rows content end =
 abbrev pub IsKindAt : LineKind → List Item → Type 0
 IsKindAt k l = (tables : ℕ) × (k ≡ kind_at tables l)
 
--- ---- rows before a line that stands behind them already
+-- ---- rows before a line that comes after them already
 
 -- the rows of the pieces before a place
 abbrev pub rows_before : ℕ → PageRows → List Row
@@ -92,7 +92,7 @@ pub record HasLine (start : ℕ) (k : LineKind) (r : PageRows) : Type 0 where
   pub unbroken : IsUnbroken (content (items (drop start r.pieces)))
   pub kind : IsKindAt k (items (drop start r.pieces))
 
--- no character lies on both sides of a cut behind blanks and marks
+-- no character lies on both sides of a cut after blanks and marks
 abbrev pub IsIdleCut : List Item → Type 0
 IsIdleCut xs = 0 < idle_len xs → IsEdgeIn xs (idle_len xs)
 

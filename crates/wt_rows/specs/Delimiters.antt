@@ -15,7 +15,7 @@ pub record IsJoined (r : Row) (rs : List Row) : Type 0 where
   pub items : r.items ≡ content (from_sign rs)
   pub ending : r.ending ≡ ending (from_sign rs)
 
--- a table by the rows that open it, what stands behind them, and the row that ends it
+-- a table by the rows that open it, what comes after them, and the row that ends it
 abbrev pub table_with : List Row → List Stretch → Row → List Stretch
 table_with opening inside end =
     gap (delimiter_lead opening)
@@ -23,7 +23,7 @@ table_with opening inside end =
     (behind_delimiter opening ++ (inside ++ (gap end.lead ∷ []))) end.items)
     ∷ gap end.ending ∷ []
 
--- the nodes in a table by its joined open delimiter, the blank rows behind it, what stands behind them,
+-- the nodes in a table by its joined open delimiter, the blank rows after it, what comes after them,
 -- and the row that ends it
 abbrev pub table_nodes : Row → List Row → List Stretch → Row → List ItemTree
 table_nodes d blank inside end =

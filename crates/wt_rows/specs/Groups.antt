@@ -1,5 +1,5 @@
 -- Groups of the rows in a table: a row that begins a caption, a row of the table or cells, with those
--- behind it up to the next such row.
+-- after it up to the next such row.
 use Rattle.std.specs.Prelude.{ℕ, not, Bool, List, map}
 use Rattle.std.specs.List.{prefix_len}
 use Rattle.wt_lines.specs.declared.kind.LineKind.{LineKind}

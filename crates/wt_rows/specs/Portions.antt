@@ -11,7 +11,7 @@ use Rattle.wt_rows.specs.declared.portion.Portion.{Portion}
 use Rattle.wt_rows.specs.Building.{ArePageRows, made_rows, IsRowsSoFar}
 use Rattle.wt_rows.specs.Unread.{left, begins_break}
 
--- how many tables are open behind rows, before which so many are
+-- how many tables are open after rows, before which so many are
 abbrev pub open_behind : ℕ → List Row → ℕ
 open_behind n [] = n
 open_behind n (r ∷ rs) = open_behind (behind n r.kind) rs
@@ -26,10 +26,10 @@ pub record IsPortion (s : Portion) : Type 0 where
 abbrev pub IsPortionOf : List Row → Portion → Type 0
 IsPortionOf all s = IsRowsSoFar (made_rows s.made) s.tables (left s.rest) all
 
--- all is read, or an empty line comes that stands in no table
+-- all is read, or an empty line comes that is in no table
 abbrev pub IsEnd : Portion → Type 0
 IsEnd s = (left s.rest ≡ []) ⊎ ((s.tables ≡ 0) × (begins_break (items (left s.rest)) ≡ true))
 
--- the parts of a body are those of these rows, and then those of the items behind them
+-- the parts of a body are those of these rows, and then those of the items after them
 abbrev pub AreFirst : List Row → List Item → List Item → Type 0
 AreFirst rs xs ys = body_parts (rows xs) ≡ body_parts rs ++ body_parts (rows ys)

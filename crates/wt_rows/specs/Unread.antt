@@ -25,6 +25,6 @@ abbrev pub begins_break : List Item → Bool
 begins_break [] = false
 begins_break (x ∷ xs) = is_break_item x
 
--- the second pieces are the first, and others behind them
+-- the second pieces are the first, and others after them
 abbrev pub IsBehind : List Piece → List Piece → Type 0
 IsBehind before all = all ≡ before ++ drop (length before) all

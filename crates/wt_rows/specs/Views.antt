@@ -36,7 +36,7 @@ is_gap_at (at.Gap from to) = true
 is_gap_at (at.Tree t) = false
 
 -- A node with this head and open delimiter, which holds what was made so far and then stretches up to the last block, and the gaps
--- behind it.
+-- after it.
 abbrev pub IsOpenedBy : Head → List Item → Grown → List Stretch → List Stretch → Type 0
 IsOpenedBy h opening g ss result = result ≡ tree_block (inner h opening (forest (made g (stretches_parts (before_end ss)))) []) ∷ end_gaps ss
 
@@ -44,11 +44,11 @@ IsOpenedBy h opening g ss result = result ≡ tree_block (inner h opening (fores
 abbrev pub IsBehindTree : PieceTree → List StretchAt → List StretchAt → Type 0
 IsBehindTree t after result = (ps : List Piece) → stretches_view ps result ≡ tree_block (item_tree t) ∷ stretches_view ps after
 
--- of all parts that come behind the first children these are left to come behind the second
+-- of all parts that come after the first children these are left to come after the second
 abbrev pub IsRest : Grown → List Part → Grown → List Part → Type 0
 IsRest g all h left = (qs : List Part) → made h (left ++ qs) ≡ made g (all ++ qs)
 
--- these stretches are the node between what stands before the first of rows and what ends the last
+-- these stretches are the node between what comes before the first of rows and what ends the last
 abbrev pub IsBetween : ItemTree → RowAt → RowAt → List StretchAt → Type 0
 IsBetween t first last ss = (ps : List Piece)
     → stretches_view ps ss ≡ gap (row_view ps first).lead ∷ tree_block t ∷ gap (row_view ps last).ending ∷ []

@@ -1,4 +1,4 @@
-//! Cells and captions, with what stands on their line and what follows in them.
+//! Cells and captions, with what is on their line and what follows in them.
 
 ghost use Rattle.std.specs.Prelude.{◌≡◌, [], ◌∷◌, All, map, IfOk};
 ghost use Rattle.std.specs.List.{flat_map};
@@ -117,7 +117,7 @@ pub fn line_cells<'a>(
 }
 
 /// The cells, or the caption, of a row, of which the last one goes on with what was read of the rows
-/// behind it.
+/// after it.
 pub fn row_cells<'a>(
     alloc: Global,
     pieces: &[Piece<'a>],

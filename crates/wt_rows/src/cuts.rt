@@ -1,4 +1,4 @@
-//! Pieces, cut behind a number of items.
+//! Pieces, cut after a number of items.
 
 ghost use Rattle.std.specs.Prelude.{◌≡◌, ◌<◌, ◌≤◌, All, take, drop, length, IfOk};
 ghost use Rattle.wt_span.specs.Items.{items};
@@ -22,7 +22,7 @@ fn items_len(pieces: &[Piece<'_>]) -> Result<usize, NoMemory>
     Ok(len)
 }
 
-/// The first n items of pieces, and those behind them. No character may lie on both sides of the
+/// The first n items of pieces, and those after them. No character may lie on both sides of the
 /// cut.
 pub fn cut<'a>(
     alloc: Global,

@@ -1,4 +1,4 @@
-//! The delimiters of tables and of their rows, with the stray lines behind them.
+//! The delimiters of tables and of their rows, with the stray lines after them.
 
 ghost use Rattle.std.specs.Prelude.{◌≡◌, ◌<◌, ◌≤◌, ◌+◌, ◌==◌, ◌∷◌, ◌++◌, true, All, codes, length, drop, IfOk};
 ghost use Rattle.std.specs.List.{prefix_len};
@@ -83,7 +83,7 @@ pub fn gaps<'a>(
     Ok(out)
 }
 
-/// Rows joined to one from the first sign on: what stands before it, all lines to the last one's line
+/// Rows joined to one from the first sign on: what comes before it, all lines to the last one's line
 /// break, and this. Of no rows an empty one.
 pub fn joined_row(pieces: &[Piece<'_>], rows: &[RowAt]) -> RowAt
     requires { AreReadyRows pieces.now rows.now }
@@ -110,7 +110,7 @@ pub fn joined_row(pieces: &[Piece<'_>], rows: &[RowAt]) -> RowAt
     }
 }
 
-/// The attributes that stand behind so many items of a line.
+/// The attributes that come after so many items of a line.
 fn attrs_behind(alloc: Global, line: &[Piece<'_>], n: usize) -> Result<List<Attr>, NoMemory>
     requires sound { All IsSoundPiece line.now }
     requires within { n ≤ length (items line.now) }
@@ -136,7 +136,7 @@ fn is_dash(sign: LineSign) -> bool
     sign.is_byte(b'-')
 }
 
-/// How many `-` stand at the front, and so many more.
+/// How many `-` are at the front, and so many more.
 fn dashes_after(signs: Signs<'_, '_>, n: usize) -> Result<usize, NoMemory>
     ensures { IfOk result (λ len. len ≡ n + prefix_len is_dash (left signs.entry)) }
 {
@@ -152,7 +152,7 @@ fn dashes_after(signs: Signs<'_, '_>, n: usize) -> Result<usize, NoMemory>
     Ok(len)
 }
 
-/// The attributes of a row of a table, by the line that opens it: behind all `-` of its sign.
+/// The attributes of a row of a table, by the line that opens it: after all `-` of its sign.
 pub fn row_attrs(alloc: Global, line: &[Piece<'_>]) -> Result<List<Attr>, NoMemory>
     requires sound { All IsSoundPiece line.now }
     requires sign { begins (codes "|-") (signs (items line.now)) ≡ true }
@@ -162,7 +162,7 @@ pub fn row_attrs(alloc: Global, line: &[Piece<'_>]) -> Result<List<Attr>, NoMemo
     attrs_behind(alloc, line, n)
 }
 
-/// The line break of a delimiter's last line, the blank lines behind it, and other stretches.
+/// The line break of a delimiter's last line, the blank lines after it, and other stretches.
 pub fn behind_delimiter<'a>(
     alloc: Global,
     pieces: &[Piece<'a>],

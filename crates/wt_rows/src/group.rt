@@ -1,5 +1,5 @@
 //! Groups of the rows in a table: a row that begins a caption, a row of the table or cells, and those
-//! behind it up to the next such row.
+//! after it up to the next such row.
 
 ghost use Rattle.std.specs.Prelude.{◌≡◌, ◌<◌, ◌≤◌, ◌+◌, List as ListOf, map, length, drop, IfOk};
 ghost use Rattle.std.specs.List.{prefix_len};
@@ -122,7 +122,7 @@ pub fn groups(alloc: Global, rows: &[RowAt]) -> Result<List<Group>, NoMemory>
     Ok(out)
 }
 
-/// How many captions stand first.
+/// How many captions are first.
 pub fn captions_len(rows: &[RowAt], groups: &[Group]) -> usize
     ensures value { result ≡ captions_count kind_at (groups_view rows.now groups.now) }
     ensures within { result ≤ length groups.now }
@@ -135,7 +135,7 @@ pub fn captions_len(rows: &[RowAt], groups: &[Group]) -> usize
     groups.len()
 }
 
-/// How many groups stand before the first that begins a row of the table.
+/// How many groups come before the first that begins a row of the table.
 pub fn going_len(rows: &[RowAt], groups: &[Group]) -> usize
     ensures value { result ≡ prefix_len (goes_on kind_at) (groups_view rows.now groups.now) }
     ensures within { result ≤ length groups.now }

@@ -84,7 +84,7 @@ fn table_tree<'a>(
     Ok(tree)
 }
 
-/// What a table holds: what stands behind its open delimiter, and what stands before its end.
+/// What a table holds: what comes after its open delimiter, and what comes before its end.
 fn table_children<'a>(
     alloc: Global,
     pieces: &[Piece<'a>],
@@ -109,7 +109,7 @@ fn table_children<'a>(
     made.finish(alloc)
 }
 
-/// A table with the lines that open it, what stands behind them, and the row that ends it.
+/// A table with the lines that open it, what comes after them, and the row that ends it.
 pub fn whole_table<'a>(
     alloc: Global,
     pieces: &[Piece<'a>],

@@ -1,4 +1,4 @@
-//! Portions of a page: lines up to an empty one that stands in no table. No block reaches over such
+//! Portions of a page: lines up to an empty one that is in no table. No block reaches over such
 //! a line, so each portion is made to blocks by itself.
 
 ghost use Rattle.std.specs.Prelude.{◌≡◌, ◌<◌, All, List, true, false, length, IfOk};
@@ -15,7 +15,7 @@ use std::alloc::Global;
 use wt_span::{NoMemory, rest_of};
 use wt_tables::behind;
 
-/// The rows of lines that are read, how many tables are open behind them, and what is not yet read.
+/// The rows of lines that are read, how many tables are open after them, and what is not yet read.
 #[derive(Drop)]
 pub struct Portion<'p, 'a> {
     made: PageRows<'a>,
@@ -75,7 +75,7 @@ impl<'p, 'a> Portion<'p, 'a> {
     }
 }
 
-/// The rows of the first portion, and what is left behind it.
+/// The rows of the first portion, and what is left after it.
 pub fn next_portion<'p, 'a>(
     alloc: Global,
     rest: Unread<'p, 'a>,

@@ -1,4 +1,4 @@
-//! The prefixes of lines of lists, and the blanks behind them.
+//! The prefixes of lines of lists, and the blanks after them.
 
 ghost use Rattle.std.specs.Prelude.{ℕ, suc, ◌≡◌, ◌+◌, ◌∷◌, ◌++◌, [], true, false, length, drop, IfOk, MatchOption};
 ghost use Rattle.std.specs.List.{prefix_len};
@@ -27,7 +27,7 @@ fn list_sign(sign: LineSign) -> Option<&'static str>
     }
 }
 
-/// The sign of lists that stands first, and what is left behind it.
+/// The sign of lists that is first, and what is left after it.
 fn split_list_sign<'p, 'a>(signs: Signs<'p, 'a>) -> Option<(&'static str, Signs<'p, 'a>)>
     ensures { MatchOption result ((n : ℕ) → list_signs n (left signs.entry) ≡ []) (λ r. (n : ℕ)
         → list_signs (suc n) (left signs.entry) ≡ r.0.now ++ list_signs n (left r.1)) }
@@ -53,7 +53,7 @@ pub fn prefix_of(alloc: Global, line: &[Piece<'_>]) -> Result<Str, NoMemory>
     Ok(prefix)
 }
 
-/// What is left behind so many signs.
+/// What is left after so many signs.
 pub fn past<'p, 'a>(signs: Signs<'p, 'a>, n: usize) -> Signs<'p, 'a>
     ensures { left result ≡ drop n (left signs.entry) }
 {
@@ -73,7 +73,7 @@ fn is_blank(sign: LineSign) -> bool
     sign.is_byte(b' ') || sign.is_byte(b'\t')
 }
 
-/// How many blanks stand at the front, and so many more.
+/// How many blanks are at the front, and so many more.
 fn blanks_after(signs: Signs<'_, '_>, n: usize) -> Result<usize, NoMemory>
     ensures { IfOk result (λ len. len ≡ n + prefix_len is_blank (left signs.entry)) }
 {
@@ -89,7 +89,7 @@ fn blanks_after(signs: Signs<'_, '_>, n: usize) -> Result<usize, NoMemory>
     Ok(len)
 }
 
-/// So many items, and the blanks behind them. More than a machine word counts are answered as want
+/// So many items, and the blanks after them. More than a machine word counts are answered as want
 /// of memory.
 pub fn with_blanks(line: &[Piece<'_>], n: usize) -> Result<usize, NoMemory>
     ensures { IfOk result (λ len. len ≡ with_blanks n (items line.now)) }

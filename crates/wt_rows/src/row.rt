@@ -28,7 +28,7 @@ pub struct RowAt {
 }
 
 impl RowAt {
-    /// What stands before a block that begins here.
+    /// What comes before a block that begins here.
     pub fn lead<'p, 'a>(&self, pieces: &'p [Piece<'a>]) -> &'p [Piece<'a>]
         ensures { items result.now ≡ (row_view pieces.entry.now self.now).lead }
     {

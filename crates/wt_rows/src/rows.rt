@@ -26,7 +26,7 @@ pub struct PageRows<'a> {
     pub rows: List<RowAt>,
 }
 
-/// How many blanks and marks stand at the front, in items. More than a machine word counts are
+/// How many blanks and marks are at the front, in items. More than a machine word counts are
 /// answered as want of memory.
 fn idle_len(line: &[Piece<'_>]) -> Result<usize, NoMemory>
     ensures { IfOk result (λ n. n ≡ idle_len (items line.now)) }
@@ -43,7 +43,7 @@ fn idle_len(line: &[Piece<'_>]) -> Result<usize, NoMemory>
     Ok(len)
 }
 
-/// How many `-` stand at the front. More than a machine word counts are answered as want of memory.
+/// How many `-` are at the front. More than a machine word counts are answered as want of memory.
 fn dashes(line: &[Piece<'_>]) -> Result<usize, NoMemory>
     ensures { IfOk result (λ n. n ≡ dashes (items line.now)) }
 {
@@ -79,7 +79,7 @@ fn see_first(piece: Piece<'_>)
     }
 }
 
-/// How many pieces of marks stand at the front. What is behind them begins with no mark.
+/// How many pieces of marks are at the front. What is after them begins with no mark.
 fn lead_len(content: &[Piece<'_>]) -> usize
     requires { All IsSoundPiece content.now }
     ensures cut { AreLeadingMarks content.now result }
@@ -189,7 +189,7 @@ impl<'a> PageRows<'a> {
         self.with_row(kind, lead.as_slice(), rest.as_slice(), ending)
     }
 
-    /// A sign of n items behind its lead, and what stands behind it on the line: the end of its row,
+    /// A sign of n items after its lead, and what comes after it on the line: the end of its row,
     /// or a row of text where something is seen.
     fn with_sign(
         self,
@@ -313,7 +313,7 @@ impl<'a> PageRows<'a> {
         }
     }
 
-    /// One more row, of what stands from a place on: so many pieces as its lead, and so many before
+    /// One more row, of what is from a place on: so many pieces as its lead, and so many before
     /// its end.
     fn with_row_from(
         self,
@@ -376,7 +376,7 @@ impl<'a> PageRows<'a> {
         made.with_line(alloc, kind, line.as_slice())
     }
 
-    /// The rows of the line of this kind that stands from a place on.
+    /// The rows of the line of this kind that begins at a place.
     pub fn with_line_from(
         self,
         alloc: Global,

@@ -33,7 +33,7 @@ fn is_gap(stretch: &StretchAt<'_>) -> bool
     }
 }
 
-/// How many gaps stand at the front.
+/// How many gaps are at the front.
 fn front_len(stretches: &[StretchAt<'_>]) -> usize
     ensures value { result ≡ prefix_len is_gap_at stretches.now }
     ensures within { result ≤ length stretches.now }
@@ -93,7 +93,7 @@ pub fn with_stretches<'a>(
     Ok(children)
 }
 
-/// A node, and stretches behind it.
+/// A node, and stretches after it.
 fn behind_tree<'a>(
     alloc: Global,
     tree: PieceTree<'a>,
@@ -105,7 +105,7 @@ fn behind_tree<'a>(
     before(alloc, StretchAt::Tree(node), after)
 }
 
-/// The first n stretches, and those behind them.
+/// The first n stretches, and those after them.
 fn split_at<'a>(
     stretches: List<StretchAt<'a>>,
     n: usize,
@@ -119,7 +119,7 @@ fn split_at<'a>(
     Ok((List::from_vec(front), List::from_vec(back)))
 }
 
-/// These stretches, and those behind them.
+/// These stretches, and those after them.
 fn joined<'a>(
     front: List<StretchAt<'a>>,
     back: List<StretchAt<'a>>,
@@ -229,7 +229,7 @@ pub fn before<'a>(
     Ok(List::from_vec(out))
 }
 
-/// A node with an open delimiter that holds what stands on a line, or is left of it, and then
+/// A node with an open delimiter that holds what is on a line, or is left of it, and then
 /// stretches up to the last node.
 pub fn opened_line<'a>(
     alloc: Global,
@@ -247,7 +247,7 @@ pub fn opened_line<'a>(
     opened_by(alloc, head, opening, children, pieces, after)
 }
 
-/// A node between what stands before the first of its rows and what ends the last.
+/// A node between what comes before the first of its rows and what ends the last.
 pub fn with_separators<'a>(
     alloc: Global,
     tree: PieceTree<'a>,

@@ -9,7 +9,7 @@ use crate::row::RowAt;
 use wt_lines::LineKind;
 use wt_span::rest_of;
 
-/// How many further tables are open behind a row of this kind; none where it ends the table.
+/// How many further tables are open after a row of this kind; none where it ends the table.
 fn depth_behind(depth: usize, kind: LineKind) -> Option<usize>
     requires { depth < 2 ^ 63 }
     ensures next { MatchOption result ((go : ℕ → ℕ) → after_kind kind depth go ≡ 1) (λ d. (go : ℕ → ℕ) → after_kind kind depth go ≡ suc (go d)) }
@@ -86,7 +86,7 @@ pub fn begins_part(kind: LineKind) -> bool
     }
 }
 
-/// How many rows stand before the first unit that begins a caption, a row of a table or cells.
+/// How many rows come before the first unit that begins a caption, a row of a table or cells.
 pub fn plain_len(rows: &[RowAt]) -> usize
     ensures value { result ≡ plain_count 0 (map kind_at rows.now) }
     ensures within { result ≤ length rows.now }

@@ -23,7 +23,7 @@ pub struct Unread<'p, 'a> {
     others: &'p [Piece<'a>],
 }
 
-/// How many line breaks stand at the front.
+/// How many line breaks are at the front.
 fn breaks_len(bytes: &[u8]) -> usize
     ensures value { result ≡ prefix_len is_break bytes.now }
     ensures within { result ≤ length bytes.now }
@@ -48,7 +48,7 @@ fn break_chunk_len(text: &str) -> usize
     breaks_len(bytes)
 }
 
-/// The length of a line break at the front, or of what stands before the first one.
+/// The length of a line break at the front, or of what comes before the first one.
 fn chunk_len(text: &str) -> usize
     requires { 0 < length text.now }
     ensures within { result ≤ length text.now }
@@ -85,7 +85,7 @@ impl<'p, 'a> Unread<'p, 'a> {
         self.first.is_none()
     }
 
-    /// What is left behind a piece of which this is the rest.
+    /// What is left after a piece of which this is the rest.
     fn behind(back: Piece<'a>, others: &'p [Piece<'a>]) -> Unread<'p, 'a>
         requires sound { IsSoundPiece back }
         requires others { All IsSoundPiece others.now }
@@ -98,7 +98,7 @@ impl<'p, 'a> Unread<'p, 'a> {
         }
     }
 
-    /// The first n bytes of a piece of characters, and what is left behind them.
+    /// The first n bytes of a piece of characters, and what is left after them.
     fn cut(piece: Piece<'a>, n: usize, others: &'p [Piece<'a>]) -> (Piece<'a>, Unread<'p, 'a>)
         requires chars { is_chars piece.form ≡ true }
         requires some { 0 < n }
@@ -120,7 +120,7 @@ impl<'p, 'a> Unread<'p, 'a> {
         (own, Unread::behind(rest, others))
     }
 
-    /// The next piece, parted at line breaks, and what is left behind it.
+    /// The next piece, parted at line breaks, and what is left after it.
     fn split_first(self) -> Option<(Piece<'a>, Unread<'p, 'a>)>
         requires { All IsSoundPiece (left self) }
         ensures joined { MatchOption result (left self.entry ≡ []) (λ r. items (left self.entry) ≡ items_of r.0 ++ items (left r.1)) }
@@ -146,7 +146,7 @@ impl<'p, 'a> Unread<'p, 'a> {
         }
     }
 
-    /// The line breaks that come next, as one piece, and what is left behind them.
+    /// The line breaks that come next, as one piece, and what is left after them.
     pub fn split_breaks(self) -> Option<(Piece<'a>, Unread<'p, 'a>)>
         requires { All IsSoundPiece (left self) }
         ensures joined { IfSome result (λ r. items (left self.entry) ≡ items_of r.0 ++ items (left r.1)) }
@@ -162,7 +162,7 @@ impl<'p, 'a> Unread<'p, 'a> {
         Some(Unread::cut(piece, n, self.others))
     }
 
-    /// The next line, with its line break, put behind these pieces; and what is left behind it.
+    /// The next line, with its line break, put after these pieces; and what is left after it.
     pub fn push_line(
         self,
         pieces: List<Piece<'a>>,

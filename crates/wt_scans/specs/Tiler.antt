@@ -1,4 +1,4 @@
--- The tiles of a line, or of what stands in a link or a pair of tags, as a scanner.
+-- The tiles of a line, or of what is in a link or a pair of tags, as a scanner.
 use Rattle.std.specs.Prelude.{Bool, Option, None, List, [], ◌∷◌}
 use Rattle.wt_tiles.specs.declared.glyph.Glyph.{Glyph}
 use Rattle.wt_tiles.specs.declared.shape.Shape.{Shape}

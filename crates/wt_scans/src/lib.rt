@@ -11,7 +11,7 @@ ghost use Rattle.wt_scans.specs.Lexer.{lexer};
 ghost use Rattle.wt_scans.specs.Tiler.{tiler};
 ghost use Rattle.wt_scans.specs.Scans.{Scanner, scan, after_all, onto, Settles, Passes, HasFronts};
 
-/// What is read of a list whose front settles is what is read of the front alone, and behind it what is
+/// What is read of a list whose front settles is what is read of the front alone, and after it what is
 /// read of the rest alone.
 #[tactic(auto, using(crate::proofs::Joins::scan_joins))]
 pub fn fronts_join<A, W>()
@@ -25,7 +25,7 @@ pub fn uncrossed_fronts_settle<A, W>()
     ensures { (s : Scanner A W) (rest q : List A) (after : Bool) (n : ℕ) → HasFronts s → Passes s rest after n q → Settles s rest after n q }
 {}
 
-/// The lexemes of a text whose front settles are those of the front, and behind them those of the rest.
+/// The lexemes of a text whose front settles are those of the front, and after them those of the rest.
 #[tactic(auto, using(crate::proofs::Parted::cuts_join))]
 pub fn lexemes_join()
     ensures { (mode : TextMode) (a : Bool) (n : ℕ) (q rest : List ℕ) → Settles (lexer mode) rest a n q
@@ -42,7 +42,7 @@ pub fn lexemes_have_fronts()
         → cuts mode a n (q ++ rest) ≡ onto (lexer mode) a n q (cuts mode (after_all (lexer mode) a q) 0 rest) }
 {}
 
-/// The tiles of a context whose front settles are those of the front, and behind them those of the rest.
+/// The tiles of a context whose front settles are those of the front, and after them those of the rest.
 #[tactic(auto, using(crate::proofs::PartedTiles::cuts_join))]
 pub fn tiles_join()
     ensures { (cx : Context) (a : Bool) (n : ℕ) (q rest : List Sign) → Settles (tiler cx) rest a n q

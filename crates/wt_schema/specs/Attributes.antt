@@ -14,7 +14,7 @@ value_of name (p ∷ ps) = if bytes_eq p.0 name then Some p.1 else value_of name
 abbrev pub has : List ℕ → List Pair → Bool
 has name ps = is_some (value_of name ps)
 
--- `typeof`, `rel` or `property`: with the name they tell the kind
+-- `typeof`, `rel` or `property`: with the name they decide the kind
 abbrev pub is_typed : List Pair → Bool
 is_typed ps = has (codes "typeof") ps || (has (codes "rel") ps || has (codes "property") ps)
 

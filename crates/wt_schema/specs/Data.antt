@@ -111,7 +111,7 @@ abbrev pub parts_of : Option (List ℕ) → Option (Option DataMw)
 parts_of None = None
 parts_of (Some v) = parts_in (mw_told v)
 
--- the data of a group, which stands in another one or not
+-- the data of a group, which is in another one or not
 abbrev pub group_data : Bool → List Pair → Option Data
 group_data true ps = if has_own ps then None else both (Some None) (parts_of (value_of (codes "data-mw") ps))
 group_data false ps = both (sync_fits kind.Group (value_of (codes "data-parsoid") ps)) (parts_of (value_of (codes "data-mw") ps))
@@ -121,7 +121,7 @@ abbrev pub data_alone : Bool → Kind → List Pair → Option Data
 data_alone true k ps = inner_data k ps
 data_alone false k ps = data_of k ps
 
--- by how an element stands, in a group or not
+-- by how an element is, in a group or not
 abbrev pub data_for : Bool → Standing → Kind → List Pair → Option Data
 data_for x stands.Alone k ps = data_alone x k ps
 data_for x stands.First k ps = group_data x ps

@@ -1,5 +1,5 @@
 -- Which trees of elements are pages, and what page each is. The elements are counted from 1 in
--- document order; the first that doesn't fit is told, with the first reason for it.
+-- document order; the first that doesn't fit is reported, with the first reason for it.
 use Rattle.std.specs.Prelude.{ℕ, suc, ◌+◌, ◌++◌, ◌==◌, ◌&&◌, ◌||◌, Bool, true, false, not, Option, Some, None, Result, Ok, Err, List, [], ◌∷◌, codes, if◌then◌else◌}
 use Rattle.std.specs.Option.{option_map}
 use Rattle.std.specs.Str.{bytes_eq}
@@ -59,7 +59,7 @@ label_for k ps d shown =
 abbrev pub group_label : List Pair → Data → Label
 group_label ps d = record (label_for kind.Group ps d []) { attrs = group_attributes ps }
 
--- The label of an element by how it stands: of a group's first one the data are the group's.
+-- The label of an element by how it is: of a group's first one the data are the group's.
 abbrev pub label_as : Standing → Kind → List Pair → Data → List ℕ → Label
 label_as stands.Alone k ps d shown = label_for k ps d shown
 label_as stands.First k ps d shown = label_for k (own_pairs ps) no_data shown
@@ -121,7 +121,7 @@ held_as Page ts = ts
 held_as Bordered ts = recut ts
 held_as OwnCharacter ts = ts
 
--- What an element of this kind holds, when all that stands in it fits. In a group no separator is
+-- What an element of this kind holds, when all that is in it fits. In a group no separator is
 -- written, so there all texts stay whole.
 abbrev pub children_in : Bool → Kind → List Piece → Trees
 children_in inside k xs = if inside then gathered xs else held_as (texts_of_kind k) (gathered xs)
@@ -135,20 +135,20 @@ abbrev pub one_piece : Standing → List Pair → Data → Result Tree Misfit �
 one_piece s ps d (Ok t) = Ok (Some (piece_as s ps d t))
 one_piece s ps d (Err e) = Err e
 
--- whether the texts directly in an element of this kind may stand there
+-- whether the texts directly in an element of this kind may be there
 abbrev pub text_fits : Kind → Markups → Bool
 text_fits k c = holds_text k || are_blank c
 
--- ---- where something stands
+-- ---- where something is
 
--- in a parent of this kind, in a group or not, behind a block or not, and with this group open
+-- in a parent of this kind, in a group or not, after a block or not, and with this group open
 pub record Position : Type 0 where
   pub parent : Kind
   pub inside : Bool
   pub behind : Bool
   pub group : Option (List ℕ)
 
--- what stands first in an element of this kind
+-- what is first in an element of this kind
 abbrev pub within : Kind → Bool → Position
 within k inside = record { parent = k; inside = inside; behind = false; group = None }
 
@@ -156,7 +156,7 @@ abbrev pub is_block_row : Option Kind → Bool
 is_block_row None = false
 is_block_row (Some k) = is_block k
 
--- the row of an element, by how it stands
+-- the row of an element, by how it is
 abbrev pub row_as : Standing → List ℕ → List Pair → Option Kind
 row_as s name ps = row name (pairs_for s ps)
 
@@ -165,19 +165,19 @@ abbrev pub is_block_element : Option (List ℕ) → Markup → Bool
 is_block_element group (text bs) = false
 is_block_element group (node name ps c) = is_block_row (row_as (standing group ps) name ps)
 
--- behind a text or an element, and before these
+-- after a text or an element, and before these
 abbrev pub behind_it : Position → Markup → Markups → Position
 behind_it x t ts = record x { behind = x.behind || is_block_element x.group t; group = open_after x.group t ts }
 
--- in a parent of that kind, behind a block or not
+-- in a parent of that kind, after a block or not
 abbrev pub has_place : Kind → Bool → Kind → Bool
 has_place parent behind k = may_hold parent k && may_follow behind k
 
--- in a group an empty `span` may stand anywhere
+-- in a group an empty `span` may be anywhere
 abbrev pub fits_place : Kind → Bool → Standing → Kind → Markups → Bool
 fits_place parent behind s k c = has_place parent behind k || (is_grouped s && (is_span k && is_none c))
 
--- what stands in an element is in a group where the element is, or is part of one
+-- what is in an element is in a group where the element is, or is part of one
 abbrev pub is_inside : Position → Standing → Bool
 is_inside x s = x.inside || is_grouped s
 
@@ -192,7 +192,7 @@ fit_told n inside s k ps (Some d) c held =
 abbrev pub fit_as : ℕ → Position → Standing → Kind → List Pair → Markups → Result (List Piece) Misfit → Result (Option Piece) Misfit
 fit_as n x s k ps c held = fit_told n (is_inside x s) s k ps (data_for x.inside s k ps) c held
 
--- element n where it stands, by its row
+-- element n where it is, by its row
 abbrev pub fit_row : ℕ → Position → Standing → Option Kind → List Pair → Markups → (Kind → Result (List Piece) Misfit) → Result (Option Piece) Misfit
 fit_row n x s None ps c held = Err (n, why.Element)
 fit_row n x s (Some k) ps c held = if fits_place x.parent x.behind s k c then fit_as n x s k ps c (held k) else Err (n, why.Place)
@@ -201,7 +201,7 @@ fit_row n x s (Some k) ps c held = if fits_place x.parent x.behind s k c then fi
 abbrev pub fit_text : Position → List ℕ → Markups → Option Piece
 fit_text x bs ts = if is_dropped x.group bs ts then None else option_map single (leaf_in x.parent bs)
 
--- What stands there, and before these: its first element, if it has one, is number n.
+-- What is there, and before these: its first element, if it has one, is number n.
 abbrev mutual
   pub fit_node : ℕ → Position → Markup → Markups → Result (Option Piece) Misfit
   fit_node n x (text bs) ts = Ok (fit_text x bs ts)
@@ -247,7 +247,7 @@ abbrev pub body_of : Markup → Option BodyElement
 body_of (text bs) = None
 body_of (node name ps c) = if bytes_eq name (codes "html") && not (is_marked_root ps) then body_in (elements_in c) else None
 
--- The body stands by itself.
+-- The body is by itself.
 abbrev pub fit_body_told : ℕ → List Pair → Option Data → Markups → Result (List Piece) Misfit → Result Tree Misfit
 fit_body_told n ps None c held = Err (n, why.Data)
 fit_body_told n ps (Some d) c held =

@@ -1,4 +1,4 @@
--- Groups in HTML: an element with `about` and `data-mw`, and the siblings behind it that have the same
+-- Groups in HTML: an element with `about` and `data-mw`, and the siblings after it that have the same
 -- `about` and no `data-mw`, white space apart, are one node.
 use Rattle.std.specs.Prelude.{ℕ, ◌==◌, ◌&&◌, ◌||◌, Bool, true, false, Option, Some, None, List, [], ◌∷◌, ◌++◌, length, drop, codes, if◌then◌else◌}
 use Rattle.std.specs.List.{list_all, list_any}
@@ -17,7 +17,7 @@ use Rattle.wt_schema.specs.declared.standing.Standing.{Standing}
 use Rattle.wt_schema.specs.declared.standing.Standing.TheVariants as stands
 use Rattle.wt_schema.specs.Attributes.{value_of, has}
 
--- ---- how an element stands: `group` is the `about` of the group that is open before it, where there is one
+-- ---- how an element is: `group` is the `about` of the group that is open before it, where there is one
 
 abbrev pub is_open : Option (List ℕ) → List ℕ → Bool
 is_open None a = false
@@ -30,7 +30,7 @@ standing_by group (Some a) has_data = if has_data then stands.First else if is_o
 abbrev pub standing : Option (List ℕ) → List Pair → Standing
 standing group ps = standing_by group (value_of (codes "about") ps) (has (codes "data-mw") ps)
 
--- the group that is open behind an element
+-- the group that is open after an element
 abbrev pub open_by : Standing → Option (List ℕ) → Option (List ℕ) → Option (List ℕ)
 open_by stands.Alone group about = None
 open_by stands.First group about = about
@@ -54,7 +54,7 @@ is_grouped stands.First = true
 is_grouped stands.Further = true
 is_grouped stands.Astray = false
 
--- White space stands before these, and then a further element of the open group: it is no text.
+-- White space comes before these, and then a further element of the open group: it is no text.
 abbrev pub goes_on : Option (List ℕ) → Markups → Bool
 goes_on group empty = false
 goes_on group (more (text bs) ts) = is_gap bs && goes_on group ts
@@ -63,14 +63,14 @@ goes_on group (more (node name ps c) ts) = is_further (standing group ps)
 abbrev pub is_dropped : Option (List ℕ) → List ℕ → Markups → Bool
 is_dropped group bs ts = is_gap bs && goes_on group ts
 
--- the group that is open behind a text or an element, and before these
+-- the group that is open after a text or an element, and before these
 abbrev pub open_after : Option (List ℕ) → Markup → Markups → Option (List ℕ)
 open_after group (text bs) ts = if is_dropped group bs ts then group else None
 open_after group (node name ps c) ts = open_by (standing group ps) group (value_of (codes "about") ps)
 
 -- ---- the first element of a group has attributes of the group and attributes of its own
 
--- the words of groups, and a word with the space behind it
+-- the words of groups, and a word with the space after it
 unfoldable pub transclusion : List ℕ
 transclusion = codes "mw:Transclusion"
 
@@ -98,7 +98,7 @@ word_attribute (Some w) = (attr.Typeof, w) ∷ []
 abbrev pub group_attributes : List Pair → List (AttrName × List ℕ)
 group_attributes ps = word_attribute (word_of (value_of (codes "typeof") ps))
 
--- what stands behind the word, where something does
+-- what comes after the word, where something does
 abbrev pub behind_word : List ℕ → List ℕ → List Pair
 behind_word w t = if bytes_eq t w then [] else (codes "typeof", drop (length (spaced w)) t) ∷ []
 
@@ -123,7 +123,7 @@ pairs_for stands.First ps = own_pairs ps
 pairs_for stands.Further ps = ps
 pairs_for stands.Astray ps = ps
 
--- an empty `span` may stand in a group wherever the group may
+-- an empty `span` may be in a group wherever the group may
 abbrev pub is_span : Kind → Bool
 is_span (kind.Tag tag.Span) = true
 is_span k = false

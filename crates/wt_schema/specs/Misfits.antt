@@ -1,5 +1,5 @@
 -- The first element that doesn't fit, without going over the tree: all elements in document order,
--- each with its number, where it stands and how, and what is wrong with each by itself.
+-- each with its number, where it is and how, and what is wrong with each by itself.
 use Rattle.std.specs.Prelude.{◌≡◌, ℕ, suc, ◌+◌, ◌++◌, ◌&&◌, ◌||◌, Bool, true, false, not, is_some, Option, Some, None, List, [], ◌∷◌, map, find}
 use Rattle.std.specs.List.{AllByRecursion}
 use Rattle.std.specs.Option.{option_map}
@@ -16,8 +16,8 @@ use Rattle.wt_schema.specs.Data.{Data, data_for}
 use Rattle.wt_schema.specs.Unsourced.{is_marked, is_unsourced}
 use Rattle.wt_schema.specs.Fit.{BodyElement, elements, row_as, is_block_element, fits_place, body_data, text_fits}
 
--- An element with its number, its parent's kind and its own, whether it is in a group and behind a block,
--- and how it stands. The body's parent has no kind, and neither has an element that is no row.
+-- An element with its number, its parent's kind and its own, whether it is in a group and after a block,
+-- and how it is. The body's parent has no kind, and neither has an element that is no row.
 pub record Place : Type 0 where
   pub number : ℕ
   pub parent : Option Kind
@@ -53,7 +53,7 @@ places_of_body f =
 
 -- ---- which elements have no source
 
--- of a group the first element alone is asked, and what stands in one is not
+-- of a group the first element alone is asked, and what is in one is not
 abbrev pub is_asked : Bool → Standing → Bool
 is_asked inside stands.Alone = not inside
 is_asked inside stands.First = not inside
@@ -96,7 +96,7 @@ abbrev pub has_other_text : Option Kind → Markups → Bool
 has_other_text None c = false
 has_other_text (Some k) c = not (text_fits k c)
 
--- it is no row, it may not stand there, its data are bad, text stands in it that may not
+-- it is no row, it may not be there, its data are bad, text is in it that may not
 abbrev pub is_wrong : FitWhy → Place → Bool
 is_wrong why.Root x = false
 is_wrong why.Element x = not (is_some x.kind)

@@ -41,7 +41,7 @@ abbrev pub values_at : ℕ → List Own → Option Values
 values_at n [] = None
 values_at n (o ∷ os) = if order o.name == n then Some o.values else values_at n os
 
--- an attribute that the row has not may not be there, and one that tells the kind must be
+-- an attribute that the row has not may not be there, and one that decides the kind must be
 abbrev pub agrees : Option Values → Option (List ℕ) → Bool
 agrees None None = true
 agrees None (Some t) = false
@@ -56,7 +56,7 @@ abbrev pub agrees_by : ℕ → Option (AttrName × List ℕ) → List Own → Op
 agrees_by n None os v = agrees (values_at n os) v
 agrees_by n (Some f) os v = if order f.0 == n then is_value f.1 v else agrees (values_at n os) v
 
--- the name, and behind it the digits of the level, where there is one
+-- the name, and after it the digits of the level, where there is one
 abbrev pub is_named : List ℕ → Kind → Bool
 is_named name k = begins (spelling k).name name && bytes_eq (drop (length (spelling k).name) name) (level_digits (spelling k).level)
 

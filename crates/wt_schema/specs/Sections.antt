@@ -1,5 +1,5 @@
 -- Sections in HTML: of their attributes the mark of an edit alone counts, and in the page's tree what they
--- hold stands in their place.
+-- hold is in their place.
 use Rattle.std.specs.Prelude.{ℕ, Bool, Result, Ok, Err, List, codes, filter, if◌then◌else◌}
 use Rattle.std.specs.Str.{bytes_eq}
 use Rattle.wt_tree.specs.Opened.{without_sections}
@@ -12,8 +12,8 @@ is_section_name name = bytes_eq name (codes "section")
 abbrev pub is_mark_pair : Pair → Bool
 is_mark_pair p = bytes_eq p.0 (codes "data-wt-edit")
 
--- Sections that stand in a body, and in those, without the attributes that don't count. (A section that
--- stands elsewhere has no place there, whatever its attributes are.)
+-- Sections that are in a body, and in those, without the attributes that don't count. (A section that
+-- is elsewhere has no place there, whatever its attributes are.)
 abbrev mutual
   pub bared : Markup → Markup
   bared (text bs) = text bs

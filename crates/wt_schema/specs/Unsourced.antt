@@ -1,4 +1,4 @@
--- The first element that doesn't tell where it comes from: an element in the body without
+-- The first element that doesn't say where it comes from: an element in the body without
 -- `data-parsoid`, or with the mark of an edit; or the body itself, where it has such a mark. Sections aren't
 -- asked.
 use Rattle.std.specs.Prelude.{ℕ, suc, ◌+◌, ◌&&◌, ◌||◌, Bool, not, Option, Some, None, List, codes, if◌then◌else◌}
@@ -21,7 +21,7 @@ is_unsourced ps = not (has (codes "data-parsoid") ps) || is_marked ps
 abbrev pub lacks_source : List ℕ → List Pair → Bool
 lacks_source name ps = not (is_section_name name) && is_unsourced ps
 
--- An element by how it stands: a group's first element is asked for the group, and nothing else in a
+-- An element by how it is: a group's first element is asked for the group, and nothing else in a
 -- group is.
 abbrev pub unsourced_as : Standing → ℕ → Bool → Option ℕ → Option ℕ
 unsourced_as stands.Alone n lacks inside = if lacks then Some n else inside

@@ -10,16 +10,16 @@ ghost use Rattle.wt_schema.specs.Unsourced.{unsourced};
 ghost use Rattle.wt_schema.specs.Read.{Read, read, IsRead};
 
 /// What is read by the machine is what the grammar says: an input is the page of the tree of elements
-/// for which it stands, or that tree's first misfit, or it is refused at the place and for the reason
+/// that it stands for, or that tree's first misfit, or it is refused at the place and for the reason
 /// that the grammar gives, the first that holds there; and it is one of these only.
 pub fn one_reading()
     ensures is_read { (bytes : List ℕ) → IsRead bytes (read bytes) }
     ensures only { (bytes : List ℕ) (r : Read) → IsRead bytes r → read bytes ≡ r }
 {}
 
-/// The misfit that is told is the first: with all elements in a list, in document order, each with
+/// The misfit that is reported is the first: with all elements in a list, in document order, each with
 /// its number and its parent's kind, every one before it fits by itself, and its reason is the first
-/// that holds of it. Where none is told, all fit. A document without a body of its own is told as
+/// that holds of it. Where none is reported, all fit. A document without a body of its own is told as
 /// such.
 pub fn first_misfit()
     ensures told { (m : Markup) (f : BodyElement) (n : ℕ) (w : FitWhy) → body_of m ≡ Some f → fit m ≡ Err (n, w) → FirstMisfit (places_of_body f) n w }
@@ -28,7 +28,7 @@ pub fn first_misfit()
     ensures root { (m : Markup) → body_of m ≡ None → fit m ≡ Err (1, why.Root) }
 {}
 
-/// The element without a source that is told is the first: in the list of the body and all elements
+/// The element without a source that is reported is the first: in the list of the body and all elements
 /// below it, in document order, each with its number and whether it has no source or has the mark of
 /// an edit; of the body the mark alone counts.
 pub fn first_without_source()

@@ -1,4 +1,4 @@
-/// How an element stands among its siblings.
+/// How an element is among its siblings.
 ///
 /// - `Alone`: it has no `about`, and is a node by itself.
 /// - `First`: it has `about` and `data-mw`, and begins a group.

@@ -3,7 +3,7 @@
 /// - `Root`: the root isn't `html` without attributes that matter, with an optional `head` and then
 ///   one `body` in it.
 /// - `Element`: it is no row of the table of elements.
-/// - `Place`: it may not stand in its parent.
+/// - `Place`: it may not be in its parent.
 /// - `Data`: `data-parsoid` or `data-mw` is bad, or lacks what the kind needs, or `about` stands
 ///   where no group is.
 /// - `Text`: text other than spaces, tabs and line breaks directly in an element that holds none.

@@ -1,5 +1,5 @@
--- The sections of a body by the levels of their headings: what a section begins with, what stands behind it, and
--- what stands inside it. Nothing here speaks of how they are gathered.
+-- The sections of a body by the levels of their headings: what a section begins with, what comes after it, and
+-- what is inside it. Nothing here speaks of how they are gathered.
 use Rattle.std.specs.Prelude.{◌≡◌, ◌⊎◌, ◌<◌, ◌≤◌, ℕ, []}
 use Rattle.std.specs.List.{AllByRecursion}
 use Rattle.wt_tree.specs.declared.kind.Kind.TheVariants as kind
@@ -19,12 +19,12 @@ abbrev pub IsOfLevel : ℕ → Tree → Type 0
 IsOfLevel n (tree l none) = ⊥
 IsOfLevel n (tree l (more t ts)) = (number : ℕ) × (0 < number) × (l.kind ≡ kind.Section number) × IsHeading n t
 
--- behind its first child no other child is a heading
+-- after its first child no other child is a heading
 abbrev pub HoldsNoOtherHeading : Tree → Type 0
 HoldsNoOtherHeading (tree l none) = Unit {0}
 HoldsNoOtherHeading (tree l (more t ts)) = AllByRecursion IsNoHeading (listed ts)
 
--- the lead, the section of what stands before the first heading: it holds neither headings nor sections
+-- the lead, the section of what comes before the first heading: it holds neither headings nor sections
 abbrev pub IsLead : Tree → Type 0
 IsLead (tree l ts) = (l.kind ≡ kind.Section 0) × AllByRecursion IsNoHeading (listed ts) × (sections_in_all ts ≡ [])
 
@@ -32,14 +32,14 @@ IsLead (tree l ts) = (l.kind ≡ kind.Section 0) × AllByRecursion IsNoHeading (
 abbrev pub IsHeaded : Tree → Type 0
 IsHeaded s = IsLead s ⊎ ((n : ℕ) × IsOfLevel n s × HoldsNoOtherHeading s)
 
--- ---- what stands behind a section
+-- ---- what comes after a section
 
 -- nothing, or a section of level n or a smaller one
 abbrev pub BeginWithin : ℕ → Trees → Type 0
 BeginWithin n none = Unit {0}
 BeginWithin n (more t ts) = (m : ℕ) × IsOfLevel m t × (m ≤ n)
 
--- of a child and those behind it: a section of level n reaches to a section of its level or a smaller one, or to
+-- of a child and those after it: a section of level n reaches to a section of its level or a smaller one, or to
 -- the end
 abbrev pub ReachesUp : Tree → Trees → Type 0
 ReachesUp t ts = (n : ℕ) → IsOfLevel n t → BeginWithin n ts
@@ -53,7 +53,7 @@ AllReachUp (more t ts) = ReachesUp t ts × AllReachUp ts
 abbrev pub ChildrenReachUp : Tree → Type 0
 ChildrenReachUp (tree l ts) = AllReachUp ts
 
--- ---- what stands inside a section
+-- ---- what is inside a section
 
 -- inside a section of level n each section, at any depth, has a larger level
 abbrev pub HoldsDeeper : Tree → Type 0

@@ -18,7 +18,7 @@ pub fn sections_begin_with_headings()
     ensures sections { (ts : Trees) → NoneIsSection ts → AllByRecursion IsHeaded (sections_in_all (gathered ts)) }
 {}
 
-/// Behind a section of level n, among the children of the body or of a section, stands nothing, or a section
+/// After a section of level n, among the children of the body or of a section, is nothing, or a section
 /// of level n or a smaller one. So of two sections side by side the later is never deeper.
 pub fn sections_reach_up()
     ensures body { (ts : Trees) → NoneIsSection ts → AllReachUp (gathered ts) }
@@ -31,7 +31,7 @@ pub fn sections_hold_deeper_ones()
 {}
 
 /// Each section, with the sections inside it opened, holds its heading and all that follows up to the next
-/// heading of its level or a smaller one, or to the end; the lead holds what stands before the first heading.
+/// heading of its level or a smaller one, or to the end; the lead holds what comes before the first heading.
 pub fn sections_hold_what_follows()
     ensures { (ts : Trees) → NoneIsSection ts → map held (sections_in_all (gathered ts)) ≡ lead_reach (up_to_heading ts) ++ reaches ts }
 {}

@@ -1,4 +1,4 @@
--- What the code gathers: the parts so far, of which the last stands first.
+-- What the code gathers: the parts so far, of which the last is first.
 use Rattle.std.specs.Prelude.{ℕ, ◌+◌, Option, Some, None, List, map, reverse}
 use Rattle.wt_tree.specs.declared.kind.Ranges.{Ranges}
 use Rattle.wt_tree.specs.Tree.{Tree, tree, Trees, none, more, label}

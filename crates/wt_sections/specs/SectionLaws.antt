@@ -39,7 +39,7 @@ abbrev pub first_of : Trees → Trees
 first_of none = none
 first_of (more t ts) = more t none
 
--- what a section is called, which tells its number, and what it begins with
+-- what a section is called, which says its number, and what it begins with
 abbrev pub opening : Tree → Kind × Trees
 opening (tree l ts) = (l.kind, first_of ts)
 
@@ -64,7 +64,7 @@ lead_opening (more t ts) = (kind.Section 0, more t none) ∷ []
 abbrev pub IsDeeper : Option ℕ → Tree → Type 0
 IsDeeper limit t = ends limit (level_of t) ≡ false
 
--- behind what a section begins with stands in it no heading of the same or a smaller level
+-- after what a section begins with is in it no heading of the same or a smaller level
 abbrev pub IsDeep : Tree → Type 0
 IsDeep (tree l none) = Unit {0}
 IsDeep (tree l (more t ts)) = AllByRecursion (IsDeeper (level_of t)) (listed (opened ts))

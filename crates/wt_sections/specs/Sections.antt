@@ -1,6 +1,6 @@
 -- The sections of a body: each heading that is a child of the body opens one, which holds what follows up to
 -- the next such heading of the same or a smaller level, or to the body's end; sections of larger levels lie
--- inside it. What stands before the first such heading, if anything does, is one section, the lead.
+-- inside it. What comes before the first such heading, if anything does, is one section, the lead.
 use Rattle.std.specs.Prelude.{ℕ, ◌+◌, nat_le, Bool, true, false, Option, Some, None, List, [], ◌∷◌, if◌then◌else◌}
 use Rattle.wt_tree.specs.declared.kind.Kind.TheVariants as kind
 use Rattle.wt_tree.specs.declared.kind.Mark.TheVariants as marks
@@ -66,7 +66,7 @@ abbrev pub from : Option ℕ → List Part → List Part
 from limit [] = []
 from limit (p ∷ ps) = if ends limit p.level then p ∷ ps else from limit ps
 
--- A child before parts: a heading opens a section of this number, any other child stands by itself.
+-- A child before parts: a heading opens a section of this number, any other child is by itself.
 abbrev pub put : ℕ → Option ℕ → Tree → List Part → List Part
 put n None t ps = record { level = None; tree = t } ∷ ps
 put n (Some level) t ps = record { level = Some level; tree = section n t (before (Some level) ps) } ∷ from (Some level) ps
@@ -87,7 +87,7 @@ abbrev pub part_trees : List Part → Trees
 part_trees [] = none
 part_trees (p ∷ ps) = more p.tree (part_trees ps)
 
--- the section of what stands before all others, if anything does
+-- the section of what comes before all others, if anything does
 abbrev pub lead_if_any : Trees → Trees → Trees
 lead_if_any none rest = rest
 lead_if_any (more t ts) rest = more (section 0 t ts) rest

@@ -29,7 +29,7 @@ fn ends(limit: Option<u8>, level: Option<u8>) -> bool
     }
 }
 
-/// Takes the parts, of which the last stands first, up to the first section of this level or a smaller one.
+/// Takes the parts, of which the last is first, up to the first section of this level or a smaller one.
 fn take_before<'a>(
     parts: &mut Vec<Part<'a>>,
     nodes: &mut Vec<Node<'a>>,
@@ -114,7 +114,7 @@ fn heading_count(nodes: &[Node<'_>]) -> Result<u32, NoMemory>
     Ok(count)
 }
 
-/// The parts of a body with these children, of which the last stands first.
+/// The parts of a body with these children, of which the last is first.
 fn parts_of<'a>(alloc: Global, nodes: Vec<Node<'a>>) -> Result<Vec<Part<'a>>, NoMemory>
     ensures { IfOk result (λ ps. parts_view ps.items ≡ parts 1 (views nodes.entry.items)) }
 {
@@ -129,7 +129,7 @@ fn parts_of<'a>(alloc: Global, nodes: Vec<Node<'a>>) -> Result<Vec<Part<'a>>, No
     Ok(parts)
 }
 
-/// Puts the lead, if there is one, behind what stands there.
+/// Puts the lead, if there is one, after what is there.
 fn push_lead<'a>(out: &mut Vec<Node<'a>>, nodes: Vec<Node<'a>>) -> Result<(), NoMemory>
     ensures { OnOk result (views out.new.items ≡ appended (views out.old.items) (section_if_any (views nodes.entry.items))) }
 {
@@ -140,7 +140,7 @@ fn push_lead<'a>(out: &mut Vec<Node<'a>>, nodes: Vec<Node<'a>>) -> Result<(), No
     Ok(())
 }
 
-/// Puts parts, of which the last stands first, behind what stands there.
+/// Puts parts, of which the last is first, after what is there.
 fn push_parts<'a>(out: &mut Vec<Node<'a>>, parts: Vec<Part<'a>>) -> Result<(), NoMemory>
     ensures { OnOk result (views out.new.items ≡ appended (views out.old.items) (part_trees (parts_view parts.entry.items))) }
 {
@@ -164,7 +164,7 @@ fn gather<'a>(alloc: Global, nodes: List<Node<'a>>) -> Result<List<Node<'a>>, No
 }
 
 /// The tree of a body with its sections: each heading among its children opens one, with numbers from 1,
-/// which goes up to the next such heading of the same or a smaller level; what stands before the first,
+/// which goes up to the next such heading of the same or a smaller level; what comes before the first,
 /// if anything does, is section 0.
 pub fn gather_sections<'a>(alloc: Global, body: Node<'a>) -> Result<Node<'a>, NoMemory>
     ensures { IfOk result (λ n. view n ≡ with_sections (view body.entry)) }

@@ -10,7 +10,7 @@ ghost use Rattle.wt_tree.specs.Tree.{Tree, Trees};
 ghost use Rattle.wt_sections.specs.Sections.{gathered, lead_if_any, with_sections};
 ghost use Rattle.wt_sections.specs.SectionLaws.{IsDeep, NoneIsSection, from_heading, lead_opening, opening, openings, sections_in_all, up_to_heading};
 
-/// Sections change nothing but where children stand: opened again, they give the children that were
+/// Sections change nothing but where children are: opened again, they give the children that were
 /// gathered, in their order.
 pub fn sections_open_again()
     ensures { (ts : Trees) → NoneIsSection ts → opened (gathered ts) ≡ ts }
@@ -22,7 +22,7 @@ pub fn headings_open_sections()
     ensures { (ts : Trees) → NoneIsSection ts → map opening (sections_in_all (gathered ts)) ≡ lead_opening (up_to_heading ts) ++ openings 1 ts }
 {}
 
-/// The lead is there exactly where something stands before the first heading, holds just that, and stands
+/// The lead is there exactly where something comes before the first heading, holds just that, and stands
 /// before the sections of the rest, which are what they are without it.
 pub fn lead_stands_before()
     ensures { (ts : Trees) → gathered ts ≡ lead_if_any (up_to_heading ts) (gathered (from_heading ts)) }
@@ -41,7 +41,7 @@ pub fn sections_leave_the_page()
     ensures numbers { (t : Tree) → InPreorder t → InPreorder (with_sections t) }
 {}
 
-/// Behind the heading that opens a section stands in it no heading of the same or a smaller level, and in the
+/// After the heading that opens a section is in it no heading of the same or a smaller level, and in the
 /// lead stands none.
 pub fn sections_are_deep()
     ensures { (ts : Trees) → NoneIsSection ts → AllByRecursion IsDeep (sections_in_all (gathered ts)) }

@@ -1,4 +1,4 @@
-//! The sections of a page: each heading among a body's children opens one, and what stands before the
+//! The sections of a page: each heading among a body's children opens one, and what comes before the
 //! first is the lead.
 #![tactic(auto)]
 

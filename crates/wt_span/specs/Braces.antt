@@ -9,7 +9,7 @@ use Rattle.wt_span.specs.Lexemes.{Word, words}
 -- ---- the text, as its lexemes and calls
 
 mutual
-  -- a lexeme, and of a run of braces what is left of it; or a call by how many braces stand at each end
+  -- a lexeme, and of a run of braces what is left of it; or a call by how many braces are at each end
   pub data Member : Type 0 where
     lexeme : Word → Member
     call : ℕ → Members → Member
@@ -38,7 +38,7 @@ open_left (Some (call k ms)) = 0
 abbrev pub has_two : Member → Bool
 has_two m = nat_le 2 (open_left (Some m))
 
--- what is left of a run stands in the text, where anything is left
+-- what is left of a run is in the text, where anything is left
 abbrev pub left_over : LexKind → ℕ → List Member
 left_over kind n = if n == 0 then [] else lexeme (kind, n) ∷ []
 

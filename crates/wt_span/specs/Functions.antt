@@ -39,7 +39,7 @@ named bs =
     else if begins_with Switch bs then Some Switch
     else None
 
--- The function of a target, and the place of the byte behind its colon: the target begins, past blanks and line breaks, with
+-- The function of a target, and the place of the byte after its colon: the target begins, past blanks and line breaks, with
 -- the function's word.
 unfoldable pub function_of : List ℕ → Option (Function × ℕ)
 function_of target = option_map (λ f. (f, space_len target + length (word_of f))) (named (drop (space_len target) target))

@@ -108,7 +108,7 @@ abbrev pub origin_before : List Origin → Origin → Bool
 origin_before [] o = false
 origin_before (p ∷ ps) o = same_call (call_of_origin o) (call_of_origin p)
 
--- the origins, each once: pieces of one call that stand next to each other have one
+-- the origins, each once: pieces of one call that are next to each other have one
 abbrev pub once : List Origin → List Origin
 once [] = []
 once (o ∷ os) = (if origin_before os o then once os else o ∷ once os)

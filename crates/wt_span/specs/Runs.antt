@@ -1,4 +1,4 @@
--- A list, cut into its longest runs: two neighbours stand in one run where they join.
+-- A list, cut into its longest runs: two neighbours are in one run where they join.
 use Rattle.std.specs.Prelude.{◌≡◌, Bool, true, false, List, [], ◌∷◌, ◌++◌, if◌then◌else◌}
 
 -- one more before the runs

@@ -1,4 +1,4 @@
--- What a text with its place holds, and where it stands: the places are bytes of what it was cut from.
+-- What a text with its place holds, and where it is: the places are bytes of what it was cut from.
 use Rattle.std.specs.Prelude.{ℕ, ◌+◌, List, length}
 use Rattle.wt_span.specs.declared.text.Text.{Text}
 

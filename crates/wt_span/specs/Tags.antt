@@ -18,11 +18,11 @@ pub record Tag : Type 0 where
   pub len : ℕ
   pub alone : Bool
 
--- what may stand in a tag: no `<`, no `>`, no line break
+-- what may be in a tag: no `<`, no `>`, no line break
 abbrev pub is_tag_byte : ℕ → Bool
 is_tag_byte b = not (b == byte.less_than || (b == byte.greater_than || b == byte.line_break))
 
--- what stands between the name and the `>`: nothing, `/`, or a space or tab and more
+-- what is between the name and the `>`: nothing, `/`, or a space or tab and more
 abbrev pub is_tag_inside : List ℕ → Bool
 is_tag_inside bs = length bs == 0 || (is_blank (slice_index bs 0) || (length bs == 1 && slice_index bs 0 == byte.slash))
 
@@ -38,7 +38,7 @@ tag_after name bs =
     then Some (record { name = lower name; len = 2 + length name + length inside; alone = closes_itself inside })
     else None
 
--- an opening tag: `<`, a name, what stands in it, `>`
+-- an opening tag: `<`, a name, what is in it, `>`
 unfoldable pub opening_tag : List ℕ → Option Tag
 opening_tag bs =
     let n = name_len (drop 1 bs) in

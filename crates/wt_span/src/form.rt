@@ -16,7 +16,7 @@ pub enum Mode {
 ///
 /// The forms are those of MediaWiki's preprocessor: a `CommentLine` is a line of comments and
 /// blanks with its line break, `Raw` a `nowiki` or extension tag with its inside, `Include` an
-/// include tag that stands alone, and `Hidden` an include tag with an inside that isn't shown.
+/// include tag that is alone, and `Hidden` an include tag with an inside that isn't shown.
 /// `Opens` and `Closes` are runs of two or more braces.
 #[derive(Clone, Copy, Debug, PartialEq, Eq)]
 pub enum LexKind {
@@ -51,7 +51,7 @@ pub enum ItemForm {
     EmptyCall,
 }
 
-/// Items of one form and one origin that stand next to each other, with their text.
+/// Items of one form and one origin that are next to each other, with their text.
 #[derive(Clone, Copy, Debug)]
 pub struct Piece<'a> {
     pub text: Text<'a>,

@@ -34,11 +34,11 @@ abbrev pub shown_words : List ℕ → List Word → Option (List ℕ)
 shown_words bs [] = Some []
 shown_words bs ((kind, n) ∷ ws) = joined (shown_by kind (take n bs)) (shown_words (drop n bs) ws)
 
--- what a text shows; None where another lexeme stands in it
+-- what a text shows; None where another lexeme is in it
 unfoldable pub read_text : Mode → List ℕ → Option (List ℕ)
 read_text mode bs = shown_words bs (words mode bs)
 
--- a sign stands somewhere in a text
+-- a sign is somewhere in a text
 abbrev pub stands : List ℕ → List ℕ → Bool
 stands sign [] = false
 stands sign (b ∷ bs) = begins sign (b ∷ bs) || stands sign bs

@@ -17,7 +17,7 @@ Holds p s = (s.from + s.open_w ≤ p) × (p + s.close_w < s.to)
 abbrev pub LiesIn : Style → Style → Type 0
 LiesIn u s = (s.from + s.open_w ≤ u.from) × (u.to + s.close_w ≤ s.to)
 
--- The toggle in the list's place i is the last one before the byte, and the next one stands behind it.
+-- The toggle in the list's place i is the last one before the byte, and the next one comes after it.
 abbrev pub IsLastBefore : List Chunk → ℕ → ℕ → Toggle → Type 0
 IsLastBefore chunks p i t =
     (slice_get (toggles_of chunks) i ≡ Some t) × (start_of chunks t + width_of t ≤ p)

@@ -19,13 +19,13 @@ IsWidest n w = IsWidth w × (w ≤ n) × ((v : ℕ) → IsWidth v → v ≤ n �
 abbrev pub TakesMost : List Chunk → Type 0
 TakesMost chunks = All (λ t. IsWidest (run_length (slice_get chunks t.chunk)) (width_of t)) (toggles_by_length chunks)
 
--- behind one letter comes before the middle class, and that before behind a space
+-- after one letter comes before the middle class, and that before after a space
 abbrev pub rank : Preceding → ℕ
 rank OneLetter = 0
 rank Middle = 1
 rank Space = 2
 
--- a run is taken rather than another one: its class comes before the other's, or they are alike and it stands no later
+-- a run is taken rather than another one: its class comes before the other's, or they are alike and it is no later
 abbrev pub IsRather : List Chunk → ℕ → Toggle → ℕ → Toggle → Type 0
 IsRather chunks i t k u =
     (rank (class_at chunks t.chunk) < rank (class_at chunks u.chunk))
@@ -37,7 +37,7 @@ IsChosen chunks i t =
     (slice_get (toggles_by_length chunks) i ≡ Some t) × (is_bold_alone t ≡ true)
     × ((k : ℕ) (u : Toggle) → slice_get (toggles_by_length chunks) k ≡ Some u → is_bold_alone u ≡ true → IsRather chunks i t k u)
 
--- Where both numbers are odd and a run of three stands in the context, one that is taken rather than any other is exchanged, and
+-- Where both numbers are odd and a run of three is in the context, one that is taken rather than any other is exchanged, and
 -- else none.
 abbrev pub OneIsChosen : List Chunk → Type 0
 OneIsChosen chunks =

@@ -20,8 +20,8 @@ pub fn delimiters_take_most(chunks: &[Chunk])
     ensures { TakesMost chunks.now }
 {}
 
-/// The run of three that is exchanged stands behind one letter, if one does; else it is of the middle
-/// class, if one is; else it stands behind a space. It is the first of these.
+/// The run of three that is exchanged comes after one letter, if one does; else it is of the middle
+/// class, if one is; else it comes after a space. It is the first of these.
 pub fn exchanged_run_is_first_of_its_class(chunks: &[Chunk])
     ensures { OneIsChosen chunks.now }
 {}

@@ -16,7 +16,7 @@ signs xs = map sign xs
 
 -- ---- a line is cut into its cells
 
--- how many blanks and marks stand before the first sign
+-- how many blanks and marks come before the first sign
 abbrev pub lead_len : List Item → ℕ
 lead_len xs = prefix_len is_idle (signs xs)
 
@@ -24,7 +24,7 @@ abbrev pub from_sign : List Item → List Item
 from_sign xs = drop (lead_len xs) xs
 
 -- What may split a line: `||`, and in a line of header cells `!!` too; nothing splits a caption.
--- A sign that begins a further cell stands at the front.
+-- A sign that begins a further cell is at the front.
 abbrev pub splits : Splits → List ℕ → Bool
 splits split.Cells ss = begins (codes "||") ss
 splits split.Headers ss = begins (codes "||") ss || begins (codes "!!") ss
@@ -38,7 +38,7 @@ abbrev pub onto : Item → List (List Item) → List (List Item)
 onto x [] = (x ∷ []) ∷ []
 onto x (p ∷ ps) = (x ∷ p) ∷ ps
 
--- The items from a sign on, cut before each further sign, from the left. Of a sign `n` items still stand at the front.
+-- The items from a sign on, cut before each further sign, from the left. Of a sign `n` items still are at the front.
 abbrev pub parts : Splits → ℕ → List Item → List (List Item)
 parts by n [] = [] ∷ []
 parts by (suc n) (x ∷ xs) = onto x (parts by n xs)
@@ -46,7 +46,7 @@ parts by zero (x ∷ xs) = if splits_at by (x ∷ xs) then [] ∷ onto x (parts 
 
 -- ---- the inside of a cell
 
--- a `|` stands at a place and none beside it
+-- a `|` is at a place and none beside it
 abbrev pub is_single : List ℕ → ℕ → Bool
 is_single ss k = slice_index ss k == byte.vertical_bar && (not (nat_lt 0 k && slice_index ss (k - 1) == byte.vertical_bar) && not (slice_index ss (k + 1) == byte.vertical_bar))
 
@@ -74,14 +74,14 @@ abbrev pub is_text : Item → Bool
 is_text (char o b) = true
 is_text (whole_item f o bs) = is_text_form f
 
--- what may stand before the `|` of attributes
+-- what may come before the `|` of attributes
 abbrev pub is_plain : List Item → Bool
 is_plain xs = list_all is_text xs && not (has_link (signs xs))
 
 abbrev pub bar_by : ℕ → List Item → Option ℕ
 bar_by k body = if nat_lt k (length body) && is_plain (take k body) then Some k else None
 
--- where attributes end: at the first single `|` behind the cell's sign, if what stands before it may be attributes
+-- where attributes end: at the first single `|` after the cell's sign, if what comes before it may be attributes
 unfoldable pub bar_at : List Item → Option ℕ
 bar_at body = bar_by (single_at (signs body)) body
 
@@ -103,7 +103,7 @@ pub record Cell : Type 0 where
 abbrev pub blanks_from : ℕ → List ℕ → ℕ
 blanks_from n ss = n + prefix_len is_blank (drop n ss)
 
--- how many items the open delimiter has, behind a sign of `n` items
+-- how many items the open delimiter has, after a sign of `n` items
 abbrev pub opening_len : ℕ → List Item → ℕ
 opening_len n part = blanks_from (n + past_bar (bar_at (drop n part))) (signs part)
 
@@ -143,7 +143,7 @@ cells_from caption ys = cells_in (header_by caption (signs ys)) (sign_len captio
 unfoldable pub cells : Bool → List Item → List Cell
 cells caption xs = cells_from caption (from_sign xs)
 
--- behind blanks and marks a line has the sign of a cell, or of a caption
+-- after blanks and marks a line has the sign of a cell, or of a caption
 abbrev pub begins_cell : Bool → List Item → Bool
 begins_cell true xs = begins (codes "|+") (signs (from_sign xs))
 begins_cell false xs = begins (codes "|") (signs (from_sign xs)) || begins (codes "!") (signs (from_sign xs))
@@ -152,7 +152,7 @@ begins_cell false xs = begins (codes "|") (signs (from_sign xs)) || begins (code
 abbrev pub whole : Cell → List Item
 whole c = c.opening ++ c.rest
 
--- ---- attributes of a table and of a row, by the line that opens it: behind `{|`, and behind all `-` of `|-`
+-- ---- attributes of a table and of a row, by the line that opens it: after `{|`, and after all `-` of `|-`
 
 abbrev pub is_dash : ℕ → Bool
 is_dash s = s == byte.hyphen

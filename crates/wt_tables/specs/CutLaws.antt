@@ -11,7 +11,7 @@ abbrev pub NoneSplits : Splits → ℕ → ℕ → List Item → Type 0
 NoneSplits by from to xs = (k : ℕ) → from ≤ k → k < to → splits_at by (drop k xs) ≡ false
 
 -- The lists join to the items; each has its sign at the front, the first one of `n` items and each further one a splitting
--- sign of two; and behind its sign no splitting sign begins in it.
+-- sign of two; and after its sign no splitting sign begins in it.
 abbrev pub AreCut : Splits → ℕ → List (List Item) → List Item → Type 0
 AreCut by n [] xs = ⊥
 AreCut by n (p ∷ []) xs = (xs ≡ p) × NoneSplits by n (length p) xs

@@ -4,7 +4,7 @@ use Rattle.std.specs.List.{count_by, position_or_len, range_with_len}
 use Rattle.wt_lines.specs.declared.kind.LineKind.{LineKind}
 use Rattle.wt_lines.specs.declared.kind.LineKind.TheVariants as kind
 
--- How many tables are open behind a line of this kind, at which so many are. A table is open at the lines after the one that opens it,
+-- How many tables are open after a line of this kind, at which so many are. A table is open at the lines after the one that opens it,
 -- up to and with the one that ends it.
 abbrev pub behind : ℕ → LineKind → ℕ
 behind n kind.Blank = n
@@ -50,7 +50,7 @@ is_end kind.List = false
 is_end kind.Pre = false
 is_end kind.Text = false
 
--- Of the kinds of the lines behind an opening one: up to and with line `k`, lines that end a table are one more than lines
+-- Of the kinds of the lines after an opening one: up to and with line `k`, lines that end a table are one more than lines
 -- that open one.
 abbrev pub closes : List LineKind → ℕ → Bool
 closes ks k = count_by is_end (take (suc k) ks) == suc (count_by is_open (take (suc k) ks))

@@ -12,7 +12,7 @@ joined ls = flat_map (λ l. l) ls
 
 -- ---- units: a line of the table's own level, or a whole nested table
 
--- how many lines behind it belong to the unit that a line begins
+-- how many lines after it belong to the unit that a line begins
 abbrev pub taken_len : LineKind → ℕ → ℕ
 taken_len kind.Blank inner = 0
 taken_len kind.TableOpen inner = inner
@@ -31,7 +31,7 @@ abbrev pub put_first : {A : Type 0} → A → List (List A) → List (List A)
 put_first l [] = (l ∷ []) ∷ []
 put_first l (u ∷ us) = (l ∷ u) ∷ us
 
--- the next `n` lines of a unit that goes on, and the units behind it
+-- the next `n` lines of a unit that goes on, and the units after it
 abbrev pub units_from : {A : Type 0} → (A → LineKind) → ℕ → List A → List (List A)
 units_from kind_of n [] = [] ∷ []
 units_from kind_of (suc n) (l ∷ ls) = put_first l (units_from kind_of n ls)
@@ -91,7 +91,7 @@ is_blank_kind kind.Text = false
 abbrev pub stray_len : {A : Type 0} → (A → LineKind) → List (List A) → ℕ
 stray_len kind_of us = length us - prefix_len (λ u. is_blank_kind (unit_kind kind_of u)) (reverse us)
 
--- an opening line, or a line that begins a row, takes the stray units behind it
+-- an opening line, or a line that begins a row, takes the stray units after it
 abbrev pub with_stray : {A : Type 0} → (A → LineKind) → List A → List (List A) → List A
 with_stray kind_of line us = line ++ joined (take (stray_len kind_of us) us)
 
@@ -100,8 +100,8 @@ past_stray kind_of us = joined (drop (stray_len kind_of us) us)
 
 -- ---- rows
 
--- A row: its open delimiter (nothing where no line begins it), the blank lines behind that, and for each line of cells this
--- line with those behind it that belong to its last cell.
+-- A row: its open delimiter (nothing where no line begins it), the blank lines after that, and for each line of cells this
+-- line with those after it that belong to its last cell.
 pub record RowOf (A : Type 0) : Type 0 where
   pub opening : List A
   pub between : List A
@@ -136,7 +136,7 @@ rows_of kind_of gs = map (row_of kind_of) (runs (λ g h. not (is_row (group_kind
 
 -- ---- tables
 
--- A table: its open delimiter, the blank lines behind that, its captions, each with the lines behind it, and its rows. The
+-- A table: its open delimiter, the blank lines after that, its captions, each with the lines after it, and its rows. The
 -- rows lie in one body with empty delimiters; a table without rows has none.
 pub record TableOf (A : Type 0) : Type 0 where
   pub opening : List A
@@ -158,7 +158,7 @@ is_caption kind.List = false
 is_caption kind.Pre = false
 is_caption kind.Text = false
 
--- how many units stand before the first that begins a part, and how many captions before the first row or cell
+-- how many units come before the first that begins a part, and how many captions before the first row or cell
 abbrev pub plain_len : {A : Type 0} → (A → LineKind) → List (List A) → ℕ
 plain_len kind_of us = prefix_len (λ u. not (begins_group kind_of u)) us
 

@@ -16,13 +16,13 @@ use Rattle.wt_tables.specs.Cells.{splits}
 abbrev pub numbers : List LineSign → List ℕ
 numbers ss = map number ss
 
--- how many items the first cell has, of whose sign `n` items stand at the front
+-- how many items the first cell has, of whose sign `n` items are at the front
 abbrev pub first_len : Splits → ℕ → List ℕ → ℕ
 first_len by n [] = 0
 first_len by (suc n) (s ∷ ss) = suc (first_len by n ss)
 first_len by zero (s ∷ ss) = if splits by (s ∷ ss) then 0 else suc (first_len by zero ss)
 
--- a single `|` stands at the front, where one stands before it or not
+-- a single `|` is at the front, where one comes before it or not
 abbrev pub begins_single : Bool → List ℕ → Bool
 begins_single bar ss = not bar && (begins (codes "|") ss && not (begins (codes "||") ss))
 
@@ -47,7 +47,7 @@ pub record AreSound (c : Cursor) : Type 0 where
 abbrev pub IsLowCut : ℕ → List Item → Type 0
 IsLowCut n xs = 0 < n → n < length xs → (slice_index (map sign xs) (n - 1) < 128) ⊎ (slice_index (map sign xs) n < 128)
 
--- a sign of `n` items stands at the front, the last of them in ASCII
+-- a sign of `n` items is at the front, the last of them in ASCII
 pub record HasSign (n : ℕ) (ss : List ℕ) : Type 0 where
   pub some : 0 < n
   pub within : n ≤ length ss

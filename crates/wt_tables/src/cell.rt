@@ -19,7 +19,7 @@ use wt_span::{ItemForm, List, NoMemory, Piece, front_of, rest_of};
 use wt_tree::Attr;
 
 /// A cell of a line, or a caption. `opening` is its open delimiter: its sign, its attributes with
-/// their `|`, and the blanks behind. `rest` is what is left of it, its inline content.
+/// their `|`, and the blanks after. `rest` is what is left of it, its inline content.
 #[derive(Debug, Drop)]
 pub struct CellAt<'a> {
     pub header: bool,
@@ -54,7 +54,7 @@ fn are_texts(pieces: &[Piece<'_>]) -> bool
     true
 }
 
-/// What may stand before the `|` of attributes.
+/// What may come before the `|` of attributes.
 fn is_plain(pieces: &[Piece<'_>], signs: &[LineSign]) -> bool
     requires { numbers signs.now ≡ map sign (items pieces.now) }
     ensures { result ≡ is_plain (items pieces.now) }
@@ -62,7 +62,7 @@ fn is_plain(pieces: &[Piece<'_>], signs: &[LineSign]) -> bool
     are_texts(pieces) && !has_link(signs)
 }
 
-/// The `len` items behind a sign of `n` items.
+/// The `len` items after a sign of `n` items.
 fn behind_sign<'a>(
     alloc: Global,
     n: usize,
@@ -79,7 +79,7 @@ fn behind_sign<'a>(
     Ok(front)
 }
 
-/// How many items stand up to and with the `|` that ends the attributes of a cell, whose sign has
+/// How many items there are up to and with the `|` that ends the attributes of a cell, whose sign has
 /// `n` items; the sign alone where it has no attributes. And the attributes.
 fn read_attrs(
     alloc: Global,
@@ -188,12 +188,12 @@ fn mode(caption: bool, signs: &[LineSign]) -> (Splits, bool, usize)
 }
 
 /// The cells of a line of a table, from its first sign on: the blanks and marks before that aren't
-/// handed on. It asks for a line that begins with `|` or `!` behind these, as lines of cells, header
+/// handed on. It asks for a line that begins with `|` or `!` after these, as lines of cells, header
 /// cells and captions do. Where `caption` is true it asks for `|+`, and the line is read as one
 /// caption with this sign; else a line with `|+` is a cell whose text begins with `+`.
 ///
-/// `||` begins a further cell wherever it stands, and `!!` does in a line that begins with `!`. A
-/// single `|` ends attributes if characters, entities and marks alone stand before it in the cell,
+/// `||` begins a further cell wherever it is, and `!!` does in a line that begins with `!`. A
+/// single `|` ends attributes if characters, entities and marks alone come before it in the cell,
 /// without `[[`. The rules are those of MediaWiki's table pass, in the profile's form.
 #[tactic(auto, unfolding(crate::specs::Cells::cells))]
 pub fn cells<'a>(alloc: Global, line: Line<'a>, caption: bool) -> Result<List<CellAt<'a>>, NoMemory>

@@ -58,7 +58,7 @@ fn is_blank(sign: LineSign) -> bool
     sign.is_byte(b' ') || sign.is_byte(b'\t')
 }
 
-/// How many blanks and marks stand at the front.
+/// How many blanks and marks are at the front.
 pub fn idle_len(signs: &[LineSign]) -> usize
     ensures value { result ≡ prefix_len is_idle (numbers signs.now) }
     ensures within { result ≤ length signs.now }
@@ -83,7 +83,7 @@ fn blank_len(signs: &[LineSign]) -> usize
     signs.len()
 }
 
-/// The place behind the blanks that stand at a place.
+/// The place after the blanks that are at a place.
 pub fn blanks_from(at: usize, signs: &[LineSign]) -> usize
     requires { at ≤ length signs.now }
     ensures value { result ≡ blanks_from at (numbers signs.now) }
@@ -92,7 +92,7 @@ pub fn blanks_from(at: usize, signs: &[LineSign]) -> usize
     at + blank_len(rest_of(signs, at))
 }
 
-/// The character stands at the front.
+/// The character is at the front.
 pub fn begins_one(signs: &[LineSign], byte: u8) -> bool
     ensures { result ≡ begins (byte ∷ []) (numbers signs.now) }
 {
@@ -102,7 +102,7 @@ pub fn begins_one(signs: &[LineSign], byte: u8) -> bool
     }
 }
 
-/// The character stands at the front, and once more behind.
+/// The character is at the front, and once more after.
 fn begins_two(signs: &[LineSign], byte: u8) -> bool
     ensures { result ≡ begins (byte ∷ byte ∷ []) (numbers signs.now) }
 {
@@ -114,7 +114,7 @@ fn begins_two(signs: &[LineSign], byte: u8) -> bool
 }
 
 impl Splits {
-    /// A sign that begins a further cell stands at the front.
+    /// A sign that begins a further cell is at the front.
     fn begin(self, signs: &[LineSign]) -> bool
         ensures { result ≡ splits self (numbers signs.now) }
     {
@@ -143,14 +143,14 @@ impl Splits {
     }
 }
 
-/// A single `|` stands at the front, where one stands before it or not.
+/// A single `|` is at the front, where one comes before it or not.
 fn begins_single(behind_bar: bool, signs: &[LineSign]) -> bool
     ensures { result ≡ begins_single behind_bar (numbers signs.now) }
 {
     !behind_bar && begins_one(signs, b'|') && !begins_two(signs, b'|')
 }
 
-/// The place of the first `|` beside which none stands, or the length.
+/// The place of the first `|` beside which there is none, or the length.
 pub fn single_at(signs: &[LineSign]) -> usize
     ensures value { result ≡ single_at (numbers signs.now) }
     ensures within { result ≤ length signs.now }
@@ -171,7 +171,7 @@ fn begins_link(signs: &[LineSign]) -> bool
     begins_two(signs, b'[')
 }
 
-/// Whether `[[` stands somewhere.
+/// Whether `[[` is somewhere.
 pub fn has_link(signs: &[LineSign]) -> bool
     ensures { result ≡ has_link (numbers signs.now) }
 {

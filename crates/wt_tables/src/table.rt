@@ -6,7 +6,7 @@ ghost use Rattle.wt_tables.specs.Extents.{behind};
 
 use wt_lines::LineKind;
 
-/// How many tables are open behind a line of this kind, at which `tables` are.
+/// How many tables are open after a line of this kind, at which `tables` are.
 pub fn behind(tables: u32, kind: LineKind) -> u32
     requires { tables ≤ MOST_TABLES }
     ensures { result ≡ behind tables kind }

@@ -1,4 +1,4 @@
--- Calls of a text and their parts, where they stand in it.
+-- Calls of a text and their parts, where they are in it.
 use Rattle.std.specs.Prelude.{◌≡◌, ◌≤◌, ℕ, ◌+◌, ◌==◌, false, Option, Some, None, List, [], ◌∷◌, map, take, drop}
 use Rattle.wt_span.specs.declared.form.Mode.{Mode}
 use Rattle.wt_span.specs.Braces.{Member, Members, lexeme, listed, members, width_of_all}
@@ -13,19 +13,19 @@ use Rattle.wt_transclusion.specs.Steps.{IsStretchOf, given_from}
 
 -- ---- parts
 
--- the name of a part that begins at a place, and its value behind the `=`, stand in stretches
+-- the name of a part that begins at a place, and its value after the `=`, are in stretches
 abbrev pub IsCut : Mode → List ℕ → ℕ → Option (List Member × ℕ) → List Member → Type 0
 IsCut m t at None value = Unit {0}
 IsCut m t at (Some (xs, n)) value = (n ≡ 1) × IsStretchOf m t at (at + width_of xs) xs
     × IsStretchOf m t (at + width_of xs + n) (at + width_of xs + n + width_of value) value
 
--- a part that begins at a place stands in a stretch, which ends at `most` or before
+-- a part that begins at a place is in a stretch, which ends at `most` or before
 pub record IsPartAt (m : Mode) (t : List ℕ) (most at : ℕ) (p : PartMembers) : Type 0 where
   pub all : IsStretchOf m t at (at + width_of (joined p.name p.value)) (joined p.name p.value)
   pub cut : IsCut m t at p.name p.value
   pub ends : at + width_of (joined p.name p.value) ≤ most
 
--- where the part behind one that begins at a place begins
+-- where the part after one that begins at a place begins
 abbrev pub next_place : ℕ → PartMembers → ℕ
 next_place at p = at + width_of (joined p.name p.value) + p.bar
 
@@ -61,9 +61,9 @@ parts_of_call r t b c = parts_given r false t (c.at + c.braces) (part_members 0 
 abbrev pub outs_of_call : (r : Reading) (t : List ℕ) (b : Braces) → IsCallOf r.mode t b → List Output
 outs_of_call r t b c = outputs_of r false (drop (c.at + c.braces) t) (members (listed c.inside))
 
--- ---- what stands behind the first part
+-- ---- what comes after the first part
 
--- the members behind it, with the `|` that ends it
+-- the members after it, with the `|` that ends it
 abbrev pub members_behind : List PartMembers → List Member
 members_behind [] = []
 members_behind (p ∷ []) = []

@@ -48,7 +48,7 @@ pub record ComesBy (pages : Pages) (page : List ℕ) (before : Ledger) (work don
   pub front : Front pages page before.spent work done left
   pub now_is : now ≡ ledger_after before done
 
--- the work stopped behind a front of it, for this cause
+-- the work stopped after a front of it, for this cause
 abbrev pub Refuses : Pages → List ℕ → Ledger → List Entry → Option (List (List ℕ)) → ExpandRefusal → Type 0
 Refuses pages page before work answered e = Stops pages page before.spent before.met work before.answered answered e
 

@@ -1,4 +1,4 @@
--- Levels of a text as they stand, and what they give in all.
+-- Levels of a text as they are, and what they give in all.
 use Rattle.std.specs.Prelude.{◌≡◌, ◌<◌, ◌≤◌, ℕ, suc, ◌+◌, Bool, Option, Some, None, List, [], ◌∷◌, map, length, drop, slice_get, String, string_bytes}
 use Rattle.std.specs.declared.alloc.Global.{Global}
 use Rattle.wt_span.specs.Items.{items}
@@ -111,7 +111,7 @@ pub record TextWaits (r : Reading) (t : List ℕ) (e : ℕ) (b : Braces) (back :
   pub end_is : e + call.braces ≡ b.at.end
   pub gives : back b.at.end (after_text call.braces (source_of r.mode t b call) o)
 
--- a part that is told to a function is read up to `e`, and the next one begins there or behind it
+-- a part that is told to a function is read up to `e`, and the next one begins there or after it
 pub record ToldWaits (r : Reading) (t : List ℕ) (e : ℕ) (c : Choosing) (total : Account) (back : Back) (o : Output) : Type 0 where
   pub choosing : IsChoosing r t c
   pub before : (next : PartAt) → slice_get c.call.parts.now (suc (length c.chooser.texts)) ≡ Some next → e ≤ next.at.start
@@ -120,7 +120,7 @@ pub record ToldWaits (r : Reading) (t : List ℕ) (e : ℕ) (c : Choosing) (tota
   pub gives : back c.call.at.end (after_told c.at_start c.chooser (parts_of_call r t c.call choosing.call) o)
 
 -- what follows from what a level that ends at `e` gives in all: of the whole text, or of the call of which it is a part; where the text
--- stands so
+-- is so
 abbrev pub After : Reading → List ℕ → ℕ → Task → Account → (Output → Type 0) → Back → Output → Type 0
 After r t e task.Whole total whole back o = whole o
 After r t e (task.Argument b) total whole back o = ArgumentWaits r t e b back o

@@ -46,7 +46,7 @@ after_value r at_start t frame n name later o =
 abbrev pub after_name : Reading → Bool → Title → Frame → ℕ → Output → List PartOutput → Output → Output
 after_name r at_start t frame n value later o = with_work o.work (after_value r at_start t frame n (Some o) later value)
 
--- what stands between the braces of a call that is text
+-- what is between the braces of a call that is text
 abbrev pub after_text : ℕ → List ℕ → Output → Output
 after_text k source o = then_output o (just (chars (back_braces k source)))
 
@@ -69,7 +69,7 @@ after_given at_start o = ended_with (record { items = with_break at_start (trimm
 abbrev pub behind_word : ℕ → Output → Output
 behind_word n o = record { items = drop n o.items; work = o.work }
 
--- what may be told of the parts behind the target
+-- what may be told of the parts after the target
 abbrev pub later_told : Function → List PartOutput → List Output
 later_told f ps = map (λ p. told_by f p.name p.all) (later_parts ps)
 

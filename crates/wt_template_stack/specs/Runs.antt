@@ -30,14 +30,14 @@ use Rattle.wt_template_stack.specs.Readers.{IsReading}
 use Rattle.wt_template_stack.specs.Stacks.{stack}
 use Rattle.wt_template_stack.specs.Rests.{after_given, after_page, after_values, with_work}
 
--- ---- where a run stands
+-- ---- where a run is
 
 -- a run reads its text up to this place
 pub record IsRunning (r : Reading) (t : List ℕ) (run : TextRun) (p : ℕ) (s : Bool) : Type 0 where
   pub reading : IsReading r.mode t run.reader p s
   pub mode_is : run.mode ≡ r.mode
 
--- with these levels the text stands so
+-- with these levels the text is so
 pub record Holds (r : Reading) (t : List ℕ) (run : TextRun) (ls : List Level) (total : Account) : Type 0 where
   pub place : ℕ
   pub at_start : Bool
@@ -59,7 +59,7 @@ pub record Returns (r : Reading) (t : List ℕ) (run : TextRun) (to : ℕ) (g : 
   pub before : place ≤ to
   pub resumes : Resumes r t to (starts t to) g (stack run.levels) total
 
--- bytes of a lexeme stand next, and then others, in the innermost of these levels
+-- bytes of a lexeme are next, and then others, in the innermost of these levels
 pub record TakesChunk (r : Reading) (t : List ℕ) (run : TextRun) (ls : List Level) (kind : LexKind) (to : ℕ) (total : Account) : Type 0 where
   pub place : ℕ
   pub at_start : Bool
@@ -67,7 +67,7 @@ pub record TakesChunk (r : Reading) (t : List ℕ) (run : TextRun) (ls : List Le
   pub before : place ≤ to
   pub resumes : Resumes r t to (starts t to) (just (lexeme_items r.mode kind (take (to - place) (drop place t)))) ls total
 
--- a level with this task begins at a place, behind what is read
+-- a level with this task begins at a place, after what is read
 pub record BeginsLevel (r : Reading) (t : List ℕ) (run : TextRun) (at : ℕ) (s : Bool) (to : ℕ) (k : Task) (total : Account) : Type 0 where
   pub place : ℕ
   pub at_start : Bool
@@ -77,7 +77,7 @@ pub record BeginsLevel (r : Reading) (t : List ℕ) (run : TextRun) (at : ℕ) (
   pub stretch : IsStretchOf r.mode t at to left
   pub ends : Ends r t to k (stack run.levels) (given_from r s t at left) total
 
--- a call stands next in the innermost of these levels
+-- a call is next in the innermost of these levels
 pub record BeginsCall (r : Reading) (t : List ℕ) (run : TextRun) (ls : List Level) (b : Braces) (total : Account) : Type 0 where
   pub at_start : Bool
   pub call : IsCallOf r.mode t b
@@ -86,7 +86,7 @@ pub record BeginsCall (r : Reading) (t : List ℕ) (run : TextRun) (ls : List Le
       (called_output (called call.braces (source_of r.mode t b call) (target_part (parts_of_call r t b call)).items) r at_start call.braces
       (source_of r.mode t b call) (parts_of_call r t b call) (outs_of_call r t b call)) ls total
 
--- the parts of a call that are left stand next
+-- the parts of a call that are left are next
 pub record HandsParts (r : Reading) (t : List ℕ) (run : TextRun) (h : PendingCall) (total : Account) : Type 0 where
   pub place : ℕ
   pub at_start : Bool
@@ -138,7 +138,7 @@ pub record Spends (spent : ℕ) (total : Account) (now : ℕ) (left : Account) :
   pub costs : now ≡ spent + cost_of_all done
   pub fetched : AreFetched total.done done
 
--- behind a front of what is left, in which each page that is fetched was fetched before, an entry is refused for its cost
+-- after a front of what is left, in which each page that is fetched was fetched before, an entry is refused for its cost
 pub record IsTooLarge (pages : Pages) (page : List ℕ) (spent : ℕ) (total : Account) : Type 0 where
   pub done : List Entry
   pub left : List Entry

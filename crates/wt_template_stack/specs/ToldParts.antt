@@ -26,6 +26,6 @@ told_end f p = end_by (name_end f p.equals) p.at.end
 abbrev pub given_start : Function → PartAt → ℕ
 given_start f p = start_by (name_end f p.equals) p.at.start
 
--- which parts behind the target have a `=`
+-- which parts after the target have a `=`
 abbrev pub have_equals : List PartAt → List Bool
 have_equals ps = map (λ p. is_some p.equals) (drop 1 ps)

@@ -14,7 +14,7 @@ use wt_transclusion::Braces;
 #[derive(Drop)]
 pub struct Choosing<'a> {
     pub call: Braces<'a>,
-    /// Whether the call stands at the start of a line.
+    /// Whether the call is at the start of a line.
     pub at_start: bool,
     pub function: Function,
     pub chooser: Chooser,
@@ -30,7 +30,7 @@ pub struct Choosing<'a> {
 impl<'a> Choosing<'a> {
     ghost use Rattle.wt_template_stack.specs.Choosings.{IsStarted};
 
-    /// A call of which nothing is told. The reader stands where it begins.
+    /// A call of which nothing is told. The reader is where it begins.
     pub fn start(
         alloc: Global,
         call: Braces<'a>,
@@ -56,7 +56,7 @@ impl<'a> Choosing<'a> {
     }
 }
 
-/// Which parts behind the target have a `=`.
+/// Which parts after the target have a `=`.
 fn have_equals(alloc: Global, parts: &[PartAt]) -> Result<List<bool>, NoMemory>
     ensures { IfOk result (λ equals. equals ≡ have_equals parts.now) }
 {
@@ -108,7 +108,7 @@ pub fn told_end(function: Function, part: PartAt) -> u32
     }
 }
 
-/// Where what is given of a part begins: behind its name, or with all of it.
+/// Where what is given of a part begins: after its name, or with all of it.
 pub fn given_start(function: Function, part: PartAt) -> Result<u32, NoMemory>
     ensures { IfOk result (λ at. at ≡ given_start function part) }
 {

@@ -228,7 +228,7 @@ impl<'a> Expansion<'a> {
     }
 
     /// What a stretch of a text gives, up to a place, where so many more pages may be expanded. The
-    /// reader stands where it begins.
+    /// reader is where it begins.
     ///
     /// # Errors
     ///
@@ -286,7 +286,7 @@ impl<'a> Expansion<'a> {
     }
 
     /// What the call of a page gives whose target, which names this title, is read already. The reader
-    /// stands behind the target or in front of it.
+    /// comes after the target or in front of it.
     ///
     /// # Errors
     ///

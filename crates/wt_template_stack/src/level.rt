@@ -13,7 +13,7 @@ use wt_transclusion::{Braces, Handed};
 #[derive(Drop)]
 pub struct PendingCall<'a> {
     pub call: Braces<'a>,
-    /// Whether the call stands at the start of a line.
+    /// Whether the call is at the start of a line.
     pub at_start: bool,
     pub title: Title,
     /// How many of its parts are read, or are being read.
@@ -59,7 +59,7 @@ pub enum Task<'a> {
         call: Braces<'a>,
         at_start: bool,
     },
-    /// The target of a function, which has its part 0 behind so many bytes.
+    /// The target of a function, which has its part 0 after so many bytes.
     First {
         choosing: Choosing<'a>,
         part_0: u32,
@@ -83,7 +83,7 @@ pub enum Task<'a> {
         pending: PendingCall<'a>,
         name: Option<String>,
     },
-    /// What stands behind the target of a call that is text.
+    /// What comes after the target of a call that is text.
     Text {
         call: Braces<'a>,
     },

@@ -52,7 +52,7 @@ impl<'a> Reader<'a> {
         })
     }
 
-    /// A later place that stands behind braces, and so at no start of a line.
+    /// A later place that comes after braces, and so at no start of a line.
     pub fn within(self, to: u32) -> Result<Reader<'a>, NoMemory>
         ensures later { IfOk result (λ x. bytes_left x < bytes_left self.entry) }
         ensures reading { IfOk result (λ x. (mode : TextMode) (bytes : List ℕ) (p : ℕ) (s : Bool) → IsReading mode bytes self.entry p s → p ≤ to
@@ -67,7 +67,7 @@ impl<'a> Reader<'a> {
         })
     }
 
-    /// What stands here in front of the place `end`.
+    /// What is here in front of the place `end`.
     pub fn next(self, end: u32) -> Next
         requires { self.cursor.at < end }
         ensures { (mode : TextMode) (bytes : List ℕ) (p : ℕ) (s : Bool) (xs : List TextMember) → IsReading mode bytes self.entry p s

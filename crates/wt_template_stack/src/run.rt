@@ -97,7 +97,7 @@ fn push_all<'a>(out: &mut List<Piece<'a>>, pieces: &[Piece<'a>]) -> Result<(), N
 }
 
 impl<'a> TextRun<'a> {
-    /// A stretch of a text, up to a place, of which nothing is read. The reader stands where it begins.
+    /// A stretch of a text, up to a place, of which nothing is read. The reader is where it begins.
     pub fn new(
         alloc: Global,
         reader: Reader<'a>,
@@ -160,7 +160,7 @@ impl<'a> TextRun<'a> {
         self.end(task, out, values, spent)
     }
 
-    /// What stands next in the innermost level, which ends at a place.
+    /// What is next in the innermost level, which ends at a place.
     fn read(&mut self, end: u32, spent: &mut u64) -> Result<(), ExpandRefusal>
         requires { self.old.reader.cursor.at < end }
         ensures answer { (r : Reading) (t : List ℕ) (total : Account) → Holds r t self.old (stack self.old.levels) total
@@ -202,7 +202,7 @@ impl<'a> TextRun<'a> {
         Ok(())
     }
 
-    /// A call that stands next in a level.
+    /// A call that is next in a level.
     fn begin(&mut self, call: Braces<'a>, spent: &mut u64) -> Result<(), ExpandRefusal>
         ensures answer { (r : Reading) (t : List ℕ) (total : Account) → BeginsCall r t self.old (stack self.old.levels) call.entry total
             → AnswersGoing r t spent.old total self.new spent.new result }
@@ -283,7 +283,7 @@ impl<'a> TextRun<'a> {
         Ok(())
     }
 
-    /// A part is read that begins behind braces.
+    /// A part is read that begins after braces.
     fn begin_within(&mut self, part: PartAt, task: Task<'a>) -> Result<(), NoMemory>
         ensures answer { OnOk result ((r : Reading) (t : List ℕ) (total : Account) → BeginsLevel r t self.old part.at.start false part.at.end task.entry total
             → Holds r t self.new (stack self.new.levels) total) }
@@ -298,7 +298,7 @@ impl<'a> TextRun<'a> {
         Ok(())
     }
 
-    /// What stands between two places is read.
+    /// What is between two places is read.
     fn begin_level(&mut self, at: u32, end: u32, task: Task<'a>) -> Result<(), NoMemory>
         ensures answer { OnOk result ((r : Reading) (t : List ℕ) (total : Account) → BeginsLevel r t self.old at (starts t at) end task.entry total
             → Holds r t self.new (stack self.new.levels) total) }
@@ -527,7 +527,7 @@ impl<'a> TextRun<'a> {
         Ok(turn)
     }
 
-    /// A call turns out to be text: its braces are characters, and what stands behind its target is
+    /// A call turns out to be text: its braces are characters, and what comes after its target is
     /// read on.
     fn begin_text(&mut self, call: Braces<'a>, out: List<Piece<'a>>) -> Result<(), NoMemory>
         ensures answer { OnOk result ((r : Reading) (t : List ℕ) (total : Account) (s : Bool) → HasEnded r t self.old (tasks.Target call.entry s) out.entry total

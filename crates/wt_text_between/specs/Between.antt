@@ -1,4 +1,4 @@
--- What stands before and behind a text of a page.
+-- What comes before and after a text of a page.
 use Rattle.std.specs.Prelude.{◌≡◌, ℕ, ◌==◌, false, None, List, [], ◌∷◌}
 use Rattle.wt_span.specs.declared.form.Mode.TheVariants.{Page}
 use Rattle.wt_span.specs.declared.form.LexKind.{LexKind}
@@ -9,7 +9,7 @@ use Rattle.wt_span.specs.Characters as byte
 
 -- ---- lines
 
--- no `<` stands in it
+-- no `<` is in it
 abbrev pub HasNoTag : List ℕ → Type 0
 HasNoTag [] = Unit {0}
 HasNoTag (b ∷ bs) = ((b == byte.less_than) ≡ false) × HasNoTag bs
@@ -55,7 +55,7 @@ pub record StandsBefore (bs : List ℕ) : Type 0 where
   pub untagged : HasNoTag bs
   pub uncalled : HaveNoBraces (words Page bs)
 
--- Behind it: anything in which no comment begins and no two braces stand side by side.
+-- After it: anything in which no comment begins and no two braces are side by side.
 pub record StandsBehind (bs : List ℕ) : Type 0 where
   pub uncommented : HasNoComment bs
   pub uncalled : HaveNoBraces (words Page bs)

@@ -21,7 +21,7 @@ pub fn lines_end_lexemes()
 {}
 
 /// Whatever somebody types between two parts of a page, the items of the page are those of the part before, of the
-/// text and of the part behind, each read as a page of its own. Nothing is called, and nothing refuses the page.
+/// text and of the part after, each read as a page of its own. Nothing is called, and nothing refuses the page.
 #[tactic(auto, using(crate::proofs::Fronts::items_between, crate::proofs::Fronts::expanded_between, crate::proofs::Fronts::unrefused_between))]
 pub fn texts_are_read_between()
     ensures items { (before text behind : List ℕ) → StandsBefore before → IsTypedPage text → StandsBehind behind

@@ -1,4 +1,4 @@
--- What external links, switches and categories tell, by the items that stand in them.
+-- What external links, switches and categories tell, by the items that are in them.
 use Rattle.std.specs.Prelude.{true, ◌≡◌, ◌≢◌, ℕ, ◌+◌, ◌==◌, false, Option, Some, List, [], ◌∷◌, ◌++◌, All, codes, length, map}
 use Rattle.std.specs.Char.{to_ascii_lowercase}
 use Rattle.wt_tree.specs.declared.kind.AttrName.TheVariants as attr

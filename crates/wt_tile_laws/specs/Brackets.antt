@@ -6,7 +6,7 @@ use Rattle.wt_tiles.specs.declared.shape.TileKind.TheVariants as kind
 use Rattle.wt_tiles.specs.Glyphs.{begins}
 use Rattle.wt_tiles.specs.Links.{leaf}
 
--- From these items on to those stands nothing; or an item at which no bracket begins, and then what balances; or `[[`, what balances,
+-- From these items on to those is nothing; or an item at which no bracket begins, and then what balances; or `[[`, what balances,
 -- `]]`, and again what balances.
 pub data Balances : List Glyph → List Glyph → Type 0 where
   nothing : (gs : List Glyph) → Balances gs gs

@@ -17,12 +17,12 @@ pub fn brackets_balance()
     ensures { (gs ys : List Glyph) → (balanced 0 0 gs ≡ Some ys) ↔ BalancesTo gs ys }
 {}
 
-/// Media end with that `]]`, so links may stand in them.
+/// Media end with that `]]`, so links may be in them.
 pub fn media_end_balanced()
     ensures { (gs : List Glyph) (w : Shape) → link_in gs ≡ Some w → w.kind ≡ kind.Media → EndsBalanced gs w }
 {}
 
-/// An external link leads to the URL between its `[` and the blanks behind it.
+/// An external link leads to the URL between its `[` and the blanks after it.
 pub fn links_lead_to_their_url()
     ensures { (o : Option ℕ) (url : List Item) (blanks : List Item) → LeadsToUrl o url blanks }
 {}
@@ -37,7 +37,7 @@ pub fn switches_are_told_in_small()
     ensures { (name : List ℕ) → IsToldSmall name }
 {}
 
-/// A category's key stands between the first `|` and the `]]`; further `|` stand in it.
+/// A category's key is between the first `|` and the `]]`; further `|` are in it.
 pub fn keys_are_behind_the_first_pipe()
     ensures { (o : Option ℕ) (target : List Item) (text : List Item) → KeyIsBehindFirstPipe o target text }
 {}

@@ -24,10 +24,10 @@ closed k zero gs = 0
 closed k (suc n) [] = 0
 closed k (suc n) (g ∷ gs) = closed_by (tag_turn k (g ∷ gs)) + closed k n gs
 
--- a closing tag before which, of those behind a place, as many have been closed as opened
+-- a closing tag before which, of those after a place, as many have been closed as opened
 abbrev pub Closes : ℕ → List Glyph → ℕ → Type 0
 Closes k gs n = (tag_turn k (drop n gs) ≡ Down) × (closed k n gs ≡ opened k n gs)
 
--- every closing tag before a place closes one that was opened behind the start
+-- every closing tag before a place closes one that was opened after the start
 abbrev pub AreInner : ℕ → List Glyph → ℕ → Type 0
 AreInner k gs n = (m : ℕ) → m < n → tag_turn k (drop m gs) ≡ Down → closed k m gs < opened k m gs

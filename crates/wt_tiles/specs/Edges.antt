@@ -22,7 +22,7 @@ abbrev pub low_before : List Glyph → ℕ → Bool
 low_before gs zero = false
 low_before gs (suc k) = low_at gs k
 
--- the items end here, or such an item stands on one side
+-- the items end here, or such an item is on one side
 abbrev pub IsEdge : List Glyph → ℕ → Type 0
 IsEdge gs n = (n ≡ length gs) ⊎ (low_at gs n ≡ true) ⊎ (low_before gs n ≡ true)
 

@@ -34,7 +34,7 @@ is_in p (glyph.Entity c) = false
 is_in p glyph.Atom = false
 is_in p glyph.Mark = false
 
--- what may stand in a tag between its name and the `>`: no `<`, no `>`, no line break, and of the atoms only entities
+-- what may be in a tag between its name and the `>`: no `<`, no `>`, no line break, and of the atoms only entities
 abbrev pub is_tag_glyph : Glyph → Bool
 is_tag_glyph (glyph.Byte b) = is_tag_byte b
 is_tag_glyph (glyph.Entity c) = true
@@ -58,11 +58,11 @@ abbrev pub first_is : GlyphClass → List Glyph → Bool
 first_is k [] = false
 first_is k (g ∷ gs) = in_class k g
 
--- so many items of a class stand first
+-- so many items of a class are first
 abbrev pub run_len : GlyphClass → List Glyph → ℕ
 run_len k gs = prefix_len (in_class k) gs
 
--- a word of ASCII characters stands first, spelled so
+-- a word of ASCII characters is first, spelled so
 abbrev pub begins : List ℕ → List Glyph → Bool
 begins [] gs = true
 begins (b ∷ word) [] = false
@@ -72,7 +72,7 @@ begins (b ∷ word) (g ∷ gs) = is_in (λ c. c == b) g && begins word gs
 abbrev pub like_byte : ℕ → Glyph → Bool
 like_byte b g = is_in (λ c. to_ascii_lowercase c == b) g
 
--- a word in lower case stands first, without ASCII case
+-- a word in lower case is first, without ASCII case
 abbrev pub begins_like : List ℕ → List Glyph → Bool
 begins_like [] gs = true
 begins_like (b ∷ word) [] = false

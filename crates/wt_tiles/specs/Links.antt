@@ -1,4 +1,4 @@
--- Links, categories and media: `[[`, a target, where it stands a `|` and a text, and `]]`.
+-- Links, categories and media: `[[`, a target, where it is a `|` and a text, and `]]`.
 use Rattle.std.specs.Prelude.{ℕ, suc, ◌+◌, ◌-◌, ◌==◌, ◌&&◌, ◌||◌, Bool, true, false, Option, Some, None, List, [], ◌∷◌, length, take, drop, reverse, slice_index, codes, encode_utf8, option_map, if◌then◌else◌}
 use Rattle.std.specs.List.{list_any, flat_map, prefix_len}
 use Rattle.wt_span.specs.Bytes.{is_blank, is_break}
@@ -23,7 +23,7 @@ use Rattle.wt_tiles.specs.Partners.{balanced}
 abbrev pub leaf : TileKind → ℕ → Shape
 leaf k n = record { kind = k; opening = n; inside = 0; closing = 0; trail = 0 }
 
--- how many items stand before the first place that passes the test; none where a barred place comes before it
+-- how many items come before the first place that passes the test; none where a barred place comes before it
 abbrev pub place : (List Glyph → Bool) → (List Glyph → Bool) → List Glyph → Option ℕ
 place stop bar [] = None
 place stop bar (g ∷ gs) = if stop (g ∷ gs) then Some 0 else (if bar (g ∷ gs) then None else option_map (λ n. suc n) (place stop bar gs))
@@ -59,11 +59,11 @@ target_text gs = trimmed_end (trimmed_start (flat_map text_of gs))
 abbrev pub aimed : Bool → Option Title → Option Target
 aimed colon o = option_map (λ t. record { colon = colon; title = t }) o
 
--- the target that a text is: a title, after a colon that may stand first
+-- the target that a text is: a title, after a colon that may be first
 abbrev pub target_in : List ℕ → Option Target
 target_in bs = if slice_index bs 0 == byte.colon then aimed true (read_bytes (drop 1 bs)) else aimed false (read_bytes bs)
 
--- the target that items are: no atom but entities may stand among them
+-- the target that items are: no atom but entities may be among them
 unfoldable pub target_of : List Glyph → Option Target
 target_of gs = if list_any is_atom gs then None else target_in (target_text gs)
 
@@ -88,7 +88,7 @@ kind_of t = if t.colon then Page else kind_in t.title.ns
 
 -- ---- forms; the items are what follows the `[[`
 
--- the target ends at the first `|` or `]]`, and no `[[` stands in it
+-- the target ends at the first `|` or `]]`, and no `[[` is in it
 abbrev pub target_len : List Glyph → Option ℕ
 target_len gs = place (λ hs. first_is (class.Only 124) hs || begins (codes "]]") hs) (begins (codes "[[")) gs
 
@@ -96,7 +96,7 @@ target_len gs = place (λ hs. first_is (class.Only 124) hs || begins (codes "]]"
 abbrev pub to_close : List Glyph → Option ℕ
 to_close gs = place (begins (codes "]]")) (begins (codes "[[")) gs
 
--- how many items stand before the `]]` of a target of n items
+-- how many items come before the `]]` of a target of n items
 abbrev pub inner_len : LinkKind → ℕ → List Glyph → Option ℕ
 inner_len Page n gs = option_map (λ k. n + k) (to_close (drop n gs))
 inner_len Category n gs = option_map (λ k. n + k) (to_close (drop n gs))
@@ -106,7 +106,7 @@ inner_len Media n gs = option_map (λ rest. length gs - length rest) (balanced 0
 abbrev pub has_pipe : ℕ → List Glyph → Bool
 has_pipe n gs = first_is (class.Only 124) (drop n gs)
 
--- how much of the open delimiter follows the `[[`: the target with its `|`, else a colon that stands first
+-- how much of the open delimiter follows the `[[`: the target with its `|`, else a colon that is first
 abbrev pub head_len : Bool → ℕ → List Glyph → ℕ
 head_len colon n gs = if has_pipe n gs then n + 1 else (if colon && first_is (class.Only 58) gs then 1 else 0)
 

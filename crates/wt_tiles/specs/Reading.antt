@@ -1,4 +1,4 @@
--- The tiles of a context as a relation: a list of shapes, each of which stands where it should.
+-- The tiles of a context as a relation: a list of shapes, each of which is where it should be.
 use Rattle.std.specs.Prelude.{◌≡◌, ℕ, zero, suc, ◌-◌, ◌<◌, ◌≤◌, Bool, false, Option, Some, None, List, [], ◌∷◌, length, drop}
 use Rattle.wt_tiles.specs.declared.context.Context.{Context}
 use Rattle.wt_tiles.specs.declared.glyph.Glyph.{Glyph}
@@ -29,7 +29,7 @@ IsForm kind.Atom = Unit {0}
 IsForm kind.Mark = Unit {0}
 IsForm kind.Chars = ⊥
 
--- a letter, digit or `_` stands before the k-th item; `after` tells it of the first
+-- a letter, digit or `_` comes before the k-th item; `after` says it of the first
 abbrev pub is_word_at : List Glyph → ℕ → Bool
 is_word_at [] k = false
 is_word_at (g ∷ gs) zero = is_in is_word g
@@ -58,7 +58,7 @@ abbrev pub Apart : TileKind → List Shape → Type 0
 Apart kind.Chars ws = BeginsWithForm ws
 Apart k ws = Unit {0}
 
--- The shapes are those of the tiles of a context: together they take all its items, each stands where it should, and no two
+-- The shapes are those of the tiles of a context: together they take all its items, each is where it should be, and no two
 -- runs are neighbours.
 abbrev pub AreTiles : Context → Bool → List Shape → List Glyph → Type 0
 AreTiles cx after [] gs = gs ≡ []

@@ -49,7 +49,7 @@ IsKnownBalance gs (Some table) = IsBalanceTable gs table
 abbrev pub nearest : ℕ → List Glyph → Option ℕ
 nearest k gs = left_of (partner k 0 gs)
 
--- of the name of the tag that begins the items, where it stands in pairs; behind its `<`
+-- of the name of the tag that begins the items, where it is in pairs; after its `<`
 abbrev pub nearest_named : Name → List Glyph → Option ℕ
 nearest_named (Paired m) gs = nearest (number m) gs
 nearest_named Break gs = None
@@ -81,7 +81,7 @@ abbrev pub entry : List (Option ℕ) → Option ℕ → Option ℕ
 entry table None = None
 entry table (Some q) = option_join (slice_get table q)
 
--- a tag of a name, with so many items left, before what was known behind it
+-- a tag of a name, with so many items left, before what was known after it
 abbrev pub nearest_by : List (Option ℕ) → TagShape → ℕ → Option ℕ → Option ℕ
 nearest_by table Opening left behind = entry table behind
 nearest_by table Alone left behind = behind

@@ -22,7 +22,7 @@ is_among (word ∷ words) gs = is_like word gs || is_among words gs
 abbrev pub if_like : List ℕ → Name → List Glyph → Option Name
 if_like word n gs = if is_like word gs then Some n else None
 
--- tags that stand in pairs, and the line break
+-- tags that are in pairs, and the line break
 unfoldable pub live_name : List Glyph → Option Name
 live_name gs =
     option_or (if_like (codes "sup") (Paired name.Sup) gs) (option_or (if_like (codes "sub") (Paired name.Sub) gs)
@@ -75,7 +75,7 @@ tag_of shape n o = option_map (λ m. record { name = m; shape = shape; len = n }
 abbrev pub name_len : List Glyph → ℕ
 name_len gs = if first_is class.Letter gs then run_len class.Name gs else 0
 
--- what stands between the name and the `>`: nothing, a blank and more, or `/`
+-- what is between the name and the `>`: nothing, a blank and more, or `/`
 abbrev pub is_inside : List Glyph → Bool
 is_inside gs = length gs == 0 || (first_is class.Blank gs || (length gs == 1 && first_is (class.Only 47) gs))
 

@@ -56,7 +56,7 @@ switch_names =
     codes "NOTOC__" ∷ codes "FORCETOC__" ∷ codes "TOC__" ∷ codes "NOEDITSECTION__" ∷ codes "NEWSECTIONLINK__" ∷ codes "HIDDENCAT__" ∷ codes "NOGALLERY__"
     ∷ codes "INDEX__" ∷ codes "NOINDEX__" ∷ []
 
--- the first of these words that stands here: how many items it takes
+-- the first of these words that is here: how many items it takes
 abbrev pub switch_len : List (List ℕ) → List Glyph → Option ℕ
 switch_len [] gs = None
 switch_len (word ∷ words) gs = if begins word gs then Some (length word) else switch_len words gs
@@ -66,7 +66,7 @@ switch_at gs = if begins (codes "__") gs then option_map (λ n. leaf kind.Switch
 
 -- ---- the form that begins the items: of several the first
 
--- links and URLs, which stand in no text of a link
+-- links and URLs, which are in no text of a link
 abbrev pub outside : Bool → Option Shape → Option Shape
 outside in_link o = if in_link then None else o
 
@@ -76,7 +76,7 @@ link_or_url after gs = option_or (link_at gs) (option_or (ext_link_at gs) (bare_
 abbrev pub tag_or_switch : ℕ → List Glyph → Option Shape
 tag_or_switch pairs gs = option_or (tag_tile pairs gs) (switch_at gs)
 
--- where a character stands first; `after` tells whether a letter, digit or `_` stands before it
+-- where a character is first; `after` says whether a letter, digit or `_` comes before it
 unfoldable pub form_at : Context → Bool → List Glyph → Option Shape
 form_at cx after gs = option_or (outside cx.in_link (link_or_url after gs)) (tag_or_switch cx.pairs gs)
 

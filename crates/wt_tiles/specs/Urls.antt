@@ -28,7 +28,7 @@ is_url_glyph (glyph.Entity c) = is_url_char c
 is_url_glyph glyph.Atom = false
 is_url_glyph glyph.Mark = false
 
--- how many URL items stand first; they end before `''`
+-- how many URL items are first; they end before `''`
 abbrev pub url_run : List Glyph → ℕ
 url_run [] = 0
 url_run (g ∷ gs) = if is_url_glyph g && not (begins (codes "''") (g ∷ gs)) then suc (url_run gs) else 0
@@ -81,6 +81,6 @@ bare_shape n = record { kind = kind.BareUrl; opening = 0; inside = n; closing = 
 abbrev pub bare_url_of : ℕ → ℕ → Option Shape
 bare_url_of scheme m = if nat_lt 0 scheme && nat_lt 0 m then Some (bare_shape (scheme + m)) else None
 
--- the bare URL that begins the items; `after` tells whether a letter, digit or `_` stands before them
+-- the bare URL that begins the items; `after` says whether a letter, digit or `_` comes before them
 unfoldable pub bare_url_at : Bool → List Glyph → Option Shape
 bare_url_at after gs = if after then None else bare_url_of (scheme_len gs) (kept_len (url_items gs))

@@ -39,7 +39,7 @@ pub fn entry(table: &[Option<usize>], left: usize) -> Option<usize>
     table[left]
 }
 
-/// How many items are left from the `]]` on that balances, where a `[[` stands first, by what is
+/// How many items are left from the `]]` on that balances, where a `[[` is first, by what is
 /// known of fewer items.
 fn balance_up(table: &[Option<usize>], glyphs: &[Glyph]) -> Option<usize>
     requires up { bracket_turn glyphs.now ≡ Up }

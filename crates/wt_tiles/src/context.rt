@@ -1,4 +1,4 @@
-//! Where a list of items stands.
+//! Where a list of items is.
 
 ghost use Rattle.std.specs.Prelude.{◌≡◌, ◌<◌};
 ghost use Rattle.wt_tiles.specs.Contexts.{in_line, in_text, in_pair};
@@ -8,7 +8,7 @@ ghost use Rattle.wt_tiles.specs.declared.read.TheConstants.{MOST_PAIRS};
 /// link and the inside of a pair of tags: each is cut by itself.
 #[derive(Clone, Copy, Debug)]
 pub struct Context {
-    /// The items stand in the text of a link, where only tags, switches, atoms and marks count.
+    /// The items are in the text of a link, where only tags, switches, atoms and marks count.
     pub in_link: bool,
     /// How many pairs of tags are open round the items. Where `MOST_PAIRS` are, a further one is an island.
     pub pairs: u32,
@@ -25,7 +25,7 @@ impl Context {
         }
     }
 
-    /// The text of a link that stands here.
+    /// The text of a link that is here.
     pub fn link_text(self) -> Context
         ensures { result ≡ in_text self }
     {
@@ -35,7 +35,7 @@ impl Context {
         }
     }
 
-    /// The inside of a pair of tags that stands here.
+    /// The inside of a pair of tags that is here.
     pub fn inside_pair(self) -> Context
         requires { self.pairs < MOST_PAIRS }
         ensures { result ≡ in_pair self }

@@ -23,7 +23,7 @@ pub enum GlyphClass {
     Name,
     /// ASCII letters in lower case, which join a link.
     Trail,
-    /// What may stand in a tag: characters but `<`, `>` and line breaks, entities, marks.
+    /// What may be in a tag: characters but `<`, `>` and line breaks, entities, marks.
     Tag,
     /// One character of one byte.
     Only(u8),
@@ -80,7 +80,7 @@ pub fn first_is(class: GlyphClass, glyphs: &[Glyph]) -> bool
     }
 }
 
-/// How many items of a class stand first.
+/// How many items of a class are first.
 pub fn run_len(class: GlyphClass, glyphs: &[Glyph]) -> usize
     ensures value { result ≡ run_len class glyphs.now }
     ensures within { result ≤ length glyphs.now }
@@ -93,7 +93,7 @@ pub fn run_len(class: GlyphClass, glyphs: &[Glyph]) -> usize
     glyphs.len()
 }
 
-/// Whether a word of ASCII characters stands first, spelled so.
+/// Whether a word of ASCII characters is first, spelled so.
 pub fn begins(word: &[u8], glyphs: &[Glyph]) -> bool
     ensures { result ≡ begins word.now glyphs.now }
 {
@@ -118,7 +118,7 @@ fn is_like_byte(glyph: Glyph, byte: u8) -> bool
     }
 }
 
-/// Whether a word in lower case stands first, without ASCII case.
+/// Whether a word in lower case is first, without ASCII case.
 pub fn begins_like(word: &[u8], glyphs: &[Glyph]) -> bool
     ensures { result ≡ begins_like word.now glyphs.now }
 {

@@ -52,7 +52,7 @@ impl<'g> Known<'g> {
         link_at(alloc, &mut self.brackets, rest)
     }
 
-    /// How many items are left from the closing tag on that balances the tag behind which these are
+    /// How many items are left from the closing tag on that balances the tag after which these are
     /// left, where that tag opens one of a pair.
     pub fn closing(&mut self, alloc: Global, left: usize) -> Result<Option<usize>, NoMemory>
         requires { left ≤ length self.old }

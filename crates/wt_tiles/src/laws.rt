@@ -31,9 +31,9 @@ pub fn tiles_join()
     ensures { (cx : Where) (xs : List Item) → joined (tiles cx xs) ≡ xs }
 {}
 
-/// The closing tag that is found balances: behind the opening tag as many tags of the name open as
+/// The closing tag that is found balances: after the opening tag as many tags of the name open as
 /// close before it, and each closing tag before it closes one that was opened there. Where none is
-/// found, each closing tag to the context's end closes one that was opened behind the opening tag.
+/// found, each closing tag to the context's end closes one that was opened after the opening tag.
 pub fn partners_balance()
     ensures found { (k : ℕ) (gs ys : List Sign) → partner k 0 gs ≡ Some ys → (n : ℕ) × (ys ≡ drop n gs) × Closes k gs n × AreInner k gs n }
     ensures none { (k : ℕ) (gs : List Sign) → partner k 0 gs ≡ None → AreInner k gs (length gs) }

@@ -43,7 +43,7 @@ impl Search {
         }
     }
 
-    /// How many items stand before what is sought, if it is there.
+    /// How many items come before what is sought, if it is there.
     pub fn place(self, glyphs: &[Glyph]) -> Option<usize>
         ensures value { result ≡ search_place self glyphs.now }
         ensures within { IfSome result (λ n. n < length glyphs.now) }
@@ -61,7 +61,7 @@ impl Search {
     }
 }
 
-/// How many items the target of a link takes that begins these, which stand behind the `[[`: up to
+/// How many items the target of a link takes that begins these, which come after the `[[`: up to
 /// the first `|` or `]]`, and none where a `[[` comes before it.
 pub fn target_len(glyphs: &[Glyph]) -> Option<usize>
     ensures value { result ≡ target_len glyphs.now }
@@ -70,7 +70,7 @@ pub fn target_len(glyphs: &[Glyph]) -> Option<usize>
     Search::Target.place(glyphs)
 }
 
-/// How many items stand before the `]]` that ends a link, where no `[[` comes before it.
+/// How many items come before the `]]` that ends a link, where no `[[` comes before it.
 pub fn close_len(glyphs: &[Glyph]) -> Option<usize>
     ensures value { result ≡ to_close glyphs.now }
     ensures within { IfSome result (λ n. n < length glyphs.now) }
@@ -91,7 +91,7 @@ pub fn leaf(kind: TileKind, len: usize) -> Shape
     }
 }
 
-/// How many items stand before the `]]` of a target of n items, where the items after the `[[` are
+/// How many items come before the `]]` of a target of n items, where the items after the `[[` are
 /// the last `left` ones.
 fn inner_len(
     alloc: Global,

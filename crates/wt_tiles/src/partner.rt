@@ -1,4 +1,4 @@
-//! Tags that stand in pairs: which closing tag belongs to an opening one.
+//! Tags that are in pairs: which closing tag belongs to an opening one.
 
 ghost use Rattle.std.specs.Prelude.{◌≡◌, ◌<◌, ◌≤◌, ◌-◌, ◌+◌, ℕ, Some, None, length, drop, slice_get, IfOk};
 ghost use Rattle.wt_tree.specs.declared.kind.TagName.{TagName as PairName};
@@ -14,7 +14,7 @@ use std::marker::Model;
 use wt_span::{List, NoMemory, rest_of};
 use wt_tree::TagName;
 
-/// How many names stand in pairs.
+/// How many names are in pairs.
 const NAMES: usize = 7;
 
 /// The place of a name in tables.
@@ -34,7 +34,7 @@ fn number(name: TagName) -> usize
 }
 
 /// How many items are left from the nearest closing tag of a name on, where a tag of that name
-/// stands first; `behind` is what was known behind it.
+/// is first; `behind` is what was known after it.
 fn nearest_by(
     table: &[Option<usize>],
     shape: TagShape,
@@ -76,7 +76,7 @@ fn pass(nearest: &mut [Option<usize>], table: &[Option<usize>], glyphs: &[Glyph]
     behind
 }
 
-/// For each number of items that may be left, where they begin with a tag that stands in pairs: how
+/// For each number of items that may be left, where they begin with a tag that is in pairs: how
 /// many are left from the first closing tag of its name on that closes more than is opened between.
 fn partner_table(alloc: Global, glyphs: &[Glyph]) -> Result<List<Option<usize>>, NoMemory>
     ensures { IfOk result (λ t. IsPartnerTable glyphs.now t) }
@@ -123,7 +123,7 @@ impl<'g> Partners<'g> {
         }
     }
 
-    /// How many items are left from the closing tag on that balances the tag behind which these are
+    /// How many items are left from the closing tag on that balances the tag after which these are
     /// left, where that tag opens one of a pair.
     pub fn closing(&mut self, alloc: Global, left: usize) -> Result<Option<usize>, NoMemory>
         requires { left ≤ length self.old }

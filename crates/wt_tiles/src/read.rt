@@ -224,7 +224,7 @@ fn is_word(glyph: Glyph) -> bool
     }
 }
 
-/// Whether an ASCII letter, a digit or `_` stands before a place.
+/// Whether an ASCII letter, a digit or `_` comes before a place.
 fn is_after_word(glyphs: &[Glyph], at: usize) -> bool
     requires { at ≤ length glyphs.now }
     ensures { result ≡ word_before false glyphs.now at }

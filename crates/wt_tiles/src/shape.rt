@@ -1,7 +1,7 @@
 //! Tiles without their items.
 
 /// What a tile is. `Chars` are characters in which no other tile begins; `Pair` is a tag with its
-/// closing tag and what stands between, `TagIsland` any other tag that counts but `Br`. `Atom` is
+/// closing tag and what is between, `TagIsland` any other tag that counts but `Br`. `Atom` is
 /// one entity, `nowiki`, extension or function, and `Mark` one invisible mark.
 #[derive(Clone, Copy, Debug, PartialEq, Eq)]
 pub enum TileKind {
@@ -26,7 +26,7 @@ pub struct Shape {
     pub kind: TileKind,
     /// The opening delimiter; of a leaf the whole.
     pub opening: usize,
-    /// What stands between the delimiters. Of a bare URL and of characters it is the whole.
+    /// What is between the delimiters. Of a bare URL and of characters it is the whole.
     pub inside: usize,
     /// The closing delimiter.
     pub closing: usize,

@@ -31,7 +31,7 @@ pub struct Tag {
     pub len: usize,
 }
 
-/// What a tag is that stands in pairs, or the line break, by its name.
+/// What a tag is that is in pairs, or the line break, by its name.
 #[tactic(auto, unfolding(crate::specs::Tags::live_name))]
 fn live_name(name: &[Glyph]) -> Option<Name>
     ensures { result ≡ live_name name.now }
@@ -164,7 +164,7 @@ fn name_of(name: &[Glyph]) -> Option<Name>
     }
 }
 
-/// How many items of a name stand first, 0 where none does.
+/// How many items of a name are first, 0 where none does.
 pub fn name_len(glyphs: &[Glyph]) -> usize
     ensures value { result ≡ name_len glyphs.now }
     ensures within { result ≤ length glyphs.now }
@@ -176,7 +176,7 @@ pub fn name_len(glyphs: &[Glyph]) -> usize
     }
 }
 
-/// Whether this may stand between a tag's name and its `>`.
+/// Whether this may be between a tag's name and its `>`.
 fn is_inside(glyphs: &[Glyph]) -> bool
     ensures { result ≡ is_inside glyphs.now }
 {

@@ -19,7 +19,7 @@ pub enum LinkKind {
     Media,
 }
 
-/// A link's target: its title, and whether a colon stands before that, with which a category and
+/// A link's target: its title, and whether a colon comes before that, with which a category and
 /// media are only led to.
 #[derive(Debug, Drop)]
 pub struct Target {
@@ -59,7 +59,7 @@ fn is_atom(glyph: Glyph) -> bool
     }
 }
 
-/// Whether an atom that is no entity stands among the items.
+/// Whether an atom that is no entity is among the items.
 fn has_atom(glyphs: &[Glyph]) -> bool
     ensures { result ≡ list_any is_atom glyphs.now }
 {
@@ -100,7 +100,7 @@ fn is_space(byte: u8) -> bool
     byte == b' ' || byte == b'\t' || byte == b'\n'
 }
 
-/// How many blanks and line breaks stand first.
+/// How many blanks and line breaks are first.
 fn space_len(bytes: &[u8]) -> usize
     ensures value { result ≡ prefix_len is_space bytes.now }
     ensures within { result ≤ length bytes.now }
@@ -113,7 +113,7 @@ fn space_len(bytes: &[u8]) -> usize
     bytes.len()
 }
 
-/// How many bytes stand up to and with the last one that is neither blank nor line break.
+/// How many bytes there are up to and with the last one that is neither blank nor line break.
 fn spaceless_len(bytes: &[u8]) -> usize
     ensures value { result ≡ length bytes.now - prefix_len is_space (reverse bytes.now) }
     ensures within { result ≤ length bytes.now }
@@ -143,7 +143,7 @@ fn read_bytes(alloc: Global, bytes: &[u8]) -> Result<Option<Title>, NoMemory>
     }
 }
 
-/// The target that a text is: a title, after a colon that may stand first.
+/// The target that a text is: a title, after a colon that may be first.
 fn target_in(alloc: Global, bytes: &[u8]) -> Result<Option<Target>, NoMemory>
     ensures { IfOk result (λ target. target ≡ target_in bytes.now) }
 {
@@ -156,7 +156,7 @@ fn target_in(alloc: Global, bytes: &[u8]) -> Result<Option<Target>, NoMemory>
 }
 
 /// The target that items are, if they are one: the text of characters and entities, trimmed, has to
-/// be a good title after an optional colon, and no other atom may stand among them.
+/// be a good title after an optional colon, and no other atom may be among them.
 #[tactic(auto, unfolding(crate::specs::Links::target_of))]
 pub fn target_of(alloc: Global, glyphs: &[Glyph]) -> Result<Option<Target>, NoMemory>
     ensures { IfOk result (λ target. target ≡ target_of glyphs.now) }

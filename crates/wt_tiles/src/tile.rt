@@ -28,7 +28,7 @@ pub struct Tile<'a> {
     pub pieces: List<Piece<'a>>,
     /// How many items the opening delimiter takes; of a leaf all.
     pub opening: usize,
-    /// How many stand between the delimiters; of a bare URL and of characters all.
+    /// How many are between the delimiters; of a bare URL and of characters all.
     pub inside: usize,
     /// How many the closing delimiter takes.
     pub closing: usize,

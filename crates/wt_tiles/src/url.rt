@@ -27,7 +27,7 @@ fn scheme_len(glyphs: &[Glyph]) -> usize
     }
 }
 
-/// Whether a character stands in URLs.
+/// Whether a character is in URLs.
 #[tactic(auto, unfolding(crate::specs::Urls::is_url_char))]
 fn is_url_char(character: u32) -> bool
     ensures { result ≡ is_url_char character }
@@ -51,7 +51,7 @@ fn is_url_glyph(glyph: Glyph) -> bool
     }
 }
 
-/// How many URL items stand first; they end before `''`.
+/// How many URL items are first; they end before `''`.
 fn url_run(glyphs: &[Glyph]) -> usize
     ensures value { result ≡ url_run glyphs.now }
     ensures within { result ≤ length glyphs.now }
@@ -106,7 +106,7 @@ pub fn ext_link_at(glyphs: &[Glyph]) -> Option<Shape>
     ext_link_after(1 + scheme + items, glyphs)
 }
 
-/// Whether this is dropped from a URL's end; `paren` tells whether the URL has a `(`.
+/// Whether this is dropped from a URL's end; `paren` says whether the URL has a `(`.
 #[tactic(auto, unfolding(crate::specs::Urls::is_dropped))]
 fn is_dropped(paren: bool, byte: u8) -> bool
     ensures { result ≡ is_dropped paren byte }
@@ -149,8 +149,8 @@ fn kept_len(items: &[Glyph]) -> usize
     end
 }
 
-/// The bare URL that begins the items; `after_word` tells whether an ASCII letter, a digit or `_`
-/// stands before them.
+/// The bare URL that begins the items; `after_word` says whether an ASCII letter, a digit or `_`
+/// comes before them.
 #[tactic(auto, unfolding(crate::specs::Urls::bare_url_at))]
 pub fn bare_url_at(after_word: bool, glyphs: &[Glyph]) -> Option<Shape>
     ensures { result ≡ bare_url_at after_word glyphs.now }

@@ -5,7 +5,7 @@ use Rattle.wt_span.specs.Bytes.{is_break}
 use Rattle.wt_transclusion.specs.declared.cursor.Cursor.{Cursor}
 use Rattle.wt_transclusion.specs.declared.read.ReadText.{ReadText}
 
--- whether a place behind the first byte stands at the start of a line
+-- whether a place after the first byte is at the start of a line
 abbrev pub starts : List ℕ → ℕ → Bool
 starts t q = is_break (slice_index t (q - 1))
 

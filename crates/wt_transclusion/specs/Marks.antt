@@ -5,7 +5,7 @@ use Rattle.wt_span.specs.declared.form.LexKind.TheVariants as lex
 use Rattle.wt_span.specs.Lexemes.{Word}
 use Rattle.wt_span.specs.Braces.{Member, Members, lexeme, call, none, more}
 
--- a brace of an opening or a closing run; or of a lexeme with so many bytes the one behind so many
+-- a brace of an opening or a closing run; or of a lexeme with so many bytes the one after so many
 pub data Mark : Type 0 where
   opens : Mark
   closes : Mark

@@ -1,13 +1,13 @@
--- Where a tag stands first, and what is taken of a template's text up to it.
+-- Where a tag is first, and what is taken of a template's text up to it.
 use Rattle.std.specs.Prelude.{◌≡◌, ◌<◌, ℕ, suc, Bool, false, Option, Some, None, option_map, List, [], ◌∷◌, ◌++◌, ◌+◌, length, drop, if◌then◌else◌}
 use Rattle.wt_expand.specs.Templates.{begins_only, insides}
 
--- how many bytes stand before the first place that passes a test
+-- how many bytes come before the first place that passes a test
 abbrev pub first_at : (List ℕ → Bool) → List ℕ → Option ℕ
 first_at test [] = None
 first_at test (b ∷ bs) = if test (b ∷ bs) then Some 0 else option_map suc (first_at test bs)
 
--- what stands behind the first `<onlyinclude>`
+-- what comes after the first `<onlyinclude>`
 abbrev pub behind_begin : List ℕ → Option (List ℕ)
 behind_begin bs = option_map (λ n. drop (n + 13) bs) (first_at begins_only bs)
 

@@ -6,7 +6,7 @@ use Rattle.wt_expand.specs.Expansion.{Reading, PartOutput}
 use Rattle.wt_transclusion.specs.Cursors.{starts}
 use Rattle.wt_transclusion.specs.Steps.{given_from}
 
--- whether what follows members stands at the start of a line
+-- whether what follows members is at the start of a line
 abbrev pub start_after : Bool → List ℕ → ℕ → List Member → Bool
 start_after s t at [] = s
 start_after s t at (x ∷ xs) = starts t (at + width_of_all (members (x ∷ xs)))

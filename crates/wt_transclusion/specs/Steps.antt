@@ -15,7 +15,7 @@ use Rattle.wt_transclusion.specs.Stretch.{calls_before, IsStretch}
 abbrev pub given_from : Reading → Bool → List ℕ → ℕ → List Member → Output
 given_from r s t p xs = joined (outputs_of r s (drop p t) (members xs))
 
--- Lexemes of one kind stand first, with so many bytes, and these members are left behind them. A run of braces may be cut anywhere,
+-- Lexemes of one kind are first, with so many bytes, and these members are left after them. A run of braces may be cut anywhere,
 -- since each of its bytes is a character by itself.
 pub data Leads : LexKind → ℕ → List Member → List Member → Type 0 where
   one_lexeme : (kind : LexKind) (n : ℕ) (ys : List Member) → Leads kind n (lexeme (kind, n) ∷ ys) ys
@@ -24,7 +24,7 @@ pub data Leads : LexKind → ℕ → List Member → List Member → Type 0 wher
   one_more : (kind : LexKind) (n : ℕ) (xs ys zs : List Member) → ((m : Mode) (bs : List ℕ) → lexeme_items m kind bs ≡ chars bs)
       → Leads kind 1 xs ys → Leads kind n ys zs → Leads kind (suc n) xs zs
 
--- Bytes of a lexeme of this kind are taken from a place up to another one, and the members that are left stand in a stretch.
+-- Bytes of a lexeme of this kind are taken from a place up to another one, and the members that are left are in a stretch.
 pub record IsTaken (w : List Mark) (cs : List CallAt) (t : List ℕ) (kind : LexKind) (p q e : ℕ) (xs : List Member) : Type 0 where
   pub left : List Member
   pub stretch : IsStretch w cs q e left
@@ -43,7 +43,7 @@ pub record IsCallThere (xs : List Member) : Type 0 where
 abbrev pub IsStretchOf : Mode → List ℕ → ℕ → ℕ → List Member → Type 0
 IsStretchOf m t p e xs = IsStretch (words_marks (words m t)) (calls 0 (words m t)) p e xs
 
--- what stands at the first place of a stretch: its call, by its number, or bytes of a lexeme up to a place
+-- what is at the first place of a stretch: its call, by its number, or bytes of a lexeme up to a place
 abbrev pub AnswersNext : Mode → List ℕ → ℕ → ℕ → List Member → Next → Type 0
 AnswersNext m t p e xs (next.Call n) = IsCallThere xs × (n ≡ calls_before p (calls 0 (words m t)))
 AnswersNext m t p e xs (next.Chunk kind to) = (p < to) × (to ≤ e) × IsTaken (words_marks (words m t)) (calls 0 (words m t)) t kind p to e xs

@@ -19,7 +19,7 @@ IsCause pages page spent met left answer.NoMemory = Unit {0}
 abbrev pub told_with : List (List ℕ) → List Entry → Option (List (List ℕ)) → Option (List (List ℕ))
 told_with met es told = option_map (λ ns. ns ++ firsts_after met (fetches es)) told
 
--- Work stopped behind a front of it, where so much was spent and these names were met before. The folder has answered the names of
+-- Work stopped after a front of it, where so much was spent and these names were met before. The folder has answered the names of
 -- this front since, each once, and no others; and what comes next is the cause.
 pub record Stops (pages : Pages) (page : List ℕ) (spent : ℕ) (met : List (List ℕ)) (work : List Entry) (before now : Option (List (List ℕ)))
     (e : ExpandRefusal) : Type 0 where

@@ -1,4 +1,4 @@
--- A stretch of a text: the members that stand between two places, with what their bytes belong to and the calls that begin there.
+-- A stretch of a text: the members that are between two places, with what their bytes belong to and the calls that begin there.
 use Rattle.std.specs.Prelude.{◌≡◌, ℕ, ◌+◌, ◌≤◌, Option, List, [], ◌∷◌, ◌++◌, take, drop, nat_lt}
 use Rattle.std.specs.List.{prefix_len}
 use Rattle.wt_span.specs.Braces.{Member, Members, lexeme, call, none, more, members, width_of_all, CallAt, calls_of_all}
@@ -22,7 +22,7 @@ AllFull (x ∷ xs) = IsFull x × AllFull xs
 abbrev pub calls_before : ℕ → List CallAt → ℕ
 calls_before p cs = prefix_len (λ c. nat_lt c.from p) cs
 
--- the first of the calls begins at a place or behind it
+-- the first of the calls begins at a place or after it
 abbrev pub BeginBehind : ℕ → List CallAt → Type 0
 BeginBehind p [] = Unit {0}
 BeginBehind p (c ∷ cs) = p ≤ c.from
@@ -34,7 +34,7 @@ pub record HasCalls (cs : List CallAt) (from to n : ℕ) (xs : List Member) : Ty
   pub is : cs ≡ calls_of_all from parent n (members xs) ++ after
   pub behind : BeginBehind to after
 
--- The members stand between two places of a text that has these calls, and whose bytes belong to these.
+-- The members are between two places of a text that has these calls, and whose bytes belong to these.
 pub record IsStretch (marks : List Mark) (cs : List CallAt) (from to : ℕ) (xs : List Member) : Type 0 where
   pub full : AllFull xs
   pub width : from + width_of_all (members xs) ≡ to

@@ -7,7 +7,7 @@ use Rattle.wt_span.specs.Items.{items_of}
 use Rattle.wt_expand.specs.Texts.{target_text, both}
 use Rattle.wt_expand.specs.Targets.{is_template}
 
--- what it says is appended; or it can't stand in a target
+-- what it says is appended; or it can't be in a target
 abbrev pub PushesTarget : Piece → List ℕ → List ℕ → Bool → Type 0
 PushesTarget p old new true = both (Some old) (target_text (items_of p)) ≡ Some new
 PushesTarget p old new false = target_text (items_of p) ≡ None

@@ -12,7 +12,7 @@ fn is_space(byte: u8) -> bool
     byte == b' ' || byte == b'\t' || byte == b'\n'
 }
 
-/// How many blanks and line breaks stand first.
+/// How many blanks and line breaks are first.
 pub fn front_len(bytes: &[u8]) -> usize
     ensures value { result ≡ prefix_len is_space bytes.now }
     ensures within { result ≤ length bytes.now }
@@ -25,7 +25,7 @@ pub fn front_len(bytes: &[u8]) -> usize
     bytes.len()
 }
 
-/// How many bytes stand up to and with the last one that is neither blank nor line break.
+/// How many bytes there are up to and with the last one that is neither blank nor line break.
 pub fn back_end(bytes: &[u8]) -> usize
     ensures value { result ≡ length bytes.now - prefix_len is_space (reverse bytes.now) }
     ensures within { result ≤ length bytes.now }

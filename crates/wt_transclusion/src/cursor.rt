@@ -13,18 +13,18 @@ use crate::read::{Braces, ReadText};
 use wt_lex::Lexeme;
 use wt_span::{LexKind, rest_of};
 
-/// A place of a text, with the first lexeme that ends behind it and the first call that begins there
-/// or behind it, by their numbers.
+/// A place of a text, with the first lexeme that ends after it and the first call that begins there
+/// or after it, by their numbers.
 #[derive(Clone, Copy, Debug)]
 pub struct Cursor {
     pub at: u32,
-    /// Whether the text begins there, or a line break stands before it.
+    /// Whether the text begins there, or a line break comes before it.
     pub at_start: bool,
     lexeme: usize,
     call: usize,
 }
 
-/// What stands at a place.
+/// What is at a place.
 #[derive(Clone, Copy, Debug)]
 pub enum Next {
     /// Bytes of one lexeme, up to a place.
@@ -59,7 +59,7 @@ fn calls_before(calls: &[Braces<'_>], to: u32) -> usize
     calls.len()
 }
 
-/// Whether a line break stands before a place behind the first byte.
+/// Whether a line break comes before a place after the first byte.
 fn starts_line(text: &str, at: u32) -> bool
     requires some { 0 < at }
     requires within { at ≤ length text.now }
@@ -94,7 +94,7 @@ impl Cursor {
         }
     }
 
-    /// A later place, behind the first byte.
+    /// A later place, after the first byte.
     pub fn seek(self, text: ReadText<'_>, to: u32) -> Cursor
         requires some { 0 < to }
         requires within { to ≤ length text.text.now }
@@ -113,7 +113,7 @@ impl Cursor {
         }
     }
 
-    /// What stands here, in front of the place `end`: the next call, or bytes of the lexeme up to its
+    /// What is here, in front of the place `end`: the next call, or bytes of the lexeme up to its
     /// end, the next call or `end`.
     pub fn next(self, text: ReadText<'_>, end: u32) -> Next
         requires { self.at < end }

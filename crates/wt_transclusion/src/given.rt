@@ -25,7 +25,7 @@ fn line_break() -> Piece<'static>
     piece_of(Text::new("\n", 0), ItemForm::Chars)
 }
 
-/// Pieces behind a line break.
+/// Pieces after a line break.
 fn behind_break<'a>(alloc: Global, pieces: &[Piece<'a>]) -> Result<List<Piece<'a>>, NoMemory>
     ensures { IfOk result (λ ps. items ps ≡ char None byte.line_break ∷ items pieces.now) }
 {
@@ -35,7 +35,7 @@ fn behind_break<'a>(alloc: Global, pieces: &[Piece<'a>]) -> Result<List<Piece<'a
     Ok(out)
 }
 
-/// What a page gives to the call that stands at the start of a line or doesn't: with a line break
+/// What a page gives to the call that is at the start of a line or doesn't: with a line break
 /// before what only counts there.
 pub fn with_break<'a>(
     alloc: Global,

@@ -23,7 +23,7 @@ fn ends_only(bytes: &[u8]) -> bool
     bytes.starts_with(b"</onlyinclude>")
 }
 
-/// Where the first `<onlyinclude>` stands.
+/// Where the first `<onlyinclude>` is.
 fn first_begin(bytes: &[u8]) -> Option<usize>
     ensures { result ≡ first_at begins_only bytes.now }
 {
@@ -35,7 +35,7 @@ fn first_begin(bytes: &[u8]) -> Option<usize>
     None
 }
 
-/// Where the first `</onlyinclude>` stands.
+/// Where the first `</onlyinclude>` is.
 fn first_end(bytes: &[u8]) -> Option<usize>
     ensures { result ≡ first_at ends_only bytes.now }
 {
@@ -47,7 +47,7 @@ fn first_end(bytes: &[u8]) -> Option<usize>
     None
 }
 
-/// What stands behind the first `<onlyinclude>`.
+/// What comes after the first `<onlyinclude>`.
 fn behind_begin(text: &str) -> Option<&str>
     ensures { option_map (λ rest. rest.now) result ≡ behind_begin text.entry.now }
 {
@@ -57,7 +57,7 @@ fn behind_begin(text: &str) -> Option<&str>
     }
 }
 
-/// Whether an `<onlyinclude>` stands anywhere with an `</onlyinclude>` behind it.
+/// Whether an `<onlyinclude>` is anywhere with an `</onlyinclude>` after it.
 fn has_only(text: &str) -> bool
     ensures { result ≡ has_only text.now }
 {

@@ -17,7 +17,7 @@ use wt_names::{Ns, Title, read_title};
 use wt_span::{Function, ItemForm, NoMemory, Piece, Str, rest_of};
 
 /// Appends what a piece says in a target: characters, an entity's character, nothing for marks. It
-/// answers false where the piece can't stand in one.
+/// answers false where the piece can't be in one.
 fn push_target(text: &mut Str, piece: &Piece<'_>) -> Result<bool, NoMemory>
     ensures { IfOk result (λ said. PushesTarget piece.now text.old text.new said) }
 {
@@ -97,7 +97,7 @@ fn as_template(alloc: Global, title: &Title) -> Result<Option<Title>, NoMemory>
     }
 }
 
-/// A title without a namespace is a template's, unless a colon stood before it.
+/// A title without a namespace is a template's, unless a colon came before it.
 fn placed(alloc: Global, colon: bool, title: Title) -> Result<Option<Title>, NoMemory>
     requires tidy { IsTidy title }
     requires whole { title.fragment ≡ None }
@@ -109,7 +109,7 @@ fn placed(alloc: Global, colon: bool, title: Title) -> Result<Option<Title>, NoM
     as_template(alloc, &title)
 }
 
-/// The title that a trimmed text names behind a colon or without one.
+/// The title that a trimmed text names after a colon or without one.
 fn title_behind(alloc: Global, colon: bool, text: &str) -> Result<Option<Title>, NoMemory>
     requires { colon ≡ (slice_index text.now 0 == byte.colon) }
     ensures { IfOk result (λ t. t ≡ title_behind colon text.now) }
@@ -158,7 +158,7 @@ pub fn is_function(source: &[u8]) -> bool
     byte_at(inside, front_len(inside)) == b'#'
 }
 
-/// The function by text that a call of two braces is, by its source, and the place of its part 0 behind
+/// The function by text that a call of two braces is, by its source, and the place of its part 0 after
 /// the braces.
 pub fn function_named(source: &[u8]) -> Option<(Function, u32)>
     requires { length source.now < 2 ^ 32 }

@@ -139,7 +139,7 @@ fn item_count(piece: Piece<'_>) -> usize
     }
 }
 
-/// A piece behind its first items, of which it has more. Characters that would be cut are answered as
+/// A piece after its first items, of which it has more. Characters that would be cut are answered as
 /// want of memory.
 fn behind_bytes(piece: Piece<'_>, count: usize) -> Result<Piece<'_>, NoMemory>
     requires { count < length (items_of piece) }
@@ -160,7 +160,7 @@ fn behind_bytes(piece: Piece<'_>, count: usize) -> Result<Piece<'_>, NoMemory>
     })
 }
 
-/// Pieces behind their first items.
+/// Pieces after their first items.
 pub fn behind_items<'a>(
     alloc: Global,
     pieces: &[Piece<'a>],

@@ -1,4 +1,4 @@
--- What children look like whose texts and separators are cut, told of each where it stands.
+-- What children look like whose texts and separators are cut, told of each where it is.
 use Rattle.std.specs.Prelude.{◌≡◌, ℕ, ◌&&◌, ◌||◌, Bool, true, false, not, Option, List, [], ◌∷◌, length}
 use Rattle.wt_tree.specs.declared.kind.Ranges.{Ranges}
 use Rattle.wt_tree.specs.Tree.{Tree, Trees, none, more, label}
@@ -13,7 +13,7 @@ abbrev pub begins_with_break : List ℕ → Bool
 begins_with_break [] = false
 begins_with_break (b ∷ bs) = is_break b
 
--- A separator is blank, and it stands behind the border, begins with a line break, or is spaces and
+-- A separator is blank, and it comes after the border, begins with a line break, or is spaces and
 -- tabs before a block.
 abbrev pub is_sep_at : Bool → Bool → List ℕ → Bool
 is_sep_at behind leads own = is_blank own && ((behind || (leads && are_spaces own)) || begins_with_break own)
@@ -30,7 +30,7 @@ IsWholeBy false behind r own t = (t ≡ text_leaf r own) × (has_tail behind own
 abbrev pub IsWhole : Bool → Bool → Tree → Type 0
 IsWhole behind leads t = (is_empty (label t).own ≡ false) × IsWholeBy (is_sep_at behind leads (label t).own) behind (label t).ranges (label t).own t
 
--- A text up to the border, which is the line break at the start of the separator behind it. The ranges
+-- A text up to the border, which is the line break at the start of the separator after it. The ranges
 -- meet there.
 abbrev pub IsFront : Bool → Tree → Trees → Type 0
 IsFront behind t none = ⊥
@@ -40,13 +40,13 @@ IsFront behind t (more s ts) =
     × (t ≡ text_leaf (front_ranges (length (label t).own) (joined_ranges (label t).ranges (label s).ranges)) (label t).own)
     × (s ≡ sep_leaf (rest_ranges (length (label t).own) (joined_ranges (label t).ranges (label s).ranges)) (label s).own)
 
--- of an element nothing is asked; a text stands by itself, or before a separator
+-- of an element nothing is asked; a text is by itself, or before a separator
 abbrev pub StandsBy : Bool → Bool → Type 0 → Type 0 → Type 0
 StandsBy false next whole front = Unit {0}
 StandsBy true false whole front = whole
 StandsBy true true whole front = front
 
--- All children, behind the border or not: the border is a text with a line break, or a block.
+-- All children, after the border or not: the border is a text with a line break, or a block.
 abbrev pub AreCut : Bool → Trees → Type 0
 AreCut behind none = Unit {0}
 AreCut behind (more t ts) =

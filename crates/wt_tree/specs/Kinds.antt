@@ -1,4 +1,4 @@
--- The table of kinds: what a node of each kind is, where it may stand, and how it is spelled. A row
+-- The table of kinds: what a node of each kind is, where it may be, and how it is spelled. A row
 -- of each for each kind; all that writes, lists, reads or compares nodes goes by these.
 use Rattle.std.specs.Prelude.{ℕ, List, [], ◌∷◌, ◌++◌, Bool, true, false, not, ◌==◌, ◌&&◌, ◌||◌, Option, Some, None, codes, decimal}
 use Rattle.wt_tree.specs.declared.kind.Kind.{Kind}
@@ -29,7 +29,7 @@ use Rattle.wt_tree.specs.declared.row.Spelling.{Spelling as Spelled}
 -- ---- what a node is
 
 -- how it is written, whether it has a source of its own, whether it has a number, what the plain view
--- makes of it, where it may stand, what it holds, what text directly in it is, and its `data-mw`
+-- makes of it, where it may be, what it holds, what text directly in it is, and its `data-mw`
 abbrev pub row : Writing → Bool → Bool → Showing → Placement → Holding → Texts → Payload → Shape
 row w l n s c h t p = record { writing = w; is_leaf = l; is_numbered = n; showing = s; class = c; holding = h; texts = t; payload = p }
 
@@ -95,7 +95,7 @@ texts_of_kind k = (shape k).texts
 abbrev pub payload : Kind → Payload
 payload k = (shape k).payload
 
--- ---- what may stand in which
+-- ---- what may be in which
 
 abbrev pub number_of_class : Placement → ℕ
 number_of_class Nowhere = 0
@@ -128,11 +128,11 @@ admits Cells c = is_class c Cell
 admits InlinesThenLists c = is_class c Inline || (is_class c Character || is_class c ListClass)
 admits InlinesThenBlocks c = is_class c Inline || (is_class c Character || (is_class c Block || is_class c ListClass))
 
--- marks stand anywhere, too
+-- marks are anywhere, too
 abbrev pub is_anywhere : Placement → Bool
 is_anywhere c = is_class c Anywhere || is_class c Mark
 
--- an element of this kind may stand directly in that one
+-- an element of this kind may be directly in that one
 abbrev pub may_hold : Kind → Kind → Bool
 may_hold parent k = is_anywhere (shape k).class || admits (shape parent).holding (shape k).class
 
@@ -140,7 +140,7 @@ may_hold parent k = is_anywhere (shape k).class || admits (shape parent).holding
 abbrev pub is_mark : Kind → Bool
 is_mark k = is_class (shape k).class Mark
 
--- a section, which stands in the body and in sections
+-- a section, which is in the body and in sections
 abbrev pub is_section : Kind → Bool
 is_section k = is_class (shape k).class Section
 
@@ -151,13 +151,13 @@ is_block k = is_class (shape k).class Block || is_class (shape k).class ListClas
 abbrev pub is_inline : Kind → Bool
 is_inline k = is_class (shape k).class Inline || is_class (shape k).class Character
 
--- The order of children: behind a block or a list no inline element stands.
+-- The order of children: after a block or a list no inline element stands.
 abbrev pub may_follow : Bool → Kind → Bool
 may_follow behind k = not (behind && is_inline k)
 
 -- ---- how it is spelled
 
--- the name of its element, with a level where it has one; the attribute that the kind alone tells;
+-- the name of its element, with a level where it has one; the attribute that the kind alone decides;
 -- the attributes that the node may have of its own, in the order in which they are written; and the
 -- word of a listing
 pub record Spelling : Type 0 where

@@ -1,4 +1,4 @@
--- A tree whose sections are opened: what a section holds stands in its place. Sections stand in the body and
+-- A tree whose sections are opened: what a section holds is in its place. Sections are in the body and
 -- in sections alone, so below other nodes nothing is opened.
 use Rattle.std.specs.Prelude.{if◌then◌else◌}
 use Rattle.wt_tree.specs.Kinds.{is_section}
@@ -13,7 +13,7 @@ abbrev mutual
   all_opened_before none rest = rest
   all_opened_before (more t ts) rest = opened_before t (all_opened_before ts rest)
 
--- what stands in a body whose sections are opened
+-- what is in a body whose sections are opened
 abbrev pub opened : Trees → Trees
 opened ts = all_opened_before ts none
 

@@ -1,7 +1,7 @@
 -- Which text in an item, a cell or a caption is a separator. Texts that follow one another are joined
 -- and cut anew at the border: the first line break in them, or the first child that shows a block.
 -- From there on a text, or the rest of one, that is spaces, tabs and line breaks alone is a separator.
--- A text of spaces and tabs alone is one, too, where only marks and such texts stand between it and a
+-- A text of spaces and tabs alone is one, too, where only marks and such texts are between it and a
 -- block that follows. All else is text.
 use Rattle.std.specs.Prelude.{ℕ, ◌+◌, ◌-◌, ◌==◌, ◌&&◌, ◌||◌, nat_lt, Bool, true, false, Option, Some, None, List, [], ◌∷◌, ◌++◌, length, if◌then◌else◌}
 use Rattle.std.specs.List.{list_all, list_any}
@@ -37,7 +37,7 @@ are_spaces bs = list_all is_space bs
 abbrev pub has_break : List ℕ → Bool
 has_break bs = list_any is_break bs
 
--- what stands before the first line break, and what from it on
+-- what comes before the first line break, and what from it on
 abbrev pub before_break : List ℕ → List ℕ
 before_break [] = []
 before_break (b ∷ bs) = if is_break b then [] else b ∷ before_break bs
@@ -78,7 +78,7 @@ abbrev mutual
   any_shows_block none = false
   any_shows_block (more t ts) = shows_block t || any_shows_block ts
 
--- it stands at the border, or behind it
+-- it is at the border, or after it
 abbrev pub is_border : Tree → Bool
 is_border t = if is_text t then has_break (label t).own else shows_block t
 
@@ -86,14 +86,14 @@ is_border t = if is_text t then has_break (label t).own else shows_block t
 abbrev pub is_passed : Tree → Bool
 is_passed t = if is_text t then are_spaces (label t).own else is_mark (label t).kind
 
--- only marks and such texts stand before a block
+-- only marks and such texts come before a block
 abbrev pub leads_to_block : Trees → Bool
 leads_to_block none = false
 leads_to_block (more t ts) = shows_block t || (is_passed t && leads_to_block ts)
 
 -- ---- ranges of parts
 
--- n bytes behind the start; the end where there are no more bytes
+-- n bytes after the start; the end where there are no more bytes
 abbrev pub place_in : Ranges → ℕ → ℕ
 place_in r n = if nat_lt n (r.end - r.start) then r.start + n else r.end
 
@@ -151,7 +151,7 @@ parts_before r (c ∷ cs) (b ∷ bs) ts =
 abbrev pub text_before : Bool → Option Ranges → List ℕ → Trees → Trees
 text_before all r own ts = parts_before r (front_of all own) (rest_of all own) ts
 
--- a child before others: behind the border or not, and before a block or not
+-- a child before others: after the border or not, and before a block or not
 abbrev pub cut_before : Bool → Bool → Tree → Trees → Trees
 cut_before behind leads t ts = if is_text t then text_before (from_start behind leads (label t).own) (label t).ranges (label t).own ts else more t ts
 

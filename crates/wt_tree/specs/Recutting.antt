@@ -34,22 +34,22 @@ joined_pair t u = sep_leaf (joined_ranges (label t).ranges (label u).ranges) ((l
 abbrev pub bare : Tree → Tree
 bare t = sep_leaf (label t).ranges (label t).own
 
--- a text behind others
+-- a text after others
 abbrev pub push_text : Trees → Tree → Trees
 push_text none u = more (bare u) none
 push_text (more t none) u = if is_text t then more (joined_pair t u) none else more t (more (bare u) none)
 push_text (more t (more s ts)) u = more t (push_text (more s ts) u)
 
--- a child behind others
+-- a child after others
 abbrev pub push_joined : Trees → Tree → Trees
 push_joined ts u = if is_text u then (if is_empty (label u).own then ts else push_text ts u) else appended ts (more u none)
 
--- for each child whether it stands before a block, with only marks and spaces between
+-- for each child whether it comes before a block, with only marks and spaces between
 abbrev pub leads_of : Trees → List Bool
 leads_of none = []
 leads_of (more t ts) = leads_to_block ts ∷ leads_of ts
 
--- a text was put behind both halves
+-- a text was put after both halves
 abbrev pub HalvesGrow : Halves → Halves → Bool → List ℕ → Bool → Type 0
 HalvesGrow h j true bs now = (texts_of j.front ≡ texts_of h.front) × (texts_of j.rest ≡ texts_of h.rest ++ bs) × (now ≡ true)
 HalvesGrow h j false bs now =

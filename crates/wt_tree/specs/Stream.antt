@@ -36,7 +36,7 @@ bytes_in [] = []
 bytes_in (byte b ∷ ss) = b ∷ bytes_in ss
 bytes_in (bracket k ∷ ss) = bytes_in ss
 
--- its brackets, each with the number of characters before it; `n` stand before the stream
+-- its brackets, each with the number of characters before it; `n` come before the stream
 abbrev pub brackets_in : ℕ → List StreamToken → List (ℕ × Bracket)
 brackets_in n [] = []
 brackets_in n (byte b ∷ ss) = brackets_in (n + 1) ss

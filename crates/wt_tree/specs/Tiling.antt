@@ -38,7 +38,7 @@ abbrev mutual
 abbrev pub Covers : ℕ → Tree → Type 0
 Covers size t = (label t).ranges ≡ Some (record { start = 0; end = size; open_w = 0; close_w = 0 })
 
--- whether what stands below a node of this kind has numbers: not inside a group
+-- whether what is below a node of this kind has numbers: not inside a group
 abbrev pub is_group : Kind → Bool
 is_group kind.Group = true
 is_group k = false

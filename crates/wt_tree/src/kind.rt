@@ -1,4 +1,4 @@
-/// Where a node stands in the page, in bytes: from `start` up to `end`, and how many of these bytes
+/// Where a node is in the page, in bytes: from `start` up to `end`, and how many of these bytes
 /// its opening and closing delimiters have. It is what Parsoid calls `dsr`. A leaf that is written
 /// as an element has its whole length as `open_w`; a text and a group have 0.
 #[derive(Clone, Copy, Debug, PartialEq, Eq)]
@@ -33,8 +33,8 @@ pub enum TagName {
 
 /// What a node is. A `Section` has its number: 0 where it is the lead, else the place of its heading among
 /// those that open one, from 1. A `Heading` has its level, from 1 to 6. An `Island` is a part of the page
-/// that is kept and not read into: an extension, or a tag, media or function; its `typeof` tells which.
-/// `Empty` is the mark of a call without output, and stands inside groups alone.
+/// that is kept and not read into: an extension, or a tag, media or function; its `typeof` says which.
+/// `Empty` is the mark of a call without output, and is inside groups alone.
 #[derive(Clone, Copy, Debug, PartialEq, Eq)]
 pub enum Kind {
     Body,

@@ -22,7 +22,7 @@ pub fn plain_forgets()
 
 /// Cutting texts and separators anew leaves the texts that they join to as they are, and so the
 /// source; what is cut once stays so. Of all children that join to these texts, those alone are cut in
-/// which every text and separator stands as it should.
+/// which every text and separator is as it should be.
 pub fn recut_once()
     ensures joins { (ts : Trees) → joined_texts (recut ts) ≡ joined_texts ts }
     ensures again { (ts : Trees) → recut (recut ts) ≡ recut ts }

@@ -302,7 +302,7 @@ fn join<'a>(alloc: Global, first: Node<'a>, second: Node<'a>) -> Result<Node<'a>
     Ok(sep_leaf(alloc, ranges, own))
 }
 
-/// Puts a text or a separator behind others; it is joined with one that stands there.
+/// Puts a text or a separator after others; it is joined with one that is there.
 fn push_text<'a>(alloc: Global, nodes: &mut Vec<Node<'a>>, text: Node<'a>) -> Result<(), NoMemory>
     ensures { OnOk result (views nodes.new.items ≡ push_text (views nodes.old.items) (view text.entry)) }
 {
@@ -347,7 +347,7 @@ fn joined_texts<'a>(alloc: Global, nodes: Vec<Node<'a>>) -> Result<Vec<Node<'a>>
 
 // ---- cutting
 
-/// For each node whether only marks and texts of spaces and tabs stand between it and a block that
+/// For each node whether only marks and texts of spaces and tabs are between it and a block that
 /// follows, the last node first.
 fn leads<'a>(alloc: Global, nodes: &[Node<'a>]) -> Result<Vec<bool>, NoMemory>
     ensures { IfOk result (λ v. v.items ≡ reverse (leads_of (views nodes.now))) }
@@ -363,7 +363,7 @@ fn leads<'a>(alloc: Global, nodes: &[Node<'a>]) -> Result<Vec<bool>, NoMemory>
     Ok(flags)
 }
 
-/// How many bytes stand before the first line break; all where there is none.
+/// How many bytes come before the first line break; all where there is none.
 fn break_at(bytes: &[u8]) -> usize
     ensures within { result ≤ length bytes.now }
     ensures before { NoBreakBefore bytes.now result }
@@ -397,7 +397,7 @@ struct Halves<'a> {
     rest: List<Text<'a>>,
 }
 
-/// Puts a text behind both halves of what was read so far; `found` says whether a line break was
+/// Puts a text after both halves of what was read so far; `found` says whether a line break was
 /// there, and the result whether one is now.
 fn push_half<'a>(halves: &mut Halves<'a>, found: bool, text: Text<'a>) -> Result<bool, NoMemory>
     ensures { IfOk result (λ now. HalvesGrow halves.old halves.new found (bytes_of text.entry) now) }
@@ -449,7 +449,7 @@ fn halves_of<'a>(alloc: Global, all: bool, own: List<Text<'a>>) -> Result<Halves
     }
 }
 
-/// The place `n` bytes behind the start of a range; its end where it has no more bytes.
+/// The place `n` bytes after the start of a range; its end where it has no more bytes.
 fn place_in(ranges: Ranges, n: usize) -> u32
     ensures { result ≡ place_in ranges n }
 {
@@ -492,7 +492,7 @@ struct Parts<'a> {
     second: Option<Node<'a>>,
 }
 
-/// A text and the separator behind it.
+/// A text and the separator after it.
 fn text_and_sep<'a>(
     alloc: Global,
     ranges: Option<Ranges>,
@@ -543,7 +543,7 @@ fn parts_of<'a>(
     text_and_sep(alloc, ranges, front, rest)
 }
 
-/// What a node is cut into that stands behind the border or not, and before a block or not.
+/// What a node is cut into that comes after the border or not, and before a block or not.
 fn cut<'a>(alloc: Global, node: Node<'a>, behind: bool, leads: bool) -> Result<Parts<'a>, NoMemory>
     ensures { IfOk result (λ p. parts_view p ≡ cut_before behind leads (view node.entry) none) }
 {
@@ -569,7 +569,7 @@ fn push_parts<'a>(nodes: &mut Vec<Node<'a>>, parts: Parts<'a>) -> Result<(), NoM
     Ok(())
 }
 
-/// Whether what follows a node stands behind the border, where the node does or doesn't.
+/// Whether what follows a node comes after the border, where the node does or doesn't.
 fn is_behind(behind: bool, node: &Node<'_>) -> bool
     ensures { result ≡ (behind || is_border (view node.now)) }
 {
@@ -608,7 +608,7 @@ fn cut_all<'a>(
     Ok(done)
 }
 
-/// The children of an item, a cell or a caption with their texts and separators cut anew: what stands
+/// The children of an item, a cell or a caption with their texts and separators cut anew: what is
 /// before the border is text, and from there on what is blank is a separator. Empty ones are left out.
 pub fn recut_texts<'a>(alloc: Global, nodes: List<Node<'a>>) -> Result<List<Node<'a>>, NoMemory>
     ensures { IfOk result (λ l. views l ≡ recut (views nodes.entry)) }

@@ -2,7 +2,7 @@ use crate::kind::{AttrName, Showing};
 
 /// How a node is written: as its source, as an element without an end tag, as an element round its
 /// character, as an element round its children, as the section of this number round its children, or
-/// not by an element of its own (groups, and what stands in them alone).
+/// not by an element of its own (groups, and what is in them alone).
 #[derive(Clone, Copy, Debug, PartialEq, Eq)]
 pub enum Writing {
     AsText,
@@ -13,8 +13,8 @@ pub enum Writing {
     Unwritten,
 }
 
-/// Where an element may stand. A `Section` stands in the body and in sections. `Anywhere` is anywhere below
-/// the body, and so are comments and include tags (`Mark`). `Nowhere` is what stands in no other element by
+/// Where an element may be. A `Section` is in the body and in sections. `Anywhere` is anywhere below
+/// the body, and so are comments and include tags (`Mark`). `Nowhere` is what is in no other element by
 /// a row of its own: the body, texts, separators and groups.
 #[derive(Clone, Copy, Debug)]
 pub enum Placement {
@@ -33,7 +33,7 @@ pub enum Placement {
     Section,
 }
 
-/// Which elements an element holds beside those that may stand anywhere. Where blocks stand, sections do,
+/// Which elements an element holds beside those that may be anywhere. Where blocks are, sections do,
 /// too. Those of an item, a cell or a caption have an order: the inline ones come first.
 #[derive(Clone, Copy, Debug)]
 pub enum Holding {
@@ -51,7 +51,7 @@ pub enum Holding {
 }
 
 /// What text directly in an element is: separators alone, text of the page, text of the page up to a
-/// border and separators behind it, or the character that the element shows.
+/// border and separators after it, or the character that the element shows.
 #[derive(Clone, Copy, Debug)]
 pub enum Texts {
     Separators,
@@ -69,7 +69,7 @@ pub enum Payload {
     GroupParts,
 }
 
-/// What a node of a kind is and where it may stand.
+/// What a node of a kind is and where it may be.
 #[derive(Clone, Copy, Debug)]
 pub struct Shape {
     pub writing: Writing,
@@ -100,14 +100,14 @@ pub struct Own {
     pub values: Values,
 }
 
-/// An attribute that the kind alone tells.
+/// An attribute that the kind alone decides.
 #[derive(Clone, Copy, Debug)]
 pub struct Fixed {
     pub name: AttrName,
     pub value: &'static [u8],
 }
 
-/// How a node of a kind is spelled: the name of its element, with a level behind it where it has one;
+/// How a node of a kind is spelled: the name of its element, with a level after it where it has one;
 /// its attributes, and the word by which a listing names it.
 #[derive(Clone, Copy, Debug)]
 pub struct Spelling {

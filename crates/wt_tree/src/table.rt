@@ -198,7 +198,7 @@ fn own_of_tag(tag: TagName) -> &'static [Own]
 }
 
 impl Kind {
-    /// What a node of this kind is and where it may stand.
+    /// What a node of this kind is and where it may be.
     pub fn shape(self) -> Shape
         ensures { result ≡ shape self }
     {
@@ -577,14 +577,14 @@ impl Kind {
         self.spelling().name
     }
 
-    /// The level behind the name, where the kind has one.
+    /// The level after the name, where the kind has one.
     pub fn level(self) -> Option<u8>
         ensures { result ≡ (spelling self).level }
     {
         self.spelling().level
     }
 
-    /// The attribute that the kind alone tells.
+    /// The attribute that the kind alone decides.
     pub fn fixed(self) -> Option<Fixed>
         ensures { fixed_of result ≡ (spelling self).fixed }
     {
@@ -633,7 +633,7 @@ impl Kind {
         self.shape().is_leaf
     }
 
-    /// Whether an element of the kind `inner` may stand directly in one of this kind.
+    /// Whether an element of the kind `inner` may be directly in one of this kind.
     pub fn may_hold(self, inner: Kind) -> bool
         ensures { result ≡ may_hold self inner }
     {
@@ -668,8 +668,8 @@ impl Kind {
         matches!(self.shape().class, Inline | Character)
     }
 
-    /// Whether an element of this kind may stand where a block or a list stands before it in its
-    /// parent (`behind`), or doesn't: no inline element stands behind a block.
+    /// Whether an element of this kind may be where a block or a list comes before it in its
+    /// parent (`behind`), or doesn't: no inline element comes after a block.
     pub fn may_follow(self, behind: bool) -> bool
         ensures { result ≡ may_follow behind self }
     {

@@ -1,4 +1,4 @@
--- Where a node may stand, told by the node and not by what holds it; and how children stand one behind another.
+-- Where a node may be, told by the node and not by what holds it; and how children are one after another.
 use Rattle.std.specs.Prelude.{◌≡◌, Bool, true, false, ◌||◌, ◌&&◌, List, [], ◌∷◌, ◌++◌}
 use Rattle.std.specs.List.{AllByRecursion}
 use Rattle.wt_tree.specs.Kinds.{is_block, is_inline, may_follow}
@@ -62,8 +62,8 @@ abbrev pub is_nowiki : Kind → Bool
 is_nowiki kind.Nowiki = true
 is_nowiki k = false
 
--- whether a node of the first kind may stand in one of the second: blocks in the body, sections, cells and captions, lists in items,
--- too; items, terms, rows and cells each in what they are parts of; what stands in a line in what holds one; entities in a nowiki,
+-- whether a node of the first kind may be in one of the second: blocks in the body, sections, cells and captions, lists in items,
+-- too; items, terms, rows and cells each in what they are parts of; what is in a line in what holds one; entities in a nowiki,
 -- too; categories, switches and what shows nothing anywhere; and the other kinds in nothing
 abbrev pub stands_in : Kind → Kind → Bool
 stands_in kind.Body p = false
@@ -103,7 +103,7 @@ stands_in kind.Text p = false
 stands_in kind.Group p = false
 stands_in kind.Empty p = false
 
--- children of these kinds may stand one behind another, where a block stands before them or none does
+-- children of these kinds may be one after another, where a block comes before them or none does
 abbrev pub follow : Bool → List Kind → Bool
 follow behind [] = true
 follow behind (k ∷ ks) = may_follow behind k && follow (behind || is_block k) ks

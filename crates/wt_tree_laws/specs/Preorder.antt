@@ -1,4 +1,4 @@
--- Where the rows of a node stand among those of a tree that holds it.
+-- Where the rows of a node are among those of a tree that holds it.
 use Rattle.std.specs.Prelude.{◌≡◌, ℕ, List, ◌++◌, Option}
 use Rattle.wt_tree.specs.declared.kind.Kind.{Kind}
 use Rattle.wt_tree.specs.declared.kind.Ranges.{Ranges}
@@ -13,7 +13,7 @@ row_of l = (l.id, l.kind, l.ranges)
 abbrev pub children : Tree → Trees
 children (tree l ts) = ts
 
--- the rows of one tree stand in those of another, all together and in their order
+-- the rows of one tree are in those of another, all together and in their order
 pub record StandTogether (part whole : Tree) : Type 0 where
   pub before : List (ℕ × Kind × Option Ranges)
   pub behind : List (ℕ × Kind × Option Ranges)

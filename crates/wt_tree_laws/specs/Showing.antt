@@ -20,7 +20,7 @@ abbrev pub IsElement : Plain → Type 0
 IsElement (text bs) = ⊥
 IsElement (element f qs) = Unit {0}
 
--- no text stands among these by itself
+-- no text is among these by itself
 abbrev pub AreElements : Plains → Type 0
 AreElements ended = Unit {0}
 AreElements (along p ps) = IsElement p × AreElements ps

@@ -1,10 +1,10 @@
-//! Which nodes may stand where.
+//! Which nodes may be where.
 ghost use Rattle.std.specs.Prelude.{◌≡◌, ◌↔◌, List, true, false};
 ghost use Rattle.wt_tree.specs.Kinds.{may_hold};
 ghost use Rattle.wt_tree.specs.declared.kind.Kind.{Kind};
 ghost use Rattle.wt_tree_laws.specs.Homes.{stands_in, follow, AreInTwo};
 
-/// What may stand in a node is the same told by what stands there: by a list of the places that each kind
+/// What may be in a node is the same told by what is there: by a list of the places that each kind
 /// has.
 pub fn kinds_have_their_places()
     ensures { (parent k : Kind) → may_hold parent k ≡ stands_in k parent }

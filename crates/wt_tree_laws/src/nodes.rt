@@ -1,4 +1,4 @@
-//! What a tree has of the node for which it stands.
+//! What a tree has of the node that it stands for.
 ghost use Rattle.std.specs.Prelude.{◌≡◌, ◌++◌, ℕ, map, true, false, List, [], None};
 ghost use Rattle.wt_span.specs.declared.text.Text.{Text};
 ghost use Rattle.wt_tree.specs.Kinds.{is_leaf};
@@ -11,7 +11,7 @@ ghost use Rattle.wt_tree.specs.declared.kind.Mark.TheVariants as mark;
 ghost use Rattle.wt_tree.specs.declared.node.Node.{Node, out-Node};
 ghost use Rattle.wt_tree_laws.specs.Preorder.{children};
 
-/// A tree has the children of its node, each as the tree for which it stands, none more and in their order;
+/// A tree has the children of its node, each as the tree that it stands for, none more and in their order;
 /// and trees and their lists are the same.
 pub fn trees_hold_their_nodes()
     ensures children { (n : Node) → listed (children (view n)) ≡ map view (out-Node n).children }

@@ -6,7 +6,7 @@ ghost use Rattle.wt_tree.specs.Look.{rows};
 ghost use Rattle.wt_tree_laws.specs.Preorder.{row_of, StandTogether};
 
 /// The rows of a tree are its own and then those of its children, child after child; the rows of each node
-/// in it stand there all together.
+/// in it are there all together.
 pub fn rows_stand_in_preorder()
     ensures own { (l : Label) → (ts : Trees) → rows (tree l ts) ≡ row_of l ∷ flat_map rows (listed ts) }
     ensures together { (t : Tree) → AllByRecursion (λ u. StandTogether u t) (subtrees t) }

@@ -1,8 +1,8 @@
--- How much of a character stands at the front of bytes.
+-- How much of a character is at the front of bytes.
 use Rattle.std.specs.Prelude.{ℕ, zero, suc, Option, Some, None, List, [], ◌∷◌, if◌then◌else◌}
 use Rattle.wt_html_grammar.specs.Signs.{Follow, follow, between}
 
--- how many bytes may stand behind the first byte of a character: the next lies between two bounds, `more` come after it
+-- how many bytes may come after the first byte of a character: the next lies between two bounds, `more` come after it
 abbrev pub following_len : ℕ → ℕ → ℕ → List ℕ → ℕ
 following_len low high more [] = 0
 following_len low high zero (b ∷ bs) = if between low high b then 1 else 0

@@ -16,6 +16,6 @@ pub record IsPlace (bytes : List ℕ) (place : ℕ) : Type 0 where
   pub front : BeginsText (take place bytes)
   pub longest : (k : ℕ) → place < k → k ≤ length bytes → BeginsText (take k bytes) → ⊥
 
--- That place, where there is one: behind the longest prefix that is UTF-8, and as much of one more character as follows it.
+-- That place, where there is one: after the longest prefix that is UTF-8, and as much of one more character as follows it.
 unfoldable pub not_utf8_place : List ℕ → Option ℕ
 not_utf8_place bytes = if is_utf8 bytes then None else Some (utf8_valid_len bytes + begun_len (drop (utf8_valid_len bytes) bytes))

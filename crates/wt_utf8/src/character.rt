@@ -11,7 +11,7 @@ fn is_between(low: u8, high: u8, byte: u8) -> bool
     low <= byte && byte <= high
 }
 
-/// How many of these bytes may stand behind the first byte of a character. (It calls itself at most
+/// How many of these bytes may come after the first byte of a character. (It calls itself at most
 /// twice: a character has at most four bytes.)
 fn following_len(low: u8, high: u8, more: u8, bytes: &[u8]) -> usize
     ensures value { result ≡ following_len low high more bytes.now }

@@ -31,7 +31,7 @@ abbrev pub followed : List Plain → Plains → Plains
 followed [] ps = ps
 followed (q ∷ qs) ps = along q (followed qs ps)
 
--- these, and behind them a text that has ended, where it isn't empty
+-- these, and after them a text that has ended, where it isn't empty
 abbrev pub closed : List Plain → List ℕ → List Plain
 closed qs [] = qs
 closed qs (b ∷ bs) = qs ++ text (b ∷ bs) ∷ []

@@ -53,19 +53,19 @@ IsWithin [] ys = Unit {0}
 IsWithin (x ∷ xs) [] = ⊥
 IsWithin (x ∷ xs) (y ∷ ys) = ((x ≡ y) × IsWithin xs ys) ⊎ IsWithin (x ∷ xs) ys
 
--- Those of a kind that the edited tree still has stand in the new page as often as there, in whatever order. White space round a source
+-- Those of a kind that the edited tree still has are in the new page as often as there, in whatever order. White space round a source
 -- doesn't count: a comment on a line of its own has a line break of its own, but for the one that begins a page.
 abbrev pub Keeps : Kind → Page → List Place → List Place → Type 0
 Keeps k page edited new = StandAmong (map trimmed (still k page edited)) (map trimmed (sources k new))
 
--- none of a kind stands in the new page more often than in the page
+-- none of a kind is in the new page more often than in the page
 abbrev pub HasNoMore : Kind → List Place → List Place → Type 0
 HasNoMore k old new = StandAmong (map trimmed (sources k new)) (map trimmed (sources k old))
 
 abbrev pub KeepsKind : Kind → Page → List Place → List Place → List Place → Type 0
 KeepsKind k page old edited new = Keeps k page edited new × HasNoMore k old new
 
--- The include tags that the edited tree still has stand in the new page in the order of the edited tree: it says what the page gives to
+-- The include tags that the edited tree still has are in the new page in the order of the edited tree: it says what the page gives to
 -- others, and nothing that is shown tells two exchanged ones.
 abbrev pub KeepsOrder : Page → List Place → List Place → Type 0
 KeepsOrder page edited new = IsWithin (still kind.Include page edited) (sources kind.Include new)

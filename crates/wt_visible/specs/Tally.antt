@@ -1,4 +1,4 @@
--- How often a text stands among some.
+-- How often a text is among some.
 use Rattle.std.specs.Prelude.{ℕ, List, ◌≤◌, ◌-◌, drop, length, take}
 use Rattle.std.specs.BTreeMap.{get_by}
 use Rattle.std.specs.Char.{is_ascii_whitespace}
@@ -12,7 +12,7 @@ use Rattle.wt_visible.specs.declared.tally.Tally.{Tally}
 abbrev pub times : List ℕ → List (List ℕ) → ℕ
 times text texts = count_by (λ it. bytes_eq it text) texts
 
--- each stands among the others at least as often
+-- each is among the others at least as often
 abbrev pub StandAmong : List (List ℕ) → List (List ℕ) → Type 0
 StandAmong texts others = (text : List ℕ) → times text texts ≤ times text others
 

@@ -16,14 +16,14 @@ use wt_checks::{Visit, is_group, original};
 use wt_span::{NoMemory, front_of};
 use wt_tree::{Node, Showing};
 
-/// A child of a body as it is shown: an element, or texts that stand next to each other.
+/// A child of a body as it is shown: an element, or texts that are next to each other.
 #[derive(Drop)]
 pub enum Child<'p, 't, 'a> {
     Element(ShownNode<'p, 't, 'a>),
     Text(Vec<u8>),
 }
 
-/// The children of a body so far, and a text behind them that may go on.
+/// The children of a body so far, and a text after them that may go on.
 #[derive(Drop)]
 pub struct ShownSoFar<'p, 't, 'a> {
     pub done: Vec<Child<'p, 't, 'a>>,

@@ -20,7 +20,7 @@ fn same_text(a: &[u8], b: &[u8]) -> bool
     a == b
 }
 
-/// Whether two elements show the same, where so many more may stand one inside the other.
+/// Whether two elements show the same, where so many more may be one inside the other.
 #[cycle(same)]
 fn same_nodes(
     alloc: Global,

@@ -1,5 +1,5 @@
 //! Comments, include tags, calls and islands that an edited tree still has, looked for in a new page, in which no
-//! other may stand.
+//! other may be.
 
 ghost use Rattle.std.specs.Prelude.{◌≡◌, ◌≤◌, ◌↔◌, ◌∷◌, ◌++◌, ℕ, List, drop, length, map, option_map, take, IfOk, OnOk};
 ghost use Rattle.std.specs.Bool.{Decides};
@@ -15,7 +15,7 @@ use wt_checks::{Visit, original, preorder, same_kind};
 use wt_span::{NoMemory, Str};
 use wt_tree::{Kind, Node, flat};
 
-/// Whether a node is of this kind and stands outside groups.
+/// Whether a node is of this kind and is outside groups.
 fn is_own(kind: Kind, visit: Visit<'_, '_>) -> bool
     ensures { result ≡ is_own kind (seen visit.entry) }
 {
@@ -148,7 +148,7 @@ fn same_at_start(texts: &[Str], others: &[Str]) -> usize
     texts.len()
 }
 
-/// Whether each of these texts, trimmed, stands among the others at least as often. Those at the start of both
+/// Whether each of these texts, trimmed, is among the others at least as often. Those at the start of both
 /// lists aren't counted: mostly that is all of them.
 fn stand_among(alloc: Global, texts: &[Str], others: &[Str]) -> Result<bool, NoMemory>
     ensures { IfOk result (λ among. Decides among (StandAmong (map trimmed texts.now) (map trimmed others.now))) }
@@ -158,7 +158,7 @@ fn stand_among(alloc: Global, texts: &[Str], others: &[Str]) -> Result<bool, NoM
     Ok(among)
 }
 
-/// Whether each of these texts, trimmed, stands among the others at least as often: all are counted.
+/// Whether each of these texts, trimmed, is among the others at least as often: all are counted.
 fn are_counted(alloc: Global, texts: &[Str], others: &[Str]) -> Result<bool, NoMemory>
     ensures { IfOk result (λ among. Decides among (StandAmong (map trimmed texts.now) (map trimmed others.now))) }
 {

@@ -1,4 +1,4 @@
-//! How often each text stands among some.
+//! How often each text is among some.
 
 ghost use Rattle.std.specs.Prelude.{◌≡◌, ◌+◌, ◌<◌, ◌^◌, [], ◌∷◌, ℕ, List, map, true, false, IfOk, OnOk};
 ghost use Rattle.wt_visible.specs.Tally.{counted, times, trimmed};

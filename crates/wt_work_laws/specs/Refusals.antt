@@ -29,7 +29,7 @@ spent es = beginnings es + bytes_given es
 -- ---- one entry
 
 -- A template's bytes are too many; or they aren't, and aren't UTF-8 from a place on; or they are UTF-8, and too many calls of
--- its text stand one in another.
+-- its text are one in another.
 abbrev pub IsBadTemplate : List ℕ → List ℕ → Refused → Type 0
 IsBadTemplate title bytes r =
     ((most_bytes < length bytes) × (r ≡ too_long title))
@@ -55,7 +55,7 @@ AreAllowed pages page work =
     → IsRefusedAt pages page (spent before + spent (e ∷ [])) e r
     → ⊥
 
--- the first that is refused, between those before and behind it
+-- the first that is refused, between those before and after it
 pub record IsFirstRefused (pages : Pages) (page : List ℕ) (work : List Entry) (r : Refused) : Type 0 where
   pub before : List Entry
   pub entry : Entry
