@@ -25,7 +25,7 @@ pub use look::{find, walk};
 pub use more::More;
 pub use node::{Attr, DataMw, Node, Part};
 pub use node_source::Source;
-pub use recut::recut_texts;
+pub use recut::{are_spaces, has_break, is_blank, recut_texts, shows_block};
 pub use row::{Fixed, Holding, Own, Payload, Placement, Shape, Spelling, Texts, Values, Writing};
 pub use shown::Shown;
 pub use slices::Slices;
