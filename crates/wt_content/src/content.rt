@@ -3,7 +3,6 @@
 
 ghost use Rattle.std.specs.Prelude.{◌≡◌, ◌&&◌, ◌++◌, ◌∷◌, Bool, List, [], Some, is_some, IfOk, OnOk};
 ghost use Rattle.wt_names.specs.Written.{read_link};
-ghost use Rattle.wt_tree.specs.Tiling.{is_group};
 ghost use Rattle.wt_tree.specs.Tree.{Tree};
 ghost use Rattle.wt_tree.specs.View.{label_of, view, views};
 ghost use Rattle.wt_tree.specs.declared.node.Node.{out-Node};
@@ -22,7 +21,7 @@ use wt_escape::href_of;
 use wt_names::title_of_href;
 use wt_original::{BlockForm, InlineForm, Kept, Page, is_unchanged, page_of_block, shape};
 use wt_span::NoMemory;
-use wt_tree::{Kind, Node};
+use wt_tree::Node;
 
 /// How a node of the edited tree stands to the page: it is new; or the page has a node with its number,
 /// which it changed, which it took the place of although that may not change, or which it still is.
@@ -130,23 +129,13 @@ fn is_link(inline: InlineForm) -> bool
     }
 }
 
-/// Whether a node is a group.
-fn is_group(kind: Kind) -> bool
-    ensures { result ≡ is_group kind }
-{
-    match kind {
-        Kind::Group => true,
-        _ => false,
-    }
-}
-
 /// Whether a link stands in a node, itself or within, outside groups.
 #[cycle(linking)]
 fn holds_link(node: &Node<'_>) -> bool
     ensures { result ≡ holds_link (view node.now) }
 {
     is_link(shape(node.kind).inline)
-        || !is_group(node.kind) && any_holds_link(node.children.as_slice())
+        || !node.kind.is_group() && any_holds_link(node.children.as_slice())
 }
 
 #[cycle(linking)]

@@ -16,7 +16,6 @@ ghost use Rattle.wt_visible.specs.Views.{children_view};
 use std::alloc::Global;
 use wt_annotated::unplaced_nodes;
 use wt_build::build_pieces;
-use wt_checks::is_group;
 use wt_inline::PieceTree;
 use wt_isolation::{has_odd_line, has_open_text, pieces_alone};
 use wt_original::{InlineForm, shape};
@@ -130,7 +129,7 @@ fn is_faulty_node(alloc: Global, page: &Items<'_>, node: &Node<'_>) -> Result<bo
     ensures value { IfOk result (λ b. b ≡ is_faulty_node page.now (view node.now)) }
     ensures alone { HasNoGroup (view node.now) → result ≡ Ok false }
 {
-    if is_group(node.kind) {
+    if node.kind.is_group() {
         return is_faulty_at(alloc, page, node.ranges, node);
     }
     match shape(node.kind).inline {
