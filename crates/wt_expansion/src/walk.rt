@@ -26,9 +26,8 @@ use wt_expand::{MOST_TEMPLATES, form_of};
 use wt_names::{Title, href_of};
 use wt_span::{ItemForm, LexKind, Mode, NoMemory};
 use wt_template_stack::{Expansion, Reader};
-use wt_transclusion::{
-    Braces, ExpandRefusal, Next, Values, function_named, is_function, title_of_target,
-};
+use wt_functions::function_named;
+use wt_transclusion::{Braces, ExpandRefusal, Next, Values, is_function, title_of_target};
 
 /// More calls than may lie one inside another on a page, whose limit is `NESTED_BRACES` of `wt_braces`.
 pub const MOST_NESTED: u32 = 101;
