@@ -4,7 +4,6 @@
 
 mod alike;
 mod checking;
-mod editing;
 mod groups;
 mod ids;
 mod index;
@@ -19,7 +18,6 @@ mod written;
 
 pub use alike::{same_attrs, same_data, same_kind};
 pub use checking::{check, check_nodes, numbered_nodes};
-pub use editing::Editing;
 pub use groups::has_mark;
 pub use index::original;
 pub use laws::{

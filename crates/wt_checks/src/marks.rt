@@ -5,10 +5,9 @@ ghost use Rattle.wt_checks.specs.Marks.{no_block, is_inline, are_inline, inline_
 ghost use Rattle.wt_checks.specs.Places.{is_body, first};
 ghost use Rattle.wt_checks.specs.View.{seen, all_seen, indexed};
 
-use crate::editing::Editing;
 use crate::index::original;
 use crate::visit::{Visit, is_content};
-use wt_tree::{Kind, Mark, Node};
+use wt_tree::{Editing, Kind, Mark, Node};
 
 pub fn is_marked(mark: Mark) -> bool
     ensures { result ≡ is_marked mark }
@@ -114,7 +113,7 @@ fn is_wrongly_marked(index: &[Visit<'_, '_>], visit: Visit<'_, '_>) -> bool
         return true;
     }
     !allows(
-        Editing::of(node.kind),
+        node.kind.edit_shape().mark,
         node.mark(),
         original(index, node.id),
     )

@@ -4,6 +4,7 @@
 
 mod annotated;
 mod compare;
+mod edit_shape;
 mod kind;
 mod laws;
 mod look;
@@ -19,6 +20,7 @@ mod table;
 
 pub use annotated::Annotated;
 pub use compare::{plain_eq, same_attrs, same_data, same_face, same_kind};
+pub use edit_shape::{BlockForm, EditShape, Editing, InlineForm, ItemsOf, Place, Sort};
 pub use kind::{AttrName, Kind, Mark, Ranges, Showing, TagName};
 pub use laws::{joining_once, plain_forgets, recut_once};
 pub use look::{find, walk};
