@@ -398,7 +398,7 @@ fn source_round(
     let Some(old) = kept else {
         return new_source(alloc, keeps, node, inside);
     };
-    if matches!(node.kind, Kind::Tag(_)) {
+    if is_tag(node.kind) {
         return tag_round(alloc, old.node, inside);
     }
     if keeps && let Some(source) = link_round(alloc, old.node, node, inside)? {
@@ -407,10 +407,15 @@ fn source_round(
     new_source(alloc, keeps, node, inside)
 }
 
+/// Whether a changed node of this kind keeps its delimiters.
+fn is_tag(kind: Kind) -> bool {
+    matches!(shape(kind).inline, InlineForm::Tag)
+}
+
 fn role_of(kind: Kind) -> Role {
-    match kind {
-        Kind::WikiLink => Role::Link,
-        Kind::ExtLink => Role::External,
+    match shape(kind).inline {
+        InlineForm::PageLink => Role::Link,
+        InlineForm::ExternalLink => Role::External,
         _ => Role::Node,
     }
 }
@@ -430,7 +435,7 @@ fn push_element<'t, 'a>(
         return push_thing(out, role, source, Some(place_of_bare(kept)));
     }
     let mut inside = within(alloc, writing, node.children.as_slice(), edges_in(kept))?;
-    if writing.keeps && !matches!(node.kind, Kind::Tag(_)) {
+    if writing.keeps && !is_tag(node.kind) {
         inside = with_colons(alloc, inside)?;
     }
     let source = source_round(alloc, writing.keeps, kept, node, inside.as_str())?;
