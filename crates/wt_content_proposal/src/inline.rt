@@ -315,6 +315,14 @@ fn has_own_text(alloc: Global, old: &Node<'_>) -> Result<bool, NoMemory> {
     Ok(has_target(opening.as_str()))
 }
 
+/// Appends the text of an external link, apart from its URL where it begins with a blank.
+fn push_with_blank(out: &mut Str, inside: &str) -> Result<(), NoMemory> {
+    if inside.starts_with(" ") {
+        out.push_str("<nowiki/>")?;
+    }
+    out.push_str(inside)
+}
+
 /// A link of the page whose text alone was changed: its target stays as it was written. None where the target
 /// was changed, too, or no text is left.
 fn link_round(
@@ -330,7 +338,11 @@ fn link_round(
     let Some(mut out) = target_of(alloc, old)? else {
         return Ok(None);
     };
-    out.push_str(inside)?;
+    if matches!(old.kind, Kind::ExtLink) {
+        push_with_blank(&mut out, inside)?;
+    } else {
+        out.push_str(inside)?;
+    }
     push_link_end(&mut out, old)?;
     if has_own_text(alloc, old)? {
         return Ok(Some(out));
@@ -341,11 +353,11 @@ fn link_round(
 
 /// The text of an external link, apart from its URL where it begins with a blank.
 fn with_blank(alloc: Global, keeps: bool, inside: &str) -> Result<Str, NoMemory> {
-    let mut out = Str::new(alloc);
-    if keeps && inside.starts_with(" ") {
-        out.push_str("<nowiki/>")?;
+    if !keeps {
+        return Str::copy_of(alloc, inside);
     }
-    out.push_str(inside)?;
+    let mut out = Str::new(alloc);
+    push_with_blank(&mut out, inside)?;
     Ok(out)
 }
 
@@ -386,7 +398,7 @@ fn source_round(
     let Some(old) = kept else {
         return new_source(alloc, keeps, node, inside);
     };
-    if matches!(node.kind, Kind::Tag(_)) {
+    if is_tag(node.kind) {
         return tag_round(alloc, old.node, inside);
     }
     if keeps && let Some(source) = link_round(alloc, old.node, node, inside)? {
@@ -395,10 +407,15 @@ fn source_round(
     new_source(alloc, keeps, node, inside)
 }
 
+/// Whether a changed node of this kind keeps its delimiters.
+fn is_tag(kind: Kind) -> bool {
+    matches!(kind.edit_shape().inline, InlineForm::Tag)
+}
+
 fn role_of(kind: Kind) -> Role {
-    match kind {
-        Kind::WikiLink => Role::Link,
-        Kind::ExtLink => Role::External,
+    match kind.edit_shape().inline {
+        InlineForm::PageLink => Role::Link,
+        InlineForm::ExternalLink => Role::External,
         _ => Role::Node,
     }
 }
@@ -418,7 +435,7 @@ fn push_element<'t, 'a>(
         return push_thing(out, role, source, Some(place_of_bare(kept)));
     }
     let mut inside = within(alloc, writing, node.children.as_slice(), edges_in(kept))?;
-    if writing.keeps && !matches!(node.kind, Kind::Tag(_)) {
+    if writing.keeps && !is_tag(node.kind) {
         inside = with_colons(alloc, inside)?;
     }
     let source = source_round(alloc, writing.keeps, kept, node, inside.as_str())?;
@@ -584,9 +601,9 @@ fn units_of<'n, 't, 'a>(
 }
 
 fn spot_of<'w>(writing: Writing<'w, '_, '_>) -> Spot<'w> {
-    let (before, start) = match writing.block {
-        Some(block) => (block.before, block.inside),
-        None => (b' ', NOWHERE),
+    let (before, start, is_delimited) = match writing.block {
+        Some(block) => (block.before, block.inside, block.start < block.inside),
+        None => (b' ', NOWHERE, false),
     };
     Spot {
         place: writing.place,
@@ -594,11 +611,16 @@ fn spot_of<'w>(writing: Writing<'w, '_, '_>) -> Spot<'w> {
         in_tables: writing.known.has_tables,
         page: writing.known.page.as_bytes(),
         start,
+        is_preformatted: is_delimited && matches!(writing.place, Place::Paragraph),
     }
 }
 
-fn is_cell(place: Place) -> bool {
-    matches!(place, Place::Cell | Place::Header)
+/// Whether what holds nothing is told by its signs alone.
+fn may_be_empty(place: Place) -> bool {
+    match place {
+        Place::Item | Place::Term | Place::Cell | Place::Header => true,
+        Place::Paragraph | Place::Heading => false,
+    }
 }
 
 /// Inline nodes as the inside of a block.
@@ -609,7 +631,7 @@ pub fn spelled<'t, 'a>(
     edges: Edges<'t, 'a>,
 ) -> Result<Str, NoMemory> {
     let units = units_of(alloc, writing, nodes, edges, Some(spot_of(writing)))?;
-    if writing.keeps && units.is_empty() && is_cell(writing.place) {
+    if writing.keeps && units.is_empty() && may_be_empty(writing.place) {
         return Ok(Str::new(alloc));
     }
     let setting = Setting {
