@@ -1,8 +1,10 @@
 -- What a node of the annotated tree has beside its children.
-use Rattle.std.specs.Prelude.{ℕ, ◌+◌, Bool, true, false, Some, None, List, [], length}
+use Rattle.std.specs.Prelude.{ℕ, ◌+◌, ◌||◌, if◌then◌else◌, Bool, true, false, Some, None, List, [], length}
 use Rattle.wt_tree.specs.declared.kind.Kind.{Kind}
-use Rattle.wt_tree.specs.declared.kind.Kind.TheVariants as kind
 use Rattle.wt_tree.specs.declared.kind.Mark.TheVariants as marks
+use Rattle.wt_tree.specs.Kinds.{writing}
+use Rattle.wt_tree.specs.Recut.{is_as_text}
+use Rattle.wt_tree.specs.Tiling.{is_group}
 use Rattle.wt_tree.specs.Tree.{Label}
 use Rattle.wt_span.specs.Items.{Item, sources}
 use Rattle.wt_inline.specs.ItemTree.{Head}
@@ -15,42 +17,7 @@ width items = length (sources items)
 
 -- The open width of a leaf with so many bytes: of an element all, of what is written as text nothing, and of a group nothing.
 abbrev pub leaf_open : Kind → ℕ → ℕ
-leaf_open kind.Body n = n
-leaf_open (kind.Section s) n = n
-leaf_open kind.Para n = n
-leaf_open (kind.Heading l) n = n
-leaf_open kind.Rule n = n
-leaf_open kind.Ul n = n
-leaf_open kind.Ol n = n
-leaf_open kind.Dl n = n
-leaf_open kind.Li n = n
-leaf_open kind.Dt n = n
-leaf_open kind.Dd n = n
-leaf_open kind.Pre n = n
-leaf_open kind.Table n = n
-leaf_open kind.Tbody n = n
-leaf_open kind.Tr n = n
-leaf_open kind.Caption n = n
-leaf_open kind.Td n = n
-leaf_open kind.Th n = n
-leaf_open kind.Bold n = n
-leaf_open kind.Italic n = n
-leaf_open kind.WikiLink n = n
-leaf_open kind.ExtLink n = n
-leaf_open kind.Category n = n
-leaf_open (kind.Tag t) n = n
-leaf_open kind.Br n = n
-leaf_open kind.Entity n = n
-leaf_open kind.Nowiki n = n
-leaf_open kind.Island n = n
-leaf_open kind.Switch n = n
-leaf_open kind.Comment n = n
-leaf_open kind.Include n = n
-leaf_open kind.Skip n = n
-leaf_open kind.Sep n = 0
-leaf_open kind.Text n = 0
-leaf_open kind.Group n = 0
-leaf_open kind.Empty n = n
+leaf_open k n = if is_as_text (writing k) || is_group k then 0 else n
 
 abbrev pub open_width : Bool → Kind → List Item → List Item → ℕ
 open_width true k opening own = leaf_open k (width own)

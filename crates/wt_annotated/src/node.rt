@@ -10,7 +10,7 @@ ghost use Rattle.wt_annotated.specs.Nodes.{node_label};
 use std::alloc::Global;
 use wt_inline::NodeHead;
 use wt_span::{List, NoMemory};
-use wt_tree::{Kind, Mark, Node, Ranges, Slices, Source};
+use wt_tree::{Kind, Mark, Node, Ranges, Slices, Source, Writing};
 
 /// What a node has of the page: its delimiters, or the source of a leaf.
 #[derive(Drop)]
@@ -61,9 +61,10 @@ pub fn leaf_sources<'a>(own: Slices<'a>) -> Sources<'a>
 fn leaf_open(kind: Kind, width: u32) -> u32
     ensures { result ≡ leaf_open kind width }
 {
-    match kind {
-        Kind::Sep | Kind::Text | Kind::Group => 0,
-        _ => width,
+    if matches!(kind.writing(), Writing::AsText) || kind.is_group() {
+        0
+    } else {
+        width
     }
 }
 

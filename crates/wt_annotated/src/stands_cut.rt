@@ -1,21 +1,15 @@
 //! Children that are known to be cut, as nearly all are: those needn't be cut anew.
 
 ghost use Rattle.std.specs.Prelude.{◌≡◌, ◌||◌, [], true, false};
-ghost use Rattle.wt_span.specs.Slice.{bytes_of};
 ghost use Rattle.wt_tree.specs.Cutting.{begins_with_break, AreCut};
 ghost use Rattle.wt_tree.specs.Recut.{
-  any_shows_block,
-  are_spaces,
   front_ranges,
-  has_break,
-  is_blank,
   is_border,
   is_text,
   joined_ranges,
   leaf_label,
   rest_ranges,
   sep_leaf,
-  shows_block,
   text_leaf,
 };
 ghost use Rattle.wt_tree.specs.Tree.{none, tree};
@@ -32,66 +26,7 @@ ghost use Rattle.wt_annotated.specs.StandsCut.{
 };
 
 use wt_span::{Text, rest_of};
-use wt_tree::{Kind, Node, Ranges, Writing};
-
-// ---- characters
-
-fn is_spaces_text(text: Text<'_>) -> bool
-    ensures { result ≡ are_spaces (bytes_of text.entry) }
-{
-    text.as_str()
-        .as_bytes()
-        .iter()
-        .all(|byte| matches!(*byte, b' ' | b'\t'))
-}
-
-fn is_blank_text(text: Text<'_>) -> bool
-    ensures { result ≡ is_blank (bytes_of text.entry) }
-{
-    text.as_str()
-        .as_bytes()
-        .iter()
-        .all(|byte| matches!(*byte, b' ' | b'\t' | b'\n'))
-}
-
-fn has_break_text(text: Text<'_>) -> bool
-    ensures { result ≡ has_break (bytes_of text.entry) }
-{
-    text.as_str().as_bytes().iter().any(|byte| *byte == b'\n')
-}
-
-fn are_spaces(texts: &[Text<'_>]) -> bool
-    ensures { result ≡ are_spaces (texts_of texts.now) }
-{
-    for text in texts {
-        if !is_spaces_text(*text) {
-            return false;
-        }
-    }
-    true
-}
-
-fn is_blank(texts: &[Text<'_>]) -> bool
-    ensures { result ≡ is_blank (texts_of texts.now) }
-{
-    for text in texts {
-        if !is_blank_text(*text) {
-            return false;
-        }
-    }
-    true
-}
-
-fn has_break(texts: &[Text<'_>]) -> bool
-    ensures { result ≡ has_break (texts_of texts.now) }
-{
-    for text in texts {
-        if has_break_text(*text) {
-            return true;
-        }
-    }
-    false
-}
+use wt_tree::{Kind, Node, Ranges, Writing, are_spaces, has_break, is_blank, shows_block};
 
 /// Whether the first of these texts begins with a line break.
 fn begins_with_break(texts: &[Text<'_>]) -> bool
@@ -200,31 +135,7 @@ fn is_words(node: &Node<'_>) -> bool
     !has_break(own) && !are_spaces(own) && is_text_leaf(node)
 }
 
-/// Whether a node is a block or a list, or a group that shows one.
-#[cycle(showing)]
-#[tactic(auto, using(wt_tree::proofs::Views::view_out))]
-fn shows_block(node: &Node<'_>) -> bool
-    ensures { result ≡ shows_block (view node.now) }
-{
-    match node.kind {
-        Kind::Group => any_shows_block(node.children.as_slice()),
-        kind => kind.is_block(),
-    }
-}
-
-#[cycle(showing)]
-fn any_shows_block(nodes: &[Node<'_>]) -> bool
-    ensures { result ≡ any_shows_block (views nodes.now) }
-{
-    for node in nodes {
-        if shows_block(node) {
-            return true;
-        }
-    }
-    false
-}
-
-/// Whether the border is passed after a node that is no text.
+/// Whether the border is passed behind a node that is no text.
 fn is_passed_by(behind: bool, node: &Node<'_>) -> bool
     requires { is_text (view node.now) ≡ false }
     ensures { result ≡ (behind || is_border (view node.now)) }

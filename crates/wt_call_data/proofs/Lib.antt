@@ -2,5 +2,4 @@ pub mod CallTexts
 mod Cases
 pub mod Params
 pub mod ReadParams
-pub mod ShortCalls
 pub mod SoundParts

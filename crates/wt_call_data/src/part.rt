@@ -2,13 +2,13 @@
 
 ghost use Rattle.std.specs.Prelude.{◌≡◌, IfOk};
 ghost use Rattle.wt_span.specs.Origins.{IsSoundCall, outer_call};
-ghost use Rattle.wt_call_data.specs.CallData.{call_part, function_named, next_call, target_by, text_or_none};
+ghost use Rattle.wt_call_data.specs.CallData.{call_part, next_call, target_by, text_or_none};
 
 use crate::call_text::source_slice;
 use crate::param::params;
 use std::alloc::Global;
-use wt_functions::function_in;
-use wt_span::{Function, NoMemory, Outer, Str, rest_of};
+use wt_functions::function_named;
+use wt_span::{NoMemory, Outer, Str};
 use wt_tree::Part;
 
 /// The target of a call, as it is written.
@@ -31,19 +31,7 @@ fn link(alloc: Global, href: &Option<Str>) -> Result<Str, NoMemory>
     }
 }
 
-/// The function that a call names after its two braces.
-#[tactic(auto, using(crate::proofs::ShortCalls::short_names_none))]
-fn function_named(outer: &Outer<'_>) -> Option<(Function, u32)>
-    ensures { result ≡ function_named (outer_call outer.now) }
-{
-    let source = outer.source.as_str().as_bytes();
-    if source.len() < 2 {
-        return None;
-    }
-    function_in(rest_of(source, 2))
-}
-
-/// A call as a part of a group, before which there are so many calls of the group.
+/// A call as a part of a group, before which so many calls of the group stand.
 #[tactic(auto, unfolding(crate::specs::CallData::call_part))]
 pub fn call_part<'a>(alloc: Global, outer: &Outer<'a>, number: u32) -> Result<Part, NoMemory>
     requires { IsSoundCall (outer_call outer.now) }
@@ -54,7 +42,7 @@ pub fn call_part<'a>(alloc: Global, outer: &Outer<'a>, number: u32) -> Result<Pa
             wt: Str::copy_of(alloc, outer.source.as_str())?,
         });
     }
-    if let Some((function, _)) = function_named(outer) {
+    if let Some((function, _)) = function_named(outer.source.as_str().as_bytes()) {
         return Ok(Part::Function {
             name: Str::copy_of(alloc, function.name())?,
             target: target(alloc, outer)?,

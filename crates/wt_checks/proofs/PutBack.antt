@@ -14,8 +14,8 @@ use Rattle.wt_tree.specs.Kinds.{showing, writing, is_numbered}
 use Rattle.wt_tree.specs.Opened.{opened}
 use Rattle.wt_tree.specs.Tiling.{is_group}
 use Rattle.wt_tree.specs.Tree.{Label, Tree, tree, Trees, none, more, label, listed}
-use Rattle.wt_checks.specs.declared.editing.Editing.{Editing}
-use Rattle.wt_checks.specs.declared.editing.Editing.TheVariants.{Never, Content, InlineContent, Children, TopChildren}
+use Rattle.wt_tree.specs.declared.edit_shape.Editing.{Editing}
+use Rattle.wt_tree.specs.declared.edit_shape.Editing.TheVariants.{Never, Content, InlineContent, Children, TopChildren}
 use Rattle.wt_checks.specs.Gist.{features, Gist, text, node, Gists, ended, along, gist_by, gist, gists}
 use Rattle.wt_checks.specs.Groups.{is_marked}
 use Rattle.wt_checks.specs.Kept.{children, is_of_page, GroupAsItWas, HoldsTheSame, NodeAsItWas, GroupKept, NodeKept, MarkKept}

@@ -4,54 +4,20 @@ use Rattle.wt_tree.specs.declared.kind.Kind.{Kind}
 use Rattle.wt_tree.specs.declared.kind.Kind.TheVariants as kind
 use Rattle.wt_tree.specs.declared.kind.Mark.{Mark}
 use Rattle.wt_tree.specs.declared.kind.Mark.TheVariants as marks
+use Rattle.wt_tree.specs.EditShapes.{edit_shape}
 use Rattle.wt_tree.specs.Kinds.{is_block}
 use Rattle.wt_tree.specs.Tiling.{is_group}
 use Rattle.wt_tree.specs.Tree.{Tree, tree, Trees, none, more, label}
-use Rattle.wt_checks.specs.declared.editing.Editing.{Editing}
-use Rattle.wt_checks.specs.declared.editing.Editing.TheVariants.{Never, Content, InlineContent, Children, TopChildren}
+use Rattle.wt_tree.specs.declared.edit_shape.Editing.{Editing}
+use Rattle.wt_tree.specs.declared.edit_shape.Editing.TheVariants.{Never, Content, InlineContent, Children, TopChildren}
 use Rattle.wt_checks.specs.Places.{Place, number, kind_at, is_kept, is_body, is_content, Page, Condition}
 use Rattle.wt_checks.specs.Groups.{is_marked}
 
--- Which mark a node of each kind may have: `content` always, or where the page's node has inline
+-- Which mark a node of a kind may have: `content` always, or where the page's node has inline
 -- children only; `children`, by which blocks and items come and go, on the body, and on lists with
 -- bullets or numbers that are children of the body.
 abbrev pub editing : Kind → Editing
-editing kind.Body = Children
-editing (kind.Section n) = Never
-editing kind.Para = Content
-editing (kind.Heading n) = Content
-editing kind.Rule = Never
-editing kind.Ul = TopChildren
-editing kind.Ol = TopChildren
-editing kind.Dl = Never
-editing kind.Li = InlineContent
-editing kind.Dt = InlineContent
-editing kind.Dd = InlineContent
-editing kind.Pre = Never
-editing kind.Table = Never
-editing kind.Tbody = Never
-editing kind.Tr = Never
-editing kind.Caption = InlineContent
-editing kind.Td = InlineContent
-editing kind.Th = InlineContent
-editing kind.Bold = Never
-editing kind.Italic = Never
-editing kind.WikiLink = Never
-editing kind.ExtLink = Never
-editing kind.Category = Never
-editing (kind.Tag t) = Never
-editing kind.Br = Never
-editing kind.Entity = Never
-editing kind.Nowiki = Never
-editing kind.Island = Never
-editing kind.Switch = Never
-editing kind.Comment = Never
-editing kind.Include = Never
-editing kind.Skip = Never
-editing kind.Sep = Never
-editing kind.Text = Never
-editing kind.Group = Never
-editing kind.Empty = Never
+editing k = (edit_shape k).mark
 
 abbrev pub no_block : Trees → Bool
 no_block none = true

@@ -11,7 +11,7 @@ ghost use Rattle.wt_checks.specs.View.{seen, all_seen, indexed};
 
 use crate::alike::{same_attrs, same_data, same_kind};
 use crate::index::original;
-use crate::marks::{is_group, is_marked};
+use crate::marks::is_marked;
 use crate::read::{Read, elements_read};
 use crate::visit::Visit;
 use crate::written::{Written, elements_written};
@@ -101,7 +101,7 @@ fn same_elements(alloc: Global, original: &[Node<'_>], nodes: &[Node<'_>]) -> Re
 fn shows_same(alloc: Global, original: &Node<'_>, node: &Node<'_>) -> Result<bool, NoMemory>
     ensures { IfOk result (λ same. same ≡ shows_same (view original.now) (view node.now)) }
 {
-    if !is_group(node.kind) {
+    if !node.kind.is_group() {
         return Ok(false);
     }
     if !same_attrs(original.attrs(), node.attrs()) {
@@ -131,7 +131,7 @@ fn is_changed_group(
 {
     match original {
         Some(visit) => {
-            if !is_group(visit.node.kind) {
+            if !visit.node.kind.is_group() {
                 return Ok(false);
             }
             if has_mark(node) {

@@ -1,15 +1,13 @@
 ghost use Rattle.std.specs.Prelude.{◌≡◌, [], not, option_map};
-ghost use Rattle.wt_tree.specs.Tiling.{is_group};
 ghost use Rattle.wt_tree.specs.View.{view, views};
 ghost use Rattle.wt_checks.specs.Groups.{is_marked};
 ghost use Rattle.wt_checks.specs.Marks.{no_block, is_inline, are_inline, inline_only, at_top, is_children, allows, is_wrongly_marked};
 ghost use Rattle.wt_checks.specs.Places.{is_body, first};
 ghost use Rattle.wt_checks.specs.View.{seen, all_seen, indexed};
 
-use crate::editing::Editing;
 use crate::index::original;
 use crate::visit::{Visit, is_content};
-use wt_tree::{Kind, Mark, Node};
+use wt_tree::{Editing, Kind, Mark, Node};
 
 pub fn is_marked(mark: Mark) -> bool
     ensures { result ≡ is_marked mark }
@@ -39,16 +37,6 @@ pub fn is_body(kind: Kind) -> bool
     }
 }
 
-/// Whether a node is a group.
-pub fn is_group(kind: Kind) -> bool
-    ensures { result ≡ is_group kind }
-{
-    match kind {
-        Kind::Group => true,
-        _ => false,
-    }
-}
-
 fn no_block(nodes: &[Node<'_>]) -> bool
     ensures { result ≡ no_block (views nodes.now) }
 {
@@ -63,7 +51,7 @@ fn no_block(nodes: &[Node<'_>]) -> bool
 fn is_inline(node: &Node<'_>) -> bool
     ensures { result ≡ is_inline (view node.now) }
 {
-    if is_group(node.kind) {
+    if node.kind.is_group() {
         no_block(node.children.as_slice())
     } else {
         !node.kind.is_block()
@@ -125,7 +113,7 @@ fn is_wrongly_marked(index: &[Visit<'_, '_>], visit: Visit<'_, '_>) -> bool
         return true;
     }
     !allows(
-        Editing::of(node.kind),
+        node.kind.edit_shape().mark,
         node.mark(),
         original(index, node.id),
     )

@@ -13,7 +13,7 @@ ghost use Rattle.wt_checks.specs.Compared.{ComparedFrom, IsBehindSame};
 
 use crate::alike::{same_attrs, same_data, same_kind};
 use crate::index::original;
-use crate::marks::{is_body, is_group, is_marked};
+use crate::marks::{is_body, is_marked};
 use crate::shown::{is_compared, same_character};
 use crate::visit::Visit;
 use wt_tree::{DataMw, Node, Writing};
@@ -143,7 +143,7 @@ fn is_other(original: Option<Visit<'_, '_>>, node: &Node<'_>) -> bool
 {
     match original {
         Some(visit) => {
-            if is_group(visit.node.kind) {
+            if visit.node.kind.is_group() {
                 return false;
             }
             if !keeps_face(visit.node, node) {

@@ -7,11 +7,11 @@ use Rattle.wt_tree.specs.declared.node.Node.{Node, out-Node}
 use Rattle.wt_tree.specs.Tree.{Tree, label}
 use Rattle.wt_tree.specs.View.{view, views}
 use Rattle.wt_tree.proofs.Views.{view_out}
-use Rattle.wt_original.specs.declared.kinds.BlockForm.{BlockForm}
-use Rattle.wt_original.specs.declared.kinds.Spelled.{Spelled}
+use Rattle.wt_tree.specs.declared.edit_shape.BlockForm.{BlockForm}
+use Rattle.wt_tree.specs.declared.edit_shape.EditShape.{EditShape}
 use Rattle.wt_original.specs.declared.page.Page.{Page as Known}
 use Rattle.wt_original.specs.Kept.{Kept}
-use Rattle.wt_original.specs.Kinds.{shape}
+use Rattle.wt_tree.specs.EditShapes.{edit_shape}
 use Rattle.wt_original.specs.Page.{Page, no_page}
 use Rattle.wt_original.specs.PageViews.{IsPageOf, page_view}
 use Rattle.wt_content.specs.declared.children.Holder.{Holder}
@@ -72,12 +72,12 @@ block_inside same n f b p x ns g ws e t none is are h =
     subst (λ (vs : List ContentWhy). HasFaults g (ws ++ vs))
     (seen ∙ ap (λ (y : Bool). if y then if_any_held (held (view n)) else rest) (sym t ∙ e)) h
 
-pub new_inside : (same : Tree → Tree → Bool) (h : Holder) (n : Node) (s : Spelled) (b : Bool) (g : Faults) (ws : List ContentWhy)
-    → s ≡ shape (out-Node n).kind → b ≡ may_come h s.form → b ≡ true → HasFaults g (ws ++ inside_faults same s.form (view n))
-    → HasFaults g (ws ++ new_faults same h (shape (label (view n)).kind).form (view n))
+pub new_inside : (same : Tree → Tree → Bool) (h : Holder) (n : Node) (s : EditShape) (b : Bool) (g : Faults) (ws : List ContentWhy)
+    → s ≡ edit_shape (out-Node n).kind → b ≡ may_come h s.form → b ≡ true → HasFaults g (ws ++ inside_faults same s.form (view n))
+    → HasFaults g (ws ++ new_faults same h (edit_shape (label (view n)).kind).form (view n))
 new_inside same h n s b g ws is e t k =
-    let form : s.form ≡ (shape (label (view n)).kind).form =
-    ap (λ (r : Spelled). r.form) (is ∙ ap (λ (u : Tree). shape (label u).kind) (sym (view_out n))) in
+    let form : s.form ≡ (edit_shape (label (view n)).kind).form =
+    ap (λ (r : EditShape). r.form) (is ∙ ap (λ (u : Tree). edit_shape (label u).kind) (sym (view_out n))) in
     subst (λ (f : BlockForm). HasFaults g (ws ++ new_faults same h f (view n))) form
     (subst (λ (x : Bool). HasFaults g (ws ++ (if x then inside_faults same s.form (view n) else why.Element ∷ []))) (sym t ∙ e) k)
 

@@ -8,9 +8,9 @@ use Rattle.wt_tree.specs.Source.{flat}
 use Rattle.wt_tree.specs.Tree.{Tree}
 use Rattle.wt_tree.specs.View.{label_of, view, views}
 use Rattle.wt_tree.proofs.Views.{view_out}
-use Rattle.wt_original.specs.declared.kinds.InlineForm.{InlineForm}
+use Rattle.wt_tree.specs.declared.edit_shape.InlineForm.{InlineForm}
 use Rattle.wt_original.specs.declared.page.Page.{Page as Known}
-use Rattle.wt_original.specs.Kinds.{shape}
+use Rattle.wt_tree.specs.EditShapes.{edit_shape}
 use Rattle.wt_original.specs.Kept.{Kept, kept_nodes}
 use Rattle.wt_original.specs.Page.{Page, page_of}
 use Rattle.wt_original.specs.PageViews.{IsPageOf, page_view}
@@ -25,7 +25,7 @@ use Rattle.wt_content.specs.Views.{HasFaults}
 -- ---- one node
 
 -- what is wrong from a node on, by its inline form, how it counts as standing, and what is wrong with it by itself
-pub visited : (n : Node) (w : InlineForm) (p : Page) (x : Surroundings) (s : Standing) (why : Option ContentWhy) → (shape (out-Node n).kind).inline ≡ w
+pub visited : (n : Node) (w : InlineForm) (p : Page) (x : Surroundings) (s : Standing) (why : Option ContentWhy) → (edit_shape (out-Node n).kind).inline ≡ w
     → CountsAs w s (standing p (view n)) → if_any why ≡ own_faults w x s (label_of (out-Node n))
     → faults p x (view n) ≡ nested_fault (x.in_link && brings_link w s (holds_link (view n)))
     ++ (if_any why ++ (if is_open w s then all_faults p (below x w) (views (out-Node n).children) else []))
@@ -37,14 +37,14 @@ visited n w p x s why e a own =
     let holds = holds_link (view n) in
     let fault : Bool → List ContentWhy = λ b. nested_fault (x.in_link && (if b then is_link w else holds)) ++ (if_any why ++ (if b then inside else [])) in
     ap (faults p x) (view_out n)
-    ∙ ap (λ (t : Tree). faults_by (shape l.kind).inline x (standing p t) l (holds_link t) (all_faults p (below x (shape l.kind).inline) ts)) (sym (view_out n))
+    ∙ ap (λ (t : Tree). faults_by (edit_shape l.kind).inline x (standing p t) l (holds_link t) (all_faults p (below x (edit_shape l.kind).inline) ts)) (sym (view_out n))
     ∙ ap (λ (v : InlineForm). faults_by v x r l holds (all_faults p (below x v) ts)) e
     ∙ ap (λ (ws : List ContentWhy). nested_fault (x.in_link && brings_link w r holds) ++ (ws ++ (if is_open w r then inside else [])))
     (sym (own ∙ a.faults x l))
     ∙ ap fault (sym a.opens)
 
 pub closed_visit : (n : Node) (w : InlineForm) (p : Page) (x : Surroundings) (s : Standing) (why : Option ContentWhy) (f : Faults) (ws : List ContentWhy)
-    → (shape (out-Node n).kind).inline ≡ w → CountsAs w s (standing p (view n)) → if_any why ≡ own_faults w x s (label_of (out-Node n))
+    → (edit_shape (out-Node n).kind).inline ≡ w → CountsAs w s (standing p (view n)) → if_any why ≡ own_faults w x s (label_of (out-Node n))
     → is_open w s ≡ false → HasFaults f ((ws ++ nested_fault (x.in_link && brings_link w s (holds_link (view n)))) ++ if_any why) → HasFaults f (ws ++ faults p x (view n))
 closed_visit n w p x s why f ws e a own closed h =
     let inside = all_faults p (below x w) (views (out-Node n).children) in
@@ -55,7 +55,7 @@ closed_visit n w p x s why f ws e a own closed h =
     subst (HasFaults f) (joined ∙ ap (λ (vs : List ContentWhy). ws ++ vs) (sym seen)) h
 
 pub open_visit : (n : Node) (w : InlineForm) (p : Page) (x y : Surroundings) (s : Standing) (why : Option ContentWhy) (f : Faults) (ws : List ContentWhy) (ns : List Node)
-    → y ≡ below x w → ns ≡ (out-Node n).children → (shape (out-Node n).kind).inline ≡ w → CountsAs w s (standing p (view n))
+    → y ≡ below x w → ns ≡ (out-Node n).children → (edit_shape (out-Node n).kind).inline ≡ w → CountsAs w s (standing p (view n))
     → if_any why ≡ own_faults w x s (label_of (out-Node n)) → is_open w s ≡ true
     → HasFaults f (((ws ++ nested_fault (x.in_link && brings_link w s (holds_link (view n)))) ++ if_any why) ++ all_faults p y (views ns))
     → HasFaults f (ws ++ faults p x (view n))

@@ -4,9 +4,9 @@ use Rattle.std.specs.Prelude.{◌&&◌, ◌||◌, not, if◌then◌else◌, is_s
 use Rattle.wt_tree.specs.Tiling.{is_group}
 use Rattle.wt_tree.specs.Tree.{Label, Tree, tree, Trees, none, more}
 use Rattle.wt_names.specs.Written.{read_link}
-use Rattle.wt_original.specs.declared.kinds.InlineForm.{InlineForm}
-use Rattle.wt_original.specs.declared.kinds.InlineForm.TheVariants as inline
-use Rattle.wt_original.specs.Kinds.{shape}
+use Rattle.wt_tree.specs.declared.edit_shape.InlineForm.{InlineForm}
+use Rattle.wt_tree.specs.declared.edit_shape.InlineForm.TheVariants as inline
+use Rattle.wt_tree.specs.EditShapes.{edit_shape}
 use Rattle.wt_original.specs.Page.{Page, page_of}
 use Rattle.wt_escape.specs.Spelling.{href_of}
 use Rattle.wt_content.specs.declared.content.Surroundings.{Surroundings}
@@ -121,7 +121,7 @@ holds_itself w rest h = ap (λ (b : Bool). b || rest) h
 mutual
   node_is_content : (p : Page) (x : Surroundings) (t : Tree) → faults p x t ≡ [] → IsContent p x t
   node_is_content p x (tree l ts) e =
-      let w = (shape l.kind).inline in
+      let w = (edit_shape l.kind).inline in
       let s = standing p (tree l ts) in
       let inside = all_faults p (below x w) ts in
       let rest : List ContentWhy = if is_open w s then inside else [] in
@@ -234,7 +234,7 @@ nothing_wrong inline.AsItStood x s l holds inside I f h = kept_stands inline.AsI
 mutual
   node_is_good : (p : Page) (x : Surroundings) (t : Tree) → IsContent p x t → faults p x t ≡ []
   node_is_good p x (tree l ts) h =
-      let w = (shape l.kind).inline in
+      let w = (edit_shape l.kind).inline in
       nothing_wrong w x (standing p (tree l ts)) l (holds_link (tree l ts)) (all_faults p (below x w) ts) (AreContent p (below x w) ts)
       (all_are_good p (below x w) ts) h
 

@@ -3,7 +3,7 @@ use Rattle.std.proofs.Common.{◌≡◌, Bool, true, false, List, [], ◌∷◌,
 use Rattle.std.specs.Prelude.{◌&&◌, ◌||◌, not, if◌then◌else◌}
 use Rattle.wt_tree.specs.Tiling.{is_group}
 use Rattle.wt_tree.specs.Tree.{Tree, tree, Trees, none, more}
-use Rattle.wt_original.specs.Kinds.{shape}
+use Rattle.wt_tree.specs.EditShapes.{edit_shape}
 use Rattle.wt_original.specs.Page.{Page}
 use Rattle.wt_content.specs.declared.content.Surroundings.{Surroundings}
 use Rattle.wt_content.specs.declared.reason.ContentWhy.{ContentWhy}
@@ -35,7 +35,7 @@ free_by false link group any holds inside is b r f = b
 mutual
   node_is_free : (p : Page) (x : Surroundings) (t : Tree) → x.in_link ≡ true → faults p x t ≡ [] → holds_link t ≡ false
   node_is_free p x (tree l ts) i e =
-      let w = (shape l.kind).inline in
+      let w = (edit_shape l.kind).inline in
       let s = standing p (tree l ts) in
       let holds = holds_link (tree l ts) in
       let inside = all_faults p (below x w) ts in

@@ -4,9 +4,9 @@ use Rattle.std.specs.Prelude.{◌&&◌, ◌||◌, not, if◌then◌else◌}
 use Rattle.wt_tree.specs.Tiling.{HasNoGroup}
 use Rattle.wt_tree.specs.Tree.{Label, Tree, tree, Trees, none, more, label}
 use Rattle.wt_tiles.proofs.Words.{and_left, and_right}
-use Rattle.wt_original.specs.declared.kinds.InlineForm.{InlineForm}
-use Rattle.wt_original.specs.declared.kinds.InlineForm.TheVariants as inline
-use Rattle.wt_original.specs.Kinds.{shape}
+use Rattle.wt_tree.specs.declared.edit_shape.InlineForm.{InlineForm}
+use Rattle.wt_tree.specs.declared.edit_shape.InlineForm.TheVariants as inline
+use Rattle.wt_tree.specs.EditShapes.{edit_shape}
 use Rattle.wt_original.specs.Kept.{Kept, kept_nodes, kept_with}
 use Rattle.wt_original.specs.Page.{Page, TellsSame, is_unchanged, page_of}
 use Rattle.wt_content.specs.declared.content.Surroundings.{Surroundings}
@@ -41,7 +41,7 @@ typed_by inline.AsItStood s in_paragraph text inside = is_same s
 
 abbrev mutual
   is_typed : Page → Bool → Tree → Bool
-  is_typed p in_paragraph (tree l ts) = typed_by (shape l.kind).inline (standing p (tree l ts)) in_paragraph l.shown (are_typed p false ts)
+  is_typed p in_paragraph (tree l ts) = typed_by (edit_shape l.kind).inline (standing p (tree l ts)) in_paragraph l.shown (are_typed p false ts)
 
   are_typed : Page → Bool → Trees → Bool
   are_typed p in_paragraph none = true
@@ -120,7 +120,7 @@ neither false b e f = f
 mutual
   node_is_good : (p : Page) (x : Surroundings) (t : Tree) → x.in_link ≡ false → is_typed p x.in_paragraph t ≡ true → faults p x t ≡ []
   node_is_good p x (tree l ts) n e =
-      let w = (shape l.kind).inline in
+      let w = (edit_shape l.kind).inline in
       typed_is_good w x (standing p (tree l ts)) l (holds_link (tree l ts)) (are_typed p false ts) (all_faults p (below x w) ts) n e
       (λ none_here good. all_are_good p (below x w) ts (neither x.in_link (is_link w) n none_here) good)
 
@@ -175,13 +175,13 @@ not_replaced false s e = e
 takes_no_place : (p : Page) (k : Option Kept) (t : Tree) → TakesNoPlace k → not (is_replaced (standing_of p k t)) ≡ true
 takes_no_place p None t h = refl
 takes_no_place p (Some k) t h =
-    let w = (shape (label k.node).kind).inline in not_replaced (is_unchanged p k t) (changed_from w) (is_changed w h)
+    let w = (edit_shape (label k.node).kind).inline in not_replaced (is_unchanged p k t) (changed_from w) (is_changed w h)
 
 mutual
   node_is_told : (same : Tree → Tree → Bool) (old : Tree) → TellsSame same → (in_paragraph : Bool) (t : Tree) → IsTyped old in_paragraph t
       → is_typed (page_of same old) in_paragraph t ≡ true
   node_is_told same old tells in_paragraph (tree l ts) h =
-      told_by (shape l.kind).inline (standing (page_of same old) (tree l ts)) in_paragraph l.shown (AreTyped old false ts)
+      told_by (edit_shape l.kind).inline (standing (page_of same old) (tree l ts)) in_paragraph l.shown (AreTyped old false ts)
       (TakesNoPlace (kept_with l.id (kept_nodes old))) (IsUntouched old (tree l ts) × HasNoGroup (tree l ts)) (are_typed (page_of same old) false ts) h
       (λ inside. all_are_told same old tells false ts inside)
       (λ free. takes_no_place (page_of same old) (kept_with l.id (kept_nodes old)) (tree l ts) free) (λ own. ap is_same (untouched_is_same same old (tree l ts) tells own.1 own.0))

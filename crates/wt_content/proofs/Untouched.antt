@@ -4,7 +4,7 @@ use Rattle.std.specs.Prelude.{◌||◌, if◌then◌else◌, List}
 use Rattle.wt_tree.specs.Plain.{plain}
 use Rattle.wt_tree.specs.Tiling.{is_group, HasNoGroup, NoneIsGroup}
 use Rattle.wt_tree.specs.Tree.{Tree, tree, Trees, none, more, label}
-use Rattle.wt_original.specs.Kinds.{shape}
+use Rattle.wt_tree.specs.EditShapes.{edit_shape}
 use Rattle.wt_original.specs.Kept.{Kept, kept_with}
 use Rattle.wt_original.specs.Page.{TellsSame, node_or, page_of, restored, restored_all}
 use Rattle.wt_content.specs.declared.content.Standing.TheVariants as stands
@@ -36,4 +36,4 @@ untouched_is_same same old t tells h u =
     let told : same (restored p.kept t) node ≡ true =
     (tells (restored p.kept t) node).1 (ap (λ (v : Tree). (label v).kind) back ∙ u.kind, ap plain back ∙ u.shown) in
     ap (λ (o : Option Kept). standing_of p o t) u.found
-    ∙ ap (λ (b : Bool). if b then stands.Same else changed_from (shape (label node).kind).inline) (or_true (is_group (label node).kind) (same (restored p.kept t) node) told)
+    ∙ ap (λ (b : Bool). if b then stands.Same else changed_from (edit_shape (label node).kind).inline) (or_true (is_group (label node).kind) (same (restored p.kept t) node) told)

@@ -3,9 +3,9 @@ use Rattle.std.specs.Prelude.{◌==◌, ◌&&◌, ◌||◌, not, Bool, true, fal
 use Rattle.wt_tree.specs.declared.kind.Kind.{Kind}
 use Rattle.wt_tree.specs.declared.kind.Kind.TheVariants as kind
 use Rattle.wt_tree.specs.Tree.{Tree, Trees, none, more, label}
-use Rattle.wt_original.specs.declared.kinds.BlockForm.{BlockForm}
-use Rattle.wt_original.specs.declared.kinds.BlockForm.TheVariants as form
-use Rattle.wt_original.specs.Kinds.{shape}
+use Rattle.wt_tree.specs.declared.edit_shape.BlockForm.{BlockForm}
+use Rattle.wt_tree.specs.declared.edit_shape.BlockForm.TheVariants as form
+use Rattle.wt_tree.specs.EditShapes.{edit_shape}
 use Rattle.wt_original.specs.Page.{no_page}
 use Rattle.wt_content.specs.declared.children.Holder.{Holder}
 use Rattle.wt_content.specs.declared.children.Holder.TheVariants as holder
@@ -74,7 +74,7 @@ new_faults same h f u = if may_come h f then inside_faults same f u else why.Ele
 
 -- what is wrong with a child; white space and kept children aren't looked into
 abbrev pub child_faults : (Tree → Tree → Bool) → Holder → Tree → List ContentWhy
-child_faults same h u = if is_space (label u).kind || not ((label u).id == 0) then [] else new_faults same h (shape (label u).kind).form u
+child_faults same h u = if is_space (label u).kind || not ((label u).id == 0) then [] else new_faults same h (edit_shape (label u).kind).form u
 
 abbrev pub all_child_faults : (Tree → Tree → Bool) → Holder → Trees → List ContentWhy
 all_child_faults same h none = []

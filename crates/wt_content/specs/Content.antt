@@ -7,11 +7,11 @@ use Rattle.wt_tree.specs.Tiling.{is_group}
 use Rattle.wt_tree.specs.Tree.{Label, Tree, tree, Trees, none, more, label}
 use Rattle.wt_tiles.specs.Glyphs.{byte_glyphs}
 use Rattle.wt_tiles.specs.Urls.{scheme_len, url_items}
-use Rattle.wt_original.specs.declared.kinds.BlockForm.{BlockForm}
-use Rattle.wt_original.specs.declared.kinds.BlockForm.TheVariants as form
-use Rattle.wt_original.specs.declared.kinds.InlineForm.{InlineForm}
-use Rattle.wt_original.specs.declared.kinds.InlineForm.TheVariants as inline
-use Rattle.wt_original.specs.Kinds.{shape}
+use Rattle.wt_tree.specs.declared.edit_shape.BlockForm.{BlockForm}
+use Rattle.wt_tree.specs.declared.edit_shape.BlockForm.TheVariants as form
+use Rattle.wt_tree.specs.declared.edit_shape.InlineForm.{InlineForm}
+use Rattle.wt_tree.specs.declared.edit_shape.InlineForm.TheVariants as inline
+use Rattle.wt_tree.specs.EditShapes.{edit_shape}
 use Rattle.wt_original.specs.Kept.{Kept, kept_with}
 use Rattle.wt_original.specs.Page.{Page, page_of, is_unchanged}
 use Rattle.wt_escape.specs.Spelling.{href_of}
@@ -61,7 +61,7 @@ changed_from inline.AsItStood = stands.Replaced
 -- it is new; or with its number the page has a node, as which it still is, or which was changed or replaced by it
 abbrev pub standing_of : Page → Option Kept → Tree → Standing
 standing_of p None t = stands.New
-standing_of p (Some k) t = if is_unchanged p k t then stands.Same else changed_from (shape (label k.node).kind).inline
+standing_of p (Some k) t = if is_unchanged p k t then stands.Same else changed_from (edit_shape (label k.node).kind).inline
 
 abbrev pub standing : Page → Tree → Standing
 standing p t = standing_of p (kept_with (label t).id p.kept) t
@@ -159,7 +159,7 @@ if_any (Some w) = w ∷ []
 -- a link is in it, itself or within, outside groups
 abbrev mutual
   pub holds_link : Tree → Bool
-  holds_link (tree l ts) = is_link (shape l.kind).inline || (not (is_group l.kind) && any_holds_link ts)
+  holds_link (tree l ts) = is_link (edit_shape l.kind).inline || (not (is_group l.kind) && any_holds_link ts)
 
   pub any_holds_link : Trees → Bool
   any_holds_link none = false
@@ -182,7 +182,7 @@ faults_by w x s l holds inside =
 abbrev mutual
   pub faults : Page → Surroundings → Tree → List ContentWhy
   faults p x (tree l ts) =
-      faults_by (shape l.kind).inline x (standing p (tree l ts)) l (holds_link (tree l ts)) (all_faults p (below x (shape l.kind).inline) ts)
+      faults_by (edit_shape l.kind).inline x (standing p (tree l ts)) l (holds_link (tree l ts)) (all_faults p (below x (edit_shape l.kind).inline) ts)
 
   pub all_faults : Page → Surroundings → Trees → List ContentWhy
   all_faults p x none = []
@@ -241,7 +241,7 @@ is_paragraph form.NoBlock = false
 
 -- where the children of a marked node are
 abbrev pub outermost : Tree → Surroundings
-outermost old = record { in_paragraph = is_paragraph (shape (label old).kind).form; in_link = false }
+outermost old = record { in_paragraph = is_paragraph (edit_shape (label old).kind).form; in_link = false }
 
 abbrev pub held : Tree → Trees
 held (tree l ts) = ts

@@ -3,9 +3,9 @@
 use Rattle.std.specs.Prelude.{◌≡◌, ◌⊎◌, Bool, true, false, is_some}
 use Rattle.wt_names.specs.Written.{read_link}
 use Rattle.wt_tree.specs.Tree.{Label, Tree, tree, Trees, none, more}
-use Rattle.wt_original.specs.declared.kinds.InlineForm.{InlineForm}
-use Rattle.wt_original.specs.declared.kinds.InlineForm.TheVariants as inline
-use Rattle.wt_original.specs.Kinds.{shape}
+use Rattle.wt_tree.specs.declared.edit_shape.InlineForm.{InlineForm}
+use Rattle.wt_tree.specs.declared.edit_shape.InlineForm.TheVariants as inline
+use Rattle.wt_tree.specs.EditShapes.{edit_shape}
 use Rattle.wt_original.specs.Page.{Page}
 use Rattle.wt_escape.specs.Spelling.{href_of}
 use Rattle.wt_content.specs.declared.content.Surroundings.{Surroundings}
@@ -58,7 +58,7 @@ IsContentBy inline.AsItStood x s l holds inside = IsKept x s holds
 abbrev mutual
   pub IsContent : Page → Surroundings → Tree → Type 0
   IsContent p x (tree l ts) =
-      IsContentBy (shape l.kind).inline x (standing p (tree l ts)) l (holds_link (tree l ts)) (AreContent p (below x (shape l.kind).inline) ts)
+      IsContentBy (edit_shape l.kind).inline x (standing p (tree l ts)) l (holds_link (tree l ts)) (AreContent p (below x (edit_shape l.kind).inline) ts)
 
   pub AreContent : Page → Surroundings → Trees → Type 0
   AreContent p x none = Unit {0}

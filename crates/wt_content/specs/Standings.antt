@@ -1,8 +1,8 @@
 -- For which nodes it counts what they are to the page.
 use Rattle.std.specs.Prelude.{◌≡◌, Bool, true, false}
 use Rattle.wt_tree.specs.Tree.{Label}
-use Rattle.wt_original.specs.declared.kinds.InlineForm.{InlineForm}
-use Rattle.wt_original.specs.declared.kinds.InlineForm.TheVariants as inline
+use Rattle.wt_tree.specs.declared.edit_shape.InlineForm.{InlineForm}
+use Rattle.wt_tree.specs.declared.edit_shape.InlineForm.TheVariants as inline
 use Rattle.wt_content.specs.declared.content.Surroundings.{Surroundings}
 use Rattle.wt_content.specs.declared.content.Standing.{Standing}
 use Rattle.wt_content.specs.Content.{is_open, own_faults}

@@ -3,9 +3,9 @@ use Rattle.std.specs.Prelude.{◌≡◌, ℕ, Bool, true, false, Option, None, S
 use Rattle.wt_tree.specs.Plain.{plain}
 use Rattle.wt_tree.specs.Tiling.{HasNoGroup}
 use Rattle.wt_tree.specs.Tree.{Tree, tree, Trees, none, more, label}
-use Rattle.wt_original.specs.declared.kinds.InlineForm.{InlineForm}
-use Rattle.wt_original.specs.declared.kinds.InlineForm.TheVariants as inline
-use Rattle.wt_original.specs.Kinds.{shape}
+use Rattle.wt_tree.specs.declared.edit_shape.InlineForm.{InlineForm}
+use Rattle.wt_tree.specs.declared.edit_shape.InlineForm.TheVariants as inline
+use Rattle.wt_tree.specs.EditShapes.{edit_shape}
 use Rattle.wt_original.specs.Kept.{Kept, kept_nodes, kept_with}
 use Rattle.wt_content.specs.Content.{has_break}
 
@@ -37,7 +37,7 @@ may_change inline.AsItStood = false
 -- it takes the place of no node that may not change: the page has none with its number, or one that may
 abbrev pub TakesNoPlace : Option Kept → Type 0
 TakesNoPlace None = Unit {0}
-TakesNoPlace (Some k) = may_change (shape (label k.node).kind).inline ≡ true
+TakesNoPlace (Some k) = may_change (edit_shape (label k.node).kind).inline ≡ true
 
 -- White space between elements; a text; bold and italic that hold such; and every other node untouched and without groups.
 abbrev pub IsTypedBy : InlineForm → Bool → List ℕ → Type 0 → Type 0 → Type 0 → Type 0
@@ -56,7 +56,7 @@ IsTypedBy inline.AsItStood in_paragraph text inside free untouched = untouched
 abbrev mutual
   pub IsTyped : Tree → Bool → Tree → Type 0
   IsTyped old in_paragraph (tree l ts) =
-      IsTypedBy (shape l.kind).inline in_paragraph l.shown (AreTyped old false ts) (TakesNoPlace (kept_with l.id (kept_nodes old)))
+      IsTypedBy (edit_shape l.kind).inline in_paragraph l.shown (AreTyped old false ts) (TakesNoPlace (kept_with l.id (kept_nodes old)))
       (IsUntouched old (tree l ts) × HasNoGroup (tree l ts))
 
   pub AreTyped : Tree → Bool → Trees → Type 0

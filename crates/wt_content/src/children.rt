@@ -4,7 +4,7 @@
 ghost use Rattle.std.specs.Prelude.{◌≡◌, ◌++◌, Bool, List, [], IfOk, OnOk};
 ghost use Rattle.wt_tree.specs.Tree.{Tree, label};
 ghost use Rattle.wt_tree.specs.View.{view, views};
-ghost use Rattle.wt_original.specs.Kinds.{shape};
+ghost use Rattle.wt_tree.specs.EditShapes.{edit_shape};
 ghost use Rattle.wt_original.specs.Page.{TellsSame};
 ghost use Rattle.wt_original.specs.PageViews.{IsPageOf};
 ghost use Rattle.wt_content.specs.Children.{all_child_faults, any_kept_child, bad_children, child_faults, empty_fault, holder_of, if_any_held, inside_faults, is_child, is_rule, is_kept_child, is_mark, is_separator, is_space, may_come, new_faults};
@@ -14,9 +14,9 @@ ghost use Rattle.wt_content.specs.Views.{HasFaults};
 use crate::content::{Faults, outermost, visit_all};
 use crate::reason::ContentWhy;
 use std::alloc::Global;
-use wt_original::{BlockForm, Page, no_page, shape};
+use wt_original::{Page, no_page};
 use wt_span::NoMemory;
-use wt_tree::{Kind, Node};
+use wt_tree::{BlockForm, Kind, Node};
 
 /// What holds children that come and go.
 #[derive(Clone, Copy)]
@@ -142,9 +142,9 @@ fn visit_new(
 ) -> Result<(), NoMemory>
     requires { IsPageOf [] [] page.now }
     ensures { (same : Tree → Tree → Bool) → TellsSame same → OnOk result ((ws : List ContentWhy) → HasFaults found.old ws
-        → HasFaults found.new (ws ++ new_faults same holder (shape (label (view node.now)).kind).form (view node.now))) }
+        → HasFaults found.new (ws ++ new_faults same holder (edit_shape (label (view node.now)).kind).form (view node.now))) }
 {
-    let form = shape(node.kind).form;
+    let form = node.kind.edit_shape().form;
     if !may_come(holder, form) {
         found.add(ContentWhy::Element);
         return Ok(());

@@ -3,7 +3,6 @@
 
 ghost use Rattle.std.specs.Prelude.{◌≡◌, ◌&&◌, ◌++◌, ◌∷◌, Bool, List, [], Some, is_some, IfOk, OnOk};
 ghost use Rattle.wt_names.specs.Written.{read_link};
-ghost use Rattle.wt_tree.specs.Tiling.{is_group};
 ghost use Rattle.wt_tree.specs.Tree.{Tree};
 ghost use Rattle.wt_tree.specs.View.{label_of, view, views};
 ghost use Rattle.wt_tree.specs.declared.node.Node.{out-Node};
@@ -20,9 +19,9 @@ use crate::url::is_url;
 use std::alloc::Global;
 use wt_escape::href_of;
 use wt_names::title_of_href;
-use wt_original::{BlockForm, InlineForm, Kept, Page, is_unchanged, page_of_block, shape};
+use wt_original::{Kept, Page, is_unchanged, page_of_block};
 use wt_span::NoMemory;
-use wt_tree::{Kind, Node};
+use wt_tree::{BlockForm, InlineForm, Node};
 
 /// What a node of the edited tree is to the page: it is new; or the page has a node with its number,
 /// which it changed, which it took the place of although that may not change, or which it still is.
@@ -130,23 +129,13 @@ fn is_link(inline: InlineForm) -> bool
     }
 }
 
-/// Whether a node is a group.
-fn is_group(kind: Kind) -> bool
-    ensures { result ≡ is_group kind }
-{
-    match kind {
-        Kind::Group => true,
-        _ => false,
-    }
-}
-
-/// Whether a link is in a node, itself or within, outside groups.
+/// Whether a link stands in a node, itself or within, outside groups.
 #[cycle(linking)]
 fn holds_link(node: &Node<'_>) -> bool
     ensures { result ≡ holds_link (view node.now) }
 {
-    is_link(shape(node.kind).inline)
-        || !is_group(node.kind) && any_holds_link(node.children.as_slice())
+    is_link(node.kind.edit_shape().inline)
+        || !node.kind.is_group() && any_holds_link(node.children.as_slice())
 }
 
 #[cycle(linking)]
@@ -204,7 +193,7 @@ fn standing_of(
     if unchanged {
         Ok(Standing::Same)
     } else {
-        Ok(changed_from(shape(kept.node.kind).inline))
+        Ok(changed_from(kept.node.kind.edit_shape().inline))
     }
 }
 
@@ -354,7 +343,7 @@ fn style_standing(alloc: Global, page: &Page<'_, '_>, node: &Node<'_>) -> Result
     match kept {
         None => Ok(Standing::New),
         Some(kept) => {
-            let changed = changed_from(shape(kept.node.kind).inline);
+            let changed = changed_from(kept.node.kind.edit_shape().inline);
             match changed {
                 Standing::Replaced => {
                     let standing = standing_of(alloc, page, kept, node)?;
@@ -460,7 +449,7 @@ fn visit(
     ensures { (same : Tree → Tree → Bool) → TellsSame same → OnOk result ((ws : List ContentWhy) → HasFaults found.old ws
         → HasFaults found.new (ws ++ faults (page_view same page.now) around (view node.now))) }
 {
-    let inline = shape(node.kind).inline;
+    let inline = node.kind.edit_shape().inline;
     let standing = standing_by(alloc, inline, page, node)?;
     found.add_any(nested_fault(around, inline, standing, node));
     let why = own_fault(alloc, inline, around, standing, node)?;
@@ -491,7 +480,7 @@ pub fn outermost(old: &Node<'_>) -> Surroundings
     ensures { result ≡ outermost (view old.now) }
 {
     Surroundings {
-        in_paragraph: is_paragraph(shape(old.kind).form),
+        in_paragraph: is_paragraph(old.kind.edit_shape().form),
         in_link: false,
     }
 }

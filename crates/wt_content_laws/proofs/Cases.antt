@@ -5,7 +5,7 @@ use Rattle.wt_tree.specs.declared.kind.Kind.{Kind}
 use Rattle.wt_tree.specs.declared.kind.Kind.TheVariants as kind
 use Rattle.wt_tree.specs.declared.kind.Mark.TheVariants as mark
 use Rattle.wt_tree.specs.Tree.{Label, Tree, tree, trees, none}
-use Rattle.wt_original.specs.Kinds.{shape}
+use Rattle.wt_tree.specs.EditShapes.{edit_shape}
 use Rattle.wt_original.specs.Kept.{found_at, kept_of, kept_with}
 use Rattle.wt_content.specs.declared.children.Holder.TheVariants as holder
 use Rattle.wt_content_laws.specs.NewChildren.{AreChildren, IsNewBlock}
@@ -43,12 +43,12 @@ page = node kind.Para 1 (text (codes "a ") ∷ group 2 (codes "x") ∷ [])
 
 -- whatever the group is said to show
 beside_group : AreTextEdits page true (trees (text (codes "b ") ∷ group 2 (codes "y") ∷ []))
-unfolding shape kept_with
+unfolding kept_with
 beside_group = (tt, (record { kept = kept_of page (found_at 2 2 (group 2 (codes "x"))); found = refl; kind = refl; shown = λ e. cc }, tt))
 
 -- a group that the page doesn't have is none
 other_group : IsAsItWas page (group 3 (codes "x")) → ⊥
-unfolding shape kept_with
+unfolding kept_with
 other_group h = let e = h.found in cc
 
 -- ---- a link in which a group stands, and text is typed before it
@@ -60,12 +60,12 @@ abbrev page_with_link : Tree
 page_with_link = node kind.Para 1 (link (codes "x") ∷ [])
 
 beside_link : AreTextEdits page_with_link true (trees (text (codes "b ") ∷ link (codes "y") ∷ []))
-unfolding shape kept_with
+unfolding kept_with
 beside_link = (tt, (record { kept = kept_of page_with_link (found_at 0 0 (link (codes "x"))); found = refl; kind = refl; shown = λ e. refl }, tt))
 
 -- text that is typed into the link isn't a text edit
 into_link : IsAsItWas page_with_link (node kind.WikiLink 2 (text (codes "b") ∷ group 3 (codes "x") ∷ [])) → ⊥
-unfolding shape kept_with
+unfolding kept_with
 into_link h = let e = h.found in let s = h.shown refl in cc
 
 -- ---- children

@@ -8,7 +8,7 @@ use Rattle.wt_tree.specs.declared.kind.Mark.TheVariants as mark
 use Rattle.wt_tree.specs.Kinds.{is_leaf}
 use Rattle.wt_tree.specs.Source.{flat}
 use Rattle.wt_tree.specs.Tree.{Label, Tree, tree, Trees, none, more, label}
-use Rattle.wt_original.specs.Kinds.{shape}
+use Rattle.wt_tree.specs.EditShapes.{edit_shape}
 use Rattle.wt_original.specs.Kept.{Kept, holds_kept, kept_nodes, kept_of}
 use Rattle.wt_original.specs.Page.{Page, no_page, page_of}
 use Rattle.wt_content.specs.declared.children.Holder.{Holder}
@@ -27,7 +27,6 @@ use Rattle.wt_content_laws.specs.NewChildren.{AreChildren, AreEachChildren, HasO
 -- ---- kinds
 
 space_is : (k : Kind) → is_space k ≡ true → k ≡ kind.Sep
-unfolding shape
 space_is kind.Body e = cc
 space_is (kind.Section n) e = cc
 space_is kind.Para e = cc
@@ -65,8 +64,7 @@ space_is kind.Text e = cc
 space_is kind.Group e = cc
 space_is kind.Empty e = cc
 
-new_in_body : (k : Kind) → may_come holder.Body (shape k).form ≡ true → IsNewBlock holder.Body k
-unfolding shape
+new_in_body : (k : Kind) → may_come holder.Body (edit_shape k).form ≡ true → IsNewBlock holder.Body k
 new_in_body kind.Body e = cc
 new_in_body (kind.Section n) e = cc
 new_in_body kind.Para e = inl refl
@@ -104,8 +102,7 @@ new_in_body kind.Text e = cc
 new_in_body kind.Group e = cc
 new_in_body kind.Empty e = cc
 
-new_in_list : (k : Kind) → may_come holder.List (shape k).form ≡ true → IsNewBlock holder.List k
-unfolding shape
+new_in_list : (k : Kind) → may_come holder.List (edit_shape k).form ≡ true → IsNewBlock holder.List k
 new_in_list kind.Body e = cc
 new_in_list (kind.Section n) e = cc
 new_in_list kind.Para e = cc
@@ -143,8 +140,7 @@ new_in_list kind.Text e = cc
 new_in_list kind.Group e = cc
 new_in_list kind.Empty e = cc
 
-rule_is : (k : Kind) → is_rule (shape k).form ≡ true → k ≡ kind.Rule
-unfolding shape
+rule_is : (k : Kind) → is_rule (edit_shape k).form ≡ true → k ≡ kind.Rule
 rule_is kind.Body e = cc
 rule_is (kind.Section n) e = cc
 rule_is kind.Para e = cc
@@ -183,7 +179,6 @@ rule_is kind.Group e = cc
 rule_is kind.Empty e = cc
 
 mark_is : (k : Kind) → is_mark k ≡ true → (k ≡ kind.Comment) ⊎ (k ≡ kind.Include)
-unfolding shape
 mark_is kind.Body e = cc
 mark_is (kind.Section n) e = cc
 mark_is kind.Para e = cc
@@ -221,20 +216,18 @@ mark_is kind.Text e = cc
 mark_is kind.Group e = cc
 mark_is kind.Empty e = cc
 
-new_block : (h : Holder) (k : Kind) → may_come h (shape k).form ≡ true → IsNewBlock h k
+new_block : (h : Holder) (k : Kind) → may_come h (edit_shape k).form ≡ true → IsNewBlock h k
 new_block holder.Body k e = new_in_body k e
 new_block holder.List k e = new_in_list k e
 
-block_comes : (h : Holder) (k : Kind) → IsNewBlock h k → may_come h (shape k).form ≡ true
-unfolding shape
-block_comes holder.Body k (inl e) = subst (λ (j : Kind). may_come holder.Body (shape j).form ≡ true) (sym e) refl
-block_comes holder.Body k (inr (inl e)) = subst (λ (j : Kind). may_come holder.Body (shape j).form ≡ true) (sym e.1) refl
-block_comes holder.Body k (inr (inr e)) = subst (λ (j : Kind). may_come holder.Body (shape j).form ≡ true) (sym e) refl
-block_comes holder.List k e = subst (λ (j : Kind). may_come holder.List (shape j).form ≡ true) (sym e) refl
+block_comes : (h : Holder) (k : Kind) → IsNewBlock h k → may_come h (edit_shape k).form ≡ true
+block_comes holder.Body k (inl e) = subst (λ (j : Kind). may_come holder.Body (edit_shape j).form ≡ true) (sym e) refl
+block_comes holder.Body k (inr (inl e)) = subst (λ (j : Kind). may_come holder.Body (edit_shape j).form ≡ true) (sym e.1) refl
+block_comes holder.Body k (inr (inr e)) = subst (λ (j : Kind). may_come holder.Body (edit_shape j).form ≡ true) (sym e) refl
+block_comes holder.List k e = subst (λ (j : Kind). may_come holder.List (edit_shape j).form ≡ true) (sym e) refl
 
-is_the_rule : (k : Kind) → k ≡ kind.Rule → is_rule (shape k).form ≡ true
-unfolding shape
-is_the_rule k e = subst (λ (j : Kind). is_rule (shape j).form ≡ true) (sym e) refl
+is_the_rule : (k : Kind) → k ≡ kind.Rule → is_rule (edit_shape k).form ≡ true
+is_the_rule k e = subst (λ (j : Kind). is_rule (edit_shape j).form ≡ true) (sym e) refl
 
 not_true : (b : Bool) → (b ≡ true → ⊥) → b ≡ false
 not_true true f = absurd (f refl)
@@ -305,24 +298,24 @@ none_held (more t ts) e = cc
 
 -- ---- one child
 
-inside_by : (same : Tree → Tree → Bool) (u : Tree) (r : Bool) → is_rule (shape (label u).kind).form ≡ r
+inside_by : (same : Tree → Tree → Bool) (u : Tree) (r : Bool) → is_rule (edit_shape (label u).kind).form ≡ r
     → (if r then if_any_held (held u) else all_faults (no_page same) (outermost u) (held u)) ≡ []
     → HoldsWell same u
 inside_by same u true i e = inl (rule_is (label u).kind i, none_held (held u) e)
 inside_by same u false i e = inr (λ k. let no : true ≡ false = sym (is_the_rule (label u).kind k) ∙ i in cc, inside_well same u e)
 
-new_by : (same : Tree → Tree → Bool) (h : Holder) (u : Tree) (m : Bool) → may_come h (shape (label u).kind).form ≡ m
-    → (if m then inside_faults same (shape (label u).kind).form u else why.Element ∷ []) ≡ []
+new_by : (same : Tree → Tree → Bool) (h : Holder) (u : Tree) (m : Bool) → may_come h (edit_shape (label u).kind).form ≡ m
+    → (if m then inside_faults same (edit_shape (label u).kind).form u else why.Element ∷ []) ≡ []
     → IsNewBlock h (label u).kind × HoldsWell same u
-new_by same h u true i e = (new_block h (label u).kind i, inside_by same u (is_rule (shape (label u).kind).form) refl e)
+new_by same h u true i e = (new_block h (label u).kind i, inside_by same u (is_rule (edit_shape (label u).kind).form) refl e)
 new_by same h u false i e = cc
 
 child_by : (same : Tree → Tree → Bool) (h : Holder) (u : Tree) (s z : Bool) → is_space (label u).kind ≡ s → ((label u).id == 0) ≡ z
-    → (if s || not z then [] else new_faults same h (shape (label u).kind).form u) ≡ []
+    → (if s || not z then [] else new_faults same h (edit_shape (label u).kind).form u) ≡ []
     → IsChild same h u
 child_by same h u true z i j e = inl (space_is (label u).kind i)
 child_by same h u false false i j e = inr (inl (λ k. let no : true ≡ false = sym ((Decides-eqb (label u).id 0).1 k) ∙ j in cc))
-child_by same h u false true i j e = inr (inr (new_by same h u (may_come h (shape (label u).kind).form) refl e))
+child_by same h u false true i j e = inr (inr (new_by same h u (may_come h (edit_shape (label u).kind).form) refl e))
 
 child_is : (same : Tree → Tree → Bool) (h : Holder) (u : Tree) → child_faults same h u ≡ [] → IsChild same h u
 child_is same h u e = child_by same h u (is_space (label u).kind) ((label u).id == 0) refl refl e
@@ -340,21 +333,21 @@ nothing_wrong : (a : Bool) (ws : List ContentWhy) → ws ≡ [] → (if a then [
 nothing_wrong true ws e = refl
 nothing_wrong false ws e = e
 
-holds_nothing_wrong : (same : Tree → Tree → Bool) (u : Tree) → HoldsWell same u → inside_faults same (shape (label u).kind).form u ≡ []
+holds_nothing_wrong : (same : Tree → Tree → Bool) (u : Tree) → HoldsWell same u → inside_faults same (edit_shape (label u).kind).form u ≡ []
 holds_nothing_wrong same u (inl h) = rw (is_the_rule (label u).kind h.0) (ap if_any_held h.1)
 holds_nothing_wrong same u (inr h) =
-    let other : is_rule (shape (label u).kind).form ≡ false =
-    not_true (is_rule (shape (label u).kind).form) (λ e. h.0 (rule_is (label u).kind e)) in
+    let other : is_rule (edit_shape (label u).kind).form ≡ false =
+    not_true (is_rule (edit_shape (label u).kind).form) (λ e. h.0 (rule_is (label u).kind e)) in
     rw other (well_inside same u h.1)
 
 is_well : (same : Tree → Tree → Bool) (h : Holder) (u : Tree) → IsChild same h u → child_faults same h u ≡ []
 is_well same h u (inl e) =
-    skipped_first (is_space (label u).kind) ((label u).id == 0) (new_faults same h (shape (label u).kind).form u) (ap is_space e)
+    skipped_first (is_space (label u).kind) ((label u).id == 0) (new_faults same h (edit_shape (label u).kind).form u) (ap is_space e)
 is_well same h u (inr (inl other)) =
-    skipped_second (is_space (label u).kind) ((label u).id == 0) (new_faults same h (shape (label u).kind).form u)
+    skipped_second (is_space (label u).kind) ((label u).id == 0) (new_faults same h (edit_shape (label u).kind).form u)
     (not_true ((label u).id == 0) (λ e. other ((Decides-eqb (label u).id 0).0 e)))
 is_well same h u (inr (inr new)) =
-    nothing_wrong (is_space (label u).kind || not ((label u).id == 0)) (new_faults same h (shape (label u).kind).form u)
+    nothing_wrong (is_space (label u).kind || not ((label u).id == 0)) (new_faults same h (edit_shape (label u).kind).form u)
     (rw (block_comes h (label u).kind new.0) (holds_nothing_wrong same u new.1))
 
 -- ---- all of them

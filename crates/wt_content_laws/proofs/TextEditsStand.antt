@@ -3,9 +3,9 @@ use Rattle.std.proofs.Common.{◌≡◌, inl, Bool, true, false, Option, Some, N
 use Rattle.std.specs.Prelude.{◌||◌, if◌then◌else◌, List}
 use Rattle.wt_tree.specs.Tiling.{is_group}
 use Rattle.wt_tree.specs.Tree.{Label, Tree, tree, Trees, none, more, label}
-use Rattle.wt_original.specs.declared.kinds.InlineForm.{InlineForm}
-use Rattle.wt_original.specs.declared.kinds.InlineForm.TheVariants as inline
-use Rattle.wt_original.specs.Kinds.{shape}
+use Rattle.wt_tree.specs.declared.edit_shape.InlineForm.{InlineForm}
+use Rattle.wt_tree.specs.declared.edit_shape.InlineForm.TheVariants as inline
+use Rattle.wt_tree.specs.EditShapes.{edit_shape}
 use Rattle.wt_original.specs.Kept.{Kept, kept_nodes, kept_with}
 use Rattle.wt_original.specs.Page.{Page, TellsSame, is_unchanged, node_or, page_of, restored, restored_all}
 use Rattle.wt_content.specs.declared.content.Surroundings.{Surroundings}
@@ -40,7 +40,7 @@ stands_same same old t tells u =
     let told : is_group (label node).kind ≡ false → same (restored ks t) node ≡ true =
     λ e. (tells (restored ks t) node).1 (restored_kind ks t (group e) ∙ u.kind, u.shown (group e)) in
     ap (λ (o : Option Kept). standing_of (page_of same old) o t) u.found
-    ∙ same_if (is_group (label node).kind || same (restored ks t) node) (changed_from (shape (label node).kind).inline)
+    ∙ same_if (is_group (label node).kind || same (restored ks t) node) (changed_from (edit_shape (label node).kind).inline)
     (or_false (is_group (label node).kind) (same (restored ks t) node) told)
 
 -- ---- what takes no place
@@ -63,7 +63,7 @@ leaves_by false w e = changed_well w e
 
 leaves_fixed : (p : Page) (t : Tree) (o : Option Kept) → TakesNoPlace o → LeavesFixed (standing_of p o t)
 leaves_fixed p t None h = tt
-leaves_fixed p t (Some k) h = leaves_by (is_unchanged p k t) (shape (label k.node).kind).inline h
+leaves_fixed p t (Some k) h = leaves_by (is_unchanged p k t) (edit_shape (label k.node).kind).inline h
 
 -- ---- the grammar
 
@@ -91,7 +91,7 @@ mutual
   edit_is_content : (same : Tree → Tree → Bool) (old : Tree) (x : Surroundings) (t : Tree) → TellsSame same → x.in_link ≡ false
       → IsTextEdit old x.in_paragraph t → IsContent (page_of same old) x t
   edit_is_content same old x (tree l ts) tells e h =
-      let w = (shape l.kind).inline in
+      let w = (edit_shape l.kind).inline in
       let p = page_of same old in
       by_way w x (standing p (tree l ts)) l (holds_link (tree l ts)) (AreContent p (below x w) ts) (AreTextEdits old false ts)
       (TakesNoPlace (kept_with l.id (kept_nodes old))) (IsAsItWas old (tree l ts)) e

@@ -4,7 +4,7 @@ use Rattle.std.specs.Prelude.{◌≡◌, Bool, false, Some}
 use Rattle.wt_tree.specs.Plain.{plain}
 use Rattle.wt_tree.specs.Tiling.{is_group}
 use Rattle.wt_tree.specs.Tree.{Tree, tree, Trees, none, more, label}
-use Rattle.wt_original.specs.Kinds.{shape}
+use Rattle.wt_tree.specs.EditShapes.{edit_shape}
 use Rattle.wt_original.specs.Kept.{Kept, kept_nodes, kept_with}
 use Rattle.wt_original.specs.Page.{restored}
 use Rattle.wt_content.specs.Typed.{IsTypedBy, TakesNoPlace}
@@ -21,7 +21,7 @@ pub record IsAsItWas (old t : Tree) : Type 0 where
 abbrev mutual
   pub IsTextEdit : Tree → Bool → Tree → Type 0
   IsTextEdit old in_paragraph (tree l ts) =
-      IsTypedBy (shape l.kind).inline in_paragraph l.shown (AreTextEdits old false ts) (TakesNoPlace (kept_with l.id (kept_nodes old))) (IsAsItWas old (tree l ts))
+      IsTypedBy (edit_shape l.kind).inline in_paragraph l.shown (AreTextEdits old false ts) (TakesNoPlace (kept_with l.id (kept_nodes old))) (IsAsItWas old (tree l ts))
 
   pub AreTextEdits : Tree → Bool → Trees → Type 0
   AreTextEdits old in_paragraph none = Unit {0}

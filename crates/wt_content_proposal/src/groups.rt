@@ -1,7 +1,7 @@
 //! Groups that may be at the start or end of a line though they were at none in the page, and beside anything.
 
 use wt_guards::{Role, Stretch, Transclusion, Unit, line_start_hazard};
-use wt_tree::{Kind, Node};
+use wt_tree::{InlineForm, Kind, Node};
 
 /// Whether a text may begin a line: it begins with no sign of a block.
 fn may_begin(text: &str) -> bool {
@@ -11,19 +11,22 @@ fn may_begin(text: &str) -> bool {
     }
 }
 
+/// Whether a kind is written for a sign of a line that is no block's.
+fn is_sign(kind: Kind) -> bool {
+    matches!(kind, Kind::Entity | Kind::Island | Kind::Category)
+}
+
 /// Whether nodes are of one line: texts without line breaks, styles, links, tags, and what is written for a sign.
 fn are_of_line(nodes: &[Node<'_>]) -> bool {
     for node in nodes {
-        let is_of_line = match node.kind {
-            Kind::Text => !node.shown().as_bytes().contains(&b'\n'),
-            Kind::Bold | Kind::Italic | Kind::Tag(_) => are_of_line(node.children.as_slice()),
-            Kind::WikiLink
-            | Kind::ExtLink
-            | Kind::Entity
-            | Kind::Br
-            | Kind::Island
-            | Kind::Category => true,
-            _ => false,
+        let is_of_line = match node.kind.edit_shape().inline {
+            InlineForm::Characters => !node.shown().as_bytes().contains(&b'\n'),
+            InlineForm::Bold | InlineForm::Italic | InlineForm::Tag => {
+                are_of_line(node.children.as_slice())
+            }
+            InlineForm::PageLink | InlineForm::ExternalLink | InlineForm::Break => true,
+            InlineForm::Shown | InlineForm::AsItStood => is_sign(node.kind),
+            InlineForm::Nothing => false,
         };
         if !is_of_line {
             return false;

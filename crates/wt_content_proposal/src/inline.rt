@@ -8,10 +8,10 @@ use crate::plain::with_plain;
 use crate::texts::{ends_with_apostrophe, push_letters, push_nowiki, push_text};
 use std::alloc::Global;
 use wt_escape::{external_link_of, href_of, page_link_of};
-use wt_guards::{Place, Role, Setting, Stretch, Thing, Unit, spelling_of};
-use wt_original::{InlineForm, Kept, is_unchanged, shape, shown_text};
+use wt_guards::{Role, Setting, Stretch, Thing, Unit, spelling_of};
+use wt_original::{Kept, is_unchanged, shown_text};
 use wt_span::{NoMemory, Str, Text};
-use wt_tree::{Kind, Node, flat, same_attrs, same_kind};
+use wt_tree::{InlineForm, Kind, Node, Place, flat, same_attrs, same_kind};
 
 /// How an inside is written: what is known of the page, the block in which it is, whether texts keep their
 /// bytes, and what kind of block it is.
@@ -362,7 +362,7 @@ fn with_blank(alloc: Global, keeps: bool, inside: &str) -> Result<Str, NoMemory>
 }
 
 fn new_source(alloc: Global, keeps: bool, node: &Node<'_>, inside: &str) -> Result<Str, NoMemory> {
-    match shape(node.kind).inline {
+    match node.kind.edit_shape().inline {
         InlineForm::PageLink => {
             let link = page_link_of(alloc, node, inside)?;
             if keeps {
@@ -398,7 +398,7 @@ fn source_round(
     let Some(old) = kept else {
         return new_source(alloc, keeps, node, inside);
     };
-    if matches!(node.kind, Kind::Tag(_)) {
+    if is_tag(node.kind) {
         return tag_round(alloc, old.node, inside);
     }
     if keeps && let Some(source) = link_round(alloc, old.node, node, inside)? {
@@ -407,10 +407,15 @@ fn source_round(
     new_source(alloc, keeps, node, inside)
 }
 
+/// Whether a changed node of this kind keeps its delimiters.
+fn is_tag(kind: Kind) -> bool {
+    matches!(kind.edit_shape().inline, InlineForm::Tag)
+}
+
 fn role_of(kind: Kind) -> Role {
-    match kind {
-        Kind::WikiLink => Role::Link,
-        Kind::ExtLink => Role::External,
+    match kind.edit_shape().inline {
+        InlineForm::PageLink => Role::Link,
+        InlineForm::ExternalLink => Role::External,
         _ => Role::Node,
     }
 }
@@ -430,7 +435,7 @@ fn push_element<'t, 'a>(
         return push_thing(out, role, source, Some(place_of_bare(kept)));
     }
     let mut inside = within(alloc, writing, node.children.as_slice(), edges_in(kept))?;
-    if writing.keeps && !matches!(node.kind, Kind::Tag(_)) {
+    if writing.keeps && !is_tag(node.kind) {
         inside = with_colons(alloc, inside)?;
     }
     let source = source_round(alloc, writing.keeps, kept, node, inside.as_str())?;
@@ -486,7 +491,7 @@ fn push_node<'n, 't, 'a>(
     node: &'n Node<'_>,
 ) -> Result<(), NoMemory> {
     let kept = writing.known.find(writing.block, node.id);
-    match shape(node.kind).inline {
+    match node.kind.edit_shape().inline {
         InlineForm::Nothing => Ok(()),
         InlineForm::Characters => push_letters(out, node.shown()),
         InlineForm::Bold => push_style(alloc, out, writing, "'''", kept, node),

@@ -3,8 +3,9 @@
 
 use crate::texts::push_nowiki;
 use std::alloc::Global;
-use wt_guards::{Place, Role, Stretch, Thing, Unit};
+use wt_guards::{Role, Stretch, Thing, Unit};
 use wt_span::{NoMemory, Str};
+use wt_tree::Place;
 
 /// Where an inside is written: in what kind of block, the last byte of the delimiter before it (a space where there is
 /// none), whether a table may be open there, the page, where it has this inside, in bytes, and whether the inside is

@@ -4,8 +4,9 @@
 use crate::joints::{copy_of, role_of, source_of, units_from};
 use crate::texts::push_letters;
 use std::alloc::Global;
-use wt_guards::{Place, Role, Thing, Unit};
+use wt_guards::{Role, Thing, Unit};
 use wt_span::{NoMemory, Str};
+use wt_tree::Place;
 
 // ---- what is beside a character
 

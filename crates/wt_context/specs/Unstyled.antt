@@ -2,7 +2,9 @@
 use Rattle.std.specs.Prelude.{Bool, true, false, Option, Some, None, List, [], ◌∷◌, ◌++◌}
 use Rattle.std.specs.List.{flat_map}
 use Rattle.wt_tree.specs.declared.kind.Kind.{Kind}
-use Rattle.wt_tree.specs.declared.kind.Kind.TheVariants as kind
+use Rattle.wt_tree.specs.declared.edit_shape.InlineForm.{InlineForm}
+use Rattle.wt_tree.specs.declared.edit_shape.InlineForm.TheVariants as inline
+use Rattle.wt_tree.specs.EditShapes.{edit_shape}
 use Rattle.wt_span.specs.Items.{Item}
 use Rattle.wt_tiles.specs.declared.context.Context.{Context}
 use Rattle.wt_tiles.specs.declared.shape.Shape.{Shape}
@@ -20,43 +22,21 @@ pub data Role : Type 0 where
   characters : Role
   other : Role
 
+abbrev pub role_by : InlineForm → Role
+role_by inline.Nothing = other
+role_by inline.Characters = characters
+role_by inline.Bold = style true
+role_by inline.Italic = style false
+role_by inline.Shown = other
+role_by inline.PageLink = other
+role_by inline.ExternalLink = other
+role_by inline.Tag = other
+role_by inline.Break = other
+role_by inline.AsItStood = other
+
+-- by how edits write a node of the kind
 abbrev pub role : Kind → Role
-role kind.Body = other
-role (kind.Section n) = other
-role kind.Para = other
-role (kind.Heading n) = other
-role kind.Rule = other
-role kind.Ul = other
-role kind.Ol = other
-role kind.Dl = other
-role kind.Li = other
-role kind.Dt = other
-role kind.Dd = other
-role kind.Pre = other
-role kind.Table = other
-role kind.Tbody = other
-role kind.Tr = other
-role kind.Caption = other
-role kind.Td = other
-role kind.Th = other
-role kind.Bold = style true
-role kind.Italic = style false
-role kind.WikiLink = other
-role kind.ExtLink = other
-role kind.Category = other
-role (kind.Tag t) = other
-role kind.Br = other
-role kind.Entity = other
-role kind.Nowiki = other
-role kind.Island = other
-role kind.Switch = other
-role kind.Comment = other
-role kind.Include = other
-role kind.Skip = other
-role kind.Sep = other
-role kind.Text = characters
-role kind.Group = other
-role kind.Empty = other
+role k = role_by (edit_shape k).inline
 
 -- by its role: a node with this opening delimiter, these parts inside, and this closing one
 abbrev pub by_role : Role → ItemTree → List Item → List Part → List Item → List Part

@@ -2,7 +2,6 @@
 
 ghost use Rattle.std.specs.Prelude.{◌≡◌, ◌≤◌, IfOk, OnOk, drop, length, take};
 ghost use Rattle.wt_tree.specs.Opened.{opened, opened_before};
-ghost use Rattle.wt_tree.specs.Recut.{any_shows_block, shows_block};
 ghost use Rattle.wt_tree.specs.Recutting.{appended};
 ghost use Rattle.wt_tree.specs.Tree.{none};
 ghost use Rattle.wt_tree.specs.View.{view, views};
@@ -20,7 +19,7 @@ ghost use Rattle.wt_difference.specs.Views.{child_views};
 
 use std::alloc::Global;
 use wt_span::NoMemory;
-use wt_tree::{Holding, Kind, Node, Placement};
+use wt_tree::{Holding, Kind, Node, Placement, shows_block};
 
 /// A child of a node.
 #[derive(Clone, Copy)]
@@ -80,28 +79,6 @@ fn is_separator(kind: Kind) -> bool
 }
 
 // ---- the inside
-
-#[cycle(showing)]
-fn shows_block(node: &Node<'_>) -> bool
-    ensures { result ≡ shows_block (view node.now) }
-{
-    match node.kind {
-        Kind::Group => any_shows_block(node.children.as_slice()),
-        kind => kind.is_block(),
-    }
-}
-
-#[cycle(showing)]
-fn any_shows_block(nodes: &[Node<'_>]) -> bool
-    ensures { result ≡ any_shows_block (views nodes.now) }
-{
-    for node in nodes {
-        if shows_block(node) {
-            return true;
-        }
-    }
-    false
-}
 
 /// Whether the text that a node begins with ends before this child: a separator, or what shows a block.
 pub fn ends_inside(node: &Node<'_>) -> bool

@@ -16,7 +16,7 @@ ghost use Rattle.wt_difference.specs.Tokens.{
 ghost use Rattle.wt_difference.specs.Views.{token_view, tokens_view};
 
 use std::alloc::Global;
-use wt_checks::{is_compared, is_group, is_text, same_attrs, same_character, same_data, same_kind};
+use wt_checks::{is_compared, is_text, same_attrs, same_character, same_data, same_kind};
 use wt_span::NoMemory;
 use wt_tree::Node;
 
@@ -68,7 +68,7 @@ fn push_tokens<'t, 'a>(out: &mut Vec<Token<'t, 'a>>, node: &'t Node<'a>) -> Resu
     if is_text(node.kind) {
         return push_token(out, Token::Characters(node.shown()));
     }
-    if is_group(node.kind) {
+    if node.kind.is_group() {
         return push_group(out, node);
     }
     push_element(out, node)
@@ -153,8 +153,8 @@ fn same_in_step(old: &Node<'_>, new: &Node<'_>) -> bool
     if is_text(old.kind) || is_text(new.kind) {
         return is_text(old.kind) && is_text(new.kind) && same_text(old.shown(), new.shown());
     }
-    if is_group(old.kind) || is_group(new.kind) {
-        return is_group(old.kind) && is_group(new.kind) && same_label(old, new);
+    if old.kind.is_group() || new.kind.is_group() {
+        return old.kind.is_group() && new.kind.is_group() && same_label(old, new);
     }
     same_label(old, new) && all_same_in_step(old.children.as_slice(), new.children.as_slice())
 }

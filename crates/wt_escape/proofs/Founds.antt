@@ -9,10 +9,10 @@ use Rattle.wt_tree.specs.Tree.{Label, Tree, tree, Trees, none, more, label}
 use Rattle.wt_tree.specs.Kinds.{is_leaf}
 use Rattle.wt_tree.specs.Source.{flat, flat_of_all}
 use Rattle.wt_tree.specs.Tiling.{is_group}
-use Rattle.wt_original.specs.declared.kinds.InlineForm.{InlineForm}
-use Rattle.wt_original.specs.declared.kinds.InlineForm.TheVariants as inline
-use Rattle.wt_guards.specs.declared.side.Place.{Place}
-use Rattle.wt_original.specs.Kinds.{shape}
+use Rattle.wt_tree.specs.declared.edit_shape.InlineForm.{InlineForm}
+use Rattle.wt_tree.specs.declared.edit_shape.InlineForm.TheVariants as inline
+use Rattle.wt_tree.specs.declared.edit_shape.Place.{Place}
+use Rattle.wt_tree.specs.EditShapes.{edit_shape}
 use Rattle.wt_original.specs.Kept.{Kept, KeptNode, kept_with, first_with, kept_of, kept_nodes, items, visible, is_delimited, holds_kept, found_at, found_if, found_from, found_in}
 use Rattle.wt_original.specs.Numbers.{counts_up}
 use Rattle.wt_original.specs.Page.{Page, page_of, TellsSame, node_or, restored, restored_all}
@@ -76,8 +76,7 @@ all_found block n lt e =
 -- ---- nodes
 
 -- what is no leaf has delimiters round its items
-held_if : (k : Kind) → is_leaf k ≡ false → (not (is_leaf k) && is_delimited (shape k).items) ≡ true
-unfolding shape
+held_if : (k : Kind) → is_leaf k ≡ false → (not (is_leaf k) && is_delimited (edit_shape k).items) ≡ true
 held_if kind.Body e = refl
 held_if (kind.Section n) e = refl
 held_if kind.Para e = refl
@@ -205,7 +204,7 @@ mutual
   own_of same block pl at from (tree l ts) e b h =
       let ks = kept_nodes block in
       let p = page_of same block in
-      own_by (shape l.kind).inline p pl l ts (ArePlain p pl ts) (AreOwn p pl ts) h
+      own_by (edit_shape l.kind).inline p pl l ts (ArePlain p pl ts) (AreOwn p pl ts) h
       (λ n k.
       own_of_all same block pl (at + length l.opening) (from + length l.opening) ts
       (inside_found (Finds block ks) at from l ts (held_if l.kind n) e) b.1 k)

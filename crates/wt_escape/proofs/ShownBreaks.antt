@@ -14,14 +14,14 @@ use Rattle.wt_tree.specs.Tree.{Label, Tree, tree, Trees, none, more, label}
 use Rattle.wt_tree.specs.Source.{flat}
 use Rattle.wt_guards.specs.declared.role.Role.{Role}
 use Rattle.wt_guards.specs.declared.role.Role.TheVariants as role
-use Rattle.wt_guards.specs.declared.side.Place.{Place}
+use Rattle.wt_tree.specs.declared.edit_shape.Place.{Place}
 use Rattle.wt_guards.specs.Content.{ContentSign, letters}
 use Rattle.wt_guards.specs.Guards.{nowiki}
 use Rattle.wt_guards.specs.WrittenLaws.{itself, breaks}
 use Rattle.wt_guards.proofs.Breaks.{same_breaks}
-use Rattle.wt_original.specs.declared.kinds.InlineForm.{InlineForm}
-use Rattle.wt_original.specs.declared.kinds.InlineForm.TheVariants as inline
-use Rattle.wt_original.specs.Kinds.{shape}
+use Rattle.wt_tree.specs.declared.edit_shape.InlineForm.{InlineForm}
+use Rattle.wt_tree.specs.declared.edit_shape.InlineForm.TheVariants as inline
+use Rattle.wt_tree.specs.EditShapes.{edit_shape}
 use Rattle.wt_original.specs.Kept.{Kept, kept_with, shown}
 use Rattle.wt_original.specs.Page.{Page, page_of, is_unchanged}
 use Rattle.wt_escape.specs.Spelling.{kept_thing, new_thing, as_it_stood, unless_kept, closing_place, toggle, or_nowiki, style, spelled_within, href_of, only_text, is_text, colon, link_text, page_link, after_space, external_link, tag_pair, break_tag, signs_by, signs_of, signs_of_all, children_of, inline_spelling}
@@ -184,7 +184,7 @@ counted_by inline.AsItStood p pl k l ts h e = counted_as_it_stood k
 
 mutual
   counted_in : (p : Page) (pl : Place) (t : Tree) → HasTexts t → counted (signs_of p pl t) ≡ breaks_in p t
-  counted_in p pl (tree l ts) h = counted_by (shape l.kind).inline p pl (kept_with l.id p.kept) l ts h.0 (counted_all p pl ts h.1)
+  counted_in p pl (tree l ts) h = counted_by (edit_shape l.kind).inline p pl (kept_with l.id p.kept) l ts h.0 (counted_all p pl ts h.1)
 
   counted_all : (p : Page) (pl : Place) (ts : Trees) → HaveTexts ts → counted (signs_of_all p pl ts) ≡ breaks_in_all p ts
   counted_all p pl none h = refl

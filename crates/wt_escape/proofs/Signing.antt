@@ -6,9 +6,9 @@ use Rattle.wt_tree.specs.declared.node.Node.{Node, out-Node}
 use Rattle.wt_tree.specs.Tree.{Tree, tree}
 use Rattle.wt_tree.specs.View.{label_of, view, views}
 use Rattle.wt_tree.proofs.Views.{view_out}
-use Rattle.wt_original.specs.declared.kinds.InlineForm.{InlineForm}
-use Rattle.wt_guards.specs.declared.side.Place.{Place}
-use Rattle.wt_original.specs.Kinds.{shape}
+use Rattle.wt_tree.specs.declared.edit_shape.InlineForm.{InlineForm}
+use Rattle.wt_tree.specs.declared.edit_shape.Place.{Place}
+use Rattle.wt_tree.specs.EditShapes.{edit_shape}
 use Rattle.wt_guards.specs.Content.{ContentSign}
 use Rattle.wt_original.specs.Kept.{Kept, kept_with}
 use Rattle.wt_original.specs.Page.{Page, is_unchanged}
@@ -39,7 +39,7 @@ leaves_then false old mid new by s e h n = n ∙ ap (λ us. us ++ s) h.0 ∙ ap 
 
 -- ---- a node by its inline form
 
-pub signs_is : (n : Node) (w : InlineForm) (p : Page) (pl : Place) (k : Option Kept) → (shape (out-Node n).kind).inline ≡ w
+pub signs_is : (n : Node) (w : InlineForm) (p : Page) (pl : Place) (k : Option Kept) → (edit_shape (out-Node n).kind).inline ≡ w
     → k ≡ kept_with (out-Node n).id p.kept
     → signs_of p pl (view n) ≡ signs_by w p pl k (label_of (out-Node n)) (views (out-Node n).children) (signs_of_all p pl (views (out-Node n).children))
 signs_is n w p pl k e h =
@@ -50,7 +50,7 @@ signs_is n w p pl k e h =
     ∙ ap (λ o. signs_by w p pl o l ts inside) (sym h)
 
 -- its signs are appended
-pub signs_pushed : (n : Node) (w : InlineForm) (p : Page) (pl : Place) (k : Option Kept) (old new signs : List ContentSign) → (shape (out-Node n).kind).inline ≡ w
+pub signs_pushed : (n : Node) (w : InlineForm) (p : Page) (pl : Place) (k : Option Kept) (old new signs : List ContentSign) → (edit_shape (out-Node n).kind).inline ≡ w
     → k ≡ kept_with (out-Node n).id p.kept
     → signs_by w p pl k (label_of (out-Node n)) (views (out-Node n).children) (signs_of_all p pl (views (out-Node n).children)) ≡ signs
     → new ≡ old ++ signs → new ≡ old ++ signs_of p pl (view n)

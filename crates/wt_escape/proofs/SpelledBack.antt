@@ -10,10 +10,10 @@ use Rattle.wt_tree.specs.Tree.{Label, Tree, tree, Trees, none, more, label}
 use Rattle.wt_tree.specs.Plain.{plain}
 use Rattle.wt_tree.specs.Source.{flat, flat_of_all}
 use Rattle.wt_tree.specs.Tiling.{is_group}
-use Rattle.wt_original.specs.declared.kinds.InlineForm.{InlineForm}
-use Rattle.wt_original.specs.declared.kinds.InlineForm.TheVariants as inline
-use Rattle.wt_guards.specs.declared.side.Place.{Place}
-use Rattle.wt_original.specs.Kinds.{shape}
+use Rattle.wt_tree.specs.declared.edit_shape.InlineForm.{InlineForm}
+use Rattle.wt_tree.specs.declared.edit_shape.InlineForm.TheVariants as inline
+use Rattle.wt_tree.specs.declared.edit_shape.Place.{Place}
+use Rattle.wt_tree.specs.EditShapes.{edit_shape}
 use Rattle.wt_guards.specs.Content.{ContentSign, letter, letters}
 use Rattle.wt_original.specs.Kept.{Kept, kept_with}
 use Rattle.wt_original.specs.Page.{Page, page_of, TellsSame, restored, is_unchanged}
@@ -44,7 +44,7 @@ IsOwnBy inline.AsItStood p pl l ts held = IsFound p (tree l ts)
 
 abbrev mutual
   pub IsOwn : Page → Place → Tree → Type 0
-  IsOwn p pl (tree l ts) = IsOwnBy (shape l.kind).inline p pl l ts (AreOwn p pl ts)
+  IsOwn p pl (tree l ts) = IsOwnBy (edit_shape l.kind).inline p pl l ts (AreOwn p pl ts)
 
   pub AreOwn : Page → Place → Trees → Type 0
   AreOwn p pl none = Unit {0}
@@ -119,7 +119,7 @@ written_by_way inline.AsItStood p pl l ts held tells h f = written_island p (tre
 
 mutual
   written_own : (p : Page) (pl : Place) (t : Tree) → TellsSame p.same → IsOwn p pl t → written (signs_of p pl t) ≡ flat t
-  written_own p pl (tree l ts) tells h = written_by_way (shape l.kind).inline p pl l ts (AreOwn p pl ts) tells h (λ g. written_all p pl ts tells g)
+  written_own p pl (tree l ts) tells h = written_by_way (edit_shape l.kind).inline p pl l ts (AreOwn p pl ts) tells h (λ g. written_all p pl ts tells g)
 
   written_all : (p : Page) (pl : Place) (ts : Trees) → TellsSame p.same → AreOwn p pl ts → written (signs_of_all p pl ts) ≡ flat_of_all ts
   written_all p pl none tells h = refl

@@ -14,8 +14,8 @@ use Rattle.wt_tree.specs.declared.kind.TagName.TheVariants as tag
 use Rattle.wt_tree.specs.declared.kind.AttrName.TheVariants as attr
 use Rattle.wt_tree.specs.declared.kind.Mark.TheVariants as mark
 use Rattle.wt_tree.specs.Tree.{Label, Tree, tree, none, trees}
-use Rattle.wt_guards.specs.declared.side.Place.TheVariants.{Paragraph}
-use Rattle.wt_original.specs.Kinds.{shape}
+use Rattle.wt_tree.specs.declared.edit_shape.Place.TheVariants.{Paragraph}
+use Rattle.wt_tree.specs.EditShapes.{edit_shape}
 use Rattle.wt_original.specs.Kept.{kept_with}
 use Rattle.wt_guards.specs.Table.{hazard, line_start_hazard}
 use Rattle.wt_guards.specs.Letters.{is_escaped, reference}
@@ -71,7 +71,7 @@ changed t u = false
 new_link : inline_spelling same (para (text (codes "a") ∷ []))
     (para (text (codes "see ") ∷ linked (codes "./Oder") (text (codes "the river") ∷ []) ∷ [])) Paragraph
     ≡ codes "see [[Oder|the river]]"
-unfolding inline_spelling chars shape kept_with is_guarded is_between_guard is_start_guard is_end_guard is_blank_guard is_parted
+unfolding inline_spelling chars kept_with is_guarded is_between_guard is_start_guard is_end_guard is_blank_guard is_parted
     hazard line_start_hazard nowiki is_escaped reference digits lib.Utf8.encode read_link read_text is_allowed is_forbidden
     title_in whole_in cut_namespace namespace_named is_called is_good full_name_of prefix_of has_signature is_step
     begins_with_step holds_step ends_with_step is_utf8 percent_decode image
@@ -79,7 +79,7 @@ new_link = refl
 
 -- a link whose text is the full name has no `|`, and with a fragment it shows the fragment
 named_link : inline_spelling same (para []) (para (linked (codes "./A#b") (text (codes "A") ∷ []) ∷ [])) Paragraph ≡ codes "[[A#b]]"
-unfolding inline_spelling chars shape kept_with is_guarded is_between_guard is_start_guard is_end_guard is_blank_guard is_parted
+unfolding inline_spelling chars kept_with is_guarded is_between_guard is_start_guard is_end_guard is_blank_guard is_parted
     hazard line_start_hazard nowiki is_escaped reference digits lib.Utf8.encode read_link read_text is_allowed is_forbidden
     title_in whole_in cut_namespace namespace_named is_called is_good full_name_of prefix_of has_signature is_step
     begins_with_step holds_step ends_with_step is_utf8 percent_decode image
@@ -87,7 +87,7 @@ named_link = refl
 
 -- a category is linked with a colon, and an empty inside is `<nowiki/>`
 category_link : inline_spelling same (para []) (para (linked (codes "./Category:A") [] ∷ [])) Paragraph ≡ codes "[[:Category:A|<nowiki/>]]"
-unfolding inline_spelling chars shape kept_with is_guarded is_between_guard is_start_guard is_end_guard is_blank_guard is_parted
+unfolding inline_spelling chars kept_with is_guarded is_between_guard is_start_guard is_end_guard is_blank_guard is_parted
     hazard line_start_hazard nowiki is_escaped reference digits lib.Utf8.encode read_link read_text is_allowed is_forbidden
     title_in whole_in cut_namespace namespace_named is_called name_of is_good full_name_of prefix_of has_signature is_step
     begins_with_step holds_step ends_with_step is_utf8 percent_decode image
@@ -98,7 +98,7 @@ new_nodes : inline_spelling same (para [])
     (para (tree (record (labelled kind.ExtLink 0 [] [] [] []) { attrs = (attr.Href, codes "http://a.b/") ∷ [] })
     (trees (text (codes "y") ∷ [])) ∷ leaf kind.Br 0 [] ∷ inner kind.Bold 0 [] (text (codes "x") ∷ []) [] ∷ []))
     Paragraph ≡ codes "[http://a.b/ y]<br>'''x'''"
-unfolding inline_spelling chars shape kept_with is_guarded is_between_guard is_start_guard is_end_guard is_blank_guard is_parted
+unfolding inline_spelling chars kept_with is_guarded is_between_guard is_start_guard is_end_guard is_blank_guard is_parted
     hazard line_start_hazard nowiki is_escaped reference digits lib.Utf8.encode break_tag
 new_nodes = refl
 
@@ -106,7 +106,7 @@ new_nodes = refl
 changed_entity : inline_spelling changed (para (text (codes "http:") ∷ entity 2 (codes "&amp;") (codes "&") ∷ []))
     (para (text (codes "http:") ∷ entity 2 [] (codes "//x") ∷ [])) Paragraph
     ≡ codes "http&#58;//x"
-unfolding inline_spelling chars shape kept_with is_guarded is_between_guard is_start_guard is_end_guard is_blank_guard is_parted
+unfolding inline_spelling chars kept_with is_guarded is_between_guard is_start_guard is_end_guard is_blank_guard is_parted
     hazard line_start_hazard nowiki is_escaped reference digits lib.Utf8.encode
 changed_entity = refl
 
@@ -114,14 +114,14 @@ changed_entity = refl
 changed_tag : inline_spelling changed (para (inner (kind.Tag tag.S) 2 (codes "<s >") (text (codes "a") ∷ []) (codes "</S>") ∷ []))
     (para (inner (kind.Tag tag.S) 2 [] (text (codes "b") ∷ []) [] ∷ [])) Paragraph
     ≡ codes "<s >b</S>"
-unfolding inline_spelling chars shape kept_with is_guarded is_between_guard is_start_guard is_end_guard is_blank_guard is_parted
+unfolding inline_spelling chars kept_with is_guarded is_between_guard is_start_guard is_end_guard is_blank_guard is_parted
     hazard line_start_hazard nowiki is_escaped reference digits lib.Utf8.encode
 changed_tag = refl
 
 kept_tag : inline_spelling same (para (inner (kind.Tag tag.S) 2 (codes "<s >") (text (codes "a") ∷ []) (codes "</S>") ∷ []))
     (para (inner (kind.Tag tag.S) 2 [] (text (codes "a") ∷ []) [] ∷ [])) Paragraph
     ≡ codes "<s >a</S>"
-unfolding inline_spelling chars shape kept_with is_guarded is_between_guard is_start_guard is_end_guard is_blank_guard is_parted
+unfolding inline_spelling chars kept_with is_guarded is_between_guard is_start_guard is_end_guard is_blank_guard is_parted
     hazard line_start_hazard nowiki is_escaped reference digits lib.Utf8.encode
 kept_tag = refl
 
@@ -129,7 +129,7 @@ kept_tag = refl
 other_kind : inline_spelling changed (para (group 2 (codes "{{S}}") (text (codes "y") ∷ [])
     ∷ inner kind.Nowiki 3 (codes "<nowiki>") [] (codes "</nowiki>") ∷ []))
     (para (group 2 [] (text (codes "y") ∷ []) ∷ inner kind.Bold 3 [] [] [] ∷ [])) Paragraph ≡ codes "{{S}}<nowiki/>'''<nowiki/>'''"
-unfolding inline_spelling chars shape kept_with is_guarded is_between_guard is_start_guard is_end_guard is_blank_guard is_parted
+unfolding inline_spelling chars kept_with is_guarded is_between_guard is_start_guard is_end_guard is_blank_guard is_parted
     hazard line_start_hazard nowiki is_escaped reference digits lib.Utf8.encode
 other_kind = refl
 
@@ -137,14 +137,14 @@ other_kind = refl
 kept_style : inline_spelling same (para (text (codes "x ") ∷ group 2 (codes "{{S}}") (text (codes "y") ∷ [])
     ∷ inner kind.Bold 3 (codes "'''") (text (codes "b") ∷ []) (codes "'''") ∷ []))
     (para (text (codes "z ") ∷ group 2 [] (text (codes "y") ∷ []) ∷ inner kind.Bold 3 [] (text (codes "c") ∷ []) [] ∷ [])) Paragraph ≡ codes "z {{S}}'''c'''"
-unfolding inline_spelling chars shape kept_with is_guarded is_between_guard is_start_guard is_end_guard is_blank_guard is_parted
+unfolding inline_spelling chars kept_with is_guarded is_between_guard is_start_guard is_end_guard is_blank_guard is_parted
     hazard line_start_hazard nowiki is_escaped reference digits lib.Utf8.encode
 kept_style = refl
 
 -- lines `a` and `{{e}}b`, where `e` gives nothing: ` c` in place of `b`
 after_nothing : inline_spelling same (para (text (codes "a\n") ∷ group 2 (codes "{{e}}") (leaf kind.Empty 0 [] ∷ []) ∷ text (codes "b") ∷ []))
     (para (text (codes "a\n") ∷ group 2 [] [] ∷ text (codes " c") ∷ [])) Paragraph ≡ codes "a\n{{e}}<nowiki/> c"
-unfolding inline_spelling chars shape kept_with is_guarded is_between_guard is_start_guard is_end_guard is_blank_guard is_parted
+unfolding inline_spelling chars kept_with is_guarded is_between_guard is_start_guard is_end_guard is_blank_guard is_parted
     hazard line_start_hazard nowiki is_escaped reference digits lib.Utf8.encode
 after_nothing = refl
 
@@ -153,7 +153,7 @@ url_with_equals : inline_spelling same (para (group 2 (codes "{{q}}") (text (cod
     ∷ inner kind.ExtLink 3 [] (text (codes "http://x=") ∷ []) [] ∷ text (codes " a") ∷ []))
     (para (group 2 [] (text (codes "=") ∷ []) ∷ text (codes " ") ∷ inner kind.ExtLink 3 [] (text (codes "http://x=") ∷ []) []
     ∷ [])) Paragraph ≡ codes "{{q}} http://x=<nowiki/>"
-unfolding inline_spelling chars shape kept_with is_guarded is_between_guard is_start_guard is_end_guard is_blank_guard is_parted
+unfolding inline_spelling chars kept_with is_guarded is_between_guard is_start_guard is_end_guard is_blank_guard is_parted
     hazard line_start_hazard nowiki is_escaped reference digits lib.Utf8.encode
 url_with_equals = refl
 
@@ -161,7 +161,7 @@ url_with_equals = refl
 two_groups : inline_spelling same (para (text (codes "x") ∷ group 2 (codes "{{h}}") (text (codes "http:") ∷ [])
     ∷ group 3 (codes "{{s}}") (text (codes "//y") ∷ []) ∷ []))
     (para (text (codes "a ") ∷ group 2 [] [] ∷ group 3 [] [] ∷ [])) Paragraph ≡ codes "a {{h}}<nowiki/>{{s}}"
-unfolding inline_spelling chars shape kept_with is_guarded is_between_guard is_start_guard is_end_guard is_blank_guard is_parted
+unfolding inline_spelling chars kept_with is_guarded is_between_guard is_start_guard is_end_guard is_blank_guard is_parted
     hazard line_start_hazard nowiki is_escaped reference digits lib.Utf8.encode
 two_groups = refl
 
@@ -169,14 +169,14 @@ two_groups = refl
 two_equals : inline_spelling same (para (text (codes "x") ∷ group 2 (codes "{{q}}") (text (codes "=") ∷ [])
     ∷ group 3 (codes "{{e}}") (leaf kind.Empty 0 [] ∷ []) ∷ group 4 (codes "{{q}}") (text (codes "=") ∷ []) ∷ []))
     (para (text (codes "a ") ∷ group 2 [] [] ∷ group 3 [] [] ∷ group 4 [] [] ∷ [])) Paragraph ≡ codes "a {{q}}{{e}}{{q}}"
-unfolding inline_spelling chars shape kept_with is_guarded is_between_guard is_start_guard is_end_guard is_blank_guard is_parted
+unfolding inline_spelling chars kept_with is_guarded is_between_guard is_start_guard is_end_guard is_blank_guard is_parted
     hazard line_start_hazard nowiki is_escaped reference digits lib.Utf8.encode
 two_equals = refl
 
 -- `{{B}} ` without its space
 group_alone : inline_spelling same (para (group 2 (codes "{{B}}") (text (codes "b") ∷ []) ∷ text (codes " ") ∷ []))
     (para (group 2 [] [] ∷ [])) Paragraph ≡ codes "{{B}}<nowiki/>"
-unfolding inline_spelling chars shape kept_with is_guarded is_between_guard is_start_guard is_end_guard is_blank_guard is_parted
+unfolding inline_spelling chars kept_with is_guarded is_between_guard is_start_guard is_end_guard is_blank_guard is_parted
     hazard line_start_hazard nowiki is_escaped reference digits lib.Utf8.encode
 group_alone = refl
 
@@ -184,7 +184,7 @@ group_alone = refl
 blank_between : inline_spelling same (para (group 2 (codes "{{t}}") (text (9 ∷ []) ∷ []) ∷ text (codes "&")
     ∷ group 3 (codes "{{s}}") (text (codes " ") ∷ []) ∷ []))
     (para (group 2 [] [] ∷ text (codes " ") ∷ group 3 [] [] ∷ [])) Paragraph ≡ codes "{{t}} <nowiki/>{{s}}"
-unfolding inline_spelling chars shape kept_with is_guarded is_between_guard is_start_guard is_end_guard is_blank_guard is_parted
+unfolding inline_spelling chars kept_with is_guarded is_between_guard is_start_guard is_end_guard is_blank_guard is_parted
     hazard line_start_hazard nowiki is_escaped reference digits lib.Utf8.encode
 blank_between = refl
 
@@ -193,7 +193,7 @@ after_apostrophe : inline_spelling same (para (group 2 (codes "{{x}}") (text (co
     ∷ inner kind.Italic 3 (codes "''") (inner kind.Bold 4 (codes "'''") (text (codes "b") ∷ []) (codes "'''") ∷ text (codes " c") ∷ []) (codes "''") ∷ []))
     (para (group 2 [] [] ∷ inner kind.Italic 3 [] (inner kind.Bold 4 [] (text (codes "d") ∷ []) [] ∷ text (codes " c") ∷ []) [] ∷ []))
     Paragraph ≡ codes "{{x}}<nowiki/>''<nowiki/>'''d''' c''"
-unfolding inline_spelling chars shape kept_with is_guarded is_between_guard is_start_guard is_end_guard is_blank_guard is_parted
+unfolding inline_spelling chars kept_with is_guarded is_between_guard is_start_guard is_end_guard is_blank_guard is_parted
     hazard line_start_hazard nowiki is_escaped reference digits lib.Utf8.encode
 after_apostrophe = refl
 
@@ -201,7 +201,7 @@ after_apostrophe = refl
 switch_and_url : inline_spelling same (para (leaf kind.Switch 2 (codes "__TOC__") ∷ text (codes " ")
     ∷ inner kind.ExtLink 3 [] (text (codes "http://x") ∷ []) [] ∷ []))
     (para (leaf kind.Switch 2 [] ∷ inner kind.ExtLink 3 [] (text (codes "http://x") ∷ []) [] ∷ [])) Paragraph ≡ codes "__TOC__<nowiki/>http://x"
-unfolding inline_spelling chars shape kept_with is_guarded is_between_guard is_start_guard is_end_guard is_blank_guard is_parted
+unfolding inline_spelling chars kept_with is_guarded is_between_guard is_start_guard is_end_guard is_blank_guard is_parted
     hazard line_start_hazard nowiki is_escaped reference digits lib.Utf8.encode
 switch_and_url = refl
 
@@ -209,7 +209,7 @@ switch_and_url = refl
 within_link : inline_spelling changed (para (inner kind.WikiLink 2 (codes "[[A|") (group 3 (codes "{{t}}") (text (codes "t") ∷ []) ∷ []) (codes "]]") ∷ []))
     (para (tree (record (labelled kind.WikiLink 2 [] [] [] []) { attrs = (attr.Href, codes "./A") ∷ [] })
     (trees (group 3 [] [] ∷ text (codes "b") ∷ group 3 [] [] ∷ [])) ∷ [])) Paragraph ≡ codes "[[A|{{t}}<nowiki/>b<nowiki/>{{t}}]]"
-unfolding inline_spelling chars shape kept_with is_guarded is_between_guard is_start_guard is_end_guard is_blank_guard is_parted
+unfolding inline_spelling chars kept_with is_guarded is_between_guard is_start_guard is_end_guard is_blank_guard is_parted
     hazard line_start_hazard nowiki is_escaped reference digits lib.Utf8.encode read_link read_text is_allowed is_forbidden
     title_in whole_in cut_namespace namespace_named is_called is_good full_name_of prefix_of has_signature is_step
     begins_with_step holds_step ends_with_step is_utf8 percent_decode image
@@ -218,7 +218,7 @@ within_link = refl
 -- `{{n}}{{s}}x`, where `n` gives a line break last: `s` didn't begin a line, since no line break stands before it in the page
 after_break_shown : inline_spelling same (para (group 2 (codes "{{n}}") (text (codes "a\n") ∷ []) ∷ group 3 (codes "{{s}}") (text (codes "s") ∷ []) ∷ []))
     (para (text (codes "a\n") ∷ group 3 [] [] ∷ [])) Paragraph ≡ codes "a\n<nowiki/>{{s}}"
-unfolding inline_spelling chars shape kept_with is_guarded is_between_guard is_start_guard is_end_guard is_blank_guard is_parted
+unfolding inline_spelling chars kept_with is_guarded is_between_guard is_start_guard is_end_guard is_blank_guard is_parted
     hazard line_start_hazard nowiki is_escaped reference digits lib.Utf8.encode
 after_break_shown = refl
 
@@ -227,7 +227,7 @@ ended_by_comment : inline_spelling same (para (text (codes "a ") ∷ group 2 (co
     ∷ leaf kind.Comment 3 (codes "<!--c-->") ∷ text (codes "\nb") ∷ []))
     (para (text (codes "x ") ∷ group 2 [] [] ∷ text (codes " ") ∷ leaf kind.Comment 3 [] ∷ text (codes "\nb") ∷ [])) Paragraph
     ≡ codes "x {{s}} <!--c-->\nb"
-unfolding inline_spelling chars shape kept_with is_guarded is_between_guard is_start_guard is_end_guard is_blank_guard is_parted
+unfolding inline_spelling chars kept_with is_guarded is_between_guard is_start_guard is_end_guard is_blank_guard is_parted
     hazard line_start_hazard nowiki is_escaped reference digits lib.Utf8.encode
 ended_by_comment = refl
 
@@ -236,14 +236,14 @@ before_comment_line : inline_spelling same (para (inner kind.ExtLink 2 [] (text 
     ∷ leaf kind.Comment 3 (codes "<!--c-->\n") ∷ text (codes "y") ∷ []))
     (para (inner kind.ExtLink 2 [] (text (codes "http://x") ∷ []) [] ∷ leaf kind.Comment 3 [] ∷ text (codes "y") ∷ [])) Paragraph
     ≡ codes "http://x<nowiki/><!--c-->\ny"
-unfolding inline_spelling chars shape kept_with is_guarded is_between_guard is_start_guard is_end_guard is_blank_guard is_parted
+unfolding inline_spelling chars kept_with is_guarded is_between_guard is_start_guard is_end_guard is_blank_guard is_parted
     hazard line_start_hazard nowiki is_escaped reference digits lib.Utf8.encode
 before_comment_line = refl
 
 -- A line break inside a comment ends no line, and texts on both sides of a comment are no one text.
 break_in_comment : inline_spelling same (para (text (codes "a") ∷ leaf kind.Comment 2 (codes "<!--\n-->") ∷ []))
     (para (text (codes "http:") ∷ leaf kind.Comment 2 [] ∷ text (codes "//x*") ∷ [])) Paragraph ≡ codes "http:<!--\n-->//x*"
-unfolding inline_spelling chars shape kept_with is_guarded is_between_guard is_start_guard is_end_guard is_blank_guard is_parted
+unfolding inline_spelling chars kept_with is_guarded is_between_guard is_start_guard is_end_guard is_blank_guard is_parted
     hazard line_start_hazard nowiki is_escaped reference digits lib.Utf8.encode
 break_in_comment = refl
 
@@ -258,33 +258,33 @@ lead : inline_spelling same
     ∷ text (codes ", from ") ∷ group 4 [] [] ∷ text (codes ".") ∷ leaf kind.Island 5 [] ∷ []))
     Paragraph
     ≡ codes "'''Opava''' is a long river. Its name is {{lang|cs|Opava}}, from {{lang|de|Oppa}}.<ref>Atlas</ref>"
-unfolding inline_spelling chars shape kept_with is_guarded is_between_guard is_start_guard is_end_guard is_blank_guard is_parted
+unfolding inline_spelling chars kept_with is_guarded is_between_guard is_start_guard is_end_guard is_blank_guard is_parted
     hazard line_start_hazard nowiki is_escaped reference digits lib.Utf8.encode
 lead = refl
 
 -- ---- new blocks
 
 new_heading : block_spelling same (inner (kind.Heading 2) 0 [] (text (codes "t") ∷ []) []) 42 ≡ codes "== t =="
-unfolding block_spelling chars shape kept_with is_guarded is_between_guard is_start_guard is_end_guard is_blank_guard is_parted
+unfolding block_spelling chars kept_with is_guarded is_between_guard is_start_guard is_end_guard is_blank_guard is_parted
     hazard line_start_hazard nowiki is_escaped reference digits lib.Utf8.encode
 new_heading = refl
 
 empty_heading : block_spelling same (inner (kind.Heading 3) 0 [] [] []) 42 ≡ codes "=== <nowiki/> ==="
-unfolding block_spelling chars shape kept_with is_guarded is_between_guard is_start_guard is_end_guard is_blank_guard is_parted
+unfolding block_spelling chars kept_with is_guarded is_between_guard is_start_guard is_end_guard is_blank_guard is_parted
     hazard line_start_hazard nowiki is_escaped reference digits lib.Utf8.encode
 empty_heading = refl
 
 new_item : block_spelling same (inner kind.Li 0 [] (text (codes "y") ∷ []) []) 35 ≡ codes "# y"
-unfolding block_spelling chars shape kept_with is_guarded is_between_guard is_start_guard is_end_guard is_blank_guard is_parted
+unfolding block_spelling chars kept_with is_guarded is_between_guard is_start_guard is_end_guard is_blank_guard is_parted
     hazard line_start_hazard nowiki is_escaped reference digits lib.Utf8.encode
 new_item = refl
 
 new_paragraph : block_spelling same (inner kind.Para 0 [] (text (codes "b") ∷ []) []) 42 ≡ codes "b"
-unfolding block_spelling chars shape kept_with is_guarded is_between_guard is_start_guard is_end_guard is_blank_guard is_parted
+unfolding block_spelling chars kept_with is_guarded is_between_guard is_start_guard is_end_guard is_blank_guard is_parted
     hazard line_start_hazard nowiki is_escaped reference digits lib.Utf8.encode
 new_paragraph = refl
 
 new_rule : block_spelling same (leaf kind.Rule 0 []) 42 ≡ codes "----"
-unfolding block_spelling chars shape kept_with is_guarded is_between_guard is_start_guard is_end_guard is_blank_guard is_parted
+unfolding block_spelling chars kept_with is_guarded is_between_guard is_start_guard is_end_guard is_blank_guard is_parted
     hazard line_start_hazard nowiki is_escaped reference digits lib.Utf8.encode
 new_rule = refl

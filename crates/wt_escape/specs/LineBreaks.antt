@@ -8,9 +8,9 @@ use Rattle.wt_names.specs.Written.{read_link}
 use Rattle.wt_tree.specs.Tree.{Label, Tree, tree, Trees, none, more, label}
 use Rattle.wt_tree.specs.Source.{flat}
 use Rattle.wt_guards.specs.WrittenLaws.{breaks}
-use Rattle.wt_original.specs.declared.kinds.InlineForm.{InlineForm}
-use Rattle.wt_original.specs.declared.kinds.InlineForm.TheVariants as inline
-use Rattle.wt_original.specs.Kinds.{shape}
+use Rattle.wt_tree.specs.declared.edit_shape.InlineForm.{InlineForm}
+use Rattle.wt_tree.specs.declared.edit_shape.InlineForm.TheVariants as inline
+use Rattle.wt_tree.specs.EditShapes.{edit_shape}
 use Rattle.wt_original.specs.Kept.{Kept, kept_with, shown}
 use Rattle.wt_original.specs.Page.{Page, is_unchanged}
 use Rattle.wt_escape.specs.Spelling.{is_text, only_text, href_of}
@@ -53,7 +53,7 @@ breaks_by inline.AsItStood p k l ts held = breaks_as_it_stood k
 
 abbrev mutual
   pub breaks_in : Page → Tree → ℕ
-  breaks_in p (tree l ts) = breaks_by (shape l.kind).inline p (kept_with l.id p.kept) l ts (breaks_in_all p ts)
+  breaks_in p (tree l ts) = breaks_by (edit_shape l.kind).inline p (kept_with l.id p.kept) l ts (breaks_in_all p ts)
 
   pub breaks_in_all : Page → Trees → ℕ
   breaks_in_all p none = 0
@@ -74,7 +74,7 @@ IsTextBy inline.AsItStood l ts = Unit {0}
 
 abbrev mutual
   pub HasTexts : Tree → Type 0
-  HasTexts (tree l ts) = IsTextBy (shape l.kind).inline l ts × HaveTexts ts
+  HasTexts (tree l ts) = IsTextBy (edit_shape l.kind).inline l ts × HaveTexts ts
 
   pub HaveTexts : Trees → Type 0
   HaveTexts none = Unit {0}

@@ -6,13 +6,13 @@ use Rattle.wt_tree.specs.Tree.{Label, Tree, tree, Trees, none, more, label}
 use Rattle.wt_tree.specs.Kinds.{is_leaf}
 use Rattle.wt_tree.specs.Source.{flat}
 use Rattle.wt_tree.specs.Tiling.{is_group}
-use Rattle.wt_guards.specs.declared.side.Place.{Place}
+use Rattle.wt_tree.specs.declared.edit_shape.Place.{Place}
 use Rattle.wt_guards.specs.Content.{ContentSign}
 use Rattle.wt_guards.specs.Guards.{Setting}
 use Rattle.wt_guards.specs.WrittenLaws.{IsQuiet}
-use Rattle.wt_original.specs.declared.kinds.InlineForm.{InlineForm}
-use Rattle.wt_original.specs.declared.kinds.InlineForm.TheVariants as inline
-use Rattle.wt_original.specs.Kinds.{shape}
+use Rattle.wt_tree.specs.declared.edit_shape.InlineForm.{InlineForm}
+use Rattle.wt_tree.specs.declared.edit_shape.InlineForm.TheVariants as inline
+use Rattle.wt_tree.specs.EditShapes.{edit_shape}
 use Rattle.wt_original.specs.Kept.{kept_nodes}
 use Rattle.wt_original.specs.Numbers.{counts_up}
 use Rattle.wt_original.specs.Page.{Page, page_of}
@@ -45,7 +45,7 @@ IsPlainBy inline.AsItStood p pl l ts held = l.id ≢ 0
 
 abbrev mutual
   pub IsPlain : Page → Place → Tree → Type 0
-  IsPlain p pl (tree l ts) = IsPlainBy (shape l.kind).inline p pl l ts (ArePlain p pl ts)
+  IsPlain p pl (tree l ts) = IsPlainBy (edit_shape l.kind).inline p pl l ts (ArePlain p pl ts)
 
   pub ArePlain : Page → Place → Trees → Type 0
   ArePlain p pl none = Unit {0}

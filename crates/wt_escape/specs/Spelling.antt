@@ -13,16 +13,16 @@ use Rattle.wt_tree.specs.declared.kind.AttrName.TheVariants as attr
 use Rattle.wt_tree.specs.Kinds.{order}
 use Rattle.wt_tree.specs.Tree.{Label, Tree, tree, Trees, none, more, label}
 use Rattle.wt_tree.specs.Source.{flat}
-use Rattle.wt_original.specs.declared.kinds.InlineForm.{InlineForm}
-use Rattle.wt_original.specs.declared.kinds.InlineForm.TheVariants as inline
-use Rattle.wt_original.specs.declared.kinds.BlockForm.{BlockForm}
-use Rattle.wt_original.specs.declared.kinds.BlockForm.TheVariants as form
+use Rattle.wt_tree.specs.declared.edit_shape.InlineForm.{InlineForm}
+use Rattle.wt_tree.specs.declared.edit_shape.InlineForm.TheVariants as inline
+use Rattle.wt_tree.specs.declared.edit_shape.BlockForm.{BlockForm}
+use Rattle.wt_tree.specs.declared.edit_shape.BlockForm.TheVariants as form
 use Rattle.wt_guards.specs.declared.role.Role.{Role}
 use Rattle.wt_guards.specs.declared.role.Role.TheVariants as role
 use Rattle.wt_guards.specs.declared.role.Stretch.{Stretch}
-use Rattle.wt_guards.specs.declared.side.Place.{Place}
-use Rattle.wt_guards.specs.declared.side.Place.TheVariants as place
-use Rattle.wt_original.specs.Kinds.{shape}
+use Rattle.wt_tree.specs.declared.edit_shape.Place.{Place}
+use Rattle.wt_tree.specs.declared.edit_shape.Place.TheVariants as place
+use Rattle.wt_tree.specs.EditShapes.{edit_shape}
 use Rattle.wt_guards.specs.Content.{ContentSign, thing, letters}
 use Rattle.wt_guards.specs.Guards.{nowiki, spelled}
 use Rattle.wt_original.specs.Kept.{Kept, kept_with, shown}
@@ -72,11 +72,11 @@ stretch start end = if start == end then None else Some (record { start = start;
 -- where the delimiters of a style are in the page, if they aren't empty
 abbrev pub opening_place : Option Kept → Option Stretch
 opening_place None = None
-opening_place (Some k) = if is_style (shape (label k.node).kind).inline then stretch k.place.start (k.place.start + length (label k.node).opening) else None
+opening_place (Some k) = if is_style (edit_shape (label k.node).kind).inline then stretch k.place.start (k.place.start + length (label k.node).opening) else None
 
 abbrev pub closing_place : Option Kept → Option Stretch
 closing_place None = None
-closing_place (Some k) = if is_style (shape (label k.node).kind).inline then stretch (k.place.end - length (label k.node).closing) k.place.end else None
+closing_place (Some k) = if is_style (edit_shape (label k.node).kind).inline then stretch (k.place.end - length (label k.node).closing) k.place.end else None
 
 abbrev pub toggle : List ℕ → Option Stretch → ContentSign
 toggle sign at = thing (record { role = role.Toggle; source = sign; place = at })
@@ -118,7 +118,7 @@ text_by inline.AsItStood shown = None
 -- the children are one text
 abbrev pub only_text : Trees → Option (List ℕ)
 only_text none = None
-only_text (more t none) = text_by (shape (label t).kind).inline (label t).shown
+only_text (more t none) = text_by (edit_shape (label t).kind).inline (label t).shown
 only_text (more t (more u us)) = None
 
 abbrev pub is_text : Option (List ℕ) → List ℕ → Bool
@@ -189,7 +189,7 @@ signs_by inline.AsItStood p pl k l ts inside = as_it_stood k
 
 abbrev mutual
   pub signs_of : Page → Place → Tree → List ContentSign
-  signs_of p pl (tree l ts) = signs_by (shape l.kind).inline p pl (kept_with l.id p.kept) l ts (signs_of_all p pl ts)
+  signs_of p pl (tree l ts) = signs_by (edit_shape l.kind).inline p pl (kept_with l.id p.kept) l ts (signs_of_all p pl ts)
 
   pub signs_of_all : Page → Place → Trees → List ContentSign
   signs_of_all p pl none = []
@@ -227,7 +227,7 @@ framed form.Item sign inside = encode_utf8 sign ++ (byte.space ∷ inside)
 framed form.NoBlock sign inside = inside
 
 abbrev pub form_of : Tree → BlockForm
-form_of t = (shape (label t).kind).form
+form_of t = (edit_shape (label t).kind).form
 
 -- a new block: a paragraph, a heading, a rule or an item of a list with this sign
 unfoldable pub block_spelling : (Tree → Tree → Bool) → Tree → ℕ → List ℕ

@@ -1,7 +1,7 @@
 //! Laws of the spelling, which do nothing when they are called.
 
 ghost use Rattle.std.specs.Prelude.{◌≡◌, Bool};
-ghost use Rattle.wt_guards.specs.declared.side.Place.{Place};
+ghost use Rattle.wt_tree.specs.declared.edit_shape.Place.{Place};
 ghost use Rattle.wt_original.specs.Page.{TellsSame, page_of};
 ghost use Rattle.wt_escape.specs.Spelling.{children_of, inline_spelling};
 ghost use Rattle.wt_escape.specs.LineBreaks.{breaks_in_all, HaveTexts};

@@ -6,16 +6,16 @@ ghost use Rattle.wt_names.specs.Written.{read_link};
 ghost use Rattle.wt_tree.specs.View.{texts_of, views, attrs_of, label_of};
 ghost use Rattle.wt_tree.specs.declared.node.Node.{out-Node};
 ghost use Rattle.wt_tree.specs.declared.kind.AttrName.TheVariants as attr;
-ghost use Rattle.wt_original.specs.Kinds.{shape};
+ghost use Rattle.wt_tree.specs.EditShapes.{edit_shape};
 ghost use Rattle.wt_original.specs.Gathered.{kept_view};
 ghost use Rattle.wt_escape.specs.Spelling.{value_of, href_of, text_by, only_text, is_text, colon, link_text, nowiki_or, page_link, after_space, external_link, tag_pair};
 
 use std::alloc::{AllocError, Global};
 use wt_guards::push_nowiki;
 use wt_names::{Ns, Title, full_name, title_of_href};
-use wt_original::{InlineForm, Kept, shape};
+use wt_original::Kept;
 use wt_span::{NoMemory, Str, Text};
-use wt_tree::{Attr, AttrName, Node};
+use wt_tree::{Attr, AttrName, InlineForm, Node};
 
 fn value_of(attrs: &[Attr]) -> &str
     ensures { result.now ≡ value_of attr.Href (attrs_of attrs.now) }
@@ -36,9 +36,9 @@ pub fn href_of<'n>(node: &'n Node<'_>) -> &'n str
 }
 
 fn text_by<'n>(node: &'n Node<'_>) -> Option<&'n str>
-    ensures { option_map (λ s. s.now) result ≡ text_by (shape (label_of (out-Node node.now)).kind).inline (label_of (out-Node node.now)).shown }
+    ensures { option_map (λ s. s.now) result ≡ text_by (edit_shape (label_of (out-Node node.now)).kind).inline (label_of (out-Node node.now)).shown }
 {
-    match shape(node.kind).inline {
+    match node.kind.edit_shape().inline {
         InlineForm::Characters => Some(node.shown()),
         InlineForm::Nothing
         | InlineForm::Bold

@@ -6,14 +6,14 @@ ghost use Rattle.wt_tree.specs.View.{view};
 ghost use Rattle.wt_original.specs.Page.{TellsSame};
 ghost use Rattle.wt_escape.specs.Spelling.{content, inline_spelling, equals, place_in, framed, form_of, block_spelling};
 ghost use Rattle.wt_original.specs.PageViews.{page_view};
-ghost use Rattle.wt_original.specs.declared.kinds.BlockForm.TheVariants as form;
+ghost use Rattle.wt_tree.specs.declared.edit_shape.BlockForm.TheVariants as form;
 
 use crate::units::units_of;
 use std::alloc::{AllocError, Global};
-use wt_guards::{Place, Setting, spelling_of};
-use wt_original::{BlockForm, Page, no_page, page_of_block, shape};
+use wt_guards::{Setting, spelling_of};
+use wt_original::{Page, no_page, page_of_block};
 use wt_span::{NoMemory, Str};
-use wt_tree::Node;
+use wt_tree::{BlockForm, Node, Place};
 
 fn content(
     alloc: Global,
@@ -119,7 +119,7 @@ pub fn spell_block(alloc: Global, new: &Node<'_>, sign: char) -> Result<Str, NoM
     ensures { (same : Tree → Tree → Bool) → TellsSame same → IfOk result (λ s. s ≡ block_spelling same (view new.now) sign) }
 {
     let page = no_page(alloc);
-    let form = shape(new.kind).form;
+    let form = new.kind.edit_shape().form;
     let inside = content(alloc, &page, new, place_in(form))?;
     let mut out = String::new(alloc);
     push_framed(&mut out, form, sign, inside.as_str())?;

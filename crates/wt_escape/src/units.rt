@@ -8,7 +8,7 @@ ghost use Rattle.wt_tree.specs.declared.node.Node.{out-Node};
 ghost use Rattle.wt_guards.specs.Content.{thing, letters};
 ghost use Rattle.wt_guards.specs.Guards.{nowiki};
 ghost use Rattle.wt_original.specs.Kept.{shown};
-ghost use Rattle.wt_original.specs.Kinds.{shape};
+ghost use Rattle.wt_tree.specs.EditShapes.{edit_shape};
 ghost use Rattle.wt_original.specs.Gathered.{kept_view};
 ghost use Rattle.wt_original.specs.Page.{TellsSame};
 ghost use Rattle.wt_escape.specs.Spelling.{place_of, kept_thing, new_thing, as_it_stood, unless_kept, is_style, stretch, opening_place, closing_place, toggle, or_nowiki, style, spelled_within, break_tag, href_of, page_link, external_link, tag_pair, signs_of, signs_of_all};
@@ -20,10 +20,10 @@ ghost use Rattle.wt_guards.specs.declared.role.Role.TheVariants as role;
 
 use crate::links::{external_link, page_link, tag_pair};
 use std::alloc::{AllocError, Global};
-use wt_guards::{Place, Role, Setting, Signs, Stretch, Thing, Unit, spelling_of};
-use wt_original::{InlineForm, Kept, Page, is_unchanged, shape, shown_text, text_len};
+use wt_guards::{Role, Setting, Signs, Stretch, Thing, Unit, spelling_of};
+use wt_original::{Kept, Page, is_unchanged, shown_text, text_len};
 use wt_span::{NoMemory, Str};
-use wt_tree::{Node, flat};
+use wt_tree::{InlineForm, Node, Place, flat};
 
 // ---- one unit
 
@@ -194,7 +194,7 @@ fn opening_place(alloc: Global, kept: Option<Kept<'_, '_>>) -> Result<Option<Str
     let Some(kept) = kept else {
         return Ok(None);
     };
-    if !is_style(shape(kept.node.kind).inline) {
+    if !is_style(kept.node.kind.edit_shape().inline) {
         return Ok(None);
     }
     let length = text_len(alloc, kept.node.opening())?;
@@ -211,7 +211,7 @@ fn closing_place(alloc: Global, kept: Option<Kept<'_, '_>>) -> Result<Option<Str
     let Some(kept) = kept else {
         return Ok(None);
     };
-    if !is_style(shape(kept.node.kind).inline) {
+    if !is_style(kept.node.kind.edit_shape().inline) {
         return Ok(None);
     }
     let length = text_len(alloc, kept.node.closing())?;
@@ -304,7 +304,7 @@ fn push_signs<'t>(
         → OnOk result (all_signs out.new.items ≡ all_signs out.old.items ++ signs_of (page_view same page.now) place (view node.now)) }
 {
     let kept = page.find(node.id);
-    match shape(node.kind).inline {
+    match node.kind.edit_shape().inline {
         InlineForm::Nothing => Ok(()),
         InlineForm::Characters => {
             push_text(out, node.shown())?;

@@ -1,5 +1,6 @@
 pub mod EqualParts
 pub mod Naming
+pub mod ShortCalls
 pub mod ChoiceLaws
 pub mod WholeLists
 mod Cases

@@ -52,7 +52,7 @@ fn named(bytes: &[u8]) -> Option<Function>
 
 /// The same of a target's bytes.
 #[tactic(auto, unfolding(wt_span::specs::Functions::function_of))]
-pub fn function_in(target: &[u8]) -> Option<(Function, u32)>
+fn function_in(target: &[u8]) -> Option<(Function, u32)>
     requires { length target.now < 2 ^ 32 }
     ensures { result ≡ function_of target.now }
 {
@@ -61,7 +61,20 @@ pub fn function_in(target: &[u8]) -> Option<(Function, u32)>
     Some((function, (space + function.word().len()) as u32))
 }
 
-/// The function that a call's target names, and the place of the byte after its colon, in bytes from
+/// The function by text that a call of two braces is, by its source, and the place of its part 0 after
+/// the braces.
+#[tactic(auto, using(crate::proofs::ShortCalls::short_names_none))]
+pub fn function_named(source: &[u8]) -> Option<(Function, u32)>
+    requires { length source.now < 2 ^ 32 }
+    ensures { result ≡ function_of (drop 2 source.now) }
+{
+    if source.len() < 2 {
+        return None;
+    }
+    function_in(rest_of(source, 2))
+}
+
+/// The function that a call's target names, and the place of the byte behind its colon, in bytes from
 /// the target's start: there part 0 begins. `None` where no function is named; such a call is an
 /// ordinary one, or, where the target begins with `#`, kept as it is.
 pub fn function_of(target: &str) -> Option<(Function, u32)>

@@ -9,7 +9,7 @@ mod function;
 mod laws;
 
 pub use chooser::{Ask, Chooser};
-pub use function::{function_in, function_of};
+pub use function::{function_named, function_of};
 pub use laws::{
     asks_along, given_for_good, named_by_its_word, nothing_behind_equal, parts_in_order,
 };

@@ -2,7 +2,7 @@
 use Rattle.std.proofs.Common.{◌≡◌, ℕ, Bool, true, false, refl, sym, ◌∙◌, subst, inl, inr, ◌⊎◌, List}
 use Rattle.std.specs.Prelude.{not, ◌||◌, ◌&&◌, ◌==◌, if◌then◌else◌}
 use Rattle.std.proofs.lemmas.Bool.Decides.{Decides-eqb}
-use Rattle.wt_guards.specs.declared.side.Place.{Place}
+use Rattle.wt_tree.specs.declared.edit_shape.Place.{Place}
 use Rattle.wt_guards.specs.Content.{ContentSign, nearest}
 use Rattle.wt_guards.specs.Letters.{is_bracket, is_escaped, opens_tag, opens_entity, is_next, is_apostrophe_or_end, are_slashes, is_blank_to_end, is_term, is_header, is_indented}
 

@@ -5,8 +5,8 @@ use Rattle.std.specs.Fmt.{digits}
 use Rattle.wt_guards.specs.declared.role.Role.{Role}
 use Rattle.wt_guards.specs.declared.role.Role.TheVariants as role
 use Rattle.wt_guards.specs.declared.role.Transclusion.{Transclusion}
-use Rattle.wt_guards.specs.declared.side.Place.{Place}
-use Rattle.wt_guards.specs.declared.side.Place.TheVariants.{Paragraph, Heading, Item, Term, Header}
+use Rattle.wt_tree.specs.declared.edit_shape.Place.{Place}
+use Rattle.wt_tree.specs.declared.edit_shape.Place.TheVariants.{Paragraph, Heading, Item, Term, Header}
 use Rattle.wt_guards.specs.declared.side.Side.TheVariants as side
 use Rattle.wt_guards.specs.Table.{hazard, line_start_hazard}
 use Rattle.wt_guards.specs.Content.{ContentSign, letter, thing}

@@ -3,7 +3,7 @@ use Rattle.std.proofs.Common.{◌≡◌, ℕ, Bool, true, false, refl, sym, ap, 
 use Rattle.std.specs.Prelude.{encode_utf8}
 use Rattle.std.specs.List.{flat_map}
 use Rattle.std.specs.Str.{chars}
-use Rattle.wt_guards.specs.declared.side.Place.{Place}
+use Rattle.wt_tree.specs.declared.edit_shape.Place.{Place}
 use Rattle.wt_guards.specs.Content.{ContentSign, letter, thing, letters}
 use Rattle.wt_guards.specs.Letters.{is_bracket, is_escaped, reference, written_by, written}
 use Rattle.wt_guards.specs.Guards.{Setting, nowiki, nowiki_if, is_guarded, sign_written, spelled_from, spelled}

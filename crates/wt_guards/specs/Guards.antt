@@ -8,8 +8,8 @@ use Rattle.wt_guards.specs.declared.role.Role.{Role}
 use Rattle.wt_guards.specs.declared.role.Role.TheVariants.{Link, External, Bare, Switch, Toggle, Mark, Group, Function, Node}
 use Rattle.wt_guards.specs.declared.role.Stretch.{Stretch}
 use Rattle.wt_guards.specs.declared.role.Transclusion.{Transclusion}
-use Rattle.wt_guards.specs.declared.side.Place.{Place}
-use Rattle.wt_guards.specs.declared.side.Place.TheVariants as place
+use Rattle.wt_tree.specs.declared.edit_shape.Place.{Place}
+use Rattle.wt_tree.specs.declared.edit_shape.Place.TheVariants as place
 use Rattle.wt_guards.specs.declared.side.Side.{Side}
 use Rattle.wt_guards.specs.declared.side.Side.TheVariants as side
 use Rattle.wt_guards.specs.Table.{hazard, line_start_hazard}

@@ -3,8 +3,8 @@ use Rattle.std.specs.Prelude.{ℕ, Bool, true, false, not, ◌||◌, ◌&&◌, �
 use Rattle.std.specs.Char.{is_ascii_alphabetic}
 use Rattle.wt_span.specs.Bytes.{is_blank}
 use Rattle.wt_span.specs.Characters as byte
-use Rattle.wt_guards.specs.declared.side.Place.{Place}
-use Rattle.wt_guards.specs.declared.side.Place.TheVariants.{Paragraph, Heading, Item, Term, Cell, Header}
+use Rattle.wt_tree.specs.declared.edit_shape.Place.{Place}
+use Rattle.wt_tree.specs.declared.edit_shape.Place.TheVariants.{Paragraph, Heading, Item, Term, Cell, Header}
 use Rattle.wt_guards.specs.Content.{ContentSign, letter, thing, nearest, ends_line, is_invisible, shows_blanks}
 
 -- `[` `]` `{` `}` `|` `>`: written otherwise wherever they are

@@ -11,8 +11,9 @@ use crate::ahead::{
 };
 use crate::behind::{Behind, end_of};
 use crate::role::Stretch;
-use crate::side::{Place, Side, hazard};
+use crate::side::{Side, hazard};
 use crate::signs::{ContentSign, Signs, Thing};
+use wt_tree::Place;
 
 /// What the spelling of a content depends on: whether it is the inside of a link or tag, where no
 /// line begins or ends; what it is in; and the source of its block in the page.

@@ -7,9 +7,9 @@ ghost use Rattle.wt_guards.specs.Views.{signs_left, IsBehind};
 
 use crate::ahead::{is_apostrophe_or_end, is_next, opens_entity, opens_tag};
 use crate::behind::Behind;
-use crate::side::Place;
 use crate::signs::Signs;
 use std::alloc::AllocError;
+use wt_tree::Place;
 
 /// Written otherwise wherever they are.
 fn is_bracket(c: char) -> bool

@@ -20,5 +20,5 @@ pub use content::{push_nowiki, spelling_of};
 pub use guards::Setting;
 pub use laws::{line_breaks_stay, quiet_content_stays, text_is_harmless};
 pub use role::{Role, Stretch, Transclusion};
-pub use side::{Place, Side, hazard, line_start_hazard};
+pub use side::{Side, hazard, line_start_hazard};
 pub use signs::{Signs, Thing, Unit};

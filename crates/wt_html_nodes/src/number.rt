@@ -25,7 +25,8 @@ fn decimal(digits: &[u8]) -> Option<u32>
     Some(number)
 }
 
-fn decimal_of(digits: &[u8]) -> Option<u32>
+/// The number that these decimal digits are, where the first isn't 0 and it is below 2^32.
+pub fn decimal_of(digits: &[u8]) -> Option<u32>
     ensures { result ≡ decimal_of digits.now }
 {
     match digits {

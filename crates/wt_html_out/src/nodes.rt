@@ -2,7 +2,6 @@ ghost use Rattle.std.specs.Prelude.{◌≡◌, ◌<◌, ◌≤◌, ◌++◌, ◌
 ghost use Rattle.wt_html_out.specs.declared.refusal.LengthRefusal.TheVariants.{TooLong};
 ghost use Rattle.wt_markup.specs.Escapes.{escaped};
 ghost use Rattle.wt_markup.specs.Html.{html, html_of_all, groups, groups_of_all, frame_start, frame_end, html_text};
-ghost use Rattle.wt_tree.specs.Tiling.{is_group};
 ghost use Rattle.wt_tree.specs.View.{texts_of, view, views};
 
 use crate::bytes::push_escaped;
@@ -12,7 +11,7 @@ use crate::tags::{push_end, push_section_start, push_start, push_void};
 use std::alloc::Global;
 use wt_devices::push;
 use wt_span::{List, NoMemory, Text};
-use wt_tree::{Annotated, Kind, Node, Writing};
+use wt_tree::{Annotated, Node, Writing};
 
 fn push_source(out: &mut Vec<u8>, texts: &[Text<'_>]) -> Result<(), NoMemory>
     ensures { OnOk result (out.new.items ≡ out.old.items ++ escaped (texts_of texts.now)) }
@@ -23,13 +22,7 @@ fn push_source(out: &mut Vec<u8>, texts: &[Text<'_>]) -> Result<(), NoMemory>
     Ok(())
 }
 
-pub fn is_group(kind: Kind) -> bool
-    ensures { result ≡ is_group kind }
-{
-    matches!(kind, Kind::Group)
-}
-
-/// The number of a group after so many others. More groups than there are numbers don't fit into
+/// The number of a group behind so many others. More groups than there are numbers don't fit into
 /// memory.
 pub fn next_group(before: u32) -> Result<u32, NoMemory>
     ensures { IfOk result (λ n. n ≡ suc before) }
@@ -65,7 +58,7 @@ fn push_html(
     ensures groups { IfOk result (λ n. n ≡ before + groups (view node.now)) }
     ensures too_long { result ≡ Err TooLong → most < length (out.old.items ++ html before (view node.now)) }
 {
-    if is_group(node.kind) {
+    if node.kind.is_group() {
         let number = next_group(before)?;
         push_group(alloc, out, number, node)?;
         return Ok(number);

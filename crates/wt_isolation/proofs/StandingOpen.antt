@@ -5,9 +5,9 @@ use Rattle.std.specs.Prelude.{◌||◌, ◌&&◌, if◌then◌else◌, reverse}
 use Rattle.std.specs.List.{list_all}
 use Rattle.std.proofs.lemmas.List.{reverse-append}
 use Rattle.wt_tree.specs.Tree.{Tree, tree, Trees, none, more, Label, label, listed, trees}
-use Rattle.wt_original.specs.declared.kinds.InlineForm.{InlineForm}
-use Rattle.wt_original.specs.declared.kinds.InlineForm.TheVariants as inline
-use Rattle.wt_original.specs.Kinds.{shape}
+use Rattle.wt_tree.specs.declared.edit_shape.InlineForm.{InlineForm}
+use Rattle.wt_tree.specs.declared.edit_shape.InlineForm.TheVariants as inline
+use Rattle.wt_tree.specs.EditShapes.{edit_shape}
 use Rattle.wt_isolation.specs.OpenTexts.{begins_bracket, begins_open, ended_by, ends_with_bracket, has_open_text, holds_open, in_style}
 use Rattle.wt_isolation.specs.OpenTexts.{is_open_before, is_text, open_text_at}
 use Rattle.wt_isolation.specs.TangledLaws.{AreTexts, HasOpenStyle, HasOpenText, IsOpenStyle, StandsOpen, first_way, is_text_node, shown_in}
@@ -94,7 +94,7 @@ open_behind inline.AsItStood before text e = holds_behind before text e
 -- ---- one node
 
 abbrev way_of : Label → InlineForm
-way_of l = (shape l.kind).inline
+way_of l = (edit_shape l.kind).inline
 
 abbrev inside : Trees → Bool
 inside ts = has_open_text [] ts

@@ -7,9 +7,9 @@ use Rattle.wt_span.specs.Characters as byte
 use Rattle.wt_tree.specs.declared.kind.Ranges.{Ranges}
 use Rattle.wt_tree.specs.Source.{flat}
 use Rattle.wt_tree.specs.Tree.{Tree, tree, Trees, none, more}
-use Rattle.wt_original.specs.declared.kinds.InlineForm.{InlineForm}
-use Rattle.wt_original.specs.declared.kinds.InlineForm.TheVariants as inline
-use Rattle.wt_original.specs.Kinds.{shape}
+use Rattle.wt_tree.specs.declared.edit_shape.InlineForm.{InlineForm}
+use Rattle.wt_tree.specs.declared.edit_shape.InlineForm.TheVariants as inline
+use Rattle.wt_tree.specs.EditShapes.{edit_shape}
 
 abbrev pub is_stop : ℕ → Bool
 is_stop b = b == byte.less_than || (b == byte.greater_than || b == byte.line_break)
@@ -50,7 +50,7 @@ open_by inline.AsItStood source inside = ends_open source
 
 abbrev mutual
   pub node_ends_open : Tree → Bool
-  node_ends_open (tree l ts) = open_by (shape l.kind).inline (flat (tree l ts)) (any_ends_open ts)
+  node_ends_open (tree l ts) = open_by (edit_shape l.kind).inline (flat (tree l ts)) (any_ends_open ts)
 
   pub any_ends_open : Trees → Bool
   any_ends_open none = false

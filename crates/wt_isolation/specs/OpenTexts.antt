@@ -4,9 +4,9 @@ use Rattle.wt_span.specs.Characters as byte
 use Rattle.wt_tree.specs.Tree.{Tree, tree, Trees, none, more}
 use Rattle.wt_tiles.specs.Glyphs.{byte_glyphs}
 use Rattle.wt_tiles.specs.Urls.{scheme_len}
-use Rattle.wt_original.specs.declared.kinds.InlineForm.{InlineForm}
-use Rattle.wt_original.specs.declared.kinds.InlineForm.TheVariants as inline
-use Rattle.wt_original.specs.Kinds.{shape}
+use Rattle.wt_tree.specs.declared.edit_shape.InlineForm.{InlineForm}
+use Rattle.wt_tree.specs.declared.edit_shape.InlineForm.TheVariants as inline
+use Rattle.wt_tree.specs.EditShapes.{edit_shape}
 
 abbrev pub begins_bracket : List ℕ → Bool
 begins_bracket [] = false
@@ -74,7 +74,7 @@ open_text_by w text shown inside rest = if is_text w then rest (text ++ shown) e
 -- a text directly among these nodes, or in their bold and italic nodes, where a text comes before them
 abbrev mutual
   pub open_text_at : List ℕ → Tree → (List ℕ → Bool) → Bool
-  open_text_at text (tree l ts) rest = open_text_by (shape l.kind).inline text l.shown (has_open_text [] ts) rest
+  open_text_at text (tree l ts) rest = open_text_by (edit_shape l.kind).inline text l.shown (has_open_text [] ts) rest
 
   pub has_open_text : List ℕ → Trees → Bool
   has_open_text text none = holds_open text

@@ -7,9 +7,9 @@ use Rattle.wt_tree.specs.declared.kind.Ranges.{Ranges}
 use Rattle.wt_tiles.specs.declared.glyph.Glyph.{Glyph}
 use Rattle.wt_tiles.specs.declared.glyph.Glyph.TheVariants as glyph
 use Rattle.wt_tree.specs.Tree.{Tree, tree, Trees, none, more, label, listed}
-use Rattle.wt_original.specs.declared.kinds.InlineForm.{InlineForm}
-use Rattle.wt_original.specs.declared.kinds.InlineForm.TheVariants as inline
-use Rattle.wt_original.specs.Kinds.{shape}
+use Rattle.wt_tree.specs.declared.edit_shape.InlineForm.{InlineForm}
+use Rattle.wt_tree.specs.declared.edit_shape.InlineForm.TheVariants as inline
+use Rattle.wt_tree.specs.EditShapes.{edit_shape}
 use Rattle.wt_isolation.specs.OpenTexts.{begins_open, in_style, is_open_before, is_text}
 use Rattle.wt_isolation.specs.Toggles.{is_break_glyph, is_quote}
 
@@ -24,7 +24,7 @@ HoldsOpen text = (before : List ℕ) × (after : List ℕ) × (text ≡ before +
 -- ---- texts
 
 abbrev pub is_text_node : Tree → Bool
-is_text_node t = is_text (shape (label t).kind).inline
+is_text_node t = is_text (edit_shape (label t).kind).inline
 
 abbrev pub AreTexts : List Tree → Type 0
 AreTexts ts = list_all is_text_node ts ≡ true
@@ -35,7 +35,7 @@ shown_in ts = flat_map (λ t. (label t).shown) ts
 -- the inline form of what is first
 abbrev pub first_way : List Tree → InlineForm
 first_way [] = inline.Nothing
-first_way (t ∷ ts) = (shape (label t).kind).inline
+first_way (t ∷ ts) = (edit_shape (label t).kind).inline
 
 -- Among the nodes are texts, one directly after the other, after which no text follows, and what they show together could go on
 -- before what follows.
@@ -47,7 +47,7 @@ StandsOpen ts =
 -- a bold or an italic node that holds such texts, or a node like itself
 abbrev mutual
   pub IsOpenStyle : Tree → Type 0
-  IsOpenStyle (tree l ts) = (in_style (shape l.kind).inline true ≡ true) × (StandsOpen (listed ts) ⊎ HasOpenStyle ts)
+  IsOpenStyle (tree l ts) = (in_style (edit_shape l.kind).inline true ≡ true) × (StandsOpen (listed ts) ⊎ HasOpenStyle ts)
 
   pub HasOpenStyle : Trees → Type 0
   HasOpenStyle none = ⊥

@@ -10,8 +10,7 @@ ghost use Rattle.wt_isolation.specs.Passes.{IsReadTo};
 
 use crate::ending::Ending;
 use crate::tag_pass::TagPass;
-use wt_original::{InlineForm, shape};
-use wt_tree::Node;
+use wt_tree::{InlineForm, Node};
 
 /// Whether the source of a node ends inside an open tag.
 fn source_ends_open(node: &Node<'_>) -> bool
@@ -26,7 +25,7 @@ fn source_ends_open(node: &Node<'_>) -> bool
 fn node_ends_open(node: &Node<'_>) -> bool
     ensures { result ≡ node_ends_open (view node.now) }
 {
-    match shape(node.kind).inline {
+    match node.kind.edit_shape().inline {
         InlineForm::Characters => false,
         InlineForm::Bold | InlineForm::Italic => any_ends_open(node.children.as_slice()),
         InlineForm::Nothing | InlineForm::Shown | InlineForm::PageLink => source_ends_open(node),

@@ -6,9 +6,8 @@ ghost use Rattle.wt_isolation.specs.OpenTexts.{begins_bracket, begins_open, ends
 
 use crate::scheme::scheme_len;
 use std::alloc::Global;
-use wt_original::{InlineForm, shape};
 use wt_span::NoMemory;
-use wt_tree::Node;
+use wt_tree::{InlineForm, Node};
 
 fn begins_bracket(text: &[u8]) -> bool
     ensures { result ≡ begins_bracket text.now }
@@ -118,7 +117,7 @@ fn ends_open(
 fn follow(alloc: Global, text: &mut Vec<u8>, node: &Node<'_>) -> Result<bool, NoMemory>
     ensures { IfOk result (λ b. (rest : List ℕ → Bool) → open_text_at text.old.items (view node.now) rest ≡ (b || rest text.new.items)) }
 {
-    let inline = shape(node.kind).inline;
+    let inline = node.kind.edit_shape().inline;
     if is_text(inline) {
         text.extend_from_slice(node.shown().as_bytes())?;
         return Ok(false);

@@ -2,9 +2,9 @@
 use Rattle.std.proofs.Common.{arith, ◌≡◌, ℕ, suc, ◌+◌, ◌≤◌, List, [], ◌∷◌, ◌++◌, length, refl}
 use Rattle.std.proofs.lemmas.List.{length-append}
 use Rattle.wt_tree.specs.Tree.{Tree, tree, Trees, none, more}
-use Rattle.wt_original.specs.declared.kinds.InlineForm.{InlineForm}
-use Rattle.wt_original.specs.declared.kinds.InlineForm.TheVariants as inline
-use Rattle.wt_original.specs.Kinds.{shape}
+use Rattle.wt_tree.specs.declared.edit_shape.InlineForm.{InlineForm}
+use Rattle.wt_tree.specs.declared.edit_shape.InlineForm.TheVariants as inline
+use Rattle.wt_tree.specs.EditShapes.{edit_shape}
 use Rattle.wt_local.specs.Contents.{Border, bold, end, borders_by, borders_of, borders, onto_first, texts_by, texts_before, all_texts_before, texts}
 
 onto_len : (bs : List ℕ) (ns : List (List ℕ)) → 1 ≤ length ns → length (onto_first bs ns) ≡ length ns
@@ -36,7 +36,7 @@ by_way inline.AsItStood n shown bs inside after h f = omega arith
 
 mutual
   one : (t : Tree) (after : List (List ℕ)) → 1 ≤ length after → length (texts_before t after) ≡ length (borders_of t) + length after
-  one (tree l ts) after h = by_way (shape l.kind).inline l.id l.shown (borders ts) (all_texts_before ts) after h (λ xs g. all ts xs g)
+  one (tree l ts) after h = by_way (edit_shape l.kind).inline l.id l.shown (borders ts) (all_texts_before ts) after h (λ xs g. all ts xs g)
 
   all : (ts : Trees) (after : List (List ℕ)) → 1 ≤ length after → length (all_texts_before ts after) ≡ length (borders ts) + length after
   all none after h = omega arith

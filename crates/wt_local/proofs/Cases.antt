@@ -5,7 +5,7 @@ use Rattle.wt_tree.specs.declared.kind.Kind.{Kind}
 use Rattle.wt_tree.specs.declared.kind.Kind.TheVariants as kind
 use Rattle.wt_tree.specs.declared.kind.Mark.TheVariants as mark
 use Rattle.wt_tree.specs.Tree.{Label, Tree, tree, none, Trees, trees}
-use Rattle.wt_original.specs.Kinds.{shape}
+use Rattle.wt_tree.specs.EditShapes.{edit_shape}
 use Rattle.wt_original.specs.Kept.{kept_nodes, kept_with}
 use Rattle.wt_local.specs.Contents.{element, italic, end, borders, texts}
 use Rattle.wt_local.specs.Replaced.{with_inside}
@@ -48,25 +48,20 @@ abbrev styled : Trees
 styled = trees (text (codes "a") ∷ inner kind.Italic 2 (codes "''") (text (codes "b") ∷ leaf kind.Br 3 (codes "<br>") ∷ text (codes "c") ∷ []) (codes "''") ∷ [])
 
 styled_borders : borders styled ≡ italic 2 ∷ element 3 ∷ end ∷ []
-unfolding shape
 styled_borders = refl
 
 styled_texts : texts styled ≡ codes "a" ∷ codes "b" ∷ codes "c" ∷ [] ∷ []
-unfolding shape
 styled_texts = refl
 
 -- nothing but an element, and two texts that nothing parts
 element_alone : texts (trees (leaf kind.Switch 2 (codes "__TOC__") ∷ [])) ≡ [] ∷ [] ∷ []
-unfolding shape
 element_alone = refl
 
 texts_join : texts (trees (text (codes "a") ∷ text (codes "b") ∷ leaf kind.Br 2 (codes "<br>") ∷ [])) ≡ codes "ab" ∷ [] ∷ []
-unfolding shape
 texts_join = refl
 
 -- what a group shows is no text of the content
 group_is_element : borders (trees (group 2 (codes "{{t}}") (text (codes "t") ∷ []) ∷ text (codes "a") ∷ [])) ≡ element 2 ∷ []
-unfolding shape
 group_is_element = refl
 
 -- ---- what may be typed
@@ -76,12 +71,12 @@ abbrev commented : Tree
 commented = para (text (codes "a\n") ∷ leaf kind.Comment 2 (codes "<!-- c -->\n") ∷ text (codes "x") ∷ [])
 
 before_line_mark : is_line_mark (element_at (kept_nodes commented) (Some (element 2))) ≡ true
-unfolding shape kept_with
+unfolding kept_with
 before_line_mark = refl
 
 -- a comment within a line doesn't end it
 before_mark : is_line_mark (element_at (kept_nodes (para (text (codes "a") ∷ leaf kind.Comment 2 (codes "<!-- c -->") ∷ []))) (Some (element 2))) ≡ false
-unfolding shape kept_with
+unfolding kept_with
 before_mark = refl
 
 -- `{{q}}{{e}}{{q}}`, where `q` gives `=` and `e` nothing: `=` ties the groups on both sides
@@ -90,7 +85,7 @@ tied = para (group 2 (codes "{{q}}") (text (codes "=") ∷ []) ∷ group 3 (code
     ∷ group 4 (codes "{{q}}") (text (codes "=") ∷ []) ∷ [])
 
 tied_groups : are_tied (element_at (kept_nodes tied) (Some (element 2))) (element_at (kept_nodes tied) (Some (element 3))) ≡ true
-unfolding shape kept_with
+unfolding kept_with
 tied_groups = refl
 
 -- `x{{h}}{{s}}`, where `h` gives `http:` and `s` gives `//y`: something may be typed between them
@@ -98,7 +93,7 @@ abbrev loose : Tree
 loose = para (text (codes "x") ∷ group 2 (codes "{{h}}") (text (codes "http:") ∷ []) ∷ group 3 (codes "{{s}}") (text (codes "//y") ∷ []) ∷ [])
 
 loose_groups : are_tied (element_at (kept_nodes loose) (Some (element 2))) (element_at (kept_nodes loose) (Some (element 3))) ≡ false
-unfolding shape kept_with
+unfolding kept_with
 loose_groups = refl
 
 -- ---- another inside

@@ -6,7 +6,7 @@ use Rattle.wt_span.specs.declared.form.ItemForm.TheVariants as form
 use Rattle.wt_span.specs.Origins.{Expanded}
 use Rattle.wt_tree.specs.declared.kind.Kind.TheVariants as kind
 use Rattle.wt_tree.specs.Tree.{Tree}
-use Rattle.wt_original.specs.Kinds.{shape}
+use Rattle.wt_tree.specs.EditShapes.{edit_shape}
 use Rattle.wt_original.specs.Kept.{kept_with}
 use Rattle.wt_selser.specs.Changes.{Pair}
 use Rattle.wt_local.specs.TextEdits.{IsRetyped, holds_unclosed}
@@ -25,7 +25,7 @@ abbrev signs_for_a : Pair
 signs_for_a = record { old = para (text (codes "a") ∷ []); new = para (text (codes "* [[x]] & ''y''") ∷ []) }
 
 signs_typed : IsRetyped same page_a (codes "a") signs_for_a
-unfolding shape kept_with
+unfolding kept_with
 signs_typed = record {
   block = refl;
   untangled = refl;
@@ -52,7 +52,7 @@ b_for_c = record {
 }
 
 typed_in_style : IsRetyped same page_a (codes "a ''b'' __TOC__") b_for_c
-unfolding shape kept_with
+unfolding kept_with
 typed_in_style = record {
   block = refl;
   untangled = refl;

@@ -1,9 +1,9 @@
 -- The content of a block as texts with what is between them: elements, and where bold and italic text begins and ends.
 use Rattle.std.specs.Prelude.{ℕ, List, [], ◌∷◌, ◌++◌, Option, Some, None}
 use Rattle.wt_tree.specs.Tree.{Tree, tree, Trees, none, more}
-use Rattle.wt_original.specs.declared.kinds.InlineForm.{InlineForm}
-use Rattle.wt_original.specs.declared.kinds.InlineForm.TheVariants as inline
-use Rattle.wt_original.specs.Kinds.{shape}
+use Rattle.wt_tree.specs.declared.edit_shape.InlineForm.{InlineForm}
+use Rattle.wt_tree.specs.declared.edit_shape.InlineForm.TheVariants as inline
+use Rattle.wt_tree.specs.EditShapes.{edit_shape}
 
 -- ---- what is between texts
 
@@ -29,7 +29,7 @@ borders_by inline.AsItStood n inside = element n ∷ []
 -- in order, those in bold and italic text among them
 abbrev mutual
   pub borders_of : Tree → List Border
-  borders_of (tree l ts) = borders_by (shape l.kind).inline l.id (borders ts)
+  borders_of (tree l ts) = borders_by (edit_shape l.kind).inline l.id (borders ts)
 
   pub borders : Trees → List Border
   borders none = []
@@ -52,7 +52,7 @@ elements_by inline.AsItStood t inside = t ∷ []
 -- all elements but bold and italic ones, which count by what they hold
 abbrev mutual
   pub elements_of : Tree → List Tree
-  elements_of (tree l ts) = elements_by (shape l.kind).inline (tree l ts) (elements ts)
+  elements_of (tree l ts) = elements_by (edit_shape l.kind).inline (tree l ts) (elements ts)
 
   pub elements : Trees → List Tree
   elements none = []
@@ -80,7 +80,7 @@ texts_by inline.AsItStood shown inside after = [] ∷ after
 
 abbrev mutual
   pub texts_before : Tree → List (List ℕ) → List (List ℕ)
-  texts_before (tree l ts) after = texts_by (shape l.kind).inline l.shown (all_texts_before ts) after
+  texts_before (tree l ts) after = texts_by (edit_shape l.kind).inline l.shown (all_texts_before ts) after
 
   pub all_texts_before : Trees → List (List ℕ) → List (List ℕ)
   all_texts_before none after = after

@@ -15,9 +15,9 @@ use Rattle.wt_tree.specs.Tiling.{is_group, numbers}
 use Rattle.wt_guards.specs.declared.role.Role.{Role}
 use Rattle.wt_guards.specs.declared.role.Role.TheVariants as role
 use Rattle.wt_guards.specs.Content.{ends_line}
-use Rattle.wt_original.specs.declared.kinds.BlockForm.{BlockForm}
-use Rattle.wt_original.specs.declared.kinds.BlockForm.TheVariants as block
-use Rattle.wt_original.specs.Kinds.{shape}
+use Rattle.wt_tree.specs.declared.edit_shape.BlockForm.{BlockForm}
+use Rattle.wt_tree.specs.declared.edit_shape.BlockForm.TheVariants as block
+use Rattle.wt_tree.specs.EditShapes.{edit_shape}
 use Rattle.wt_original.specs.Kept.{Kept, kept_nodes, kept_with}
 use Rattle.wt_original.specs.Page.{Page, page_of, is_unchanged}
 use Rattle.wt_escape.specs.Spelling.{children_of}
@@ -141,13 +141,13 @@ holds_unclosed items page r = is_unclosed_item (last_of items) && reaches (lengt
 -- A paragraph or heading of the page that isn't tangled and holds no unclosed mark, and what it was edited to: its elements stand
 -- untouched in their order, and each text between them is the page's or was typed.
 pub record IsRetyped (same : Tree → Tree → Bool) (items : Expanded) (page : List ℕ) (p : Pair) : Type 0 where
-  pub block : takes_text (shape (label p.old).kind).form ≡ true
+  pub block : takes_text (edit_shape (label p.old).kind).form ≡ true
   pub untangled : is_tangled items page p.old ≡ false
   pub closed : holds_unclosed items.items page (label p.old).ranges ≡ false
   pub in_order : borders (children_of p.new) ≡ borders (children_of p.old)
   pub untouched : AllByRecursion (IsUntouched (page_of same p.old)) (elements (children_of p.new))
   pub texts : AllByRecursion (IsRetypedText (kept_nodes p.old)) (zip (slots (children_of p.old)) (slots (children_of p.new)))
-  pub one_line : IsOneLine (shape (label p.old).kind).form (slots (children_of p.new))
+  pub one_line : IsOneLine (edit_shape (label p.old).kind).form (slots (children_of p.new))
 
 -- ---- a page
 

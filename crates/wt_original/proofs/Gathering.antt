@@ -9,9 +9,9 @@ use Rattle.wt_tree.specs.View.{label_of, view, views}
 use Rattle.wt_tree.specs.declared.node.Node.{Node, out-Node}
 use Rattle.wt_tree.proofs.Views.{view_out}
 use Rattle.wt_original.specs.declared.block.Gathered.{Gathered}
-use Rattle.wt_original.specs.declared.kinds.ItemsOf.{ItemsOf}
-use Rattle.wt_original.specs.declared.kinds.ItemsOf.TheVariants.{Delimited, Characters, Opaque, Invisible, Nodes}
-use Rattle.wt_original.specs.Kinds.{shape}
+use Rattle.wt_tree.specs.declared.edit_shape.ItemsOf.{ItemsOf}
+use Rattle.wt_tree.specs.declared.edit_shape.ItemsOf.TheVariants.{Delimited, Characters, Opaque, Invisible, Nodes}
+use Rattle.wt_tree.specs.EditShapes.{edit_shape}
 use Rattle.wt_original.specs.Kept.{Item, character, opaque, invisible, characters, items, items_of_all, visible, is_delimited, holds_kept, KeptNode, found_in}
 use Rattle.wt_original.specs.Gathered.{bytes_so_far, seen_so_far, found_so_far, begun, ended, Adds, inside_found, own_found, all_found, list_found}
 
@@ -60,7 +60,7 @@ delimited : (l : Label) (ts : Trees) (a b c d : Gathered) → holds_kept l ≡ t
     → Adds b c (flat_of_all ts) (visible (items_of_all ts)) (list_found b ts)
     → Adds c d l.closing (characters l.closing) [] → Adds a d (flat (tree l ts)) (visible (items (tree l ts))) (inside_found a l ts)
 delimited l ts a b c d e h k m =
-    let parts = held (is_leaf l.kind) (shape l.kind).items e in
+    let parts = held (is_leaf l.kind) (edit_shape l.kind).items e in
     record {
       bytes = three (bytes_so_far a) (bytes_so_far b) (bytes_so_far c) (bytes_so_far d) l.opening
           (flat_of_all ts) l.closing h.bytes k.bytes m.bytes

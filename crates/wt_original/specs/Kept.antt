@@ -9,16 +9,16 @@ use Rattle.wt_tree.specs.declared.kind.Showing.{Showing}
 use Rattle.wt_tree.specs.declared.kind.Showing.TheVariants as showing
 use Rattle.wt_tree.specs.Kinds.{is_leaf, showing as showing_of}
 use Rattle.wt_tree.specs.Source.{flat}
-use Rattle.wt_original.specs.declared.kinds.ItemsOf.{ItemsOf}
-use Rattle.wt_original.specs.declared.kinds.ItemsOf.TheVariants.{Delimited, Characters, Opaque, Invisible, Nodes}
-use Rattle.wt_original.specs.declared.kinds.Sort.{Sort}
-use Rattle.wt_original.specs.declared.kinds.Sort.TheVariants as sort
+use Rattle.wt_tree.specs.declared.edit_shape.ItemsOf.{ItemsOf}
+use Rattle.wt_tree.specs.declared.edit_shape.ItemsOf.TheVariants.{Delimited, Characters, Opaque, Invisible, Nodes}
+use Rattle.wt_tree.specs.declared.edit_shape.Sort.{Sort}
+use Rattle.wt_tree.specs.declared.edit_shape.Sort.TheVariants as sort
 use Rattle.wt_guards.specs.declared.role.Role.{Role}
 use Rattle.wt_guards.specs.declared.role.Role.TheVariants as role
 use Rattle.wt_guards.specs.declared.role.Transclusion.{Transclusion}
 use Rattle.wt_guards.specs.declared.role.Stretch.{Stretch}
 use Rattle.wt_original.specs.declared.block.Extent.{Extent}
-use Rattle.wt_original.specs.Kinds.{shape}
+use Rattle.wt_tree.specs.EditShapes.{edit_shape}
 
 -- ---- items
 
@@ -41,7 +41,7 @@ items_by Nodes l inside = inside
 -- the items of a node: of a group those of the nodes that it shows
 abbrev mutual
   pub items : Tree → List Item
-  items (tree l ts) = items_by (shape l.kind).items l (items_of_all ts)
+  items (tree l ts) = items_by (edit_shape l.kind).items l (items_of_all ts)
 
   pub items_of_all : Trees → List Item
   items_of_all none = []
@@ -158,7 +158,7 @@ role_by sort.Island block s t = island (starts_with nat_eq (flat t) (byte.openin
 role_by sort.Other block s t = role.Node
 
 abbrev pub role_of : Tree → Extent → Tree → Role
-role_of block s t = role_by (shape (label t).kind).sort block s t
+role_of block s t = role_by (edit_shape (label t).kind).sort block s t
 
 -- ---- the kept nodes of a block
 
@@ -183,7 +183,7 @@ is_delimited Nodes = false
 
 -- It has kept nodes in it: it is no leaf, and its items are its delimiters round those of what it holds.
 abbrev pub holds_kept : Label → Bool
-holds_kept l = not (is_leaf l.kind) && is_delimited (shape l.kind).items
+holds_kept l = not (is_leaf l.kind) && is_delimited (edit_shape l.kind).items
 
 -- All in preorder, from a node on with so many bytes and visible items before it; what a group shows has no numbers.
 abbrev mutual

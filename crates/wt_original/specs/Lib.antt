@@ -1,6 +1,5 @@
 pub mod Gathered
 pub mod Kept
-pub mod Kinds
 pub mod Numbers
 pub mod Page
 pub mod PageViews

@@ -5,15 +5,14 @@ ghost use Rattle.wt_tree.specs.Kinds.{is_leaf};
 ghost use Rattle.wt_tree.specs.Source.{flat, flat_of_all};
 ghost use Rattle.wt_tree.specs.View.{view, views, texts_of, label_of};
 ghost use Rattle.wt_tree.specs.declared.node.Node.{out-Node};
-ghost use Rattle.wt_original.specs.Kinds.{shape};
+ghost use Rattle.wt_tree.specs.EditShapes.{edit_shape};
 ghost use Rattle.wt_original.specs.Kept.{characters, items, items_of_all, visible, is_visible, holds_kept, is_delimited};
 ghost use Rattle.wt_original.specs.Gathered.{item_of, items_seen, bytes_so_far, seen_so_far, found_so_far, begun, ended, Adds, own_found, inside_found, all_found, list_found, IsGatheredOf};
 
 use crate::gather::{Item, push_items};
-use crate::kinds::{ItemsOf, shape};
 use std::alloc::{AllocError, Global};
 use wt_span::{List, NoMemory, Text};
-use wt_tree::{Kind, Node, flat};
+use wt_tree::{ItemsOf, Kind, Node, flat};
 
 /// Where a node is in its block: the bytes before it and up to its end, and the visible items
 /// before it and up to its end.
@@ -99,9 +98,9 @@ fn gather_texts(out: &mut Gathered<'_, '_>, texts: &[Text<'_>]) -> Result<(), Al
 }
 
 fn holds_kept(kind: Kind) -> bool
-    ensures { result ≡ not (is_leaf kind) && is_delimited (shape kind).items }
+    ensures { result ≡ not (is_leaf kind) && is_delimited (edit_shape kind).items }
 {
-    !kind.is_leaf() && is_delimited(shape(kind).items)
+    !kind.is_leaf() && is_delimited(kind.edit_shape().items)
 }
 
 /// Gathers a node without numbers in it.

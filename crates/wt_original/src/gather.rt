@@ -5,13 +5,12 @@ ghost use Rattle.std.specs.Prelude.{◌≡◌, [], ◌∷◌, ◌++◌, OnOk, st
 ghost use Rattle.wt_tree.specs.View.{view, views, texts_of, label_of};
 ghost use Rattle.wt_tree.specs.declared.node.Node.{out-Node};
 ghost use Rattle.wt_original.specs.Kept.{characters, items, items_of_all, items_by, shown, shown_in};
-ghost use Rattle.wt_original.specs.declared.kinds.ItemsOf.TheVariants as item;
+ghost use Rattle.wt_tree.specs.declared.edit_shape.ItemsOf.TheVariants as item;
 ghost use Rattle.wt_original.specs.Gathered.{item_of, items_seen};
 
-use crate::kinds::{ItemsOf, shape};
 use std::alloc::{AllocError, Global};
 use wt_span::Text;
-use wt_tree::{Node, Showing};
+use wt_tree::{ItemsOf, Node, Showing};
 
 /// An item of the page: a character of one byte or a byte of a longer one; any other visible item,
 /// and one that is neither a blank, a line break, an apostrophe nor `=`; or a mark.
@@ -64,7 +63,7 @@ fn push_delimited(out: &mut Vec<Item>, node: &Node<'_>) -> Result<(), AllocError
 pub fn push_items(out: &mut Vec<Item>, node: &Node<'_>) -> Result<(), AllocError>
     ensures { OnOk result (items_seen out.new.items ≡ items_seen out.old.items ++ items (view node.now)) }
 {
-    match shape(node.kind).items {
+    match node.kind.edit_shape().items {
         ItemsOf::Delimited => push_delimited(out, node)?,
         ItemsOf::Characters => push_texts(out, node.own())?,
         ItemsOf::Opaque => push_item(out, Item::Opaque)?,

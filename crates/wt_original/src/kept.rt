@@ -14,11 +14,10 @@ ghost use Rattle.wt_original.specs.Gathered.{item_of, items_seen, blank_ends, fo
 
 use crate::block::{Extent, Gathered, KeptNode, push_visible};
 use crate::gather::{Item, push_items, push_shown};
-use crate::kinds::{Sort, shape};
 use std::alloc::{AllocError, Global};
 use wt_guards::{Role, Stretch, Transclusion};
 use wt_span::{NoMemory, Text};
-use wt_tree::{Node, flat};
+use wt_tree::{Node, Sort, flat};
 
 /// What is asked of a block: its source; its visible items; for each place before these, from the
 /// last one on, whether only spaces and tabs follow up to a line break or the content's end; and how
@@ -315,7 +314,7 @@ fn role_of(
 ) -> Result<Role, NoMemory>
     ensures { (block : Tree) → IsFactsOf block facts.entry → IfOk result (λ r. r ≡ role_of block extent (view node.now)) }
 {
-    match shape(node.kind).sort {
+    match node.kind.edit_shape().sort {
         Sort::PageLink => Ok(Role::Link),
         Sort::Url => Ok(url_of(alloc, node)?),
         Sort::Switch => Ok(Role::Switch),

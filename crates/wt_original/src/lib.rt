@@ -5,13 +5,11 @@
 mod block;
 mod gather;
 mod kept;
-mod kinds;
 mod known;
 mod page;
 mod same;
 
 pub use kept::{Kept, shown_text, text_len};
-pub use kinds::{BlockForm, InlineForm, ItemsOf, Sort, Spelled, shape};
 pub use known::{no_page, page_of_block};
 pub use page::Page;
 pub use same::is_unchanged;

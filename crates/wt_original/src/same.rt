@@ -5,7 +5,6 @@ ghost use Rattle.std.specs.Prelude.{◌≡◌, [], ◌∷◌, ◌++◌, OnOk, If
 ghost use Rattle.std.specs.Bool.{Decides};
 ghost use Rattle.wt_tree.specs.Plain.{plain, face};
 ghost use Rattle.wt_tree.specs.Stream.{signs, signs_of_all, byte, bracket, opens, closes};
-ghost use Rattle.wt_tree.specs.Tiling.{is_group};
 ghost use Rattle.wt_tree.specs.Tree.{Tree, tree, label};
 ghost use Rattle.wt_tree.specs.View.{view, views, label_of};
 ghost use Rattle.wt_tree.specs.declared.node.Node.{out-Node};
@@ -97,15 +96,6 @@ fn show_all<'n>(out: &mut Vec<Shown<'n>>, nodes: &'n [Node<'_>]) -> Result<(), A
     Ok(())
 }
 
-fn is_group(kind: Kind) -> bool
-    ensures { result ≡ is_group kind }
-{
-    match kind {
-        Kind::Group => true,
-        _ => false,
-    }
-}
-
 /// The node of the page, where there is one.
 fn show_either<'n>(
     out: &mut Vec<Shown<'n>>,
@@ -130,7 +120,7 @@ fn show_restored<'n>(
 ) -> Result<(), AllocError>
     ensures { OnOk result (marks_of out.new.items ≡ marks_of out.old.items ++ signs (restored (kept_in page.now) (view node.now))) }
 {
-    if is_group(node.kind) {
+    if node.kind.is_group() {
         show_either(out, page.find(node.id), node)?;
     } else {
         show_restored_inside(out, page, node)?;
@@ -268,7 +258,7 @@ fn same_plain(
 fn restored_kind(page: &Page<'_, '_>, node: &Node<'_>) -> Kind
     ensures { result ≡ (label (restored (kept_in page.now) (view node.now))).kind }
 {
-    if !is_group(node.kind) {
+    if !node.kind.is_group() {
         return node.kind;
     }
     match page.find(node.id) {
@@ -314,7 +304,7 @@ pub fn is_unchanged(
     ensures { (same : Tree → Tree → Bool) → TellsSame same
         → IfOk result (λ answer. answer ≡ is_unchanged (page_view same page.now) (kept_view old.entry) (view node.now)) }
 {
-    if is_group(old.node.kind) {
+    if old.node.kind.is_group() {
         return Ok(true);
     }
     let answer = is_same(alloc, page, node, old.node)?;

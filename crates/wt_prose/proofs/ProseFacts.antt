@@ -6,7 +6,7 @@ use Rattle.wt_tree.specs.declared.kind.Kind.TheVariants as kind
 use Rattle.wt_tree.specs.Plain.{element, Plains, ended, along, plains_before}
 use Rattle.wt_tree.specs.Tree.{Tree}
 use Rattle.wt_span.specs.Items.{Item, sources}
-use Rattle.wt_guards.specs.declared.side.Place.TheVariants as place
+use Rattle.wt_tree.specs.declared.edit_shape.Place.TheVariants as place
 use Rattle.wt_inline.specs.Carried.{shown_item}
 use Rattle.wt_inline.specs.ItemTree.{ItemTree}
 use Rattle.wt_isolation.specs.OpenTags.{ends_open}

@@ -7,9 +7,9 @@ use Rattle.wt_tree.specs.Tree.{Label, Tree, tree, Trees, none, more}
 use Rattle.wt_tree.specs.View.{view, views}
 use Rattle.wt_tree.specs.declared.node.Node.{Node, out-Node}
 use Rattle.wt_tree.proofs.Views.{view_out}
-use Rattle.wt_original.specs.declared.kinds.InlineForm.{InlineForm}
-use Rattle.wt_original.specs.declared.kinds.InlineForm.TheVariants as inline
-use Rattle.wt_original.specs.Kinds.{shape}
+use Rattle.wt_tree.specs.declared.edit_shape.InlineForm.{InlineForm}
+use Rattle.wt_tree.specs.declared.edit_shape.InlineForm.TheVariants as inline
+use Rattle.wt_tree.specs.EditShapes.{edit_shape}
 use Rattle.wt_selser.specs.Edits.{is_tangled}
 use Rattle.wt_selser.specs.GroupFaults.{faulty_at, has_faulty_group, is_faulty_node}
 use Rattle.wt_isolation.specs.OpenTags.{before, touches_open_tag}
@@ -31,8 +31,8 @@ style_fine inline.AsItStood = refl
 mutual
   node_fine : (items : Expanded) (t : Tree) → HasNoGroup t → is_faulty_node items t ≡ false
   node_fine items (tree l ts) h =
-      ap (λ b. if b then faulty_at items l.ranges ts else in_style (shape l.kind).inline (has_faulty_group items ts)) h.0
-      ∙ ap (in_style (shape l.kind).inline) (all_fine items ts h.1) ∙ style_fine (shape l.kind).inline
+      ap (λ b. if b then faulty_at items l.ranges ts else in_style (edit_shape l.kind).inline (has_faulty_group items ts)) h.0
+      ∙ ap (in_style (edit_shape l.kind).inline) (all_fine items ts h.1) ∙ style_fine (edit_shape l.kind).inline
 
   all_fine : (items : Expanded) (ts : Trees) → NoneIsGroup ts → has_faulty_group items ts ≡ false
   all_fine items none h = refl

@@ -3,7 +3,7 @@ use Rattle.std.proofs.Common.{◌≡◌, ◌<◌, ℕ, ◌+◌, Bool, true, fals
 use Rattle.std.specs.Prelude.{if◌then◌else◌}
 use Rattle.std.specs.List.{flat_map}
 use Rattle.std.proofs.lemmas.List.{drop_more}
-use Rattle.wt_guards.specs.declared.side.Place.{Place as Surround}
+use Rattle.wt_tree.specs.declared.edit_shape.Place.{Place as Surround}
 use Rattle.wt_tree.specs.declared.node.Node.{Node, out-Node}
 use Rattle.wt_tree.specs.Tree.{Tree, label}
 use Rattle.wt_tree.specs.View.{view, views}

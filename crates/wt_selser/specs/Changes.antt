@@ -3,12 +3,11 @@
 use Rattle.std.specs.Prelude.{◌≡◌, ℕ, false, Bool, ◌||◌, ◌+◌, ◌-◌, Option, Some, None, List, [], ◌∷◌, ◌++◌, if◌then◌else◌}
 use Rattle.std.specs.List.{AllByRecursion, flat_map}
 use Rattle.wt_tree.specs.declared.kind.Kind.{Kind}
-use Rattle.wt_tree.specs.declared.kind.Kind.TheVariants as kind
 use Rattle.wt_tree.specs.declared.kind.Ranges.{Ranges}
 use Rattle.wt_tree.specs.declared.kind.Mark.{Mark}
 use Rattle.wt_tree.specs.Tree.{Tree, tree, Trees, none, more, label}
-use Rattle.wt_guards.specs.declared.side.Place.{Place as Surround}
-use Rattle.wt_guards.specs.declared.side.Place.TheVariants as place
+use Rattle.wt_tree.specs.EditShapes.{edit_shape}
+use Rattle.wt_tree.specs.declared.edit_shape.Place.{Place as Surround}
 use Rattle.wt_escape.specs.Spelling.{inline_spelling}
 use Rattle.wt_checks.specs.Marks.{is_children}
 use Rattle.wt_checks.specs.Places.{Place, places, Page, page_of, number, is_content}
@@ -40,42 +39,7 @@ marked page edited = flat_map (pair_at (page_of page)) (places edited)
 
 -- in what the content of a block is written
 abbrev pub place_in : Kind → Surround
-place_in kind.Body = place.Paragraph
-place_in (kind.Section n) = place.Paragraph
-place_in kind.Para = place.Paragraph
-place_in (kind.Heading n) = place.Heading
-place_in kind.Rule = place.Paragraph
-place_in kind.Ul = place.Paragraph
-place_in kind.Ol = place.Paragraph
-place_in kind.Dl = place.Paragraph
-place_in kind.Li = place.Item
-place_in kind.Dt = place.Term
-place_in kind.Dd = place.Item
-place_in kind.Pre = place.Paragraph
-place_in kind.Table = place.Paragraph
-place_in kind.Tbody = place.Paragraph
-place_in kind.Tr = place.Paragraph
-place_in kind.Caption = place.Cell
-place_in kind.Td = place.Cell
-place_in kind.Th = place.Header
-place_in kind.Bold = place.Paragraph
-place_in kind.Italic = place.Paragraph
-place_in kind.WikiLink = place.Paragraph
-place_in kind.ExtLink = place.Paragraph
-place_in kind.Category = place.Paragraph
-place_in (kind.Tag t) = place.Paragraph
-place_in kind.Br = place.Paragraph
-place_in kind.Entity = place.Paragraph
-place_in kind.Nowiki = place.Paragraph
-place_in kind.Island = place.Paragraph
-place_in kind.Switch = place.Paragraph
-place_in kind.Comment = place.Paragraph
-place_in kind.Include = place.Paragraph
-place_in kind.Skip = place.Paragraph
-place_in kind.Sep = place.Paragraph
-place_in kind.Text = place.Paragraph
-place_in kind.Group = place.Paragraph
-place_in kind.Empty = place.Paragraph
+place_in k = (edit_shape k).place
 
 -- the inside of a node of the page
 abbrev pub change_with : Option Ranges → List ℕ → List Change

@@ -11,7 +11,7 @@ use Rattle.wt_span.specs.Origins.{Expanded}
 use Rattle.wt_inline.specs.ItemTree.{ItemTree, inner, ItemTrees}
 use Rattle.wt_page.specs.Body.{meaning}
 use Rattle.wt_annotated.specs.Annotated.{all_unplaced}
-use Rattle.wt_original.specs.Kinds.{shape}
+use Rattle.wt_tree.specs.EditShapes.{edit_shape}
 use Rattle.wt_visible.specs.Children.{differing, listed}
 use Rattle.wt_isolation.specs.GroupItems.{items_alone}
 use Rattle.wt_isolation.specs.OpenTexts.{has_open_text, in_style}
@@ -55,7 +55,7 @@ faulty_at page (Some r) ts = is_faulty (items_alone page.outer page.items r) ts
 -- ---- the groups of a block
 
 abbrev pub group_or_style : Expanded → Label → Trees → Bool → Bool
-group_or_style page l ts inside = if is_group l.kind then faulty_at page l.ranges ts else in_style (shape l.kind).inline inside
+group_or_style page l ts inside = if is_group l.kind then faulty_at page l.ranges ts else in_style (edit_shape l.kind).inline inside
 
 -- one of the groups among these nodes, or in their bold and italic nodes, has a fault
 abbrev mutual

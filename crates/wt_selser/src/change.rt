@@ -15,9 +15,9 @@ ghost use Rattle.wt_selser.specs.Views.{changes_view, pair_of, pairs_of};
 
 use std::alloc::Global;
 use wt_checks::{Visit, is_children, is_content, original, preorder};
-use wt_escape::{Place, spell_inline};
+use wt_escape::spell_inline;
 use wt_span::{NoMemory, Str};
-use wt_tree::{Kind, Mark, Node, Ranges};
+use wt_tree::{Kind, Mark, Node, Place, Ranges};
 
 /// A marked node as it was in the page, and what it was edited to.
 #[derive(Clone, Copy)]
@@ -38,22 +38,7 @@ pub struct Change {
 pub fn place_in(kind: Kind) -> Place
     ensures { result ≡ place_in kind }
 {
-    match kind {
-        Kind::Heading(_) => Place::Heading,
-        Kind::Li | Kind::Dd => Place::Item,
-        Kind::Dt => Place::Term,
-        Kind::Td | Kind::Caption => Place::Cell,
-        Kind::Th => Place::Header,
-        Kind::Body | Kind::Section(_) | Kind::Para | Kind::Rule => Place::Paragraph,
-        Kind::Ul | Kind::Ol | Kind::Dl | Kind::Pre => Place::Paragraph,
-        Kind::Table | Kind::Tbody | Kind::Tr | Kind::Bold | Kind::Italic => Place::Paragraph,
-        Kind::WikiLink | Kind::ExtLink | Kind::Category | Kind::Tag(_) | Kind::Br =>
-            Place::Paragraph,
-        Kind::Entity | Kind::Nowiki | Kind::Island | Kind::Switch | Kind::Comment =>
-            Place::Paragraph,
-        Kind::Include | Kind::Skip | Kind::Sep | Kind::Text | Kind::Group | Kind::Empty =>
-            Place::Paragraph,
-    }
+    kind.edit_shape().place
 }
 
 /// Whether a mark says that what a node holds was edited: its content, or which children it has.

@@ -16,13 +16,11 @@ ghost use Rattle.wt_visible.specs.Views.{children_view};
 use std::alloc::Global;
 use wt_annotated::unplaced_nodes;
 use wt_build::build_pieces;
-use wt_checks::is_group;
 use wt_inline::PieceTree;
 use wt_isolation::{has_odd_line, has_open_text, pieces_alone};
-use wt_original::{InlineForm, shape};
 use wt_span::{Items, List, NoMemory, Piece};
 use wt_tiles::glyphs_of;
-use wt_tree::{Kind, Node, Ranges, same_data, same_kind};
+use wt_tree::{InlineForm, Kind, Node, Ranges, same_data, same_kind};
 use wt_visible::{Child, shown_nodes, shows_same};
 
 /// What pieces mean as a page, without places.
@@ -130,10 +128,10 @@ fn is_faulty_node(alloc: Global, page: &Items<'_>, node: &Node<'_>) -> Result<bo
     ensures value { IfOk result (λ b. b ≡ is_faulty_node page.now (view node.now)) }
     ensures alone { HasNoGroup (view node.now) → result ≡ Ok false }
 {
-    if is_group(node.kind) {
+    if node.kind.is_group() {
         return is_faulty_at(alloc, page, node.ranges, node);
     }
-    match shape(node.kind).inline {
+    match node.kind.edit_shape().inline {
         InlineForm::Bold | InlineForm::Italic => has_faulty_group(
             alloc,
             page,

@@ -5,7 +5,7 @@ use Rattle.std.specs.Prelude.{codes}
 use Rattle.std.specs.Fmt.{digits}
 use Rattle.wt_guards.specs.declared.role.Role.{Role}
 use Rattle.wt_guards.specs.declared.role.Role.TheVariants as role
-use Rattle.wt_guards.specs.declared.side.Place.TheVariants.{Paragraph}
+use Rattle.wt_tree.specs.declared.edit_shape.Place.TheVariants.{Paragraph}
 use Rattle.wt_guards.specs.Table.{hazard}
 use Rattle.wt_guards.specs.Content.{ContentSign, letter, thing}
 use Rattle.wt_guards.specs.Letters.{is_escaped, reference}

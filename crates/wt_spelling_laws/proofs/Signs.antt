@@ -8,7 +8,7 @@ use Rattle.std.proofs.lemmas.List.Elements.{All-head, All-tail}
 use Rattle.std.proofs.lemmas.Str.{encode_ascii}
 use Rattle.wt_span.specs.Bytes.{begins, is_blank}
 use Rattle.wt_names.proofs.Ascii.{IsWide, encode_wide}
-use Rattle.wt_guards.specs.declared.side.Place.{Place}
+use Rattle.wt_tree.specs.declared.edit_shape.Place.{Place}
 use Rattle.wt_guards.specs.Content.{ContentSign, letter, letters}
 use Rattle.wt_guards.specs.Letters.{is_escaped, is_term, are_slashes, reference, written_by}
 use Rattle.wt_guards.specs.Guards.{Setting, nowiki, nowiki_if, is_guarded, spelled_from, spelled}

@@ -18,7 +18,7 @@ use Rattle.wt_span.specs.Comments.{comment_len}
 use Rattle.wt_span.specs.Lexemes.{form_at}
 use Rattle.wt_lex.specs.Words.{is_form_byte}
 use Rattle.wt_names.proofs.Ascii.{IsWide, encode_wide, encode_some}
-use Rattle.wt_guards.specs.declared.side.Place.{Place}
+use Rattle.wt_tree.specs.declared.edit_shape.Place.{Place}
 use Rattle.wt_guards.specs.Content.{ContentSign, letter, letters}
 use Rattle.wt_guards.specs.Letters.{is_bracket, is_escaped, reference, written_by}
 use Rattle.wt_guards.specs.Guards.{Setting, nowiki, nowiki_if, is_guarded, is_between_guard, is_start_guard, is_end_guard, is_blank_guard, spelled_from, spelled}

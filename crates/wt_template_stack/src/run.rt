@@ -22,12 +22,12 @@ use crate::level::{Level, Levels, PendingCall, Task};
 use crate::reader::{MOST_BYTES, Reader};
 use std::alloc::Global;
 use wt_braces::PartAt;
-use wt_functions::Ask;
+use wt_functions::{Ask, function_named};
 use wt_span::{ItemForm, LexKind, List, Mode, NoMemory, Piece, Text};
 use wt_transclusion::{
     Braces, ExpandRefusal, Handed, Next, ReadText, Values, behind_items, byte_count, charge,
-    function_named, is_function, lexeme_piece, name_text, piece_of, spelled, title_of_target,
-    trimmed_items, with_break,
+    is_function, lexeme_piece, name_text, piece_of, spelled, title_of_target, trimmed_items,
+    with_break,
 };
 
 /// What came of a step.

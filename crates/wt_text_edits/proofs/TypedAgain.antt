@@ -9,10 +9,10 @@ use Rattle.wt_tree.specs.declared.kind.Kind.TheVariants as kind
 use Rattle.wt_tree.specs.declared.kind.Mark.TheVariants as marks
 use Rattle.wt_tree.specs.Source.{flat}
 use Rattle.wt_tree.specs.Tree.{Label, Tree, tree, Trees}
-use Rattle.wt_guards.specs.declared.side.Place.TheVariants as place
+use Rattle.wt_tree.specs.declared.edit_shape.Place.TheVariants as place
 use Rattle.wt_guards.specs.Content.{letters}
 use Rattle.wt_guards.specs.Guards.{Setting, spelled}
-use Rattle.wt_original.specs.Kinds.{shape}
+use Rattle.wt_tree.specs.EditShapes.{edit_shape}
 use Rattle.wt_original.specs.Kept.{kept_with}
 use Rattle.wt_escape.specs.Spelling.{inline_spelling}
 use Rattle.wt_checks.specs.Alike.{same_kind, same_data}
@@ -58,7 +58,7 @@ untangled xs page n ts e f = ap (λ (a : Bool). a || has_faulty_group (of_items 
 none_refused : (same : Same) (xs : List Item) (page : List ℕ) (n : ℕ) (ts : Trees) (text : List ℕ) (b p t : Label)
     → any_ends_open ts ≡ false → has_faulty_group (of_items xs) ts ≡ false
     → refused_pairs same (of_items xs) page (marked (old_page n ts) (sent b p t text)) ≡ None
-unfolding bad_content shape kept_with
+unfolding bad_content kept_with
 none_refused same xs page n ts [] b p t e f =
     ap (λ (v : Bool). first_with (if v then Some (refusal.Tangled 1) else None) None) (untangled xs page n ts e f)
 none_refused same xs page n ts (c ∷ cs) b p t e f =
@@ -70,7 +70,7 @@ one_slice same n ts text b p t = refl
 
 its_signs : (same : Same) (n : ℕ) (ts : Trees) (text : List ℕ) (p t : Label) → inline_spelling same (old_para n ts) (new_para p t text) place.Paragraph
     ≡ spelled (record { within = false; place = place.Paragraph; source = flat (old_para n ts) }) (letters text ++ [])
-unfolding inline_spelling shape kept_with chars
+unfolding inline_spelling kept_with chars
 its_signs same n ts [] p t = refl
 its_signs same n ts (c ∷ cs) p t = refl
 

@@ -8,7 +8,7 @@ use Rattle.wt_tree.specs.Tree.{Trees}
 use Rattle.wt_span.specs.Items.{Item, source, sources}
 use Rattle.wt_guards.specs.Guards.{nowiki}
 use Rattle.wt_inline.specs.ItemTree.{forest, tree_items, held_by_all}
-use Rattle.wt_original.specs.Kinds.{shape}
+use Rattle.wt_tree.specs.EditShapes.{edit_shape}
 use Rattle.wt_isolation.specs.OpenTags.{ends_open, any_ends_open}
 use Rattle.wt_annotated.specs.CutTexts.{all_cut_texts}
 use Rattle.wt_annotated.specs.Labels.{label_at}
@@ -62,7 +62,7 @@ held_sources (l ∷ ls) =
 -- ---- no tag is left open
 
 pub none_open : (n : ℕ) (before : List Item) (ls : List Leaf) → AreShut ls → any_ends_open (nodes n before ls) ≡ false
-unfolding label_at nowiki shape
+unfolding label_at nowiki
 none_open n before [] h = refl
 none_open n before (letters b bs ∷ ls) h = none_open (next n before (letters b bs)) (behind before (letters b bs)) ls h
 none_open n before (reference c bs ∷ ls) h =

@@ -7,7 +7,7 @@ use Rattle.wt_tree.specs.Tree.{Tree, tree, Trees, none, more}
 use Rattle.wt_span.specs.Items.{Item, sources}
 use Rattle.wt_span.specs.Origins.{Expanded}
 use Rattle.wt_inline.specs.ItemTree.{plain, inner, nothing, further, forest, held_by_all}
-use Rattle.wt_original.specs.Kinds.{shape}
+use Rattle.wt_tree.specs.EditShapes.{edit_shape}
 use Rattle.wt_isolation.specs.OpenTags.{any_ends_open}
 use Rattle.wt_selser.specs.GroupFaults.{has_faulty_group}
 use Rattle.wt_annotated.specs.Annotated.{annotated}
@@ -27,7 +27,7 @@ use Rattle.wt_text_edits.proofs.TypedAgain.{old_para, old_page}
 -- ---- nothing in them refuses an edit
 
 pub none_faulty : (items : Expanded) (n : ℕ) (before : List Item) (ls : List Leaf) → has_faulty_group items (nodes n before ls) ≡ false
-unfolding label_at shape
+unfolding label_at
 none_faulty items n before [] = refl
 none_faulty items n before (letters b bs ∷ ls) = none_faulty items (next n before (letters b bs)) (behind before (letters b bs)) ls
 none_faulty items n before (reference c bs ∷ ls) = none_faulty items (next n before (reference c bs)) (behind before (reference c bs)) ls

@@ -3,7 +3,7 @@ use Rattle.std.specs.Prelude.{ℕ, false, None, List, [], ◌∷◌}
 use Rattle.wt_tree.specs.declared.kind.Kind.TheVariants as kind
 use Rattle.wt_tree.specs.declared.kind.Mark.TheVariants as marks
 use Rattle.wt_tree.specs.Tree.{Label, Tree, tree, Trees, none, more}
-use Rattle.wt_guards.specs.declared.side.Place.TheVariants as place
+use Rattle.wt_tree.specs.declared.edit_shape.Place.TheVariants as place
 use Rattle.wt_guards.specs.Content.{letters}
 use Rattle.wt_guards.specs.Guards.{spelled}
 

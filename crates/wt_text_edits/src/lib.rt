@@ -9,7 +9,7 @@ ghost use Rattle.wt_span.specs.declared.limits.TheConstants.{HTML_BYTES, PAGE_BY
 ghost use Rattle.wt_span.specs.Items.{Item};
 ghost use Rattle.wt_devices.specs.Device.{Pages};
 ghost use Rattle.wt_tree.specs.Tree.{Label};
-ghost use Rattle.wt_guards.specs.declared.side.Place.TheVariants as place;
+ghost use Rattle.wt_tree.specs.declared.edit_shape.Place.TheVariants as place;
 ghost use Rattle.wt_guards.specs.Content.{letters};
 ghost use Rattle.wt_guards.specs.Guards.{Setting, spelled};
 ghost use Rattle.wt_expand.specs.PageCalls.{expanded_page};

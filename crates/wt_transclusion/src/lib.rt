@@ -31,7 +31,7 @@ pub use name::name_text;
 pub use read::{Braces, ReadText, read_in};
 pub use refusal::ExpandRefusal;
 pub use store::Store;
-pub use target::{function_named, is_function, title_of_target};
+pub use target::{is_function, title_of_target};
 pub use templates::{PageLookup, take};
 pub use trim::{behind_items, trimmed_items};
 pub use values::Values;

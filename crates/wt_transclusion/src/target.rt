@@ -6,15 +6,13 @@ ghost use Rattle.wt_names.specs.declared.namespace.Ns.TheVariants as spaces;
 ghost use Rattle.wt_span.specs.Items.{items, items_of};
 ghost use Rattle.wt_expand.specs.Texts.{target_of_form, target_text, both};
 ghost use Rattle.wt_expand.specs.Targets.{as_template, if_good, is_function, is_main, is_template, placed_title, title_behind, title_in_target, title_of_target, without_fragment};
-ghost use Rattle.wt_span.specs.Functions.{function_of};
 ghost use Rattle.wt_span.specs.Characters as byte;
 ghost use Rattle.wt_transclusion.specs.Target.{PushesTarget, is_that_template};
 
 use crate::blanks::{behind, front_len, trimmed};
 use std::alloc::Global;
-use wt_functions::function_in;
 use wt_names::{Ns, Title, read_title};
-use wt_span::{Function, ItemForm, NoMemory, Piece, Str, rest_of};
+use wt_span::{ItemForm, NoMemory, Piece, Str, rest_of};
 
 /// Appends what a piece says in a target: characters, an entity's character, nothing for marks. It
 /// answers false where the piece can't be in one.
@@ -156,18 +154,6 @@ pub fn is_function(source: &[u8]) -> bool
     }
     let inside = rest_of(source, 2);
     byte_at(inside, front_len(inside)) == b'#'
-}
-
-/// The function by text that a call of two braces is, by its source, and the place of its part 0 after
-/// the braces.
-pub fn function_named(source: &[u8]) -> Option<(Function, u32)>
-    requires { length source.now < 2 ^ 32 }
-    ensures { result ≡ function_of (drop 2 source.now) }
-{
-    if source.len() < 2 {
-        return None;
-    }
-    function_in(rest_of(source, 2))
 }
 
 /// The byte at a place, 0 past the end.

@@ -20,3 +20,4 @@ pub mod Tiling
 pub mod Tree
 pub mod Values
 pub mod View
+pub mod EditShapes

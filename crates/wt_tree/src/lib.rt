@@ -4,6 +4,7 @@
 
 mod annotated;
 mod compare;
+mod edit_shape;
 mod kind;
 mod laws;
 mod look;
@@ -19,13 +20,14 @@ mod table;
 
 pub use annotated::Annotated;
 pub use compare::{plain_eq, same_attrs, same_data, same_face, same_kind};
+pub use edit_shape::{BlockForm, EditShape, Editing, InlineForm, ItemsOf, Place, Sort};
 pub use kind::{AttrName, Kind, Mark, Ranges, Showing, TagName};
 pub use laws::{joining_once, plain_forgets, recut_once};
 pub use look::{find, walk};
 pub use more::More;
 pub use node::{Attr, DataMw, Node, Part};
 pub use node_source::Source;
-pub use recut::recut_texts;
+pub use recut::{are_spaces, has_break, is_blank, recut_texts, shows_block};
 pub use row::{Fixed, Holding, Own, Payload, Placement, Shape, Spelling, Texts, Values, Writing};
 pub use shown::Shown;
 pub use slices::Slices;

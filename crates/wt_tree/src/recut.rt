@@ -99,7 +99,8 @@ fn has_break_text(text: Text<'_>) -> bool
     text.as_str().as_bytes().iter().any(|byte| *byte == b'\n')
 }
 
-fn is_blank(texts: &[Text<'_>]) -> bool
+/// Whether texts have blanks and line breaks alone.
+pub fn is_blank(texts: &[Text<'_>]) -> bool
     ensures { result ≡ is_blank (texts_of texts.now) }
 {
     for text in texts {
@@ -110,7 +111,8 @@ fn is_blank(texts: &[Text<'_>]) -> bool
     true
 }
 
-fn are_spaces(texts: &[Text<'_>]) -> bool
+/// Whether texts have spaces and tabs alone.
+pub fn are_spaces(texts: &[Text<'_>]) -> bool
     ensures { result ≡ are_spaces (texts_of texts.now) }
 {
     for text in texts {
@@ -141,7 +143,8 @@ fn is_empty(texts: &[Text<'_>]) -> bool
     true
 }
 
-fn has_break(texts: &[Text<'_>]) -> bool
+/// Whether a line break is in the texts.
+pub fn has_break(texts: &[Text<'_>]) -> bool
     ensures { result ≡ has_break (texts_of texts.now) }
 {
     for text in texts {
@@ -163,7 +166,7 @@ fn is_text(node: &Node<'_>) -> bool
 
 /// Whether a node is a block or a list, or a group that shows one.
 #[cycle(showing)]
-fn shows_block(node: &Node<'_>) -> bool
+pub fn shows_block(node: &Node<'_>) -> bool
     ensures { result ≡ shows_block (view node.now) }
 {
     match node.kind {

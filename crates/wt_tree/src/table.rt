@@ -31,6 +31,7 @@ ghost use Rattle.wt_tree.specs.Kinds.{
   attribute_name,
   order,
 };
+ghost use Rattle.wt_tree.specs.Tiling.{is_group};
 
 use crate::kind::Showing::{Characters, Element, Inside, Nothing};
 use crate::kind::{AttrName, Kind, Showing, TagName};
@@ -646,6 +647,13 @@ impl Kind {
         ensures { result ≡ is_mark self }
     {
         matches!(self.shape().class, Placement::Mark)
+    }
+
+    /// Whether it is a group.
+    pub fn is_group(self) -> bool
+        ensures { result ≡ is_group self }
+    {
+        matches!(self, Kind::Group)
     }
 
     /// Whether it is a section.

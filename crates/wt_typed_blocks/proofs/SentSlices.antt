@@ -10,7 +10,7 @@ use Rattle.wt_tree.specs.declared.kind.Mark.{Mark}
 use Rattle.wt_tree.specs.Tree.{Label, Tree, tree, Trees, none, more, label}
 use Rattle.wt_guards.specs.Content.{letters}
 use Rattle.wt_guards.specs.Guards.{spelled}
-use Rattle.wt_original.specs.Kinds.{shape}
+use Rattle.wt_tree.specs.EditShapes.{edit_shape}
 use Rattle.wt_original.specs.Kept.{kept_with}
 use Rattle.wt_escape.specs.Spelling.{inline_spelling}
 use Rattle.wt_checks.specs.Marks.{is_children}
@@ -128,7 +128,7 @@ slices_are same page i v (typed k l ts m x text ∷ ss) h it =
 
 pub written_is : (same : Same) (k : Block) (l : Label) (ts : Trees) (m x : Label) (text : List ℕ) → written same (typed k l ts m x text)
     ≡ spelled (record { within = false; place = place_of k; source = block_source l ts }) (letters text)
-unfolding inline_spelling shape kept_with chars
+unfolding inline_spelling kept_with chars
 written_is same paragraph l ts m x [] = refl
 written_is same paragraph l ts m x (c ∷ cs) =
     ap (spelled (record { within = false; place = place_of paragraph; source = block_source l ts })) (append-nil (letters (c ∷ cs)))
@@ -143,7 +143,7 @@ one_line text e = ap (λ (b : Bool). first_why (((if b then why.LineBreak ∷ []
 
 good : (same : Same) (k : Block) (l : Label) (ts : Trees) (m x : Label) (text : List ℕ) → Takes k text
     → bad_content same (old_child (typed k l ts m x text)) (new_child (typed k l ts m x text)) ≡ None
-unfolding bad_content shape kept_with
+unfolding bad_content kept_with
 good same paragraph l ts m x [] h = refl
 good same paragraph l ts m x (c ∷ cs) h = refl
 good same (heading n) l ts m x [] h = refl

@@ -12,7 +12,7 @@ ghost use Rattle.wt_visible.specs.Views.{Adds, children_view, held_view, node_vi
 use crate::shown_node::ShownNode;
 use std::alloc::Global;
 use std::mem;
-use wt_checks::{Visit, is_group, original};
+use wt_checks::{Visit, original};
 use wt_span::{NoMemory, front_of};
 use wt_tree::{Node, Showing};
 
@@ -135,7 +135,7 @@ fn push_restored<'p, 't, 'a>(
             Ok(())
         }
         Showing::Inside => {
-            let group = is_group(node.kind);
+            let group = node.kind.is_group();
             if group {
                 push_all_shown(alloc, page, shown, group_held(page, node))?;
                 return Ok(());
@@ -175,7 +175,7 @@ fn push_held<'p, 't, 'a>(
 ) -> Result<(), NoMemory>
     ensures { OnOk result (Adds shown.old shown.new (plains_before (restored_held (indexed page.now) (view node.now)))) }
 {
-    let group = is_group(node.kind);
+    let group = node.kind.is_group();
     if group {
         push_all_shown(alloc, page, shown, group_held(page, node))?;
         return Ok(());

@@ -1,5 +1,5 @@
 use Rattle.std.proofs.Common.{arith, List, ◌++◌, sym, ap, ◌∙◌, subst}
-use Rattle.wt_original.specs.declared.kinds.Spelled.{Spelled}
+use Rattle.wt_tree.specs.declared.edit_shape.EditShape.{EditShape}
 use Rattle.wt_original.specs.PageViews.{page_view}
 use Rattle.wt_content.specs.declared.reason.ContentWhy.{ContentWhy}
 use Rattle.wt_content.specs.Views.{HasFaults}
@@ -8,18 +8,18 @@ use Rattle.wt_content.proofs.content.+visiting.Goals as goal
 
 pub visit-returns-else-is_open : goal.visit-returns-else-is_open
 visit-returns-else-is_open t c = λ same tells ws h.
-    let w = c.shape-inline.result.inline in
+    let w = c.edit_shape-inline.result.inline in
     let nested = subst (λ (vs : List ContentWhy). HasFaults c.add_any.new.self (ws ++ vs)) c.nested_fault.ensures (c.add_any.ensures ws h) in
     closed_visit c.args.node.now w (page_view same c.args.page.now) c.args.around c.in_ok-standing.standing c.in_ok-why.why c.add_any-2.new.self ws
-    (ap (λ (r : Spelled). r.inline) (sym c.shape-inline.ensures)) (c.in_ok-standing.ensures same tells) c.in_ok-why.ensures
+    (ap (λ (r : EditShape). r.inline) (sym c.edit_shape-inline.ensures)) (c.in_ok-standing.ensures same tells) c.in_ok-why.ensures
     (sym c.is_open.ensures ∙ c.if-is_open.false) (c.add_any-2.ensures _ nested)
 
 pub visit-returns-in_ok-visit_all : goal.visit-returns-in_ok-visit_all
 visit-returns-in_ok-visit_all t c = λ same tells ws h.
-    let w = c.shape-inline.result.inline in
+    let w = c.edit_shape-inline.result.inline in
     let nested = subst (λ (vs : List ContentWhy). HasFaults c.add_any.new.self (ws ++ vs)) c.nested_fault.ensures (c.add_any.ensures ws h) in
     open_visit c.args.node.now w (page_view same c.args.page.now) c.args.around c.below.result c.in_ok-standing.standing c.in_ok-why.why c.visit_all.new.found ws
-    c.as_slice.result.now c.below.ensures c.as_slice.ensures (ap (λ (r : Spelled). r.inline) (sym c.shape-inline.ensures)) (c.in_ok-standing.ensures same tells)
+    c.as_slice.result.now c.below.ensures c.as_slice.ensures (ap (λ (r : EditShape). r.inline) (sym c.edit_shape-inline.ensures)) (c.in_ok-standing.ensures same tells)
     c.in_ok-why.ensures (sym c.is_open.ensures ∙ c.if-is_open.true) (c.in_ok-visit_all.ensures same tells _ (c.add_any-2.ensures _ nested))
 
 pub visit_all-loop-node-preserved : goal.visit_all-loop-node-preserved

@@ -4,8 +4,8 @@ use Rattle.std.proofs.lemmas.Grind.{common_steps}
 use Rattle.wt_tree.specs.declared.node.Node.{out-Node}
 use Rattle.wt_tree.specs.View.{label_of, view, views}
 use Rattle.wt_names.specs.Written.{read_link}
-use Rattle.wt_original.specs.declared.kinds.InlineForm.TheVariants as inline
-use Rattle.wt_original.specs.declared.kinds.Spelled.{Spelled}
+use Rattle.wt_tree.specs.declared.edit_shape.InlineForm.TheVariants as inline
+use Rattle.wt_tree.specs.declared.edit_shape.EditShape.{EditShape}
 use Rattle.wt_guards.specs.declared.role.Role.TheVariants as role
 use Rattle.wt_original.specs.Gathered.{kept_view}
 use Rattle.wt_escape.specs.Spelling.{unless_kept, new_thing, page_link, external_link, tag_pair, href_of, spelled_within, signs_of_all}
@@ -20,7 +20,7 @@ push_signs-returns-in-Nothing t c = λ same tells.
     let p = page_view same c.args.page.now in
     let k = option_map kept_view c.find-kept.result in
     signs_pushed n inline.Nothing p c.args.place k (all_signs c.args.out.now.items) (all_signs c.args.out.now.items) []
-    (ap (λ (r : Spelled). r.inline) (sym c.shape.ensures) ∙ c.in-Nothing.is) c.find-kept.ensures refl (sym (append-nil (all_signs c.args.out.now.items)))
+    (ap (λ (r : EditShape). r.inline) (sym c.edit_shape.ensures) ∙ c.in-Nothing.is) c.find-kept.ensures refl (sym (append-nil (all_signs c.args.out.now.items)))
 
 pub push_signs-returns-in_ok-push_page_link-in-PageLink : goal.push_signs-returns-in_ok-push_page_link-in-PageLink
 push_signs-returns-in_ok-push_page_link-in-PageLink t c = λ same tells.
@@ -32,7 +32,7 @@ push_signs-returns-in_ok-push_page_link-in-PageLink t c = λ same tells.
     signs_pushed n inline.PageLink p pl k (all_signs c.args.out.now.items) (all_signs c.push_page_link.new.out.items)
     (unless_kept p k (view n) (new_thing role.Link
     (page_link (read_link (href_of (label_of (out-Node n)))) ts (spelled_within p pl (signs_of_all p pl ts))) k))
-    (ap (λ (r : Spelled). r.inline) (sym c.shape.ensures) ∙ c.in-PageLink.is) c.find-kept.ensures (sym (unless_seen n p k _))
+    (ap (λ (r : EditShape). r.inline) (sym c.edit_shape.ensures) ∙ c.in-PageLink.is) c.find-kept.ensures (sym (unless_seen n p k _))
     (c.in_ok-push_page_link-in-PageLink.ensures same tells)
 
 pub push_signs-returns-in_ok-push_external_link-in-ExternalLink : goal.push_signs-returns-in_ok-push_external_link-in-ExternalLink
@@ -44,7 +44,7 @@ push_signs-returns-in_ok-push_external_link-in-ExternalLink t c = λ same tells.
     let ts = views (out-Node n).children in
     signs_pushed n inline.ExternalLink p pl k (all_signs c.args.out.now.items) (all_signs c.push_external_link.new.out.items)
     (unless_kept p k (view n) (new_thing role.External (external_link (href_of (label_of (out-Node n))) (spelled_within p pl (signs_of_all p pl ts))) k))
-    (ap (λ (r : Spelled). r.inline) (sym c.shape.ensures) ∙ c.in-ExternalLink.is) c.find-kept.ensures (sym (unless_seen n p k _))
+    (ap (λ (r : EditShape). r.inline) (sym c.edit_shape.ensures) ∙ c.in-ExternalLink.is) c.find-kept.ensures (sym (unless_seen n p k _))
     (c.in_ok-push_external_link-in-ExternalLink.ensures same tells)
 
 pub push_signs-returns-in_ok-push_tag-in-Tag : goal.push_signs-returns-in_ok-push_tag-in-Tag
@@ -56,7 +56,7 @@ push_signs-returns-in_ok-push_tag-in-Tag t c = λ same tells.
     let ts = views (out-Node n).children in
     signs_pushed n inline.Tag p pl k (all_signs c.args.out.now.items) (all_signs c.push_tag.new.out.items)
     (unless_kept p k (view n) (new_thing role.Node (tag_pair k (spelled_within p pl (signs_of_all p pl ts))) k))
-    (ap (λ (r : Spelled). r.inline) (sym c.shape.ensures) ∙ c.in-Tag.is) c.find-kept.ensures (sym (unless_seen n p k _))
+    (ap (λ (r : EditShape). r.inline) (sym c.edit_shape.ensures) ∙ c.in-Tag.is) c.find-kept.ensures (sym (unless_seen n p k _))
     (c.in_ok-push_tag-in-Tag.ensures same tells)
 
 pub push_page_link-returns-then-done : goal.push_page_link-returns-then-done

@@ -1,6 +1,6 @@
 use Rattle.std.proofs.Common.{arith}
 use Rattle.std.proofs.lemmas.Grind.{common_steps}
-use Rattle.wt_original.specs.declared.kinds.ItemsOf.TheVariants as item
+use Rattle.wt_tree.specs.declared.edit_shape.ItemsOf.TheVariants as item
 use Rattle.wt_original.proofs.Nodes.{items_views}
 use Rattle.wt_original.proofs.gather.+pushing.Goals as goal
 
