@@ -52,6 +52,12 @@ export class Mender {
   #inLink = false;
 
   /**
+   * In which of bold and italic (`b`, `i`) what is read stands.
+   * @type {Set<string>}
+   */
+  #styles = new Set();
+
+  /**
    * The blocks that nobody has touched, with the page's parts that they are.
    * @type {Map<Element, Part>}
    */
@@ -529,8 +535,35 @@ export class Mender {
    * @param {string} name
    */
   #styled(element, name) {
-    const children = this.#flat(this.#inline(element.childNodes), () => false);
+    const isStyle = name === "b" || name === "i";
+    if (isStyle && this.#styles.has(name) && !this.#hasAbove(element, name)) return this.#inline(element.childNodes);
+    const children = this.#flat(this.#within(isStyle ? [name] : [], element.childNodes), () => false);
     return isBare(children) && this.#mayVanish(element) ? children : [this.#part(element, name, children)];
+  }
+
+  /**
+   * Whether the page has the element inside another one of this name.
+   * @param {Element} element
+   * @param {string} name
+   */
+  #hasAbove(element, name) {
+    let above = this.#kept(this.#numberOf(element))?.parent;
+    while (above && above.part.name !== name) above = above.parent;
+    return Boolean(above);
+  }
+
+  /**
+   * What stands in bold or italic text: bold in bold is its inside, since no apostrophes say it.
+   * @param {string[]} styles  those that begin here
+   * @param {Iterable<Node>} nodes
+   * @returns {Pieces}
+   */
+  #within(styles, nodes) {
+    const begun = styles.filter((name) => !this.#styles.has(name));
+    for (const name of begun) this.#styles.add(name);
+    const pieces = this.#inline(nodes);
+    for (const name of begun) this.#styles.delete(name);
+    return pieces;
   }
 
   /**
@@ -549,12 +582,13 @@ export class Mender {
    */
   #byStyle(element) {
     const style = element.getAttribute("style") ?? "";
-    let pieces = this.#inline(element.childNodes);
+    const styles = [];
+    if (/font-style:\s*(?:italic|oblique)/i.test(style)) styles.push("i");
+    if (/font-weight:\s*(?:bold|[6-9]00)/i.test(style)) styles.push("b");
+    const begun = styles.filter((name) => !this.#styles.has(name));
+    let pieces = this.#within(begun, element.childNodes);
     if (isEmpty(pieces)) return pieces;
-    const isItalic = /font-style:\s*(?:italic|oblique)/i.test(style);
-    const isBold = /font-weight:\s*(?:bold|[6-9]00)/i.test(style);
-    if (isItalic) pieces = [new Part("i", new Map(), this.#flat(pieces, () => false))];
-    if (isBold) pieces = [new Part("b", new Map(), this.#flat(pieces, () => false))];
+    for (const name of begun) pieces = [new Part(name, new Map(), this.#flat(pieces, () => false))];
     return pieces;
   }
 

@@ -147,6 +147,12 @@ const MENDS = [
     "<p>ab<b>c</b></p>",
   ],
   [
+    "bold in bold and italic in italic are their inside",
+    "",
+    '<p><b>a<strong>b</strong><i>c<b>d</b></i></b><i>e<em>f</em><span style="font-style: italic">g</span></i></p>',
+    "<p><b>ab<i>cd</i></b><i>efg</i></p>",
+  ],
+  [
     "comments, scripts and pictures are left out",
     "",
     "<p>a<comment>x</comment><script>y</script><img></img>b</p>",

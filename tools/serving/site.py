@@ -9,14 +9,15 @@ import shutil
 import tempfile
 import threading
 from concurrent.futures import ThreadPoolExecutor
+from contextlib import contextmanager
 from dataclasses import dataclass, field
 from html import escape
 from pathlib import Path
-from typing import Callable, Dict, List, Optional
+from typing import Callable, Dict, Iterator, List, Optional
 from urllib.parse import quote
 
 from . import bodies, documents
-from .fingerprints import etag, hash_of, names_tag, tags_of
+from .fingerprints import etag, hash_of, names_reached, names_tag, tags_of
 from .known import KnownStates
 from .mending import marked, mended
 from .other_tools import titles
@@ -306,9 +307,14 @@ class Site:
         return self._tag(edit.name, self.folder.read(edit.name), edit.html_hash) == edit.tag
 
     def _state_of(self, edit: Edit) -> State:
-        """The state that a page will have once an edit is stored."""
-        with self._texts.page(edit.new) as (room, text_name):
-            document = self.program.html(text_name, room)
+        """The state that a page will have once an edit is stored. One that takes itself as a template takes
+        its new text."""
+        if edit.name in names_reached(self.folder, edit.new):
+            with self._texts.with_page(edit.name, edit.new) as room:
+                document = self.program.html(edit.name, room)
+        else:
+            with self._texts.page(edit.new) as (room, text_name):
+                document = self.program.html(text_name, room)
         return self._state(edit.name, edit.new, document)
 
     def prepared_html(self, request: Request, title: str, word: str) -> Answer:
@@ -395,6 +401,20 @@ class TextRoom:
                 os.mkdir(os.path.join(self._room.name, "pages"))
             self._link()
         return TextPage(self._room.name, f"Text {secrets.token_hex(16)}", text)
+
+    @contextmanager
+    def with_page(self, name: str, text: bytes) -> Iterator[str]:
+        """A directory of its own, in which a page has this text, and each other one that of the folder."""
+        with tempfile.TemporaryDirectory(prefix="wtround-serve-") as room:
+            pages = os.path.join(room, "pages")
+            os.mkdir(pages)
+            own = titles.file_name(name)
+            for file in os.listdir(self._folder.path):
+                if file.endswith(".wiki") and file != own:
+                    os.symlink(os.path.join(self._folder.path, file), os.path.join(pages, file))
+            with open(os.path.join(pages, own), "xb") as page:
+                page.write(text[: PAGE_BYTES + 1])
+            yield room
 
     def _link(self) -> None:
         """Makes the links to the folder's files those that they are now."""
@@ -524,7 +544,8 @@ def check_text(page: bytes) -> None:
     try:
         page.decode("utf-8")
     except UnicodeDecodeError as error:
-        line = f"page not UTF-8 at {error.start}"
+        place = error.start if error.reason == "invalid start byte" else error.end  # as `wtround` counts
+        line = f"page not UTF-8 at {place}"
         raise Refusal(422, "PageNotUtf8", "The page stops being UTF-8 there: convert it.", line) from None
 
 

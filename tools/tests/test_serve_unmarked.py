@@ -194,6 +194,30 @@ class Unmarked(ServingCase):
         self.assertEqual((status, json.loads(answer)["error"]), (422, "NothingKept"))
 
 
+class OwnTemplate(ServingCase):
+    """A page that shows itself, as the documentation of a template does."""
+
+    def test_it_is_saved_twice(self) -> None:
+        page = self.pages / "Template%3AShown.wiki"
+        page.write_text("x <noinclude>\n\nsee {{Shown}} b\n</noinclude>")
+        html, tag = self.html("Template:Shown")
+        for old, new in ((">x <meta", ">y <meta"), (" b</p>", " c</p>")):
+            status, told = self.save("Template:Shown", html.replace(old, new), tag, "?html=1")
+            self.assertEqual((status, told["changed"]), (200, True), told)
+            html, tag = told["html"], told["etag"]
+            self.assertEqual((html, tag), self.html("Template:Shown"))
+        self.assertEqual(page.read_text(), "y <noinclude>\n\nsee {{Shown}} c\n</noinclude>")
+
+    def test_where_a_page_stops_being_utf8(self) -> None:
+        for data in (b"a\xe2\x82(b", b"a\xffb", b"a\xe2\x82", b"\xed\xa0\x80", b"\xf0\x80"):
+            (self.pages / "Bad.wiki").write_bytes(data)
+            lines = []
+            for form in ("html", "wikitext"):
+                _, _, answer = self.ask("GET", f"/localhost/v3/page/{form}/Bad")
+                lines.append(json.loads(answer)["line"])
+            self.assertEqual(lines[0], lines[1], data)
+
+
 class OlderProgram(ServingCase):
     def start(self):  # type: ignore[no-untyped-def]
         import serving_case

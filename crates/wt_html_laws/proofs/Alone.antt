@@ -17,7 +17,7 @@ use Rattle.wt_schema.specs.Groups.{standing_by, open_by, is_further, is_grouped,
 use Rattle.wt_html_laws.proofs.Numbers.{SameOk, same_self, spot}
 
 -- where no group is open none goes on
-none_goes_on : (ts : Markups) → goes_on None ts ≡ false
+pub none_goes_on : (ts : Markups) → goes_on None ts ≡ false
 none_goes_on empty = refl
 none_goes_on (more (text bs) ts) = and_right (is_gap bs) (goes_on None ts) (none_goes_on ts)
 none_goes_on (more (node name ps c) ts) = by_about (value_of (codes "about") ps) (has (codes "data-mw") ps)

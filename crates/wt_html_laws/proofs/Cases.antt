@@ -16,6 +16,7 @@ use Rattle.wt_schema.specs.Groups.{transclusion, param}
 use Rattle.wt_schema.specs.Read.{page, read_tree, read}
 use Rattle.wt_checks.specs.PutBack.{have_frame}
 use Rattle.wt_html_laws.specs.SameBodies.{IsSameDocument}
+use Rattle.wt_html_laws.specs.JoinedTexts.{body_texts_joined}
 use Rattle.wt_html_laws.specs.OpenedBodies.{sections_opened}
 
 -- a node without data, and a group
@@ -91,3 +92,9 @@ taken_out : sections_opened (document (one (section [] (one (text (codes "\n")) 
     (one (section [] empty) (one (node (codes "td") [] (one (section [] empty) empty)) empty))))
     ≡ document (one (text (codes "\n")) (one rule (one (node (codes "td") [] (one (section [] empty) empty)) empty)))
 taken_out = refl
+
+-- texts side by side in the body are one, those in a section or in an element aren't touched
+side_by_side : body_texts_joined (document (one (text (codes "a")) (one (text (codes "b")) (one (text (codes "c")) (one rule
+    (one (node (codes "p") [] (one (text (codes "d")) (one (text (codes "e")) empty))) (one (text (codes "f")) empty)))))))
+    ≡ document (one (text (codes "abc")) (one rule (one (node (codes "p") [] (one (text (codes "d")) (one (text (codes "e")) empty))) (one (text (codes "f")) empty))))
+side_by_side = refl

@@ -11,4 +11,6 @@ pub mod Alone
 pub mod Holders
 pub mod Openings
 pub mod OpenedBodies
+pub mod JoinedTexts
+pub mod JoinedBodies
 mod Cases

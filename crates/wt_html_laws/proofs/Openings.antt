@@ -31,31 +31,31 @@ use Rattle.wt_html_laws.proofs.Holders.{IsHolder, section_holder}
 
 -- ---- what a result is made of
 
-abbrev onto_if : Option Piece → List Piece → List Piece
+abbrev pub onto_if : Option Piece → List Piece → List Piece
 onto_if None xs = xs
 onto_if (Some x) xs = x ∷ xs
 
 pub record IsMadeOf (o : Result (Option Piece) Misfit) (r : Result (List Piece) Misfit) (xs : List Piece) : Type 0 where
-  first : Option Piece
-  others : List Piece
-  first_fits : o ≡ Ok first
-  others_fit : r ≡ Ok others
-  all : onto_if first others ≡ xs
+  pub first : Option Piece
+  pub others : List Piece
+  pub first_fits : o ≡ Ok first
+  pub others_fit : r ≡ Ok others
+  pub all : onto_if first others ≡ xs
 
-from_ok : (xs ys : List Piece) → Path (Result (List Piece) Misfit) (Ok xs) (Ok ys) → xs ≡ ys
+pub from_ok : (xs ys : List Piece) → Path (Result (List Piece) Misfit) (Ok xs) (Ok ys) → xs ≡ ys
 from_ok xs ys e = cc e
 
-made_of : (o : Result (Option Piece) Misfit) (r : Result (List Piece) Misfit) (xs : List Piece) → onto_told o r ≡ Ok xs → IsMadeOf o r xs
+pub made_of : (o : Result (Option Piece) Misfit) (r : Result (List Piece) Misfit) (xs : List Piece) → onto_told o r ≡ Ok xs → IsMadeOf o r xs
 made_of (Ok None) (Ok ys) xs e = record { first = None; others = ys; first_fits = refl; others_fit = refl; all = from_ok ys xs e }
 made_of (Ok (Some x)) (Ok ys) xs e = record { first = Some x; others = ys; first_fits = refl; others_fit = refl; all = from_ok (x ∷ ys) xs e }
 made_of (Ok None) (Err m) xs e = absurd (cc e)
 made_of (Ok (Some x)) (Err m) xs e = absurd (cc e)
 made_of (Err m) r xs e = absurd (cc e)
 
-first_of : (o p : Option Piece) → Path (Result (Option Piece) Misfit) (Ok o) (Ok p) → o ≡ p
+pub first_of : (o p : Option Piece) → Path (Result (Option Piece) Misfit) (Ok o) (Ok p) → o ≡ p
 first_of o p e = cc e
 
-onto_pieces : (q : Option Piece) (ws : List Piece) (r : Result (List Piece) Misfit) → r ≡ Ok ws → onto_told (Ok q) r ≡ Ok (onto_if q ws)
+pub onto_pieces : (q : Option Piece) (ws : List Piece) (r : Result (List Piece) Misfit) → r ≡ Ok ws → onto_told (Ok q) r ≡ Ok (onto_if q ws)
 onto_pieces None ws r e = e
 onto_pieces (Some x) ws r e = ap (onto x) e
 

@@ -1,2 +1,3 @@
 pub mod SameBodies
 pub mod OpenedBodies
+pub mod JoinedTexts

@@ -8,6 +8,7 @@ ghost use Rattle.wt_schema.specs.Fit.{fit};
 ghost use Rattle.wt_schema.specs.Read.{page, read};
 ghost use Rattle.wt_checks.specs.PutBack.{IsOneBody};
 ghost use Rattle.wt_html_laws.specs.SameBodies.{IsSameDocument};
+ghost use Rattle.wt_html_laws.specs.JoinedTexts.{FitsAlike, body_texts_joined};
 ghost use Rattle.wt_html_laws.specs.OpenedBodies.{sections_opened};
 
 /// A page that is read is one body: in it stands neither another body nor a section, however deep, since
@@ -26,4 +27,10 @@ pub fn section_attributes_count_for_nothing()
 /// their place.
 pub fn sections_may_be_taken_out()
     ensures { (m : Markup) (t : Tree) → fit m ≡ Ok t → fit (sections_opened m) ≡ Ok t }
+{}
+
+/// Texts that come next to each other in the body, where a section's tag was between them, are one text in the
+/// HTML without these sections. That document is a page with the same source, and it shows the same.
+pub fn texts_side_by_side_are_one()
+    ensures { (m : Markup) (t : Tree) → fit m ≡ Ok t → FitsAlike (fit (body_texts_joined m)) t }
 {}

@@ -6,8 +6,9 @@ use std::alloc::Global;
 use wt_block_proposal::{
     Surroundings, is_cell, is_item, is_lined, is_list, is_part, push_block, signs_of,
 };
+use wt_checks::is_compared;
 use wt_content_proposal::{Known, last_text};
-use wt_difference::{Child, inside, is_compared};
+use wt_difference::{Child, inside};
 use wt_selser::Change;
 use wt_span::{NoMemory, Str};
 use wt_tree::{Kind, Node, same_kind};
@@ -36,7 +37,7 @@ fn place_of(at: usize) -> Result<u32, NoMemory> {
     Ok(at as u32)
 }
 
-/// Appends a slice, by what stands there instead.
+/// Appends a slice, by what is there instead.
 pub fn push_change(out: &mut Vec<Change>, place: Slot, by: Str) -> Result<(), NoMemory> {
     let start = place_of(place.start)?;
     let end = place_of(place.end)?;
@@ -72,8 +73,8 @@ fn push_slice(out: &mut Vec<Slot>, slice: Option<Slot>) -> Result<(), NoMemory> 
     Ok(())
 }
 
-/// The slices of the children that go: those that stand next to each other in one. A comment or an include tag
-/// between two of them stands.
+/// The slices of the children that go: those that are next to each other in one. A comment or an include tag
+/// between two of them stays.
 fn slices_of(alloc: Global, gone: &[Child<'_, '_>]) -> Result<Vec<Slot>, NoMemory> {
     let mut out = Vec::new(alloc);
     let mut slice = None;
@@ -137,7 +138,7 @@ fn back_over_blanks(page: &str, least: usize, from: usize) -> usize {
     place
 }
 
-/// The most line breaks that stand between two places with nothing but blanks between them.
+/// The most line breaks between two places with nothing but blanks between them.
 fn most_breaks(page: &str, from: usize, to: usize) -> usize {
     let mut most = 0usize;
     let mut count = 0usize;
@@ -155,7 +156,7 @@ fn most_breaks(page: &str, from: usize, to: usize) -> usize {
 
 // ---- line breaks
 
-/// How many line breaks two neighbours ask for at least. No empty line stands in an item.
+/// How many line breaks two neighbours ask for at least. No empty line is in an item.
 fn least_between(in_item: bool, left: Kind, right: Kind) -> usize {
     if is_cell(left) {
         return 0;
@@ -207,7 +208,7 @@ fn behind_marks(gap: Gap<'_, '_, '_>, at: usize) -> usize {
     end
 }
 
-/// A slice that goes, with the blanks behind it; at the end of its holder with those before it.
+/// A slice that goes, with the blanks after it; at the end of its holder with those before it.
 fn with_blanks(page: &str, gap: Gap<'_, '_, '_>, slice: Slot) -> Slot {
     let end = past_blanks(page, slice.end, gap.place.end);
     if gap.behind.is_none() && end == gap.place.end {
@@ -222,8 +223,8 @@ fn with_blanks(page: &str, gap: Gap<'_, '_, '_>, slice: Slot) -> Slot {
     }
 }
 
-/// Appends the slices that go. Where they leave fewer line breaks than are wanted between what stands before and
-/// behind them, the last one has the others.
+/// Appends the slices that go. Where they leave fewer line breaks than are wanted between what comes before and
+/// after them, the last one has the others.
 fn push_gone(
     alloc: Global,
     out: &mut Vec<Change>,
@@ -269,7 +270,7 @@ fn first_gone<'t, 'a>(gone: &[Child<'t, 'a>]) -> Option<&'t Node<'a>> {
     None
 }
 
-/// An item of the page that stands beside those that come.
+/// An item of the page that is beside those that come.
 fn item_beside<'t, 'a>(gap: Gap<'_, 't, 'a>) -> Option<&'t Node<'a>> {
     gap.before.or(gap.behind).or(first_gone(gap.gone))
 }
@@ -296,7 +297,7 @@ fn signs_like(alloc: Global, signs: &str, kind: Kind) -> Result<Str, NoMemory> {
     }
 }
 
-/// The signs with which an item that comes begins: those of the items that stand there.
+/// The signs with which an item that comes begins: those of the items that are there.
 fn signs_in(
     alloc: Global,
     known: &Known<'_, '_>,
@@ -370,7 +371,7 @@ fn coming_of<'t, 'a>(
     Ok(coming)
 }
 
-/// What came so far, and this one behind it.
+/// What came so far, and this one after it.
 fn followed(
     alloc: Global,
     in_item: bool,
@@ -402,7 +403,7 @@ fn followed(
     Ok(all)
 }
 
-/// Where those come that take no other's place: behind the child before, or before the one behind.
+/// Where those come that take no other's place: after the child before, or before the one after.
 fn place_between(gap: Gap<'_, '_, '_>) -> Slot {
     let at = if gap.before.is_none() && gap.behind.is_some() {
         gap.place.end
@@ -436,7 +437,7 @@ fn breaks_before(
     }
 }
 
-/// Whether a cell of the page goes on in the line of the one before it, and may do so behind one of this kind.
+/// Whether a cell of the page goes on in the line of the one before it, and may do so after one of this kind.
 fn shares_line(page: &str, last: Kind, cell: &Node<'_>) -> bool {
     let start = range_of(cell).start;
     let sign = byte_at(page, start);
@@ -449,7 +450,7 @@ fn shares_line(page: &str, last: Kind, cell: &Node<'_>) -> bool {
     }
 }
 
-/// The line breaks behind it, up to what stands behind or to the next slice that goes.
+/// The line breaks after it, up to what comes after or to the next slice that goes.
 fn breaks_behind(page: &str, gap: Gap<'_, '_, '_>, last: Kind, from: usize, to: usize) -> usize {
     let Some(behind) = gap.behind else {
         return 0;
@@ -465,7 +466,7 @@ fn breaks_behind(page: &str, gap: Gap<'_, '_, '_>, last: Kind, from: usize, to: 
     wanted.saturating_sub(standing)
 }
 
-/// Whether a row without a sign of its own stands behind, as the first one of a table may.
+/// Whether a row without a sign of its own comes after, as the first one of a table may.
 fn begins_without_sign(gap: Gap<'_, '_, '_>) -> bool {
     match gap.behind {
         Some(row) => matches!(row.kind, Kind::Tr) && row.opening().is_empty(),
@@ -601,7 +602,7 @@ impl Passed {
         }
     }
 
-    /// Behind a comment or an include tag, and the part before it.
+    /// After a comment or an include tag, and the part before it.
     fn behind(self, page: &str, part: Gap<'_, '_, '_>, mark: Slot) -> Passed {
         Passed {
             gone: self.gone.saturating_add(part.gone.len()).saturating_add(1),
@@ -613,7 +614,7 @@ impl Passed {
     }
 }
 
-/// The number of the block behind these nodes.
+/// The number of the block after these nodes.
 fn past_all(first: Numbering, nodes: &[Node<'_>]) -> Numbering {
     let mut block = first;
     for node in nodes {
@@ -624,8 +625,8 @@ fn past_all(first: Numbering, nodes: &[Node<'_>]) -> Numbering {
     block
 }
 
-/// Appends what is written anew between two children that stay in their turn. What was sent behind a comment or an
-/// include tag of the gap comes behind it. `outer` are the signs of the item that holds them.
+/// Appends what is written anew between two children that stay in their turn. What was sent after a comment or an
+/// include tag of the gap comes after it. `outer` are the signs of the item that holds them.
 pub fn push_gap<'t, 'a>(
     alloc: Global,
     out: &mut Vec<Change>,

@@ -26,8 +26,8 @@ use wt_escape::spell_block;
 use wt_span::{NoMemory, Str};
 use wt_tree::{Node, Ranges, flat};
 
-/// Where the walk along the children of a body stands: the end of the node of the page before; whether
-/// nothing stands before at all; and whether the separators before hold a line break, or reach back to
+/// How far the walk along the children of a body has come: the end of the node of the page before; whether
+/// nothing comes before at all; and whether the separators before hold a line break, or reach back to
 /// the body's start.
 #[derive(Clone, Copy)]
 pub struct Front {
@@ -79,7 +79,7 @@ fn parts_with(alloc: Global, node: &Node<'_>, others: bool) -> Result<bool, NoMe
 }
 
 /// Whether the separators from a step on hold a line break, or reach up to the body's end, by whether
-/// those behind it do.
+/// those after it do.
 fn parted_before(alloc: Global, step: Step<'_, '_>, behind: bool) -> Result<bool, NoMemory>
     ensures { IfOk result (λ b. (ss : List Taken) → behind ≡ is_parted ss → b ≡ is_parted (step_view step.entry ∷ ss)) }
 {
@@ -115,7 +115,7 @@ fn is_parted(steps: &[Step<'_, '_>], ends: &[bool], from: usize) -> bool
     ends[steps.len() - from]
 }
 
-// ---- where the walk stands
+// ---- how far the walk has come
 
 /// Whether the separators on both sides hold a line break or lie at an end of the body.
 fn parts(front: Front, behind: bool) -> bool
@@ -317,7 +317,7 @@ fn leaves_blank(
     Ok(false)
 }
 
-/// What stands behind the last of new children before a kept one.
+/// What comes after the last of new children before a kept one.
 fn tail_before(alloc: Global, steps: &[Step<'_, '_>]) -> Result<&'static str, NoMemory>
     ensures { IfOk result (λ s. s.now ≡ tail_before (steps_view steps.now)) }
 {
@@ -328,7 +328,7 @@ fn tail_before(alloc: Global, steps: &[Step<'_, '_>]) -> Result<&'static str, No
     Ok("\n\n")
 }
 
-/// What stands behind the last of new children where none is kept behind them.
+/// What comes after the last of new children where none is kept after them.
 fn tail_at_end(
     alloc: Global,
     steps: &[Step<'_, '_>],
@@ -347,7 +347,7 @@ fn tail_at_end(
     Ok("")
 }
 
-/// What stands behind a new child before the steps from a place on.
+/// What comes after a new child before the steps from a place on.
 fn tail(
     alloc: Global,
     steps: &[Step<'_, '_>],
@@ -369,7 +369,7 @@ fn tail(
     tail_at_end(alloc, steps, ends, from, front)
 }
 
-/// Appends a new child, with what stands before and behind it.
+/// Appends a new child, with what comes before and after it.
 fn push_new(
     alloc: Global,
     found: &mut Vec<Change>,
@@ -391,7 +391,7 @@ fn push_new(
 
 // ---- the walk
 
-/// Appends the slices of a list that stands in the page, edited to these nodes.
+/// Appends the slices of a list that is in the page, edited to these nodes.
 fn push_list_at<'t, 'a>(
     alloc: Global,
     found: &mut Vec<Change>,
@@ -433,7 +433,7 @@ pub fn push_child<'t, 'a>(
     Ok(())
 }
 
-/// Appends the slices of a step behind which the steps from a place on follow.
+/// Appends the slices of a step that the steps from a place on follow.
 fn push_step<'t, 'a>(
     alloc: Global,
     found: &mut Vec<Change>,

@@ -33,6 +33,7 @@ class Mender:
         self.original = original
         self._owners: Dict[int, Element] = {}  # which element has a number, of several that have it
         self._in_link = False
+        self._styles: Set[str] = set()  # in which of bold and italic (`b`, `i`) what is read stands
         # The kinds of the page's categories, switches and the like that are still there.
         self._hidden_kinds: Optional[Set[str]] = None
 
@@ -340,18 +341,39 @@ class Mender:
 
     def _styled(self, element: Element, name: str) -> Pieces:
         """Bold, italic, a pair of tags."""
-        children = self._flat(self._inline(element.children), never)
+        is_style = name in ("b", "i")
+        if is_style and name in self._styles and not self._has_above(element, name):
+            return self._inline(element.children)
+        children = self._flat(self._within([name] if is_style else [], element.children), never)
         return children if self._has_lost_inside(element, children) else [self._part(element, name, children)]
+
+    def _has_above(self, element: Element, name: str) -> bool:
+        """Whether the page has the element inside another one of this name."""
+        kept = self._kept(self._number_of(element))
+        above = kept.parent if kept is not None else None
+        while above is not None and above.part.name != name:
+            above = above.parent
+        return above is not None
+
+    def _within(self, styles: List[str], children: Iterable[Child]) -> Pieces:
+        """What stands in bold or italic text, of which these styles begin here: bold in bold is its inside,
+        since no apostrophes say it."""
+        begun = set(styles) - self._styles
+        self._styles |= begun
+        pieces = self._inline(children)
+        self._styles -= begun
+        return pieces
 
     def _by_style(self, element: Element) -> Pieces:
         """A `span` or `font` of another document: bold and italic by its style, else its inside."""
-        style, pieces = element.get("style"), self._inline(element.children)
+        style = element.get("style")
+        styles = [name for name, found in (("i", ITALIC), ("b", BOLD)) if found.search(style)]
+        begun = [name for name in styles if name not in self._styles]
+        pieces = self._within(begun, element.children)
         if is_empty(pieces):
             return pieces
-        if ITALIC.search(style):
-            pieces = [Element("i", {}, self._flat(pieces, never))]
-        if BOLD.search(style):
-            pieces = [Element("b", {}, self._flat(pieces, never))]
+        for name in begun:
+            pieces = [Element(name, {}, self._flat(pieces, never))]
         return pieces
 
     def _link(self, element: Element) -> Pieces:
