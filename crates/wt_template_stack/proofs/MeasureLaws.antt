@@ -4,8 +4,10 @@ use Rattle.std.proofs.Math.Nat.{eq-or-lt_of_le, pow-suc}
 use Rattle.wt_span.specs.declared.form.Piece.{Piece}
 use Rattle.wt_template_stack.specs.declared.level.Level.{Level}
 use Rattle.wt_template_stack.specs.declared.reader.Reader.{Reader}
+use Rattle.wt_template_stack.specs.declared.run.StepOutcome.{StepOutcome}
+use Rattle.wt_template_stack.specs.declared.run.StepOutcome.TheVariants as turn
 use Rattle.wt_template_stack.specs.declared.run.TextRun.{TextRun}
-use Rattle.wt_template_stack.specs.Measures.{HaveFewerEach, bytes_left, most_steps, steps_behind_all, steps_left}
+use Rattle.wt_template_stack.specs.Measures.{GetsOn, HaveFewerEach, bytes_left, most_steps, steps_behind_all, steps_left}
 use Rattle.wt_template_stack.specs.Stacks.{with_given}
 
 -- where fewer bytes are left, they may be read twice and three steps be taken
@@ -43,6 +45,12 @@ part_given n' m n b b' h e = omega (arith, most_rise n' (m - 1) (omega (arith, h
 -- what a function may bring that begins where the reader stands
 pub choice_few : (a b : Reader) → a ≡ b → most_steps (bytes_left a - 1) + 2 ≤ most_steps (bytes_left b - 1) + 2
 choice_few a b e = omega (arith, ap (λ (r : Reader). most_steps (bytes_left r - 1)) e)
+
+-- a step that leaves fewer steps gets on, whatever comes of it
+pub got_on : (b n : ℕ) (k : StepOutcome) → n < b → GetsOn b n k
+got_on b n turn.Went h = h
+got_on b n (turn.Done ps) h = tt
+got_on b n (turn.Called p) h = h
 
 -- pieces that are given bring no steps
 pub same_behind : (ps : List Piece) (ms ls : List Level) → ms ≡ with_given ps ls → steps_behind_all ms ≡ steps_behind_all ls

@@ -454,3 +454,32 @@ read_to_end r t run next l end total h e low is rd md =
     let q = popped r t run next (l ∷ stack next.levels) total h rd md is in
     let here : next.reader.cursor.at ≡ run.reader.cursor.at = ap (λ x. x.cursor.at) rd in
     level_ends r t next l total q (let z = q.running.reading.at.at_is in omega (arith, z, here, low, same))
+
+-- what the first level gives, which is the text itself, is all that is left of it
+ends_alone : (r : Reading) (t : List ℕ) (e : ℕ) (k : Task) (o : Output) (total : Account) → Ends r t e k [] o total → total.left ≡ o
+ends_alone r t e task.Whole o total h = h.1
+ends_alone r t e (task.Argument b) o total h = absurd h.gives
+ends_alone r t e (task.Default b) o total h = absurd h.1
+ends_alone r t e (task.Target b s) o total h = absurd h.gives
+ends_alone r t e (task.First c n) o total h = absurd h.gives
+ends_alone r t e (task.Told c) o total h = absurd h.gives
+ends_alone r t e (task.Given b s) o total h = absurd h.1
+ends_alone r t e (task.Name a to) o total h = absurd h.gives
+ends_alone r t e (task.Value a name) o total h = absurd h.gives
+ends_alone r t e (task.Text b) o total h = absurd h.gives
+
+-- the text is read to its end
+pub text_ends : (r : Reading) (t : List ℕ) (run : TextRun) (l : Level) (end : ℕ) (total : Account) → Holds r t run (stack run.levels) total
+    → stack run.levels ≡ l ∷ [] → innermost_end (stack run.levels) ≡ Some end → end ≤ run.reader.cursor.at → total.left ≡ just (items l.out)
+text_ends r t run l end total h is e low =
+    let ends : Some l.end ≡ Some end = sym (ap innermost_end is) ∙ e in
+    let same : l.end ≡ end = cc in
+    let z = h.running.reading.at.at_is in
+    let q = subst (λ ks. Resumes r t h.place h.at_start (just []) ks total) is h.resumes in
+    let w = q.1.width in
+    let none = nothing_left q.0 q.1.full (omega (arith, w, z, low, same)) in
+    ends_alone r t l.end l.task (just (items l.out)) total
+    (subst (λ o. Ends r t l.end l.task [] o total)
+    (ap (λ xs. then_output (just (items l.out)) (given_from r h.at_start t h.place xs)) none
+    ∙ ap (λ xs. just xs) (append-nil (items l.out))) q.2)
+

@@ -1,9 +1,11 @@
 -- What is still to be done of a text that is expanded: a number that every step makes smaller.
-use Rattle.std.specs.Prelude.{◌<◌, ℕ, zero, suc, ◌+◌, ◌-◌, List, [], ◌∷◌, length}
+use Rattle.std.specs.Prelude.{◌≡◌, ◌<◌, ℕ, zero, suc, ◌+◌, ◌-◌, List, [], ◌∷◌, length}
 use Rattle.wt_template_stack.specs.declared.level.Level.{Level}
 use Rattle.wt_template_stack.specs.declared.level.Task.{Task}
 use Rattle.wt_template_stack.specs.declared.level.Task.TheVariants as task
 use Rattle.wt_template_stack.specs.declared.reader.Reader.{Reader}
+use Rattle.wt_template_stack.specs.declared.run.StepOutcome.{StepOutcome}
+use Rattle.wt_template_stack.specs.declared.run.StepOutcome.TheVariants as turn
 use Rattle.wt_template_stack.specs.declared.run.TextRun.{TextRun}
 use Rattle.wt_template_stack.specs.Stacks.{stack}
 
@@ -38,6 +40,17 @@ steps_behind_all (l ∷ ls) = steps_behind l.task + steps_behind_all ls
 -- how many steps are left of a text, at most
 abbrev pub steps_left : TextRun → ℕ
 steps_left run = most_steps (bytes_left run.reader) + steps_behind_all (stack run.levels)
+
+-- fewer steps are left than before, unless the step was the last one
+abbrev pub GetsOn : ℕ → ℕ → StepOutcome → Type 0
+GetsOn before now turn.Went = now < before
+GetsOn before now (turn.Done ps) = Unit {0}
+GetsOn before now (turn.Called h) = now < before
+
+-- a level with this task begins at a later place
+abbrev pub BeginsLater : TextRun → TextRun → Task → Type 0
+BeginsLater old new k = (bytes_left new.reader < bytes_left old.reader)
+    × (steps_behind_all (stack new.levels) ≡ steps_behind k + steps_behind_all (stack old.levels))
 
 -- a text as it stands behind one step after the other: behind each fewer steps are left than before
 abbrev pub HaveFewerEach : TextRun → List TextRun → Type 0

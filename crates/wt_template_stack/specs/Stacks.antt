@@ -5,17 +5,17 @@ use Rattle.wt_template_stack.specs.declared.level.Level.{Level}
 use Rattle.wt_template_stack.specs.declared.level.Levels.{Levels}
 use Rattle.wt_template_stack.specs.declared.level.Task.TheVariants as task
 
--- from the innermost on
+-- from the innermost on; the text itself is the last one
 abbrev pub stack : Levels → List Level
-stack ls = reverse ls.items.items
+stack ls = reverse ls.later.items ++ ls.first ∷ []
 
 -- a text, or a stretch of one, of which nothing is read
 abbrev pub whole_level : ℕ → Level
 whole_level end = record { end = end; out = []; task = task.Whole }
 
--- the innermost level is taken, where there is one
+-- the innermost level is taken, if it isn't the text itself
 abbrev pub TakesLevel : Option Level → List Level → List Level → Type 0
-TakesLevel None old new = (old ≡ []) × (new ≡ [])
+TakesLevel None old new = (l : Level) × (old ≡ l ∷ []) × (new ≡ old)
 TakesLevel (Some l) old new = old ≡ l ∷ new
 
 -- where the innermost level ends

@@ -1,5 +1,5 @@
 //! Texts within texts: the templates that are being expanded.
-ghost use Rattle.std.specs.Prelude.{◌≡◌, ◌≤◌, ◌+◌, ◌∷◌, [], List, ℕ, Bool, Some, IfOk, OnOk, reverse};
+ghost use Rattle.std.specs.Prelude.{◌≡◌, ◌<◌, ◌≤◌, ◌+◌, ◌∷◌, [], List, ℕ, Bool, None, Some, IfOk, OnOk, reverse};
 ghost use Rattle.wt_span.specs.declared.form.Mode.{Mode as TextMode};
 ghost use Rattle.wt_span.specs.declared.form.Mode.TheVariants as text_mode;
 ghost use Rattle.wt_span.specs.Braces.{Member as TextMember};
@@ -16,7 +16,7 @@ ghost use Rattle.wt_transclusion.specs.Stores.{IsStore, Concerns, Grows};
 ghost use Rattle.wt_template_stack.specs.Accounts.{undone};
 ghost use Rattle.wt_template_stack.specs.Calls.{IsCallOf, first_end};
 ghost use Rattle.wt_template_stack.specs.Ledgers.{AnswersAdvance, AnswersOutput, Ledger, Progress, TakesStep, ledger, reading_of};
-ghost use Rattle.wt_template_stack.specs.Measures.{steps_left};
+ghost use Rattle.wt_template_stack.specs.Measures.{GetsOn, steps_left};
 ghost use Rattle.wt_template_stack.specs.Names.{TakesName};
 ghost use Rattle.wt_template_stack.specs.Readers.{IsReading};
 ghost use Rattle.wt_template_stack.specs.Runs.{Holds, page_called};
@@ -172,7 +172,7 @@ impl<'a> Expansion<'a> {
         ensures asks { Asks (F.answered folder.old) (F.answered folder.new) (F.most_asked folder.old) (F.most_asked folder.new) }
         ensures count { IsCounted (F.fault_count folder.old) (F.fault_count folder.new) result }
         ensures names { OnOk result (self.new.names ≡ self.old.names) }
-        ensures gets_on { IfOk result (λ x. steps_left run.new ≤ steps_left run.old) }
+        ensures gets_on { IfOk result (λ x. (before : ℕ) → GetsOn before (steps_left run.old) turn.entry → x ≡ None → steps_left run.new < before) }
     {
         match turn {
             StepOutcome::Went => Ok(None),
@@ -253,7 +253,7 @@ impl<'a> Expansion<'a> {
         ensures count { IsCounted (F.fault_count folder.old) (F.fault_count folder.new) result }
         ensures names { OnOk result (self.new.names ≡ self.old.names) }
     {
-        let run = TextRun::new(self.alloc, reader, end, mode)?;
+        let run = TextRun::new(self.alloc, reader, end, mode);
         self.finish(folder, run, values, left)
     }
 
@@ -316,7 +316,7 @@ impl<'a> Expansion<'a> {
         ensures names { OnOk result (self.new.names ≡ self.old.names) }
     {
         charge(&mut self.spent, 1)?;
-        let mut run = TextRun::new(self.alloc, reader, call.at.end, mode)?;
+        let mut run = TextRun::new(self.alloc, reader, call.at.end, mode);
         let pending = PendingCall::new(self.alloc, call, at_start, title);
         let turn = run.next_part(pending)?;
         if let Some(pieces) = self.advance(folder, &mut run, turn, left)? {

@@ -1,7 +1,8 @@
 //! What is being read of one text: its levels.
-ghost use Rattle.std.specs.Prelude.{◌≡◌, ◌∷◌, [], OnOk};
+ghost use Rattle.std.specs.Prelude.{◌≡◌, ◌∷◌, [], Some, OnOk};
 ghost use Rattle.wt_transclusion.specs.Frames.{AreValues};
-ghost use Rattle.wt_template_stack.specs.Stacks.{TakesLevel, innermost_end, one_or_none, stack, with_given};
+ghost use Rattle.wt_template_stack.specs.Stacks.{TakesLevel, innermost_end, one_or_none, stack, whole_level, with_given};
+ghost use Rattle.wt_template_stack.specs.declared.level.Level.{Level as OfText};
 
 use crate::choosing::Choosing;
 use std::alloc::Global;
@@ -98,67 +99,82 @@ pub struct Level<'a> {
     pub task: Task<'a>,
 }
 
-/// Levels, each but the first within the one before.
+/// Levels, each but the first within the one before. The first one is the text, and is always there.
 #[derive(Drop)]
 pub struct Levels<'a> {
-    items: Vec<Level<'a>>,
+    first: Level<'a>,
+    later: Vec<Level<'a>>,
 }
 
 impl<'a> Levels<'a> {
-    pub fn new(alloc: Global) -> Levels<'a>
-        ensures { stack result ≡ [] }
+    /// A text, or a stretch of one, up to a place, of which nothing is read.
+    pub fn new(alloc: Global, end: u32) -> Levels<'a>
+        ensures { stack result ≡ whole_level end ∷ [] }
     {
         Levels {
-            items: Vec::new(alloc),
+            first: Level {
+                end,
+                out: List::new(alloc),
+                task: Task::Whole,
+            },
+            later: Vec::new(alloc),
         }
     }
 
-    #[tactic(auto, using(wt_braces::proofs::Ends::reverse_push))]
+    #[tactic(auto, using(crate::proofs::StackLaws::pushed))]
     pub fn push(&mut self, level: Level<'a>) -> Result<(), NoMemory>
         ensures { OnOk result (stack self.new ≡ level.entry ∷ stack self.old) }
     {
-        self.items.push(level)?;
+        self.later.push(level)?;
         Ok(())
     }
 
-    #[tactic(auto, using(wt_braces::proofs::Ends::reverse_push))]
+    /// The innermost level, which is taken unless it is the first.
+    #[tactic(auto, using(crate::proofs::StackLaws::pushed))]
     pub fn pop(&mut self) -> Option<Level<'a>>
         ensures { TakesLevel result (stack self.old) (stack self.new) }
     {
-        self.items.pop()
+        self.later.pop()
+    }
+
+    /// What the first level has given, where no other is left.
+    pub fn finish(&mut self, alloc: Global) -> List<Piece<'a>>
+        ensures { (l : OfText) → stack self.old ≡ l ∷ [] → result ≡ l.out }
+    {
+        std::mem::replace(&mut self.first.out, List::new(alloc))
     }
 
     /// Where the innermost level ends.
-    pub fn end(&self) -> Option<u32>
-        ensures { result ≡ innermost_end (stack self.now) }
+    pub fn end(&self) -> u32
+        ensures { innermost_end (stack self.now) ≡ Some result }
     {
-        let count = self.items.len();
+        let count = self.later.len();
         if count == 0 {
-            return None;
+            return self.first.end;
         }
-        Some(self.items[count - 1].end)
+        self.later[count - 1].end
     }
 
     /// The innermost level gives these pieces, too.
     pub fn give(&mut self, pieces: &[Piece<'a>]) -> Result<(), NoMemory>
         ensures { OnOk result (stack self.new ≡ with_given pieces.now (stack self.old)) }
     {
-        let count = self.items.len();
+        let count = self.later.len();
         if count == 0 {
-            return Err(NoMemory);
+            return self.first.out.extend_from_slice(pieces);
         }
-        self.items[count - 1].out.extend_from_slice(pieces)
+        self.later[count - 1].out.extend_from_slice(pieces)
     }
 
     /// The innermost level gives this piece, too.
     pub fn give_one(&mut self, piece: Piece<'a>) -> Result<(), NoMemory>
         ensures { OnOk result (stack self.new ≡ with_given (piece.entry ∷ []) (stack self.old)) }
     {
-        let count = self.items.len();
+        let count = self.later.len();
         if count == 0 {
-            return Err(NoMemory);
+            return self.first.out.push(piece);
         }
-        self.items[count - 1].out.push(piece)
+        self.later[count - 1].out.push(piece)
     }
 
     /// The same of a piece that is there or not.

@@ -13,7 +13,7 @@ ghost use Rattle.wt_template_stack.specs.Accounts.{Account, spent_of, undone};
 ghost use Rattle.wt_template_stack.specs.Levels.{IsNamedBy, Resumes};
 ghost use Rattle.wt_template_stack.specs.Stacks.{innermost_end, stack, whole_level};
 ghost use Rattle.wt_template_stack.specs.Rests.{after_page, ended_with, next_number};
-ghost use Rattle.wt_template_stack.specs.Measures.{bytes_left, steps_behind, steps_behind_all, steps_left};
+ghost use Rattle.wt_template_stack.specs.Measures.{BeginsLater, GetsOn, steps_behind, steps_left};
 ghost use Rattle.wt_template_stack.specs.Runs.{AnswersGoing, AnswersTurn, BeginsCall, BeginsLevel, GivesAgain, HandsParts, HasEnded, Holds, IsRunning, Returns, TakesChunk, TakesPart};
 ghost use Rattle.wt_template_stack.specs.declared.level.Task.TheVariants as tasks;
 
@@ -103,23 +103,17 @@ impl<'a> TextRun<'a> {
         reader: Reader<'a>,
         end: u32,
         mode: Mode,
-    ) -> Result<TextRun<'a>, NoMemory>
-        ensures levels { IfOk result (λ run. stack run.levels ≡ whole_level end ∷ []) }
-        ensures reader { IfOk result (λ run. run.reader ≡ reader.entry) }
-        ensures mode { IfOk result (λ run. run.mode ≡ mode) }
+    ) -> TextRun<'a>
+        ensures levels { stack result.levels ≡ whole_level end ∷ [] }
+        ensures reader { result.reader ≡ reader.entry }
+        ensures mode { result.mode ≡ mode }
     {
-        let mut levels = Levels::new(alloc);
-        levels.push(Level {
-            end,
-            out: List::new(alloc),
-            task: Task::Whole,
-        })?;
-        Ok(TextRun {
+        TextRun {
             alloc,
             reader,
             mode,
-            levels,
-        })
+            levels: Levels::new(alloc, end),
+        }
     }
 
     /// A text of which nothing is read.
@@ -131,8 +125,7 @@ impl<'a> TextRun<'a> {
             return Err(NoMemory);
         }
         let end = text.text.len() as u32;
-        let run = TextRun::new(alloc, Reader::start(text), end, mode)?;
-        Ok(run)
+        Ok(TextRun::new(alloc, Reader::start(text), end, mode))
     }
 
     /// One step. It goes on reading, or ends a level.
@@ -144,17 +137,15 @@ impl<'a> TextRun<'a> {
         ensures answer { (r : Reading) (t : List ℕ) (total : Account) → Holds r t self.old (stack self.old.levels) total → AreValues values.now r.frame
             → spent.old ≡ spent_of total → AnswersTurn r t spent.old total self.new spent.new result }
         ensures fault { IfErr result IsNoFault }
-        ensures gets_on { IfOk result (λ k. steps_left self.new < steps_left self.old) }
+        ensures gets_on { IfOk result (GetsOn (steps_left self.old) (steps_left self.new)) }
     {
-        let Some(end) = self.levels.end() else {
-            return Err(ExpandRefusal::NoMemory);
-        };
+        let end = self.levels.end();
         if self.reader.cursor.at < end {
             self.read(end, spent)?;
             return Ok(StepOutcome::Went);
         }
         let Some(level) = self.levels.pop() else {
-            return Err(ExpandRefusal::NoMemory);
+            return Ok(StepOutcome::Done(self.levels.finish(self.alloc)));
         };
         let Level { end: _, out, task } = level;
         self.end(task, out, values, spent)
@@ -287,7 +278,7 @@ impl<'a> TextRun<'a> {
     fn begin_within(&mut self, part: PartAt, task: Task<'a>) -> Result<(), NoMemory>
         ensures answer { OnOk result ((r : Reading) (t : List ℕ) (total : Account) → BeginsLevel r t self.old part.at.start false part.at.end task.entry total
             → Holds r t self.new (stack self.new.levels) total) }
-        ensures gets_on { OnOk result ((bytes_left self.new.reader < bytes_left self.old.reader) × (steps_behind_all (stack self.new.levels) ≡ steps_behind task.entry + steps_behind_all (stack self.old.levels))) }
+        ensures gets_on { OnOk result (BeginsLater self.old self.new task.entry) }
     {
         self.reader = self.reader.within(part.at.start)?;
         self.levels.push(Level {
@@ -302,7 +293,7 @@ impl<'a> TextRun<'a> {
     fn begin_level(&mut self, at: u32, end: u32, task: Task<'a>) -> Result<(), NoMemory>
         ensures answer { OnOk result ((r : Reading) (t : List ℕ) (total : Account) → BeginsLevel r t self.old at (starts t at) end task.entry total
             → Holds r t self.new (stack self.new.levels) total) }
-        ensures gets_on { OnOk result ((bytes_left self.new.reader < bytes_left self.old.reader) × (steps_behind_all (stack self.new.levels) ≡ steps_behind task.entry + steps_behind_all (stack self.old.levels))) }
+        ensures gets_on { OnOk result (BeginsLater self.old self.new task.entry) }
     {
         self.reader = self.reader.seek(at)?;
         self.levels.push(Level {

@@ -1,4 +1,4 @@
-use Rattle.std.proofs.Common.{◌≡◌, arith, Err, List, Ok, Option, refl, rules, subst, sym, ◌∙◌, ℕ}
+use Rattle.std.proofs.Common.{◌≡◌, arith, Err, List, None, Ok, Option, Some, refl, rules, subst, sym, ◌∙◌, ℕ}
 use Rattle.std.specs.Prelude.{Result, reverse}
 use Rattle.wt_span.specs.declared.list.List.{List as Listed}
 use Rattle.wt_span.specs.declared.form.Piece.{Piece}
@@ -9,10 +9,14 @@ use Rattle.wt_transclusion.specs.Stores.{Concerns, Grows}
 use Rattle.wt_transclusion.proofs.AskedLaws.{asks_none, asks_then}
 use Rattle.wt_transclusion.proofs.GrowthLaws.{agrees_before, agrees_known, grows_none, grows_then}
 use Rattle.wt_template_stack.specs.Ledgers.{AnswersAdvance, AnswersOutput, Progress, TakesStep, ledger, reading_of}
+use Rattle.wt_template_stack.specs.Measures.{GetsOn, steps_left}
 use Rattle.wt_template_stack.specs.declared.run.StepOutcome.{StepOutcome}
 use Rattle.wt_template_stack.proofs.LedgerLaws.{page_unread, taking_refused}
 use Rattle.wt_template_stack.proofs.ProgressLaws.{link_done, message_done, no_fault_counted, one_less, page_done, page_taken, page_untaken, paged_goes, paged_refused, progress_spent, step_handed, step_refused}
 use Rattle.wt_template_stack.proofs.expansion.Expansion.+expanding.Goals as goal
+
+some_is_there : (ps : Listed Piece) → ¬ (Some ps ≡ None)
+some_is_there ps e = cc
 
 pub advance-returns-in-Went-clause-grown : goal.advance-returns-in-Went-clause-grown
 advance-returns-in-Went-clause-grown g t c = grows_none (g.F.Folder.pages c.args.folder.now) c.args.self.now.store
@@ -301,7 +305,16 @@ page-returns-in_err-run-in-Page-clause-given g t c = λ pages page frame met tol
     (c.in_ok-pieces.ensures.named pages met s))
 
 pub finish-steps-smaller : goal.finish-steps-smaller
-finish-steps-smaller g t c = omega (arith, c.in_ok-turn.ensures.gets_on, c.in_ok-pieces.ensures.gets_on)
+finish-steps-smaller g t c = c.in_ok-pieces.ensures.gets_on (steps_left c.steps.run) c.in_ok-turn.ensures.gets_on c.in_default.is
+
+pub advance-returns-in-Went-clause-gets_on : goal.advance-returns-in-Went-clause-gets_on
+advance-returns-in-Went-clause-gets_on g t c = λ before h none.
+    subst (λ (k : StepOutcome). GetsOn before (steps_left c.args.run.now) k) c.in-Went.is h
+
+pub advance-returns-in-Done-clause-gets_on : goal.advance-returns-in-Done-clause-gets_on
+advance-returns-in-Done-clause-gets_on g t c = λ before h none. absurd (some_is_there _ none)
 
 pub advance-returns-in_ok-give_page-in-Called-clause-gets_on : goal.advance-returns-in_ok-give_page-in-Called-clause-gets_on
-advance-returns-in_ok-give_page-in-Called-clause-gets_on g t c = omega (arith, c.in_ok-give_page-in-Called.ensures.gets_on)
+advance-returns-in_ok-give_page-in-Called-clause-gets_on g t c = λ before h none.
+    let less = subst (λ (k : StepOutcome). GetsOn before (steps_left c.args.run.now) k) c.in-Called.is h in
+    omega (arith, less, c.in_ok-give_page-in-Called.ensures.gets_on)

@@ -27,8 +27,8 @@ returns-in_err-pieces-clause-given g c = λ pages page t frame met p s b told st
     let answered = g.F.Folder.answered c.args.folder.now in
     let o = page_begun self.spent (after_values r c.args.at_start c.args.title [] 1 (later_parts (parts_of_call r t c.args.call b))) in
     let all = page_called r t c.args.call b c.args.at_start c.args.title in
-    let first = page_alone r t c.in_ok-run.run' c.args.call c.args.at_start c.args.title c.new-pending.result b p s o refl
-    (subst (λ (x : Reader). IsReading c.args.mode t x p s) (sym c.in_ok-run.ensures.reader) reading) c.in_ok-run.ensures.mode c.in_ok-run.ensures.levels low
+    let first = page_alone r t c.new-run.result c.args.call c.args.at_start c.args.title c.new-pending.result b p s o refl
+    (subst (λ (x : Reader). IsReading c.args.mode t x p s) (sym c.new-run.ensures.reader) reading) c.new-run.ensures.mode c.new-run.ensures.levels low
     (record {
       call = c.new-pending.ensures.call;
       at_start = c.new-pending.ensures.at_start;
@@ -53,8 +53,8 @@ returns-in-Some-clause-given g c = λ pages page t frame met p s b told st v rea
     let answered = g.F.Folder.answered c.args.folder.now in
     let o = page_begun self.spent (after_values r c.args.at_start c.args.title [] 1 (later_parts (parts_of_call r t c.args.call b))) in
     let all = page_called r t c.args.call b c.args.at_start c.args.title in
-    let first = page_alone r t c.in_ok-run.run' c.args.call c.args.at_start c.args.title c.new-pending.result b p s o refl
-    (subst (λ (x : Reader). IsReading c.args.mode t x p s) (sym c.in_ok-run.ensures.reader) reading) c.in_ok-run.ensures.mode c.in_ok-run.ensures.levels low
+    let first = page_alone r t c.new-run.result c.args.call c.args.at_start c.args.title c.new-pending.result b p s o refl
+    (subst (λ (x : Reader). IsReading c.args.mode t x p s) (sym c.new-run.ensures.reader) reading) c.new-run.ensures.mode c.new-run.ensures.levels low
     (record {
       call = c.new-pending.ensures.call;
       at_start = c.new-pending.ensures.at_start;
@@ -77,8 +77,8 @@ returns-clause-given g c = λ pages page t frame met p s b told st v reading low
     let answered = g.F.Folder.answered c.args.folder.now in
     let o = page_begun self.spent (after_values r c.args.at_start c.args.title [] 1 (later_parts (parts_of_call r t c.args.call b))) in
     let all = page_called r t c.args.call b c.args.at_start c.args.title in
-    let first = page_alone r t c.in_ok-run.run' c.args.call c.args.at_start c.args.title c.new-pending.result b p s o refl
-    (subst (λ (x : Reader). IsReading c.args.mode t x p s) (sym c.in_ok-run.ensures.reader) reading) c.in_ok-run.ensures.mode c.in_ok-run.ensures.levels low
+    let first = page_alone r t c.new-run.result c.args.call c.args.at_start c.args.title c.new-pending.result b p s o refl
+    (subst (λ (x : Reader). IsReading c.args.mode t x p s) (sym c.new-run.ensures.reader) reading) c.new-run.ensures.mode c.new-run.ensures.levels low
     (record {
       call = c.new-pending.ensures.call;
       at_start = c.new-pending.ensures.at_start;
@@ -125,16 +125,6 @@ returns-in_err-charge-clause-given g c = λ pages page t frame met p s b told st
     (begun_refused self.spent (undone self.spent all) (page_begun self.spent o) c.in_err-charge.field-0.0 (page_does self.spent all o refl)
     c.in_err-charge.ensures.large c.in_err-charge.ensures.refusal))
 
-pub returns-in_err-run-clause-given : goal.returns-in_err-run-clause-given
-returns-in_err-run-clause-given g c = λ pages page t frame met p s b told st v reading low.
-    let self = c.args.self.now in
-    let r = reading_of pages c.args.mode frame c.args.left self.names in
-    let before = ledger self.spent met (g.F.Folder.answered c.args.folder.now) in
-    let e : c.from_residual-in_err-run.result ≡ Err answer.NoMemory = search rules in
-    memory_answered pages page before (page_called r t c.args.call b c.args.at_start c.args.title) self.store
-    c.charge.new.spent
-    c.from_residual-in_err-run.result e
-
 pub returns-in_err-turn-clause-given : goal.returns-in_err-turn-clause-given
 returns-in_err-turn-clause-given g c = λ pages page t frame met p s b told st v reading low.
     let self = c.args.self.now in
@@ -150,10 +140,6 @@ returns-clause-asks g c = asks_then _ _ _ _ _ _ c.in_ok-pieces.ensures.asks c.fi
 
 pub returns-in_err-charge-clause-asks : goal.returns-in_err-charge-clause-asks
 returns-in_err-charge-clause-asks g c =
-    asks_none (g.F.Folder.answered c.args.folder.now) (g.F.Folder.most_asked c.args.folder.now)
-
-pub returns-in_err-run-clause-asks : goal.returns-in_err-run-clause-asks
-returns-in_err-run-clause-asks g c =
     asks_none (g.F.Folder.answered c.args.folder.now) (g.F.Folder.most_asked c.args.folder.now)
 
 pub returns-in_err-turn-clause-asks : goal.returns-in_err-turn-clause-asks

@@ -5,5 +5,5 @@ use Rattle.wt_template_stack.proofs.run.TextRun.of_text.Goals as goal
 
 pub returns : goal.returns
 returns c = λ r t spent m read.
-    text_holds r t spent c.in_ok-run.run' _ (subst (λ x. IsReading r.mode t x 0 true) (sym c.in_ok-run.ensures.reader) (c.start.ensures r.mode t read))
-    (c.in_ok-run.ensures.mode ∙ m) c.in_ok-run.ensures.levels (ap length read.text_is)
+    text_holds r t spent c.new.result _ (subst (λ x. IsReading r.mode t x 0 true) (sym c.new.ensures.reader) (c.start.ensures r.mode t read))
+    (c.new.ensures.mode ∙ m) c.new.ensures.levels (ap length read.text_is)
