@@ -135,7 +135,7 @@ fn is_words(node: &Node<'_>) -> bool
     !has_break(own) && !are_spaces(own) && is_text_leaf(node)
 }
 
-/// Whether the border is passed behind a node that is no text.
+/// Whether the border is passed after a node that is no text.
 fn is_passed_by(behind: bool, node: &Node<'_>) -> bool
     requires { is_text (view node.now) ≡ false }
     ensures { result ≡ (behind || is_border (view node.now)) }

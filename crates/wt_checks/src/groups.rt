@@ -19,7 +19,7 @@ use std::alloc::Global;
 use wt_span::NoMemory;
 use wt_tree::{Kind, Node, TagName};
 
-/// Whether a mark stands on a node or inside it.
+/// Whether a mark is on a node or inside it.
 #[cycle(marked)]
 pub fn has_mark(node: &Node<'_>) -> bool
     ensures { result ≡ has_mark (view node.now) }

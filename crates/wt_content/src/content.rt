@@ -129,7 +129,7 @@ fn is_link(inline: InlineForm) -> bool
     }
 }
 
-/// Whether a link stands in a node, itself or within, outside groups.
+/// Whether a link is in a node, itself or within, outside groups.
 #[cycle(linking)]
 fn holds_link(node: &Node<'_>) -> bool
     ensures { result ≡ holds_link (view node.now) }

@@ -74,7 +74,7 @@ pub fn function_named(source: &[u8]) -> Option<(Function, u32)>
     function_in(rest_of(source, 2))
 }
 
-/// The function that a call's target names, and the place of the byte behind its colon, in bytes from
+/// The function that a call's target names, and the place of the byte after its colon, in bytes from
 /// the target's start: there part 0 begins. `None` where no function is named; such a call is an
 /// ordinary one, or, where the target begins with `#`, kept as it is.
 pub fn function_of(target: &str) -> Option<(Function, u32)>

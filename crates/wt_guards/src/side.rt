@@ -3,7 +3,7 @@
 ghost use Rattle.std.specs.Prelude.{◌≡◌};
 ghost use Rattle.wt_guards.specs.Table.{hazard, line_start_hazard, is_word, is_space, leads_group, ends_url, follows_group, after_text, after_link, after_bare, after_switch, after_group, after_toggle, after_node};
 
-/// What stands on one side of a place in the content: the start or end of the content, a text by the
+/// What is on one side of a place in the content: the start or end of the content, a text by the
 /// character next to the place, a link to a page, a bare URL, a switch such as `__TOC__`, a group of
 /// templates, which shows `//` or doesn't, the delimiter of bold or italic, or any other node.
 #[derive(Clone, Copy, Debug)]

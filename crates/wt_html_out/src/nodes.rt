@@ -22,7 +22,7 @@ fn push_source(out: &mut Vec<u8>, texts: &[Text<'_>]) -> Result<(), NoMemory>
     Ok(())
 }
 
-/// The number of a group behind so many others. More groups than there are numbers don't fit into
+/// The number of a group after so many others. More groups than there are numbers don't fit into
 /// memory.
 pub fn next_group(before: u32) -> Result<u32, NoMemory>
     ensures { IfOk result (λ n. n ≡ suc before) }

@@ -9,18 +9,18 @@ use Rattle.wt_template_stack.specs.declared.run.StepOutcome.TheVariants as turn
 use Rattle.wt_template_stack.specs.declared.run.TextRun.{TextRun}
 use Rattle.wt_template_stack.specs.Stacks.{stack}
 
--- the bytes behind the place up to which a text is read
+-- the bytes after the place up to which a text is read
 abbrev pub bytes_left : Reader → ℕ
 bytes_left r = length r.text.text.now - r.cursor.at
 
--- How many steps so many bytes may take. The first of them may begin a function by text: the bytes behind it are then read twice at most,
+-- How many steps so many bytes may take. The first of them may begin a function by text: the bytes after it are then read twice at most,
 -- once while its parts are told and once more for the part that it gives; and a level begins, ends, and gives way to another one.
 abbrev pub most_steps : ℕ → ℕ
 most_steps zero = 0
 most_steps (suc n) = most_steps n + most_steps n + 3
 
--- How many steps the end of a level may still bring that the bytes behind it don't: its own, that of the braces of a call that turns out to
--- be text, and those of a part that is read once more from behind the first brace of its function on.
+-- How many steps the end of a level may still bring that the bytes after it don't: its own, that of the braces of a call that turns out to
+-- be text, and those of a part that is read once more from after the first brace of its function on.
 abbrev pub steps_behind : Task → ℕ
 steps_behind task.Whole = 1
 steps_behind (task.Argument call) = 1
@@ -52,7 +52,7 @@ abbrev pub BeginsLater : TextRun → TextRun → Task → Type 0
 BeginsLater old new k = (bytes_left new.reader < bytes_left old.reader)
     × (steps_behind_all (stack new.levels) ≡ steps_behind k + steps_behind_all (stack old.levels))
 
--- a text as it stands behind one step after the other: behind each fewer steps are left than before
+-- a text as it comes after one step after the other: after each fewer steps are left than before
 abbrev pub HaveFewerEach : TextRun → List TextRun → Type 0
 HaveFewerEach run [] = Unit {0}
 HaveFewerEach run (next ∷ later) = (steps_left next < steps_left run) × HaveFewerEach next later

@@ -17,7 +17,7 @@ pub enum ItemsOf {
     Nodes,
 }
 
-/// What a node is to its neighbours as it stands in the page. A `Url` is bare or in brackets, by its
+/// What a node is to its neighbours as it is in the page. A `Url` is bare or in brackets, by its
 /// delimiter; an `Island` is a function of the preprocessor or not, by its source.
 #[derive(Clone, Copy, Debug)]
 pub enum Sort {
@@ -71,7 +71,7 @@ pub enum Editing {
     TopChildren,
 }
 
-/// What the content stands in. `Term` is the term of a definition (`;`), `Header` a header cell
+/// What the content is in. `Term` is the term of a definition (`;`), `Header` a header cell
 /// (`!`); `Item` is any other item of a list, and `Cell` any other cell or a caption.
 #[derive(Clone, Copy, Debug, PartialEq, Eq)]
 pub enum Place {
