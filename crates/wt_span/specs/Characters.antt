@@ -40,9 +40,6 @@ closing_parenthesis = 41
 abbrev pub asterisk : ℕ
 asterisk = 42
 
-abbrev pub plus : ℕ
-plus = 43
-
 abbrev pub comma : ℕ
 comma = 44
 
@@ -93,6 +90,3 @@ vertical_bar = 124
 
 abbrev pub closing_brace : ℕ
 closing_brace = 125
-
-abbrev pub tilde : ℕ
-tilde = 126
