@@ -4,10 +4,10 @@ program: what other work on the machine doesn't change. The pages are those of b
 
   bench/instructions.py PROGRAM [OTHER] [--only WORD] [--size KIB] [--peaks KIB]
 
-PROGRAM and OTHER are as for bench/bench.py; an unproved native build will do (tools/build-unproved). Instructions
-are those of the whole process, counted once by valgrind for pages (or HTML) of --size KiB (256 where nothing is
-said), since they are the same in each run; the peak of memory is that of the process for --peaks KiB (2048). Both
-have to answer the same bytes. With OTHER there are two ratios: of speed, 2 where PROGRAM takes half the
+PROGRAM and OTHER are as for bench/bench.py; a build with nothing proved will do, if it has none of the tests of a
+try (tools/build-unproved --as-proved). Instructions are counted once by valgrind for pages (or HTML) of --size KiB
+(64 where nothing is said), since they are the same in each run, and what an empty page takes is subtracted; the
+peak of memory is that of the process for --peaks KiB (1024). Both have to answer the same bytes. With OTHER there are two ratios: of speed, 2 where PROGRAM takes half the
 instructions of OTHER, and of memory, 2 where it takes twice the memory. --only WORD measures the rows that have
 the word in their name.
 """
@@ -68,20 +68,31 @@ def measured(measure, programs, words, made, templates, given):
     return [it for _, it in told], len(given if words[0] == "wikitext" else page)
 
 
+def with_nothing(programs, command):
+    """What each program takes where the page, or the document, has nothing in it."""
+    made = HTML_KINDS["paragraphs"](0) if command[0] == "wikitext" else b""
+    counts, _ = measured(instructions, programs, command, made, {}, bytes if command[0] == "edit" else None)
+    return counts
+
+
 def main():
     words = argparse.ArgumentParser(usage="bench/instructions.py PROGRAM [OTHER] [--only WORD] [--size KIB] [--peaks KIB]")
     words.add_argument("program", nargs="+")
     words.add_argument("--only", default="")
-    words.add_argument("--size", type=int, default=256)
-    words.add_argument("--peaks", type=int, default=2048)
+    words.add_argument("--size", type=int, default=64)
+    words.add_argument("--peaks", type=int, default=1024)
     told = words.parse_args()
     programs = [program_of(it) for it in told.program]
     print("| command and page | instructions a byte | peak MB | speed, memory |")
     print("|---|---|---|---|")
+    idle = {}
     for command, kind, make, templates, given in rows(programs[0]):
         if told.only not in f"{command[0]}, {kind}":
             continue
+        if command[0] not in idle:
+            idle[command[0]] = with_nothing(programs, command)
         counts, length = measured(instructions, programs, command, make(told.size << 10), templates, given)
+        counts = [count - less for count, less in zip(counts, idle[command[0]])]
         peaks, _ = measured(peak, programs, command, make(told.peaks << 10), templates, given)
         cells = [", ".join(f"{it / length:.0f}" for it in counts), ", ".join(f"{it * 1024 / 1e6:.1f}" for it in peaks)]
         cells.append(", ".join(f"{a / b:.2f}" for a, b in [(counts[-1], counts[0]), (peaks[0], peaks[-1])]))
