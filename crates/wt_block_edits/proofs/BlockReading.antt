@@ -14,14 +14,15 @@ use Rattle.wt_text_edits.specs.LonePages.{of_items}
 use Rattle.wt_text_edits.specs.TypedPages.{IsTypedPage}
 use Rattle.wt_text_edits.proofs.TypedText.{shown_expanded, shown_unrefused}
 use Rattle.wt_typed_blocks.specs.Sent.{Block, paragraph, heading}
+use Rattle.wt_scans.specs.Lexer.{lexer}
+use Rattle.wt_scans.specs.Scans.{after_all}
 use Rattle.wt_prose.proofs.Uncommented.{uncommented_other}
 use Rattle.wt_prose.proofs.InFront.{Reads, reads_byte, reads_form}
 use Rattle.wt_prose.proofs.ProseReading.{page_front}
-use Rattle.wt_text_between.specs.Between.{HasNoTag}
-use Rattle.wt_text_between.proofs.Fronts.{ReadsAfter, reads_either, page_read, page_words, behind_reads}
+use Rattle.wt_text_between.specs.Between.{HasNoTag, StandsBefore}
+use Rattle.wt_text_between.proofs.Fronts.{ReadsAfter, reads_after, reads_either, page_read, page_words, before_reads, behind_reads}
 use Rattle.wt_paragraph_laws.specs.Between.{EndsParagraph}
 use Rattle.wt_paragraph_laws.proofs.Texts.{untagged_alone, EndsHere, here_begins, nothing_is, line_front, paragraph_front}
-use Rattle.wt_paragraph_laws.proofs.SpotsReading.{in_front}
 use Rattle.wt_heading_laws.specs.TypedHeadings.{equals, space, heading_line, EndsLine}
 use Rattle.wt_block_edits.specs.Blocks.{opening, closing, source_of, block_items, IsTypedHeading, IsWrittenHeading, IsBlock, EndsBlock, BeginsApart, BeginsLine, BeginsBetween}
 use Rattle.wt_block_edits.specs.BlockSpots.{BlockSpot, spots_source, IsBlockSpot, AreFurtherBlocks, AreBlockSpots}
@@ -102,6 +103,9 @@ block_front (heading n) q rest xs h e r = heading_front n q rest xs h e r
 abbrev pub spots_items : List BlockSpot → List ℕ → List Item
 spots_items [] behind = page_items behind
 spots_items (s ∷ ss) behind = page_items s.before ++ (block_items s.block s.text ++ spots_items ss behind)
+
+in_front : (bs rest : List ℕ) (xs : List Item) → StandsBefore bs → Reads rest xs → ReadsAfter false (bs ++ rest) (page_items bs ++ xs)
+in_front bs rest xs b r = before_reads bs rest xs b (reads_after (after_all (lexer Page) false bs) rest xs r)
 
 spot_reads : (s : BlockSpot) (rest : List ℕ) (xs : List Item) → IsBlockSpot s → EndsHere rest → Reads rest xs
     → ReadsAfter false (s.before ++ (source_of s.block s.text ++ rest)) (page_items s.before ++ (block_items s.block s.text ++ xs))

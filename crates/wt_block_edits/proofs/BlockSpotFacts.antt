@@ -5,7 +5,7 @@ use Rattle.std.proofs.lemmas.Grind.{flat_map-append}
 use Rattle.wt_tree.specs.Plain.{Plains, ended}
 use Rattle.wt_tree.specs.Tree.{Tree, Trees}
 use Rattle.wt_span.specs.Items.{Item, source, sources}
-use Rattle.wt_guards.specs.declared.side.Place.TheVariants as place
+use Rattle.wt_tree.specs.declared.edit_shape.Place.TheVariants as place
 use Rattle.wt_content.specs.Content.{has_break}
 use Rattle.wt_inline.specs.ItemTree.{ItemTree, forest, tree_items}
 use Rattle.wt_isolation.specs.OpenTags.{ends_open}

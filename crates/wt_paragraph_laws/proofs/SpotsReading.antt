@@ -22,7 +22,7 @@ abbrev pub spots_items : List Spot → List ℕ → List Item
 spots_items [] behind = page_items behind
 spots_items (s ∷ ss) behind = page_items s.before ++ (page_items s.paragraph ++ spots_items ss behind)
 
-pub in_front : (bs rest : List ℕ) (xs : List Item) → StandsBefore bs → Reads rest xs → ReadsAfter false (bs ++ rest) (page_items bs ++ xs)
+in_front : (bs rest : List ℕ) (xs : List Item) → StandsBefore bs → Reads rest xs → ReadsAfter false (bs ++ rest) (page_items bs ++ xs)
 in_front bs rest xs b r = before_reads bs rest xs b (reads_after (after_all (lexer Page) false bs) rest xs r)
 
 spot_reads : (s : Spot) (rest : List ℕ) (xs : List Item) → IsSpot s → EndsHere rest → Reads rest xs
