@@ -1,7 +1,7 @@
 //! Laws of pages that hold typed paragraphs and headings among any other blocks: they take any texts.
 #![tactic(auto)]
 
-ghost use Rattle.std.specs.Prelude.{◌≡◌, ◌≤◌, ◌⊎◌, ℕ, List, length, Option, None, Some};
+ghost use Rattle.std.specs.Prelude.{◌≡◌, ◌≤◌, ℕ, List, length, Option, None, Some};
 ghost use Rattle.std.specs.Str.{IsUtf8};
 ghost use Rattle.wt_span.specs.declared.limits.TheConstants.{HTML_BYTES, PAGE_BYTES};
 ghost use Rattle.wt_devices.specs.Device.{Pages};
@@ -18,17 +18,14 @@ ghost use Rattle.wt_paragraph_laws.specs.Between.{body_with};
 ghost use Rattle.wt_paragraph_laws.specs.Spots.{part_tree};
 ghost use Rattle.wt_pagetool.specs.Answers.{answer_told, done, edit_of, edit_to};
 ghost use Rattle.wt_pagetool.specs.Words.{command_of};
-ghost use Rattle.wt_pagetool.specs.declared.command.Command.TheVariants.{Edit, Selser};
-ghost use Rattle.wt_pagetool.specs.declared.status.Status.TheVariants as status;
-ghost use Rattle.wt_pagetool.specs.Calls.{Call, NothingFailed};
-ghost use Rattle.wt_pagetool.specs.Devices.{Untouched, Took};
+ghost use Rattle.wt_pagetool.specs.declared.command.Command.TheVariants.{Edit};
+ghost use Rattle.wt_pagetool.specs.Calls.{Call};
 ghost use Rattle.wt_pagetool.specs.Promises.{Ends, EndsAsEdit};
 ghost use Rattle.wt_pagetool.specs.Selser.{DoneByEdit};
-ghost use Rattle.wt_pagetool.specs.Statuses.{code, IsFaultOrNoMemory};
 ghost use Rattle.wt_block_edits.specs.BlockSpots.{BlockSpot, spots_source, page_blocks, AreBlockSpots, SameRound, AreBlocks};
 ghost use Rattle.wt_block_edits.specs.BlockEdits.{BlockEdit, new_spots, old_page, new_page, sent_page, IsBlockEdit};
 ghost use Rattle.wt_block_edits.specs.Unmarked.{unmarked_page, IsUnmarkedBlockEdit};
-ghost use Rattle.wt_block_edits.specs.Calls.{Sends};
+ghost use Rattle.wt_block_edits.specs.Calls.{TakesTexts};
 
 /// A page of typed paragraphs and headings among any other blocks has what each of its parts makes as a page by
 /// itself, and these paragraphs and headings between. It calls nothing, whatever the folder has, and nothing refuses
@@ -77,14 +74,10 @@ pub fn unmarked_blocks_are_taken()
         → length input ≤ HTML_BYTES → read input ≡ as_page (unmarked_page b e) unsourced → DoneByEdit pages stands input }
 {}
 
-/// So every call that keeps what `run` promises (`Ends`, `EndsAsEdit`) ends, whatever else the page holds: `edit`
-/// has written the new page and no line, and `selser` is done; or a device failed, or memory ran out. Where no
-/// device failed, only want of memory may come in the place of the new page.
+/// So every call that keeps what `run` of `wt_pagetool` promises (`Ends`, `EndsAsEdit`) takes such texts, whatever else
+/// the page holds: `edit` has written the new page and no line, and `selser` is done; or a device failed, or memory
+/// ran out. Where no device failed, only want of memory may come in the place of the new page.
+#[tactic(auto, using(crate::proofs::BlocksCalls::takes))]
 pub fn calls_take_texts()
-    ensures edit { (c : Call) (ended : ℕ) (e : BlockEdit) → IsBlockEdit e → Sends c Edit e sent_page → Ends c ended
-        → ((ended ≡ code status.Done) × Took c.out (new_page e) × Untouched c.err) ⊎ IsFaultOrNoMemory ended }
-    ensures complete { (c : Call) (ended : ℕ) (e : BlockEdit) → IsBlockEdit e → Sends c Edit e sent_page → Ends c ended → NothingFailed c
-        → ((ended ≡ code status.Done) × Took c.out (new_page e) × Untouched c.err) ⊎ (ended ≡ code status.NoMemory) }
-    ensures selser { (c : Call) (ended : ℕ) (e : BlockEdit) → IsUnmarkedBlockEdit e → Sends c Selser e unmarked_page → EndsAsEdit c ended
-        → (ended ≡ code status.Done) ⊎ IsFaultOrNoMemory ended }
+    ensures { (c : Call) (ended : ℕ) → Ends c ended → EndsAsEdit c ended → TakesTexts c ended }
 {}
