@@ -6,7 +6,7 @@ use Rattle.wt_span.specs.Characters as byte
 use Rattle.wt_span.specs.Items.{Item, char}
 use Rattle.wt_span.specs.Lexemes.{words}
 use Rattle.wt_blocks.specs.Paragraphs.{is_text}
-use Rattle.wt_guards.specs.declared.side.Place.TheVariants as place
+use Rattle.wt_tree.specs.declared.edit_shape.Place.TheVariants as place
 use Rattle.wt_guards.specs.Content.{letters}
 use Rattle.wt_guards.specs.Guards.{Setting, spelled}
 use Rattle.wt_content.specs.Content.{has_break}

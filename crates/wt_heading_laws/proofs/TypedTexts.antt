@@ -13,7 +13,7 @@ use Rattle.wt_span.specs.declared.form.ItemForm.TheVariants as form
 use Rattle.wt_span.specs.Bytes.{is_break, is_blank}
 use Rattle.wt_span.specs.Items.{Item, char, whole, sign, source, sources}
 use Rattle.wt_names.proofs.Ascii.{IsWide, encode_wide, encode_some}
-use Rattle.wt_guards.specs.declared.side.Place.TheVariants as place
+use Rattle.wt_tree.specs.declared.edit_shape.Place.TheVariants as place
 use Rattle.wt_guards.specs.Content.{ContentSign, letter, letters}
 use Rattle.wt_guards.specs.Letters.{is_escaped, reference, written_by}
 use Rattle.wt_guards.specs.Table.{line_start_hazard}

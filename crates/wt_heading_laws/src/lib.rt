@@ -3,7 +3,7 @@
 
 ghost use Rattle.std.specs.Prelude.{◌≡◌, ◌≤◌, ℕ, false, List, ◌∷◌, ◌++◌};
 ghost use Rattle.std.specs.Str.{IsUtf8};
-ghost use Rattle.wt_guards.specs.declared.side.Place.TheVariants as place;
+ghost use Rattle.wt_tree.specs.declared.edit_shape.Place.TheVariants as place;
 ghost use Rattle.wt_guards.specs.Content.{letters};
 ghost use Rattle.wt_guards.specs.Guards.{Setting, spelled};
 ghost use Rattle.wt_content.specs.Content.{has_break};
