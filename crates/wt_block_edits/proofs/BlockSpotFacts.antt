@@ -19,8 +19,8 @@ use Rattle.wt_prose.proofs.ProseTrees.{blocks_of, number_behind, items_behind}
 use Rattle.wt_prose.proofs.ProseFacts.{plains_of}
 use Rattle.wt_text_edits.specs.TypedPages.{IsTypedPage}
 use Rattle.wt_paragraph_laws.specs.Between.{blocks_in}
-use Rattle.wt_page_edits.proofs.KeptBlocks.{block_shown, blocks_shown, blocks_source, part_source, others_show}
-use Rattle.wt_page_edits.proofs.PageKinds.{both_ordinary}
+use Rattle.wt_block_edits.proofs.KeptBlocks.{block_shown, blocks_shown, blocks_source, part_source, others_show}
+use Rattle.wt_block_edits.proofs.PageKinds.{both_ordinary}
 use Rattle.wt_block_edits.specs.Blocks.{source_of, IsTypedHeading, IsBlock}
 use Rattle.wt_block_edits.specs.BlockSpots.{BlockSpot, spots_source, SameRound, AreBlocks}
 use Rattle.wt_block_edits.specs.BlockEdits.{Sending, kept, Typing, types, keeps, typed_as, new_text, SpotEdit, old_spots, new_spots, all_kept, sending_for, spot_sendings, IsSentFor, AreSentFor, IsText, AreTexts}

@@ -8,7 +8,9 @@ use Rattle.wt_expand.specs.PageItems.{page_items}
 use Rattle.wt_expand.proofs.PageLaws.{page_sources}
 use Rattle.wt_annotated.specs.Annotated.{annotated}
 use Rattle.wt_annotated.specs.GroupData.{group_data}
-use Rattle.wt_annotated.specs.WithoutCalls.{holds_page}
+use Rattle.wt_annotated.specs.CutTexts.{cut_texts}
+use Rattle.wt_annotated.specs.WithoutCalls.{annotated as annotated_plainly, holds_page}
+use Rattle.wt_annotated.proofs.AnnotatedTree.{without_calls}
 use Rattle.wt_text_edits.proofs.LoneTrees.{sized}
 use Rattle.wt_text_edits.proofs.TypedLeaves.{AreOwn, Leaf, leaves, leaf_tree, para_leaves}
 use Rattle.wt_text_edits.proofs.TypedShown.{AllOfPage, both_of_page, leaves_of_page, none_empty, is_plain_page}
@@ -16,9 +18,9 @@ use Rattle.wt_typed_blocks.specs.Sent.{Block, paragraph, heading, kind_of}
 use Rattle.wt_text_between.specs.Between.{HasNoTag}
 use Rattle.wt_prose.proofs.ProseTrees.{blocks_of}
 use Rattle.wt_paragraph_laws.specs.Between.{blocks_in, body_with}
-use Rattle.wt_paragraph_laws.specs.Spots.{part_tree, HasNoGroups}
+use Rattle.wt_paragraph_laws.specs.Parts.{part_tree, HasNoGroups}
 use Rattle.wt_paragraph_laws.proofs.Texts.{letters_own, paragraph_written}
-use Rattle.wt_paragraph_laws.proofs.SpotsTrees.{ArePlain, plain_joined, part_plain, plain_tree}
+use Rattle.wt_paragraph_laws.proofs.PartTrees.{ArePlain, plain_joined, part_plain, plain_tree}
 use Rattle.wt_heading_laws.specs.TypedHeadings.{equals, space}
 use Rattle.wt_block_edits.specs.Blocks.{block_tree, IsBlock}
 use Rattle.wt_block_edits.specs.BlockSpots.{BlockSpot, spots_source, page_blocks, AreFurtherBlocks, AreBlockSpots, AreBlocks}
@@ -120,3 +122,12 @@ pub spots_tree : (ss : List BlockSpot) (behind : List ℕ) → AreBlockSpots ss 
 spots_tree ss behind h =
     ap (annotated [] (group_data [])) (spots_meaning ss behind h ∙ ap body_with (as_leaves ss behind (are_typed ss behind h)))
     ∙ plain_tree (leafy_blocks ss behind) (spots_plain ss behind h)
+
+-- in other words
+pub tree_of_spots : (ss : List BlockSpot) (behind : List ℕ) → AreBlockSpots ss behind
+    → part_tree (spots_source ss behind) ≡ cut_texts (annotated_plainly (body_with (page_blocks ss behind)))
+tree_of_spots ss behind h =
+    let e : page_blocks ss behind ≡ leafy_blocks ss behind = as_leaves ss behind (are_typed ss behind h) in
+    ap (annotated [] (group_data [])) (spots_meaning ss behind h ∙ ap body_with e)
+    ∙ without_calls [] (group_data []) (body_with (leafy_blocks ss behind)) (spots_plain ss behind h)
+    ∙ ap (λ ts. cut_texts (annotated_plainly (body_with ts))) (sym e)

@@ -10,7 +10,7 @@ use Rattle.wt_typed_blocks.specs.Sent.{Block, paragraph, heading}
 use Rattle.wt_text_between.specs.Between.{EndsLine}
 use Rattle.wt_prose.proofs.InFront.{reads_nothing, read_items}
 use Rattle.wt_paragraph_laws.proofs.Texts.{paragraph_utf8}
-use Rattle.wt_paragraph_laws.proofs.SpotsAgain.{clear_first, clear_line}
+use Rattle.wt_paragraph_laws.proofs.ClearLines.{clear_first, clear_line}
 use Rattle.wt_block_edits.specs.Blocks.{opening, closing, source_of, IsBlock, BeginsBetween}
 use Rattle.wt_block_edits.specs.BlockSpots.{BlockSpot, spots_source, IsBlockSpot, AreFurtherBlocks, AreBlockSpots, SameRound, AreBlocks}
 use Rattle.wt_block_edits.proofs.BlockReading.{typed_text}

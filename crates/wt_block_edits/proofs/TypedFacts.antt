@@ -35,7 +35,7 @@ use Rattle.wt_typed_blocks.specs.Sent.{Block, paragraph, heading, kind_of, Sent,
 use Rattle.wt_typed_blocks.specs.Typed.{place_of, block_source, new_sources, Takes, TakeTexts, StandAt, AreUntangled}
 use Rattle.wt_prose.proofs.ProseTrees.{items_behind}
 use Rattle.wt_prose.proofs.BlockFacts.{behind_source, behind_width}
-use Rattle.wt_page_edits.proofs.KeptBlocks.{block_shown}
+use Rattle.wt_block_edits.proofs.KeptBlocks.{block_shown}
 use Rattle.wt_heading_laws.specs.TypedHeadings.{equals, space}
 use Rattle.wt_block_edits.specs.Blocks.{opening, source_of}
 use Rattle.wt_block_edits.specs.BlockEdits.{Sending, retyped, kept, sent_children, AreKept, Typing, types, keeps, typed_as, new_text, sending_for, IsText}

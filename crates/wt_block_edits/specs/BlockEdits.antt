@@ -9,7 +9,7 @@ use Rattle.wt_expand.specs.PageItems.{page_items}
 use Rattle.wt_typed_blocks.specs.Sent.{Block, Sent, stands, typed, StandsAsIs, new_body}
 use Rattle.wt_typed_blocks.specs.Typed.{place_of, Takes}
 use Rattle.wt_paragraph_laws.specs.Between.{blocks_in}
-use Rattle.wt_paragraph_laws.specs.Spots.{part_tree}
+use Rattle.wt_paragraph_laws.specs.Parts.{part_tree}
 use Rattle.wt_block_edits.specs.Blocks.{source_of}
 use Rattle.wt_block_edits.specs.BlockSpots.{BlockSpot, spots_source, AreBlockSpots}
 

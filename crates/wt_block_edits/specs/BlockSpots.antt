@@ -6,7 +6,7 @@ use Rattle.wt_expand.specs.PageItems.{page_items}
 use Rattle.wt_text_between.specs.Between.{StandsBefore, StandsBehind}
 use Rattle.wt_typed_blocks.specs.Sent.{Block}
 use Rattle.wt_paragraph_laws.specs.Between.{blocks_in}
-use Rattle.wt_paragraph_laws.specs.Spots.{HasNoGroups}
+use Rattle.wt_paragraph_laws.specs.Parts.{HasNoGroups}
 use Rattle.wt_block_edits.specs.Blocks.{source_of, block_tree, IsBlock, LeadsTo, EndsBlock, BeginsBetween}
 
 -- ---- the page's source

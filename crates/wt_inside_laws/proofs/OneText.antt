@@ -29,12 +29,12 @@ use Rattle.wt_paragraph_laws.specs.Between.{blocks_in}
 use Rattle.wt_typed_blocks.specs.Sent.{Block, paragraph, heading}
 use Rattle.wt_block_edits.specs.Blocks.{opening, closing, source_of, block_tree, IsBlock}
 use Rattle.wt_block_edits.specs.BlockSpots.{BlockSpot, spots_source, page_blocks, AreBlockSpots, SameRound, AreBlocks}
-use Rattle.wt_paragraph_laws.specs.Spots.{part_tree}
+use Rattle.wt_paragraph_laws.specs.Parts.{part_tree}
 use Rattle.wt_paragraph_laws.proofs.Texts.{paragraph_written}
 use Rattle.wt_block_edits.proofs.BlockTrees.{leaf_block, as_leaves, block_own, are_typed, spots_tree}
 use Rattle.wt_block_edits.proofs.TypedFacts.{items_source}
 use Rattle.wt_block_edits.proofs.BlocksAgain.{spots_again}
-use Rattle.wt_page_edits.proofs.KeptBlocks.{blocks_source, part_source}
+use Rattle.wt_block_edits.proofs.KeptBlocks.{blocks_source, part_source}
 use Rattle.wt_block_edits.proofs.BlocksTake.{page_is}
 use Rattle.wt_inside_laws.specs.TextsReplaced.{Place, spots_with, page_with, source_before, number_at, numbered_inside, block_at, replaced_by}
 use Rattle.wt_inside_laws.proofs.Shifted.{range_like, shifted, standing_shifted, placed_count}
