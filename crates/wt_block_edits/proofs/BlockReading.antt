@@ -3,11 +3,8 @@ use Rattle.std.proofs.Common.{arith, refl, ◌≡◌, ℕ, zero, suc, Bool, fals
 use Rattle.std.specs.Prelude.{replicate}
 use Rattle.wt_span.specs.declared.form.Mode.TheVariants.{Page}
 use Rattle.wt_span.specs.declared.form.LexKind.TheVariants.{Equals}
-use Rattle.wt_span.specs.Comments.{comment_len}
 use Rattle.wt_span.specs.Items.{Item, char, sources}
-use Rattle.wt_span.specs.Lexemes.{Cut}
-use Rattle.wt_lex.proofs.Cuts.{cuts_cons}
-use Rattle.wt_spelling_laws.proofs.Forms.{comment_other, without_line, other_byte, equals_byte}
+use Rattle.wt_spelling_laws.proofs.Forms.{comment_other, other_byte, equals_byte}
 use Rattle.wt_expand.specs.PageCalls.{expanded_page}
 use Rattle.wt_expand.specs.PageItems.{page_items}
 use Rattle.wt_expand.specs.Work.{Pages, first_refusal}
@@ -15,15 +12,17 @@ use Rattle.wt_expand.specs.Expansion.{page_work}
 use Rattle.wt_expand.proofs.PageLaws.{page_sources}
 use Rattle.wt_text_edits.specs.LonePages.{of_items}
 use Rattle.wt_text_edits.specs.TypedPages.{IsTypedPage}
-use Rattle.wt_text_edits.proofs.TypedItems.{items_byte}
-use Rattle.wt_text_edits.proofs.TypedText.{HaveNoBraces, shown_expanded, shown_unrefused}
+use Rattle.wt_text_edits.proofs.TypedText.{shown_expanded, shown_unrefused}
 use Rattle.wt_typed_blocks.specs.Sent.{Block, paragraph, heading}
-use Rattle.wt_prose.proofs.InFront.{Reads, InFront, reads_form, its_items, read_items, read_words}
+use Rattle.wt_scans.specs.Lexer.{lexer}
+use Rattle.wt_scans.specs.Scans.{after_all}
+use Rattle.wt_prose.proofs.Uncommented.{uncommented_other}
+use Rattle.wt_prose.proofs.InFront.{Reads, reads_byte, reads_form}
 use Rattle.wt_prose.proofs.ProseReading.{page_front}
 use Rattle.wt_text_between.specs.Between.{HasNoTag, StandsBefore}
-use Rattle.wt_text_between.proofs.Fronts.{before_reads, behind_reads}
+use Rattle.wt_text_between.proofs.Fronts.{ReadsAfter, reads_after, reads_either, page_read, page_words, before_reads, behind_reads}
 use Rattle.wt_paragraph_laws.specs.Between.{EndsParagraph}
-use Rattle.wt_paragraph_laws.proofs.Texts.{tags_split, no_comment, EndsHere, read_rest, rest_is, nothing_is, paragraph_front}
+use Rattle.wt_paragraph_laws.proofs.Texts.{untagged_alone, EndsHere, here_begins, nothing_is, line_front, paragraph_front}
 use Rattle.wt_heading_laws.specs.TypedHeadings.{equals, space, heading_line, EndsLine}
 use Rattle.wt_block_edits.specs.Blocks.{opening, closing, source_of, block_items, IsTypedHeading, IsWrittenHeading, IsBlock, EndsBlock, BeginsApart, BeginsLine, BeginsBetween}
 use Rattle.wt_block_edits.specs.BlockSpots.{BlockSpot, spots_source, IsBlockSpot, AreFurtherBlocks, AreBlockSpots}
@@ -31,17 +30,10 @@ use Rattle.wt_block_edits.specs.BlockSpots.{BlockSpot, spots_source, IsBlockSpot
 -- ---- a heading
 
 read_equals : (bs : List ℕ) (xs : List Item) → Reads bs xs → Reads (61 ∷ bs) (char None 61 ∷ xs)
-read_equals bs xs r = reads_form Equals 61 [] bs xs tt (equals_byte Page bs) (comment_other 61 bs (omega arith), r.clean) r
+read_equals bs xs r = reads_form Equals 61 [] bs xs tt (equals_byte Page bs) (uncommented_other 61 bs refl (comment_other 61 bs (omega arith))) r
 
 read_space : (bs : List ℕ) (xs : List Item) → Reads bs xs → Reads (32 ∷ bs) (space ∷ xs)
-read_space bs xs r =
-    let c : comment_len (32 ∷ bs) ≡ None = comment_other 32 bs (omega arith) in
-    let no = λ (after : Bool). without_line Page after (32 ∷ bs) (c, r.clean) ∙ other_byte Page 32 bs refl in
-    record {
-      items = items_byte 32 bs xs no r.items;
-      shown = λ after. subst (λ (k : Cut). HaveNoBraces k.1) (sym (cuts_cons Page after 32 bs None (no after))) (r.shown false);
-      clean = (c, r.clean);
-    }
+read_space bs xs r = reads_byte 32 bs xs (other_byte Page 32 bs refl) (comment_other 32 bs (omega arith)) r
 
 read_run : (n : ℕ) (bs : List ℕ) (xs : List Item) → Reads bs xs → Reads (replicate n 61 ++ bs) (equals n ++ xs)
 read_run zero bs xs r = r
@@ -69,36 +61,32 @@ typed_front n q rest xs h r =
     append_assoc (equals n) (space ∷ (own ++ space ∷ equals n)) xs ∙ ap (λ (zs : List Item). equals n ++ space ∷ zs) (append_assoc own (space ∷ equals n) xs) in
     subst (λ bs. Reads bs (heading_line n own ++ xs)) (sym source) (subst (λ ys. Reads (run ++ 32 ∷ (q ++ end)) ys) (sym items) b)
 
--- one that was written by hand, before a line break, or where the page ends
-before_break : (n : ℕ) (q r : List ℕ) (xs : List Item) → IsWrittenHeading n q → Reads (10 ∷ r) xs
-    → Reads (source_of (heading n) q ++ 10 ∷ r) (heading_line n (page_items q) ++ xs)
-before_break n q r xs h s =
-    let line : List ℕ = source_of (heading n) q in
-    let own : List Item = heading_line n (page_items q) in
-    let g : InFront (line ++ 10 ∷ []) = before_reads (line ++ 10 ∷ []) h.stands in
-    let a : Reads ((line ++ 10 ∷ []) ++ r) (g.items ++ page_items r) = g.reads r (page_items r) (read_rest r xs s) in
-    let items : g.items ≡ own ++ char None 10 ∷ [] = sym (its_items (line ++ 10 ∷ []) g) ∙ h.ended in
-    let all : g.items ++ page_items r ≡ own ++ xs =
-    ap (λ zs. zs ++ page_items r) items ∙ append_assoc own (char None 10 ∷ []) (page_items r) ∙ ap (λ zs. own ++ zs) (sym (rest_is r xs s)) in
-    subst (λ bs. Reads bs (own ++ xs)) (append_assoc line (10 ∷ []) r) (subst (λ ys. Reads ((line ++ 10 ∷ []) ++ r) ys) all a)
+-- ---- one that was written by hand, before a line break, or where the page ends
 
-untagged : (n : ℕ) (q : List ℕ) → IsWrittenHeading n q → HasNoTag (source_of (heading n) q)
-untagged n q h = (tags_split (source_of (heading n) q) (10 ∷ []) h.stands.untagged).0
+tags_joined : (q r : List ℕ) → HasNoTag q → HasNoTag r → HasNoTag (q ++ r)
+tags_joined [] r h g = g
+tags_joined (b ∷ q) r h g = (h.0, tags_joined q r h.1 g)
 
-pub text_untagged : (n : ℕ) (q : List ℕ) → IsWrittenHeading n q → HasNoTag q
-text_untagged n q h = (tags_split q (closing n) (tags_split (opening n) (q ++ closing n) (untagged n q h)).1).0
+run_untagged : (n : ℕ) → HasNoTag (replicate n 61)
+run_untagged zero = tt
+run_untagged (suc n) = (refl, run_untagged n)
+
+line_untagged : (n : ℕ) (q : List ℕ) → HasNoTag q → HasNoTag (source_of (heading n) q)
+line_untagged n q h =
+    tags_joined (opening n) (q ++ closing n) (tags_joined (replicate n 61) (32 ∷ []) (run_untagged n) (refl, tt))
+    (tags_joined q (closing n) h (refl, run_untagged n))
 
 written_front : (n : ℕ) (q rest : List ℕ) (xs : List Item) → IsWrittenHeading n q → EndsHere rest → Reads rest xs
     → Reads (source_of (heading n) q ++ rest) (heading_line n (page_items q) ++ xs)
 written_front n q [] xs h e r =
     let line : List ℕ = source_of (heading n) q in
     let own : List Item = heading_line n (page_items q) in
-    let alone : Reads line (page_items line) = behind_reads line (record { uncommented = no_comment line (untagged n q h); uncalled = h.uncalled }) in
+    let alone : Reads line (page_items line) = behind_reads line (record { uncommented = untagged_alone line (line_untagged n q h.untagged); uncalled = h.uncalled }) in
     subst (λ ys. Reads (line ++ []) (own ++ ys)) (sym (nothing_is xs r))
     (subst (λ bs. Reads bs (own ++ [])) (sym (append-nil line)) (subst (λ ys. Reads line ys) (h.unended ∙ sym (append-nil own)) alone))
 written_front n q (b ∷ r) xs h e s =
     let P : ℕ → Type 0 = λ (c : ℕ). Reads (c ∷ r) xs → Reads (source_of (heading n) q ++ c ∷ r) (heading_line n (page_items q) ++ xs) in
-    subst P (sym e) (λ k. before_break n q r xs h k) s
+    subst P (sym e) (λ k. line_front (source_of (heading n) q) r (heading_line n (page_items q)) xs (line_untagged n q h.untagged) h.stands h.ended k) s
 
 heading_front : (n : ℕ) (q rest : List ℕ) (xs : List Item) → IsBlock (heading n) q → EndsHere rest → Reads rest xs
     → Reads (source_of (heading n) q ++ rest) (heading_line n (page_items q) ++ xs)
@@ -116,13 +104,11 @@ abbrev pub spots_items : List BlockSpot → List ℕ → List Item
 spots_items [] behind = page_items behind
 spots_items (s ∷ ss) behind = page_items s.before ++ (block_items s.block s.text ++ spots_items ss behind)
 
-in_front : (bs rest : List ℕ) (xs : List Item) → StandsBefore bs → Reads rest xs → Reads (bs ++ rest) (page_items bs ++ xs)
-in_front bs rest xs b r =
-    let g : InFront bs = before_reads bs b in
-    subst (λ ys. Reads (bs ++ rest) (ys ++ xs)) (sym (its_items bs g)) (g.reads rest xs r)
+in_front : (bs rest : List ℕ) (xs : List Item) → StandsBefore bs → Reads rest xs → ReadsAfter false (bs ++ rest) (page_items bs ++ xs)
+in_front bs rest xs b r = before_reads bs rest xs b (reads_after (after_all (lexer Page) false bs) rest xs r)
 
 spot_reads : (s : BlockSpot) (rest : List ℕ) (xs : List Item) → IsBlockSpot s → EndsHere rest → Reads rest xs
-    → Reads (s.before ++ (source_of s.block s.text ++ rest)) (page_items s.before ++ (block_items s.block s.text ++ xs))
+    → ReadsAfter false (s.before ++ (source_of s.block s.text ++ rest)) (page_items s.before ++ (block_items s.block s.text ++ xs))
 spot_reads s rest xs h e r =
     in_front s.before (source_of s.block s.text ++ rest) (block_items s.block s.text ++ xs) h.before (block_front s.block s.text rest xs h.block e r)
 
@@ -169,22 +155,24 @@ further_reads : (last : Block) (ss : List BlockSpot) (behind : List ℕ) → Are
     → Reads (spots_source ss behind) (spots_items ss behind)
 further_reads last [] behind h = behind_reads behind h.stands
 further_reads last (s ∷ ss) behind h =
-    spot_reads s (spots_source ss behind) (spots_items ss behind) h.0 (further_ends s.block ss behind h.2) (further_reads s.block ss behind h.2)
+    reads_either (spots_source (s ∷ ss) behind) (spots_items (s ∷ ss) behind)
+    (here_begins (spots_source (s ∷ ss) behind) (further_ends last (s ∷ ss) behind h))
+    (spot_reads s (spots_source ss behind) (spots_items ss behind) h.0 (further_ends s.block ss behind h.2) (further_reads s.block ss behind h.2))
 
-spots_read : (ss : List BlockSpot) (behind : List ℕ) → AreBlockSpots ss behind → Reads (spots_source ss behind) (spots_items ss behind)
+spots_read : (ss : List BlockSpot) (behind : List ℕ) → AreBlockSpots ss behind → ReadsAfter false (spots_source ss behind) (spots_items ss behind)
 spots_read [] behind h = absurd h
 spots_read (s ∷ ss) behind h =
     spot_reads s (spots_source ss behind) (spots_items ss behind) h.0 (further_ends s.block ss behind h.1) (further_reads s.block ss behind h.1)
 
 pub items_of_spots : (ss : List BlockSpot) (behind : List ℕ) → AreBlockSpots ss behind → page_items (spots_source ss behind) ≡ spots_items ss behind
-items_of_spots ss behind h = read_items (spots_source ss behind) (spots_items ss behind) (spots_read ss behind h)
+items_of_spots ss behind h = page_read (spots_source ss behind) (spots_items ss behind) (spots_read ss behind h)
 
 pub spots_expanded : (pages : Pages) (ss : List BlockSpot) (behind : List ℕ) → AreBlockSpots ss behind
     → expanded_page pages (spots_source ss behind) ≡ of_items (page_items (spots_source ss behind))
 spots_expanded pages ss behind h =
-    shown_expanded pages (spots_source ss behind) (read_words (spots_source ss behind) (spots_items ss behind) (spots_read ss behind h))
+    shown_expanded pages (spots_source ss behind) (page_words (spots_source ss behind) (spots_items ss behind) (spots_read ss behind h))
 
 pub spots_unrefused : (pages : Pages) (ss : List BlockSpot) (behind : List ℕ) → AreBlockSpots ss behind
     → first_refusal pages (spots_source ss behind) (page_work pages (spots_source ss behind)) ≡ None
 spots_unrefused pages ss behind h =
-    shown_unrefused pages (spots_source ss behind) (read_words (spots_source ss behind) (spots_items ss behind) (spots_read ss behind h))
+    shown_unrefused pages (spots_source ss behind) (page_words (spots_source ss behind) (spots_items ss behind) (spots_read ss behind h))

@@ -24,7 +24,7 @@ use Rattle.wt_paragraph_laws.proofs.PartTrees.{ArePlain, plain_joined, part_plai
 use Rattle.wt_heading_laws.specs.TypedHeadings.{equals, space}
 use Rattle.wt_block_edits.specs.Blocks.{block_tree, IsBlock}
 use Rattle.wt_block_edits.specs.BlockSpots.{BlockSpot, spots_source, page_blocks, AreFurtherBlocks, AreBlockSpots, AreBlocks}
-use Rattle.wt_block_edits.proofs.BlockReading.{typed_text, text_untagged}
+use Rattle.wt_block_edits.proofs.BlockReading.{typed_text}
 use Rattle.wt_block_edits.proofs.BlockMeaning.{spots_meaning}
 
 -- ---- by leaves
@@ -49,7 +49,7 @@ block_leaves (heading n) q h = ap (as_heading n) (para_leaves (page_items q) h)
 
 heading_own : (n : ℕ) (q : List ℕ) → IsBlock (heading n) q → AreOwn (page_items q)
 heading_own n q (inl t) = (paragraph_written q (inl (typed_text n q t))).1
-heading_own n q (inr w) = letters_own (page_items q) w.are_letters (subst HasNoTag (sym (page_sources q)) (text_untagged n q w))
+heading_own n q (inr w) = letters_own (page_items q) w.are_letters (subst HasNoTag (sym (page_sources q)) w.untagged)
 
 pub block_own : (k : Block) (q : List ℕ) → IsBlock k q → AreOwn (page_items q)
 block_own paragraph q h = (paragraph_written q h).1

@@ -120,7 +120,7 @@ unfolding page_items words closed form_at comment_len comment_line_len raw_len o
     hex_entity entity_names sign_word kind_of_signs annotated group_data label_at meaning rows blocks children
 are_spots = (
   record {
-    before = record { ends = tt; untagged = tt; uncalled = tt };
+    before = record { ends = tt; has_ends = refl; uncalled = tt };
     before_utf8 = IsUtf8-nil;
     ungrouped = (refl, tt);
     leads = record { whole = refl; closed = refl };
@@ -128,7 +128,7 @@ are_spots = (
   },
   (
     record {
-      before = record { ends = refl; untagged = (refl, tt); uncalled = (tt, tt) };
+      before = record { ends = refl; has_ends = (refl, refl); uncalled = (tt, tt) };
       before_utf8 = break_utf8;
       ungrouped = (refl, ((refl, tt), tt));
       leads = record { are_closed = record { whole = refl; closed = refl }; apart = refl };
@@ -137,7 +137,7 @@ are_spots = (
     refl,
     (
       record {
-        before = record { ends = refl; untagged = (refl, tt); uncalled = (tt, tt) };
+        before = record { ends = refl; has_ends = (refl, refl); uncalled = (tt, tt) };
         before_utf8 = break_utf8;
         ungrouped = (refl, ((refl, tt), tt));
         leads = record { whole = refl; closed = refl };
@@ -145,7 +145,7 @@ are_spots = (
       },
       (refl, (record { whole = refl; closed = refl }), tt),
       record {
-        stands = record { uncommented = (refl, tt); uncalled = (tt, tt) };
+        stands = record { uncommented = refl; uncalled = (tt, tt) };
         utf8 = break_utf8;
         ungrouped = (refl, ((refl, tt), tt));
         ends = refl;
@@ -162,7 +162,8 @@ written_heading = record {
   some = omega arith;
   most = omega arith;
   utf8 = (codes "Q&A", (refl, refl));
-  stands = record { ends = refl; untagged = (refl, (refl, (refl, (refl, (refl, (refl, (refl, (refl, (refl, (refl, tt)))))))))); uncalled = (tt, (tt, (tt, (tt, (tt, (tt, tt)))))) };
+  untagged = (refl, (refl, (refl, tt)));
+  stands = record { ends = refl; has_ends = (refl, (refl, (refl, (refl, (refl, (refl, (refl, (refl, (refl, (refl, refl)))))))))); uncalled = (tt, (tt, (tt, (tt, (tt, (tt, tt)))))) };
   uncalled = (tt, (tt, (tt, (tt, (tt, tt)))));
   ended = refl;
   unended = refl;

@@ -15,7 +15,7 @@ use Rattle.wt_page.specs.Rows.{Row}
 use Rattle.wt_expand.specs.PageItems.{page_items}
 use Rattle.wt_text_edits.specs.LonePages.{para_of}
 use Rattle.wt_typed_blocks.specs.Sent.{Block, paragraph, heading}
-use Rattle.wt_text_between.specs.Between.{HaveNoBraces, StandsBefore}
+use Rattle.wt_text_between.specs.Between.{HasNoTag, HaveNoBraces, StandsBefore}
 use Rattle.wt_paragraph_laws.specs.Texts.{AreLetters, IsParagraph}
 use Rattle.wt_paragraph_laws.specs.Between.{rows_of_lines, AreClosed, EndsApart, EndsParagraph}
 use Rattle.wt_heading_laws.specs.TypedHeadings.{heading_line, heading_with, IsHeadingText, EndsLine}
@@ -63,6 +63,7 @@ pub record IsWrittenHeading (n : ℕ) (q : List ℕ) : Type 0 where
   pub some : 1 ≤ n
   pub most : n ≤ 6
   pub utf8 : IsUtf8 q
+  pub untagged : HasNoTag q
   pub stands : StandsBefore (source_of (heading n) q ++ byte.line_break ∷ [])
   pub uncalled : HaveNoBraces (words Page (source_of (heading n) q))
   pub ended : page_items (source_of (heading n) q ++ byte.line_break ∷ []) ≡ heading_line n (page_items q) ++ char None byte.line_break ∷ []
