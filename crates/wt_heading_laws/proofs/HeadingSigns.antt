@@ -66,7 +66,7 @@ or_left false b e = cc
 
 idle_front : (bs ss : List ℕ) → AreBlanks bs → prefix_len is_idle (bs ++ 61 ∷ ss) ≡ length bs
 idle_front [] ss h = refl
-idle_front (b ∷ bs) ss h = let e : is_idle b ≡ true = or_left (is_blank b) (is_mark_sign b) h.0 in let f = idle_front bs ss h.1 in rw e (ap suc f)
+idle_front (b ∷ bs) ss h = let e : is_idle b ≡ true = or_left (is_blank b) (is_mark_sign b) h.0 in let f = idle_front bs ss h.1 in rw e (omega (arith, f))
 
 past_front : (bs ss : List ℕ) → AreBlanks bs → past is_idle (bs ++ 61 ∷ ss) ≡ 61 ∷ ss
 past_front [] ss h = refl
@@ -77,7 +77,7 @@ blank_by s ss e = rw e refl
 
 blank_front : (bs ss : List ℕ) → AreBlanks bs → blank_len ss ≡ 0 → blank_len (bs ++ ss) ≡ length bs
 blank_front [] ss h e = e
-blank_front (b ∷ bs) ss h e = let f = blank_front bs ss h.1 e in let g : is_blank b ≡ true = h.0 in rw g (ap suc f)
+blank_front (b ∷ bs) ss h e = let f = blank_front bs ss h.1 e in let g : is_blank b ≡ true = h.0 in rw g (omega (arith, f))
 
 seen_first : (ss ts : List ℕ) → BeginsSeen ss → blank_len (ss ++ ts) ≡ 0
 seen_first [] ts h = absurd h
