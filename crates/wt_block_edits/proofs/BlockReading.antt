@@ -62,11 +62,11 @@ closing_quiet s a =
     quiet_joined s.trail (equals s.level ++ s.rest) (blanks_quiet s.trail a.trail)
     (quiet_joined (equals s.level) s.rest (run_quiet s.level) (blanks_quiet s.rest a.rest))
 
-by_tests : (P : ℕ → Type 0) → P 61 → P 32 → P 9 → (b : ℕ) (u v w : Bool) → (b == 61) ≡ u → (b == 32) ≡ v → (b == 9) ≡ w → (b == 61 || (b == 32 || b == 9)) ≡ true → P b
-by_tests P p q r b true v w e f g h = subst P (sym (grind (arith, nat_tests, e))) p
-by_tests P p q r b false true w e f g h = subst P (sym (grind (arith, nat_tests, f))) q
-by_tests P p q r b false false true e f g h = subst P (sym (grind (arith, nat_tests, g))) r
-by_tests P p q r b false false false e f g h = absurd (grind (e, f, g, h))
+by_tests : (P : ℕ → Type 0) → P 61 → P 32 → P 9 → (b : ℕ) (u v w : Bool) → (b == 61) ≡ u → (b == 32) ≡ v → (b == 9) ≡ w → (u || (v || w)) ≡ true → P b
+by_tests P p q r b true v w e f g h = let is : b ≡ 61 = grind (arith, nat_tests, e) in subst P (sym is) p
+by_tests P p q r b false true w e f g h = let is : b ≡ 32 = grind (arith, nat_tests, f) in subst P (sym is) q
+by_tests P p q r b false false true e f g h = let is : b ≡ 9 = grind (arith, nat_tests, g) in subst P (sym is) r
+by_tests P p q r b false false false e f g h = cc
 
 -- which it is
 pub each_quiet : (P : ℕ → Type 0) → P 61 → P 32 → P 9 → (b : ℕ) → IsQuiet b → P b

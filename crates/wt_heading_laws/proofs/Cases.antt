@@ -1,5 +1,5 @@
 -- Worked cases of headings with a text, by computing.
-use Rattle.std.proofs.Common.{◌≡◌, refl}
+use Rattle.std.proofs.Common.{◌≡◌, [], refl}
 use Rattle.std.specs.Prelude.{codes}
 use Rattle.wt_blocks.specs.Headings.{level}
 use Rattle.wt_text_edits.specs.LonePages.{page_chars}
