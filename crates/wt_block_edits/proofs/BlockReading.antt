@@ -134,9 +134,9 @@ written_front s q [] xs h e r =
     let alone : Reads line (page_items line) = behind_reads line (record { uncommented = untagged_alone line (line_untagged s q h.sides h.untagged); uncalled = h.uncalled }) in
     subst (λ ys. Reads (line ++ []) (own ++ ys)) (sym (nothing_is xs r))
     (subst (λ bs. Reads bs (own ++ [])) (sym (append-nil line)) (subst (λ ys. Reads line ys) (h.unended ∙ sym (append-nil own)) alone))
-written_front s q (b ∷ r) xs h e s =
+written_front s q (b ∷ r) xs h e read =
     let P : ℕ → Type 0 = λ (c : ℕ). Reads (c ∷ r) xs → Reads (source_of (a_heading s) q ++ c ∷ r) (heading_line s (page_items q) ++ xs) in
-    subst P (sym e) (λ k. line_front (source_of (a_heading s) q) r (heading_line s (page_items q)) xs (line_untagged s q h.sides h.untagged) h.stands h.ended k) s
+    subst P (sym e) (λ k. line_front (source_of (a_heading s) q) r (heading_line s (page_items q)) xs (line_untagged s q h.sides h.untagged) h.stands h.ended k) read
 
 heading_front : (s : Sides) (q rest : List ℕ) (xs : List Item) → IsBlock (a_heading s) q → EndsHere rest → Reads rest xs
     → Reads (source_of (a_heading s) q ++ rest) (heading_line s (page_items q) ++ xs)

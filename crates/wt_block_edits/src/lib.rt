@@ -74,7 +74,6 @@ pub fn typed_blocks_take_any_texts()
 
 /// There is such an edit of each such page, with any texts: the one that sends every other node as it is in the page,
 /// without marks.
-#[tactic(auto, using(crate::proofs::OwnNodes::is_edit))]
 pub fn pages_have_such_edits()
     ensures { (l : Label) (rs : List Turn) (behind : List ℕ) → AreBlockSpots (turn_spots rs) behind → AreTurns rs
         → IsBlockEdit (own_edit l rs behind) }
