@@ -5,8 +5,7 @@ use Rattle.std.proofs.lemmas.List.{take-append-le}
 use Rattle.wt_span.specs.declared.form.Mode.TheVariants.{Page}
 use Rattle.wt_span.specs.declared.form.LexKind.{LexKind}
 use Rattle.wt_span.specs.declared.form.LexKind.TheVariants.{Chars, Opens, Closes}
-use Rattle.wt_span.specs.Bytes.{is_break, blank_len}
-use Rattle.wt_span.specs.Comments.{remarks_len}
+use Rattle.wt_span.specs.Bytes.{is_break}
 use Rattle.wt_span.specs.Items.{Item, char}
 use Rattle.wt_span.specs.Lexemes.{Word, Cut, cuts, closed, words, form_at}
 use Rattle.wt_lex.proofs.AllForms.{form_fits}
