@@ -2,6 +2,7 @@
 //! stands as it stood, texts too. Whether a proposal is any good is told by reading it back, and by nothing here.
 #![tactic(auto)]
 
+mod blanks;
 mod children;
 mod proposing;
 mod reached;
