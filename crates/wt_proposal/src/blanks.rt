@@ -1,5 +1,6 @@
 //! Blanks and line breaks of a page.
 
+/// The byte at a place of the page; 0 behind its end.
 pub fn byte_at(page: &str, at: usize) -> u8 {
     page.as_bytes().get(at).copied().unwrap_or(0)
 }
