@@ -5,10 +5,11 @@
 
 It makes N pages (10,000) from those of examples/ and from the sections that `wtround gen` makes, one to
 forty of them, or takes N copies of the pages of FOLDER in turn. Then it runs `tools/batch` over them in
-turn on one processor and on all, each time from nothing, after one run that doesn't count. It prints for
-each run the pages and megabytes a second, the processor time of all its processes, on how many processors
-they ran at once on average, how much of these processors' time the host of a virtual machine gave to
-others, and the peak memory of the largest process; and at the end the middle one of the rates' ratios.
+turn on one processor (the first, in the next round the second, and so on) and on all, each time from
+nothing, after one run that doesn't count. It prints for each run the pages and megabytes a second, the
+processor time of all its processes, on how many processors they ran at once on average, how much of these
+processors' time the host of a virtual machine gave to others, and the peak memory of the largest process;
+and at the end the middle one of the rates' ratios.
 
 On a machine that does other work the rates depend on that work. What can be told there is how far more
 processors would help: the rates of two runs are as their processors divided by their processor times, as
@@ -172,8 +173,9 @@ def main() -> None:
         load = os.getloadavg()[0]
         print(f"{arguments.pages:,} pages, {size:,} bytes, {arguments.commands}, load {load:.1f}")
         run(root, everything, words, False)
-        for _ in range(arguments.rounds):
-            one = run(root, {min(everything)}, words, arguments.watch)
+        for number in range(arguments.rounds):
+            # Processors that a host shares with others aren't equally fast, so each has its turn.
+            one = run(root, {sorted(everything)[number % count]}, words, arguments.watch)
             all_of_them = run(root, everything, words, arguments.watch)
             ratios.append(one.seconds / all_of_them.seconds)
             times = all_of_them.used / one.used

@@ -19,7 +19,8 @@ extern "C" {
 #endif
 
 /* How a call ends. From 0 to 8 these are the exit statuses of the program wtround. From 1 to 8 `line` says
- * why; with 7 and 8 it may be empty. */
+ * why; with 7 and 8 it may be empty. With 7 `out` may hold a beginning of the answer, which counts for
+ * nothing. */
 enum wtround_status {
     WTROUND_DONE = 0,         /* the answer is in `out` */
     WTROUND_USAGE = 1,        /* the words are no command */

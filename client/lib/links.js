@@ -1,8 +1,9 @@
 // @ts-check
 /** What a link leads to: a page of the wiki or an address; and what stands at its edges. */
 
+import { isBlank } from "./kinds.js";
 import { Part } from "./markup.js";
-import { isEmpty, withoutEnd } from "./texts.js";
+import { append, isEmpty, withoutEnd } from "./texts.js";
 
 /** Addresses of other kinds, which no wikitext of ours links to. */
 const OTHER_SCHEME =
@@ -71,4 +72,46 @@ export function withEdgesOutside(link, was) {
   if (typeof last === "string") link.children.splice(-1, 1, last.slice(0, last.length - back.length));
   link.children = link.children.filter((piece) => piece !== "");
   return isEmpty(link.children) ? [front + back] : [front, link, back].filter((piece) => piece !== "");
+}
+
+/**
+ * What stands in a line, as it is put together. A blank that is left at an edge of a link, where a word of it
+ * was deleted, goes where there is one beside it.
+ */
+export class Line {
+  /** @type {(Part | string)[]} */
+  #pieces = [];
+
+  /** A blank that a link has left behind it. */
+  #edge = "";
+
+  /** @param {Part | string} piece */
+  add(piece) {
+    if (piece === "") return;
+    if (typeof piece !== "string" || !" \t\n".includes(piece[0])) append(this.#pieces, this.#edge);
+    this.#edge = "";
+    append(this.#pieces, piece);
+  }
+
+  /** @param {(Part | string)[]} pieces  a link of the page, and blanks from its edges */
+  addLink(pieces) {
+    const before = this.#pieces[this.#pieces.length - 1];
+    const isBehindBlank = typeof before === "string" && " \t\n".includes(before[before.length - 1]);
+    const rest = pieces.slice(isBehindBlank && isBlankText(pieces[0]) ? 1 : 0);
+    const edge = rest[rest.length - 1];
+    const hasEdge = isBlankText(edge);
+    for (const piece of hasEdge ? rest.slice(0, -1) : rest) this.add(piece);
+    if (hasEdge) this.#edge = /** @type {string} */ (edge);
+  }
+
+  /** @returns {(Part | string)[]} all that was added */
+  end() {
+    append(this.#pieces, this.#edge);
+    return this.#pieces;
+  }
+}
+
+/** @param {Part | string | undefined} piece */
+function isBlankText(piece) {
+  return typeof piece === "string" && isBlank(piece);
 }

@@ -11,7 +11,8 @@ import { isBundle } from "./bundles.js";
 import { Part, numberOf } from "./markup.js";
 import { Original, kindOf } from "./original.js";
 import { dropEmptyLines } from "./lines.js";
-import { linkTarget, withEdgesOutside } from "./links.js";
+import { Line, linkTarget, withEdgesOutside } from "./links.js";
+import { Places } from "./places.js";
 import { putBack } from "./strays.js";
 import { append, isBare, isEmpty, tidy } from "./texts.js";
 import { Watch } from "./watch.js";
@@ -52,6 +53,12 @@ export class Mender {
   #inLink = false;
 
   /**
+   * In which of bold and italic (`b`, `i`) what is read stands.
+   * @type {Set<string>}
+   */
+  #styles = new Set();
+
+  /**
    * The blocks that nobody has touched, with the page's parts that they are.
    * @type {Map<Element, Part>}
    */
@@ -80,6 +87,7 @@ export class Mender {
     if (!this.#claimTouched(root)) this.#claim(root.querySelectorAll("[id]"));
     const attributes = this.original?.page.attributes ?? this.#attributes(root, "body", 0);
     const page = new Part("body", new Map(attributes), this.#blocks(root.childNodes));
+    new Places(this.original).fit(page);
     if (this.original !== undefined) putBack(page, this.original);
     dropEmptyLines(page, this.original);
     return page;
@@ -348,7 +356,9 @@ export class Mender {
     }
     if (LISTS.has(name)) return this.#list(element, name);
     if (name === "hr") return [this.#part(element, name, [])];
-    if (name === "pre") return [this.#tidied(element, name, this.#inline(element.childNodes))];
+    if (name === "pre") {
+      return [this.#tidied(element, name, this.#flat(this.#inline(element.childNodes), () => false))];
+    }
     if (name === "section") return [this.#part(element, name, this.#blocks(element.childNodes))];
     if (name === "table" || name === "tbody" || name === "tr") return [this.#tablePart(element, name)];
     return this.#blocks(element.childNodes);
@@ -493,14 +503,16 @@ export class Mender {
    * @returns {Pieces} texts, inline elements, and the blocks that stand among them
    */
   #inline(nodes) {
-    /** @type {Pieces} */
-    const out = [];
+    const line = new Line();
     for (const node of nodes) {
-      if (node.nodeType === TEXT) append(out, textOf(node));
+      if (node.nodeType === TEXT) line.add(textOf(node));
       if (node.nodeType !== ELEMENT) continue;
-      for (const piece of this.#inlineElement(/** @type {Element} */ (node))) append(out, piece);
+      const element = /** @type {Element} */ (node);
+      const pieces = this.#inlineElement(element);
+      if (nameOf(element) === "a" && this.#numberOf(element) !== 0) line.addLink(pieces);
+      else for (const piece of pieces) line.add(piece);
     }
-    return out;
+    return line.end();
   }
 
   /**
@@ -529,8 +541,39 @@ export class Mender {
    * @param {string} name
    */
   #styled(element, name) {
-    const children = this.#flat(this.#inline(element.childNodes), () => false);
+    const isStyle = name === "b" || name === "i";
+    if (isStyle && this.#styles.has(name) && !this.#hasAbove(element, name)) {
+      return this.#inline(element.childNodes);
+    }
+    const children = this.#flat(this.#within(isStyle ? [name] : [], element.childNodes), () => false);
     return isBare(children) && this.#mayVanish(element) ? children : [this.#part(element, name, children)];
+  }
+
+  /**
+   * Whether the page has the element inside another one of this name; of a page that isn't known, whether it
+   * may have it so.
+   * @param {Element} element
+   * @param {string} name
+   */
+  #hasAbove(element, name) {
+    if (this.original === undefined) return this.#numberOf(element) !== 0;
+    let above = this.#kept(this.#numberOf(element))?.parent;
+    while (above && above.part.name !== name) above = above.parent;
+    return Boolean(above);
+  }
+
+  /**
+   * What stands in bold or italic text: bold in bold is its inside, since no apostrophes say it.
+   * @param {string[]} styles  those that begin here
+   * @param {Iterable<Node>} nodes
+   * @returns {Pieces}
+   */
+  #within(styles, nodes) {
+    const begun = styles.filter((name) => !this.#styles.has(name));
+    for (const name of begun) this.#styles.add(name);
+    const pieces = this.#inline(nodes);
+    for (const name of begun) this.#styles.delete(name);
+    return pieces;
   }
 
   /**
@@ -549,12 +592,13 @@ export class Mender {
    */
   #byStyle(element) {
     const style = element.getAttribute("style") ?? "";
-    let pieces = this.#inline(element.childNodes);
+    const styles = [];
+    if (/font-style:\s*(?:italic|oblique)/i.test(style)) styles.push("i");
+    if (/font-weight:\s*(?:bold|[6-9]00)/i.test(style)) styles.push("b");
+    const begun = styles.filter((name) => !this.#styles.has(name));
+    let pieces = this.#within(begun, element.childNodes);
     if (isEmpty(pieces)) return pieces;
-    const isItalic = /font-style:\s*(?:italic|oblique)/i.test(style);
-    const isBold = /font-weight:\s*(?:bold|[6-9]00)/i.test(style);
-    if (isItalic) pieces = [new Part("i", new Map(), this.#flat(pieces, () => false))];
-    if (isBold) pieces = [new Part("b", new Map(), this.#flat(pieces, () => false))];
+    for (const name of begun) pieces = [new Part(name, new Map(), this.#flat(pieces, () => false))];
     return pieces;
   }
 
@@ -679,7 +723,8 @@ export class Mender {
   }
 
   /**
-   * Blocks where none may stand become their inside, with a line break to what stands before and behind them.
+   * Blocks where none may stand become their inside, with a line break to what stands before and behind them;
+   * groups stay.
    * @param {Pieces} pieces
    * @param {(block: Part) => boolean} stays  whether a block may stand there
    * @returns {Pieces}
@@ -689,10 +734,11 @@ export class Mender {
     const out = [];
     let isBehindBlock = false;
     for (const piece of pieces) {
-      const isInner = typeof piece !== "string" && isBlock(piece) && !stays(piece);
+      const isOne = typeof piece !== "string" && isBlock(piece);
+      const isInner = isOne && !piece.attributes.has("about") && !stays(piece);
       const content = isInner ? this.#flat(piece.children, () => false) : [piece];
       if (isEmpty(content) && (isInner || isBehindBlock)) continue;
-      const isStaying = !isInner && typeof piece !== "string" && isBlock(piece);
+      const isStaying = isOne && !isInner;
       if ((isInner || isBehindBlock) && !isStaying && !isEmpty(out)) append(out, new Part("br"));
       for (const inner of content) append(out, inner);
       isBehindBlock = isInner;

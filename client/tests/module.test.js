@@ -7,8 +7,9 @@ import { createRequire } from "node:module";
 import { readFileSync } from "node:fs";
 import { HtmlRefused, Offsets, describe, hrefOf, isChanged, open } from "../bughtiso.js";
 import { prepareSave, rangeOf, renew, save } from "../bughtiso.js";
-import { read } from "../lib/markup.js";
+import { Part, read } from "../lib/markup.js";
 import { Original } from "../lib/original.js";
+import { randomFrom } from "./mutations.js";
 import { SmallDocument } from "./small_dom.js";
 import { Wiki, examplePages, findProgram, outsideDocuments } from "./pages.js";
 
@@ -34,20 +35,27 @@ function opened(html) {
  */
 function edited(body) {
   const document = new SmallDocument();
-  const put = (parent, part) => {
-    for (const child of part.children) {
-      if (typeof child === "string") parent.appendChild(document.createTextNode(child));
-      else if (child.name === "comment") parent.appendChild(document.createComment(child.text));
-      else {
-        const element = document.createElement(child.name);
-        for (const [name, value] of child.attributes) element.setAttribute(name, value);
-        put(element, child);
-        parent.appendChild(element);
-      }
-    }
-  };
-  put(document.body, read(`<html>${body}</html>`).root);
+  fill(document.body, read(`<html>${body}</html>`).root);
   return document.body;
+}
+
+/**
+ * Puts what a part holds into an element.
+ * @param {any} parent
+ * @param {Part} part
+ */
+function fill(parent, part) {
+  const document = parent.ownerDocument;
+  for (const child of part.children) {
+    if (typeof child === "string") parent.appendChild(document.createTextNode(child));
+    else if (child.name === "comment") parent.appendChild(document.createComment(child.text));
+    else {
+      const element = document.createElement(child.name);
+      for (const [name, value] of child.attributes) element.setAttribute(name, value);
+      fill(element, child);
+      parent.appendChild(element);
+    }
+  }
 }
 
 /**
@@ -145,6 +153,12 @@ const MENDS = [
     "",
     '<p><font color="red">a</font><span>b</span><span style="font-weight:700">c</span></p>',
     "<p>ab<b>c</b></p>",
+  ],
+  [
+    "bold in bold and italic in italic are their inside",
+    "",
+    '<p><b>a<strong>b</strong><i>c<b>d</b></i></b><i>e<em>f</em><span style="font-style: italic">g</span></i></p>',
+    "<p><b>ab<i>cd</i></b><i>efg</i></p>",
   ],
   [
     "comments, scripts and pictures are left out",
@@ -374,6 +388,67 @@ const MENDS = [
     '<ul id="mw1"><li id="mw2">ab<ul><li>x</li></ul></li></ul>',
   ],
   [
+    "text behind a list of the page in an item is an indented line behind it",
+    '<ul id="mw1"><li id="mw2">a<ul id="mw3"><li id="mw4">b</li></ul></li><li id="mw5">c</li></ul>',
+    '<ul id="mw1"><li id="mw2">a<ul id="mw3"><li id="mw4">b</li></ul><p>d <b>e</b></p><p>f</p></li>' +
+      '<li id="mw5">c</li></ul>',
+    '<ul id="mw1"><li id="mw2">a<ul id="mw3"><li id="mw4">b</li></ul><dl><dd>d <b>e</b><br/>f</dd></dl></li>' +
+      '<li id="mw5">c</li></ul>',
+  ],
+  [
+    "behind a list of terms it is one more of it",
+    '<dl id="mw1"><dd id="mw2">a<dl id="mw3"><dd id="mw4">b</dd></dl></dd></dl>',
+    '<dl id="mw1"><dd id="mw2">a<dl id="mw3"><dd id="mw4">b</dd></dl><br/> c<br/></dd></dl>',
+    '<dl id="mw1"><dd id="mw2">a<dl id="mw3"><dd id="mw4">b</dd><dd>c</dd></dl></dd></dl>',
+  ],
+  [
+    "text behind a block of a cell is a paragraph",
+    cells('<td id="mw1">a<ul id="mw2"><li id="mw3">b</li></ul></td>'),
+    cells('<td id="mw1">a<ul id="mw2"><li id="mw3">b</li></ul>c <b>d</b></td>'),
+    cells('<td id="mw1">a<ul id="mw2"><li id="mw3">b</li></ul><p>c <b>d</b></p></td>'),
+  ],
+  [
+    "items in another kind of list are of its kind",
+    '<ul id="mw1"><li id="mw2">a</li><li id="mw3">b</li></ul>',
+    '<dl><li id="mw2">a</li></dl><ul id="mw1"><dt>c</dt><li id="mw3">b</li></ul>',
+    '<dl><dd>a</dd></dl><ul id="mw1"><li>c</li><li id="mw3">b</li></ul>',
+  ],
+  [
+    "the rows of a pasted table are in one body",
+    "",
+    "<table><caption>a</caption><colgroup><col></col></colgroup><thead><tr><th>b</th></tr></thead>" +
+      "<tbody><tr><td>c</td></tr></tbody><tbody><tr><td>d</td></tr></tbody></table>",
+    "<table><caption>a</caption><tbody><tr><th>b</th></tr><tr><td>c</td></tr><tr><td>d</td></tr></tbody></table>",
+  ],
+  [
+    "rows and cells are in a table, the body of the page's stays",
+    cells('<td id="mw1">a</td>'),
+    '<table id="mw10"><tr><td>b</td></tr><tbody id="mw11"><tr id="mw12"><td id="mw1">a</td>c<b>d</b></tr>' +
+      "<td>e</td></tbody></table><tr><td>f</td><td>g</td></tr>",
+    '<table id="mw10"><tbody id="mw11"><tr><td>b</td></tr><tr id="mw12"><td id="mw1">a</td><td>c<b>d</b></td></tr>' +
+      "<tr><td>e</td></tr></tbody></table><p>f</p><p>g</p>",
+  ],
+  [
+    "a group stays whole where it can't be",
+    '<ul id="mw1"><li id="mw2">a</li></ul><table about="#mwt1" id="mw3" data-mw="{}"><tbody></tbody></table>',
+    '<ul id="mw1"><li id="mw2">a<table about="#mwt1" id="mw3" data-mw="{}"><tbody></tbody></table>b</li></ul>',
+    '<ul id="mw1"><li id="mw2">a<table about="#mwt1" id="mw3" data-mw=\'{}\'><tbody></tbody></table>b</li></ul>',
+  ],
+  [
+    "of a blank at an edge of a link, where a word was deleted, nothing stays beside another",
+    `<p id="mw1">a ${link("b c")} d</p>`,
+    `<p id="mw1">a ${link("\u00a0c")} d</p>`,
+    `<p id="mw1">a ${link("c")} d</p>`,
+  ],
+  [
+    "nor at its end, nor of one that was emptied; where none is beside it it stands outside",
+    `<p id="mw1">a ${link("b c")} d</p><p id="mw2">a${link("b c").replace("mw8", "mw9")}d ` +
+      `${link("b c").replace("mw8", "mw10")} e</p>`,
+    `<p id="mw1">a ${link("b ")} d</p><p id="mw2">a${link(" c").replace("mw8", "mw9")}d ` +
+      `${link(" ").replace("mw8", "mw10")} e</p>`,
+    `<p id="mw1">a ${link("b")} d</p><p id="mw2">a ${link("c").replace("mw8", "mw9")}d  e</p>`,
+  ],
+  [
     "an empty new item goes",
     '<ul id="mw1"><li id="mw2">a</li></ul>',
     '<ul id="mw1"><li id="mw2">a</li><li><br/></li></ul>',
@@ -469,6 +544,100 @@ const MENDS = [
 for (const [name, was, now, wanted] of MENDS) {
   test(`mend: ${name}`, () => assert.equal(saved(was, now), wanted));
 }
+
+const LIST_NAMES = ["ul", "ol", "dl"];
+const BLOCK_NAMES = ["p", "h2", "hr", "pre", "table", ...LIST_NAMES];
+const INLINE_NAMES = ["b", "i", "a", "br", "span"];
+const ANY_NAMES = [
+  ...BLOCK_NAMES, ...INLINE_NAMES, "li", "dt", "dd", "tbody", "tr", "td", "th", "caption", "section", "div",
+  "thead", "strong", "u",
+];
+
+/** What may be in an element, and behind which others nothing inline may be ("The page that an HTML is"). */
+const HOLDS = {
+  body: [...BLOCK_NAMES, "section"], section: [...BLOCK_NAMES, "section"],
+  ul: ["li"], ol: ["li"], dl: ["dt", "dd"],
+  table: ["caption", "tbody"], tbody: ["tr"], tr: ["td", "th"],
+  ...Object.fromEntries(["li", "dt", "dd"].map((name) => [name, [...LIST_NAMES, ...INLINE_NAMES]])),
+  ...Object.fromEntries(["td", "th", "caption"].map((name) => [name, [...BLOCK_NAMES, ...INLINE_NAMES]])),
+};
+const HOLDS_TEXT = ["p", "h2", "pre", "li", "dt", "dd", "td", "th", "caption", ...INLINE_NAMES];
+
+/**
+ * @param {Part} part
+ * @returns {string[]} what isn't where it may be, in it and in what it holds
+ */
+function misfits(part) {
+  const may = HOLDS[part.name] ?? INLINE_NAMES;
+  let isBehindBlock = false;
+  return part.children.flatMap((child) => {
+    if (typeof child === "string") {
+      return /[^ \t\n\r]/.test(child) && !HOLDS_TEXT.includes(part.name) ? [`text in ${part.name}`] : [];
+    }
+    const isInline = INLINE_NAMES.includes(child.name);
+    const isFit = may.includes(child.name) && !(isInline && isBehindBlock);
+    isBehindBlock ||= !isInline;
+    return [...(isFit ? [] : [`${child.name} in ${part.name}`]), ...misfits(child)];
+  });
+}
+
+/**
+ * Puts something new somewhere, moves something, or takes an element out of what it holds.
+ * @param {Part} body
+ * @param {(below: number) => number} random
+ */
+function disturb(body, random) {
+  const all = [body];
+  for (const part of all) all.push(...part.parts);
+  const holders = all.filter((part) => part.name !== "br" && part.name !== "hr");
+  const part = all[random(all.length)];
+  const made = (/** @type {number} */ depth) => {
+    const name = ANY_NAMES[random(ANY_NAMES.length)];
+    const count = name === "br" || name === "hr" ? 0 : random(4);
+    const attributes = new Map(name === "a" ? [["href", "./X"]] : []);
+    const children = Array.from({ length: count }, () => (depth > 2 || random(2) === 0 ? "x " : made(depth + 1)));
+    return new Part(name, attributes, children);
+  };
+  const put = (/** @type {Part | string} */ piece, /** @type {Part[]} */ places) => {
+    const { children } = places[random(places.length)];
+    children.splice(random(children.length + 1), 0, piece);
+  };
+  const parent = all.find((holder) => holder.children.includes(part));
+  const at = parent?.children.indexOf(part) ?? 0;
+  const actions = [
+    () => put(made(0), holders),
+    () => put("typed", holders),
+    () => parent?.children.splice(at, 1, ...part.children),
+    () => {
+      parent?.children.splice(at, 1);
+      const others = parent === undefined ? [] : [body];
+      for (const holder of others) others.push(...holder.parts);
+      put(part, parent === undefined ? [new Part("p")] : others);
+    },
+    () => holders.includes(part) && part !== body && (part.name = ANY_NAMES[random(ANY_NAMES.length)]),
+  ];
+  actions[random(actions.length)]();
+}
+
+test("what is saved of whatever an editor left stands where it may", () => {
+  const was = page(
+    '<p id="mw1">a <b id="mw2">b</b></p>\n<ul id="mw3"><li id="mw4">a<ul id="mw5"><li id="mw6">b</li></ul></li></ul>' +
+      '<table id="mw7"><tbody id="mw8"><tr id="mw9"><td id="mw10">a<dl id="mw11"><dt id="mw12">b</dt></dl></td>' +
+      '</tr></tbody></table><h2 id="mw13">c</h2><pre id="mw14">d</pre>',
+  );
+  const bodyOf = (/** @type {string} */ html) => read(html).root.parts.find((part) => part.name === "body");
+  assert.deepEqual(misfits(bodyOf(was)), []);
+  assert.deepEqual(misfits(bodyOf(page("<p><ul>a<li><ul></ul><b></b></li></ul></p>"))).length, 3);
+  for (let seed = 0; seed < 400; seed += 1) {
+    const random = randomFrom(seed);
+    const body = bodyOf(was);
+    for (let count = random(3); count >= 0; count -= 1) disturb(body, random);
+    const document = new SmallDocument();
+    fill(document.body, body);
+    const html = save(document.body, { original: was });
+    assert.deepEqual(misfits(bodyOf(html)), [], `${seed}: ${html}`);
+  }
+});
 
 const MARKS = [
   [
@@ -831,6 +1000,10 @@ const DELETIONS = [
   ["== one two ==", "one", "== two =="],
   ["== one two ==", "two", "== one =="],
   ["{|\n| one two\n|}", "one", "{|\n| two\n|}"],
+  ["a [http://x one two] b", "one", "a [http://x two] b"],
+  ["a [http://x one two] b", "two", "a [http://x one] b"],
+  ["[[x|one two]]", "one", "[[x|two]]"],
+  ["a [[x|one two]]", "two", "a [[x|one]]"],
 ];
 
 test("of line breaks and blanks that a deletion leaves nothing is written", (context) => {

@@ -8,7 +8,8 @@ from functools import lru_cache
 from typing import Dict
 
 LIBRARY = "mimalloc"  # in Debian libmimalloc2.0
-TUNABLE = "glibc.malloc.hugetlb=1"  # for where there is none: glibc asks for large pages of memory
+LARGE_PAGES = {"MIMALLOC_LARGE_OS_PAGES": "1"}  # it asks for large pages of memory
+TUNABLE = "glibc.malloc.hugetlb=1"  # for where there is none: glibc does
 SECONDS = 10  # that a program may take to tell that it runs
 
 
@@ -22,7 +23,7 @@ def environment(path: str) -> Dict[str, str]:
     library = ctypes.util.find_library(LIBRARY)
     if library is None or "LD_PRELOAD" in own:
         return own
-    quick = {**own, "LD_PRELOAD": library}
+    quick = {**LARGE_PAGES, **own, "LD_PRELOAD": library}
     return quick if runs_in(quick, path) else own
 
 

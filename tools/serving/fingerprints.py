@@ -43,6 +43,19 @@ def etag(folder: PageFolder, name: str, page: bytes, html_hash: bytes) -> str:
     return f'W/"{revision(page)}/{digest.hexdigest()[:32]}"'
 
 
+def names_reached(folder: PageFolder, page: bytes) -> set:
+    """The full names that calls name in letters, in a page or in these pages in turn."""
+    reached, texts = set(), [page]
+    while texts:
+        for called in NAMES.of(texts.pop()):
+            if called not in reached:
+                reached.add(called)
+                text = folder.read_if_there(called)
+                if text is not None:
+                    texts.append(text)
+    return reached
+
+
 class NamesOfPages:
     """Remembers which pages a page names, of the pages that were looked at last."""
 

@@ -7,10 +7,11 @@ from collections import OrderedDict
 from concurrent.futures import Future, ThreadPoolExecutor
 from dataclasses import dataclass
 from functools import cached_property
-from typing import Callable, Optional
+from typing import Callable, Optional, Tuple
 
 from .differences import unified
 from .documents import with_sources_alone, without_places
+from .fingerprints import names_tag
 from .other_tools import titles
 from .refusals import Refusal
 
@@ -59,6 +60,21 @@ class State:
         return without_places(with_sources_alone(self.document))
 
 
+@dataclass(frozen=True)
+class Foreseen:
+    """A page that an edit will probably make; `coming` makes its state meanwhile."""
+
+    page: bytes
+    coming: "Future[State]"
+
+    def of(self, page: bytes) -> "Optional[Future[State]]":
+        """What makes the state of the page that the edit made, if that is the foreseen one."""
+        if page == self.page:
+            return self.coming
+        self.coming.cancel()  # where it hasn't begun
+        return None
+
+
 @dataclass
 class Kept:
     """An edit that was shown. `coming` makes the state that it leads to; nothing, where that is too much to
@@ -82,7 +98,7 @@ class PreparedEdits:
     """Keeps the last edits that were shown, by words that nobody can guess. Each is compared with the page
     again when it is to be stored."""
 
-    def __init__(self, state_of: Callable[[Edit], State]) -> None:
+    def __init__(self, state_of: Callable[[str, bytes], State]) -> None:
         self._state_of = state_of
         self._lock = threading.RLock()  # what is called when a state is cancelled takes it again
         self._edits: "OrderedDict[str, Kept]" = OrderedDict()
@@ -94,12 +110,24 @@ class PreparedEdits:
                 self._forget_oldest()
         self._pool.shutdown(wait=False)
 
-    def keep(self, edit: Edit) -> str:
-        """The word under which the edit is found again. The state that it makes is begun."""
+    def foresee(self, name: str, page: bytes) -> Foreseen:
+        """Begins the state of a page that an edit will probably make, also in the editor's form."""
+        return Foreseen(page, self._pool.submit(self._state_for_editor, name, page))
+
+    def _state_for_editor(self, name: str, page: bytes) -> State:
+        state = self._state_of(name, page)
+        _ = state.for_editor  # it is made now
+        return state
+
+    def keep(self, kept: Kept) -> str:
+        """The word under which an edit is found again. The state that it leads to is begun, if it wasn't."""
         word = secrets.token_hex(16)
+        edit = kept.edit
         with self._lock:
-            coming = self._pool.submit(self._state_of, edit) if edit.is_changed else None
-            self._edits[word] = Kept(edit, coming)
+            if kept.coming is None and edit.is_changed:
+                kept.coming = self._pool.submit(self._state_of, edit.name, edit.new)
+            coming = kept.coming
+            self._edits[word] = kept
             while len(self._edits) > MOST_KEPT:
                 self._forget_oldest()
         if coming is not None:
@@ -113,6 +141,17 @@ class PreparedEdits:
         if kept is None or kept.edit.name != name:
             raise Refusal(410, "NotPrepared", "The server keeps this edit no longer: send the HTML again.")
         return kept
+
+    def led_to(self, name: str, field: str) -> Optional[Tuple[bytes, State]]:
+        """A page that an edit led to, with its state, whose tag the field If-Match names: nothing where there
+        is none, or it isn't made yet."""
+        with self._lock:
+            edits = [kept for kept in reversed(self._edits.values()) if kept.edit.name == name]
+        for kept in edits:
+            state = kept.state() if kept.coming is not None and kept.coming.done() else None
+            if state is not None and names_tag(field, state.tag):
+                return kept.edit.new, state
+        return None
 
     def forget(self, word: str, name: str) -> None:
         """Forgets an edit of a page that nobody will store."""

@@ -9,21 +9,24 @@ import shutil
 import tempfile
 import threading
 from concurrent.futures import ThreadPoolExecutor
+from contextlib import contextmanager
 from dataclasses import dataclass, field
 from html import escape
 from pathlib import Path
-from typing import Callable, Dict, List, Optional
+from typing import Callable, Dict, Iterator, List, Optional
 from urllib.parse import quote
 
 from . import bodies, documents
-from .fingerprints import etag, hash_of, names_tag, tags_of
-from .known import KnownStates
+from .fingerprints import etag, hash_of, names_reached, names_tag, tags_of
+from .foreseen import foreseen
+from .known import LONG_PAGE, KnownStates
 from .mending import marked, mended
 from .other_tools import titles
 from .pages import PAGE_BYTES, PageFolder, full_name, remove_if_there, revision
-from .prepared import Edit, Kept, PreparedEdits, State
+from .prepared import Edit, Foreseen, Kept, PreparedEdits, State
 from .program import Program
 from .refusals import Refusal
+from .tags import bears_mark, numbers
 
 CLIENT = Path(__file__).resolve().parent.parent.parent / "client"
 STATIC = re.compile(r"(?!tests/)(?:[A-Za-z0-9_-]+/)*[A-Za-z0-9_-][A-Za-z0-9_.-]*\.(?:js|css|svg)")
@@ -37,13 +40,6 @@ JSON_TYPE = "application/json; charset=utf-8"
 PAGE_TYPE = "text/html; charset=utf-8"
 
 MENDED_BYTES = 16_777_216  # of HTML that is mended, which takes much more time and memory than wtround
-# An element's name and number, where it has one.
-NUMBERED = re.compile(
-    rb"<([a-z][a-z0-9]*)\s(?:[^<>\"']|\"[^\"]*\"|'[^']*')*?"
-    rb"\bid\s*=\s*[\"']?(mw[1-9][0-9]*)\b",
-    re.IGNORECASE,
-)
-MARK = re.compile(rb"<[a-z][a-z0-9]*\s(?:[^<>\"']|\"[^\"]*\"|'[^']*')*?\bdata-wt-edit\s*=")
 STALE = "The page, or a template that it takes, was changed since you opened it: open it again, and edit that."
 
 
@@ -148,7 +144,7 @@ class Site:
         fields = request.fields()
         if "if-match" not in request.headers:  # which says more than the number
             self._check_revision(self.folder.read(name), wanted)
-        return Answer(self._edited(request, name, fields).new, WIKITEXT_TYPE)
+        return Answer(self._edited(request, name, fields).edit.new, WIKITEXT_TYPE)
 
     def _page_of(self, document: bytes) -> bytes:
         """The page that an HTML is, as it is written, or else as it is when it is mended."""
@@ -186,7 +182,7 @@ class Site:
         try:
             if bodies.flag(request.query.get("preview")):
                 return self._shown(request, name, fields, kept)
-            return self._stored(request, kept or Kept(self._edited(request, name, fields), None))
+            return self._stored(request, kept or self._edited(request, name, fields))
         except Refusal as refusal:
             if refusal.error != "Stale":
                 raise
@@ -205,10 +201,10 @@ class Site:
             if not self._is_still(edit) and self._known.taken(name)[1].tag != edit.tag:
                 raise Refusal(412, "Stale", STALE)
         else:
-            edit = self._edited(request, name, fields)
+            made = self._edited(request, name, fields, is_foreseen=True)
             if "instead" in fields:
                 self._prepared.forget(bodies.text_field(fields, "instead"), name)
-            word = self._prepared.keep(edit)
+            edit, word = made.edit, self._prepared.keep(made)
         return saved({**changes_of(edit), "etag": edit.tag, "prepared": word})
 
     def _stored(self, request: Request, kept: Kept) -> Answer:
@@ -242,15 +238,21 @@ class Site:
             found["html"] = in_form(state, page, request.query).decode()
         return saved(found)
 
-    def _edited(self, request: Request, name: str, fields: Dict[str, object]) -> Edit:
-        """The new page of an edit. HTML that bears a mark was made for `edit`, and HTML that is told to be
-        mended for `selser`: both are given on as they are while the page's tag is looked at. Other HTML is
-        mended first."""
+    def _edited(
+        self, request: Request, name: str, fields: Dict[str, object], is_foreseen: bool = False
+    ) -> Kept:
+        """The new page of an edit; `is_foreseen`: with the state that it leads to, where that was begun
+        meanwhile. HTML that bears a mark was made for `edit`, and HTML that is told to be mended for
+        `selser`: both are given on as they are while the page's tag is looked at. Other HTML is mended
+        first."""
         document = bodies.encoded(bodies.text_field(fields, "html"))
         fingerprint = self.folder.fingerprint()
         with ThreadPoolExecutor(1) as pool:
             command = self._command_as_it_is(document, fields)
             early = pool.submit(command, name, document) if command is not None else None
+            can_foresee = is_foreseen and unit_of(request, fields) == documents.NO_UNIT
+            given = self._prepared.led_to(name, request.headers.get("if-match", "")) if can_foresee else None
+            likely = self._foreseen(name, *given, document) if given is not None else None
             sent = sent_in(request, name, fields)
             page, state = self._known.taken(name)
             self._check_tag(request, state.tag)
@@ -258,12 +260,23 @@ class Site:
                 check_length(document)
             if not bears_mark(document):
                 check_kept(document, state.document)
+            if can_foresee and likely is None:
+                likely = self._foreseen(name, page, state, document)
             if early is not None:
                 new = early.result()
             else:
                 original = documents.in_form_of(document, state.document, page, unit_of(request, fields))
                 new = self._mended_edit(name, document.decode(), original.decode())
-        return Edit(name, state.tag, page, new, sent, fingerprint, state.html_hash)
+        edit = Edit(name, state.tag, page, new, sent, fingerprint, state.html_hash)
+        return Kept(edit, likely.of(new) if likely is not None and edit.is_changed else None)
+
+    def _foreseen(self, name: str, page: bytes, state: State, document: bytes) -> Optional[Foreseen]:
+        """The page that an edit of HTML in the editor's form will probably make, whose state is begun. That
+        of a short page comes at once."""
+        if len(page) < LONG_PAGE:
+            return None
+        new = foreseen(page, state.document, state.for_editor, document)
+        return self._prepared.foresee(name, new) if new is not None else None
 
     def _command_as_it_is(self, document: bytes, fields: Dict[str, object]) -> Optional[Callable]:
         """The command that takes an edit as it is, if one does."""
@@ -285,7 +298,7 @@ class Site:
             self._check_tag(request, edit.tag)
             return made
         with ThreadPoolExecutor(1) as pool:
-            after = pool.submit(self._state_of, edit) if edit.is_changed else None
+            after = pool.submit(self._state_of, edit.name, edit.new) if edit.is_changed else None
             _, now = self._known.taken(edit.name)
             self._check_tag(request, now.tag)
             if now.tag != edit.tag:
@@ -305,16 +318,21 @@ class Site:
             return False
         return self._tag(edit.name, self.folder.read(edit.name), edit.html_hash) == edit.tag
 
-    def _state_of(self, edit: Edit) -> State:
-        """The state that a page will have once an edit is stored."""
-        with self._texts.page(edit.new) as (room, text_name):
-            document = self.program.html(text_name, room)
-        return self._state(edit.name, edit.new, document)
+    def _state_of(self, name: str, page: bytes) -> State:
+        """The state that a page will have once its text is this one. One that takes itself as a template
+        takes its new text."""
+        if name in names_reached(self.folder, page):
+            with self._texts.with_page(name, page) as room:
+                document = self.program.html(name, room)
+        else:
+            with self._texts.page(page) as (room, text_name):
+                document = self.program.html(text_name, room)
+        return self._state(name, page, document)
 
     def prepared_html(self, request: Request, title: str, word: str) -> Answer:
         """The HTML that a page will have once an edit that was shown is stored, and the tag of that state."""
         kept = self._prepared.find(word, full_name(title))
-        state = kept.state() or self._state_of(kept.edit)
+        state = kept.state() or self._state_of(kept.edit.name, kept.edit.new)
         return Answer(in_form(state, kept.edit.new, request.query), HTML_TYPE, 200, {"ETag": state.tag})
 
     def _check_tag(self, request: Request, tag: str) -> None:
@@ -395,6 +413,20 @@ class TextRoom:
                 os.mkdir(os.path.join(self._room.name, "pages"))
             self._link()
         return TextPage(self._room.name, f"Text {secrets.token_hex(16)}", text)
+
+    @contextmanager
+    def with_page(self, name: str, text: bytes) -> Iterator[str]:
+        """A directory of its own, in which a page has this text, and each other one that of the folder."""
+        with tempfile.TemporaryDirectory(prefix="wtround-serve-") as room:
+            pages = os.path.join(room, "pages")
+            os.mkdir(pages)
+            own = titles.file_name(name)
+            for file in os.listdir(self._folder.path):
+                if file.endswith(".wiki") and file != own:
+                    os.symlink(os.path.join(self._folder.path, file), os.path.join(pages, file))
+            with open(os.path.join(pages, own), "xb") as page:
+                page.write(text[: PAGE_BYTES + 1])
+            yield room
 
     def _link(self) -> None:
         """Makes the links to the folder's files those that they are now."""
@@ -494,19 +526,14 @@ def check_accepted(field: str) -> None:
         raise Refusal(406, "NotAcceptable", sentence)
 
 
-def bears_mark(document: bytes) -> bool:
-    """Whether an element has the attribute of a mark. Where its name stands nowhere no tag is looked at."""
-    return b"data-wt-edit" in document and MARK.search(document) is not None
-
-
 def check_kept(document: bytes, original: bytes) -> None:
     """Refuses HTML without a mark in which no element of the page is left, as a fragment that a client sent
     for the whole: it would take out all that the page has."""
-    first, other = NUMBERED.search(original), NUMBERED.search(document)
-    if first is not None and other is not None and first.groups() == other.groups():
+    first, other = next(numbers(original), None), next(numbers(document), None)
+    if first is not None and first == other:
         return  # as mostly: the others needn't be looked at
-    kept = set(NUMBERED.findall(original))
-    if kept and kept.isdisjoint((name.lower(), number) for name, number in NUMBERED.findall(document)):
+    kept = set(numbers(original))
+    if kept and kept.isdisjoint(numbers(document)):
         sentence = "Nothing of the page is left in this HTML: send the whole document, or mark what is to go."
         raise Refusal(422, "NothingKept", sentence)
 
@@ -524,7 +551,8 @@ def check_text(page: bytes) -> None:
     try:
         page.decode("utf-8")
     except UnicodeDecodeError as error:
-        line = f"page not UTF-8 at {error.start}"
+        place = error.start if error.reason == "invalid start byte" else error.end  # as `wtround` counts
+        line = f"page not UTF-8 at {place}"
         raise Refusal(422, "PageNotUtf8", "The page stops being UTF-8 there: convert it.", line) from None
 
 

@@ -19,6 +19,7 @@ from serving import differences, documents, fingerprints
 from serving.mending import marked, mended
 from serving.mending.markup import Element, read_body, written
 from serving.refusals import Refusal
+from serving.tags import bears_mark, numbers
 
 VECTORS = REPOSITORY.parent / "shared/vectors"
 SHARED = REPOSITORY / "client/tests/documents"
@@ -219,6 +220,11 @@ class Mending(unittest.TestCase):
                 calls = [calls_of(piece * (length // len(piece))) for length in (5_000, 20_000)]
                 self.assertLess(calls[1], 5 * calls[0] + 1000)
 
+    def test_blanks_at_the_end_of_an_item(self) -> None:
+        for text in ("<ul><li>a <br></li></ul>", "<ul><li> a \n</ul>", "<ul><li>a<br> </li></ul>"):
+            with self.subTest(text=text):
+                self.assertIn("<ul><li>a</li></ul>", mended(text))
+
     def test_what_is_cut_off_is_refused(self) -> None:
         for text in ("<p>x<!-- c", "<p", '<p a="x>', "<script>x", "<![CDATA[x", "</p", "<b>" * 1000):
             with self.subTest(text=text[:20]), self.assertRaises(Refusal) as raised:
@@ -275,6 +281,37 @@ class Diffs(unittest.TestCase):
             new = "first\n" + old.replace("line 500\n", "line x\n") + "last\n"
             began = time.process_time()
             differences.unified(old, new, "x")
+            self.assertLess(time.process_time() - began, 5)
+
+
+class Tags(unittest.TestCase):
+    def test_marks(self) -> None:
+        for text, is_marked in {
+            '<p id="mw1" data-wt-edit="content">': True, "<p\ndata-wt-edit = ''/>": True, "<p data-wt-edit=x>": True,
+            '<a title="<b>"><p data-wt-edit="x">': True, "<!-- ' --><p data-wt-edit='x'>": True,
+            "<p data-wt-edit>": False, "<P data-wt-edit='x'>": False, "data-wt-edit='x'": False,
+            """<p data-mw='{"wt":"<p data-wt-edit=x>"}'>""": False, """<p title="' data-wt-edit='x'">""": False,
+            "<!-- <p data-wt-edit='x'> -->": False, "<p>&lt;p data-wt-edit='x'&gt;</p>": False,
+            "<p x-data-wt-edit='x'>": False, "<!-- <p data-wt-edit='x'>": False, "<p data-wt-edit='x": False,
+        }.items():  # fmt: skip
+            with self.subTest(text=text):
+                self.assertEqual(bears_mark(text.encode()), is_marked)
+
+    def test_numbers(self) -> None:
+        for text, found in {
+            '<P ID=mw1><b class=x id = "mw20">': [(b"p", b"mw1"), (b"b", b"mw20")],
+            """<p data-mw='<i id="mw1">' id='mw2'>""": [(b"p", b"mw2")],
+            """<p title='id="mw1"'><p id="mw1x"><p id="mw0"><p id><p data-id="mw1"> id="mw1">""": [],
+        }.items():
+            with self.subTest(text=text):
+                self.assertEqual(list(numbers(text.encode())), found)
+
+    def test_they_take_time_in_proportion(self) -> None:
+        for piece in (b"<", b"<a ", b"<a '", b"<a \"'", b"<!--", b"<a x='", b"<aa", b"<a data-wt-edit", b"<a id=mw1"):
+            text = piece * (1_000_000 // len(piece)) + b"data-wt-edit"
+            began = time.process_time()
+            bears_mark(text)
+            list(numbers(text))
             self.assertLess(time.process_time() - began, 5)
 
 

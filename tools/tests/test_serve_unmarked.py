@@ -193,6 +193,50 @@ class Unmarked(ServingCase):
         status, _, answer = self.ask("POST", "/save/Opava", body, **headers)
         self.assertEqual((status, json.loads(answer)["error"]), (422, "NothingKept"))
 
+    def test_a_mark_in_a_value_is_none(self) -> None:
+        """Older browsers write `<` in values as it is: what a call holds isn't an element of the document."""
+        page = "{{Lang|de|<p data-wt-edit=x>}} a"
+        (self.pages / "Value.wiki").write_text(page)
+        html, tag = self.html("Value")
+        sent = html.replace("&lt;p data-wt-edit=x&gt;", "<p data-wt-edit=x>").replace(" a<", " b<")
+        self.assertIn("<p data-wt-edit=x>", sent)
+        status, told = self.save("Value", sent, tag)
+        self.assertEqual((status, self.page("Value")), (200, page.replace(" a", " b")), told)
+
+    def test_text_behind_a_list_of_an_item(self) -> None:
+        (self.pages / "Behind.wiki").write_text("* a\n** b\n* c\n\n{|\n| d\n* e\n|}")
+        html, tag = self.html("Behind")
+        for old, new in (("b</li></ul>", "b</li></ul><p>x <b>y</b></p>"), ("e</li></ul>", "e</li></ul>z <i>w</i>")):
+            self.assertIn(old, html)
+            html = html.replace(old, new)
+        status, told = self.save("Behind", html, tag)
+        wanted = "* a\n** b\n*: x '''y'''\n* c\n\n{|\n| d\n* e\n\nz ''w''\n|}"
+        self.assertEqual((status, self.page("Behind")), (200, wanted), told)
+
+
+class OwnTemplate(ServingCase):
+    """A page that shows itself, as the documentation of a template does."""
+
+    def test_it_is_saved_twice(self) -> None:
+        page = self.pages / "Template%3AShown.wiki"
+        page.write_text("x <noinclude>\n\nsee {{Shown}} b\n</noinclude>")
+        html, tag = self.html("Template:Shown")
+        for old, new in ((">x <meta", ">y <meta"), (" b</p>", " c</p>")):
+            status, told = self.save("Template:Shown", html.replace(old, new), tag, "?html=1")
+            self.assertEqual((status, told["changed"]), (200, True), told)
+            html, tag = told["html"], told["etag"]
+            self.assertEqual((html, tag), self.html("Template:Shown"))
+        self.assertEqual(page.read_text(), "y <noinclude>\n\nsee {{Shown}} c\n</noinclude>")
+
+    def test_where_a_page_stops_being_utf8(self) -> None:
+        for data in (b"a\xe2\x82(b", b"a\xffb", b"a\xe2\x82", b"\xed\xa0\x80", b"\xf0\x80"):
+            (self.pages / "Bad.wiki").write_bytes(data)
+            lines = []
+            for form in ("html", "wikitext"):
+                _, _, answer = self.ask("GET", f"/localhost/v3/page/{form}/Bad")
+                lines.append(json.loads(answer)["line"])
+            self.assertEqual(lines[0], lines[1], data)
+
 
 class OlderProgram(ServingCase):
     def start(self):  # type: ignore[no-untyped-def]

@@ -15,8 +15,8 @@ use wt_span::{NoMemory, Str};
 use wt_tree::{Kind, Node, flat, same_attrs, same_kind};
 
 /// What a block is written by: what is known of the page, whether texts keep their bytes, the signs of the item
-/// in which it stands (of an item its own), and the page's text at its end, where the block is the second half of
-/// one that stood there.
+/// in which it is (of an item its own), and the page's text at its end, where the block is the second half of
+/// one that was there.
 #[derive(Clone, Copy)]
 pub struct Surroundings<'w, 't, 'a> {
     pub known: &'w Known<'t, 'a>,
@@ -26,12 +26,12 @@ pub struct Surroundings<'w, 't, 'a> {
 }
 
 impl<'w, 't, 'a> Surroundings<'w, 't, 'a> {
-    /// How the inside of a block of this kind is written; `block` is the one that stood in the page.
+    /// How the inside of a block of this kind is written; `block` is the one that was in the page.
     fn writing(self, block: Option<&'w Block<'t, 'a>>, kind: Kind) -> Writing<'w, 't, 'a> {
         Writing::of(self.known, block, self.keeps, place_in(kind))
     }
 
-    /// The same for what stands in the block.
+    /// The same for what is in the block.
     fn within(self) -> Surroundings<'w, 't, 'a> {
         Surroundings {
             known: self.known,
@@ -41,7 +41,7 @@ impl<'w, 't, 'a> Surroundings<'w, 't, 'a> {
         }
     }
 
-    /// The same for what stands in a part of a table, where lists begin anew.
+    /// The same for what is in a part of a table, where lists begin anew.
     fn in_table(self) -> Surroundings<'w, 't, 'a> {
         Surroundings {
             known: self.known,
@@ -52,7 +52,7 @@ impl<'w, 't, 'a> Surroundings<'w, 't, 'a> {
     }
 }
 
-// ---- blocks that stand
+// ---- blocks that stay
 
 /// Whether a node is the page's with its number, as it was. Of a group nothing can have been changed.
 fn is_as_it_was(alloc: Global, old: &Node<'_>, node: &Node<'_>) -> Result<bool, NoMemory> {
@@ -146,7 +146,7 @@ fn are_joined(left: Kind, right: Kind) -> bool {
     are_lists || !(is_lined(left) || is_lined(right))
 }
 
-/// Appends all that a node holds behind its inside, each on a line of its own but a cell that shared one.
+/// Appends all that a node holds after its inside, each on a line of its own but a cell that shared one.
 #[cycle(blocks)]
 fn push_held(
     alloc: Global,
@@ -167,7 +167,7 @@ fn push_held(
     Ok(())
 }
 
-/// Whether a source begins with these signs, and no other behind them.
+/// Whether a source begins with these signs, and no other after them.
 fn begins_with(source: &[u8], signs: &[u8]) -> bool {
     if !source.starts_with(signs) {
         return false;
@@ -192,7 +192,7 @@ fn push_heading(
     push_heading_end(alloc, out, around.known, node.id, level)
 }
 
-/// Appends an item with its signs: as it stood in the page, where it stood there with these.
+/// Appends an item with its signs: as it was in the page, where it was there with these.
 #[cycle(blocks)]
 fn push_item(
     alloc: Global,
@@ -211,7 +211,7 @@ fn push_item(
     push_held(alloc, out, around, node)
 }
 
-/// Appends an item of a list that stands in an item with these signs.
+/// Appends an item of a list that is in an item with these signs.
 #[cycle(blocks)]
 fn push_item_of(
     alloc: Global,
@@ -345,8 +345,8 @@ fn push_lines(
     push_held(alloc, out, around.in_table(), node)
 }
 
-/// Appends a block as it stood in the page, where it stood there as it is; it says whether it does. An item
-/// stands so only with its signs, a row with its sign.
+/// Appends a block as it was in the page, where it was there as it is; it says whether it does. An item
+/// is so only with its signs, a row with its sign.
 fn push_if_standing(
     alloc: Global,
     out: &mut Str,

@@ -117,7 +117,7 @@ fn is_sign(byte: u8) -> bool {
     byte == b'*' || byte == b'#' || byte == b':' || byte == b';'
 }
 
-/// What stands behind the signs of an item.
+/// What comes after the signs of an item.
 fn behind_signs(opening: &str) -> &str {
     let count = opening
         .as_bytes()
@@ -128,7 +128,7 @@ fn behind_signs(opening: &str) -> &str {
     rest
 }
 
-/// Appends the signs of an item, and the blanks that it had behind its own; one where it is new.
+/// Appends the signs of an item, and the blanks that it had after its own; one where it is new.
 pub fn push_signs(
     alloc: Global,
     out: &mut Str,
@@ -198,7 +198,7 @@ pub fn push_heading_start(
     out.push_str(blanks)
 }
 
-/// Appends those behind it, and what stood behind its last sign: comments and include tags stand there, too.
+/// Appends those after it, and what came after its last sign: comments and include tags are there, too.
 pub fn push_heading_end(
     alloc: Global,
     out: &mut Str,

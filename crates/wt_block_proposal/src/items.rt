@@ -19,7 +19,7 @@ pub fn sign_of(list: Kind, item: Kind) -> &'static str {
     }
 }
 
-/// The signs with which an item of the page begins its line, by the lists in which it stands; nothing of another
+/// The signs with which an item of the page begins its line, by the lists in which it is; nothing of another
 /// node.
 pub fn signs_of(alloc: Global, known: &Known<'_, '_>, item: &Node<'_>) -> Result<Str, NoMemory> {
     let mut out = Str::new(alloc);

@@ -17,7 +17,7 @@ pub fn is_cell(kind: Kind) -> bool {
     matches!(kind.shape().class, Placement::Cell)
 }
 
-/// Whether it stands in a list or a table alone.
+/// Whether it is only ever in a list or a table.
 pub fn is_part(kind: Kind) -> bool {
     matches!(
         kind.shape().class,
@@ -29,7 +29,7 @@ pub fn is_part(kind: Kind) -> bool {
     )
 }
 
-/// Whether a block is told by the signs at its line's start or end.
+/// Whether a block is recognized by the signs at its line's start or end.
 pub fn is_lined(kind: Kind) -> bool {
     match kind.shape().class {
         Placement::Block => !matches!(kind, Kind::Para | Kind::Pre),

@@ -1,4 +1,4 @@
-//! Blocks, items and rows of an edited page as wikitext, with the page's bytes of what still stands in them. What they
+//! Blocks, items and rows of an edited page as wikitext, with the page's bytes of what is still in them. What they
 //! show isn't said here: who asks for them reads them back.
 #![tactic(auto)]
 

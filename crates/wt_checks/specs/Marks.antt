@@ -4,8 +4,7 @@ use Rattle.wt_tree.specs.declared.kind.Kind.{Kind}
 use Rattle.wt_tree.specs.declared.kind.Kind.TheVariants as kind
 use Rattle.wt_tree.specs.declared.kind.Mark.{Mark}
 use Rattle.wt_tree.specs.declared.kind.Mark.TheVariants as marks
-use Rattle.wt_tree.specs.declared.row.Placement.TheVariants.{Block, List as ListClass}
-use Rattle.wt_tree.specs.Kinds.{shape, is_class}
+use Rattle.wt_tree.specs.Kinds.{is_block}
 use Rattle.wt_tree.specs.Tiling.{is_group}
 use Rattle.wt_tree.specs.Tree.{Tree, tree, Trees, none, more, label}
 use Rattle.wt_checks.specs.declared.editing.Editing.{Editing}
@@ -53,10 +52,6 @@ editing kind.Sep = Never
 editing kind.Text = Never
 editing kind.Group = Never
 editing kind.Empty = Never
-
--- paragraphs, headings, rules, lists, preformatted text and tables
-abbrev pub is_block : Kind → Bool
-is_block k = is_class (shape k).class Block || is_class (shape k).class ListClass
 
 abbrev pub no_block : Trees → Bool
 no_block none = true

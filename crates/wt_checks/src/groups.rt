@@ -19,8 +19,9 @@ use std::alloc::Global;
 use wt_span::NoMemory;
 use wt_tree::{Kind, Node, TagName};
 
+/// Whether a mark stands on a node or inside it.
 #[cycle(marked)]
-fn has_mark(node: &Node<'_>) -> bool
+pub fn has_mark(node: &Node<'_>) -> bool
     ensures { result ≡ has_mark (view node.now) }
 {
     is_marked(node.mark()) || have_mark(node.children.as_slice())

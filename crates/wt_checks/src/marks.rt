@@ -2,14 +2,14 @@ ghost use Rattle.std.specs.Prelude.{◌≡◌, [], not, option_map};
 ghost use Rattle.wt_tree.specs.Tiling.{is_group};
 ghost use Rattle.wt_tree.specs.View.{view, views};
 ghost use Rattle.wt_checks.specs.Groups.{is_marked};
-ghost use Rattle.wt_checks.specs.Marks.{is_block, no_block, is_inline, are_inline, inline_only, at_top, is_children, allows, is_wrongly_marked};
+ghost use Rattle.wt_checks.specs.Marks.{no_block, is_inline, are_inline, inline_only, at_top, is_children, allows, is_wrongly_marked};
 ghost use Rattle.wt_checks.specs.Places.{is_body, first};
 ghost use Rattle.wt_checks.specs.View.{seen, all_seen, indexed};
 
 use crate::editing::Editing;
 use crate::index::original;
 use crate::visit::{Visit, is_content};
-use wt_tree::{Kind, Mark, Node, Placement};
+use wt_tree::{Kind, Mark, Node};
 
 pub fn is_marked(mark: Mark) -> bool
     ensures { result ≡ is_marked mark }
@@ -39,6 +39,7 @@ pub fn is_body(kind: Kind) -> bool
     }
 }
 
+/// Whether a node is a group.
 pub fn is_group(kind: Kind) -> bool
     ensures { result ≡ is_group kind }
 {
@@ -48,20 +49,11 @@ pub fn is_group(kind: Kind) -> bool
     }
 }
 
-fn is_block(kind: Kind) -> bool
-    ensures { result ≡ is_block kind }
-{
-    match kind.shape().class {
-        Placement::Block | Placement::List => true,
-        _ => false,
-    }
-}
-
 fn no_block(nodes: &[Node<'_>]) -> bool
     ensures { result ≡ no_block (views nodes.now) }
 {
     for node in nodes {
-        if is_block(node.kind) {
+        if node.kind.is_block() {
             return false;
         }
     }
@@ -74,7 +66,7 @@ fn is_inline(node: &Node<'_>) -> bool
     if is_group(node.kind) {
         no_block(node.children.as_slice())
     } else {
-        !is_block(node.kind)
+        !node.kind.is_block()
     }
 }
 

@@ -1,16 +1,17 @@
 ghost use Rattle.std.specs.Prelude.{◌≡◌, ◌++◌, ◌∷◌, [], map, OnOk, IfOk};
 ghost use Rattle.wt_tree.specs.Stream.{byte};
 ghost use Rattle.wt_tree.specs.Plain.{ended};
-ghost use Rattle.wt_tree.specs.Kinds.{showing, writing};
+ghost use Rattle.wt_tree.specs.Kinds.{showing};
 ghost use Rattle.wt_tree.specs.View.{view, views, label_of};
 ghost use Rattle.wt_tree.specs.declared.node.Node.{out-Node};
 ghost use Rattle.wt_checks.specs.Unmarked.{own_character};
 ghost use Rattle.wt_checks.specs.Elements.{read_before, all_read, signs_in};
 ghost use Rattle.wt_checks.specs.Tokens.{read_sign, read_signs, is_text, shows_characters, leaf_signs, element_signs};
 
+use crate::shown::{is_text, own_character};
 use std::alloc::Global;
 use wt_span::NoMemory;
-use wt_tree::{Kind, Node, Showing, Writing};
+use wt_tree::{Node, Showing};
 
 /// A part of the elements that were read in a group: a byte of a text, or an element that opens or
 /// closes.
@@ -46,17 +47,6 @@ fn shows_characters(showing: Showing) -> bool
     }
 }
 
-/// The text in an element before its children.
-fn own_text<'n>(node: &'n Node<'_>) -> &'n str
-    ensures { result.now ≡ own_character (writing (out-Node node.now).kind) (out-Node node.now).source.shown }
-{
-    match node.kind.writing() {
-        Writing::RoundCharacter => node.shown(),
-        Writing::AsText | Writing::AsVoid | Writing::RoundChildren => "",
-        Writing::AsSection(_) | Writing::Unwritten => "",
-    }
-}
-
 fn push_leaf(out: &mut Vec<Read<'_, '_>>, node: &Node<'_>) -> Result<(), NoMemory>
     ensures { OnOk result (read_signs out.new.items ≡ read_signs out.old.items ++ leaf_signs (showing (out-Node node.now).kind) (out-Node node.now).source.shown) }
 {
@@ -73,7 +63,7 @@ fn push_element<'t, 'a>(out: &mut Vec<Read<'t, 'a>>, node: &'t Node<'a>) -> Resu
         (signs_in (all_read (views (out-Node node.now).children)))) }
 {
     push_part(out, Read::Element(node))?;
-    push_text(out, own_text(node))?;
+    push_text(out, own_character(node))?;
     push_all(out, node.children.as_slice())?;
     push_part(out, Read::Close)?;
     Ok(())
@@ -111,14 +101,4 @@ pub fn elements_read<'t, 'a>(
     let mut out = Vec::new(alloc);
     push_all(&mut out, nodes)?;
     Ok(out)
-}
-
-fn is_text(kind: Kind) -> bool
-    ensures { result ≡ is_text (writing kind) }
-{
-    match kind.writing() {
-        Writing::AsText => true,
-        Writing::AsVoid | Writing::RoundCharacter | Writing::RoundChildren => false,
-        Writing::AsSection(_) | Writing::Unwritten => false,
-    }
 }

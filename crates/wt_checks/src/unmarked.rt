@@ -7,23 +7,21 @@ ghost use Rattle.wt_tree.specs.Tree.{none};
 ghost use Rattle.wt_tree.specs.View.{view, views, label_of};
 ghost use Rattle.wt_tree.specs.declared.node.Node.{out-Node};
 ghost use Rattle.wt_checks.specs.Places.{first};
-ghost use Rattle.wt_checks.specs.Unmarked.{is_compared, entry, entries, own_character, holds_same, same_entry, same_entries, keeps_data, keeps_face, keeps_children, is_other, is_unmarked_change};
+ghost use Rattle.wt_checks.specs.Unmarked.{is_compared, entry, entries, holds_same, same_entry, same_entries, keeps_data, keeps_face, keeps_children, is_other, is_unmarked_change};
 ghost use Rattle.wt_checks.specs.View.{seen, all_seen, indexed};
 ghost use Rattle.wt_checks.specs.Compared.{ComparedFrom, IsBehindSame};
 
 use crate::alike::{same_attrs, same_data, same_kind};
 use crate::index::original;
 use crate::marks::{is_body, is_group, is_marked};
+use crate::shown::{is_compared, same_character};
 use crate::visit::Visit;
-use wt_tree::{DataMw, Node, Showing, Writing};
+use wt_tree::{DataMw, Node, Writing};
 
-fn is_compared(node: &Node<'_>) -> bool
+fn is_seen(node: &Node<'_>) -> bool
     ensures { result ≡ is_compared (showing (out-Node node.now).kind) }
 {
-    match node.kind.showing() {
-        Showing::Nothing => false,
-        Showing::Characters | Showing::Inside | Showing::Element => true,
-    }
+    is_compared(node.kind)
 }
 
 fn same_text(a: &Node<'_>, b: &Node<'_>) -> bool
@@ -53,7 +51,7 @@ fn compared_from(nodes: &[Node<'_>], from: usize) -> usize
     ensures { ComparedFrom nodes.now from result }
 {
     for at in from..nodes.len() {
-        if is_compared(&nodes[at]) {
+        if is_seen(&nodes[at]) {
             return at;
         }
     }
@@ -70,7 +68,7 @@ fn behind_same(page: &Node<'_>, edited: &[Node<'_>], from: usize) -> Option<usiz
     if page.kind.is_section() {
         return behind_all_same(page.children.as_slice(), edited, from);
     }
-    if !is_compared(page) {
+    if !is_seen(page) {
         return Some(from);
     }
     let at = compared_from(edited, from);
@@ -104,23 +102,6 @@ fn same_children(page: &[Node<'_>], edited: &[Node<'_>]) -> bool
         None => false,
         Some(behind) => compared_from(edited, behind) == edited.len(),
     }
-}
-
-fn own_character<'n>(node: &'n Node<'_>) -> &'n str
-    ensures { result.now ≡ own_character (writing (out-Node node.now).kind) (out-Node node.now).source.shown }
-{
-    match node.kind.writing() {
-        Writing::RoundCharacter => node.shown(),
-        Writing::AsText | Writing::AsVoid | Writing::RoundChildren => "",
-        Writing::AsSection(_) | Writing::Unwritten => "",
-    }
-}
-
-fn same_character(a: &Node<'_>, b: &Node<'_>) -> bool
-    ensures { result ≡ bytes_eq (own_character (writing (out-Node a.now).kind) (out-Node a.now).source.shown)
-        (own_character (writing (out-Node b.now).kind) (out-Node b.now).source.shown) }
-{
-    own_character(a) == own_character(b)
 }
 
 fn holds_same(original: &Node<'_>, node: &Node<'_>) -> bool

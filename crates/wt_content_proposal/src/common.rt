@@ -38,7 +38,7 @@ pub fn common_front(old: &[u8], new: &[u8]) -> usize {
     new.len()
 }
 
-/// The byte with this many bytes behind it.
+/// The byte with this many bytes after it.
 fn from_end(text: &[u8], behind: usize) -> Option<u8> {
     let place = text.len().checked_sub(behind)?.checked_sub(1)?;
     text.get(place).copied()

@@ -1,4 +1,4 @@
-//! Groups that may stand at the start or end of a line though they stood at none in the page, and beside anything.
+//! Groups that may be at the start or end of a line though they were at none in the page, and beside anything.
 
 use wt_guards::{Role, Stretch, Transclusion, Unit, line_start_hazard};
 use wt_tree::{Kind, Node};
@@ -11,7 +11,7 @@ fn may_begin(text: &str) -> bool {
     }
 }
 
-/// Whether nodes are of one line: texts without line breaks, styles, links, tags, and what stands for a sign.
+/// Whether nodes are of one line: texts without line breaks, styles, links, tags, and what is written for a sign.
 fn are_of_line(nodes: &[Node<'_>]) -> bool {
     for node in nodes {
         let is_of_line = match node.kind {
@@ -32,7 +32,7 @@ fn are_of_line(nodes: &[Node<'_>]) -> bool {
     true
 }
 
-/// Whether what a group shows begins and ends no block wherever it stands in a line.
+/// Whether what a group shows begins and ends no block wherever it is in a line.
 fn is_of_line(nodes: &[Node<'_>]) -> bool {
     let begins = match nodes.first() {
         None => false,
@@ -41,7 +41,7 @@ fn is_of_line(nodes: &[Node<'_>]) -> bool {
     begins && are_of_line(nodes)
 }
 
-/// What a group is to its neighbours where it may stand at a line's start and end.
+/// What a group is to its neighbours where it may be at a line's start and end.
 fn anywhere(group: Transclusion) -> Transclusion {
     Transclusion {
         slashes: group.slashes,
@@ -87,7 +87,7 @@ fn is_behind_new_link(left: Option<&Unit<'_>>, place: Stretch) -> bool {
     }
 }
 
-/// What a group is that is like a node which isn't one: a link where it ends with one, which takes letters behind it.
+/// What a group is that is like a node which isn't one: a link where it ends with one, which takes letters after it.
 fn role_of_plain(nodes: &[Node<'_>]) -> Role {
     match nodes.last() {
         Some(node) if matches!(node.kind, Kind::WikiLink) => Role::Link,
@@ -110,7 +110,7 @@ fn role_of_line(
     }
 }
 
-/// What a node of the page, which stood at this place, is to its neighbours behind `left`, where nothing joins at a
+/// What a node of the page, which was at this place, is to its neighbours after `left`, where nothing joins at a
 /// line's start or end.
 pub fn role_in_line(role: Role, node: &Node<'_>, left: Option<&Unit<'_>>, place: Stretch) -> Role {
     let nodes = node.children.as_slice();

@@ -1,4 +1,4 @@
-//! Inline content as wikitext: what stood in the page as it stood, texts too, and what is new as `edit` spells it.
+//! Inline content as wikitext: what was in the page as it was, texts too, and what is new as `edit` spells it.
 
 use crate::groups::role_in_line;
 use crate::joints::{NOWHERE, Spot, place_of_new, with_joints};
@@ -13,7 +13,7 @@ use wt_original::{InlineForm, Kept, is_unchanged, shape, shown_text};
 use wt_span::{NoMemory, Str, Text};
 use wt_tree::{Kind, Node, flat, same_attrs, same_kind};
 
-/// How an inside is written: what is known of the page, the block in which it stands, whether texts keep their
+/// How an inside is written: what is known of the page, the block in which it is, whether texts keep their
 /// bytes, and what kind of block it is.
 #[derive(Clone, Copy)]
 pub struct Writing<'w, 't, 'a> {
@@ -101,7 +101,7 @@ fn place_of(kept: Option<Kept<'_, '_>>) -> Option<Stretch> {
     }
 }
 
-/// Appends a node as it stood in the page.
+/// Appends a node as it was in the page.
 fn push_as_it_stood(
     alloc: Global,
     out: &mut Vec<Unit<'_>>,
@@ -117,7 +117,7 @@ fn push_as_it_stood(
     push_thing(out, role, source, Some(old.place))
 }
 
-/// The same of a node that may not have stood there. What a link skips is no part of its text.
+/// The same of a node that may not have been there. What a link skips is no part of its text.
 fn push_kept(
     alloc: Global,
     out: &mut Vec<Unit<'_>>,
@@ -131,7 +131,7 @@ fn push_kept(
     }
 }
 
-/// Appends a node as it stood in the page, where it shows what it showed; it says whether it does.
+/// Appends a node as it was in the page, where it shows what it showed; it says whether it does.
 fn push_if_unchanged(
     alloc: Global,
     out: &mut Vec<Unit<'_>>,
@@ -163,7 +163,7 @@ fn push_shown(alloc: Global, out: &mut Vec<Unit<'_>>, node: &Node<'_>) -> Result
 // ---- bold and italic
 
 /// Whether what was appended last is a delimiter of bold that the page has, and that makes a run of five with one of
-/// italic behind it.
+/// italic after it.
 fn is_behind_bold(out: &[Unit<'_>]) -> bool {
     match out.last() {
         Some(Unit::Thing(thing)) => thing.place.is_some() && thing.source.as_str() == "'''",
@@ -262,13 +262,13 @@ fn tag_round(alloc: Global, old: &Node<'_>, inside: &str) -> Result<Str, NoMemor
     Ok(out)
 }
 
-/// Whether a link's opening delimiter has its target, and its text stands behind it.
+/// Whether a link's opening delimiter has its target, and its text comes after it.
 fn has_target(opening: &str) -> bool {
     let bytes = opening.as_bytes();
     bytes.ends_with(b"|") || bytes.ends_with(b" ")
 }
 
-/// Appends the target of a link that has no text of its own: what stands in it up to its brackets. It says
+/// Appends the target of a link that has no text of its own: what is in it up to its brackets. It says
 /// whether that is the target alone.
 fn push_target(alloc: Global, out: &mut Str, nodes: &[Node<'_>]) -> Result<bool, NoMemory> {
     for node in nodes {
@@ -284,7 +284,7 @@ fn push_target(alloc: Global, out: &mut Str, nodes: &[Node<'_>]) -> Result<bool,
     Ok(true)
 }
 
-/// What stands before the text of a link of the page; of one without a text its target and a new `|`. None where
+/// What comes before the text of a link of the page; of one without a text its target and a new `|`. None where
 /// there is no such thing.
 fn target_of(alloc: Global, old: &Node<'_>) -> Result<Option<Str>, NoMemory> {
     let mut out = joined(alloc, old.opening())?;
@@ -301,8 +301,8 @@ fn target_of(alloc: Global, old: &Node<'_>) -> Result<Option<Str>, NoMemory> {
     Ok(Some(out))
 }
 
-/// Appends the closing delimiter of a link of the page; where letters behind its brackets were part of its text,
-/// these stand in it.
+/// Appends the closing delimiter of a link of the page; where letters after its brackets were part of its text,
+/// these are in it.
 fn push_link_end(out: &mut Str, old: &Node<'_>) -> Result<(), NoMemory> {
     if matches!(old.kind, Kind::WikiLink) && old.closing().is_empty() {
         return out.push_str("]]");
@@ -323,7 +323,7 @@ fn push_with_blank(out: &mut Str, inside: &str) -> Result<(), NoMemory> {
     out.push_str(inside)
 }
 
-/// A link of the page whose text alone was changed: its target stands as it was written. None where the target
+/// A link of the page whose text alone was changed: its target stays as it was written. None where the target
 /// was changed, too, or no text is left.
 fn link_round(
     alloc: Global,
@@ -525,7 +525,7 @@ fn behind<'n, 'a>(nodes: &'n [Node<'a>], at: usize) -> Option<&'n Node<'a>> {
     nodes.get(at.checked_add(1)?)
 }
 
-/// The page's text behind the node before a place, or at the edge.
+/// The page's text after the node before a place, or at the edge.
 fn text_left<'t, 'a>(
     writing: Writing<'_, 't, 'a>,
     nodes: &[Node<'_>],
@@ -538,7 +538,7 @@ fn text_left<'t, 'a>(
     }
 }
 
-/// The page's text before the node behind a place, or at the edge.
+/// The page's text before the node after a place, or at the edge.
 fn text_right<'t, 'a>(
     writing: Writing<'_, 't, 'a>,
     nodes: &[Node<'_>],

@@ -1,5 +1,5 @@
-//! Where two neighbours stand beside each other though `edit` would part them: they don't join there. Whether that
-//! is so is told when the page is read back, so these rules need be right nearly always, and no more.
+//! Where two neighbours are beside each other though `edit` would part them: they don't join there. Whether that
+//! is so is seen when the page is read back, so these rules need to be right nearly always, and no more.
 
 use crate::texts::push_nowiki;
 use std::alloc::Global;
@@ -43,7 +43,7 @@ pub fn place_of_new() -> Stretch {
     }
 }
 
-/// What writes nothing, and stands beside what ends and what begins at these places of the page.
+/// What writes nothing, and is beside what ends and what begins at these places of the page.
 fn joint_at<'n>(alloc: Global, place: Stretch) -> Unit<'n> {
     Unit::Thing(Thing {
         role: Role::Node,
@@ -107,7 +107,7 @@ pub fn units_from<'u, 'n>(units: &'u [Unit<'n>], at: usize) -> &'u [Unit<'n>] {
     }
 }
 
-/// The bytes that are written first, and those behind them; none where there are none.
+/// The bytes that are written first, and those after them; none where there are none.
 fn source_at<'u>(units: &'u [Unit<'_>], at: usize) -> &'u [u8] {
     match units.get(at) {
         Some(unit) => source_of(unit),
@@ -198,7 +198,7 @@ fn is_sign(byte: u8) -> bool {
     is_blank(byte) || is_list_sign(byte) || matches!(byte, b'=' | b'-' | b'!')
 }
 
-/// Whether what stands in the page would be read otherwise at the start of a line or of the inside, where it begins
+/// Whether what is in the page would be read otherwise at the start of a line or of the inside, where it begins
 /// with a byte.
 fn is_read_otherwise(spot: Spot<'_>, first: u8, units: &[Unit<'_>], at: usize) -> bool {
     let rest = units_from(units, at);
@@ -209,7 +209,7 @@ fn is_read_otherwise(spot: Spot<'_>, first: u8, units: &[Unit<'_>], at: usize) -
     }
 }
 
-/// Whether what stands in the page begins a line or the inside here, didn't there, and would be read otherwise.
+/// Whether what is in the page begins a line or the inside here, didn't there, and would be read otherwise.
 fn is_new_start(spot: Spot<'_>, units: &[Unit<'_>], at: usize) -> bool {
     let Some(Unit::Thing(thing)) = units.get(at) else {
         return false;
@@ -243,7 +243,7 @@ fn is_caption_sign(spot: Spot<'_>, units: &[Unit<'_>], at: usize) -> bool {
         && !is_standing_first(spot, unit)
 }
 
-// ---- behind a link
+// ---- after a link
 
 /// Where a link that is new or changed ends; where it ends in the page.
 fn link_end(unit: &Unit<'_>) -> Option<usize> {
@@ -256,7 +256,7 @@ fn link_end(unit: &Unit<'_>) -> Option<usize> {
     }
 }
 
-/// Whether letters that stand in the page come behind a link that they weren't behind, and would join it.
+/// Whether letters that are in the page come after a link that they weren't after, and would join it.
 fn joins_link(units: &[Unit<'_>], at: usize) -> bool {
     let (Some(left), Some((Role::Node, place))) = (before(units, at), placed(units.get(at))) else {
         return false;
@@ -267,7 +267,7 @@ fn joins_link(units: &[Unit<'_>], at: usize) -> bool {
     }
 }
 
-// ---- behind a bare URL
+// ---- after a bare URL
 
 /// What is no part of a URL at its end.
 fn is_dropped(byte: u8, has_bracket: bool) -> bool {
@@ -397,7 +397,7 @@ fn placed<'u>(unit: Option<&'u Unit<'_>>) -> Option<(Role, Stretch)> {
     }
 }
 
-/// Whether `edit` parts the two wherever they stand.
+/// Whether `edit` always parts the two.
 fn are_parted_anywhere(left: Role, right: Role) -> bool {
     match left {
         Role::Group(_) => matches!(right, Role::Group(_) | Role::External | Role::Bare(_)),
@@ -422,7 +422,7 @@ fn meeting(units: &[Unit<'_>], at: usize) -> Option<Stretch> {
 
 // ---- all
 
-/// Where a joint stands before a unit, its place in the page.
+/// Where a joint comes before a unit, its place in the page.
 fn joint_before(spot: Option<Spot<'_>>, units: &[Unit<'_>], at: usize) -> Option<Stretch> {
     if let Some(place) = meeting(units, at) {
         return Some(place);
@@ -461,7 +461,7 @@ fn push_before<'n>(
     Ok(())
 }
 
-/// The units with joints between those that stand beside each other as they are. Without a spot no line begins and
+/// The units with joints between those that are beside each other as they are. Without a spot no line begins and
 /// none ends there: it is the inside of a link or tag.
 pub fn with_joints<'n>(
     alloc: Global,

@@ -10,7 +10,7 @@ use wt_tree::{Kind, Node};
 
 // ---- texts beside nodes
 
-/// The texts directly before and behind a node of the page, and whether nothing stands behind it in what holds it.
+/// The texts directly before and after a node of the page, and whether nothing comes after it in what holds it.
 #[derive(Clone, Copy)]
 pub struct Sides<'t, 'a> {
     pub before: Option<&'t Node<'a>>,
@@ -89,7 +89,7 @@ fn length_of(texts: &[Text<'_>]) -> usize {
     length
 }
 
-/// The last byte of a delimiter; a space where there is none, and of `||`, behind which any text may stand.
+/// The last byte of a delimiter; a space where there is none, and of `||`, after which any text may be.
 fn last_byte(texts: &[Text<'_>]) -> u8 {
     let mut before = b' ';
     let mut last = b' ';
@@ -119,7 +119,7 @@ fn sides_in<'t, 'a>(alloc: Global, node: &'t Node<'a>) -> Result<Vec<Sides<'t, '
     Ok(sides)
 }
 
-/// The block as it stands in the page.
+/// The block as it is in the page.
 pub fn block_of<'t, 'a>(alloc: Global, node: &'t Node<'a>) -> Result<Block<'t, 'a>, NoMemory> {
     let page = page_of_block(alloc, node)?;
     let sides = sides_in(alloc, node)?;
@@ -224,7 +224,7 @@ fn holder_in(holder: Option<u32>, node: &Node<'_>) -> Option<u32> {
     }
 }
 
-/// Whether an inline node among these, or in one of them, doesn't stand where the page has it.
+/// Whether an inline node among these, or in one of them, isn't where the page has it.
 fn have_come(index: &[Visit<'_, '_>], holder: Option<u32>, nodes: &[Node<'_>]) -> bool {
     for node in nodes {
         let is_kept_inline = node.id != 0 && !is_block_part(node.kind);
@@ -251,7 +251,7 @@ fn whole_if<'t, 'a>(
 }
 
 /// Notes which of the nodes that are built of these stay in the page without being written anew inside: those
-/// that stand where they stood and aren't marked `content`.
+/// that are where they were and aren't marked `content`.
 fn note_staying(staying: &mut [bool], index: &[Visit<'_, '_>], holder: u32, nodes: &[Node<'_>]) {
     for node in nodes {
         if is_block_part(node.kind) && stays_in(index, holder, node) {
@@ -280,7 +280,7 @@ fn staying_if(
     Ok(staying)
 }
 
-/// The number of the block, or the part of one, in which the page's node of this number stands; 0 of the body.
+/// The number of the block, or the part of one, in which the page's node of this number is; 0 of the body.
 /// What holds a node has a number below its own.
 fn block_round(index: &[Visit<'_, '_>], number: u32) -> Option<u32> {
     let visit = original(index, number)?;
@@ -335,7 +335,7 @@ impl<'t, 'a> Known<'t, 'a> {
         }
     }
 
-    /// The text behind the page's node of this number.
+    /// The text after the page's node of this number.
     pub fn behind(&self, block: Option<&Block<'t, 'a>>, number: u32) -> Option<&'t Node<'a>> {
         match self.sides_of(block, number) {
             Some(sides) => sides.behind,
@@ -352,7 +352,7 @@ impl<'t, 'a> Known<'t, 'a> {
     }
 
     /// The page's node of this number, with its place in the page: as its neighbours in the block see it, where
-    /// it stands in it.
+    /// it is there.
     pub fn find(&self, block: Option<&Block<'t, 'a>>, number: u32) -> Option<Kept<'t, 'a>> {
         if let Some(block) = block
             && let Some(kept) = block.find(number)

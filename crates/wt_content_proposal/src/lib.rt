@@ -1,4 +1,4 @@
-//! The inside of one block of an edited page as wikitext, with the page's bytes of all that still stands in it, texts
+//! The inside of one block of an edited page as wikitext, with the page's bytes of all that is still in it, texts
 //! too. What it shows isn't said here: who asks for it reads it back.
 #![tactic(auto)]
 

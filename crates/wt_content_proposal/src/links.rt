@@ -28,7 +28,7 @@ fn holds_apostrophes(url: &[u8]) -> bool {
     false
 }
 
-/// Whether a URL that stands in a text is read as a link to all of it.
+/// Whether a URL that is in a text is read as a link to all of it.
 pub fn is_bare_url(url: &[u8]) -> bool {
     for byte in url {
         if !is_of_url(*byte) {
@@ -89,7 +89,7 @@ fn target_of(link: &str) -> Option<&str> {
 
 // ---- links that show their target
 
-/// Whether a byte may stand in the target of a link that is written short.
+/// Whether a byte may be in the target of a link that is written short.
 fn is_plain(byte: u8) -> bool {
     !matches!(byte, b':' | b'#' | b'/' | b'&' | b'<' | b'{' | b'|' | b'\'')
 }
@@ -122,7 +122,7 @@ fn are_one(name: &[u8], other: &[u8]) -> bool {
     }
 }
 
-/// The text of a link in two: what shows its target, and the letters behind that; None where it doesn't show it.
+/// The text of a link in two: what shows its target, and the letters after that; None where it doesn't show it.
 fn target_and_letters(link: &str) -> Option<(&str, &str)> {
     let (target, text) = link
         .strip_prefix("[[")?

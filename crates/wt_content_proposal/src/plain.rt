@@ -1,5 +1,5 @@
 //! Characters that stay as they were typed where they mean nothing, though `edit` writes references for them: it takes
-//! a typed piece for a whole text, and some characters for signs wherever they stand.
+//! a typed piece for a whole text, and some characters for signs wherever they are.
 
 use crate::joints::{copy_of, role_of, source_of, units_from};
 use crate::texts::push_letters;
@@ -133,7 +133,7 @@ impl<'t, 'u, 'n> Cut<'t, 'u, 'n> {
 
 // ---- the characters
 
-/// Whether `&` begins no reference: `;` doesn't end the letters behind it.
+/// Whether `&` begins no reference: `;` doesn't end the letters after it.
 fn is_plain_ampersand(cut: Cut<'_, '_, '_>) -> bool {
     match cut.ahead(Passed::Letters) {
         Beside::Edge => true,
@@ -160,7 +160,7 @@ fn is_plain_equals(cut: Cut<'_, '_, '_>) -> bool {
     }
 }
 
-/// Whether a bracket begins and ends no link, call, argument or table. (Behind `|` and at an edge a brace may make a
+/// Whether a bracket begins and ends no link, call, argument or table. (After `|` and at an edge a brace may make a
 /// table's sign or another paragraph's call.)
 fn is_plain_bracket(cut: Cut<'_, '_, '_>, byte: u8) -> bool {
     let next = cut.next();
@@ -174,7 +174,7 @@ fn is_plain_bracket(cut: Cut<'_, '_, '_>, byte: u8) -> bool {
         }
 }
 
-/// Whether a character means nothing where it stands. In a link's text (`within`, which is that of a tag too) brackets
+/// Whether a character means nothing where it is. In a link's text (`within`, which is that of a tag too) brackets
 /// may end the link.
 fn is_plain(within: bool, cut: Cut<'_, '_, '_>, byte: u8) -> bool {
     match byte {
@@ -195,7 +195,7 @@ fn shows_blanks(place: Option<Place>) -> bool {
     )
 }
 
-/// How many blanks end the inside at the end of its last text, behind something in their line.
+/// How many blanks end the inside at the end of its last text, after something in their line.
 fn blanks_at_end(
     place: Option<Place>,
     bytes: &[u8],

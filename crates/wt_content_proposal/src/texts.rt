@@ -1,4 +1,4 @@
-//! A text between two nodes: what it has in common with the page's texts next to these stands as it stood.
+//! A text between two nodes: what it has in common with the page's texts next to these stays as it was.
 
 use crate::common::{common_back, common_front};
 use std::alloc::Global;
@@ -6,7 +6,7 @@ use wt_guards::{Role, Stretch, Thing, Unit};
 use wt_span::{NoMemory, Str};
 use wt_tree::Node;
 
-/// A text of the page that stands there as it is shown: its bytes, and where it starts in the page.
+/// A text of the page that is there as it is shown: its bytes, and where it starts in the page.
 #[derive(Clone, Copy)]
 struct PageText<'t> {
     text: &'t [u8],
@@ -137,9 +137,9 @@ fn is_behind_new_toggle(out: &[Unit<'_>]) -> bool {
     }
 }
 
-// ---- what stands
+// ---- what stays
 
-/// Appends characters that stand in the page as they stand, apart from a delimiter before them that an
+/// Appends characters that are in the page as they are, apart from a delimiter before them that an
 /// apostrophe would lengthen.
 fn push_standing(
     alloc: Global,

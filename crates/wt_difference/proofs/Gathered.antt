@@ -8,10 +8,11 @@ use Rattle.wt_tree.specs.Tiling.{is_group}
 use Rattle.wt_tree.specs.View.{view, views, label_of}
 use Rattle.wt_tree.specs.declared.node.Node.{Node, out-Node}
 use Rattle.wt_tree.proofs.Views.{view_out}
+use Rattle.wt_checks.specs.Tokens.{is_text}
 use Rattle.wt_checks.specs.Unmarked.{is_compared}
 use Rattle.wt_checks.proofs.Firsts.{if_true, if_false}
 use Rattle.wt_difference.specs.declared.tokens.Token.{Token as Seen}
-use Rattle.wt_difference.specs.Tokens.{Token, characters, opens, closes, is_text, tokens, all_tokens, same_token, same_tokens}
+use Rattle.wt_difference.specs.Tokens.{Token, characters, opens, closes, tokens, all_tokens, same_token, same_tokens}
 use Rattle.wt_difference.specs.Views.{token_view, tokens_view}
 
 pub tokens_views : (ns : List Node) → all_tokens (views ns) ≡ flat_map (λ n. tokens (view n)) ns

@@ -7,8 +7,9 @@ use Rattle.wt_tree.specs.Kinds.{showing, writing}
 use Rattle.wt_tree.specs.Tiling.{is_group}
 use Rattle.wt_tree.specs.View.{view, views, label_of}
 use Rattle.wt_tree.specs.declared.node.Node.{Node, out-Node}
+use Rattle.wt_checks.specs.Tokens.{is_text}
 use Rattle.wt_checks.specs.Unmarked.{is_compared}
-use Rattle.wt_difference.specs.Tokens.{Token, characters, opens, closes, is_text, tokens, all_tokens, same_label, same_token, same_tokens}
+use Rattle.wt_difference.specs.Tokens.{Token, characters, opens, closes, tokens, all_tokens, same_label, same_token, same_tokens}
 use Rattle.wt_difference.proofs.Gathered.{no_tokens, text_tokens, group_tokens, node_tokens}
 
 and_left : (a b : Bool) → (a && b) ≡ true → a ≡ true

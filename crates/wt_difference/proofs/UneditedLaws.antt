@@ -15,6 +15,7 @@ use Rattle.wt_checks.specs.Alike.{same_kind, same_attrs, same_data}
 use Rattle.wt_checks.specs.BareSections.{IsBareSection, AreBareSections, HasBareSections}
 use Rattle.wt_checks.specs.Places.{Place, placed, all_placed, places, is_content, is_body, Page, page_of, parent_below}
 use Rattle.wt_checks.specs.PutBack.{is_frame, has_frame, have_frame, IsOneBody}
+use Rattle.wt_checks.specs.Tokens.{is_text}
 use Rattle.wt_checks.specs.Unmarked.{is_compared, own_character}
 use Rattle.wt_checks.proofs.Compares.{kinds_decide, attrs_decide, data_decide}
 use Rattle.wt_checks.proofs.Found.{Itself, each_itself, found_root}
@@ -24,7 +25,7 @@ use Rattle.wt_checks.proofs.Repeated.{or_false}
 use Rattle.wt_checks.proofs.WhatIsKept.{increasing}
 use Rattle.wt_difference.specs.Difference.{Region, Inside, Children, Changed, is_partner, stays_in, is_stable, numbers, numbers_in, same_inside, same_children, unless, changed, differing, all_differing, difference}
 use Rattle.wt_difference.specs.Insides.{is_block_part, has_inside, is_separator, ends_inside, before_blocks, from_blocks, held}
-use Rattle.wt_difference.specs.Tokens.{Token, characters, opens, closes, is_text, tokens, all_tokens, same_label, same_token, same_tokens}
+use Rattle.wt_difference.specs.Tokens.{Token, characters, opens, closes, tokens, all_tokens, same_label, same_token, same_tokens}
 use Rattle.wt_difference.proofs.Remarks.{block_no_group}
 use Rattle.wt_difference.specs.Unedited.{SameLabel, GroupOr, IsUnedited, AreUnedited}
 

@@ -1,4 +1,4 @@
--- What a node holds, in two parts: its inside, lines of text and inline elements, and the children behind it.
+-- What a node holds, in two parts: its inside, lines of text and inline elements, and the children after it.
 use Rattle.std.specs.Prelude.{◌||◌, ◌&&◌, Bool, true, false, if◌then◌else◌}
 use Rattle.wt_tree.specs.declared.kind.Kind.{Kind}
 use Rattle.wt_tree.specs.declared.kind.Kind.TheVariants as kind
@@ -67,7 +67,7 @@ from_blocks (more t ts) = if ends_inside t then more t ts else from_blocks ts
 abbrev pub inside : Tree → Trees
 inside (tree l ts) = if has_inside l.kind then before_blocks ts else none
 
--- the children of a node that are blocks, items, rows or cells, with what stands between them, where what a
--- section holds stands in its place
+-- the children of a node that are blocks, items, rows or cells, with what is between them, where what a
+-- section holds is in its place
 abbrev pub held : Tree → Trees
 held (tree l ts) = if has_inside l.kind then from_blocks ts else opened ts

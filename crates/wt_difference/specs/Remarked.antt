@@ -1,4 +1,4 @@
--- The edited tree with the marks of the difference and no others: what `edit` is told of it.
+-- The edited tree with the marks of the difference and no others: what `edit` gets of it.
 use Rattle.std.specs.Prelude.{ℕ, ◌&&◌, not, Bool, true, Option, Some, None, if◌then◌else◌}
 use Rattle.wt_tree.specs.declared.kind.Mark.{Mark}
 use Rattle.wt_tree.specs.declared.kind.Mark.TheVariants as marks
@@ -19,7 +19,7 @@ mark_of page u None = marks.Nothing
 mark_of page u (Some q) = mark_between page q.node u
 
 -- Each node that stays has the mark of what was changed of it, and so has what stays in it. All else, and
--- what stands in it, has no mark.
+-- what is in it, has no mark.
 abbrev mutual
   pub remarked_in : Page → Tree → Tree
   remarked_in page (tree m us) = tree (record m { mark = mark_of page (tree m us) (page m.id) }) (all_remarked page m.id us)

@@ -1,12 +1,11 @@
 -- An inside from left to right, as an editor sees it: texts, and elements by their numbers.
 use Rattle.std.specs.Prelude.{ℕ, ◌==◌, ◌&&◌, Bool, true, false, List, [], ◌∷◌, ◌++◌, if◌then◌else◌}
 use Rattle.std.specs.Str.{bytes_eq}
-use Rattle.wt_tree.specs.declared.row.Writing.{Writing}
-use Rattle.wt_tree.specs.declared.row.Writing.TheVariants.{AsText, AsVoid, RoundCharacter, RoundChildren, AsSection, Unwritten}
 use Rattle.wt_tree.specs.Kinds.{showing, writing}
 use Rattle.wt_tree.specs.Tiling.{is_group}
 use Rattle.wt_tree.specs.Tree.{Label, Tree, tree, Trees, none, more}
 use Rattle.wt_checks.specs.Alike.{same_kind, same_attrs, same_data}
+use Rattle.wt_checks.specs.Tokens.{is_text}
 use Rattle.wt_checks.specs.Unmarked.{is_compared, own_character}
 
 -- a text by its characters; where an element opens, with its label; and where one closes
@@ -14,14 +13,6 @@ pub data Token : Type 0 where
   characters : List ℕ → Token
   opens : Label → Token
   closes : Token
-
-abbrev pub is_text : Writing → Bool
-is_text AsText = true
-is_text AsVoid = false
-is_text RoundCharacter = false
-is_text RoundChildren = false
-is_text (AsSection n) = false
-is_text Unwritten = false
 
 -- What shows nothing is passed over. A group stands for itself: what it shows is the template's.
 abbrev mutual

@@ -16,9 +16,9 @@ ghost use Rattle.wt_difference.specs.Difference.{
 ghost use Rattle.wt_difference.specs.Views.{child_views};
 
 use crate::insides::{Child, held, inside};
-use crate::tokens::{are_same, is_compared};
+use crate::tokens::are_same;
 use std::alloc::Global;
-use wt_checks::{Visit, original, same_attrs, same_kind};
+use wt_checks::{Visit, is_compared, original, same_attrs, same_kind};
 use wt_span::NoMemory;
 use wt_tree::Node;
 
@@ -102,7 +102,7 @@ pub fn same_inside(alloc: Global, old: &Node<'_>, new: &Node<'_>) -> Result<bool
     are_same(alloc, inside(old), inside(new))
 }
 
-/// Whether a node holds the same children behind its inside, each by its number.
+/// Whether a node holds the same children after its inside, each by its number.
 pub fn same_children(
     alloc: Global,
     index: &[Visit<'_, '_>],

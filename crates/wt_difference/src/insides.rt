@@ -1,4 +1,4 @@
-//! What a node holds, in two parts: its inside, and the children behind it.
+//! What a node holds, in two parts: its inside, and the children after it.
 
 ghost use Rattle.std.specs.Prelude.{◌≡◌, ◌≤◌, IfOk, OnOk, drop, length, take};
 ghost use Rattle.wt_tree.specs.Opened.{opened, opened_before};
@@ -110,7 +110,7 @@ pub fn ends_inside(node: &Node<'_>) -> bool
     is_separator(node.kind) || shows_block(node)
 }
 
-/// How many nodes stand before the first separator or block.
+/// How many nodes come before the first separator or block.
 fn inside_len(nodes: &[Node<'_>]) -> usize
     ensures within { result ≤ length nodes.now }
     ensures before { views (take result nodes.now) ≡ before_blocks (views nodes.now) }
@@ -137,7 +137,7 @@ pub fn inside<'t, 'a>(node: &'t Node<'a>) -> &'t [Node<'a>]
     }
 }
 
-// ---- what stands behind it
+// ---- what comes after it
 
 #[cycle(opening)]
 fn push_opened<'t, 'a>(out: &mut Vec<Child<'t, 'a>>, node: &'t Node<'a>) -> Result<(), NoMemory>
@@ -172,7 +172,7 @@ fn push_all<'t, 'a>(out: &mut Vec<Child<'t, 'a>>, nodes: &'t [Node<'a>]) -> Resu
     Ok(())
 }
 
-/// The children of a node behind its inside; what a section holds stands in its place.
+/// The children of a node after its inside; what a section holds is in its place.
 pub fn held<'t, 'a>(alloc: Global, node: &'t Node<'a>) -> Result<Vec<Child<'t, 'a>>, NoMemory>
     ensures { IfOk result (λ cs. child_views cs.items ≡ held (view node.now)) }
 {

@@ -22,7 +22,7 @@ pub fn nothing_differs()
         → IsOneBody edited → IsUnedited (without_sections page) edited → difference page edited ≡ [] }
 {}
 
-/// The remarked tree is the edited one but for its marks, no mark of it stands on a group or inside one, and
+/// The remarked tree is the edited one but for its marks, no mark of it is on a group or inside one, and
 /// it has none exactly where nothing differs.
 pub fn marks_alone()
     ensures same { (page edited : Tree) → unmarked (remarked page edited) ≡ unmarked edited }
@@ -33,7 +33,7 @@ pub fn marks_alone()
 
 /// The tests of two nodes say whether all that is seen of their insides is one (the texts by their
 /// characters; the elements in order, each by its number, kind, attributes, data and character), and
-/// whether the numbers of the children behind them are.
+/// whether the numbers of the children after them are.
 pub fn comparisons()
     ensures insides { (old new : Tree) → Decides (same_inside old new)
         (all_seen (all_tokens (inside old)) ≡ all_seen (all_tokens (inside new))) }

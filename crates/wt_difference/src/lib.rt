@@ -1,5 +1,5 @@
 //! The difference of an edited page: which places of the page were changed, found by the numbers of its
-//! nodes, without marks, and told by the marks that the edited tree gets.
+//! nodes, without marks, and said by the marks that the edited tree gets.
 #![tactic(auto)]
 
 mod differing;
@@ -11,5 +11,5 @@ mod tokens;
 pub use differing::{same_children, same_inside, stays_in};
 pub use insides::{Child, ends_inside, has_inside, held, inside, is_block_part};
 pub use laws::{comparisons, marks_alone, nothing_differs};
-pub use remarking::{has_mark, remark};
-pub use tokens::{are_same, is_compared};
+pub use remarking::remark;
+pub use tokens::are_same;

@@ -3,7 +3,6 @@
 ghost use Rattle.std.specs.Prelude.{◌≡◌, IfOk};
 ghost use Rattle.wt_tree.specs.View.{view, views};
 ghost use Rattle.wt_tree.specs.declared.node.Node.{out-Node};
-ghost use Rattle.wt_checks.specs.Groups.{has_mark, have_mark, is_marked};
 ghost use Rattle.wt_checks.specs.View.{indexed};
 ghost use Rattle.wt_checks.specs.WithoutMarks.{all_unmarked, unmarked};
 ghost use Rattle.wt_difference.specs.Remarked.{
@@ -18,40 +17,11 @@ ghost use Rattle.wt_difference.specs.Remarked.{
 use crate::differing::{same_children, same_inside, stays_in};
 use crate::insides::is_block_part;
 use std::alloc::Global;
-use wt_checks::{Visit, original};
+use wt_checks::{Visit, has_mark, original};
 use wt_span::{List, NoMemory};
 use wt_tree::{Mark, Node};
 
 // ---- no marks
-
-fn is_marked(mark: Mark) -> bool
-    ensures { result ≡ is_marked mark }
-{
-    match mark {
-        Mark::Nothing => false,
-        Mark::Content | Mark::Children | Mark::Other => true,
-    }
-}
-
-/// Whether a mark stands on a node or inside it. A remarked tree has one exactly where something differs.
-#[cycle(marked)]
-pub fn has_mark(node: &Node<'_>) -> bool
-    ensures { result ≡ has_mark (view node.now) }
-{
-    is_marked(node.mark()) || have_mark(node.children.as_slice())
-}
-
-#[cycle(marked)]
-fn have_mark(nodes: &[Node<'_>]) -> bool
-    ensures { result ≡ have_mark (views nodes.now) }
-{
-    for node in nodes {
-        if has_mark(node) {
-            return true;
-        }
-    }
-    false
-}
 
 #[cycle(unmarking)]
 fn unmarked<'a>(alloc: Global, node: Node<'a>) -> Result<Node<'a>, NoMemory>

@@ -2,15 +2,11 @@
 
 ghost use Rattle.std.specs.Prelude.{◌≡◌, ◌++◌, ◌∷◌, [], true, IfOk, OnOk};
 ghost use Rattle.std.specs.Str.{bytes_eq};
-ghost use Rattle.wt_tree.specs.Kinds.{showing, writing};
-ghost use Rattle.wt_tree.specs.Tiling.{is_group};
 ghost use Rattle.wt_tree.specs.View.{view, views, label_of};
 ghost use Rattle.wt_tree.specs.declared.node.Node.{out-Node};
-ghost use Rattle.wt_checks.specs.Unmarked.{is_compared, own_character};
 ghost use Rattle.wt_difference.specs.Tokens.{
   all_tokens,
   closes,
-  is_text,
   opens,
   same_label,
   same_token,
@@ -20,9 +16,9 @@ ghost use Rattle.wt_difference.specs.Tokens.{
 ghost use Rattle.wt_difference.specs.Views.{token_view, tokens_view};
 
 use std::alloc::Global;
-use wt_checks::{same_attrs, same_data, same_kind};
+use wt_checks::{is_compared, is_group, is_text, same_attrs, same_character, same_data, same_kind};
 use wt_span::NoMemory;
-use wt_tree::{Kind, Node, Showing, Writing};
+use wt_tree::Node;
 
 /// A text, where an element opens, and where one closes.
 #[derive(Clone, Copy)]
@@ -33,35 +29,6 @@ pub enum Token<'t, 'a> {
 }
 
 // ---- tokens
-
-/// Whether a node of this kind is compared: one that shows nothing isn't.
-pub fn is_compared(kind: Kind) -> bool
-    ensures { result ≡ is_compared (showing kind) }
-{
-    match kind.showing() {
-        Showing::Nothing => false,
-        Showing::Characters | Showing::Inside | Showing::Element => true,
-    }
-}
-
-fn is_text(kind: Kind) -> bool
-    ensures { result ≡ is_text (writing kind) }
-{
-    match kind.writing() {
-        Writing::AsText => true,
-        Writing::AsVoid | Writing::RoundCharacter | Writing::RoundChildren => false,
-        Writing::AsSection(_) | Writing::Unwritten => false,
-    }
-}
-
-fn is_group(kind: Kind) -> bool
-    ensures { result ≡ is_group kind }
-{
-    match kind {
-        Kind::Group => true,
-        _ => false,
-    }
-}
 
 fn push_token<'t, 'a>(out: &mut Vec<Token<'t, 'a>>, token: Token<'t, 'a>) -> Result<(), NoMemory>
     ensures { OnOk result (tokens_view out.new.items ≡ tokens_view out.old.items ++ token_view token.entry ∷ []) }
@@ -130,23 +97,6 @@ fn tokens_of<'t, 'a>(alloc: Global, nodes: &'t [Node<'a>]) -> Result<Vec<Token<'
 
 // ---- comparisons
 
-fn own_character<'n>(node: &'n Node<'_>) -> &'n str
-    ensures { result.now ≡ own_character (writing (out-Node node.now).kind) (out-Node node.now).source.shown }
-{
-    match node.kind.writing() {
-        Writing::RoundCharacter => node.shown(),
-        Writing::AsText | Writing::AsVoid | Writing::RoundChildren => "",
-        Writing::AsSection(_) | Writing::Unwritten => "",
-    }
-}
-
-fn same_character(a: &Node<'_>, b: &Node<'_>) -> bool
-    ensures { result ≡ bytes_eq (own_character (writing (out-Node a.now).kind) (out-Node a.now).source.shown)
-        (own_character (writing (out-Node b.now).kind) (out-Node b.now).source.shown) }
-{
-    own_character(a) == own_character(b)
-}
-
 fn same_label(a: &Node<'_>, b: &Node<'_>) -> bool
     ensures { result ≡ same_label (label_of (out-Node a.now)) (label_of (out-Node b.now)) }
 {
@@ -192,7 +142,7 @@ fn same_tokens(old: &[Token<'_, '_>], new: &[Token<'_, '_>]) -> bool
 
 // ---- node by node
 
-/// Whether two nodes are told to be the same by themselves, without their tokens.
+/// Whether two nodes are seen to be the same by themselves, without their tokens.
 #[cycle(in_step)]
 fn same_in_step(old: &Node<'_>, new: &Node<'_>) -> bool
     ensures { result ≡ true → same_tokens (tokens (view old.now)) (tokens (view new.now)) ≡ true }
@@ -209,8 +159,8 @@ fn same_in_step(old: &Node<'_>, new: &Node<'_>) -> bool
     same_label(old, new) && all_same_in_step(old.children.as_slice(), new.children.as_slice())
 }
 
-/// Whether two lists of as many nodes are told to be the same one by one. Most of a page wasn't changed,
-/// and is told so here.
+/// Whether two lists of as many nodes are seen to be the same one by one. Most of a page wasn't changed,
+/// and this is seen here.
 #[cycle(in_step)]
 fn all_same_in_step(old: &[Node<'_>], new: &[Node<'_>]) -> bool
     ensures { result ≡ true → same_tokens (all_tokens (views old.now)) (all_tokens (views new.now)) ≡ true }

@@ -144,7 +144,7 @@ fn edit_of_known<'a, F: Folder>(
 }
 
 /// The new page of a page that was changed to the edited tree: its marked nodes are spelled anew, every other
-/// byte stands, and the new page, read again, shows what the edited tree shows. `known` is the page's tree with
+/// byte stays, and the new page, read again, shows what the edited tree shows. `known` is the page's tree with
 /// its items, and what its expansion knows, as `known_page` gives them: no template that it knows is fetched
 /// again for the new page. `edited` is the body that was read. The texts of the new page's templates lie in the
 /// arena.

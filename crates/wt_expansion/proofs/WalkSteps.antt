@@ -235,16 +235,6 @@ going_refused pages t l ss work p end old mid reader store spent answered told x
     let left = (given_from (at_page pages) g.at_start t g.place g.rest.left).work in
     comes_refused pages t l (ledger spent g.rest.works.met answered) work left told x g.rest.works.comes h
 
--- memory runs out where a walk goes on
-pub going_stops : (pages : Pages) (t : List ℕ) (l : Ledger) (ss : List Stretch) (work : List Entry)
-    (p end : ℕ) (old mid : Collected) (reader : Reader)
-    (store : Store) (spent : ℕ) (answered : Option (List (List ℕ)))
-    → Going pages t l ss work p end old mid reader store spent answered
-    → Refuses pages t l work answered answer.NoMemory
-going_stops pages t l ss work p end old mid reader store spent answered g =
-    some_left pages t l (ledger spent g.rest.works.met answered) work
-    (given_from (at_page pages) g.at_start t g.place g.rest.left).work g.rest.works.comes
-
 -- memory runs out behind a step
 pub step_stops : (pages : Pages) (t : List ℕ) (l : Ledger) (ss : List Stretch) (work : List Entry)
     (at end to : ℕ) (old new : Collected)

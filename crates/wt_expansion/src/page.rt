@@ -9,7 +9,7 @@ ghost use Rattle.wt_transclusion.specs.Stops.{Stops};
 ghost use Rattle.wt_expansion.specs.Known.{HoldsPages, KnowsMore};
 ghost use Rattle.wt_expansion.specs.Walks.{IsFree};
 
-use crate::walk::{MOST_NESTED, PageWalk};
+use crate::walk::PageWalk;
 use bumpalo::Bump;
 use std::alloc::Global;
 use wt_devices::Folder;
@@ -68,7 +68,7 @@ pub fn expand_knowing<'a, F: Folder>(
     let mut expansion = expansion;
     expansion.spent = 0;
     let mut walk = PageWalk::new(alloc, expansion);
-    walk.stretch(folder, Reader::start(text), page.len() as u32, MOST_NESTED)?;
+    walk.stretch(folder, Reader::start(text), page.len() as u32)?;
     let PageWalk {
         alloc: _,
         expansion,

@@ -30,9 +30,6 @@ use wt_transclusion::{
     Braces, ExpandRefusal, Next, Values, function_named, is_function, title_of_target,
 };
 
-/// More calls than may lie one inside another on a page, whose limit is `NESTED_BRACES` of `wt_braces`.
-pub const MOST_NESTED: u32 = 101;
-
 /// A page that is walked over.
 #[derive(Drop)]
 pub struct PageWalk<'a> {
@@ -118,7 +115,7 @@ impl<'a> PageWalk<'a> {
         }
     }
 
-    /// A stretch of the page up to a place, in which at most so many calls lie one inside another.
+    /// A stretch of the page up to a place. The reader stands where it begins.
     ///
     /// # Errors
     ///
@@ -129,7 +126,6 @@ impl<'a> PageWalk<'a> {
         folder: &mut F,
         reader: Reader<'a>,
         end: u32,
-        nested: u32,
     ) -> Result<(), ExpandRefusal>
         ensures given { (pages : Pages) (page : List ℕ) (met : List (List ℕ)) (p : ℕ) (s : Bool) (xs : List TextMember)
             → Concerns (F.pages folder.old) pages self.new.expansion.store result → IsFree pages met self.old.expansion
@@ -144,14 +140,11 @@ impl<'a> PageWalk<'a> {
         ensures names { OnOk result (self.new.expansion.names ≡ self.old.expansion.names) }
     {
         let mut reader = reader;
-        'steps: for _ in 0..u64::MAX {
-            if reader.cursor.at >= end {
-                return Ok(());
-            }
-            let to = self.step(folder, reader, end, nested)?;
+        'steps: while reader.cursor.at < end {
+            let to = self.step(folder, reader, end)?;
             reader = reader.seek(to)?;
         }
-        Err(ExpandRefusal::NoMemory)
+        Ok(())
     }
 
     /// What stands next, and where it ends.
@@ -161,7 +154,6 @@ impl<'a> PageWalk<'a> {
         folder: &mut F,
         reader: Reader<'a>,
         end: u32,
-        nested: u32,
     ) -> Result<u32, ExpandRefusal>
         requires { reader.cursor.at < end }
         ensures given { (pages : Pages) (page : List ℕ) (met : List (List ℕ)) (p : ℕ) (s : Bool) (xs : List TextMember)
@@ -183,7 +175,7 @@ impl<'a> PageWalk<'a> {
             }
             Next::Call(number) => {
                 let braces = reader.call(number)?;
-                self.walk_call(folder, reader, braces, nested)?;
+                self.walk_call(folder, reader, braces)?;
                 Ok(braces.at.end)
             }
         }
@@ -196,7 +188,6 @@ impl<'a> PageWalk<'a> {
         folder: &mut F,
         reader: Reader<'a>,
         call: Braces<'a>,
-        nested: u32,
     ) -> Result<(), ExpandRefusal>
         ensures given { (pages : Pages) (page : List ℕ) (met : List (List ℕ)) (s : Bool) (n : IsCallNext page call.entry reader.entry s)
             → Concerns (F.pages folder.old) pages self.new.expansion.store result → IsFree pages met self.old.expansion
@@ -227,7 +218,7 @@ impl<'a> PageWalk<'a> {
             )?;
             return Ok(());
         }
-        self.with_target(folder, reader, call, nested)
+        self.with_target(folder, reader, call)
     }
 
     /// An argument or a function by text is an outermost call without a link.
@@ -271,7 +262,6 @@ impl<'a> PageWalk<'a> {
         folder: &mut F,
         reader: Reader<'a>,
         call: Braces<'a>,
-        nested: u32,
     ) -> Result<(), ExpandRefusal>
         ensures given { (pages : Pages) (page : List ℕ) (met : List (List ℕ)) (s : Bool) (n : IsCallNext page call.entry reader.entry s)
             → Concerns (F.pages folder.old) pages self.new.expansion.store result → IsFree pages met self.old.expansion
@@ -286,19 +276,15 @@ impl<'a> PageWalk<'a> {
         ensures count { IsCounted (F.fault_count folder.old) (F.fault_count folder.new) result }
         ensures names { OnOk result (self.new.expansion.names ≡ self.old.expansion.names) }
     {
-        if nested == 0 {
-            return Err(ExpandRefusal::NoMemory);
-        }
-        let less = nested - 1;
         let mark = self.found.mark();
         let part = first_part(call)?;
-        let title = self.target(folder, reader, call, part, less)?;
+        let title = self.target(folder, reader, call, part)?;
         match title {
             Some(title) => {
                 self.found.back_to(mark);
                 self.page(folder, reader, call, title)
             }
-            None => self.behind_target(folder, reader, call, part, less),
+            None => self.behind_target(folder, reader, call, part),
         }
     }
 
@@ -311,7 +297,6 @@ impl<'a> PageWalk<'a> {
         reader: Reader<'a>,
         call: Braces<'a>,
         part: PartAt,
-        nested: u32,
     ) -> Result<Option<Title>, ExpandRefusal>
         ensures given { (pages : Pages) (page : List ℕ) (met : List (List ℕ)) (s : Bool) (n : IsCallNext page call.entry reader.entry s)
             → Concerns (F.pages folder.old) pages self.new.expansion.store result → IsFree pages met self.old.expansion
@@ -333,7 +318,7 @@ impl<'a> PageWalk<'a> {
             ItemForm::Chars,
         )?;
         let begun = self.found.pieces.len();
-        self.stretch(folder, reader.within(part.at.start)?, part.at.end, nested)?;
+        self.stretch(folder, reader.within(part.at.start)?, part.at.end)?;
         let title = title_of_target(self.alloc, self.found.pieces_from(begun))?;
         Ok(title)
     }
@@ -346,7 +331,6 @@ impl<'a> PageWalk<'a> {
         reader: Reader<'a>,
         call: Braces<'a>,
         part: PartAt,
-        nested: u32,
     ) -> Result<(), ExpandRefusal>
         ensures given { (pages : Pages) (page : List ℕ) (met : List (List ℕ)) (s : Bool) (n : IsCallNext page call.entry reader.entry s)
             → Concerns (F.pages folder.old) pages self.new.expansion.store result → IsFree pages met self.old.expansion
@@ -363,7 +347,7 @@ impl<'a> PageWalk<'a> {
     {
         let braces = part.at.start.saturating_sub(call.at.start);
         let end = call.at.end.saturating_sub(braces);
-        self.stretch(folder, reader.seek(part.at.end)?, end, nested)?;
+        self.stretch(folder, reader.seek(part.at.end)?, end)?;
         push_slice(&mut self.found, reader, end, call.at.end, ItemForm::Chars)?;
         Ok(())
     }

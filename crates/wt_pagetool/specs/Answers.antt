@@ -39,14 +39,14 @@ pub data Answer : Type 0 where
   done : List ℕ → Answer
   refused : Refusal → Answer
 
--- ---- what stands under a title
+-- ---- what is under a title
 
 -- a page by the place where it stops being UTF-8
 abbrev pub text_answer : List ℕ → (List ℕ → Answer) → Option ℕ → Answer
 text_answer page made (Some place) = refused (NotUtf8 place)
 text_answer page made None = made page
 
--- The refusals of what stands under a title, in their order: no page; one that is too long; one that isn't UTF-8. Any
+-- The refusals of what is under a title, in their order: no page; one that is too long; one that isn't UTF-8. Any
 -- other page is answered by what is made of it.
 unfoldable pub title_answer : Option (List ℕ) → (List ℕ → Answer) → Answer
 title_answer None made = refused Absent
@@ -58,7 +58,7 @@ title_answer (Some page) made =
 abbrev pub IsText : List ℕ → Type 0
 IsText page = (made : List ℕ → Answer) → title_answer (Some page) made ≡ made page
 
--- no text stands under a title: no page, one that is too long, or one that isn't UTF-8
+-- there is no text under a title: no page, one that is too long, or one that isn't UTF-8
 abbrev pub IsNoText : Option (List ℕ) → Type 0
 IsNoText stands = (r : Refusal) × ((made : List ℕ → Answer) → title_answer stands made ≡ refused r)
 
@@ -103,7 +103,7 @@ made_of_tree Lint page t = done (page_output Lint page t)
 abbrev pub made : PageCommand → Pages → List ℕ → Answer
 made command pages page = expanded_by (made_of_tree command page (page_tree pages page)) (refusal_of_page pages page)
 
--- `html` of what stands under the title
+-- `html` of what is under the title
 abbrev pub html_answer : Pages → Option (List ℕ) → Answer
 html_answer pages stands = title_answer stands (made Html pages)
 
@@ -126,7 +126,7 @@ gen_answer n = title_answer (Some (gen_page n)) gen_of
 
 -- ---- what is made of an input
 
--- the source of the page that was read, each of whose elements has to tell its own
+-- the source of the page that was read, each of whose elements has to say its own
 unfoldable pub source_answer : Read → Answer
 source_answer (as_page t None) = done (flat t)
 source_answer (as_page t (Some n)) = refused (Unsourced n)
@@ -195,11 +195,11 @@ edited_answer pages page (as_page t unsourced) = edit_to pages page t
 edited_answer pages page (ill place why) = refused (html_refused place why)
 edited_answer pages page (misfit n why) = refused (Unfit n why)
 
--- `edit` of what stands under the title, to this input, which is read to its end before the page is expanded
+-- `edit` of what is under the title, to this input, which is read to its end before the page is expanded
 abbrev pub edit_of : Pages → Option (List ℕ) → List ℕ → Answer
 edit_of pages stands input = title_answer stands (λ page. input_answer (edited_answer pages page) input)
 
--- where both the pages and the input are told
+-- where both the pages and the input are known
 abbrev pub edit_told : Option Pages → Option (List ℕ) → List ℕ → Option Answer
 edit_told pages input title = option_and_then (λ ps. option_map (λ bytes. edit_of ps (ps title) bytes) input) pages
 
@@ -228,25 +228,25 @@ taken_answer pages page (as_page t unsourced) = taken_to pages page t
 taken_answer pages page (ill place why) = refused (html_refused place why)
 taken_answer pages page (misfit n why) = refused (Unfit n why)
 
--- The page that `selser` changes, which stands under the title, for this input; or what refuses it before a new page is looked for:
--- what stands under the title, the input, the page's expansion, and the nodes of the edited tree, in this order.
+-- The page that `selser` changes, which is under the title, for this input; or what refuses it before a new page is looked for:
+-- what is under the title, the input, the page's expansion, and the nodes of the edited tree, in this order.
 abbrev pub taken_of : Pages → Option (List ℕ) → List ℕ → Answer
 taken_of pages stands input = title_answer stands (λ page. input_answer (taken_answer pages page) input)
 
--- A refusal is told. Of a page that is taken no definition says which new page is found.
+-- A refusal is defined. Of a page that is taken no definition says which new page is found.
 abbrev pub refusal_alone : Answer → Option Answer
 refusal_alone (done page) = None
 refusal_alone (refused r) = Some (refused r)
 
--- where both the pages and the input are told
+-- where both the pages and the input are known
 abbrev pub selser_told : Option Pages → Option (List ℕ) → List ℕ → Option Answer
 selser_told pages input title =
     option_and_then (λ ps. option_and_then (λ bytes. refusal_alone (taken_of ps (ps title) bytes)) input) pages
 
 -- ---- commands
 
--- A command needs what the folder tells of its pages, what the input tells, or both: it has no answer where that isn't
--- told. `selser` has one where it is refused before a new page is looked for.
+-- A command needs the pages of the folder, the bytes of the input, or both: its answer isn't known where these
+-- aren't. `selser` has one where it is refused before a new page is looked for.
 abbrev pub answer_to : Option Pages → Option (List ℕ) → Option Command → Option Answer
 answer_to pages input None = Some (refused Usage)
 answer_to pages input (Some (Page command title)) = option_map (λ ps. title_answer (ps title) (made command ps)) pages

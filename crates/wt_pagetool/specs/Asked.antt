@@ -23,7 +23,7 @@ abbrev pub text_work : List ℕ → (List ℕ → List Entry) → Option ℕ →
 text_work page made (Some place) = []
 text_work page made None = made page
 
--- the work for what stands under a title: none where no page stands there, or one that is too long or isn't UTF-8
+-- the work for what is under a title: none where there is no page, or one that is too long or isn't UTF-8
 unfoldable pub title_work : Option (List ℕ) → (List ℕ → List Entry) → List Entry
 title_work None made = []
 title_work (Some page) made =
@@ -34,7 +34,7 @@ abbrev pub new_work : Pages → Result (List ℕ) EditRefusal → List Entry
 new_work pages (Ok new) = title_work (Some new) (work_done pages)
 new_work pages (Err refusal) = []
 
--- the work behind that of a page: none where the page is refused
+-- the work after that of a page: none where the page is refused
 abbrev pub work_behind : Option Refused → List Entry → List Entry
 work_behind None work = work
 work_behind (Some refused) work = []
@@ -51,7 +51,7 @@ edited_work pages page (misfit n why) = []
 unfoldable pub input_work : (Read → List Entry) → List ℕ → List Entry
 input_work made input = if nat_lt HTML_BYTES (length input) then [] else made (read input)
 
--- the work of `edit` for what stands under the title and this input
+-- the work of `edit` for what is under the title and this input
 abbrev pub edit_work : Pages → Option (List ℕ) → List ℕ → List Entry
 edit_work pages stands input = title_work stands (λ page. input_work (edited_work pages page) input)
 
@@ -61,13 +61,13 @@ edit_work pages stands input = title_work stands (λ page. input_work (edited_wo
 abbrev pub names_of : List ℕ → List Entry → List (List ℕ)
 names_of name work = name ∷ names_asked work
 
--- those of `edit`, where both the pages and the input are told
+-- those of `edit`, where both the pages and the input are known
 abbrev pub edit_names : Option Pages → Option (List ℕ) → List ℕ → Option (List (List ℕ))
 edit_names pages input name =
     option_and_then (λ ps. option_map (λ bytes. names_of name (edit_work ps (ps name) bytes)) input) pages
 
--- The names that a command asks for, where the devices tell what they depend on: up to its first refusal. `selser` reads up to three
--- new pages back, which no definition tells, so its names aren't told.
+-- The names that a command asks for, where what they depend on is known: up to its first refusal. `selser` reads up to three
+-- new pages back, of which no definition says which they are, so its names aren't known.
 abbrev pub names_for : Option Pages → Option (List ℕ) → Option Command → Option (List (List ℕ))
 names_for pages input None = Some []
 names_for pages input (Some (Page command name)) = option_map (λ ps. names_of name (title_work (ps name) (work_done ps))) pages

@@ -18,23 +18,23 @@ pub record Call : Type 0 where
 abbrev pub call : List (List ℕ) → SourceUse → FolderUse → SinkUse → SinkUse → Call
 call words input folder out err = record { words = words; input = input; folder = folder; out = out; err = err }
 
--- the answer to its words, where the devices tell what they ask for
+-- the answer to its words, where what the devices hold can be named
 abbrev pub known_answer : Call → Option Answer
 known_answer c = answer_told c.folder.pages_before c.input.left_before c.words
 
 -- ---- refusals that are due
 
--- where an answer is told, it is this refusal
+-- where an answer is known, it is this refusal
 abbrev pub IsKnownAnswer : List (List ℕ) → SourceUse → FolderUse → Refusal → Type 0
 IsKnownAnswer words input folder r = IfSome (answer_told folder.pages_before input.left_before words) (λ a. a ≡ refused r)
 
 -- When a refusal is due, by how it ends the call:
 -- * usage: the words are none of a command;
 -- * the page, the HTML or the edit is refused: the command has a page, reads HTML, or fetches and reads, and this refusal
---   is the answer to the words, where that is told;
+--   is the answer to the words, where that is known;
 -- * the input or the folder failed: the command reads or fetches, and the device's count rose;
 -- * want of memory: in any call.
--- The fault of a sink is none of them: `OutFailed` and `ErrFailed` tell it.
+-- The fault of a sink is none of them: `OutFailed` and `ErrFailed` say it.
 abbrev pub IsDueAs : Status → List (List ℕ) → SourceUse → FolderUse → Refusal → Type 0
 IsDueAs status.Done words input folder r = ⊥
 IsDueAs status.Usage words input folder r = command_of words ≡ None
@@ -59,7 +59,7 @@ pub record KeptCounts (c : Call) : Type 0 where
   pub out : c.out.faults_after ≡ c.out.faults_before
   pub err : c.err.faults_after ≡ c.err.faults_before
 
--- no device failed: no count rose, or stood at its last value
+-- no device failed: no count rose, or was at its last value
 pub record NothingFailed (c : Call) : Type 0 where
   pub input : SourceFailed c.input → ⊥
   pub folder : FolderFailed c.folder → ⊥

@@ -78,7 +78,7 @@ IsTitleStatus before after status.NoMemory = ⊤
 abbrev pub IsOfTitle : ℕ → ℕ → Refusal → Type 0
 IsOfTitle before after r = IsTitleStatus before after (status_of r)
 
--- the refusal refuses what stands under a title, whatever is made of a page
+-- the refusal refuses what is under a title, whatever is made of a page
 abbrev pub RefusesTitle : Option (List ℕ) → Refusal → Type 0
 RefusesTitle stands r = (made : List ℕ → Answer) → Refuses r (title_answer stands made)
 
@@ -87,7 +87,7 @@ abbrev pub fetch_refusal : FetchRefusal → Refusal
 fetch_refusal of_fetch.Failed = FolderFault
 fetch_refusal of_fetch.NoMemory = NoMemory
 
--- The bytes that were fetched are answered as what stands under the title; or this refusal refuses it, or is a fault.
+-- The bytes that were fetched are answered as what is under the title; or this refusal refuses it, or is a fault.
 abbrev pub IsFetched : Option (List ℕ) → Result (List ℕ) Refusal → Type 0
 IsFetched stands (Ok page) = (made : List ℕ → Answer) → title_answer stands made ≡ title_answer (Some page) made
 IsFetched stands (Err r) = RefusesTitle stands r

@@ -1,4 +1,4 @@
--- What a call did to a device: what the device held before and after, where it tells that, and how often it had failed.
+-- What a call did to a device: what the device held before and after, where that can be named, and how often it had failed.
 use Rattle.std.specs.Prelude.{◌≡◌, ℕ, List, take, Option, ◌⊎◌}
 use Rattle.std.specs.Io.KnownBytes.{Appends, Keeps}
 use Rattle.wt_devices.specs.Device.{Pages, Rose}

@@ -1,4 +1,4 @@
--- What `gen` tells of the page that it makes from a number.
+-- What `gen` counts of the page that it makes from a number.
 use Rattle.std.specs.Prelude.{ℕ, suc, ◌++◌, ◌==◌, if◌then◌else◌, List, [], ◌∷◌, Option, codes, length}
 use Rattle.std.specs.Fmt.{decimal}
 use Rattle.wt_devices.specs.Shelf.{look_up}

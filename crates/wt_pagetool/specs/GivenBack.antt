@@ -11,7 +11,7 @@ use Rattle.wt_pagetool.specs.declared.status.Status.TheVariants.{Done}
 use Rattle.wt_pagetool.specs.Statuses.{code, IsFaultOrNoMemory}
 use Rattle.wt_pagetool.specs.Answers.{done, html_answer, wikitext_answer}
 
--- the HTML of a page stands for a tree whose every element tells its source, and whose source is the page
+-- the HTML of a page stands for a tree whose every element says its source, and whose source is the page
 pub record IsReadBack (pages : Pages) (page : List ℕ) : Type 0 where
   pub tree : Tree
   pub reads : read (html_text (page_tree pages page)) ≡ as_page tree None

@@ -13,7 +13,7 @@ use Rattle.wt_pagetool.specs.Refusals.{status_of}
 abbrev pub GivesAtMost : ℕ → Option (List ℕ) → Option (List ℕ) → Type 0
 GivesAtMost most old new = (bytes : List ℕ) × Consumes old new bytes × (length bytes ≤ most)
 
--- An input that failed had given no more than the longest HTML before, and the fault stands where the reading stopped: one that gave more
+-- An input that failed had given no more than the longest HTML before, and the fault is where the reading stopped: one that gave more
 -- is refused as too long, and not read on.
 abbrev pub StopsAs : Status → Option (List ℕ) → Option (List ℕ) → Type 0
 StopsAs status.Done old new = ⊤

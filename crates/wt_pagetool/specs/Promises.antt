@@ -1,4 +1,5 @@
--- What a call of `run` promises. What is said of a device's pages or bytes holds where the device tells them.
+-- What a call of `run` promises. What is said of a device's pages or bytes holds where these can be
+-- named, as of the devices in memory.
 use Rattle.std.specs.Prelude.{◌≡◌, ◌≢◌, ◌⊎◌, ◌+◌, ℕ, ⊤, List, Option, Some, None, IfSome}
 use Rattle.wt_expand.specs.Work.{Pages}
 use Rattle.wt_span.specs.declared.limits.TheConstants.{HTML_BYTES}
@@ -24,7 +25,7 @@ use Rattle.wt_pagetool.specs.Words.{command_of}
 -- What each command wrote, when it is done:
 -- * `html`, `ranges` or `lint` the HTML, the listing or the doubtful places of the tree of the expanded page;
 -- * `expand` the items of the expanded page: a character by its bytes, an atom by its source, and nothing for a mark;
--- * `wikitext` the source of the tree for which the input stands, which it read to its end;
+-- * `wikitext` the source of the tree that the input stands for, which it read to its end;
 -- * `edit` the page with the slices of what is marked, and no others, replaced, for the input that it read to its end;
 -- * `selser` a new page that shows what the input shows, which it read to its end: the page with places of the difference, and nothing
 --   else, written anew, or the page as it is where nothing differs, or what `edit` makes of the marks of the difference;
@@ -71,7 +72,7 @@ pub record GivesBack (c : Call) (ended : ℕ) : Type 0 where
 -- * Where `edit` of the input with the marks of the difference is done, `selser` of the input is done; or a device failed, or memory ran
 --   out.
 -- * Where it is refused for what it was given, it ends with the status of a refusal that has its cause, and `err` took its line: that of
---   what stands under the title, of the input, of the page's expansion or of the nodes of the edited tree; or else `edit` refuses the
+--   what is under the title, of the input, of the page's expansion or of the nodes of the edited tree; or else `edit` refuses the
 --   input with the marks of the difference, too, or its new page, and the refusal is what `edit` says of the content or of its new page's
 --   length, or what the first new page that was tried is refused for.
 pub record EndsAsEdit (c : Call) (ended : ℕ) : Type 0 where
@@ -104,7 +105,7 @@ pub record Ends (c : Call) (ended : ℕ) : Type 0 where
 
 -- ---- what the devices are asked for
 
--- Of the names that the command asks for, where they are told, the folder answered the first ones, in their order and no others: all of
+-- Of the names that the command asks for, where they are known, the folder answered the first ones, in their order and no others: all of
 -- them where the call is done or refused; and not all of them where a fetch failed, which was that of the next name, in its turn: nothing
 -- that is done before it is refused.
 pub record AsksFor (told : Option (List (List ℕ))) (ended : ℕ) (before after : Option (List (List ℕ))) : Type 0 where
@@ -113,12 +114,12 @@ pub record AsksFor (told : Option (List (List ℕ))) (ended : ℕ) (before after
   pub fewer_names : ended ≡ code status.FolderFault → IfSome told (λ names. AnswersFewer names before after)
 
 -- No more of the input was read than the longest HTML and one piece; and where it failed, no more than the longest HTML before. The fault
--- stands where the reading stopped.
+-- is where the reading stopped.
 pub record ReadsAtMost (c : Call) (ended : ℕ) : Type 0 where
   pub takes : GivesAtMost (HTML_BYTES + PIECE) c.input.left_before c.input.left_after
   pub stops : ended ≡ code status.ReadFault → GivesAtMost HTML_BYTES c.input.left_before c.input.left_after
 
--- `edit` and `selser` leave the input alone where no text stands under the title.
+-- `edit` and `selser` leave the input alone where there is no text under the title.
 abbrev pub Waits : {T : Type 0} → Option Command → Option Pages → T → T → Type 0
 Waits None told before after = ⊤
 Waits (Some (Page command title)) told before after = ⊤

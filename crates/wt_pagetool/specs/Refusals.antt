@@ -1,4 +1,4 @@
--- Why a call of the program gives no answer, the status that tells it, and the line that names it.
+-- Why a call of the program gives no answer, its status, and the line that names it.
 use Rattle.std.specs.Prelude.{ℕ, List, [], ◌++◌, Option, Some, None, codes}
 use Rattle.std.specs.Fmt.{decimal}
 use Rattle.wt_html_grammar.specs.declared.why.HtmlWhy.{HtmlWhy}

@@ -90,9 +90,9 @@ pub record ErrFailed (c : Call) : Type 0 where
 
 -- ---- what is written
 
--- A page stands under the title whose expansion nothing refuses, and `out` took what the command writes of the tree of the
--- expanded page. The ranges of this tree tile the page from its first byte to its last; at the range of each node that stands in
--- no group stands its source, with delimiters as wide as it says; and its numbers are in preorder.
+-- Under the title is a page whose expansion nothing refuses, and `out` took what the command writes of the tree of the
+-- expanded page. The ranges of this tree tile the page from its first byte to its last; at the range of each node that is in
+-- no group is its source, with delimiters as wide as it says; and its numbers are in preorder.
 pub record WrotePage (command : PageCommand) (pages : Pages) (title : List ℕ) (old new : Option (List ℕ)) : Type 0 where
   pub page : List ℕ
   pub found : pages title ≡ Some page
@@ -103,7 +103,7 @@ pub record WrotePage (command : PageCommand) (pages : Pages) (title : List ℕ) 
   pub slices : AreReachedSlices page (page_tree pages page)
   pub numbered : InPreorder (page_tree pages page)
 
--- a page stands under the title whose expansion nothing refuses, and `out` took the items of the expanded page: a character by
+-- under the title is a page whose expansion nothing refuses, and `out` took the items of the expanded page: a character by
 -- its bytes, an atom by its source, and nothing for a mark
 pub record WroteExpansion (pages : Pages) (title : List ℕ) (old new : Option (List ℕ)) : Type 0 where
   pub page : List ℕ
@@ -116,7 +116,7 @@ pub record WroteCounts (count : ℕ) (old new : Option (List ℕ)) : Type 0 wher
   pub wrote : Appends old new (gen_line (length (gen_page count)) (page_tree gen_pages (gen_page count)))
   pub comes_back : back (read (html_text (page_tree gen_pages (gen_page count)))) ≡ length (gen_page count)
 
--- the whole input stands for a page each of whose elements tells its source, and `out` took the source of its tree
+-- the whole input stands for a page each of whose elements says its source, and `out` took the source of its tree
 pub record WroteSource (input : List ℕ) (left old new : Option (List ℕ)) : Type 0 where
   pub tree : Tree
   pub within : length input ≤ HTML_BYTES
@@ -129,9 +129,9 @@ pub record WroteSource (input : List ℕ) (left old new : Option (List ℕ)) : T
 abbrev pub new_page : Pages → List ℕ → Tree → List ℕ
 new_page pages page edited = spliced page (slices same_node (page_tree pages page) edited)
 
--- A page stands under the title whose expansion nothing refuses, and the whole input for an edited tree that differs from the
--- page's only where it may; nothing refuses the edit, and `out` took the new page, in which all that stands outside these
--- slices stands as in the page, byte for byte and in its order. Nothing refuses the new page or its expansion, and
+-- Under the title is a page whose expansion nothing refuses, and the whole input stands for an edited tree that differs
+-- from the page's only where it may; nothing refuses the edit, and `out` took the new page, in which all that is outside these
+-- slices is as in the page, byte for byte and in its order. Nothing refuses the new page or its expansion, and
 -- the plain view of its tree is that of the edited tree, in which a kept group is what the page's group of its number holds.
 pub record WroteEdit (pages : Pages) (title input : List ℕ) (left old new : Option (List ℕ)) : Type 0 where
   pub page : List ℕ
@@ -149,8 +149,8 @@ pub record WroteEdit (pages : Pages) (title input : List ℕ) (left old new : Op
   pub answered : IsUnrefused pages (new_page pages page edited)
   pub shows : plain (page_tree pages (new_page pages page edited)) ≡ plain (restored_from (page_tree pages page) edited)
 
--- A page stands under the title whose expansion nothing refuses, and the whole input for an edited tree none of whose nodes is
--- refused; `out` took a new page, which is made of the page's edit by its difference. Nothing refuses the new page or its expansion,
+-- Under the title is a page whose expansion nothing refuses, and the whole input stands for an edited tree none of whose
+-- nodes is refused; `out` took a new page, which is made of the page's edit by its difference. Nothing refuses the new page or its expansion,
 -- and the plain view of its tree is that of the edited tree, in which a kept group is what the page's group of its number holds.
 pub record WroteSelser (pages : Pages) (title input : List ℕ) (left old new : Option (List ℕ)) : Type 0 where
   pub page : List ℕ

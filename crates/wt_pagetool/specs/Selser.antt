@@ -44,7 +44,7 @@ FindsNone pages items page t u same r status.FolderFault = ⊤
 FindsNone pages items page t u same r status.WriteFault = ⊤
 FindsNone pages items page t u same r status.NoMemory = ⊤
 
--- Of an expanded page with this tree, for an edited tree with the marks of the difference; `same` tells that there is none.
+-- Of an expanded page with this tree, for an edited tree with the marks of the difference; `same` says that there is none.
 abbrev pub FindsNew : Pages → Expanded → List ℕ → Tree → Tree → Bool → Result Output Refusal → Type 0
 FindsNew pages items page t u same (Ok output) = IsNewPage pages items page t u same (output_bytes output)
 FindsNew pages items page t u same (Err r) = FindsNone pages items page t u same r (status_of r)
@@ -72,7 +72,7 @@ abbrev pub OrFound : Answer → Type 0 → Result Output Refusal → Type 0
 OrFound (refused r) found result = Answered (refused r) result
 OrFound (done page) found result = found
 
--- `selser` of what stands under the title, for this input
+-- `selser` of what is under the title, for this input
 abbrev pub AnswersSelser : Pages → Option (List ℕ) → List ℕ → Result Output Refusal → Type 0
 AnswersSelser pages stands input result = OrFound (taken_of pages stands input) (FindsUnder pages stands (read input) result) result
 
@@ -84,7 +84,7 @@ EditIsDone pages page (as_page edited unsourced) = (new : List ℕ) × (edit_to 
 EditIsDone pages page (ill place why) = ⊥
 EditIsDone pages page (misfit n why) = ⊥
 
--- of what stands under a title, for an input that may be taken
+-- of what is under a title, for an input that may be taken
 pub record DoneByEdit (pages : Pages) (stands : Option (List ℕ)) (input : List ℕ) : Type 0 where
   pub page : List ℕ
   pub found : stands ≡ Some page
@@ -96,7 +96,7 @@ pub record DoneByEdit (pages : Pages) (stands : Option (List ℕ)) (input : List
 
 -- An input that differs from the page's own HTML only in what isn't compared, as marks, separators, comments that were taken out, and
 -- sources are. It stands for an edited tree none of whose nodes is refused, in which nothing differs from the page's tree, and which shows
--- what the page shows. (Of a text behind a block in an item or a cell the difference sees only that one stands there, so what is shown
+-- what the page shows. (Of a text after a block in an item or a cell the difference sees only that one is there, so what is shown
 -- is asked, too.)
 pub record IsUnchanged (pages : Pages) (page input : List ℕ) : Type 0 where
   pub edited : Tree

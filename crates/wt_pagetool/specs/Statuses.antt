@@ -1,4 +1,4 @@
--- How a call ends, and the number that tells it.
+-- How a call ends, and the number of each end.
 use Rattle.std.specs.Prelude.{ℕ, ⊤, ◌≤◌}
 use Rattle.wt_pagetool.specs.declared.status.Status.{Status}
 use Rattle.wt_pagetool.specs.declared.status.Status.TheVariants.{Done, Usage, PageRefused, HtmlRefused, EditRefused, ReadFault, FolderFault, WriteFault, NoMemory}

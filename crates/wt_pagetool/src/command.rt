@@ -29,7 +29,7 @@ pub enum Command {
     /// The page of this full name, changed as its HTML, which is the input, was, by the difference of the
     /// two alone: marks count for nothing.
     Selser(Str),
-    /// What is told of a page that is made with so many sections.
+    /// What is counted of a page that is made with so many sections.
     Gen(u32),
     /// The source of the page whose HTML is the input.
     Wikitext,

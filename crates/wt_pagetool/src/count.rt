@@ -1,4 +1,4 @@
-//! The number that a word of `gen` tells.
+//! The number that a word of `gen` means.
 
 ghost use Rattle.std.specs.Prelude.{◌≡◌, Some};
 ghost use Rattle.wt_schema.specs.Attributes.{decimal_from, decimal_of};
@@ -6,7 +6,7 @@ ghost use Rattle.wt_pagetool.specs.Words.{section_count};
 
 use wt_gen::MOST_SECTIONS;
 
-/// The number that the digits stand for, where each is one and it is below 2^32.
+/// The number that the digits mean, where each is one and it is below 2^32.
 fn decimal(digits: &[u8]) -> Option<u32>
     ensures { result ≡ decimal_from 0 digits.now }
 {

@@ -34,7 +34,7 @@ fn output_of_text<F: Folder>(alloc: Global, page: &str, folder: &mut F) -> Resul
     Ok(Output::Text(text))
 }
 
-/// What the page that stands under a title shows with its templates expanded.
+/// What the page under a title shows with its templates expanded.
 pub fn expansion_of_title<F: Folder>(
     alloc: Global,
     title: &str,

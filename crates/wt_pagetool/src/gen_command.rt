@@ -127,7 +127,7 @@ fn line_of_tree(alloc: Global, bytes: usize, body: &Node<'_>, html: &[u8]) -> Re
     Ok(Str::from_string(line))
 }
 
-/// What is told of a page of so many bytes with this tree.
+/// What is counted of a page of so many bytes with this tree.
 fn output_of_tree(alloc: Global, bytes: usize, tree: &Annotated<'_>) -> Result<Output, Refusal>
     ensures answered { Answered (told_of_tree bytes (view tree.now.body)) result }
     ensures of_page { IfErr result IsOfPage }
@@ -142,7 +142,7 @@ fn output_of_tree(alloc: Global, bytes: usize, tree: &Annotated<'_>) -> Result<O
     }
 }
 
-/// What is told of a page that is made from a number.
+/// What is counted of a page that is made from a number.
 fn output_of_made(alloc: Global, page: &str) -> Result<Output, Refusal>
     requires { length page.now ≤ PAGE_BYTES }
     ensures answered { Answered (gen_of page.now) result }
@@ -154,7 +154,7 @@ fn output_of_made(alloc: Global, page: &str) -> Result<Output, Refusal>
     output_of_tree(alloc, page.len(), &tree)
 }
 
-/// What `gen` tells of the page that it makes with so many sections: how many bytes it has, how many of
+/// What `gen` counts of the page that it makes with so many sections: how many bytes it has, how many of
 /// its nodes have numbers, how many groups it has, and how many bytes came back from its HTML.
 pub fn counts_of_made(alloc: Global, count: u32) -> Result<Output, Refusal>
     requires { count ≤ MOST_SECTIONS }

@@ -15,7 +15,7 @@ ghost use Rattle.wt_pagetool.specs.Unchanged.{StaysUnchanged};
 ghost use Rattle.wt_page_round_trip.specs.PageTree.{page_tree};
 
 /// The tree of a page that nothing refuses, with its templates, joins to the page, its ranges tile the
-/// page and are slices of it, but for what stands in groups, and its numbers are in preorder.
+/// page and are slices of it, but for what is in groups, and its numbers are in preorder.
 pub fn whole_tree()
     ensures source { (pages : Pages) (page : List ℕ) → IsUnrefused pages page
         → flat (page_tree pages page) ≡ page }
@@ -38,7 +38,7 @@ pub fn unchanged_page_stays()
     ensures { (pages : Pages) (page : List ℕ) → StaysUnchanged pages page }
 {}
 
-/// A command asks for no page behind what refuses it. What is refused by what stands under the title, or by
+/// A command asks for no page after what refuses it. What is refused by what is under the title, or by
 /// the input, asks for no work; where the page's expansion is refused it ends there, and where the edit is
 /// refused it doesn't reach into a new page. Work that nothing refuses is done whole.
 pub fn refused_calls_ask_no_further()

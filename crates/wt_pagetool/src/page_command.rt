@@ -90,7 +90,7 @@ fn output_of_text<F: Folder>(
     output_of_tree(alloc, command, page, &tree)
 }
 
-/// What a command makes of the page that stands under a title.
+/// What a command makes of the page under a title.
 pub fn output_of_title<F: Folder>(
     alloc: Global,
     command: PageCommand,

@@ -20,7 +20,7 @@ fn give<W: Sink, E: Sink>(bytes: &[u8], out: &mut W, err: &mut E) -> Status
     Status::WriteFault
 }
 
-/// Writes the line of want of memory to `err`, also for a program that has no memory for its words. Tells
+/// Writes the line of want of memory to `err`, also for a program that has no memory for its words. Says
 /// how the call ends.
 pub fn tell_no_memory<E: Sink>(err: &mut E) -> Status
     ensures { WroteLine Refusal.NoMemory result (written_to E.Sink err.old err.new) }
@@ -45,7 +45,7 @@ fn refuse<E: Sink>(alloc: Global, refusal: Refusal, err: &mut E) -> Status
     }
 }
 
-/// Writes what was found: an answer to `out`, or the line of a refusal to `err`. Tells how the call ends.
+/// Writes what was found: an answer to `out`, or the line of a refusal to `err`. Says how the call ends.
 pub fn report<W: Sink, E: Sink>(
     alloc: Global,
     found: Result<Output, Refusal>,

@@ -85,22 +85,22 @@ fn find_answer<S: Source, F: Folder>(
 /// Answers the words of a command line, without the program's name, and gives the number to end with
 /// (`Status::code`).
 ///
-/// `html TITLE` writes to `out` the HTML of the page that stands in `folder` under the title, with its
-/// templates, whose pages stand in `folder`, too, and its functions expanded; `ranges TITLE` a line for
+/// `html TITLE` writes to `out` the HTML of the page that `folder` has under the title, with its
+/// templates, which are pages of `folder`, too, and its functions expanded; `ranges TITLE` a line for
 /// each of its nodes that has a number, `mwN KIND START END OPEN CLOSE`, in bytes; `lint TITLE` a line
 /// for each doubtful place, `KIND LINE COLUMN START END`; `expand TITLE` the items of the expanded page.
 /// `gen N` makes a page of N sections and its HTML, reads this back and writes what it counted.
-/// `wikitext` reads the HTML of `input` to its end and writes to `out` the source of the page for which
-/// it stands. `edit TITLE` reads the HTML of `input`, in which some elements of the page's HTML are
+/// `wikitext` reads the HTML of `input` to its end and writes to `out` the source of the page that it
+/// stands for. `edit TITLE` reads the HTML of `input`, in which some elements of the page's HTML are
 /// marked as edited, and writes the new page: the inside of each marked block is written anew, blocks and
 /// items come and go where their parent is marked so, and nothing else is changed. `selser TITLE` reads
 /// such HTML without marks, finds what was changed, and writes a new page that shows what the HTML shows.
 /// Nothing goes to `out` before the whole answer is known, and each refusal has its one line on `err`.
 ///
-/// A title stands here for its full name. The records that the clauses name stand in `specs/Promises.antt`.
-/// What is said of a device's pages or bytes holds where the device tells them (`IfSome`), as those in memory
-/// do; the directory and the standard streams of the program tell nothing, and `run` is the same code over
-/// them. What is said of a device's count of faults always holds.
+/// A title here means its full name. The records that the clauses name are in `specs/Promises.antt`.
+/// What is said of a device's pages or bytes holds where the contracts can name them (`IfSome`), as those of
+/// devices in memory. Of the directory and the standard streams of the program they name none, and `run` is
+/// the same code over them. What is said of a device's count of faults always holds.
 pub fn run<S: Source, F: Folder, W: Sink, E: Sink>(
     alloc: Global,
     words: &List<Str>,
@@ -125,14 +125,14 @@ pub fn run<S: Source, F: Folder, W: Sink, E: Sink>(
         (written_to E.Sink err.old err.new)) result }
 
     // How a call ends: with the status of its answer, or with that of a fault or of want of memory; and what
-    // it then wrote to `out` and to `err`. A fault is told only where a device failed, once, and a call that
+    // it then wrote to `out` and to `err`. A fault is reported only where a device failed, once, and a call that
     // is done or refused changed no device's count of faults.
     ensures ends { Ends (call words.now (read_from S.Source input.old input.new)
         (fetched_from F.Folder folder.old folder.new) (written_to W.Sink out.old out.new)
         (written_to E.Sink err.old err.new)) result }
 
     // Of the names that the command needs the folder answered the first ones, in their order and no others. A
-    // fetch that failed was in its turn. (Of `selser`, which may read three new pages, no names are told.)
+    // fetch that failed was in its turn. (Of `selser`, which may read three new pages, no names are known.)
     ensures asks_for { AsksFor (names_told (F.pages folder.old) (S.left input.old) words.now) result
         (F.answered folder.old) (F.answered folder.new) }
 
@@ -145,7 +145,7 @@ pub fn run<S: Source, F: Folder, W: Sink, E: Sink>(
         (fetched_from F.Folder folder.old folder.new) (written_to W.Sink out.old out.new)
         (written_to E.Sink err.old err.new)) result }
 
-    // `edit` and `selser` leave the input alone where no text stands under the title.
+    // `edit` and `selser` leave the input alone where there is no text under the title.
     ensures waits { Waits (command_of words.now) (F.pages folder.old) input.old input.new }
 
     // The folder keeps its pages. A command that doesn't read (`html`, `ranges`, `expand`, `gen`, `lint`)

@@ -74,7 +74,7 @@ pub fn read_all<'a, S: Source>(
     Ok(reader)
 }
 
-/// The source of a page that was read, if each of its elements tells its own.
+/// The source of a page that was read, if each of its elements says its own.
 fn source_of(alloc: Global, edited: &Edited<'_>) -> Result<Output, Refusal>
     ensures answered { Answered (source_answer (page (body_of edited.now) (unsourced_of edited.now))) result }
     ensures of_html { IfErr result IsOfHtml }
@@ -85,7 +85,7 @@ fn source_of(alloc: Global, edited: &Edited<'_>) -> Result<Output, Refusal>
     }
 }
 
-/// The source of the page for which the bytes stand that were fed.
+/// The source of the page that the fed bytes stand for.
 fn source_of_read(alloc: Global, reader: Reader<'_>) -> Result<Output, Refusal>
     ensures answered { (bytes : List ℕ) → IsFed reader.entry bytes
         → Answered (source_answer (read bytes)) result }
@@ -95,7 +95,7 @@ fn source_of_read(alloc: Global, reader: Reader<'_>) -> Result<Output, Refusal>
     source_of(alloc, &edited)
 }
 
-/// The answer to `wikitext`: the source of the page for which the input stands.
+/// The answer to `wikitext`: the source of the page that the input stands for.
 pub fn wikitext_of_input<S: Source>(alloc: Global, input: &mut S) -> Result<Output, Refusal>
     ensures answered { IfSome (S.left input.old) (λ bytes. Answered (wikitext_answer bytes) result) }
     ensures of_input { IfErr result (IsOfInput (S.fault_count input.old) (S.fault_count input.new)) }

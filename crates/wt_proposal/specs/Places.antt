@@ -57,7 +57,7 @@ abbrev pub inside_stop : Option Ranges → ℕ
 inside_stop None = 0
 inside_stop (Some r) = r.end - r.close_w
 
--- where its inside ends, which is as long as the sources of what stands in it
+-- where its inside ends, which is as long as the sources of what is in it
 abbrev pub inside_end : Tree → ℕ
 inside_end t = inside_start (label t).ranges + length (flat_of_all (inside t))
 
@@ -67,7 +67,7 @@ inside_place t u = if same_inside t u then [] else slot (inside_start (label t).
 
 -- ---- its children
 
--- the page's children before the one with this number, and those behind it
+-- the page's children before the one with this number, and those after it
 abbrev pub before_number : ℕ → Trees → Trees
 before_number n none = none
 before_number n (more t ts) = if (label t).id == n then none else more t (before_number n ts)
@@ -98,7 +98,7 @@ goes_on r u = r.inside && not (ends_inside u)
 abbrev pub counts : Reached → Tree → Bool
 counts r u = is_compared (showing (label u).kind) && not (goes_on r u)
 
--- An edited child stays in its turn where it stays, and the page has it behind all that did before it.
+-- An edited child stays in its turn where it stays, and the page has it after all that did before it.
 abbrev pub is_in_turn : Page → ℕ → Reached → Tree → Bool
 is_in_turn page holder r u = counts r u && (stays_in page holder u && nat_lt r.number (label u).id)
 
@@ -110,12 +110,12 @@ node_or u (Some q) = q.node
 abbrev pub partner : Page → Tree → Tree
 partner page u = node_or u (page (label u).id)
 
--- behind it, by whether it is in its turn
+-- after it, by whether it is in its turn
 abbrev pub arrived : Bool → Tree → Reached → Tree → Reached
 arrived true t r u = record { end = end_of (label t).ranges; number = (label u).id; came = false; inside = false }
 arrived false t r u = record { end = r.end; number = r.number; came = r.came || counts r u; inside = goes_on r u }
 
--- what the page has behind it then
+-- what the page has after it then
 abbrev pub rest_behind : Bool → Tree → Trees → Trees
 rest_behind true u ts = behind_number (label u).id ts
 rest_behind false u ts = ts

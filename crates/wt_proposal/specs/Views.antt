@@ -1,4 +1,4 @@
--- What the code's own types stand for.
+-- What the code's own types mean.
 use Rattle.std.specs.Prelude.{Option, Some, None, List, [], ◌∷◌}
 use Rattle.wt_tree.specs.Tree.{Tree}
 use Rattle.wt_checks.specs.Places.{Page}

@@ -1,6 +1,6 @@
 //! Blanks and line breaks of a page.
 
-/// The byte at a place of the page; 0 behind its end.
+/// The byte at a place of the page; 0 after its end.
 pub fn byte_at(page: &str, at: usize) -> u8 {
     page.as_bytes().get(at).copied().unwrap_or(0)
 }
@@ -46,7 +46,7 @@ pub fn back_over_blanks(page: &str, least: usize, from: usize) -> usize {
     place
 }
 
-/// The most line breaks that stand between two places with nothing but blanks between them.
+/// The most line breaks between two places with nothing but blanks between them.
 pub fn most_breaks(page: &str, from: usize, to: usize) -> usize {
     let mut most = 0usize;
     let mut count = 0usize;
@@ -62,7 +62,7 @@ pub fn most_breaks(page: &str, from: usize, to: usize) -> usize {
     most
 }
 
-/// Whether what stands at a place of the page begins a line there.
+/// Whether what is at a place of the page begins a line there.
 pub fn is_at_line_start(page: &str, at: usize) -> bool {
     at == 0 || byte_at(page, at.saturating_sub(1)) == b'\n'
 }

@@ -9,8 +9,9 @@ use std::alloc::Global;
 use wt_block_proposal::{
     Surroundings, is_cell, is_item, is_lined, is_list, is_part, push_block, signs_of,
 };
+use wt_checks::is_compared;
 use wt_content_proposal::{Known, joined as texts_joined, last_text};
-use wt_difference::{Child, inside, is_compared};
+use wt_difference::{Child, inside};
 use wt_selser::Change;
 use wt_span::{NoMemory, Str};
 use wt_tree::{Kind, Node, same_kind};
@@ -40,7 +41,7 @@ fn place_of(at: usize) -> Result<u32, NoMemory> {
     Ok(at as u32)
 }
 
-/// Appends a slice, by what stands there instead.
+/// Appends a slice, by what is there instead.
 pub fn push_change(out: &mut Vec<Change>, place: Slot, by: Str) -> Result<(), NoMemory> {
     let start = place_of(place.start)?;
     let end = place_of(place.end)?;
@@ -76,8 +77,8 @@ fn push_slice(out: &mut Vec<Slot>, slice: Option<Slot>) -> Result<(), NoMemory> 
     Ok(())
 }
 
-/// The slices of the children that go: those that stand next to each other in one. A comment or an include tag
-/// between two of them stands.
+/// The slices of the children that go: those that are next to each other in one. A comment or an include tag
+/// between two of them stays.
 fn slices_of(alloc: Global, gone: &[Child<'_, '_>]) -> Result<Vec<Slot>, NoMemory> {
     let mut out = Vec::new(alloc);
     let mut slice = None;
@@ -96,7 +97,7 @@ fn slices_of(alloc: Global, gone: &[Child<'_, '_>]) -> Result<Vec<Slot>, NoMemor
 
 // ---- line breaks
 
-/// The kind of what a node shows last, as its neighbour behind it sees it: of a group that ends with a list this one's.
+/// The kind of what a node shows last, as its neighbour after it sees it: of a group that ends with a list this one's.
 fn kind_at_end(node: &Node<'_>) -> Kind {
     match node.children.as_slice().last() {
         Some(last) if matches!(node.kind, Kind::Group) && is_list(last.kind) => last.kind,
@@ -112,7 +113,7 @@ fn kind_at_start(node: &Node<'_>) -> Kind {
     }
 }
 
-/// How many line breaks two neighbours ask for at least. No empty line stands in an item.
+/// How many line breaks two neighbours ask for at least. No empty line is in an item.
 fn least_between(in_item: bool, left: Kind, right: Kind) -> usize {
     if is_cell(left) {
         return 0;
@@ -164,7 +165,7 @@ fn behind_marks(gap: Gap<'_, '_, '_>, at: usize) -> usize {
     end
 }
 
-/// A slice that goes, with the blanks behind it; at the end of its holder with those before it.
+/// A slice that goes, with the blanks after it; at the end of its holder with those before it.
 fn with_blanks(page: &str, gap: Gap<'_, '_, '_>, slice: Slot) -> Slot {
     let end = past_blanks(page, slice.end, gap.place.end);
     if gap.behind.is_none() && end == gap.place.end {
@@ -196,7 +197,7 @@ fn is_doubled(page: &str, node: &Node<'_>) -> bool {
     is_cell(node.kind) && width > 1 && is_doubled_at(page, range_of(node).start)
 }
 
-/// Whether a line begins behind what is written at a place of the page.
+/// Whether a line begins after what is written at a place of the page.
 fn leaves_line_start(page: &str, at: usize, by: &str) -> bool {
     match by.as_bytes().last() {
         Some(byte) => *byte == b'\n',
@@ -229,7 +230,7 @@ fn push_missing_signs(
     out.push_str(missing)
 }
 
-/// Appends a slice of a gap. Where a cell or an item that went on in a line begins one behind it, the two signs of a
+/// Appends a slice of a gap. Where a cell or an item that went on in a line begins one after it, the two signs of a
 /// cell become one, and an item has all of its signs.
 fn push_part_of(
     alloc: Global,
@@ -266,8 +267,8 @@ fn push_part_of(
     )
 }
 
-/// Appends the slices that go. Where they leave fewer line breaks than are wanted between what stands before and
-/// behind them, the last one has the others.
+/// Appends the slices that go. Where they leave fewer line breaks than are wanted between what comes before and
+/// after them, the last one has the others.
 fn push_gone(
     alloc: Global,
     out: &mut Vec<Change>,
@@ -314,7 +315,7 @@ fn first_gone<'t, 'a>(gone: &[Child<'t, 'a>]) -> Option<&'t Node<'a>> {
     None
 }
 
-/// An item of the page that stands beside those that come.
+/// An item of the page that is beside those that come.
 fn item_beside<'t, 'a>(gap: Gap<'_, 't, 'a>) -> Option<&'t Node<'a>> {
     gap.before.or(gap.behind).or(first_gone(gap.gone))
 }
@@ -341,7 +342,7 @@ fn signs_like(alloc: Global, signs: &str, kind: Kind) -> Result<Str, NoMemory> {
     }
 }
 
-/// The signs with which an item that comes begins: those of the items that stand there.
+/// The signs with which an item that comes begins: those of the items that are there.
 fn signs_in(
     alloc: Global,
     known: &Known<'_, '_>,
@@ -423,7 +424,7 @@ fn has_break_from(source: &str, start: usize) -> bool {
     }
 }
 
-/// What came so far, and this one behind it.
+/// What came so far, and this one after it.
 fn followed(
     alloc: Global,
     in_item: bool,
@@ -460,7 +461,7 @@ fn followed(
     Ok(all)
 }
 
-/// Where those come that take no other's place: behind the child before, or before the one behind.
+/// Where those come that take no other's place: after the child before, or before the one after.
 fn place_between(gap: Gap<'_, '_, '_>) -> Slot {
     let at = if gap.before.is_none() && gap.behind.is_some() {
         gap.place.end
@@ -494,12 +495,12 @@ fn breaks_before(
     }
 }
 
-/// Whether a cell of the page goes on in the line of the one before it, and may do so behind one of this kind.
+/// Whether a cell of the page goes on in the line of the one before it, and may do so after one of this kind.
 fn shares_line(page: &str, last: Kind, cell: &Node<'_>) -> bool {
     is_cell(last) && same_kind(last, cell.kind) && is_doubled(page, cell)
 }
 
-/// The line breaks behind it, up to what stands behind or to the next slice that goes. Behind all that a cell holds
+/// The line breaks after it, up to what comes after or to the next slice that goes. After all that a cell holds
 /// the next cell may go on in the line.
 fn breaks_behind(
     page: &str,
@@ -527,7 +528,7 @@ fn breaks_behind(
     wanted.saturating_sub(standing)
 }
 
-/// Whether a row without a sign of its own stands behind, as the first one of a table may.
+/// Whether a row without a sign of its own comes after, as the first one of a table may.
 fn begins_without_sign(gap: Gap<'_, '_, '_>) -> bool {
     match gap.behind {
         Some(row) => matches!(row.kind, Kind::Tr) && row.opening().is_empty(),
@@ -696,7 +697,7 @@ impl Passed {
         }
     }
 
-    /// Behind a comment or an include tag, and the part before it.
+    /// After a comment or an include tag, and the part before it.
     fn behind(self, page: &str, part: Gap<'_, '_, '_>, mark: Slot) -> Passed {
         Passed {
             gone: self.gone.saturating_add(part.gone.len()).saturating_add(1),
@@ -708,7 +709,7 @@ impl Passed {
     }
 }
 
-/// The number of the block behind these nodes.
+/// The number of the block after these nodes.
 fn past_all(first: Numbering, nodes: &[Node<'_>]) -> Numbering {
     let mut block = first;
     for node in nodes {
@@ -719,8 +720,8 @@ fn past_all(first: Numbering, nodes: &[Node<'_>]) -> Numbering {
     block
 }
 
-/// Appends what is written anew between two children that stay in their turn. What was sent behind a comment or an
-/// include tag of the gap comes behind it. `outer` are the signs of the item that holds them.
+/// Appends what is written anew between two children that stay in their turn. What was sent after a comment or an
+/// include tag of the gap comes after it. `outer` are the signs of the item that holds them.
 pub fn push_gap<'t, 'a>(
     alloc: Global,
     out: &mut Vec<Change>,

@@ -1,5 +1,5 @@
 //! What is proposed for an edited page: the page in which what was changed is written anew, and everything else
-//! stands as it stood, texts too. Whether a proposal is any good is told by reading it back, and by nothing here.
+//! stays as it was, texts too. Whether a proposal is any good is found by reading it back, and by nothing here.
 #![tactic(auto)]
 
 mod blanks;

@@ -123,7 +123,7 @@ struct Held<'w, 't, 'a> {
 }
 
 /// How far one has come along the edited children of a node: how many of the page's children are passed, the first
-/// edited child behind the last one that stayed in its turn, and the numbers of its block and of the one in hand.
+/// edited child after the last one that stayed in its turn, and the numbers of its block and of the one in hand.
 #[derive(Clone, Copy)]
 struct Line {
     from: usize,
@@ -133,7 +133,7 @@ struct Line {
     block: Numbering,
 }
 
-/// A gap, by how many of the page's children stand before it, and before what stands behind it.
+/// A gap, by how many of the page's children come before it, and before what comes after it.
 #[derive(Clone, Copy)]
 struct Span {
     place: Slot,
@@ -170,7 +170,7 @@ impl Line {
         }
     }
 
-    /// Behind the child with this index, which passes so many of the page's children.
+    /// After the child with this index, which passes so many of the page's children.
     fn behind(self, passed: usize, reached: Reached, at: usize) -> Line {
         let is_begun = passed > 0 || reached.inside;
         Line {
@@ -201,7 +201,7 @@ impl Line {
         }
     }
 
-    /// The gap behind the last child that stays in its turn.
+    /// The gap after the last child that stays in its turn.
     fn last_span(self, held: Held<'_, '_, '_>) -> Span {
         Span {
             place: Slot {

@@ -42,9 +42,9 @@ ghost use Rattle.wt_proposal.specs.Views.{slots_of, places_within};
 use crate::reached::Reached;
 use crate::slot::Slot;
 use std::alloc::Global;
-use wt_checks::{Visit, original};
+use wt_checks::{Visit, is_compared, original};
 use wt_difference::{
-    Child, ends_inside, has_inside, held, inside, is_block_part, is_compared, same_inside, stays_in,
+    Child, ends_inside, has_inside, held, inside, is_block_part, same_inside, stays_in,
 };
 use wt_span::{NoMemory, Text};
 use wt_tree::{Kind, Node, Placement, Ranges};
@@ -274,7 +274,7 @@ fn goes_on(reached: Reached, child: &Node<'_>) -> bool
     reached.inside && !ends_inside(child)
 }
 
-/// Whether a child counts: it shows something, and stands behind the inside.
+/// Whether a child counts: it shows something, and comes after the inside.
 pub fn counts(reached: Reached, child: &Node<'_>) -> bool
     ensures { result ≡ counts reached (view child.now) }
 {
@@ -299,7 +299,7 @@ fn partner<'t, 'a>(index: &[Visit<'t, 'a>], node: &'t Node<'a>) -> Visit<'t, 'a>
     })
 }
 
-/// Behind a child in its turn, which is this node of the page.
+/// After a child in its turn, which is this node of the page.
 pub fn reached_behind(old: &Node<'_>, reached: Reached, child: &Node<'_>) -> Reached
     ensures { result ≡ arrived true (view old.now) reached (view child.now) }
 {
@@ -311,7 +311,7 @@ pub fn reached_behind(old: &Node<'_>, reached: Reached, child: &Node<'_>) -> Rea
     }
 }
 
-/// Behind any other child.
+/// After any other child.
 pub fn reached_past(reached: Reached, child: &Node<'_>) -> Reached
     ensures { (t : Tree) → result ≡ arrived false t reached (view child.now) }
 {
@@ -325,7 +325,7 @@ pub fn reached_past(reached: Reached, child: &Node<'_>) -> Reached
 
 // ---- one child
 
-/// Where the walk stands before a child: the number of the node whose children these are, those of the page's
+/// How far the walk has come before a child: the number of the node whose children these are, those of the page's
 /// children that are still to come, and how far it has come.
 #[derive(Clone, Copy)]
 pub struct Beside<'w, 't, 'a> {
@@ -335,7 +335,7 @@ pub struct Beside<'w, 't, 'a> {
 }
 
 /// What a child gives: the gap before it, where that is a place; the page's node that it is, where it may have
-/// places of its own; how far one has come behind it; and how many of the page's children are passed then, which are
+/// places of its own; how far one has come after it; and how many of the page's children are passed then, which are
 /// none where it isn't in its turn.
 #[derive(Clone, Copy)]
 pub struct ChildOutcome<'t, 'a> {
@@ -424,7 +424,7 @@ fn push_gap(out: &mut Vec<Slot>, gap: Option<Slot>) -> Result<(), NoMemory>
     Ok(())
 }
 
-/// Appends the gap behind the last child that stays in its turn, up to the end of the node's inside.
+/// Appends the gap after the last child that stays in its turn, up to the end of the node's inside.
 fn push_last(
     out: &mut Vec<Slot>,
     reached: Reached,

@@ -1,4 +1,4 @@
-//! Whether slices of a page that are written anew stand in it one after the other, each in one of the places that may
+//! Whether slices of a page that are written anew lie in it one after the other, each in one of the places that may
 //! be written anew.
 
 ghost use Rattle.std.specs.Prelude.{◌≡◌, ◌≤◌, length, true, IfOk, IfSome};
@@ -34,7 +34,7 @@ fn lies_at(places: &[Slot], at: usize, change: &Change) -> bool
     at < places.len() && lies_in(places[at], change)
 }
 
-/// Whether it stands behind this place, and doesn't end before it begins.
+/// Whether it comes after this place, and doesn't end before it begins.
 fn stands_behind(at: u32, change: &Change) -> bool
     ensures from { result ≡ true → at ≤ (change_view change.now).start }
     ensures whole { result ≡ true → (change_view change.now).start ≤ (change_view change.now).end }
@@ -42,7 +42,7 @@ fn stands_behind(at: u32, change: &Change) -> bool
     at <= change.start && change.start <= change.end
 }
 
-/// Whether these slices of a page of `size` bytes stand in it one after the other, each in one of the places. The
+/// Whether these slices of a page of `size` bytes lie in it one after the other, each in one of the places. The
 /// places are in the order of the page, so each is looked at once; where they aren't, some that would do are refused.
 fn are_within(changes: &[Change], places: &[Slot], size: usize) -> bool
     ensures apart { result ≡ true → AreApart 0 (changes_view changes.now) size }
@@ -60,7 +60,7 @@ fn are_within(changes: &[Change], places: &[Slot], size: usize) -> bool
     at as usize <= size
 }
 
-/// The page with these slices written anew, where they stand in it one after the other, each in one of the places.
+/// The page with these slices written anew, where they lie in it one after the other, each in one of the places.
 pub fn tested(
     alloc: Global,
     page: &str,

@@ -17,7 +17,7 @@ pub data Sending : Type 0 where
   retyped : Label → Label → List ℕ → Sending
   kept : Tree → Sending
 
--- A passage of the page, what is sent for its paragraph, and the node that is sent for the line breaks behind it, where there are any.
+-- A passage of the page, what is sent for its paragraph, and the node that is sent for the line breaks after it, where there are any.
 pub record PassageEdit : Type 0 where
   pub passage : Passage
   pub sending : Sending
@@ -66,7 +66,7 @@ sent_prose b es = let body = prose_body (old_passages es) in new_body (label bod
 
 -- ---- which edits these are
 
--- each node that is kept is sent as it stands in the page
+-- each node that is kept is sent as it is in the page
 abbrev pub AreKept : List Sending → Trees → Type 0
 AreKept [] ts = Unit {0}
 AreKept (s ∷ ss) none = Unit {0}

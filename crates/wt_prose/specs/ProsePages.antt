@@ -3,7 +3,7 @@ use Rattle.std.specs.Prelude.{◌≡◌, ℕ, ◌≤◌, List, [], ◌∷◌, �
 use Rattle.std.specs.List.{flat_map}
 use Rattle.wt_text_edits.specs.TypedPages.{IsTypedPage}
 
--- the source of a paragraph, and how many line breaks stand behind it
+-- the source of a paragraph, and how many line breaks come after it
 pub record Passage : Type 0 where
   pub paragraph : List ℕ
   pub breaks : ℕ
@@ -14,7 +14,7 @@ passage_source p = p.paragraph ++ replicate p.breaks 10
 abbrev pub prose : List Passage → List ℕ
 prose ps = flat_map passage_source ps
 
--- There is one at least, and each was typed as one paragraph. One empty line or more stands between two of them, and behind the last one
+-- There is one at least, and each was typed as one paragraph. One empty line or more is between two of them, and after the last one
 -- any number of line breaks.
 abbrev pub AreProse : List Passage → Type 0
 AreProse [] = ⊥

@@ -1,4 +1,4 @@
--- What prose means as a page: a body with a paragraph for each of its paragraphs, and a separator for the line breaks behind it.
+-- What prose means as a page: a body with a paragraph for each of its paragraphs, and a separator for the line breaks after it.
 use Rattle.std.specs.Prelude.{ℕ, zero, suc, List, [], ◌∷◌, replicate}
 use Rattle.std.specs.List.{flat_map}
 use Rattle.wt_tree.specs.declared.kind.Kind.TheVariants as kind
@@ -13,7 +13,7 @@ use Rattle.wt_sections.specs.Sections.{with_sections}
 use Rattle.wt_text_edits.specs.LonePages.{page_chars, para_of}
 use Rattle.wt_prose.specs.ProsePages.{Passage}
 
--- one separator for all line breaks that stand together
+-- one separator for all line breaks side by side
 abbrev pub separator : ℕ → List ItemTree
 separator zero = []
 separator (suc n) = loose_leaf Sep (page_chars (replicate (suc n) 10)) ∷ []

@@ -6,7 +6,7 @@ use Rattle.wt_typed_blocks.specs.Unmarked.{free_body, AreToldApart}
 use Rattle.wt_prose.specs.ProseTrees.{prose_body}
 use Rattle.wt_prose.specs.ProseEdits.{PassageEdit, old_passages, sent_children, all_sendings, IsProseEdit}
 
--- the edited tree: whatever marks stand on the paragraphs in which texts were typed, and on the body
+-- the edited tree: whatever marks are on the paragraphs in which texts were typed, and on the body
 abbrev pub unmarked_prose : Label → List PassageEdit → Tree
 unmarked_prose b es = let body = prose_body (old_passages es) in free_body (label body) b (sent_children (all_sendings es) (children body))
 

@@ -30,14 +30,14 @@ pub fn prose_calls_nothing()
 {}
 
 /// Its tree is a section that holds each of its paragraphs, whatever was typed in it, as one paragraph, and one
-/// separator for the line breaks behind it.
+/// separator for the line breaks after it.
 #[tactic(auto, using(crate::proofs::ProseTakes::page_is))]
 pub fn prose_is_paragraphs()
     ensures { (pages : Pages) (ps : List Passage) → AreProse ps → page_tree pages (prose ps) ≡ prose_page ps }
 {}
 
 /// Prose takes any texts: an edit that sends any of its paragraphs marked `content`, each with any text typed in
-/// it, and the others as they stand, is done, and in the new page each of these paragraphs is its text as it is
+/// it, and the others as they are, is done, and in the new page each of these paragraphs is its text as it is
 /// spelled, and every other byte is what it was; unless the new page is longer than a page may be. So it is, too,
 /// for each input that is read as such a tree, and so the command `edit` answers, over a folder that has the page.
 /// A page that was typed as one paragraph is prose, and each new page is prose again.

@@ -41,7 +41,7 @@ is_parted (goes t ∷ ss) = parts_with t (is_parted ss)
 is_parted (kept t u ∷ ss) = parts_with t (is_parted ss)
 is_parted (comes u ∷ ss) = is_parted ss
 
--- ---- where the walk stands
+-- ---- how far the walk has come
 
 abbrev pub start : Front
 start = record { at = 0; is_start = true; is_parted = true }
@@ -57,7 +57,7 @@ past f (comes u) = record f { is_start = false }
 
 -- ---- removed children
 
--- Nothing stands for a removed child where the separators before it and those behind it each hold a line break or lie at an end of the
+-- Nothing is written for a removed child where the separators before it and those after it each hold a line break or lie at an end of the
 -- body; else one line break does.
 abbrev pub for_removed : Bool → List ℕ
 for_removed parted = if parted then [] else byte.line_break ∷ []
@@ -68,7 +68,7 @@ removed_with (Some r) by = record { start = r.start; end = r.end; by = by } ∷ 
 
 -- ---- new children
 
--- Two line breaks stand before a new child, but not at the body's start.
+-- Two line breaks come before a new child, but not at the body's start.
 abbrev pub before_new : Bool → List ℕ
 before_new is_start = if is_start then [] else byte.line_break ∷ byte.line_break ∷ []
 
@@ -137,7 +137,7 @@ tail_before ss = if leaves_break ss then byte.line_break ∷ [] else byte.line_b
 abbrev pub tail_at_end : Front → List Step → List ℕ
 tail_at_end f ss = if leaves_blank f ss then byte.line_break ∷ [] else []
 
--- behind the last of new children that stand together
+-- after the last of several new children side by side
 abbrev pub tail : Front → List Step → List ℕ
 tail f ss = if begins_new ss then [] else (if holds_kept ss then tail_before ss else tail_at_end f ss)
 
@@ -171,6 +171,6 @@ all_child_slices same page (more u us) = child_slices same page u ++ all_child_s
 abbrev pub slices_of : (Tree → Tree → Bool) → Page → Trees → Tree → List Change
 slices_of same page ts (tree l us) = if is_children l.mark then body_slices same page start (steps holder.Body ts us) else all_child_slices same page us
 
--- of a page with this tree that was edited to that one; what stands in its sections counts as standing in its body
+-- of a page with this tree that was edited to that one; what is in its sections counts as in its body
 abbrev pub slices : (Tree → Tree → Bool) → Tree → Tree → List Change
 slices same t edited = slices_of same (page_of t) (opened (children t)) edited

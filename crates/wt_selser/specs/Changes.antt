@@ -1,4 +1,4 @@
--- The marked nodes of an edit, and the slices of the page that stand for those marked `content`: the inside of each, by the spelling of
+-- The marked nodes of an edit, and the slices of the page that replace those marked `content`: the inside of each, by the spelling of
 -- what it was edited to.
 use Rattle.std.specs.Prelude.{◌≡◌, ℕ, false, Bool, ◌||◌, ◌+◌, ◌-◌, Option, Some, None, List, [], ◌∷◌, ◌++◌, if◌then◌else◌}
 use Rattle.std.specs.List.{AllByRecursion, flat_map}
@@ -38,7 +38,7 @@ marked page edited = flat_map (pair_at (page_of page)) (places edited)
 
 -- ---- the slices of contents
 
--- what the content of a block stands in
+-- in what the content of a block is written
 abbrev pub place_in : Kind → Surround
 place_in kind.Body = place.Paragraph
 place_in (kind.Section n) = place.Paragraph
@@ -86,7 +86,7 @@ abbrev pub inside_of : (Tree → Tree → Bool) → Option Place → Tree → Li
 inside_of same None u = []
 inside_of same (Some q) u = change_with (label q.node).ranges (inline_spelling same q.node u (place_in (label q.node).kind))
 
--- The insides of the nodes marked `content` in a tree, in the order of the page. No such node stands in another one.
+-- The insides of the nodes marked `content` in a tree, in the order of the page. No such node is in another one.
 abbrev mutual
   pub insides : (Tree → Tree → Bool) → Page → Tree → List Change
   insides same page (tree l us) = if is_content l.mark then inside_of same (page l.id) (tree l us) else all_insides same page us

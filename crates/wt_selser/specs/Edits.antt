@@ -65,7 +65,7 @@ unless_refused (Some e) r = Err e
 abbrev pub pairs_answer : (Tree → Tree → Bool) → Expanded → List ℕ → List Pair → List Change → Result (List ℕ) EditRefusal
 pairs_answer same items page ps cs = unless_refused (refused_pairs same items page ps) (if_short (spliced page cs))
 
--- The edit of a page with these items and this tree. `same` tells nodes of one kind with one plain view.
+-- The edit of a page with these items and this tree. `same` says whether two nodes have one kind and one plain view.
 unfoldable pub edit_answer : (Tree → Tree → Bool) → Expanded → List ℕ → Tree → Tree → Result (List ℕ) EditRefusal
 edit_answer same items page t edited =
     unless_refused (option_map refusal.Check (checked false t edited)) (pairs_answer same items page (marked t edited) (slices same t edited))

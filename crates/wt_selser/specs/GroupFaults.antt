@@ -1,5 +1,5 @@
 -- What makes a group no part of a block that is read by itself: read alone it shows something else, its apostrophes switch styles
--- beyond it, or a text in it could go on behind it.
+-- beyond it, or a text in it could go on after it.
 use Rattle.std.specs.Prelude.{◌||◌, Bool, false, is_some, Option, Some, None, List, [], ◌∷◌, if◌then◌else◌}
 use Rattle.wt_tree.specs.declared.kind.Kind.TheVariants as kind
 use Rattle.wt_tree.specs.declared.kind.Ranges.{Ranges}

@@ -1,5 +1,5 @@
 -- What a leaf holds has no number: what it holds is of its own source, and no part of the page by itself. Outside leaves the root is the only body,
--- and no section stands in it.
+-- and no section is in it.
 use Rattle.std.specs.Prelude.{◌≡◌, true, false}
 use Rattle.std.specs.List.{AllByRecursion}
 use Rattle.wt_tree.specs.Kinds.{is_leaf}
@@ -15,7 +15,7 @@ abbrev mutual
   AllLeavesHoldNoNumber none = Unit {0}
   AllLeavesHoldNoNumber (more t ts) = LeavesHoldNoNumber t × AllLeavesHoldNoNumber ts
 
--- no body and no section stands below the root, leaves aside
+-- no body and no section is below the root, leaves aside
 abbrev mutual
   pub HoldsNoFrame : Tree → Type 0
   HoldsNoFrame (tree l ts) = is_leaf l.kind ≡ false → NoneIsFrame ts

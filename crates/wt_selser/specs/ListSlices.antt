@@ -40,7 +40,7 @@ abbrev pub from_kept : Trees → Trees
 from_kept none = none
 from_kept (more u us) = if is_kept_item u then more u us else from_kept us
 
--- A new item before it stands at its start, with a line break behind it.
+-- A new item before it is at its start, with a line break after it.
 abbrev pub new_one_before : (Tree → Tree → Bool) → ℕ → ℕ → Tree → List Change
 new_one_before same sign place u = if is_item u then at_place place (block_spelling same u sign ++ (byte.line_break ∷ [])) ∷ [] else []
 
@@ -48,20 +48,20 @@ abbrev pub new_before : (Tree → Tree → Bool) → ℕ → ℕ → Trees → L
 new_before same sign place none = []
 new_before same sign place (more u us) = if is_kept_item u then [] else new_one_before same sign place u ++ new_before same sign place us
 
--- where the first item of the page begins that stands before the one with this number
+-- where the first of the page's items before the one with this number begins
 abbrev pub first_removed : ℕ → Trees → Option ℕ
 first_removed n none = None
 first_removed n (more t ts) = if (label t).id == n then None else (if is_item t then Some (start_of (label t).ranges) else first_removed n ts)
 
--- Items of the page before it go with the separators behind them: from the first of them up to the kept one.
+-- Items of the page before it go with the separators after them: from the first of them up to the kept one.
 abbrev pub removed_before : Option ℕ → ℕ → List Change
 removed_before None end = []
 removed_before (Some start) end = record { start = start; end = end; by = [] } ∷ []
 
 -- ---- from the first kept item on
 
--- A removed item goes with the separators before it, from the end of the item before. A new one stands at the end of the item before,
--- behind a line break.
+-- A removed item goes with the separators before it, from the end of the item before. A new one is at the end of the item before,
+-- after a line break.
 abbrev pub item_slices : (Tree → Tree → Bool) → Page → ℕ → ℕ → List Step → List Change
 item_slices same page sign at [] = []
 item_slices same page sign at (stays t ∷ ss) = item_slices same page sign at ss

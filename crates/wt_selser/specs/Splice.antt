@@ -1,7 +1,7 @@
--- The new page of an edit: the page with slices of it replaced, and what stands outside them.
+-- The new page of an edit: the page with slices of it replaced, and what is outside them.
 use Rattle.std.specs.Prelude.{◌≡◌, ℕ, ◌-◌, ◌≤◌, List, [], ◌∷◌, ◌++◌, length, take, drop, map, zip, IsCharBoundary}
 
--- A slice of the page, by its first byte and the byte after its last one, and what stands in its place in the new page.
+-- A slice of the page, by its first byte and the byte after its last one, and what is in its place in the new page.
 pub record Change : Type 0 where
   pub start : ℕ
   pub end : ℕ
@@ -26,19 +26,19 @@ spliced_from page at (c ∷ cs) = between at c.start page ++ (c.by ++ spliced_fr
 unfoldable pub spliced : List ℕ → List Change → List ℕ
 spliced page cs = spliced_from page 0 cs
 
--- The slices stand in the page in this order, and none begins before the one before it ends.
+-- The slices lie in the page in this order, and none begins before the one before it ends.
 abbrev pub AreApart : ℕ → List Change → ℕ → Type 0
 AreApart at [] size = at ≤ size
 AreApart at (c ∷ cs) size = (at ≤ c.start) × (c.start ≤ c.end) × AreApart c.end cs size
 
--- ---- what stands outside
+-- ---- what is outside
 
--- Texts, each with what stands after it, and a last text.
+-- Texts, each with what is after it, and a last text.
 abbrev pub woven : List (List ℕ × List ℕ) → List ℕ → List ℕ
 woven [] last = last
 woven ((outside, inside) ∷ ps) last = outside ++ (inside ++ woven ps last)
 
--- Both pages are the same texts in the same order: between them the page has its slices, and the new page what stands in their
+-- Both pages are the same texts in the same order: between them the page has its slices, and the new page what is in their
 -- place.
 pub record OutsideStands (page new : List ℕ) (cs : List Change) : Type 0 where
   pub outside : List (List ℕ)

@@ -5,7 +5,7 @@ use Rattle.wt_tree.specs.Tree.{Tree, Trees, none, more, label}
 use Rattle.wt_content.specs.declared.children.Holder.{Holder}
 use Rattle.wt_content.specs.Children.{is_child}
 
--- What stands between the children of the page and stays; a child of the page that is missing; a child of the page, and what it was
+-- What is between the children of the page and stays; a child of the page that is missing; a child of the page, and what it was
 -- edited to; and a new child.
 pub data Step : Type 0 where
   stays : Tree → Step
@@ -26,7 +26,7 @@ abbrev pub passed_up_to : Holder → ℕ → Trees → List Step
 passed_up_to h n none = []
 passed_up_to h n (more t ts) = if (label t).id == n then [] else passed_one h t ∷ passed_up_to h n ts
 
--- this one and those behind it
+-- this one and those after it
 abbrev pub from_number : ℕ → Trees → Trees
 from_number n none = none
 from_number n (more t ts) = if (label t).id == n then more t ts else from_number n ts
@@ -39,7 +39,7 @@ abbrev pub behind_first : Trees → Trees
 behind_first none = none
 behind_first (more t ts) = ts
 
--- New children stand directly behind the kept child before them, and before what the page has behind that one.
+-- New children come directly after the kept child before them, and before what the page has after that one.
 abbrev pub steps : Holder → Trees → Trees → List Step
 steps h ts none = passed h ts
 steps h ts (more u us) =

@@ -1,4 +1,4 @@
--- What the code's own types stand for.
+-- What the code's own types mean.
 use Rattle.std.specs.Prelude.{Bool, true, List, [], ◌∷◌, ◌++◌, map}
 use Rattle.wt_tree.specs.Tree.{Tree, Trees, trees}
 use Rattle.wt_tree.specs.View.{view}

@@ -26,8 +26,8 @@ use wt_escape::spell_block;
 use wt_span::{NoMemory, Str};
 use wt_tree::{Node, Ranges, flat};
 
-/// Where the walk along the children of a body stands: the end of the node of the page before; whether
-/// nothing stands before at all; and whether the separators before hold a line break, or reach back to
+/// How far the walk along the children of a body has come: the end of the node of the page before; whether
+/// nothing comes before at all; and whether the separators before hold a line break, or reach back to
 /// the body's start.
 #[derive(Clone, Copy)]
 pub struct Front {
@@ -79,7 +79,7 @@ fn parts_with(alloc: Global, node: &Node<'_>, others: bool) -> Result<bool, NoMe
 }
 
 /// Whether the separators from a step on hold a line break, or reach up to the body's end, by whether
-/// those behind it do.
+/// those after it do.
 fn parted_before(alloc: Global, step: Step<'_, '_>, behind: bool) -> Result<bool, NoMemory>
     ensures { IfOk result (λ b. (ss : List Taken) → behind ≡ is_parted ss → b ≡ is_parted (step_view step.entry ∷ ss)) }
 {
@@ -115,7 +115,7 @@ fn is_parted(steps: &[Step<'_, '_>], ends: &[bool], from: usize) -> bool
     ends[steps.len() - from]
 }
 
-// ---- where the walk stands
+// ---- how far the walk has come
 
 /// Whether the separators on both sides hold a line break or lie at an end of the body.
 fn parts(front: Front, behind: bool) -> bool
@@ -317,7 +317,7 @@ fn leaves_blank(
     Ok(false)
 }
 
-/// What stands behind the last of new children before a kept one.
+/// What comes after the last of new children before a kept one.
 fn tail_before(alloc: Global, steps: &[Step<'_, '_>]) -> Result<&'static str, NoMemory>
     ensures { IfOk result (λ s. s.now ≡ tail_before (steps_view steps.now)) }
 {
@@ -328,7 +328,7 @@ fn tail_before(alloc: Global, steps: &[Step<'_, '_>]) -> Result<&'static str, No
     Ok("\n\n")
 }
 
-/// What stands behind the last of new children where none is kept behind them.
+/// What comes after the last of new children where none is kept after them.
 fn tail_at_end(
     alloc: Global,
     steps: &[Step<'_, '_>],
@@ -347,7 +347,7 @@ fn tail_at_end(
     Ok("")
 }
 
-/// What stands behind a new child before the steps from a place on.
+/// What comes after a new child before the steps from a place on.
 fn tail(
     alloc: Global,
     steps: &[Step<'_, '_>],
@@ -369,7 +369,7 @@ fn tail(
     tail_at_end(alloc, steps, ends, from, front)
 }
 
-/// Appends a new child, with what stands before and behind it.
+/// Appends a new child, with what comes before and after it.
 fn push_new(
     alloc: Global,
     found: &mut Vec<Change>,
@@ -391,7 +391,7 @@ fn push_new(
 
 // ---- the walk
 
-/// Appends the slices of a list that stands in the page, edited to these nodes.
+/// Appends the slices of a list that is in the page, edited to these nodes.
 fn push_list_at<'t, 'a>(
     alloc: Global,
     found: &mut Vec<Change>,
@@ -433,26 +433,32 @@ pub fn push_child<'t, 'a>(
     Ok(())
 }
 
-/// Appends the slices of a step behind which the steps from a place on follow.
+/// The steps from a place on, and what `parted_ends` says of all steps.
+#[derive(Clone, Copy)]
+struct Rest<'s, 't, 'a> {
+    steps: &'s [Step<'t, 'a>],
+    ends: &'s [bool],
+    from: usize,
+}
+
+/// Appends the slices of a step, which these follow.
 fn push_step<'t, 'a>(
     alloc: Global,
     found: &mut Vec<Change>,
     index: &[Visit<'t, 'a>],
-    steps: &[Step<'t, 'a>],
-    ends: &[bool],
-    from: usize,
     front: Front,
     step: Step<'t, 'a>,
+    rest: Rest<'_, 't, 'a>,
 ) -> Result<(), NoMemory>
-    requires known { ends.now ≡ parted_ends (steps_view steps.now) }
-    requires fits { from ≤ length steps.now }
+    requires known { rest.ends.now ≡ parted_ends (steps_view rest.steps.now) }
+    requires fits { rest.from ≤ length rest.steps.now }
     ensures { (same : Tree → Tree → Bool) → TellsSame same → OnOk result (changes_view found.new.items ≡ changes_view found.old.items
-        ++ step_slices same (indexed index.now) front (step_view step.entry) (steps_view (drop from steps.now))) }
+        ++ step_slices same (indexed index.now) front (step_view step.entry) (steps_view (drop rest.entry.from rest.entry.steps.now))) }
 {
     match step {
         Step::Stays(_) => Ok(()),
         Step::Goes(node) => {
-            let parted = parts(front, is_parted(steps, ends, from));
+            let parted = parts(front, is_parted(rest.steps, rest.ends, rest.from));
             push_removed(alloc, found, node.ranges, parted)?;
             Ok(())
         }
@@ -461,7 +467,7 @@ fn push_step<'t, 'a>(
             Ok(())
         }
         Step::Comes(node) => {
-            let tail = tail(alloc, steps, ends, from, front)?;
+            let tail = tail(alloc, rest.steps, rest.ends, rest.from, front)?;
             push_new(alloc, found, front, node, tail)?;
             Ok(())
         }
@@ -486,16 +492,12 @@ pub fn push_body<'t, 'a>(
     };
     for at in 0..steps.len() {
         let step = steps[at];
-        push_step(
-            alloc,
-            found,
-            index,
+        let rest = Rest {
             steps,
-            ends.as_slice(),
-            at + 1,
-            front,
-            step,
-        )?;
+            ends: ends.as_slice(),
+            from: at + 1,
+        };
+        push_step(alloc, found, index, front, step, rest)?;
         front = past(alloc, front, step)?;
     }
     Ok(())

@@ -26,7 +26,7 @@ pub struct Pair<'t, 'a> {
     pub new: &'t Node<'a>,
 }
 
-/// A slice of the page, in bytes: its first byte and the byte after its last one, and what stands in its place.
+/// A slice of the page, in bytes: its first byte and the byte after its last one, and what is in its place.
 #[derive(Drop)]
 pub struct Change {
     pub start: u32,
@@ -34,7 +34,7 @@ pub struct Change {
     pub by: Str,
 }
 
-/// What the content of a node of this kind stands in.
+/// In what the content of a node of this kind is written.
 pub fn place_in(kind: Kind) -> Place
     ensures { result ≡ place_in kind }
 {
@@ -182,7 +182,7 @@ fn push_all_insides(
     Ok(())
 }
 
-/// What stands in the page between two places; None where they aren't places of it between its characters, the
+/// What is in the page between two places; None where they aren't places of it between its characters, the
 /// second not before the first.
 fn slice_between(page: &str, from: usize, to: usize) -> Option<&str>
     ensures slice { IfSome result (λ slice. slice.now ≡ between from to page.now) }
@@ -197,7 +197,7 @@ fn slice_between(page: &str, from: usize, to: usize) -> Option<&str>
     Some(&page[from..to])
 }
 
-/// Appends what stands in the page between two places.
+/// Appends what is in the page between two places.
 fn push_between(out: &mut Str, page: &str, from: u32, to: u32) -> Result<(), NoMemory>
     ensures { OnOk result (out.new ≡ out.old ++ between from to page.now) }
 {
@@ -207,7 +207,7 @@ fn push_between(out: &mut Str, page: &str, from: u32, to: u32) -> Result<(), NoM
     }
 }
 
-/// Appends what stands in the page from a place on.
+/// Appends what is in the page from a place on.
 fn push_rest(out: &mut Str, page: &str, from: u32) -> Result<(), NoMemory>
     ensures { OnOk result (out.new ≡ out.old ++ drop from page.now) }
 {
@@ -218,7 +218,7 @@ fn push_rest(out: &mut Str, page: &str, from: u32) -> Result<(), NoMemory>
     Ok(())
 }
 
-/// The page with these slices replaced, which stand in it one after the other; want of memory, too, where they
+/// The page with these slices replaced, which lie in it one after the other; want of memory, too, where they
 /// don't.
 #[tactic(auto, unfolding(crate::specs::Splice::spliced))]
 pub fn spliced(alloc: Global, page: &str, changes: &[Change]) -> Result<Str, NoMemory>

@@ -46,7 +46,7 @@ fn push_opened<'t, 'a>(out: &mut Vec<Child<'t, 'a>>, node: &'t Node<'a>) -> Resu
     Ok(())
 }
 
-/// The children of a body: those that stand in it, and those that stand in its sections.
+/// The children of a body: those that are in it, and those that are in its sections.
 pub fn opened_children<'t, 'a>(
     alloc: Global,
     body: &'t Node<'a>,

@@ -26,7 +26,7 @@ use wt_isolation::Passes;
 use wt_span::{Items, NoMemory, PAGE_BYTES, Str};
 use wt_tree::Node;
 
-/// Why what stands in a marked node can't be written.
+/// Why what is in a marked node can't be written.
 fn why_bad(alloc: Global, pair: Pair<'_, '_>) -> Result<Option<ContentWhy>, NoMemory>
     ensures { (same : Tree → Tree → Bool) → TellsSame same → IfOk result (λ w. w ≡ why_bad same (pair_of pair.entry)) }
 {
@@ -80,7 +80,7 @@ fn tangled_pair(
     Ok(None)
 }
 
-/// The pairs stand in the page's order, so the page and its text calls are gone through once.
+/// The pairs are in the page's order, so the page and its text calls are gone through once.
 fn first_tangled(
     alloc: Global,
     items: &Items<'_>,

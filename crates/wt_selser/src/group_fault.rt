@@ -16,13 +16,14 @@ ghost use Rattle.wt_visible.specs.Views.{children_view};
 use std::alloc::Global;
 use wt_annotated::unplaced_nodes;
 use wt_build::build_pieces;
+use wt_checks::is_group;
 use wt_inline::PieceTree;
 use wt_isolation::{has_odd_line, has_open_text, pieces_alone};
 use wt_original::{InlineForm, shape};
 use wt_span::{Items, List, NoMemory, Piece};
 use wt_tiles::glyphs_of;
 use wt_tree::{Kind, Node, Ranges, same_data, same_kind};
-use wt_visible::{Child, is_group, shown_nodes, shows_same};
+use wt_visible::{Child, shown_nodes, shows_same};
 
 /// What pieces mean as a page, without places.
 fn nodes_of<'a>(alloc: Global, pieces: &[Piece<'a>]) -> Result<List<Node<'a>>, NoMemory>
@@ -104,7 +105,7 @@ fn is_faulty(alloc: Global, pieces: &[Piece<'_>], group: &Node<'_>) -> Result<bo
     Ok(unended)
 }
 
-/// Whether a group of the page that stands here has a fault.
+/// Whether a group of the page at this place has a fault.
 fn is_faulty_at(
     alloc: Global,
     page: &Items<'_>,

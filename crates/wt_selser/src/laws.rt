@@ -20,7 +20,7 @@ ghost use Rattle.wt_isolation.specs.OpenTags.{before, touches_open_tag};
 ghost use Rattle.wt_selser.specs.Splice.{Change, spliced, AreApart, OutsideStands};
 ghost use Rattle.wt_isolation.specs.TextCalls.{touches_text_call};
 
-/// Where the slices stand in the page one after the other, what stands outside them stands in the
+/// Where the slices lie in the page one after the other, what is outside them is in the
 /// new page byte for byte and in its order, and between it what was written for each slice.
 #[tactic(auto, using(crate::proofs::Outside::outside_stands))]
 pub fn outside_stands()
@@ -43,9 +43,9 @@ pub fn sections_make_no_difference()
 {}
 
 /// The slices of an edit (the insides of nodes marked `content`, the ranges of missing children with their
-/// separators, and the empty places of new ones) stand in the page one after the other, where the page's
+/// separators, and the empty places of new ones) lie in the page one after the other, where the page's
 /// tree tiles it, has its numbers in preorder and holds no body and no section in its body, and the checks
-/// refuse nothing. So every byte of the page outside them stands in the new page, in its order.
+/// refuse nothing. So every byte of the page outside them is in the new page, in its order.
 pub fn edit_is_a_splice()
     ensures apart { (same : Tree → Tree → Bool) (page : List ℕ) (tree edited : Tree) → (label tree).kind ≡ kind.Body → HoldsNoFrame tree → InPreorder tree → Tiled tree
         → Covers (length page) tree → LeavesHoldNoNumber tree → is_body (label edited).kind ≡ true → checked false tree edited ≡ None

@@ -1,5 +1,5 @@
 //! Selective serialisation: the new page of an edited page. Of each block that was marked the inside is
-//! spelled anew, and every other byte stands as it was.
+//! spelled anew, and every other byte stays as it was.
 #![tactic(auto)]
 
 mod body;

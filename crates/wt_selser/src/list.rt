@@ -50,7 +50,7 @@ pub fn sign_of(kind: Kind) -> char
     }
 }
 
-/// Appends an empty slice, and what stands there.
+/// Appends an empty slice, and what is there.
 pub fn push_at(found: &mut Vec<Change>, place: u32, by: Str) -> Result<(), NoMemory>
     ensures { OnOk result (changes_view found.new.items ≡ changes_view found.old.items ++ at_place place by ∷ []) }
 {
@@ -94,7 +94,7 @@ fn first_kept(nodes: &[Node<'_>]) -> usize
     nodes.len()
 }
 
-/// Appends a new item at a place, with a line break behind it.
+/// Appends a new item at a place, with a line break after it.
 fn push_broken(
     alloc: Global,
     found: &mut Vec<Change>,
@@ -129,7 +129,7 @@ fn push_new_before(
     Ok(())
 }
 
-/// Appends the new items before the first kept one, which stands at this place.
+/// Appends the new items before the first kept one, which is at this place.
 fn push_all_new_before(
     alloc: Global,
     found: &mut Vec<Change>,
@@ -149,7 +149,7 @@ fn push_all_new_before(
     Ok(())
 }
 
-/// Where the first item of the page begins that stands before the one with this number.
+/// Where the first of the page's items before the one with this number begins.
 fn first_removed(number: u32, nodes: &[Child<'_, '_>]) -> Option<u32>
     ensures { result ≡ first_removed number (child_views nodes.now) }
 {
@@ -181,7 +181,7 @@ fn push_removed_before(
 
 // ---- from the first kept item on
 
-/// Appends a new item at the end of the item before, behind a line break.
+/// Appends a new item at the end of the item before, after a line break.
 fn push_new(
     alloc: Global,
     found: &mut Vec<Change>,

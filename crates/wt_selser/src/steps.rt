@@ -16,7 +16,7 @@ use wt_tree::Node;
 /// A step along children.
 #[derive(Clone, Copy)]
 pub enum Step<'t, 'a> {
-    /// What stands between the children of the page and stays.
+    /// What is between the children of the page and stays.
     Stays(&'t Node<'a>),
     /// A child of the page that is missing.
     Goes(&'t Node<'a>),
@@ -69,7 +69,7 @@ fn push_passed<'t, 'a>(
     Ok(())
 }
 
-/// Passes the nodes of the page up to the one that a kept child stands for, and that one; it gives how many
+/// Passes the nodes of the page up to the one that a kept child is, and that one; it gives how many
 /// nodes these are.
 fn push_kept<'t, 'a>(
     out: &mut Vec<Step<'t, 'a>>,

@@ -5,6 +5,7 @@ pub mod ChoiceSteps
 pub mod FirstAsked
 pub mod LedgerLaws
 pub mod LevelLaws
+pub mod MeasureLaws
 pub mod NumberedParts
 pub mod PageLaws
 pub mod PartSteps

@@ -33,7 +33,7 @@ use Rattle.wt_template_stack.specs.declared.run.TextRun.{TextRun}
 use Rattle.wt_template_stack.specs.declared.run.StepOutcome.{StepOutcome}
 use Rattle.wt_template_stack.specs.declared.run.StepOutcome.TheVariants as turn
 use Rattle.wt_template_stack.proofs.LevelLaws.{strip}
-use Rattle.wt_template_stack.proofs.LedgerLaws.{Enters, by_none, by_refused, by_then, comes_spent, cost_refuses, enters, link_given, memory_refused, message_given, page_given, page_refused, refused_before, spent_all}
+use Rattle.wt_template_stack.proofs.LedgerLaws.{Enters, by_none, by_refused, by_then, comes_spent, cost_refuses, enters, link_given, message_given, page_given, page_refused, refused_before, spent_all}
 
 -- ---- a text is expanded, step by step
 
@@ -75,16 +75,6 @@ pub step_refused : (pages : Pages) (page t : List ℕ) (r : Reading) (l : Ledger
     → Refuses pages page l all.work answered e
 step_refused pages page t r l all run store spent answered e p h =
     cost_refuses pages page l all.work spent p.met answered p.total e p.before_is p.comes h
-
--- memory is missing on the way
-pub going_refused : (pages : Pages) (page t : List ℕ) (r : Reading) (l : Ledger) (all : Output)
-    (run : TextRun) (store : Store) (spent : ℕ)
-    (answered : Option (List (List ℕ))) → (p : Progress pages page r t l all run store spent answered)
-    → Refuses pages page l all.work answered answer.NoMemory
-going_refused pages page t r l all run store spent answered p =
-    let now = ledger spent p.met answered in
-    by_refused pages page l now all.work p.total.done p.total.left.work answered answer.NoMemory p.comes
-    (memory_refused pages page now p.total.left.work)
 
 pub done : (pages : Pages) (page t : List ℕ) (r : Reading) (l : Ledger) (all : Output) (run : TextRun) (store : Store) (spent now : ℕ)
     (answered : Option (List (List ℕ)))

@@ -3,6 +3,7 @@ pub mod Calls
 pub mod Choosings
 pub mod Ledgers
 pub mod Levels
+pub mod Measures
 pub mod Names
 pub mod Readers
 pub mod Rests

@@ -16,6 +16,7 @@ ghost use Rattle.wt_transclusion.specs.Stores.{IsStore, Concerns, Grows};
 ghost use Rattle.wt_template_stack.specs.Accounts.{undone};
 ghost use Rattle.wt_template_stack.specs.Calls.{IsCallOf, first_end};
 ghost use Rattle.wt_template_stack.specs.Ledgers.{AnswersAdvance, AnswersOutput, Ledger, Progress, TakesStep, ledger, reading_of};
+ghost use Rattle.wt_template_stack.specs.Measures.{steps_left};
 ghost use Rattle.wt_template_stack.specs.Names.{TakesName};
 ghost use Rattle.wt_template_stack.specs.Readers.{IsReading};
 ghost use Rattle.wt_template_stack.specs.Runs.{Holds, page_called};
@@ -143,13 +144,12 @@ impl<'a> Expansion<'a> {
         ensures names { OnOk result (self.new.names ≡ self.old.names) }
     {
         let mut run = run;
-        'steps: for _ in 0..u64::MAX {
+        'steps: loop {
             let turn = run.step(values, &mut self.spent)?;
             if let Some(pieces) = self.advance(folder, &mut run, turn, left)? {
                 return Ok(pieces);
             }
         }
-        Err(ExpandRefusal::NoMemory)
     }
 
     /// What came of a step is done: the page that is called is expanded, or the text has given these
@@ -172,6 +172,7 @@ impl<'a> Expansion<'a> {
         ensures asks { Asks (F.answered folder.old) (F.answered folder.new) (F.most_asked folder.old) (F.most_asked folder.new) }
         ensures count { IsCounted (F.fault_count folder.old) (F.fault_count folder.new) result }
         ensures names { OnOk result (self.new.names ≡ self.old.names) }
+        ensures gets_on { IfOk result (λ x. steps_left run.new ≤ steps_left run.old) }
     {
         match turn {
             StepOutcome::Went => Ok(None),

@@ -4,12 +4,14 @@
 
 mod choosing;
 mod expansion;
+mod laws;
 mod level;
 mod page;
 mod reader;
 mod run;
 
 pub use expansion::{Expansion, OpenPages};
+pub use laws::steps_end;
 pub use level::PendingCall;
 pub use page::{expanded_text, read_page};
 pub use reader::{MOST_BYTES, Reader};

@@ -22,6 +22,7 @@ pub struct Reader<'a> {
 }
 
 impl<'a> Reader<'a> {
+    ghost use Rattle.wt_template_stack.specs.Measures.{bytes_left};
     ghost use Rattle.wt_template_stack.specs.Readers.{IsReading};
 
     /// The start of a text.
@@ -34,24 +35,27 @@ impl<'a> Reader<'a> {
         }
     }
 
-    /// A later place, behind the first byte. A place that the text hasn't is answered as want of
-    /// memory.
+    /// A later place. One that isn't later, or that the text hasn't, is answered as want of memory.
     pub fn seek(self, to: u32) -> Result<Reader<'a>, NoMemory>
-        ensures { IfOk result (λ x. (mode : TextMode) (bytes : List ℕ) (p : ℕ) (s : Bool) → IsReading mode bytes self.entry p s → p ≤ to
+        ensures later { IfOk result (λ x. bytes_left x < bytes_left self.entry) }
+        ensures reading { IfOk result (λ x. (mode : TextMode) (bytes : List ℕ) (p : ℕ) (s : Bool) → IsReading mode bytes self.entry p s → p ≤ to
             → IsReading mode bytes x to (starts bytes to)) }
     {
-        if to == 0 || to as usize > self.text.text.len() {
+        if to <= self.cursor.at || to as usize > self.text.text.len() {
             return Err(NoMemory);
         }
+        let mut cursor = self.cursor.seek(self.text, to);
+        cursor.at = to;
         Ok(Reader {
             text: self.text,
-            cursor: self.cursor.seek(self.text, to),
+            cursor,
         })
     }
 
     /// A later place that stands behind braces, and so at no start of a line.
     pub fn within(self, to: u32) -> Result<Reader<'a>, NoMemory>
-        ensures { IfOk result (λ x. (mode : TextMode) (bytes : List ℕ) (p : ℕ) (s : Bool) → IsReading mode bytes self.entry p s → p ≤ to
+        ensures later { IfOk result (λ x. bytes_left x < bytes_left self.entry) }
+        ensures reading { IfOk result (λ x. (mode : TextMode) (bytes : List ℕ) (p : ℕ) (s : Bool) → IsReading mode bytes self.entry p s → p ≤ to
             → IsReading mode bytes x to false) }
     {
         let reader = self.seek(to)?;

@@ -1,5 +1,5 @@
 //! One text as it is expanded, with levels in place of calls within calls.
-ghost use Rattle.std.specs.Prelude.{◌≡◌, ◌<◌, ◌≤◌, ◌∷◌, ◌++◌, [], ℕ, List, Option, Some, None, Bool, true, false, IfErr, IfOk, OnOk, drop, length, slice_get, slice_range};
+ghost use Rattle.std.specs.Prelude.{◌≡◌, ◌+◌, ◌<◌, ◌≤◌, ◌∷◌, ◌++◌, [], ℕ, List, Option, Some, None, Bool, true, false, IfErr, IfOk, OnOk, drop, length, slice_get, slice_range};
 ghost use Rattle.wt_span.specs.Items.{items, items_of};
 ghost use Rattle.wt_span.specs.Slice.{bytes_of};
 ghost use Rattle.wt_span.specs.Functions.{function_of};
@@ -13,6 +13,7 @@ ghost use Rattle.wt_template_stack.specs.Accounts.{Account, spent_of, undone};
 ghost use Rattle.wt_template_stack.specs.Levels.{IsNamedBy, Resumes};
 ghost use Rattle.wt_template_stack.specs.Stacks.{innermost_end, stack, whole_level};
 ghost use Rattle.wt_template_stack.specs.Rests.{after_page, ended_with, next_number};
+ghost use Rattle.wt_template_stack.specs.Measures.{bytes_left, steps_behind, steps_behind_all, steps_left};
 ghost use Rattle.wt_template_stack.specs.Runs.{AnswersGoing, AnswersTurn, BeginsCall, BeginsLevel, GivesAgain, HandsParts, HasEnded, Holds, IsRunning, Returns, TakesChunk, TakesPart};
 ghost use Rattle.wt_template_stack.specs.declared.level.Task.TheVariants as tasks;
 
@@ -143,6 +144,7 @@ impl<'a> TextRun<'a> {
         ensures answer { (r : Reading) (t : List ℕ) (total : Account) → Holds r t self.old (stack self.old.levels) total → AreValues values.now r.frame
             → spent.old ≡ spent_of total → AnswersTurn r t spent.old total self.new spent.new result }
         ensures fault { IfErr result IsNoFault }
+        ensures gets_on { IfOk result (λ k. steps_left self.new < steps_left self.old) }
     {
         let Some(end) = self.levels.end() else {
             return Err(ExpandRefusal::NoMemory);
@@ -164,6 +166,7 @@ impl<'a> TextRun<'a> {
         ensures answer { (r : Reading) (t : List ℕ) (total : Account) → Holds r t self.old (stack self.old.levels) total
             → innermost_end (stack self.old.levels) ≡ Some end → AnswersGoing r t spent.old total self.new spent.new result }
         ensures fault { IfErr result IsNoFault }
+        ensures gets_on { OnOk result (steps_left self.new < steps_left self.old) }
     {
         match self.reader.next(end) {
             Next::Chunk { kind, to } => {
@@ -179,8 +182,9 @@ impl<'a> TextRun<'a> {
 
     /// Bytes of a lexeme, up to a place.
     fn read_chunk(&mut self, kind: LexKind, to: u32) -> Result<(), NoMemory>
-        ensures { OnOk result ((r : Reading) (t : List ℕ) (total : Account) → TakesChunk r t self.old (stack self.old.levels) kind to total
+        ensures answer { OnOk result ((r : Reading) (t : List ℕ) (total : Account) → TakesChunk r t self.old (stack self.old.levels) kind to total
             → Holds r t self.new (stack self.new.levels) total) }
+        ensures gets_on { OnOk result (steps_left self.new < steps_left self.old) }
     {
         let text = self.reader.slice(self.reader.cursor.at, to)?;
         self.levels.give_some(lexeme_piece(self.mode, kind, text))?;
@@ -190,8 +194,9 @@ impl<'a> TextRun<'a> {
 
     /// The innermost level is read on from a place.
     fn resume(&mut self, to: u32) -> Result<(), NoMemory>
-        ensures { OnOk result ((r : Reading) (t : List ℕ) (total : Account) (p : ℕ) (s : Bool) → IsRunning r t self.old p s → p ≤ to
+        ensures answer { OnOk result ((r : Reading) (t : List ℕ) (total : Account) (p : ℕ) (s : Bool) → IsRunning r t self.old p s → p ≤ to
             → Resumes r t to (starts t to) (just []) (stack self.old.levels) total → Holds r t self.new (stack self.new.levels) total) }
+        ensures gets_on { OnOk result (steps_left self.new < steps_left self.old) }
     {
         self.reader = self.reader.seek(to)?;
         Ok(())
@@ -202,6 +207,7 @@ impl<'a> TextRun<'a> {
         ensures answer { (r : Reading) (t : List ℕ) (total : Account) → BeginsCall r t self.old (stack self.old.levels) call.entry total
             → AnswersGoing r t spent.old total self.new spent.new result }
         ensures fault { IfErr result IsNoFault }
+        ensures gets_on { OnOk result (steps_left self.new < steps_left self.old) }
     {
         if call.argument {
             return self.begin_argument(call, spent);
@@ -225,6 +231,7 @@ impl<'a> TextRun<'a> {
             → call.entry.argument ≡ false → bytes_of source.entry ≡ slice_range t call.entry.at.start call.entry.at.end
             → is_function (bytes_of source.entry) ≡ true → AnswersGoing r t spent.old total self.new spent.new result }
         ensures fault { IfErr result IsNoFault }
+        ensures gets_on { OnOk result (steps_left self.new < steps_left self.old) }
     {
         let Some((function, part_0)) = function_named(source.as_str().as_bytes()) else {
             self.push_function(call, source)?;
@@ -239,10 +246,11 @@ impl<'a> TextRun<'a> {
 
     /// A function stands for itself.
     fn push_function(&mut self, call: Braces<'a>, source: Text<'a>) -> Result<(), NoMemory>
-        ensures { OnOk result ((r : Reading) (t : List ℕ) (total : Account) → BeginsCall r t self.old (stack self.old.levels) call.entry total
+        ensures answer { OnOk result ((r : Reading) (t : List ℕ) (total : Account) → BeginsCall r t self.old (stack self.old.levels) call.entry total
             → call.entry.argument ≡ false → bytes_of source.entry ≡ slice_range t call.entry.at.start call.entry.at.end
             → is_function (bytes_of source.entry) ≡ true → function_of (drop 2 (bytes_of source.entry)) ≡ None
             → Holds r t self.new (stack self.new.levels) total) }
+        ensures gets_on { OnOk result (steps_left self.new < steps_left self.old) }
     {
         self.levels.give_one(piece_of(source, ItemForm::Function))?;
         self.resume(call.at.end)?;
@@ -254,6 +262,7 @@ impl<'a> TextRun<'a> {
         ensures answer { (r : Reading) (t : List ℕ) (total : Account) → BeginsCall r t self.old (stack self.old.levels) call.entry total
             → call.entry.argument ≡ true → AnswersGoing r t spent.old total self.new spent.new result }
         ensures fault { IfErr result IsNoFault }
+        ensures gets_on { OnOk result (steps_left self.new < steps_left self.old) }
     {
         charge(spent, 1)?;
         let name = first_part(call)?;
@@ -263,9 +272,10 @@ impl<'a> TextRun<'a> {
 
     /// The target of a call of two braces is read.
     fn begin_target(&mut self, call: Braces<'a>) -> Result<(), NoMemory>
-        ensures { OnOk result ((r : Reading) (t : List ℕ) (total : Account) → BeginsCall r t self.old (stack self.old.levels) call.entry total
+        ensures answer { OnOk result ((r : Reading) (t : List ℕ) (total : Account) → BeginsCall r t self.old (stack self.old.levels) call.entry total
             → call.entry.argument ≡ false → is_function (slice_range t call.entry.at.start call.entry.at.end) ≡ false
             → Holds r t self.new (stack self.new.levels) total) }
+        ensures gets_on { OnOk result (steps_left self.new < steps_left self.old) }
     {
         let at_start = self.reader.cursor.at_start;
         let target = first_part(call)?;
@@ -275,8 +285,9 @@ impl<'a> TextRun<'a> {
 
     /// A part is read that begins behind braces.
     fn begin_within(&mut self, part: PartAt, task: Task<'a>) -> Result<(), NoMemory>
-        ensures { OnOk result ((r : Reading) (t : List ℕ) (total : Account) → BeginsLevel r t self.old part.at.start false part.at.end task.entry total
+        ensures answer { OnOk result ((r : Reading) (t : List ℕ) (total : Account) → BeginsLevel r t self.old part.at.start false part.at.end task.entry total
             → Holds r t self.new (stack self.new.levels) total) }
+        ensures gets_on { OnOk result ((bytes_left self.new.reader < bytes_left self.old.reader) × (steps_behind_all (stack self.new.levels) ≡ steps_behind task.entry + steps_behind_all (stack self.old.levels))) }
     {
         self.reader = self.reader.within(part.at.start)?;
         self.levels.push(Level {
@@ -289,8 +300,9 @@ impl<'a> TextRun<'a> {
 
     /// What stands between two places is read.
     fn begin_level(&mut self, at: u32, end: u32, task: Task<'a>) -> Result<(), NoMemory>
-        ensures { OnOk result ((r : Reading) (t : List ℕ) (total : Account) → BeginsLevel r t self.old at (starts t at) end task.entry total
+        ensures answer { OnOk result ((r : Reading) (t : List ℕ) (total : Account) → BeginsLevel r t self.old at (starts t at) end task.entry total
             → Holds r t self.new (stack self.new.levels) total) }
+        ensures gets_on { OnOk result ((bytes_left self.new.reader < bytes_left self.old.reader) × (steps_behind_all (stack self.new.levels) ≡ steps_behind task.entry + steps_behind_all (stack self.old.levels))) }
     {
         self.reader = self.reader.seek(at)?;
         self.levels.push(Level {
@@ -312,6 +324,7 @@ impl<'a> TextRun<'a> {
         ensures answer { (r : Reading) (t : List ℕ) (total : Account) → HasEnded r t self.old task.entry out.entry total → AreValues values.now r.frame
             → spent.old ≡ spent_of total → AnswersTurn r t spent.old total self.new spent.new result }
         ensures fault { IfErr result IsNoFault }
+        ensures gets_on { IfOk result (λ k. steps_left self.new < steps_behind task.entry + steps_left self.old) }
     {
         match task {
             Task::Whole => Ok(StepOutcome::Done(out)),
@@ -354,8 +367,9 @@ impl<'a> TextRun<'a> {
 
     /// Gives pieces to the level round a call that ends at a place.
     fn give_free(&mut self, to: u32, out: &[Piece<'a>]) -> Result<(), NoMemory>
-        ensures { OnOk result ((r : Reading) (t : List ℕ) (total : Account) → Returns r t self.old to (just (items out.now)) total
+        ensures answer { OnOk result ((r : Reading) (t : List ℕ) (total : Account) → Returns r t self.old to (just (items out.now)) total
             → Holds r t self.new (stack self.new.levels) total) }
+        ensures gets_on { OnOk result (steps_left self.new < steps_left self.old) }
     {
         self.levels.give(out)?;
         self.resume(to)?;
@@ -367,6 +381,7 @@ impl<'a> TextRun<'a> {
         ensures answer { (r : Reading) (t : List ℕ) (total : Account) → Returns r t self.old to (ended_with (just (items out.now))) total
             → AnswersGoing r t spent.old total self.new spent.new result }
         ensures fault { IfErr result IsNoFault }
+        ensures gets_on { OnOk result (steps_left self.new < steps_left self.old) }
     {
         charge(spent, byte_count(out))?;
         self.give_free(to, out)?;
@@ -384,6 +399,7 @@ impl<'a> TextRun<'a> {
         ensures answer { (r : Reading) (t : List ℕ) (total : Account) → HasEnded r t self.old (tasks.Argument call.entry) out.entry total
             → AreValues values.now r.frame → AnswersGoing r t spent.old total self.new spent.new result }
         ensures fault { IfErr result IsNoFault }
+        ensures gets_on { OnOk result (steps_left self.new < 1 + steps_left self.old) }
     {
         let name = name_text(self.alloc, out.as_slice())?;
         if let Some(value) = values.get(name.as_str()) {
@@ -407,6 +423,7 @@ impl<'a> TextRun<'a> {
         ensures answer { (r : Reading) (t : List ℕ) (total : Account) → HasEnded r t self.old (tasks.Told choosing.entry) out.entry total
             → spent.old ≡ spent_of total → AnswersGoing r t spent.old total self.new spent.new result }
         ensures fault { IfErr result IsNoFault }
+        ensures gets_on { OnOk result (steps_left self.new < steps_behind (tasks.Told choosing.entry) + steps_left self.old) }
     {
         let text = name_text(self.alloc, out.as_slice())?;
         let Choosing {
@@ -463,6 +480,7 @@ impl<'a> TextRun<'a> {
         ensures answer { (r : Reading) (t : List ℕ) (total : Account) → GivesAgain r t self.old call.entry at_start before out.entry total
             → spent.old ≡ spent_of total → AnswersGoing r t spent.old total self.new spent.new result }
         ensures fault { IfErr result IsNoFault }
+        ensures gets_on { OnOk result (steps_left self.new < steps_left self.old) }
     {
         charge(spent, spent.saturating_sub(before))?;
         self.end_given(call, at_start, out, spent)
@@ -479,6 +497,7 @@ impl<'a> TextRun<'a> {
         ensures answer { (r : Reading) (t : List ℕ) (total : Account) → HasEnded r t self.old (tasks.Given call.entry at_start) out.entry total
             → AnswersGoing r t spent.old total self.new spent.new result }
         ensures fault { IfErr result IsNoFault }
+        ensures gets_on { OnOk result (steps_left self.new < steps_left self.old) }
     {
         let out = trimmed_items(self.alloc, out.as_slice())?;
         let out = with_break(self.alloc, at_start, out)?;
@@ -496,6 +515,7 @@ impl<'a> TextRun<'a> {
         ensures answer { (r : Reading) (t : List ℕ) (total : Account) → HasEnded r t self.old (tasks.Target call.entry at_start) out.entry total
             → AnswersTurn r t spent.old total self.new spent.new result }
         ensures fault { IfErr result IsNoFault }
+        ensures gets_on { IfOk result (λ k. steps_left self.new < 2 + steps_left self.old) }
     {
         let Some(title) = title_of_target(self.alloc, out.as_slice())? else {
             self.begin_text(call, out)?;
@@ -510,8 +530,9 @@ impl<'a> TextRun<'a> {
     /// A call turns out to be text: its braces are characters, and what stands behind its target is
     /// read on.
     fn begin_text(&mut self, call: Braces<'a>, out: List<Piece<'a>>) -> Result<(), NoMemory>
-        ensures { OnOk result ((r : Reading) (t : List ℕ) (total : Account) (s : Bool) → HasEnded r t self.old (tasks.Target call.entry s) out.entry total
+        ensures answer { OnOk result ((r : Reading) (t : List ℕ) (total : Account) (s : Bool) → HasEnded r t self.old (tasks.Target call.entry s) out.entry total
             → title_of_target (items out.entry) ≡ None → Holds r t self.new (stack self.new.levels) total) }
+        ensures gets_on { OnOk result (steps_left self.new ≡ 1 + steps_left self.old) }
     {
         let target = first_part(call)?;
         let front = self.reader.slice(call.at.start, target.at.start)?;
@@ -530,8 +551,9 @@ impl<'a> TextRun<'a> {
 
     /// The last braces of a call that is text.
     fn end_text(&mut self, call: Braces<'a>, out: List<Piece<'a>>) -> Result<(), NoMemory>
-        ensures { OnOk result ((r : Reading) (t : List ℕ) (total : Account) → HasEnded r t self.old (tasks.Text call.entry) out.entry total
+        ensures answer { OnOk result ((r : Reading) (t : List ℕ) (total : Account) → HasEnded r t self.old (tasks.Text call.entry) out.entry total
             → Holds r t self.new (stack self.new.levels) total) }
+        ensures gets_on { OnOk result (steps_left self.new < steps_left self.old) }
     {
         let back = self.reader.slice(self.reader.cursor.at, call.at.end)?;
         let mut out = out;
@@ -542,7 +564,8 @@ impl<'a> TextRun<'a> {
 
     /// The next part of a call is read; where none is left, its page is called.
     pub fn next_part(&mut self, pending: PendingCall<'a>) -> Result<StepOutcome<'a>, NoMemory>
-        ensures { IfOk result (λ k. (r : Reading) (t : List ℕ) (total : Account) → HandsParts r t self.old pending.entry total → TakesPart r t total self.new k) }
+        ensures answer { IfOk result (λ k. (r : Reading) (t : List ℕ) (total : Account) → HandsParts r t self.old pending.entry total → TakesPart r t total self.new k) }
+        ensures gets_on { IfOk result (λ k. steps_left self.new ≤ steps_left self.old) }
     {
         if pending.part < pending.call.parts.len() {
             let part = pending.call.parts[pending.part];
@@ -555,8 +578,9 @@ impl<'a> TextRun<'a> {
     /// A part of a call is read: its name, or its value where it has none.
     fn begin_part(&mut self, pending: PendingCall<'a>, part: PartAt) -> Result<(), NoMemory>
         requires { pending.part < length pending.call.parts.now }
-        ensures { OnOk result ((r : Reading) (t : List ℕ) (total : Account) → HandsParts r t self.old pending.entry total
+        ensures answer { OnOk result ((r : Reading) (t : List ℕ) (total : Account) → HandsParts r t self.old pending.entry total
             → slice_get pending.entry.call.parts.now pending.entry.part ≡ Some part → Holds r t self.new (stack self.new.levels) total) }
+        ensures gets_on { OnOk result (steps_left self.new ≤ steps_left self.old) }
     {
         let mut pending = pending;
         pending.part += 1;
@@ -577,8 +601,9 @@ impl<'a> TextRun<'a> {
         end: u32,
         out: List<Piece<'a>>,
     ) -> Result<(), NoMemory>
-        ensures { OnOk result ((r : Reading) (t : List ℕ) (total : Account) → HasEnded r t self.old (tasks.Name pending.entry end) out.entry total
+        ensures answer { OnOk result ((r : Reading) (t : List ℕ) (total : Account) → HasEnded r t self.old (tasks.Name pending.entry end) out.entry total
             → Holds r t self.new (stack self.new.levels) total) }
+        ensures gets_on { OnOk result (steps_left self.new < 1 + steps_left self.old) }
     {
         let name = Some(name_text(self.alloc, out.as_slice())?);
         let Some(at) = self.reader.cursor.at.checked_add(1) else {
@@ -595,8 +620,9 @@ impl<'a> TextRun<'a> {
         name: Option<String>,
         out: List<Piece<'a>>,
     ) -> Result<StepOutcome<'a>, NoMemory>
-        ensures { IfOk result (λ k. (r : Reading) (t : List ℕ) (total : Account) → HasEnded r t self.old (tasks.Value pending.entry name) out.entry total
+        ensures answer { IfOk result (λ k. (r : Reading) (t : List ℕ) (total : Account) → HasEnded r t self.old (tasks.Value pending.entry name) out.entry total
             → TakesPart r t total self.new k) }
+        ensures gets_on { IfOk result (λ k. steps_left self.new < 1 + steps_left self.old) }
     {
         let mut pending = pending;
         put_value(self.alloc, &mut pending.handed, name, out)?;
@@ -616,6 +642,7 @@ impl<'a> TextRun<'a> {
             → Returns r t self.old call.entry.at.end (after_page at_start (just (items given.entry))) total
             → AnswersGoing r t spent.old total self.new spent.new result }
         ensures fault { IfErr result IsNoFault }
+        ensures gets_on { OnOk result (steps_left self.new < steps_left self.old) }
     {
         let out = with_break(self.alloc, at_start, given)?;
         self.give(call.at.end, out.as_slice(), spent)

@@ -12,7 +12,7 @@ abbrev pub text_in : Label → List ℕ → Trees
 text_in t [] = none
 text_in t (b ∷ bs) = more (tree (record t { kind = kind.Text; id = 0; shown = b ∷ bs; mark = marks.Nothing }) none) none
 
--- Of the body, the paragraph and the text all else may be anything: where they say that they stand in the page, and their source.
+-- Of the body, the paragraph and the text all else may be anything: where they say that they are in the page, and their source.
 abbrev pub sent : Label → Label → Label → List ℕ → Tree
 sent b p t text =
     tree (record b { kind = kind.Body; id = 0; attrs = []; mark = marks.Nothing })

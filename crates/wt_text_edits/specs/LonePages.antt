@@ -38,7 +38,7 @@ page_of xs = inner (plain kind.Body) [] (further (para_of xs) nothing) []
 
 -- ---- its tree
 
--- a node that stands for the whole page, without delimiters
+-- a node whose range is the whole page, without delimiters
 abbrev pub whole_label : Kind → ℕ → ℕ → List ℕ → Label
 whole_label k number size text = record {
   kind = k;

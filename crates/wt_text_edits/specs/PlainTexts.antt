@@ -1,4 +1,4 @@
--- Text with which nothing begins in wikitext: it stands in a page as it was typed.
+-- Text with which nothing begins in wikitext: it stays in a page as it was typed.
 use Rattle.std.specs.Prelude.{◌≡◌, ℕ, ◌==◌, ◌&&◌, ◌||◌, Bool, true, false, not, List, [], ◌∷◌, map}
 use Rattle.std.specs.List.{list_all}
 use Rattle.std.specs.Str.{chars, IsUtf8}
@@ -23,7 +23,7 @@ are_as_typed before (c ∷ cs) = not (is_escaped false place.Paragraph (map lett
 abbrev pub begins_text : ℕ → Bool
 begins_text c = not (line_start_hazard c || c == byte.line_break)
 
--- Each line begins with such a character, so that none is empty. `start` tells whether a line begins here.
+-- Each line begins with such a character, so that none is empty. `start` says whether a line begins here.
 abbrev pub are_text_lines : Bool → List ℕ → Bool
 are_text_lines start [] = not start
 are_text_lines start (c ∷ cs) = (not start || begins_text c) && are_text_lines (c == byte.line_break) cs

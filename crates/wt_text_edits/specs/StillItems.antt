@@ -9,12 +9,12 @@ use Rattle.wt_tiles.specs.declared.glyph.Glyph.{Glyph}
 use Rattle.wt_tiles.specs.declared.glyph.Glyph.TheVariants as glyph
 use Rattle.wt_tiles.specs.Glyphs.{glyph_of, is_in, begins}
 
--- a letter or `/` stands first, which would make a tag of a `<`
+-- a letter or `/` is first, which would make a tag of a `<`
 abbrev pub starts_tag : List Glyph → Bool
 starts_tag [] = false
 starts_tag (g ∷ gs) = is_in (λ c. is_ascii_alphabetic c || c == byte.slash) g
 
--- by what follows: no link, tag, switch or address begins here, and no second apostrophe stands behind one
+-- by what follows: no link, tag, switch or address begins here, and no second apostrophe comes after one
 pub record IsStill (b : ℕ) (gs : List Glyph) : Type 0 where
   pub bracket : (b == byte.opening_bracket) ≡ false
   pub tag : ((b == byte.less_than) && starts_tag gs) ≡ false

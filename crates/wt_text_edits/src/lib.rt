@@ -48,7 +48,7 @@ pub fn typed_text_is_still()
     ensures shows { (s : Setting) (text : List ℕ) → IsUtf8 text → flat_map shown_item (page_items (spelled s (letters text))) ≡ text }
 {}
 
-/// Plain text is spelled as it stands: `edit` puts no `<nowiki/>` into it and writes no character as a
+/// Plain text is spelled as it is: `edit` puts no `<nowiki/>` into it and writes no character as a
 /// reference, whatever the source of its paragraph was.
 #[tactic(auto, using(crate::proofs::PlainSpelling::plain_spelled))]
 pub fn plain_text_stands()
@@ -81,7 +81,7 @@ pub fn lone_paragraph_takes_text()
         → answer_told (Some pages) (Some input) words ≡ Some (done text) }
 {}
 
-/// Characters, references and nowikis among which nothing begins stand in every context as they are: no
+/// Characters, references and nowikis among which nothing begins stay in every context as they are: no
 /// link, tag, style or switch is made of them.
 #[tactic(auto, using(crate::proofs::StillLines::still_within))]
 pub fn still_text_is_text()

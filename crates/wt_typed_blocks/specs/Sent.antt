@@ -1,4 +1,4 @@
--- What an editor sends for the children of a page's body: each as it stands, or a paragraph or heading in which a text was typed.
+-- What an editor sends for the children of a page's body: each as it is, or a paragraph or heading in which a text was typed.
 use Rattle.std.specs.Prelude.{◌≡◌, ◌≢◌, ℕ, List, [], ◌∷◌}
 use Rattle.wt_tree.specs.declared.kind.Kind.{Kind}
 use Rattle.wt_tree.specs.declared.kind.Kind.TheVariants as kind
@@ -8,10 +8,10 @@ use Rattle.wt_tree.specs.Kinds.{showing}
 use Rattle.wt_tree.specs.Plain.{Plains, ended, along, element, face, text_before, plain_before}
 use Rattle.wt_tree.specs.Tree.{Label, Tree, tree, Trees, none, more}
 
--- ---- a node that is sent as it stands
+-- ---- a node that is sent as it is
 
--- It is of the page's kind, with its number, its attributes, its data and, where it shows characters, with these, and no mark stands on it.
--- Where it says that it stands, and its source, may be anything.
+-- It is of the page's kind, with its number, its attributes, its data and, where it shows characters, with these, and no mark is on it.
+-- Where it says that it is, and its source, may be anything.
 pub record IsSentAsIs (l m : Label) : Type 0 where
   pub kind : m.kind ≡ l.kind
   pub id : m.id ≡ l.id
@@ -49,7 +49,7 @@ text_in x (b ∷ bs) = more (tree (record x { kind = kind.Text; id = 0; shown = 
 
 -- ---- a child of the body
 
--- One that stands, in the page and as it is sent; or a block of the page with this label and these children, for which a block with the next
+-- One that stays, in the page and as it is sent; or a block of the page with this label and these children, for which a block with the next
 -- label is sent, marked, and in it this text with the last one.
 pub data Sent : Type 0 where
   stands : Tree → Tree → Sent
@@ -73,7 +73,7 @@ abbrev pub new_children : List Sent → Trees
 new_children [] = none
 new_children (s ∷ ss) = more (new_child s) (new_children ss)
 
--- What stands is sent as it is, and a block in which a text was typed has a number.
+-- What stays is sent as it is, and a block in which a text was typed has a number.
 abbrev pub IsSent : Sent → Type 0
 IsSent (stands t u) = StandsAsIs t u
 IsSent (typed k l ts m x text) = l.id ≢ 0
@@ -94,7 +94,7 @@ new_body l b ss = tree (record b { kind = kind.Body; id = 0; attrs = l.attrs; ma
 
 -- ---- what it shows
 
--- a child that stands shows what it does in the page, and a block in which a text was typed this text
+-- a child that stays shows what it does in the page, and a block in which a text was typed this text
 abbrev pub shows_before : Sent → Plains → Plains
 shows_before (stands t u) rest = plain_before t rest
 shows_before (typed k l ts m x text) rest = along (element (face (record l { kind = kind_of k })) (text_before text ended)) rest

@@ -22,7 +22,7 @@ place_of (heading n) = place.Heading
 abbrev pub block_source : Label → Trees → List ℕ
 block_source l ts = l.opening ++ flat_of_all ts ++ l.closing
 
--- What stands in the new page for a child of the body: its source, or the text, spelled as the content of its block, between the block's
+-- What is in the new page for a child of the body: its source, or the text, spelled as the content of its block, between the block's
 -- delimiters.
 abbrev pub new_source : Sent → List ℕ
 new_source (stands t u) = flat t
@@ -45,7 +45,7 @@ TakeTexts [] = Unit {0}
 TakeTexts (stands t u ∷ ss) = TakeTexts ss
 TakeTexts (typed k l ts m x text ∷ ss) = Takes k text × TakeTexts ss
 
--- Each block in which a text was typed tells where it stands in the page, where the children stand one after the other from this place on.
+-- Each block in which a text was typed says where it is in the page, where the children lie one after the other from this place on.
 abbrev pub StandAt : ℕ → List Sent → Type 0
 StandAt at [] = Unit {0}
 StandAt at (stands t u ∷ ss) = StandAt (at + length (flat t)) ss

@@ -1,4 +1,4 @@
--- The same without marks, as a browser sends it: what was typed is told by the difference from the page.
+-- The same without marks, as a browser sends it: what was typed is found by the difference from the page.
 use Rattle.std.specs.Prelude.{◌≡◌, false, List, [], ◌∷◌}
 use Rattle.wt_tree.specs.declared.kind.Kind.TheVariants as kind
 use Rattle.wt_tree.specs.Tree.{Label, Tree, tree, Trees, none, more}
@@ -18,7 +18,7 @@ free_children (s ∷ ss) = more (free_child s) (free_children ss)
 abbrev pub free_body : Label → Label → List Sent → Tree
 free_body l b ss = tree (record b { kind = kind.Body; id = 0; attrs = l.attrs; mw = l.mw }) (free_children ss)
 
--- What stands is the page's own in all that the difference looks at, and each text that was typed is another one than what the block held.
+-- What stays is the page's own in all that the difference looks at, and each text that was typed is another one than what the block held.
 abbrev pub AreToldApart : List Sent → Type 0
 AreToldApart [] = Unit {0}
 AreToldApart (stands t u ∷ ss) = IsUnedited t u × AreToldApart ss

@@ -1,4 +1,4 @@
-//! Laws of edits that type texts in blocks of a page and send the others as they stand.
+//! Laws of edits that type texts in blocks of a page and send the others as they are.
 #![tactic(auto)]
 
 ghost use Rattle.std.specs.Prelude.{◌≡◌, ◌≤◌, ℕ, List, length, Bool, false, None, Ok};
@@ -20,7 +20,7 @@ ghost use Rattle.wt_typed_blocks.specs.Typed.{new_sources, TakeTexts, StandAt, A
 ghost use Rattle.wt_typed_blocks.specs.Unmarked.{free_body, AreToldApart};
 
 /// Where texts were typed in some paragraphs and headings of a body without groups, and all else is sent as it
-/// stands, no check refuses it.
+/// is, no check refuses it.
 #[tactic(auto, using(crate::proofs::SentKept::passes))]
 pub fn typed_texts_pass_the_checks()
     ensures { (l b : Label) (ss : List Sent) → InPreorder (old_body l ss) → NoneIsGroup (old_children ss) → have_frame (old_children ss) ≡ false
@@ -50,7 +50,7 @@ pub fn typed_texts_are_shown()
         → shown_children (restored_from tree (new_body l b ss)) ≡ listed (all_show ss) }
 {}
 
-/// Without marks, as a browser sends it, the difference tells what was typed: of a page in sections, too, it marks
+/// Without marks, as a browser sends it, the difference finds what was typed: of a page in sections, too, it marks
 /// each of these blocks, and nothing else, where each text is another one than what the block held, and all else is
 /// the page's own.
 #[tactic(auto, using(crate::proofs::SentUnmarked::told_by_difference))]

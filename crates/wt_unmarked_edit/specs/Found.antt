@@ -27,12 +27,12 @@ use Rattle.wt_unmarked_edit.specs.declared.refusal.SelserRefusal.TheVariants as 
 -- ---- a new page
 
 -- A new page that was proposed: the page with places of the difference, and nothing else, written anew; and the comments and include
--- tags that the edited tree still has stand in it.
+-- tags that the edited tree still has are in it.
 pub record IsProposed (pages : Pages) (page : List ℕ) (t u : Tree) (new : List ℕ) : Type 0 where
   pub rewritten : IsRewritten page t u new
   pub keeps : KeepsMarks (page_tree pages new) t u
 
--- A new page is one that was proposed; where nothing differs, which `same` tells, the page as it is; or what `edit` makes of the marks of
+-- A new page is one that was proposed; where nothing differs, which `same` says, the page as it is; or what `edit` makes of the marks of
 -- the difference.
 abbrev pub IsMade : Pages → Expanded → List ℕ → Tree → Tree → Bool → List ℕ → Type 0
 IsMade pages items page t u same new =
@@ -66,7 +66,7 @@ IsFaultOf pages t u new fault.TooLong = PAGE_BYTES < length new
 IsFaultOf pages t u new fault.Expansion = (e : ExpandRefusal) × IsRefusedAs pages t u new (of_edit.NewExpansion e)
 IsFaultOf pages t u new (fault.Block child) = IsRefusedAs pages t u new (of_edit.Unspelled child)
 
--- It doesn't read back, or it shows the same, and has lost a comment or an include tag. Where none was found to try, that is told as the
+-- It doesn't read back, or it shows the same, and has lost a comment or an include tag. Where none was found to try, that is reported as the
 -- last.
 abbrev pub FailsAs : Pages → Tree → Tree → Option (List ℕ) → Fault → Type 0
 FailsAs pages t u None why = why ≡ fault.Block 0
@@ -136,7 +136,7 @@ FindsNone pages items page t u same refusal.NoMemory = ⊤
 
 -- ---- the answer
 
--- Of an expanded page with this tree, for an edited tree with the marks of the difference; `same` tells that there is none.
+-- Of an expanded page with this tree, for an edited tree with the marks of the difference; `same` says that there is none.
 abbrev pub FindsNew : Pages → Expanded → List ℕ → Tree → Tree → Bool → Result (List ℕ) SelserRefusal → Type 0
 FindsNew pages items page t u same (Ok new) = IsNewPage pages items page t u same new
 FindsNew pages items page t u same (Err r) = FindsNone pages items page t u same r

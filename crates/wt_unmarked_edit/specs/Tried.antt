@@ -45,7 +45,7 @@ device_fault of_expansion.NoMemory = Some NoMemory
 
 -- ---- an edited tree beside the page's
 
--- it has the marks of the difference; whether there is none is told, and the first check that refuses a node
+-- it has the marks of the difference; whether there is none, and the first check that refuses a node
 pub record IsBeside (t edited : Tree) (c : Beside) : Type 0 where
   pub marked : view c.edited ≡ remarked t edited
   pub same : c.same ≡ are_none (difference t edited)

@@ -43,7 +43,7 @@ pub struct EditedPage<'p, 'a> {
     pub page: &'p str,
     /// Its tree.
     pub tree: &'p Node<'a>,
-    /// The body, and behind it the nodes of its tree by their numbers.
+    /// The body, and after it the nodes of its tree by their numbers.
     pub index: &'p [Visit<'p, 'a>],
     /// Its items.
     pub items: &'p Items<'a>,

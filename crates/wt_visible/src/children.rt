@@ -3,7 +3,6 @@
 ghost use Rattle.std.specs.Prelude.{◌≡◌, [], IfOk, OnOk};
 ghost use Rattle.wt_tree.specs.declared.node.Node.{out-Node};
 ghost use Rattle.wt_tree.specs.Plain.{Plains, along, ended, plain_before, plains_before, text_before};
-ghost use Rattle.wt_tree.specs.Tiling.{is_group};
 ghost use Rattle.wt_tree.specs.View.{view, views};
 ghost use Rattle.wt_checks.specs.View.{indexed};
 ghost use Rattle.wt_visible.specs.Children.{closed, listed};
@@ -13,9 +12,9 @@ ghost use Rattle.wt_visible.specs.Views.{Adds, children_view, held_view, node_vi
 use crate::shown_node::ShownNode;
 use std::alloc::Global;
 use std::mem;
-use wt_checks::{Visit, original};
+use wt_checks::{Visit, is_group, original};
 use wt_span::{NoMemory, front_of};
-use wt_tree::{Kind, Node, Showing};
+use wt_tree::{Node, Showing};
 
 /// A child of a body as it is shown: an element, or texts that stand next to each other.
 #[derive(Drop)]
@@ -104,16 +103,6 @@ fn push_all_shown<'p, 't, 'a>(
         push_shown(alloc, page, shown, node)?;
     }
     Ok(())
-}
-
-/// Whether a node is a group.
-pub fn is_group(kind: Kind) -> bool
-    ensures { result ≡ is_group kind }
-{
-    match kind {
-        Kind::Group => true,
-        _ => false,
-    }
 }
 
 /// What a group of the edited tree holds: the nodes of the page's group of its number, where there is one.

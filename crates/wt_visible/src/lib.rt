@@ -9,7 +9,7 @@ mod laws;
 mod shown_node;
 mod tally;
 
-pub use children::{Child, held_nodes, is_group, shown_nodes};
+pub use children::{Child, held_nodes, shown_nodes};
 pub use compare::{first_of_children, shows_same};
 pub use kept_marks::keeps_marks;
 pub use laws::{differing_is_first, marks_show_nothing, nodes_are_told};

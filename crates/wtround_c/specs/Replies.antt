@@ -13,13 +13,13 @@ pub record Told : Type 0 where
   pub line : List ℕ
   pub missing : List ℕ
 
--- A run whose names the table has all is told as it ended. Of any other one the names are told that the table hasn't, and
+-- Of a run whose names the table has all, the caller gets how it ended; of any other, the names that the table hasn't, and
 -- nothing else: its answer is that of a wiki in which these pages are absent.
 abbrev pub told_by : ℕ → List ℕ → List ℕ → List ℕ → Told
 told_by status out line [] = record { status = status; out = out; line = line; missing = [] }
 told_by status out line (byte ∷ bytes) = record { status = MISSING; out = []; line = []; missing = byte ∷ bytes }
 
--- what is told of a call with these words over this input and the entries of a table
+-- what the caller gets of a call with these words over this input and the entries of a table
 pub record IsToldOver (words : List (List ℕ)) (input : List ℕ) (entries : Entries) (told : Told) : Type 0 where
   pub ended : ℕ
   pub out : List ℕ
@@ -34,7 +34,7 @@ IsTold words input table told = IsToldOver (words_of words) input (entry_of tabl
 
 -- ---- rooms
 
--- a room of the caller before and after, and the length that is told beside it
+-- a room of the caller before and after, and the length that is given beside it
 pub record Room : Type 0 where
   pub before : List ℕ
   pub after : List ℕ
@@ -46,19 +46,19 @@ room before after needed = record { before = before; after = after; needed = nee
 abbrev pub fits : List ℕ → Room → Bool
 fits text r = nat_le (length text) (length r.before)
 
--- the text stands at the front of the room, and what was behind it stands there still
+-- the text is at the front of the room, and what was after it is still there
 abbrev pub IsPut : List ℕ → Room → Type 0
 IsPut text r = r.after ≡ text ++ drop (length text) r.before
 
--- Where each text fits its room, all are put there, and the call ends as told; else no room is written, and the call ends with
--- `SHORT`. The lengths that are told are those of the texts, in either case.
+-- Where each text fits its room, all are put there, and the call ends so; else no room is written, and the call ends with
+-- `SHORT`. The lengths that are given are those of the texts, in either case.
 abbrev pub PutBy : Bool → Told → Room → Room → Room → ℕ → Type 0
 PutBy true told out line missing status =
     (status ≡ told.status) × IsPut told.out out × IsPut told.line line × IsPut told.missing missing
 PutBy false told out line missing status =
     (status ≡ SHORT) × (out.after ≡ out.before) × (line.after ≡ line.before) × (missing.after ≡ missing.before)
 
--- nothing is told of a text, and its room is as it was
+-- nothing is given of a text, and its room is as it was
 abbrev pub IsLeftAlone : Room → Type 0
 IsLeftAlone r = (r.needed ≡ 0) × (r.after ≡ r.before)
 

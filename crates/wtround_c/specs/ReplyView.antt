@@ -1,4 +1,4 @@
--- What the code keeps of a reply, as what is told.
+-- What the code keeps of a reply, as what the caller gets.
 use Rattle.wtround_c.specs.declared.reply.Reply.{Reply}
 use Rattle.wtround_c.specs.Replies.{Told}
 

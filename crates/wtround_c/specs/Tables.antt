@@ -14,7 +14,7 @@ Entries = List ℕ → Option Page
 abbrev pub entry_of : List Page → Entries
 entry_of table name = find (λ page. bytes_eq page.name.now name) table
 
--- what stands under the name of an entry, by its state: 1 says that its text does
+-- what is under the name of an entry, by its state: 1 says that its text does
 abbrev pub text_by : ℕ → List ℕ → Option (List ℕ)
 text_by zero text = None
 text_by (suc zero) text = Some text
@@ -33,7 +33,7 @@ or_else entries page name = option_or (entries name) (entry_of (page ∷ []) nam
 
 -- ---- names that the table hasn't
 
--- a name with a zero byte behind it, where the table has no entry of it
+-- a name with a zero byte after it, where the table has no entry of it
 abbrev pub missing_name : Entries → List ℕ → List ℕ
 missing_name entries name = if is_none (entries name) then name ++ 0 ∷ [] else []
 

@@ -51,7 +51,7 @@ impl<'i, 'p> TableFolder<'i, 'p> {
         self.answered.as_slice()
     }
 
-    /// What stands under a name, cut to its first `most` bytes.
+    /// What is under a name, cut to its first `most` bytes.
     fn look(&self, alloc: Global, name: &str, most: usize) -> Result<Fetched, FetchRefusal>
         ensures { IfOk result (λ f. page_of f
             ≡ option_map (take most) (pages_of (entries_of self.now.index.now) name.now)) }

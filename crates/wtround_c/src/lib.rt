@@ -28,7 +28,7 @@ use wt_pagetool::Status;
 ///
 /// What `run` of `wt_pagetool` writes to its two sinks is put into `out` and `line`, and the result is its
 /// status. Where it asked for pages that the table hasn't, these are put into `missing` instead, each name
-/// with a zero byte behind it, and the result is `MISSING`. The three lengths are those of the three
+/// with a zero byte after it, and the result is `MISSING`. The three lengths are those of the three
 /// texts; where one is longer than its room, nothing is put anywhere, and the result is `SHORT`. Want of
 /// memory may be the answer to any call; where it comes before or after `run`, the lengths are 0.
 #[unsafe(no_mangle)]

@@ -6,7 +6,7 @@ use crate::index::Index;
 use std::alloc::Global;
 use wt_span::{List, NoMemory, Str};
 
-/// Appends a name, with a zero byte behind it, where the table has no entry of it.
+/// Appends a name, with a zero byte after it, where the table has no entry of it.
 fn add_missing(index: &Index, name: &str, out: &mut List<u8>) -> Result<(), NoMemory>
     ensures { OnOk result (out.new ≡ out.old ++ missing_name (entries_of index.now) name.now) }
 {
@@ -17,7 +17,7 @@ fn add_missing(index: &Index, name: &str, out: &mut List<u8>) -> Result<(), NoMe
     Ok(())
 }
 
-/// Those of these names that the table hasn't, each with a zero byte behind it.
+/// Those of these names that the table hasn't, each with a zero byte after it.
 pub fn missing_names(alloc: Global, index: &Index, names: &[Str]) -> Result<List<u8>, NoMemory>
     ensures { IfOk result (λ bytes. bytes ≡ missing_names (entries_of index.now) names.now) }
 {

@@ -26,11 +26,11 @@ pub struct Reply {
     pub out: List<u8>,
     /// The line of a refusal.
     pub line: List<u8>,
-    /// The names that the table hasn't, each with a zero byte behind it.
+    /// The names that the table hasn't, each with a zero byte after it.
     pub missing: List<u8>,
 }
 
-/// What is told of a run that ended so, by the names that its table hasn't.
+/// What the caller gets of a run that ended so, by the names that its table hasn't.
 fn told_by(alloc: Global, status: u8, out: List<u8>, line: List<u8>, missing: List<u8>) -> Reply
     ensures { told_of result ≡ told_by status out line missing }
 {

@@ -22,7 +22,7 @@ fn fit(reply: &Reply, out: &[u8], line: &[u8], missing: &[u8]) -> bool
         && reply.missing.len() <= missing.len()
 }
 
-/// Tells how long each text is, and puts all into their rooms where each fits. The result is the status
+/// Says how long each text is, and puts all into their rooms where each fits. The result is the status
 /// with which the call ends.
 pub fn hand_back(
     reply: &Reply,

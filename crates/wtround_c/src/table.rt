@@ -1,4 +1,4 @@
-/// An entry of the caller's table: what stands under a name.
+/// An entry of the caller's table: what is under a name.
 #[repr(C)]
 #[derive(Clone, Copy, Debug)]
 pub struct Page<'a> {

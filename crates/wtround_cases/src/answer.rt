@@ -19,7 +19,7 @@ fn joined(alloc: Global, names: &[Str]) -> Result<String, AllocError> {
     Ok(out)
 }
 
-/// Runs the words of a case over its devices in memory, and tells in a line what came of it.
+/// Runs the words of a case over its devices in memory, and says in a line what came of it.
 pub fn answer(alloc: Global, case: Case) -> Result<String, AllocError> {
     let Case {
         words,

@@ -1,4 +1,4 @@
-//! A case, as a line tells it.
+//! A case, read from a line.
 
 ghost use Rattle.std.specs.Prelude.{◌≡◌, ◌≢◌, false, AllPairs};
 ghost use Rattle.std.specs.List.{All};
@@ -137,7 +137,7 @@ fn pages_of(alloc: Global, field: &str) -> Result<Pages, CaseRefusal> {
 }
 
 impl Case {
-    /// The case that a line, without its line break, tells.
+    /// The case that a line, without its line break, describes.
     pub fn read(alloc: Global, line: &[u8]) -> Result<Case, CaseRefusal> {
         let Ok(line) = std::str::from_utf8(line) else {
             return Err(CaseRefusal::Malformed);

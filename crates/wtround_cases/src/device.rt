@@ -78,7 +78,7 @@ pub struct Devices {
     pub folder: Device,
     pub out: SinkDevice,
     pub err: SinkDevice,
-    /// Whether the answer tells which names the folder was asked for.
+    /// Whether the answer says which names the folder was asked for.
     pub tells_names: bool,
 }
 
@@ -112,7 +112,7 @@ impl Devices {
         Ok(())
     }
 
-    /// The devices that a field of such words tells, joined by `,`; those that it doesn't name never
+    /// The devices that a field of such words names, joined by `,`; those that it doesn't name never
     /// fail.
     pub fn read(alloc: Global, field: &str) -> Result<Devices, CaseRefusal> {
         let mut devices = Devices::ample(alloc);

@@ -4,8 +4,9 @@ from __future__ import annotations
 import re
 from typing import Dict, List, Optional
 
+from .kinds import is_blank
 from .markup import Child, Element
-from .texts import is_empty
+from .texts import WHITE, append, is_blank_text, is_empty
 
 # Addresses of other kinds, which no wikitext of ours links to.
 OTHER_SCHEME = re.compile(
@@ -55,3 +56,37 @@ def with_edges_outside(link: Element, was: str) -> List[Child]:
         return [front + back]
     pieces: List[Child] = [front, link, back]
     return [piece for piece in pieces if piece != ""]
+
+
+class Line:
+    """What stands in a line, as it is put together. A blank that is left at an edge of a link, where a word
+    of it was deleted, goes where there is one beside it."""
+
+    def __init__(self) -> None:
+        self._pieces: List[Child] = []
+        self._edge = ""  # a blank that a link has left behind it
+
+    def add(self, piece: Child) -> None:
+        if piece == "":
+            return
+        if not isinstance(piece, str) or not piece.startswith(tuple(WHITE)):
+            append(self._pieces, self._edge)
+        self._edge = ""
+        append(self._pieces, piece)
+
+    def add_link(self, pieces: List[Child]) -> None:
+        """`pieces`: a link of the page, and blanks from its edges."""
+        before = self._pieces[-1] if self._pieces else ""
+        is_behind_blank = isinstance(before, str) and before.endswith(tuple(WHITE))
+        rest = pieces[1:] if is_behind_blank and pieces and is_blank_text(pieces[0]) else pieces
+        edge = rest[-1] if rest else None
+        has_edge = isinstance(edge, str) and is_blank(edge)
+        for piece in rest[:-1] if has_edge else rest:
+            self.add(piece)
+        if isinstance(edge, str) and has_edge:
+            self._edge = edge
+
+    def end(self) -> List[Child]:
+        """All that was added."""
+        append(self._pieces, self._edge)
+        return self._pieces

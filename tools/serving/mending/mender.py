@@ -13,15 +13,15 @@ from .kinds import (
     is_hidden_name, is_island, is_mark, may_have, name_of,
 )  # fmt: skip
 from .lines import drop_empty_lines
-from .links import link_target, with_edges_outside
+from .links import Line, link_target, with_edges_outside
 from .markup import Child, Element
 from .original import Kept, Original, kind_of
+from .places import Places
 from .strays import put_back
-from .texts import append, is_empty, is_line_break, tidy
+from .texts import NOT_WHITE, append, is_empty, is_line_break, tidy
 
 Pieces = List[Child]
 
-NOT_WHITE = re.compile("[^ \t\n\r]")
 ITALIC = re.compile(r"font-style:\s*(?:italic|oblique)", re.IGNORECASE)
 BOLD = re.compile(r"font-weight:\s*(?:bold|[6-9]00)", re.IGNORECASE)
 
@@ -33,6 +33,7 @@ class Mender:
         self.original = original
         self._owners: Dict[int, Element] = {}  # which element has a number, of several that have it
         self._in_link = False
+        self._styles: Set[str] = set()  # in which of bold and italic (`b`, `i`) what is read stands
         # The kinds of the page's categories, switches and the like that are still there.
         self._hidden_kinds: Optional[Set[str]] = None
 
@@ -41,6 +42,7 @@ class Mender:
         self._claim(root)
         attributes = self.original.page.attributes if self.original else self._attributes(root, "body", 0)
         page = Element("body", dict(attributes), self._blocks(root.children))
+        Places(self.original).fit(page)
         if self.original is not None:
             put_back(page, self.original)
         drop_empty_lines(page, self.original)
@@ -185,7 +187,8 @@ class Mender:
         if name == "hr":
             return [self._part(element, name, [])]
         if name == "pre":
-            return [tidy(self._part(element, name, self._inline(element.children)), self.original)]
+            content = self._flat(self._inline(element.children), never)
+            return [tidy(self._part(element, name, content), self.original)]
         if name == "section":
             return [self._part(element, name, self._blocks(element.children))]
         if name in ("table", "tbody", "tr"):
@@ -295,14 +298,18 @@ class Mender:
 
     def _inline(self, nodes: Iterable[Child]) -> Pieces:
         """Texts, inline elements, and the blocks that stand among them."""
-        out: Pieces = []
+        line = Line()
         for node in nodes:
             if isinstance(node, str):
-                append(out, node)
+                line.add(node)
                 continue
-            for piece in self._inline_element(node):
-                append(out, piece)
-        return out
+            pieces = self._inline_element(node)
+            if name_of(node) == "a" and self._number_of(node) != 0:
+                line.add_link(pieces)
+                continue
+            for piece in pieces:
+                line.add(piece)
+        return line.end()
 
     def _inline_element(self, element: Element) -> Pieces:
         name = name_of(element)
@@ -340,18 +347,42 @@ class Mender:
 
     def _styled(self, element: Element, name: str) -> Pieces:
         """Bold, italic, a pair of tags."""
-        children = self._flat(self._inline(element.children), never)
+        is_style = name in ("b", "i")
+        if is_style and name in self._styles and not self._has_above(element, name):
+            return self._inline(element.children)
+        children = self._flat(self._within([name] if is_style else [], element.children), never)
         return children if self._has_lost_inside(element, children) else [self._part(element, name, children)]
+
+    def _has_above(self, element: Element, name: str) -> bool:
+        """Whether the page has the element inside another one of this name; of a page that isn't known,
+        whether it may have it so."""
+        if self.original is None:
+            return self._number_of(element) != 0
+        kept = self._kept(self._number_of(element))
+        above = kept.parent if kept is not None else None
+        while above is not None and above.part.name != name:
+            above = above.parent
+        return above is not None
+
+    def _within(self, styles: List[str], children: Iterable[Child]) -> Pieces:
+        """What stands in bold or italic text, of which these styles begin here: bold in bold is its inside,
+        since no apostrophes say it."""
+        begun = set(styles) - self._styles
+        self._styles |= begun
+        pieces = self._inline(children)
+        self._styles -= begun
+        return pieces
 
     def _by_style(self, element: Element) -> Pieces:
         """A `span` or `font` of another document: bold and italic by its style, else its inside."""
-        style, pieces = element.get("style"), self._inline(element.children)
+        style = element.get("style")
+        styles = [name for name, found in (("i", ITALIC), ("b", BOLD)) if found.search(style)]
+        begun = [name for name in styles if name not in self._styles]
+        pieces = self._within(begun, element.children)
         if is_empty(pieces):
             return pieces
-        if ITALIC.search(style):
-            pieces = [Element("i", {}, self._flat(pieces, never))]
-        if BOLD.search(style):
-            pieces = [Element("b", {}, self._flat(pieces, never))]
+        for name in begun:
+            pieces = [Element(name, {}, self._flat(pieces, never))]
         return pieces
 
     def _link(self, element: Element) -> Pieces:
@@ -444,15 +475,16 @@ class Mender:
 
     def _flat(self, pieces: Pieces, stays: Callable[[Element], bool]) -> Pieces:
         """Blocks where none may stand become their inside, with a line break to what stands before and behind
-        them. `stays`: whether a block may stand there."""
+        them; groups stay. `stays`: whether a block may stand there."""
         out: Pieces = []
         is_behind_block = False
         for piece in pieces:
-            is_inner = not isinstance(piece, str) and is_block(piece) and not stays(piece)
+            is_one = not isinstance(piece, str) and is_block(piece)
+            is_inner = is_one and "about" not in piece.attributes and not stays(piece)
             content = self._flat(piece.children, never) if is_inner else [piece]
             if is_empty(content) and (is_inner or is_behind_block):
                 continue
-            is_staying = not is_inner and is_block(piece)
+            is_staying = is_one and not is_inner
             if (is_inner or is_behind_block) and not is_staying and not is_empty(out):
                 append(out, Element("br"))
             for inner in content:

@@ -10,6 +10,7 @@ from .markup import Child, Element
 from .original import PUT_SIGNS, Kept, Original
 
 WHITE = " \t\n"
+NOT_WHITE = re.compile("[^ \t\n\r]")
 # What becomes of signs that browsers and editors put.
 MENDED = {"\r": "\n", "\u00a0": " ", "\u200b": "", "\ufeff": "", "\v": " ", "\f": " "}
 PUT = re.compile("\r\n|[\r\u00a0\u200b\ufeff\v\f]")
@@ -92,7 +93,7 @@ def trim_edges(block: Element, lead: List[Child], kept: Optional[Kept], was: str
     if isinstance(first, str) and not was.startswith(tuple(WHITE)):
         lead[0] = first.lstrip(WHITE)
     last = lead[-1]
-    is_item_with_list = block.name in ITEMS and len(lead) < len(block.children)
+    is_item_with_list = block.name in ITEMS and any(map(is_block, block.children))
     if not isinstance(last, str) or is_item_with_list or (kept is not None and not kept.is_inline):
         return
     if not was.endswith(tuple(WHITE)):

@@ -2,16 +2,16 @@ use Rattle.std.proofs.Common.{arith, sym, ◌∙◌}
 use Rattle.wt_checks.proofs.Entries.{compared_from_here, compared_from_end, not_compared}
 use Rattle.wt_checks.proofs.unmarked.compared_from.Goals as goal
 
-pub returns-then-is_compared : goal.returns-then-is_compared
-returns-then-is_compared c =
+pub returns-then-is_seen : goal.returns-then-is_seen
+returns-then-is_seen c =
     compared_from_here c.args.nodes.now c.args.from c.loop-at.at c.index-nodes-at.result c.loop-at-test.true c.index-nodes-at.is
-    (sym c.is_compared.ensures ∙ c.if-is_compared.true) c.loop-at.invariant.later c.loop-at.invariant.same
+    (sym c.is_seen.ensures ∙ c.if-is_seen.true) c.loop-at.invariant.later c.loop-at.invariant.same
 
 pub loop-at-preserved : goal.loop-at-preserved
 loop-at-preserved c = record {
   later = omega arith;
   same = c.loop-at.invariant.same ∙ not_compared c.args.nodes.now c.loop-at.at c.index-nodes-at.result c.loop-at-test.true
-      c.index-nodes-at.is (sym c.is_compared.ensures ∙ c.if-is_compared.false);
+      c.index-nodes-at.is (sym c.is_seen.ensures ∙ c.if-is_seen.false);
 }
 
 pub returns : goal.returns

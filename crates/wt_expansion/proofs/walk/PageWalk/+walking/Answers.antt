@@ -14,13 +14,12 @@ use Rattle.wt_transclusion.proofs.AskedLaws.{asks_none, asks_then}
 use Rattle.wt_transclusion.proofs.GrowthLaws.{agrees_before, agrees_known, grows_none, grows_then}
 use Rattle.wt_template_stack.specs.Calls.{first_end, members_behind}
 use Rattle.wt_template_stack.specs.Ledgers.{Refuses, ledger}
-use Rattle.wt_template_stack.proofs.LedgerLaws.{memory_refused}
 use Rattle.wt_expansion.specs.Walks.{AnswersStep, AnswersTarget, AnswersWalk, TargetRead, at_page, behind_stretches, behind_work, call_stretches_at, call_work, target_members, target_output}
 use Rattle.wt_expansion.proofs.Refusals.{none_stepped, none_targeted, none_walked, some_left}
 use Rattle.wt_expansion.proofs.WalkCalls.{function_walked, source_same, target_first}
 use Rattle.wt_expansion.proofs.WalkLaws.{strs}
 use Rattle.wt_expansion.proofs.WalkPages.{agrees_first, grown_then, still_concerns}
-use Rattle.wt_expansion.proofs.WalkSteps.{call_step, call_step_refused, call_there, chunk_step, going_ends, going_on, going_refused, going_starts, going_stops, step_stops}
+use Rattle.wt_expansion.proofs.WalkSteps.{call_step, call_step_refused, call_there, chunk_step, going_ends, going_on, going_refused, going_starts, step_stops}
 use Rattle.wt_expansion.proofs.WalkTargets.{is_called, target_stands}
 use Rattle.wt_expansion.proofs.WalkTexts.{back_place, behind_refused, behind_stretch, behind_walked, page_walked_on, target_done, target_refused, text_walked}
 use Rattle.wt_expansion.proofs.walk.PageWalk.+walking.Goals as goal
@@ -38,7 +37,7 @@ target-returns-in_err-stretch-clause-given g t c = λ pages page met s n concern
     let x = c.in_err-stretch.field-0.0 in
     let e : c.from_residual-in_err-stretch.result ≡ Err x = search rules in
     let told = subst (λ (y : Result (Option Title) ExpandRefusal). Concerns (g.F.Folder.pages c.args.folder.now) pages now.expansion.store y) e concerns in
-    let reading = c.in_ok-within.ensures mode.Page page n.is.at s n.reading (omega (arith, from)) in
+    let reading = c.in_ok-within.ensures.reading mode.Page page n.is.at s n.reading (omega (arith, from)) in
     let r = c.in_err-stretch.ensures.given pages page met part.at.start false xs told free reading h.stretch in
     subst (λ (y : Result (Option Title) ExpandRefusal). AnswersTarget pages page l b n.is self.found now.found now.expansion.store now.expansion.spent
     (g.F.Folder.answered c.stretch.new.folder) y) (sym e)
@@ -58,7 +57,7 @@ target-returns-clause-given g t c = λ pages page met s n concerns free first.
     let l = ledger self.expansion.spent met (g.F.Folder.answered c.args.folder.now) in
     let now = c.stretch.new.self in
     let before = c.push_slice.new.found in
-    let reading = c.in_ok-within.ensures mode.Page page n.is.at s n.reading (omega (arith, from)) in
+    let reading = c.in_ok-within.ensures.reading mode.Page page n.is.at s n.reading (omega (arith, from)) in
     let walked = c.in_ok-stretch.ensures.given pages page met part.at.start false xs concerns free reading h.stretch in
     let fits = before.pieces.ok in
     let counted = c.len-begun.ensures in
@@ -81,7 +80,7 @@ behind_target-returns-in_err-stretch-clause-given g t c = λ pages page met s n 
     let e : c.from_residual-in_err-stretch.result ≡ Err x = search rules in
     let told = subst (λ (y : Result Unit ExpandRefusal). Concerns (g.F.Folder.pages c.args.folder.now) pages now.expansion.store y) e concerns in
     let low : n.is.at ≤ part.at.end = subst (λ q. n.is.at ≤ q) (sym h.to_is) (target_first page b n.is) in
-    let reading = c.in_ok-seek.ensures mode.Page page n.is.at s n.reading low in
+    let reading = c.in_ok-seek.ensures.reading mode.Page page n.is.at s n.reading low in
     let less = c.saturating_sub-braces.ensures in
     let last = c.saturating_sub-end.ensures in
     let end = c.saturating_sub-end.result in
@@ -103,7 +102,7 @@ behind_target-returns-clause-given g t c = λ pages page met s n concerns free f
     let l = ledger self.expansion.spent met (g.F.Folder.answered c.args.folder.now) in
     let now = c.stretch.new.self in
     let low : n.is.at ≤ part.at.end = subst (λ q. n.is.at ≤ q) (sym h.to_is) (target_first page b n.is) in
-    let reading = c.in_ok-seek.ensures mode.Page page n.is.at s n.reading low in
+    let reading = c.in_ok-seek.ensures.reading mode.Page page n.is.at s n.reading low in
     let less = c.saturating_sub-braces.ensures in
     let last = c.saturating_sub-end.ensures in
     let end = c.saturating_sub-end.result in
@@ -142,11 +141,6 @@ walk_call-returns-then-function-clause-given g t c = λ pages page met s n conce
 pub walk_call-returns-clause-given : goal.walk_call-returns-clause-given
 walk_call-returns-clause-given g t c = λ pages page met s n concerns free.
     c.with_target.ensures.given pages page met s n concerns free c.if-call.false (sym c.in_ok-function.ensures ∙ c.if-function.false)
-
-pub with_target-returns-then-nested-eq0-clause-given : goal.with_target-returns-then-nested-eq0-clause-given
-with_target-returns-then-nested-eq0-clause-given g t c = λ pages page met s n concerns free is fn.
-    memory_refused pages page (ledger c.args.self.now.expansion.spent met
-    (g.F.Folder.answered c.args.folder.now)) (call_work pages page c.args.call n.is s)
 
 pub with_target-returns-in_err-title-clause-given : goal.with_target-returns-in_err-title-clause-given
 with_target-returns-in_err-title-clause-given g t c = λ pages page met s n concerns free is fn.
@@ -251,6 +245,7 @@ pub stretch-steps-init : goal.stretch-steps-init
 stretch-steps-init g t c =
     let self = c.args.self.now in
     record {
+      later = omega arith;
       kept = refl;
       count = refl;
       names = refl;
@@ -261,14 +256,14 @@ stretch-steps-init g t c =
           self.expansion.store reading st free.stored;
     }
 
-pub stretch-returns-then-reader-end-clause-given : goal.stretch-returns-then-reader-end-clause-given
-stretch-returns-then-reader-end-clause-given g t c = λ pages page met p s xs agreed free reading st.
+pub stretch-returns-clause-given : goal.stretch-returns-clause-given
+stretch-returns-clause-given g t c = λ pages page met p s xs agreed free reading st.
     let self = c.args.self.now in
     let now = c.steps.self in
     let l = ledger self.expansion.spent met (g.F.Folder.answered c.args.folder.now) in
     going_ends pages page l (strs (at_page pages) s page p xs) (given_from (at_page pages) s page p xs).work p c.args.end self.found now.found c.steps.reader
     now.expansion.store now.expansion.spent (g.F.Folder.answered c.steps.folder) (c.steps.invariant.given pages page met p s xs agreed free reading st)
-    c.if-reader-end.true
+    c.steps-test.false
 
 pub stretch-returns-in_err-to-clause-given : goal.stretch-returns-in_err-to-clause-given
 stretch-returns-in_err-to-clause-given g t c = λ pages page met p s xs concerns free reading st.
@@ -298,6 +293,7 @@ stretch-steps-preserved g t c =
     let told = g.F.Folder.pages c.args.folder.now in
     let step_grown = c.in_ok-to.ensures.grown in
     record {
+      later = omega (arith, c.steps.invariant.later, c.in_ok-reader.ensures.later);
       kept = c.in_ok-to.ensures.kept ∙ c.steps.invariant.kept;
       count = c.in_ok-to.ensures.count ∙ c.steps.invariant.count;
       names = c.in_ok-to.ensures.names ∙ c.steps.invariant.names;
@@ -317,7 +313,7 @@ stretch-steps-preserved g t c =
           going_on pages page l (strs (at_page pages) s page p xs) (given_from (at_page pages) s page p xs).work p c.args.end self.found mid.found now.found
           c.steps.reader c.in_ok-reader.reader mid.expansion.store now.expansion.store mid.expansion.spent now.expansion.spent
           (g.F.Folder.answered c.steps.folder) (g.F.Folder.answered c.step.new.folder) c.in_ok-to.to h w
-          (c.in_ok-reader.ensures mode.Page page h.place h.at_start h.reading w.0);
+          (c.in_ok-reader.ensures.reading mode.Page page h.place h.at_start h.reading w.0);
     }
 
 pub with_target-returns-in-Some-clause-grown : goal.with_target-returns-in-Some-clause-grown
@@ -348,7 +344,7 @@ target-returns-in_err-title-clause-given g t c = λ pages page met s n concerns 
     (g.F.Folder.pages c.args.folder.now) pages now.expansion.store y) e concerns in
     let agrees = c.in_ok-stretch.ensures.grown.agrees pages told
     (agrees_known pages met self.expansion.store free.stored) in
-    let reading = c.in_ok-within.ensures mode.Page page n.is.at s n.reading (omega (arith, from)) in
+    let reading = c.in_ok-within.ensures.reading mode.Page page n.is.at s n.reading (omega (arith, from)) in
     let walked = c.in_ok-stretch.ensures.given pages page met part.at.start false xs agrees free reading
     h.stretch in
     let stops = some_left pages page l (ledger now.expansion.spent walked.works.met answered)
@@ -375,7 +371,7 @@ behind_target-returns-in_err-push_slice-clause-given g t c = λ pages page met s
     let agrees = c.in_ok-stretch.ensures.grown.agrees pages told
     (agrees_known pages met self.expansion.store free.stored) in
     let low : n.is.at ≤ part.at.end = subst (λ q. n.is.at ≤ q) (sym h.to_is) (target_first page b n.is) in
-    let reading = c.in_ok-seek.ensures mode.Page page n.is.at s n.reading low in
+    let reading = c.in_ok-seek.ensures.reading mode.Page page n.is.at s n.reading low in
     let less = c.saturating_sub-braces.ensures in
     let last = c.saturating_sub-end.ensures in
     let end = c.saturating_sub-end.result in
@@ -422,18 +418,6 @@ stretch-returns-in_err-reader-clause-given g t c = λ pages page met p s xs conc
     (going_refused pages page l ss work p c.args.end self.found mid.found c.steps.reader mid.expansion.store
     mid.expansion.spent
     (g.F.Folder.answered c.steps.folder) answered answer.NoMemory h stops)
-
-pub stretch-returns-clause-given : goal.stretch-returns-clause-given
-stretch-returns-clause-given g t c = λ pages page met p s xs concerns free reading st.
-    let self = c.args.self.now in
-    let now = c.steps.self in
-    let l = ledger self.expansion.spent met (g.F.Folder.answered c.args.folder.now) in
-    let agreed = c.steps.invariant.grown.agrees pages concerns
-    (agrees_known pages met self.expansion.store free.stored) in
-    let h = c.steps.invariant.given pages page met p s xs agreed free reading st in
-    going_stops pages page l (strs (at_page pages) s page p xs)
-    (given_from (at_page pages) s page p xs).work p c.args.end self.found now.found
-    c.steps.reader now.expansion.store now.expansion.spent (g.F.Folder.answered c.steps.folder) h
 
 -- ---- what the folder is asked for by two calls
 
@@ -552,10 +536,6 @@ pub with_target-returns-in_err-part-clause-asks : goal.with_target-returns-in_er
 with_target-returns-in_err-part-clause-asks g t c = asks_none (g.F.Folder.answered c.args.folder.now)
     (g.F.Folder.most_asked c.args.folder.now)
 
-pub with_target-returns-then-nested-eq0-clause-asks : goal.with_target-returns-then-nested-eq0-clause-asks
-with_target-returns-then-nested-eq0-clause-asks g t c = asks_none (g.F.Folder.answered c.args.folder.now)
-    (g.F.Folder.most_asked c.args.folder.now)
-
 pub target-returns-in_err-push_text_call-clause-given : goal.target-returns-in_err-push_text_call-clause-given
 target-returns-in_err-push_text_call-clause-given g t c = λ pages page met s n concerns free first.
     let x = c.args.self.now in
@@ -603,3 +583,6 @@ behind_target-returns-in_err-seek-clause-given g t c = λ pages page met s n con
 pub behind_target-returns-in_err-seek-clause-asks : goal.behind_target-returns-in_err-seek-clause-asks
 behind_target-returns-in_err-seek-clause-asks g t c = asks_none (g.F.Folder.answered c.args.folder.now)
     (g.F.Folder.most_asked c.args.folder.now)
+
+pub stretch-steps-smaller : goal.stretch-steps-smaller
+stretch-steps-smaller g t c = c.in_ok-reader.ensures.later

@@ -1,4 +1,4 @@
-use Rattle.std.proofs.Common.{◌≡◌, Err, List, Ok, Option, refl, rules, subst, sym, ◌∙◌, ℕ}
+use Rattle.std.proofs.Common.{◌≡◌, arith, Err, List, Ok, Option, refl, rules, subst, sym, ◌∙◌, ℕ}
 use Rattle.std.specs.Prelude.{Result, reverse}
 use Rattle.wt_span.specs.declared.list.List.{List as Listed}
 use Rattle.wt_span.specs.declared.form.Piece.{Piece}
@@ -11,7 +11,7 @@ use Rattle.wt_transclusion.proofs.GrowthLaws.{agrees_before, agrees_known, grows
 use Rattle.wt_template_stack.specs.Ledgers.{AnswersAdvance, AnswersOutput, Progress, TakesStep, ledger, reading_of}
 use Rattle.wt_template_stack.specs.declared.run.StepOutcome.{StepOutcome}
 use Rattle.wt_template_stack.proofs.LedgerLaws.{page_unread, taking_refused}
-use Rattle.wt_template_stack.proofs.ProgressLaws.{going_refused, link_done, message_done, no_fault_counted, one_less, page_done, page_taken, page_untaken, paged_goes, paged_refused, progress_spent, step_handed, step_refused}
+use Rattle.wt_template_stack.proofs.ProgressLaws.{link_done, message_done, no_fault_counted, one_less, page_done, page_taken, page_untaken, paged_goes, paged_refused, progress_spent, step_handed, step_refused}
 use Rattle.wt_template_stack.proofs.expansion.Expansion.+expanding.Goals as goal
 
 pub advance-returns-in-Went-clause-grown : goal.advance-returns-in-Went-clause-grown
@@ -254,15 +254,6 @@ pub page-returns-in_ok-given-in-Page-clause-asks : goal.page-returns-in_ok-given
 page-returns-in_ok-given-in-Page-clause-asks g t c =
     asks_then _ _ _ _ _ _ c.in_ok-pieces.ensures.asks c.in_ok-given-in-Page.ensures.asks
 
-pub finish-returns-clause-given : goal.finish-returns-clause-given
-finish-returns-clause-given g t c = λ pages page text mode frame before all told v h.
-    let self = c.args.self.now in
-    let agrees = c.steps.invariant.grown.agrees pages told (agrees_known pages h.met self.store h.stored) in
-    going_refused pages page text (reading_of pages mode frame c.args.left self.names) before all c.steps.run
-    c.steps.self.store c.steps.self.spent
-    (g.F.Folder.answered c.steps.folder)
-    (c.steps.invariant.given pages page text mode frame before all agrees v h)
-
 pub page-returns-in_err-pieces-clause-given : goal.page-returns-in_err-pieces-clause-given
 page-returns-in_err-pieces-clause-given g t c = λ pages page frame met told s v.
     let self = c.args.self.now in
@@ -308,3 +299,9 @@ page-returns-in_err-run-in-Page-clause-given g t c = λ pages page frame met tol
     c.in_ok-pieces.field-0 c.in-Page.read c.take.new.store c.as_slice-names.ensures c.in-Page.is
     (c.in_ok-pieces.ensures.taken pages met agrees s)
     (c.in_ok-pieces.ensures.named pages met s))
+
+pub finish-steps-smaller : goal.finish-steps-smaller
+finish-steps-smaller g t c = omega (arith, c.in_ok-turn.ensures.gets_on, c.in_ok-pieces.ensures.gets_on)
+
+pub advance-returns-in_ok-give_page-in-Called-clause-gets_on : goal.advance-returns-in_ok-give_page-in-Called-clause-gets_on
+advance-returns-in_ok-give_page-in-Called-clause-gets_on g t c = omega (arith, c.in_ok-give_page-in-Called.ensures.gets_on)

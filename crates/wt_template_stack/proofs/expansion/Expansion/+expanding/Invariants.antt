@@ -6,6 +6,7 @@ use Rattle.wt_transclusion.specs.Asked.{Asks}
 use Rattle.wt_transclusion.specs.Frames.{AreValues}
 use Rattle.wt_transclusion.specs.Stores.{Agrees, Grows}
 use Rattle.wt_template_stack.specs.Ledgers.{Ledger, Progress, reading_of}
+use Rattle.wt_template_stack.specs.Measures.{steps_left}
 use Rattle.wt_template_stack.proofs.expansion.Expansion.+expanding.Given as goal
 
 abbrev pub decreases-advance : goal.decreases-advance
@@ -16,6 +17,9 @@ decreases-finish g l = l.left * 3 + 2
 
 abbrev pub decreases-page : goal.decreases-page
 decreases-page g l = l.left * 3
+
+abbrev pub decreases-finish-steps : goal.decreases-finish-steps
+decreases-finish-steps g l = steps_left l.run
 
 abbrev pub invariant-finish-steps : goal.invariant-finish-steps
 invariant-finish-steps g l = record {

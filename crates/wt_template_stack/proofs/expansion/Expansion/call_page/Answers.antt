@@ -39,7 +39,7 @@ returns-in_err-pieces-clause-given g c = λ pages page t frame met p s b told st
     }) in
     let step = part_step pages page t r self.spent c.charge.new.spent met answered all o c.next_part.new.self self.store c.in_ok-turn.turn st
     (begun_spent self.spent c.charge.new.spent (undone self.spent all) o (page_does self.spent all o.left refl)
-    c.in_ok-charge.ensures.large c.in_ok-charge.ensures.spent) (c.in_ok-turn.ensures r t o first) in
+    c.in_ok-charge.ensures.large c.in_ok-charge.ensures.spent) (c.in_ok-turn.ensures.answer r t o first) in
     let before = ledger self.spent met answered in
     let e : c.from_residual-in_err-pieces.result ≡ Err c.in_err-pieces.field-0.0 = search rules in
     let named = subst (λ x. Concerns (g.F.Folder.pages c.args.folder.now) pages c.advance.new.self.store x) e told in
@@ -65,7 +65,7 @@ returns-in-Some-clause-given g c = λ pages page t frame met p s b told st v rea
     }) in
     let step = part_step pages page t r self.spent c.charge.new.spent met answered all o c.next_part.new.self self.store c.in_ok-turn.turn st
     (begun_spent self.spent c.charge.new.spent (undone self.spent all) o (page_does self.spent all o.left refl)
-    c.in_ok-charge.ensures.large c.in_ok-charge.ensures.spent) (c.in_ok-turn.ensures r t o first) in
+    c.in_ok-charge.ensures.large c.in_ok-charge.ensures.spent) (c.in_ok-turn.ensures.answer r t o first) in
     let before = ledger self.spent met answered in
     subst (λ (x : Option (Listed Piece)). AnswersAdvance pages page r t before all c.advance.new.run c.advance.new.self.store c.advance.new.self.spent
     (g.F.Folder.answered c.advance.new.folder) (Ok x)) c.in-Some.is (c.in_ok-pieces.ensures.given pages page t c.args.mode frame before all told step)
@@ -89,7 +89,7 @@ returns-clause-given g c = λ pages page t frame met p s b told st v reading low
     }) in
     let step = part_step pages page t r self.spent c.charge.new.spent met answered all o c.next_part.new.self self.store c.in_ok-turn.turn st
     (begun_spent self.spent c.charge.new.spent (undone self.spent all) o (page_does self.spent all o.left refl)
-    c.in_ok-charge.ensures.large c.in_ok-charge.ensures.spent) (c.in_ok-turn.ensures r t o first) in
+    c.in_ok-charge.ensures.large c.in_ok-charge.ensures.spent) (c.in_ok-turn.ensures.answer r t o first) in
     let before = ledger self.spent met answered in
     let now = c.advance.new.self in
     let told_now = g.F.Folder.answered c.advance.new.folder in

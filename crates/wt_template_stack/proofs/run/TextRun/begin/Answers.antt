@@ -17,7 +17,7 @@ pub returns-clause-answer : goal.returns-clause-answer
 returns-clause-answer c = λ r t total h. (
   total,
   spends_none c.args.spent.now total,
-  c.in_ok-begin_target.ensures r t total h c.if-call.false
+  c.in_ok-begin_target.ensures.answer r t total h c.if-call.false
       (ap is_function (sym (c.as_bytes.ensures.value ∙ c.as_str.ensures ∙ c.in_ok-source.ensures.bytes
       ∙ ap (λ xs. slice_range xs c.args.call.at.start c.args.call.at.end) h.running.reading.read.text_is)) ∙ sym c.is_function.ensures
       ∙ c.if-is_function.false),

@@ -5,13 +5,14 @@ use Rattle.wt_template_stack.specs.Runs.{AnswersGoing}
 use Rattle.wt_template_stack.specs.Stacks.{stack}
 use Rattle.wt_template_stack.proofs.ChoiceSteps.{choice_begins, choice_work_left}
 use Rattle.wt_template_stack.proofs.RestLaws.{begun_spent, begun_refused, spends_none}
+use Rattle.wt_template_stack.proofs.MeasureLaws.{level_begun, choice_few}
 use Rattle.wt_template_stack.proofs.run.TextRun.begin_function.Goals as goal
 
 pub returns-in_default-clause-answer : goal.returns-in_default-clause-answer
 returns-in_default-clause-answer c = λ r t total h k e f. (
   total,
   spends_none c.args.spent.now total,
-  c.in_ok-push_function.ensures r t total h k e f
+  c.in_ok-push_function.ensures.answer r t total h k e f
       (ap (λ bs. function_of (drop 2 bs)) (sym (c.as_bytes.ensures.value ∙ c.as_str.ensures)) ∙ sym c.function_named.ensures ∙ c.in_default.is),
 )
 
@@ -33,5 +34,10 @@ returns-clause-answer c = λ r t total h k e f.
     c.in-Some.function c.in-Some.part_0 c.in_ok-target.target h k e f w c.in_ok-target.ensures in (
       z.0,
       begun_spent c.args.spent.now c.charge.new.spent total z.0 z.1 c.in_ok-charge.ensures.large c.in_ok-charge.ensures.spent,
-      c.in_ok-begin_within.ensures r t z.0 (z.2 _ c.in_ok-choosing.choosing c.in_ok-choosing.ensures refl refl refl),
+      c.in_ok-begin_within.ensures.answer r t z.0 (z.2 _ c.in_ok-choosing.choosing c.in_ok-choosing.ensures refl refl refl),
     )
+
+pub returns-clause-gets_on : goal.returns-clause-gets_on
+returns-clause-gets_on c =
+    let z = c.in_ok-begin_within.ensures.gets_on in
+    level_begun _ _ _ _ _ z.0 z.1 (choice_few _ _ c.in_ok-choosing.ensures.begun_is)

@@ -3,13 +3,17 @@ use Rattle.wt_transclusion.specs.Cursors.{starts}
 use Rattle.wt_template_stack.specs.Stacks.{stack}
 use Rattle.wt_template_stack.specs.declared.level.Level.{Level}
 use Rattle.wt_template_stack.proofs.StepLaws.{holds, level_begins}
+use Rattle.wt_template_stack.specs.Measures.{steps_behind_all}
 use Rattle.wt_template_stack.proofs.run.TextRun.begin_level.Goals as goal
 
-pub returns : goal.returns
-returns c = λ r t total h.
+pub returns-clause-answer : goal.returns-clause-answer
+returns-clause-answer c = λ r t total h.
     let level : Level = record { end = c.args.end; out = []; task = c.args.task } in
     holds r t _ c.args.at (starts t c.args.at) (level ∷ stack c.args.self.now.levels) total
-    (c.in_ok-self.ensures r.mode t h.place h.at_start h.running.reading h.before) h.running.mode_is
+    (c.in_ok-self.ensures.reading r.mode t h.place h.at_start h.running.reading h.before) h.running.mode_is
     (c.in_ok-push.ensures ∙ ap (λ o. let l : Level = record { end = c.args.end; out = o; task = c.args.task } in l ∷ stack c.args.self.now.levels)
     c.new.ensures)
     (level_begins r t c.args.self.now c.args.at (starts t c.args.at) c.args.end c.args.task total h)
+
+pub returns-clause-gets_on : goal.returns-clause-gets_on
+returns-clause-gets_on c = (c.in_ok-self.ensures.later, ap steps_behind_all c.in_ok-push.ensures)

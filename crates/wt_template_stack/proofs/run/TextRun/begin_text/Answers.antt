@@ -1,4 +1,4 @@
-use Rattle.std.proofs.Common.{ap, ◌∙◌, ◌∷◌, ◌++◌, ◌-◌}
+use Rattle.std.proofs.Common.{ap, ◌∙◌, ◌∷◌, ◌++◌, ◌-◌, arith}
 use Rattle.std.specs.Prelude.{slice_range}
 use Rattle.wt_span.specs.Items.{items, items_of}
 use Rattle.wt_span.specs.Slice.{bytes_of}
@@ -8,10 +8,11 @@ use Rattle.wt_template_stack.specs.declared.level.Level.{Level}
 use Rattle.wt_template_stack.specs.declared.level.Task.TheVariants as task
 use Rattle.wt_template_stack.proofs.CallSteps.{text_begins}
 use Rattle.wt_template_stack.proofs.StepLaws.{holds}
+use Rattle.wt_template_stack.specs.Measures.{steps_behind_all}
 use Rattle.wt_template_stack.proofs.run.TextRun.begin_text.Goals as goal
 
-pub returns : goal.returns
-returns c = λ r t total s h none.
+pub returns-clause-answer : goal.returns-clause-answer
+returns-clause-answer c = λ r t total s h none.
     let part = c.in_ok-target.target in
     let front = bytes_of c.in_ok-front.front in
     let end = c.saturating_sub-end.result in
@@ -24,3 +25,6 @@ returns c = λ r t total s h none.
     (text_begins r t c.args.self.now c.args.call s c.args.out c.push_all.new.out part front end total h none c.in_ok-target.ensures
     (c.in_ok-front.ensures.bytes ∙ ap (λ xs. slice_range xs c.args.call.at.start part.at.start) h.running.reading.read.text_is) pieces
     (c.saturating_sub-end.ensures ∙ ap (λ k. c.args.call.at.end - k) c.saturating_sub-braces.ensures))
+
+pub returns-clause-gets_on : goal.returns-clause-gets_on
+returns-clause-gets_on c = omega (arith, ap steps_behind_all c.in_ok-push.ensures)

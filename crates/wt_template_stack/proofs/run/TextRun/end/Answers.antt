@@ -54,17 +54,17 @@ returns-in-Target-clause-answer c = λ r t total h v s.
 pub returns-in-Name-clause-answer : goal.returns-in-Name-clause-answer
 returns-in-Name-clause-answer c = λ r t total h v s.
     let w = subst (λ (k : Task). HasEnded r t c.args.self.now k c.args.out total) c.in-Name.is h in
-    (total, spends_none c.args.spent.now total, c.in_ok-end_name-in-Name.ensures r t total w)
+    (total, spends_none c.args.spent.now total, c.in_ok-end_name-in-Name.ensures.answer r t total w)
 
 pub returns-in-Value-clause-answer : goal.returns-in-Value-clause-answer
 returns-in-Value-clause-answer c = λ r t total h v s.
     let w = subst (λ (k : Task). HasEnded r t c.args.self.now k c.args.out total) c.in-Value.is h in
-    part_taken r t c.args.spent.now total _ c.in_ok-turn-in-Value.turn (c.in_ok-turn-in-Value.ensures r t total w)
+    part_taken r t c.args.spent.now total _ c.in_ok-turn-in-Value.turn (c.in_ok-turn-in-Value.ensures.answer r t total w)
 
 pub returns-clause-answer : goal.returns-clause-answer
 returns-clause-answer c = λ r t total h v s.
     let w = subst (λ (k : Task). HasEnded r t c.args.self.now k c.args.out total) c.in-Text.is h in
-    (total, spends_none c.args.spent.now total, c.in_ok-end_text-in-Text.ensures r t total w)
+    (total, spends_none c.args.spent.now total, c.in_ok-end_text-in-Text.ensures.answer r t total w)
 
 pub returns-in-First-clause-answer : goal.returns-in-First-clause-answer
 returns-in-First-clause-answer c = λ r t total h v s.

@@ -1,4 +1,4 @@
-use Rattle.std.proofs.Common.{◌≡◌, ◌++◌, Some, ap, length, refl, sym, ◌∙◌}
+use Rattle.std.proofs.Common.{◌≡◌, ◌++◌, Some, ap, length, refl, sym, ◌∙◌, arith}
 use Rattle.std.specs.Prelude.{codes, slice_get}
 use Rattle.std.proofs.lemmas.Option.{slice_get_past, slice_get_read}
 use Rattle.wt_span.specs.Items.{items}
@@ -6,6 +6,8 @@ use Rattle.wt_expand.specs.Expansion.{chars, value_of}
 use Rattle.wt_expand.specs.Texts.{name_text}
 use Rattle.wt_template_stack.proofs.CallSteps.{default_begins, spelled_returns, value_returns}
 use Rattle.wt_template_stack.proofs.RestLaws.{spends_none}
+use Rattle.wt_template_stack.proofs.MeasureLaws.{level_follows}
+use Rattle.std.proofs.lemmas.Result.{on_ok_weaker}
 use Rattle.wt_template_stack.proofs.run.TextRun.end_argument.Goals as goal
 
 pub returns-in-Some-clause-answer : goal.returns-in-Some-clause-answer
@@ -24,7 +26,7 @@ returns-in-Some-get-clause-answer c = λ r t total h v.
     let at : slice_get parts 1 ≡ Some c.in-Some-get.part.now = slice_get_read parts (length parts) 1 c.in-Some-get.part.now refl q.3.0 q.1 in (
       total,
       spends_none c.args.spent.now total,
-      c.in_ok-begin_level.ensures r t total
+      c.in_ok-begin_level.ensures.answer r t total
           (default_begins r t c.args.self.now c.args.call c.args.out c.in-Some-get.part.now total h unset at),
     )
 
@@ -37,3 +39,14 @@ returns-clause-answer c = λ r t total h v.
     (slice_get_past c.args.call.parts.now 1 c.in_default-get.ensures.lookup.3)
     (ap items c.as_slice-3.ensures ∙ c.in_ok-own.ensures
     ∙ ap (λ ps. chars (codes "{{{") ++ (items ps ++ chars (codes "}}}"))) c.as_slice-2.ensures))
+
+pub returns-in-Some-clause-gets_on : goal.returns-in-Some-clause-gets_on
+returns-in-Some-clause-gets_on c = on_ok_weaker c.give.result (λ h. omega (arith, h)) c.give.ensures.gets_on
+
+pub returns-in-Some-get-clause-gets_on : goal.returns-in-Some-get-clause-gets_on
+returns-in-Some-get-clause-gets_on c =
+    let z = c.in_ok-begin_level.ensures.gets_on in
+    level_follows _ _ _ _ _ z.0 z.1
+
+pub returns-clause-gets_on : goal.returns-clause-gets_on
+returns-clause-gets_on c = on_ok_weaker c.give-2.result (λ h. omega (arith, h)) c.give-2.ensures.gets_on

@@ -1,4 +1,4 @@
-use Rattle.std.proofs.Common.{◌≡◌, Err, ap, rules, subst, sym, ◌∙◌}
+use Rattle.std.proofs.Common.{◌≡◌, Err, ap, rules, subst, sym, ◌∙◌, arith}
 use Rattle.wt_span.specs.Items.{items}
 use Rattle.wt_expand.specs.Targets.{title_of_target}
 use Rattle.wt_template_stack.specs.Runs.{AnswersTurn}
@@ -11,7 +11,7 @@ pub returns-in_default-clause-answer : goal.returns-in_default-clause-answer
 returns-in_default-clause-answer c = λ r t total h. (
   total,
   spends_none c.args.spent.now total,
-  c.in_ok-begin_text.ensures r t total c.args.at_start h
+  c.in_ok-begin_text.ensures.answer r t total c.args.at_start h
       (ap (λ ps. title_of_target (items ps)) (sym c.as_slice.ensures) ∙ sym c.in_ok-title.ensures ∙ c.in_default.is),
 )
 
@@ -37,4 +37,10 @@ returns-clause-answer c = λ r t total h.
     }) in
     part_taken_behind r t c.args.spent.now c.charge.new.spent total z.0 c.next_part.new.self c.in_ok-turn.turn
     (begun_spent c.args.spent.now c.charge.new.spent total z.0 z.1 c.in_ok-charge.ensures.large c.in_ok-charge.ensures.spent)
-    (c.in_ok-turn.ensures r t z.0 first)
+    (c.in_ok-turn.ensures.answer r t z.0 first)
+
+pub returns-in_default-clause-gets_on : goal.returns-in_default-clause-gets_on
+returns-in_default-clause-gets_on c = omega (arith, c.in_ok-begin_text.ensures.gets_on)
+
+pub returns-clause-gets_on : goal.returns-clause-gets_on
+returns-clause-gets_on c = omega (arith, c.in_ok-turn.ensures.gets_on)

@@ -1,10 +1,12 @@
-use Rattle.std.proofs.Common.{ap, refl, sym, ◌∙◌}
+use Rattle.std.proofs.Common.{ap, refl, sym, ◌∙◌, arith}
 use Rattle.wt_span.specs.Items.{items}
 use Rattle.wt_functions.specs.Choice.{asked}
 use Rattle.wt_expand.specs.Texts.{name_text}
 use Rattle.wt_template_stack.proofs.ChoiceSteps.{told_begins, given_again, given_begins, none_of, nothing_returns}
 use Rattle.wt_template_stack.specs.ToldParts.{name_end}
 use Rattle.wt_template_stack.proofs.RestLaws.{spends_none}
+use Rattle.wt_template_stack.proofs.MeasureLaws.{level_follows, part_given}
+use Rattle.std.proofs.lemmas.Result.{on_ok_weaker}
 use Rattle.wt_template_stack.proofs.run.TextRun.end_told.Goals as goal
 
 pub returns-in-Tell-clause-answer : goal.returns-in-Tell-clause-answer
@@ -12,7 +14,7 @@ returns-in-Tell-clause-answer c = λ r t total h s.
     let text = c.as_str.ensures.value ∙ c.in_ok-text.ensures ∙ ap (λ ps. name_text (items ps)) c.as_slice.ensures in (
       total,
       spends_none c.args.spent.now total,
-      c.in_ok-begin_level-in-Tell.ensures r t total
+      c.in_ok-begin_level-in-Tell.ensures.answer r t total
           (told_begins r t c.args.self.now c.args.choosing _ c.args.out c.as_str.result.now c.in-Tell.number c.in_ok-part-in-Tell.part
           c.told_end-end.result c.args.spent.now total s h text
           (record { call_is = refl; at_start_is = refl; function_is = refl; begun_is = refl; number_is = refl; spent_is = refl; chooser_is = c.in_ok-told.ensures.ok })
@@ -24,7 +26,7 @@ returns-in-Give-clause-answer c = λ r t total h s.
     let text = c.as_str.ensures.value ∙ c.in_ok-text.ensures ∙ ap (λ ps. name_text (items ps)) c.as_slice.ensures in (
       total,
       spends_none c.args.spent.now total,
-      c.in_ok-begin_level-in-Give.ensures r t total
+      c.in_ok-begin_level-in-Give.ensures.answer r t total
           (given_begins r t c.args.self.now _ c.args.choosing c.args.out c.as_str.result.now c.in-Give.number c.in_ok-part-in-Give.part
           c.in_ok-start-in-Give.start total h text (ap asked (sym c.in_ok-told.ensures.ok) ∙ sym c.ask.ensures ∙ c.in-Give.is)
           c.in_ok-part-in-Give.ensures c.in_ok-start-in-Give.ensures refl refl refl),
@@ -44,3 +46,19 @@ returns-then-is_whole-clause-answer c = λ r t total h s.
     (given_again r t c.args.self.now c.args.choosing c.args.out c.as_str.result.now c.in-Give.number c.in_ok-part-in-Give.part total h text
     (ap asked (sym c.in_ok-told.ensures.ok) ∙ sym c.ask.ensures ∙ c.in-Give.is) c.in_ok-part-in-Give.ensures c.if-number-told.true
     (none_of (name_end c.args.choosing.function c.in_ok-part-in-Give.part.equals) (sym c.is_whole.ensures ∙ c.if-is_whole.true))) s
+
+pub returns-in-Tell-clause-gets_on : goal.returns-in-Tell-clause-gets_on
+returns-in-Tell-clause-gets_on c =
+    let z = c.in_ok-begin_level-in-Tell.ensures.gets_on in
+    level_follows _ _ _ _ _ z.0 z.1
+
+pub returns-in-Give-clause-gets_on : goal.returns-in-Give-clause-gets_on
+returns-in-Give-clause-gets_on c =
+    let z = c.in_ok-begin_level-in-Give.ensures.gets_on in
+    part_given _ _ _ _ _ z.0 z.1
+
+pub returns-then-is_whole-clause-gets_on : goal.returns-then-is_whole-clause-gets_on
+returns-then-is_whole-clause-gets_on c = on_ok_weaker c.give_again.result (λ h. omega (arith, h)) c.give_again.ensures.gets_on
+
+pub returns-clause-gets_on : goal.returns-clause-gets_on
+returns-clause-gets_on c = on_ok_weaker c.give.result (λ h. omega (arith, h)) c.give.ensures.gets_on

@@ -11,7 +11,7 @@ returns-clause-answer c = λ r t total h.
       z.0,
       ended_spent c.args.spent.now (length (sources (items c.args.out.now))) c.byte_count.result c.charge.new.spent total z.0 z.1 c.in_ok-charge.ensures.large
           c.byte_count.ensures c.in_ok-charge.ensures.spent,
-      c.in_ok-give_free.ensures r t z.0 z.2,
+      c.in_ok-give_free.ensures.answer r t z.0 z.2,
     )
 
 pub returns-in_err-charge-clause-answer : goal.returns-in_err-charge-clause-answer

@@ -7,7 +7,7 @@ pub returns-in_ok-read_chunk-in-Chunk-clause-answer : goal.returns-in_ok-read_ch
 returns-in_ok-read_chunk-in-Chunk-clause-answer c = λ r t total h e. (
   total,
   spends_none c.args.spent.now total,
-  c.in_ok-read_chunk-in-Chunk.ensures r t total
+  c.in_ok-read_chunk-in-Chunk.ensures.answer r t total
       (chunk_next r t c.args.self.now (stack c.args.self.now.levels) c.args.end c.in-Chunk.kind c.in-Chunk.to total h e
       (λ xs stands. c.in-Chunk.ensures r.mode t h.place h.at_start xs h.running.reading stands)),
 )

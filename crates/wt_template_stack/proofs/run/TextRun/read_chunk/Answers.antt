@@ -1,15 +1,19 @@
-use Rattle.std.proofs.Common.{[], subst, sym}
+use Rattle.std.proofs.Common.{[], subst, sym, arith}
 use Rattle.wt_span.specs.Slice.{bytes_of}
 use Rattle.wt_expand.specs.Expansion.{just}
 use Rattle.wt_transclusion.specs.Cursors.{starts}
 use Rattle.wt_template_stack.specs.Levels.{Resumes}
 use Rattle.wt_template_stack.specs.Stacks.{stack}
 use Rattle.wt_template_stack.proofs.StepLaws.{chunk_read}
+use Rattle.wt_template_stack.proofs.MeasureLaws.{same_behind}
 use Rattle.wt_template_stack.proofs.run.TextRun.read_chunk.Goals as goal
 
-pub returns : goal.returns
-returns c = λ r t total h.
-    c.in_ok-resume.ensures r t total h.place h.at_start (record { reading = h.running.reading; mode_is = h.running.mode_is }) h.before
+pub returns-clause-answer : goal.returns-clause-answer
+returns-clause-answer c = λ r t total h.
+    c.in_ok-resume.ensures.answer r t total h.place h.at_start (record { reading = h.running.reading; mode_is = h.running.mode_is }) h.before
     (subst (λ ls. Resumes r t c.args.to (starts t c.args.to) (just []) ls total) (sym c.in_ok-give_some.ensures)
     (chunk_read r t c.args.self.now (stack c.args.self.now.levels) c.args.kind c.args.to total c.lexeme_piece.result (bytes_of c.in_ok-text.text) h
     c.lexeme_piece.ensures c.in_ok-text.ensures.bytes))
+
+pub returns-clause-gets_on : goal.returns-clause-gets_on
+returns-clause-gets_on c = omega (arith, c.in_ok-resume.ensures.gets_on, same_behind _ _ _ c.in_ok-give_some.ensures)

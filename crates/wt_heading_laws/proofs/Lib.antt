@@ -1,0 +1,2 @@
+pub mod HeadingSigns
+pub mod HeadingRows
