@@ -10,5 +10,6 @@ pub mod BlockSpotFacts
 pub mod BlocksTake
 pub mod BlocksUnmarked
 pub mod BlocksCalls
+pub mod OwnNodes
 mod Cases
 mod PageCases

@@ -16,7 +16,7 @@ use Rattle.wt_guards.specs.Letters.{is_escaped, reference}
 use Rattle.wt_guards.specs.Table.{hazard, line_start_hazard}
 use Rattle.wt_expand.specs.PageItems.{page_items}
 use Rattle.wt_typed_blocks.specs.Sent.{paragraph}
-use Rattle.wt_block_edits.specs.Blocks.{BeginsBetween}
+use Rattle.wt_block_edits.specs.Blocks.{a_paragraph, BeginsBetween}
 use Rattle.wt_block_edits.specs.BlockEdits.{BlockEdit, types, keeps, retyped, kept, old_page, new_page, sendings}
 
 abbrev free : Label
@@ -43,7 +43,7 @@ node = tree free none
 abbrev typed : BlockEdit
 typed = record {
   spots = record {
-    spot = record { before = codes "== h ==\n* a\n\n"; block = paragraph; text = codes "b" };
+    spot = record { before = codes "== h ==\n* a\n\n"; block = a_paragraph; text = codes "b" };
     others = node ∷ node ∷ node ∷ node ∷ [];
     typing = types free free (codes "[c]");
   } ∷ [];
@@ -65,9 +65,9 @@ sent = refl
 -- where a paragraph stands first, and another one behind it is emptied
 abbrev emptied : BlockEdit
 emptied = record {
-  spots = record { spot = record { before = []; block = paragraph; text = codes "a" }; others = []; typing = keeps node }
+  spots = record { spot = record { before = []; block = a_paragraph; text = codes "a" }; others = []; typing = keeps node }
       ∷ record {
-        spot = record { before = codes "\n\n----\n\n"; block = paragraph; text = codes "b" };
+        spot = record { before = codes "\n\n----\n\n"; block = a_paragraph; text = codes "b" };
         others = node ∷ node ∷ node ∷ [];
         typing = types free free [];
       }
@@ -83,13 +83,13 @@ emptied_now = refl
 -- ---- what may stand between two paragraphs
 
 -- a table directly behind the first, and more
-table_apart : BeginsBetween paragraph paragraph (page_items (codes "\n{|\n|}\n\n== h ==\n"))
+table_apart : BeginsBetween a_paragraph a_paragraph (page_items (codes "\n{|\n|}\n\n== h ==\n"))
 unfolding page_items words closed form_at comment_len comment_line_len raw_len opening_tag closing_tag include_at entity_at named_entity decimal_entity
     hex_entity entity_names sign_word kind_of_signs
 table_apart = (refl, (record { whole = refl; closed = refl }), refl)
 
 -- but no line of text
-text_behind : BeginsBetween paragraph paragraph (page_items (codes "\na\n")) → ⊥
+text_behind : BeginsBetween a_paragraph a_paragraph (page_items (codes "\na\n")) → ⊥
 unfolding page_items words closed form_at comment_len comment_line_len raw_len opening_tag closing_tag include_at entity_at named_entity decimal_entity
     hex_entity entity_names sign_word kind_of_signs
 text_behind h = let e = h.2 in absurd (cc)

@@ -28,6 +28,7 @@ ghost use Rattle.wt_pagetool.specs.Promises.{Ends, EndsAsEdit};
 ghost use Rattle.wt_pagetool.specs.Selser.{DoneByEdit};
 ghost use Rattle.wt_block_edits.specs.BlockSpots.{BlockSpot, spots_source, page_blocks, AreBlockSpots, SameRound, AreBlocks};
 ghost use Rattle.wt_block_edits.specs.BlockEdits.{BlockEdit, new_spots, old_page, new_page, sent_page, IsBlockEdit};
+ghost use Rattle.wt_block_edits.specs.OwnNodes.{Turn, turn_spots, AreTurns, own_edit};
 ghost use Rattle.wt_block_edits.specs.Unmarked.{unmarked_page, IsUnmarkedBlockEdit};
 ghost use Rattle.wt_block_edits.specs.Calls.{TakesTexts};
 
@@ -69,6 +70,13 @@ pub fn typed_blocks_take_any_texts()
         → length (old_page e) ≤ PAGE_BYTES → length (new_page e) ≤ PAGE_BYTES → length input ≤ HTML_BYTES
         → read input ≡ as_page (sent_page b e) unsourced → answer_told (Some pages) (Some input) words ≡ Some (done (new_page e)) }
     ensures again { (e : BlockEdit) → IsBlockEdit e → AreBlockSpots (new_spots e.spots) e.behind }
+{}
+
+/// There is such an edit of each such page, with any texts: the one that sends every other node as it is in the page,
+/// without marks.
+pub fn pages_have_such_edits()
+    ensures { (l : Label) (rs : List Turn) (behind : List ℕ) → AreBlockSpots (turn_spots rs) behind → AreTurns rs
+        → IsBlockEdit (own_edit l rs behind) }
 {}
 
 /// Without marks, too, as a browser sends it: where each text that was typed is another one than what its paragraph

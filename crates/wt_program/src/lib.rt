@@ -12,9 +12,8 @@ ghost use Rattle.wt_block_edits.specs.Calls.{TakesTexts};
 
 use std::alloc::Global;
 use wt_devices::{Folder, Sink, Source};
-use wt_span::{List, PAGE_BYTES, Str};
-
 pub use wt_pagetool::tell_no_memory;
+use wt_span::{List, PAGE_BYTES, Str};
 
 /// Answers the words of a command line, without the program's name, and gives the number to end with
 /// (`Status::code` of `wt_pagetool`). This is `run` of `wt_pagetool`, which says what each command does, with all
