@@ -5,7 +5,7 @@ use Rattle.wt_span.specs.Comments.{comment_len, comment_line_len}
 use Rattle.wt_span.specs.Entities.{named_entity, entity_names, decimal_entity, hex_entity, entity_at}
 use Rattle.wt_span.specs.Items.{char}
 use Rattle.wt_span.specs.Lexemes.{sign_word, form_at, closed, words}
-use Rattle.wt_span.specs.Tags.{opening_tag, closing_tag, raw_len, include_at}
+use Rattle.wt_span.specs.Tags.{tag_after, opening_tag, closing_tag, with_inside, is_extension, raw_len, include_at}
 use Rattle.wt_lines.specs.Kinds.{kind_of_signs}
 use Rattle.wt_lines.specs.Lines.{full_lines}
 use Rattle.wt_expand.specs.PageItems.{page_items}
@@ -55,6 +55,18 @@ unfolding page_items words closed form_at comment_len comment_line_len raw_len o
     hex_entity entity_names sign_word kind_of_signs
 table_above = record { are_closed = record { whole = refl; closed = refl }; apart = refl }
 
+-- a list item with a footnote
+footnote_above : EndsApart (page_items (codes "* a<ref/>\n"))
+unfolding page_items words closed form_at comment_len comment_line_len raw_len tag_after opening_tag closing_tag with_inside is_extension include_at
+    entity_at named_entity decimal_entity hex_entity entity_names sign_word kind_of_signs
+footnote_above = record { are_closed = record { whole = refl; closed = refl }; apart = refl }
+
+-- a line of comments has its line break in it, and so is part of the line behind it
+comment_above : AreClosed (page_items (codes "* a\n<!-- c -->\n")) → ⊥
+unfolding page_items words closed form_at comment_len comment_line_len raw_len tag_after opening_tag closing_tag with_inside is_extension include_at
+    entity_at named_entity decimal_entity hex_entity entity_names sign_word kind_of_signs
+comment_above h = let e = h.whole in absurd (cc)
+
 -- an open table takes the paragraph in, and with a line of text directly above it is one paragraph
 open_table : AreClosed (page_items (codes "{|\n| b\n")) → ⊥
 unfolding page_items words closed form_at comment_len comment_line_len raw_len opening_tag closing_tag include_at entity_at named_entity decimal_entity
@@ -73,6 +85,11 @@ unfolding page_items words closed form_at comment_len comment_line_len raw_len o
     hex_entity entity_names sign_word kind_of_signs rows
 rule_behind = (refl, refl)
 
+comment_behind : EndsParagraph (page_items (codes "\n<!-- c -->\n* a"))
+unfolding page_items words closed form_at comment_len comment_line_len raw_len tag_after opening_tag closing_tag with_inside is_extension include_at
+    entity_at named_entity decimal_entity hex_entity entity_names sign_word kind_of_signs rows
+comment_behind = (refl, refl)
+
 -- ---- no groups
 
 -- a list with an item and a text in it, and a separator
@@ -82,6 +99,15 @@ unfolding page_items words closed form_at comment_len comment_line_len raw_len o
     line_trees context_parts segments tiles shapes tiles_closed tile_form_at link_or_url link_at ext_link_at bare_url_at scheme_len kept_len
     tag_tile tag_at tile_opening_tag tile_closing_tag switch_at loose_segments chunks with_styles style_tree_of toggles_of toggle_at
 list_alone = (refl, ((refl, ((refl, ((refl, tt), tt)), tt)), ((refl, tt), tt)))
+
+-- the same with a footnote in the item
+footnote_alone : HasNoGroups (codes "* a<ref/>\n")
+unfolding page_items words closed form_at comment_len comment_line_len raw_len tag_after opening_tag closing_tag with_inside is_extension include_at
+    entity_at named_entity decimal_entity hex_entity entity_names sign_word kind_of_signs
+    annotated group_data label_at meaning rows blocks children nested colon_at line_item lists
+    line_trees context_parts segments tiles shapes tiles_closed tile_form_at link_or_url link_at ext_link_at bare_url_at scheme_len kept_len
+    tag_tile tag_at tile_opening_tag tile_closing_tag switch_at loose_segments chunks with_styles style_tree_of toggles_of toggle_at
+footnote_alone = (refl, ((refl, ((refl, ((refl, tt), ((refl, tt), tt))), tt)), ((refl, tt), tt)))
 
 -- a table with a cell, between separators
 table_alone : HasNoGroups (codes "\n\n{|\n| b\n|}\n\n")
