@@ -143,7 +143,7 @@ content_whole (x ∷ y ∷ xs) h = ap (λ zs. x ∷ zs) (content_whole (y ∷ xs
 
 -- ---- its row
 
-abbrev heading_row : List Item → List Item → Row
+abbrev pub heading_row : List Item → List Item → Row
 heading_row l end = record { kind = line.Heading; lead = []; items = l; ending = end }
 
 row_by : (x : Item) (xs : List Item) (l end : List Item) (k : LineKind) → kind_at 0 (char None 61 ∷ xs) ≡ k → k ≡ line.Heading
@@ -256,22 +256,23 @@ heading_parts n own (y ∷ ys) le h e =
     ∙ ap (λ (ps : List Part). node (heading_with (suc n) own) ∷ ps) (sym (breaks_first (char None 10 ∷ []) ys (refl, tt)))
     ∙ ap (λ (z : Item). node (heading_with (suc n) own) ∷ parts_in (z ∷ ys)) (sym e)
 
-first_row : (n : ℕ) (own tail : List Item) → NoBreaks own → EndsLine tail
+pub first_row : (n : ℕ) (own tail : List Item) → NoBreaks own → EndsLine tail
     → (end : List Item) × (rs : List Row) × (rows (heading_line (suc n) own ++ tail) ≡ heading_row (heading_line (suc n) own) end ∷ rs)
 first_row n own [] h e = ([], [], ap rows (append-nil (heading_line (suc n) own)) ∙ last_rows n own h)
 first_row n own (y ∷ ys) h e = (char None 10 ∷ [], rows ys, ap (λ (z : Item). rows (heading_line (suc n) own ++ z ∷ ys)) e ∙ ended_rows n own ys h)
 
-stands : (xs : List Item) (n : ℕ) (own tail : List Item) → AreClosed xs → suc n ≤ 6 → IsHeadingText own → EndsLine tail
-    → meaning (xs ++ (heading_line (suc n) own ++ tail)) ≡ body_with (blocks_in xs ++ heading_with (suc n) own ∷ blocks_in tail)
-stands xs n own tail c le h e =
-    let ys : List Item = heading_line (suc n) own ++ tail in
+-- with what stands before it
+pub heading_between : (xs : List Item) (n : ℕ) (own tail : List Item) → AreClosed xs → 1 ≤ n → n ≤ 6 → IsHeadingText own → EndsLine tail
+    → parts_in (xs ++ (heading_line n own ++ tail)) ≡ parts_in xs ++ node (heading_with n own) ∷ parts_in tail
+heading_between xs zero own tail c some le h e = absurd (omega (arith, some))
+heading_between xs (suc n) own tail c some le h e =
     let f = first_row n own tail h.unbroken e in
-    let t : ItemTree = heading_with (suc n) own in
-    body_is (xs ++ ys) (parts_in xs ++ node t ∷ parts_in tail)
-    (row_behind xs ys (heading_row (heading_line (suc n) own) f.0) f.1 c f.2 refl ∙ ap (λ (ps : List Part). parts_in xs ++ ps) (heading_parts n own tail le h e))
-    ∙ ap body_with (round_node t (parts_in xs) (parts_in tail))
+    row_behind xs (heading_line (suc n) own ++ tail) (heading_row (heading_line (suc n) own) f.0) f.1 c f.2 refl
+    ∙ ap (λ (ps : List Part). parts_in xs ++ ps) (heading_parts n own tail le h e)
 
 pub heading_stands : (xs : List Item) (n : ℕ) (own tail : List Item) → AreClosed xs → 1 ≤ n → n ≤ 6 → IsHeadingText own → EndsLine tail
     → meaning (xs ++ (heading_line n own ++ tail)) ≡ body_with (blocks_in xs ++ heading_with n own ∷ blocks_in tail)
-heading_stands xs zero own tail c some le h e = absurd (omega (arith, some))
-heading_stands xs (suc n) own tail c some le h e = stands xs n own tail c le h e
+heading_stands xs n own tail c some le h e =
+    let t : ItemTree = heading_with n own in
+    body_is (xs ++ (heading_line n own ++ tail)) (parts_in xs ++ node t ∷ parts_in tail) (heading_between xs n own tail c some le h e)
+    ∙ ap body_with (round_node t (parts_in xs) (parts_in tail))

@@ -36,18 +36,18 @@ break_clear bs =
     let z : bare_len (bs ++ byte.line_break ∷ []) ≡ 0 = ap (prefix_len (λ b. not (is_stop b))) (reverse-append bs (byte.line_break ∷ [])) in
     sym (none_bare_here (bs ++ byte.line_break ∷ []) (bare_len (bs ++ byte.line_break ∷ [])) refl z)
 
-lines_clear : (front : List ℕ) (b : ℕ) (bs : List ℕ) → EndsLine (b ∷ bs) → ends_open (front ++ b ∷ bs) ≡ false
-lines_clear front b [] e = ap (λ (c : ℕ). ends_open (front ++ c ∷ [])) e ∙ break_clear front
-lines_clear front b (c ∷ bs) e = ap ends_open (sym (append_assoc front (b ∷ []) (c ∷ bs))) ∙ lines_clear (front ++ b ∷ []) c bs e
+pub clear_line : (front : List ℕ) (b : ℕ) (bs : List ℕ) → EndsLine (b ∷ bs) → ends_open (front ++ b ∷ bs) ≡ false
+clear_line front b [] e = ap (λ (c : ℕ). ends_open (front ++ c ∷ [])) e ∙ break_clear front
+clear_line front b (c ∷ bs) e = ap ends_open (sym (append_assoc front (b ∷ []) (c ∷ bs))) ∙ clear_line (front ++ b ∷ []) c bs e
 
 -- at the page's start, and behind a paragraph
 pub clear_first : (bs : List ℕ) → EndsLine bs → ends_open bs ≡ false
 clear_first [] e = refl
-clear_first (b ∷ bs) e = lines_clear [] b bs e
+clear_first (b ∷ bs) e = clear_line [] b bs e
 
 pub clear_behind : (front bs : List ℕ) → EndsLine bs → BeginsApart (page_items bs) → ends_open (front ++ bs) ≡ false
 clear_behind front [] e h = absurd (subst BeginsApart (read_items [] [] reads_nothing) h)
-clear_behind front (b ∷ bs) e h = lines_clear front b bs e
+clear_behind front (b ∷ bs) e h = clear_line front b bs e
 
 -- ---- with other texts
 

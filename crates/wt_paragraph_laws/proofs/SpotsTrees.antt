@@ -60,7 +60,7 @@ all_full (u ∷ us) vs h g = (h.0, h.1, all_full us vs h.2 g)
 of_page_alone : (xs : List Item) → AllOfPage (xs ++ []) → AllOfPage xs
 of_page_alone xs h = subst AllOfPage (append-nil xs) h
 
-plain_joined : (us vs : List ItemTree) → ArePlain us → ArePlain vs → ArePlain (us ++ vs)
+pub plain_joined : (us vs : List ItemTree) → ArePlain us → ArePlain vs → ArePlain (us ++ vs)
 plain_joined us vs h g =
     let xs : List Item = held_by_all (forest us) in
     let ys : List Item = held_by_all (forest vs) in
@@ -98,7 +98,7 @@ tree_of : (ts : List ItemTree) → cut_texts (annotated_plainly (body_with ts)) 
 unfolding annotated_plainly label_at
 tree_of ts = refl
 
-plain_tree : (ts : List ItemTree) → ArePlain ts
+pub plain_tree : (ts : List ItemTree) → ArePlain ts
     → annotated [] (group_data []) (body_with ts) ≡ tree (sized kind.Body 0 (held_by_all (forest ts) ++ []) [] []) (blocks_of 1 [] ts)
 plain_tree ts h = without_calls [] (group_data []) (body_with ts) h ∙ tree_of ts
 

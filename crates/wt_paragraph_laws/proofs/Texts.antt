@@ -34,11 +34,11 @@ use Rattle.wt_paragraph_laws.specs.Texts.{IsReference, AreLetters, AreOneText, I
 
 -- ---- no `<`
 
-tags_split : (q r : List ℕ) → HasNoTag (q ++ r) → HasNoTag q × HasNoTag r
+pub tags_split : (q r : List ℕ) → HasNoTag (q ++ r) → HasNoTag q × HasNoTag r
 tags_split [] r h = (tt, h)
 tags_split (b ∷ q) r h = let s = tags_split q r h.1 in ((h.0, s.0), s.1)
 
-no_comment : (q : List ℕ) → HasNoTag q → HasNoComment q
+pub no_comment : (q : List ℕ) → HasNoTag q → HasNoComment q
 no_comment [] h = tt
 no_comment (b ∷ q) h = (comment_other b q (apart b 60 h.0), no_comment q h.1)
 
@@ -65,7 +65,7 @@ form_own form.Include bs r h = absurd r
 form_own form.Hidden bs r h = absurd r
 form_own form.EmptyCall bs r h = absurd r
 
-letters_own : (xs : List Item) → AreLetters xs → HasNoTag (sources xs) → AreOwn xs
+pub letters_own : (xs : List Item) → AreLetters xs → HasNoTag (sources xs) → AreOwn xs
 letters_own [] a h = tt
 letters_own (char None b ∷ xs) a h = letters_own xs a h.1
 letters_own (char (Some k) b ∷ xs) a h = absurd a
@@ -109,15 +109,15 @@ EndsHere [] = Unit {0}
 EndsHere (b ∷ bs) = b ≡ 10
 
 -- what is read behind a line break
-read_rest : (r : List ℕ) (xs : List Item) → Reads (10 ∷ r) xs → Reads r (page_items r)
+pub read_rest : (r : List ℕ) (xs : List Item) → Reads (10 ∷ r) xs → Reads r (page_items r)
 read_rest r xs h =
     let s = subst (λ (c : Cut). HaveNoBraces c.1) (cuts_cons Page false 10 r None (other_byte Page 10 r refl)) (h.shown false) in
     read_alone r h.clean.1 (subst (λ (c : Cut). HaveNoBraces c.1) (cuts_same true r h.clean.1) s)
 
-rest_is : (r : List ℕ) (xs : List Item) → Reads (10 ∷ r) xs → xs ≡ char None 10 ∷ page_items r
+pub rest_is : (r : List ℕ) (xs : List Item) → Reads (10 ∷ r) xs → xs ≡ char None 10 ∷ page_items r
 rest_is r xs h = sym (read_items (10 ∷ r) xs h) ∙ read_items (10 ∷ r) (char None 10 ∷ page_items r) (read_break r (page_items r) (read_rest r xs h))
 
-nothing_is : (xs : List Item) → Reads [] xs → xs ≡ []
+pub nothing_is : (xs : List Item) → Reads [] xs → xs ≡ []
 nothing_is xs h = sym (read_items [] xs h) ∙ read_items [] [] reads_nothing
 
 before_break : (q r : List ℕ) (xs : List Item) → IsWrittenText q → Reads (10 ∷ r) xs → Reads (q ++ 10 ∷ r) (page_items q ++ xs)

@@ -1,6 +1,4 @@
 mod Cases
-mod FetchCases
-mod FetchLaws
 mod IndexLaws
 mod RunLaws
 mod RunCases

@@ -33,7 +33,7 @@ pub of_library : (words : List (List ℕ)) (ended : ℕ)
     (b : Option (List (List ℕ))) (names : List (List ℕ))
     → l ≡ Some input → p ≡ Some pages → f ≡ 0 → t ≡ Some [] → o ≡ 0 → e ≡ Some [] → k ≡ 0 → b ≡ Some []
     → Ran (call words (source l left) (folder p f ff) (sink t out o oo) (sink e line k kk)) ended b (Some names)
-    → Answers words input pages ff ended out line names
+    → Answers words input pages ended out line names
 of_library words ended l input left p pages f ff t out o oo e line k kk b names el ep ef et eo ee ek eb ran =
     let a1 = subst (λ (x : Option (List ℕ)). Ran (call words (source x left) (folder p f ff) (sink t out o oo) (sink e line k kk)) ended b (Some names)) el ran in
     let a2 = subst (λ (x : Option Pages). Ran (call words (from_buffer input left) (folder x f ff) (sink t out o oo) (sink e line k kk)) ended b (Some names)) ep a1 in
@@ -44,6 +44,7 @@ of_library words ended l input left p pages f ff t out o oo e line k kk b names 
     let a7 = subst (λ (x : ℕ). Ran (call words (from_buffer input left) (from_table pages ff) (to_memory out oo) (sink (Some []) line x kk)) ended b (Some names)) ek a6 in
     record {
       left = left;
+      failed_fetches = ff;
       out_faults = oo;
       line_faults = kk;
       ran = subst (λ (x : Option (List (List ℕ))). Ran (call words (from_buffer input left) (from_table pages ff) (to_memory out oo) (to_memory line kk)) ended x (Some names)) eb a7;

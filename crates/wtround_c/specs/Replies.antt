@@ -1,11 +1,10 @@
 -- What the library hands back: a status and three texts, each put into a room of the caller.
 use Rattle.std.specs.Prelude.{◌≡◌, ℕ, Bool, true, false, ◌&&◌, nat_le, List, [], ◌∷◌, ◌++◌, length, drop}
-use Rattle.std.specs.List.{All}
 use Rattle.wtround_c.specs.declared.reply.TheConstants.{MISSING, SHORT}
 use Rattle.wtround_c.specs.declared.table.Page.{Page}
 use Rattle.wtround_c.specs.declared.words.Word.{Word}
 use Rattle.wtround_c.specs.Runs.{Answers}
-use Rattle.wtround_c.specs.Tables.{Entries, entry_of, pages_of, missing_names, FailsOnlyBy, WasFetched}
+use Rattle.wtround_c.specs.Tables.{Entries, entry_of, pages_of, missing_names}
 use Rattle.wtround_c.specs.Words.{words_of}
 
 pub record Told : Type 0 where
@@ -20,22 +19,13 @@ abbrev pub told_by : ℕ → List ℕ → List ℕ → List ℕ → Told
 told_by status out line [] = record { status = status; out = out; line = line; missing = [] }
 told_by status out line (byte ∷ bytes) = record { status = MISSING; out = []; line = []; missing = byte ∷ bytes }
 
--- A call of `run` over the entries of a table: no fetch failed where all pages of the table could be fetched, and a page that could not be
--- fetched was never taken for an absent one.
-pub record AnswersOver (words : List (List ℕ)) (input : List ℕ) (entries : Entries) (ended : ℕ) (out line : List ℕ)
-    (names : List (List ℕ)) : Type 0 where
-  pub failed_fetches : ℕ
-  pub answers : Answers words input (pages_of entries) failed_fetches ended out line names
-  pub failed : FailsOnlyBy entries failed_fetches
-  pub fetched : All (WasFetched entries) names
-
 -- what the caller gets of a call with these words over this input and the entries of a table
 pub record IsToldOver (words : List (List ℕ)) (input : List ℕ) (entries : Entries) (told : Told) : Type 0 where
   pub ended : ℕ
   pub out : List ℕ
   pub line : List ℕ
   pub names : List (List ℕ)
-  pub answers : AnswersOver words input entries ended out line names
+  pub answers : Answers words input (pages_of entries) ended out line names
   pub is : told ≡ told_by ended out line (missing_names entries names)
 
 -- the same as the caller gives words and table

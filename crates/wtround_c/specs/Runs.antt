@@ -34,11 +34,11 @@ from_table pages faults = record { pages_before = Some pages; faults_before = 0;
 abbrev pub to_memory : List ℕ → ℕ → SinkUse
 to_memory bytes faults = record { taken_before = Some []; taken_after = Some bytes; faults_before = 0; faults_after = faults }
 
--- A call of `run` with these words over an input and pages: how many fetches failed, how it ended, what it wrote to its two sinks, and
--- the names that it asked for.
-pub record Answers (words : List (List ℕ)) (input : List ℕ) (pages : Pages) (failed_fetches ended : ℕ) (out line : List ℕ)
-    (names : List (List ℕ)) : Type 0 where
+-- A call of `run` with these words over an input and pages: how it ended, what it wrote to its two sinks, and the names that it
+-- asked for.
+pub record Answers (words : List (List ℕ)) (input : List ℕ) (pages : Pages) (ended : ℕ) (out line : List ℕ) (names : List (List ℕ)) : Type 0 where
   pub left : List ℕ
+  pub failed_fetches : ℕ
   pub out_faults : ℕ
   pub line_faults : ℕ
   pub ran : Ran (call words (from_buffer input left) (from_table pages failed_fetches) (to_memory out out_faults) (to_memory line line_faults))

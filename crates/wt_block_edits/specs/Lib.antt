@@ -1,0 +1,5 @@
+pub mod Blocks
+pub mod BlockSpots
+pub mod BlockEdits
+pub mod Unmarked
+pub mod Calls
