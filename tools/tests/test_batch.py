@@ -621,6 +621,12 @@ class Limits(BatchCase):
         self.assertEqual(sum(outcomes.values()), 2000)
         self.assertGreaterEqual(outcomes["came back"], 1997)
 
+    def test_workers_that_get_no_page(self) -> None:
+        """They are forked before it is known how much there is to do, and end with the run."""
+        self.program = PROGRAM
+        self.write("One", "some words\n")
+        self.assertEqual(self.report("wikitext", "-j", "8")["outcomes"]["wikitext"], {"came back": 1})
+        self.wait_for(lambda: not processes_in(self.root))
 
     def test_the_nursery_is_ended(self) -> None:
         """Then no worker can be started any more: the run says so, ends, and can be gone on with."""
@@ -647,6 +653,18 @@ def children_of(process_id: int) -> "list[int]":
         except OSError:
             pass
     return children
+
+
+def processes_in(folder: Path) -> "list[int]":
+    """Those whose working folder this is."""
+    found = []
+    for path in Path("/proc").glob("[0-9]*/cwd"):
+        try:
+            if path.resolve() == folder.resolve():
+                found.append(int(path.parent.name))
+        except OSError:
+            pass
+    return found
 
 
 def is_named(process_id: int, name: str) -> bool:

@@ -269,13 +269,15 @@ def main_of_run(words: "list[str]") -> int:
     arguments = this_parser.parse_args(words)
     refuse_arguments(this_parser, arguments)
     program = find_program(arguments.program)
-    refuse_unfit(program, arguments.commands)
     progress = Progress(sys.stderr, arguments.quiet)
-    with closing(Nursery(work)) as nursery, closing(Store(arguments.state)) as store:
-        try:
-            return run_all(arguments, program, nursery, store, progress)
-        finally:
-            progress.clear()
+    with closing(Nursery(work)) as nursery:
+        nursery.start_ahead(jobs_of(arguments))  # while this process gets the pages
+        refuse_unfit(program, arguments.commands)
+        with closing(Store(arguments.state)) as store:
+            try:
+                return run_all(arguments, program, nursery, store, progress)
+            finally:
+                progress.clear()
 
 
 def main() -> int:

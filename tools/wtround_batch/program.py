@@ -8,7 +8,6 @@ import hashlib
 import os
 import resource
 import select
-import shutil
 import signal
 import subprocess
 import time
@@ -63,9 +62,14 @@ def find_program(given: "str | None") -> str:
     clone = os.path.join(
         siblings.PACKAGE_PARENT, os.pardir, "crates", "wtround_cases", "out", "wtround_cases"
     )
-    for path in (clone, siblings.find("wtround_cases"), shutil.which("wtround_cases")):
+    for path in (clone, siblings.find("wtround_cases")):
         if path is not None and os.access(path, os.X_OK):
             return os.path.realpath(path)
+    from shutil import which  # only where it is wanted, so that the other runs begin sooner
+
+    found = which("wtround_cases")
+    if found is not None:
+        return os.path.realpath(found)
     raise ProgramError("there is no wtround_cases beside this tool or on the PATH; --program names one")
 
 
@@ -109,6 +113,13 @@ class Cases:
         self._is_fresh = True
         self._left = b""
         self._room = memoryview(bytearray(CHUNK))
+
+    def start_ahead(self) -> None:
+        """Starts it before it is asked. Why that fails, if it does, is said when it is asked."""
+        try:
+            self._start()
+        except OSError:
+            pass
 
     def ask(self, line: bytes, deadline: float) -> Answer:
         """The answer to a case, before this moment of `time.monotonic`. Raises Died or TooSlow.

@@ -14,6 +14,7 @@ from .results import Known, Result
 from .wiki import Entry, ExportedPage, ExportReader, Namespaces, Skipped, link_in_wiki
 
 FORMAT = "1"
+LOG_PAGES = 10_000  # of SQLite, 41 MB: at so many what was committed is brought into the file, which is waited for
 MOST_REMEMBERED = 1 << 16  # entries of each of the two small memories of templates
 
 SCHEMA = """
@@ -87,6 +88,7 @@ class Store:
             self._connection = sqlite3.connect(self.path, isolation_level=None)
             self._connection.execute("PRAGMA journal_mode = WAL")
             self._connection.execute("PRAGMA synchronous = NORMAL")
+            self._connection.execute(f"PRAGMA wal_autocheckpoint = {LOG_PAGES}")
             self._create()
         except sqlite3.DatabaseError as error:
             raise StoreError(f"{path}: {error}") from None

@@ -156,6 +156,7 @@ def work(leader: socket.socket) -> None:
         # The worker and its program take turns: on one processor, neither has to wake another one up.
         os.sched_setaffinity(0, {orders.processor})
     cases = Cases(orders.program, orders.memory_limit)
+    cases.start_ahead()
     examiner = Examiner(cases, orders.source(), orders.time_limit, orders.output != "nothing")
     sink = orders.sink()
     batches: "queue.SimpleQueue" = queue.SimpleQueue()
