@@ -140,7 +140,11 @@ class Run:
         self.counts = Counts()
         self.is_stopped = False  # is set when the run shall end
         self.number = 0
-        self._titles = 0  # with what is skipped
+
+    @cached_property
+    def _titles(self) -> int:
+        """How many titles are chosen, with what is skipped. They are counted while the workers work."""
+        return self._choice.count(self._source)
 
     @cached_property
     def program(self) -> str:
@@ -156,10 +160,9 @@ class Run:
         started = time.monotonic()
         self._store.clear_skipped("list")
         self.number = self._store.count_up("run")
-        self._titles = self._choice.count(self._source)
         engine = Engine(nursery, self._orders, jobs, lambda: self.is_stopped)
         self._store.begin()
-        results = engine.run(self._tasks(), self._titles)
+        results = engine.run(self._tasks(), lambda: self._titles)
         try:
             for done in results:
                 self._take(done)
