@@ -218,7 +218,7 @@ def run_all(
         is_whole = arguments.export is None or store.about("export whole") == "yes"
         if arguments.report is not None:
             write_report(arguments, run, store, source, is_whole)
-    print(told(run.counts, run.total), file=sys.stderr)
+        print(told(run.counts, run.total), file=sys.stderr)
     if run.is_stopped:
         print(f"{PROGRAM}: stopped; the same words go on from here", file=sys.stderr)
         return 130

@@ -18,7 +18,7 @@ from .store import Export, Store, StoreError, digest_of, remember, taken_digest,
 from .wiki import Folder, Namespaces, Skipped, full_name
 from .worker import Orders
 
-COMMIT_SECONDS = 0.5
+LEAST_COMMIT_SECONDS, MOST_COMMIT_SECONDS = 0.5, 5.0  # between two commits, which become rarer as the run goes on
 Source = Union[Folder, Export]
 
 
@@ -136,7 +136,7 @@ class Run:
         self._orders = orders
         self._target = target
         self._digests: "dict[str, bytes | None]" = {}
-        self._next_commit = 0.0
+        self._started = self._next_commit = 0.0
         self.counts = Counts()
         self.is_stopped = False  # is set when the run shall end
         self.number = 0
@@ -157,7 +157,7 @@ class Run:
 
     def go(self, nursery: Nursery, jobs: int, progress: Progress) -> None:
         """Tries every chosen page, until it is stopped. What was stored stays stored, however this ends."""
-        started = time.monotonic()
+        self._started = time.monotonic()
         self._store.clear_skipped("list")
         self.number = self._store.count_up("run")
         engine = Engine(nursery, self._orders, jobs, lambda: self.is_stopped)
@@ -170,7 +170,7 @@ class Run:
         finally:
             results.close()
             self._commit()
-            self.counts.seconds = time.monotonic() - started
+            self.counts.seconds = time.monotonic() - self._started
 
     @property
     def total(self) -> int:
@@ -238,10 +238,12 @@ class Run:
             self.counts.outcomes[outcome] += 1
 
     def _commit_now_and_then(self) -> None:
-        if time.monotonic() >= self._next_commit:
+        now = time.monotonic()
+        if now >= self._next_commit:
             self._commit()
             self._store.begin()
-            self._next_commit = time.monotonic() + COMMIT_SECONDS
+            wait = min(max(now - self._started, LEAST_COMMIT_SECONDS), MOST_COMMIT_SECONDS)
+            self._next_commit = now + wait
 
     def _commit(self) -> None:
         self._target.flush()
