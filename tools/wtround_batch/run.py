@@ -18,7 +18,8 @@ from .store import Export, Store, StoreError, digest_of, remember, taken_digest,
 from .wiki import Folder, Namespaces, Skipped, full_name
 from .worker import Orders
 
-LEAST_COMMIT_SECONDS, MOST_COMMIT_SECONDS = 0.5, 5.0  # between two commits, which become rarer as the run goes on
+# Between two commits, which become rarer as a run goes on.
+LEAST_COMMIT_SECONDS, MOST_COMMIT_SECONDS = 0.5, 5.0
 Source = Union[Folder, Export]
 
 
