@@ -33,7 +33,7 @@ from pathlib import Path
 
 TOP = Path(__file__).resolve().parent.parent
 TOOL = TOP / "tools" / "batch"
-# Without what a shell may tell Python: some forbid it to keep compiled modules; then each start makes them anew.
+# Without what a shell may tell Python: some forbid it to keep compiled modules.
 ENVIRONMENT = {name: value for name, value in os.environ.items() if not name.startswith("PYTHON")}
 
 

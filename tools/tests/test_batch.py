@@ -759,7 +759,7 @@ class FileNames(unittest.TestCase):
 
 
 class Asked:
-    """Stands for the program: it answers a case with its bytes, fails at `bad`, and keeps what is asked at once."""
+    """Stands for the program: answers a case with its bytes, fails at `bad`, and keeps what is asked at once."""
 
     def __init__(self) -> None:
         self.groups: "list[list[bytes]]" = []

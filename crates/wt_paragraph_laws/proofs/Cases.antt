@@ -1,5 +1,5 @@
--- Worked cases of pages with typed paragraphs, and of what may stand round these, by computing.
-use Rattle.std.proofs.Common.{◌≡◌, None, List, [], ◌∷◌, ◌++◌, refl}
+-- Worked cases of what may stand round a typed paragraph, by computing.
+use Rattle.std.proofs.Common.{◌≡◌, None, [], ◌∷◌, ◌++◌, refl}
 use Rattle.std.specs.Prelude.{codes}
 use Rattle.wt_span.specs.Comments.{comment_len, comment_line_len}
 use Rattle.wt_span.specs.Entities.{named_entity, entity_names, decimal_entity, hex_entity, entity_at}
@@ -32,18 +32,8 @@ use Rattle.wt_annotated.specs.Annotated.{annotated}
 use Rattle.wt_annotated.specs.GroupData.{group_data}
 use Rattle.wt_annotated.specs.Labels.{label_at}
 use Rattle.wt_paragraph_laws.specs.Between.{rows_of_lines, AreClosed, EndApart, EndsApart, EndsParagraph}
-use Rattle.wt_paragraph_laws.specs.Spots.{Spot, spots_source, BeginsApart, HasNoGroups}
+use Rattle.wt_paragraph_laws.specs.Parts.{HasNoGroups}
 use Rattle.wt_paragraph_laws.specs.Texts.{AreLetters, AreOneText}
-
--- a list, a paragraph, a table, a paragraph, and a rule
-abbrev page : List Spot
-page =
-    record { before = codes "* a\n\n"; paragraph = codes "x" }
-    ∷ record { before = codes "\n{|\n| b\n|}\n"; paragraph = codes "y" }
-    ∷ []
-
-its_source : spots_source page (codes "\n----\n") ≡ codes "* a\n\nx\n{|\n| b\n|}\ny\n----\n"
-its_source = refl
 
 -- ---- what stands before a paragraph
 
@@ -65,12 +55,6 @@ unfolding page_items words closed form_at comment_len comment_line_len raw_len o
     hex_entity entity_names sign_word kind_of_signs
 table_above = record { are_closed = record { whole = refl; closed = refl }; apart = refl }
 
--- a table directly behind a paragraph, and more
-table_apart : BeginsApart (page_items (codes "\n{|\n|}\n\n== h ==\n"))
-unfolding page_items words closed form_at comment_len comment_line_len raw_len opening_tag closing_tag include_at entity_at named_entity decimal_entity
-    hex_entity entity_names sign_word kind_of_signs
-table_apart = (refl, (record { whole = refl; closed = refl }), refl)
-
 -- an open table takes the paragraph in, and with a line of text directly above it is one paragraph
 open_table : AreClosed (page_items (codes "{|\n| b\n")) → ⊥
 unfolding page_items words closed form_at comment_len comment_line_len raw_len opening_tag closing_tag include_at entity_at named_entity decimal_entity
@@ -81,11 +65,6 @@ text_above : EndApart (rows_of_lines (page_items (codes "a\n"))) → ⊥
 unfolding page_items words closed form_at comment_len comment_line_len raw_len opening_tag closing_tag include_at entity_at named_entity decimal_entity
     hex_entity entity_names sign_word kind_of_signs
 text_above h = absurd (cc)
-
-text_behind : BeginsApart (page_items (codes "\na\n")) → ⊥
-unfolding page_items words closed form_at comment_len comment_line_len raw_len opening_tag closing_tag include_at entity_at named_entity decimal_entity
-    hex_entity entity_names sign_word kind_of_signs
-text_behind h = let e = h.2 in absurd (cc)
 
 -- ---- what stands behind the last
 

@@ -16,7 +16,7 @@ use Rattle.wt_context.specs.Line.{line_parts}
 use Rattle.wt_page.specs.Rows.{marks_len}
 use Rattle.wt_expand.specs.PageItems.{page_items}
 use Rattle.wt_text_edits.specs.TypedPages.{IsTypedPage}
-use Rattle.wt_text_between.specs.Between.{HaveNoBraces, StandsBefore}
+use Rattle.wt_text_between.specs.Between.{HasNoTag, HaveNoBraces, StandsBefore}
 
 -- ---- a text that somebody wrote in the page's own wikitext
 
@@ -51,6 +51,7 @@ AreOneText (l ∷ ls) = (marks_len l ≡ 0) × (line_parts (content l) ≡ parts
 -- characters and references, and nothing else.
 pub record IsWrittenText (q : List ℕ) : Type 0 where
   pub utf8 : IsUtf8 q
+  pub untagged : HasNoTag q
   pub stands : StandsBefore (q ++ byte.line_break ∷ [])
   pub uncalled : HaveNoBraces (words Page q)
   pub ended : page_items (q ++ byte.line_break ∷ []) ≡ page_items q ++ char None byte.line_break ∷ []
