@@ -20,10 +20,11 @@ use Rattle.wt_scans.specs.Scans.{after_all}
 use Rattle.wt_prose.proofs.Uncommented.{uncommented_other}
 use Rattle.wt_prose.proofs.InFront.{Reads, reads_byte, reads_form}
 use Rattle.wt_prose.proofs.ProseReading.{page_front}
-use Rattle.wt_text_between.specs.Between.{HasNoTag, StandsBefore}
+use Rattle.wt_text_between.specs.Between.{StandsBefore}
 use Rattle.wt_text_between.proofs.Fronts.{ReadsAfter, reads_after, reads_either, page_read, page_words, before_reads, behind_reads}
 use Rattle.wt_paragraph_laws.specs.Between.{EndsParagraph}
-use Rattle.wt_paragraph_laws.proofs.Texts.{untagged_alone, EndsHere, here_begins, nothing_is, line_front, paragraph_front}
+use Rattle.wt_paragraph_laws.specs.Texts.{AreLetters}
+use Rattle.wt_paragraph_laws.proofs.Texts.{uncommented_text, letters_joined, EndsHere, here_begins, nothing_is, line_front, paragraph_front}
 use Rattle.wt_heading_laws.specs.TypedHeadings.{Sides, AreBlanks, AreSides, equals, opening, closing, heading_line, EndsLine}
 use Rattle.wt_block_edits.specs.Blocks.{TextBlock, a_paragraph, a_heading, source_of, block_items, IsTypedHeading, IsWrittenHeading, IsBlock, EndsBlock, BeginsApart, BeginsLine, BeginsBetween}
 use Rattle.wt_block_edits.specs.BlockSpots.{BlockSpot, spots_source, IsBlockSpot, AreFurtherBlocks, AreBlockSpots}
@@ -113,30 +114,26 @@ typed_front s q rest xs h r =
 
 -- ---- one that was written by hand, before a line break, or where the page ends
 
-tags_joined : (q r : List ℕ) → HasNoTag q → HasNoTag r → HasNoTag (q ++ r)
-tags_joined [] r h g = g
-tags_joined (b ∷ q) r h g = (h.0, tags_joined q r h.1 g)
+chars_letters : (bs : List ℕ) → AreLetters (page_chars bs)
+chars_letters [] = tt
+chars_letters (b ∷ bs) = chars_letters bs
 
-quiet_untagged : (bs : List ℕ) → AreQuiet bs → HasNoTag bs
-quiet_untagged [] h = tt
-quiet_untagged (b ∷ bs) h = (each_quiet (λ (c : ℕ). (c == 60) ≡ false) refl refl refl b h.0, quiet_untagged bs h.1)
-
-line_untagged : (s : Sides) (q : List ℕ) → AreSides s → HasNoTag q → HasNoTag (source_of (a_heading s) q)
-line_untagged s q a h =
-    tags_joined (opening s) (q ++ closing s) (quiet_untagged (opening s) (opening_quiet s a))
-    (tags_joined q (closing s) h (quiet_untagged (closing s) (closing_quiet s a)))
+line_letters : (s : Sides) (xs : List Item) → AreLetters xs → AreLetters (heading_line s xs)
+line_letters s xs h =
+    letters_joined (page_chars (opening s)) (xs ++ page_chars (closing s)) (chars_letters (opening s))
+    (letters_joined xs (page_chars (closing s)) h (chars_letters (closing s)))
 
 written_front : (s : Sides) (q rest : List ℕ) (xs : List Item) → IsWrittenHeading s q → EndsHere rest → Reads rest xs
     → Reads (source_of (a_heading s) q ++ rest) (heading_line s (page_items q) ++ xs)
 written_front s q [] xs h e r =
     let line : List ℕ = source_of (a_heading s) q in
     let own : List Item = heading_line s (page_items q) in
-    let alone : Reads line (page_items line) = behind_reads line (record { uncommented = untagged_alone line (line_untagged s q h.sides h.untagged); uncalled = h.uncalled }) in
+    let alone : Reads line (page_items line) = behind_reads line (record { uncommented = uncommented_text line (subst AreLetters (sym h.unended) (line_letters s (page_items q) h.are_letters)); uncalled = h.uncalled }) in
     subst (λ ys. Reads (line ++ []) (own ++ ys)) (sym (nothing_is xs r))
     (subst (λ bs. Reads bs (own ++ [])) (sym (append-nil line)) (subst (λ ys. Reads line ys) (h.unended ∙ sym (append-nil own)) alone))
 written_front s q (b ∷ r) xs h e read =
     let P : ℕ → Type 0 = λ (c : ℕ). Reads (c ∷ r) xs → Reads (source_of (a_heading s) q ++ c ∷ r) (heading_line s (page_items q) ++ xs) in
-    subst P (sym e) (λ k. line_front (source_of (a_heading s) q) r (heading_line s (page_items q)) xs (line_untagged s q h.sides h.untagged) h.stands h.ended k) read
+    subst P (sym e) (λ k. line_front (source_of (a_heading s) q) r (heading_line s (page_items q)) xs (line_letters s (page_items q) h.are_letters) h.stands h.ended k) read
 
 heading_front : (s : Sides) (q rest : List ℕ) (xs : List Item) → IsBlock (a_heading s) q → EndsHere rest → Reads rest xs
     → Reads (source_of (a_heading s) q ++ rest) (heading_line s (page_items q) ++ xs)

@@ -1,11 +1,10 @@
 -- The tree of a page with typed paragraphs and headings: the nodes of its parts and these blocks, by numbers and places.
-use Rattle.std.proofs.Common.{arith, ◌≡◌, ◌≤◌, ℕ, zero, suc, true, List, [], ◌∷◌, ◌++◌, map, refl, sym, ap, ◌∙◌, subst, inl, inr}
+use Rattle.std.proofs.Common.{arith, ◌≡◌, ◌≤◌, ℕ, zero, suc, true, List, [], ◌∷◌, ◌++◌, map, refl, sym, ap, ◌∙◌, inl, inr}
 use Rattle.wt_tree.specs.declared.kind.Kind.TheVariants as kind
 use Rattle.wt_tree.specs.Tree.{tree}
 use Rattle.wt_span.specs.Items.{Item}
 use Rattle.wt_inline.specs.ItemTree.{plain, ItemTree, inner, forest, held_by_all}
 use Rattle.wt_expand.specs.PageItems.{page_items}
-use Rattle.wt_expand.proofs.PageLaws.{page_sources}
 use Rattle.wt_annotated.specs.Annotated.{annotated}
 use Rattle.wt_annotated.specs.GroupData.{group_data}
 use Rattle.wt_annotated.specs.CutTexts.{cut_texts}
@@ -16,7 +15,6 @@ use Rattle.wt_text_edits.proofs.LoneTrees.{sized}
 use Rattle.wt_text_edits.proofs.TypedLeaves.{AreOwn, Leaf, leaves, leaf_tree, para_leaves}
 use Rattle.wt_text_edits.proofs.TypedShown.{AllOfPage, chars_of_page, both_of_page, leaves_of_page, none_empty, is_plain_page}
 use Rattle.wt_typed_blocks.specs.Sent.{kind_of}
-use Rattle.wt_text_between.specs.Between.{HasNoTag}
 use Rattle.wt_prose.proofs.ProseTrees.{blocks_of}
 use Rattle.wt_paragraph_laws.specs.Between.{blocks_in, body_with}
 use Rattle.wt_paragraph_laws.specs.Parts.{part_tree, HasNoGroups}
@@ -50,7 +48,7 @@ block_leaves (a_heading s) q h = ap (as_heading s) (para_leaves (page_items q) h
 
 heading_own : (s : Sides) (q : List ℕ) → IsBlock (a_heading s) q → AreOwn (page_items q)
 heading_own s q (inl t) = (paragraph_written q (inl (typed_text s q t))).1
-heading_own s q (inr w) = letters_own (page_items q) w.are_letters (subst HasNoTag (sym (page_sources q)) w.untagged)
+heading_own s q (inr w) = letters_own (page_items q) w.are_letters
 
 pub block_own : (k : TextBlock) (q : List ℕ) → IsBlock k q → AreOwn (page_items q)
 block_own a_paragraph q h = (paragraph_written q h).1

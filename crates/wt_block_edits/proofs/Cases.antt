@@ -24,7 +24,7 @@ use Rattle.wt_annotated.specs.GroupData.{group_data}
 use Rattle.wt_annotated.specs.Labels.{label_at}
 use Rattle.wt_expand.specs.PageItems.{page_items}
 use Rattle.wt_text_edits.specs.TypedPages.{IsTypedPage}
-use Rattle.wt_typed_blocks.specs.Sent.{paragraph, heading}
+use Rattle.wt_typed_blocks.specs.Sent.{heading}
 use Rattle.wt_heading_laws.specs.TypedHeadings.{Sides, AreSides, spaced}
 use Rattle.wt_block_edits.specs.Blocks.{a_paragraph, a_heading, IsTypedHeading, IsWrittenHeading, BeginsBetween}
 use Rattle.wt_block_edits.specs.BlockSpots.{AreBlockSpots}
@@ -163,7 +163,6 @@ unfolding page_items words closed form_at comment_len comment_line_len raw_len o
 written_heading = record {
   sides = spaced_sides 2 (omega arith) (omega arith);
   utf8 = (codes "Q&A", (refl, refl));
-  untagged = (refl, (refl, (refl, tt)));
   stands = record { ends = refl; has_ends = (refl, (refl, (refl, (refl, (refl, (refl, (refl, (refl, (refl, (refl, refl)))))))))); uncalled = (tt, (tt, (tt, (tt, (tt, (tt, tt)))))) };
   uncalled = (tt, (tt, (tt, (tt, (tt, tt)))));
   ended = refl;
@@ -194,7 +193,6 @@ unfolding page_items words closed form_at comment_len comment_line_len raw_len o
 written_bare = record {
   sides = record { some = omega arith; most = omega arith; lead = tt; trail = tt; rest = (refl, tt) };
   utf8 = written_heading.utf8;
-  untagged = written_heading.untagged;
   stands = record {
     ends = refl;
     has_ends = (refl, (refl, (refl, (refl, (refl, (refl, (refl, (refl, (refl, refl)))))))));

@@ -1,6 +1,5 @@
 -- Each page of the class has an edit with any texts: the one that sends every other node as it is.
 use Rattle.std.proofs.Common.{◌≡◌, ℕ, zero, suc, Option, Some, None, List, [], ◌∷◌, ◌++◌, length, refl, sym, ap, ◌∙◌, subst, append-nil}
-use Rattle.wt_tree.specs.declared.kind.Mark.TheVariants as marks
 use Rattle.wt_tree.specs.Tree.{Label, Tree, tree, Trees, none, more}
 use Rattle.wt_span.specs.Items.{Item}
 use Rattle.wt_inline.specs.ItemTree.{ItemTree}

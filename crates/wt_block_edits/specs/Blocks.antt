@@ -15,7 +15,7 @@ use Rattle.wt_page.specs.Rows.{Row}
 use Rattle.wt_expand.specs.PageItems.{page_items}
 use Rattle.wt_text_edits.specs.LonePages.{para_of}
 use Rattle.wt_typed_blocks.specs.Sent.{Block, paragraph, heading}
-use Rattle.wt_text_between.specs.Between.{HasNoTag, HaveNoBraces, StandsBefore}
+use Rattle.wt_text_between.specs.Between.{HaveNoBraces, StandsBefore}
 use Rattle.wt_paragraph_laws.specs.Texts.{AreLetters, IsParagraph}
 use Rattle.wt_paragraph_laws.specs.Between.{rows_of_lines, AreClosed, EndsApart, EndsParagraph}
 use Rattle.wt_heading_laws.specs.TypedHeadings.{Sides, AreSides, opening, closing, heading_line, heading_with, IsHeadingText, StandsApart, EndsLine}
@@ -59,13 +59,12 @@ pub record IsTypedHeading (s : Sides) (q : List ℕ) : Type 0 where
   pub of_heading : setting.place ≡ place.Heading
   pub is : q ≡ spelled setting (letters text)
 
--- A heading that somebody wrote by hand, without `<` and without two braces side by side, whether a line break is after it or the page ends
+-- A heading that somebody wrote by hand, without two braces side by side, whether a line break is after it or the page ends
 -- there: its text is characters and references, is read in its line as it is by itself, neither begins nor ends with a blank, and is not
 -- next to a `=` that is one more than its level says.
 pub record IsWrittenHeading (s : Sides) (q : List ℕ) : Type 0 where
   pub sides : AreSides s
   pub utf8 : IsUtf8 q
-  pub untagged : HasNoTag q
   pub stands : StandsBefore (source_of (a_heading s) q ++ byte.line_break ∷ [])
   pub uncalled : HaveNoBraces (words Page (source_of (a_heading s) q))
   pub ended : page_items (source_of (a_heading s) q ++ byte.line_break ∷ []) ≡ heading_line s (page_items q) ++ char None byte.line_break ∷ []

@@ -117,7 +117,20 @@ ampersand_ended = refl
 reference_written : AreLetters (page_items (codes "&amp;"))
 unfolding page_items words closed form_at comment_len comment_line_len raw_len opening_tag closing_tag include_at entity_at named_entity decimal_entity
     hex_entity entity_names sign_word
-reference_written = (tt, tt)
+reference_written = (tt, (refl, (refl, (refl, (refl, (refl, tt))))), tt)
+
+-- and so is a `<` that begins no tag, and no tag that shows its inside is a text
+less_written : AreLetters (page_items (codes "a < b"))
+unfolding page_items words closed form_at comment_len comment_line_len raw_len opening_tag closing_tag include_at entity_at named_entity decimal_entity
+    hex_entity entity_names sign_word
+less_written = tt
+
+less_text : AreOneText (full_lines (page_items (codes "a < b")))
+unfolding page_items words closed form_at comment_len comment_line_len raw_len opening_tag closing_tag include_at entity_at named_entity decimal_entity
+    hex_entity entity_names sign_word
+    context_parts segments tiles shapes tiles_closed tile_form_at link_or_url link_at ext_link_at bare_url_at scheme_len kept_len
+    tag_tile tag_at tile_opening_tag tile_closing_tag switch_at loose_segments chunks with_styles style_tree_of toggles_of toggle_at
+less_text = (refl, refl, tt)
 
 -- no link begins at a bracket before a blank
 bracket_written : AreOneText (full_lines (page_items (codes "a [ b")))

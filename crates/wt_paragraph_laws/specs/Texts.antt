@@ -31,12 +31,12 @@ IsReference form.Include = ⊥
 IsReference form.Hidden = ⊥
 IsReference form.EmptyCall = ⊥
 
--- characters of the page, and references to characters
+-- Characters of the page, and references to characters, in which is no `<`. A `<` that begins no tag and no comment is a character.
 abbrev pub AreLetters : List Item → Type 0
 AreLetters [] = Unit {0}
 AreLetters (char None b ∷ xs) = AreLetters xs
 AreLetters (char (Some k) b ∷ xs) = ⊥
-AreLetters (whole f None bs ∷ xs) = IsReference f × AreLetters xs
+AreLetters (whole f None bs ∷ xs) = IsReference f × HasNoTag bs × AreLetters xs
 AreLetters (whole f (Some k) bs ∷ xs) = ⊥
 
 abbrev pub IsTextLine : List Item → Type 0
@@ -47,11 +47,10 @@ abbrev pub AreOneText : List (List Item) → Type 0
 AreOneText [] = Unit {0}
 AreOneText (l ∷ ls) = (marks_len l ≡ 0) × (line_parts (content l) ≡ parts Text (content l)) × AreOneText ls
 
--- Lines of text without `<` and without two braces side by side, whether a line break stands behind them or the page ends there. They are
+-- Lines of text without two braces side by side, whether a line break stands behind them or the page ends there. They are
 -- characters and references, and nothing else.
 pub record IsWrittenText (q : List ℕ) : Type 0 where
   pub utf8 : IsUtf8 q
-  pub untagged : HasNoTag q
   pub stands : StandsBefore (q ++ byte.line_break ∷ [])
   pub uncalled : HaveNoBraces (words Page q)
   pub ended : page_items (q ++ byte.line_break ∷ []) ≡ page_items q ++ char None byte.line_break ∷ []

@@ -92,18 +92,18 @@ none_dropped [] = refl
 none_dropped (b ∷ q) = refl
 
 -- what is read from a place on, of which so many bytes lie in a lexeme
-abbrev items_from : Bool → ℕ → List ℕ → List Item
+abbrev pub items_from : Bool → ℕ → List ℕ → List Item
 items_from a n bs = items_cut (drop n bs) (cuts Page a n bs)
 
-first_from : (a : Bool) (bs : List ℕ) → items_from a 0 bs ≡ items_cut bs (cuts Page a 0 bs)
+pub first_from : (a : Bool) (bs : List ℕ) → items_from a 0 bs ≡ items_cut bs (cuts Page a 0 bs)
 first_from a bs = ap (λ ys. items_cut ys (cuts Page a 0 bs)) (none_dropped bs)
 
 -- one character, and one form, before what is read behind it
-byte_from : (a : Bool) (b : ℕ) (bs : List ℕ) → form_at Page a (b ∷ bs) ≡ None → items_from a 0 (b ∷ bs) ≡ char None b ∷ items_from (is_break b) 0 bs
+pub byte_from : (a : Bool) (b : ℕ) (bs : List ℕ) → form_at Page a (b ∷ bs) ≡ None → items_from a 0 (b ∷ bs) ≡ char None b ∷ items_from (is_break b) 0 bs
 byte_from a b bs f =
     ap (items_cut (b ∷ bs)) (cuts_cons Page a b bs None f) ∙ ap (λ ys. char None b ∷ ys) (sym (first_from (is_break b) bs))
 
-form_from : (a : Bool) (b : ℕ) (bs : List ℕ) (kind : LexKind) (j : ℕ) → form_at Page a (b ∷ bs) ≡ Some (kind, suc j)
+pub form_from : (a : Bool) (b : ℕ) (bs : List ℕ) (kind : LexKind) (j : ℕ) → form_at Page a (b ∷ bs) ≡ Some (kind, suc j)
     → items_from a 0 (b ∷ bs) ≡ items_of_word kind (b ∷ take j bs) ++ items_from (is_break b) j bs
 form_from a b bs kind j f =
     let z : suc j - 1 ≡ j = omega arith in

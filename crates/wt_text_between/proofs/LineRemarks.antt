@@ -37,7 +37,7 @@ line_or_none true bs = by (nat_lt (blank_len bs) n && is_break (slice_index bs n
     by true e = inl (is_within bs n 10 (byte_is bs n 10 (and_right (nat_lt (blank_len bs) n) (is_break (slice_index bs n)) e)) (omega arith))
     by false e = inr refl
 
-blank_form : (b : ℕ) (bs : List ℕ) → is_blank b ≡ true → form_at Page false (b ∷ bs) ≡ None
+pub blank_form : (b : ℕ) (bs : List ℕ) → is_blank b ≡ true → form_at Page false (b ∷ bs) ≡ None
 blank_form b bs e =
     let P : ℕ → Type 0 = λ (x : ℕ). form_at Page false (x ∷ bs) ≡ None in
     elim (either (b == 32) (b == 9) e) [
@@ -45,7 +45,7 @@ blank_form b bs e =
       | inr f ↦ subst P (sym (eqb-true b 9 f)) (other_byte Page 9 bs refl)
     ]
 
-comment_form : (b c : ℕ) (bs : List ℕ) → comment_len (b ∷ bs) ≡ Some c → form_at Page false (b ∷ bs) ≡ Some (Comment, c)
+pub comment_form : (b c : ℕ) (bs : List ℕ) → comment_len (b ∷ bs) ≡ Some c → form_at Page false (b ∷ bs) ≡ Some (Comment, c)
 unfolding form_at
 comment_form b c bs e =
     ap (λ (o : Option ℕ). option_or (as_word Comment o) (option_or (as_word Raw (raw_len (b ∷ bs)))
@@ -62,7 +62,7 @@ more_lines : (b : ℕ) (ys : List ℕ) → is_blank b ≡ true → EndsLine (b �
 more_lines b [] e l = let z : is_blank 10 ≡ true = ap is_blank (sym l) ∙ e in cc
 more_lines b (c ∷ ys) e l = omega arith
 
-comment_some : (b : ℕ) (bs : List ℕ) (c : ℕ) → comment_len (b ∷ bs) ≡ Some c → 0 < c
+pub comment_some : (b : ℕ) (bs : List ℕ) (c : ℕ) → comment_len (b ∷ bs) ≡ Some c → 0 < c
 comment_some b bs c e =
     let P : Option ℕ → Type 0 = λ o. OptFits (b ∷ bs) o in
     let f = subst P e (comment_fits (b ∷ bs)) in
