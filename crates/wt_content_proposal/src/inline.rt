@@ -1,9 +1,10 @@
 //! Inline content as wikitext: what was in the page as it was, texts too, and what is new as `edit` spells it.
 
 use crate::groups::role_in_line;
-use crate::joints::{NOWHERE, Spot, place_of_new, with_joints};
+use crate::joints::{NOWHERE, Spot, place_of_new, source_of, with_joints};
 use crate::known::{Block, Known, first_text, last_text};
 use crate::links::{is_bare_url, shortened, with_colons, with_fragment};
+use crate::nowiki::nowiki_round;
 use crate::plain::with_plain;
 use crate::texts::{ends_with_apostrophe, push_letters, push_nowiki, push_text};
 use std::alloc::Global;
@@ -152,7 +153,23 @@ fn push_if_unchanged(
     Ok(true)
 }
 
-fn push_shown(alloc: Global, out: &mut Vec<Unit<'_>>, node: &Node<'_>) -> Result<(), NoMemory> {
+/// Appends a `nowiki` or a reference as it was in the page, or what it shows now: of a `nowiki` between its tags.
+fn push_shown<'t, 'a>(
+    alloc: Global,
+    out: &mut Vec<Unit<'_>>,
+    writing: Writing<'_, 't, 'a>,
+    kept: Option<Kept<'t, 'a>>,
+    node: &Node<'_>,
+) -> Result<(), NoMemory> {
+    if push_if_unchanged(alloc, out, writing, kept, node)? {
+        return Ok(());
+    }
+    if writing.keeps
+        && let Some(old) = kept
+        && let Some(source) = nowiki_round(alloc, writing.known, writing.block, old.node, node)?
+    {
+        return push_thing(out, old.role, source, Some(old.place));
+    }
     let text = shown_text(alloc, node)?;
     if !text.is_empty() {
         out.push(Unit::Copied(Str::from_string(text)))?;
@@ -254,9 +271,39 @@ fn is_italic_alone(nodes: &[Node<'_>]) -> bool {
 
 // ---- links and tags
 
-/// A changed tag with its old delimiters.
-fn tag_round(alloc: Global, old: &Node<'_>, inside: &str) -> Result<Str, NoMemory> {
+/// A start tag without its attributes.
+fn bare_start(alloc: Global, start_tag: &str) -> Result<Str, NoMemory> {
+    let bytes = start_tag.as_bytes();
+    let name = bytes
+        .iter()
+        .skip(1)
+        .take_while(|byte| byte.is_ascii_alphanumeric())
+        .count();
+    let (front, _) = start_tag
+        .split_at_checked(name.saturating_add(1))
+        .unwrap_or((start_tag, ""));
+    let mut out = Str::copy_of(alloc, front)?;
+    out.push_str(">")?;
+    Ok(out)
+}
+
+/// Whether the attributes of a tag that has an end tag were taken off.
+fn is_bared(old: &Node<'_>, node: &Node<'_>) -> bool {
+    !old.closing().is_empty() && !old.attrs().is_empty() && node.attrs().is_empty()
+}
+
+/// A changed tag with its old delimiters, or without its attributes where these were taken off.
+fn tag_round(
+    alloc: Global,
+    keeps: bool,
+    old: &Node<'_>,
+    node: &Node<'_>,
+    inside: &str,
+) -> Result<Str, NoMemory> {
     let mut out = joined(alloc, old.opening())?;
+    if keeps && is_bared(old, node) {
+        out = bare_start(alloc, out.as_str())?;
+    }
     out.push_str(inside)?;
     push_texts(&mut out, old.closing())?;
     Ok(out)
@@ -323,8 +370,17 @@ fn push_with_blank(out: &mut Str, inside: &str) -> Result<(), NoMemory> {
     out.push_str(inside)
 }
 
+/// The text of a link of the page; one to a page that has lost its text has `<nowiki/>`.
+fn text_left_in<'i>(kind: Kind, inside: &'i str) -> &'i str {
+    if inside.is_empty() && matches!(kind, Kind::WikiLink) {
+        "<nowiki/>"
+    } else {
+        inside
+    }
+}
+
 /// A link of the page whose text alone was changed: its target stays as it was written. None where the target
-/// was changed, too, or no text is left.
+/// was changed, too, or no text of an external link is left.
 fn link_round(
     alloc: Global,
     old: &Node<'_>,
@@ -332,6 +388,7 @@ fn link_round(
     inside: &str,
 ) -> Result<Option<Str>, NoMemory> {
     let is_same = same_kind(old.kind, node.kind) && same_attrs(old.attrs(), node.attrs());
+    let inside = text_left_in(node.kind, inside);
     if !is_same || inside.is_empty() {
         return Ok(None);
     }
@@ -399,7 +456,7 @@ fn source_round(
         return new_source(alloc, keeps, node, inside);
     };
     if is_tag(node.kind) {
-        return tag_round(alloc, old.node, inside);
+        return tag_round(alloc, keeps, old.node, node, inside);
     }
     if keeps && let Some(source) = link_round(alloc, old.node, node, inside)? {
         return Ok(source);
@@ -420,6 +477,17 @@ fn role_of(kind: Kind) -> Role {
     }
 }
 
+/// Whether what was appended last ends with a letter, a digit or `_`, after which no bare URL begins.
+fn is_behind_word(out: &[Unit<'_>]) -> bool {
+    match out.last() {
+        Some(unit) => match source_of(unit).last() {
+            Some(byte) => byte.is_ascii_alphanumeric() || *byte == b'_',
+            None => false,
+        },
+        None => false,
+    }
+}
+
 /// Appends a link or tag that is new or changed.
 #[cycle(units)]
 fn push_element<'t, 'a>(
@@ -429,7 +497,7 @@ fn push_element<'t, 'a>(
     kept: Option<Kept<'t, 'a>>,
     node: &Node<'_>,
 ) -> Result<(), NoMemory> {
-    if writing.keeps && is_bare_now(alloc, kept, node)? {
+    if writing.keeps && !is_behind_word(out.as_slice()) && is_bare_now(alloc, kept, node)? {
         let source = Str::copy_of(alloc, href_of(node))?;
         let role = Role::Bare(href_of(node).ends_with("="));
         return push_thing(out, role, source, Some(place_of_bare(kept)));
@@ -503,12 +571,7 @@ fn push_node<'n, 't, 'a>(
             }
             push_kept(alloc, out, writing.keeps, kept, node.kind)
         }
-        InlineForm::Shown => {
-            if push_if_unchanged(alloc, out, writing, kept, node)? {
-                return Ok(());
-            }
-            push_shown(alloc, out, node)
-        }
+        InlineForm::Shown => push_shown(alloc, out, writing, kept, node),
         InlineForm::PageLink | InlineForm::ExternalLink | InlineForm::Tag | InlineForm::Break => {
             if push_if_unchanged(alloc, out, writing, kept, node)? {
                 return Ok(());

@@ -2,6 +2,8 @@
 //! stays as it was, texts too. Whether a proposal is any good is found by reading it back, and by nothing here.
 #![tactic(auto)]
 
+mod blanks;
+mod breaks;
 mod children;
 mod proposing;
 mod reached;
