@@ -4,12 +4,12 @@ program: what other work on the machine doesn't change. The pages are those of b
 
   bench/instructions.py PROGRAM [OTHER] [--only WORD] [--size KIB] [--peaks KIB]
 
-PROGRAM and OTHER are as for bench/bench.py; a build with nothing proved will do, if it has none of the tests of a
-try (tools/build-unproved --as-proved). Instructions are counted once by valgrind for pages (or HTML) of --size KiB
-(64 where nothing is said), since they are the same in each run, and what an empty page takes is subtracted; the
-peak of memory is that of the process for --peaks KiB (1024). Both have to answer the same bytes. With OTHER there are two ratios: of speed, 2 where PROGRAM takes half the
-instructions of OTHER, and of memory, 2 where it takes twice the memory. --only WORD measures the rows that have
-the word in their name.
+PROGRAM and OTHER are as for bench/bench.py; a build with nothing proved will do, if it has none of the tests
+of a try (tools/build-unproved --as-proved). Instructions are counted once by valgrind for pages (or HTML) of
+--size KiB (64 where nothing is said), since they are the same in each run, and what an empty page takes is
+subtracted; the peak of memory is that of the process for --peaks KiB (1024). Both have to answer the same bytes.
+With OTHER there are two ratios: of speed, 2 where PROGRAM takes half the instructions of OTHER, and of memory,
+2 where it takes twice the memory. --only WORD measures the rows that have the word in their name.
 """
 import argparse
 import hashlib
@@ -18,8 +18,10 @@ import re
 import subprocess
 import sys
 
-from bench import (BLOCK_KINDS, CALL_KINDS, EDIT_KINDS, HTML_KINDS, INLINE_KINDS, KINDS, REFUSED_KINDS, answer, case, folder_of,
-                   program_of)
+from bench import (
+    BLOCK_KINDS, CALL_KINDS, EDIT_KINDS, HTML_KINDS, INLINE_KINDS, KINDS, REFUSED_KINDS, answer, case, folder_of,
+    program_of,
+)
 
 COUNTER = ["valgrind", "--tool=cachegrind", "--cache-sim=no", "--cachegrind-out-file=/dev/null"]
 
@@ -76,7 +78,8 @@ def with_nothing(programs, command):
 
 
 def main():
-    words = argparse.ArgumentParser(usage="bench/instructions.py PROGRAM [OTHER] [--only WORD] [--size KIB] [--peaks KIB]")
+    usage = "bench/instructions.py PROGRAM [OTHER] [--only WORD] [--size KIB] [--peaks KIB]"
+    words = argparse.ArgumentParser(usage=usage)
     words.add_argument("program", nargs="+")
     words.add_argument("--only", default="")
     words.add_argument("--size", type=int, default=64)
@@ -94,8 +97,11 @@ def main():
         counts, length = measured(instructions, programs, command, make(told.size << 10), templates, given)
         counts = [count - less for count, less in zip(counts, idle[command[0]])]
         peaks, _ = measured(peak, programs, command, make(told.peaks << 10), templates, given)
-        cells = [", ".join(f"{it / length:.0f}" for it in counts), ", ".join(f"{it * 1024 / 1e6:.1f}" for it in peaks)]
-        cells.append(", ".join(f"{a / b:.2f}" for a, b in [(counts[-1], counts[0]), (peaks[0], peaks[-1])]))
+        ratios = [(counts[-1], counts[0]), (peaks[0], peaks[-1])]
+        cells = [
+            ", ".join(f"{it / length:.0f}" for it in counts), ", ".join(f"{it * 1024 / 1e6:.1f}" for it in peaks),
+            ", ".join(f"{a / b:.2f}" for a, b in ratios) if len(programs) == 2 else "",
+        ]
         print(f"| {command[0]}, {kind} | {' | '.join(cells)} |", flush=True)
     return 0
 
