@@ -1,3 +1,9 @@
+pub mod Apart
 pub mod Joining
 pub mod Standing
 pub mod Paragraphs
+pub mod SpotsReading
+pub mod SpotsMeaning
+pub mod SpotsTrees
+pub mod SpotsAgain
+mod Cases

@@ -1,34 +1,51 @@
--- The parts of a typed paragraph and of what stands behind it.
-use Rattle.std.proofs.Common.{◌≡◌, ℕ, zero, suc, true, None, List, [], ◌∷◌, ◌++◌, map, refl, sym, ap, ◌∙◌, subst, append-nil, append_assoc}
+-- A typed paragraph by itself: its parts, and those of what stands before and behind it.
+use Rattle.std.proofs.Common.{◌≡◌, ℕ, true, None, List, [], ◌∷◌, ◌++◌, map, refl, sym, ap, ◌∙◌, subst, append-nil, append_assoc}
 use Rattle.std.specs.List.{flat_map}
 use Rattle.std.specs.Prelude.{replicate}
 use Rattle.wt_span.specs.Items.{Item, char}
 use Rattle.wt_lines.specs.declared.kind.TheConstants.{MOST_TABLES}
 use Rattle.wt_lines.specs.Lines.{is_break_item, full_lines}
 use Rattle.wt_inline.specs.declared.loose.Loose.TheVariants.{Sep}
-use Rattle.wt_inline.specs.Parts.{node, parts, children}
+use Rattle.wt_inline.specs.ItemTree.{ItemTree}
+use Rattle.wt_inline.specs.Parts.{node, parts}
 use Rattle.wt_page.specs.Rows.{Row, rows, rows_from}
 use Rattle.wt_page.specs.Stretches.{stretch_parts}
-use Rattle.wt_page.specs.Body.{within, blocks, body_parts, meaning}
+use Rattle.wt_page.specs.Body.{blocks, body_parts, meaning}
 use Rattle.wt_expand.specs.PageItems.{page_items}
-use Rattle.wt_rows.specs.Portions.{open_behind}
-use Rattle.wt_rows.proofs.Portions.{no_parts, breaks_first, parts_cut, empty_first}
+use Rattle.wt_rows.proofs.Portions.{no_parts, breaks_first}
 use Rattle.wt_text_edits.specs.LonePages.{para_of}
 use Rattle.wt_text_edits.specs.TypedPages.{IsTypedPage}
 use Rattle.wt_text_edits.proofs.PlainRows.{text_row}
 use Rattle.wt_prose.specs.ProsePages.{Passage}
 use Rattle.wt_prose.proofs.ProseReading.{break}
-use Rattle.wt_prose.proofs.ProseLines.{ended, IsTextBlock, broken_rows, rows_broken, rows_last}
-use Rattle.wt_prose.proofs.ProseBlocks.{sep, passage_stretches, within_read, all_parts}
+use Rattle.wt_prose.proofs.ProseLines.{ended, first_ended, rest_ended, IsTextBlock, broken_rows, rows_broken, rows_last}
+use Rattle.wt_prose.proofs.ProseBlocks.{sep, within_read, all_parts}
 use Rattle.wt_prose.proofs.ProseTexts.{written}
-use Rattle.wt_paragraph_laws.specs.Between.{AreClosed, BeginsEmpty, EndsParagraph, children_before, parts_behind, body_round}
-use Rattle.wt_paragraph_laws.proofs.Standing.{standing, standing_first}
+use Rattle.wt_paragraph_laws.specs.Between.{EndsApart, EndsParagraph, blocks_in, body_with, body_round}
+use Rattle.wt_paragraph_laws.proofs.Apart.{BeginsText, after_text}
+use Rattle.wt_paragraph_laws.proofs.Standing.{parts_in, parts_before, round_node, body_is}
 
-texts_open : (ls : List (List Item)) → open_behind 0 (map text_row ls) ≡ 0
-texts_open [] = refl
-texts_open (l ∷ ls) = texts_open ls
+-- ---- its rows
 
--- the parts of its own rows
+unbroken_rows : (xs : List Item) (b : IsTextBlock xs) → rows xs ≡ map text_row (b.first ∷ b.others)
+unfolding rows
+unbroken_rows xs b =
+    ap (λ zs. rows_from 0 (full_lines zs)) (sym (append-nil xs) ∙ sym (append-nil (xs ++ []))) ∙ rows_last 0 xs b ∙ append-nil (map text_row (b.first ∷ b.others))
+
+ended_rows : (xs ys : List Item) (b : IsTextBlock xs) → rows (xs ++ break ∷ ys) ≡ map text_row (ended b.first b.others) ++ rows ys
+unfolding rows
+ended_rows xs ys b =
+    ap (λ zs. rows_from 0 (full_lines zs)) (sym (append_assoc xs (break ∷ []) ys))
+    ∙ rows_broken 0 xs ys b
+    ∙ ap (λ rs. rs ++ rows_from 0 (full_lines ys)) (append-nil (map text_row (ended b.first b.others)))
+
+-- with what stands behind it, they begin with text
+begins_text : (xs tail : List Item) → IsTextBlock xs → EndsParagraph tail → BeginsText (rows (xs ++ tail))
+begins_text xs [] b e = subst BeginsText (sym (ap rows (append-nil xs) ∙ unbroken_rows xs b)) refl
+begins_text xs (y ∷ ys) b e = subst (λ z. BeginsText (rows (xs ++ z ∷ ys))) (sym e.0) (subst BeginsText (sym (ended_rows xs ys b)) refl)
+
+-- ---- its parts
+
 own_parts : (n : ℕ) (q : List ℕ) (h : IsTypedPage q) (b : IsTextBlock (page_items q))
     → body_parts (broken_rows n b.first b.others ++ []) ≡ (node (para_of (page_items q)) ∷ replicate n sep) ++ []
 unfolding blocks
@@ -36,49 +53,44 @@ own_parts n q h b =
     let p : Passage = record { paragraph = q; breaks = n } in
     ap (flat_map stretch_parts) (within_read MOST_TABLES (p ∷ []) h (b, tt)) ∙ all_parts (p ∷ [])
 
-no_rows : rows [] ≡ []
-unfolding rows
-no_rows = refl
+ended_parts : (q : List ℕ) (h : IsTypedPage q) (b : IsTextBlock (page_items q))
+    → body_parts (map text_row (ended b.first b.others)) ≡ node (para_of (page_items q)) ∷ parts Sep (break ∷ [])
+ended_parts q h b =
+    let rs : List Row = map text_row (ended b.first b.others) in
+    ap body_parts (sym (append-nil rs)) ∙ ap (λ ss. body_parts (ss ++ [])) (sym (append-nil rs)) ∙ own_parts 1 q h b
 
--- its rows behind which these items stand
-ended_parts : (q : List ℕ) (ys : List Item) (h : IsTypedPage q) (b : IsTextBlock (page_items q)) → BeginsEmpty ys
-    → body_parts (map text_row (ended b.first b.others) ++ rows ys) ≡ node (para_of (page_items q)) ∷ (parts Sep (break ∷ []) ++ body_parts (rows ys))
-ended_parts q [] h b e =
-    let T : List Row = map text_row (ended b.first b.others) in
-    ap (λ rs. body_parts (T ++ rs)) no_rows
-    ∙ ap (λ rs. body_parts (rs ++ [])) (sym (append-nil T))
-    ∙ own_parts 1 q h b
-    ∙ ap (λ ps. node (para_of (page_items q)) ∷ sep ∷ ps) (sym no_parts)
-ended_parts q (y ∷ ys) h b e =
-    let T : List Row = map text_row (ended b.first b.others) in
-    ap (λ rs. body_parts (T ++ rs)) (empty_first y ys e)
-    ∙ parts_cut y T (rows ys) (texts_open (ended b.first b.others))
-    ∙ ap (λ ps. ps ++ (parts Sep (y ∷ []) ++ body_parts (rows ys)))
-    (ap body_parts (sym (append-nil T)) ∙ ap (λ rs. body_parts (rs ++ [])) (sym (append-nil T)) ∙ own_parts 1 q h b)
-    ∙ ap (λ ps. node (para_of (page_items q)) ∷ sep ∷ ps) (sym (breaks_first (y ∷ []) ys (e, tt)))
+break_by : (y : Item) → y ≡ char None 10 → is_break_item y ≡ true
+break_by y e = subst (λ z. is_break_item z ≡ true) (sym e) refl
 
 paragraph_parts : (q : List ℕ) (tail : List Item) → IsTypedPage q → EndsParagraph tail
-    → body_parts (rows (page_items q ++ tail)) ≡ node (para_of (page_items q)) ∷ parts_behind tail
-unfolding rows
+    → parts_in (page_items q ++ tail) ≡ node (para_of (page_items q)) ∷ parts_in tail
 paragraph_parts q [] h e =
     let b = (written q h).0 in
-    ap (λ zs. body_parts (rows zs)) (sym (append-nil (page_items q ++ [])))
-    ∙ ap body_parts (rows_last 0 (page_items q) b)
+    ap parts_in (append-nil (page_items q))
+    ∙ ap body_parts (unbroken_rows (page_items q) b ∙ sym (append-nil (map text_row (b.first ∷ b.others))))
     ∙ own_parts 0 q h b
+    ∙ ap (λ ps. node (para_of (page_items q)) ∷ ps) (sym no_parts)
 paragraph_parts q (y ∷ ys) h e =
     let b = (written q h).0 in
     let xs : List Item = page_items q in
-    ap (λ z. body_parts (rows (xs ++ z ∷ ys))) e.0
-    ∙ ap (λ zs. body_parts (rows zs)) (sym (append_assoc xs (break ∷ []) ys))
-    ∙ ap body_parts (rows_broken 0 xs ys b)
-    ∙ ap (λ rs. body_parts (rs ++ rows ys)) (append-nil (map text_row (ended b.first b.others)))
-    ∙ ended_parts q ys h b e.1
-    ∙ ap (λ z. node (para_of xs) ∷ (parts Sep (z ∷ []) ++ body_parts (rows ys))) (sym e.0)
+    ap (λ z. parts_in (xs ++ z ∷ ys)) e.0
+    ∙ ap body_parts (ended_rows xs ys b)
+    ∙ after_text (first_ended b.first b.others) (rest_ended b.first b.others) (rows ys) e.1
+    ∙ ap (λ ps. ps ++ parts_in ys) (ended_parts q h b)
+    ∙ ap (λ z. node (para_of xs) ∷ (parts Sep (z ∷ []) ++ parts_in ys)) (sym e.0)
+    ∙ ap (λ ps. node (para_of xs) ∷ ps) (sym (breaks_first (y ∷ []) ys (break_by y e.0, tt)))
 
-pub between : (xs : List Item) (a : Item) (q : List ℕ) (tail : List Item) → AreClosed xs → is_break_item a ≡ true → IsTypedPage q → EndsParagraph tail
-    → meaning (xs ++ a ∷ (page_items q ++ tail)) ≡ body_round (children_before xs a) (page_items q) (children (parts_behind tail))
-between xs a q tail c e h t = standing xs a (page_items q) tail c e (paragraph_parts q tail h t)
+-- ---- with what stands before it
 
-pub at_start : (q : List ℕ) (tail : List Item) → IsTypedPage q → EndsParagraph tail
-    → meaning (page_items q ++ tail) ≡ body_round [] (page_items q) (children (parts_behind tail))
-at_start q tail h t = standing_first (page_items q) tail (paragraph_parts q tail h t)
+pub paragraph_between : (xs : List Item) (q : List ℕ) (tail : List Item) → EndsApart xs → IsTypedPage q → EndsParagraph tail
+    → parts_in (xs ++ (page_items q ++ tail)) ≡ parts_in xs ++ node (para_of (page_items q)) ∷ parts_in tail
+paragraph_between xs q tail c h e =
+    parts_before xs (page_items q ++ tail) c (begins_text (page_items q) tail (written q h).0 e)
+    ∙ ap (λ ps. parts_in xs ++ ps) (paragraph_parts q tail h e)
+
+pub stands_between : (xs : List Item) (q : List ℕ) (tail : List Item) → EndsApart xs → IsTypedPage q → EndsParagraph tail
+    → meaning (xs ++ (page_items q ++ tail)) ≡ body_round (blocks_in xs) (page_items q) (blocks_in tail)
+stands_between xs q tail c h e =
+    let t : ItemTree = para_of (page_items q) in
+    body_is (xs ++ (page_items q ++ tail)) (parts_in xs ++ node t ∷ parts_in tail) (paragraph_between xs q tail c h e)
+    ∙ ap body_with (round_node t (parts_in xs) (parts_in tail))

@@ -1,18 +1,18 @@
--- A typed paragraph between empty lines of a page, whatever stands before and behind.
-use Rattle.std.specs.Prelude.{◌≡◌, ℕ, true, None, List, [], ◌∷◌, ◌++◌}
+-- A typed paragraph of a page, and what may stand before and behind it so that neither becomes a part of the other.
+use Rattle.std.specs.Prelude.{◌≡◌, ◌⊎◌, ℕ, true, false, None, List, [], ◌∷◌, ◌++◌}
 use Rattle.wt_tree.specs.declared.kind.Kind.TheVariants as kind
 use Rattle.wt_span.specs.Items.{Item, char}
 use Rattle.wt_lines.specs.Lines.{is_break_item, empty_end, full_lines}
-use Rattle.wt_tables.specs.Extents.{behind}
-use Rattle.wt_inline.specs.declared.loose.Loose.TheVariants.{Sep}
+use Rattle.wt_blocks.specs.Paragraphs.{is_text}
+use Rattle.wt_tables.specs.Extents.{behind, is_open}
 use Rattle.wt_inline.specs.ItemTree.{plain, ItemTree, inner, forest}
-use Rattle.wt_inline.specs.Parts.{Part, parts, children}
+use Rattle.wt_inline.specs.Parts.{children}
 use Rattle.wt_headings.specs.Lines.{kind_at}
 use Rattle.wt_page.specs.Rows.{Row, line_rows, rows}
 use Rattle.wt_page.specs.Body.{body_parts}
 use Rattle.wt_text_edits.specs.LonePages.{para_of}
 
--- ---- lines before it
+-- ---- lines
 
 -- the rows of whole lines, at the first of which so many tables are open
 abbrev pub written_rows : ℕ → List (List Item) → List Row
@@ -24,31 +24,63 @@ abbrev pub tables_behind : ℕ → List (List Item) → ℕ
 tables_behind tables [] = tables
 tables_behind tables (l ∷ ls) = tables_behind (behind tables (kind_at tables l)) ls
 
+abbrev pub rows_of_lines : List Item → List Row
+rows_of_lines xs = written_rows 0 (full_lines xs)
+
 -- Whole lines, or nothing, behind which no table is open.
 pub record AreClosed (xs : List Item) : Type 0 where
   pub whole : empty_end xs ≡ [] ∷ []
   pub closed : tables_behind 0 (full_lines xs) ≡ 0
 
--- ---- the page's children
+-- ---- before a paragraph
 
--- before it: what these lines make, and the empty line behind them
-abbrev pub children_before : List Item → Item → List ItemTree
-children_before xs b = children (body_parts (written_rows 0 (full_lines xs)) ++ parts Sep (b ∷ []))
+-- such lines, and an empty one
+pub record EndsEmpty (xs : List Item) : Type 0 where
+  pub others : List Item
+  pub last : Item
+  pub is : xs ≡ others ++ last ∷ []
+  pub are_closed : AreClosed others
+  pub is_break : is_break_item last ≡ true
 
--- A paragraph ends at the page's end, or with a line break behind which the page ends or an empty line stands.
-abbrev pub BeginsEmpty : List Item → Type 0
-BeginsEmpty [] = Unit {0}
-BeginsEmpty (y ∷ ys) = is_break_item y ≡ true
+-- no table begins with these rows, and the last isn't text
+abbrev pub EndApart : List Row → Type 0
+EndApart [] = Unit {0}
+EndApart (r ∷ []) = (is_open r.kind ≡ false) × (is_text r.kind ≡ false)
+EndApart (r ∷ s ∷ rs) = (is_open r.kind ≡ false) × EndApart (s ∷ rs)
 
+-- Nothing, or lines up to an empty one; and behind these lines in which no table begins, of which the last is no text: a heading, a list,
+-- a rule, or preformatted text.
+pub record EndsApart (xs : List Item) : Type 0 where
+  pub front : List Item
+  pub others : List Item
+  pub is : xs ≡ front ++ others
+  pub ends_empty : (front ≡ []) ⊎ EndsEmpty front
+  pub are_closed : AreClosed others
+  pub apart : EndApart (rows_of_lines others)
+
+-- ---- behind a paragraph
+
+-- the first row isn't text
+abbrev pub BeginApart : List Row → Type 0
+BeginApart [] = Unit {0}
+BeginApart (r ∷ rs) = is_text r.kind ≡ false
+
+-- A paragraph ends at the page's end, or with a line break behind which the page ends or something else than text begins: an empty line,
+-- a heading, a list, a table.
 abbrev pub EndsParagraph : List Item → Type 0
 EndsParagraph [] = Unit {0}
-EndsParagraph (y ∷ ys) = (y ≡ char None 10) × BeginsEmpty ys
+EndsParagraph (y ∷ ys) = (y ≡ char None 10) × BeginApart (rows ys)
 
--- behind it: this line break, and what the items behind that make
-abbrev pub parts_behind : List Item → List Part
-parts_behind [] = []
-parts_behind (y ∷ ys) = parts Sep (y ∷ []) ++ body_parts (rows ys)
+-- ---- the page
 
--- the body with it between these
+-- the blocks that items make by themselves, with the separators round them
+abbrev pub blocks_in : List Item → List ItemTree
+blocks_in xs = children (body_parts (rows xs))
+
+-- a body with these blocks
+abbrev pub body_with : List ItemTree → ItemTree
+body_with ts = inner (plain kind.Body) [] (forest ts) []
+
+-- and with a paragraph between
 abbrev pub body_round : List ItemTree → List Item → List ItemTree → ItemTree
-body_round us own vs = inner (plain kind.Body) [] (forest (us ++ para_of own ∷ vs)) []
+body_round us own vs = body_with (us ++ para_of own ∷ vs)

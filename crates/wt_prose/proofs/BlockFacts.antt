@@ -46,7 +46,7 @@ nodes_unframed n before (letters b bs ∷ ls) = nodes_unframed (next n before (l
 nodes_unframed n before (reference c bs ∷ ls) = nodes_unframed (next n before (reference c bs)) (behind before (reference c bs)) ls
 nodes_unframed n before (guard ∷ ls) = nodes_unframed (next n before guard) (behind before guard) ls
 
-held_source : (ls : List Leaf) → sources (held ls ++ []) ≡ flat_map leaf_source ls
+pub held_source : (ls : List Leaf) → sources (held ls ++ []) ≡ flat_map leaf_source ls
 held_source ls = ap sources (append-nil (held ls)) ∙ held_sources ls
 
 para_source : (n : ℕ) (before : List Item) (ls : List Leaf) → flat_of_all (para_nodes n before ls) ++ [] ≡ flat_map leaf_source ls
@@ -54,13 +54,13 @@ para_source n before ls = append-nil (flat_of_all (para_nodes n before ls)) ∙ 
 
 -- ---- places
 
-behind_source : (before ys : List Item) (q rest : List ℕ) → sources ys ≡ q → sources before ++ (q ++ rest) ≡ sources (before ++ ys) ++ rest
+pub behind_source : (before ys : List Item) (q rest : List ℕ) → sources ys ≡ q → sources before ++ (q ++ rest) ≡ sources (before ++ ys) ++ rest
 behind_source before ys q rest e =
     sym (append_assoc (sources before) q rest)
     ∙ ap (λ cs. (sources before ++ cs) ++ rest) (sym e)
     ∙ ap (λ cs. cs ++ rest) (sym (flat_map-append source before ys))
 
-behind_width : (before ys : List Item) (q : List ℕ) → sources ys ≡ q → width (before ++ ys) ≡ width before + length q
+pub behind_width : (before ys : List Item) (q : List ℕ) → sources ys ≡ q → width (before ++ ys) ≡ width before + length q
 behind_width before ys q e =
     ap length (flat_map-append source before ys) ∙ length-append (sources before) (sources ys) ∙ ap (λ cs. width before + length cs) e
 

@@ -28,14 +28,14 @@ use Rattle.wt_prose.proofs.BlockFacts.{paragraph_shown, Facts, facts_nothing, fa
 
 -- ---- a paragraph of a page before others
 
-abbrev sent_shown : Sending → List ℕ → List ℕ
+abbrev pub sent_shown : Sending → List ℕ → List ℕ
 sent_shown (retyped p t text) source = text
 sent_shown (kept u) source = flat_map leaf_shown (leaves (page_items source))
 
-paragraph_is : (q : Passage) → AreOwn (page_items q.paragraph) → flat_map leaf_source (leaves_of q) ≡ q.paragraph
+pub paragraph_is : (q : Passage) → AreOwn (page_items q.paragraph) → flat_map leaf_source (leaves_of q) ≡ q.paragraph
 paragraph_is q h = leaves_source (page_items q.paragraph) h ∙ page_sources q.paragraph
 
-facts_paragraph : (xs : List Item) (n : ℕ) (before : List Item) (q : Passage) (d : Sending) (ds : List Sending) (ts : List ItemTree) (was now : List ℕ) (shown : Plains)
+pub facts_paragraph : (xs : List Item) (n : ℕ) (before : List Item) (q : Passage) (d : Sending) (ds : List Sending) (ts : List ItemTree) (was now : List ℕ) (shown : Plains)
     → 1 ≤ n → ends_open (sources before) ≡ false → AreOwn (page_items q.paragraph)
     → Facts xs (number_behind n before (leaves_para (leaves_of q))) (items_behind before (leaves_para (leaves_of q))) ds ts was now shown
     → Facts xs n before (d ∷ ds) (leaves_para (leaves_of q) ∷ ts) (q.paragraph ++ was) (new_paragraph d q.paragraph ++ now)
@@ -65,13 +65,13 @@ facts_end xs n before (suc k) u =
     facts_sep xs n before (suc k) u [] [] [] [] ended (facts_nothing xs (number_behind n before t) (items_behind before t))
 
 -- by the source of a passage
-regrouped : (xs : List Item) (n : ℕ) (before : List Item) (ds : List Sending) (ts : List ItemTree) (q r bs was now : List ℕ) (shown : Plains)
+pub regrouped : (xs : List Item) (n : ℕ) (before : List Item) (ds : List Sending) (ts : List ItemTree) (q r bs was now : List ℕ) (shown : Plains)
     → Facts xs n before ds ts (q ++ (bs ++ was)) (r ++ (bs ++ now)) shown → Facts xs n before ds ts ((q ++ bs) ++ was) ((r ++ bs) ++ now) shown
 regrouped xs n before ds ts q r bs was now shown f =
     subst (λ cs. Facts xs n before ds ts cs ((r ++ bs) ++ now) shown) (sym (append_assoc q bs was))
     (subst (λ cs. Facts xs n before ds ts (q ++ (bs ++ was)) cs shown) (sym (append_assoc r bs now)) f)
 
-own_of : (q : List ℕ) → IsTypedPage q → AreOwn (page_items q)
+pub own_of : (q : List ℕ) → IsTypedPage q → AreOwn (page_items q)
 own_of q h = (written q h).1
 
 -- its blocks, from this number and place on
@@ -158,7 +158,7 @@ prose_own (p ∷ q ∷ ps) h = (own_of p.paragraph h.0, prose_own (q ∷ ps) h.2
 
 -- ---- the new page shows what was sent
 
-sent_same : (d : Sending) (q : Passage) → IsText d → AreOwn (page_items q.paragraph)
+pub sent_same : (d : Sending) (q : Passage) → IsText d → AreOwn (page_items q.paragraph)
     → sent_shown d q.paragraph ≡ flat_map shown_item (page_items (new_paragraph d q.paragraph))
 sent_same (retyped p t text) q u h = sym (typed_shows (record { within = false; place = place.Paragraph; source = q.paragraph }) text u)
 sent_same (kept v) q u h = leaves_shown (page_items q.paragraph) h
@@ -171,7 +171,7 @@ shows_same (e ∷ es) u h =
 
 -- ---- and it is prose again
 
-new_typed : (d : Sending) (q : List ℕ) → IsText d → IsTypedPage q → IsTypedPage (new_paragraph d q)
+pub new_typed : (d : Sending) (q : List ℕ) → IsText d → IsTypedPage q → IsTypedPage (new_paragraph d q)
 new_typed (retyped p t text) q u h = typed_again q text u
 new_typed (kept v) q u h = h
 

@@ -104,7 +104,7 @@ facts_of es h = facts_all (page_items (prose (old_passages es))) es h.are_prose 
 -- ---- the answer
 
 -- the same limit
-as_edit : (new : List ℕ) → length new ≤ PAGE_BYTES → length new ≤ most_bytes
+pub as_edit : (new : List ℕ) → length new ≤ PAGE_BYTES → length new ≤ most_bytes
 unfolding most_bytes
 as_edit new h = h
 
@@ -147,7 +147,7 @@ sent_shows_so t es b h =
     body_shows t (body_label (old_passages es)) b (blocks_sent es) (f.sent (kept_so es h)) (subst NoneIsGroup (sym f.old) f.ungrouped)
     ∙ ap listed (f.shows ∙ shows_same es h.are_texts (prose_own (old_passages es) h.are_prose))
 
-not_longer : (n m : ℕ) → n ≤ m → nat_lt m n ≡ false
+pub not_longer : (n m : ℕ) → n ≤ m → nat_lt m n ≡ false
 not_longer n m h = grind (arith, nat_tests)
 
 new_done : (pages : Pages) (es : List PassageEdit) (b : Label) (t : Tree) (h : IsProseEdit es) → length (prose (new_passages es)) ≤ PAGE_BYTES

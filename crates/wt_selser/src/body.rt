@@ -433,26 +433,32 @@ pub fn push_child<'t, 'a>(
     Ok(())
 }
 
-/// Appends the slices of a step that the steps from a place on follow.
+/// The steps from a place on, and what `parted_ends` says of all steps.
+#[derive(Clone, Copy)]
+struct Rest<'s, 't, 'a> {
+    steps: &'s [Step<'t, 'a>],
+    ends: &'s [bool],
+    from: usize,
+}
+
+/// Appends the slices of a step, which these follow.
 fn push_step<'t, 'a>(
     alloc: Global,
     found: &mut Vec<Change>,
     index: &[Visit<'t, 'a>],
-    steps: &[Step<'t, 'a>],
-    ends: &[bool],
-    from: usize,
     front: Front,
     step: Step<'t, 'a>,
+    rest: Rest<'_, 't, 'a>,
 ) -> Result<(), NoMemory>
-    requires known { ends.now ≡ parted_ends (steps_view steps.now) }
-    requires fits { from ≤ length steps.now }
+    requires known { rest.ends.now ≡ parted_ends (steps_view rest.steps.now) }
+    requires fits { rest.from ≤ length rest.steps.now }
     ensures { (same : Tree → Tree → Bool) → TellsSame same → OnOk result (changes_view found.new.items ≡ changes_view found.old.items
-        ++ step_slices same (indexed index.now) front (step_view step.entry) (steps_view (drop from steps.now))) }
+        ++ step_slices same (indexed index.now) front (step_view step.entry) (steps_view (drop rest.entry.from rest.entry.steps.now))) }
 {
     match step {
         Step::Stays(_) => Ok(()),
         Step::Goes(node) => {
-            let parted = parts(front, is_parted(steps, ends, from));
+            let parted = parts(front, is_parted(rest.steps, rest.ends, rest.from));
             push_removed(alloc, found, node.ranges, parted)?;
             Ok(())
         }
@@ -461,7 +467,7 @@ fn push_step<'t, 'a>(
             Ok(())
         }
         Step::Comes(node) => {
-            let tail = tail(alloc, steps, ends, from, front)?;
+            let tail = tail(alloc, rest.steps, rest.ends, rest.from, front)?;
             push_new(alloc, found, front, node, tail)?;
             Ok(())
         }
@@ -486,16 +492,12 @@ pub fn push_body<'t, 'a>(
     };
     for at in 0..steps.len() {
         let step = steps[at];
-        push_step(
-            alloc,
-            found,
-            index,
+        let rest = Rest {
             steps,
-            ends.as_slice(),
-            at + 1,
-            front,
-            step,
-        )?;
+            ends: ends.as_slice(),
+            from: at + 1,
+        };
+        push_step(alloc, found, index, front, step, rest)?;
         front = past(alloc, front, step)?;
     }
     Ok(())

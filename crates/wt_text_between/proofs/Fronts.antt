@@ -118,7 +118,7 @@ front_lines (suc n) a (x ∷ q) le t e h = front_lines n (is_break x) q (omega (
 front_lines zero a (x ∷ q) le t e h =
     by_form x q a (form_at Page false (x ∷ q)) refl t e h (λ j le shown. front_lines j (is_break x) q le t.1 (ends_behind x q e) shown)
 
-before_reads : (bs : List ℕ) → StandsBefore bs → InFront bs
+pub before_reads : (bs : List ℕ) → StandsBefore bs → InFront bs
 before_reads bs h = subst InFront (none_dropped bs) (front_lines 0 false bs (omega arith) h.untagged h.ends (words_shown bs h.uncalled))
 
 -- ---- what stands behind
@@ -134,7 +134,7 @@ cuts_same after (b ∷ bs) n =
     cuts_cons Page after b bs (form_at Page false (b ∷ bs)) (without_line Page after (b ∷ bs) n)
     ∙ sym (cuts_cons Page false b bs (form_at Page false (b ∷ bs)) refl)
 
-behind_reads : (bs : List ℕ) → StandsBehind bs → Reads bs (page_items bs)
+pub behind_reads : (bs : List ℕ) → StandsBehind bs → Reads bs (page_items bs)
 behind_reads bs h =
     let n : NoComments bs = no_comment_same bs h.uncommented in
     let xs : List Item = items_cut bs (cuts Page false 0 bs) in

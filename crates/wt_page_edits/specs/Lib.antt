@@ -1,0 +1,3 @@
+pub mod PageEdits
+pub mod Unmarked
+pub mod Calls

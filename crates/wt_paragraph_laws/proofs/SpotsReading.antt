@@ -1,0 +1,49 @@
+-- The items of a page with typed paragraphs: those of its parts, each read as a page of its own; and it calls nothing.
+use Rattle.std.proofs.Common.{◌≡◌, ℕ, List, [], ◌∷◌, ◌++◌, sym, subst, None}
+use Rattle.wt_span.specs.Items.{Item}
+use Rattle.wt_expand.specs.PageCalls.{expanded_page}
+use Rattle.wt_expand.specs.PageItems.{page_items}
+use Rattle.wt_expand.specs.Work.{Pages, first_refusal}
+use Rattle.wt_expand.specs.Expansion.{page_work}
+use Rattle.wt_text_edits.specs.LonePages.{of_items}
+use Rattle.wt_text_edits.proofs.TypedText.{shown_expanded, shown_unrefused}
+use Rattle.wt_prose.proofs.InFront.{Reads, InFront, its_items, read_items, read_words}
+use Rattle.wt_prose.proofs.ProseReading.{page_front}
+use Rattle.wt_text_between.specs.Between.{StandsBefore}
+use Rattle.wt_text_between.proofs.Fronts.{before_reads, behind_reads}
+use Rattle.wt_paragraph_laws.specs.Spots.{Spot, spots_source, IsSpot, AreFurther, AreSpots}
+
+abbrev pub spots_items : List Spot → List ℕ → List Item
+spots_items [] behind = page_items behind
+spots_items (s ∷ ss) behind = page_items s.before ++ (page_items s.paragraph ++ spots_items ss behind)
+
+in_front : (bs rest : List ℕ) (xs : List Item) → StandsBefore bs → Reads rest xs → Reads (bs ++ rest) (page_items bs ++ xs)
+in_front bs rest xs b r =
+    let g : InFront bs = before_reads bs b in
+    subst (λ ys. Reads (bs ++ rest) (ys ++ xs)) (sym (its_items bs g)) (g.reads rest xs r)
+
+spot_reads : (s : Spot) (rest : List ℕ) (xs : List Item) → IsSpot s → Reads rest xs
+    → Reads (s.before ++ (s.paragraph ++ rest)) (page_items s.before ++ (page_items s.paragraph ++ xs))
+spot_reads s rest xs h r =
+    in_front s.before (s.paragraph ++ rest) (page_items s.paragraph ++ xs) h.before (page_front s.paragraph rest xs h.paragraph r)
+
+further_reads : (ss : List Spot) (behind : List ℕ) → AreFurther ss behind → Reads (spots_source ss behind) (spots_items ss behind)
+further_reads [] behind h = behind_reads behind h.stands
+further_reads (s ∷ ss) behind h = spot_reads s (spots_source ss behind) (spots_items ss behind) h.0 (further_reads ss behind h.3)
+
+spots_read : (ss : List Spot) (behind : List ℕ) → AreSpots ss behind → Reads (spots_source ss behind) (spots_items ss behind)
+spots_read [] behind h = absurd h
+spots_read (s ∷ ss) behind h = spot_reads s (spots_source ss behind) (spots_items ss behind) h.0 (further_reads ss behind h.2)
+
+pub items_of_spots : (ss : List Spot) (behind : List ℕ) → AreSpots ss behind → page_items (spots_source ss behind) ≡ spots_items ss behind
+items_of_spots ss behind h = read_items (spots_source ss behind) (spots_items ss behind) (spots_read ss behind h)
+
+pub spots_expanded : (pages : Pages) (ss : List Spot) (behind : List ℕ) → AreSpots ss behind
+    → expanded_page pages (spots_source ss behind) ≡ of_items (page_items (spots_source ss behind))
+spots_expanded pages ss behind h =
+    shown_expanded pages (spots_source ss behind) (read_words (spots_source ss behind) (spots_items ss behind) (spots_read ss behind h))
+
+pub spots_unrefused : (pages : Pages) (ss : List Spot) (behind : List ℕ) → AreSpots ss behind
+    → first_refusal pages (spots_source ss behind) (page_work pages (spots_source ss behind)) ≡ None
+spots_unrefused pages ss behind h =
+    shown_unrefused pages (spots_source ss behind) (read_words (spots_source ss behind) (spots_items ss behind) (spots_read ss behind h))
