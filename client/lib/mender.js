@@ -542,11 +542,13 @@ export class Mender {
   }
 
   /**
-   * Whether the page has the element inside another one of this name.
+   * Whether the page has the element inside another one of this name; of a page that isn't known, whether it
+   * may have it so.
    * @param {Element} element
    * @param {string} name
    */
   #hasAbove(element, name) {
+    if (this.original === undefined) return this.#numberOf(element) !== 0;
     let above = this.#kept(this.#numberOf(element))?.parent;
     while (above && above.part.name !== name) above = above.parent;
     return Boolean(above);

@@ -219,6 +219,7 @@ fn push_item_of(
     around: Surroundings<'_, '_, '_>,
     list: Kind,
     item: &Node<'_>,
+    is_first: bool,
 ) -> Result<(), NoMemory> {
     let mut signs = Str::copy_of(alloc, around.signs)?;
     signs.push_str(sign_of(list, item.kind))?;
@@ -228,7 +229,43 @@ fn push_item_of(
         signs: signs.as_str(),
         tail: None,
     };
-    push_item(alloc, out, own, item)
+    if is_first {
+        push_first_item(alloc, out, own, item)
+    } else {
+        push_item(alloc, out, own, item)
+    }
+}
+
+/// Whether a new item holds lists alone, where its line may be that of their first item, too.
+fn holds_lists_alone(around: Surroundings<'_, '_, '_>, item: &Node<'_>) -> bool {
+    match item.children.as_slice().first() {
+        Some(first) => around.keeps && item.id == 0 && is_list(first.kind),
+        None => false,
+    }
+}
+
+/// Appends the first item of a list: where it is new and holds lists alone, they begin on its line.
+#[cycle(blocks)]
+fn push_first_item(
+    alloc: Global,
+    out: &mut Str,
+    around: Surroundings<'_, '_, '_>,
+    item: &Node<'_>,
+) -> Result<(), NoMemory> {
+    if !holds_lists_alone(around, item) {
+        return push_item(alloc, out, around, item);
+    }
+    let mut is_first = true;
+    for list in item.children.as_slice() {
+        if is_list(list.kind) {
+            if !is_first {
+                out.push_str("\n")?;
+            }
+            is_first = false;
+            push_block(alloc, out, around.within(), list)?;
+        }
+    }
+    Ok(())
 }
 
 /// Appends the items of a list, each on a line of its own.
@@ -245,8 +282,8 @@ fn push_items(
             if !is_first {
                 out.push_str("\n")?;
             }
+            push_item_of(alloc, out, around, list.kind, item, is_first)?;
             is_first = false;
-            push_item_of(alloc, out, around, list.kind, item)?;
         }
     }
     Ok(())

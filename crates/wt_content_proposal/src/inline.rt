@@ -315,6 +315,14 @@ fn has_own_text(alloc: Global, old: &Node<'_>) -> Result<bool, NoMemory> {
     Ok(has_target(opening.as_str()))
 }
 
+/// Appends the text of an external link, apart from its URL where it begins with a blank.
+fn push_with_blank(out: &mut Str, inside: &str) -> Result<(), NoMemory> {
+    if inside.starts_with(" ") {
+        out.push_str("<nowiki/>")?;
+    }
+    out.push_str(inside)
+}
+
 /// A link of the page whose text alone was changed: its target stays as it was written. None where the target
 /// was changed, too, or no text is left.
 fn link_round(
@@ -330,7 +338,11 @@ fn link_round(
     let Some(mut out) = target_of(alloc, old)? else {
         return Ok(None);
     };
-    out.push_str(inside)?;
+    if matches!(old.kind, Kind::ExtLink) {
+        push_with_blank(&mut out, inside)?;
+    } else {
+        out.push_str(inside)?;
+    }
     push_link_end(&mut out, old)?;
     if has_own_text(alloc, old)? {
         return Ok(Some(out));
@@ -341,11 +353,11 @@ fn link_round(
 
 /// The text of an external link, apart from its URL where it begins with a blank.
 fn with_blank(alloc: Global, keeps: bool, inside: &str) -> Result<Str, NoMemory> {
-    let mut out = Str::new(alloc);
-    if keeps && inside.starts_with(" ") {
-        out.push_str("<nowiki/>")?;
+    if !keeps {
+        return Str::copy_of(alloc, inside);
     }
-    out.push_str(inside)?;
+    let mut out = Str::new(alloc);
+    push_with_blank(&mut out, inside)?;
     Ok(out)
 }
 
@@ -584,9 +596,9 @@ fn units_of<'n, 't, 'a>(
 }
 
 fn spot_of<'w>(writing: Writing<'w, '_, '_>) -> Spot<'w> {
-    let (before, start) = match writing.block {
-        Some(block) => (block.before, block.inside),
-        None => (b' ', NOWHERE),
+    let (before, start, is_delimited) = match writing.block {
+        Some(block) => (block.before, block.inside, block.start < block.inside),
+        None => (b' ', NOWHERE, false),
     };
     Spot {
         place: writing.place,
@@ -594,11 +606,16 @@ fn spot_of<'w>(writing: Writing<'w, '_, '_>) -> Spot<'w> {
         in_tables: writing.known.has_tables,
         page: writing.known.page.as_bytes(),
         start,
+        is_preformatted: is_delimited && matches!(writing.place, Place::Paragraph),
     }
 }
 
-fn is_cell(place: Place) -> bool {
-    matches!(place, Place::Cell | Place::Header)
+/// Whether what holds nothing is told by its signs alone.
+fn may_be_empty(place: Place) -> bool {
+    match place {
+        Place::Item | Place::Term | Place::Cell | Place::Header => true,
+        Place::Paragraph | Place::Heading => false,
+    }
 }
 
 /// Inline nodes as the inside of a block.
@@ -609,7 +626,7 @@ pub fn spelled<'t, 'a>(
     edges: Edges<'t, 'a>,
 ) -> Result<Str, NoMemory> {
     let units = units_of(alloc, writing, nodes, edges, Some(spot_of(writing)))?;
-    if writing.keeps && units.is_empty() && is_cell(writing.place) {
+    if writing.keeps && units.is_empty() && may_be_empty(writing.place) {
         return Ok(Str::new(alloc));
     }
     let setting = Setting {

@@ -7,7 +7,8 @@ use wt_guards::{Place, Role, Stretch, Thing, Unit};
 use wt_span::{NoMemory, Str};
 
 /// Where an inside is written: in what kind of block, the last byte of the delimiter before it (a space where there is
-/// none), whether a table may be open there, the page, and where it has this inside, in bytes.
+/// none), whether a table may be open there, the page, where it has this inside, in bytes, and whether the inside is
+/// that of preformatted text, behind whose space no block begins.
 #[derive(Clone, Copy)]
 pub struct Spot<'w> {
     pub place: Place,
@@ -15,6 +16,7 @@ pub struct Spot<'w> {
     pub in_tables: bool,
     pub page: &'w [u8],
     pub start: usize,
+    pub is_preformatted: bool,
 }
 
 impl<'w> Spot<'w> {
@@ -155,6 +157,9 @@ fn is_list_sign(byte: u8) -> bool {
 
 /// Whether an inside that begins with a byte would be read with the delimiter before it.
 fn joins_delimiter(spot: Spot<'_>, first: u8, units: &[Unit<'_>]) -> bool {
+    if spot.is_preformatted {
+        return false;
+    }
     if is_blank(first) {
         return true;
     }
@@ -278,13 +283,23 @@ fn is_no_url(byte: u8) -> bool {
     byte <= b' ' || byte == b'<' || byte == b'>' || byte == b'[' || byte == b']' || byte == b'"'
 }
 
-fn first_kept(source: &[u8], has_bracket: bool) -> Option<u8> {
-    for byte in source {
-        if !is_dropped(*byte, has_bracket) {
-            return Some(*byte);
+/// The bytes from the first one on that isn't dropped.
+fn kept_of(source: &[u8], has_bracket: bool) -> &[u8] {
+    for at in 0..source.len() {
+        if !is_dropped(source[at], has_bracket) {
+            return &source[at..];
         }
     }
-    None
+    &[]
+}
+
+/// Whether a URL ends before these bytes, of which there are some: before a byte that is none of it, or two
+/// apostrophes.
+fn begins_behind_url(kept: &[u8]) -> bool {
+    match kept.first() {
+        Some(byte) => is_no_url(*byte) || kept.starts_with(b"''"),
+        None => false,
+    }
 }
 
 /// Whether a URL ends before these units.
@@ -296,8 +311,9 @@ fn ends_url(url: &[u8], units: &[Unit<'_>]) -> bool {
             Some(Role::Group(_) | Role::Mark { .. } | Role::Bare(_)) => return false,
             _ => {}
         }
-        if let Some(byte) = first_kept(source_of(unit), has_bracket) {
-            return is_no_url(byte);
+        let kept = kept_of(source_of(unit), has_bracket);
+        if !kept.is_empty() {
+            return begins_behind_url(kept);
         }
     }
     true
@@ -329,6 +345,39 @@ fn toggle_length(unit: Option<&Unit<'_>>) -> usize {
             .len(),
         _ => 0,
     }
+}
+
+/// Whether a bare URL begins behind a delimiter that is written anew, which it doesn't join.
+fn is_url_in_style(units: &[Unit<'_>], at: usize) -> bool {
+    toggle_length(before(units, at)) != 0 && matches!(units.get(at), Some(unit) if is_bare(unit))
+}
+
+fn is_bare(unit: &Unit<'_>) -> bool {
+    matches!(role_of(unit), Some(Role::Bare(_)))
+}
+
+/// The length of a delimiter that stands in the page; 0 of anything else.
+fn standing_toggle(unit: Option<&Unit<'_>>) -> usize {
+    match unit {
+        Some(Unit::Thing(thing)) if matches!(thing.role, Role::Node) && thing.place.is_some() => {
+            match thing.source.as_str() {
+                "''" => 2,
+                "'''" => 3,
+                _ => 0,
+            }
+        }
+        _ => 0,
+    }
+}
+
+/// Whether a delimiter that is written anew and one that stands in the page meet that are of one length: they would
+/// make one run that is longer.
+fn meets_like(units: &[Unit<'_>], at: usize) -> bool {
+    let left = before(units, at);
+    let right = units.get(at);
+    let is_new_first = toggle_length(left) != 0 && toggle_length(left) == standing_toggle(right);
+    let is_new_last = toggle_length(right) != 0 && toggle_length(right) == standing_toggle(left);
+    is_new_first || is_new_last
 }
 
 /// Whether two delimiters that are written anew make one run of five.
@@ -381,7 +430,7 @@ fn joint_before(spot: Option<Spot<'_>>, units: &[Unit<'_>], at: usize) -> Option
     if let Some(end) = ended_url(units, at) {
         return Some(behind(end));
     }
-    if are_five(units, at) || may_begin(spot?, units, at) {
+    if are_five(units, at) || is_url_in_style(units, at) || may_begin(spot?, units, at) {
         Some(behind(0))
     } else {
         None
@@ -406,7 +455,7 @@ fn push_before<'n>(
     if let Some(place) = joint_before(spot, units, at) {
         out.push(joint_at(alloc, place))?;
     }
-    if joins_link(units, at) || is_at_start(spot, units, at) {
+    if joins_link(units, at) || meets_like(units, at) || is_at_start(spot, units, at) {
         push_nowiki(alloc, out)?;
     }
     Ok(())

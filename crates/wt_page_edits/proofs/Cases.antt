@@ -36,10 +36,10 @@ node = tree free none
 abbrev typed : PageEdit
 typed = record {
   spots = record {
-      spot = record { before = codes "== h ==\n* a\n\n"; paragraph = codes "b" };
-      others = node ∷ node ∷ node ∷ node ∷ [];
-      sending = retyped free free (codes "[c]");
-    } ∷ [];
+    spot = record { before = codes "== h ==\n* a\n\n"; paragraph = codes "b" };
+    others = node ∷ node ∷ node ∷ node ∷ [];
+    sending = retyped free free (codes "[c]");
+  } ∷ [];
   behind = codes "\n\n{|\n| d\n|}\n";
   others = node ∷ node ∷ node ∷ [];
 }
@@ -59,8 +59,8 @@ sent = refl
 abbrev emptied : PageEdit
 emptied = record {
   spots = record { spot = record { before = []; paragraph = codes "a" }; others = []; sending = kept node }
-    ∷ record { spot = record { before = codes "\n\n----\n\n"; paragraph = codes "b" }; others = node ∷ node ∷ node ∷ []; sending = retyped free free [] }
-    ∷ [];
+      ∷ record { spot = record { before = codes "\n\n----\n\n"; paragraph = codes "b" }; others = node ∷ node ∷ node ∷ []; sending = retyped free free [] }
+      ∷ [];
   behind = codes "\n";
   others = node ∷ [];
 }

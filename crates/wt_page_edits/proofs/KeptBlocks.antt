@@ -1,10 +1,10 @@
 -- Blocks of any kind that are kept, before others.
-use Rattle.std.proofs.Common.{arith, ◌≡◌, ℕ, suc, ◌+◌, ◌≤◌, Bool, false, List, [], ◌∷◌, ◌++◌, length, refl, sym, ap, ◌∙◌, subst, append-nil, append_assoc}
-use Rattle.std.specs.Prelude.{◌||◌, map}
+use Rattle.std.proofs.Common.{arith, ◌≡◌, ℕ, ◌≤◌, Bool, List, [], ◌∷◌, ◌++◌, length, refl, sym, ap, ◌∙◌, subst, append-nil, append_assoc}
+use Rattle.std.specs.Prelude.{◌||◌}
 use Rattle.std.proofs.lemmas.Grind.{flat_map-append}
-use Rattle.wt_tree.specs.Plain.{Plains, ended, plain_before, plains_before}
+use Rattle.wt_tree.specs.Plain.{Plains, plain_before}
 use Rattle.wt_tree.specs.Source.{flat, flat_of_all}
-use Rattle.wt_tree.specs.Tree.{Tree, Trees, more}
+use Rattle.wt_tree.specs.Tree.{Tree, more}
 use Rattle.wt_span.specs.Items.{Item, source, sources}
 use Rattle.wt_inline.specs.ItemTree.{ItemTree, forest, tree_items, held_by_all}
 use Rattle.wt_checks.specs.PutBack.{have_frame}
@@ -21,7 +21,7 @@ use Rattle.wt_expand.specs.PageItems.{page_items}
 use Rattle.wt_expand.proofs.PageLaws.{page_sources}
 use Rattle.wt_prose.specs.ProseEdits.{Sending, kept}
 use Rattle.wt_prose.proofs.ProseTrees.{blocks_of, number_behind, items_behind}
-use Rattle.wt_prose.proofs.BlockFacts.{behind_source, behind_width, sent_of, Facts, facts_nothing}
+use Rattle.wt_prose.proofs.BlockFacts.{behind_source, behind_width, sent_of, Facts}
 use Rattle.wt_prose.proofs.ProseFacts.{regrouped, plains_of}
 use Rattle.wt_paragraph_laws.specs.Between.{blocks_in}
 use Rattle.wt_page_edits.specs.PageEdits.{all_kept}

@@ -1,5 +1,5 @@
 -- A call that keeps what `run` promises answers such an edit with the new page, or a device failed, or memory ran out.
-use Rattle.std.proofs.Common.{◌≡◌, ℕ, Option, Some, List, refl, sym, ap, ◌∙◌, subst, inl, inr}
+use Rattle.std.proofs.Common.{◌≡◌, ℕ, Option, Some, List, sym, ap, ◌∙◌, subst, inl, inr}
 use Rattle.std.specs.Prelude.{◌⊎◌, IfSome}
 use Rattle.wt_devices.specs.Device.{Pages}
 use Rattle.wt_pagetool.specs.declared.status.Status.TheVariants as status
@@ -11,7 +11,7 @@ use Rattle.wt_pagetool.specs.Promises.{Ends, EndsAsEdit}
 use Rattle.wt_pagetool.specs.Reports.{WasDone}
 use Rattle.wt_pagetool.specs.Selser.{DoneByEdit}
 use Rattle.wt_pagetool.specs.Statuses.{code, IsFaultOrNoMemory}
-use Rattle.wt_page_edits.specs.PageEdits.{PageEdit, old_page, new_page, sent_page, IsPageEdit}
+use Rattle.wt_page_edits.specs.PageEdits.{PageEdit, new_page, sent_page, IsPageEdit}
 use Rattle.wt_page_edits.specs.Unmarked.{unmarked_page, IsUnmarkedPageEdit}
 use Rattle.wt_page_edits.specs.Calls.{Sends}
 use Rattle.wt_page_edits.proofs.PageTakes.{command_takes_texts}

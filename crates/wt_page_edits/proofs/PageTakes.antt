@@ -1,10 +1,9 @@
 -- A page takes any texts in any of its typed paragraphs, whatever else stands in it: `edit` answers the page with them, as they are spelled.
 use Rattle.std.proofs.Common.{arith, ◌≡◌, ℕ, ◌≤◌, Bool, Option, Some, List, [], ◌++◌, length, refl, sym, ap, ◌∙◌, subst}
-use Rattle.std.specs.Prelude.{Ok, None, if◌then◌else◌}
+use Rattle.std.specs.Prelude.{Ok, if◌then◌else◌}
 use Rattle.std.specs.Str.{IsUtf8}
 use Rattle.wt_span.specs.declared.limits.TheConstants.{HTML_BYTES, PAGE_BYTES}
 use Rattle.wt_devices.specs.Device.{Pages}
-use Rattle.wt_span.specs.Items.{Item}
 use Rattle.wt_tree.specs.declared.kind.Kind.TheVariants as kind
 use Rattle.wt_tree.specs.Source.{flat_of_all}
 use Rattle.wt_tree.specs.Tiling.{InPreorder, NoneIsGroup}

@@ -1,5 +1,5 @@
 -- What holds of all blocks of a page in whose paragraphs texts were typed, and what the new page shows.
-use Rattle.std.proofs.Common.{arith, ◌≡◌, ℕ, ◌+◌, ◌≤◌, false, None, List, [], ◌∷◌, ◌++◌, length, refl, sym, ap, ap₂, ◌∙◌, subst, append-nil}
+use Rattle.std.proofs.Common.{arith, ◌≡◌, ℕ, ◌+◌, ◌≤◌, false, None, List, [], ◌∷◌, ◌++◌, refl, sym, ap, ap₂, ◌∙◌, subst, append-nil, inl}
 use Rattle.std.specs.List.{flat_map}
 use Rattle.std.proofs.lemmas.Grind.{flat_map-append}
 use Rattle.wt_tree.specs.declared.kind.Kind.TheVariants as kind
@@ -7,22 +7,24 @@ use Rattle.wt_tree.specs.Plain.{element, Plains, ended, along}
 use Rattle.wt_tree.specs.Tree.{Tree}
 use Rattle.wt_span.specs.Items.{Item, source, sources}
 use Rattle.wt_inline.specs.Carried.{shown_item}
-use Rattle.wt_inline.specs.ItemTree.{ItemTree, forest, tree_items}
+use Rattle.wt_inline.specs.ItemTree.{ItemTree, forest}
 use Rattle.wt_isolation.specs.OpenTags.{ends_open}
 use Rattle.wt_annotated.specs.Annotated.{all_unplaced}
 use Rattle.wt_annotated.specs.Labels.{label_at}
 use Rattle.wt_expand.specs.PageItems.{page_items}
 use Rattle.wt_moved_laws.specs.Standing.{AreOrdinary}
 use Rattle.wt_text_edits.specs.LonePages.{para_of}
-use Rattle.wt_text_edits.specs.TypedPages.{IsTypedPage}
-use Rattle.wt_text_edits.proofs.TypedLeaves.{AreOwn, Leaf, leaves, leaf_shown, leaf_source, leaves_shown, leaves_para}
+use Rattle.wt_text_edits.proofs.TakesAnyText.{typed_again}
+use Rattle.wt_text_edits.proofs.TypedLeaves.{AreOwn, Leaf, leaves, leaf_shown, leaves_shown, leaves_para}
 use Rattle.wt_text_edits.proofs.TypedShown.{leaves_show}
 use Rattle.wt_prose.specs.ProsePages.{Passage}
-use Rattle.wt_prose.specs.ProseEdits.{Sending, new_paragraph}
+use Rattle.wt_prose.specs.ProseEdits.{Sending, retyped, kept, new_paragraph, IsText}
 use Rattle.wt_prose.proofs.ProseTrees.{held, number_behind, items_behind}
 use Rattle.wt_prose.proofs.BlockFacts.{held_source, paragraph_shown, Facts, facts_nothing}
-use Rattle.wt_prose.proofs.ProseFacts.{sent_shown, paragraph_is, facts_paragraph, own_of, plains_of, sent_same, new_typed}
+use Rattle.wt_prose.proofs.ProseFacts.{sent_shown, paragraph_is, facts_paragraph, plains_of, sent_same}
 use Rattle.wt_paragraph_laws.specs.Between.{blocks_in}
+use Rattle.wt_paragraph_laws.specs.Texts.{IsParagraph}
+use Rattle.wt_paragraph_laws.proofs.Texts.{paragraph_written}
 use Rattle.wt_paragraph_laws.specs.Spots.{Spot, spots_source, page_blocks, AreFurther, AreSpots, SameRound, AllTyped}
 use Rattle.wt_paragraph_laws.proofs.SpotsAgain.{clear_behind, clear_first}
 use Rattle.wt_paragraph_laws.proofs.SpotsTrees.{leafy_blocks}
@@ -60,6 +62,9 @@ ordinary_parts (s ∷ ss) behind h =
     (r.0, ordinary_parts ss behind r.1.1)
 
 -- ---- a paragraph, with the blocks before it
+
+paragraph_own : (q : List ℕ) → IsParagraph q → AreOwn (page_items q)
+paragraph_own q h = (paragraph_written q h).1
 
 para_source : (after : List Item) (q front : List ℕ) → AreOwn (page_items q) → sources after ≡ front
     → sources (items_behind after (leaves_para (leaves (page_items q)))) ≡ front ++ q
@@ -128,7 +133,7 @@ pub facts_all : (xs : List Item) (es : List SpotEdit) (others : List Tree) (behi
 facts_all xs [] others behind sent end o typed n before le clear = facts_end xs others behind n before end o
 facts_all xs (e ∷ es) others behind sent end o typed n before le clear =
     facts_spot xs e (spot_sendings es others) (leafy_blocks (old_spots es) behind) (spots_source (old_spots es) behind) (spots_source (new_spots es) behind)
-    (sent_shows es behind) n before sent.0 o.0 (own_of e.spot.paragraph typed.0) le clear.0
+    (sent_shows es behind) n before sent.0 o.0 (paragraph_own e.spot.paragraph typed.0) le clear.0
     (λ m after more is. facts_all xs es others behind sent.1 end o.1 typed.1 m after more (subst (λ bs. AreClear bs (old_spots es)) (sym is) clear.1))
 
 -- ---- what such a page shows
@@ -157,7 +162,7 @@ blocks_show (s ∷ ss) behind h n before =
     let t : ItemTree = leaves_para (leaves (page_items s.paragraph)) in
     let shown : Plains = paragraph_shown (flat_map shown_item (page_items s.paragraph)) (page_shows ss behind) in
     others_show (blocks_in (page_items s.before)) (t ∷ leafy_blocks ss behind) shown
-    (λ m after. para_shows s.paragraph (leafy_blocks ss behind) (page_shows ss behind) (own_of s.paragraph h.0) (blocks_show ss behind h.1) m after) n before
+    (λ m after. para_shows s.paragraph (leafy_blocks ss behind) (page_shows ss behind) (paragraph_own s.paragraph h.0) (blocks_show ss behind h.1) m after) n before
 
 -- ---- the new page shows what was sent
 
@@ -166,7 +171,7 @@ shows_same [] behind u h = refl
 shows_same (e ∷ es) behind u h =
     let ts : List ItemTree = blocks_in (page_items e.spot.before) in
     ap (λ cs. blocks_shown ts (paragraph_shown cs (sent_shows es behind)))
-    (sent_same e.sending (record { paragraph = e.spot.paragraph; breaks = 0 }) u.0 (own_of e.spot.paragraph h.0))
+    (sent_same e.sending (record { paragraph = e.spot.paragraph; breaks = 0 }) u.0 (paragraph_own e.spot.paragraph h.0))
     ∙ ap (λ ps. blocks_shown ts (paragraph_shown (flat_map shown_item (page_items (new_paragraph e.sending e.spot.paragraph))) ps)) (shows_same es behind u.1 h.1)
 
 -- ---- and it is such a page again
@@ -175,6 +180,10 @@ pub new_round : (es : List SpotEdit) → SameRound (old_spots es) (new_spots es)
 new_round [] = tt
 new_round (e ∷ es) = (refl, new_round es)
 
+new_is : (d : Sending) (q : List ℕ) → IsText d → IsParagraph q → IsParagraph (new_paragraph d q)
+new_is (retyped p t text) q u h = inl (typed_again q text u)
+new_is (kept v) q u h = h
+
 pub new_all_typed : (es : List SpotEdit) → AreTexts es → AllTyped (old_spots es) → AllTyped (new_spots es)
 new_all_typed [] u h = tt
-new_all_typed (e ∷ es) u h = (new_typed e.sending e.spot.paragraph u.0 h.0, new_all_typed es u.1 h.1)
+new_all_typed (e ∷ es) u h = (new_is e.sending e.spot.paragraph u.0 h.0, new_all_typed es u.1 h.1)

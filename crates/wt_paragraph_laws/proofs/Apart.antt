@@ -1,19 +1,23 @@
 -- Rows before others that they don't join: their parts stand before the others' parts.
-use Rattle.std.proofs.Common.{◌≡◌, Bool, false, List, [], ◌∷◌, ◌++◌, drop, map, take, refl, sym, ap, ◌∙◌, subst, append-nil, append_assoc}
-use Rattle.std.specs.List.{flat_map}
+use Rattle.std.proofs.Common.{◌≡◌, Bool, false, List, [], ◌∷◌, ◌++◌, map, refl, sym, ap, ◌∙◌, subst, append-nil, append_assoc, arith, inl, inr}
+use Rattle.std.specs.List.{AllByRecursion, flat_map}
 use Rattle.std.proofs.lemmas.Grind.{flat_map-append}
 use Rattle.wt_span.specs.Runs.{runs, IsRun, AreRuns}
 use Rattle.wt_span.proofs.RunLaws.{runs_are, runs_only}
 use Rattle.wt_lines.specs.declared.kind.LineKind.{LineKind}
 use Rattle.wt_lines.specs.declared.kind.LineKind.TheVariants as line
 use Rattle.wt_blocks.specs.Paragraphs.{is_text}
-use Rattle.wt_tables.specs.Extents.{is_open, inner_len}
-use Rattle.wt_tables.specs.Parts.{taken_len, units}
+use Rattle.wt_tables.specs.Extents.{is_open}
+use Rattle.wt_tables.specs.Parts.{joined, units, unit_kind}
 use Rattle.wt_inline.specs.Parts.{Part}
-use Rattle.wt_page.specs.Rows.{Row, kind_of}
+use Rattle.wt_page.specs.Rows.{Row, kind_of, rows}
 use Rattle.wt_page.specs.Stretches.{Stretch, stretch_parts, stretches_parts}
 use Rattle.wt_page.specs.Body.{one_block, same_block, run_stretches, within, blocks, body_parts}
 use Rattle.wt_span.specs.Items.{Item}
+use Rattle.wt_lines.specs.Lines.{full_lines}
+use Rattle.wt_row_laws.specs.Units.{IsUnit, AreUnits}
+use Rattle.wt_row_laws.proofs.Falling.{IsPart, unit_is_part}
+use Rattle.wt_row_laws.proofs.UnitCuts.{units_only, units_are}
 use Rattle.wt_rows.proofs.FirstUnits.{units_more, unit_one}
 use Rattle.wt_text_edits.proofs.PlainRows.{text_row}
 use Rattle.wt_paragraph_laws.specs.Between.{EndApart, BeginApart}
@@ -62,21 +66,29 @@ both_runs joins (l ∷ rs) xs ys r e =
 pub runs_apart : {A : Type 0} (joins : A → A → Bool) (xs ys : List A) → Apart joins xs ys → runs joins (xs ++ ys) ≡ runs joins xs ++ runs joins ys
 runs_apart joins xs ys e = sym (runs_only joins (runs joins xs ++ runs joins ys) (xs ++ ys) (both_runs joins (runs joins xs) xs ys (runs_are joins xs) e))
 
--- ---- rows of which none begins a table: each is a unit
-
-abbrev pub OpenNone : List Row → Type 0
-OpenNone [] = Unit {0}
-OpenNone (r ∷ rs) = (is_open r.kind ≡ false) × OpenNone rs
+-- ---- units
 
 abbrev alone : Row → List Row
 alone r = r ∷ []
 
-units_before : (rs ss : List Row) → OpenNone rs → units kind_of (rs ++ ss) ≡ map alone rs ++ units kind_of ss
-units_before [] ss h = refl
-units_before (r ∷ rs) ss h = unit_one r (rs ++ ss) h.0 ∙ ap (λ us. alone r ∷ us) (units_before rs ss h.1)
+each_unit : (us vs : List (List Row)) → AllByRecursion IsUnit us → AllByRecursion IsUnit vs → AllByRecursion IsUnit (us ++ vs)
+each_unit [] vs h g = g
+each_unit (u ∷ us) vs (h, hs) g = (h, each_unit us vs hs g)
 
-units_alone : (rs : List Row) → OpenNone rs → units kind_of rs ≡ map alone rs
-units_alone rs h = ap (units kind_of) (sym (append-nil rs)) ∙ units_before rs [] h ∙ append-nil (map alone rs)
+units_beside : (rs ss : List Row) → AreUnits (units kind_of rs) rs → AreUnits (units kind_of ss) ss
+    → units kind_of (rs ++ ss) ≡ units kind_of rs ++ units kind_of ss
+units_beside rs ss h g =
+    let us : List (List Row) = units kind_of rs in
+    let vs : List (List Row) = units kind_of ss in
+    sym (units_only (us ++ vs) (rs ++ ss) (record {
+      join = flat_map-append (λ (u : List Row). u) us vs ∙ ap (λ xs. xs ++ joined vs) h.join ∙ ap (λ xs. rs ++ xs) g.join;
+      each = each_unit us vs h.each g.each;
+    }))
+
+-- the rows of a page
+pub page_units : (xs : List Item) → AreUnits (units kind_of (rows xs)) (rows xs)
+unfolding rows
+page_units xs = units_are (full_lines xs)
 
 -- ---- their parts
 
@@ -94,12 +106,12 @@ parts_are : (rs : List Row) → body_parts rs ≡ parts_of_units (units kind_of 
 unfolding blocks
 parts_are rs = refl
 
-parts_beside : (rs ss : List Row) → OpenNone rs → Apart same_block (map alone rs) (units kind_of ss) → body_parts (rs ++ ss) ≡ body_parts rs ++ body_parts ss
+parts_beside : (rs ss : List Row) → units kind_of (rs ++ ss) ≡ units kind_of rs ++ units kind_of ss
+    → Apart same_block (units kind_of rs) (units kind_of ss) → body_parts (rs ++ ss) ≡ body_parts rs ++ body_parts ss
 parts_beside rs ss h e =
     parts_are (rs ++ ss)
-    ∙ ap parts_of_units (units_before rs ss h)
-    ∙ units_apart (map alone rs) (units kind_of ss) e
-    ∙ ap (λ us. parts_of_units us ++ parts_of_units (units kind_of ss)) (sym (units_alone rs h))
+    ∙ ap parts_of_units h
+    ∙ units_apart (units kind_of rs) (units kind_of ss) e
     ∙ ap (λ ps. ps ++ parts_of_units (units kind_of ss)) (sym (parts_are rs))
     ∙ ap (λ ps. body_parts rs ++ ps) (sym (parts_are ss))
 
@@ -127,38 +139,62 @@ abbrev pub BeginsText : List Row → Type 0
 BeginsText [] = ⊥
 BeginsText (r ∷ rs) = r.kind ≡ line.Text
 
-open_none : (rs : List Row) → EndApart rs → OpenNone rs
-open_none [] h = tt
-open_none (r ∷ []) h = (h.0, tt)
-open_none (r ∷ s ∷ rs) h = (h.0, open_none (s ∷ rs) h.1)
+-- a unit whose last row isn't text is a table, or this row
+part_kind : (u : List Row) → IsPart u → EndApart u → is_text (unit_kind kind_of u) ≡ false
+part_kind [] h e = absurd h
+part_kind (r ∷ rs) (inl (o, f)) e = ap is_text o
+part_kind (r ∷ []) (inr (o, z)) e = e
+part_kind (r ∷ s ∷ rs) (inr (o, z)) e = absurd cc
 
-ends_apart : (rs : List Row) (r : Row) (us : List (List Row)) → EndApart rs → r.kind ≡ line.Text → Apart same_block (map alone rs) (alone r ∷ us)
-ends_apart [] r us h e = tt
-ends_apart (s ∷ []) r us h e = ap (one_block s.kind) e ∙ text_behind s.kind h.1
-ends_apart (s ∷ t ∷ rs) r us h e = ends_apart (t ∷ rs) r us h.1 e
+ends_rest : (us : List Row) (r : Row) (rs : List Row) → EndApart (us ++ r ∷ rs) → EndApart (r ∷ rs)
+ends_rest [] r rs e = e
+ends_rest (u ∷ []) r rs e = e
+ends_rest (u ∷ v ∷ us) r rs e = ends_rest (v ∷ us) r rs e
+
+unit_ends : (us u rs : List Row) → IsUnit u → EndApart (us ++ (u ++ rs)) → EndApart (u ++ rs)
+unit_ends us [] rs h e = absurd (omega (arith, h.holds_rows))
+unit_ends us (r ∷ u) rs h e = ends_rest us r (u ++ rs) e
+
+ends_apart : (us : List (List Row)) (v : List Row) (vs : List (List Row)) → AllByRecursion IsUnit us → EndApart (joined us)
+    → unit_kind kind_of v ≡ line.Text → Apart same_block us (v ∷ vs)
+ends_apart [] v vs h e t = tt
+ends_apart (u ∷ []) v vs h e t =
+    ap (one_block (unit_kind kind_of u)) t ∙ text_behind (unit_kind kind_of u) (part_kind u (unit_is_part u h.0) (subst EndApart (append-nil u) e))
+ends_apart (u ∷ w ∷ us) v vs h e t = ends_apart (w ∷ us) v vs h.1 (unit_ends u w (joined us) h.1.0 e) t
 
 -- before rows that begin with text
-pub before_text : (rs ss : List Row) → EndApart rs → BeginsText ss → body_parts (rs ++ ss) ≡ body_parts rs ++ body_parts ss
-before_text rs [] h e = absurd e
-before_text rs (r ∷ ss) h e =
-    parts_beside rs (r ∷ ss) (open_none rs h)
-    (subst (λ us. Apart same_block (map alone rs) us) (sym (unit_one r ss (ap is_open e))) (ends_apart rs r (units kind_of ss) h e))
+pub before_text : (rs ss : List Row) → AreUnits (units kind_of rs) rs → AreUnits (units kind_of ss) ss → EndApart rs → BeginsText ss
+    → body_parts (rs ++ ss) ≡ body_parts rs ++ body_parts ss
+before_text rs [] h g e t = absurd t
+before_text rs (r ∷ ss) h g e t =
+    parts_beside rs (r ∷ ss) (units_beside rs (r ∷ ss) h g)
+    (subst (λ us. Apart same_block (units kind_of rs) us) (sym (unit_one r ss (ap is_open t)))
+    (ends_apart (units kind_of rs) (alone r) (units kind_of ss) h.each (subst EndApart (sym h.join) e) t))
 
-texts_none : (ls : List (List Item)) → OpenNone (map text_row ls)
-texts_none [] = tt
-texts_none (l ∷ ls) = (refl, texts_none ls)
+-- ---- behind text
+
+texts_units : (ls : List (List Item)) (ss : List Row) → units kind_of (map text_row ls ++ ss) ≡ map alone (map text_row ls) ++ units kind_of ss
+texts_units [] ss = refl
+texts_units (l ∷ ls) ss = unit_one (text_row l) (map text_row ls ++ ss) refl ∙ ap (λ us. alone (text_row l) ∷ us) (texts_units ls ss)
+
+texts_alone : (ls : List (List Item)) → units kind_of (map text_row ls) ≡ map alone (map text_row ls)
+texts_alone ls = ap (units kind_of) (sym (append-nil (map text_row ls))) ∙ texts_units ls [] ∙ append-nil (map alone (map text_row ls))
 
 texts_apart : (l : List Item) (ls : List (List Item)) (us : List (List Row)) → ((m : List Item) → IsRun same_block (alone (text_row m) ∷ []) us)
     → Apart same_block (map alone (map text_row (l ∷ ls))) us
 texts_apart l [] us f = f l
 texts_apart l (m ∷ ls) us f = texts_apart m ls us f
 
+texts_beside : (l : List Item) (ls : List (List Item)) (ss : List Row) → ((m : List Item) → IsRun same_block (alone (text_row m) ∷ []) (units kind_of ss))
+    → body_parts (map text_row (l ∷ ls) ++ ss) ≡ body_parts (map text_row (l ∷ ls)) ++ body_parts ss
+texts_beside l ls ss f =
+    let rs : List Row = map text_row (l ∷ ls) in
+    parts_beside rs ss (texts_units (l ∷ ls) ss ∙ ap (λ us. us ++ units kind_of ss) (sym (texts_alone (l ∷ ls))))
+    (subst (λ us. Apart same_block us (units kind_of ss)) (sym (texts_alone (l ∷ ls))) (texts_apart l ls (units kind_of ss) f))
+
 -- rows of text before what doesn't begin with text
 pub after_text : (l : List Item) (ls : List (List Item)) (ss : List Row) → BeginApart ss
     → body_parts (map text_row (l ∷ ls) ++ ss) ≡ body_parts (map text_row (l ∷ ls)) ++ body_parts ss
-after_text l ls [] h = parts_beside (map text_row (l ∷ ls)) [] (texts_none (l ∷ ls)) (texts_apart l ls [] (λ m. tt))
+after_text l ls [] h = texts_beside l ls [] (λ m. tt)
 after_text l ls (r ∷ ss) h =
-    let rs : List Row = map text_row (l ∷ ls) in
-    parts_beside rs (r ∷ ss) (texts_none (l ∷ ls))
-    (subst (λ us. Apart same_block (map alone rs) us) (sym (units_more r ss)) (texts_apart l ls ((r ∷ take (taken_len r.kind (inner_len (map kind_of ss))) ss) ∷
-    units kind_of (drop (taken_len r.kind (inner_len (map kind_of ss))) ss)) (λ m. text_before r.kind h)))
+    texts_beside l ls (r ∷ ss) (λ m. subst (λ us. IsRun same_block (alone (text_row m) ∷ []) us) (sym (units_more r ss)) (text_before r.kind h))

@@ -1,5 +1,5 @@
 -- Worked cases of pages with typed paragraphs, and of what may stand round these, by computing.
-use Rattle.std.proofs.Common.{◌≡◌, None, List, [], ◌∷◌, refl, inr}
+use Rattle.std.proofs.Common.{◌≡◌, None, List, [], ◌∷◌, ◌++◌, refl}
 use Rattle.std.specs.Prelude.{codes}
 use Rattle.wt_span.specs.Comments.{comment_len, comment_line_len}
 use Rattle.wt_span.specs.Entities.{named_entity, entity_names, decimal_entity, hex_entity, entity_at}
@@ -8,6 +8,7 @@ use Rattle.wt_span.specs.Lexemes.{sign_word, form_at, closed, words}
 use Rattle.wt_span.specs.Tags.{opening_tag, closing_tag, raw_len, include_at}
 use Rattle.wt_lines.specs.Kinds.{kind_of_signs}
 use Rattle.wt_expand.specs.PageItems.{page_items}
+use Rattle.wt_text_edits.specs.StillItems.{StillItems}
 use Rattle.wt_blocks.specs.Nesting.{nested}
 use Rattle.wt_inline.specs.Parts.{children}
 use Rattle.wt_tables.specs.Extents.{inner_len}
@@ -32,58 +33,39 @@ use Rattle.wt_annotated.specs.GroupData.{group_data}
 use Rattle.wt_annotated.specs.Labels.{label_at}
 use Rattle.wt_paragraph_laws.specs.Between.{rows_of_lines, AreClosed, EndApart, EndsApart, EndsParagraph}
 use Rattle.wt_paragraph_laws.specs.Spots.{Spot, spots_source, BeginsApart, HasNoGroups}
+use Rattle.wt_paragraph_laws.specs.Texts.{AreLetters}
 
--- a list, a paragraph, a table and a heading, a paragraph, and a rule
+-- a list, a paragraph, a table, a paragraph, and a rule
 abbrev page : List Spot
 page =
     record { before = codes "* a\n\n"; paragraph = codes "x" }
-    ∷ record { before = codes "\n{|\n| b\n|}\n\n== h ==\n"; paragraph = codes "y" }
+    ∷ record { before = codes "\n{|\n| b\n|}\n"; paragraph = codes "y" }
     ∷ []
 
-its_source : spots_source page (codes "\n----\n") ≡ codes "* a\n\nx\n{|\n| b\n|}\n\n== h ==\ny\n----\n"
+its_source : spots_source page (codes "\n----\n") ≡ codes "* a\n\nx\n{|\n| b\n|}\ny\n----\n"
 its_source = refl
 
 -- ---- what stands before a paragraph
 
--- lines up to an empty one
-list_above : EndsApart (page_items (codes "== h ==\n* a\n\n"))
+-- an empty line
+list_above : EndsApart (page_items (codes "* a\n\n"))
 unfolding page_items words closed form_at comment_len comment_line_len raw_len opening_tag closing_tag include_at entity_at named_entity decimal_entity
     hex_entity entity_names sign_word kind_of_signs
-list_above = record {
-  front = page_items (codes "== h ==\n* a\n\n");
-  others = [];
-  is = refl;
-  ends_empty = inr (record {
-    others = page_items (codes "== h ==\n* a\n");
-    last = char None 10;
-    is = refl;
-    are_closed = record { whole = refl; closed = refl };
-    is_break = refl;
-  });
-  are_closed = record { whole = refl; closed = refl };
-  apart = tt;
-}
+list_above = record { are_closed = record { whole = refl; closed = refl }; apart = refl }
 
--- a table, an empty line, and a heading directly above the paragraph
-heading_above : EndsApart (page_items (codes "\n{|\n|}\n\n== h ==\n"))
+-- a heading directly above the paragraph
+heading_above : EndsApart (page_items (codes "\n== h ==\n"))
 unfolding page_items words closed form_at comment_len comment_line_len raw_len opening_tag closing_tag include_at entity_at named_entity decimal_entity
     hex_entity entity_names sign_word kind_of_signs
-heading_above = record {
-  front = page_items (codes "\n{|\n|}\n\n");
-  others = page_items (codes "== h ==\n");
-  is = refl;
-  ends_empty = inr (record {
-    others = page_items (codes "\n{|\n|}\n");
-    last = char None 10;
-    is = refl;
-    are_closed = record { whole = refl; closed = refl };
-    is_break = refl;
-  });
-  are_closed = record { whole = refl; closed = refl };
-  apart = (refl, refl);
-}
+heading_above = record { are_closed = record { whole = refl; closed = refl }; apart = refl }
 
--- and a table directly behind the paragraph before
+-- and a table
+table_above : EndsApart (page_items (codes "{|\n| b\n|}\n"))
+unfolding page_items words closed form_at comment_len comment_line_len raw_len opening_tag closing_tag include_at entity_at named_entity decimal_entity
+    hex_entity entity_names sign_word kind_of_signs
+table_above = record { are_closed = record { whole = refl; closed = refl }; apart = refl }
+
+-- a table directly behind a paragraph, and more
 table_apart : BeginsApart (page_items (codes "\n{|\n|}\n\n== h ==\n"))
 unfolding page_items words closed form_at comment_len comment_line_len raw_len opening_tag closing_tag include_at entity_at named_entity decimal_entity
     hex_entity entity_names sign_word kind_of_signs
@@ -98,7 +80,7 @@ open_table h = let e = h.closed in absurd (cc)
 text_above : EndApart (rows_of_lines (page_items (codes "a\n"))) → ⊥
 unfolding page_items words closed form_at comment_len comment_line_len raw_len opening_tag closing_tag include_at entity_at named_entity decimal_entity
     hex_entity entity_names sign_word kind_of_signs
-text_above h = let e = h.1 in absurd (cc)
+text_above h = absurd (cc)
 
 text_behind : BeginsApart (page_items (codes "\na\n")) → ⊥
 unfolding page_items words closed form_at comment_len comment_line_len raw_len opening_tag closing_tag include_at entity_at named_entity decimal_entity
@@ -139,3 +121,36 @@ table_alone = (
     ),
   ),
 )
+
+-- ---- a text that was written by hand
+
+-- an ampersand that begins no reference is a character, and a line break behind it is one, too
+ampersand_written : AreLetters (page_items (codes "T&T"))
+unfolding page_items words closed form_at comment_len comment_line_len raw_len opening_tag closing_tag include_at entity_at named_entity decimal_entity
+    hex_entity entity_names sign_word
+ampersand_written = tt
+
+ampersand_ended : page_items (codes "T&T\n") ≡ page_items (codes "T&T") ++ char None 10 ∷ []
+unfolding page_items words closed form_at comment_len comment_line_len raw_len opening_tag closing_tag include_at entity_at named_entity decimal_entity
+    hex_entity entity_names sign_word
+ampersand_ended = refl
+
+reference_written : AreLetters (page_items (codes "&amp;"))
+unfolding page_items words closed form_at comment_len comment_line_len raw_len opening_tag closing_tag include_at entity_at named_entity decimal_entity
+    hex_entity entity_names sign_word
+reference_written = (tt, tt)
+
+-- nothing begins at `*` and `=` in a line
+signs_still : StillItems (page_items (codes "*="))
+unfolding page_items words closed form_at comment_len comment_line_len raw_len opening_tag closing_tag include_at entity_at named_entity decimal_entity
+    hex_entity entity_names sign_word
+signs_still = (
+  record { bracket = refl; tag = refl; quotes = refl; switch = refl; address = refl },
+  (record { bracket = refl; tag = refl; quotes = refl; switch = refl; address = refl }, tt),
+)
+
+-- a link begins at `[`
+link_begins : StillItems (page_items (codes "[")) → ⊥
+unfolding page_items words closed form_at comment_len comment_line_len raw_len opening_tag closing_tag include_at entity_at named_entity decimal_entity
+    hex_entity entity_names sign_word
+link_begins h = let e = h.0.bracket in absurd (cc)

@@ -6,8 +6,6 @@ use Rattle.wt_lines.specs.Lines.{is_break_item, goes_on, full_lines, empty_end}
 use Rattle.wt_tables.specs.Extents.{behind}
 use Rattle.wt_headings.specs.Lines.{kind_at}
 use Rattle.wt_page.specs.Rows.{Row, line_rows, rows_from, rows}
-use Rattle.wt_rows.specs.Portions.{open_behind}
-use Rattle.wt_rows.proofs.Portions.{count_step}
 use Rattle.wt_paragraph_laws.specs.Between.{written_rows, tables_behind, rows_of_lines, AreClosed}
 use Rattle.wt_paragraph_laws.proofs.Apart.{Apart, runs_apart}
 
@@ -39,20 +37,16 @@ rows_join n (l ∷ ls) ms =
     let m : ℕ = behind n (kind_at n l) in
     ap (λ rs. own ++ rs) (rows_join m ls ms) ∙ sym (append_assoc own (written_rows m ls) (rows_from (tables_behind m ls) ms))
 
-open_so : (made : List Row) (n : ℕ) (ls : List (List Item)) → open_behind 0 made ≡ n → open_behind 0 (made ++ written_rows n ls) ≡ tables_behind n ls
-open_so made n [] e = ap (open_behind 0) (append-nil made) ∙ e
-open_so made n (l ∷ ls) e =
-    let own : List Row = line_rows (kind_at n l) l in
-    let m : ℕ = behind n (kind_at n l) in
-    ap (open_behind 0) (sym (append_assoc made own (written_rows m ls)))
-    ∙ open_so (made ++ own) m ls (count_step made (made ++ own) n m (kind_at n l) l refl e refl)
-
-pub none_open : (xs : List Item) → AreClosed xs → open_behind 0 (rows_of_lines xs) ≡ 0
-none_open xs h = open_so [] 0 (full_lines xs) refl ∙ h.closed
-
 pub rows_before : (xs ys : List Item) → AreClosed xs → rows (xs ++ ys) ≡ rows_of_lines xs ++ rows ys
 unfolding rows
 rows_before xs ys h =
     ap (rows_from 0) (lines_join xs ys h.whole)
     ∙ rows_join 0 (full_lines xs) (full_lines ys)
     ∙ ap (λ n. rows_of_lines xs ++ rows_from n (full_lines ys)) h.closed
+
+no_rows : rows [] ≡ []
+unfolding rows
+no_rows = refl
+
+pub rows_alone : (xs : List Item) → AreClosed xs → rows xs ≡ rows_of_lines xs
+rows_alone xs h = ap rows (sym (append-nil xs)) ∙ rows_before xs [] h ∙ ap (λ rs. rows_of_lines xs ++ rs) no_rows ∙ append-nil (rows_of_lines xs)

@@ -1,4 +1,5 @@
 pub mod Apart
+pub mod Texts
 pub mod Joining
 pub mod Standing
 pub mod Paragraphs

@@ -9,8 +9,8 @@ use Rattle.wt_span.specs.Characters as byte
 use Rattle.wt_isolation.specs.OpenTags.{is_stop, bare_len, ends_open}
 use Rattle.wt_isolation.proofs.OpenTags.{none_bare_here}
 use Rattle.wt_expand.specs.PageItems.{page_items}
-use Rattle.wt_text_edits.specs.TypedPages.{IsTypedPage}
-use Rattle.wt_text_edits.proofs.SpelledUtf8.{spelled_utf8}
+use Rattle.wt_paragraph_laws.specs.Texts.{IsParagraph}
+use Rattle.wt_paragraph_laws.proofs.Texts.{paragraph_utf8}
 use Rattle.wt_prose.proofs.InFront.{reads_nothing, read_items}
 use Rattle.wt_text_between.specs.Between.{EndsLine}
 use Rattle.wt_paragraph_laws.specs.Between.{EndsApart}
@@ -18,11 +18,8 @@ use Rattle.wt_paragraph_laws.specs.Spots.{Spot, spots_source, BeginsApart, IsSpo
 
 -- ---- UTF-8
 
-typed_utf8 : (q : List ℕ) → IsTypedPage q → IsUtf8 q
-typed_utf8 q h = let P : List ℕ → Type 0 = IsUtf8 in subst P (sym h.is) (spelled_utf8 h.setting h.text h.utf8)
-
 spot_utf8 : (s : Spot) (rest : List ℕ) → IsSpot s → IsUtf8 rest → IsUtf8 (s.before ++ (s.paragraph ++ rest))
-spot_utf8 s rest h u = IsUtf8-append s.before (s.paragraph ++ rest) h.before_utf8 (IsUtf8-append s.paragraph rest (typed_utf8 s.paragraph h.paragraph) u)
+spot_utf8 s rest h u = IsUtf8-append s.before (s.paragraph ++ rest) h.before_utf8 (IsUtf8-append s.paragraph rest (paragraph_utf8 s.paragraph h.paragraph) u)
 
 further_utf8 : (ss : List Spot) (behind : List ℕ) → AreFurther ss behind → IsUtf8 (spots_source ss behind)
 further_utf8 [] behind h = h.utf8
@@ -54,7 +51,7 @@ clear_behind front (b ∷ bs) e h = lines_clear front b bs e
 
 -- ---- with other texts
 
-spot_again : (s r : Spot) → IsSpot s → r.before ≡ s.before → IsTypedPage r.paragraph → IsSpot r
+spot_again : (s r : Spot) → IsSpot s → r.before ≡ s.before → IsParagraph r.paragraph → IsSpot r
 spot_again s r h e t =
     let P : List ℕ → Type 0 = λ bs. IsSpot (record { before = bs; paragraph = r.paragraph }) in
     subst P (sym e) (record { before = h.before; before_utf8 = h.before_utf8; ungrouped = h.ungrouped; paragraph = t })

@@ -13,11 +13,11 @@ use Rattle.wt_annotated.specs.Labels.{label_at}
 use Rattle.wt_annotated.specs.WithoutCalls.{annotated as annotated_plainly, AllNonEmpty, IsPlain}
 use Rattle.wt_annotated.proofs.AnnotatedTree.{without_calls}
 use Rattle.wt_annotated.proofs.NoGroups.{only_plain}
-use Rattle.wt_text_edits.specs.TypedPages.{IsTypedPage}
 use Rattle.wt_text_edits.proofs.LoneTrees.{sized}
 use Rattle.wt_text_edits.proofs.TypedLeaves.{leaves, leaves_para, para_leaves}
 use Rattle.wt_text_edits.proofs.TypedShown.{AllOfPage, both_of_page, is_plain_page}
-use Rattle.wt_prose.proofs.ProseTexts.{written}
+use Rattle.wt_paragraph_laws.specs.Texts.{IsParagraph}
+use Rattle.wt_paragraph_laws.proofs.Texts.{paragraph_written}
 use Rattle.wt_prose.proofs.ProseTrees.{blocks_of}
 use Rattle.wt_paragraph_laws.specs.Between.{blocks_in, body_with}
 use Rattle.wt_paragraph_laws.specs.Spots.{Spot, spots_source, page_blocks, part_tree, HasNoGroups, AreFurther, AreSpots, AllTyped}
@@ -33,7 +33,7 @@ as_leaves : (ss : List Spot) (behind : List ℕ) → AllTyped ss → page_blocks
 as_leaves [] behind h = refl
 as_leaves (s ∷ ss) behind h =
     let own : List ItemTree = blocks_in (page_items s.before) in
-    ap (λ t. own ++ t ∷ page_blocks ss behind) (para_leaves (page_items s.paragraph) (written s.paragraph h.0).1)
+    ap (λ t. own ++ t ∷ page_blocks ss behind) (para_leaves (page_items s.paragraph) (paragraph_written s.paragraph h.0).1)
     ∙ ap (λ ts. own ++ leaves_para (leaves (page_items s.paragraph)) ∷ ts) (as_leaves ss behind h.1)
 
 further_typed : (ss : List Spot) (behind : List ℕ) → AreFurther ss behind → AllTyped ss
@@ -75,10 +75,10 @@ part_plain bs h =
     let ts : List ItemTree = blocks_in (page_items bs) in
     only_plain [] (group_data []) (forest ts) (subst (λ t. HasNoGroup (annotated [] (group_data []) t)) (part_meaning bs) h)
 
-para_plain : (q : List ℕ) → IsTypedPage q → ArePlain (leaves_para (leaves (page_items q)) ∷ [])
-para_plain q h = is_plain_page (leaves (page_items q)) (written q h).2
+para_plain : (q : List ℕ) → IsParagraph q → ArePlain (leaves_para (leaves (page_items q)) ∷ [])
+para_plain q h = is_plain_page (leaves (page_items q)) (paragraph_written q h).2
 
-spot_plain : (s : Spot) (ts : List ItemTree) → HasNoGroups s.before → IsTypedPage s.paragraph → ArePlain ts
+spot_plain : (s : Spot) (ts : List ItemTree) → HasNoGroups s.before → IsParagraph s.paragraph → ArePlain ts
     → ArePlain (blocks_in (page_items s.before) ++ leaves_para (leaves (page_items s.paragraph)) ∷ ts)
 spot_plain s ts g h p =
     let t : ItemTree = leaves_para (leaves (page_items s.paragraph)) in

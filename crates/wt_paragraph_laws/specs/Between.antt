@@ -1,10 +1,10 @@
 -- A typed paragraph of a page, and what may stand before and behind it so that neither becomes a part of the other.
-use Rattle.std.specs.Prelude.{◌≡◌, ◌⊎◌, ℕ, true, false, None, List, [], ◌∷◌, ◌++◌}
+use Rattle.std.specs.Prelude.{◌≡◌, ℕ, false, None, List, [], ◌∷◌, ◌++◌}
 use Rattle.wt_tree.specs.declared.kind.Kind.TheVariants as kind
 use Rattle.wt_span.specs.Items.{Item, char}
-use Rattle.wt_lines.specs.Lines.{is_break_item, empty_end, full_lines}
+use Rattle.wt_lines.specs.Lines.{empty_end, full_lines}
 use Rattle.wt_blocks.specs.Paragraphs.{is_text}
-use Rattle.wt_tables.specs.Extents.{behind, is_open}
+use Rattle.wt_tables.specs.Extents.{behind}
 use Rattle.wt_inline.specs.ItemTree.{plain, ItemTree, inner, forest}
 use Rattle.wt_inline.specs.Parts.{children}
 use Rattle.wt_headings.specs.Lines.{kind_at}
@@ -34,29 +34,16 @@ pub record AreClosed (xs : List Item) : Type 0 where
 
 -- ---- before a paragraph
 
--- such lines, and an empty one
-pub record EndsEmpty (xs : List Item) : Type 0 where
-  pub others : List Item
-  pub last : Item
-  pub is : xs ≡ others ++ last ∷ []
-  pub are_closed : AreClosed others
-  pub is_break : is_break_item last ≡ true
-
--- no table begins with these rows, and the last isn't text
+-- the last row isn't text
 abbrev pub EndApart : List Row → Type 0
 EndApart [] = Unit {0}
-EndApart (r ∷ []) = (is_open r.kind ≡ false) × (is_text r.kind ≡ false)
-EndApart (r ∷ s ∷ rs) = (is_open r.kind ≡ false) × EndApart (s ∷ rs)
+EndApart (r ∷ []) = is_text r.kind ≡ false
+EndApart (r ∷ s ∷ rs) = EndApart (s ∷ rs)
 
--- Nothing, or lines up to an empty one; and behind these lines in which no table begins, of which the last is no text: a heading, a list,
--- a rule, or preformatted text.
+-- Such lines, of which the last is no text: an empty line, a heading, a list, the end of a table, a rule, or preformatted text.
 pub record EndsApart (xs : List Item) : Type 0 where
-  pub front : List Item
-  pub others : List Item
-  pub is : xs ≡ front ++ others
-  pub ends_empty : (front ≡ []) ⊎ EndsEmpty front
-  pub are_closed : AreClosed others
-  pub apart : EndApart (rows_of_lines others)
+  pub are_closed : AreClosed xs
+  pub apart : EndApart (rows_of_lines xs)
 
 -- ---- behind a paragraph
 

@@ -12,8 +12,8 @@ use Rattle.wt_expand.specs.PageItems.{page_items}
 use Rattle.wt_annotated.specs.Annotated.{annotated}
 use Rattle.wt_annotated.specs.GroupData.{group_data}
 use Rattle.wt_text_edits.specs.LonePages.{para_of}
-use Rattle.wt_text_edits.specs.TypedPages.{IsTypedPage}
 use Rattle.wt_text_between.specs.Between.{StandsBefore, StandsBehind}
+use Rattle.wt_paragraph_laws.specs.Texts.{IsParagraph}
 use Rattle.wt_paragraph_laws.specs.Between.{rows_of_lines, AreClosed, EndsApart, EndsParagraph, blocks_in}
 
 -- ---- the page's source
@@ -59,7 +59,7 @@ pub record IsSpot (s : Spot) : Type 0 where
   pub before : StandsBefore s.before
   pub before_utf8 : IsUtf8 s.before
   pub ungrouped : HasNoGroups s.before
-  pub paragraph : IsTypedPage s.paragraph
+  pub paragraph : IsParagraph s.paragraph
 
 pub record IsEnd (behind : List ℕ) : Type 0 where
   pub stands : StandsBehind behind
@@ -87,4 +87,4 @@ SameRound (s ∷ ss) (r ∷ rs) = (r.before ≡ s.before) × SameRound ss rs
 
 abbrev pub AllTyped : List Spot → Type 0
 AllTyped [] = Unit {0}
-AllTyped (s ∷ ss) = IsTypedPage s.paragraph × AllTyped ss
+AllTyped (s ∷ ss) = IsParagraph s.paragraph × AllTyped ss

@@ -12,7 +12,7 @@ ghost use Rattle.wt_annotated.specs.CutTexts.{cut_texts};
 ghost use Rattle.wt_annotated.specs.WithoutCalls.{annotated};
 ghost use Rattle.wt_edit.specs.Edits.{refusal_of_page};
 ghost use Rattle.wt_text_edits.specs.LonePages.{of_items};
-ghost use Rattle.wt_text_edits.specs.TypedPages.{IsTypedPage};
+ghost use Rattle.wt_paragraph_laws.specs.Texts.{IsParagraph};
 ghost use Rattle.wt_paragraph_laws.specs.Between.{EndsApart, EndsParagraph, blocks_in, body_with, body_round};
 ghost use Rattle.wt_paragraph_laws.specs.Spots.{Spot, spots_source, page_blocks, part_tree, AreSpots, SameRound, AllTyped};
 
@@ -21,7 +21,7 @@ ghost use Rattle.wt_paragraph_laws.specs.Spots.{Spot, spots_source, page_blocks,
 /// what comes before it and what comes after it make by themselves, whatever its text is.
 #[tactic(auto, using(crate::proofs::Paragraphs::stands_between))]
 pub fn typed_paragraph_stands_by_itself()
-    ensures { (xs : List Item) (q : List ℕ) (tail : List Item) → EndsApart xs → IsTypedPage q → EndsParagraph tail
+    ensures { (xs : List Item) (q : List ℕ) (tail : List Item) → EndsApart xs → IsParagraph q → EndsParagraph tail
         → meaning (xs ++ (page_items q ++ tail)) ≡ body_round (blocks_in xs) (page_items q) (blocks_in tail) }
 {}
 

@@ -179,3 +179,23 @@ row_came = refl
 cell_out : places table (table_of (row 3 [] ∷ [])) ≡ slot 5 9 ∷ []
 unfolding same_kind same_data
 cell_out = refl
+
+-- `! a !! b`: of two cells in a line the first was taken out, and the signs of the second may become one
+abbrev first_cell : Tree
+first_cell = node kind.Th 4 6 10 2 (words (codes "a ") ∷ [])
+
+abbrev second_cell : Tree
+second_cell = node kind.Th 5 10 14 3 (words (codes "b") ∷ [])
+
+abbrev line_of : List Tree → Tree
+line_of cells = body 17 (tree (label_at kind.Table 1 0 17 2 2) (trees (node kind.Tbody 2 3 14 0 (node kind.Tr 3 3 14 2 cells ∷ []) ∷ [])) ∷ [])
+
+first_cell_out : places (line_of (first_cell ∷ second_cell ∷ [])) (line_of (second_cell ∷ [])) ≡ slot 5 12 ∷ []
+unfolding same_kind same_data
+first_cell_out = refl
+
+-- a cell whose delimiter is its one sign
+short_cell : places (line_of (first_cell ∷ node kind.Th 5 10 12 1 (words (codes "b") ∷ []) ∷ []))
+    (line_of (node kind.Th 5 10 12 1 (words (codes "b") ∷ []) ∷ [])) ≡ slot 5 11 ∷ []
+unfolding same_kind same_data
+short_cell = refl

@@ -2,7 +2,9 @@
 -- of a page have ranges.
 use Rattle.std.specs.Prelude.{ℕ, ◌+◌, ◌-◌, ◌==◌, ◌&&◌, ◌||◌, not, nat_lt, Bool, true, false, Option, Some, None, List, [], ◌∷◌, ◌++◌, length, if◌then◌else◌}
 use Rattle.wt_tree.specs.declared.kind.Ranges.{Ranges}
-use Rattle.wt_tree.specs.Kinds.{showing}
+use Rattle.wt_tree.specs.declared.row.Placement.{Placement}
+use Rattle.wt_tree.specs.declared.row.Placement.TheVariants.{Nowhere, Anywhere, Mark, Block, List as ListClass, Item, Term, TablePart, TableRow, Cell, Inline, Character, Section}
+use Rattle.wt_tree.specs.Kinds.{shape, showing}
 use Rattle.wt_tree.specs.Source.{flat_of_all}
 use Rattle.wt_tree.specs.Tiling.{end_of}
 use Rattle.wt_tree.specs.Tree.{Tree, tree, Trees, none, more, label}
@@ -21,6 +23,30 @@ slot start end = record { start = start; end = end }
 abbrev pub start_of : Option Ranges → ℕ
 start_of None = 0
 start_of (Some r) = r.start
+
+-- where the sign with which a cell begins ends: two bytes at most, as `||` has
+abbrev pub sign_end : Option Ranges → ℕ
+sign_end None = 0
+sign_end (Some r) = r.start + (if nat_lt 2 r.open_w then 2 else r.open_w)
+
+abbrev pub is_of_row : Placement → Bool
+is_of_row Nowhere = false
+is_of_row Anywhere = false
+is_of_row Mark = false
+is_of_row Block = false
+is_of_row ListClass = false
+is_of_row Item = false
+is_of_row Term = false
+is_of_row TablePart = false
+is_of_row TableRow = false
+is_of_row Cell = true
+is_of_row Inline = false
+is_of_row Character = false
+is_of_row Section = false
+
+-- Where the gap before it ends: the sign of a cell may become another one there.
+abbrev pub gap_end : Tree → ℕ
+gap_end t = if is_of_row (shape (label t).kind).class then sign_end (label t).ranges else start_of (label t).ranges
 
 -- where its opening delimiter ends, and where its closing one begins
 abbrev pub inside_start : Option Ranges → ℕ
@@ -94,9 +120,9 @@ abbrev pub rest_behind : Bool → Tree → Trees → Trees
 rest_behind true u ts = behind_number (label u).id ts
 rest_behind false u ts = ts
 
--- the gap before a child in its turn, up to the page's child
+-- the gap before a child in its turn, up to the page's child, of a cell with its sign
 abbrev pub gap_before : Reached → Trees → Tree → Tree → List Slot
-gap_before r ts t u = gap (r.came || some_count (before_number (label u).id ts)) r.end (start_of (label t).ranges)
+gap_before r ts t u = gap (r.came || some_count (before_number (label u).id ts)) r.end (gap_end t)
 
 abbrev pub if_in_turn : Bool → List Slot → List Slot
 if_in_turn true ss = ss

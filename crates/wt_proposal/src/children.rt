@@ -15,12 +15,13 @@ use wt_tree::{Kind, Node, same_kind};
 
 /// A gap between two children that stay in their turn, or the part of it between two comments or include tags: where
 /// it is, from where on blanks before it count, these two as the page has them, the page's children between them, and
-/// the edited ones, with the number of the block of the first, and whether an item holds them.
+/// the edited ones, with the number of the block of the first, and whether an item or a cell holds them.
 #[derive(Clone, Copy)]
 pub struct Gap<'w, 't, 'a> {
     pub place: Slot,
     pub blanks: usize,
     pub in_item: bool,
+    pub in_cell: bool,
     pub before: Option<&'t Node<'a>>,
     pub behind: Option<&'t Node<'a>>,
     pub gone: &'w [Child<'t, 'a>],
@@ -156,6 +157,22 @@ fn most_breaks(page: &str, from: usize, to: usize) -> usize {
 
 // ---- line breaks
 
+/// The kind of what a node shows last, as its neighbour after it sees it: of a group that ends with a list this one's.
+fn kind_at_end(node: &Node<'_>) -> Kind {
+    match node.children.as_slice().last() {
+        Some(last) if matches!(node.kind, Kind::Group) && is_list(last.kind) => last.kind,
+        _ => node.kind,
+    }
+}
+
+/// The same of what it shows first.
+fn kind_at_start(node: &Node<'_>) -> Kind {
+    match node.children.as_slice().first() {
+        Some(first) if matches!(node.kind, Kind::Group) && is_list(first.kind) => first.kind,
+        _ => node.kind,
+    }
+}
+
 /// How many line breaks two neighbours ask for at least. No empty line is in an item.
 fn least_between(in_item: bool, left: Kind, right: Kind) -> usize {
     if is_cell(left) {
@@ -223,6 +240,68 @@ fn with_blanks(page: &str, gap: Gap<'_, '_, '_>, slice: Slot) -> Slot {
     }
 }
 
+// ---- cells that go on in a line
+
+/// Whether what begins at a place of the page is a cell that goes on in a line, by its two signs.
+fn is_doubled_at(page: &str, at: usize) -> bool {
+    let sign = byte_at(page, at);
+    (sign == b'|' || sign == b'!') && sign == byte_at(page, at.saturating_add(1))
+}
+
+/// Whether a node is such a cell. One with a single sign may hold nothing before the two of the next.
+fn is_doubled(page: &str, node: &Node<'_>) -> bool {
+    let width = match node.ranges {
+        Some(ranges) => ranges.open_w,
+        None => 0,
+    };
+    is_cell(node.kind) && width > 1 && is_doubled_at(page, range_of(node).start)
+}
+
+/// Whether what is at a place of the page begins a line there.
+fn is_at_line_start(page: &str, at: usize) -> bool {
+    at == 0 || byte_at(page, at.saturating_sub(1)) == b'\n'
+}
+
+/// Whether a line begins after what is written at a place of the page.
+fn leaves_line_start(page: &str, at: usize, by: &str) -> bool {
+    match by.as_bytes().last() {
+        Some(byte) => *byte == b'\n',
+        None => is_at_line_start(page, at),
+    }
+}
+
+/// Appends a slice of a gap. Where a cell that went on in a line begins one after it, its two signs become one.
+fn push_part_of(
+    out: &mut Vec<Change>,
+    page: &str,
+    gap: Gap<'_, '_, '_>,
+    place: Slot,
+    mut by: Str,
+) -> Result<(), NoMemory> {
+    match gap.behind {
+        Some(cell)
+            if place.end == range_of(cell).start
+                && is_doubled(page, cell)
+                && leaves_line_start(page, place.start, by.as_str()) => {
+            by.push_str(if matches!(cell.kind, Kind::Th) {
+                "!"
+            } else {
+                "|"
+            })?;
+            let end = place.end.saturating_add(2);
+            push_change(
+                out,
+                Slot {
+                    start: place.start,
+                    end,
+                },
+                by,
+            )
+        }
+        _ => push_change(out, place, by),
+    }
+}
+
 /// Appends the slices that go. Where they leave fewer line breaks than are wanted between what comes before and
 /// after them, the last one has the others.
 fn push_gone(
@@ -243,20 +322,20 @@ fn push_gone(
         at = place.end;
         let behind = most_breaks(page, at, gap.place.end).max(standing);
         let by = breaks(alloc, if left == 0 { wanted } else { 0 }, behind)?;
-        push_change(out, place, by)?;
+        push_part_of(out, page, gap, place, by)?;
     }
     Ok(())
 }
 
-/// The line breaks that are wanted between the two that stay.
-fn wanted_between(gap: Gap<'_, '_, '_>) -> usize {
-    match gap.before {
-        None => 0,
-        Some(before) => match gap.behind {
-            None => 0,
-            Some(behind) => least_between(gap.in_item, before.kind, behind.kind),
-        },
+/// The line breaks that are wanted between the two that stay: one before a cell that doesn't go on in a line.
+fn wanted_between(page: &str, gap: Gap<'_, '_, '_>) -> usize {
+    let (Some(before), Some(behind)) = (gap.before, gap.behind) else {
+        return 0;
+    };
+    if is_cell(behind.kind) && !is_doubled(page, behind) {
+        return 1;
     }
+    least_between(gap.in_item, kind_at_end(before), kind_at_start(behind))
 }
 
 // ---- what comes
@@ -317,11 +396,12 @@ fn signs_in(
     }
 }
 
-/// What comes: the kinds of the first and the last, and how it is written.
+/// What comes: the kinds of the first and the last, whether the last is of one line, and how it is written.
 #[derive(Drop)]
 struct Coming {
     first: Kind,
     last: Kind,
+    is_of_line: bool,
     source: Str,
 }
 
@@ -371,6 +451,13 @@ fn coming_of<'t, 'a>(
     Ok(coming)
 }
 
+fn has_break_from(source: &str, start: usize) -> bool {
+    match source.split_at_checked(start) {
+        Some((_, last)) => last.as_bytes().contains(&b'\n'),
+        None => false,
+    }
+}
+
 /// What came so far, and this one after it.
 fn followed(
     alloc: Global,
@@ -383,23 +470,28 @@ fn followed(
         None => Coming {
             first: node.kind,
             last: node.kind,
+            is_of_line: true,
             source: Str::new(alloc),
         },
         Some(before) => {
             let Coming {
                 first,
                 last,
+                is_of_line: _,
                 mut source,
             } = before;
             push_breaks(&mut source, between(in_item, last, node.kind))?;
             Coming {
                 first,
                 last: node.kind,
+                is_of_line: true,
                 source,
             }
         }
     };
+    let start = all.source.as_str().len();
     push_block(alloc, &mut all.source, around, node)?;
+    all.is_of_line = !has_break_from(all.source.as_str(), start);
     Ok(all)
 }
 
@@ -423,14 +515,14 @@ fn breaks_before(
 ) -> usize {
     let standing = most_breaks(page, gap.blanks, at);
     let wanted = match gap.before {
-        Some(before) if takes_place => least_between(gap.in_item, before.kind, first),
+        Some(before) if takes_place => least_between(gap.in_item, kind_at_end(before), first),
         Some(before) => between(gap.in_item, before.kind, first),
         None if takes_place || gap.behind.is_some() || gap.place.start == 0 => 0,
         None => 1,
     };
     let missing = wanted.saturating_sub(standing);
-    let is_within_line = gap.place.start < at && byte_at(page, at.saturating_sub(1)) != b'\n';
-    if missing == 0 && is_within_line && is_lined(first) && !is_cell(first) {
+    let is_within_line = !is_at_line_start(page, at) && (gap.place.start < at || is_cell(first));
+    if missing == 0 && is_within_line && is_lined(first) {
         1
     } else {
         missing
@@ -439,29 +531,33 @@ fn breaks_before(
 
 /// Whether a cell of the page goes on in the line of the one before it, and may do so after one of this kind.
 fn shares_line(page: &str, last: Kind, cell: &Node<'_>) -> bool {
-    let start = range_of(cell).start;
-    let sign = byte_at(page, start);
-    let is_doubled = (sign == b'|' || sign == b'!')
-        && sign == byte_at(page, start.saturating_add(1));
-    match last {
-        Kind::Td => is_doubled && matches!(cell.kind, Kind::Td),
-        Kind::Th => is_doubled && matches!(cell.kind, Kind::Th),
-        _ => false,
-    }
+    is_cell(last) && same_kind(last, cell.kind) && is_doubled(page, cell)
 }
 
-/// The line breaks after it, up to what comes after or to the next slice that goes.
-fn breaks_behind(page: &str, gap: Gap<'_, '_, '_>, last: Kind, from: usize, to: usize) -> usize {
+/// The line breaks after it, up to what comes after or to the next slice that goes. After all that a cell holds
+/// the next cell may go on in the line.
+fn breaks_behind(
+    page: &str,
+    gap: Gap<'_, '_, '_>,
+    coming: &Coming,
+    from: usize,
+    to: usize,
+) -> usize {
+    let last = coming.last;
     let Some(behind) = gap.behind else {
-        return 0;
+        return if gap.in_cell && is_doubled_at(page, gap.place.end) {
+            1
+        } else {
+            0
+        };
     };
     let standing = most_breaks(page, from, to);
-    let wanted = if standing == 0 && shares_line(page, last, behind) {
+    let wanted = if standing == 0 && coming.is_of_line && shares_line(page, last, behind) {
         0
     } else if standing == 0 {
         between(gap.in_item, last, behind.kind)
     } else {
-        least_between(gap.in_item, last, behind.kind)
+        least_between(gap.in_item, last, kind_at_start(behind))
     };
     wanted.saturating_sub(standing)
 }
@@ -482,7 +578,20 @@ fn joins_line(page: &str, gap: Gap<'_, '_, '_>, coming: &Coming) -> bool {
     same_kind(before.kind, coming.first)
         && count_of(gap.new) == 1
         && shares_line(page, coming.last, behind)
-        && !coming.source.as_str().as_bytes().contains(&b'\n')
+        && coming.is_of_line
+}
+
+/// Whether what comes is one cell in the place of one that went on in the line of the cell before, which has its kind.
+fn takes_place_in_line(page: &str, gap: Gap<'_, '_, '_>, coming: &Coming, at: usize) -> bool {
+    let Some(before) = gap.before else {
+        return false;
+    };
+    is_cell(coming.first)
+        && same_kind(before.kind, coming.first)
+        && count_of(gap.new) == 1
+        && coming.is_of_line
+        && is_doubled_at(page, at)
+        && !is_at_line_start(page, at)
 }
 
 /// Appends a cell that goes on in a line, given as it begins one.
@@ -507,26 +616,24 @@ fn push_new(
     };
     let end = past_spaces(page, place.end, to);
     let before = breaks_before(page, gap, !slices.is_empty(), coming.first, place.start);
-    let behind = breaks_behind(page, gap, coming.last, end, to);
+    let behind = breaks_behind(page, gap, &coming, end, to);
     let mut by = Str::new(alloc);
     if slices.is_empty() && joins_line(page, gap, &coming) {
         push_in_line(&mut by, coming.source.as_str())?;
         return push_change(out, place, by);
     }
-    push_breaks(&mut by, before)?;
-    by.push_str(coming.source.as_str())?;
+    if !slices.is_empty() && takes_place_in_line(page, gap, &coming, place.start) {
+        push_in_line(&mut by, coming.source.as_str())?;
+    } else {
+        push_breaks(&mut by, before)?;
+        by.push_str(coming.source.as_str())?;
+    }
     if begins_without_sign(gap) {
         by.push_str("\n|-")?;
     }
     push_breaks(&mut by, behind)?;
-    push_change(
-        out,
-        Slot {
-            start: place.start,
-            end,
-        },
-        by,
-    )
+    let start = place.start;
+    push_part_of(out, page, gap, Slot { start, end }, by)
 }
 
 // ---- a gap
@@ -594,6 +701,7 @@ impl Passed {
             },
             blanks: self.blanks,
             in_item: gap.in_item,
+            in_cell: gap.in_cell,
             before: gap.before,
             behind: gap.behind,
             gone: children_between(gap.gone, self.gone, gone),
@@ -674,7 +782,7 @@ fn push_part<'t, 'a>(
             page,
             gap,
             slices.as_slice(),
-            wanted_between(gap),
+            wanted_between(page, gap),
         ),
         Some(coming) => {
             push_new(alloc, out, page, gap, slices.as_slice(), coming)?;

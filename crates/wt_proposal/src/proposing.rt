@@ -10,11 +10,11 @@ use crate::children::{Gap, push_change, push_gap};
 use crate::reached::Reached;
 use crate::slot::Slot;
 use crate::slots::{
-    Beside, begun, counts, inside_end, inside_start, inside_stop, next_turn, places,
+    Beside, begun, counts, inside_end, inside_start, inside_stop, next_turn, places, start_of,
 };
 use crate::testing::tested;
 use std::alloc::Global;
-use wt_block_proposal::signs_of;
+use wt_block_proposal::{is_cell, signs_of};
 use wt_checks::Visit;
 use wt_content_proposal::{Known, Writing, block_of, edges_of, spelled};
 use wt_difference::{Child, held, inside, same_inside};
@@ -110,12 +110,13 @@ fn push_inside<'t, 'a>(
 
 // ---- children
 
-/// The children that a node of the page holds, the signs with which it begins where it is an item, its number, and
-/// where its children begin and end.
+/// The children that a node of the page holds, the signs with which it begins where it is an item, whether it is a
+/// cell, its number, and where its children begin and end.
 #[derive(Clone, Copy)]
 struct Held<'w, 't, 'a> {
     children: &'w [Child<'t, 'a>],
     signs: &'w str,
+    is_cell: bool,
     number: u32,
     begun: Reached,
     stop: usize,
@@ -241,6 +242,18 @@ fn node_at<'t, 'a>(children: &[Child<'t, 'a>], at: Option<usize>) -> Option<&'t 
     Some(child.node)
 }
 
+/// A place up to the start of the node behind it, past which it may reach.
+fn up_to(place: Slot, behind: Option<&Node<'_>>) -> Slot {
+    let end = match behind {
+        Some(node) => start_of(node.ranges),
+        None => place.end,
+    };
+    Slot {
+        start: place.start,
+        end,
+    }
+}
+
 /// Appends what is written anew in a gap in which these children come.
 fn push_span<'t, 'a>(
     alloc: Global,
@@ -251,12 +264,14 @@ fn push_span<'t, 'a>(
     span: Span,
 ) -> Result<(), NoMemory> {
     let behind = if span.is_last { None } else { Some(span.to) };
+    let behind = node_at(held.children, behind);
     let gap = Gap {
-        place: span.place,
+        place: up_to(span.place, behind),
         blanks: span.place.start,
         in_item: !held.signs.is_empty(),
+        in_cell: held.is_cell,
         before: node_at(held.children, span.from.checked_sub(1)),
-        behind: node_at(held.children, behind),
+        behind,
         gone: children_between(held.children, span.from, span.to),
         new,
         first: span.first,
@@ -314,6 +329,7 @@ fn push_node<'t, 'a>(
     let held = Held {
         children: children.as_slice(),
         signs: signs.as_str(),
+        is_cell: is_cell(old.kind),
         number: old.id,
         begun,
         stop: inside_stop(old.ranges),

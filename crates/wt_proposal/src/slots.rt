@@ -1,6 +1,7 @@
 //! The places of a page that may be written anew.
 
 ghost use Rattle.std.specs.Prelude.{◌≡◌, ◌≤◌, ◌<◌, ◌+◌, ◌++◌, ◌||◌, true, false, length, take, drop, OnOk, IfOk, option_map};
+ghost use Rattle.wt_tree.specs.Kinds.{shape};
 ghost use Rattle.wt_tree.specs.Source.{flat, flat_of_all};
 ghost use Rattle.wt_tree.specs.Tiling.{end_of};
 ghost use Rattle.wt_tree.specs.Tree.{Tree, Trees, label, more};
@@ -18,6 +19,7 @@ ghost use Rattle.wt_proposal.specs.Places.{
   counts,
   gap,
   gap_before,
+  gap_end,
   goes_on,
   if_in_turn,
   inside_end,
@@ -25,11 +27,13 @@ ghost use Rattle.wt_proposal.specs.Places.{
   inside_start,
   inside_stop,
   is_in_turn,
+  is_of_row,
   partner,
   places,
   places_in,
   arrived,
   rest_behind,
+  sign_end,
   some_count,
   start_of,
 };
@@ -43,11 +47,11 @@ use wt_difference::{
     Child, ends_inside, has_inside, held, inside, is_block_part, same_inside, stays_in,
 };
 use wt_span::{NoMemory, Text};
-use wt_tree::{Node, Ranges};
+use wt_tree::{Kind, Node, Placement, Ranges};
 
 // ---- a node
 
-fn start_of(ranges: Option<Ranges>) -> usize
+pub fn start_of(ranges: Option<Ranges>) -> usize
     ensures { result ≡ start_of ranges }
 {
     match ranges {
@@ -62,6 +66,55 @@ fn end_of(ranges: Option<Ranges>) -> usize
     match ranges {
         Some(ranges) => ranges.end as usize,
         None => 0,
+    }
+}
+
+/// Where the sign of a cell with these ranges ends, which has two bytes at most.
+fn sign_end(ranges: Option<Ranges>) -> usize
+    ensures { result ≡ sign_end ranges }
+{
+    match ranges {
+        Some(ranges) => {
+            let width = if 2 < ranges.open_w {
+                2
+            } else {
+                ranges.open_w as usize
+            };
+            ranges.start as usize + width
+        }
+        None => 0,
+    }
+}
+
+/// Whether a node of this kind is a cell.
+fn is_of_row(kind: Kind) -> bool
+    ensures { result ≡ is_of_row (shape kind).class }
+{
+    match kind.shape().class {
+        Placement::Cell => true,
+        Placement::Nowhere
+        | Placement::Anywhere
+        | Placement::Mark
+        | Placement::Block
+        | Placement::List
+        | Placement::Item
+        | Placement::Term
+        | Placement::TablePart
+        | Placement::TableRow
+        | Placement::Inline
+        | Placement::Character
+        | Placement::Section => false,
+    }
+}
+
+/// Where the gap before a node of the page ends: behind the sign of a cell, which may become another one.
+fn gap_end(node: &Node<'_>) -> usize
+    ensures { result ≡ gap_end (view node.now) }
+{
+    if is_of_row(node.kind) {
+        sign_end(node.ranges)
+    } else {
+        start_of(node.ranges)
     }
 }
 
@@ -320,7 +373,7 @@ fn turn_of<'t, 'a>(
     let place = place_of(beside.rest, child.id);
     let differs = beside.reached.came || some_count(&beside.rest[..place]);
     ChildOutcome {
-        gap: gap(differs, beside.reached.end, start_of(old.ranges)),
+        gap: gap(differs, beside.reached.end, gap_end(old)),
         within: within(old, child),
         reached: reached_behind(old, beside.reached, child),
         passed: past(place, beside.rest.len()),

@@ -205,6 +205,17 @@ pub within_read : (n : ℕ) (ps : List Passage) (h : AreProse ps) (bs : AreBlock
 within_read zero ps h bs = blocks_read gaps ps h bs
 within_read (suc n) ps h bs = blocks_read (within n) ps h bs
 
+-- of one block of text by itself
+alone_by : (read : Reading) (n : ℕ) (xs : List Item) (b : IsTextBlock xs) → blocks_by read (broken_rows n b.first b.others ++ []) ≡ broken_stretches n xs ++ []
+alone_by read n xs b =
+    let rs : List Row = broken_rows n b.first b.others in
+    ap (λ us. flat_map (run_stretches read) (runs same_block (drop 1 us))) (units_flat (rs ++ []) (both_flat rs [] (broken_flat n b.first b.others) tt))
+    ∙ last_read read n xs b
+
+pub alone_read : (m n : ℕ) (xs : List Item) (b : IsTextBlock xs) → within m (broken_rows n b.first b.others ++ []) ≡ broken_stretches n xs ++ []
+alone_read zero n xs b = alone_by gaps n xs b
+alone_read (suc m) n xs b = alone_by (within m) n xs b
+
 -- ---- their parts
 
 abbrev pub sep : Part

@@ -30,11 +30,11 @@ use Rattle.wt_prose.proofs.ProseTrees.{AreWritten, prose_annotated}
 abbrev IsText : List Item → Type 0
 IsText l = line_kind 0 l ≡ line.Text
 
-some_leaf : (xs : List Item) → All IsText (lines xs) → HasAny (leaves xs)
+pub some_leaf : (xs : List Item) → All IsText (lines xs) → HasAny (leaves xs)
 some_leaf [] a = absurd (no_text (All-head IsText [] [] a))
 some_leaf (x ∷ xs) a = has_any x xs
 
-abbrev IsWritten : List ℕ → Type 0
+abbrev pub IsWritten : List ℕ → Type 0
 IsWritten q = IsTextBlock (page_items q) × AreOwn (page_items q) × HasAny (leaves (page_items q))
 
 typed_written : (s : Setting) (text : List ℕ) → All IsText (lines (page_items (spelled s (letters text)))) → IsWritten (spelled s (letters text))

@@ -128,23 +128,25 @@ no_comment_same [] h = tt
 no_comment_same (b ∷ bs) h = (h.0, no_comment_same bs h.1)
 
 -- it makes no difference whether a line break stands before
-cuts_same : (after : Bool) (bs : List ℕ) → NoComments bs → cuts Page after 0 bs ≡ cuts Page false 0 bs
+pub cuts_same : (after : Bool) (bs : List ℕ) → NoComments bs → cuts Page after 0 bs ≡ cuts Page false 0 bs
 cuts_same after [] n = refl
 cuts_same after (b ∷ bs) n =
     cuts_cons Page after b bs (form_at Page false (b ∷ bs)) (without_line Page after (b ∷ bs) n)
     ∙ sym (cuts_cons Page false b bs (form_at Page false (b ∷ bs)) refl)
 
-pub behind_reads : (bs : List ℕ) → StandsBehind bs → Reads bs (page_items bs)
-behind_reads bs h =
-    let n : NoComments bs = no_comment_same bs h.uncommented in
+pub read_alone : (bs : List ℕ) → NoComments bs → HaveNoBraces (cuts Page false 0 bs).1 → Reads bs (page_items bs)
+read_alone bs n h =
     let xs : List Item = items_cut bs (cuts Page false 0 bs) in
     let items : ItemsOf bs xs = λ after. ap (items_cut bs) (cuts_same after bs n) in
     let reads : Reads bs xs = record {
       items = items;
-      shown = λ after. subst (λ (c : Cut). HaveNoBraces c.1) (sym (cuts_same after bs n)) (words_shown bs h.uncalled);
+      shown = λ after. subst (λ (c : Cut). HaveNoBraces c.1) (sym (cuts_same after bs n)) h;
       clean = n;
     } in
     subst (Reads bs) (sym (items_are bs xs items)) reads
+
+pub behind_reads : (bs : List ℕ) → StandsBehind bs → Reads bs (page_items bs)
+behind_reads bs h = read_alone bs (no_comment_same bs h.uncommented) (words_shown bs h.uncalled)
 
 -- ---- a text between them
 

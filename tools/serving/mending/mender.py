@@ -348,7 +348,10 @@ class Mender:
         return children if self._has_lost_inside(element, children) else [self._part(element, name, children)]
 
     def _has_above(self, element: Element, name: str) -> bool:
-        """Whether the page has the element inside another one of this name."""
+        """Whether the page has the element inside another one of this name; of a page that isn't known, whether
+        it may have it so."""
+        if self.original is None:
+            return self._number_of(element) != 0
         kept = self._kept(self._number_of(element))
         above = kept.parent if kept is not None else None
         while above is not None and above.part.name != name:
