@@ -155,6 +155,19 @@ const MENDS = [
     "<p>ab<b>c</b></p>",
   ],
   [
+    "a style that says normal is none, a style round blocks is in each",
+    "",
+    '<b style="font-weight: normal"><p>a</p><i><h2>b</h2><p>c</p></i></b>e<i style="FONT-STYLE:normal">f</i>',
+    "<p>a</p><h2><i>b</i></h2><p><i>c</i></p><p>ef</p>",
+  ],
+  [
+    "a link of the page keeps its address, a new one has no signs of wikitext",
+    '<p id="mw1"><a rel="mw:ExtLink" href="https://x.y/a|{b}" id="mw2">c</a></p>',
+    '<p id="mw1"><a rel="mw:ExtLink" href="https://x.y/a|{b}" id="mw2">cd</a> <a href="https://x.y/|\'\'">e</a></p>',
+    '<p id="mw1"><a rel="mw:ExtLink" href="https://x.y/a|{b}" id="mw2">cd</a> ' +
+      '<a rel="mw:ExtLink" href="https://x.y/%7C%27%27">e</a></p>',
+  ],
+  [
     "bold in bold and italic in italic are their inside",
     "",
     '<p><b>a<strong>b</strong><i>c<b>d</b></i></b><i>e<em>f</em><span style="font-style: italic">g</span></i></p>',
@@ -896,6 +909,29 @@ test("many blocks in another order take time in proportion", () => {
   const html = save(root, { marks: true });
   assert.ok(process.cpuUsage(start).user < 3e6); // microseconds
   assert.equal(html.match(/<p>/g)?.length, 19999);
+});
+
+test("copies of a number beside a large block are looked into once each", () => {
+  const html = page('<p id="mw1">a <b id="mw2">b</b></p>');
+  const reads = (/** @type {number} */ count) => {
+    const root = edited(`<p id="mw1">${'<b id="mw2">b</b> '.repeat(200)}</p>${'<p id="mw1">c</p>'.repeat(count)}`);
+    const element = Object.getPrototypeOf(root);
+    const { hasAttribute } = element;
+    let found = 0;
+    element.hasAttribute = function (/** @type {string} */ name) {
+      found += 1;
+      return hasAttribute.call(this, name);
+    };
+    try {
+      save(root, { original: html });
+    } finally {
+      element.hasAttribute = hasAttribute;
+    }
+    return found;
+  };
+  const [none, few, many] = [0, 100, 400].map(reads);
+  assert.ok(many - none < 5 * (few - none) + 100);
+  assert.ok(few - none < 100 * 100);
 });
 
 test("places in UTF-16 units", () => {
