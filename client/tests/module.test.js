@@ -785,6 +785,40 @@ function assertRenewed(root, html) {
   assert.equal(isChanged(root), false);
 }
 
+const DOCS_ITEM = 'style="font-weight:400;font-style:normal" aria-level';
+const COPIED = [
+  [
+    "Google Docs",
+    '<b style="font-weight:normal;" id="docs-internal-guid-1"><p dir="ltr"><span style="font-weight:400">one </span>' +
+      `<span style="font-weight:700">two</span></p><ul><li ${DOCS_ITEM}="1"><p dir="ltr">a</p></li>` +
+      `<ul><li ${DOCS_ITEM}="2"><p>b</p></li></ul></ul></b>`,
+    "<p>one <b>two</b></p><ul><li><p>a</p></li><ul><li><p>b</p></li></ul></ul>",
+  ],
+  [
+    "Word",
+    "<style>p{}</style><p class=MsoNormal><b style='mso-bidi-font-weight:normal'>bold</b> " +
+      "<i style='mso-bidi-font-style:normal'>italic</i> <span style='mso-bidi-font-weight:bold'>c</span><o:p></o:p></p>",
+    "<p><b>bold</b> <i>italic</i> c</p>",
+  ],
+  [
+    "LibreOffice",
+    '<p style="font-weight: normal">a <b>b</b> <span style="font-weight: normal">c</span></p><ul><li><p>d</p></li></ul>',
+    "<p>a <b>b</b> c</p><ul><li><p>d</p></li></ul>",
+  ],
+];
+for (const [name, copied, wanted] of COPIED) {
+  test(`what ${name} puts into the clipboard`, async (context) => {
+    const JSDOM = findJsdom();
+    if (JSDOM === null) return context.skip("there is no jsdom here");
+    const { window } = new JSDOM("");
+    Object.assign(globalThis, { document: window.document, DOMParser: window.DOMParser });
+    context.after(() => ["document", "DOMParser"].forEach((name) => Reflect.deleteProperty(globalThis, name)));
+    const { pasted } = await import("../editor/paste.js");
+    const data = { getData: (/** @type {string} */ type) => (type === "text/html" ? copied : "") };
+    assert.equal(pasted(/** @type {any} */ (data), window.document.body, new Map()).html, wanted);
+  });
+}
+
 test("what is read ahead of a save doesn't change what is saved", () => {
   const html = page('<p id="mw1">a <b id="mw2">b</b></p><p id="mw3">c</p>');
   const saved = [true, false].map((isAhead) => {
