@@ -18,6 +18,7 @@ import { putBack } from "./strays.js";
 import { hasBlocks, isPlain, saysBold, saysItalic, styledPieces } from "./styles.js";
 import { append, isBare, isEmpty, tidy } from "./texts.js";
 import { Watch } from "./watch.js";
+import { Weights, valuesOf, withNumbers } from "./weights.js";
 import {
   ATTRIBUTES, CELLS, ITEMS, LINES, LISTS, TAGS, hiddenKind, isBlank, isBlock, isBlockName, isHiddenName,
   isIsland, isMark, mayHave, nameOf,
@@ -36,14 +37,6 @@ function textOf(node) {
   return /** @type {Text} */ (node).data;
 }
 
-/**
- * @param {Element} element
- * @returns {(name: string) => string}
- */
-function valuesOf(element) {
-  return (name) => element.getAttribute(name) ?? "";
-}
-
 export class Mender {
   /**
    * Which element has a number, of several that have it.
@@ -51,8 +44,7 @@ export class Mender {
    */
   #owners = new Map();
 
-  /** @type {Map<Element, {things: number, isHollow: boolean}>} */
-  #weights = new Map();
+  #weights = new Weights();
 
   /** Whether what is read stands in a link. */
   #inLink = false;
@@ -162,23 +154,9 @@ export class Mender {
   #isBetter(element, owner, number) {
     if (!this.#isOfKind(element, number)) return false;
     if (!this.#isOfKind(owner, number)) return true;
-    const [now, before] = [this.#weight(element), this.#weight(owner)];
+    const [now, before] = [this.#weights.of(element), this.#weights.of(owner)];
     const isShown = before.isHollow && !now.isHollow;
     return now.things > before.things || (now.things === before.things && isShown);
-  }
-
-  /**
-   * What tells which of several elements keeps a number. Each is looked into once, however many others have
-   * its number.
-   * @param {Element} element
-   * @returns {{things: number, isHollow: boolean}}
-   */
-  #weight(element) {
-    const known = this.#weights.get(element);
-    if (known !== undefined) return known;
-    const weight = { things: thingsIn(element), isHollow: isHollow(element) };
-    this.#weights.set(element, weight);
-    return weight;
   }
 
   /**
@@ -777,15 +755,6 @@ export class Mender {
   }
 }
 
-/**
- * @param {Element} element
- * @returns {Element[]} those in it that have an `id`, itself too
- */
-function withNumbers(element) {
-  const inside = [...element.querySelectorAll("[id]")];
-  return element.hasAttribute("id") ? [element, ...inside] : inside;
-}
-
 /** @param {Part} part */
 function isList(part) {
   return LISTS.has(part.name);
@@ -802,20 +771,4 @@ function blocksBehindText(pieces) {
   const end = pieces.map(isText).lastIndexOf(true);
   const behind = new Set(pieces.slice(end + 1));
   return (block) => behind.has(block);
-}
-
-/**
- * Whether an element shows nothing, as the half of a split paragraph that keeps nothing but its `br`.
- * @param {Element} element
- */
-function isHollow(element) {
-  return isBlank(element.textContent ?? "") && element.querySelector("[id]") === null;
-}
-
-/**
- * How many groups, extensions and other islands stand in an element.
- * @param {Element} element
- */
-function thingsIn(element) {
-  return [...element.querySelectorAll("[id]")].filter((inner) => isIsland(valuesOf(inner))).length;
 }

@@ -96,7 +96,9 @@ function styledBlock(block, name, original) {
     const styled = styledPieces(children, name, original);
     return tidy(new Part(block.name, new Map(block.attributes), styled), original);
   }
-  const inside = children.map((child) => (typeof child === "string" ? child : styledBlock(child, name, original)));
+  const inside = children.map((child) =>
+    typeof child === "string" ? child : styledBlock(child, name, original),
+  );
   return new Part(block.name, new Map(block.attributes), inside);
 }
 

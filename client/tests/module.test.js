@@ -163,7 +163,8 @@ const MENDS = [
   [
     "a link of the page keeps its address, a new one has no signs of wikitext",
     '<p id="mw1"><a rel="mw:ExtLink" href="https://x.y/a|{b}" id="mw2">c</a></p>',
-    '<p id="mw1"><a rel="mw:ExtLink" href="https://x.y/a|{b}" id="mw2">cd</a> <a href="https://x.y/|\'\'">e</a></p>',
+    '<p id="mw1"><a rel="mw:ExtLink" href="https://x.y/a|{b}" id="mw2">cd</a> ' +
+      '<a href="https://x.y/|\'\'">e</a></p>',
     '<p id="mw1"><a rel="mw:ExtLink" href="https://x.y/a|{b}" id="mw2">cd</a> ' +
       '<a rel="mw:ExtLink" href="https://x.y/%7C%27%27">e</a></p>',
   ],
@@ -789,7 +790,8 @@ const DOCS_ITEM = 'style="font-weight:400;font-style:normal" aria-level';
 const COPIED = [
   [
     "Google Docs",
-    '<b style="font-weight:normal;" id="docs-internal-guid-1"><p dir="ltr"><span style="font-weight:400">one </span>' +
+    '<b style="font-weight:normal;" id="docs-internal-guid-1">' +
+      '<p dir="ltr"><span style="font-weight:400">one </span>' +
       `<span style="font-weight:700">two</span></p><ul><li ${DOCS_ITEM}="1"><p dir="ltr">a</p></li>` +
       `<ul><li ${DOCS_ITEM}="2"><p>b</p></li></ul></ul></b>`,
     "<p>one <b>two</b></p><ul><li><p>a</p></li><ul><li><p>b</p></li></ul></ul>",
@@ -797,12 +799,14 @@ const COPIED = [
   [
     "Word",
     "<style>p{}</style><p class=MsoNormal><b style='mso-bidi-font-weight:normal'>bold</b> " +
-      "<i style='mso-bidi-font-style:normal'>italic</i> <span style='mso-bidi-font-weight:bold'>c</span><o:p></o:p></p>",
+      "<i style='mso-bidi-font-style:normal'>italic</i> " +
+      "<span style='mso-bidi-font-weight:bold'>c</span><o:p></o:p></p>",
     "<p><b>bold</b> <i>italic</i> c</p>",
   ],
   [
     "LibreOffice",
-    '<p style="font-weight: normal">a <b>b</b> <span style="font-weight: normal">c</span></p><ul><li><p>d</p></li></ul>',
+    '<p style="font-weight: normal">a <b>b</b> <span style="font-weight: normal">c</span></p>' +
+      "<ul><li><p>d</p></li></ul>",
     "<p>a <b>b</b> c</p><ul><li><p>d</p></li></ul>",
   ],
 ];
@@ -812,7 +816,7 @@ for (const [name, copied, wanted] of COPIED) {
     if (JSDOM === null) return context.skip("there is no jsdom here");
     const { window } = new JSDOM("");
     Object.assign(globalThis, { document: window.document, DOMParser: window.DOMParser });
-    context.after(() => ["document", "DOMParser"].forEach((name) => Reflect.deleteProperty(globalThis, name)));
+    context.after(() => ["document", "DOMParser"].forEach((key) => Reflect.deleteProperty(globalThis, key)));
     const { pasted } = await import("../editor/paste.js");
     const data = { getData: (/** @type {string} */ type) => (type === "text/html" ? copied : "") };
     assert.equal(pasted(/** @type {any} */ (data), window.document.body, new Map()).html, wanted);
@@ -948,7 +952,8 @@ test("many blocks in another order take time in proportion", () => {
 test("copies of a number beside a large block are looked into once each", () => {
   const html = page('<p id="mw1">a <b id="mw2">b</b></p>');
   const reads = (/** @type {number} */ count) => {
-    const root = edited(`<p id="mw1">${'<b id="mw2">b</b> '.repeat(200)}</p>${'<p id="mw1">c</p>'.repeat(count)}`);
+    const large = `<p id="mw1">${'<b id="mw2">b</b> '.repeat(200)}</p>`;
+    const root = edited(large + '<p id="mw1">c</p>'.repeat(count));
     const element = Object.getPrototypeOf(root);
     const { hasAttribute } = element;
     let found = 0;
