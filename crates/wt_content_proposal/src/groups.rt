@@ -113,11 +113,46 @@ fn role_of_line(
     }
 }
 
+/// What a call that gives nothing is to its neighbours: what a comment is.
+fn role_of_nothing() -> Role {
+    Role::Mark {
+        ends_line: false,
+        began_line: true,
+    }
+}
+
+/// Whether what a group shows begins as a word goes on.
+fn begins_in_word(nodes: &[Node<'_>]) -> bool {
+    match nodes.first() {
+        Some(node) if matches!(node.kind, Kind::Text) => node
+            .shown()
+            .chars()
+            .next()
+            .is_some_and(|first| first.is_ascii_alphanumeric()),
+        _ => false,
+    }
+}
+
+/// Whether typed text ends so that no URL begins after it.
+fn ends_in_word(left: Option<&Unit<'_>>) -> bool {
+    match left {
+        Some(Unit::Text(text)) => text
+            .as_bytes()
+            .last()
+            .is_some_and(|last| last.is_ascii_alphanumeric()),
+        _ => false,
+    }
+}
+
 /// What a node of the page, which was at this place, is to its neighbours after `left`, where nothing joins at a
 /// line's start or end.
 pub fn role_in_line(role: Role, node: &Node<'_>, left: Option<&Unit<'_>>, place: Stretch) -> Role {
     let nodes = node.children.as_slice();
     match role {
+        Role::Group(group) if group.is_invisible => role_of_nothing(),
+        Role::Group(group) if group.slashes && begins_in_word(nodes) && ends_in_word(left) => {
+            Role::Node
+        }
         Role::Group(group) if is_of_line(nodes) => role_of_line(group, nodes, left, place),
         other => other,
     }

@@ -254,9 +254,39 @@ fn is_italic_alone(nodes: &[Node<'_>]) -> bool {
 
 // ---- links and tags
 
-/// A changed tag with its old delimiters.
-fn tag_round(alloc: Global, old: &Node<'_>, inside: &str) -> Result<Str, NoMemory> {
+/// A start tag without its attributes.
+fn bare_start(alloc: Global, start_tag: &str) -> Result<Str, NoMemory> {
+    let bytes = start_tag.as_bytes();
+    let name = bytes
+        .iter()
+        .skip(1)
+        .take_while(|byte| byte.is_ascii_alphanumeric())
+        .count();
+    let (front, _) = start_tag
+        .split_at_checked(name.saturating_add(1))
+        .unwrap_or((start_tag, ""));
+    let mut out = Str::copy_of(alloc, front)?;
+    out.push_str(">")?;
+    Ok(out)
+}
+
+/// Whether the attributes of a tag that has an end tag were taken off.
+fn is_bared(old: &Node<'_>, node: &Node<'_>) -> bool {
+    !old.closing().is_empty() && !old.attrs().is_empty() && node.attrs().is_empty()
+}
+
+/// A changed tag with its old delimiters, or without its attributes where these were taken off.
+fn tag_round(
+    alloc: Global,
+    keeps: bool,
+    old: &Node<'_>,
+    node: &Node<'_>,
+    inside: &str,
+) -> Result<Str, NoMemory> {
     let mut out = joined(alloc, old.opening())?;
+    if keeps && is_bared(old, node) {
+        out = bare_start(alloc, out.as_str())?;
+    }
     out.push_str(inside)?;
     push_texts(&mut out, old.closing())?;
     Ok(out)
@@ -323,8 +353,17 @@ fn push_with_blank(out: &mut Str, inside: &str) -> Result<(), NoMemory> {
     out.push_str(inside)
 }
 
+/// The text of a link of the page; one to a page that has lost its text has `<nowiki/>`.
+fn text_left_in<'i>(kind: Kind, inside: &'i str) -> &'i str {
+    if inside.is_empty() && matches!(kind, Kind::WikiLink) {
+        "<nowiki/>"
+    } else {
+        inside
+    }
+}
+
 /// A link of the page whose text alone was changed: its target stays as it was written. None where the target
-/// was changed, too, or no text is left.
+/// was changed, too, or no text of an external link is left.
 fn link_round(
     alloc: Global,
     old: &Node<'_>,
@@ -332,6 +371,7 @@ fn link_round(
     inside: &str,
 ) -> Result<Option<Str>, NoMemory> {
     let is_same = same_kind(old.kind, node.kind) && same_attrs(old.attrs(), node.attrs());
+    let inside = text_left_in(node.kind, inside);
     if !is_same || inside.is_empty() {
         return Ok(None);
     }
@@ -399,7 +439,7 @@ fn source_round(
         return new_source(alloc, keeps, node, inside);
     };
     if is_tag(node.kind) {
-        return tag_round(alloc, old.node, inside);
+        return tag_round(alloc, keeps, old.node, node, inside);
     }
     if keeps && let Some(source) = link_round(alloc, old.node, node, inside)? {
         return Ok(source);

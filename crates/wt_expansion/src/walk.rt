@@ -23,10 +23,10 @@ use std::alloc::Global;
 use wt_braces::PartAt;
 use wt_devices::Folder;
 use wt_expand::{MOST_TEMPLATES, form_of};
+use wt_functions::function_named;
 use wt_names::{Title, href_of};
 use wt_span::{ItemForm, LexKind, Mode, NoMemory};
 use wt_template_stack::{Expansion, Reader};
-use wt_functions::function_named;
 use wt_transclusion::{Braces, ExpandRefusal, Next, Values, is_function, title_of_target};
 
 /// A page that is walked over.

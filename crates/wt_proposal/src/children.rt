@@ -1,5 +1,8 @@
 //! A list of children that is written anew: what goes, what comes, and the line breaks between.
 
+use crate::blanks::{
+    back_over_blanks, byte_at, is_at_line_start, most_breaks, past_blanks, past_spaces,
+};
 use crate::proposing::{Numbering, Plan, children_between, nodes_between};
 use crate::slot::Slot;
 use std::alloc::Global;
@@ -7,7 +10,7 @@ use wt_block_proposal::{
     Surroundings, is_cell, is_item, is_lined, is_list, is_part, push_block, signs_of,
 };
 use wt_checks::is_compared;
-use wt_content_proposal::{Known, last_text};
+use wt_content_proposal::{Known, joined as texts_joined, last_text};
 use wt_difference::{Child, inside};
 use wt_selser::Change;
 use wt_span::{NoMemory, Str};
@@ -90,69 +93,6 @@ fn slices_of(alloc: Global, gone: &[Child<'_, '_>]) -> Result<Vec<Slot>, NoMemor
     }
     push_slice(&mut out, slice)?;
     Ok(out)
-}
-
-// ---- blanks
-
-fn byte_at(page: &str, at: usize) -> u8 {
-    page.as_bytes().get(at).copied().unwrap_or(0)
-}
-
-fn is_space(byte: u8) -> bool {
-    byte == b' ' || byte == b'\t'
-}
-
-fn is_blank(byte: u8) -> bool {
-    byte == b'\n' || is_space(byte)
-}
-
-/// Past line breaks and blanks, up to `to` at most.
-fn past_blanks(page: &str, from: usize, to: usize) -> usize {
-    for at in from..to {
-        if !is_blank(byte_at(page, at)) {
-            return at;
-        }
-    }
-    from.max(to)
-}
-
-/// Past spaces and tabs, up to `to` at most.
-fn past_spaces(page: &str, from: usize, to: usize) -> usize {
-    for at in from..to {
-        if !is_space(byte_at(page, at)) {
-            return at;
-        }
-    }
-    from.max(to)
-}
-
-/// Back over line breaks and blanks, down to `least` at most.
-fn back_over_blanks(page: &str, least: usize, from: usize) -> usize {
-    let mut place = from;
-    for _step in least..from {
-        let at = place.saturating_sub(1);
-        if !is_blank(byte_at(page, at)) {
-            return place;
-        }
-        place = at;
-    }
-    place
-}
-
-/// The most line breaks between two places with nothing but blanks between them.
-fn most_breaks(page: &str, from: usize, to: usize) -> usize {
-    let mut most = 0usize;
-    let mut count = 0usize;
-    for at in from..to {
-        let byte = byte_at(page, at);
-        if byte == b'\n' {
-            count = count.saturating_add(1);
-            most = most.max(count);
-        } else if !is_space(byte) {
-            count = 0;
-        }
-    }
-    most
 }
 
 // ---- line breaks
@@ -257,11 +197,6 @@ fn is_doubled(page: &str, node: &Node<'_>) -> bool {
     is_cell(node.kind) && width > 1 && is_doubled_at(page, range_of(node).start)
 }
 
-/// Whether what is at a place of the page begins a line there.
-fn is_at_line_start(page: &str, at: usize) -> bool {
-    at == 0 || byte_at(page, at.saturating_sub(1)) == b'\n'
-}
-
 /// Whether a line begins after what is written at a place of the page.
 fn leaves_line_start(page: &str, at: usize, by: &str) -> bool {
     match by.as_bytes().last() {
@@ -270,36 +205,66 @@ fn leaves_line_start(page: &str, at: usize, by: &str) -> bool {
     }
 }
 
-/// Appends a slice of a gap. Where a cell that went on in a line begins one after it, its two signs become one.
+/// Appends the signs that an item hasn't which begins a line now: those before its own, where it went on in one.
+fn push_missing_signs(
+    alloc: Global,
+    out: &mut Str,
+    known: &Known<'_, '_>,
+    item: &Node<'_>,
+) -> Result<(), NoMemory> {
+    let signs = signs_of(alloc, known, item)?;
+    let signs = signs.as_str();
+    let opening = texts_joined(alloc, item.opening())?;
+    let own = opening
+        .as_str()
+        .as_bytes()
+        .iter()
+        .take_while(|byte| matches!(**byte, b'*' | b'#' | b':' | b';'))
+        .count();
+    if own == 0 {
+        return Ok(());
+    }
+    let (missing, _) = signs
+        .split_at_checked(signs.len().saturating_sub(own))
+        .unwrap_or(("", signs));
+    out.push_str(missing)
+}
+
+/// Appends a slice of a gap. Where a cell or an item that went on in a line begins one after it, the two signs of a
+/// cell become one, and an item has all of its signs.
 fn push_part_of(
+    alloc: Global,
     out: &mut Vec<Change>,
-    page: &str,
+    known: &Known<'_, '_>,
     gap: Gap<'_, '_, '_>,
     place: Slot,
     mut by: Str,
 ) -> Result<(), NoMemory> {
-    match gap.behind {
-        Some(cell)
-            if place.end == range_of(cell).start
-                && is_doubled(page, cell)
-                && leaves_line_start(page, place.start, by.as_str()) => {
-            by.push_str(if matches!(cell.kind, Kind::Th) {
+    let page = known.page;
+    let mut end = place.end;
+    if let Some(node) = gap.behind
+        && place.end == range_of(node).start
+        && leaves_line_start(page, place.start, by.as_str())
+    {
+        if is_doubled(page, node) {
+            by.push_str(if matches!(node.kind, Kind::Th) {
                 "!"
             } else {
                 "|"
             })?;
-            let end = place.end.saturating_add(2);
-            push_change(
-                out,
-                Slot {
-                    start: place.start,
-                    end,
-                },
-                by,
-            )
+            end = end.saturating_add(2);
+        } else if is_item(node.kind) {
+            push_missing_signs(alloc, &mut by, known, node)?;
         }
-        _ => push_change(out, place, by),
     }
+    push_change(
+        out,
+        Slot {
+            start: place.start,
+            end,
+        },
+        by,
+    )
 }
 
 /// Appends the slices that go. Where they leave fewer line breaks than are wanted between what comes before and
@@ -307,11 +272,12 @@ fn push_part_of(
 fn push_gone(
     alloc: Global,
     out: &mut Vec<Change>,
-    page: &str,
+    known: &Known<'_, '_>,
     gap: Gap<'_, '_, '_>,
     slices: &[Slot],
     wanted: usize,
 ) -> Result<(), NoMemory> {
+    let page = known.page;
     let mut standing = 0;
     let mut at = gap.blanks;
     let mut left = slices.len();
@@ -322,7 +288,7 @@ fn push_gone(
         at = place.end;
         let behind = most_breaks(page, at, gap.place.end).max(standing);
         let by = breaks(alloc, if left == 0 { wanted } else { 0 }, behind)?;
-        push_part_of(out, page, gap, place, by)?;
+        push_part_of(alloc, out, known, gap, place, by)?;
     }
     Ok(())
 }
@@ -570,6 +536,25 @@ fn begins_without_sign(gap: Gap<'_, '_, '_>) -> bool {
     }
 }
 
+/// Appends a line of its own for an item behind, which stands on the line of its first item: else it would be taken
+/// into the one that comes.
+fn push_line_of_item(
+    alloc: Global,
+    out: &mut Str,
+    known: &Known<'_, '_>,
+    gap: Gap<'_, '_, '_>,
+) -> Result<(), NoMemory> {
+    match gap.behind {
+        Some(item) if is_item(item.kind) && item.opening().is_empty() => {
+            let signs = signs_of(alloc, known, item)?;
+            out.push_str("\n")?;
+            out.push_str(signs.as_str())?;
+            out.push_str(" ")
+        }
+        _ => Ok(()),
+    }
+}
+
 /// Whether what comes is one cell between two of a line.
 fn joins_line(page: &str, gap: Gap<'_, '_, '_>, coming: &Coming) -> bool {
     let (Some(before), Some(behind)) = (gap.before, gap.behind) else {
@@ -604,11 +589,12 @@ fn push_in_line(out: &mut Str, cell: &str) -> Result<(), NoMemory> {
 fn push_new(
     alloc: Global,
     out: &mut Vec<Change>,
-    page: &str,
+    known: &Known<'_, '_>,
     gap: Gap<'_, '_, '_>,
     slices: &[Slot],
     coming: Coming,
 ) -> Result<(), NoMemory> {
+    let page = known.page;
     let place = slices.first().copied().unwrap_or(place_between(gap));
     let to = match slices.get(1) {
         Some(next) => next.start,
@@ -631,9 +617,10 @@ fn push_new(
     if begins_without_sign(gap) {
         by.push_str("\n|-")?;
     }
+    push_line_of_item(alloc, &mut by, known, gap)?;
     push_breaks(&mut by, behind)?;
     let start = place.start;
-    push_part_of(out, page, gap, Slot { start, end }, by)
+    push_part_of(alloc, out, known, gap, Slot { start, end }, by)
 }
 
 // ---- a gap
@@ -779,14 +766,21 @@ fn push_part<'t, 'a>(
         None => push_gone(
             alloc,
             out,
-            page,
+            plan.known,
             gap,
             slices.as_slice(),
             wanted_between(page, gap),
         ),
         Some(coming) => {
-            push_new(alloc, out, page, gap, slices.as_slice(), coming)?;
-            push_gone(alloc, out, page, gap, behind_first(slices.as_slice()), 0)
+            push_new(alloc, out, plan.known, gap, slices.as_slice(), coming)?;
+            push_gone(
+                alloc,
+                out,
+                plan.known,
+                gap,
+                behind_first(slices.as_slice()),
+                0,
+            )
         }
     }
 }

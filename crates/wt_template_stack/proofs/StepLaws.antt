@@ -482,4 +482,3 @@ text_ends r t run l end total h is e low =
     (subst (λ o. Ends r t l.end l.task [] o total)
     (ap (λ xs. then_output (just (items l.out)) (given_from r h.at_start t h.place xs)) none
     ∙ ap (λ xs. just xs) (append-nil (items l.out))) q.2)
-

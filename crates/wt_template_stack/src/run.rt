@@ -98,12 +98,7 @@ fn push_all<'a>(out: &mut List<Piece<'a>>, pieces: &[Piece<'a>]) -> Result<(), N
 
 impl<'a> TextRun<'a> {
     /// A stretch of a text, up to a place, of which nothing is read. The reader is where it begins.
-    pub fn new(
-        alloc: Global,
-        reader: Reader<'a>,
-        end: u32,
-        mode: Mode,
-    ) -> TextRun<'a>
+    pub fn new(alloc: Global, reader: Reader<'a>, end: u32, mode: Mode) -> TextRun<'a>
         ensures levels { stack result.levels ≡ whole_level end ∷ [] }
         ensures reader { result.reader ≡ reader.entry }
         ensures mode { result.mode ≡ mode }
