@@ -3,7 +3,7 @@ use Rattle.std.proofs.Common.{◌≡◌, Bool, true, false, List, [], ◌∷◌,
 use Rattle.std.specs.Prelude.{if◌then◌else◌}
 use Rattle.std.specs.List.{flat_map}
 use Rattle.wt_tree.specs.declared.node.Node.{Node, out-Node}
-use Rattle.wt_tree.specs.Tree.{Tree, tree}
+use Rattle.wt_tree.specs.Tree.{Label, Tree, tree, Trees}
 use Rattle.wt_tree.specs.View.{label_of, view, views}
 use Rattle.wt_tree.proofs.Views.{view_out}
 use Rattle.wt_tree.specs.declared.edit_shape.InlineForm.{InlineForm}
@@ -12,7 +12,7 @@ use Rattle.wt_tree.specs.EditShapes.{edit_shape}
 use Rattle.wt_guards.specs.Content.{ContentSign}
 use Rattle.wt_original.specs.Kept.{Kept, kept_with}
 use Rattle.wt_original.specs.Page.{Page, is_unchanged}
-use Rattle.wt_escape.specs.Spelling.{kept_thing, unless_kept, signs_by, signs_of, signs_of_all}
+use Rattle.wt_escape.specs.Spelling.{kept_thing, unless_kept, anew_by, signs_by, signs_of, signs_of_all}
 use Rattle.wt_escape.specs.Units.{Leaves}
 
 pub leaves_none : (p : Page) (k : Option Kept) (t : Tree) (us : List ContentSign) → k ≡ None → Leaves false us us (unless_kept p k t)
@@ -55,6 +55,11 @@ pub signs_pushed : (n : Node) (w : InlineForm) (p : Page) (pl : Place) (k : Opti
     → signs_by w p pl k (label_of (out-Node n)) (views (out-Node n).children) (signs_of_all p pl (views (out-Node n).children)) ≡ signs
     → new ≡ old ++ signs → new ≡ old ++ signs_of p pl (view n)
 signs_pushed n w p pl k old new signs e h f g = g ∙ ap (λ s. old ++ s) (sym f ∙ sym (signs_is n w p pl k e h))
+
+-- what is written anew of it is appended
+pub anew_pushed : (v w : InlineForm) (p : Page) (pl : Place) (k : Option Kept) (l : Label) (ts : Trees) (inside old new : List ContentSign) → v ≡ w
+    → new ≡ old ++ anew_by w p pl k l ts inside → new ≡ old ++ anew_by v p pl k l ts inside
+anew_pushed v w p pl k l ts inside old new e g = g ∙ ap (λ u. old ++ anew_by u p pl k l ts inside) (sym e)
 
 -- where it is kept, or what is new is written
 pub unless_seen : (n : Node) (p : Page) (k : Option Kept) (new : List ContentSign)
