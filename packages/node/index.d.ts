@@ -21,14 +21,23 @@ export interface Answer {
   line: string;
 }
 
-/** Where a node stands in its page, in bytes, with the widths of its two delimiters. */
+/** The number of a node: its `id` is `mw` and this number. */
+export type NodeNumber = number & { readonly counts: "nodes" };
+
+/** A place in a page: how many bytes of its UTF-8 come before. It is no index into a string. */
+export type BytePlace = number & { readonly counts: "bytes before" };
+
+/** How many bytes something has. */
+export type ByteCount = number & { readonly counts: "bytes" };
+
+/** Where a node is in its page, with the widths of its two delimiters. */
 export interface Range {
-  number: number;
+  number: NodeNumber;
   kind: string;
-  start: number;
-  end: number;
-  open: number;
-  close: number;
+  start: BytePlace;
+  end: BytePlace;
+  open: ByteCount;
+  close: ByteCount;
 }
 
 /** A doubtful place of a page, such as bold text that nothing closes. */
@@ -39,9 +48,9 @@ export interface Finding {
   line: number;
   /** The byte of that line, from 1. */
   column: number;
-  /** Its range in the page, in bytes. */
-  start: number;
-  end: number;
+  /** Its range in the page. */
+  start: BytePlace;
+  end: BytePlace;
   /** What is wrong, and what to do. */
   sentence: string;
 }

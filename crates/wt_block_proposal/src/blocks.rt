@@ -5,7 +5,7 @@ use crate::delimiters::{
     shares_line,
 };
 use crate::items::sign_of;
-use crate::kinds::{is_cell, is_item, is_lined, is_list};
+use crate::kinds::{is_cell, is_item, is_lined, is_list, is_row_without_sign};
 use std::alloc::Global;
 use wt_checks::original;
 use wt_content_proposal::{Block, Edges, Known, Writing, block_of, edges_of, spelled};
@@ -156,7 +156,7 @@ fn push_held(
 ) -> Result<(), NoMemory> {
     let mut before = None;
     for child in node.children.as_slice() {
-        if is_block_part(child.kind) {
+        if is_written(child) {
             if !shares_line(alloc, around.known, before, child)? {
                 push_break(out, node.kind, before, child.kind)?;
             }
@@ -165,6 +165,21 @@ fn push_held(
         }
     }
     Ok(())
+}
+
+/// Whether a child is written as a block: it is one or a part of one, or a group that shows one.
+fn is_written(child: &Node<'_>) -> bool {
+    is_block_part(child.kind)
+        || (matches!(child.kind, Kind::Group) && have_block_part(child.children.as_slice()))
+}
+
+fn have_block_part(nodes: &[Node<'_>]) -> bool {
+    for node in nodes {
+        if is_block_part(node.kind) {
+            return true;
+        }
+    }
+    false
 }
 
 /// Whether a source begins with these signs, and no other after them.
@@ -221,6 +236,9 @@ fn push_item_of(
     item: &Node<'_>,
     is_first: bool,
 ) -> Result<(), NoMemory> {
+    if matches!(item.kind, Kind::Group) {
+        return push_block(alloc, out, around, item);
+    }
     let mut signs = Str::copy_of(alloc, around.signs)?;
     signs.push_str(sign_of(list, item.kind))?;
     let own = Surroundings {
@@ -278,7 +296,7 @@ fn push_items(
 ) -> Result<(), NoMemory> {
     let mut is_first = true;
     for item in list.children.as_slice() {
-        if is_block_part(item.kind) {
+        if is_written(item) {
             if !is_first {
                 out.push_str("\n")?;
             }
@@ -299,7 +317,7 @@ fn push_rows(
 ) -> Result<(), NoMemory> {
     let mut is_first = true;
     for child in node.children.as_slice() {
-        if is_block_part(child.kind) {
+        if is_written(child) {
             if !is_first {
                 out.push_str("\n")?;
             }
@@ -345,8 +363,16 @@ fn push_lines(
     push_held(alloc, out, around.in_table(), node)
 }
 
+/// Whether a node is a group of the page that begins with a row without a sign.
+fn is_group_without_sign(known: &Known<'_, '_>, node: &Node<'_>) -> bool {
+    match original(known.index, node.id) {
+        Some(visit) => matches!(node.kind, Kind::Group) && is_row_without_sign(visit.node),
+        None => false,
+    }
+}
+
 /// Appends a block as it was in the page, where it was there as it is; it says whether it does. An item
-/// is so only with its signs, a row with its sign.
+/// is so only with its signs, a row with its sign, which a group gets that begins with a row without one.
 fn push_if_standing(
     alloc: Global,
     out: &mut Str,
@@ -362,6 +388,9 @@ fn push_if_standing(
     };
     if matches!(node.kind, Kind::Tr) && !source.as_str().starts_with("|-") {
         return Ok(false);
+    }
+    if is_group_without_sign(around.known, node) {
+        out.push_str("|-\n")?;
     }
     push_begun(out, node.kind, source.as_str())?;
     Ok(true)

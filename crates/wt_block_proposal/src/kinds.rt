@@ -1,6 +1,6 @@
 //! What the kinds of blocks are to their neighbours, by the table of kinds.
 
-use wt_tree::{Kind, Placement};
+use wt_tree::{Kind, Node, Placement};
 
 /// Whether it is a list.
 pub fn is_list(kind: Kind) -> bool {
@@ -35,5 +35,18 @@ pub fn is_lined(kind: Kind) -> bool {
         Placement::Block => !matches!(kind, Kind::Para | Kind::Pre),
         Placement::List => true,
         _ => is_part(kind),
+    }
+}
+
+/// Whether a node of the page is a row without a sign of its own, as the first one of a table may be, or a group that
+/// begins with one.
+pub fn is_row_without_sign(node: &Node<'_>) -> bool {
+    match node.kind {
+        Kind::Tr => node.opening().is_empty(),
+        Kind::Group => match node.children.as_slice().first() {
+            Some(first) => matches!(first.kind, Kind::Tr) && first.opening().is_empty(),
+            None => false,
+        },
+        _ => false,
     }
 }

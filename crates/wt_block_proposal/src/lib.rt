@@ -9,4 +9,4 @@ mod kinds;
 
 pub use blocks::{Surroundings, push_block};
 pub use items::signs_of;
-pub use kinds::{is_cell, is_item, is_lined, is_list, is_part};
+pub use kinds::{is_cell, is_item, is_lined, is_list, is_part, is_row_without_sign};

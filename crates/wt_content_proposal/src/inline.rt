@@ -1,9 +1,10 @@
 //! Inline content as wikitext: what was in the page as it was, texts too, and what is new as `edit` spells it.
 
 use crate::groups::role_in_line;
-use crate::joints::{NOWHERE, Spot, place_of_new, with_joints};
+use crate::joints::{NOWHERE, Spot, place_of_new, source_of, with_joints};
 use crate::known::{Block, Known, first_text, last_text};
 use crate::links::{is_bare_url, shortened, with_colons, with_fragment};
+use crate::nowiki::nowiki_round;
 use crate::plain::with_plain;
 use crate::texts::{ends_with_apostrophe, push_letters, push_nowiki, push_text};
 use std::alloc::Global;
@@ -152,7 +153,23 @@ fn push_if_unchanged(
     Ok(true)
 }
 
-fn push_shown(alloc: Global, out: &mut Vec<Unit<'_>>, node: &Node<'_>) -> Result<(), NoMemory> {
+/// Appends a `nowiki` or a reference as it was in the page, or what it shows now: of a `nowiki` between its tags.
+fn push_shown<'t, 'a>(
+    alloc: Global,
+    out: &mut Vec<Unit<'_>>,
+    writing: Writing<'_, 't, 'a>,
+    kept: Option<Kept<'t, 'a>>,
+    node: &Node<'_>,
+) -> Result<(), NoMemory> {
+    if push_if_unchanged(alloc, out, writing, kept, node)? {
+        return Ok(());
+    }
+    if writing.keeps
+        && let Some(old) = kept
+        && let Some(source) = nowiki_round(alloc, writing.known, writing.block, old.node, node)?
+    {
+        return push_thing(out, old.role, source, Some(old.place));
+    }
     let text = shown_text(alloc, node)?;
     if !text.is_empty() {
         out.push(Unit::Copied(Str::from_string(text)))?;
@@ -460,6 +477,17 @@ fn role_of(kind: Kind) -> Role {
     }
 }
 
+/// Whether what was appended last ends with a letter, a digit or `_`, after which no bare URL begins.
+fn is_behind_word(out: &[Unit<'_>]) -> bool {
+    match out.last() {
+        Some(unit) => match source_of(unit).last() {
+            Some(byte) => byte.is_ascii_alphanumeric() || *byte == b'_',
+            None => false,
+        },
+        None => false,
+    }
+}
+
 /// Appends a link or tag that is new or changed.
 #[cycle(units)]
 fn push_element<'t, 'a>(
@@ -469,7 +497,7 @@ fn push_element<'t, 'a>(
     kept: Option<Kept<'t, 'a>>,
     node: &Node<'_>,
 ) -> Result<(), NoMemory> {
-    if writing.keeps && is_bare_now(alloc, kept, node)? {
+    if writing.keeps && !is_behind_word(out.as_slice()) && is_bare_now(alloc, kept, node)? {
         let source = Str::copy_of(alloc, href_of(node))?;
         let role = Role::Bare(href_of(node).ends_with("="));
         return push_thing(out, role, source, Some(place_of_bare(kept)));
@@ -543,12 +571,7 @@ fn push_node<'n, 't, 'a>(
             }
             push_kept(alloc, out, writing.keeps, kept, node.kind)
         }
-        InlineForm::Shown => {
-            if push_if_unchanged(alloc, out, writing, kept, node)? {
-                return Ok(());
-            }
-            push_shown(alloc, out, node)
-        }
+        InlineForm::Shown => push_shown(alloc, out, writing, kept, node),
         InlineForm::PageLink | InlineForm::ExternalLink | InlineForm::Tag | InlineForm::Break => {
             if push_if_unchanged(alloc, out, writing, kept, node)? {
                 return Ok(());

@@ -127,7 +127,7 @@ fn may_end_with_equals(units: &[Unit<'_>]) -> bool {
     for unit in units {
         let source = source_of(unit);
         let is_group = matches!(role_of(unit), Some(Role::Group(_)));
-        let is_standing = role_of(unit).is_some();
+        let is_standing = placed(Some(unit)).is_some();
         if is_group || (is_standing && source.contains(&b'=')) {
             return true;
         }

@@ -8,6 +8,7 @@ mod inline;
 mod joints;
 mod known;
 mod links;
+mod nowiki;
 mod plain;
 mod texts;
 

@@ -78,6 +78,13 @@ fn ahead_in(units: &[Unit<'_>], passed: Passed) -> Beside {
     Beside::Edge
 }
 
+fn source_before<'u>(unit: Option<&'u Unit<'_>>) -> &'u [u8] {
+    match unit {
+        Some(unit) => source_of(unit),
+        None => &[],
+    }
+}
+
 fn last_of(unit: &Unit<'_>) -> Beside {
     match source_of(unit).last() {
         Some(byte) if !is_unknown(unit) => Beside::Byte(*byte),
@@ -85,20 +92,27 @@ fn last_of(unit: &Unit<'_>) -> Beside {
     }
 }
 
+/// What is beside a text: the unit before it, those after it, and whether a tag may be open there.
+#[derive(Clone, Copy)]
+struct Around<'u, 'n> {
+    before: Option<&'u Unit<'n>>,
+    units: &'u [Unit<'n>],
+    is_in_tag: bool,
+}
+
 /// A text among the units, cut round one of its characters of one byte.
 #[derive(Clone, Copy)]
 struct Cut<'t, 'u, 'n> {
     front: &'t [u8],
     rest: &'t [u8],
-    before: Option<&'u Unit<'n>>,
-    units: &'u [Unit<'n>],
+    around: Around<'u, 'n>,
 }
 
 impl<'t, 'u, 'n> Cut<'t, 'u, 'n> {
     fn behind(self) -> Beside {
         match self.front.last() {
             Some(byte) => Beside::Byte(*byte),
-            None => match self.before {
+            None => match self.around.before {
                 Some(unit) => last_of(unit),
                 None => Beside::Edge,
             },
@@ -108,7 +122,7 @@ impl<'t, 'u, 'n> Cut<'t, 'u, 'n> {
     fn ahead(self, passed: Passed) -> Beside {
         match first_past(self.rest, passed) {
             Some(byte) => Beside::Byte(byte),
-            None => ahead_in(self.units, passed),
+            None => ahead_in(self.around.units, passed),
         }
     }
 
@@ -121,6 +135,16 @@ impl<'t, 'u, 'n> Cut<'t, 'u, 'n> {
         let behind = self.behind();
         let next = self.next();
         behind.is_known() && next.is_known() && !behind.is(byte) && !next.is(byte)
+    }
+
+    /// Whether two dashes come before.
+    fn is_behind_dashes(self) -> bool {
+        let source = source_before(self.around.before);
+        match self.front.len() {
+            0 => source.ends_with(b"--"),
+            1 => self.front.ends_with(b"-") && source.ends_with(b"-"),
+            _ => self.front.ends_with(b"--"),
+        }
     }
 
     /// Whether a line, or what is written, begins here.
@@ -183,6 +207,7 @@ fn is_plain(within: bool, cut: Cut<'_, '_, '_>, byte: u8) -> bool {
         b'&' => is_plain_ampersand(cut),
         b'<' => is_plain_angle(cut),
         b'=' => is_plain_equals(cut),
+        b'>' => !cut.around.is_in_tag && !cut.is_behind_dashes(),
         b'[' | b']' | b'{' | b'}' => !within && is_plain_bracket(cut, byte),
         _ => false,
     }
@@ -197,17 +222,12 @@ fn shows_blanks(place: Option<Place>) -> bool {
 }
 
 /// How many blanks end the inside at the end of its last text, after something in their line.
-fn blanks_at_end(
-    place: Option<Place>,
-    bytes: &[u8],
-    before: Option<&Unit<'_>>,
-    units: &[Unit<'_>],
-) -> usize {
-    if !shows_blanks(place) || !units.is_empty() {
+fn blanks_at_end(place: Option<Place>, bytes: &[u8], around: Around<'_, '_>) -> usize {
+    if !shows_blanks(place) || !around.units.is_empty() {
         return 0;
     }
     let mut count: usize = 0;
-    let mut last = match before {
+    let mut last = match around.before {
         Some(unit) => last_of(unit),
         None => Beside::Edge,
     };
@@ -256,39 +276,71 @@ fn push_plain(alloc: Global, out: &mut Vec<Unit<'_>>, text: &str) -> Result<(), 
     Ok(())
 }
 
-/// Appends a text with its plain characters as they are.
+/// Whether a line ends here, and the next one begins with a character that is mostly no sign there.
+fn ends_before_sign(cut: Cut<'_, '_, '_>, byte: u8) -> bool {
+    match cut.rest.first() {
+        Some(next) => byte == b'\n' && matches!(*next, b'=' | b'-' | b'!'),
+        None => false,
+    }
+}
+
+/// Appends a text with its plain characters as they are; lines that begin with a character like `=` are apart.
 fn push_text<'u, 'n>(
     alloc: Global,
     out: &mut Vec<Unit<'n>>,
     place: Option<Place>,
     text: &'n str,
-    before: Option<&'u Unit<'n>>,
-    units: &'u [Unit<'n>],
+    around: Around<'u, 'n>,
 ) -> Result<(), NoMemory> {
     let bytes = text.as_bytes();
     let mut start = 0;
     for at in 0..bytes.len() {
-        let byte = bytes[at];
+        let end = at.saturating_add(1);
         let cut = Cut {
             front: up_to(bytes, at),
-            rest: from(bytes, at.saturating_add(1)),
-            before,
-            units,
+            rest: from(bytes, end),
+            around,
         };
-        if is_plain(place.is_none(), cut, byte) {
-            let end = at.saturating_add(1);
+        if is_plain(place.is_none(), cut, bytes[at]) {
             push_letters(out, piece(text, start, at))?;
             push_plain(alloc, out, piece(text, at, end))?;
             start = end;
+        } else if ends_before_sign(cut, bytes[at]) {
+            push_letters(out, piece(text, start, end))?;
+            start = end;
         }
     }
-    let blanks = blanks_at_end(place, bytes, before, units);
+    let blanks = blanks_at_end(place, bytes, around);
     let end = bytes.len().saturating_sub(blanks);
     push_letters(out, piece(text, start, end))?;
     if blanks == 0 {
         return Ok(());
     }
     push_plain(alloc, out, piece(text, end, bytes.len()))
+}
+
+/// Whether `<` with this byte after it may open a tag.
+fn opens_tag(next: Option<&u8>) -> bool {
+    match next {
+        Some(byte) => byte.is_ascii_alphabetic() || *byte == b'/' || *byte == b'!',
+        None => true,
+    }
+}
+
+/// Whether a tag may be open after a unit, where one may be before it or not. What was typed opens none.
+fn is_in_tag_behind(unit: &Unit<'_>, is_in_tag: bool) -> bool {
+    let mut is_open = is_in_tag;
+    if let Unit::Thing(thing) = unit {
+        let source = thing.source.as_str().as_bytes();
+        for at in 0..source.len() {
+            if source[at] == b'<' {
+                is_open = opens_tag(source.get(at.saturating_add(1)));
+            } else if source[at] == b'>' {
+                is_open = false;
+            }
+        }
+    }
+    is_open
 }
 
 /// The units with the characters of new texts apart that stay as they were typed; `place` is that of the inside, None
@@ -300,15 +352,21 @@ pub fn with_plain<'n>(
 ) -> Result<Vec<Unit<'n>>, NoMemory> {
     let mut out = Vec::new(alloc);
     let mut before = None;
+    let mut is_in_tag = false;
     for at in 0..units.len() {
         let unit = &units[at];
         match unit {
             Unit::Text(text) => {
-                let behind = units_from(units, at + 1);
-                push_text(alloc, &mut out, place, *text, before, behind)?;
+                let around = Around {
+                    before,
+                    units: units_from(units, at + 1),
+                    is_in_tag,
+                };
+                push_text(alloc, &mut out, place, *text, around)?;
             }
             Unit::Copied(_) | Unit::Thing(_) => out.push(copy_of(alloc, unit)?)?,
         }
+        is_in_tag = is_in_tag_behind(unit, is_in_tag);
         before = Some(unit);
     }
     Ok(out)

@@ -3,11 +3,12 @@
 use crate::blanks::{
     back_over_blanks, byte_at, is_at_line_start, most_breaks, past_blanks, past_spaces,
 };
+use crate::breaks::{between, breaks, kind_at_end, kind_at_start, least_between, push_breaks};
 use crate::proposing::{Numbering, Plan, children_between, nodes_between};
 use crate::slot::Slot;
 use std::alloc::Global;
 use wt_block_proposal::{
-    Surroundings, is_cell, is_item, is_lined, is_list, is_part, push_block, signs_of,
+    Surroundings, is_cell, is_item, is_lined, is_row_without_sign, push_block, signs_of,
 };
 use wt_checks::is_compared;
 use wt_content_proposal::{Known, joined as texts_joined, last_text};
@@ -18,12 +19,13 @@ use wt_tree::{Kind, Node, same_kind};
 
 /// A gap between two children that stay in their turn, or the part of it between two comments or include tags: where
 /// it is, from where on blanks before it count, these two as the page has them, the page's children between them, and
-/// the edited ones, with the number of the block of the first, and whether an item or a cell holds them.
+/// the edited ones, with the number of the block of the first, whether they are lines of an item, a list or a table,
+/// with no empty line between them, and whether a cell holds them.
 #[derive(Clone, Copy)]
 pub struct Gap<'w, 't, 'a> {
     pub place: Slot,
     pub blanks: usize,
-    pub in_item: bool,
+    pub is_tight: bool,
     pub in_cell: bool,
     pub before: Option<&'t Node<'a>>,
     pub behind: Option<&'t Node<'a>>,
@@ -92,61 +94,6 @@ fn slices_of(alloc: Global, gone: &[Child<'_, '_>]) -> Result<Vec<Slot>, NoMemor
         }
     }
     push_slice(&mut out, slice)?;
-    Ok(out)
-}
-
-// ---- line breaks
-
-/// The kind of what a node shows last, as its neighbour after it sees it: of a group that ends with a list this one's.
-fn kind_at_end(node: &Node<'_>) -> Kind {
-    match node.children.as_slice().last() {
-        Some(last) if matches!(node.kind, Kind::Group) && is_list(last.kind) => last.kind,
-        _ => node.kind,
-    }
-}
-
-/// The same of what it shows first.
-fn kind_at_start(node: &Node<'_>) -> Kind {
-    match node.children.as_slice().first() {
-        Some(first) if matches!(node.kind, Kind::Group) && is_list(first.kind) => first.kind,
-        _ => node.kind,
-    }
-}
-
-/// How many line breaks two neighbours ask for at least. No empty line is in an item.
-fn least_between(in_item: bool, left: Kind, right: Kind) -> usize {
-    if is_cell(left) {
-        return 0;
-    }
-    if in_item {
-        return 1;
-    }
-    if (is_lined(left) || is_lined(right)) && !(is_list(left) && is_list(right)) {
-        1
-    } else {
-        2
-    }
-}
-
-/// How many line breaks are written between two neighbours one of which is new.
-fn between(in_item: bool, left: Kind, right: Kind) -> usize {
-    if in_item || is_part(left) || is_part(right) {
-        1
-    } else {
-        2
-    }
-}
-
-fn push_breaks(out: &mut Str, count: usize) -> Result<(), NoMemory> {
-    for _at in 0..count {
-        out.push_str("\n")?;
-    }
-    Ok(())
-}
-
-fn breaks(alloc: Global, wanted: usize, standing: usize) -> Result<Str, NoMemory> {
-    let mut out = Str::new(alloc);
-    push_breaks(&mut out, wanted.saturating_sub(standing))?;
     Ok(out)
 }
 
@@ -301,7 +248,7 @@ fn wanted_between(page: &str, gap: Gap<'_, '_, '_>) -> usize {
     if is_cell(behind.kind) && !is_doubled(page, behind) {
         return 1;
     }
-    least_between(gap.in_item, kind_at_end(before), kind_at_start(behind))
+    least_between(gap.is_tight, kind_at_end(before), kind_at_start(behind))
 }
 
 // ---- what comes
@@ -410,7 +357,7 @@ fn coming_of<'t, 'a>(
                 signs: signs.as_str(),
                 tail: tail_of(gap, left),
             };
-            coming = Some(followed(alloc, gap.in_item, coming, around, node)?);
+            coming = Some(followed(alloc, gap.is_tight, coming, around, node)?);
             block = block.next();
         }
     }
@@ -427,7 +374,7 @@ fn has_break_from(source: &str, start: usize) -> bool {
 /// What came so far, and this one after it.
 fn followed(
     alloc: Global,
-    in_item: bool,
+    is_tight: bool,
     coming: Option<Coming>,
     around: Surroundings<'_, '_, '_>,
     node: &Node<'_>,
@@ -446,7 +393,7 @@ fn followed(
                 is_of_line: _,
                 mut source,
             } = before;
-            push_breaks(&mut source, between(in_item, last, node.kind))?;
+            push_breaks(&mut source, between(is_tight, last, node.kind))?;
             Coming {
                 first,
                 last: node.kind,
@@ -481,8 +428,8 @@ fn breaks_before(
 ) -> usize {
     let standing = most_breaks(page, gap.blanks, at);
     let wanted = match gap.before {
-        Some(before) if takes_place => least_between(gap.in_item, kind_at_end(before), first),
-        Some(before) => between(gap.in_item, before.kind, first),
+        Some(before) if takes_place => least_between(gap.is_tight, kind_at_end(before), first),
+        Some(before) => between(gap.is_tight, before.kind, first),
         None if takes_place || gap.behind.is_some() || gap.place.start == 0 => 0,
         None => 1,
     };
@@ -521,9 +468,9 @@ fn breaks_behind(
     let wanted = if standing == 0 && coming.is_of_line && shares_line(page, last, behind) {
         0
     } else if standing == 0 {
-        between(gap.in_item, last, behind.kind)
+        between(gap.is_tight, last, behind.kind)
     } else {
-        least_between(gap.in_item, last, kind_at_start(behind))
+        least_between(gap.is_tight, last, kind_at_start(behind))
     };
     wanted.saturating_sub(standing)
 }
@@ -531,7 +478,7 @@ fn breaks_behind(
 /// Whether a row without a sign of its own comes after, as the first one of a table may.
 fn begins_without_sign(gap: Gap<'_, '_, '_>) -> bool {
     match gap.behind {
-        Some(row) => matches!(row.kind, Kind::Tr) && row.opening().is_empty(),
+        Some(row) => is_row_without_sign(row),
         None => false,
     }
 }
@@ -687,7 +634,7 @@ impl Passed {
                 end,
             },
             blanks: self.blanks,
-            in_item: gap.in_item,
+            is_tight: gap.is_tight,
             in_cell: gap.in_cell,
             before: gap.before,
             behind: gap.behind,

@@ -3,6 +3,7 @@
 #![tactic(auto)]
 
 mod blanks;
+mod breaks;
 mod children;
 mod proposing;
 mod reached;

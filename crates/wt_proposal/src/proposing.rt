@@ -14,13 +14,13 @@ use crate::slots::{
 };
 use crate::testing::tested;
 use std::alloc::Global;
-use wt_block_proposal::{is_cell, signs_of};
+use wt_block_proposal::{is_cell, is_list, signs_of};
 use wt_checks::Visit;
 use wt_content_proposal::{Known, Writing, block_of, edges_of, spelled};
 use wt_difference::{Child, held, inside, same_inside};
 use wt_selser::{Change, place_in};
 use wt_span::{NoMemory, Str};
-use wt_tree::Node;
+use wt_tree::{Kind, Node};
 
 /// Where texts keep their bytes: everywhere, everywhere but in the block with this number (from 1, among what
 /// the edited body shows), or nowhere.
@@ -110,13 +110,13 @@ fn push_inside<'t, 'a>(
 
 // ---- children
 
-/// The children that a node of the page holds, the signs with which it begins where it is an item, whether it is a
-/// cell, its number, and where its children begin and end.
+/// The children that a node of the page holds, the signs with which it begins where it is an item, its kind, its
+/// number, and where its children begin and end.
 #[derive(Clone, Copy)]
 struct Held<'w, 't, 'a> {
     children: &'w [Child<'t, 'a>],
     signs: &'w str,
-    is_cell: bool,
+    kind: Kind,
     number: u32,
     begun: Reached,
     stop: usize,
@@ -254,6 +254,11 @@ fn up_to(place: Slot, behind: Option<&Node<'_>>) -> Slot {
     }
 }
 
+/// Whether a node of this kind holds items, rows, cells or other parts alone.
+fn holds_parts(kind: Kind) -> bool {
+    is_list(kind) || matches!(kind, Kind::Table | Kind::Tbody | Kind::Tr)
+}
+
 /// Appends what is written anew in a gap in which these children come.
 fn push_span<'t, 'a>(
     alloc: Global,
@@ -268,8 +273,8 @@ fn push_span<'t, 'a>(
     let gap = Gap {
         place: up_to(span.place, behind),
         blanks: span.place.start,
-        in_item: !held.signs.is_empty(),
-        in_cell: held.is_cell,
+        is_tight: !held.signs.is_empty() || holds_parts(held.kind),
+        in_cell: is_cell(held.kind),
         before: node_at(held.children, span.from.checked_sub(1)),
         behind,
         gone: children_between(held.children, span.from, span.to),
@@ -329,7 +334,7 @@ fn push_node<'t, 'a>(
     let held = Held {
         children: children.as_slice(),
         signs: signs.as_str(),
-        is_cell: is_cell(old.kind),
+        kind: old.kind,
         number: old.id,
         begun,
         stop: inside_stop(old.ranges),

@@ -9,7 +9,22 @@ True
 """
 from __future__ import annotations
 
-from ._commands import Finding, Pages, Range, Text, edit, expand, html, lint, ranges, run, wikitext
+from ._commands import (
+    ByteCount,
+    BytePlace,
+    Finding,
+    NodeNumber,
+    Pages,
+    Range,
+    Text,
+    edit,
+    expand,
+    html,
+    lint,
+    ranges,
+    run,
+    wikitext,
+)
 from ._engines import Answer, Engine, Unavailable, engine
 from ._refusal import Refusal
 
@@ -17,8 +32,11 @@ __version__ = "0.2.0"
 
 __all__ = [
     "Answer",
+    "ByteCount",
+    "BytePlace",
     "Engine",
     "Finding",
+    "NodeNumber",
     "Pages",
     "Range",
     "Refusal",

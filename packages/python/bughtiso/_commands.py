@@ -3,7 +3,7 @@ from __future__ import annotations
 
 import json
 import os
-from typing import Callable, Dict, Iterable, List, Mapping, NamedTuple, Optional, Sequence, Union
+from typing import Callable, Dict, Iterable, List, Mapping, NamedTuple, NewType, Optional, Sequence, Union
 
 from ._engines import Answer, Engine, engine
 from ._refusal import Refusal
@@ -15,18 +15,28 @@ Text = Union[str, bytes]
 Pages = Mapping[str, Text]
 
 
+#: The number of a node: its ``id`` is ``mw`` and this number.
+NodeNumber = NewType("NodeNumber", int)
+
+#: A place in a page: how many bytes of its UTF-8 come before. It is no index into a ``str``.
+BytePlace = NewType("BytePlace", int)
+
+#: How many bytes something has.
+ByteCount = NewType("ByteCount", int)
+
+
 class Range(NamedTuple):
-    """Where a node stands in its page, in bytes."""
+    """Where a node is in its page."""
 
     #: the number of its ``id``
-    number: int
+    number: NodeNumber
     #: what it is, as ``p``, ``h2`` or ``group``
     kind: str
-    start: int
-    end: int
+    start: BytePlace
+    end: BytePlace
     #: the widths of its two delimiters
-    open: int
-    close: int
+    open: ByteCount
+    close: ByteCount
 
 
 with open(os.path.join(os.path.dirname(__file__), "findings.json"), encoding="utf-8") as _file:
@@ -41,9 +51,9 @@ class Finding(NamedTuple):
     #: its line, and the byte of that line, both from 1
     line: int
     column: int
-    #: its range in the page, in bytes
-    start: int
-    end: int
+    #: its range in the page
+    start: BytePlace
+    end: BytePlace
 
     @property
     def sentence(self) -> str:
@@ -149,16 +159,19 @@ def ranges(text: Text, pages: Optional[Pages] = None, *, title: str = "Page") ->
     """Where each node of the page stands that has a number. Raises `Refusal`."""
     found = []
     for line in _answer("ranges", text, title, pages).decode().splitlines():
-        number, kind, *places = line.split(" ")
-        start, end, opened, closed = map(int, places)
-        found.append(Range(int(number[2:]), kind, start, end, opened, closed))
+        name, kind, *numbers = line.split(" ")
+        start, end, opened, closed = map(int, numbers)
+        number = NodeNumber(int(name[2:]))
+        place = BytePlace(start), BytePlace(end)
+        found.append(Range(number, kind, *place, ByteCount(opened), ByteCount(closed)))
     return found
 
 
 def lint(text: Text, pages: Optional[Pages] = None, *, title: str = "Page") -> List[Finding]:
     """The doubtful places of the page, in the order of their ranges. Raises `Refusal`."""
     found = []
-    for line in _answer("lint", text, title, pages).decode().splitlines():
-        kind, *places = line.split(" ")
-        found.append(Finding(kind, *map(int, places)))
+    for answered in _answer("lint", text, title, pages).decode().splitlines():
+        kind, *numbers = answered.split(" ")
+        line, column, start, end = map(int, numbers)
+        found.append(Finding(kind, line, column, BytePlace(start), BytePlace(end)))
     return found
