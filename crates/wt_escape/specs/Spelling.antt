@@ -173,18 +173,30 @@ break_tag = codes "<br>"
 
 -- ---- the signs of the content
 
+-- by the inline form of its kind: what is written of a node that is new or changed; of some forms this isn't asked
+abbrev pub anew_by : InlineForm → Page → Place → Option Kept → Label → Trees → List ContentSign → List ContentSign
+anew_by inline.Nothing p pl k l ts inside = []
+anew_by inline.Characters p pl k l ts inside = []
+anew_by inline.Bold p pl k l ts inside = []
+anew_by inline.Italic p pl k l ts inside = []
+anew_by inline.Shown p pl k l ts inside = letters (shown (tree l ts))
+anew_by inline.PageLink p pl k l ts inside = new_thing role.Link (page_link (read_link (href_of l)) ts (spelled_within p pl inside)) k
+anew_by inline.ExternalLink p pl k l ts inside = new_thing role.External (external_link (href_of l) (spelled_within p pl inside)) k
+anew_by inline.Tag p pl k l ts inside = new_thing role.Node (tag_pair k (spelled_within p pl inside)) k
+anew_by inline.Break p pl k l ts inside = new_thing role.Node break_tag k
+anew_by inline.AsItStood p pl k l ts inside = []
+
 -- by the inline form of its kind: of a node, its page's node and the signs of what it holds
 abbrev pub signs_by : InlineForm → Page → Place → Option Kept → Label → Trees → List ContentSign → List ContentSign
 signs_by inline.Nothing p pl k l ts inside = []
 signs_by inline.Characters p pl k l ts inside = letters l.shown
 signs_by inline.Bold p pl k l ts inside = style (byte.apostrophe ∷ byte.apostrophe ∷ byte.apostrophe ∷ []) k inside
 signs_by inline.Italic p pl k l ts inside = style (byte.apostrophe ∷ byte.apostrophe ∷ []) k inside
-signs_by inline.Shown p pl k l ts inside = unless_kept p k (tree l ts) (letters (shown (tree l ts)))
-signs_by inline.PageLink p pl k l ts inside = unless_kept p k (tree l ts)
-    (new_thing role.Link (page_link (read_link (href_of l)) ts (spelled_within p pl inside)) k)
-signs_by inline.ExternalLink p pl k l ts inside = unless_kept p k (tree l ts) (new_thing role.External (external_link (href_of l) (spelled_within p pl inside)) k)
-signs_by inline.Tag p pl k l ts inside = unless_kept p k (tree l ts) (new_thing role.Node (tag_pair k (spelled_within p pl inside)) k)
-signs_by inline.Break p pl k l ts inside = unless_kept p k (tree l ts) (new_thing role.Node break_tag k)
+signs_by inline.Shown p pl k l ts inside = unless_kept p k (tree l ts) (anew_by inline.Shown p pl k l ts inside)
+signs_by inline.PageLink p pl k l ts inside = unless_kept p k (tree l ts) (anew_by inline.PageLink p pl k l ts inside)
+signs_by inline.ExternalLink p pl k l ts inside = unless_kept p k (tree l ts) (anew_by inline.ExternalLink p pl k l ts inside)
+signs_by inline.Tag p pl k l ts inside = unless_kept p k (tree l ts) (anew_by inline.Tag p pl k l ts inside)
+signs_by inline.Break p pl k l ts inside = unless_kept p k (tree l ts) (anew_by inline.Break p pl k l ts inside)
 signs_by inline.AsItStood p pl k l ts inside = as_it_stood k
 
 abbrev mutual

@@ -11,7 +11,7 @@ ghost use Rattle.wt_original.specs.Kept.{shown};
 ghost use Rattle.wt_tree.specs.EditShapes.{edit_shape};
 ghost use Rattle.wt_original.specs.Gathered.{kept_view};
 ghost use Rattle.wt_original.specs.Page.{TellsSame};
-ghost use Rattle.wt_escape.specs.Spelling.{place_of, kept_thing, new_thing, as_it_stood, unless_kept, is_style, stretch, opening_place, closing_place, toggle, or_nowiki, style, spelled_within, break_tag, href_of, page_link, external_link, tag_pair, signs_of, signs_of_all};
+ghost use Rattle.wt_escape.specs.Spelling.{place_of, kept_thing, new_thing, as_it_stood, unless_kept, is_style, stretch, opening_place, closing_place, toggle, or_nowiki, style, spelled_within, break_tag, href_of, page_link, external_link, tag_pair, anew_by, signs_of, signs_of_all};
 ghost use Rattle.wt_original.specs.PageViews.{page_view};
 ghost use Rattle.wt_escape.specs.Units.{Leaves};
 ghost use Rattle.wt_guards.specs.Views.{all_signs};
@@ -318,24 +318,12 @@ fn push_signs<'t>(
             push_style(alloc, out, page, place, "''", kept, node)?;
             Ok(())
         }
-        InlineForm::Shown => {
-            push_shown_unless(alloc, out, page, kept, node)?;
-            Ok(())
-        }
-        InlineForm::PageLink => {
-            push_page_link(alloc, out, page, place, kept, node)?;
-            Ok(())
-        }
-        InlineForm::ExternalLink => {
-            push_external_link(alloc, out, page, place, kept, node)?;
-            Ok(())
-        }
-        InlineForm::Tag => {
-            push_tag(alloc, out, page, place, kept, node)?;
-            Ok(())
-        }
-        InlineForm::Break => {
-            push_break(alloc, out, page, kept, node)?;
+        InlineForm::Shown
+        | InlineForm::PageLink
+        | InlineForm::ExternalLink
+        | InlineForm::Tag
+        | InlineForm::Break => {
+            push_unless_unchanged(alloc, out, page, place, kept, node)?;
             Ok(())
         }
         InlineForm::AsItStood => {
@@ -364,43 +352,76 @@ fn push_style<'t>(
     Ok(())
 }
 
-fn push_shown_unless(
+/// A node as it was, if it is unchanged; else it is written anew.
+#[cycle(signs)]
+fn push_unless_unchanged(
     alloc: Global,
     out: &mut Vec<Unit<'_>>,
     page: &Page<'_, '_>,
+    place: Place,
     kept: Option<Kept<'_, '_>>,
     node: &Node<'_>,
 ) -> Result<(), NoMemory>
     ensures { (same : Tree → Tree → Bool) → TellsSame same
         → OnOk result (all_signs out.new.items ≡ all_signs out.old.items ++ unless_kept (page_view same page.now) (option_map kept_view kept.entry)
-        (view node.now) (letters (shown (view node.now)))) }
+        (view node.now) (anew_by (edit_shape (out-Node node.now).kind).inline (page_view same page.now) place (option_map kept_view kept.entry)
+        (label_of (out-Node node.now)) (views (out-Node node.now).children)
+        (signs_of_all (page_view same page.now) place (views (out-Node node.now).children)))) }
 {
     let done = push_if_unchanged(alloc, out, page, kept, node)?;
     if done {
         return Ok(());
     }
-    push_shown(alloc, out, node)?;
+    push_anew(alloc, out, page, place, kept, node)?;
     Ok(())
 }
 
-fn push_break(
+/// What is written of a node that is new or changed.
+#[cycle(signs)]
+fn push_anew(
     alloc: Global,
     out: &mut Vec<Unit<'_>>,
     page: &Page<'_, '_>,
+    place: Place,
     kept: Option<Kept<'_, '_>>,
     node: &Node<'_>,
 ) -> Result<(), NoMemory>
     ensures { (same : Tree → Tree → Bool) → TellsSame same
-        → OnOk result (all_signs out.new.items ≡ all_signs out.old.items ++ unless_kept (page_view same page.now) (option_map kept_view kept.entry)
-        (view node.now) (new_thing role.Node break_tag (option_map kept_view kept.entry))) }
+        → OnOk result (all_signs out.new.items ≡ all_signs out.old.items ++ anew_by (edit_shape (out-Node node.now).kind).inline (page_view same page.now)
+        place (option_map kept_view kept.entry) (label_of (out-Node node.now)) (views (out-Node node.now).children)
+        (signs_of_all (page_view same page.now) place (views (out-Node node.now).children))) }
 {
-    let done = push_if_unchanged(alloc, out, page, kept, node)?;
-    if done {
-        return Ok(());
+    match node.kind.edit_shape().inline {
+        InlineForm::Shown => {
+            push_shown(alloc, out, node)?;
+            Ok(())
+        }
+        InlineForm::PageLink => {
+            let source = page_link_source(alloc, page, place, node)?;
+            push_new(out, Role::Link, source, kept)?;
+            Ok(())
+        }
+        InlineForm::ExternalLink => {
+            let source = external_source(alloc, page, place, node)?;
+            push_new(out, Role::External, source, kept)?;
+            Ok(())
+        }
+        InlineForm::Tag => {
+            let source = tag_source(alloc, page, place, kept, node)?;
+            push_new(out, Role::Node, source, kept)?;
+            Ok(())
+        }
+        InlineForm::Break => {
+            let source = break_source(alloc)?;
+            push_new(out, Role::Node, source, kept)?;
+            Ok(())
+        }
+        InlineForm::Nothing
+        | InlineForm::Characters
+        | InlineForm::Bold
+        | InlineForm::Italic
+        | InlineForm::AsItStood => Ok(()),
     }
-    let source = break_source(alloc)?;
-    push_new(out, Role::Node, source, kept)?;
-    Ok(())
 }
 
 #[tactic(auto, unfolding(crate::specs::Spelling::break_tag))]
@@ -426,30 +447,6 @@ fn page_link_source(
 }
 
 #[cycle(signs)]
-fn push_page_link(
-    alloc: Global,
-    out: &mut Vec<Unit<'_>>,
-    page: &Page<'_, '_>,
-    place: Place,
-    kept: Option<Kept<'_, '_>>,
-    node: &Node<'_>,
-) -> Result<(), NoMemory>
-    ensures { (same : Tree → Tree → Bool) → TellsSame same
-        → OnOk result (all_signs out.new.items ≡ all_signs out.old.items ++ unless_kept (page_view same page.now) (option_map kept_view kept.entry)
-        (view node.now) (new_thing role.Link (page_link (read_link (href_of (label_of (out-Node node.now)))) (views (out-Node node.now).children)
-        (spelled_within (page_view same page.now) place (signs_of_all (page_view same page.now) place (views (out-Node node.now).children))))
-        (option_map kept_view kept.entry))) }
-{
-    let done = push_if_unchanged(alloc, out, page, kept, node)?;
-    if done {
-        return Ok(());
-    }
-    let source = page_link_source(alloc, page, place, node)?;
-    push_new(out, Role::Link, source, kept)?;
-    Ok(())
-}
-
-#[cycle(signs)]
 fn external_source(
     alloc: Global,
     page: &Page<'_, '_>,
@@ -462,31 +459,6 @@ fn external_source(
 {
     let inside = inside_of(alloc, page, place, node.children.as_slice())?;
     external_link(alloc, node, inside.as_str())
-}
-
-#[cycle(signs)]
-fn push_external_link(
-    alloc: Global,
-    out: &mut Vec<Unit<'_>>,
-    page: &Page<'_, '_>,
-    place: Place,
-    kept: Option<Kept<'_, '_>>,
-    node: &Node<'_>,
-) -> Result<(), NoMemory>
-    ensures { (same : Tree → Tree → Bool) → TellsSame same
-        → OnOk result (all_signs out.new.items ≡ all_signs out.old.items ++ unless_kept (page_view same page.now) (option_map kept_view kept.entry)
-        (view node.now) (new_thing role.External
-        (external_link (href_of (label_of (out-Node node.now)))
-        (spelled_within (page_view same page.now) place (signs_of_all (page_view same page.now) place (views (out-Node node.now).children))))
-        (option_map kept_view kept.entry))) }
-{
-    let done = push_if_unchanged(alloc, out, page, kept, node)?;
-    if done {
-        return Ok(());
-    }
-    let source = external_source(alloc, page, place, node)?;
-    push_new(out, Role::External, source, kept)?;
-    Ok(())
 }
 
 #[cycle(signs)]
@@ -503,30 +475,6 @@ fn tag_source(
 {
     let inside = inside_of(alloc, page, place, node.children.as_slice())?;
     tag_pair(alloc, kept, inside.as_str())
-}
-
-#[cycle(signs)]
-fn push_tag(
-    alloc: Global,
-    out: &mut Vec<Unit<'_>>,
-    page: &Page<'_, '_>,
-    place: Place,
-    kept: Option<Kept<'_, '_>>,
-    node: &Node<'_>,
-) -> Result<(), NoMemory>
-    ensures { (same : Tree → Tree → Bool) → TellsSame same
-        → OnOk result (all_signs out.new.items ≡ all_signs out.old.items ++ unless_kept (page_view same page.now) (option_map kept_view kept.entry)
-        (view node.now) (new_thing role.Node (tag_pair (option_map kept_view kept.entry)
-        (spelled_within (page_view same page.now) place (signs_of_all (page_view same page.now) place (views (out-Node node.now).children))))
-        (option_map kept_view kept.entry))) }
-{
-    let done = push_if_unchanged(alloc, out, page, kept, node)?;
-    if done {
-        return Ok(());
-    }
-    let source = tag_source(alloc, page, place, kept, node)?;
-    push_new(out, Role::Node, source, kept)?;
-    Ok(())
 }
 
 /// The units of the nodes.

@@ -7,6 +7,9 @@ use Rattle.std.proofs.Math.Seq.{take-length}
 use Rattle.wt_datamw.proofs.Runs.{both, plain_run}
 use Rattle.wt_markup.specs.Escapes.{escape, escape_double, escape_single, is_control}
 use Rattle.wt_html_out.specs.Runs.{is_plain}
+use Rattle.wt_html_out.specs.Escaping.{escape_in, quote_of}
+use Rattle.wt_html_out.specs.declared.bytes.Escaping.{Escaping}
+use Rattle.wt_html_out.specs.declared.bytes.Escaping.TheVariants as for
 
 false_of : (t : Bool) → not t ≡ true → t ≡ false
 false_of true e = cc
@@ -43,14 +46,22 @@ plain_single : (b : ℕ) → is_plain 39 b ≡ true → escape_single b ≡ b �
 unfolding escape_single
 plain_single b e = if_not (b == 39) _ _ (plain_quote 39 b e) ∙ plain_text 39 b e
 
-pub run_text : (bs : List ℕ) → list_all (is_plain 38) bs ≡ true → flat_map escape bs ≡ bs
+run_text : (bs : List ℕ) → list_all (is_plain 38) bs ≡ true → flat_map escape bs ≡ bs
 run_text bs e = plain_run escape (is_plain 38) (plain_text 38) bs e
 
-pub run_double : (bs : List ℕ) → list_all (is_plain 34) bs ≡ true → flat_map escape_double bs ≡ bs
+run_double : (bs : List ℕ) → list_all (is_plain 34) bs ≡ true → flat_map escape_double bs ≡ bs
 run_double bs e = plain_run escape_double (is_plain 34) plain_double bs e
 
-pub run_single : (bs : List ℕ) → list_all (is_plain 39) bs ≡ true → flat_map escape_single bs ≡ bs
+run_single : (bs : List ℕ) → list_all (is_plain 39) bs ≡ true → flat_map escape_single bs ≡ bs
 run_single bs e = plain_run escape_single (is_plain 39) plain_single bs e
+
+run_of : (e : Escaping) (bs : List ℕ) → list_all (is_plain (quote_of e)) bs ≡ true → flat_map (escape_in e) bs ≡ bs
+run_of for.Text = run_text
+run_of for.DoubleQuoted = run_double
+run_of for.SingleQuoted = run_single
+
+pub run_in : (e : Escaping) (quote : ℕ) (bs : List ℕ) → quote ≡ quote_of e → list_all (is_plain quote) bs ≡ true → flat_map (escape_in e) bs ≡ bs
+run_in e quote bs is plain = run_of e bs (ap (λ q. list_all (is_plain q) bs) (sym is) ∙ plain)
 
 -- what is plain all through is as it is when it is escaped
 pub kept_behind : (out : List ℕ) (at : ℕ) (text : List ℕ) (n : ℕ) → text ≡ drop at out → n ≡ length text → list_all (is_plain 39) (take n text) ≡ true

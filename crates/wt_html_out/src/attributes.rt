@@ -7,7 +7,7 @@ ghost use Rattle.wt_tree.specs.Kinds.{one_if_any, fixed_of, fixed_attributes};
 ghost use Rattle.wt_tree.specs.View.{texts_of, attrs_of, label_of};
 ghost use Rattle.wt_tree.specs.declared.node.Node.{out-Node};
 
-use crate::bytes::{plain_len, push_escaped_double, push_escaped_single};
+use crate::bytes::{Escaping, plain_len, push_escaped};
 use std::alloc::Global;
 use wt_datamw::{push_mw_text, push_sync_text};
 use wt_devices::{push, push_number};
@@ -21,7 +21,7 @@ pub fn push_attribute(out: &mut Vec<u8>, name: AttrName, value: &[u8]) -> Result
     push(out, b" ")?;
     push(out, name.text())?;
     push(out, b"=\"")?;
-    push_escaped_double(out, value)?;
+    push_escaped(out, Escaping::DoubleQuoted, value)?;
     push(out, b"\"")?;
     Ok(())
 }
@@ -77,7 +77,7 @@ fn escape_behind(alloc: Global, out: &mut Vec<u8>, at: usize) -> Result<(), NoMe
     }
     let text = Vec::from_slice(alloc, written)?;
     out.truncate(at);
-    push_escaped_single(out, text.as_slice())?;
+    push_escaped(out, Escaping::SingleQuoted, text.as_slice())?;
     Ok(())
 }
 

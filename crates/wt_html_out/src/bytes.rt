@@ -1,10 +1,30 @@
 ghost use Rattle.std.specs.Prelude.{◌≡◌, ◌++◌, ◌<◌, ◌≤◌, true, take, length, OnOk, IfOk, codes, decimal};
 ghost use Rattle.std.specs.List.{list_all};
 ghost use Rattle.wt_html_out.specs.Runs.{is_plain};
-ghost use Rattle.wt_markup.specs.Escapes.{escape, escape_double, escape_single, escaped, escaped_double, escaped_single, is_control};
+ghost use Rattle.wt_html_out.specs.Escaping.{escape_in, escaped_in, quote_of};
+ghost use Rattle.wt_markup.specs.Escapes.{escape, escape_double, escape_single, is_control};
 
 use wt_devices::{push, push_number};
 use wt_span::{NoMemory, front_of, rest_of};
+
+/// What characters are escaped for: a text, or an attribute's value between these quotation marks.
+#[derive(Clone, Copy)]
+pub enum Escaping {
+    Text,
+    DoubleQuoted,
+    SingleQuoted,
+}
+
+/// The quotation mark that is escaped. A text has none: there it is `&`, which is escaped anyway.
+fn quote_of(escaping: Escaping) -> u8
+    ensures { result ≡ quote_of escaping }
+{
+    match escaping {
+        Escaping::Text => b'&',
+        Escaping::DoubleQuoted => b'"',
+        Escaping::SingleQuoted => b'\'',
+    }
+}
 
 fn is_control(byte: u8) -> bool
     ensures { result ≡ is_control byte }
@@ -23,7 +43,7 @@ fn push_control(out: &mut Vec<u8>, byte: u8) -> Result<(), NoMemory>
 }
 
 #[tactic(auto, unfolding(wt_markup::specs::Escapes::escape))]
-pub fn push_byte(out: &mut Vec<u8>, byte: u8) -> Result<(), NoMemory>
+fn push_byte(out: &mut Vec<u8>, byte: u8) -> Result<(), NoMemory>
     ensures { OnOk result (out.new.items ≡ out.old.items ++ escape byte) }
 {
     match byte {
@@ -84,86 +104,40 @@ fn is_plain(quote: u8, byte: u8) -> bool
     byte != b'&' && (byte != b'<' && (byte != b'>' && (!is_control(byte) && byte != quote)))
 }
 
+fn push_byte_in(out: &mut Vec<u8>, escaping: Escaping, byte: u8) -> Result<(), NoMemory>
+    ensures { OnOk result (out.new.items ≡ out.old.items ++ escape_in escaping byte) }
+{
+    match escaping {
+        Escaping::Text => push_byte(out, byte),
+        Escaping::DoubleQuoted => push_byte_double(out, byte),
+        Escaping::SingleQuoted => push_byte_single(out, byte),
+    }
+}
+
 /// Some of a text: bytes that are written as they are, or one byte. It gives how many it took.
-fn push_some(out: &mut Vec<u8>, bytes: &[u8]) -> Result<usize, NoMemory>
+fn push_some(out: &mut Vec<u8>, escaping: Escaping, bytes: &[u8]) -> Result<usize, NoMemory>
     requires { 0 < length bytes.now }
-    ensures wrote { IfOk result (λ n. out.new.items ≡ out.old.items ++ escaped (take n bytes.now)) }
+    ensures wrote { IfOk result (λ n. out.new.items ≡ out.old.items ++ escaped_in escaping (take n bytes.now)) }
     ensures some { IfOk result (λ n. 0 < n) }
     ensures within { IfOk result (λ n. n ≤ length bytes.now) }
 {
-    let run = plain_len(b'&', bytes);
+    let run = plain_len(quote_of(escaping), bytes);
     if run > 0 {
         push(out, front_of(bytes, run))?;
         Ok(run)
     } else {
-        push_byte(out, bytes[0])?;
+        push_byte_in(out, escaping, bytes[0])?;
         Ok(1)
     }
 }
 
-/// Some of a value that is in `"`.
-fn push_some_double(out: &mut Vec<u8>, bytes: &[u8]) -> Result<usize, NoMemory>
-    requires { 0 < length bytes.now }
-    ensures wrote { IfOk result (λ n. out.new.items ≡ out.old.items ++ escaped_double (take n bytes.now)) }
-    ensures some { IfOk result (λ n. 0 < n) }
-    ensures within { IfOk result (λ n. n ≤ length bytes.now) }
-{
-    let run = plain_len(b'"', bytes);
-    if run > 0 {
-        push(out, front_of(bytes, run))?;
-        Ok(run)
-    } else {
-        push_byte_double(out, bytes[0])?;
-        Ok(1)
-    }
-}
-
-/// Some of a value that is in `'`.
-fn push_some_single(out: &mut Vec<u8>, bytes: &[u8]) -> Result<usize, NoMemory>
-    requires { 0 < length bytes.now }
-    ensures wrote { IfOk result (λ n. out.new.items ≡ out.old.items ++ escaped_single (take n bytes.now)) }
-    ensures some { IfOk result (λ n. 0 < n) }
-    ensures within { IfOk result (λ n. n ≤ length bytes.now) }
-{
-    let run = plain_len(b'\'', bytes);
-    if run > 0 {
-        push(out, front_of(bytes, run))?;
-        Ok(run)
-    } else {
-        push_byte_single(out, bytes[0])?;
-        Ok(1)
-    }
-}
-
-/// A text.
-pub fn push_escaped(out: &mut Vec<u8>, bytes: &[u8]) -> Result<(), NoMemory>
-    ensures { OnOk result (out.new.items ≡ out.old.items ++ escaped bytes.now) }
+/// A text, escaped.
+pub fn push_escaped(out: &mut Vec<u8>, escaping: Escaping, bytes: &[u8]) -> Result<(), NoMemory>
+    ensures { OnOk result (out.new.items ≡ out.old.items ++ escaped_in escaping bytes.now) }
 {
     let mut at = 0;
     while at < bytes.len() {
-        at += push_some(out, rest_of(bytes, at))?;
-    }
-    Ok(())
-}
-
-/// A value that is in `"`.
-pub fn push_escaped_double(out: &mut Vec<u8>, bytes: &[u8]) -> Result<(), NoMemory>
-    ensures { OnOk result (out.new.items ≡ out.old.items ++ escaped_double bytes.now) }
-{
-    let mut at = 0;
-    while at < bytes.len() {
-        at += push_some_double(out, rest_of(bytes, at))?;
-    }
-    Ok(())
-}
-
-/// A value that is in `'`.
-pub fn push_escaped_single(out: &mut Vec<u8>, bytes: &[u8]) -> Result<(), NoMemory>
-    ensures { OnOk result (out.new.items ≡ out.old.items ++ escaped_single bytes.now) }
-{
-    let mut at = 0;
-    while at < bytes.len() {
-        at += push_some_single(out, rest_of(bytes, at))?;
+        at += push_some(out, escaping, rest_of(bytes, at))?;
     }
     Ok(())
 }

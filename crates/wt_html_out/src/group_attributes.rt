@@ -8,7 +8,7 @@ ghost use Rattle.wt_tree.specs.View.{attrs_of, label_of};
 ghost use Rattle.wt_tree.specs.declared.node.Node.{out-Node};
 
 use crate::attributes::{push_attribute, push_carried, push_fixed, push_own};
-use crate::bytes::push_escaped_double;
+use crate::bytes::{Escaping, push_escaped};
 use std::alloc::Global;
 use wt_devices::{push, push_number};
 use wt_span::NoMemory;
@@ -29,9 +29,9 @@ fn push_about(out: &mut Vec<u8>, number: u32) -> Result<(), NoMemory>
 fn push_values(out: &mut Vec<u8>, first: &[u8], second: &[u8]) -> Result<(), NoMemory>
     ensures { OnOk result (out.new.items ≡ out.old.items ++ escaped_double (first.now ++ (codes " " ++ second.now))) }
 {
-    push_escaped_double(out, first)?;
+    push_escaped(out, Escaping::DoubleQuoted, first)?;
     push(out, b" ")?;
-    push_escaped_double(out, second)?;
+    push_escaped(out, Escaping::DoubleQuoted, second)?;
     Ok(())
 }
 

@@ -9,7 +9,7 @@ ghost use Rattle.wt_tree.specs.Kinds.{fixed_attributes};
 ghost use Rattle.wt_tree.specs.View.{attrs_of, label_of, view, views};
 ghost use Rattle.wt_tree.specs.declared.node.Node.{out-Node};
 
-use crate::bytes::push_escaped;
+use crate::bytes::{Escaping, push_escaped};
 use crate::group_attributes::push_group_attributes;
 use crate::names::push_name;
 use crate::shown::push_shown_all;
@@ -130,7 +130,7 @@ fn push_text(
         [] => Ok(progress),
         [_, ..] => {
             push_text_start(alloc, out, progress, number, group)?;
-            push_escaped(out, text)?;
+            push_escaped(out, Escaping::Text, text)?;
             Ok(Progress::InText)
         }
     }

@@ -4,7 +4,7 @@ ghost use Rattle.wt_markup.specs.Escapes.{escaped};
 ghost use Rattle.wt_markup.specs.Html.{html, html_of_all, groups, groups_of_all, frame_start, frame_end, html_text};
 ghost use Rattle.wt_tree.specs.View.{texts_of, view, views};
 
-use crate::bytes::push_escaped;
+use crate::bytes::{Escaping, push_escaped};
 use crate::groups::push_group;
 use crate::refusal::LengthRefusal;
 use crate::tags::{push_end, push_section_start, push_start, push_void};
@@ -17,7 +17,7 @@ fn push_source(out: &mut Vec<u8>, texts: &[Text<'_>]) -> Result<(), NoMemory>
     ensures { OnOk result (out.new.items ≡ out.old.items ++ escaped (texts_of texts.now)) }
 {
     for text in texts {
-        push_escaped(out, text.as_str().as_bytes())?;
+        push_escaped(out, Escaping::Text, text.as_str().as_bytes())?;
     }
     Ok(())
 }
@@ -68,7 +68,7 @@ fn push_html(
         Writing::AsVoid => push_void(alloc, out, node)?,
         Writing::RoundCharacter => {
             push_start(alloc, out, node)?;
-            push_escaped(out, node.shown().as_bytes())?;
+            push_escaped(out, Escaping::Text, node.shown().as_bytes())?;
             push_end(out, node)?;
         }
         Writing::RoundChildren => {

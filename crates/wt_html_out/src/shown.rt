@@ -8,7 +8,7 @@ ghost use Rattle.wt_tree.specs.View.{attrs_of, view, views};
 ghost use Rattle.wt_tree.specs.declared.node.Node.{out-Node};
 
 use crate::attributes::{push_fixed, push_own};
-use crate::bytes::push_escaped;
+use crate::bytes::{Escaping, push_escaped};
 use crate::names::push_name;
 use crate::tags::push_end_of;
 use wt_devices::push;
@@ -51,7 +51,7 @@ fn push_shown(out: &mut Vec<u8>, node: &Node<'_>) -> Result<(), NoMemory>
     ensures { OnOk result (out.new.items ≡ out.old.items ++ shown_html (view node.now)) }
 {
     match node.kind.showing() {
-        Showing::Characters => push_escaped(out, node.shown().as_bytes()),
+        Showing::Characters => push_escaped(out, Escaping::Text, node.shown().as_bytes()),
         Showing::Inside => push_shown_all(out, node.children.as_slice()),
         Showing::Nothing => Ok(()),
         Showing::Element => push_element(out, node),

@@ -3,15 +3,18 @@ use Rattle.std.specs.Prelude.{option_map}
 use Rattle.std.proofs.lemmas.Grind.{common_steps}
 use Rattle.wt_tree.specs.declared.node.Node.{out-Node}
 use Rattle.wt_tree.specs.View.{label_of, view, views}
-use Rattle.wt_names.specs.Written.{read_link}
 use Rattle.wt_tree.specs.declared.edit_shape.InlineForm.TheVariants as inline
 use Rattle.wt_tree.specs.declared.edit_shape.EditShape.{EditShape}
+use Rattle.wt_tree.specs.EditShapes.{edit_shape}
 use Rattle.wt_guards.specs.declared.role.Role.TheVariants as role
 use Rattle.wt_original.specs.Gathered.{kept_view}
-use Rattle.wt_escape.specs.Spelling.{unless_kept, new_thing, page_link, external_link, tag_pair, href_of, spelled_within, signs_of_all}
+use Rattle.wt_escape.specs.Spelling.{unless_kept, new_thing, anew_by, signs_of_all}
 use Rattle.wt_original.specs.PageViews.{page_view}
 use Rattle.wt_guards.specs.Views.{all_signs}
-use Rattle.wt_escape.proofs.Signing.{signs_pushed, unless_seen, signs_views, leaves_done, leaves_then}
+use Rattle.wt_guards.specs.Content.{letters}
+use Rattle.wt_original.specs.Kept.{shown}
+use Rattle.wt_tree.proofs.Views.{view_out}
+use Rattle.wt_escape.proofs.Signing.{signs_pushed, anew_pushed, none_anew, kept_or_anew, same_form, same_quiet, unless_seen, signs_views, leaves_done, leaves_then}
 use Rattle.wt_escape.proofs.units.+signs.Goals as goal
 
 pub push_signs-returns-in-Nothing : goal.push_signs-returns-in-Nothing
@@ -22,105 +25,127 @@ push_signs-returns-in-Nothing t c = λ same tells.
     signs_pushed n inline.Nothing p c.args.place k (all_signs c.args.out.now.items) (all_signs c.args.out.now.items) []
     (ap (λ (r : EditShape). r.inline) (sym c.edit_shape.ensures) ∙ c.in-Nothing.is) c.find-kept.ensures refl (sym (append-nil (all_signs c.args.out.now.items)))
 
-pub push_signs-returns-in_ok-push_page_link-in-PageLink : goal.push_signs-returns-in_ok-push_page_link-in-PageLink
-push_signs-returns-in_ok-push_page_link-in-PageLink t c = λ same tells.
+pub push_signs-returns-in_ok-push_unless_unchanged-in-Shown : goal.push_signs-returns-in_ok-push_unless_unchanged-in-Shown
+push_signs-returns-in_ok-push_unless_unchanged-in-Shown t c = λ same tells.
     let n = c.args.node.now in
     let p = page_view same c.args.page.now in
     let pl = c.args.place in
     let k = option_map kept_view c.find-kept.result in
+    let l = label_of (out-Node n) in
     let ts = views (out-Node n).children in
-    signs_pushed n inline.PageLink p pl k (all_signs c.args.out.now.items) (all_signs c.push_page_link.new.out.items)
-    (unless_kept p k (view n) (new_thing role.Link
-    (page_link (read_link (href_of (label_of (out-Node n)))) ts (spelled_within p pl (signs_of_all p pl ts))) k))
-    (ap (λ (r : EditShape). r.inline) (sym c.edit_shape.ensures) ∙ c.in-PageLink.is) c.find-kept.ensures (sym (unless_seen n p k _))
-    (c.in_ok-push_page_link-in-PageLink.ensures same tells)
+    let v = (edit_shape (out-Node n).kind).inline in
+    let inside = signs_of_all p pl ts in
+    let row = ap (λ (r : EditShape). r.inline) (sym c.edit_shape.ensures) in
+    signs_pushed n v p pl k (all_signs c.args.out.now.items) (all_signs c.push_unless_unchanged.new.out.items)
+    (unless_kept p k (view n) (anew_by v p pl k l ts inside)) refl c.find-kept.ensures
+    (kept_or_anew v p pl k l ts inside (same_form row c.in-Shown.is) ∙ sym (unless_seen n p k _))
+    (c.in_ok-push_unless_unchanged-in-Shown.ensures same tells)
 
-pub push_signs-returns-in_ok-push_external_link-in-ExternalLink : goal.push_signs-returns-in_ok-push_external_link-in-ExternalLink
-push_signs-returns-in_ok-push_external_link-in-ExternalLink t c = λ same tells.
+pub push_anew-returns-in_ok-push_new-in-PageLink : goal.push_anew-returns-in_ok-push_new-in-PageLink
+push_anew-returns-in_ok-push_new-in-PageLink t c = λ same tells.
     let n = c.args.node.now in
     let p = page_view same c.args.page.now in
     let pl = c.args.place in
-    let k = option_map kept_view c.find-kept.result in
+    let k = option_map kept_view c.args.kept in
+    let l = label_of (out-Node n) in
     let ts = views (out-Node n).children in
-    signs_pushed n inline.ExternalLink p pl k (all_signs c.args.out.now.items) (all_signs c.push_external_link.new.out.items)
-    (unless_kept p k (view n) (new_thing role.External (external_link (href_of (label_of (out-Node n))) (spelled_within p pl (signs_of_all p pl ts))) k))
-    (ap (λ (r : EditShape). r.inline) (sym c.edit_shape.ensures) ∙ c.in-ExternalLink.is) c.find-kept.ensures (sym (unless_seen n p k _))
-    (c.in_ok-push_external_link-in-ExternalLink.ensures same tells)
+    let v = (edit_shape (out-Node n).kind).inline in
+    let inside = signs_of_all p pl ts in
+    let old = all_signs c.args.out.now.items in
+    anew_pushed v inline.PageLink p pl k l ts inside old (all_signs c.push_new.new.out.items)
+    (ap (λ (r : EditShape). r.inline) (sym c.edit_shape.ensures) ∙ c.in-PageLink.is)
+    (c.in_ok-push_new-in-PageLink.ensures ∙ ap (λ s. old ++ new_thing role.Link s k) (c.in_ok-source-in-PageLink.ensures same tells))
 
-pub push_signs-returns-in_ok-push_tag-in-Tag : goal.push_signs-returns-in_ok-push_tag-in-Tag
-push_signs-returns-in_ok-push_tag-in-Tag t c = λ same tells.
+pub push_anew-returns-in_ok-push_new-in-ExternalLink : goal.push_anew-returns-in_ok-push_new-in-ExternalLink
+push_anew-returns-in_ok-push_new-in-ExternalLink t c = λ same tells.
     let n = c.args.node.now in
     let p = page_view same c.args.page.now in
     let pl = c.args.place in
-    let k = option_map kept_view c.find-kept.result in
+    let k = option_map kept_view c.args.kept in
+    let l = label_of (out-Node n) in
     let ts = views (out-Node n).children in
-    signs_pushed n inline.Tag p pl k (all_signs c.args.out.now.items) (all_signs c.push_tag.new.out.items)
-    (unless_kept p k (view n) (new_thing role.Node (tag_pair k (spelled_within p pl (signs_of_all p pl ts))) k))
-    (ap (λ (r : EditShape). r.inline) (sym c.edit_shape.ensures) ∙ c.in-Tag.is) c.find-kept.ensures (sym (unless_seen n p k _))
-    (c.in_ok-push_tag-in-Tag.ensures same tells)
+    let v = (edit_shape (out-Node n).kind).inline in
+    let inside = signs_of_all p pl ts in
+    let old = all_signs c.args.out.now.items in
+    anew_pushed v inline.ExternalLink p pl k l ts inside old (all_signs c.push_new-in-ExternalLink.new.out.items)
+    (ap (λ (r : EditShape). r.inline) (sym c.edit_shape.ensures) ∙ c.in-ExternalLink.is)
+    (c.in_ok-push_new-in-ExternalLink.ensures ∙ ap (λ s. old ++ new_thing role.External s k) (c.in_ok-source-in-ExternalLink.ensures same tells))
 
-pub push_page_link-returns-then-done : goal.push_page_link-returns-then-done
-push_page_link-returns-then-done t c = λ same tells.
-    leaves_done c.in_ok-done.done (all_signs c.args.out.now.items) (all_signs c.push_if_unchanged.new.out.items)
-    (unless_kept (page_view same c.args.page.now) (option_map kept_view c.args.kept) (view c.args.node.now))
-    (new_thing role.Link (page_link (read_link (href_of (label_of (out-Node c.args.node.now)))) (views (out-Node c.args.node.now).children)
-    (spelled_within (page_view same c.args.page.now) c.args.place
-    (signs_of_all (page_view same c.args.page.now) c.args.place (views (out-Node c.args.node.now).children)))) (option_map kept_view c.args.kept))
+pub push_anew-returns-in_ok-push_new-in-Tag : goal.push_anew-returns-in_ok-push_new-in-Tag
+push_anew-returns-in_ok-push_new-in-Tag t c = λ same tells.
+    let n = c.args.node.now in
+    let p = page_view same c.args.page.now in
+    let pl = c.args.place in
+    let k = option_map kept_view c.args.kept in
+    let l = label_of (out-Node n) in
+    let ts = views (out-Node n).children in
+    let v = (edit_shape (out-Node n).kind).inline in
+    let inside = signs_of_all p pl ts in
+    let old = all_signs c.args.out.now.items in
+    anew_pushed v inline.Tag p pl k l ts inside old (all_signs c.push_new-in-Tag.new.out.items)
+    (ap (λ (r : EditShape). r.inline) (sym c.edit_shape.ensures) ∙ c.in-Tag.is)
+    (c.in_ok-push_new-in-Tag.ensures ∙ ap (λ s. old ++ new_thing role.Node s k) (c.in_ok-source-in-Tag.ensures same tells))
+
+pub push_anew-returns-in_ok-push_new-in-Break : goal.push_anew-returns-in_ok-push_new-in-Break
+push_anew-returns-in_ok-push_new-in-Break t c = λ same tells.
+    let n = c.args.node.now in
+    let p = page_view same c.args.page.now in
+    let pl = c.args.place in
+    let k = option_map kept_view c.args.kept in
+    let l = label_of (out-Node n) in
+    let ts = views (out-Node n).children in
+    let v = (edit_shape (out-Node n).kind).inline in
+    let inside = signs_of_all p pl ts in
+    let old = all_signs c.args.out.now.items in
+    anew_pushed v inline.Break p pl k l ts inside old (all_signs c.push_new-in-Break.new.out.items)
+    (ap (λ (r : EditShape). r.inline) (sym c.edit_shape.ensures) ∙ c.in-Break.is)
+    (c.in_ok-push_new-in-Break.ensures ∙ ap (λ s. old ++ new_thing role.Node s k) c.in_ok-source-in-Break.ensures)
+
+pub push_anew-returns-in_ok-push_shown-in-Shown : goal.push_anew-returns-in_ok-push_shown-in-Shown
+push_anew-returns-in_ok-push_shown-in-Shown t c = λ same tells.
+    let n = c.args.node.now in
+    let p = page_view same c.args.page.now in
+    let pl = c.args.place in
+    let k = option_map kept_view c.args.kept in
+    let l = label_of (out-Node n) in
+    let ts = views (out-Node n).children in
+    let v = (edit_shape (out-Node n).kind).inline in
+    let old = all_signs c.args.out.now.items in
+    anew_pushed v inline.Shown p pl k l ts (signs_of_all p pl ts) old (all_signs c.push_shown.new.out.items)
+    (ap (λ (r : EditShape). r.inline) (sym c.edit_shape.ensures) ∙ c.in-Shown.is)
+    (c.in_ok-push_shown-in-Shown.ensures ∙ ap (λ u. old ++ letters (shown u)) (view_out n))
+
+pub push_anew-returns-in-Nothing : goal.push_anew-returns-in-Nothing
+push_anew-returns-in-Nothing t c = λ same tells.
+    let n = c.args.node.now in
+    let p = page_view same c.args.page.now in
+    let pl = c.args.place in
+    let k = option_map kept_view c.args.kept in
+    let l = label_of (out-Node n) in
+    let ts = views (out-Node n).children in
+    let v = (edit_shape (out-Node n).kind).inline in
+    none_anew v p pl k l ts (signs_of_all p pl ts) (all_signs c.args.out.now.items)
+    (same_quiet (ap (λ (r : EditShape). r.inline) (sym c.edit_shape.ensures)) c.in-Nothing.is)
+
+pub push_unless_unchanged-returns-then-done : goal.push_unless_unchanged-returns-then-done
+push_unless_unchanged-returns-then-done t c = λ same tells.
+    let n = c.args.node.now in
+    let p = page_view same c.args.page.now in
+    let k = option_map kept_view c.args.kept in
+    let ts = views (out-Node n).children in
+    leaves_done c.in_ok-done.done (all_signs c.args.out.now.items) (all_signs c.push_if_unchanged.new.out.items) (unless_kept p k (view n))
+    (anew_by (edit_shape (out-Node n).kind).inline p c.args.place k (label_of (out-Node n)) ts (signs_of_all p c.args.place ts))
     c.if-done.true (c.in_ok-done.ensures same tells)
 
-pub push_page_link-returns : goal.push_page_link-returns
-push_page_link-returns t c = λ same tells.
-    let mid = all_signs c.push_if_unchanged.new.out.items in
+pub push_unless_unchanged-returns : goal.push_unless_unchanged-returns
+push_unless_unchanged-returns t c = λ same tells.
+    let n = c.args.node.now in
+    let p = page_view same c.args.page.now in
     let k = option_map kept_view c.args.kept in
-    leaves_then c.in_ok-done.done (all_signs c.args.out.now.items) mid (all_signs c.push_new.new.out.items)
-    (unless_kept (page_view same c.args.page.now) k (view c.args.node.now))
-    (new_thing role.Link (page_link (read_link (href_of (label_of (out-Node c.args.node.now)))) (views (out-Node c.args.node.now).children)
-    (spelled_within (page_view same c.args.page.now) c.args.place
-    (signs_of_all (page_view same c.args.page.now) c.args.place (views (out-Node c.args.node.now).children)))) k) c.if-done.false
-    (c.in_ok-done.ensures same tells)
-    (c.in_ok-push_new.ensures ∙ ap (λ s. mid ++ new_thing role.Link s k) (c.in_ok-source.ensures same tells))
-
-pub push_external_link-returns-then-done : goal.push_external_link-returns-then-done
-push_external_link-returns-then-done t c = λ same tells.
-    leaves_done c.in_ok-done.done (all_signs c.args.out.now.items) (all_signs c.push_if_unchanged.new.out.items)
-    (unless_kept (page_view same c.args.page.now) (option_map kept_view c.args.kept) (view c.args.node.now))
-    (new_thing role.External (external_link (href_of (label_of (out-Node c.args.node.now)))
-    (spelled_within (page_view same c.args.page.now) c.args.place
-    (signs_of_all (page_view same c.args.page.now) c.args.place (views (out-Node c.args.node.now).children)))) (option_map kept_view c.args.kept))
-    c.if-done.true (c.in_ok-done.ensures same tells)
-
-pub push_external_link-returns : goal.push_external_link-returns
-push_external_link-returns t c = λ same tells.
-    let mid = all_signs c.push_if_unchanged.new.out.items in
-    let k = option_map kept_view c.args.kept in
-    leaves_then c.in_ok-done.done (all_signs c.args.out.now.items) mid (all_signs c.push_new.new.out.items)
-    (unless_kept (page_view same c.args.page.now) k (view c.args.node.now))
-    (new_thing role.External (external_link (href_of (label_of (out-Node c.args.node.now)))
-    (spelled_within (page_view same c.args.page.now) c.args.place
-    (signs_of_all (page_view same c.args.page.now) c.args.place (views (out-Node c.args.node.now).children)))) k) c.if-done.false
-    (c.in_ok-done.ensures same tells)
-    (c.in_ok-push_new.ensures ∙ ap (λ s. mid ++ new_thing role.External s k) (c.in_ok-source.ensures same tells))
-
-pub push_tag-returns-then-done : goal.push_tag-returns-then-done
-push_tag-returns-then-done t c = λ same tells.
-    leaves_done c.in_ok-done.done (all_signs c.args.out.now.items) (all_signs c.push_if_unchanged.new.out.items)
-    (unless_kept (page_view same c.args.page.now) (option_map kept_view c.args.kept) (view c.args.node.now))
-    (new_thing role.Node (tag_pair (option_map kept_view c.args.kept)
-    (spelled_within (page_view same c.args.page.now) c.args.place
-    (signs_of_all (page_view same c.args.page.now) c.args.place (views (out-Node c.args.node.now).children)))) (option_map kept_view c.args.kept))
-    c.if-done.true (c.in_ok-done.ensures same tells)
-
-pub push_tag-returns : goal.push_tag-returns
-push_tag-returns t c = λ same tells.
-    let mid = all_signs c.push_if_unchanged.new.out.items in
-    let k = option_map kept_view c.args.kept in
-    leaves_then c.in_ok-done.done (all_signs c.args.out.now.items) mid (all_signs c.push_new.new.out.items)
-    (unless_kept (page_view same c.args.page.now) k (view c.args.node.now))
-    (new_thing role.Node (tag_pair (option_map kept_view c.args.kept)
-    (spelled_within (page_view same c.args.page.now) c.args.place
-    (signs_of_all (page_view same c.args.page.now) c.args.place (views (out-Node c.args.node.now).children)))) k) c.if-done.false
-    (c.in_ok-done.ensures same tells)
-    (c.in_ok-push_new.ensures ∙ ap (λ s. mid ++ new_thing role.Node s k) (c.in_ok-source.ensures same tells))
+    let ts = views (out-Node n).children in
+    leaves_then c.in_ok-done.done (all_signs c.args.out.now.items) (all_signs c.push_if_unchanged.new.out.items) (all_signs c.push_anew.new.out.items)
+    (unless_kept p k (view n)) (anew_by (edit_shape (out-Node n).kind).inline p c.args.place k (label_of (out-Node n)) ts (signs_of_all p c.args.place ts))
+    c.if-done.false (c.in_ok-done.ensures same tells) (c.in_ok-push_anew.ensures same tells)
 
 pub units_of-loop-node-preserved : goal.units_of-loop-node-preserved
 units_of-loop-node-preserved t c = λ same tells. grind (arith, common_steps, c.loop-node.invariant same tells, c.in_ok-push_signs.ensures same tells)
