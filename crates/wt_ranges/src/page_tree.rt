@@ -23,12 +23,18 @@ use wt_tree::Node;
 
 /// The annotated tree of a page, with the items of which it is made. Its ranges, in bytes of the page, tile it,
 /// and its numbers are in preorder.
-#[derive(Drop)]
 pub struct Annotated<'a> {
     tree: wt_tree::Annotated<'a>,
     items: Items<'a>,
     ghost numbered: { InPreorder (view tree.body) } by { InPreorder-prop (view tree.body) },
     ghost meant: { ∥ view tree.body ≡ with_sections (annotated items.outer (group_data items.outer) (meaning items.items)) ∥₁ },
+}
+
+// One call wherever the tree of a page is let go.
+impl Drop for Annotated<'_> {
+    fn drop(self) {
+        let Annotated { tree: _, items: _ } = self;
+    }
 }
 
 impl<'a> Annotated<'a> {
@@ -57,7 +63,8 @@ impl<'a> Annotated<'a> {
     pub fn into_tree(self) -> wt_tree::Annotated<'a>
         ensures { result ≡ self.entry.tree }
     {
-        self.tree
+        let Annotated { tree, items: _ } = self;
+        tree
     }
 
     /// The items of the page.

@@ -10,7 +10,7 @@ use std::marker::Model;
 ///
 /// Contracts see the list of the items: each byte of a character and each other form is one. What
 /// the conditions of `new` say holds for every value.
-#[derive(Debug, Drop)]
+#[derive(Debug)]
 pub struct Items<'a> {
     pieces: List<Piece<'a>>,
     outer: List<Outer<'a>>,
@@ -29,6 +29,17 @@ impl<'a> Model for Items<'a> {
     ghost view = { λ it. record { items = items it.pieces; outer = map outer_call it.outer; text_calls = map span_of it.text_calls } };
 
     ghost invariant = { λ it. AreItems it.pieces (map outer_call it.outer) (map span_of it.text_calls) };
+}
+
+// One call wherever items are let go.
+impl Drop for Items<'_> {
+    fn drop(self) {
+        let Items {
+            pieces: _,
+            outer: _,
+            text_calls: _,
+        } = self;
+    }
 }
 
 impl<'a> Items<'a> {

@@ -5,13 +5,17 @@ use Rattle.wt_template_stack.specs.declared.level.Level.{Level}
 use Rattle.wt_template_stack.specs.declared.level.Levels.{Levels}
 use Rattle.wt_template_stack.specs.declared.level.Task.TheVariants as task
 
+-- a text, or a stretch of one, which has given these pieces
+abbrev pub text_level : ℕ → List Piece → Level
+text_level end out = record { end = end; out = out; task = task.Whole }
+
 -- from the innermost on; the text itself is the last one
 abbrev pub stack : Levels → List Level
-stack ls = reverse ls.later.items ++ ls.first ∷ []
+stack ls = reverse ls.later.items ++ text_level ls.text_end ls.text_out ∷ []
 
 -- a text, or a stretch of one, of which nothing is read
 abbrev pub whole_level : ℕ → Level
-whole_level end = record { end = end; out = []; task = task.Whole }
+whole_level end = text_level end []
 
 -- the innermost level is taken, if it isn't the text itself
 abbrev pub TakesLevel : Option Level → List Level → List Level → Type 0

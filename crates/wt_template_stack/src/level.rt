@@ -11,7 +11,6 @@ use wt_span::{List, NoMemory, Piece};
 use wt_transclusion::{Braces, Handed};
 
 /// A call of a page whose values are being read.
-#[derive(Drop)]
 pub struct PendingCall<'a> {
     pub call: Braces<'a>,
     /// Whether the call is at the start of a line.
@@ -20,6 +19,19 @@ pub struct PendingCall<'a> {
     /// How many of its parts are read, or are being read.
     pub part: usize,
     pub handed: Handed<'a>,
+}
+
+// One call wherever a call is let go, in place of one for each of its fields.
+impl Drop for PendingCall<'_> {
+    fn drop(self) {
+        let PendingCall {
+            call: _,
+            at_start: _,
+            title: _,
+            part: _,
+            handed: _,
+        } = self;
+    }
 }
 
 impl<'a> PendingCall<'a> {
@@ -100,10 +112,23 @@ pub struct Level<'a> {
 }
 
 /// Levels, each but the first within the one before. The first one is the text, and is always there.
-#[derive(Drop)]
 pub struct Levels<'a> {
-    first: Level<'a>,
+    /// Where the text ends.
+    text_end: u32,
+    /// What the text has given.
+    text_out: List<Piece<'a>>,
     later: Vec<Level<'a>>,
+}
+
+// One call wherever levels are let go, in place of one for each of their fields.
+impl Drop for Levels<'_> {
+    fn drop(self) {
+        let Levels {
+            text_end: _,
+            text_out: _,
+            later: _,
+        } = self;
+    }
 }
 
 impl<'a> Levels<'a> {
@@ -112,11 +137,8 @@ impl<'a> Levels<'a> {
         ensures { stack result ≡ whole_level end ∷ [] }
     {
         Levels {
-            first: Level {
-                end,
-                out: List::new(alloc),
-                task: Task::Whole,
-            },
+            text_end: end,
+            text_out: List::new(alloc),
             later: Vec::new(alloc),
         }
     }
@@ -141,7 +163,7 @@ impl<'a> Levels<'a> {
     pub fn finish(&mut self, alloc: Global) -> List<Piece<'a>>
         ensures { (l : OfText) → stack self.old ≡ l ∷ [] → result ≡ l.out }
     {
-        std::mem::replace(&mut self.first.out, List::new(alloc))
+        std::mem::replace(&mut self.text_out, List::new(alloc))
     }
 
     /// Where the innermost level ends.
@@ -150,7 +172,7 @@ impl<'a> Levels<'a> {
     {
         let count = self.later.len();
         if count == 0 {
-            return self.first.end;
+            return self.text_end;
         }
         self.later[count - 1].end
     }
@@ -161,7 +183,7 @@ impl<'a> Levels<'a> {
     {
         let count = self.later.len();
         if count == 0 {
-            return self.first.out.extend_from_slice(pieces);
+            return self.text_out.extend_from_slice(pieces);
         }
         self.later[count - 1].out.extend_from_slice(pieces)
     }
@@ -172,7 +194,7 @@ impl<'a> Levels<'a> {
     {
         let count = self.later.len();
         if count == 0 {
-            return self.first.out.push(piece);
+            return self.text_out.push(piece);
         }
         self.later[count - 1].out.push(piece)
     }

@@ -5,11 +5,17 @@ ghost use Rattle.wt_tree.specs.View.{view};
 use crate::node::Node;
 
 /// The tree of a page whose ranges tile it and whose numbers are in preorder.
-#[derive(Drop)]
 pub struct Annotated<'a> {
     body: Node<'a>,
     ghost tiled: { ∥ Tiled (view body) ∥₁ },
     ghost numbered: { ∥ InPreorder (view body) ∥₁ },
+}
+
+// One call wherever a tree is let go.
+impl Drop for Annotated<'_> {
+    fn drop(self) {
+        let Annotated { body: _ } = self;
+    }
 }
 
 impl<'a> Annotated<'a> {

@@ -17,9 +17,15 @@ struct Fields {
 }
 
 /// What few nodes have: attributes that their kind doesn't tell, an editor's mark, and data.
-#[derive(Drop)]
 pub struct More {
     fields: Option<Box<Fields>>,
+}
+
+// One call wherever a node is let go.
+impl Drop for More {
+    fn drop(self) {
+        let More { fields: _ } = self;
+    }
 }
 
 impl Model for More {
@@ -68,7 +74,8 @@ impl More {
     pub fn with_mark(self, alloc: Global, mark: Mark) -> Result<More, NoMemory>
         ensures { IfOk result (λ m. m ≡ record self { mark = mark }) }
     {
-        match self.fields {
+        let More { fields } = self;
+        match fields {
             None => More::of(alloc, List::new(alloc), mark, None),
             Some(fields) => {
                 let mut fields = fields;

@@ -27,9 +27,15 @@ enum Parts<'a> {
 
 /// What a node has of its source: a leaf its own source and the characters that it shows, any other
 /// node its delimiters.
-#[derive(Drop)]
 pub struct Source<'a> {
     parts: Parts<'a>,
+}
+
+// One call wherever a node is let go, in place of one for each of its texts.
+impl Drop for Source<'_> {
+    fn drop(self) {
+        let Source { parts: _ } = self;
+    }
 }
 
 impl<'a> Model for Source<'a> {
@@ -146,7 +152,8 @@ impl<'a> Source<'a> {
     pub fn into_own(self) -> Slices<'a>
         ensures { result ≡ self.entry.own }
     {
-        match self.parts {
+        let Source { parts } = self;
+        match parts {
             Parts::Leaf(own, _) => own,
             Parts::Round(_, _) => Slices::none(),
             Parts::All(all) => {
