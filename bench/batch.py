@@ -6,10 +6,11 @@
 It makes N pages (10,000) from those of examples/ and from the sections that `wtround gen` makes, one to
 forty of them, or takes N copies of the pages of FOLDER in turn. Then it runs `tools/batch` over them in
 turn on one processor (the first, in the next round the second, and so on) and on all, each time from
-nothing, after one run that doesn't count. It prints for each run the pages and megabytes a second, the
-processor time of all its processes, on how many processors they ran at once on average, how much of these
-processors' time the host of a virtual machine gave to others, and the peak memory of the largest process;
-and at the end the middle one of the rates' ratios.
+nothing, after one run that doesn't count, with the Python that runs this file. It prints for each run the
+pages and megabytes a second, the processor time of all its processes, on how many processors they ran at
+once on average, how much of these processors' time other processes had, and how much the host of a virtual
+machine gave to others, and the peak memory of the largest process; and at the end the middle one of the
+rates' ratios.
 
 On a machine that does other work the rates depend on that work. What can be told there is how far more
 processors would help: the rates of two runs are as their processors divided by their processor times, as
@@ -32,6 +33,8 @@ from pathlib import Path
 
 TOP = Path(__file__).resolve().parent.parent
 TOOL = TOP / "tools" / "batch"
+# Without what a shell may tell Python: some forbid it to keep compiled modules.
+ENVIRONMENT = {name: value for name, value in os.environ.items() if not name.startswith("PYTHON")}
 
 
 def sections(count: int) -> str:
@@ -99,11 +102,21 @@ class Watcher(threading.Thread):
         return sum(ran + waited for ran, waited in self._seen.values()) / 1e9
 
 
-def stolen(processors: "set[int]") -> float:
-    """The seconds for which the host has kept these processors from this machine since it began."""
+@dataclass(frozen=True)
+class Spent:
+    """Seconds that some processors have spent since the machine began."""
+
+    busy: float  # on processes, and on the system's work for them
+    stolen: float  # on what the host does besides
+
+
+def spent(processors: "set[int]") -> Spent:
     lines = (line.split() for line in Path("/proc/stat").read_text().splitlines())
     names = {f"cpu{number}" for number in processors}
-    return sum(int(words[8]) for words in lines if words[0] in names) / os.sysconf("SC_CLK_TCK")
+    counts = [list(map(int, words[1:9])) for words in lines if words[0] in names]
+    tick = os.sysconf("SC_CLK_TCK")
+    busy = sum(user + nice + system + irq + soft for user, nice, system, _, _, irq, soft, _ in counts)
+    return Spent(busy / tick, sum(count[7] for count in counts) / tick)
 
 
 @dataclass(frozen=True)
@@ -111,6 +124,7 @@ class Measured:
     seconds: float
     used: float  # seconds of processor time of all processes
     wanted: "float | None"  # and with what they waited for
+    others: float  # seconds of processor time of other processes
     stolen: float  # seconds
     peak: float  # MB of the largest process
 
@@ -118,12 +132,13 @@ class Measured:
 def run(root: Path, processors: "set[int]", words: "list[str]", is_watched: bool) -> Measured:
     for name in ("state", "state.lock", "state-wal", "state-shm"):
         (root / name).unlink(missing_ok=True)
-    before, stolen_before = resource.getrusage(resource.RUSAGE_CHILDREN), stolen(processors)
+    before, spent_before = resource.getrusage(resource.RUSAGE_CHILDREN), spent(processors)
     started = time.monotonic()
     command = [sys.executable, str(TOOL), *words, "--quiet", "--state", "state", "-j", str(len(processors))]
     process = subprocess.Popen(
-        command, cwd=root, stderr=subprocess.DEVNULL, preexec_fn=lambda: os.sched_setaffinity(0, processors)
-    )
+        command, cwd=root, env=ENVIRONMENT, stderr=subprocess.DEVNULL,
+        preexec_fn=lambda: os.sched_setaffinity(0, processors),
+    )  # fmt: skip
     watcher = Watcher(process.pid)
     if is_watched:
         watcher.start()
@@ -133,10 +148,12 @@ def run(root: Path, processors: "set[int]", words: "list[str]", is_watched: bool
     if is_watched:
         watcher.is_stopped.set()
         watcher.join()
-    after = resource.getrusage(resource.RUSAGE_CHILDREN)
+    after, spent_after = resource.getrusage(resource.RUSAGE_CHILDREN), spent(processors)
     used = after.ru_utime + after.ru_stime - before.ru_utime - before.ru_stime
     wanted = watcher.wanted() if is_watched else None
-    return Measured(seconds, used, wanted, stolen(processors) - stolen_before, after.ru_maxrss / 1000)
+    others = max(0.0, spent_after.busy - spent_before.busy - used)
+    stolen = spent_after.stolen - spent_before.stolen
+    return Measured(seconds, used, wanted, others, stolen, after.ru_maxrss / 1000)
 
 
 def told(measured: Measured, processors: int, pages: int, size: int) -> str:
@@ -145,6 +162,7 @@ def told(measured: Measured, processors: int, pages: int, size: int) -> str:
     return (
         f"{processors} processors: {pages / seconds:,.0f} pages/s, {size / seconds / 1e6:.2f} MB/s, "
         f"{seconds:.2f} s, {used:.1f} s of processor time, on {used / seconds:.2f} processors, {wanted}"
+        f"{100 * measured.others / seconds / processors:.0f} % had by others, "
         f"{100 * measured.stolen / seconds / processors:.0f} % taken by the host, peak {measured.peak:.0f} MB"
     )
 

@@ -9,13 +9,17 @@ word of each paragraph was changed, and of which paragraphs and items come and g
   bench/bench.py PROGRAM [OTHER]
 
 PROGRAM is the proved program (crates/wtround/out/wtround, which ./wtround builds); OTHER a second program
-that takes the same words, which is run in turn on the same inputs. For each command and kind of page it
+that takes the same words, which is run in turn on the same inputs. Either may have words of its own
+("FILE --sections"), which come before those of the command. For each command and kind of page it
 prints, best of three runs, MB of page or of HTML for each second of processor time (the program has one
 thread, and so other work of the machine tells less than it does on a clock), the peak memory, and how the
 time grew from one size to the next. With OTHER the last column is the ratio of the speeds: 2 where PROGRAM
-takes half the time of OTHER.
+takes half the time of OTHER. bench/instructions.py counts instructions of the same pages, which other work on
+the machine doesn't change.
 """
+import contextlib
 import os
+import shlex
 import subprocess
 import sys
 import tempfile
@@ -46,6 +50,7 @@ KINDS = {
     "one letter a paragraph": lines(lambda k: "a\n\n"),
     "one long line": lines(lambda k: WORDS + " "),
     "blank lines": lines(lambda k: "\n"),
+    "one line of =": lambda size: b"=" * size,
 }
 
 
@@ -252,8 +257,22 @@ HTML_KINDS = {
     "one long text": html_of(lambda number, at: (7000, "<p data-parsoid='{\"dsr\":[0,0,0,0]}'>" + (WORDS + " ") * 5000 + "</p>\n")),
 }
 
+# HTML that is refused after all of it has been read.
+REFUSED_KINDS = {
+    "empty paragraphs, refused": lambda size: (
+        b"""<!DOCTYPE html><html><head><meta charset="utf-8"/></head><body data-parsoid='{"dsr":[0,0,0,0]}'>"""
+        + b"<p></p>" * ((size - 400) // 7) + b"</body></html>"
+    ),
+}
 
-def run(program, folder, words):
+
+def program_of(words):
+    """The words that a program is run by, its file's path whole."""
+    file, *more = shlex.split(words)
+    return [os.path.abspath(file), *more]
+
+
+def run(program, folder, words, status_wanted=0):
     """The least processor time in seconds and the most memory in KiB of three runs, or why there is none."""
     best = None
     peak = 0
@@ -261,11 +280,11 @@ def run(program, folder, words):
     for _ in range(3):
         with open(os.path.join(folder, "out"), "wb") as out, open(os.path.join(folder, "err"), "w+b") as err, \
                 open(os.path.join(folder, "in"), "rb") as given:
-            it = subprocess.Popen(timed + [program] + words, cwd=folder, stdout=out, stderr=err, stdin=given)
+            it = subprocess.Popen(timed + program + words, cwd=folder, stdout=out, stderr=err, stdin=given)
             _, status, used = os.wait4(it.pid, 0)
             it.returncode = os.waitstatus_to_exitcode(status)
             err.seek(0)
-            if it.returncode != 0:
+            if it.returncode != status_wanted:
                 return None, err.read().decode(errors="replace").strip()
         seconds = used.ru_utime + used.ru_stime
         best = seconds if best is None else min(best, seconds)
@@ -274,34 +293,39 @@ def run(program, folder, words):
     return best, peak
 
 
-def answer(program, page, templates={}):
-    """What `html` of the first program answers for a page with these templates."""
+@contextlib.contextmanager
+def folder_of(page, templates={}, given=b""):
+    """A folder with a page, its templates and, as the file `in`, the input of a command."""
     with tempfile.TemporaryDirectory() as folder:
         os.mkdir(os.path.join(folder, "pages"))
-        with open(os.path.join(folder, "pages", "Main.wiki"), "wb") as out:
-            out.write(page)
-        for name, text in templates.items():
-            with open(os.path.join(folder, "pages", name + ".wiki"), "wb") as out:
-                out.write(text)
-        return subprocess.run([program, "html", "Main"], cwd=folder, capture_output=True).stdout
+        files = {"pages/Main.wiki": page, "in": given} | {f"pages/{name}.wiki": it for name, it in templates.items()}
+        for name, it in files.items():
+            with open(os.path.join(folder, name), "wb") as out:
+                out.write(it)
+        yield folder
 
 
-def measure(programs, title, words, sizes, make, templates={}, given=None):
+def answer(program, page, templates={}):
+    """What `html` of a program answers for a page with these templates."""
+    with folder_of(page, templates) as folder:
+        return subprocess.run([*program, "html", "Main"], cwd=folder, capture_output=True).stdout
+
+
+def case(program, words, made, templates={}, given=None):
+    """The page, the templates and the input of a command, of which `html` of a program may make the input."""
+    if words[0] == "wikitext":
+        return b"", templates, made
+    return made, templates, given(answer(program, made, templates)) if given else b""
+
+
+def measure(programs, title, words, sizes, make, templates={}, given=None, status_wanted=0):
     last = [None] * len(programs)
     for size in sizes:
-        with tempfile.TemporaryDirectory() as folder:
-            os.mkdir(os.path.join(folder, "pages"))
-            made = make(size)
-            with open(os.path.join(folder, "pages", "Main.wiki"), "wb") as out:
-                out.write(b"" if words[0] == "wikitext" else made)
-            for name, text in templates.items():
-                with open(os.path.join(folder, "pages", name + ".wiki"), "wb") as out:
-                    out.write(text)
-            with open(os.path.join(folder, "in"), "wb") as out:
-                out.write(given(answer(programs[0], made, templates)) if given else made if words[0] == "wikitext" else b"")
+        made = make(size)
+        with folder_of(*case(programs[0], words, made, templates, given)) as folder:
             cells, spent = [], []
             for n, program in enumerate(programs):
-                seconds, peak = run(program, folder, words)
+                seconds, peak = run(program, folder, words, status_wanted)
                 if seconds is None:
                     cells.append(peak)
                     continue
@@ -320,7 +344,7 @@ def main():
     if len(sys.argv) not in (2, 3):
         print(__doc__)
         return 2
-    programs = [os.path.abspath(it) for it in sys.argv[1:]]
+    programs = [program_of(it) for it in sys.argv[1:]]
     print(f"{os.cpu_count()} cores; best of three; MB/s of processor time, MB are 1,000,000 bytes of page or HTML")
     print(f"{'command and page':34} {'KiB':>5} " + " ".join(f"{'MB/s':>7} {'peak MB':>8} {'growth':>7}" for _ in programs)
           + (f" {'ratio':>7}" if len(programs) == 2 else ""))
@@ -346,6 +370,8 @@ def main():
             measure(programs, f"{command}, {kind}", [command, "Main"], SIZES, make, templates, given)
     for kind, make in HTML_KINDS.items():
         measure(programs, f"wikitext, {kind}", ["wikitext"], HTML_SIZES, make)
+    for kind, make in REFUSED_KINDS.items():
+        measure(programs, f"wikitext, {kind}", ["wikitext"], HTML_SIZES, make, status_wanted=3)
     for kind, make in INLINE_KINDS.items():
         measure(programs, f"wikitext, {kind}", ["wikitext"], SIZES, lambda size: answer(programs[0], make(size)))
     return 0

@@ -1,6 +1,8 @@
 // @ts-check
 /** What is pasted, as paragraphs, headings, lists, bold, italic and links. */
 
+import { isPlain, saysBold, saysItalic } from "../lib/styles.js";
+
 /** @type {Record<string, string>} */
 const SAME = {
   ...{ strong: "b", em: "i", b: "b", i: "i", p: "p", ul: "ul", ol: "ol", li: "li", br: "br" },
@@ -80,11 +82,12 @@ class Cleaner {
   #element(element, to) {
     const name = element.localName;
     const isLink = name === "a" && /^(?:https?|ftp):\/\/|^\.\//i.test(element.getAttribute("href") ?? "");
-    const isPlain = /font-weight:\s*(?:normal|400)/.test(element.getAttribute("style") ?? "");
+    const same = SAME[name];
+    const isStyle = same === "b" || same === "i";
     if (element.hasAttribute("data-thing")) this.#thing(element, to);
     else if (LEFT_OUT.has(name)) return;
     else if (isLink) this.#link(element, to);
-    else if (SAME[name] && !isPlain) this.#same(element, to);
+    else if (same && !(isStyle && isPlain(element, same))) this.#same(element, to);
     else if (BOXES.has(name)) this.#box(element, to);
     else this.#styled(element, to);
   }
@@ -146,11 +149,8 @@ class Cleaner {
    * @param {Element} to
    */
   #styled(element, to) {
-    const style = element.getAttribute("style") ?? "";
-    const isBold = /font-weight:\s*(?:bold|[6-9]00)/i.test(style);
-    const isItalic = /font-style:\s*italic/i.test(style);
     let into = to;
-    for (const name of [...(isBold ? ["b"] : []), ...(isItalic ? ["i"] : [])]) {
+    for (const name of [...(saysBold(element) ? ["b"] : []), ...(saysItalic(element) ? ["i"] : [])]) {
       const inner = document.createElement(name);
       into.append(inner);
       into = inner;

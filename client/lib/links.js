@@ -12,14 +12,16 @@ const OTHER_SCHEME =
 /**
  * @param {string} href
  * @param {string} rel  empty where the browser or another editor made the link
+ * @param {string} [was]  the `href` that the page's link has, which stays as it is
  * @returns {Map<string, string> | null} `rel` and `href` as the program takes them; null where it can be no
  *   link
  */
-export function linkTarget(href, rel) {
+export function linkTarget(href, rel, was = "") {
   const address = href.replace(/^[ \t\n\r]+|[ \t\n\r]+$/g, "");
   const isAddress = /^(?:https?|ftp):\/\/./i.test(address);
+  if (rel !== "" && href === was) return attributes(rel, href);
   if (rel === "mw:WikiLink" || (rel === "mw:ExtLink" && !isAddress)) return attributes(rel, href);
-  if (isAddress) return attributes("mw:ExtLink", address.replace(/[\u0000- <>"[\]\u007f]/g, escaped));
+  if (isAddress) return attributes("mw:ExtLink", escapedAddress(address));
   if (address === "" || OTHER_SCHEME.test(address)) return null;
   const isOurs = address.startsWith("./");
   return attributes("mw:WikiLink", isOurs ? address : `./${address.replace(/[ \t\n\r]+/g, "_")}`);
@@ -34,9 +36,17 @@ function attributes(rel, href) {
 }
 
 /**
- * A sign that would end an address in wikitext.
- * @param {string} sign
+ * An address without what would end it in wikitext, or mean something there: two apostrophes, braces, a bar,
+ * an entity.
+ * @param {string} address
  */
+function escapedAddress(address) {
+  return address
+    .replace(/&(?:#\d+|#x[\da-f]+|[a-z][a-z\d]*);/gi, (entity) => `${entity.slice(0, -1)}%3B`)
+    .replace(/[\u0000- <>"[\]{|}\u007f]|'{2,}/g, (signs) => [...signs].map(escaped).join(""));
+}
+
+/** @param {string} sign */
 function escaped(sign) {
   return `%${sign.charCodeAt(0).toString(16).toUpperCase().padStart(2, "0")}`;
 }

@@ -10,12 +10,15 @@
 import { isBundle } from "./bundles.js";
 import { Part, numberOf } from "./markup.js";
 import { Original, kindOf } from "./original.js";
+import { withEntity } from "./entities.js";
 import { dropEmptyLines } from "./lines.js";
 import { Line, linkTarget, withEdgesOutside } from "./links.js";
 import { Places } from "./places.js";
 import { putBack } from "./strays.js";
+import { hasBlocks, isPlain, saysBold, saysItalic, styledPieces } from "./styles.js";
 import { append, isBare, isEmpty, tidy } from "./texts.js";
 import { Watch } from "./watch.js";
+import { Weights, valuesOf, withNumbers } from "./weights.js";
 import {
   ATTRIBUTES, CELLS, ITEMS, LINES, LISTS, TAGS, hiddenKind, isBlank, isBlock, isBlockName, isHiddenName,
   isIsland, isMark, mayHave, nameOf,
@@ -34,20 +37,14 @@ function textOf(node) {
   return /** @type {Text} */ (node).data;
 }
 
-/**
- * @param {Element} element
- * @returns {(name: string) => string}
- */
-function valuesOf(element) {
-  return (name) => element.getAttribute(name) ?? "";
-}
-
 export class Mender {
   /**
    * Which element has a number, of several that have it.
    * @type {Map<number, Element>}
    */
   #owners = new Map();
+
+  #weights = new Weights();
 
   /** Whether what is read stands in a link. */
   #inLink = false;
@@ -157,8 +154,9 @@ export class Mender {
   #isBetter(element, owner, number) {
     if (!this.#isOfKind(element, number)) return false;
     if (!this.#isOfKind(owner, number)) return true;
-    const [more, less] = [thingsIn(element), thingsIn(owner)];
-    return more > less || (more === less && isHollow(owner) && !isHollow(element));
+    const [now, before] = [this.#weights.of(element), this.#weights.of(owner)];
+    const isShown = before.isHollow && !now.isHollow;
+    return now.things > before.things || (now.things === before.things && isShown);
   }
 
   /**
@@ -373,7 +371,7 @@ export class Mender {
    * @returns {Pieces}
    */
   #lines(attributes, name, content) {
-    if (!content.some((piece) => typeof piece !== "string" && isBlock(piece))) {
+    if (!hasBlocks(content)) {
       return [tidy(new Part(name, attributes, content), this.original)];
     }
     /** @type {Pieces} */
@@ -409,13 +407,16 @@ export class Mender {
   #list(element, name) {
     const list = this.#part(element, name, []);
     const itemName = name === "dl" ? "dd" : "li";
+    /** @type {Part | null} */
+    let item = null;
     for (const node of element.childNodes) {
       if (node.nodeType === TEXT && isBlank(textOf(node))) {
         append(list.children, textOf(node).replace(/[^ \t\n\r]/g, " "));
       } else if (node.nodeType === TEXT) {
-        list.children.push(tidy(new Part(itemName, new Map(), [textOf(node)]), this.original));
+        item = tidy(new Part(itemName, new Map(), [textOf(node)]), this.original);
+        list.children.push(item);
       } else if (node.nodeType === ELEMENT) {
-        this.#inList(list, /** @type {Element} */ (node), itemName);
+        item = this.#inList(list, /** @type {Element} */ (node), itemName, item);
       }
     }
     const hasItems = list.parts.some((part) => !isHiddenName(part.name));
@@ -426,23 +427,28 @@ export class Mender {
    * @param {Part} list
    * @param {Element} element  a child of it
    * @param {string} itemName  what its items are
+   * @param {Part | null} last  its last item so far
+   * @returns {Part | null} its last item then
    */
-  #inList(list, element, itemName) {
+  #inList(list, element, itemName, last) {
     const name = nameOf(element);
-    if (name === "") return;
+    if (name === "") return last;
     if (element.hasAttribute("about") || isHiddenName(name)) {
       list.children.push(...this.#block(element, name));
-    } else if (ITEMS.has(name)) {
-      const item = this.#item(element, name);
-      if (item.number !== 0 || !isEmpty(item.children)) list.children.push(item);
-    } else if (LISTS.has(name)) {
-      let last = list.parts.filter((part) => ITEMS.has(part.name) && !part.attributes.has("about")).pop();
-      if (last === undefined) list.children.push((last = new Part(itemName)));
-      last.children.push(...this.#list(element, name));
-    } else {
-      const item = new Part(itemName, new Map(), this.#flat(this.#inlineElement(element), isList));
-      if (!isEmpty(tidy(item, this.original).children)) list.children.push(item);
+      return last;
     }
+    if (LISTS.has(name)) {
+      const item = last ?? new Part(itemName);
+      if (last === null) list.children.push(item);
+      for (const piece of this.#list(element, name)) item.children.push(piece);
+      return item;
+    }
+    const isItem = ITEMS.has(name);
+    const made = () => new Part(itemName, new Map(), this.#flat(this.#inlineElement(element), isList));
+    const item = isItem ? this.#item(element, name) : tidy(made(), this.original);
+    if (isEmpty(item.children) && !(isItem && item.number !== 0)) return last;
+    list.children.push(item);
+    return item;
   }
 
   /**
@@ -536,16 +542,20 @@ export class Mender {
   }
 
   /**
-   * Bold, italic, a pair of tags; it vanishes where its inside did.
+   * Bold, italic, a pair of tags; it vanishes where its inside did. New bold round blocks is in each of them.
    * @param {Element} element
    * @param {string} name
    */
   #styled(element, name) {
     const isStyle = name === "b" || name === "i";
+    const isNew = this.#numberOf(element) === 0;
+    if (isStyle && isNew && isPlain(element, name)) return this.#byStyle(element);
     if (isStyle && this.#styles.has(name) && !this.#hasAbove(element, name)) {
       return this.#inline(element.childNodes);
     }
-    const children = this.#flat(this.#within(isStyle ? [name] : [], element.childNodes), () => false);
+    const pieces = this.#within(isStyle ? [name] : [], element.childNodes);
+    if (isNew && hasBlocks(pieces)) return styledPieces(pieces, name, this.original);
+    const children = this.#flat(pieces, () => false);
     return isBare(children) && this.#mayVanish(element) ? children : [this.#part(element, name, children)];
   }
 
@@ -591,14 +601,11 @@ export class Mender {
    * @param {Element} element
    */
   #byStyle(element) {
-    const style = element.getAttribute("style") ?? "";
-    const styles = [];
-    if (/font-style:\s*(?:italic|oblique)/i.test(style)) styles.push("i");
-    if (/font-weight:\s*(?:bold|[6-9]00)/i.test(style)) styles.push("b");
+    const styles = [...(saysItalic(element) ? ["i"] : []), ...(saysBold(element) ? ["b"] : [])];
     const begun = styles.filter((name) => !this.#styles.has(name));
     let pieces = this.#within(begun, element.childNodes);
     if (isEmpty(pieces)) return pieces;
-    for (const name of begun) pieces = [new Part(name, new Map(), this.#flat(pieces, () => false))];
+    for (const name of begun) pieces = styledPieces(pieces, name, this.original);
     return pieces;
   }
 
@@ -613,9 +620,10 @@ export class Mender {
     this.#inLink = false;
     const kept = this.#kept(this.#numberOf(element));
     const rel = kept?.part.value("rel") ?? element.getAttribute("rel") ?? "";
-    const target = linkTarget(element.getAttribute("href") ?? "", rel);
-    if (target === null || (isBare(content) && this.#mayVanish(element))) return content;
+    const href = element.getAttribute("href") ?? "";
     const isNew = this.#numberOf(element) === 0;
+    const target = linkTarget(href, rel, kept?.part.value("href") ?? (isNew ? "" : href));
+    if (target === null || (isBare(content) && this.#mayVanish(element))) return content;
     const link = isNew ? new Part("a", target, content) : this.#part(element, "a", content);
     for (const [name, value] of target) if (link.value(name) !== value) link.attributes.set(name, value);
     if (kept?.part.text === link.text || (kept === undefined && !isNew)) return [link];
@@ -747,15 +755,6 @@ export class Mender {
   }
 }
 
-/**
- * @param {Element} element
- * @returns {Element[]} those in it that have an `id`, itself too
- */
-function withNumbers(element) {
-  const inside = [...element.querySelectorAll("[id]")];
-  return element.hasAttribute("id") ? [element, ...inside] : inside;
-}
-
 /** @param {Part} part */
 function isList(part) {
   return LISTS.has(part.name);
@@ -772,50 +771,4 @@ function blocksBehindText(pieces) {
   const end = pieces.map(isText).lastIndexOf(true);
   const behind = new Set(pieces.slice(end + 1));
   return (block) => behind.has(block);
-}
-
-/**
- * Whether an element shows nothing, as the half of a split paragraph that keeps nothing but its `br`.
- * @param {Element} element
- */
-function isHollow(element) {
-  return isBlank(element.textContent ?? "") && element.querySelector("[id]") === null;
-}
-
-/**
- * How many groups, extensions and other islands stand in an element.
- * @param {Element} element
- */
-function thingsIn(element) {
-  return [...element.querySelectorAll("[id]")].filter((inner) => isIsland(valuesOf(inner))).length;
-}
-
-/**
- * What stands in an entity, with the entity itself in place of its character.
- * @param {Pieces} pieces
- * @param {string} character
- * @param {Part} entity
- * @returns {Pieces | null} null where the character isn't there
- */
-function withEntity(pieces, character, entity) {
-  for (const [at, piece] of pieces.entries()) {
-    const isText = typeof piece === "string";
-    const inside = isText ? cutAt(piece, character, entity) : withEntity(piece.children, character, entity);
-    if (inside === null) continue;
-    const put = isText ? inside : [new Part(piece.name, piece.attributes, inside)];
-    return [...pieces.slice(0, at), ...put, ...pieces.slice(at + 1)];
-  }
-  return null;
-}
-
-/**
- * @param {string} text
- * @param {string} character
- * @param {Part} entity
- * @returns {Pieces | null} the text with the entity for its character; null where that isn't there
- */
-function cutAt(text, character, entity) {
-  const at = character === "" ? -1 : text.indexOf(character);
-  if (at < 0) return null;
-  return [text.slice(0, at), entity, text.slice(at + character.length)].filter((piece) => piece !== "");
 }

@@ -5,8 +5,11 @@ import { Part, readPage, write } from "./markup.js";
 import { readAgain } from "./rereading.js";
 import { isBlock } from "./kinds.js";
 
-/** What browsers and editors put into a text beside what is typed, and what may be pasted. */
-export const PUT_SIGNS = /[\r\u00a0\u200b\ufeff\v\f]/g;
+/**
+ * What browsers and editors put into a text beside what is typed, and what may be pasted: white space and
+ * signs without a width, and what no XML can hold, as the marks of footnotes and cells of a word processor.
+ */
+export const PUT_SIGNS = /[\0-\x08\v-\x1f\u00a0\u200b\ufeff\ufffe\uffff]/g;
 
 /** A node of the page as it was. */
 export class Kept {

@@ -142,11 +142,13 @@ function withoutTrails(text) {
   return lines.map((line, at) => (at < lines.length - 1 ? withoutEnd(line, " \t") : line)).join("\n");
 }
 
+const PUT = new RegExp(`\r\n|${PUT_SIGNS.source}`, "g");
+
 /**
- * What becomes of signs that browsers and editors put.
+ * What becomes of signs that browsers and editors put; of others nothing.
  * @type {Record<string, string>}
  */
-const MENDED = { "\r": "\n", "\u00a0": " ", "\u200b": "", "\ufeff": "", "\v": " ", "\f": " " };
+const MENDED = { "\r": "\n", "\u00a0": " ", "\v": " ", "\f": " " };
 
 /**
  * The texts of a block beside those that the page has. Before and behind what was changed the page's white
@@ -237,8 +239,8 @@ class Texts {
    * @param {boolean} isParagraph
    */
   #typed(from, to, isParagraph) {
-    const mended = this.now.slice(from, to).replace(/\r\n|[\r\u00a0\u200b\ufeff\v\f]/g, (found, at) =>
-      this.#isOfPage(from + at) ? found : MENDED[found[0]],
+    const mended = this.now.slice(from, to).replace(PUT, (found, at) =>
+      this.#isOfPage(from + at) ? found : MENDED[found[0]] ?? "",
     );
     return isParagraph ? mended.replace(/\n(?:[ \t]*\n)+/g, "\n") : mended.replace(/\n+/g, " ");
   }

@@ -155,6 +155,20 @@ const MENDS = [
     "<p>ab<b>c</b></p>",
   ],
   [
+    "a style that says normal is none, a style round blocks is in each",
+    "",
+    '<b style="font-weight: normal"><p>a</p><i><h2>b</h2><p>c</p></i></b>e<i style="FONT-STYLE:normal">f</i>',
+    "<p>a</p><h2><i>b</i></h2><p><i>c</i></p><p>ef</p>",
+  ],
+  [
+    "a link of the page keeps its address, a new one has no signs of wikitext",
+    '<p id="mw1"><a rel="mw:ExtLink" href="https://x.y/a|{b}" id="mw2">c</a></p>',
+    '<p id="mw1"><a rel="mw:ExtLink" href="https://x.y/a|{b}" id="mw2">cd</a> ' +
+      '<a href="https://x.y/|\'\'">e</a></p>',
+    '<p id="mw1"><a rel="mw:ExtLink" href="https://x.y/a|{b}" id="mw2">cd</a> ' +
+      '<a rel="mw:ExtLink" href="https://x.y/%7C%27%27">e</a></p>',
+  ],
+  [
     "bold in bold and italic in italic are their inside",
     "",
     '<p><b>a<strong>b</strong><i>c<b>d</b></i></b><i>e<em>f</em><span style="font-style: italic">g</span></i></p>',
@@ -772,6 +786,43 @@ function assertRenewed(root, html) {
   assert.equal(isChanged(root), false);
 }
 
+const DOCS_ITEM = 'style="font-weight:400;font-style:normal" aria-level';
+const COPIED = [
+  [
+    "Google Docs",
+    '<b style="font-weight:normal;" id="docs-internal-guid-1">' +
+      '<p dir="ltr"><span style="font-weight:400">one </span>' +
+      `<span style="font-weight:700">two</span></p><ul><li ${DOCS_ITEM}="1"><p dir="ltr">a</p></li>` +
+      `<ul><li ${DOCS_ITEM}="2"><p>b</p></li></ul></ul></b>`,
+    "<p>one <b>two</b></p><ul><li><p>a</p></li><ul><li><p>b</p></li></ul></ul>",
+  ],
+  [
+    "Word",
+    "<style>p{}</style><p class=MsoNormal><b style='mso-bidi-font-weight:normal'>bold</b> " +
+      "<i style='mso-bidi-font-style:normal'>italic</i> " +
+      "<span style='mso-bidi-font-weight:bold'>c</span><o:p></o:p></p>",
+    "<p><b>bold</b> <i>italic</i> c</p>",
+  ],
+  [
+    "LibreOffice",
+    '<p style="font-weight: normal">a <b>b</b> <span style="font-weight: normal">c</span></p>' +
+      "<ul><li><p>d</p></li></ul>",
+    "<p>a <b>b</b> c</p><ul><li><p>d</p></li></ul>",
+  ],
+];
+for (const [name, copied, wanted] of COPIED) {
+  test(`what ${name} puts into the clipboard`, async (context) => {
+    const JSDOM = findJsdom();
+    if (JSDOM === null) return context.skip("there is no jsdom here");
+    const { window } = new JSDOM("");
+    Object.assign(globalThis, { document: window.document, DOMParser: window.DOMParser });
+    context.after(() => ["document", "DOMParser"].forEach((key) => Reflect.deleteProperty(globalThis, key)));
+    const { pasted } = await import("../editor/paste.js");
+    const data = { getData: (/** @type {string} */ type) => (type === "text/html" ? copied : "") };
+    assert.equal(pasted(/** @type {any} */ (data), window.document.body, new Map()).html, wanted);
+  });
+}
+
 test("what is read ahead of a save doesn't change what is saved", () => {
   const html = page('<p id="mw1">a <b id="mw2">b</b></p><p id="mw3">c</p>');
   const saved = [true, false].map((isAhead) => {
@@ -896,6 +947,30 @@ test("many blocks in another order take time in proportion", () => {
   const html = save(root, { marks: true });
   assert.ok(process.cpuUsage(start).user < 3e6); // microseconds
   assert.equal(html.match(/<p>/g)?.length, 19999);
+});
+
+test("copies of a number beside a large block are looked into once each", () => {
+  const html = page('<p id="mw1">a <b id="mw2">b</b></p>');
+  const reads = (/** @type {number} */ count) => {
+    const large = `<p id="mw1">${'<b id="mw2">b</b> '.repeat(200)}</p>`;
+    const root = edited(large + '<p id="mw1">c</p>'.repeat(count));
+    const element = Object.getPrototypeOf(root);
+    const { hasAttribute } = element;
+    let found = 0;
+    element.hasAttribute = function (/** @type {string} */ name) {
+      found += 1;
+      return hasAttribute.call(this, name);
+    };
+    try {
+      save(root, { original: html });
+    } finally {
+      element.hasAttribute = hasAttribute;
+    }
+    return found;
+  };
+  const [none, few, many] = [0, 100, 400].map(reads);
+  assert.ok(many - none < 5 * (few - none) + 100);
+  assert.ok(few - none < 100 * 100);
 });
 
 test("places in UTF-16 units", () => {

@@ -18,7 +18,7 @@ from loading import REPOSITORY, TOOLS
 
 sys.dont_write_bytecode = True
 sys.path.insert(0, str(TOOLS))
-from wtround_batch import wiki  # noqa: E402
+from wtround_batch import examine, program, wiki  # noqa: E402
 
 try:
     import pty
@@ -200,11 +200,11 @@ class TwoThousandPages(BatchCase):
         self.assertEqual((again["kept"], again["outcomes"]), (2000, report["outcomes"]))
         self.assertEqual(len(self.lines()), 2000)
 
-    def stored(self, state: Path, chosen: str = "") -> int:
+    def stored(self, state: Path, chosen: str = "", what: str = "count(*)") -> int:
         try:
             connection = sqlite3.connect(f"file:{state}?mode=ro", uri=True)
             try:
-                return connection.execute(f"SELECT count(*) FROM result {chosen}").fetchone()[0]
+                return connection.execute(f"SELECT {what} FROM result {chosen}").fetchone()[0]
             finally:
                 connection.close()
         except sqlite3.Error:
@@ -226,17 +226,15 @@ class TwoThousandPages(BatchCase):
 
     def interrupted(self, number: int) -> None:
         """A run is stopped as a terminal stops it, or the system: all processes of its group are told."""
+        state = self.root / "wtround-batch.sqlite"
+        earlier = self.stored(state, what="max(run)") or 0
         running = self.start("wikitext", "--again", "--report", "report.html", "-j", "1")
-        self.wait_for(lambda: len(workers_of(running.pid)) == 1 and self.stored_anew() >= 50)
+        self.wait_for(lambda: self.stored(state, f"WHERE run > {earlier}") >= 50)
         os.killpg(running.pid, number)
         told = running.communicate()[1].decode()
         self.assertEqual(running.returncode, 130, told)
         self.assertIn("stopped; the same words go on from here", told)
         self.assertNotIn("Traceback", told)
-
-    def stored_anew(self) -> int:
-        """How many pages the last run has stored."""
-        return self.stored(self.root / "wtround-batch.sqlite", "WHERE run = (SELECT max(run) FROM result)")
 
     def test_interrupted_and_gone_on(self) -> None:
         self.make()
@@ -621,6 +619,12 @@ class Limits(BatchCase):
         self.assertEqual(sum(outcomes.values()), 2000)
         self.assertGreaterEqual(outcomes["came back"], 1997)
 
+    def test_workers_that_get_no_page(self) -> None:
+        """They are forked before it is known how much there is to do, and end with the run."""
+        self.program = PROGRAM
+        self.write("One", "some words\n")
+        self.assertEqual(self.report("wikitext", "-j", "8")["outcomes"]["wikitext"], {"came back": 1})
+        self.wait_for(lambda: not processes_in(self.root))
 
     def test_the_nursery_is_ended(self) -> None:
         """Then no worker can be started any more: the run says so, ends, and can be gone on with."""
@@ -647,6 +651,18 @@ def children_of(process_id: int) -> "list[int]":
         except OSError:
             pass
     return children
+
+
+def processes_in(folder: Path) -> "list[int]":
+    """Those whose working folder this is."""
+    found = []
+    for path in Path("/proc").glob("[0-9]*/cwd"):
+        try:
+            if path.resolve() == folder.resolve():
+                found.append(int(path.parent.name))
+        except OSError:
+            pass
+    return found
 
 
 def is_named(process_id: int, name: str) -> bool:
@@ -740,6 +756,75 @@ class FileNames(unittest.TestCase):
             self.assertEqual(self.title_of_file(name), self.title_by_reading(name), name)
             plain += wiki.PLAIN_FILE.fullmatch(name) is not None
         self.assertGreater(plain, 500)
+
+
+class Asked:
+    """Stands for the program: answers a case with its bytes, fails at `bad`, and keeps what is asked at once."""
+
+    def __init__(self) -> None:
+        self.groups: "list[list[bytes]]" = []
+
+    def ask_all(self, questions: "list[program.Question]") -> "list[program.Answer | program.Failure]":
+        self.groups.append([question.line for question in questions])
+        return [
+            program.Died("bad") if question.line == b"bad" else program.Answer(0, question.line, "", [], 0.0)
+            for question in questions
+        ]
+
+
+class SideBySide(unittest.TestCase):
+    """Pages that are asked about together."""
+
+    def page(self, *lines: bytes) -> "examine.Asking[list[bytes]]":
+        found = []
+        for line in lines:
+            try:
+                answer = yield program.Question(line, 1.0)
+                found.append(answer.out_hex)
+            except program.Died as ending:
+                found.append(str(ending).encode())
+        return found
+
+    def test_each_goes_on_with_its_own_answers(self) -> None:
+        cases = Asked()
+        pages = [self.page(b"a", b"b"), self.page(), self.page(b"bad", b"c", b"d"), self.page(b"e")]
+        wanted = [[b"a", b"b"], [], [b"bad", b"c", b"d"], [b"e"]]
+        self.assertEqual(examine.answered(cases, pages), wanted)
+        self.assertEqual(cases.groups, [[b"a", b"bad", b"e"], [b"b", b"c"], [b"d"]])
+
+    def test_a_long_one_is_asked_alone(self) -> None:
+        cases = Asked()
+        half, whole = b"h" * (examine.GROUP_BYTES // 2), b"w" * examine.GROUP_BYTES
+        found = examine.answered(cases, [self.page(line) for line in (half, half, whole, b"a", half)])
+        self.assertEqual(found, [[half], [half], [whole], [b"a"], [half]])
+        self.assertEqual(cases.groups, [[half, half], [whole], [b"a", half]])
+
+
+@unittest.skipUnless(IS_ASKABLE, "wtround_cases is not built here")
+class Asking(unittest.TestCase):
+    """The program itself, asked several cases at once."""
+
+    def setUp(self) -> None:
+        self.cases = program.Cases(str(PROGRAM))
+        self.addCleanup(self.cases.close)
+
+    def questions(self, texts: "list[bytes]") -> "list[program.Question]":
+        return [program.Question(program.case(["html", "A"], b"", {"A": text}), 60.0) for text in texts]
+
+    def test_answers_come_in_order_and_have_all_the_time(self) -> None:
+        """Some of them are longer than a pipe holds, as are some of the cases."""
+        texts = [b"one", b"two words\n" * 100_000, b"\xff", b"''three''", b"four\n\n" * 100_000]
+        answers = self.cases.ask_all(self.questions(texts))
+        self.assertEqual([answer.status for answer in answers], [0, 0, 2, 0, 0])
+        alone = [self.cases.ask(question) for question in self.questions(texts)]
+        self.assertEqual([answer.out_hex for answer in answers], [answer.out_hex for answer in alone])
+        self.assertEqual(answers[2].line, "page not UTF-8 at 0")
+        spent = program.processor_time(self.cases._process.pid)
+        self.assertLessEqual(sum(answer.seconds for answer in answers + alone), spent)
+        self.assertGreater(sum(answer.seconds for answer in answers + alone), spent / 2)
+
+    def test_nothing_is_asked(self) -> None:
+        self.assertEqual(self.cases.ask_all([]), [])
 
 
 class Words(BatchCase):

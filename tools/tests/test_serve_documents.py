@@ -220,6 +220,24 @@ class Mending(unittest.TestCase):
                 calls = [calls_of(piece * (length // len(piece))) for length in (5_000, 20_000)]
                 self.assertLess(calls[1], 5 * calls[0] + 1000)
 
+    def test_work_does_not_grow_with_what_stands_before(self) -> None:
+        """Copies of a number beside a block that holds much; lists in a list; a style round many blocks."""
+        for first, piece, last in (
+            ("<p id=mw1>" + "<b id=mw2>x</b> " * 1000 + "</p>", "<p id=mw1>x</p>", ""),
+            ("<ul><li>a</li>", "<ul><li>b</li></ul>", "</ul>"),
+            ("<p>", "<b id=mw2>x</b>", "</p>"),
+            ("<p><i ", "a{}=1 ", ">x</i></p>"),
+            ("<b>", "<p>x</p>", "</b>"),
+            ('<b style="font-weight:normal"><i>', "<ul><li>x</li></ul>", "</i></b>"),
+        ):
+            with self.subTest(first=first[:50], piece=piece):
+                none, few, many = (
+                    calls_of(first + "".join(map(piece.format, range(count))) + last)
+                    for count in (0, 250, 1000)
+                )
+                self.assertLess(many - none, 5 * (few - none) + 1000)
+                self.assertLess(few - none, 250 * 1000)
+
     def test_blanks_at_the_end_of_an_item(self) -> None:
         for text in ("<ul><li>a <br></li></ul>", "<ul><li> a \n</ul>", "<ul><li>a<br> </li></ul>"):
             with self.subTest(text=text):

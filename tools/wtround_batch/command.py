@@ -218,7 +218,7 @@ def run_all(
         is_whole = arguments.export is None or store.about("export whole") == "yes"
         if arguments.report is not None:
             write_report(arguments, run, store, source, is_whole)
-    print(told(run.counts, run.total), file=sys.stderr)
+        print(told(run.counts, run.total), file=sys.stderr)
     if run.is_stopped:
         print(f"{PROGRAM}: stopped; the same words go on from here", file=sys.stderr)
         return 130
@@ -269,13 +269,15 @@ def main_of_run(words: "list[str]") -> int:
     arguments = this_parser.parse_args(words)
     refuse_arguments(this_parser, arguments)
     program = find_program(arguments.program)
-    refuse_unfit(program, arguments.commands)
     progress = Progress(sys.stderr, arguments.quiet)
-    with closing(Nursery(work)) as nursery, closing(Store(arguments.state)) as store:
-        try:
-            return run_all(arguments, program, nursery, store, progress)
-        finally:
-            progress.clear()
+    with closing(Nursery(work)) as nursery:
+        nursery.start_ahead(jobs_of(arguments))  # while this process gets the pages
+        refuse_unfit(program, arguments.commands)
+        with closing(Store(arguments.state)) as store:
+            try:
+                return run_all(arguments, program, nursery, store, progress)
+            finally:
+                progress.clear()
 
 
 def main() -> int:

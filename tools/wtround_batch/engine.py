@@ -14,6 +14,7 @@ from .results import DIED, Examined, Known, Result
 from .worker import FrameReader, Orders, examined_from_json, known_as_json, write_frame
 
 BATCH_PAGES = 16
+FIRST_BATCH_PAGES = 8  # while it isn't known how many pages there are
 BATCH_BYTES = 256 << 10
 STOP_SECONDS = 0.5  # within which a run stops
 WAITING_BATCHES = 2  # of a worker: the one that it works on, and the next
@@ -95,17 +96,20 @@ class Worker:
         return self._nursery.end(self._process_id)
 
 
-def batches_of(tasks: "Iterator[Task]", pages: int, jobs: int) -> "Iterator[list[Task]]":
-    """The tasks by batches. `pages`: how many tasks there are at most.
+def batches_of(tasks: "Iterator[Task]", pages: "Callable[[], int]", jobs: int) -> "Iterator[list[Task]]":
+    """The tasks by batches. `pages` counts how many tasks there are at most.
 
-    The last batches are small, so that all workers end at about the same time.
+    The last batches are small, so that all workers end at about the same time. The first ones, as many as the
+    workers take at once, are given before the pages are counted.
     """
     batch: "list[Task]" = []
-    size, left = 0, pages
+    size, given, batches, most = 0, 0, 0, FIRST_BATCH_PAGES
     for task in tasks:
-        if batch and (len(batch) >= min(BATCH_PAGES, left // (jobs * 8)) or size + task.size > BATCH_BYTES):
-            left -= len(batch)
+        if batch and (len(batch) >= most or size + task.size > BATCH_BYTES):
             yield batch
+            given, batches = given + len(batch), batches + 1
+            if batches >= jobs * WAITING_BATCHES:
+                most = min(BATCH_PAGES, (pages() - given) // (jobs * 8))
             batch, size = [], 0
         batch.append(task)
         size += task.size
@@ -140,8 +144,8 @@ class Engine:
                     self._remove(key.data)
         self._selector.close()
 
-    def run(self, tasks: "Iterator[Task]", pages: int) -> "Generator[Done, None, None]":
-        """`pages`: how many tasks there are at most."""
+    def run(self, tasks: "Iterator[Task]", pages: "Callable[[], int]") -> "Generator[Done, None, None]":
+        """`pages` counts how many tasks there are at most."""
         batches = batches_of(tasks, pages, self._jobs)
         try:
             while not self._is_stopped():

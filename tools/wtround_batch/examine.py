@@ -3,11 +3,10 @@ from __future__ import annotations
 
 import json
 import re
-import time
 from functools import lru_cache
-from typing import Callable, Iterable, Protocol
+from typing import Callable, Generator, Generic, Iterable, Protocol, TypeVar
 
-from .program import Answer, Cases, Died, TooSlow, case
+from .program import Answer, Cases, Died, Failure, Question, TooSlow, case
 from .siblings import explainer, importer
 
 from .results import (
@@ -18,6 +17,7 @@ from .store import digest_of, taken_digest, unsure
 from .wiki import full_name
 
 MEMORY_OF_TEXTS = 32 << 20  # bytes of templates that a worker remembers
+GROUP_BYTES = 64 << 10  # of the questions with which those begin that go on side by side
 MOST_FINDINGS = 100  # of a page that are kept with their places
 # A call whose name is written out. Names that other calls make are found when the program asks for them.
 CALL = re.compile(rb"\{\{\s*([^{}|<>\[\]#]+?)\s*(?:\||\}\})")
@@ -110,16 +110,63 @@ def first_difference(a: bytes, b: bytes) -> int:
     return low
 
 
-class Examiner:
-    """Asks one running program about pages."""
+T = TypeVar("T")
+Asking = Generator[Question, Answer, T]  # what gives questions, goes on with their answers, and comes to a T
 
-    def __init__(self, cases: Cases, texts: Texts, time_limit: float, wants_output: bool) -> None:
-        self._cases = cases
+
+class Inquiry(Generic[T]):
+    """One of several that go on side by side."""
+
+    def __init__(self, asking: "Asking[T]") -> None:
+        self._asking = asking
+        self.question: "Question | None" = None  # the one that waits for its answer; None at the end
+        self.result: "T | None" = None  # at the end
+        self.go_on(None)
+
+    def go_on(self, reply: "Answer | Failure | None") -> None:
+        try:
+            if isinstance(reply, Exception):
+                self.question = self._asking.throw(reply)
+            else:
+                self.question = self._asking.send(reply)
+        except StopIteration as ending:
+            self.question, self.result = None, ending.value
+
+
+def answered(cases: Cases, askings: "Iterable[Asking[T]]") -> "list[T]":
+    """What all of these come to, in their order. Those that begin with short questions go on side by side."""
+    results: "list[T]" = []
+    group: "list[Inquiry[T]]" = []
+    size = 0
+    for inquiry in map(Inquiry, askings):
+        length = 0 if inquiry.question is None else len(inquiry.question.line)
+        if size + length > GROUP_BYTES:
+            results += ended(cases, group)
+            group, size = [], 0
+        group.append(inquiry)
+        size += length
+    return results + ended(cases, group)
+
+
+def ended(cases: Cases, group: "list[Inquiry[T]]") -> "list[T]":
+    """What these come to. In each round all their questions are asked at once."""
+    while True:
+        waiting = [(inquiry, inquiry.question) for inquiry in group if inquiry.question is not None]
+        if not waiting:
+            return [inquiry.result for inquiry in group]
+        replies = cases.ask_all([question for _, question in waiting])
+        for (inquiry, _), reply in zip(waiting, replies):
+            inquiry.go_on(reply)
+
+
+class Examiner:
+    """What is asked about pages."""
+
+    def __init__(self, texts: Texts, time_limit: float, wants_output: bool) -> None:
         self._texts = texts
         self._templates = Templates(texts)
-        self._time_limit = time_limit
+        self._time_limit = time_limit  # in seconds, for one command on a page
         self._wants_output = wants_output
-        self._deadline = 0.0
 
     def examine(
         self,
@@ -128,12 +175,12 @@ class Examiner:
         commands: "list[str]",
         known: "Known | None" = None,
         held: "tuple[bytes, bytes] | None" = None,
-    ) -> Examined:
+    ) -> "Asking[Examined]":
         """What comes of the page. Results that are held for the same text and templates are not made anew."""
         try:
             text = self._texts.text(title)
             if text is not None:
-                return self._examine(title, text, stamp, commands, known, held)
+                return (yield from self._examine(title, text, stamp, commands, known, held))
             failure = self._explained(Result(ABSENT, "no such page"), title, b"")
         except OSError as error:  # of the page, of a template, or of starting the program
             failure = Result(UNREADABLE, f"{error.filename or 'the wiki'}: {error.strerror or error}")
@@ -147,7 +194,7 @@ class Examiner:
         commands: "list[str]",
         known: "Known | None",
         held: "tuple[bytes, bytes] | None",
-    ) -> Examined:
+    ) -> "Asking[Examined]":
         digest = digest_of(text)
         failure: "Result | None" = None
         names: "list[str]" = []
@@ -158,12 +205,12 @@ class Examiner:
                 return Examined(title, len(text), Known(stamp, digest, names, known.taken_digest), {})
             is_sure = known.taken_digest == current
         if not is_sure:
-            failure, names = self.find_templates(title, text, names)
+            failure, names = yield from self.find_templates(title, text, names)
         current = self._digest_of_taken(names)
         if failure is not None:
             now = Known(stamp, digest, names, unsure(current))
             return Examined(title, len(text), now, {command: failure for command in commands})
-        results = self.run(title, text, self.pages_of(title, text, names), commands)
+        results = yield from self.run(title, text, self.pages_of(title, text, names), commands)
         return Examined(title, len(text), Known(stamp, digest, names, current), results)
 
     def _digest_of_taken(self, names: "list[str]") -> bytes:
@@ -171,7 +218,7 @@ class Examiner:
 
     def find_pages(
         self, title: str, text: bytes, known: "Known | None"
-    ) -> "tuple[list[str], dict[str, bytes]]":
+    ) -> "Asking[tuple[list[str], dict[str, bytes]]]":
         """The names of the templates that the page takes, and the page with those that are there."""
         if (
             known is not None
@@ -180,7 +227,7 @@ class Examiner:
         ):
             names = known.names
         else:
-            _, names = self.find_templates(title, text, [])
+            _, names = yield from self.find_templates(title, text, [])
         return names, self.pages_of(title, text, names)
 
     def pages_of(self, title: str, text: bytes, names: "list[str]") -> "dict[str, bytes]":
@@ -191,15 +238,9 @@ class Examiner:
         pages[title] = text
         return pages
 
-    def _ask(self, line: bytes) -> Answer:
-        return self._cases.ask(line, self._deadline)
-
-    def _start_clock(self) -> None:
-        self._deadline = time.monotonic() + self._time_limit
-
     def find_templates(
         self, title: str, text: bytes, guess: "list[str]"
-    ) -> "tuple[Result | None, list[str]]":
+    ) -> "Asking[tuple[Result | None, list[str]]]":
         """The names of the pages that this one takes, by asking `expand`; or a failure, with a guess.
 
         What the page seems to call is sent along. Where the program asks for more that is there, it is sent
@@ -207,17 +248,18 @@ class Examiner:
         """
         if b"{{" not in text:
             return None, []
-        self._start_clock()
         pages = self._templates.reached(guess or called_names(text))
         pages[title] = text
+        left = self._time_limit
         while True:
             try:
-                answer = self._ask(case(["expand", title], b"", pages, wants_names=True))
+                answer = yield Question(case(["expand", title], b"", pages, wants_names=True), left)
             except (Died, TooSlow) as ending:
                 return self._failed(ending), guessed_names(title, pages)
             if answer.line == "no memory":
                 failure = self._explained(Result(NO_MEMORY, answer.line), title, text)
                 return failure, guessed_names(title, pages)
+            left -= answer.seconds
             missing = [n for n in answer.names if n not in pages and self._templates.text(n) is not None]
             if not missing:
                 return None, [name for name in answer.names if name != title]
@@ -226,23 +268,25 @@ class Examiner:
 
     def run(
         self, title: str, text: bytes, pages: "dict[str, bytes]", commands: "list[str]"
-    ) -> "dict[str, Result]":
+    ) -> "Asking[dict[str, Result]]":
         """What comes of the commands, with these pages and no others."""
         results: "dict[str, Result]" = {}
         html: "Answer | None" = None  # one answer of `html` serves two commands
         for command in sorted(commands, key=COMMANDS.index):
-            self._start_clock()
             try:
                 if command == "wikitext":
-                    html = html or self._ask(case(["html", title], b"", pages))
-                    results[command] = self._there_and_back(title, text, html)
+                    html = html or (yield self._question("html", title, pages))
+                    results[command] = yield from self._there_and_back(title, text, html)
                 else:
-                    answer = self._ask(case([command, title], b"", pages))
+                    answer = yield self._question(command, title, pages)
                     html = answer if command == "html" else html
                     results[command] = self._result(command, answer, title, text)
             except (Died, TooSlow) as ending:
                 results[command] = self._failed(ending)
         return results
+
+    def _question(self, command: str, title: str, pages: "dict[str, bytes]") -> Question:
+        return Question(case([command, title], b"", pages), self._time_limit)
 
     def _failed(self, ending: Exception) -> Result:
         if isinstance(ending, TooSlow):
@@ -260,10 +304,10 @@ class Examiner:
             result.out = answer.out
         return result
 
-    def _there_and_back(self, title: str, text: bytes, html: Answer) -> Result:
+    def _there_and_back(self, title: str, text: bytes, html: Answer) -> "Asking[Result]":
         if html.status != 0:
             return self._result("html", html, title, text)
-        back = self._ask(case(["wikitext"], html.out_hex))
+        back = yield Question(case(["wikitext"], html.out_hex), self._time_limit - html.seconds)
         result = self._result("wikitext", back, title, text)
         result.seconds += html.seconds
         if result.outcome == ANSWERED:

@@ -1,7 +1,6 @@
 """Where the answers go: files that are named by the titles, or one file with a line of JSON for each page."""
 from __future__ import annotations
 
-import gzip
 import json
 import os
 from hashlib import blake2b
@@ -32,6 +31,8 @@ def output_name(title: str, command: str, is_packed: bool) -> str:
 
 def packed(data: bytes) -> bytes:
     """The bytes as one member of a gzip file; such a file may have any number of members."""
+    import gzip  # only where it is wanted, so that the other runs begin sooner
+
     return gzip.compress(data, COMPRESSION, mtime=0) if data else b""
 
 

@@ -1,4 +1,4 @@
-"""The program `wtround_cases`, which answers a case a line, as a running process that is asked one by one."""
+"""The program `wtround_cases`, which answers a case a line, as a running process that is asked."""
 from __future__ import annotations
 
 import binascii
@@ -8,12 +8,12 @@ import hashlib
 import os
 import resource
 import select
-import shutil
 import signal
 import subprocess
 import time
+from collections import deque
 from dataclasses import dataclass
-from typing import Iterable, Mapping
+from typing import Iterable, Iterator, Mapping, Union
 
 from . import siblings
 
@@ -42,16 +42,26 @@ class TooSlow(Exception):
 
 
 @dataclass(frozen=True)
+class Question:
+    line: bytes  # a case, without its line break
+    seconds: float  # within which it must be answered
+
+
+@dataclass(frozen=True)
 class Answer:
     status: int
     out_hex: bytes  # what standard output took, in hex
     line: str  # what standard error took, without `wtround: ` and the line break
     names: "list[str]"  # the pages that were asked for, in order, where the case wanted them
-    seconds: float  # of processor time
+    seconds: float  # of processor time; where several answers came at once, by their bytes
 
     @property
     def out(self) -> bytes:
         return binascii.unhexlify(self.out_hex)
+
+
+# Why there is no answer; OSError where the program cannot be started.
+Failure = Union[Died, TooSlow, OSError]
 
 
 def find_program(given: "str | None") -> str:
@@ -63,9 +73,14 @@ def find_program(given: "str | None") -> str:
     clone = os.path.join(
         siblings.PACKAGE_PARENT, os.pardir, "crates", "wtround_cases", "out", "wtround_cases"
     )
-    for path in (clone, siblings.find("wtround_cases"), shutil.which("wtround_cases")):
+    for path in (clone, siblings.find("wtround_cases")):
         if path is not None and os.access(path, os.X_OK):
             return os.path.realpath(path)
+    from shutil import which  # only where it is wanted, so that the other runs begin sooner
+
+    found = which("wtround_cases")
+    if found is not None:
+        return os.path.realpath(found)
     raise ProgramError("there is no wtround_cases beside this tool or on the PATH; --program names one")
 
 
@@ -107,38 +122,56 @@ class Cases:
         self._memory_limit = memory_limit  # in bytes
         self._process: "subprocess.Popen[bytes] | None" = None
         self._is_fresh = True
-        self._left = b""
         self._room = memoryview(bytearray(CHUNK))
 
-    def ask(self, line: bytes, deadline: float) -> Answer:
-        """The answer to a case, before this moment of `time.monotonic`. Raises Died or TooSlow.
+    def start_ahead(self) -> None:
+        """Starts it before it is asked. Why that fails, if it does, is said when it is asked."""
+        try:
+            self._start()
+        except OSError:
+            pass
+
+    def ask(self, question: Question) -> Answer:
+        """Raises Died, TooSlow or OSError."""
+        (answer,) = self.ask_all([question])
+        if isinstance(answer, Exception):
+            raise answer
+        return answer
+
+    def ask_all(self, questions: "list[Question]") -> "list[Union[Answer, Failure]]":
+        """The answers to several questions that are asked at once, or why there are none, in their order.
 
         Where a process that has answered other cases before dies or lacks memory, the case is asked once
         more of a fresh one: so it is never blamed for what others left behind.
         """
-        was_fresh = self._process is None or self._is_fresh
-        try:
-            answer = self._ask_once(line, deadline)
-        except Died:
-            if was_fresh:
-                raise
-            answer = self._ask_once(line, deadline)
-        else:
-            if answer.line == "no memory" and not was_fresh:
-                self.close()
-                answer = self._ask_once(line, deadline)
-        return answer
+        answers: "list[Union[Answer, Failure]]" = []
+        while len(answers) < len(questions):
+            was_fresh = self._process is None or self._is_fresh
+            more, failure = self._ask_some(questions[len(answers) :])
+            answers += more
+            is_its_own = was_fresh and not more or isinstance(failure, (TooSlow, OSError))
+            if failure is not None and is_its_own:
+                answers.append(failure)
+        return answers
 
-    def _ask_once(self, line: bytes, deadline: float) -> Answer:
-        process = self._process or self._start()
-        before = processor_time(process.pid)
+    def _ask_some(
+        self, questions: "list[Question]"
+    ) -> "tuple[list[Answer], Union[Answer, Failure, None]]":
+        """The answers up to the first case at which the process fails, and how it fails there."""
+        answers: "list[Answer]" = []
         try:
-            text = self._exchange(process, line + b"\n", deadline)
-        except (Died, TooSlow):
+            process = self._process or self._start()
+            for text, seconds in self._exchange(process, questions):
+                answer = read_answer(text, seconds)
+                if answer.line == "no memory":
+                    self.close()
+                    return answers, answer
+                self._is_fresh = False
+                answers.append(answer)
+        except (Died, TooSlow, OSError) as failure:
             self.close()
-            raise
-        self._is_fresh = False
-        return read_answer(text, processor_time(process.pid) - before)
+            return answers, failure
+        return answers, None
 
     def _start(self) -> "subprocess.Popen[bytes]":
         process = subprocess.Popen(
@@ -154,7 +187,7 @@ class Cases:
             assert stream is not None
             os.set_blocking(stream.fileno(), False)
             widen(stream.fileno())
-        self._process, self._is_fresh, self._left = process, True, b""
+        self._process, self._is_fresh = process, True
         return process
 
     def _limit(self) -> None:
@@ -163,33 +196,40 @@ class Cases:
         if self._memory_limit is not None:
             resource.setrlimit(resource.RLIMIT_AS, (self._memory_limit, self._memory_limit))
 
-    def _exchange(self, process: "subprocess.Popen[bytes]", data: bytes, deadline: float) -> bytes:
-        """Writes a line and reads the next one."""
+    def _exchange(
+        self, process: "subprocess.Popen[bytes]", questions: "list[Question]"
+    ) -> "Iterator[tuple[bytes, float]]":
+        """Writes all lines, and gives each one that comes back, with its seconds of processor time."""
         assert process.stdin is not None and process.stdout is not None
         target, source = process.stdin.fileno(), process.stdout.fileno()
-        rest, parts = memoryview(data), [self._left]
+        rest = memoryview(b"".join(question.line + b"\n" for question in questions))
         poll = select.poll()
         poll.register(source, select.POLLIN)
-        while True:
-            rest = rest[self._write_some(target, rest) :]
+        poll.register(target, select.POLLOUT)
+        waiting, parts = deque(questions), [b""]
+        spent, start = processor_time(process.pid), time.monotonic()
+        while waiting:
             if len(rest):
-                poll.register(target, select.POLLOUT)
-            remaining = deadline - time.monotonic()
+                rest = rest[self._write_some(target, rest) :]
+                if not len(rest):
+                    poll.unregister(target)
+            remaining = start + waiting[0].seconds - time.monotonic()
             if remaining <= 0:
                 raise TooSlow
             poll.poll(remaining * 1000 + 1)
-            if not len(rest):
-                poll = select.poll()
-                poll.register(source, select.POLLIN)
             chunk = self._read_some(source)
             if chunk == b"":
                 raise Died(self._ending(process))
-            if chunk:
-                line, mark, left = chunk.partition(b"\n")
-                parts.append(line)
-                if mark:
-                    self._left = left
-                    return b"".join(parts)
+            parts.append(chunk or b"")
+            if b"\n" not in parts[-1]:
+                continue
+            *texts, rest_of_line = b"".join(parts).split(b"\n")
+            parts = [rest_of_line]
+            if len(texts) > len(waiting):
+                raise Died("it answers more than it was asked")
+            before, spent, start = spent, processor_time(process.pid), time.monotonic()
+            sizes = [len(waiting.popleft().line) + len(text) for text in texts]
+            yield from zip(texts, shares(spent - before, sizes))
 
     def _read_some(self, source: int) -> "bytes | None":
         """What can be read now; None where nothing is there yet, empty at the end.
@@ -260,6 +300,11 @@ def processor_time(process_id: int) -> float:
         return time.monotonic()
 
 
+def shares(seconds: float, sizes: "list[int]") -> "list[float]":
+    """The seconds, shared out by these sizes."""
+    return [seconds * size / sum(sizes) for size in sizes]
+
+
 def read_answer(text: bytes, seconds: float) -> Answer:
     fields = text.split(b"\t")
     if text == b"no memory":
@@ -285,7 +330,7 @@ def refuse_unfit(path: str, commands: "Iterable[str]") -> None:
         for command in commands:
             words = [command] if command == "wikitext" else [command, "Main"]
             line = case(words, b"", {"Main": b""}, wants_names=True)
-            answer = cases.ask(line, time.monotonic() + PROBE_SECONDS)
+            answer = cases.ask(Question(line, PROBE_SECONDS))
             if answer.status == 1:
                 raise ProgramError(
                     f"{path} does not know the command {command}: use a later wtround_cases, or leave it out"

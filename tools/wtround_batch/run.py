@@ -18,7 +18,8 @@ from .store import Export, Store, StoreError, digest_of, remember, taken_digest,
 from .wiki import Folder, Namespaces, Skipped, full_name
 from .worker import Orders
 
-COMMIT_SECONDS = 0.5
+# Between two commits, which become rarer as a run goes on.
+LEAST_COMMIT_SECONDS, MOST_COMMIT_SECONDS = 0.5, 5.0
 Source = Union[Folder, Export]
 
 
@@ -136,11 +137,15 @@ class Run:
         self._orders = orders
         self._target = target
         self._digests: "dict[str, bytes | None]" = {}
-        self._next_commit = 0.0
+        self._started = self._next_commit = 0.0
         self.counts = Counts()
         self.is_stopped = False  # is set when the run shall end
         self.number = 0
-        self._titles = 0  # with what is skipped
+
+    @cached_property
+    def _titles(self) -> int:
+        """How many titles are chosen, with what is skipped. They are counted while the workers work."""
+        return self._choice.count(self._source)
 
     @cached_property
     def program(self) -> str:
@@ -153,13 +158,12 @@ class Run:
 
     def go(self, nursery: Nursery, jobs: int, progress: Progress) -> None:
         """Tries every chosen page, until it is stopped. What was stored stays stored, however this ends."""
-        started = time.monotonic()
+        self._started = time.monotonic()
         self._store.clear_skipped("list")
         self.number = self._store.count_up("run")
-        self._titles = self._choice.count(self._source)
         engine = Engine(nursery, self._orders, jobs, lambda: self.is_stopped)
         self._store.begin()
-        results = engine.run(self._tasks(), self._titles)
+        results = engine.run(self._tasks(), lambda: self._titles)
         try:
             for done in results:
                 self._take(done)
@@ -167,7 +171,7 @@ class Run:
         finally:
             results.close()
             self._commit()
-            self.counts.seconds = time.monotonic() - started
+            self.counts.seconds = time.monotonic() - self._started
 
     @property
     def total(self) -> int:
@@ -235,10 +239,12 @@ class Run:
             self.counts.outcomes[outcome] += 1
 
     def _commit_now_and_then(self) -> None:
-        if time.monotonic() >= self._next_commit:
+        now = time.monotonic()
+        if now >= self._next_commit:
             self._commit()
             self._store.begin()
-            self._next_commit = time.monotonic() + COMMIT_SECONDS
+            wait = min(max(now - self._started, LEAST_COMMIT_SECONDS), MOST_COMMIT_SECONDS)
+            self._next_commit = now + wait
 
     def _commit(self) -> None:
         self._target.flush()

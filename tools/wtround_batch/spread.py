@@ -8,7 +8,7 @@ from contextlib import closing
 from typing import BinaryIO, Iterator
 
 from . import command as one_machine
-from .examine import Examiner
+from .examine import Examiner, answered
 from .outputs import Lines, read_line
 from .program import Cases, case, find_program, refuse_unfit
 from .progress import Progress
@@ -70,11 +70,11 @@ def write_cases(words: "list[str]") -> int:
     cases = Cases(program, one_machine.memory_of(arguments))
     try:
         with closing(one_machine.read_source(arguments, store, progress)) as source:
-            examiner = Examiner(cases, source, arguments.time_limit, wants_output=False)
+            examiner = Examiner(source, arguments.time_limit, wants_output=False)
             choice = Choice(Namespaces.chosen(arguments.namespace), arguments.list)
             total = sum(not isinstance(title, Skipped) for title in choice.titles(source))
             for count, title in enumerate(t for t in choice.titles(source) if not isinstance(t, Skipped)):
-                write_cases_of_page(title, source, store, examiner, arguments.commands)
+                write_cases_of_page(title, source, store, cases, examiner, arguments.commands)
                 progress.show(count + 1, total, "")
     finally:
         progress.clear()
@@ -84,13 +84,18 @@ def write_cases(words: "list[str]") -> int:
 
 
 def write_cases_of_page(
-    title: str, source: "Folder | Export", store: Store, examiner: Examiner, commands: "list[str]"
+    title: str,
+    source: "Folder | Export",
+    store: Store,
+    cases: Cases,
+    examiner: Examiner,
+    commands: "list[str]",
 ) -> None:
     text = source.text(title)
     if text is None:
         print(f"{one_machine.PROGRAM}: {importer.printable(title)}: no such page", file=sys.stderr)
         return
-    names, pages = examiner.find_pages(title, text, store.known(title))
+    ((names, pages),) = answered(cases, [examiner.find_pages(title, text, store.known(title))])
     store.set_known(
         title, Known("", digest_of(text), names, taken_digest((n, digest_or_none(pages, n)) for n in names))
     )
@@ -153,8 +158,8 @@ def answer(line: bytes, cases: Cases, time_limit: float, wants_output: bool) -> 
     if title not in pages:
         raise ValueError
     commands = one_machine.words_of_commands(command.decode())
-    examiner = Examiner(cases, Lacking(pages), time_limit, wants_output)
-    results = examiner.run(title, pages[title], pages, commands)
+    examiner = Examiner(Lacking(pages), time_limit, wants_output)
+    (results,) = answered(cases, [examiner.run(title, pages[title], pages, commands)])
     names = [name for name in pages if name != title]
     return Examined(title, len(pages[title]), Known("", b"", names, b""), results)
 

@@ -8,12 +8,12 @@ import sqlite3
 import zlib
 from hashlib import blake2b
 from typing import Callable, Iterable, Iterator
-from urllib.parse import quote
 
 from .results import Known, Result
-from .wiki import Entry, ExportedPage, ExportReader, Namespaces, Skipped, link_in_wiki
+from .wiki import Entry, ExportedPage, ExportReader, Namespaces, Skipped, link_in_wiki, quoted
 
 FORMAT = "1"
+LOG_PAGES = 10_000  # of SQLite, 41 MB: at so many what was committed is brought into the file, which is waited for
 MOST_REMEMBERED = 1 << 16  # entries of each of the two small memories of templates
 
 SCHEMA = """
@@ -87,6 +87,7 @@ class Store:
             self._connection = sqlite3.connect(self.path, isolation_level=None)
             self._connection.execute("PRAGMA journal_mode = WAL")
             self._connection.execute("PRAGMA synchronous = NORMAL")
+            self._connection.execute(f"PRAGMA wal_autocheckpoint = {LOG_PAGES}")
             self._create()
         except sqlite3.DatabaseError as error:
             raise StoreError(f"{path}: {error}") from None
@@ -284,7 +285,7 @@ class Export:
     def __init__(self, store_path: str, export_path: str) -> None:
         self.path = export_path
         self._connection = sqlite3.connect(
-            f"file:{quote(store_path)}?mode=ro", uri=True, isolation_level=None
+            f"file:{quoted(store_path)}?mode=ro", uri=True, isolation_level=None
         )
         self._base = (self._one("SELECT value FROM about WHERE name = 'base'") or ("",))[0]
 

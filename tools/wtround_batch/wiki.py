@@ -8,7 +8,6 @@ import time
 import zlib
 from dataclasses import dataclass
 from typing import Any, BinaryIO, Iterator, Union
-from urllib.parse import quote, unquote_to_bytes
 
 from .siblings import importer
 
@@ -37,6 +36,13 @@ class Skipped:
 
     title: str
     why: str
+
+
+def quoted(text: str, safe: str = "/") -> str:
+    """A part of an address."""
+    from urllib.parse import quote  # only where it is wanted, so that the other runs begin sooner
+
+    return quote(text, safe)
 
 
 def full_name(text: str) -> str:
@@ -96,6 +102,8 @@ def title_of_file(name: str) -> str:
     stem = name[: -len(".wiki")]
     if len(stem) <= importer.TITLE_LIMIT and PLAIN_FILE.fullmatch(name):
         return stem.replace("_", " ")
+    from urllib.parse import unquote_to_bytes  # as in `quoted`
+
     try:
         title = full_name(unquote_to_bytes(stem).decode())
     except UnicodeDecodeError:
@@ -174,7 +182,7 @@ class Folder:
             raise error
 
     def link(self, title: str, report_folder: str) -> str:
-        return quote(os.path.relpath(self.file_of(title), report_folder))
+        return quoted(os.path.relpath(self.file_of(title), report_folder))
 
     def close(self) -> None:
         """Nothing is held open."""
@@ -293,4 +301,4 @@ def link_in_wiki(base: str, title: str) -> str:
     """The address of a page, beside that of the main page."""
     address = base.rpartition("/")[0]
     is_web = address.startswith(("http://", "https://"))
-    return f"{address}/{quote(title.replace(' ', '_'), safe='/:')}" if is_web else ""
+    return f"{address}/{quoted(title.replace(' ', '_'), safe='/:')}" if is_web else ""

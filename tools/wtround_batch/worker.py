@@ -14,7 +14,7 @@ import threading
 from dataclasses import dataclass
 from typing import IO
 
-from .examine import Examiner
+from .examine import Asking, Examiner, answered
 from .outputs import Files, Lines, Nothing
 from .program import Cases
 from .results import Examined, Known, Result
@@ -156,13 +156,14 @@ def work(leader: socket.socket) -> None:
         # The worker and its program take turns: on one processor, neither has to wake another one up.
         os.sched_setaffinity(0, {orders.processor})
     cases = Cases(orders.program, orders.memory_limit)
-    examiner = Examiner(cases, orders.source(), orders.time_limit, orders.output != "nothing")
+    cases.start_ahead()
+    examiner = Examiner(orders.source(), orders.time_limit, orders.output != "nothing")
     sink = orders.sink()
     batches: "queue.SimpleQueue" = queue.SimpleQueue()
     threading.Thread(target=read_ahead, args=(source, batches), daemon=True).start()
     try:
         for frame in iter(batches.get, None):
-            pages, output = worked_off(frame[0]["pages"], orders.commands, examiner, sink)
+            pages, output = worked_off(frame[0]["pages"], orders.commands, cases, examiner, sink)
             write_frame(target, {"pages": pages}, output)
     except ConnectionError:
         pass  # nobody waits for it any more
@@ -170,14 +171,22 @@ def work(leader: socket.socket) -> None:
 
 
 def worked_off(
-    tasks: "list[dict]", commands: "list[str]", examiner: Examiner, sink: "Files | Lines | Nothing"
+    tasks: "list[dict]",
+    commands: "list[str]",
+    cases: Cases,
+    examiner: Examiner,
+    sink: "Files | Lines | Nothing",
 ) -> "tuple[list[dict], bytes]":
     """What comes of the pages of a batch, and the bytes of their output where all goes into one file."""
     lines, done = [], []
-    for task in tasks:
-        known, held = known_from_json(task["known"]), held_from_json(task["held"])
-        examined = examiner.examine(task["title"], task["stamp"], commands, known, held)
+    askings = [examining(task, commands, examiner) for task in tasks]
+    for task, examined in zip(tasks, answered(cases, askings)):
         if examined.results:
             lines.append(sink.take(examined, task["revision"]))
         done.append(examined_as_json(examined))
     return done, sink.finish(b"".join(lines))
+
+
+def examining(task: dict, commands: "list[str]", examiner: Examiner) -> "Asking[Examined]":
+    known, held = known_from_json(task["known"]), held_from_json(task["held"])
+    return examiner.examine(task["title"], task["stamp"], commands, known, held)

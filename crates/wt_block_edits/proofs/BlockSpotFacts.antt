@@ -5,7 +5,7 @@ use Rattle.std.proofs.lemmas.Grind.{flat_map-append}
 use Rattle.wt_tree.specs.Plain.{Plains, ended}
 use Rattle.wt_tree.specs.Tree.{Tree, Trees}
 use Rattle.wt_span.specs.Items.{Item, source, sources}
-use Rattle.wt_guards.specs.declared.side.Place.TheVariants as place
+use Rattle.wt_tree.specs.declared.edit_shape.Place.TheVariants as place
 use Rattle.wt_content.specs.Content.{has_break}
 use Rattle.wt_inline.specs.ItemTree.{ItemTree, forest, tree_items}
 use Rattle.wt_isolation.specs.OpenTags.{ends_open}
@@ -14,17 +14,18 @@ use Rattle.wt_expand.specs.PageItems.{page_items}
 use Rattle.wt_text_edits.proofs.TypedLeaves.{AreOwn, leaves}
 use Rattle.wt_moved_laws.specs.Standing.{IsOrdinary, AreOrdinary}
 use Rattle.wt_moved_laws.proofs.Moved.{shows_the_same}
-use Rattle.wt_typed_blocks.specs.Sent.{Block, paragraph, heading}
+use Rattle.wt_typed_blocks.specs.Sent.{paragraph, heading}
 use Rattle.wt_prose.proofs.ProseTrees.{blocks_of, number_behind, items_behind}
 use Rattle.wt_prose.proofs.ProseFacts.{plains_of}
 use Rattle.wt_text_edits.specs.TypedPages.{IsTypedPage}
 use Rattle.wt_paragraph_laws.specs.Between.{blocks_in}
-use Rattle.wt_page_edits.proofs.KeptBlocks.{block_shown, blocks_shown, blocks_source, part_source, others_show}
-use Rattle.wt_page_edits.proofs.PageKinds.{both_ordinary}
-use Rattle.wt_block_edits.specs.Blocks.{source_of, IsTypedHeading, IsBlock}
+use Rattle.wt_block_edits.proofs.KeptBlocks.{block_shown, blocks_shown, blocks_source, part_source, others_show}
+use Rattle.wt_block_edits.proofs.PageKinds.{both_ordinary}
+use Rattle.wt_heading_laws.specs.TypedHeadings.{Sides, AreSides}
+use Rattle.wt_block_edits.specs.Blocks.{TextBlock, a_paragraph, a_heading, source_of, IsTypedHeading, IsBlock}
 use Rattle.wt_block_edits.specs.BlockSpots.{BlockSpot, spots_source, SameRound, AreBlocks}
 use Rattle.wt_block_edits.specs.BlockEdits.{Sending, kept, Typing, types, keeps, typed_as, new_text, SpotEdit, old_spots, new_spots, all_kept, sending_for, spot_sendings, IsSentFor, AreSentFor, IsText, AreTexts}
-use Rattle.wt_block_edits.proofs.BlockMeaning.{level_some, level_most}
+use Rattle.wt_block_edits.proofs.BlockMeaning.{heading_sides}
 use Rattle.wt_block_edits.proofs.BlockTrees.{leaf_block, leafy_blocks, block_own}
 use Rattle.wt_block_edits.proofs.BlocksAgain.{AreClear}
 use Rattle.wt_block_edits.proofs.TypedFacts.{Facts, facts_nothing, facts_kept, facts_text, items_source}
@@ -92,7 +93,7 @@ facts_spot : (xs : List Item) (e : SpotEdit) (ds : List Sending) (vs : List Item
     (blocks_shown (blocks_in (page_items e.spot.before)) (spot_shown e shown))
 facts_spot xs e ds vs was now shown n before sent o p own new u le clear k =
     let front : List ℕ = e.spot.before in
-    let b : Block = e.spot.block in
+    let b : TextBlock = e.spot.block in
     let q : List ℕ = source_of b e.spot.text in
     let r : List ℕ = source_of b (new_of e) in
     let ts : List ItemTree = blocks_in (page_items front) in
@@ -180,10 +181,9 @@ typed_paragraph source text u = record {
   is = refl;
 }
 
-typed_heading : (n : ℕ) (source text : List ℕ) → IsUtf8 text → has_break text ≡ false → 1 ≤ n → n ≤ 6 → IsTypedHeading n (typed_as (heading n) source text)
-typed_heading n source text u line some most = record {
-  some = some;
-  most = most;
+typed_heading : (s : Sides) (source text : List ℕ) → IsUtf8 text → has_break text ≡ false → AreSides s → IsTypedHeading s (typed_as (heading s.level) source text)
+typed_heading s source text u line a = record {
+  sides = a;
   setting = record { within = false; place = place.Heading; source = source };
   text = text;
   utf8 = u;
@@ -193,11 +193,11 @@ typed_heading n source text u line some most = record {
   is = refl;
 }
 
-new_is : (k : Block) (y : Typing) (q : List ℕ) → IsText k y → IsBlock k q → IsBlock k (new_text k y q)
-new_is paragraph (types p t text) q u h = inl (typed_paragraph (source_of paragraph q) text u.0)
-new_is (heading n) (types p t text) q u h = inl (typed_heading n (source_of (heading n) q) text u.0 u.1 (level_some n q h) (level_most n q h))
-new_is paragraph (keeps v) q u h = h
-new_is (heading n) (keeps v) q u h = h
+new_is : (k : TextBlock) (y : Typing) (q : List ℕ) → IsText k y → IsBlock k q → IsBlock k (new_text k y q)
+new_is a_paragraph (types p t text) q u h = inl (typed_paragraph (source_of a_paragraph q) text u.0)
+new_is (a_heading s) (types p t text) q u h = inl (typed_heading s (source_of (a_heading s) q) text u.0 u.1 (heading_sides s q h))
+new_is a_paragraph (keeps v) q u h = h
+new_is (a_heading s) (keeps v) q u h = h
 
 pub all_typed : (es : List SpotEdit) → AreTexts es → AreBlocks (old_spots es) → AreBlocks (new_spots es)
 all_typed [] u h = tt

@@ -42,8 +42,8 @@ use Rattle.wt_prose.proofs.ProseTrees.{blocks_of}
 use Rattle.wt_prose.proofs.ProseTakes.{as_edit, not_longer}
 use Rattle.wt_annotated.specs.Annotated.{all_unplaced}
 use Rattle.wt_moved_laws.specs.Standing.{AreOrdinary}
-use Rattle.wt_paragraph_laws.specs.Spots.{part_tree}
-use Rattle.wt_page_edits.proofs.PageKinds.{page_ordinary}
+use Rattle.wt_paragraph_laws.specs.Parts.{part_tree}
+use Rattle.wt_block_edits.proofs.PageKinds.{page_ordinary}
 use Rattle.wt_block_edits.specs.BlockSpots.{BlockSpot, spots_source, page_blocks, AreBlockSpots}
 use Rattle.wt_block_edits.proofs.BlockReading.{spots_expanded, spots_unrefused}
 use Rattle.wt_block_edits.proofs.BlockMeaning.{spots_meaning}

@@ -2,9 +2,14 @@ pub mod BlockReading
 pub mod BlockMeaning
 pub mod BlockTrees
 pub mod BlocksAgain
+pub mod OtherBlocks
+pub mod PageKinds
+pub mod KeptBlocks
 pub mod TypedFacts
 pub mod BlockSpotFacts
 pub mod BlocksTake
 pub mod BlocksUnmarked
 pub mod BlocksCalls
+pub mod OwnNodes
 mod Cases
+mod PageCases

@@ -1,6 +1,6 @@
 -- What holds of blocks of a page and of what is sent for them, behind these items: one block before others.
-use Rattle.std.proofs.Common.{arith, ◌≡◌, ◌≢◌, ℕ, zero, suc, ◌+◌, ◌≤◌, Bool, true, false, Option, Some, None, List, [], ◌∷◌, ◌++◌, length, map, take, refl, sym, ap, ap₂, ◌∙◌, subst, append-nil, append_assoc}
-use Rattle.std.specs.Prelude.{◌||◌, replicate}
+use Rattle.std.proofs.Common.{arith, ◌≡◌, ◌≢◌, ℕ, ◌+◌, ◌≤◌, Bool, true, false, Option, Some, None, List, [], ◌∷◌, ◌++◌, length, map, take, refl, sym, ap, ap₂, ◌∙◌, subst, append-nil, append_assoc}
+use Rattle.std.specs.Prelude.{◌||◌}
 use Rattle.std.specs.List.{flat_map}
 use Rattle.std.specs.Str.{IsUtf8}
 use Rattle.std.proofs.Math.Seq.{take-append_seam}
@@ -21,7 +21,7 @@ use Rattle.wt_annotated.specs.Annotated.{unplaced}
 use Rattle.wt_annotated.specs.Labels.{width, label_at}
 use Rattle.wt_expand.specs.PageItems.{page_items}
 use Rattle.wt_expand.proofs.PageLaws.{page_sources}
-use Rattle.wt_text_edits.specs.LonePages.{of_items}
+use Rattle.wt_text_edits.specs.LonePages.{page_chars, of_items}
 use Rattle.wt_text_edits.proofs.TypedItems.{typed_shows}
 use Rattle.wt_text_edits.proofs.TypedLeaves.{AreOwn, Leaf, leaves, leaf_shown, leaves_shown, leaf_source, leaves_source, leaves_shut, leaf_tree}
 use Rattle.wt_text_edits.proofs.TypedShown.{leaves_show}
@@ -31,13 +31,13 @@ use Rattle.wt_moved_laws.specs.Standing.{standing, IsOrdinary}
 use Rattle.wt_moved_laws.proofs.Moved.{shows_the_same}
 use Rattle.wt_moved_laws.proofs.Ordinary.{standing_ordinary, ordinary_ungrouped, ordinary_unframed}
 use Rattle.wt_moved_laws.proofs.Sources.{standing_source}
-use Rattle.wt_typed_blocks.specs.Sent.{Block, paragraph, heading, kind_of, Sent, old_children, AreSent, all_show}
+use Rattle.wt_typed_blocks.specs.Sent.{kind_of, Sent, old_children, AreSent, all_show}
 use Rattle.wt_typed_blocks.specs.Typed.{place_of, block_source, new_sources, Takes, TakeTexts, StandAt, AreUntangled}
 use Rattle.wt_prose.proofs.ProseTrees.{items_behind}
 use Rattle.wt_prose.proofs.BlockFacts.{behind_source, behind_width}
-use Rattle.wt_page_edits.proofs.KeptBlocks.{block_shown}
-use Rattle.wt_heading_laws.specs.TypedHeadings.{equals, space}
-use Rattle.wt_block_edits.specs.Blocks.{opening, source_of}
+use Rattle.wt_block_edits.proofs.KeptBlocks.{block_shown}
+use Rattle.wt_heading_laws.specs.TypedHeadings.{opening, closing}
+use Rattle.wt_block_edits.specs.Blocks.{TextBlock, a_paragraph, a_heading, block_of, source_of}
 use Rattle.wt_block_edits.specs.BlockEdits.{Sending, retyped, kept, sent_children, AreKept, Typing, types, keeps, typed_as, new_text, sending_for, IsText}
 use Rattle.wt_block_edits.proofs.BlockTrees.{open_items, close_items, leaf_block}
 
@@ -94,16 +94,13 @@ facts_kept xs n before t u ds us was now shown o f =
 
 -- ---- the source of a paragraph or heading
 
-run_source : (n : ℕ) → sources (equals n) ≡ replicate n 61
-run_source zero = refl
-run_source (suc n) = ap (λ (bs : List ℕ). 61 ∷ bs) (run_source n)
+chars_are : (bs : List ℕ) → sources (page_chars bs) ≡ bs
+chars_are [] = refl
+chars_are (b ∷ bs) = ap (λ (cs : List ℕ). b ∷ cs) (chars_are bs)
 
-framed : (k : Block) (q : List ℕ) → sources (open_items k) ++ (q ++ sources (close_items k)) ≡ source_of k q
-framed paragraph q = append-nil q
-framed (heading n) q =
-    let begin : sources (equals n ++ space ∷ []) ≡ opening n =
-    flat_map-append source (equals n) (space ∷ []) ∙ ap (λ (bs : List ℕ). bs ++ 32 ∷ []) (run_source n) in
-    ap₂ (λ (bs cs : List ℕ). bs ++ (q ++ cs)) begin (ap (λ (bs : List ℕ). 32 ∷ bs) (run_source n))
+framed : (k : TextBlock) (q : List ℕ) → sources (open_items k) ++ (q ++ sources (close_items k)) ≡ source_of k q
+framed a_paragraph q = append-nil q
+framed (a_heading s) q = ap₂ (λ (bs cs : List ℕ). bs ++ (q ++ cs)) (chars_are (opening s)) (chars_are (closing s))
 
 leaves_are : (q : List ℕ) → AreOwn (page_items q) → flat_map leaf_source (leaves (page_items q)) ≡ q
 leaves_are q h = leaves_source (page_items q) h ∙ page_sources q
@@ -111,7 +108,7 @@ leaves_are q h = leaves_source (page_items q) h ∙ page_sources q
 abbrev held : List Leaf → List Item
 held ls = held_by_all (forest (map leaf_tree ls))
 
-pub items_source : (k : Block) (q : List ℕ) → AreOwn (page_items q) → sources (tree_items (leaf_block k (leaves (page_items q)))) ≡ source_of k q
+pub items_source : (k : TextBlock) (q : List ℕ) → AreOwn (page_items q) → sources (tree_items (leaf_block k (leaves (page_items q)))) ≡ source_of k q
 items_source k q h =
     let ls : List Leaf = leaves (page_items q) in
     flat_map-append source (open_items k) (held ls ++ close_items k)
@@ -121,9 +118,9 @@ items_source k q h =
 
 -- ---- its node
 
-abbrev text_label : Block → ℕ → List Item → List Leaf → Label
+abbrev text_label : TextBlock → ℕ → List Item → List Leaf → Label
 text_label k n before ls = record {
-  kind = kind_of k;
+  kind = kind_of (block_of k);
   id = n;
   ranges = Some (record {
     start = width before;
@@ -141,33 +138,33 @@ text_label k n before ls = record {
   mw = None;
 }
 
-abbrev text_nodes : Block → ℕ → List Item → List Leaf → Trees
+abbrev text_nodes : TextBlock → ℕ → List Item → List Leaf → Trees
 text_nodes k n before ls = nodes (n + 1) (before ++ open_items k) ls
 
-its_node : (k : Block) (n : ℕ) (before : List Item) (ls : List Leaf)
+its_node : (k : TextBlock) (n : ℕ) (before : List Item) (ls : List Leaf)
     → standing n before (leaf_block k ls) ≡ tree (text_label k n before ls) (text_nodes k n before ls)
 unfolding label_at
-its_node paragraph n before ls = refl
-its_node (heading m) n before ls = refl
+its_node a_paragraph n before ls = refl
+its_node (a_heading s) n before ls = refl
 
 -- ---- what it shows
 
-abbrev text_shown : Block → List ℕ → Plains → Plains
-text_shown k text rest = along (element (record { kind = kind_of k; attrs = []; mw = None }) (text_before text ended)) rest
+abbrev text_shown : TextBlock → List ℕ → Plains → Plains
+text_shown k text rest = along (element (record { kind = kind_of (block_of k); attrs = []; mw = None }) (text_before text ended)) rest
 
-leaves_shown_in : (k : Block) (ls : List Leaf) (rest : Plains) → block_shown (leaf_block k ls) rest ≡ text_shown k (flat_map leaf_shown ls) rest
+leaves_shown_in : (k : TextBlock) (ls : List Leaf) (rest : Plains) → block_shown (leaf_block k ls) rest ≡ text_shown k (flat_map leaf_shown ls) rest
 unfolding label_at
-leaves_shown_in paragraph ls rest =
-    ap (λ ps. along (element (record { kind = kind_of paragraph; attrs = []; mw = None }) ps) rest) (leaves_show 1 [] ls ended)
-leaves_shown_in (heading n) ls rest =
-    ap (λ ps. along (element (record { kind = kind_of (heading n); attrs = []; mw = None }) ps) rest) (leaves_show 1 (open_items (heading n)) ls ended)
+leaves_shown_in a_paragraph ls rest =
+    ap (λ ps. along (element (record { kind = kind_of (block_of a_paragraph); attrs = []; mw = None }) ps) rest) (leaves_show 1 [] ls ended)
+leaves_shown_in (a_heading s) ls rest =
+    ap (λ ps. along (element (record { kind = kind_of (block_of (a_heading s)); attrs = []; mw = None }) ps) rest) (leaves_show 1 (open_items (a_heading s)) ls ended)
 
 -- a text that was typed is shown, however it is spelled
-typed_shown : (k : Block) (q text : List ℕ) (rest : Plains) → IsUtf8 text → AreOwn (page_items (typed_as k q text))
-    → text_shown k text rest ≡ block_shown (leaf_block k (leaves (page_items (typed_as k q text)))) rest
+typed_shown : (k : TextBlock) (q text : List ℕ) (rest : Plains) → IsUtf8 text → AreOwn (page_items (typed_as (block_of k) q text))
+    → text_shown k text rest ≡ block_shown (leaf_block k (leaves (page_items (typed_as (block_of k) q text)))) rest
 typed_shown k q text rest u own =
-    let s : Setting = record { within = false; place = place_of k; source = q } in
-    let xs : List Item = page_items (typed_as k q text) in
+    let s : Setting = record { within = false; place = place_of (block_of k); source = q } in
+    let xs : List Item = page_items (typed_as (block_of k) q text) in
     sym (leaves_shown_in k (leaves xs) rest ∙ ap (λ cs. text_shown k cs rest) (leaves_shown xs own ∙ typed_shows s text u))
 
 -- ---- one in which a text was typed
@@ -178,12 +175,12 @@ all_false true b c e f g = cc
 all_false false true c e f g = cc
 all_false false false true e f g = cc
 
-facts_typed : (xs : List Item) (n : ℕ) (before : List Item) (k : Block) (q : List ℕ) (p x : Label) (text : List ℕ) (ds : List Sending) (us : Trees)
-    (was now : List ℕ) (shown : Plains) → 1 ≤ n → ends_open (sources before) ≡ false → AreOwn (page_items q) → Takes k text
+facts_typed : (xs : List Item) (n : ℕ) (before : List Item) (k : TextBlock) (q : List ℕ) (p x : Label) (text : List ℕ) (ds : List Sending) (us : Trees)
+    (was now : List ℕ) (shown : Plains) → 1 ≤ n → ends_open (sources before) ≡ false → AreOwn (page_items q) → Takes (block_of k) text
     → IsOrdinary (unplaced (leaf_block k (leaves (page_items q))))
     → Facts xs (items_behind before (leaf_block k (leaves (page_items q)))) ds us was now shown
-    → Facts xs before (retyped k p x text ∷ ds) (more (standing n before (leaf_block k (leaves (page_items q)))) us)
-    (source_of k q ++ was) (source_of k (typed_as k (source_of k q) text) ++ now) (text_shown k text shown)
+    → Facts xs before (retyped (block_of k) p x text ∷ ds) (more (standing n before (leaf_block k (leaves (page_items q)))) us)
+    (source_of k q ++ was) (source_of k (typed_as (block_of k) (source_of k q) text) ++ now) (text_shown k text shown)
 facts_typed xs n before k q p x text ds us was now shown le clear h takes o f =
     let ls : List Leaf = leaves (page_items q) in
     let block : ItemTree = leaf_block k ls in
@@ -205,8 +202,8 @@ facts_typed xs n before k q p x text ds us was now shown le clear h takes o f =
       open_w = width (open_items k);
       close_w = width (close_items k);
     }) in
-    let new : List ℕ = typed_as k (source_of k q) text in
-    subst (λ t. Facts xs before (retyped k p x text ∷ ds) (more t us) (source_of k q ++ was) (source_of k new ++ now) (text_shown k text shown)) (sym e)
+    let new : List ℕ = typed_as (block_of k) (source_of k q) text in
+    subst (λ t. Facts xs before (retyped (block_of k) p x text ∷ ds) (more t us) (source_of k q ++ was) (source_of k new ++ now) (text_shown k text shown)) (sym e)
     (record {
       old = ap (λ vs. more (tree l ts) vs) f.old;
       ungrouped = (subst HasNoGroup e (ordinary_ungrouped own ordinary), f.ungrouped);
@@ -226,7 +223,7 @@ facts_typed xs n before k q p x text ds us was now shown le clear h takes o f =
         subst (λ (at : ℕ). StandAt at ss) (behind_width before (tree_items block) (block_source l ts) (is ∙ sym inside)) f.stand,
       );
       new =
-          ap (λ cs. ((sources (open_items k) ++ typed_as k cs text) ++ sources (close_items k)) ++ new_sources ss) inside
+          ap (λ cs. ((sources (open_items k) ++ typed_as (block_of k) cs text) ++ sources (close_items k)) ++ new_sources ss) inside
           ∙ ap (λ cs. cs ++ new_sources ss) (append_assoc (sources (open_items k)) new (sources (close_items k)) ∙ framed k new)
           ∙ ap (λ cs. source_of k new ++ cs) f.new;
       shows = ap (λ rest. text_shown k text rest) f.shows;
@@ -234,7 +231,7 @@ facts_typed xs n before k q p x text ds us was now shown le clear h takes o f =
 
 -- ---- any of them
 
-pub facts_text : (xs : List Item) (n : ℕ) (before : List Item) (k : Block) (q : List ℕ) (y : Typing) (ds : List Sending) (us : Trees)
+pub facts_text : (xs : List Item) (n : ℕ) (before : List Item) (k : TextBlock) (q : List ℕ) (y : Typing) (ds : List Sending) (us : Trees)
     (was now : List ℕ) (shown : Plains) → 1 ≤ n → ends_open (sources before) ≡ false → AreOwn (page_items q) → AreOwn (page_items (new_text k y q))
     → IsText k y → IsOrdinary (unplaced (leaf_block k (leaves (page_items q))))
     → Facts xs (items_behind before (leaf_block k (leaves (page_items q)))) ds us was now shown
@@ -242,8 +239,8 @@ pub facts_text : (xs : List Item) (n : ℕ) (before : List Item) (k : Block) (q 
     (source_of k q ++ was) (source_of k (new_text k y q) ++ now) (block_shown (leaf_block k (leaves (page_items (new_text k y q)))) shown)
 facts_text xs n before k q (types p t text) ds us was now shown le clear h g u o f =
     let own : Tree = standing n before (leaf_block k (leaves (page_items q))) in
-    let new : List ℕ = typed_as k (source_of k q) text in
-    subst (λ ps. Facts xs before (retyped k p t text ∷ ds) (more own us) (source_of k q ++ was) (source_of k new ++ now) ps)
+    let new : List ℕ = typed_as (block_of k) (source_of k q) text in
+    subst (λ ps. Facts xs before (retyped (block_of k) p t text ∷ ds) (more own us) (source_of k q ++ was) (source_of k new ++ now) ps)
     (typed_shown k (source_of k q) text shown u.0 g) (facts_typed xs n before k q p t text ds us was now shown le clear h u.1 o f)
 facts_text xs n before k q (keeps v) ds us was now shown le clear h g u o f =
     let block : ItemTree = leaf_block k (leaves (page_items q)) in

@@ -9,8 +9,8 @@ use Rattle.wt_expand.specs.PageItems.{page_items}
 use Rattle.wt_typed_blocks.specs.Sent.{Block, Sent, stands, typed, StandsAsIs, new_body}
 use Rattle.wt_typed_blocks.specs.Typed.{place_of, Takes}
 use Rattle.wt_paragraph_laws.specs.Between.{blocks_in}
-use Rattle.wt_paragraph_laws.specs.Spots.{part_tree}
-use Rattle.wt_block_edits.specs.Blocks.{source_of}
+use Rattle.wt_paragraph_laws.specs.Parts.{part_tree}
+use Rattle.wt_block_edits.specs.Blocks.{TextBlock, block_of, source_of}
 use Rattle.wt_block_edits.specs.BlockSpots.{BlockSpot, spots_source, AreBlockSpots}
 
 -- ---- what is sent
@@ -61,8 +61,8 @@ pub record BlockEdit : Type 0 where
 abbrev pub typed_as : Block → List ℕ → List ℕ → List ℕ
 typed_as k source text = spelled (record { within = false; place = place_of k; source = source }) (letters text)
 
-abbrev pub new_text : Block → Typing → List ℕ → List ℕ
-new_text k (types p t text) q = typed_as k (source_of k q) text
+abbrev pub new_text : TextBlock → Typing → List ℕ → List ℕ
+new_text k (types p t text) q = typed_as (block_of k) (source_of k q) text
 new_text k (keeps u) q = q
 
 abbrev pub old_spots : List SpotEdit → List BlockSpot
@@ -85,8 +85,8 @@ new_page e = spots_source (new_spots e.spots) e.behind
 abbrev pub all_kept : List Tree → List Sending
 all_kept us = map (λ u. kept u) us
 
-abbrev pub sending_for : Block → Typing → Sending
-sending_for k (types p t text) = retyped k p t text
+abbrev pub sending_for : TextBlock → Typing → Sending
+sending_for k (types p t text) = retyped (block_of k) p t text
 sending_for k (keeps u) = kept u
 
 abbrev pub spot_sendings : List SpotEdit → List Tree → List Sending
@@ -115,8 +115,8 @@ AreSentFor [] = Unit {0}
 AreSentFor (e ∷ es) = IsSentFor e.others e.spot.before × AreSentFor es
 
 -- any text, and in a heading one line
-abbrev pub IsText : Block → Typing → Type 0
-IsText k (types p t text) = IsUtf8 text × Takes k text
+abbrev pub IsText : TextBlock → Typing → Type 0
+IsText k (types p t text) = IsUtf8 text × Takes (block_of k) text
 IsText k (keeps u) = Unit {0}
 
 abbrev pub AreTexts : List SpotEdit → Type 0

@@ -4,10 +4,9 @@ use Rattle.std.specs.Str.{IsUtf8}
 use Rattle.wt_inline.specs.ItemTree.{ItemTree}
 use Rattle.wt_expand.specs.PageItems.{page_items}
 use Rattle.wt_text_between.specs.Between.{StandsBefore, StandsBehind}
-use Rattle.wt_typed_blocks.specs.Sent.{Block}
 use Rattle.wt_paragraph_laws.specs.Between.{blocks_in}
-use Rattle.wt_paragraph_laws.specs.Spots.{HasNoGroups}
-use Rattle.wt_block_edits.specs.Blocks.{source_of, block_tree, IsBlock, LeadsTo, EndsBlock, BeginsBetween}
+use Rattle.wt_paragraph_laws.specs.Parts.{HasNoGroups}
+use Rattle.wt_block_edits.specs.Blocks.{TextBlock, source_of, block_tree, IsBlock, LeadsTo, EndsBlock, BeginsBetween}
 
 -- ---- the page's source
 
@@ -15,7 +14,7 @@ use Rattle.wt_block_edits.specs.Blocks.{source_of, block_tree, IsBlock, LeadsTo,
 -- breaks round them.
 pub record BlockSpot : Type 0 where
   pub before : List ℕ
-  pub block : Block
+  pub block : TextBlock
   pub text : List ℕ
 
 -- and what stands behind the last
@@ -39,13 +38,13 @@ pub record IsBlockSpot (s : BlockSpot) : Type 0 where
   pub block : IsBlock s.block s.text
 
 -- behind such a block
-pub record IsBlockEnd (last : Block) (behind : List ℕ) : Type 0 where
+pub record IsBlockEnd (last : TextBlock) (behind : List ℕ) : Type 0 where
   pub stands : StandsBehind behind
   pub utf8 : IsUtf8 behind
   pub ungrouped : HasNoGroups behind
   pub ends : EndsBlock last (page_items behind)
 
-abbrev pub AreFurtherBlocks : Block → List BlockSpot → List ℕ → Type 0
+abbrev pub AreFurtherBlocks : TextBlock → List BlockSpot → List ℕ → Type 0
 AreFurtherBlocks last [] behind = IsBlockEnd last behind
 AreFurtherBlocks last (s ∷ ss) behind = IsBlockSpot s × BeginsBetween last s.block (page_items s.before) × AreFurtherBlocks s.block ss behind
 

@@ -3,3 +3,4 @@ pub mod BlockSpots
 pub mod BlockEdits
 pub mod Unmarked
 pub mod Calls
+pub mod OwnNodes

@@ -1,4 +1,4 @@
--- A text as the content of a heading spells it is one line, and no blank is at its ends.
+-- A text as the content of a heading spells it is one line, and neither a blank nor a `=` is at its ends.
 use Rattle.std.proofs.Common.{arith, ◌≡◌, ℕ, ◌<◌, ◌≤◌, Bool, true, false, not, Some, None, List, [], ◌∷◌, ◌++◌, length, map, refl, sym, ap, ◌∙◌, subst, append-nil, All, inl, inr, length-append}
 use Rattle.std.specs.Prelude.{◌==◌, ◌&&◌, ◌||◌, encode_utf8}
 use Rattle.std.proofs.Math.Utf8.{encodes}
@@ -13,7 +13,8 @@ use Rattle.wt_span.specs.declared.form.ItemForm.TheVariants as form
 use Rattle.wt_span.specs.Bytes.{is_break, is_blank}
 use Rattle.wt_span.specs.Items.{Item, char, whole, sign, source, sources}
 use Rattle.wt_names.proofs.Ascii.{IsWide, encode_wide, encode_some}
-use Rattle.wt_guards.specs.declared.side.Place.TheVariants as place
+use Rattle.wt_tree.specs.declared.edit_shape.Place.{Place}
+use Rattle.wt_tree.specs.declared.edit_shape.Place.TheVariants as place
 use Rattle.wt_guards.specs.Content.{ContentSign, letter, letters}
 use Rattle.wt_guards.specs.Letters.{is_escaped, reference, written_by}
 use Rattle.wt_guards.specs.Table.{line_start_hazard}
@@ -24,7 +25,7 @@ use Rattle.wt_expand.specs.PageItems.{page_items}
 use Rattle.wt_expand.proofs.PageLaws.{page_sources}
 use Rattle.wt_text_edits.proofs.TypedItems.{typed_still, typed_own}
 use Rattle.wt_text_edits.proofs.TypedLeaves.{AreOwn}
-use Rattle.wt_heading_laws.specs.TypedHeadings.{NoBreaks, BeginsSeen, EndsSeen, IsHeadingText}
+use Rattle.wt_heading_laws.specs.TypedHeadings.{Sides, AreBlanks, AreSides, NoBreaks, BeginsSeen, EndsSeen, IsHeadingText, BeginsOther, EndsOther, StandsApart}
 
 -- ---- bytes
 
@@ -32,14 +33,18 @@ abbrev has_line : List ℕ → Bool
 has_line [] = false
 has_line (b ∷ bs) = is_break b || has_line bs
 
--- something that is no blank is first, or last
+-- a blank or a `=`
+abbrev is_side : ℕ → Bool
+is_side b = is_blank b || b == 61
+
+-- something else is first, or last
 abbrev first_seen : List ℕ → Bool
 first_seen [] = false
-first_seen (b ∷ bs) = not (is_blank b)
+first_seen (b ∷ bs) = not (is_side b)
 
 abbrev last_seen : List ℕ → Bool
 last_seen [] = true
-last_seen (b ∷ []) = not (is_blank b)
+last_seen (b ∷ []) = not (is_side b)
 last_seen (b ∷ c ∷ cs) = last_seen (c ∷ cs)
 
 none_of : (a b : Bool) → a ≡ false → b ≡ false → (a || b) ≡ false
@@ -94,14 +99,21 @@ own_unbroken (char (Some k) b ∷ xs) h e = absurd h
 own_unbroken (whole f None bs ∷ xs) h e = (refl, own_unbroken xs h.1 (line_rest bs (sources xs) e))
 own_unbroken (whole f (Some k) bs ∷ xs) h e = absurd h
 
-unblank : (v : Bool) → not v ≡ true → v ≡ false
-unblank true e = cc
-unblank false e = refl
+negated : (v : Bool) → not v ≡ true → v ≡ false
+negated true e = cc
+negated false e = refl
 
-form_seen : (f : ItemForm) (bs : List ℕ) (xs : List Item) → AreOwn (whole f None bs ∷ xs) → is_blank (sign (whole f None bs)) ≡ false
+-- what has this sign is neither a blank nor a `=`
+abbrev IsSeen : ℕ → Type 0
+IsSeen s = (is_blank s ≡ false) × ((s == 61) ≡ false)
+
+char_seen : (b : ℕ) → not (is_side b) ≡ true → IsSeen b
+char_seen b e = let f : is_side b ≡ false = negated (is_side b) e in (left_false (is_blank b) (b == 61) f, right_false (is_blank b) (b == 61) f)
+
+form_seen : (f : ItemForm) (bs : List ℕ) (xs : List Item) → AreOwn (whole f None bs ∷ xs) → IsSeen (sign (whole f None bs))
 form_seen form.Chars bs xs h = absurd h.0
-form_seen (form.Entity c) bs xs h = refl
-form_seen form.Nowiki bs xs h = refl
+form_seen (form.Entity c) bs xs h = (refl, refl)
+form_seen form.Nowiki bs xs h = (refl, refl)
 form_seen form.Extension bs xs h = absurd h.0
 form_seen form.Function bs xs h = absurd h.0
 form_seen form.Comment bs xs h = absurd h.0
@@ -109,9 +121,9 @@ form_seen form.Include bs xs h = absurd h.0
 form_seen form.Hidden bs xs h = absurd h.0
 form_seen form.EmptyCall bs xs h = absurd h.0
 
-own_begins : (xs : List Item) → AreOwn xs → first_seen (sources xs) ≡ true → BeginsSeen (map sign xs)
+own_begins : (xs : List Item) → AreOwn xs → first_seen (sources xs) ≡ true → BeginsSeen (map sign xs) × BeginsOther (map sign xs)
 own_begins [] h e = cc
-own_begins (char None b ∷ xs) h e = unblank (is_blank b) e
+own_begins (char None b ∷ xs) h e = char_seen b e
 own_begins (char (Some k) b ∷ xs) h e = absurd h
 own_begins (whole f None bs ∷ xs) h e = form_seen f bs xs h
 own_begins (whole f (Some k) bs ∷ xs) h e = absurd h
@@ -122,17 +134,17 @@ own_rest (char (Some k) b) xs h = absurd h
 own_rest (whole f None bs) xs h = h.1
 own_rest (whole f (Some k) bs) xs h = absurd h
 
-one_ends : (x : Item) → AreOwn (x ∷ []) → last_seen (source x ++ []) ≡ true → EndsSeen (sign x ∷ [])
-one_ends (char None b) h e = unblank (is_blank b) e
+one_ends : (x : Item) → AreOwn (x ∷ []) → last_seen (source x ++ []) ≡ true → EndsSeen (sign x ∷ []) × EndsOther (sign x ∷ [])
+one_ends (char None b) h e = char_seen b e
 one_ends (char (Some k) b) h e = absurd h
 one_ends (whole f None bs) h e = form_seen f bs [] h
 one_ends (whole f (Some k) bs) h e = absurd h
 
-own_ends : (x : Item) (xs : List Item) → AreOwn (x ∷ xs) → last_seen (sources (x ∷ xs)) ≡ true → EndsSeen (map sign (x ∷ xs))
+own_ends : (x : Item) (xs : List Item) → AreOwn (x ∷ xs) → last_seen (sources (x ∷ xs)) ≡ true → EndsSeen (map sign (x ∷ xs)) × EndsOther (map sign (x ∷ xs))
 own_ends x [] h e = one_ends x h e
 own_ends x (y ∷ xs) h e = own_ends y xs (own_rest x (y ∷ xs) h) (last_rest (source x) (sources (y ∷ xs)) e)
 
-some_ends : (xs : List Item) → AreOwn xs → first_seen (sources xs) ≡ true → last_seen (sources xs) ≡ true → EndsSeen (map sign xs)
+some_ends : (xs : List Item) → AreOwn xs → first_seen (sources xs) ≡ true → last_seen (sources xs) ≡ true → EndsSeen (map sign xs) × EndsOther (map sign xs)
 some_ends [] h f e = cc
 some_ends (x ∷ xs) h f e = own_ends x xs h e
 
@@ -159,8 +171,10 @@ wide_line (b ∷ bs) h =
     let w : 128 ≤ b = All-head IsWide b bs h in
     none_of (is_break b) (has_line bs) (grind (arith, nat_tests, w)) (wide_line bs (All-tail IsWide b bs h))
 
-wide_seen : (b : ℕ) → 128 ≤ b → not (is_blank b) ≡ true
-wide_seen b w = let e : is_blank b ≡ false = none_of (b == 32) (b == 9) (grind (arith, nat_tests, w)) (grind (arith, nat_tests, w)) in ap not e
+wide_seen : (b : ℕ) → 128 ≤ b → not (is_side b) ≡ true
+wide_seen b w =
+    let e : is_blank b ≡ false = none_of (b == 32) (b == 9) (grind (arith, nat_tests, w)) (grind (arith, nat_tests, w)) in
+    ap not (none_of (is_blank b) (b == 61) e (grind (arith, nat_tests, w)))
 
 wide_first : (bs : List ℕ) → 0 < length bs → All IsWide bs → first_seen bs ≡ true
 wide_first [] some h = absurd (omega (arith, some))
@@ -177,13 +191,13 @@ encoded_line c e = elim (cases_lt c 128) [
   | inr wide ↦ wide_line (encode_utf8 c) (encode_wide c wide)
 ]
 
-encoded_first : (c : ℕ) → is_blank c ≡ false → first_seen (encode_utf8 c) ≡ true
+encoded_first : (c : ℕ) → is_side c ≡ false → first_seen (encode_utf8 c) ≡ true
 encoded_first c e = elim (cases_lt c 128) [
   | inl small ↦ ap first_seen (encode_ascii c small) ∙ ap not e
   | inr wide ↦ wide_first (encode_utf8 c) (encode_some c) (encode_wide c wide)
 ]
 
-encoded_last : (c : ℕ) → is_blank c ≡ false → last_seen (encode_utf8 c) ≡ true
+encoded_last : (c : ℕ) → is_side c ≡ false → last_seen (encode_utf8 c) ≡ true
 encoded_last c e = elim (cases_lt c 128) [
   | inl small ↦ ap last_seen (encode_ascii c small) ∙ ap not e
   | inr wide ↦ wide_last (encode_utf8 c) (encode_wide c wide)
@@ -193,13 +207,13 @@ written_line : (c : ℕ) (e : Bool) → (e ≡ true → is_escapable c ≡ true)
 written_line c true f b = (reference_well c (f refl)).line
 written_line c false f b = encoded_line c b
 
-written_first : (c : ℕ) (e : Bool) → (e ≡ true → is_escapable c ≡ true) → is_blank c ≡ false → first_seen (written_by e c) ≡ true
+written_first : (c : ℕ) (e : Bool) → (e ≡ true → is_escapable c ≡ true) → is_side c ≡ false → first_seen (written_by e c) ≡ true
 written_first c true f b = (reference_well c (f refl)).first
 written_first c false f b = encoded_first c b
 
-written_last : (c : ℕ) (e : Bool) → (e ≡ true → is_escapable c ≡ true) → is_blank c ≡ false → last_seen (written_by e c) ≡ true
+written_last : (c : ℕ) (e : Bool) → (e ≡ true → is_escapable c ≡ true) → (e ≡ false → is_side c ≡ false) → last_seen (written_by e c) ≡ true
 written_last c true f b = (reference_well c (f refl)).last
-written_last c false f b = encoded_last c b
+written_last c false f b = encoded_last c (b refl)
 
 -- ---- what is put
 
@@ -254,6 +268,18 @@ end_by s before c w p e =
     right_false (is_unended (letter c ∷ before)) (is_content_end_guard s.source s.place (Some (letter c))) end in
     subst (λ p. is_content_end_guard s.source p (Some (letter c)) ≡ false) p last
 
+-- a `=` at the end is written as a reference
+equals_escaped : (within : Bool) (place : Place) (before : List ContentSign) → is_escaped within place before 61 [] ≡ true
+unfolding is_escaped
+equals_escaped within place before = refl
+
+no_equals : (within : Bool) (place : Place) (before : List ContentSign) (c : ℕ) (v : Bool) → (c == 61) ≡ v → is_escaped within place before c [] ≡ false → v ≡ false
+no_equals within place before c false i e = refl
+no_equals within place before c true i e =
+    let is : c ≡ 61 = grind (arith, nat_tests, i) in
+    let z : is_escaped within place before 61 [] ≡ false = subst (λ (k : ℕ). is_escaped within place before k [] ≡ false) is e in
+    sym (equals_escaped within place before) ∙ z
+
 some_by : (bs : List ℕ) → first_seen bs ≡ true → 0 < length bs
 some_by [] e = cc
 some_by (b ∷ bs) e = omega arith
@@ -281,7 +307,8 @@ spelled_last s before (c ∷ []) w p =
     let h : Bool = is_guarded s (letter c ∷ before) [] in
     last_joined (nowiki_if g) (written_by e c ++ nowiki_if h) (λ z. guard_last g)
     (last_joined (written_by e c) (nowiki_if h)
-    (λ z. written_last c e (λ f. escapable s.within s.place before c [] f) (end_by s before c w p (none_put h z))) (guard_last h))
+    (λ z. written_last c e (λ f. escapable s.within s.place before c [] f)
+    (λ n. none_of (is_blank c) (c == 61) (end_by s before c w p (none_put h z)) (no_equals s.within s.place before c (c == 61) refl n))) (guard_last h))
 spelled_last s before (c ∷ d ∷ ds) w p =
     let after : List ContentSign = map letter (d ∷ ds) in
     let e : Bool = is_escaped s.within s.place before c after in
@@ -292,16 +319,19 @@ spelled_last s before (c ∷ d ∷ ds) w p =
 
 -- ---- its start
 
-start_by : (s : Setting) (c : ℕ) (after : List ContentSign) → s.within ≡ false → is_guarded s [] (letter c ∷ after) ≡ false → is_blank c ≡ false
+start_by : (s : Setting) (c : ℕ) (after : List ContentSign) → s.within ≡ false → is_guarded s [] (letter c ∷ after) ≡ false → is_side c ≡ false
 unfolding is_guarded is_between_guard is_start_guard line_start_hazard
 start_by s c after w e =
     let start : is_start_guard [] (letter c ∷ after) ≡ false =
     left_false (is_start_guard [] (letter c ∷ after)) (is_end_guard s.source s.place [] (letter c ∷ after) || is_blank_guard s.source [] (letter c ∷ after))
     (and_right (not s.within) (is_start_guard [] (letter c ∷ after) || (is_end_guard s.source s.place [] (letter c ∷ after) || is_blank_guard s.source [] (letter c ∷ after)))
     (ap not w) e) in
-    left_false (is_blank c) (c == 61 || (c == 42 || (c == 35 || (c == 58 || (c == 59 || (c == 45 || c == 33))))))
-    (right_false (is_line_start None && ((is_empty_line (letter c ∷ after) && not (is_line_mark_next (Some (letter c)))) || is_new_next (Some (letter c))))
-    (line_start_hazard c) start)
+    let others : Bool = c == 42 || (c == 35 || (c == 58 || (c == 59 || (c == 45 || c == 33)))) in
+    let none : (is_blank c || (c == 61 || others)) ≡ false =
+    right_false (is_line_start None && ((is_empty_line (letter c ∷ after) && not (is_line_mark_next (Some (letter c)))) || is_new_next (Some (letter c))))
+    (line_start_hazard c) start in
+    none_of (is_blank c) (c == 61) (left_false (is_blank c) (c == 61 || others) none)
+    (left_false (c == 61) others (right_false (is_blank c) (c == 61 || others) none))
 
 empty_by : (s : Setting) → s.within ≡ false → is_guarded s [] [] ≡ true
 unfolding is_guarded is_between_guard is_start_guard
@@ -339,18 +369,73 @@ same_break : (bs : List ℕ) → has_break bs ≡ has_line bs
 same_break [] = refl
 same_break (b ∷ bs) = ap (λ (v : Bool). is_break b || v) (same_break bs)
 
-pub typed_heading_text : (s : Setting) (text : List ℕ) → s.within ≡ false → s.place ≡ place.Heading → IsUtf8 text → has_break text ≡ false
-    → IsHeadingText (page_items (spelled s (letters text)))
-typed_heading_text s text w p u b =
+record IsTypedText (xs : List Item) : Type 0 where
+  text : IsHeadingText xs
+  begins : BeginsOther (map sign xs)
+  ends : EndsOther (map sign xs)
+
+typed_is : (s : Setting) (text : List ℕ) → s.within ≡ false → s.place ≡ place.Heading → IsUtf8 text → has_break text ≡ false
+    → IsTypedText (page_items (spelled s (letters text)))
+typed_is s text w p u b =
     let q : List ℕ = spelled s (letters text) in
     let xs : List Item = page_items q in
     let is : sources xs ≡ q = page_sources q in
     let own : AreOwn xs = typed_own s text in
     let line : has_line (chars text) ≡ false = chars_line (chars text) (ap has_line (encodes-chars text u) ∙ sym (same_break text) ∙ b) in
     let first : first_seen (sources xs) ≡ true = ap first_seen is ∙ spelled_first s (chars text) w in
+    let begin = own_begins xs own first in
+    let end = some_ends xs own first (ap last_seen is ∙ spelled_last s [] (chars text) w p) in
     record {
-      still = typed_still s text;
-      unbroken = own_unbroken xs own (ap has_line is ∙ spelled_line s [] (chars text) line);
-      begins = own_begins xs own first;
-      ends = some_ends xs own first (ap last_seen is ∙ spelled_last s [] (chars text) w p);
+      text = record {
+        still = typed_still s text;
+        unbroken = own_unbroken xs own (ap has_line is ∙ spelled_line s [] (chars text) line);
+        begins = begin.0;
+        ends = end.0;
+      };
+      begins = begin.1;
+      ends = end.1;
+    }
+
+pub typed_heading_text : (s : Setting) (text : List ℕ) → s.within ≡ false → s.place ≡ place.Heading → IsUtf8 text → has_break text ≡ false
+    → IsHeadingText (page_items (spelled s (letters text)))
+typed_heading_text s text w p u b = (typed_is s text w p u b).text
+
+-- ---- between any blanks, or none
+
+unequal : (b : ℕ) → is_blank b ≡ true → (b == 61) ≡ false
+unequal b e = grind (arith, nat_tests, e)
+
+begins_other : (bs ss : List ℕ) → AreBlanks bs → BeginsOther ss → BeginsOther (bs ++ ss)
+begins_other [] ss h g = g
+begins_other (b ∷ bs) ss h g = unequal b h.0
+
+begins_still : (ss ts : List ℕ) → BeginsOther ss → BeginsOther (ss ++ ts)
+begins_still [] ts g = absurd g
+begins_still (s ∷ ss) ts g = g
+
+ends_still : (ss : List ℕ) (t : ℕ) (ts : List ℕ) → EndsOther (t ∷ ts) → EndsOther (ss ++ t ∷ ts)
+ends_still [] t ts g = g
+ends_still (s ∷ []) t ts g = g
+ends_still (s ∷ r ∷ ss) t ts g = ends_still (r ∷ ss) t ts g
+
+ends_blank : (b : ℕ) (bs : List ℕ) → AreBlanks (b ∷ bs) → EndsOther (b ∷ bs)
+ends_blank b [] h = unequal b h.0
+ends_blank b (c ∷ bs) h = ends_blank c bs h.1
+
+ends_other : (ss bs : List ℕ) → AreBlanks bs → EndsOther ss → EndsOther (ss ++ bs)
+ends_other ss [] h g = subst EndsOther (sym (append-nil ss)) g
+ends_other ss (b ∷ bs) h g = ends_still ss b bs (ends_blank b bs h)
+
+ends_behind : (bs ss : List ℕ) → EndsOther ss → EndsOther (bs ++ ss)
+ends_behind bs [] g = absurd g
+ends_behind bs (s ∷ ss) g = ends_still bs s ss g
+
+pub typed_apart : (s : Setting) (text : List ℕ) (sides : Sides) → s.within ≡ false → s.place ≡ place.Heading → IsUtf8 text → has_break text ≡ false
+    → AreSides sides → StandsApart sides (page_items (spelled s (letters text)))
+typed_apart s text sides w p u b a =
+    let t = typed_is s text w p u b in
+    let ss : List ℕ = map sign (page_items (spelled s (letters text))) in
+    record {
+      first = begins_other sides.lead (ss ++ sides.trail) a.lead (begins_still ss sides.trail t.begins);
+      last = ends_behind sides.lead (ss ++ sides.trail) (ends_other ss sides.trail a.trail t.ends);
     }

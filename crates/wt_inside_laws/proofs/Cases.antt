@@ -35,7 +35,8 @@ use Rattle.wt_tree.specs.declared.kind.Kind.TheVariants as kind
 use Rattle.wt_tree.specs.declared.kind.Mark.TheVariants as marks
 use Rattle.wt_tree.specs.Tree.{Label, Tree, tree, none}
 use Rattle.wt_guards.specs.Guards.{nowiki as guard, is_guarded, is_between_guard, is_start_guard, is_end_guard, is_blank_guard}
-use Rattle.wt_typed_blocks.specs.Sent.{paragraph, heading}
+use Rattle.wt_heading_laws.specs.TypedHeadings.{spaced}
+use Rattle.wt_block_edits.specs.Blocks.{a_paragraph, a_heading}
 use Rattle.wt_block_edits.specs.BlockEdits.{types, keeps, BlockEdit}
 use Rattle.wt_local.specs.Replaced.{Edit}
 use Rattle.wt_inside_laws.specs.TextsReplaced.{Place, replaced_by, all_replaced}
@@ -67,7 +68,7 @@ abbrev here : Place
 here = record { spots = []; before = codes "== h ==\n* a\n\n" }
 
 -- `[c]` typed in place of `b`: the paragraph has the number 4 and ends ten bytes later, and two references in it have numbers
-typed : figures (replaced_by here paragraph (codes "b") (codes "&#91;c&#93;")) ≡ 4 ∷ 14 ∷ 24 ∷ 4 ∷ 6 ∷ []
+typed : figures (replaced_by here a_paragraph (codes "b") (codes "&#91;c&#93;")) ≡ 4 ∷ 14 ∷ 24 ∷ 4 ∷ 6 ∷ []
 unfolding page_items words closed form_at comment_len comment_line_len raw_len opening_tag tag_after closing_tag tag_inside
     is_extension include_at entity_at named_entity decimal_entity hex_entity entity_names sign_word annotated label_at meaning
     rows_of blocks kind_of_signs children para page_heading level opening inside closing nowiki
@@ -79,8 +80,8 @@ typed = refl
 -- where a heading stands first, and a paragraph, behind a rule, is emptied: the heading is replaced by itself
 abbrev emptied : BlockEdit
 emptied = record {
-  spots = record { spot = record { before = []; block = heading 2; text = codes "a" }; others = []; typing = keeps node }
-      ∷ record { spot = record { before = codes "\n\n----\n\n"; block = paragraph; text = codes "b" }; others = node ∷ node ∷ node ∷ []; typing = types free free [] }
+  spots = record { spot = record { before = []; block = a_heading (spaced 2); text = codes "a" }; others = []; typing = keeps node }
+      ∷ record { spot = record { before = codes "\n\n----\n\n"; block = a_paragraph; text = codes "b" }; others = node ∷ node ∷ node ∷ []; typing = types free free [] }
       ∷ [];
   behind = codes "\n";
   others = node ∷ [];

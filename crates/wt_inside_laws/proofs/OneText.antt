@@ -1,14 +1,14 @@
 -- The tree of a page in which the text of one paragraph or heading became another one.
-use Rattle.std.proofs.Common.{arith, true≢false, ◌≡◌, ℕ, ◌+◌, ◌-◌, ◌<◌, ◌≤◌, ◌==◌, Bool, true, false, Option, Some, List, [], ◌∷◌, ◌++◌, length, replicate, refl, sym, ap, ap₂, ◌∙◌, cond, append-nil, append_assoc}
+use Rattle.std.proofs.Common.{arith, true≢false, ◌≡◌, ℕ, ◌+◌, ◌-◌, ◌<◌, ◌≤◌, ◌==◌, Bool, true, false, Option, Some, List, [], ◌∷◌, ◌++◌, length, refl, sym, ap, ap₂, ◌∙◌, cond, append-nil, append_assoc}
 use Rattle.std.proofs.lemmas.Grind.{flat_map-append}
-use Rattle.std.proofs.lemmas.List.{length-append}
+use Rattle.std.proofs.lemmas.List.{length-append, length-replicate}
 use Rattle.std.proofs.lemmas.Bool.Decides.{nat_tests}
 use Rattle.wt_tree.specs.declared.kind.Kind.TheVariants as kind
 use Rattle.wt_tree.specs.declared.kind.Ranges.{Ranges}
 use Rattle.wt_tree.specs.Tree.{Label, Tree, tree, Trees, more, label}
 use Rattle.wt_span.specs.Items.{Item, source, sources}
 use Rattle.wt_span.specs.Lexemes.{words, closed}
-use Rattle.wt_inline.specs.ItemTree.{ItemTree, forest, tree_items, held_by_all, plain, inner}
+use Rattle.wt_inline.specs.ItemTree.{ItemTree, forest, tree_items, held_by_all}
 use Rattle.wt_checks.specs.Kept.{children}
 use Rattle.wt_devices.specs.Device.{Pages}
 use Rattle.wt_expand.specs.PageItems.{page_items}
@@ -21,20 +21,20 @@ use Rattle.wt_annotated.proofs.Widths.{width_append}
 use Rattle.wt_page_round_trip.specs.PageTree.{page_tree}
 use Rattle.wt_local.specs.Replaced.{Edit, moved, moved_label, with_inside, all_with_inside}
 use Rattle.wt_text_edits.proofs.LoneTrees.{sized}
-use Rattle.wt_text_edits.proofs.TypedLeaves.{AreOwn, HasAny, leaves, para_leaves}
-use Rattle.wt_heading_laws.specs.TypedHeadings.{equals, space}
+use Rattle.wt_text_edits.proofs.TypedLeaves.{AreOwn, HasAny, leaves}
+use Rattle.wt_heading_laws.specs.TypedHeadings.{Sides, equals, opening, closing}
 use Rattle.wt_moved_laws.specs.Standing.{standing}
 use Rattle.wt_prose.proofs.ProseTrees.{blocks_of, number_behind, items_behind}
 use Rattle.wt_paragraph_laws.specs.Between.{blocks_in}
-use Rattle.wt_typed_blocks.specs.Sent.{Block, paragraph, heading}
-use Rattle.wt_block_edits.specs.Blocks.{opening, closing, source_of, block_tree, IsBlock}
+use Rattle.wt_block_edits.specs.Blocks.{TextBlock, a_paragraph, a_heading, source_of, block_tree, IsBlock}
 use Rattle.wt_block_edits.specs.BlockSpots.{BlockSpot, spots_source, page_blocks, AreBlockSpots, SameRound, AreBlocks}
-use Rattle.wt_paragraph_laws.specs.Spots.{part_tree}
+use Rattle.wt_paragraph_laws.specs.Parts.{part_tree}
 use Rattle.wt_paragraph_laws.proofs.Texts.{paragraph_written}
-use Rattle.wt_block_edits.proofs.BlockTrees.{leaf_block, as_leaves, block_own, are_typed, spots_tree}
+use Rattle.wt_block_edits.proofs.BlockMeaning.{heading_sides}
+use Rattle.wt_block_edits.proofs.BlockTrees.{block_leaves, as_leaves, block_own, are_typed, spots_tree}
 use Rattle.wt_block_edits.proofs.TypedFacts.{items_source}
 use Rattle.wt_block_edits.proofs.BlocksAgain.{spots_again}
-use Rattle.wt_page_edits.proofs.KeptBlocks.{blocks_source, part_source}
+use Rattle.wt_block_edits.proofs.KeptBlocks.{blocks_source, part_source}
 use Rattle.wt_block_edits.proofs.BlocksTake.{page_is}
 use Rattle.wt_inside_laws.specs.TextsReplaced.{Place, spots_with, page_with, source_before, number_at, numbered_inside, block_at, replaced_by}
 use Rattle.wt_inside_laws.proofs.Shifted.{range_like, shifted, standing_shifted, placed_count}
@@ -95,14 +95,7 @@ front_stays e (u ∷ us) ts vs n before first own number place h =
 
 -- ---- the paragraph
 
-abbrev as_heading : ℕ → ItemTree → ItemTree
-as_heading n (inner h o ts c) = inner (plain (kind.Heading n)) (equals n ++ space ∷ []) ts (space ∷ equals n)
-
-block_leaves : (k : Block) (q : List ℕ) → AreOwn (page_items q) → block_tree k q ≡ leaf_block k (leaves (page_items q))
-block_leaves paragraph q h = para_leaves (page_items q) h
-block_leaves (heading n) q h = ap (as_heading n) (para_leaves (page_items q) h)
-
-block_source : (k : Block) (q : List ℕ) → IsBlock k q → sources (tree_items (block_tree k q)) ≡ source_of k q
+block_source : (k : TextBlock) (q : List ℕ) → IsBlock k q → sources (tree_items (block_tree k q)) ≡ source_of k q
 block_source k q h =
     let own : AreOwn (page_items q) = block_own k q h in
     ap (λ t. sources (tree_items t)) (block_leaves k q own) ∙ items_source k q own
@@ -111,14 +104,15 @@ none_any : HasAny (leaves (page_items [])) → ⊥
 unfolding page_items words closed
 none_any h = h
 
-filled : (k : Block) (q : List ℕ) → IsBlock k q → 1 ≤ length (source_of k q)
-filled paragraph [] h = absurd (none_any (paragraph_written [] h).2)
-filled paragraph (b ∷ bs) h = omega arith
-filled (heading n) q h =
-    let a = length-append (opening n) (q ++ closing n) in
-    let space_only : List ℕ = 32 ∷ [] in
-    let b = length-append (replicate n 61) space_only in
-    omega (arith, a, b)
+filled : (k : TextBlock) (q : List ℕ) → IsBlock k q → 1 ≤ length (source_of k q)
+filled a_paragraph [] h = absurd (none_any (paragraph_written [] h).2)
+filled a_paragraph (b ∷ bs) h = omega arith
+filled (a_heading s) q h =
+    let some = (heading_sides s q h).some in
+    let a = length-append (opening s) (q ++ closing s) in
+    let b = length-append (equals s.level) s.lead in
+    let c = length-replicate {A = ℕ} s.level 61 in
+    omega (arith, some, a, b, c)
 
 -- ---- the parts of the page
 
@@ -155,12 +149,12 @@ anywhere n m before after t e w =
     ∙ ap₂ (λ (k at : ℕ). shifted k at (standing 0 [] t)) e w
     ∙ sym (standing_shifted m after t)
 
-block_count : (after : List Item) (k : Block) (q : List ℕ) → count (placed after (block_tree k q)) ≡ 1 + numbered_inside k q
+block_count : (after : List Item) (k : TextBlock) (q : List ℕ) → count (placed after (block_tree k q)) ≡ 1 + numbered_inside k q
 unfolding label_at
-block_count after paragraph q = placed_count after [] (block_tree paragraph q)
-block_count after (heading n) q = placed_count after [] (block_tree (heading n) q)
+block_count after a_paragraph q = placed_count after [] (block_tree a_paragraph q)
+block_count after (a_heading s) q = placed_count after [] (block_tree (a_heading s) q)
 
-block_width : (k : Block) (q : List ℕ) → IsBlock k q → width (tree_items (block_tree k q)) ≡ length (source_of k q)
+block_width : (k : TextBlock) (q : List ℕ) → IsBlock k q → width (tree_items (block_tree k q)) ≡ length (source_of k q)
 block_width k q h = ap length (block_source k q h)
 
 same_number : (n : ℕ) → (n == n) ≡ true
@@ -178,60 +172,60 @@ moved_behind e at to h k =
     ap (λ (v : Bool). cond v (e.new_end + (at - e.old_end)) at) (test_up e.old_end at h) ∙ omega (arith, h, k)
 
 -- with its new inside
-paragraph_so : (p : Place) (old new : List ℕ) → IsBlock paragraph old → IsBlock paragraph new
-    → with_inside (replaced_by p paragraph old new) (block_at p paragraph old) ≡ block_at p paragraph new
+paragraph_so : (p : Place) (old new : List ℕ) → IsBlock a_paragraph old → IsBlock a_paragraph new
+    → with_inside (replaced_by p a_paragraph old new) (block_at p a_paragraph old) ≡ block_at p a_paragraph new
 unfolding label_at
 paragraph_so p old new h k =
-    let e : Edit = replaced_by p paragraph old new in
+    let e : Edit = replaced_by p a_paragraph old new in
     let n : ℕ = number_at p in
     let front : List Item = page_items (source_before p) in
-    let l : Label = label (block_at p paragraph old) in
+    let l : Label = label (block_at p a_paragraph old) in
     let at : width front ≡ length (source_before p) = ap length (page_sources (source_before p)) in
-    let was = block_width paragraph old h in
-    let now = block_width paragraph new k in
-    let some = filled paragraph old h in
-    let from : width front + width (tree_items (block_tree paragraph old)) ≡ e.old_end = omega (arith, at, was) in
-    let to : width front + width (tree_items (block_tree paragraph new)) ≡ e.new_end = omega (arith, at, now) in
+    let was = block_width a_paragraph old h in
+    let now = block_width a_paragraph new k in
+    let some = filled a_paragraph old h in
+    let from : width front + width (tree_items (block_tree a_paragraph old)) ≡ e.old_end = omega (arith, at, was) in
+    let to : width front + width (tree_items (block_tree a_paragraph new)) ≡ e.new_end = omega (arith, at, now) in
     ap₂ tree
     (ap₂ (λ (i : ℕ) (r : Option Ranges). record l { id = i; ranges = r })
     (ap (λ (w : Bool). cond w (e.new_last + (n - e.old_last)) n) (test_no_less e.old_last n (omega arith)))
     (ap₂ (λ (x y : ℕ). range_like l.ranges x y)
     (moved_before e (width front) (omega (arith, at, some)))
-    (moved_behind e (width front + width (tree_items (block_tree paragraph old))) (width front + width (tree_items (block_tree paragraph new)))
+    (moved_behind e (width front + width (tree_items (block_tree a_paragraph old))) (width front + width (tree_items (block_tree a_paragraph new)))
     (omega (arith, from)) (omega (arith, from, to)))))
-    (is_number (n == n) e.inside (all_with_inside e (children (block_at p paragraph old))) (same_number n))
+    (is_number (n == n) e.inside (all_with_inside e (children (block_at p a_paragraph old))) (same_number n))
 
-heading_so : (p : Place) (m : ℕ) (old new : List ℕ) → IsBlock (heading m) old → IsBlock (heading m) new
-    → with_inside (replaced_by p (heading m) old new) (block_at p (heading m) old) ≡ block_at p (heading m) new
+heading_so : (p : Place) (s : Sides) (old new : List ℕ) → IsBlock (a_heading s) old → IsBlock (a_heading s) new
+    → with_inside (replaced_by p (a_heading s) old new) (block_at p (a_heading s) old) ≡ block_at p (a_heading s) new
 unfolding label_at
-heading_so p m old new h k =
-    let e : Edit = replaced_by p (heading m) old new in
+heading_so p s old new h k =
+    let e : Edit = replaced_by p (a_heading s) old new in
     let n : ℕ = number_at p in
     let front : List Item = page_items (source_before p) in
-    let l : Label = label (block_at p (heading m) old) in
+    let l : Label = label (block_at p (a_heading s) old) in
     let at : width front ≡ length (source_before p) = ap length (page_sources (source_before p)) in
-    let was = block_width (heading m) old h in
-    let now = block_width (heading m) new k in
-    let some = filled (heading m) old h in
-    let from : width front + width (tree_items (block_tree (heading m) old)) ≡ e.old_end = omega (arith, at, was) in
-    let to : width front + width (tree_items (block_tree (heading m) new)) ≡ e.new_end = omega (arith, at, now) in
+    let was = block_width (a_heading s) old h in
+    let now = block_width (a_heading s) new k in
+    let some = filled (a_heading s) old h in
+    let from : width front + width (tree_items (block_tree (a_heading s) old)) ≡ e.old_end = omega (arith, at, was) in
+    let to : width front + width (tree_items (block_tree (a_heading s) new)) ≡ e.new_end = omega (arith, at, now) in
     ap₂ tree
     (ap₂ (λ (i : ℕ) (r : Option Ranges). record l { id = i; ranges = r })
     (ap (λ (w : Bool). cond w (e.new_last + (n - e.old_last)) n) (test_no_less e.old_last n (omega arith)))
     (ap₂ (λ (x y : ℕ). range_like l.ranges x y)
     (moved_before e (width front) (omega (arith, at, some)))
-    (moved_behind e (width front + width (tree_items (block_tree (heading m) old))) (width front + width (tree_items (block_tree (heading m) new)))
+    (moved_behind e (width front + width (tree_items (block_tree (a_heading s) old))) (width front + width (tree_items (block_tree (a_heading s) new)))
     (omega (arith, from)) (omega (arith, from, to)))))
-    (is_number (n == n) e.inside (all_with_inside e (children (block_at p (heading m) old))) (same_number n))
+    (is_number (n == n) e.inside (all_with_inside e (children (block_at p (a_heading s) old))) (same_number n))
 
-block_so : (p : Place) (b : Block) (old new : List ℕ) → IsBlock b old → IsBlock b new
+block_so : (p : Place) (b : TextBlock) (old new : List ℕ) → IsBlock b old → IsBlock b new
     → with_inside (replaced_by p b old new) (block_at p b old) ≡ block_at p b new
-block_so p paragraph old new h k = paragraph_so p old new h k
-block_so p (heading m) old new h k = heading_so p m old new h k
+block_so p a_paragraph old new h k = paragraph_so p old new h k
+block_so p (a_heading s) old new h k = heading_so p s old new h k
 
 -- ---- the body
 
-abbrev blocks_with : Place → List ItemTree → Block → List ℕ → List ItemTree
+abbrev blocks_with : Place → List ItemTree → TextBlock → List ℕ → List ItemTree
 blocks_with p vs b q = page_blocks p.spots p.before ++ block_tree b q ∷ vs
 
 abbrev body_label : List ItemTree → Label
@@ -240,7 +234,7 @@ body_label ts = sized kind.Body 0 (held_by_all (forest ts) ++ []) [] []
 abbrev body_of : List ItemTree → Tree
 body_of ts = tree (body_label ts) (blocks_of 1 [] ts)
 
-tree_so : (p : Place) (b : Block) (rs : List BlockSpot) (behind q : List ℕ) → AreBlockSpots (spots_with p b q rs) behind
+tree_so : (p : Place) (b : TextBlock) (rs : List BlockSpot) (behind q : List ℕ) → AreBlockSpots (spots_with p b q rs) behind
     → part_tree (page_with p b q rs behind) ≡ body_of (blocks_with p (page_blocks rs behind) b q)
 tree_so p b rs behind q h =
     let ss : List BlockSpot = spots_with p b q rs in
@@ -253,7 +247,7 @@ body_width ts = ap width (append-nil (held_by_all (forest ts))) ∙ ap length (h
 front_width : (p : Place) → AreBlocks p.spots → length (blocks_source (page_blocks p.spots p.before)) ≡ length (source_before p)
 front_width p h = ap length (front_source p.spots p.before h)
 
-whole_width : (p : Place) (vs : List ItemTree) (b : Block) (q : List ℕ) → AreBlocks p.spots → IsBlock b q
+whole_width : (p : Place) (vs : List ItemTree) (b : TextBlock) (q : List ℕ) → AreBlocks p.spots → IsBlock b q
     → width (held_by_all (forest (blocks_with p vs b q)) ++ []) ≡ length (source_before p) + (length (source_of b q) + length (blocks_source vs))
 whole_width p vs b q h k =
     let us : List ItemTree = page_blocks p.spots p.before in
@@ -266,7 +260,7 @@ whole_width p vs b q h k =
     let w = block_width b q k in
     omega (arith, a, j, c, d, f, w)
 
-blocks_so : (p : Place) (vs : List ItemTree) (b : Block) (old new : List ℕ) → AreBlocks p.spots → IsBlock b old → IsBlock b new
+blocks_so : (p : Place) (vs : List ItemTree) (b : TextBlock) (old new : List ℕ) → AreBlocks p.spots → IsBlock b old → IsBlock b new
     → all_with_inside (replaced_by p b old new) (blocks_of 1 [] (blocks_with p vs b old)) ≡ blocks_of 1 [] (blocks_with p vs b new)
 blocks_so p vs b old new f h k =
     let e : Edit = replaced_by p b old new in
@@ -302,7 +296,7 @@ blocks_so p vs b old new f h k =
       new_place = omega (arith, at, w, u, old_width, new_width);
     })))
 
-label_so : (p : Place) (vs : List ItemTree) (b : Block) (old new : List ℕ) → AreBlocks p.spots → IsBlock b old → IsBlock b new
+label_so : (p : Place) (vs : List ItemTree) (b : TextBlock) (old new : List ℕ) → AreBlocks p.spots → IsBlock b old → IsBlock b new
     → moved_label (replaced_by p b old new) (body_label (blocks_with p vs b old)) ≡ body_label (blocks_with p vs b new)
 label_so p vs b old new f h k =
     let e : Edit = replaced_by p b old new in
@@ -317,13 +311,13 @@ label_so p vs b old new f h k =
     (omega (arith, was)) (omega (arith, was, now))))
 
 -- of a body, whatever is in it: it has no number
-opened : (p : Place) (b : Block) (old new : List ℕ) (ts : List ItemTree) (us : Trees)
+opened : (p : Place) (b : TextBlock) (old new : List ℕ) (ts : List ItemTree) (us : Trees)
     → with_inside (replaced_by p b old new) (tree (body_label ts) us) ≡ tree (moved_label (replaced_by p b old new) (body_label ts)) (all_with_inside (replaced_by p b old new) us)
 opened p b old new ts us =
     let e : Edit = replaced_by p b old new in
     ap (tree (moved_label e (body_label ts))) (not_number (0 == e.number) e.inside (all_with_inside e us) (test_below 0 e.number (omega arith)))
 
-body_so : (p : Place) (vs : List ItemTree) (b : Block) (old new : List ℕ) → AreBlocks p.spots → IsBlock b old → IsBlock b new
+body_so : (p : Place) (vs : List ItemTree) (b : TextBlock) (old new : List ℕ) → AreBlocks p.spots → IsBlock b old → IsBlock b new
     → with_inside (replaced_by p b old new) (body_of (blocks_with p vs b old)) ≡ body_of (blocks_with p vs b new)
 body_so p vs b old new f h k =
     opened p b old new (blocks_with p vs b old) (blocks_of 1 [] (blocks_with p vs b old))
@@ -335,17 +329,17 @@ round_same : (ss : List BlockSpot) → SameRound ss ss
 round_same [] = tt
 round_same (s ∷ ss) = (refl, refl, round_same ss)
 
-round_so : (ss rs : List BlockSpot) (before : List ℕ) (b : Block) (old new : List ℕ)
+round_so : (ss rs : List BlockSpot) (before : List ℕ) (b : TextBlock) (old new : List ℕ)
     → SameRound (ss ++ record { before = before; block = b; text = old } ∷ rs) (ss ++ record { before = before; block = b; text = new } ∷ rs)
 round_so [] rs before b old new = (refl, refl, round_same rs)
 round_so (s ∷ ss) rs before b old new = (refl, refl, round_so ss rs before b old new)
 
-typed_so : (ss rs : List BlockSpot) (before : List ℕ) (b : Block) (new : List ℕ) → AreBlocks ss → IsBlock b new → AreBlocks rs
+typed_so : (ss rs : List BlockSpot) (before : List ℕ) (b : TextBlock) (new : List ℕ) → AreBlocks ss → IsBlock b new → AreBlocks rs
     → AreBlocks (ss ++ record { before = before; block = b; text = new } ∷ rs)
 typed_so [] rs before b new h k r = (k, r)
 typed_so (s ∷ ss) rs before b new h k r = (h.0, typed_so ss rs before b new h.1 k r)
 
-pub tree_replaced : (pages : Pages) (p : Place) (b : Block) (old new : List ℕ) (rs : List BlockSpot) (behind : List ℕ)
+pub tree_replaced : (pages : Pages) (p : Place) (b : TextBlock) (old new : List ℕ) (rs : List BlockSpot) (behind : List ℕ)
     → AreBlockSpots (spots_with p b old rs) behind → IsBlock b new
     → page_tree pages (page_with p b new rs behind) ≡ with_inside (replaced_by p b old new) (page_tree pages (page_with p b old rs behind))
 tree_replaced pages p b old new rs behind h k =

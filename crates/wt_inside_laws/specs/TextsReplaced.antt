@@ -8,8 +8,7 @@ use Rattle.wt_annotated.specs.Numbering.{count_all}
 use Rattle.wt_annotated.specs.WithoutCalls.{placed, all_placed}
 use Rattle.wt_local.specs.Replaced.{Edit}
 use Rattle.wt_moved_laws.specs.Standing.{standing}
-use Rattle.wt_typed_blocks.specs.Sent.{Block}
-use Rattle.wt_block_edits.specs.Blocks.{source_of, block_tree}
+use Rattle.wt_block_edits.specs.Blocks.{TextBlock, source_of, block_tree}
 use Rattle.wt_block_edits.specs.BlockSpots.{BlockSpot, spots_source, page_blocks}
 use Rattle.wt_block_edits.specs.BlockEdits.{SpotEdit, BlockEdit, new_text}
 
@@ -24,11 +23,11 @@ abbrev pub source_before : Place → List ℕ
 source_before p = spots_source p.spots p.before
 
 -- the spots of a page that has a block with this text there, and these spots behind it
-abbrev pub spots_with : Place → Block → List ℕ → List BlockSpot → List BlockSpot
+abbrev pub spots_with : Place → TextBlock → List ℕ → List BlockSpot → List BlockSpot
 spots_with p k text further = p.spots ++ record { before = p.before; block = k; text = text } ∷ further
 
 -- the page itself, behind whose last spot this stands
-abbrev pub page_with : Place → Block → List ℕ → List BlockSpot → List ℕ → List ℕ
+abbrev pub page_with : Place → TextBlock → List ℕ → List BlockSpot → List ℕ → List ℕ
 page_with p k text further behind = spots_source (spots_with p k text further) behind
 
 -- ---- one text
@@ -42,15 +41,15 @@ abbrev pub number_at : Place → ℕ
 number_at p = 1 + numbered (page_blocks p.spots p.before)
 
 -- how many nodes in this block have one
-abbrev pub numbered_inside : Block → List ℕ → ℕ
+abbrev pub numbered_inside : TextBlock → List ℕ → ℕ
 numbered_inside k text = count_all (children (placed [] (block_tree k text)))
 
 -- the block with this text as it stands there, with its numbers and places
-abbrev pub block_at : Place → Block → List ℕ → Tree
+abbrev pub block_at : Place → TextBlock → List ℕ → Tree
 block_at p k text = standing (number_at p) (page_items (source_before p)) (block_tree k text)
 
 -- The text `new` stands in this block where `old` stood.
-abbrev pub replaced_by : Place → Block → List ℕ → List ℕ → Edit
+abbrev pub replaced_by : Place → TextBlock → List ℕ → List ℕ → Edit
 replaced_by p k old new = record {
   number = number_at p;
   inside = children (block_at p k new);

@@ -5,8 +5,7 @@ ghost use Rattle.std.specs.Prelude.{◌≡◌, ℕ, List};
 ghost use Rattle.wt_devices.specs.Device.{Pages};
 ghost use Rattle.wt_page_round_trip.specs.PageTree.{page_tree};
 ghost use Rattle.wt_local.specs.Replaced.{with_inside, with_insides};
-ghost use Rattle.wt_typed_blocks.specs.Sent.{Block};
-ghost use Rattle.wt_block_edits.specs.Blocks.{IsBlock};
+ghost use Rattle.wt_block_edits.specs.Blocks.{TextBlock, IsBlock};
 ghost use Rattle.wt_block_edits.specs.BlockSpots.{BlockSpot, AreBlockSpots};
 ghost use Rattle.wt_block_edits.specs.BlockEdits.{BlockEdit, old_page, new_page, IsBlockEdit};
 ghost use Rattle.wt_inside_laws.specs.TextsReplaced.{Place, spots_with, page_with, replaced_by, all_replaced};
@@ -18,7 +17,7 @@ ghost use Rattle.wt_inside_laws.specs.TextsReplaced.{Place, spots_with, page_wit
 /// how many nodes have a number in the two.
 #[tactic(auto, using(crate::proofs::OneText::tree_replaced))]
 pub fn only_that_text_is_another()
-    ensures { (pages : Pages) (p : Place) (b : Block) (old new : List ℕ) (further : List BlockSpot) (behind : List ℕ)
+    ensures { (pages : Pages) (p : Place) (b : TextBlock) (old new : List ℕ) (further : List BlockSpot) (behind : List ℕ)
         → AreBlockSpots (spots_with p b old further) behind → IsBlock b new → page_tree pages (page_with p b new further behind)
         ≡ with_inside (replaced_by p b old new) (page_tree pages (page_with p b old further behind)) }
 {}

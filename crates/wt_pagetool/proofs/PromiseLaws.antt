@@ -2,7 +2,6 @@
 use Rattle.std.proofs.Common.{◌≡◌, ℕ, List, refl, subst}
 use Rattle.std.specs.Prelude.{◌+◌, Option, Some, None, IfSome, IfErr, OnOk, Result, Ok, Err}
 use Rattle.std.specs.Io.KnownBytes.{IsAtEnd}
-use Rattle.wt_expand.specs.Work.{Pages}
 use Rattle.wt_span.specs.declared.limits.TheConstants.{HTML_BYTES}
 use Rattle.wt_transclusion.specs.Asked.{AreFirst}
 use Rattle.wt_pagetool.specs.declared.command.Command.{Command}
@@ -12,13 +11,13 @@ use Rattle.wt_pagetool.specs.declared.refusal.Refusal.{Refusal}
 use Rattle.wt_pagetool.specs.declared.status.Status.{Status}
 use Rattle.wt_pagetool.specs.declared.status.Status.TheVariants as status
 use Rattle.wt_pagetool.specs.declared.wikitext_command.TheConstants.{PIECE}
-use Rattle.wt_pagetool.specs.Answers.{answer_told, IsNoText}
+use Rattle.wt_pagetool.specs.Answers.{answer_told}
 use Rattle.wt_pagetool.specs.Asked.{AsksNames}
 use Rattle.wt_pagetool.specs.Calls.{call, IsDue, IsDueAs}
 use Rattle.wt_pagetool.specs.Causes.{Answered, FailsAlone, IsKept, found_status}
 use Rattle.wt_pagetool.specs.Devices.{SourceUse, FolderUse, SinkUse}
 use Rattle.wt_pagetool.specs.Inputs.{GivesAtMost, StopsWithin}
-use Rattle.wt_pagetool.specs.Promises.{Wrote, GivesBack, EndsAsEdit, Ends, AsksFor, ReadsAtMost, Waits}
+use Rattle.wt_pagetool.specs.Promises.{Wrote, GivesBack, EndsAsEdit, Ends, AsksFor, ReadsAtMost}
 use Rattle.wt_pagetool.specs.Reports.{Reported}
 use Rattle.wt_pagetool.specs.Selser.{AnswersSelser}
 use Rattle.wt_pagetool.specs.Statuses.{code}
@@ -152,16 +151,3 @@ run_reads words input folder out err found s ended is r due takes stops = record
   stops = λ e. let f = found_read_fault found s ended out err is r e in
       read_fault_stops found input.left_before input.left_after (stops (due_reads words input folder found due f)) f;
 }
-
--- by the command that the words name
-pub run_waits : {T : Type 0} (command : Option Command) (told : Option Pages) (before after : T)
-    → ((title : List ℕ) → command ≡ Some (Edit title) → IfSome told (λ pages. IsNoText (pages title) → after ≡ before))
-    → ((title : List ℕ) → command ≡ Some (Selser title) → IfSome told (λ pages. IsNoText (pages title) → after ≡ before))
-    → Waits command told before after
-run_waits None told before after edit selser = tt
-run_waits (Some (Page command title)) told before after edit selser = tt
-run_waits (Some (Expand title)) told before after edit selser = tt
-run_waits (Some (Edit title)) told before after edit selser = edit title refl
-run_waits (Some (Selser title)) told before after edit selser = selser title refl
-run_waits (Some (Gen n)) told before after edit selser = tt
-run_waits (Some Wikitext) told before after edit selser = tt

@@ -3,6 +3,7 @@ pub mod Asked
 pub mod Calls
 pub mod Causes
 pub mod Devices
+pub mod Found
 pub mod Gen
 pub mod GivenBack
 pub mod Inputs

@@ -1,14 +1,10 @@
-ghost use Rattle.std.specs.Prelude.{◌≡◌, ◌+◌, ℕ, List, Some, IfSome, IfErr, OnOk};
-ghost use Rattle.std.specs.Io.KnownBytes.{IsAtEnd};
+ghost use Rattle.std.specs.Prelude.{◌≡◌, ◌+◌, IfSome};
 ghost use Rattle.wt_transclusion.specs.Asked.{Asks, AsksAtMost};
-ghost use Rattle.wt_pagetool.specs.Answers.{answer_told, IsNoText};
 ghost use Rattle.wt_pagetool.specs.Asked.{names_told, AsksNames};
-ghost use Rattle.wt_pagetool.specs.Calls.{call, IsDue};
-ghost use Rattle.wt_pagetool.specs.Causes.{found_status, Answered, FailsAlone, IsKept};
+ghost use Rattle.wt_pagetool.specs.Calls.{call};
 ghost use Rattle.wt_pagetool.specs.Devices.{read_from, fetched_from, written_to};
-ghost use Rattle.wt_pagetool.specs.Inputs.{GivesAtMost, StopsWithin};
+ghost use Rattle.wt_pagetool.specs.Found.{CountsFaults, FindsAnswer, ReadsInput};
 ghost use Rattle.wt_pagetool.specs.Promises.{AsksFor, Ends, EndsAsEdit, GivesBack, ReadsAtMost, Waits, Wrote};
-ghost use Rattle.wt_pagetool.specs.Selser.{AnswersSelser};
 ghost use Rattle.wt_pagetool.specs.Words.{command_of, Fetches, Reads};
 
 use crate::command::{Command, PageCommand, command_of};
@@ -21,13 +17,13 @@ use crate::refusal::Refusal;
 use crate::report::report;
 use crate::selser_command::selser_page;
 use crate::status::Status;
-use crate::wikitext_command::{PIECE, wikitext_of_input};
+use crate::wikitext_command::wikitext_of_input;
 use std::alloc::Global;
 use wt_devices::{Folder, Sink, Source};
-use wt_span::{HTML_BYTES, List, PAGE_BYTES, Str};
+use wt_span::{List, PAGE_BYTES, Str};
 use wt_unmarked_edit::Readings;
 
-/// What the words ask for, or why it isn't to be had.
+/// What the words ask for, or why it can't be had. The records of the clauses are in `specs/Found.antt`.
 #[tactic(auto, using(crate::proofs::GenLaws::few_sections), unfolding(crate::specs::Answers::answer_told, crate::specs::Asked::names_told))]
 fn find_answer<S: Source, F: Folder>(
     alloc: Global,
@@ -35,34 +31,17 @@ fn find_answer<S: Source, F: Folder>(
     input: &mut S,
     folder: &mut F,
 ) -> Result<Output, Refusal>
-    ensures answered { IfSome (answer_told (F.pages folder.old) (S.left input.old) words.now)
-        (λ a. Answered a result) }
-    ensures due { IfErr result (IsDue words.now
-        (read_from S.Source input.old input.new) (fetched_from F.Folder folder.old folder.new)) }
-    ensures ended { Reads (command_of words.now) → OnOk result (IsAtEnd (S.left input.new)) }
-    ensures input_kept { IsKept result (S.fault_count input.old) (S.fault_count input.new) }
-    ensures folder_kept { IsKept result (F.fault_count folder.old) (F.fault_count folder.new) }
+    ensures finds { FindsAnswer words.now (read_from S.Source input.old input.new)
+        (fetched_from F.Folder folder.old folder.new) result }
+    ensures counts { CountsFaults words.now (read_from S.Source input.old input.new)
+        (fetched_from F.Folder folder.old folder.new) result }
     ensures asks { Asks (F.answered folder.old) (F.answered folder.new) (F.most_asked folder.old)
         (F.most_asked folder.new) }
     ensures names { IfSome (names_told (F.pages folder.old) (S.left input.old) words.now)
         (λ names. AsksNames names (F.answered folder.old) (F.answered folder.new) result) }
-    ensures takes { GivesAtMost (HTML_BYTES + PIECE) (S.left input.old) (S.left input.new) }
-    ensures stops { Reads (command_of words.now)
-        → IfErr result (StopsWithin (S.left input.old) (S.left input.new)) }
-    ensures edit_alone { (title : List ℕ) → command_of words.now ≡ Some (Command.Edit title)
-        → FailsAlone (found_status result) (S.fault_count input.old) (S.fault_count input.new)
-        (F.fault_count folder.old) (F.fault_count folder.new) }
-    ensures selser_alone { (title : List ℕ) → command_of words.now ≡ Some (Command.Selser title)
-        → FailsAlone (found_status result) (S.fault_count input.old) (S.fault_count input.new)
-        (F.fault_count folder.old) (F.fault_count folder.new) }
-    ensures waits { (title : List ℕ) → command_of words.now ≡ Some (Command.Edit title)
-        → IfSome (F.pages folder.old) (λ pages. IsNoText (pages title) → input.new ≡ input.old) }
-    ensures found { (title : List ℕ) → command_of words.now ≡ Some (Command.Selser title)
-        → IfSome (F.pages folder.old) (λ pages. IfSome (S.left input.old)
-        (λ bytes. AnswersSelser pages (pages title) bytes result)) }
-    ensures stays { (title : List ℕ) → command_of words.now ≡ Some (Command.Selser title)
-        → IfSome (F.pages folder.old) (λ pages. IsNoText (pages title) → input.new ≡ input.old) }
-    ensures kept { F.pages folder.new ≡ F.pages folder.old }
+    ensures reads { ReadsInput words.now (read_from S.Source input.old input.new) result }
+    ensures waits { Waits (command_of words.now) (F.pages folder.old) input.old input.new }
+    ensures pages_kept { F.pages folder.new ≡ F.pages folder.old }
     ensures unread { ¬ Reads (command_of words.now) → input.new ≡ input.old }
     ensures unasked { ¬ Fetches (command_of words.now) → folder.new ≡ folder.old }
 {

@@ -1,11 +1,11 @@
--- Worked cases of pages with typed paragraphs, and of what may stand round these, by computing.
-use Rattle.std.proofs.Common.{◌≡◌, None, List, [], ◌∷◌, ◌++◌, refl}
+-- Worked cases of what may stand round a typed paragraph, by computing.
+use Rattle.std.proofs.Common.{◌≡◌, None, [], ◌∷◌, ◌++◌, refl}
 use Rattle.std.specs.Prelude.{codes}
 use Rattle.wt_span.specs.Comments.{comment_len, comment_line_len}
 use Rattle.wt_span.specs.Entities.{named_entity, entity_names, decimal_entity, hex_entity, entity_at}
 use Rattle.wt_span.specs.Items.{char}
 use Rattle.wt_span.specs.Lexemes.{sign_word, form_at, closed, words}
-use Rattle.wt_span.specs.Tags.{opening_tag, closing_tag, raw_len, include_at}
+use Rattle.wt_span.specs.Tags.{tag_after, opening_tag, closing_tag, with_inside, is_extension, raw_len, include_at}
 use Rattle.wt_lines.specs.Kinds.{kind_of_signs}
 use Rattle.wt_lines.specs.Lines.{full_lines}
 use Rattle.wt_expand.specs.PageItems.{page_items}
@@ -32,18 +32,8 @@ use Rattle.wt_annotated.specs.Annotated.{annotated}
 use Rattle.wt_annotated.specs.GroupData.{group_data}
 use Rattle.wt_annotated.specs.Labels.{label_at}
 use Rattle.wt_paragraph_laws.specs.Between.{rows_of_lines, AreClosed, EndApart, EndsApart, EndsParagraph}
-use Rattle.wt_paragraph_laws.specs.Spots.{Spot, spots_source, BeginsApart, HasNoGroups}
+use Rattle.wt_paragraph_laws.specs.Parts.{HasNoGroups}
 use Rattle.wt_paragraph_laws.specs.Texts.{AreLetters, AreOneText}
-
--- a list, a paragraph, a table, a paragraph, and a rule
-abbrev page : List Spot
-page =
-    record { before = codes "* a\n\n"; paragraph = codes "x" }
-    ∷ record { before = codes "\n{|\n| b\n|}\n"; paragraph = codes "y" }
-    ∷ []
-
-its_source : spots_source page (codes "\n----\n") ≡ codes "* a\n\nx\n{|\n| b\n|}\ny\n----\n"
-its_source = refl
 
 -- ---- what stands before a paragraph
 
@@ -65,11 +55,17 @@ unfolding page_items words closed form_at comment_len comment_line_len raw_len o
     hex_entity entity_names sign_word kind_of_signs
 table_above = record { are_closed = record { whole = refl; closed = refl }; apart = refl }
 
--- a table directly behind a paragraph, and more
-table_apart : BeginsApart (page_items (codes "\n{|\n|}\n\n== h ==\n"))
-unfolding page_items words closed form_at comment_len comment_line_len raw_len opening_tag closing_tag include_at entity_at named_entity decimal_entity
-    hex_entity entity_names sign_word kind_of_signs
-table_apart = (refl, (record { whole = refl; closed = refl }), refl)
+-- a list item with a footnote
+footnote_above : EndsApart (page_items (codes "* a<ref/>\n"))
+unfolding page_items words closed form_at comment_len comment_line_len raw_len tag_after opening_tag closing_tag with_inside is_extension include_at
+    entity_at named_entity decimal_entity hex_entity entity_names sign_word kind_of_signs
+footnote_above = record { are_closed = record { whole = refl; closed = refl }; apart = refl }
+
+-- a line of comments has its line break in it, and so is part of the line behind it
+comment_above : AreClosed (page_items (codes "* a\n<!-- c -->\n")) → ⊥
+unfolding page_items words closed form_at comment_len comment_line_len raw_len tag_after opening_tag closing_tag with_inside is_extension include_at
+    entity_at named_entity decimal_entity hex_entity entity_names sign_word kind_of_signs
+comment_above h = let e = h.whole in absurd (cc)
 
 -- an open table takes the paragraph in, and with a line of text directly above it is one paragraph
 open_table : AreClosed (page_items (codes "{|\n| b\n")) → ⊥
@@ -82,17 +78,17 @@ unfolding page_items words closed form_at comment_len comment_line_len raw_len o
     hex_entity entity_names sign_word kind_of_signs
 text_above h = absurd (cc)
 
-text_behind : BeginsApart (page_items (codes "\na\n")) → ⊥
-unfolding page_items words closed form_at comment_len comment_line_len raw_len opening_tag closing_tag include_at entity_at named_entity decimal_entity
-    hex_entity entity_names sign_word kind_of_signs
-text_behind h = let e = h.2 in absurd (cc)
-
 -- ---- what stands behind the last
 
 rule_behind : EndsParagraph (page_items (codes "\n----\n"))
 unfolding page_items words closed form_at comment_len comment_line_len raw_len opening_tag closing_tag include_at entity_at named_entity decimal_entity
     hex_entity entity_names sign_word kind_of_signs rows
 rule_behind = (refl, refl)
+
+comment_behind : EndsParagraph (page_items (codes "\n<!-- c -->\n* a"))
+unfolding page_items words closed form_at comment_len comment_line_len raw_len tag_after opening_tag closing_tag with_inside is_extension include_at
+    entity_at named_entity decimal_entity hex_entity entity_names sign_word kind_of_signs rows
+comment_behind = (refl, refl)
 
 -- ---- no groups
 
@@ -103,6 +99,15 @@ unfolding page_items words closed form_at comment_len comment_line_len raw_len o
     line_trees context_parts segments tiles shapes tiles_closed tile_form_at link_or_url link_at ext_link_at bare_url_at scheme_len kept_len
     tag_tile tag_at tile_opening_tag tile_closing_tag switch_at loose_segments chunks with_styles style_tree_of toggles_of toggle_at
 list_alone = (refl, ((refl, ((refl, ((refl, tt), tt)), tt)), ((refl, tt), tt)))
+
+-- the same with a footnote in the item
+footnote_alone : HasNoGroups (codes "* a<ref/>\n")
+unfolding page_items words closed form_at comment_len comment_line_len raw_len tag_after opening_tag closing_tag with_inside is_extension include_at
+    entity_at named_entity decimal_entity hex_entity entity_names sign_word kind_of_signs
+    annotated group_data label_at meaning rows blocks children nested colon_at line_item lists
+    line_trees context_parts segments tiles shapes tiles_closed tile_form_at link_or_url link_at ext_link_at bare_url_at scheme_len kept_len
+    tag_tile tag_at tile_opening_tag tile_closing_tag switch_at loose_segments chunks with_styles style_tree_of toggles_of toggle_at
+footnote_alone = (refl, ((refl, ((refl, ((refl, tt), ((refl, tt), tt))), tt)), ((refl, tt), tt)))
 
 -- a table with a cell, between separators
 table_alone : HasNoGroups (codes "\n\n{|\n| b\n|}\n\n")
@@ -138,7 +143,20 @@ ampersand_ended = refl
 reference_written : AreLetters (page_items (codes "&amp;"))
 unfolding page_items words closed form_at comment_len comment_line_len raw_len opening_tag closing_tag include_at entity_at named_entity decimal_entity
     hex_entity entity_names sign_word
-reference_written = (tt, tt)
+reference_written = (tt, (refl, (refl, (refl, (refl, (refl, tt))))), tt)
+
+-- and so is a `<` that begins no tag, and no tag that shows its inside is a text
+less_written : AreLetters (page_items (codes "a < b"))
+unfolding page_items words closed form_at comment_len comment_line_len raw_len opening_tag closing_tag include_at entity_at named_entity decimal_entity
+    hex_entity entity_names sign_word
+less_written = tt
+
+less_text : AreOneText (full_lines (page_items (codes "a < b")))
+unfolding page_items words closed form_at comment_len comment_line_len raw_len opening_tag closing_tag include_at entity_at named_entity decimal_entity
+    hex_entity entity_names sign_word
+    context_parts segments tiles shapes tiles_closed tile_form_at link_or_url link_at ext_link_at bare_url_at scheme_len kept_len
+    tag_tile tag_at tile_opening_tag tile_closing_tag switch_at loose_segments chunks with_styles style_tree_of toggles_of toggle_at
+less_text = (refl, refl, tt)
 
 -- no link begins at a bracket before a blank
 bracket_written : AreOneText (full_lines (page_items (codes "a [ b")))

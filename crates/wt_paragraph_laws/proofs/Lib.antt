@@ -3,8 +3,6 @@ pub mod Texts
 pub mod Joining
 pub mod Standing
 pub mod Paragraphs
-pub mod SpotsReading
-pub mod SpotsMeaning
-pub mod SpotsTrees
-pub mod SpotsAgain
+pub mod PartTrees
+pub mod ClearLines
 mod Cases

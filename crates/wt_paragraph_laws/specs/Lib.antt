@@ -1,3 +1,3 @@
 pub mod Between
 pub mod Texts
-pub mod Spots
+pub mod Parts

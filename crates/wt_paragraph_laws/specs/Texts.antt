@@ -16,7 +16,7 @@ use Rattle.wt_context.specs.Line.{line_parts}
 use Rattle.wt_page.specs.Rows.{marks_len}
 use Rattle.wt_expand.specs.PageItems.{page_items}
 use Rattle.wt_text_edits.specs.TypedPages.{IsTypedPage}
-use Rattle.wt_text_between.specs.Between.{HaveNoBraces, StandsBefore}
+use Rattle.wt_text_between.specs.Between.{HasNoTag, HaveNoBraces, StandsBefore}
 
 -- ---- a text that somebody wrote in the page's own wikitext
 
@@ -31,12 +31,12 @@ IsReference form.Include = ⊥
 IsReference form.Hidden = ⊥
 IsReference form.EmptyCall = ⊥
 
--- characters of the page, and references to characters
+-- Characters of the page, and references to characters, in which is no `<`. A `<` that begins no tag and no comment is a character.
 abbrev pub AreLetters : List Item → Type 0
 AreLetters [] = Unit {0}
 AreLetters (char None b ∷ xs) = AreLetters xs
 AreLetters (char (Some k) b ∷ xs) = ⊥
-AreLetters (whole f None bs ∷ xs) = IsReference f × AreLetters xs
+AreLetters (whole f None bs ∷ xs) = IsReference f × HasNoTag bs × AreLetters xs
 AreLetters (whole f (Some k) bs ∷ xs) = ⊥
 
 abbrev pub IsTextLine : List Item → Type 0
@@ -47,7 +47,7 @@ abbrev pub AreOneText : List (List Item) → Type 0
 AreOneText [] = Unit {0}
 AreOneText (l ∷ ls) = (marks_len l ≡ 0) × (line_parts (content l) ≡ parts Text (content l)) × AreOneText ls
 
--- Lines of text without `<` and without two braces side by side, whether a line break stands behind them or the page ends there. They are
+-- Lines of text without two braces side by side, whether a line break stands behind them or the page ends there. They are
 -- characters and references, and nothing else.
 pub record IsWrittenText (q : List ℕ) : Type 0 where
   pub utf8 : IsUtf8 q

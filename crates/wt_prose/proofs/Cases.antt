@@ -10,7 +10,7 @@ use Rattle.wt_guards.specs.Guards.{nowiki, is_guarded, is_between_guard, is_star
 use Rattle.wt_guards.specs.Letters.{is_escaped, reference}
 use Rattle.wt_guards.specs.Table.{hazard, line_start_hazard}
 use Rattle.wt_prose.specs.ProsePages.{Passage, prose}
-use Rattle.wt_prose.specs.ProseEdits.{Sending, retyped, kept, PassageEdit, old_passages, new_passages}
+use Rattle.wt_prose.specs.ProseEdits.{retyped, kept, PassageEdit, old_passages, new_passages}
 
 -- two paragraphs, an empty line between them, and a line break at the page's end
 abbrev page : List Passage

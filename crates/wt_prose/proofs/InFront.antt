@@ -21,37 +21,39 @@ use Rattle.wt_guards.specs.Letters.{is_bracket, is_escaped, reference, written_b
 use Rattle.wt_guards.specs.Guards.{Setting, nowiki, nowiki_if, is_guarded, spelled_from, spelled}
 use Rattle.wt_guards.proofs.Escapes.{is_escapable, escapable}
 use Rattle.wt_expand.specs.PageItems.{items_of_word, page_items}
-use Rattle.wt_spelling_laws.proofs.Forms.{NoComments, comment_other, comment_not, without_line, other_byte, equals_byte, IsTame, less_byte, and_byte, nowiki_form, reference_form}
+use Rattle.wt_spelling_laws.proofs.Forms.{comment_other, comment_not, other_byte, equals_byte, IsTame, less_byte, and_byte, nowiki_form, reference_form}
 use Rattle.wt_spelling_laws.proofs.TextReads.{begin_next, bracket_escaped, not_bracket, equal_or, apart}
 use Rattle.wt_text_edits.proofs.TypedItems.{ItemsOf, items_byte, items_form, skip, references, wide_form, wide_tame, tame_if, IsMild, wide_mild, mild_if, no_form_byte, after_it, items_are}
 use Rattle.wt_text_edits.proofs.TypedText.{IsNoBrace, HaveNoBraces}
+use Rattle.wt_prose.proofs.Uncommented.{BeginsUncommented, uncommented_byte, uncommented_other, either_flag}
 
 -- ---- what a text reads as, whether a line break stands before it or not
 
 pub record Reads (bs : List ℕ) (xs : List Item) : Type 0 where
   pub items : ItemsOf bs xs
   pub shown : (after : Bool) → HaveNoBraces (cuts Page after 0 bs).1
-  pub clean : NoComments bs
+  pub begins : BeginsUncommented bs
 
 pub reads_nothing : Reads [] []
-reads_nothing = record { items = λ after. refl; shown = λ after. tt; clean = tt }
+reads_nothing = record { items = λ after. refl; shown = λ after. tt; begins = record { is = refl } }
 
 shown_if : (t : Bool) (n : ℕ) (ws : List Word) → HaveNoBraces ws → HaveNoBraces (if t then ws else (Chars, n) ∷ ws)
 shown_if true n ws h = h
 shown_if false n ws h = (tt, h)
 
-shown_closed : (c : Cut) → HaveNoBraces c.1 → HaveNoBraces (closed c.0 c.1)
+pub shown_closed : (c : Cut) → HaveNoBraces c.1 → HaveNoBraces (closed c.0 c.1)
 unfolding closed
 shown_closed (n, ws) h = shown_if (n == 0) n ws h
 
-reads_byte : (b : ℕ) (bs : List ℕ) (xs : List Item) → form_at Page false (b ∷ bs) ≡ None → comment_len (b ∷ bs) ≡ None → Reads bs xs
+pub reads_byte : (b : ℕ) (bs : List ℕ) (xs : List Item) → form_at Page false (b ∷ bs) ≡ None → comment_len (b ∷ bs) ≡ None → Reads bs xs
     → Reads (b ∷ bs) (char None b ∷ xs)
 reads_byte b bs xs f c r =
-    let no = λ (after : Bool). without_line Page after (b ∷ bs) (c, r.clean) ∙ f in
+    let begins : BeginsUncommented (b ∷ bs) = uncommented_byte b bs c r.begins in
+    let no = λ (after : Bool). either_flag Page after (b ∷ bs) begins ∙ f in
     record {
       items = items_byte b bs xs no r.items;
       shown = λ after. subst (λ (k : Cut). HaveNoBraces k.1) (sym (cuts_cons Page after b bs None (no after))) (r.shown (is_break b));
-      clean = (c, r.clean);
+      begins = begins;
     }
 
 form_shown : (kind : LexKind) (b : ℕ) (q rest : List ℕ) → IsNoBrace kind → ((after : Bool) → form_at Page after (b ∷ (q ++ rest)) ≡ Some (kind, suc (length q)))
@@ -64,11 +66,11 @@ form_shown kind b q rest k f r after =
     (skip P q rest (is_break b) (λ a. (k, shown_closed (cuts Page a 0 rest) (r a)))))
 
 pub reads_form : (kind : LexKind) (b : ℕ) (q rest : List ℕ) (xs : List Item) → IsNoBrace kind
-    → form_at Page false (b ∷ (q ++ rest)) ≡ Some (kind, suc (length q)) → NoComments (b ∷ (q ++ rest)) → Reads rest xs
+    → form_at Page false (b ∷ (q ++ rest)) ≡ Some (kind, suc (length q)) → BeginsUncommented (b ∷ (q ++ rest)) → Reads rest xs
     → Reads (b ∷ (q ++ rest)) (items_of_word kind (b ∷ q) ++ xs)
 reads_form kind b q rest xs k f c r =
-    let at = λ (after : Bool). without_line Page after (b ∷ (q ++ rest)) c ∙ f in
-    record { items = items_form kind b q rest xs at r.items; shown = form_shown kind b q rest k at r.shown; clean = c }
+    let at = λ (after : Bool). either_flag Page after (b ∷ (q ++ rest)) c ∙ f in
+    record { items = items_form kind b q rest xs at r.items; shown = form_shown kind b q rest k at r.shown; begins = c }
 
 -- ---- what stands in front
 
@@ -93,7 +95,7 @@ unfolding nowiki comment_len opening_tag tag_after
 front_nowiki q g = record {
   items = whole form.Nowiki None nowiki ∷ g.items;
   reads = λ rest xs r. let h = g.reads rest xs r in reads_form Raw 60 (codes "nowiki/>") (q ++ rest) (g.items ++ xs) tt (nowiki_form Page (q ++ rest))
-      (refl, (refl, (refl, (refl, (refl, (refl, (refl, (refl, (refl, h.clean))))))))) h;
+      (uncommented_other 60 (codes "nowiki/>" ++ (q ++ rest)) refl refl) h;
 }
 
 front_guard : (guarded : Bool) (q : List ℕ) → InFront q → InFront (nowiki_if guarded ++ q)
@@ -110,7 +112,8 @@ front_reference c q e g =
       items = whole (form.Entity c) None own ∷ g.items;
       reads = λ rest xs k. let h = g.reads rest xs k in
           subst (λ bs. Reads bs (whole (form.Entity c) None own ∷ (g.items ++ xs))) (sym (append_assoc own q rest))
-          (reads_form (Entity c) 38 r.others (q ++ rest) (g.items ++ xs) tt (f (q ++ rest)) (r.clean (q ++ rest) h.clean) h);
+          (reads_form (Entity c) 38 r.others (q ++ rest) (g.items ++ xs) tt (f (q ++ rest))
+          (uncommented_other 38 (r.others ++ (q ++ rest)) refl (comment_other 38 (r.others ++ (q ++ rest)) (omega arith))) h);
     })
 
 -- ---- characters as they are
@@ -146,7 +149,8 @@ front_equals : (q : List ℕ) → InFront q → InFront (61 ∷ q)
 front_equals q g = record {
   items = char None 61 ∷ g.items;
   reads = λ rest xs r. let h = g.reads rest xs r in
-      reads_form Equals 61 [] (q ++ rest) (g.items ++ xs) tt (equals_byte Page (q ++ rest)) (comment_other 61 (q ++ rest) (omega arith), h.clean) h;
+      reads_form Equals 61 [] (q ++ rest) (g.items ++ xs) tt (equals_byte Page (q ++ rest))
+      (uncommented_other 61 (q ++ rest) refl (comment_other 61 (q ++ rest) (omega arith))) h;
 }
 
 front_other : (c : ℕ) (q : List ℕ) → is_bracket c ≡ false → (c == 60) ≡ false → (c == 38) ≡ false → (c == 61) ≡ false → InFront q → InFront (c ∷ q)

@@ -1,3 +1,4 @@
+pub mod Uncommented
 pub mod InFront
 pub mod ProseReading
 pub mod ProseLines

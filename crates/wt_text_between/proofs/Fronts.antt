@@ -1,12 +1,12 @@
--- Lines without `<` read the same before whatever is read behind them; and so a text between two parts of a page.
+-- Lines that have their ends read the same before whatever is read behind them; and so a text between two parts of a page.
 use Rattle.std.proofs.Common.{arith, ◌≡◌, ℕ, zero, suc, ◌-◌, ◌≤◌, ◌==◌, Bool, true, false, Option, Some, None, List, [], ◌∷◌, ◌++◌, length, take, drop, refl, sym, ap, ◌∙◌, subst, append_assoc}
 use Rattle.std.specs.Prelude.{if◌then◌else◌}
-use Rattle.std.proofs.lemmas.List.{take-append-drop}
+use Rattle.std.proofs.lemmas.List.{take-append-le}
 use Rattle.wt_span.specs.declared.form.Mode.TheVariants.{Page}
 use Rattle.wt_span.specs.declared.form.LexKind.{LexKind}
 use Rattle.wt_span.specs.declared.form.LexKind.TheVariants.{Chars, Opens, Closes}
 use Rattle.wt_span.specs.Bytes.{is_break}
-use Rattle.wt_span.specs.Items.{Item}
+use Rattle.wt_span.specs.Items.{Item, char}
 use Rattle.wt_span.specs.Lexemes.{Word, Cut, cuts, closed, words, form_at}
 use Rattle.wt_lex.proofs.AllForms.{form_fits}
 use Rattle.wt_lex.proofs.Cuts.{cuts_cons}
@@ -14,17 +14,18 @@ use Rattle.wt_expand.specs.PageCalls.{expanded_page}
 use Rattle.wt_expand.specs.PageItems.{items_of_word, page_items}
 use Rattle.wt_expand.specs.Work.{Pages, first_refusal}
 use Rattle.wt_expand.specs.Expansion.{page_work}
-use Rattle.wt_spelling_laws.proofs.Forms.{NoComments, comment_other, without_line}
-use Rattle.wt_spelling_laws.proofs.TextReads.{apart}
+use Rattle.wt_scans.specs.Lexer.{lexer}
+use Rattle.wt_scans.specs.Scans.{after_all, skipped_by, Settles}
 use Rattle.wt_text_edits.specs.LonePages.{of_items}
 use Rattle.wt_text_edits.specs.TypedPages.{IsTypedPage}
-use Rattle.wt_text_edits.proofs.TypedItems.{items_cut, ItemsOf, items_are}
+use Rattle.wt_text_edits.proofs.TypedItems.{items_cut, closed_items}
 use Rattle.wt_text_edits.proofs.TypedText.{IsNoBrace, HaveNoBraces, shown_expanded, shown_unrefused}
-use Rattle.wt_prose.proofs.InFront.{Reads, InFront, reads_form, front_nothing, front_byte, its_items, read_items, read_words}
+use Rattle.wt_prose.proofs.Uncommented.{BeginsUncommented, either_flag}
+use Rattle.wt_prose.proofs.InFront.{Reads, shown_closed}
 use Rattle.wt_prose.proofs.ProseReading.{page_front}
 use Rattle.wt_text_between.specs.Between as is_spec
-use Rattle.wt_text_between.specs.Between.{HasNoTag, EndsLine, HasNoComment, StandsBefore, StandsBehind}
-use Rattle.wt_text_between.proofs.LineForms.{line_form, line_form_alone}
+use Rattle.wt_text_between.specs.Between.{StandsBefore, StandsBehind}
+use Rattle.wt_text_between.proofs.LineForms.{lines_settle}
 
 -- ---- lexemes that aren't runs of braces
 
@@ -49,124 +50,156 @@ words_shown : (bs : List ℕ) → is_spec.HaveNoBraces (words Page bs) → HaveN
 unfolding words
 words_shown bs h = opened (cuts Page false 0 bs) (all_same (closed (cuts Page false 0 bs).0 (cuts Page false 0 bs).1) h)
 
--- ---- one form in front
+-- ---- what is read from a place on, where it is known whether a line break stands before it
 
-no_comments : (q rest : List ℕ) → HasNoTag q → NoComments rest → NoComments (q ++ rest)
-no_comments [] rest t n = n
-no_comments (b ∷ q) rest t n = (comment_other b (q ++ rest) (apart b 60 t.0), no_comments q rest t.1 n)
+pub record ReadsAfter (after : Bool) (bs : List ℕ) (xs : List Item) : Type 0 where
+  pub items : items_cut bs (cuts Page after 0 bs) ≡ xs
+  pub shown : HaveNoBraces (cuts Page after 0 bs).1
 
-front_form : (kind : LexKind) (b : ℕ) (q r : List ℕ) → IsNoBrace kind → HasNoTag (b ∷ q)
-    → ((rest : List ℕ) → form_at Page false (b ∷ (q ++ (r ++ rest))) ≡ Some (kind, suc (length q))) → InFront r → InFront (b ∷ (q ++ r))
-front_form kind b q r k t f g =
-    let own : List Item = items_of_word kind (b ∷ q) in
-    record {
-      items = own ++ g.items;
-      reads = λ rest xs h. let r_reads = g.reads rest xs h in
-          subst (λ bs. Reads (b ∷ bs) ((own ++ g.items) ++ xs)) (sym (append_assoc q r rest))
-          (subst (λ ys. Reads (b ∷ (q ++ (r ++ rest))) ys) (sym (append_assoc own g.items xs))
-          (reads_form kind b q (r ++ rest) (g.items ++ xs) k (f rest) (no_comments (b ∷ q) (r ++ rest) t r_reads.clean) r_reads));
-    }
+pub reads_after : (after : Bool) (bs : List ℕ) (xs : List Item) → Reads bs xs → ReadsAfter after bs xs
+reads_after after bs xs r = record { items = r.items after; shown = r.shown after }
 
--- ---- lines
+pub first_items : (bs : List ℕ) → page_items bs ≡ items_cut bs (cuts Page false 0 bs)
+unfolding page_items words
+first_items bs = closed_items bs (cuts Page false 0 bs)
 
-ends_behind : (b : ℕ) (q : List ℕ) → EndsLine (b ∷ q) → EndsLine q
-ends_behind b [] e = tt
-ends_behind b (c ∷ q) e = e
+-- a page that is read so
+pub page_read : (bs : List ℕ) (xs : List Item) → ReadsAfter false bs xs → page_items bs ≡ xs
+page_read bs xs r = first_items bs ∙ r.items
 
-no_tag_taken : (n : ℕ) (q : List ℕ) → HasNoTag q → HasNoTag (take n q)
-no_tag_taken zero [] t = tt
-no_tag_taken zero (b ∷ q) t = tt
-no_tag_taken (suc n) [] t = tt
-no_tag_taken (suc n) (b ∷ q) t = (t.0, no_tag_taken n q t.1)
+pub page_words : (bs : List ℕ) (xs : List Item) → ReadsAfter false bs xs → HaveNoBraces (words Page bs)
+unfolding words
+page_words bs xs r = shown_closed (cuts Page false 0 bs) r.shown
 
-taken_long : (n : ℕ) (q : List ℕ) → n ≤ length q → length (take n q) ≡ n
-taken_long zero [] le = refl
-taken_long zero (b ∷ q) le = refl
-taken_long (suc n) [] le = absurd (omega (arith, le))
-taken_long (suc n) (b ∷ q) le = ap suc (taken_long n q (omega (arith, le)))
+-- where no comment begins it, it makes no difference whether a line break stands before
+either_cuts : (after : Bool) (bs : List ℕ) → BeginsUncommented bs → cuts Page after 0 bs ≡ cuts Page false 0 bs
+either_cuts after [] u = refl
+either_cuts after (b ∷ bs) u =
+    cuts_cons Page after b bs (form_at Page false (b ∷ bs)) (either_flag Page after (b ∷ bs) u)
+    ∙ sym (cuts_cons Page false b bs (form_at Page false (b ∷ bs)) refl)
+
+pub reads_either : (bs : List ℕ) (xs : List Item) → BeginsUncommented bs → ReadsAfter false bs xs → Reads bs xs
+reads_either bs xs u r = record {
+  items = λ after. ap (items_cut bs) (either_cuts after bs u) ∙ r.items;
+  shown = λ after. subst (λ (c : Cut). HaveNoBraces c.1) (sym (either_cuts after bs u)) r.shown;
+  begins = u;
+}
+
+-- ---- a front that settles, before what is read behind it
 
 none_dropped : (q : List ℕ) → drop 0 q ≡ q
 none_dropped [] = refl
 none_dropped (b ∷ q) = refl
 
-by_form : (x : ℕ) (q : List ℕ) (a : Bool) (o : Option Word) → form_at Page false (x ∷ q) ≡ o → HasNoTag (x ∷ q) → EndsLine (x ∷ q)
-    → HaveNoBraces (cuts Page a 0 (x ∷ q)).1 → ((j : ℕ) → j ≤ length q → HaveNoBraces (cuts Page (is_break x) j q).1 → InFront (drop j q)) → InFront (x ∷ q)
-by_form x q a None is t e h go =
-    let shown : HaveNoBraces (cuts Page (is_break x) 0 q).1 =
-    subst (λ (c : Cut). HaveNoBraces c.1) (cuts_cons Page a x q None (line_form_alone a x q t e ∙ is)) h in
-    front_byte x q (λ rest. line_form false x q rest t e ∙ is) (λ rest. comment_other x (q ++ rest) (apart x 60 t.0))
-    (subst InFront (none_dropped q) (go 0 (omega arith) shown))
-by_form x q a (Some (kind, zero)) is t e h go = let f = form_fits Page false (x ∷ q) (kind, zero) is in absurd (omega (arith, f.some))
-by_form x q a (Some (kind, suc j)) is t e h go =
-    let f = form_fits Page false (x ∷ q) (kind, suc j) is in
-    let le : j ≤ length q = omega (arith, f.within) in
+-- what is read from a place on, of which so many bytes lie in a lexeme
+abbrev pub items_from : Bool → ℕ → List ℕ → List Item
+items_from a n bs = items_cut (drop n bs) (cuts Page a n bs)
+
+pub first_from : (a : Bool) (bs : List ℕ) → items_from a 0 bs ≡ items_cut bs (cuts Page a 0 bs)
+first_from a bs = ap (λ ys. items_cut ys (cuts Page a 0 bs)) (none_dropped bs)
+
+-- one character, and one form, before what is read behind it
+pub byte_from : (a : Bool) (b : ℕ) (bs : List ℕ) → form_at Page a (b ∷ bs) ≡ None → items_from a 0 (b ∷ bs) ≡ char None b ∷ items_from (is_break b) 0 bs
+byte_from a b bs f =
+    ap (items_cut (b ∷ bs)) (cuts_cons Page a b bs None f) ∙ ap (λ ys. char None b ∷ ys) (sym (first_from (is_break b) bs))
+
+pub form_from : (a : Bool) (b : ℕ) (bs : List ℕ) (kind : LexKind) (j : ℕ) → form_at Page a (b ∷ bs) ≡ Some (kind, suc j)
+    → items_from a 0 (b ∷ bs) ≡ items_of_word kind (b ∷ take j bs) ++ items_from (is_break b) j bs
+form_from a b bs kind j f =
     let z : suc j - 1 ≡ j = omega arith in
-    let s = subst (λ (c : Cut). HaveNoBraces c.1) (cuts_cons Page a x q (Some (kind, suc j)) (line_form_alone a x q t e ∙ is)) h in
-    let shown : HaveNoBraces (cuts Page (is_break x) j q).1 =
-    subst (λ (n : ℕ). HaveNoBraces (cuts Page (is_break x) n q).1) z (opened (cuts Page (is_break x) (suc j - 1) q) s.1) in
-    let long : length (take j q) ≡ j = taken_long j q le in
-    let split : take j q ++ drop j q ≡ q = take-append-drop j q in
-    let form : (rest : List ℕ) → form_at Page false (x ∷ (take j q ++ (drop j q ++ rest))) ≡ Some (kind, suc (length (take j q))) =
-    λ rest. ap (λ bs. form_at Page false (x ∷ bs)) (sym (append_assoc (take j q) (drop j q) rest) ∙ ap (λ bs. bs ++ rest) split)
-    ∙ line_form false x q rest t e ∙ is ∙ ap (λ (n : ℕ). Some (kind, suc n)) (sym long) in
-    subst (λ bs. InFront (x ∷ bs)) split (front_form kind x (take j q) (drop j q) s.0 (t.0, no_tag_taken j q t.1) form (go j le shown))
+    ap (items_cut (b ∷ bs)) (cuts_cons Page a b bs (Some (kind, suc j)) f)
+    ∙ ap (λ (n : ℕ). items_cut (b ∷ bs) (0, (kind, suc j) ∷ closed (cuts Page (is_break b) n bs).0 (cuts Page (is_break b) n bs).1)) z
+    ∙ ap (λ ys. items_of_word kind (b ∷ take j bs) ++ ys) (closed_items (drop j bs) (cuts Page (is_break b) j bs))
 
-front_lines : (n : ℕ) (a : Bool) (q : List ℕ) → n ≤ length q → HasNoTag q → EndsLine q → HaveNoBraces (cuts Page a n q).1 → InFront (drop n q)
-front_lines zero a [] le t e h = front_nothing
-front_lines (suc n) a [] le t e h = absurd (omega (arith, le))
-front_lines (suc n) a (x ∷ q) le t e h = front_lines n (is_break x) q (omega (arith, le)) t.1 (ends_behind x q e) h
-front_lines zero a (x ∷ q) le t e h =
-    by_form x q a (form_at Page false (x ∷ q)) refl t e h (λ j le shown. front_lines j (is_break x) q le t.1 (ends_behind x q e) shown)
+words_by : (a : Bool) (b : ℕ) (bs : List ℕ) → form_at Page a (b ∷ bs) ≡ None → (cuts Page a 0 (b ∷ bs)).1 ≡ (cuts Page (is_break b) 0 bs).1
+words_by a b bs f = ap (λ (c : Cut). c.1) (cuts_cons Page a b bs None f)
 
-pub before_reads : (bs : List ℕ) → StandsBefore bs → InFront bs
-before_reads bs h = subst InFront (none_dropped bs) (front_lines 0 false bs (omega arith) h.untagged h.ends (words_shown bs h.uncalled))
+words_from : (a : Bool) (b : ℕ) (bs : List ℕ) (kind : LexKind) (j : ℕ) → form_at Page a (b ∷ bs) ≡ Some (kind, suc j)
+    → (cuts Page a 0 (b ∷ bs)).1 ≡ (kind, suc j) ∷ closed (cuts Page (is_break b) j bs).0 (cuts Page (is_break b) j bs).1
+words_from a b bs kind j f =
+    let z : suc j - 1 ≡ j = omega arith in
+    ap (λ (c : Cut). c.1) (cuts_cons Page a b bs (Some (kind, suc j)) f)
+    ∙ ap (λ (n : ℕ). (kind, suc j) ∷ closed (cuts Page (is_break b) n bs).0 (cuts Page (is_break b) n bs).1) z
 
--- ---- what stands behind
+-- what is read of both, in one
+record Joined (a : Bool) (n : ℕ) (q rest : List ℕ) (xs : List Item) : Type 0 where
+  items : items_from a n (q ++ rest) ≡ items_from a n q ++ xs
+  shown : HaveNoBraces (cuts Page a n q).1 → HaveNoBraces (cuts Page a n (q ++ rest)).1
 
-no_comment_same : (bs : List ℕ) → HasNoComment bs → NoComments bs
-no_comment_same [] h = tt
-no_comment_same (b ∷ bs) h = (h.0, no_comment_same bs h.1)
+joined_byte : (a : Bool) (b : ℕ) (q rest : List ℕ) (xs : List Item) → form_at Page a (b ∷ (q ++ rest)) ≡ None → form_at Page a (b ∷ q) ≡ None
+    → Joined (is_break b) 0 q rest xs → Joined a 0 (b ∷ q) rest xs
+joined_byte a b q rest xs e f j = record {
+  items = byte_from a b (q ++ rest) e ∙ ap (λ ys. char None b ∷ ys) j.items ∙ sym (ap (λ ys. ys ++ xs) (byte_from a b q f));
+  shown = λ h. subst HaveNoBraces (sym (words_by a b (q ++ rest) e)) (j.shown (subst HaveNoBraces (words_by a b q f) h));
+}
 
--- it makes no difference whether a line break stands before
-pub cuts_same : (after : Bool) (bs : List ℕ) → NoComments bs → cuts Page after 0 bs ≡ cuts Page false 0 bs
-cuts_same after [] n = refl
-cuts_same after (b ∷ bs) n =
-    cuts_cons Page after b bs (form_at Page false (b ∷ bs)) (without_line Page after (b ∷ bs) n)
-    ∙ sym (cuts_cons Page false b bs (form_at Page false (b ∷ bs)) refl)
+joined_form : (a : Bool) (b : ℕ) (q rest : List ℕ) (xs : List Item) (kind : LexKind) (k : ℕ) → form_at Page a (b ∷ (q ++ rest)) ≡ Some (kind, suc k)
+    → form_at Page a (b ∷ q) ≡ Some (kind, suc k) → k ≤ length q → Joined (is_break b) k q rest xs → Joined a 0 (b ∷ q) rest xs
+joined_form a b q rest xs kind k e f le j =
+    let own : List Item = items_of_word kind (b ∷ take k q) in
+    record {
+      items = form_from a b (q ++ rest) kind k e
+          ∙ ap (λ ys. items_of_word kind (b ∷ ys) ++ items_from (is_break b) k (q ++ rest)) (take-append-le k q rest le)
+          ∙ ap (λ ys. own ++ ys) j.items
+          ∙ sym (append_assoc own (items_from (is_break b) k q) xs)
+          ∙ sym (ap (λ ys. ys ++ xs) (form_from a b q kind k f));
+      shown = λ h.
+          let s = subst HaveNoBraces (words_from a b q kind k f) h in
+          subst HaveNoBraces (sym (words_from a b (q ++ rest) kind k e))
+          (s.0, shown_closed (cuts Page (is_break b) k (q ++ rest)) (j.shown (opened (cuts Page (is_break b) k q) s.1)));
+    }
 
-pub read_alone : (bs : List ℕ) → NoComments bs → HaveNoBraces (cuts Page false 0 bs).1 → Reads bs (page_items bs)
-read_alone bs n h =
-    let xs : List Item = items_cut bs (cuts Page false 0 bs) in
-    let items : ItemsOf bs xs = λ after. ap (items_cut bs) (cuts_same after bs n) in
-    let reads : Reads bs xs = record {
-      items = items;
-      shown = λ after. subst (λ (c : Cut). HaveNoBraces c.1) (sym (cuts_same after bs n)) h;
-      clean = n;
-    } in
-    subst (Reads bs) (sym (items_are bs xs items)) reads
+joined_by : (a : Bool) (b : ℕ) (q rest : List ℕ) (xs : List Item) (o : Option Word) → form_at Page a (b ∷ (q ++ rest)) ≡ o → form_at Page a (b ∷ q) ≡ o
+    → ((k : ℕ) → skipped_by (lexer Page) o ≡ k → Joined (is_break b) k q rest xs) → Joined a 0 (b ∷ q) rest xs
+joined_by a b q rest xs None e f go = joined_byte a b q rest xs e f (go 0 refl)
+joined_by a b q rest xs (Some (kind, zero)) e f go = let fits = form_fits Page a (b ∷ q) (kind, zero) f in absurd (omega (arith, fits.some))
+joined_by a b q rest xs (Some (kind, suc k)) e f go =
+    let fits = form_fits Page a (b ∷ q) (kind, suc k) f in
+    joined_form a b q rest xs kind k e f (omega (arith, fits.within)) (go k (omega arith))
+
+joined : (rest : List ℕ) (xs : List Item) (a : Bool) (n : ℕ) (q : List ℕ) → Settles (lexer Page) rest a n q
+    → ReadsAfter (after_all (lexer Page) a q) rest xs → Joined a n q rest xs
+joined rest xs a (suc n) [] h r = absurd (omega (arith, h))
+joined rest xs a zero [] h r = record { items = first_from a rest ∙ r.items; shown = λ s. r.shown }
+joined rest xs a (suc n) (b ∷ q) h r = let j = joined rest xs (is_break b) n q h r in record { items = j.items; shown = j.shown }
+joined rest xs a zero (b ∷ q) h r =
+    joined_by a b q rest xs (form_at Page a (b ∷ q)) h.0 refl
+    (λ k is. joined rest xs (is_break b) k q (subst (λ (i : ℕ). Settles (lexer Page) rest (is_break b) i q) is h.1) r)
+
+-- ---- what stands before, and what stands behind
+
+pub before_reads : (bs rest : List ℕ) (xs : List Item) → StandsBefore bs → ReadsAfter (after_all (lexer Page) false bs) rest xs
+    → ReadsAfter false (bs ++ rest) (page_items bs ++ xs)
+before_reads bs rest xs h r =
+    let j = joined rest xs false 0 bs (lines_settle rest false 0 bs h.ends h.has_ends) r in
+    let items : items_from false 0 (bs ++ rest) ≡ items_from false 0 bs ++ xs = j.items in
+    record {
+      items = sym (first_from false (bs ++ rest)) ∙ items ∙ ap (λ ys. ys ++ xs) (first_from false bs ∙ sym (first_items bs));
+      shown = j.shown (words_shown bs h.uncalled);
+    }
 
 pub behind_reads : (bs : List ℕ) → StandsBehind bs → Reads bs (page_items bs)
-behind_reads bs h = read_alone bs (no_comment_same bs h.uncommented) (words_shown bs h.uncalled)
+behind_reads bs h =
+    reads_either bs (page_items bs) (record { is = h.uncommented }) (record { items = sym (first_items bs); shown = words_shown bs h.uncalled })
 
 -- ---- a text between them
 
 between_reads : (bs q cs : List ℕ) → StandsBefore bs → IsTypedPage q → StandsBehind cs
-    → Reads (bs ++ (q ++ cs)) (page_items bs ++ (page_items q ++ page_items cs))
+    → ReadsAfter false (bs ++ (q ++ cs)) (page_items bs ++ (page_items q ++ page_items cs))
 between_reads bs q cs b h c =
-    let g : InFront bs = before_reads bs b in
     let r : Reads (q ++ cs) (page_items q ++ page_items cs) = page_front q cs (page_items cs) h (behind_reads cs c) in
-    subst (λ xs. Reads (bs ++ (q ++ cs)) (xs ++ (page_items q ++ page_items cs))) (sym (its_items bs g)) (g.reads (q ++ cs) (page_items q ++ page_items cs) r)
+    before_reads bs (q ++ cs) (page_items q ++ page_items cs) b (reads_after (after_all (lexer Page) false bs) (q ++ cs) (page_items q ++ page_items cs) r)
 
 pub items_between : (bs q cs : List ℕ) → StandsBefore bs → IsTypedPage q → StandsBehind cs
     → page_items (bs ++ (q ++ cs)) ≡ page_items bs ++ (page_items q ++ page_items cs)
-items_between bs q cs b h c = read_items (bs ++ (q ++ cs)) (page_items bs ++ (page_items q ++ page_items cs)) (between_reads bs q cs b h c)
+items_between bs q cs b h c = page_read (bs ++ (q ++ cs)) (page_items bs ++ (page_items q ++ page_items cs)) (between_reads bs q cs b h c)
 
 pub expanded_between : (pages : Pages) (bs q cs : List ℕ) → StandsBefore bs → IsTypedPage q → StandsBehind cs
     → expanded_page pages (bs ++ (q ++ cs)) ≡ of_items (page_items (bs ++ (q ++ cs)))
 expanded_between pages bs q cs b h c =
-    shown_expanded pages (bs ++ (q ++ cs)) (read_words (bs ++ (q ++ cs)) (page_items bs ++ (page_items q ++ page_items cs)) (between_reads bs q cs b h c))
+    shown_expanded pages (bs ++ (q ++ cs)) (page_words (bs ++ (q ++ cs)) (page_items bs ++ (page_items q ++ page_items cs)) (between_reads bs q cs b h c))
 
 pub unrefused_between : (pages : Pages) (bs q cs : List ℕ) → StandsBefore bs → IsTypedPage q → StandsBehind cs
     → first_refusal pages (bs ++ (q ++ cs)) (page_work pages (bs ++ (q ++ cs))) ≡ None
 unrefused_between pages bs q cs b h c =
-    shown_unrefused pages (bs ++ (q ++ cs)) (read_words (bs ++ (q ++ cs)) (page_items bs ++ (page_items q ++ page_items cs)) (between_reads bs q cs b h c))
+    shown_unrefused pages (bs ++ (q ++ cs)) (page_words (bs ++ (q ++ cs)) (page_items bs ++ (page_items q ++ page_items cs)) (between_reads bs q cs b h c))

@@ -1,3 +1,7 @@
+pub mod LineWords
+pub mod LineComments
+pub mod LineRemarks
+pub mod LineTags
 pub mod LineForms
 pub mod Fronts
 mod Cases

@@ -1,231 +1,182 @@
--- No lexeme of lines without `<` goes over their end, whatever follows them.
-use Rattle.std.proofs.Common.{arith, ◌≡◌, ◌≢◌, ◌⊎◌, inl, inr, ℕ, zero, suc, ◌+◌, ◌-◌, ◌<◌, ◌≤◌, ◌==◌, Bool, true, false, Option, Some, None, List, [], ◌∷◌, ◌++◌, length, get_or, drop, nat_lt, refl, sym, ap, ◌∙◌, append-nil}
-use Rattle.std.specs.Prelude.{◌&&◌, ◌||◌, not, if◌then◌else◌, slice_index, codes}
-use Rattle.std.specs.Option.{option_or}
-use Rattle.std.specs.Char.{is_ascii_digit, is_ascii_hexdigit}
-use Rattle.std.specs.List.{list_all, prefix_len}
-use Rattle.std.proofs.lemmas.Bool.{cases_lt}
-use Rattle.std.proofs.lemmas.Bool.Decides.{nat_tests}
-use Rattle.std.proofs.lemmas.List.{get_or-drop}
-use Rattle.std.proofs.lemmas.List.Sums.{prefix_len_passes}
+-- The lexemes of lines in which what begins ends: none goes over their end, whatever follows them.
+use Rattle.std.proofs.Common.{arith, ◌≡◌, ℕ, zero, suc, ◌+◌, ◌<◌, ◌≤◌, Bool, true, false, Option, Some, None, List, [], ◌∷◌, ◌++◌, length, nat_lt, refl, sym, ap, ◌∙◌, subst}
+use Rattle.std.specs.Prelude.{◌&&◌, ◌||◌, is_some, if◌then◌else◌, slice_index}
+use Rattle.std.specs.Option.{unwrap_or}
 use Rattle.wt_span.specs.declared.form.Mode.TheVariants.{Page}
 use Rattle.wt_span.specs.declared.form.LexKind.{LexKind}
-use Rattle.wt_span.specs.declared.form.LexKind.TheVariants.{Opens, Closes, LinkOpen, LinkClose, Pipe, Equals}
-use Rattle.wt_span.specs.Bytes.{is_blank, is_break, begins, blank_len}
-use Rattle.wt_span.specs.Comments.{comment_len, comment_line_len, remarks_len, remarks_with}
-use Rattle.wt_span.specs.Tags.{opening_tag, closing_tag, raw_len, include_at}
-use Rattle.wt_span.specs.Entities.{named_in, entity_names, named_entity, numbered, decimal_entity, hex_entity, entity_at}
-use Rattle.wt_span.specs.Lexemes.{Word, entity_word, run_at, sign_at, sign_word, form_at}
-use Rattle.wt_lex.proofs.Begins.{and_left, and_right, begins_get}
-use Rattle.wt_spelling_laws.proofs.Forms.{begins_not, comment_other}
-use Rattle.wt_spelling_laws.proofs.TextReads.{apart}
+use Rattle.wt_span.specs.declared.form.LexKind.TheVariants.{CommentLine, Comment, Raw, Include, Hidden}
+use Rattle.wt_span.specs.Bytes.{is_break, blank_len}
+use Rattle.wt_span.specs.Comments.{comment_len, comment_line_len, remarks_len}
+use Rattle.wt_span.specs.Tags.{Tag, opening_tag, closing_tag, with_inside, is_raw_name, raw_by, raw_len, hides, is_left_out, hidden_len, opening_include, closing_include, include_at}
+use Rattle.wt_span.specs.Entities.{entity_at}
+use Rattle.wt_span.specs.Lexemes.{Word, as_word, comment_line_word, entity_word, sign_word, form_at}
+use Rattle.wt_lex.proofs.Begins.{and_left, and_right}
+use Rattle.wt_lex.proofs.Forms.{OptFits, comment_fits}
+use Rattle.wt_lex.proofs.TagForms.{OptTag, opening_fits, inside_fits}
 use Rattle.wt_scans.specs.Lexer.{lexer}
-use Rattle.wt_scans.specs.Scans.{IsFrontOf}
+use Rattle.wt_scans.specs.Scans.{skipped_by, Settles, IsFrontOf}
 use Rattle.wt_scans.proofs.LexemeFronts.{lexemes_front}
-use Rattle.wt_text_between.specs.Between.{HasNoTag, EndsLine}
+use Rattle.wt_text_between.specs.Between.{EndsLine, ends_comment, ends_tag, ends_here}
+use Rattle.wt_text_between.proofs.LineWords.{Within, or_within, signs_within, entity_within, entity_word_within}
+use Rattle.wt_text_between.proofs.LineComments.{ends_behind, last_break, comment_same, remarks_same}
+use Rattle.wt_text_between.proofs.LineRemarks.{AllEnd, remarks_short}
+use Rattle.wt_text_between.proofs.LineTags.{TagWithin, opening_within, closing_within, opening_here, IsFound, inside_same}
 
--- ---- words without a line break
+-- ---- lengths
 
-abbrev unbroken : List ℕ → Bool
-unbroken w = list_all (λ b. not (b == 10)) w
+abbrev LenWithin : ℕ → Option ℕ → Type 0
+LenWithin k None = Unit {0}
+LenWithin k (Some n) = n ≤ k + 1
 
-other_than : (x : ℕ) → not (x == 10) ≡ true → x ≢ 10
-other_than x e z = let f : not (x == 10) ≡ false = grind (arith, nat_tests) in absurd (cc)
+fits_within : (k : ℕ) (bs : List ℕ) (o : Option ℕ) → OptFits bs o → length bs ≡ suc k → LenWithin k o
+fits_within k bs None f e = tt
+fits_within k bs (Some n) f e = omega (arith, f.within, e)
 
-no_break_at : (w : List ℕ) (k : ℕ) → unbroken w ≡ true → k < length w → get_or w k 0 ≢ 10
-no_break_at [] k e h = absurd (omega arith)
-no_break_at (x ∷ w) zero e h = other_than x (and_left (not (x == 10)) (unbroken w) e)
-no_break_at (x ∷ w) (suc k) e h = no_break_at w k (and_right (not (x == 10)) (unbroken w) e) (omega (arith, h))
+word_within_len : (k : ℕ) (kind : LexKind) (o : Option ℕ) → LenWithin k o → Within k (as_word kind o)
+word_within_len k kind None h = tt
+word_within_len k kind (Some n) h = h
 
--- it ends before a line break
-word_within : (w bs : List ℕ) (k : ℕ) → begins w bs ≡ true → unbroken w ≡ true → get_or bs k 0 ≡ 10 → length w ≤ k
-word_within w bs k e u g = elim (cases_lt k (length w)) [
-  | inl lt ↦ absurd (no_break_at w k u lt (sym (begins_get w bs e k lt) ∙ g))
-  | inr le ↦ le
-]
+-- what has its end in lines: a comment
+comment_word : (b : ℕ) (q rest : List ℕ) → EndsLine (b ∷ q) → ends_comment (b ∷ q) ≡ true → LenWithin (length q) (comment_len ((b ∷ q) ++ rest))
+comment_word b q rest l h =
+    let P : Option ℕ → Type 0 = LenWithin (length q) in
+    subst P (sym (comment_same b q rest l h)) (fits_within (length q) (b ∷ q) (comment_len (b ∷ q)) (comment_fits (b ∷ q)) refl)
 
--- ---- signs
-
-abbrev Within : ℕ → Option Word → Type 0
-Within k None = Unit {0}
-Within k (Some w) = w.1 ≤ k + 1
-
-or_within : (k : ℕ) (a b : Option Word) → Within k a → Within k b → Within k (option_or a b)
-or_within k None b f g = g
-or_within k (Some w) b f g = f
-
-if_within : (k : ℕ) (t : Bool) (w : Word) → (t ≡ true → w.1 ≤ k + 1) → Within k (if t then Some w else None)
-if_within k true w f = f refl
-if_within k false w f = tt
-
-run_ends : (byte k : ℕ) (bs : List ℕ) → (10 == byte) ≡ false → get_or bs k 0 ≡ 10 → prefix_len (λ b. b == byte) bs ≤ k
-run_ends byte k bs e g = elim (cases_lt k (prefix_len (λ b. b == byte) bs)) [
-  | inl lt ↦ let p : (get_or bs k 0 == byte) ≡ true = prefix_len_passes (λ b. b == byte) bs k 0 lt in
-      let q : (10 == byte) ≡ true = ap (λ (x : ℕ). x == byte) (sym g) ∙ p in absurd (cc)
-  | inr le ↦ le
-]
-
-run_within : (kind : LexKind) (byte k : ℕ) (bs : List ℕ) → (10 == byte) ≡ false → get_or bs k 0 ≡ 10 → Within k (run_at kind byte bs)
-run_within kind byte k bs e g =
-    let n = prefix_len (λ b. b == byte) bs in
-    let le = run_ends byte k bs e g in
-    if_within k (nat_lt 1 n) (kind, n) (λ t. omega (arith, le))
-
-sign_within : (kind : LexKind) (w : List ℕ) (n k : ℕ) (bs : List ℕ) → unbroken w ≡ true → length w ≡ n → get_or bs k 0 ≡ 10 → Within k (sign_at kind w n bs)
-sign_within kind w n k bs u is g = if_within k (begins w bs) (kind, n) (λ e. let le = word_within w bs k e u g in omega (arith, le, is))
-
-signs_within : (k : ℕ) (bs : List ℕ) → get_or bs k 0 ≡ 10 → Within k (sign_word bs)
-unfolding sign_word
-signs_within k bs g =
-    or_within k (run_at Opens 123 bs) _ (run_within Opens 123 k bs refl g)
-    (or_within k (run_at Closes 125 bs) _ (run_within Closes 125 k bs refl g)
-    (or_within k (sign_at LinkOpen (codes "[[") 2 bs) _ (sign_within LinkOpen (codes "[[") 2 k bs refl refl g)
-    (or_within k (sign_at LinkClose (codes "]]") 2 bs) _ (sign_within LinkClose (codes "]]") 2 k bs refl refl g)
-    (or_within k (sign_at Pipe (codes "|") 1 bs) (sign_at Equals (codes "=") 1 bs) (sign_within Pipe (codes "|") 1 k bs refl refl g)
-    (sign_within Equals (codes "=") 1 k bs refl refl g)))))
-
--- ---- entities
-
-abbrev EntityWithin : ℕ → Option (ℕ × ℕ) → Type 0
-EntityWithin k None = Unit {0}
-EntityWithin k (Some e) = e.1 ≤ k + 1
-
-or_entity : (k : ℕ) (a b : Option (ℕ × ℕ)) → EntityWithin k a → EntityWithin k b → EntityWithin k (option_or a b)
-or_entity k None b f g = g
-or_entity k (Some e) b f g = f
-
-if_entity : (k : ℕ) (t : Bool) (o : Option (ℕ × ℕ)) → (t ≡ true → EntityWithin k o) → EntityWithin k (if t then o else None)
-if_entity k true o f = f refl
-if_entity k false o f = tt
-
-if_found : (k c n : ℕ) (t : Bool) → n ≤ k + 1 → EntityWithin k (if t then Some (c, n) else None)
-if_found k c n true le = le
-if_found k c n false le = tt
-
-abbrev all_unbroken : List (List ℕ × ℕ) → Bool
-all_unbroken [] = true
-all_unbroken ((name, c) ∷ entries) = unbroken name && all_unbroken entries
-
-named_within : (entries : List (List ℕ × ℕ)) (k : ℕ) (bs : List ℕ) → all_unbroken entries ≡ true → get_or bs k 0 ≡ 10 → EntityWithin k (named_in entries bs)
-named_within [] k bs u g = tt
-named_within ((name, c) ∷ entries) k bs u g =
-    by (begins name bs) refl (named_within entries k bs (and_right (unbroken name) (all_unbroken entries) u) g)
-  where
-    by : (t : Bool) → begins name bs ≡ t → EntityWithin k (named_in entries bs) → EntityWithin k (if t then Some (c, length name) else named_in entries bs)
-    by true e h = let le = word_within name bs k e (and_left (unbroken name) (all_unbroken entries) u) g in omega (arith, le)
-    by false e h = h
-
-names_unbroken : all_unbroken entity_names ≡ true
-unfolding entity_names
-names_unbroken = refl
-
-digits_end : (start k : ℕ) (is_digit : ℕ → Bool) (w bs : List ℕ) → begins w bs ≡ true → unbroken w ≡ true → length w ≡ start → is_digit 10 ≡ false
-    → get_or bs k 0 ≡ 10 → start + prefix_len is_digit (drop start bs) ≤ k
-digits_end start k is_digit w bs b u is d g = elim (cases_lt k (start + prefix_len is_digit (drop start bs))) [
-  | inl lt ↦ elim (cases_lt k start) [
-    | inl early ↦
-        let within : k < length w = omega (arith, early, is) in
-        absurd (no_break_at w k u within (sym (begins_get w bs b k within) ∙ g))
-    | inr le ↦
-        let at : start + (k - start) ≡ k = omega (arith, le) in
-        let p : is_digit (get_or (drop start bs) (k - start) 0) ≡ true = prefix_len_passes is_digit (drop start bs) (k - start) 0 (omega (arith, lt, le)) in
-        let q : is_digit 10 ≡ true =
-        ap is_digit (sym (get_or-drop start bs (k - start) 0 ∙ ap (λ (n : ℕ). get_or bs n 0) at ∙ g)) ∙ p in
-        absurd (cc)
-  ]
-  | inr le ↦ le
-]
-
-numbered_within : (start most base k : ℕ) (is_digit : ℕ → Bool) (w bs : List ℕ) → begins w bs ≡ true → unbroken w ≡ true → length w ≡ start
-    → is_digit 10 ≡ false → get_or bs k 0 ≡ 10 → EntityWithin k (numbered start most base is_digit bs)
-numbered_within start most base k is_digit w bs b u is d g =
-    let n : ℕ = prefix_len is_digit (drop start bs) in
-    let le : start + n ≤ k = digits_end start k is_digit w bs b u is d g in
-    let size : start + n + 1 ≤ k + 1 = omega (arith, le) in
-    if_found k _ (start + n + 1) _ size
-
-either : (a b : Bool) → (a || b) ≡ true → (a ≡ true) ⊎ (b ≡ true)
-either true b e = inl refl
-either false b e = inr e
-
-entity_within : (k : ℕ) (bs : List ℕ) → get_or bs k 0 ≡ 10 → EntityWithin k (entity_at bs)
-unfolding entity_at named_entity decimal_entity hex_entity
-entity_within k bs g =
-    or_entity k (named_in entity_names bs) _ (named_within entity_names k bs names_unbroken g)
-    (or_entity k (if begins (codes "&#") bs then numbered 2 7 10 is_ascii_digit bs else None) _
-    (if_entity k (begins (codes "&#") bs) (numbered 2 7 10 is_ascii_digit bs)
-    (λ e. numbered_within 2 7 10 k is_ascii_digit (codes "&#") bs e refl refl refl g))
-    (if_entity k (begins (codes "&#x") bs || begins (codes "&#X") bs) (numbered 3 6 16 is_ascii_hexdigit bs)
-    (λ e. elim (either (begins (codes "&#x") bs) (begins (codes "&#X") bs) e) [
-      | inl f ↦ numbered_within 3 6 16 k is_ascii_hexdigit (codes "&#x") bs f refl refl refl g
-      | inr f ↦ numbered_within 3 6 16 k is_ascii_hexdigit (codes "&#X") bs f refl refl refl g
-    ])))
-
-entity_word_within : (k : ℕ) (o : Option (ℕ × ℕ)) → EntityWithin k o → Within k (entity_word o)
-entity_word_within k None h = tt
-entity_word_within k (Some e) h = h
-
--- ---- no tag and no comment begins
-
-opening_none : (b : ℕ) (bs : List ℕ) → (b == 60) ≡ false → opening_tag (b ∷ bs) ≡ None
-unfolding opening_tag
-opening_none b bs e = rw e refl
-
-closing_none : (b : ℕ) (bs : List ℕ) → b ≢ 60 → closing_tag (b ∷ bs) ≡ None
-unfolding closing_tag
-closing_none b bs h = rw (begins_not (codes "</") (b ∷ bs) 0 (omega arith) h) refl
-
-calm : (b : ℕ) (q rest : List ℕ) → HasNoTag (b ∷ q) → EndsLine (b ∷ q) → remarks_len 0 ((b ∷ q) ++ rest) ≡ blank_len ((b ∷ q) ++ rest)
-calm b [] rest t e =
-    let c : comment_len (b ∷ rest) ≡ None = comment_other b rest (apart b 60 t.0) in
-    ap (λ o. remarks_with o b (λ n. remarks_len n rest)) c
-    ∙ ap (λ (x : ℕ). if is_blank x then 1 + remarks_len 0 rest else 0) e
-    ∙ sym (ap (λ (x : ℕ). if is_blank x then 1 + blank_len rest else 0) e)
-calm b (c ∷ q) rest t e =
-    ap (λ o. remarks_with o b (λ n. remarks_len n ((c ∷ q) ++ rest))) (comment_other b ((c ∷ q) ++ rest) (apart b 60 t.0))
-    ∙ ap (λ (n : ℕ). if is_blank b then 1 + n else 0) (calm c q rest t.1 e)
-
-not_below : (n : ℕ) → nat_lt n n ≡ false
-not_below n = grind (arith, nat_tests)
-
-no_comment_line : (b : ℕ) (q rest : List ℕ) → HasNoTag (b ∷ q) → EndsLine (b ∷ q) → comment_line_len ((b ∷ q) ++ rest) ≡ None
+-- lines of comments and blanks
+line_word : (a : Bool) (b : ℕ) (q rest : List ℕ) → EndsLine (b ∷ q) → remarks_len 0 (b ∷ q) < length (b ∷ q)
+    → Within (length q) (comment_line_word a ((b ∷ q) ++ rest))
 unfolding comment_line_len
-no_comment_line b q rest t e =
+line_word false b q rest l h = tt
+line_word true b q rest l h =
     let bs : List ℕ = (b ∷ q) ++ rest in
-    ap (λ (n : ℕ). if nat_lt (blank_len bs) n && is_break (slice_index bs n) then Some (n + 1) else None) (calm b q rest t e)
-    ∙ ap (λ (v : Bool). if v && is_break (slice_index bs (blank_len bs)) then Some (blank_len bs + 1) else None) (not_below (blank_len bs))
+    let same = remarks_same 0 (b ∷ q) rest l h in
+    by bs (nat_lt (blank_len bs) (remarks_len 0 bs) && is_break (slice_index bs (remarks_len 0 bs))) (omega (arith, same, h))
+  where
+    by : (bs : List ℕ) (t : Bool) → remarks_len 0 bs + 1 ≤ length q + 1 → Within (length q) (as_word CommentLine (if t then Some (remarks_len 0 bs + 1) else None))
+    by bs true le = le
+    by bs false le = tt
 
-form_is : (after : Bool) (b : ℕ) (bs : List ℕ) → (b == 60) ≡ false → comment_line_len (b ∷ bs) ≡ None
-    → form_at Page after (b ∷ bs) ≡ option_or (entity_word (entity_at (b ∷ bs))) (sign_word (b ∷ bs))
-unfolding form_at raw_len include_at
-form_is false b bs e c = rw (comment_other b bs (apart b 60 e), opening_none b bs e, closing_none b bs (apart b 60 e)) refl
-form_is true b bs e c = rw (c, comment_other b bs (apart b 60 e), opening_none b bs e, closing_none b bs (apart b 60 e)) refl
+-- a tag with its inside
+inside_within : (b : ℕ) (q rest : List ℕ) (t : Tag) → EndsLine (b ∷ q) → opening_tag (b ∷ q) ≡ Some t → IsFound (with_inside t (b ∷ q))
+    → (n : ℕ) × (with_inside t ((b ∷ q) ++ rest) ≡ Some n) × (n ≤ length q + 1)
+inside_within b q rest t l e h =
+    let P : Option Tag → Type 0 = OptTag (b ∷ q) in
+    let fits = subst P e (opening_fits (b ∷ q)) in
+    let same = inside_same t (b ∷ q) rest l fits.within h in
+    by (with_inside t (b ∷ q)) h (inside_fits (b ∷ q) t fits) same
+  where
+    by : (o : Option ℕ) → IsFound o → OptFits (b ∷ q) o → with_inside t ((b ∷ q) ++ rest) ≡ o
+        → (n : ℕ) × (with_inside t ((b ∷ q) ++ rest) ≡ Some n) × (n ≤ length q + 1)
+    by None f g s = absurd f
+    by (Some n) f g s = (n, s, omega (arith, g.within))
 
--- ---- a form of such lines is read of them alone
+as_found : (o : Option ℕ) → is_some o ≡ true → IsFound o
+as_found None e = cc
+as_found (Some n) e = tt
 
-last_break : (b : ℕ) (q rest : List ℕ) → EndsLine (b ∷ q) → get_or ((b ∷ q) ++ rest) (length q) 0 ≡ 10
-last_break b [] rest e = e
-last_break b (c ∷ q) rest e = last_break c q rest e
+-- where it is looked for, its end is there
+ended_tag : (t : Tag) (bs : List ℕ) (raw hidden : Bool) → (if raw || hidden then is_some (with_inside t bs) else true) ≡ true
+    → (raw || hidden) ≡ true → IsFound (with_inside t bs)
+ended_tag t bs raw hidden h e = as_found (with_inside t bs) (ap (λ (v : Bool). if v then is_some (with_inside t bs) else true) (sym e) ∙ h)
 
-within_lines : (b : ℕ) (q rest : List ℕ) → HasNoTag (b ∷ q) → EndsLine (b ∷ q) → Within (length q) (form_at Page false ((b ∷ q) ++ rest))
-within_lines b q rest t e =
+or_left : (u v : Bool) → u ≡ true → (u || v) ≡ true
+or_left true v e = refl
+or_left false v e = cc
+
+or_right : (u v : Bool) → v ≡ true → (u || v) ≡ true
+or_right true v e = refl
+or_right false v e = e
+
+abbrev EndsTag : List ℕ → Type 0
+EndsTag bs = ends_tag (opening_tag bs) bs ≡ true
+
+tag_ended : (bs : List ℕ) (t : Tag) → opening_tag bs ≡ Some t → EndsTag bs → (if is_raw_name t.name || hides Page t.name then is_some (with_inside t bs) else true) ≡ true
+tag_ended bs t e h = sym (ap (λ o. ends_tag o bs) e) ∙ h
+
+raw_word : (b : ℕ) (q rest : List ℕ) → EndsLine (b ∷ q) → EndsTag (b ∷ q) → LenWithin (length q) (raw_len ((b ∷ q) ++ rest))
+unfolding raw_len
+raw_word b q rest l h = by (opening_tag bs) refl
+  where
+    bs : List ℕ
+    bs = (b ∷ q) ++ rest
+
+    named : (t : Tag) (v : Bool) → is_raw_name t.name ≡ v → opening_tag bs ≡ Some t → LenWithin (length q) (if v then with_inside t bs else None)
+    named t false e f = tt
+    named t true e f =
+        let g : opening_tag (b ∷ q) ≡ Some t = opening_here b q rest t l f in
+        let found = ended_tag t (b ∷ q) (is_raw_name t.name) (hides Page t.name) (tag_ended (b ∷ q) t g h) (or_left (is_raw_name t.name) (hides Page t.name) e) in
+        let w = inside_within b q rest t l g found in
+        let P : Option ℕ → Type 0 = LenWithin (length q) in
+        subst P (sym w.1) w.2
+
+    by : (o : Option Tag) → opening_tag bs ≡ o → LenWithin (length q) (raw_by is_raw_name o bs)
+    by None e = tt
+    by (Some t) e = named t (is_raw_name t.name) refl e
+
+include_word : (b : ℕ) (q rest : List ℕ) → EndsLine (b ∷ q) → EndsTag (b ∷ q) → Within (length q) (include_at Page ((b ∷ q) ++ rest))
+unfolding include_at
+include_word b q rest l h =
+    or_within (length q) (opening_include Page (opening_tag bs) bs) (closing_include Page (closing_tag bs)) (opens (opening_tag bs) refl)
+    (closes (closing_tag bs) (closing_within (length q) bs (last_break b q rest l)))
+  where
+    bs : List ℕ
+    bs = (b ∷ q) ++ rest
+
+    closes : (o : Option Tag) → TagWithin (length q) o → Within (length q) (closing_include Page o)
+    closes None le = tt
+    closes (Some t) le = by (is_left_out Page t.name)
+      where
+        by : (v : Bool) → Within (length q) (if v then Some (Include, t.len) else None)
+        by true = le
+        by false = tt
+
+    hidden : (t : Tag) → opening_tag bs ≡ Some t → hides Page t.name ≡ true → hidden_len t bs ≤ length q + 1
+    hidden t f e =
+        let g : opening_tag (b ∷ q) ≡ Some t = opening_here b q rest t l f in
+        let found = ended_tag t (b ∷ q) (is_raw_name t.name) (hides Page t.name) (tag_ended (b ∷ q) t g h) (or_right (is_raw_name t.name) (hides Page t.name) e) in
+        let w = inside_within b q rest t l g found in
+        let P : ℕ → Type 0 = λ (n : ℕ). n ≤ length q + 1 in
+        subst P (sym (ap (λ o. unwrap_or o (length bs)) w.1)) w.2
+
+    opens : (o : Option Tag) → opening_tag bs ≡ o → Within (length q) (opening_include Page o bs)
+    opens None e = tt
+    opens (Some t) e = by (hides Page t.name) refl (is_left_out Page t.name) (subst (TagWithin (length q)) e (opening_within (length q) bs (last_break b q rest l)))
+      where
+        by : (v : Bool) → hides Page t.name ≡ v → (u : Bool) → t.len ≤ length q + 1
+            → Within (length q) (if v then Some (Hidden, hidden_len t bs) else (if u then Some (Include, t.len) else None))
+        by true f u le = hidden t e f
+        by false f true le = le
+        by false f false le = tt
+
+-- ---- any lexeme
+
+within_lines : (a : Bool) (b : ℕ) (q rest : List ℕ) → EndsLine (b ∷ q) → ends_here (b ∷ q) ≡ true → remarks_len 0 (b ∷ q) < length (b ∷ q)
+    → Within (length q) (form_at Page a ((b ∷ q) ++ rest))
+unfolding form_at
+within_lines a b q rest l h less =
     let bs : List ℕ = (b ∷ q) ++ rest in
-    let g = last_break b q rest e in
-    let P : Option Word → Type 0 = Within (length q) in
-    rw (form_is false b (q ++ rest) t.0 (no_comment_line b q rest t e))
-    (or_within (length q) (entity_word (entity_at bs)) (sign_word bs)
-    (entity_word_within (length q) (entity_at bs) (entity_within (length q) bs g)) (signs_within (length q) bs g))
+    let k : ℕ = length q in
+    let g = last_break b q rest l in
+    let comment = and_left (ends_comment (b ∷ q)) (ends_tag (opening_tag (b ∷ q)) (b ∷ q)) h in
+    let tag = and_right (ends_comment (b ∷ q)) (ends_tag (opening_tag (b ∷ q)) (b ∷ q)) h in
+    or_within k (comment_line_word a bs) _ (line_word a b q rest l less)
+    (or_within k (as_word Comment (comment_len bs)) _ (word_within_len k Comment (comment_len bs) (comment_word b q rest l comment))
+    (or_within k (as_word Raw (raw_len bs)) _ (word_within_len k Raw (raw_len bs) (raw_word b q rest l tag))
+    (or_within k (include_at Page bs) _ (include_word b q rest l tag)
+    (or_within k (entity_word (entity_at bs)) (sign_word bs) (entity_word_within k (entity_at bs) (entity_within k bs g)) (signs_within k bs g)))))
 
 front_of : (b : ℕ) (q : List ℕ) (o p : Option Word) → IsFrontOf (lexer Page) (b ∷ q) o p → Within (length q) o → o ≡ p
 front_of b q None p f h = sym f
 front_of b q (Some w) p f h = sym (f (omega (arith, h)))
 
--- whether a line break stands before or not, and whatever follows
-pub line_form : (after : Bool) (b : ℕ) (q rest : List ℕ) → HasNoTag (b ∷ q) → EndsLine (b ∷ q) → form_at Page after (b ∷ (q ++ rest)) ≡ form_at Page false (b ∷ q)
-line_form after b q rest t e =
-    let c = no_comment_line b q rest t e in
-    form_is after b (q ++ rest) t.0 c ∙ sym (form_is false b (q ++ rest) t.0 c)
-    ∙ front_of b q (form_at Page false ((b ∷ q) ++ rest)) (form_at Page false (b ∷ q)) (lexemes_front Page false (b ∷ q) rest) (within_lines b q rest t e)
+form_settles : (a : Bool) (b : ℕ) (q rest : List ℕ) → EndsLine (b ∷ q) → AllEnd a 0 (b ∷ q) → form_at Page a ((b ∷ q) ++ rest) ≡ form_at Page a (b ∷ q)
+form_settles a b q rest l h =
+    front_of b q (form_at Page a ((b ∷ q) ++ rest)) (form_at Page a (b ∷ q)) (lexemes_front Page a (b ∷ q) rest)
+    (within_lines a b q rest l h.0 (remarks_short a 0 (b ∷ q) l (omega arith) h))
 
-pub line_form_alone : (after : Bool) (b : ℕ) (q : List ℕ) → HasNoTag (b ∷ q) → EndsLine (b ∷ q) → form_at Page after (b ∷ q) ≡ form_at Page false (b ∷ q)
-line_form_alone after b q t e = ap (λ (xs : List ℕ). form_at Page after (b ∷ xs)) (sym (append-nil q)) ∙ line_form after b q [] t e
+-- what follows such lines changes none of their lexemes
+pub lines_settle : (rest : List ℕ) (a : Bool) (n : ℕ) (q : List ℕ) → EndsLine q → AllEnd a n q → Settles (lexer Page) rest a n q
+lines_settle rest a n [] l h = h
+lines_settle rest a (suc n) (b ∷ q) l h = lines_settle rest (is_break b) n q (ends_behind b q l) h
+lines_settle rest a zero (b ∷ q) l h =
+    (form_settles a b q rest l h, lines_settle rest (is_break b) (skipped_by (lexer Page) (form_at Page a (b ∷ q))) q (ends_behind b q l) h.1)

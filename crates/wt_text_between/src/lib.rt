@@ -1,23 +1,23 @@
 //! Laws of a text between other parts of a page.
 #![tactic(auto)]
 
-ghost use Rattle.std.specs.Prelude.{◌≡◌, ℕ, Bool, false, List, ◌∷◌, ◌++◌, None};
+ghost use Rattle.std.specs.Prelude.{◌≡◌, ℕ, false, List, ◌++◌, None};
 ghost use Rattle.wt_span.specs.declared.form.Mode.TheVariants.{Page};
-ghost use Rattle.wt_span.specs.Lexemes.{form_at};
+ghost use Rattle.wt_scans.specs.Lexer.{lexer};
+ghost use Rattle.wt_scans.specs.Scans.{Settles};
 ghost use Rattle.wt_devices.specs.Device.{Pages};
 ghost use Rattle.wt_expand.specs.PageCalls.{expanded_page};
 ghost use Rattle.wt_expand.specs.PageItems.{page_items};
 ghost use Rattle.wt_edit.specs.Edits.{refusal_of_page};
 ghost use Rattle.wt_text_edits.specs.LonePages.{of_items};
 ghost use Rattle.wt_text_edits.specs.TypedPages.{IsTypedPage};
-ghost use Rattle.wt_text_between.specs.Between.{HasNoTag, EndsLine, StandsBefore, StandsBehind};
+ghost use Rattle.wt_text_between.specs.Between.{EndsLine, HasEnds, StandsBefore, StandsBehind};
 
-/// A lexeme of lines without `<` is read of them alone, whatever follows them, and whether a line break stands
-/// before them or not: none goes over their end.
-#[tactic(auto, using(crate::proofs::LineForms::line_form))]
+/// Of lines in which each comment, raw tag and hidden part ends that begins in them, every lexeme is read of them
+/// alone, whatever follows them: none goes over their end.
+#[tactic(auto, using(crate::proofs::LineForms::lines_settle))]
 pub fn lines_end_lexemes()
-    ensures { (after : Bool) (b : ℕ) (q rest : List ℕ) → HasNoTag (b ∷ q) → EndsLine (b ∷ q)
-        → form_at Page after (b ∷ (q ++ rest)) ≡ form_at Page false (b ∷ q) }
+    ensures { (rest q : List ℕ) → EndsLine q → HasEnds q → Settles (lexer Page) rest false 0 q }
 {}
 
 /// Whatever somebody types between two parts of a page, the items of the page are those of the part before, of the

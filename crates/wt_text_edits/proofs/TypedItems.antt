@@ -56,7 +56,7 @@ closed_if zero false bs ws e = cc
 closed_if (suc n) true bs ws e = let z : suc n ≡ 0 = (Decides-eqb (suc n) 0).0 e in absurd (omega (arith, z))
 closed_if (suc n) false bs ws e = refl
 
-closed_items : (bs : List ℕ) (c : Cut) → items_of_words (closed c.0 c.1) bs ≡ items_cut bs c
+pub closed_items : (bs : List ℕ) (c : Cut) → items_of_words (closed c.0 c.1) bs ≡ items_cut bs c
 unfolding closed
 closed_items bs (n, ws) = closed_if n (n == 0) bs ws refl
 

@@ -9,7 +9,7 @@ use std::io::ErrorKind;
 use std::process::ExitCode;
 use std::rt::Env;
 use wt_devices::{DirFolder, StdSink, StdSource};
-use wt_pagetool::{run, tell_no_memory};
+use wt_program::{run, tell_no_memory};
 use wt_span::{List, NoMemory, Str};
 
 /// The words after the program's name, or no words where one of them isn't UTF-8.

@@ -14,14 +14,16 @@ OTHER_SCHEME = re.compile(
 )
 ADDRESS = re.compile("(?:https?|ftp)://.", re.IGNORECASE)
 EDGE = " \t\n\u00a0"
-ENDS_ADDRESS = re.compile('[\x00- <>"\\[\\]\x7f]')
+ENTITY = re.compile("&(?:#[0-9]+|#x[0-9a-f]+|[a-z][a-z0-9]*);", re.IGNORECASE)
+SIGNS = re.compile("[\x00- <>\"\\[\\]{|}\x7f]|'{2,}")
 
 
-def link_target(href: str, rel: str) -> Optional[Dict[str, str]]:
+def link_target(href: str, rel: str, was: str = "") -> Optional[Dict[str, str]]:
     """`rel` and `href` as the program takes them; nothing where it can be no link. `rel` is empty where the
-    browser or another editor made the link."""
+    browser or another editor made the link; `was` is the `href` that the page's link has, which stays as it
+    is."""
     address = href.strip(" \t\n\r")
-    if rel == "mw:WikiLink":
+    if rel == "mw:WikiLink" or (rel != "" and href == was):
         return {"rel": rel, "href": href}
     if ADDRESS.match(address):
         return {"rel": "mw:ExtLink", "href": escaped_address(address)}
@@ -35,8 +37,10 @@ def link_target(href: str, rel: str) -> Optional[Dict[str, str]]:
 
 
 def escaped_address(address: str) -> str:
-    """An address without the signs that would end it in wikitext."""
-    return ENDS_ADDRESS.sub(lambda sign: f"%{ord(sign[0]):02X}", address)
+    """An address without what would end it in wikitext, or mean something there: two apostrophes, braces, a
+    bar, an entity."""
+    apart = ENTITY.sub(lambda entity: f"{entity[0][:-1]}%3B", address)
+    return SIGNS.sub(lambda signs: "".join(f"%{ord(sign):02X}" for sign in signs[0]), apart)
 
 
 def with_edges_outside(link: Element, was: str) -> List[Child]:

@@ -5,25 +5,30 @@ of that node's kind; any other is new.
 """
 from __future__ import annotations
 
-import re
-from typing import Callable, Dict, Iterable, List, Optional, Set
+from typing import Callable, Dict, Iterable, List, NamedTuple, Optional, Set
 
 from .kinds import (
     ATTRIBUTES, CELLS, ITEMS, LINES, LISTS, TAGS, hidden_kind, is_blank, is_block, is_block_name,
     is_hidden_name, is_island, is_mark, may_have, name_of,
 )  # fmt: skip
+from .entities import with_entity
 from .lines import drop_empty_lines
 from .links import Line, link_target, with_edges_outside
 from .markup import Child, Element
 from .original import Kept, Original, kind_of
 from .places import Places
 from .strays import put_back
+from .styles import is_plain, says_bold, says_italic, styled_pieces
 from .texts import NOT_WHITE, append, is_empty, is_line_break, tidy
 
 Pieces = List[Child]
 
-ITALIC = re.compile(r"font-style:\s*(?:italic|oblique)", re.IGNORECASE)
-BOLD = re.compile(r"font-weight:\s*(?:bold|[6-9]00)", re.IGNORECASE)
+
+class Weight(NamedTuple):
+    """What tells which of several elements keeps a number."""
+
+    things: int  # groups, extensions and other islands in it
+    is_hollow: bool  # nothing is shown
 
 
 class Mender:
@@ -32,6 +37,7 @@ class Mender:
     def __init__(self, original: Optional[Original]) -> None:
         self.original = original
         self._owners: Dict[int, Element] = {}  # which element has a number, of several that have it
+        self._weights: Dict[int, Weight] = {}  # of elements that have a number with others, by their `id()`
         self._in_link = False
         self._styles: Set[str] = set()  # in which of bold and italic (`b`, `i`) what is read stands
         # The kinds of the page's categories, switches and the like that are still there.
@@ -59,8 +65,21 @@ class Mender:
             if number == 0 or not self._is_of_kind(element, number):
                 continue
             owner = self._owners.get(number)
-            if owner is None or is_better(element, owner):
+            if owner is None or self._is_better(element, owner):
                 self._owners[number] = element
+
+    def _is_better(self, element: Element, owner: Element) -> bool:
+        """Whether an element rather has a number than the one before it that has it too."""
+        now, before = self._weight(element), self._weight(owner)
+        is_shown = before.is_hollow and not now.is_hollow
+        return now.things > before.things or (now.things == before.things and is_shown)
+
+    def _weight(self, element: Element) -> Weight:
+        """Each element is looked into once, however many others have its number."""
+        weight = self._weights.get(id(element))
+        if weight is None:
+            weight = self._weights[id(element)] = Weight(things_in(element), is_hollow(element))
+        return weight
 
     def _is_of_kind(self, element: Element, number: int) -> bool:
         """Whether the element can be the page's node of this number."""
@@ -220,40 +239,47 @@ class Mender:
     def _list(self, element: Element, name: str) -> Pieces:
         made = self._part(element, name, [])
         item_name = "dd" if name == "dl" else "li"
+        item: Optional[Element] = None
         for node in element.children:
             if not isinstance(node, str):
-                self._in_list(made, node, item_name)
+                item = self._in_list(made, node, item_name, item)
             elif is_blank(node):
                 append(made.children, NOT_WHITE.sub(" ", node))
             else:
-                made.children.append(tidy(Element(item_name, {}, [node]), self.original))
+                item = tidy(Element(item_name, {}, [node]), self.original)
+                made.children.append(item)
         has_items = any(not is_hidden_name(part.name) for part in made.elements())
         kept = self._kept(made.number)
         was_empty = kept is not None and is_empty(kept.part.children)
         return [made] if has_items or was_empty else list(made.elements())
 
-    def _in_list(self, made: Element, element: Element, item_name: str) -> None:
-        """`element` is a child of the list that is made, `item_name` what its items are."""
+    def _in_list(
+        self, made: Element, element: Element, item_name: str, last: Optional[Element]
+    ) -> Optional[Element]:
+        """`element` is a child of the list that is made, `item_name` what its items are, `last` its last item
+        so far. Answers its last item then."""
         name = name_of(element)
         if name == "":
-            return
+            return last
         if "about" in element.attributes or is_hidden_name(name):
             made.children += self._block(element, name)
-        elif name in ITEMS:
+            return last
+        if name in LISTS:
+            item = last if last is not None else Element(item_name)
+            if last is None:
+                made.children.append(item)
+            item.children += self._list(element, name)
+            return item
+        is_item = name in ITEMS
+        if is_item:
             item = self._item(element, name)
-            if item.number != 0 or not is_empty(item.children):
-                made.children.append(item)
-        elif name in LISTS:
-            parts = [part for part in made.elements() if "about" not in part.attributes]
-            items = [part for part in parts if part.name in ITEMS]
-            if not items:
-                items = [Element(item_name)]
-                made.children.append(items[0])
-            items[-1].children += self._list(element, name)
         else:
-            item = Element(item_name, {}, self._flat(self._inline_element(element), is_list))
-            if not is_empty(tidy(item, self.original).children):
-                made.children.append(item)
+            flat = self._flat(self._inline_element(element), is_list)
+            item = tidy(Element(item_name, {}, flat), self.original)
+        if is_empty(item.children) and not (is_item and item.number != 0):
+            return last
+        made.children.append(item)
+        return item
 
     def _item(self, element: Element, name: str) -> Element:
         content = self._inline(element.children)
@@ -346,11 +372,17 @@ class Mender:
         return self.original is not None or self._number_of(element) == 0
 
     def _styled(self, element: Element, name: str) -> Pieces:
-        """Bold, italic, a pair of tags."""
+        """Bold, italic, a pair of tags. New bold round blocks is in each of them."""
         is_style = name in ("b", "i")
+        is_new = self._number_of(element) == 0
+        if is_style and is_new and is_plain(element, name):
+            return self._by_style(element)
         if is_style and name in self._styles and not self._has_above(element, name):
             return self._inline(element.children)
-        children = self._flat(self._within([name] if is_style else [], element.children), never)
+        pieces = self._within([name] if is_style else [], element.children)
+        if is_new and any(map(is_block, pieces)):
+            return styled_pieces(pieces, name, self.original)
+        children = self._flat(pieces, never)
         return children if self._has_lost_inside(element, children) else [self._part(element, name, children)]
 
     def _has_above(self, element: Element, name: str) -> bool:
@@ -375,14 +407,13 @@ class Mender:
 
     def _by_style(self, element: Element) -> Pieces:
         """A `span` or `font` of another document: bold and italic by its style, else its inside."""
-        style = element.get("style")
-        styles = [name for name, found in (("i", ITALIC), ("b", BOLD)) if found.search(style)]
+        styles = [name for name, says in (("i", says_italic), ("b", says_bold)) if says(element)]
         begun = [name for name in styles if name not in self._styles]
         pieces = self._within(begun, element.children)
         if is_empty(pieces):
             return pieces
         for name in begun:
-            pieces = [Element(name, {}, self._flat(pieces, never))]
+            pieces = styled_pieces(pieces, name, self.original)
         return pieces
 
     def _link(self, element: Element) -> Pieces:
@@ -393,10 +424,12 @@ class Mender:
         self._in_link = False
         kept = self._kept(self._number_of(element))
         rel = kept.part.get("rel") if kept is not None else element.get("rel")
-        target = link_target(element.get("href"), rel)
+        href = element.get("href")
+        is_new = self._number_of(element) == 0
+        was = kept.part.get("href") if kept is not None else "" if is_new else href
+        target = link_target(href, rel, was)
         if target is None or self._has_lost_inside(element, content):
             return content
-        is_new = self._number_of(element) == 0
         link = Element("a", target, content) if is_new else self._part(element, "a", content)
         for name, value in target.items():
             if link.get(name) != value:
@@ -506,12 +539,6 @@ def is_list(part: Element) -> bool:
     return part.name in LISTS
 
 
-def is_better(element: Element, owner: Element) -> bool:
-    """Whether an element rather has a number than the one before it that has it too."""
-    more, less = things_in(element), things_in(owner)
-    return more > less or (more == less and is_hollow(owner) and not is_hollow(element))
-
-
 def things_in(element: Element) -> int:
     """How many groups, extensions and other islands stand in an element."""
     return sum("id" in inner.attributes and is_island(inner.get) for inner in element.walk())
@@ -530,26 +557,3 @@ def blocks_behind_text(pieces: Pieces) -> Set[int]:
 def is_hollow(element: Element) -> bool:
     """Whether an element shows nothing, as the half of a split paragraph that keeps nothing but its `br`."""
     return is_blank(element.text()) and not any("id" in inner.attributes for inner in element.walk())
-
-
-def with_entity(pieces: Pieces, character: str, entity: Element) -> Optional[Pieces]:
-    """What stands in an entity, with the entity itself in place of its character; nothing where that isn't
-    there."""
-    for at, piece in enumerate(pieces):
-        if isinstance(piece, str):
-            put = cut_at(piece, character, entity)
-        else:
-            inside = with_entity(piece.children, character, entity)
-            put = None if inside is None else [Element(piece.name, piece.attributes, inside)]
-        if put is not None:
-            return [*pieces[:at], *put, *pieces[at + 1 :]]
-    return None
-
-
-def cut_at(text: str, character: str, entity: Element) -> Optional[Pieces]:
-    """The text with the entity for its character; nothing where that isn't there."""
-    before, found, behind = text.partition(character) if character else (text, "", "")
-    if not found:
-        return None
-    pieces: Pieces = [before, entity, behind]
-    return [piece for piece in pieces if piece != ""]

@@ -7,8 +7,9 @@ from typing import Callable, Dict, Optional, Set
 from .kinds import is_block
 from .markup import Element
 
-# What browsers and editors put into a text beside what is typed, and what may be pasted.
-PUT_SIGNS = re.compile("[\r\u00a0\u200b\ufeff\v\f]")
+# What browsers and editors put into a text beside what is typed, and what may be pasted: white space and
+# signs without a width, and what no XML can hold, as the marks of footnotes and cells of a word processor.
+PUT_SIGNS = re.compile("[\0-\x08\v-\x1f\u00a0\u200b\ufeff\ufffe\uffff]")
 
 
 def kind_of(name: str, value: Callable[[str], str]) -> str:

@@ -11,9 +11,9 @@ from .original import PUT_SIGNS, Kept, Original
 
 WHITE = " \t\n"
 NOT_WHITE = re.compile("[^ \t\n\r]")
-# What becomes of signs that browsers and editors put.
-MENDED = {"\r": "\n", "\u00a0": " ", "\u200b": "", "\ufeff": "", "\v": " ", "\f": " "}
-PUT = re.compile("\r\n|[\r\u00a0\u200b\ufeff\v\f]")
+# What becomes of signs that browsers and editors put; of others nothing.
+MENDED = {"\r": "\n", "\u00a0": " ", "\v": " ", "\f": " "}
+PUT = re.compile(f"\r\n|{PUT_SIGNS.pattern}")
 
 
 def append(pieces: List[Child], piece: Child) -> None:
@@ -156,7 +156,7 @@ class Texts:
         """What was typed or pasted from a place of the block's text to another."""
 
         def put(found: "re.Match[str]") -> str:
-            return found[0] if self._is_of_page(start + found.start()) else MENDED[found[0][0]]
+            return found[0] if self._is_of_page(start + found.start()) else MENDED.get(found[0][0], "")
 
         mended = PUT.sub(put, self._now[start:end])
         return re.sub("\n(?:[ \t]*\n)+", "\n", mended) if is_paragraph else re.sub("\n+", " ", mended)

@@ -1,8 +1,7 @@
 use Rattle.std.proofs.Common.{ap}
-use Rattle.wt_pagetool.proofs.PromiseLaws.{run_wrote, run_given_back, run_ends_as_edit, run_alone, run_ends, run_asks_for, run_reads, run_waits}
+use Rattle.wt_pagetool.proofs.PromiseLaws.{run_wrote, run_given_back, run_ends_as_edit, run_alone, run_ends, run_asks_for, run_reads}
 use Rattle.wt_pagetool.specs.Asked.{names_told}
 use Rattle.wt_pagetool.specs.Devices.{read_from, fetched_from, written_to}
-use Rattle.wt_pagetool.specs.Words.{command_of}
 use Rattle.wt_pagetool.proofs.top.run.Goals as goal
 
 pub returns-clause-wrote : goal.returns-clause-wrote
@@ -10,36 +9,36 @@ returns-clause-wrote g c =
     run_wrote c.args.words.now (read_from g.S.Source c.args.input.now c.find_answer-found.new.input)
     (fetched_from g.F.Folder c.args.folder.now c.find_answer-found.new.folder)
     (written_to g.W.Sink c.args.out.now c.report.new.out) (written_to g.E.Sink c.args.err.now c.report.new.err)
-    c.find_answer-found.result c.report.result c.code.result c.code.ensures c.find_answer-found.ensures.answered
-    c.find_answer-found.ensures.found c.find_answer-found.ensures.due c.find_answer-found.ensures.ended c.report.ensures
+    c.find_answer-found.result c.report.result c.code.result c.code.ensures c.find_answer-found.ensures.finds.answered
+    c.find_answer-found.ensures.finds.selser c.find_answer-found.ensures.finds.due c.find_answer-found.ensures.reads.ended c.report.ensures
 
 pub returns-clause-gives_back : goal.returns-clause-gives_back
 returns-clause-gives_back g c =
     run_given_back c.args.words.now (read_from g.S.Source c.args.input.now c.find_answer-found.new.input)
     (fetched_from g.F.Folder c.args.folder.now c.find_answer-found.new.folder)
     (written_to g.W.Sink c.args.out.now c.report.new.out) (written_to g.E.Sink c.args.err.now c.report.new.err)
-    c.find_answer-found.result c.report.result c.code.result c.code.ensures c.find_answer-found.ensures.answered
-    c.find_answer-found.ensures.found c.report.ensures
+    c.find_answer-found.result c.report.result c.code.result c.code.ensures c.find_answer-found.ensures.finds.answered
+    c.find_answer-found.ensures.finds.selser c.report.ensures
 
 pub returns-clause-ends_as_edit : goal.returns-clause-ends_as_edit
 returns-clause-ends_as_edit g c =
     run_ends_as_edit c.args.words.now (read_from g.S.Source c.args.input.now c.find_answer-found.new.input)
     (fetched_from g.F.Folder c.args.folder.now c.find_answer-found.new.folder)
     (written_to g.W.Sink c.args.out.now c.report.new.out) (written_to g.E.Sink c.args.err.now c.report.new.err)
-    c.find_answer-found.result c.report.result c.code.result c.code.ensures c.find_answer-found.ensures.found c.report.ensures
+    c.find_answer-found.result c.report.result c.code.result c.code.ensures c.find_answer-found.ensures.finds.selser c.report.ensures
 
 pub returns-clause-ends : goal.returns-clause-ends
 returns-clause-ends g c =
     run_ends c.args.words.now (read_from g.S.Source c.args.input.now c.find_answer-found.new.input)
     (fetched_from g.F.Folder c.args.folder.now c.find_answer-found.new.folder)
     (written_to g.W.Sink c.args.out.now c.report.new.out) (written_to g.E.Sink c.args.err.now c.report.new.err)
-    c.find_answer-found.result c.report.result c.code.result c.code.ensures c.find_answer-found.ensures.answered
-    c.find_answer-found.ensures.due c.report.ensures c.find_answer-found.ensures.input_kept c.find_answer-found.ensures.folder_kept
+    c.find_answer-found.result c.report.result c.code.result c.code.ensures c.find_answer-found.ensures.finds.answered
+    c.find_answer-found.ensures.finds.due c.report.ensures c.find_answer-found.ensures.counts.input_kept c.find_answer-found.ensures.counts.folder_kept
     (run_alone c.args.words.now (read_from g.S.Source c.args.input.now c.find_answer-found.new.input)
-    (fetched_from g.F.Folder c.args.folder.now c.find_answer-found.new.folder) c.find_answer-found.result c.find_answer-found.ensures.due
+    (fetched_from g.F.Folder c.args.folder.now c.find_answer-found.new.folder) c.find_answer-found.result c.find_answer-found.ensures.finds.due
     (λ no. ap g.S.Source.fault_count (c.find_answer-found.ensures.unread no))
     (λ no. ap g.F.Folder.fault_count (c.find_answer-found.ensures.unasked no))
-    c.find_answer-found.ensures.edit_alone c.find_answer-found.ensures.selser_alone)
+    c.find_answer-found.ensures.counts.edit_alone c.find_answer-found.ensures.counts.selser_alone)
 
 pub returns-clause-asks_for : goal.returns-clause-asks_for
 returns-clause-asks_for g c =
@@ -57,10 +56,5 @@ returns-clause-reads g c =
     run_reads c.args.words.now (read_from g.S.Source c.args.input.now c.find_answer-found.new.input)
     (fetched_from g.F.Folder c.args.folder.now c.find_answer-found.new.folder)
     (written_to g.W.Sink c.args.out.now c.report.new.out) (written_to g.E.Sink c.args.err.now c.report.new.err)
-    c.find_answer-found.result c.report.result c.code.result c.code.ensures c.report.ensures c.find_answer-found.ensures.due
-    c.find_answer-found.ensures.takes c.find_answer-found.ensures.stops
-
-pub returns-clause-waits : goal.returns-clause-waits
-returns-clause-waits g c =
-    run_waits (command_of c.args.words.now) (g.F.Folder.pages c.args.folder.now) c.args.input.now c.find_answer-found.new.input
-    c.find_answer-found.ensures.waits c.find_answer-found.ensures.stays
+    c.find_answer-found.result c.report.result c.code.result c.code.ensures c.report.ensures c.find_answer-found.ensures.finds.due
+    c.find_answer-found.ensures.reads.takes c.find_answer-found.ensures.reads.stops

@@ -7,14 +7,15 @@ use Rattle.wt_checks.specs.Kept.{children}
 use Rattle.wt_moved_laws.specs.Placeless.{all_placeless, by_themselves}
 use Rattle.wt_moved_laws.proofs.Moved.{moved}
 use Rattle.wt_prose.proofs.ProseTrees.{blocks_of, number_behind, items_behind}
-use Rattle.wt_paragraph_laws.specs.Spots.{Spot, spots_source, page_blocks, part_tree, AreSpots}
-use Rattle.wt_paragraph_laws.proofs.SpotsTrees.{leafy_blocks, as_leaves, are_typed, spots_tree}
+use Rattle.wt_paragraph_laws.specs.Parts.{part_tree}
+use Rattle.wt_block_edits.specs.BlockSpots.{BlockSpot, spots_source, page_blocks, AreBlockSpots}
+use Rattle.wt_block_edits.proofs.BlockTrees.{leafy_blocks, as_leaves, are_typed, spots_tree}
 
 each_moved : (n : ℕ) (before : List Item) (ts : List ItemTree) → all_placeless (blocks_of n before ts) ≡ by_themselves ts
 each_moved n before [] = refl
 each_moved n before (t ∷ ts) = ap₂ more (moved n 0 before [] t) (each_moved (number_behind n before t) (items_behind before t) ts)
 
-pub blocks_alone : (ss : List Spot) (behind : List ℕ) → AreSpots ss behind
+pub blocks_alone : (ss : List BlockSpot) (behind : List ℕ) → AreBlockSpots ss behind
     → all_placeless (children (part_tree (spots_source ss behind))) ≡ by_themselves (page_blocks ss behind)
 blocks_alone ss behind h =
     ap (λ t. all_placeless (children t)) (spots_tree ss behind h)

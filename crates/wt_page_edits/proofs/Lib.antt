@@ -1,8 +1,0 @@
-pub mod KeptBlocks
-pub mod PageKinds
-pub mod SpotFacts
-pub mod PageTakes
-pub mod PageUnmarked
-pub mod PageCalls
-pub mod OtherBlocks
-mod Cases

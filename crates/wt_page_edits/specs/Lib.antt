@@ -1,3 +1,0 @@
-pub mod PageEdits
-pub mod Unmarked
-pub mod Calls
