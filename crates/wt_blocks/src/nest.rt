@@ -15,7 +15,7 @@ pub struct ListNode {
     /// `*`, `#`, `:` or `;`, as the line has it at which the node begins.
     pub sign: char,
     /// The number of the line at which it begins; the first line has 0.
-    pub line: u32,
+    pub line: usize,
     /// The items of a list, or the lists in an item.
     pub children: List<ListNode>,
 }
@@ -126,7 +126,7 @@ fn with_room(alloc: Global, count: usize) -> Result<List<ListNode>, NoMemory>
 fn node_at(
     item: bool,
     prefixes: &[Str],
-    line: u32,
+    line: usize,
     depth: usize,
     children: List<ListNode>,
 ) -> ListNode
@@ -165,11 +165,11 @@ fn inside_item(item: &[Str], depth: usize) -> &[Str]
 fn lists_at(
     alloc: Global,
     prefixes: &[Str],
-    first: u32,
+    first: usize,
     depth: usize,
 ) -> Result<List<ListNode>, NoMemory>
     requires left { AreLeft depth prefixes.now }
-    requires numbers { first + length prefixes.now < 2 ^ 32 }
+    requires numbers { first + length prefixes.now < 2 ^ 64 }
     ensures { IfOk result (λ l. list_trees l ≡ lists (MOST_SIGNS - depth) (lines_from first depth prefixes.now)) }
 {
     let mut found = with_room(alloc, list_count(prefixes, depth))?;
@@ -177,7 +177,7 @@ fn lists_at(
     while at < prefixes.len() {
         let rest = rest_of(prefixes, at);
         let list = front_of(rest, list_len(rest, depth));
-        let line = first + at as u32;
+        let line = first + at;
         let children = items_at(alloc, list, line, depth)?;
         found.push(node_at(false, list, line, depth, children))?;
         at += list.len();
@@ -190,12 +190,12 @@ fn lists_at(
 fn items_at(
     alloc: Global,
     prefixes: &[Str],
-    first: u32,
+    first: usize,
     depth: usize,
 ) -> Result<List<ListNode>, NoMemory>
     requires limit { depth < MOST_SIGNS }
     requires left { AreLeft depth prefixes.now }
-    requires numbers { first + length prefixes.now < 2 ^ 32 }
+    requires numbers { first + length prefixes.now < 2 ^ 64 }
     ensures { IfOk result (λ l. list_trees l ≡ items_by (lists (MOST_SIGNS - (depth + 1))) (lines_from first depth prefixes.now)) }
 {
     let mut found = with_room(alloc, item_count(prefixes, depth))?;
@@ -203,9 +203,9 @@ fn items_at(
     while at < prefixes.len() {
         let rest = rest_of(prefixes, at);
         let item = front_of(rest, item_len(rest, depth));
-        let line = first + at as u32;
+        let line = first + at;
         let inside = inside_item(item, depth);
-        let inside_line = line + (item.len() - inside.len()) as u32;
+        let inside_line = line + (item.len() - inside.len());
         let children = lists_at(alloc, inside, inside_line, depth + 1)?;
         found.push(node_at(true, item, line, depth, children))?;
         at += item.len();
@@ -219,7 +219,6 @@ fn items_at(
 /// counting as the same.
 pub fn nest_lists(alloc: Global, prefixes: &List<Str>) -> Result<List<ListNode>, NoMemory>
     requires signs { All IsPrefix prefixes.now }
-    requires few { length prefixes.now < 2 ^ 32 }
     ensures { IfOk result (λ l. list_trees l ≡ nested prefixes.now) }
 {
     lists_at(alloc, prefixes.as_slice(), 0, 0)

@@ -180,9 +180,11 @@ blocks_done depth ps rs left out e h =
 
 -- ---- bytes
 
-pub bytes_more : (ps : List Piece) (i : ℕ) (p : Piece) (n m : ℕ) → i < length ps → p ≡ get_or ps i p → n ≡ length (sources (items (take i ps)))
-    → m ≡ length (bytes_of p.text) → n + m ≡ length (sources (items (take (i + 1) ps)))
-bytes_more ps i p n m l e en em =
+-- what is left of a number of bytes, behind one more piece
+pub bytes_left : (ps : List Piece) (i : ℕ) (p : Piece) (left m most : ℕ) → i < length ps → p ≡ get_or ps i p
+    → left + length (sources (items (take i ps))) ≡ most → m ≡ length (bytes_of p.text) → m ≤ left
+    → (left - m) + length (sources (items (take (i + 1) ps))) ≡ most
+bytes_left ps i p left m most l e en em few =
     let front = take i ps in
     let own : length (sources (items (p ∷ []))) ≡ length (bytes_of p.text) =
     ap (λ xs. length (sources xs)) (append-nil (items_of p)) ∙ ap length (source_by p.form (call_of_origin p.origin) (bytes_of p.text)) in
@@ -191,7 +193,7 @@ bytes_more ps i p n m l e en em =
     ∙ ap (λ xs. length (sources xs)) (flat_map-append items_of front (p ∷ []))
     ∙ ap length (flat_map-append source (items front) (items (p ∷ [])))
     ∙ length-append (sources (items front)) (sources (items (p ∷ []))) in
-    omega (arith, en, em, own, all)
+    omega (arith, en, em, few, own, all)
 
 -- ---- kinds
 

@@ -106,25 +106,19 @@ fn gap_of<'a>(
 }
 
 /// Pieces of fewer than 2^32 bytes; more are answered as want of memory.
+#[tactic(auto, using(crate::proofs::BlockNodes::bytes_left))]
 fn check_len(pieces: &[Piece<'_>]) -> Result<(), NoMemory>
     ensures { IfOk result (λ done. length (sources (items pieces.now)) < 2 ^ 32) }
 {
-    if bytes_len(pieces)? > u32::MAX as usize {
-        return Err(NoMemory);
+    let mut left = u32::MAX as usize;
+    for piece in pieces {
+        let len = piece.text.as_str().len();
+        if len > left {
+            return Err(NoMemory);
+        }
+        left -= len;
     }
     Ok(())
-}
-
-/// How many bytes pieces have. More than a machine word counts are answered as want of memory.
-#[tactic(auto, using(crate::proofs::BlockNodes::bytes_more))]
-fn bytes_len(pieces: &[Piece<'_>]) -> Result<usize, NoMemory>
-    ensures { IfOk result (λ n. n ≡ length (sources (items pieces.now))) }
-{
-    let mut len: usize = 0;
-    for piece in pieces {
-        len = len.checked_add(piece.text.as_str().len()).ok_or(NoMemory)?;
-    }
-    Ok(len)
 }
 
 /// A heading, of its line from the first `=` on.

@@ -32,10 +32,10 @@ fn list_kind(sign: char) -> Kind
 }
 
 /// The row of this number; past the rows one without items.
-fn row_at(rows: &[RowAt], number: u32) -> RowAt
+fn row_at(rows: &[RowAt], number: usize) -> RowAt
     ensures { (ps : ListOf PieceOf) → row_view ps result ≡ row_at (rows_view ps rows.now) number }
 {
-    match rows.get(number as usize) {
+    match rows.get(number) {
         Some(row) => *row,
         None => RowAt {
             kind: LineKind::TableEnd,
@@ -48,7 +48,7 @@ fn row_at(rows: &[RowAt], number: u32) -> RowAt
 }
 
 /// The first of these nodes begins at this line.
-fn begins_at(nodes: &[ListNode], line: u32) -> bool
+fn begins_at(nodes: &[ListNode], line: usize) -> bool
     ensures { result ≡ begins_at line (forest (list_trees nodes.now)) }
 {
     match nodes.first() {
@@ -64,7 +64,7 @@ fn item_stretches<'a>(
     pieces: &[Piece<'a>],
     rows: &[RowAt],
     sign: char,
-    line: u32,
+    line: usize,
     own: bool,
     inside: List<StretchAt<'a>>,
 ) -> Result<List<StretchAt<'a>>, NoMemory>
@@ -86,7 +86,7 @@ fn node_stretches<'a>(
     rows: &[RowAt],
     item: bool,
     sign: char,
-    line: u32,
+    line: usize,
     own: bool,
     inside: List<StretchAt<'a>>,
 ) -> Result<List<StretchAt<'a>>, NoMemory>
@@ -155,8 +155,7 @@ fn prefixes(alloc: Global, pieces: &[Piece<'_>], rows: &[RowAt]) -> Result<List<
     Ok(out)
 }
 
-/// The stretches of the lists that these rows are. More than 2^32 rows are answered as want of
-/// memory.
+/// The stretches of the lists that these rows are.
 #[tactic(auto, unfolding(wt_page::specs::Lists::lists))]
 pub fn lists<'a>(
     alloc: Global,
@@ -167,9 +166,6 @@ pub fn lists<'a>(
     requires listed { AreListRows rows.now }
     ensures { IfOk result (λ l. stretches_view pieces.now l ≡ lists (rows_view pieces.now rows.now)) }
 {
-    if rows.len() > u32::MAX as usize {
-        return Err(NoMemory);
-    }
     let prefixes = prefixes(alloc, pieces, rows)?;
     let nodes = nest_lists(alloc, &prefixes)?;
     all_lists(alloc, pieces, rows, nodes)

@@ -37,16 +37,6 @@ pub struct PageWalk<'a> {
     pub found: Collected<'a>,
 }
 
-/// The first part of a call, which is its target or the name of an argument.
-fn first_part(call: Braces<'_>) -> Result<PartAt, NoMemory>
-    ensures { IfOk result (λ p. slice_get call.entry.parts.now 0 ≡ Some p) }
-{
-    match call.parts.get(0) {
-        Some(part) => Ok(*part),
-        None => Err(NoMemory),
-    }
-}
-
 /// A piece of the page between two places.
 fn push_slice<'a>(
     found: &mut Collected<'a>,
@@ -276,7 +266,7 @@ impl<'a> PageWalk<'a> {
         ensures names { OnOk result (self.new.expansion.names ≡ self.old.expansion.names) }
     {
         let mark = self.found.mark();
-        let part = first_part(call)?;
+        let part = call.first_part();
         let title = self.target(folder, reader, call, part)?;
         match title {
             Some(title) => {

@@ -1,5 +1,5 @@
 -- What was fed, and some of a piece more; what is answered.
-use Rattle.std.proofs.Common.{◌≡◌, ℕ, ◌+◌, ◌-◌, ◌≤◌, Bool, true, false, Option, Some, None, Result, Ok, Err, List, [], ◌++◌, length, append_assoc, length-append, take, drop, refl, sym, ap, ◌∙◌, subst, arith}
+use Rattle.std.proofs.Common.{◌≡◌, ℕ, ◌+◌, ◌-◌, ◌≤◌, Bool, true, false, Option, Some, None, Result, Ok, Err, List, [], ◌∷◌, ◌++◌, length, append_assoc, length-append, take, drop, refl, sym, ap, ◌∙◌, subst, arith}
 use Rattle.std.specs.Prelude.{IfOk, IfErr, OnOk, if◌then◌else◌}
 use Rattle.std.specs.Coded.{le_prop}
 use Rattle.std.proofs.Math.Logic.{∥∥₁_elim}
@@ -155,15 +155,31 @@ needed_root (closing cs ns) x = refl
 needed_root (closed ns) x = refl
 needed_root (escaping s e) x = needed_root s x
 
-pub ends_well : (o : Option HtmlRefusal) (g : Reading) (k at : ℕ) (bytes : List ℕ) (n : Content) → o ≡ None → is_accepted (state_of g) ≡ true
-    → ((t : Markup) → views g.builder.root.items ≡ more t empty → view_content n ≡ t) → FedAs o g k at bytes → Stands bytes (view_content n)
-ends_well o g k at bytes n e a f h =
+-- once it is whole it has the root of what was fed
+root_fed : (o : Option HtmlRefusal) (g : Reading) (k at : ℕ) (bytes : List ℕ) → o ≡ None → is_accepted (state_of g) ≡ true → FedAs o g k at bytes
+    → (t : Markup) × (views g.builder.root.items ≡ more t empty)
+root_fed o g k at bytes e a h =
     let r = (going_as o g k at bytes e h).0 in
     let w = well_of bytes (state_of g) r.0 a in
     let t : Markup = meaning w.0.root in
     let s : Stands bytes t = (w.0, w.1, w.2, refl) in
-    let b = ap (λ (x : Building). x.root) r.1 ∙ needed_root (state_of g) (built bytes) ∙ ap (λ (x : Building). x.root) (stands_told bytes t s) in
-    (w.0, w.1, w.2, sym (f t b))
+    (t, ap (λ (x : Building). x.root) r.1 ∙ needed_root (state_of g) (built bytes) ∙ ap (λ (x : Building). x.root) (stands_told bytes t s))
+
+some_content : (cs : List Content) (t : Markup) → views cs ≡ more t empty → 1 ≤ length cs
+some_content [] t e = cc
+some_content (c ∷ cs) t e = omega arith
+
+pub has_root : (o : Option HtmlRefusal) (g : Reading) (n at : ℕ) → ∥ ((bytes : List ℕ) × FedAs o g n at bytes) ∥₁ → o ≡ None
+    → is_accepted (state_of g) ≡ true → 1 ≤ length g.builder.root.items
+has_root o g n at h e a = ∥∥₁_elim h le_prop (λ (bytes, d). let x = root_fed o g n at bytes e a d in some_content g.builder.root.items x.0 x.1)
+
+pub ends_well : (o : Option HtmlRefusal) (g : Reading) (k at : ℕ) (bytes : List ℕ) (n : Content) → o ≡ None → is_accepted (state_of g) ≡ true
+    → ((t : Markup) → views g.builder.root.items ≡ more t empty → view_content n ≡ t) → FedAs o g k at bytes → Stands bytes (view_content n)
+unfolding root_fed
+ends_well o g k at bytes n e a f h =
+    let w = well_of bytes (state_of g) (going_as o g k at bytes e h).0.0 a in
+    let x = root_fed o g k at bytes e a h in
+    (w.0, w.1, w.2, sym (f x.0 x.1))
 
 pub ends_ill : (o : Option HtmlRefusal) (g : Reading) (k at : ℕ) (bytes : List ℕ) → o ≡ None → is_accepted (state_of g) ≡ false → FedAs o g k at bytes
     → RefusedFor bytes (refusals.Html k End)
@@ -207,15 +223,6 @@ pub ill_clause : (o : Option HtmlRefusal) (g : Reading) (n at : ℕ) (r : Result
     → IfErr r (λ e. (bytes : List ℕ) → FedAs o g n at bytes → IsIll bytes e)
 ill_clause o g n at (Ok u) e = tt
 ill_clause o g n at (Err f) e = λ bytes h. failed_ill o f g n at bytes (answer_err o f e) h
-
-no_memory : (bytes : List ℕ) (e : HtmlRefusal) → e ≡ refusals.NoMemory → RefusedFor bytes e
-no_memory bytes e h = let P : HtmlRefusal → Type 0 = RefusedFor bytes in subst P (sym h) tt
-
-pub ends : (o : Option HtmlRefusal) (g : Reading) (k at : ℕ) (bytes : List ℕ) (r : Result Content HtmlRefusal) → o ≡ None → is_accepted (state_of g) ≡ true
-    → IfOk r (λ n. (t : Markup) → views g.builder.root.items ≡ more t empty → view_content n ≡ t) → IfErr r (λ e. e ≡ refusals.NoMemory)
-    → FedAs o g k at bytes → Answers r bytes
-ends o g k at bytes (Ok n) e a h m f = ends_well o g k at bytes n e a h f
-ends o g k at bytes (Err d) e a h m f = no_memory bytes d m
 
 -- some of a piece behind what was fed of it
 pub some_fed : (P : List ℕ → Type 0) (bytes piece rest : List ℕ) (at n : ℕ) → rest ≡ drop at piece → P ((bytes ++ take at piece) ++ take n rest)

@@ -1,4 +1,4 @@
-ghost use Rattle.std.specs.Prelude.{◌≡◌, ℕ, ◌++◌, ◌∷◌, [], OnOk, IfOk, IfErr, encode_utf8, length, true};
+ghost use Rattle.std.specs.Prelude.{◌≡◌, ◌<◌, ℕ, ◌++◌, ◌∷◌, [], OnOk, encode_utf8, length, true};
 ghost use Rattle.wt_html_grammar.specs.Markup.{Markup, node, empty, more};
 ghost use Rattle.wt_html_grammar.specs.Events.{calm, closed_into, put, with_open, add_bytes, with_value};
 ghost use Rattle.wt_html_elements.specs.Held.{may_be_put, is_some_open, moved};
@@ -6,7 +6,6 @@ ghost use Rattle.wt_html_elements.specs.Built.{view_content, views, pairs, frame
 ghost use Rattle.wt_html_elements.specs.View.{first_name};
 
 use crate::content::{Content, OpenElement};
-use crate::fault::HtmlRefusal;
 use crate::tag::OpenTag;
 use std::alloc::Global;
 use std::mem;
@@ -212,13 +211,13 @@ impl Builder {
     }
 
     /// The root that was read.
-    pub fn root(&mut self) -> Result<Content, HtmlRefusal>
-        ensures root { IfOk result (λ c. (t : Markup) → views self.old.root.items ≡ more t empty → view_content c ≡ t) }
-        ensures memory { IfErr result (λ e. e ≡ HtmlRefusal.NoMemory) }
+    pub fn root(&mut self) -> Content
+        requires { 0 < length self.old.root.items }
+        ensures { (t : Markup) → views self.old.root.items ≡ more t empty → view_content result ≡ t }
     {
         match self.root.pop() {
-            Some(root) => Ok(root),
-            None => Err(HtmlRefusal::NoMemory),
+            Some(root) => root,
+            None => unreachable!(),
         }
     }
 }

@@ -133,7 +133,7 @@ impl Reader {
                 let place = self.taken;
                 let mut reading = self.reading;
                 if reading.machine.is_accepted(&reading.builder) {
-                    reading.builder.root()
+                    Ok(reading.builder.root())
                 } else {
                     Err(HtmlRefusal::Html {
                         place,

@@ -36,18 +36,13 @@ pub struct Gap<'w, 't, 'a> {
 
 // ---- slices
 
-fn place_of(at: usize) -> Result<u32, NoMemory> {
-    if at > 4_294_967_295 {
-        return Err(NoMemory);
-    }
-    Ok(at as u32)
-}
-
 /// Appends a slice, by what is there instead.
 pub fn push_change(out: &mut Vec<Change>, place: Slot, by: Str) -> Result<(), NoMemory> {
-    let start = place_of(place.start)?;
-    let end = place_of(place.end)?;
-    out.push(Change { start, end, by })?;
+    out.push(Change {
+        start: place.start,
+        end: place.end,
+        by,
+    })?;
     Ok(())
 }
 

@@ -24,7 +24,7 @@ fn place_up_to(places: &[Slot], from: usize, end: usize) -> usize {
 fn lies_in(place: Slot, change: &Change) -> bool
     ensures { result ≡ true → LiesIn place (change_view change.now) }
 {
-    place.start <= change.start as usize && change.end as usize <= place.end
+    place.start <= change.start && change.end <= place.end
 }
 
 /// Whether it lies in the place with this index.
@@ -35,7 +35,7 @@ fn lies_at(places: &[Slot], at: usize, change: &Change) -> bool
 }
 
 /// Whether it comes after this place, and doesn't end before it begins.
-fn stands_behind(at: u32, change: &Change) -> bool
+fn stands_behind(at: usize, change: &Change) -> bool
     ensures from { result ≡ true → at ≤ (change_view change.now).start }
     ensures whole { result ≡ true → (change_view change.now).start ≤ (change_view change.now).end }
 {
@@ -51,13 +51,13 @@ fn are_within(changes: &[Change], places: &[Slot], size: usize) -> bool
     let mut at = 0;
     let mut from = 0;
     for change in changes {
-        from = place_up_to(places, from, change.end as usize);
+        from = place_up_to(places, from, change.end);
         if !stands_behind(at, change) || !lies_at(places, from, change) {
             return false;
         }
         at = change.end;
     }
-    at as usize <= size
+    at <= size
 }
 
 /// The page with these slices written anew, where they lie in it one after the other, each in one of the places.

@@ -7,20 +7,8 @@ ghost use Rattle.wt_tiles.specs.Cutting.{IsEdgeIn};
 
 use std::alloc::Global;
 use wt_context::take_some;
-use wt_lines::item_count;
 use wt_span::{List, NoMemory, Piece};
 use wt_tiles::Rest;
-
-/// How many items the pieces hold. More than a machine word counts are answered as want of memory.
-fn items_len(pieces: &[Piece<'_>]) -> Result<usize, NoMemory>
-    ensures { IfOk result (λ n. n ≡ length (items pieces.now)) }
-{
-    let mut len: usize = 0;
-    for piece in pieces {
-        len = len.checked_add(item_count(piece)).ok_or(NoMemory)?;
-    }
-    Ok(len)
-}
 
 /// The first n items of pieces, and those after them. No character may lie on both sides of the
 /// cut.
@@ -37,8 +25,7 @@ pub fn cut<'a>(
     ensures sound_front { IfOk result (λ r. All IsSoundPiece r.0) }
     ensures sound_back { IfOk result (λ r. All IsSoundPiece r.1) }
 {
-    let len = items_len(pieces)?;
     let (front, rest) = take_some(alloc, Rest::of(pieces), n)?;
-    let (back, _) = take_some(alloc, rest, len - n)?;
+    let back = rest.all(alloc)?;
     Ok((front, back))
 }

@@ -1,8 +1,8 @@
 -- How the code makes the changes and the new page, one change at a time.
-use Rattle.std.proofs.Common.{◌≡◌, ◌<◌, ℕ, ◌+◌, Bool, true, false, Option, Some, List, [], ◌∷◌, ◌++◌, length, drop, get_or, refl, sym, ap, ◌∙◌}
+use Rattle.std.proofs.Common.{◌≡◌, ◌<◌, ℕ, ◌+◌, ◌-◌, Bool, true, false, Option, Some, List, [], ◌∷◌, ◌++◌, length, drop, get_or, refl, sym, ap, ◌∙◌, arith, length-drop}
 use Rattle.std.specs.Prelude.{if◌then◌else◌}
 use Rattle.std.specs.List.{flat_map}
-use Rattle.std.proofs.lemmas.List.{drop_more}
+use Rattle.std.proofs.lemmas.List.{drop_more, take_all}
 use Rattle.wt_tree.specs.declared.edit_shape.Place.{Place as Surround}
 use Rattle.wt_tree.specs.declared.node.Node.{Node, out-Node}
 use Rattle.wt_tree.specs.Tree.{Tree, label}
@@ -61,6 +61,10 @@ pub insides_views : (same : Tree → Tree → Bool) (page : Page) (ns : List Nod
     → all_insides same page (views ns) ≡ flat_map (λ n. insides same page (view n)) ns
 insides_views same page [] = refl
 insides_views same page (n ∷ ns) = ap (λ (cs : List Change). insides same page (view n) ++ cs) (insides_views same page ns)
+
+-- up to the page's end
+pub between_rest : (page : List ℕ) (from : ℕ) → between from (length page) page ≡ drop from page
+between_rest page from = take_all (length page - from) (drop from page) (omega (arith, length-drop from page))
 
 -- the rest of the new page begins with the next change
 pub spliced_turn : (page : List ℕ) (at : ℕ) (cs : List Made) (i : ℕ) (c : Made) → i < length cs → c ≡ get_or cs i c

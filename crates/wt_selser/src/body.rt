@@ -173,8 +173,8 @@ fn push_removed(
     let mut by = Str::new(alloc);
     by.push_str(for_removed(parted))?;
     found.push(Change {
-        start: ranges.start,
-        end: ranges.end,
+        start: ranges.start as usize,
+        end: ranges.end as usize,
         by,
     })?;
     Ok(())

@@ -29,8 +29,8 @@ pub struct Pair<'t, 'a> {
 /// A slice of the page, in bytes: its first byte and the byte after its last one, and what is in its place.
 #[derive(Drop)]
 pub struct Change {
-    pub start: u32,
-    pub end: u32,
+    pub start: usize,
+    pub end: usize,
     pub by: Str,
 }
 
@@ -100,12 +100,9 @@ fn push_inside(found: &mut Vec<Change>, ranges: Option<Ranges>, by: Str) -> Resu
     let Some(ranges) = ranges else {
         return Ok(());
     };
-    let Some(start) = ranges.start.checked_add(ranges.open_w) else {
-        return Err(NoMemory);
-    };
     found.push(Change {
-        start,
-        end: ranges.end.saturating_sub(ranges.close_w),
+        start: ranges.start as usize + ranges.open_w as usize,
+        end: ranges.end.saturating_sub(ranges.close_w) as usize,
         by,
     })?;
     Ok(())
@@ -183,24 +180,21 @@ fn slice_between(page: &str, from: usize, to: usize) -> Option<&str>
 }
 
 /// Appends what is in the page between two places.
-fn push_between(out: &mut Str, page: &str, from: u32, to: u32) -> Result<(), NoMemory>
+fn push_between(out: &mut Str, page: &str, from: usize, to: usize) -> Result<(), NoMemory>
     ensures { OnOk result (out.new ≡ out.old ++ between from to page.now) }
 {
-    match slice_between(page, from as usize, to as usize) {
+    match slice_between(page, from, to) {
         Some(slice) => out.push_str(slice),
         None => Err(NoMemory),
     }
 }
 
 /// Appends what is in the page from a place on.
-fn push_rest(out: &mut Str, page: &str, from: u32) -> Result<(), NoMemory>
+#[tactic(auto, using(crate::proofs::Splicing::between_rest))]
+fn push_rest(out: &mut Str, page: &str, from: usize) -> Result<(), NoMemory>
     ensures { OnOk result (out.new ≡ out.old ++ drop from page.now) }
 {
-    if !page.is_char_boundary(from as usize) {
-        return Err(NoMemory);
-    }
-    out.push_str(&page[from as usize..])?;
-    Ok(())
+    push_between(out, page, from, page.len())
 }
 
 /// The page with these slices replaced, which lie in it one after the other; want of memory, too, where they

@@ -55,8 +55,8 @@ pub fn push_at(found: &mut Vec<Change>, place: u32, by: Str) -> Result<(), NoMem
     ensures { OnOk result (changes_view found.new.items ≡ changes_view found.old.items ++ at_place place by ∷ []) }
 {
     found.push(Change {
-        start: place,
-        end: place,
+        start: place as usize,
+        end: place as usize,
         by,
     })?;
     Ok(())
@@ -72,8 +72,8 @@ fn push_removed(
     ensures { OnOk result (changes_view found.new.items ≡ changes_view found.old.items ++ record { start = start; end = end; by = [] } ∷ []) }
 {
     found.push(Change {
-        start,
-        end,
+        start: start as usize,
+        end: end as usize,
         by: Str::new(alloc),
     })?;
     Ok(())

@@ -1,5 +1,6 @@
 -- What is done where a function by text begins, where a part of it is told, and where it has given one.
 use Rattle.std.proofs.Common.{◌≡◌, ℕ, zero, suc, ◌+◌, ◌<◌, ◌≤◌, Bool, true, false, Some, None, List, [], ◌∷◌, ◌++◌, length, drop, refl, sym, ap, ◌∙◌, subst, arith, append-nil}
+use Rattle.std.specs.Prelude.{◌^◌}
 use Rattle.std.specs.Prelude.{Option, is_some, not, slice_get, slice_range}
 use Rattle.std.proofs.lemmas.List.{length-append}
 use Rattle.wt_span.specs.declared.function.Function.{Function}
@@ -288,9 +289,10 @@ turned c s outs ps text o is more =
 -- the part that is chosen is read, from where the call begins
 pub given_begins : (r : Reading) (t : List ℕ) (run next : TextRun) (c : Choosing) (ps : List Piece) (text : List ℕ) (k : ℕ) (part : PartOf) (start : ℕ)
     (total : Account) → HasEnded r t run (task.Told c) ps total → text ≡ name_text (items ps) → asked (with_text c.chooser text) ≡ Give k
-    → slice_get c.call.parts.now k ≡ Some part → start ≡ given_start c.function part → next.reader ≡ c.begun → next.mode ≡ run.mode → stack next.levels ≡ stack run.levels
+    → slice_get c.call.parts.now k ≡ Some part → part.at.end < 2 ^ 32
+    → (given_start c.function part < 2 ^ 32 → start ≡ given_start c.function part) → next.reader ≡ c.begun → next.mode ≡ run.mode → stack next.levels ≡ stack run.levels
     → BeginsLevel r t next start (starts t start) part.at.end (task.Given c.call c.at_start) total
-given_begins r t run next c ps text k part start total h is e there start_is rd md lv = by_number k e there
+given_begins r t run next c ps text k part start total h is e there few start_is rd md lv = by_number k e there
   where
     by_number : (n : ℕ) → asked (with_text c.chooser text) ≡ Give n → slice_get c.call.parts.now n ≡ Some part
         → BeginsLevel r t next start (starts t start) part.at.end (task.Given c.call c.at_start) total
@@ -301,8 +303,10 @@ given_begins r t run next c ps text k part start total h is e there start_is rd 
         let call = w.choosing.call in
         let outs = parts_of_call r t b call in
         let f = c.chooser.function in
-        let begins : start ≡ given_start f part = start_is ∙ ap (λ g. given_start g part) (sym w.choosing.function_is) in
         let x = part_of_value f r t b call n part numbered in
+        let wide = x.stretch.stretch.width in
+        let fits : given_start f part < 2 ^ 32 = omega (arith, wide, few) in
+        let begins : start ≡ given_start f part = subst (λ g. given_start g part < 2 ^ 32 → start ≡ given_start g part) (sym w.choosing.function_is) start_is fits in
         let low = x.behind in
         let most = x.within in
         let s = c.at_start in

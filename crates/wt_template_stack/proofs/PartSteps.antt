@@ -1,5 +1,7 @@
 -- What is done where a part of a call begins or ends.
-use Rattle.std.proofs.Common.{◌≡◌, ℕ, zero, suc, ◌+◌, ◌≤◌, Bool, Option, Some, None, option_map, List, [], ◌∷◌, ◌++◌, length, map, drop, refl, sym, ap, ◌∙◌, subst, arith, append_assoc, append-nil}
+use Rattle.std.proofs.Common.{◌≡◌, ℕ, zero, suc, ◌+◌, ◌-◌, ◌<◌, ◌≤◌, Bool, Option, Some, None, option_map, List, [], ◌∷◌, ◌++◌, length, map, drop, refl, sym, ap, ◌∙◌, subst, arith, append_assoc, append-nil}
+use Rattle.std.specs.Prelude.{min, ◌^◌}
+use Rattle.std.proofs.Math.Nat.{min-eq_left}
 use Rattle.std.specs.Prelude.{slice_get, String, string_bytes}
 use Rattle.std.proofs.lemmas.List.{drop_all, length-map}
 use Rattle.std.proofs.lemmas.Option.{slice_get-map}
@@ -280,10 +282,13 @@ name_ends r t run h to out_ps name total w e = record {
 }
 
 pub name_begun : (r : Reading) (t : List ℕ) (run : TextRun) (h : PendingCall) (to : ℕ) (out_ps : List Piece) (name : String Global) (at : ℕ) (total : Account)
-    → (w : HasEnded r t run (task.Name h to) out_ps total) → string_bytes name ≡ name_text (items out_ps) → at ≡ run.reader.cursor.at + 1
-    → BeginsLevel r t run at (starts t at) to (task.Value h (Some name)) total
-name_begun r t run h to out_ps name at total w e is =
-    subst (λ k. BeginsLevel r t run k (starts t k) to (task.Value h (Some name)) total) (sym (is ∙ ap (λ k. k + 1) w.running.reading.at.at_is))
+    → (w : HasEnded r t run (task.Name h to) out_ps total) → string_bytes name ≡ name_text (items out_ps) → to < 2 ^ 32
+    → at ≡ min (run.reader.cursor.at + 1) (2 ^ 32 - 1) → BeginsLevel r t run at (starts t at) to (task.Value h (Some name)) total
+name_begun r t run h to out_ps name at total w e few is =
+    let here = w.running.reading.at.at_is in
+    let wide = w.ends.value_ends in
+    let next : at ≡ w.place + 1 = is ∙ min-eq_left (omega (arith, here, wide, few)) ∙ ap (λ k. k + 1) here in
+    subst (λ k. BeginsLevel r t run k (starts t k) to (task.Value h (Some name)) total) (sym next)
     (name_ends r t run h to out_ps name total w e)
 
 -- the values with one more

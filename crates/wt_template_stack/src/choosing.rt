@@ -1,5 +1,5 @@
 //! A function by text of which the parts are told one after the other.
-ghost use Rattle.std.specs.Prelude.{◌≡◌, true, IfOk, is_some, not, slice_get};
+ghost use Rattle.std.specs.Prelude.{◌≡◌, ◌<◌, ◌^◌, true, IfOk, is_some, not, slice_get};
 ghost use Rattle.wt_functions.specs.Choice.{asked, is_tell};
 ghost use Rattle.wt_template_stack.specs.ToldParts.{have_equals, name_end, told_end, given_start};
 
@@ -109,14 +109,11 @@ pub fn told_end(function: Function, part: PartAt) -> u32
 }
 
 /// Where what is given of a part begins: after its name, or with all of it.
-pub fn given_start(function: Function, part: PartAt) -> Result<u32, NoMemory>
-    ensures { IfOk result (λ at. at ≡ given_start function part) }
+pub fn given_start(function: Function, part: PartAt) -> u32
+    ensures { given_start function part < 2 ^ 32 → result ≡ given_start function part }
 {
     match name_end(function, part) {
-        Some(equals) => match equals.checked_add(1) {
-            Some(at) => Ok(at),
-            None => Err(NoMemory),
-        },
-        None => Ok(part.at.start),
+        Some(equals) => equals.saturating_add(1),
+        None => part.at.start,
     }
 }

@@ -91,7 +91,7 @@ fn entered<'a>(
         → IsRead r.mode t text.entry → Holds r t run (stack run.levels) (undone spent (text_given r t))) }
 {
     names.push(full_name(alloc, title)?)?;
-    TextRun::of_text(alloc, text, Mode::Template)
+    Ok(TextRun::of_text(alloc, text, Mode::Template))
 }
 
 /// An expansion: the pages that were fetched, what was spent, and the pages that are being expanded.
@@ -216,9 +216,7 @@ impl<'a> Expansion<'a> {
             PageLookup::Message(pieces) => Ok(pieces),
             PageLookup::Link(pieces) => Ok(pieces),
             PageLookup::Page(read) => {
-                let Some(less) = left.checked_sub(1) else {
-                    return Err(ExpandRefusal::NoMemory);
-                };
+                let less = left - 1;
                 let run = entered(self.alloc, &mut self.names, &pending.title, read)?;
                 let given = self.finish(folder, run, &pending.handed.values, less)?;
                 self.names.pop();
@@ -281,7 +279,7 @@ impl<'a> Expansion<'a> {
         ensures count { IsCounted (F.fault_count folder.old) (F.fault_count folder.new) result }
         ensures names { OnOk result (self.new.names ≡ self.old.names) }
     {
-        let run = TextRun::of_text(self.alloc, text, mode)?;
+        let run = TextRun::of_text(self.alloc, text, mode);
         self.finish(folder, run, values, left)
     }
 

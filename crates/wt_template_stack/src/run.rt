@@ -19,7 +19,7 @@ ghost use Rattle.wt_template_stack.specs.declared.level.Task.TheVariants as task
 
 use crate::choosing::{Choosing, given_start, is_whole, part_at, told_end};
 use crate::level::{Level, Levels, PendingCall, Task};
-use crate::reader::{MOST_BYTES, Reader};
+use crate::reader::Reader;
 use std::alloc::Global;
 use wt_braces::PartAt;
 use wt_functions::{Ask, function_named};
@@ -47,16 +47,6 @@ pub struct TextRun<'a> {
     reader: Reader<'a>,
     mode: Mode,
     levels: Levels<'a>,
-}
-
-/// The first part of a call, which is its target or the name of an argument.
-fn first_part(call: Braces<'_>) -> Result<PartAt, NoMemory>
-    ensures { IfOk result (λ p. slice_get call.entry.parts.now 0 ≡ Some p) }
-{
-    match call.parts.get(0) {
-        Some(part) => Ok(*part),
-        None => Err(NoMemory),
-    }
 }
 
 /// One more value, with its name or the next number.
@@ -112,15 +102,12 @@ impl<'a> TextRun<'a> {
     }
 
     /// A text of which nothing is read.
-    pub fn of_text(alloc: Global, text: ReadText<'a>, mode: Mode) -> Result<TextRun<'a>, NoMemory>
-        ensures { IfOk result (λ run. (r : Reading) (t : List ℕ) (spent : ℕ) → mode ≡ r.mode → IsRead r.mode t text.entry
-            → Holds r t run (stack run.levels) (undone spent (text_given r t))) }
+    pub fn of_text(alloc: Global, text: ReadText<'a>, mode: Mode) -> TextRun<'a>
+        ensures { (r : Reading) (t : List ℕ) (spent : ℕ) → mode ≡ r.mode → IsRead r.mode t text.entry
+            → Holds r t result (stack result.levels) (undone spent (text_given r t)) }
     {
-        if text.text.len() > MOST_BYTES {
-            return Err(NoMemory);
-        }
         let end = text.text.len() as u32;
-        Ok(TextRun::new(alloc, Reader::start(text), end, mode))
+        TextRun::new(alloc, Reader::start(text), end, mode)
     }
 
     /// One step. It goes on reading, or ends a level.
@@ -225,7 +212,7 @@ impl<'a> TextRun<'a> {
         };
         charge(spent, 1)?;
         let choosing = Choosing::start(self.alloc, call, function, self.reader, *spent)?;
-        let target = first_part(call)?;
+        let target = call.first_part();
         self.begin_within(target, Task::First { choosing, part_0 })?;
         Ok(())
     }
@@ -251,7 +238,7 @@ impl<'a> TextRun<'a> {
         ensures gets_on { OnOk result (steps_left self.new < steps_left self.old) }
     {
         charge(spent, 1)?;
-        let name = first_part(call)?;
+        let name = call.first_part();
         self.begin_within(name, Task::Argument { call })?;
         Ok(())
     }
@@ -264,7 +251,7 @@ impl<'a> TextRun<'a> {
         ensures gets_on { OnOk result (steps_left self.new < steps_left self.old) }
     {
         let at_start = self.reader.cursor.at_start;
-        let target = first_part(call)?;
+        let target = call.first_part();
         self.begin_within(target, Task::Target { call, at_start })?;
         Ok(())
     }
@@ -444,7 +431,7 @@ impl<'a> TextRun<'a> {
                 if number == told && is_whole(function, part) {
                     return self.give_again(call, at_start, out, before, spent);
                 }
-                let start = given_start(function, part)?;
+                let start = given_start(function, part);
                 self.reader = begun;
                 self.begin_level(start, part.at.end, Task::Given { call, at_start })?;
                 Ok(())
@@ -520,7 +507,7 @@ impl<'a> TextRun<'a> {
             → title_of_target (items out.entry) ≡ None → Holds r t self.new (stack self.new.levels) total) }
         ensures gets_on { OnOk result (steps_left self.new ≡ 1 + steps_left self.old) }
     {
-        let target = first_part(call)?;
+        let target = call.first_part();
         let front = self.reader.slice(call.at.start, target.at.start)?;
         let braces = target.at.start.saturating_sub(call.at.start);
         let mut all = List::new(self.alloc);
@@ -592,9 +579,7 @@ impl<'a> TextRun<'a> {
         ensures gets_on { OnOk result (steps_left self.new < 1 + steps_left self.old) }
     {
         let name = Some(name_text(self.alloc, out.as_slice())?);
-        let Some(at) = self.reader.cursor.at.checked_add(1) else {
-            return Err(NoMemory);
-        };
+        let at = self.reader.cursor.at.saturating_add(1);
         self.begin_level(at, end, Task::Value { pending, name })?;
         Ok(())
     }

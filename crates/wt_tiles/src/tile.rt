@@ -109,6 +109,18 @@ impl<'p, 'a> Rest<'p, 'a> {
         let (piece, pieces) = self.pieces.split_first()?;
         Some((*piece, pieces))
     }
+
+    /// All pieces that are left.
+    pub fn all(self, alloc: Global) -> Result<List<Piece<'a>>, NoMemory>
+        ensures { IfOk result (λ ps. ps ≡ rest_pieces self.entry) }
+    {
+        let mut all = List::new(alloc);
+        if let Some(piece) = self.first {
+            all.push(piece)?;
+        }
+        all.extend_from_slice(self.pieces)?;
+        Ok(all)
+    }
 }
 
 /// A piece of characters whose first n bytes end here, as two.

@@ -4,6 +4,7 @@ pub mod ChunkLaws
 pub mod Chunks
 pub mod Counts
 pub mod CursorLaws
+pub mod FirstParts
 pub mod Firsts
 pub mod Full
 pub mod GrowthLaws

@@ -15,3 +15,4 @@ pub mod Stores
 pub mod Stretch
 pub mod Takings
 pub mod Target
+pub mod Targets

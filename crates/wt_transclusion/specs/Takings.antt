@@ -19,6 +19,12 @@ taking_refusal zero open_already o = None
 taking_refusal (suc left) true o = None
 taking_refusal (suc left) false o = o
 
+-- it is the text of a page
+abbrev pub IsPage : PageLookup → Type 0
+IsPage (taken.Message ps) = ⊥
+IsPage (taken.Link ps) = ⊥
+IsPage (taken.Page read) = Unit {0}
+
 -- With these names of pages that are being expanded and so many more allowed: a message gives what the title gives, under any
 -- values, with no work; a link gives it with one fetch; and a page is the one that the title is expanded from.
 abbrev pub AnswersTaking : Pages → List (List ℕ) → List (List ℕ) → ℕ → Title → Store → Result PageLookup ExpandRefusal → Type 0

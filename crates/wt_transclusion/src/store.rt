@@ -7,7 +7,8 @@ ghost use Rattle.wt_transclusion.specs.Asked.{Asks};
 ghost use Rattle.wt_transclusion.specs.Stores.{IsStore, AnswersTitle, Concerns, Grows, Keeps, Tells, named_with};
 
 use crate::only::template_text;
-use crate::read::{ReadText, read_in};
+use crate::read::ReadText;
+use crate::reading::read_in;
 use crate::refusal::ExpandRefusal;
 use bumpalo::Bump;
 use std::alloc::Global;

@@ -1,5 +1,5 @@
 //! What is taken for a title: a message, or the text of its page.
-ghost use Rattle.std.specs.Prelude.{◌≡◌, List, ℕ, Some, IfOk, OnOk, reverse};
+ghost use Rattle.std.specs.Prelude.{◌≡◌, ◌<◌, List, ℕ, Some, IfOk, OnOk, reverse};
 ghost use Rattle.wt_names.specs.Namespace.{full_name_of};
 ghost use Rattle.wt_span.specs.Items.{items};
 ghost use Rattle.wt_expand.specs.Work.{Pages, is_among};
@@ -7,7 +7,7 @@ ghost use Rattle.wt_expand.specs.Expansion.{absent_text, chars, depth_text, loop
 ghost use Rattle.wt_transclusion.specs.Answers.{IsCounted};
 ghost use Rattle.wt_transclusion.specs.Asked.{Asks};
 ghost use Rattle.wt_transclusion.specs.Stores.{IsStore, Concerns, Grows};
-ghost use Rattle.wt_transclusion.specs.Takings.{AnswersTaking, IsNamed};
+ghost use Rattle.wt_transclusion.specs.Takings.{AnswersTaking, IsNamed, IsPage};
 
 use crate::item::piece_of;
 use crate::messages::{absent_text, depth_text, loop_text};
@@ -116,6 +116,7 @@ pub fn take<'a, F: Folder>(
         → IsNamed left (reverse names.now) (full_name_of title.now) met (F.answered folder.old)
         (F.answered folder.new) result }
     ensures count { IsCounted (F.fault_count folder.old) (F.fault_count folder.new) result }
+    ensures some_left { IfOk result (λ k. IsPage k → 0 < left) }
 {
     let full = full_name(alloc, title)?;
     if is_open(names, full.as_str()) {

@@ -10,3 +10,4 @@ pub mod Decided
 mod KeptMarksCases
 pub mod MarksAlone
 pub mod AlikeSources
+pub mod Sizes

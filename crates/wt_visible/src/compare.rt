@@ -20,42 +20,33 @@ fn same_text(a: &[u8], b: &[u8]) -> bool
     a == b
 }
 
-/// Whether two elements show the same, where so many more may be one inside the other.
+/// Whether two elements show the same.
 #[cycle(same)]
 fn same_nodes(
     alloc: Global,
-    levels: u32,
     a: ShownNode<'_, '_, '_>,
     b: ShownNode<'_, '_, '_>,
 ) -> Result<bool, NoMemory>
     ensures { IfOk result (λ same. Decides same (node_view a.entry ≡ node_view b.entry)) }
 {
-    if levels == 0 {
-        return Err(NoMemory);
-    }
     let alike = same_face(a.node, b.node);
     if !alike {
         return Ok(false);
     }
     let left = held_by(alloc, a)?;
     let right = held_by(alloc, b)?;
-    let inside = same_children(alloc, levels - 1, left.as_slice(), right.as_slice())?;
+    let inside = same_children(alloc, left.as_slice(), right.as_slice())?;
     Ok(inside)
 }
 
 #[cycle(same)]
-fn is_same(
-    alloc: Global,
-    levels: u32,
-    a: &Child<'_, '_, '_>,
-    b: &Child<'_, '_, '_>,
-) -> Result<bool, NoMemory>
+fn is_same(alloc: Global, a: &Child<'_, '_, '_>, b: &Child<'_, '_, '_>) -> Result<bool, NoMemory>
     ensures { IfOk result (λ same. Decides same (child_view a.now ≡ child_view b.now)) }
 {
     match a {
         Child::Element(left) => match b {
             Child::Element(right) => {
-                let same = same_nodes(alloc, levels, *left, *right)?;
+                let same = same_nodes(alloc, *left, *right)?;
                 Ok(same)
             }
             Child::Text(_) => Ok(false),
@@ -71,7 +62,6 @@ fn is_same(
 #[cycle(same)]
 fn common_len(
     alloc: Global,
-    levels: u32,
     left: &[Child<'_, '_, '_>],
     right: &[Child<'_, '_, '_>],
 ) -> Result<usize, NoMemory>
@@ -81,7 +71,7 @@ fn common_len(
         if at >= right.len() {
             return Ok(at);
         }
-        let same = is_same(alloc, levels, &left[at], &right[at])?;
+        let same = is_same(alloc, &left[at], &right[at])?;
         if !same {
             return Ok(at);
         }
@@ -93,13 +83,12 @@ fn common_len(
 #[cycle(same)]
 fn same_children(
     alloc: Global,
-    levels: u32,
     left: &[Child<'_, '_, '_>],
     right: &[Child<'_, '_, '_>],
 ) -> Result<bool, NoMemory>
     ensures { IfOk result (λ same. Decides same (children_view left.now ≡ children_view right.now)) }
 {
-    let common = common_len(alloc, levels, left, right)?;
+    let common = common_len(alloc, left, right)?;
     Ok(common == left.len() && common == right.len())
 }
 
@@ -127,7 +116,7 @@ pub fn first_of_children(
 ) -> Result<Option<u32>, NoMemory>
     ensures { IfOk result (IsFirstDiffering (children_view left.now) (children_view right.now)) }
 {
-    let common = common_len(alloc, u32::MAX, left, right)?;
+    let common = common_len(alloc, left, right)?;
     let number = number_at(common)?;
     if common < left.len() {
         return Ok(Some(number));
@@ -148,6 +137,6 @@ pub fn shows_same(
 {
     let left = held_by(alloc, element)?;
     let right = shown_nodes(alloc, &[], node.children.as_slice())?;
-    let same = same_children(alloc, u32::MAX, left.as_slice(), right.as_slice())?;
+    let same = same_children(alloc, left.as_slice(), right.as_slice())?;
     Ok(same)
 }

@@ -6,14 +6,6 @@ use Rattle.wt_blocks.specs.View.{list_tree, list_trees}
 use Rattle.wt_blocks.proofs.Nests.{within_by, taken, pushed, list_done, item_done, lists_end}
 use Rattle.wt_blocks.proofs.nest.+nesting.Goals as goal
 
-pub items_at-overflow_cast-inside_line : goal.items_at-overflow_cast-inside_line
-items_at-overflow_cast-inside_line t c =
-    let w = within_by c.args.prefixes.now c.rest_of-rest.result.now c.loop-at.at c.item_len.result c.loop-at.invariant.within
-    c.rest_of-rest.ensures c.item_len.ensures.within in
-    let l = taken c.rest_of-rest.result.now c.front_of-item.result.now c.item_len.result c.front_of-item.ensures c.item_len.ensures.within in
-    let n = c.requires.numbers in
-    omega (arith, w, l, n)
-
 pub items_at-overflow_add-inside_line : goal.items_at-overflow_add-inside_line
 items_at-overflow_add-inside_line t c =
     let w = within_by c.args.prefixes.now c.rest_of-rest.result.now c.loop-at.at c.item_len.result c.loop-at.invariant.within

@@ -1,4 +1,4 @@
-use Rattle.std.proofs.Common.{◌≡◌, arith, Err, List, None, Ok, Option, Some, refl, rules, subst, sym, ◌∙◌, ℕ}
+use Rattle.std.proofs.Common.{◌≡◌, ◌-◌, arith, Err, List, None, Ok, Option, Some, refl, rules, subst, sym, ◌∙◌, ℕ}
 use Rattle.std.specs.Prelude.{Result, reverse}
 use Rattle.wt_span.specs.declared.list.List.{List as Listed}
 use Rattle.wt_span.specs.declared.form.Piece.{Piece}
@@ -6,6 +6,7 @@ use Rattle.wt_expand.specs.Expansion.{template_output}
 use Rattle.wt_transclusion.specs.declared.refusal.ExpandRefusal.TheVariants as answer
 use Rattle.wt_transclusion.specs.Answers.{IsCounted}
 use Rattle.wt_transclusion.specs.Stores.{Concerns, Grows}
+use Rattle.wt_transclusion.specs.Takings.{IsPage}
 use Rattle.wt_transclusion.proofs.AskedLaws.{asks_none, asks_then}
 use Rattle.wt_transclusion.proofs.GrowthLaws.{agrees_before, agrees_known, grows_none, grows_then}
 use Rattle.wt_template_stack.specs.Ledgers.{AnswersAdvance, AnswersOutput, Progress, TakesStep, ledger, reading_of}
@@ -181,11 +182,11 @@ page-returns-in_err-given-in-Page-clause-given g t c = λ pages page frame met t
     let named_pages = subst (λ y. Concerns (g.F.Folder.pages c.args.folder.now) pages c.finish.new.self.store y) e told in
     let agrees = c.in_ok-pieces.ensures.grown.agrees pages named_pages (agrees_known pages met self.store s) in
     let x : Result (Listed Piece) _ = Err c.in_err-given-in-Page.field-0.0 in
-    let some = one_less c.args.left c.in-Some.less c.in-Some.ensures.0 c.in-Some.ensures.1 in
+    let some = one_less c.args.left (c.args.left - 1) (c.in_ok-pieces.ensures.some_left (subst IsPage (sym c.in-Page.is) tt)) refl in
     let before = ledger self.spent met answered in
     let o = template_output pages c.args.left self.names c.args.pending.now.title frame in
     subst (λ y. AnswersOutput pages page before o c.finish.new.self.store c.finish.new.self.spent (g.F.Folder.answered c.finish.new.folder) y) (sym e)
-    (page_done pages page self.spent c.finish.new.self.spent met answered named (g.F.Folder.answered c.finish.new.folder) c.args.left c.in-Some.less
+    (page_done pages page self.spent c.finish.new.self.spent met answered named (g.F.Folder.answered c.finish.new.folder) c.args.left (c.args.left - 1)
     (reverse c.as_slice-names.result.now) self.names c.entered.new.names c.args.pending.now.title frame
     c.in_ok-pieces.field-0 c.in-Page.read
     c.in_ok-run-in-Page.run'
@@ -202,8 +203,8 @@ page-returns-in_ok-given-in-Page-clause-given g t c = λ pages page frame met to
     let named = g.F.Folder.answered c.take.new.folder in
     let agrees = agrees_before pages c.take.new.store c.finish.new.self.store c.in_ok-given-in-Page.ensures.grown.kept told in
     let x : Result (Listed Piece) _ = Ok c.in_ok-given-in-Page.given in
-    let some = one_less c.args.left c.in-Some.less c.in-Some.ensures.0 c.in-Some.ensures.1 in
-    page_done pages page self.spent c.finish.new.self.spent met answered named (g.F.Folder.answered c.finish.new.folder) c.args.left c.in-Some.less
+    let some = one_less c.args.left (c.args.left - 1) (c.in_ok-pieces.ensures.some_left (subst IsPage (sym c.in-Page.is) tt)) refl in
+    page_done pages page self.spent c.finish.new.self.spent met answered named (g.F.Folder.answered c.finish.new.folder) c.args.left (c.args.left - 1)
     (reverse c.as_slice-names.result.now) self.names c.entered.new.names c.args.pending.now.title frame
     c.in_ok-pieces.field-0 c.in-Page.read
     c.in_ok-run-in-Page.run'

@@ -13,17 +13,4 @@ returns-clause-given g c = λ pages page t frame met told st v read.
     let self = c.args.self.now in
     let before = ledger self.spent met (g.F.Folder.answered c.args.folder.now) in
     c.finish.ensures.given pages page t c.args.mode frame before (text_given r t) told v
-    (begins pages page t r before (text_given r t) c.in_ok-run.run' self.store st (c.in_ok-run.ensures r t self.spent refl read))
-
-pub returns-in_err-run-clause-given : goal.returns-in_err-run-clause-given
-returns-in_err-run-clause-given g c = λ pages page t frame met told st v read.
-    let self = c.args.self.now in
-    let before = ledger self.spent met (g.F.Folder.answered c.args.folder.now) in
-    let e : c.from_residual.result ≡ Err answer.NoMemory = search rules in
-    memory_answered pages page before
-    (text_given (reading_of pages c.args.mode frame c.args.left self.names) t) self.store self.spent
-    c.from_residual.result e
-
-pub returns-in_err-run-clause-asks : goal.returns-in_err-run-clause-asks
-returns-in_err-run-clause-asks g c =
-    asks_none (g.F.Folder.answered c.args.folder.now) (g.F.Folder.most_asked c.args.folder.now)
+    (begins pages page t r before (text_given r t) c.of_text-run.result self.store st (c.of_text-run.ensures r t self.spent refl read))

@@ -8,7 +8,7 @@ use Rattle.wt_template_stack.proofs.run.TextRun.begin_argument.Goals as goal
 
 pub returns-clause-answer : goal.returns-clause-answer
 returns-clause-answer c = λ r t total h k.
-    let z = argument_begins r t c.args.self.now (stack c.args.self.now.levels) c.args.call total c.in_ok-name.name h k c.in_ok-name.ensures in (
+    let z = argument_begins r t c.args.self.now (stack c.args.self.now.levels) c.args.call total c.first_part-name.result h k c.first_part-name.ensures in (
       z.0,
       begun_spent c.args.spent.now c.charge.new.spent total z.0 z.1 c.in_ok-charge.ensures.large c.in_ok-charge.ensures.spent,
       c.in_ok-begin_within.ensures.answer r t z.0 (z.2 c.args.self.now refl refl refl),

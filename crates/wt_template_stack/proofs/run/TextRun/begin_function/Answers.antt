@@ -31,7 +31,7 @@ returns-clause-answer c = λ r t total h k e f.
     let named : c.function_named.result ≡ Some (c.in-Some.function, c.in-Some.part_0) = cc in
     let w = ap (λ bs. function_of (drop 2 bs)) (sym (c.as_bytes.ensures.value ∙ c.as_str.ensures)) ∙ sym c.function_named.ensures ∙ named in
     let z = choice_begins r t c.args.self.now (stack c.args.self.now.levels) c.args.call total (bytes_of c.args.source)
-    c.in-Some.function c.in-Some.part_0 c.in_ok-target.target h k e f w c.in_ok-target.ensures in (
+    c.in-Some.function c.in-Some.part_0 c.first_part-target.result h k e f w c.first_part-target.ensures in (
       z.0,
       begun_spent c.args.spent.now c.charge.new.spent total z.0 z.1 c.in_ok-charge.ensures.large c.in_ok-charge.ensures.spent,
       c.in_ok-begin_within.ensures.answer r t z.0 (z.2 _ c.in_ok-choosing.choosing c.in_ok-choosing.ensures refl refl refl),

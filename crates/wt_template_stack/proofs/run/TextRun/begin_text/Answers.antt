@@ -13,7 +13,7 @@ use Rattle.wt_template_stack.proofs.run.TextRun.begin_text.Goals as goal
 
 pub returns-clause-answer : goal.returns-clause-answer
 returns-clause-answer c = λ r t total s h none.
-    let part = c.in_ok-target.target in
+    let part = c.first_part-target.result in
     let front = bytes_of c.in_ok-front.front in
     let end = c.saturating_sub-end.result in
     let level : Level = record { end = end; out = c.push_all.new.out; task = task.Text c.args.call } in
@@ -22,7 +22,7 @@ returns-clause-answer c = λ r t total s h none.
     (c.in_ok-push_piece.ensures ∙ ap (λ o. items o ++ items_of c.piece_of.result) c.new-all.ensures ∙ c.piece_of.ensures.items)
     ∙ ap (λ o. chars front ++ items o) c.as_slice.ensures in
     holds r t _ h.place h.at_start (level ∷ stack c.args.self.now.levels) total h.running.reading h.running.mode_is c.in_ok-push.ensures
-    (text_begins r t c.args.self.now c.args.call s c.args.out c.push_all.new.out part front end total h none c.in_ok-target.ensures
+    (text_begins r t c.args.self.now c.args.call s c.args.out c.push_all.new.out part front end total h none c.first_part-target.ensures
     (c.in_ok-front.ensures.bytes ∙ ap (λ xs. slice_range xs c.args.call.at.start part.at.start) h.running.reading.read.text_is) pieces
     (c.saturating_sub-end.ensures ∙ ap (λ k. c.args.call.at.end - k) c.saturating_sub-braces.ensures))
 

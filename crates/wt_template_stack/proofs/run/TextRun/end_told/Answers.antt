@@ -28,8 +28,8 @@ returns-in-Give-clause-answer c = λ r t total h s.
       spends_none c.args.spent.now total,
       c.in_ok-begin_level-in-Give.ensures.answer r t total
           (given_begins r t c.args.self.now _ c.args.choosing c.args.out c.as_str.result.now c.in-Give.number c.in_ok-part-in-Give.part
-          c.in_ok-start-in-Give.start total h text (ap asked (sym c.in_ok-told.ensures.ok) ∙ sym c.ask.ensures ∙ c.in-Give.is)
-          c.in_ok-part-in-Give.ensures c.in_ok-start-in-Give.ensures refl refl refl),
+          c.given_start-start.result total h text (ap asked (sym c.in_ok-told.ensures.ok) ∙ sym c.ask.ensures ∙ c.in-Give.is)
+          c.in_ok-part-in-Give.ensures (omega arith) c.given_start-start.ensures refl refl refl),
     )
 
 pub returns-clause-answer : goal.returns-clause-answer
