@@ -114,7 +114,7 @@ form_from a b bs kind j f =
 words_by : (a : Bool) (b : ℕ) (bs : List ℕ) → form_at Page a (b ∷ bs) ≡ None → (cuts Page a 0 (b ∷ bs)).1 ≡ (cuts Page (is_break b) 0 bs).1
 words_by a b bs f = ap (λ (c : Cut). c.1) (cuts_cons Page a b bs None f)
 
-words_from : (a : Bool) (b : ℕ) (bs : List ℕ) (kind : LexKind) (j : ℕ) → form_at Page a (b ∷ bs) ≡ Some (kind, suc j)
+pub words_from : (a : Bool) (b : ℕ) (bs : List ℕ) (kind : LexKind) (j : ℕ) → form_at Page a (b ∷ bs) ≡ Some (kind, suc j)
     → (cuts Page a 0 (b ∷ bs)).1 ≡ (kind, suc j) ∷ closed (cuts Page (is_break b) j bs).0 (cuts Page (is_break b) j bs).1
 words_from a b bs kind j f =
     let z : suc j - 1 ≡ j = omega arith in
@@ -178,9 +178,12 @@ before_reads bs rest xs h r =
       shown = j.shown (words_shown bs h.uncalled);
     }
 
+-- by itself
+pub alone_reads : (bs : List ℕ) → is_spec.HaveNoBraces (words Page bs) → ReadsAfter false bs (page_items bs)
+alone_reads bs h = record { items = sym (first_items bs); shown = words_shown bs h }
+
 pub behind_reads : (bs : List ℕ) → StandsBehind bs → Reads bs (page_items bs)
-behind_reads bs h =
-    reads_either bs (page_items bs) (record { is = h.uncommented }) (record { items = sym (first_items bs); shown = words_shown bs h.uncalled })
+behind_reads bs h = reads_either bs (page_items bs) (record { is = h.uncommented }) (alone_reads bs h.uncalled)
 
 -- ---- a text between them
 
