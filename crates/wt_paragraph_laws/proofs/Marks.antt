@@ -1,5 +1,5 @@
 -- Marks directly above a block, such as lines of comments: they stand outside it, as they do by themselves.
-use Rattle.std.proofs.Common.{◌≡◌, ℕ, zero, suc, ◌+◌, Bool, true, false, List, [], ◌∷◌, ◌++◌, length, map, refl, sym, ap, ◌∙◌, subst, append-nil, append_assoc}
+use Rattle.std.proofs.Common.{arith, drop, ◌≡◌, ℕ, zero, suc, ◌+◌, Bool, true, false, List, [], ◌∷◌, ◌++◌, length, map, refl, sym, ap, ◌∙◌, subst, append-nil, append_assoc}
 use Rattle.std.specs.Prelude.{◌==◌, ◌&&◌, ◌||◌, not, reverse, codes, if◌then◌else◌}
 use Rattle.std.specs.List.{flat_map, list_all}
 use Rattle.std.specs.Option.{unwrap_or}
@@ -18,7 +18,7 @@ use Rattle.wt_tables.specs.Parts.{joined, units}
 use Rattle.wt_inline.specs.declared.loose.Loose.TheVariants.{Sep}
 use Rattle.wt_inline.specs.Parts.{Part, part, parts}
 use Rattle.wt_headings.specs.Lines.{kind_at}
-use Rattle.wt_page.specs.Rows.{Row, kind_of, marks_len, is_unseen, behind_sign, whole_row, sign_rows, line_rows, rows, rows_from}
+use Rattle.wt_page.specs.Rows.{Row, kind_of, marks_len, idle_len, dashes, is_unseen, behind_sign, whole_row, sign_rows, line_rows, rows, rows_from}
 use Rattle.wt_page.specs.Stretches.{Stretch, stretch_parts, stretches_parts}
 use Rattle.wt_page.specs.Texts.{para}
 use Rattle.wt_page.specs.Body.{same_block, block_stretches, run_stretches, within, blocks, body_parts}
@@ -170,7 +170,7 @@ abbrev pub with_lead : List Item → Row → Row
 with_lead ms r = record { kind = r.kind; lead = ms ++ r.lead; items = r.items; ending = r.ending }
 
 one_more : (m : Item) (zs : List Item) → is_mark m ≡ true → marks_len (m ∷ zs) ≡ suc (marks_len zs)
-one_more m zs e = rw e refl
+one_more m zs e = rw e (omega arith)
 
 row_marks : (k : LineKind) (ms l : List Item) → AreMarks ms → whole_row k (marks_len (ms ++ l)) (ms ++ l) ≡ with_lead ms (whole_row k (marks_len l) l)
 row_marks k [] l h = refl
@@ -222,13 +222,16 @@ sign_kind k n len l rs false e = rw e refl
 row_kind : (k : LineKind) (l : List Item) (rs : List Row) → first_kind (line_rows k l ++ rs) ≡ k
 row_kind line.Blank l rs = refl
 row_kind line.TableOpen l rs = refl
-row_kind line.TableEnd l rs = sign_kind line.TableEnd _ _ l rs _ refl
+row_kind line.TableEnd l rs = sign_kind line.TableEnd (idle_len l) 2 l rs (is_unseen (behind_sign (idle_len l) 2 l)) refl
 row_kind line.Caption l rs = refl
 row_kind line.Row l rs = refl
 row_kind line.Cell l rs = refl
 row_kind line.Header l rs = refl
 row_kind line.Heading l rs = refl
-row_kind line.Rule l rs = sign_kind line.Rule _ _ l rs _ refl
+row_kind line.Rule l rs =
+    let n : ℕ = marks_len l in
+    let len : ℕ = dashes (drop n l) in
+    sign_kind line.Rule n len l rs (is_unseen (behind_sign n len l)) refl
 row_kind line.List l rs = refl
 row_kind line.Pre l rs = refl
 row_kind line.Text l rs = refl
