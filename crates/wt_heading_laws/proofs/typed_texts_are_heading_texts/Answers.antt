@@ -1,8 +1,0 @@
-use Rattle.wt_heading_laws.proofs.TypedTexts.{typed_heading_text, typed_apart}
-use Rattle.wt_heading_laws.proofs.typed_texts_are_heading_texts.Goals as goal
-
-pub returns-clause-text : goal.returns-clause-text
-returns-clause-text c = typed_heading_text
-
-pub returns-clause-apart : goal.returns-clause-apart
-returns-clause-apart c = typed_apart
