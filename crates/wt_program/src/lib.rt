@@ -28,7 +28,7 @@ pub fn run<S: Source, F: Folder, W: Sink, E: Sink>(
     err: &mut E,
 ) -> u8
     // Texts typed in paragraphs and headings of a page are taken, whatever they are: where a call sends such an
-    // edit of a page of the class of `wt_block_edits`, it is done, and with `edit` the page with these texts was
+    // edit of a page of the class of `wt_text_edit_laws`, it is done, and with `edit` the page with these texts was
     // written, and no line; or a device failed, or memory ran out.
     ensures takes_texts { TakesTexts (call words.now (read_from S.Source input.old input.new)
         (fetched_from F.Folder folder.old folder.new) (written_to W.Sink out.old out.new)
