@@ -15,7 +15,7 @@ use Rattle.wt_page.specs.Rows.{Row}
 use Rattle.wt_expand.specs.PageItems.{page_items}
 use Rattle.wt_text_edit_laws.specs.LonePages.{para_of}
 use Rattle.wt_typed_blocks.specs.Sent.{Block, paragraph, heading}
-use Rattle.wt_text_edit_laws.specs.TextBetween.{HaveNoBraces, StandsBefore}
+use Rattle.wt_text_edit_laws.specs.TextBetween.{HaveNoClosers, StandsBefore}
 use Rattle.wt_text_edit_laws.specs.Paragraphs.{AreLetters, IsParagraph}
 use Rattle.wt_text_edit_laws.specs.ParagraphBetween.{rows_of_lines, AreClosed, before_marks, EndsApart, EndsParagraph}
 use Rattle.wt_text_edit_laws.specs.TypedHeadings.{Sides, AreSides, opening, closing, heading_line, heading_with, IsHeadingText, StandsApart, EndsLine}
@@ -54,7 +54,7 @@ pub record IsFrame (s : Sides) : Type 0 where
   pub sides : AreSides s
   pub utf8 : IsUtf8 s.rest
   pub stands : StandsBefore (s.rest ++ byte.line_break ∷ [])
-  pub uncalled : HaveNoBraces (words Page s.rest)
+  pub uncalled : HaveNoClosers (words Page s.rest)
   pub ended : page_items (s.rest ++ byte.line_break ∷ []) ≡ page_items s.rest ++ char None byte.line_break ∷ []
 
 -- any text on one line, as a heading spells it
@@ -68,14 +68,14 @@ pub record IsTypedHeading (s : Sides) (q : List ℕ) : Type 0 where
   pub of_heading : setting.place ≡ place.Heading
   pub is : q ≡ spelled setting (letters text)
 
--- A heading that somebody wrote by hand, without two braces side by side, whether a line break is after it or the page ends
+-- A heading that somebody wrote by hand, without two closing braces side by side, whether a line break is after it or the page ends
 -- there: its text is characters and references, is read in its line as it is by itself, neither begins nor ends with a blank, and is not
 -- next to a `=` that is one more than its level says.
 pub record IsWrittenHeading (s : Sides) (q : List ℕ) : Type 0 where
   pub frame : IsFrame s
   pub utf8 : IsUtf8 q
   pub stands : StandsBefore (source_of (a_heading s) q ++ byte.line_break ∷ [])
-  pub uncalled : HaveNoBraces (words Page (source_of (a_heading s) q))
+  pub uncalled : HaveNoClosers (words Page (source_of (a_heading s) q))
   pub ended : page_items (source_of (a_heading s) q ++ byte.line_break ∷ []) ≡ heading_line s (page_items q) ++ char None byte.line_break ∷ []
   pub unended : page_items (source_of (a_heading s) q) ≡ heading_line s (page_items q)
   pub are_letters : AreLetters (page_items q)

@@ -16,7 +16,7 @@ use Rattle.wt_expand.specs.Expansion.{page_work}
 use Rattle.wt_expand.proofs.PageLaws.{page_sources}
 use Rattle.wt_text_edit_laws.specs.LonePages.{page_chars, of_items}
 use Rattle.wt_text_edit_laws.specs.TypedPages.{IsTypedPage}
-use Rattle.wt_text_edit_laws.proofs.Texts.TypedText.{HaveNoBraces, shown_expanded, shown_unrefused}
+use Rattle.wt_text_edit_laws.proofs.Texts.TypedText.{HaveNoClosers, shown_expanded, shown_unrefused}
 use Rattle.wt_scans.specs.Lexer.{lexer}
 use Rattle.wt_scans.specs.Scans.{after_all}
 use Rattle.wt_text_edit_laws.proofs.Prose.Uncommented.{BeginsUncommented, uncommented_other}
@@ -94,7 +94,7 @@ equals_reads bs xs r =
     reads_either (61 ∷ bs) (char None 61 ∷ xs) (uncommented_other 61 bs refl (comment_other 61 bs (omega arith))) (record {
       items = sym (first_from false (61 ∷ bs)) ∙ form_from false 61 bs Equals 0 (equals_byte Page bs)
           ∙ ap (λ (ys : List Item). char None 61 ∷ ys) (first_from false bs ∙ r.items);
-      shown = subst HaveNoBraces (sym (words_from false 61 bs Equals 0 (equals_byte Page bs))) (tt, shown_closed (cuts Page false 0 bs) r.shown);
+      shown = subst HaveNoClosers (sym (words_from false 61 bs Equals 0 (equals_byte Page bs))) (tt, shown_closed (cuts Page false 0 bs) r.shown);
     })
 
 run_reads : (n : ℕ) (bs : List ℕ) (xs : List Item) → ReadsAfter false bs xs → Reads (equals (suc n) ++ bs) (page_chars (equals (suc n)) ++ xs)

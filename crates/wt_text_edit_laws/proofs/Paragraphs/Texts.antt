@@ -19,7 +19,7 @@ use Rattle.wt_text_edit_laws.specs.TypedPages.{IsTypedPage}
 use Rattle.wt_text_edit_laws.proofs.Texts.SpelledUtf8.{spelled_utf8}
 use Rattle.wt_text_edit_laws.proofs.Texts.TypedLeaves.{IsOwnForm, AreOwn}
 use Rattle.wt_text_edit_laws.proofs.Texts.TypedItems.{items_cut}
-use Rattle.wt_text_edit_laws.proofs.Texts.TypedText.{HaveNoBraces}
+use Rattle.wt_text_edit_laws.proofs.Texts.TypedText.{HaveNoClosers}
 use Rattle.wt_text_edit_laws.proofs.Prose.Uncommented.{BeginsUncommented, uncommented_byte, uncommented_other}
 use Rattle.wt_text_edit_laws.proofs.Prose.InFront.{Reads, reads_nothing, read_items}
 use Rattle.wt_text_edit_laws.proofs.Prose.ProseLines.{lines_block}
@@ -190,7 +190,7 @@ rest_items r = items_cut r (cuts Page true 0 r)
 read_rest : (r : List ℕ) (xs : List Item) → Reads (10 ∷ r) xs → ReadsAfter true r (rest_items r)
 read_rest r xs h = record {
   items = refl;
-  shown = subst (λ (c : Cut). HaveNoBraces c.1) (cuts_cons Page false 10 r None (other_byte Page 10 r refl)) (h.shown false);
+  shown = subst (λ (c : Cut). HaveNoClosers c.1) (cuts_cons Page false 10 r None (other_byte Page 10 r refl)) (h.shown false);
 }
 
 rest_is : (r : List ℕ) (xs : List Item) → Reads (10 ∷ r) xs → xs ≡ char None 10 ∷ rest_items r
