@@ -16,7 +16,7 @@ use Rattle.wt_context.specs.Line.{line_parts}
 use Rattle.wt_page.specs.Rows.{marks_len}
 use Rattle.wt_expand.specs.PageItems.{page_items}
 use Rattle.wt_text_edit_laws.specs.TypedPages.{IsTypedPage}
-use Rattle.wt_text_edit_laws.specs.TextBetween.{HasNoTag, HaveNoBraces, StandsBefore}
+use Rattle.wt_text_edit_laws.specs.TextBetween.{HasNoTag, HaveNoClosers, StandsBefore}
 
 -- ---- a text that somebody wrote in the page's own wikitext
 
@@ -47,12 +47,12 @@ abbrev pub AreOneText : List (List Item) → Type 0
 AreOneText [] = Unit {0}
 AreOneText (l ∷ ls) = (marks_len l ≡ 0) × (line_parts (content l) ≡ parts Text (content l)) × AreOneText ls
 
--- Lines of text without two braces side by side, whether a line break stands behind them or the page ends there. They are
+-- Lines of text without two closing braces side by side, whether a line break stands behind them or the page ends there. They are
 -- characters and references, and nothing else.
 pub record IsWrittenText (q : List ℕ) : Type 0 where
   pub utf8 : IsUtf8 q
   pub stands : StandsBefore (q ++ byte.line_break ∷ [])
-  pub uncalled : HaveNoBraces (words Page q)
+  pub uncalled : HaveNoClosers (words Page q)
   pub ended : page_items (q ++ byte.line_break ∷ []) ≡ page_items q ++ char None byte.line_break ∷ []
   pub are_letters : AreLetters (page_items q)
   pub are_one : AreOneText (full_lines (page_items q))
