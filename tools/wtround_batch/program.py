@@ -21,6 +21,8 @@ CHUNK = 1 << 20
 PIPE_BYTES = 1 << 20
 SET_PIPE_SIZE = 1031  # F_SETPIPE_SZ of Linux, which Python knows by name since 3.10
 PROBE_SECONDS = 10.0
+KEPT_BYTES = 16 << 20
+TRIM_THRESHOLD, MMAP_THRESHOLD = -1, -3  # M_TRIM_THRESHOLD and M_MMAP_THRESHOLD of the C library
 END_WITH_PARENT, SET_NAME = 1, 15  # PR_SET_PDEATHSIG and PR_SET_NAME of Linux
 LIBC = ctypes.CDLL(None)
 # The C library keeps more of the small pieces of memory that a page gave back for the next one, without joining
@@ -282,6 +284,29 @@ def end_with_parent() -> None:
 def name_process(name: str) -> None:
     """Gives this process a name, of at most fifteen bytes, that `ps` and `top` show."""
     LIBC.prctl(SET_NAME, name.encode())
+
+
+def take_turns_seldom() -> None:
+    """Lets this process and those that it starts go on until they wait, or had their time.
+
+    Otherwise a worker is let in at each answer of its program, and the two take the processor's caches from
+    each other twice a page.
+    """
+    try:
+        os.sched_setscheduler(0, os.SCHED_BATCH, os.sched_param(0))
+    except OSError:
+        pass  # it is quicker so, and nothing else
+
+
+def keep_memory() -> None:
+    """Lets the C library keep what this process gives back, where it can be told to.
+
+    Otherwise it gives the room of each group of cases to the system, and asks for as much at the next.
+    """
+    set_option = getattr(LIBC, "mallopt", None)
+    if set_option is not None:
+        set_option(TRIM_THRESHOLD, KEPT_BYTES)
+        set_option(MMAP_THRESHOLD, KEPT_BYTES)
 
 
 def widen(descriptor: int) -> None:

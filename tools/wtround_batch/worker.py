@@ -16,7 +16,7 @@ from typing import IO
 
 from .examine import Asking, Examiner, answered
 from .outputs import Files, Lines, Nothing
-from .program import Cases
+from .program import Cases, keep_memory, take_turns_seldom
 from .results import Examined, Known, Result
 from .store import Export
 from .wiki import Folder
@@ -155,6 +155,8 @@ def work(leader: socket.socket) -> None:
     if orders.processor is not None:
         # The worker and its program take turns: on one processor, neither has to wake another one up.
         os.sched_setaffinity(0, {orders.processor})
+    take_turns_seldom()
+    keep_memory()
     cases = Cases(orders.program, orders.memory_limit)
     cases.start_ahead()
     examiner = Examiner(orders.source(), orders.time_limit, orders.output != "nothing")
