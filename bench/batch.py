@@ -1,7 +1,8 @@
 #!/usr/bin/env python3
 """Measures `wtround-batch`: pages a second, there and back, on one processor and on all of them.
 
-  bench/batch.py [--pages N] [--rounds N] [--from FOLDER] [--commands WORDS] [--program FILE] [--stay] [--watch]
+  bench/batch.py [--pages N] [--rounds N] [--from FOLDER] [--commands WORDS] [--program FILE]
+                 [--stay] [--watch]
 
 It makes N pages (10,000) from those of examples/ and from the sections that `wtround gen` makes, one to
 forty of them, or takes N copies of the pages of FOLDER in turn. Then it runs `tools/batch` over them in

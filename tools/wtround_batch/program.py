@@ -25,9 +25,9 @@ KEPT_BYTES = 16 << 20
 TRIM_THRESHOLD, MMAP_THRESHOLD = -1, -3  # M_TRIM_THRESHOLD and M_MMAP_THRESHOLD of the C library
 END_WITH_PARENT, SET_NAME = 1, 15  # PR_SET_PDEATHSIG and PR_SET_NAME of Linux
 LIBC = ctypes.CDLL(None)
-# The C library keeps more of the small pieces of memory that a page gave back for the next one, without joining
-# them. With 100 of each size (in place of 7) 3 % of the instructions are saved, with all of them 5 %, but memory is
-# seven times as large.
+# The C library keeps more of the small pieces of memory that a page gave back for the next one, without
+# joining them. With 100 of each size (in place of 7) 3 % of the instructions are saved, with all of them 5 %,
+# but memory is seven times as large.
 ENVIRONMENT = {"GLIBC_TUNABLES": "glibc.malloc.tcache_count=100"}
 
 
@@ -286,14 +286,15 @@ def name_process(name: str) -> None:
     LIBC.prctl(SET_NAME, name.encode())
 
 
-def take_turns_seldom() -> None:
-    """Lets this process and those that it starts go on until they wait, or had their time.
+def be_patient() -> None:
+    """Lets this process, when what it waits for is there, wait until others wait too or had their time.
 
     Otherwise a worker is let in at each answer of its program, and the two take the processor's caches from
-    each other twice a page.
+    each other twice a page. What it starts isn't so patient, but would lose a priority above the usual one.
     """
     try:
-        os.sched_setscheduler(0, os.SCHED_BATCH, os.sched_param(0))
+        if os.sched_getscheduler(0) == os.SCHED_OTHER and os.nice(0) >= 0:
+            os.sched_setscheduler(0, os.SCHED_BATCH | os.SCHED_RESET_ON_FORK, os.sched_param(0))
     except OSError:
         pass  # it is quicker so, and nothing else
 
