@@ -39,7 +39,7 @@ use Rattle.wt_lines.specs.Kinds.{line_kind}
 use Rattle.wt_lines.specs.Lines.{full_lines, content, empty_end}
 use Rattle.wt_lines.proofs.FullLines.{same_lines}
 use Rattle.wt_text_edit_laws.proofs.Texts.PlainRows.{AreTexts}
-use Rattle.wt_text_edit_laws.specs.Paragraphs.{IsReference, AreLetters, AreOneText, IsWrittenText, IsParagraph}
+use Rattle.wt_text_edit_laws.specs.Paragraphs.{IsLetterForm, AreLetters, AreOneText, IsWrittenText, IsParagraph}
 
 -- ---- no `<`
 
@@ -59,22 +59,22 @@ closed bs h = closed_by (ends_open bs) bs refl h
 
 -- ---- what is written is the page's own
 
-form_own : (f : ItemForm) (bs : List ℕ) → IsReference f → HasNoTag bs → IsOwnForm f bs
-form_own form.Chars bs r h = absurd r
-form_own (form.Entity c) bs r h = closed bs h
-form_own form.Nowiki bs r h = absurd r
-form_own form.Extension bs r h = absurd r
-form_own form.Function bs r h = absurd r
-form_own form.Comment bs r h = absurd r
-form_own form.Include bs r h = absurd r
-form_own form.Hidden bs r h = absurd r
-form_own form.EmptyCall bs r h = absurd r
+form_own : (f : ItemForm) (bs : List ℕ) → IsLetterForm f bs → IsOwnForm f bs
+form_own form.Chars bs h = absurd h
+form_own (form.Entity c) bs h = closed bs h
+form_own form.Nowiki bs h = h
+form_own form.Extension bs h = absurd h
+form_own form.Function bs h = absurd h
+form_own form.Comment bs h = absurd h
+form_own form.Include bs h = absurd h
+form_own form.Hidden bs h = absurd h
+form_own form.EmptyCall bs h = absurd h
 
 pub letters_own : (xs : List Item) → AreLetters xs → AreOwn xs
 letters_own [] a = tt
 letters_own (char None b ∷ xs) a = letters_own xs a
 letters_own (char (Some k) b ∷ xs) a = absurd a
-letters_own (whole f None bs ∷ xs) a = (form_own f bs a.0 a.1, letters_own xs a.2)
+letters_own (whole f None bs ∷ xs) a = (form_own f bs a.0, letters_own xs a.1)
 letters_own (whole f (Some k) bs ∷ xs) a = absurd a
 
 abbrev IsText : List Item → Type 0
@@ -110,7 +110,7 @@ letters_joined : (xs ys : List Item) → AreLetters xs → AreLetters ys → Are
 letters_joined [] ys h g = g
 letters_joined (char None b ∷ xs) ys h g = letters_joined xs ys h g
 letters_joined (char (Some k) b ∷ xs) ys h g = absurd h
-letters_joined (whole f None bs ∷ xs) ys h g = (h.0, h.1, letters_joined xs ys h.2 g)
+letters_joined (whole f None bs ∷ xs) ys h g = (h.0, letters_joined xs ys h.1 g)
 letters_joined (whole f (Some k) bs ∷ xs) ys h g = absurd h
 
 blank_no_break : (b : ℕ) → is_blank b ≡ true → is_break b ≡ false
@@ -215,7 +215,7 @@ line_reads q r own xs b ended s =
     ap (λ zs. zs ++ rest) ended ∙ append_assoc own (break ∷ []) rest ∙ ap (λ zs. own ++ zs) (sym (rest_is r xs s)) in
     subst (λ bs. ReadsAfter false bs (own ++ xs)) (append_assoc q (10 ∷ []) r) (subst (λ ys. ReadsAfter false ((q ++ 10 ∷ []) ++ r) ys) all whole)
 
--- one of characters and references
+-- one of characters, references and nowikis
 line_front : (q r : List ℕ) (own xs : List Item) → AreLetters own → StandsBefore (q ++ 10 ∷ []) → page_items (q ++ 10 ∷ []) ≡ own ++ char None 10 ∷ []
     → Reads (10 ∷ r) xs → Reads (q ++ 10 ∷ r) (own ++ xs)
 line_front q r own xs t b ended s =
