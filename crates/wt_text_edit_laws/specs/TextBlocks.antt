@@ -18,7 +18,7 @@ use Rattle.wt_typed_blocks.specs.Sent.{Block, paragraph, heading}
 use Rattle.wt_text_edit_laws.specs.TextBetween.{HaveNoClosers, StandsBefore}
 use Rattle.wt_text_edit_laws.specs.Paragraphs.{AreLetters, IsParagraph}
 use Rattle.wt_text_edit_laws.specs.ParagraphBetween.{rows_of_lines, AreClosed, before_marks, EndsApart, EndsParagraph}
-use Rattle.wt_text_edit_laws.specs.TypedHeadings.{Sides, AreSides, opening, closing, heading_line, heading_with, IsHeadingText, StandsApart, EndsLine}
+use Rattle.wt_text_edit_laws.specs.TypedHeadings.{Sides, AreSides, opening, closing, heading_line, heading_with, IsHeadingText, IsOfLevel, EndsLine}
 
 -- ---- its source
 
@@ -80,7 +80,7 @@ pub record IsWrittenHeading (s : Sides) (q : List ℕ) : Type 0 where
   pub unended : page_items (source_of (a_heading s) q) ≡ heading_line s (page_items q)
   pub are_letters : AreLetters (page_items q)
   pub is_text : IsHeadingText (page_items q)
-  pub apart : StandsApart s (page_items q)
+  pub of_level : IsOfLevel s (page_items q)
 
 abbrev pub IsBlock : TextBlock → List ℕ → Type 0
 IsBlock a_paragraph q = IsParagraph q

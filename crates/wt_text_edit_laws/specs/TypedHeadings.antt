@@ -12,6 +12,7 @@ use Rattle.wt_inline.specs.ItemTree.{plain, ItemTree, inner, forest}
 use Rattle.wt_inline.specs.Parts.{parts, children}
 use Rattle.wt_context.specs.Line.{line_parts}
 use Rattle.wt_expand.specs.PageItems.{page_items}
+use Rattle.wt_blocks.specs.Headings.{level}
 use Rattle.wt_text_edit_laws.specs.LonePages.{page_chars}
 
 -- ---- what its line has beside the text
@@ -101,6 +102,10 @@ EndsOther (s ∷ t ∷ ss) = EndsOther (t ∷ ss)
 -- what is between the first `=` and the last
 abbrev pub between : Sides → List Item → List ℕ
 between s xs = s.lead ++ (map sign xs ++ s.trail)
+
+-- The level of the line, which is the number of `=` of its shorter run, and six at most, is this: so one side may have more, or at six both.
+abbrev pub IsOfLevel : Sides → List Item → Type 0
+IsOfLevel s xs = level (heading_line s xs) ≡ s.level
 
 -- It neither begins nor ends with one more `=`.
 pub record StandsApart (s : Sides) (xs : List Item) : Type 0 where

@@ -50,7 +50,7 @@ ghost use Rattle.wt_text_edit_laws.specs.ProseEdits.{PassageEdit, old_passages, 
 ghost use Rattle.wt_text_edit_laws.specs.TextBetween.{AreWholeLines, HasEnds, StandsBefore, StandsBehind};
 ghost use Rattle.wt_text_edit_laws.specs.Paragraphs.{IsParagraph};
 ghost use Rattle.wt_text_edit_laws.specs.ParagraphBetween.{EndsApart, EndsParagraph, blocks_in, body_round, AreClosed, before_marks, body_with};
-ghost use Rattle.wt_text_edit_laws.specs.TypedHeadings.{Sides, AreSides, heading_line, heading_with, IsHeadingText, StandsApart, EndsLine};
+ghost use Rattle.wt_text_edit_laws.specs.TypedHeadings.{Sides, AreSides, heading_line, heading_with, IsHeadingText, IsOfLevel, StandsApart, EndsLine};
 ghost use Rattle.wt_text_edit_laws.specs.Parts.{part_tree};
 ghost use Rattle.wt_text_edit_laws.specs.BlockSpots.{BlockSpot, spots_source, page_blocks, AreBlockSpots, SameRound, AreBlocks};
 ghost use Rattle.wt_text_edit_laws.specs.BlockEdits.{BlockEdit, new_spots, old_page, new_page, sent_page, IsBlockEdit};
@@ -238,7 +238,7 @@ pub fn typed_paragraph_stands_by_itself()
 /// those that what comes before it and what comes after it make by themselves, whatever its text is.
 #[tactic(auto, using(crate::proofs::Headings::HeadingRows::heading_stands))]
 pub fn heading_stands_by_itself()
-    ensures { (xs : List Item) (s : Sides) (own tail : List Item) → AreClosed (before_marks xs) → AreSides s → IsHeadingText own → StandsApart s own → EndsLine tail
+    ensures { (xs : List Item) (s : Sides) (own tail : List Item) → AreClosed (before_marks xs) → AreSides s → IsHeadingText own → IsOfLevel s own → EndsLine tail
         → meaning (xs ++ (heading_line s own ++ tail)) ≡ body_with (blocks_in xs ++ heading_with s own ∷ blocks_in tail) }
 {}
 

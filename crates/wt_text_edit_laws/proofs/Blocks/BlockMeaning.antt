@@ -5,14 +5,16 @@ use Rattle.wt_inline.specs.ItemTree.{ItemTree}
 use Rattle.wt_inline.specs.Parts.{Part, node, children}
 use Rattle.wt_page.specs.Rows.{Row, rows}
 use Rattle.wt_page.specs.Body.{meaning}
+use Rattle.wt_guards.specs.Content.{letters}
+use Rattle.wt_guards.specs.Guards.{spelled}
 use Rattle.wt_expand.specs.PageItems.{page_items}
 use Rattle.wt_text_edit_laws.specs.ParagraphBetween.{rows_of_lines, AreClosed, before_marks, BeginApart, EndsParagraph, body_with}
 use Rattle.wt_text_edit_laws.proofs.Paragraphs.Joining.{rows_before}
 use Rattle.wt_text_edit_laws.proofs.Paragraphs.Marks.{AreMarks, EndsInMarks, marks_end, rows_marks}
 use Rattle.wt_text_edit_laws.proofs.Paragraphs.Standing.{parts_in, round_node, body_is}
 use Rattle.wt_text_edit_laws.proofs.Paragraphs.Paragraphs.{paragraph_between}
-use Rattle.wt_text_edit_laws.specs.TypedHeadings.{Sides, AreSides, heading_line, IsHeadingText, StandsApart, EndsLine}
-use Rattle.wt_text_edit_laws.proofs.Headings.HeadingRows.{heading_row, first_row, heading_between}
+use Rattle.wt_text_edit_laws.specs.TypedHeadings.{Sides, AreSides, heading_line, IsHeadingText, IsOfLevel, EndsLine}
+use Rattle.wt_text_edit_laws.proofs.Headings.HeadingRows.{heading_row, first_row, apart_level, heading_between}
 use Rattle.wt_text_edit_laws.proofs.Headings.TypedTexts.{typed_heading_text, typed_apart}
 use Rattle.wt_text_edit_laws.specs.TextBlocks.{TextBlock, a_paragraph, a_heading, block_items, block_tree, IsFrame, IsTypedHeading, IsBlock, LeadsTo, EndsBlock, FirstApart, BeginsApart, BeginsBetween}
 use Rattle.wt_text_edit_laws.specs.BlockSpots.{BlockSpot, spots_source, page_blocks, IsBlockSpot, AreFurtherBlocks, AreBlockSpots}
@@ -35,16 +37,17 @@ heading_frame s q (inr w) = w.frame
 pub heading_sides : (s : Sides) (q : List ℕ) → IsBlock (a_heading s) q → AreSides s
 heading_sides s q h = let f = heading_frame s q h in f.sides
 
-heading_apart : (s : Sides) (q : List ℕ) → IsBlock (a_heading s) q → StandsApart s (page_items q)
-heading_apart s q (inl t) =
-    subst (λ (q : List ℕ). StandsApart s (page_items q)) (sym t.is) (typed_apart t.setting t.text s t.of_block t.of_heading t.utf8 t.one_line t.frame.sides)
-heading_apart s q (inr w) = w.apart
+heading_level : (s : Sides) (q : List ℕ) → IsBlock (a_heading s) q → IsOfLevel s (page_items q)
+heading_level s q (inl t) =
+    subst (λ (q : List ℕ). IsOfLevel s (page_items q)) (sym t.is)
+    (apart_level s (page_items (spelled t.setting (letters t.text))) t.frame.sides (typed_apart t.setting t.text s t.of_block t.of_heading t.utf8 t.one_line t.frame.sides))
+heading_level s q (inr w) = w.of_level
 
 block_between : (k : TextBlock) (xs : List Item) (q : List ℕ) (tail : List Item) → LeadsTo k xs → IsBlock k q → EndsBlock k tail
     → parts_in (xs ++ (block_items k q ++ tail)) ≡ parts_in xs ++ node (block_tree k q) ∷ parts_in tail
 block_between a_paragraph xs q tail c h e = paragraph_between xs q tail c h e
 block_between (a_heading s) xs q tail c h e =
-    heading_between xs s (page_items q) tail c (heading_sides s q h) (heading_text s q h) (heading_apart s q h) e
+    heading_between xs s (page_items q) tail c (heading_sides s q h) (heading_text s q h) (heading_level s q h) e
 
 -- ---- what stands behind one
 
@@ -52,7 +55,7 @@ heading_first : (s : Sides) (ms : List Item) (q : List ℕ) (tail : List Item) �
     → BeginApart (rows (ms ++ (heading_line s (page_items q) ++ tail)))
 heading_first s ms q tail m h e =
     let line : List Item = heading_line s (page_items q) in
-    let f = first_row s (page_items q) tail (heading_sides s q h) (heading_text s q h).unbroken (heading_apart s q h) e in
+    let f = first_row s (page_items q) tail (heading_sides s q h) (heading_text s q h) (heading_level s q h) e in
     subst BeginApart (sym (rows_marks ms (line ++ tail) (heading_row line f.0) f.1 m f.2 tt)) refl
 
 first_apart : (next : TextBlock) (rs : List Row) (ms : List Item) (q : List ℕ) (tail : List Item) → FirstApart next rs → AreMarks ms → IsBlock next q

@@ -17,6 +17,7 @@ use Rattle.wt_guards.specs.Guards.{nowiki, is_guarded, is_between_guard, is_star
 use Rattle.wt_guards.specs.Letters.{is_escaped, reference}
 use Rattle.wt_guards.specs.Table.{hazard, line_start_hazard}
 use Rattle.wt_inline.specs.Parts.{children}
+use Rattle.wt_blocks.specs.Headings.{level}
 use Rattle.wt_tiles.specs.Links.{link_at}
 use Rattle.wt_tiles.specs.Urls.{scheme_len, kept_len, ext_link_at, bare_url_at}
 use Rattle.wt_tiles.specs.Tags.{tag_at, opening_tag as tile_opening_tag, closing_tag as tile_closing_tag}
@@ -177,7 +178,7 @@ are_spots = (
 
 -- a heading that was written by hand: a heading spells this ampersand as a reference
 written_heading : IsWrittenHeading (spaced 2) (codes "Q&A")
-unfolding page_items words closed form_at comment_len comment_line_len raw_len opening_tag closing_tag include_at entity_at named_entity decimal_entity
+unfolding level page_items words closed form_at comment_len comment_line_len raw_len opening_tag closing_tag include_at entity_at named_entity decimal_entity
     hex_entity entity_names sign_word lib.Utf8.encode
     context_parts segments tiles shapes tiles_closed tile_form_at link_or_url link_at ext_link_at bare_url_at scheme_len kept_len
     tag_tile tag_at tile_opening_tag tile_closing_tag switch_at loose_segments chunks with_styles style_tree_of toggles_of toggle_at
@@ -190,7 +191,7 @@ written_heading = record {
   unended = refl;
   are_letters = tt;
   is_text = record { is_one = refl; unbroken = (refl, (refl, (refl, tt))); begins = refl; ends = refl };
-  apart = record { first = refl; last = refl };
+  of_level = refl;
 }
 
 -- and one without spaces, with a space behind it
@@ -209,7 +210,7 @@ framed_bare = record {
 }
 
 written_bare : IsWrittenHeading bare (codes "Q&A")
-unfolding page_items words closed form_at comment_len comment_line_len raw_len opening_tag closing_tag include_at entity_at named_entity decimal_entity
+unfolding level page_items words closed form_at comment_len comment_line_len raw_len opening_tag closing_tag include_at entity_at named_entity decimal_entity
     hex_entity entity_names sign_word
 written_bare = record {
   frame = framed_bare;
@@ -224,7 +225,7 @@ written_bare = record {
   unended = refl;
   are_letters = tt;
   is_text = written_heading.is_text;
-  apart = record { first = refl; last = refl };
+  of_level = refl;
 }
 
 -- one with a comment behind it, in whose text is a bracket that begins no link
@@ -243,7 +244,7 @@ framed_commented = record {
 }
 
 written_commented : IsWrittenHeading commented (codes "a[")
-unfolding page_items words closed form_at comment_len comment_line_len raw_len tag_after opening_tag closing_tag with_inside is_extension include_at
+unfolding level page_items words closed form_at comment_len comment_line_len raw_len tag_after opening_tag closing_tag with_inside is_extension include_at
     entity_at named_entity decimal_entity hex_entity entity_names sign_word lib.Utf8.encode
     context_parts segments tiles shapes tiles_closed tile_form_at link_or_url link_at ext_link_at bare_url_at scheme_len kept_len
     tag_tile tag_at tile_opening_tag tile_closing_tag switch_at loose_segments chunks with_styles style_tree_of toggles_of toggle_at
@@ -260,7 +261,7 @@ written_commented = record {
   unended = refl;
   are_letters = tt;
   is_text = record { is_one = refl; unbroken = (refl, (refl, tt)); begins = refl; ends = refl };
-  apart = record { first = refl; last = refl };
+  of_level = refl;
 }
 
 -- a comment that doesn't end there may end behind the heading

@@ -22,7 +22,7 @@ use Rattle.wt_context.specs.Line.{context_parts}
 use Rattle.wt_blocks.specs.Headings.{level, closing}
 use Rattle.wt_expand.specs.PageItems.{page_items}
 use Rattle.wt_text_edit_laws.specs.LonePages.{page_chars}
-use Rattle.wt_text_edit_laws.specs.TypedHeadings.{Sides, spaced, AreIdle, closing_items, heading_line, NoBreaks, BeginsSeen, EndsSeen, IsHeadingText, StandsApart}
+use Rattle.wt_text_edit_laws.specs.TypedHeadings.{Sides, spaced, AreIdle, closing_items, heading_line, NoBreaks, BeginsSeen, EndsSeen, IsHeadingText, IsOfLevel, StandsApart}
 
 second_level : heading_line (spaced 2) (page_chars (codes "a b")) ≡ page_chars (codes "== a b ==")
 unfolding page_items words closed form_at comment_len comment_line_len raw_len tag_after opening_tag closing_tag with_inside is_extension include_at
@@ -82,6 +82,17 @@ apart = record { first = refl; last = refl }
 
 not_apart : StandsApart bare (page_chars (codes "=a")) → ⊥
 not_apart h = let e = h.first in absurd (cc)
+
+-- on one side alone it isn't, since the shorter run tells the level
+uneven_level : IsOfLevel bare (page_chars (codes "=a"))
+unfolding level page_items words closed form_at comment_len comment_line_len raw_len tag_after opening_tag closing_tag with_inside is_extension include_at
+    entity_at named_entity decimal_entity hex_entity entity_names sign_word
+uneven_level = refl
+
+other_level : IsOfLevel bare (page_chars (codes "=a=")) → ⊥
+unfolding level page_items words closed form_at comment_len comment_line_len raw_len tag_after opening_tag closing_tag with_inside is_extension include_at
+    entity_at named_entity decimal_entity hex_entity entity_names sign_word
+other_level h = absurd (cc)
 
 spaced_apart : StandsApart (spaced 3) (page_chars (codes "=a"))
 spaced_apart = record { first = refl; last = refl }

@@ -34,8 +34,8 @@ use Rattle.wt_text_edit_laws.proofs.Prose.ProseLines.{content_ended}
 use Rattle.wt_text_edit_laws.specs.ParagraphBetween.{AreClosed, before_marks, blocks_in, body_with}
 use Rattle.wt_text_edit_laws.proofs.Paragraphs.Marks.{with_lead, IsLed}
 use Rattle.wt_text_edit_laws.proofs.Paragraphs.Standing.{parts_in, row_beside, parts_above, round_node, body_is}
-use Rattle.wt_text_edit_laws.specs.TypedHeadings.{Sides, AreBlanks, AreIdle, AreSides, equals as run_of, opening as opening_of, closing_items, between, heading_line, heading_with, NoBreaks, IsHeadingText, StandsApart, EndsLine}
-use Rattle.wt_text_edit_laws.proofs.Headings.HeadingSigns.{line_signs, body_signs, core_is, level_is, open_is, inside_is, kind_is}
+use Rattle.wt_text_edit_laws.specs.TypedHeadings.{Sides, AreBlanks, AreIdle, AreSides, equals as run_of, opening as opening_of, closing_items, between, heading_line, heading_with, NoBreaks, IsHeadingText, IsOfLevel, StandsApart, EndsLine}
+use Rattle.wt_text_edit_laws.proofs.Headings.HeadingSigns.{line_signs, body_signs, core_is, level_is, open_is, inside_is, signs_between, kind_is}
 
 -- ---- its signs
 
@@ -79,34 +79,36 @@ core_signs n bs ds cs own a =
 -- ---- its tree
 
 -- the level by its signs
-level_signs : (s : Sides) (own : List Item) → AreSides s → StandsApart s own → level_of (body_signs s.level (between s own)) ≡ s.level
-level_signs s own a p = level_is s.level (between s own) a.some a.most p.first p.last
-
-level_so : (n : ℕ) (bs ds cs : List ℕ) (own : List Item) → AreSides (sides n bs ds cs) → StandsApart (sides n bs ds cs) own
-    → level (heading_line (sides n bs ds cs) own) ≡ suc n
+level_signs : (n : ℕ) (bs ds cs : List ℕ) (own : List Item) → AreSides (sides n bs ds cs) → IsOfLevel (sides n bs ds cs) own
+    → level_of (body_signs (suc n) (between (sides n bs ds cs) own)) ≡ suc n
 unfolding level
-level_so n bs ds cs own a p = ap level_of (core_signs n bs ds cs own a) ∙ level_signs (sides n bs ds cs) own a p
+level_signs n bs ds cs own a p = sym (ap level_of (core_signs n bs ds cs own a)) ∙ p
+
+apart_so : (n : ℕ) (bs ds cs : List ℕ) (own : List Item) → AreSides (sides n bs ds cs) → StandsApart (sides n bs ds cs) own → IsOfLevel (sides n bs ds cs) own
+unfolding level
+apart_so n bs ds cs own a p =
+    ap level_of (core_signs n bs ds cs own a) ∙ level_is (suc n) (between (sides n bs ds cs) own) a.some a.most p.first p.last
 
 opening_length : (s : Sides) → s.level + length s.lead ≡ length (page_chars (opening_of s))
 opening_length s = omega (arith, length-map (opening_of s) (char None), length-replicate {A = ℕ} s.level 61, length-append (run_of s.level) s.lead)
 
-opening_len : (n : ℕ) (bs ds cs : List ℕ) (own : List Item) → AreSides (sides n bs ds cs) → IsHeadingText own → StandsApart (sides n bs ds cs) own
+opening_len : (n : ℕ) (bs ds cs : List ℕ) (own : List Item) → AreSides (sides n bs ds cs) → IsHeadingText own → IsOfLevel (sides n bs ds cs) own
     → open_len (core (map sign (heading_line (sides n bs ds cs) own))) ≡ length (page_chars (opening_of (sides n bs ds cs)))
 opening_len n bs ds cs own a h p =
     let s : Sides = sides n bs ds cs in
     ap open_len (core_signs n bs ds cs own a)
-    ∙ open_is (suc n) bs (map sign own) ds (level_signs s own a p) a.lead h.begins
+    ∙ open_is (suc n) bs (map sign own) ds (level_signs n bs ds cs own a p) a.lead h.begins
     ∙ opening_length s
 
-inside_length : (n : ℕ) (bs ds cs : List ℕ) (own : List Item) → AreSides (sides n bs ds cs) → IsHeadingText own → StandsApart (sides n bs ds cs) own
+inside_length : (n : ℕ) (bs ds cs : List ℕ) (own : List Item) → AreSides (sides n bs ds cs) → IsHeadingText own → IsOfLevel (sides n bs ds cs) own
     → inside_len (core (map sign (heading_line (sides n bs ds cs) own))) ≡ length own
 inside_length n bs ds cs own a h p =
     let s : Sides = sides n bs ds cs in
     ap inside_len (core_signs n bs ds cs own a)
-    ∙ inside_is (suc n) bs (map sign own) ds (level_signs s own a p) a.lead a.trail h.begins h.ends
+    ∙ inside_is (suc n) bs (map sign own) ds (level_signs n bs ds cs own a p) a.lead a.trail h.begins h.ends
     ∙ length-map own sign
 
-opening_so : (n : ℕ) (bs ds cs : List ℕ) (own : List Item) → AreSides (sides n bs ds cs) → IsHeadingText own → StandsApart (sides n bs ds cs) own
+opening_so : (n : ℕ) (bs ds cs : List ℕ) (own : List Item) → AreSides (sides n bs ds cs) → IsHeadingText own → IsOfLevel (sides n bs ds cs) own
     → opening (heading_line (sides n bs ds cs) own) ≡ page_chars (opening_of (sides n bs ds cs))
 unfolding opening
 opening_so n bs ds cs own a h p =
@@ -114,7 +116,7 @@ opening_so n bs ds cs own a h p =
     ap (λ (k : ℕ). take k (heading_line s own)) (opening_len n bs ds cs own a h p)
     ∙ take-append_seam (page_chars (opening_of s)) (own ++ closing_items s)
 
-inside_so : (n : ℕ) (bs ds cs : List ℕ) (own : List Item) → AreSides (sides n bs ds cs) → IsHeadingText own → StandsApart (sides n bs ds cs) own
+inside_so : (n : ℕ) (bs ds cs : List ℕ) (own : List Item) → AreSides (sides n bs ds cs) → IsHeadingText own → IsOfLevel (sides n bs ds cs) own
     → inside (heading_line (sides n bs ds cs) own) ≡ own
 unfolding inside
 inside_so n bs ds cs own a h p =
@@ -125,7 +127,7 @@ inside_so n bs ds cs own a h p =
     ∙ ap (take (length own)) (drop-append_seam (page_chars (opening_of s)) (own ++ closing_items s))
     ∙ take-append_seam own (closing_items s)
 
-closing_so : (n : ℕ) (bs ds cs : List ℕ) (own : List Item) → AreSides (sides n bs ds cs) → IsHeadingText own → StandsApart (sides n bs ds cs) own
+closing_so : (n : ℕ) (bs ds cs : List ℕ) (own : List Item) → AreSides (sides n bs ds cs) → IsHeadingText own → IsOfLevel (sides n bs ds cs) own
     → closing (heading_line (sides n bs ds cs) own) ≡ closing_items (sides n bs ds cs)
 unfolding closing
 closing_so n bs ds cs own a h p =
@@ -143,13 +145,13 @@ text_so : (own : List Item) → IsHeadingText own → line_trees own ≡ childre
 unfolding line_trees
 text_so own h = ap children h.is_one
 
-tree_so : (n : ℕ) (bs ds cs : List ℕ) (own : List Item) → AreSides (sides n bs ds cs) → IsHeadingText own → StandsApart (sides n bs ds cs) own
+tree_so : (n : ℕ) (bs ds cs : List ℕ) (own : List Item) → AreSides (sides n bs ds cs) → IsHeadingText own → IsOfLevel (sides n bs ds cs) own
     → heading (heading_line (sides n bs ds cs) own) ≡ heading_with (sides n bs ds cs) own
 unfolding heading
 tree_so n bs ds cs own a h p =
     let s : Sides = sides n bs ds cs in
     let l : List Item = heading_line s own in
-    ap (λ (k : ℕ). inner (plain (kind.Heading k)) (opening l) (forest (line_trees (inside l))) (closing l)) (level_so n bs ds cs own a p)
+    ap (λ (k : ℕ). inner (plain (kind.Heading k)) (opening l) (forest (line_trees (inside l))) (closing l)) p
     ∙ ap (λ (xs : List Item). inner (plain (kind.Heading (suc n))) xs (forest (line_trees (inside l))) (closing l)) (opening_so n bs ds cs own a h p)
     ∙ ap (λ (xs : List Item). inner (plain (kind.Heading (suc n))) (page_chars (opening_of s)) (forest (line_trees xs)) (closing l)) (inside_so n bs ds cs own a h p)
     ∙ ap (λ (xs : List Item). inner (plain (kind.Heading (suc n))) (page_chars (opening_of s)) (forest (line_trees own)) xs) (closing_so n bs ds cs own a h p)
@@ -226,39 +228,39 @@ row_by x xs l end k e f c d =
     ∙ ap (λ (ys : List Item). record { kind = line.Heading; lead = []; items = ys; ending = ending (char None 61 ∷ xs) } ∷ []) c
     ∙ ap (λ (ys : List Item). heading_row l ys ∷ []) d
 
-kind_so : (n : ℕ) (bs ds cs : List ℕ) (own l : List Item) → AreSides (sides n bs ds cs) → StandsApart (sides n bs ds cs) own
+kind_so : (n : ℕ) (bs ds cs : List ℕ) (own l : List Item) → AreSides (sides n bs ds cs) → IsHeadingText own
     → content l ≡ heading_line (sides n bs ds cs) own → kind_at 0 l ≡ line.Heading
-kind_so n bs ds cs own l a p e =
+kind_so n bs ds cs own l a h e =
     let s : Sides = sides n bs ds cs in
-    ap (λ (xs : List Item). kind_of_signs 0 (map sign xs)) e ∙ ap (kind_of_signs 0) (signs_are s own) ∙ kind_is n (between s own) (rest_signs s) a.rest p.first
+    ap (λ (xs : List Item). kind_of_signs 0 (map sign xs)) e ∙ ap (kind_of_signs 0) (signs_are s own) ∙ kind_is n (between s own) (rest_signs s) a.rest (signs_between bs (map sign own) ds h.begins)
 
 -- behind the first `=`
 abbrev others : ℕ → List ℕ → List ℕ → List ℕ → List Item → List Item
 others n bs ds cs own = page_chars (run_of n ++ bs) ++ (own ++ closing_items (sides n bs ds cs))
 
-ended_rows : (n : ℕ) (bs ds cs : List ℕ) (own zs : List Item) → AreSides (sides n bs ds cs) → NoBreaks own → StandsApart (sides n bs ds cs) own
+ended_rows : (n : ℕ) (bs ds cs : List ℕ) (own zs : List Item) → AreSides (sides n bs ds cs) → IsHeadingText own → IsOfLevel (sides n bs ds cs) own
     → rows (heading_line (sides n bs ds cs) own ++ char None 10 ∷ zs) ≡ heading_row (heading_line (sides n bs ds cs) own) (char None 10 ∷ []) ∷ rows zs
 unfolding rows
 ended_rows n bs ds cs own zs a h p =
     let l : List Item = heading_line (sides n bs ds cs) own in
-    let u : NoBreaks l = line_unbroken (sides n bs ds cs) own a h in
+    let u : NoBreaks l = line_unbroken (sides n bs ds cs) own a h.unbroken in
     let m : List Item = l ++ char None 10 ∷ [] in
     let c : content m ≡ l = content_ended l (none_ends l u) ∙ content_whole l u in
-    let k : kind_at 0 m ≡ line.Heading = kind_so n bs ds cs own m a p c in
+    let k : kind_at 0 m ≡ line.Heading = kind_so n bs ds cs own m a h c in
     let rest : List Item = others n bs ds cs own in
     ap (λ ys. rows_from 0 (full_lines ys)) (sym (append_assoc l (char None 10 ∷ []) zs))
     ∙ ap (rows_from 0) (runs_cut goes_on m zs (ended_run (char None 61) rest zs u))
     ∙ ap (λ (j : LineKind). line_rows j m ++ rows_from (behind 0 j) (full_lines zs)) k
     ∙ ap (λ (rs : List Row). rs ++ rows_from 0 (full_lines zs)) (row_by (char None 61) (rest ++ char None 10 ∷ []) l (char None 10 ∷ []) line.Heading k refl c (ending_behind l (char None 10) []))
 
-last_rows : (n : ℕ) (bs ds cs : List ℕ) (own : List Item) → AreSides (sides n bs ds cs) → NoBreaks own → StandsApart (sides n bs ds cs) own
+last_rows : (n : ℕ) (bs ds cs : List ℕ) (own : List Item) → AreSides (sides n bs ds cs) → IsHeadingText own → IsOfLevel (sides n bs ds cs) own
     → rows (heading_line (sides n bs ds cs) own) ≡ heading_row (heading_line (sides n bs ds cs) own) [] ∷ []
 unfolding rows
 last_rows n bs ds cs own a h p =
     let l : List Item = heading_line (sides n bs ds cs) own in
-    let u : NoBreaks l = line_unbroken (sides n bs ds cs) own a h in
+    let u : NoBreaks l = line_unbroken (sides n bs ds cs) own a h.unbroken in
     let c : content l ≡ l = content_whole l u in
-    let k : kind_at 0 l ≡ line.Heading = kind_so n bs ds cs own l a p c in
+    let k : kind_at 0 l ≡ line.Heading = kind_so n bs ds cs own l a h c in
     let rest : List Item = others n bs ds cs own in
     ap (λ ys. rows_from 0 (full_lines ys)) (sym (append-nil l))
     ∙ ap (rows_from 0) (runs_cut goes_on l [] (alone_run (char None 61) rest [] u))
@@ -318,13 +320,13 @@ nothing_parts : body_parts [] ≡ []
 unfolding blocks
 nothing_parts = refl
 
-heading_parts : (n : ℕ) (bs ds cs : List ℕ) (own tail : List Item) → AreSides (sides n bs ds cs) → IsHeadingText own → StandsApart (sides n bs ds cs) own
+heading_parts : (n : ℕ) (bs ds cs : List ℕ) (own tail : List Item) → AreSides (sides n bs ds cs) → IsHeadingText own → IsOfLevel (sides n bs ds cs) own
     → EndsLine tail → parts_in (heading_line (sides n bs ds cs) own ++ tail) ≡ node (heading_with (sides n bs ds cs) own) ∷ parts_in tail
 heading_parts n bs ds cs own [] a h p e =
     let s : Sides = sides n bs ds cs in
     let l : List Item = heading_line s own in
     ap parts_in (append-nil l)
-    ∙ ap body_parts (last_rows n bs ds cs own a h.unbroken p)
+    ∙ ap body_parts (last_rows n bs ds cs own a h p)
     ∙ row_parts l [] []
     ∙ ap (λ (t : ItemTree). node t ∷ body_parts []) (tree_so n bs ds cs own a h p)
     ∙ ap (λ (ps : List Part). node (heading_with s own) ∷ ps) (nothing_parts ∙ sym no_parts)
@@ -332,7 +334,7 @@ heading_parts n bs ds cs own (y ∷ ys) a h p e =
     let s : Sides = sides n bs ds cs in
     let l : List Item = heading_line s own in
     ap (λ (z : Item). parts_in (l ++ z ∷ ys)) e
-    ∙ ap body_parts (ended_rows n bs ds cs own ys a h.unbroken p)
+    ∙ ap body_parts (ended_rows n bs ds cs own ys a h p)
     ∙ row_parts l (char None 10 ∷ []) (rows ys)
     ∙ ap (λ (t : ItemTree). node t ∷ (parts Sep (char None 10 ∷ []) ++ parts_in ys)) (tree_so n bs ds cs own a h p)
     ∙ ap (λ (ps : List Part). node (heading_with s own) ∷ ps) (sym (breaks_first (char None 10 ∷ []) ys (refl, tt)))
@@ -341,7 +343,7 @@ heading_parts n bs ds cs own (y ∷ ys) a h p e =
 abbrev IsFirstRow : List Item → List Item → Type 0
 IsFirstRow l tail = (end : List Item) × (rs : List Row) × (rows (l ++ tail) ≡ heading_row l end ∷ rs)
 
-row_first : (n : ℕ) (bs ds cs : List ℕ) (own tail : List Item) → AreSides (sides n bs ds cs) → NoBreaks own → StandsApart (sides n bs ds cs) own → EndsLine tail
+row_first : (n : ℕ) (bs ds cs : List ℕ) (own tail : List Item) → AreSides (sides n bs ds cs) → IsHeadingText own → IsOfLevel (sides n bs ds cs) own → EndsLine tail
     → IsFirstRow (heading_line (sides n bs ds cs) own) tail
 row_first n bs ds cs own [] a h p e =
     ([], [], ap rows (append-nil (heading_line (sides n bs ds cs) own)) ∙ last_rows n bs ds cs own a h p)
@@ -351,31 +353,40 @@ row_first n bs ds cs own (y ∷ ys) a h p e =
 abbrev level_sides : ℕ → List ℕ → List ℕ → List ℕ → Sides
 level_sides n bs ds cs = record { level = n; lead = bs; trail = ds; rest = cs }
 
-first_by : (n : ℕ) (bs ds cs : List ℕ) (own tail : List Item) → AreSides (level_sides n bs ds cs) → NoBreaks own → StandsApart (level_sides n bs ds cs) own
+first_by : (n : ℕ) (bs ds cs : List ℕ) (own tail : List Item) → AreSides (level_sides n bs ds cs) → IsHeadingText own → IsOfLevel (level_sides n bs ds cs) own
     → EndsLine tail → IsFirstRow (heading_line (level_sides n bs ds cs) own) tail
 first_by zero bs ds cs own tail a h p e = absurd (omega (arith, a.some))
 first_by (suc n) bs ds cs own tail a h p e = row_first n bs ds cs own tail a h p e
 
-pub first_row : (s : Sides) (own tail : List Item) → AreSides s → NoBreaks own → StandsApart s own → EndsLine tail
+pub first_row : (s : Sides) (own tail : List Item) → AreSides s → IsHeadingText own → IsOfLevel s own → EndsLine tail
     → (end : List Item) × (rs : List Row) × (rows (heading_line s own ++ tail) ≡ heading_row (heading_line s own) end ∷ rs)
 first_row s own tail a h p e = first_by s.level s.lead s.trail s.rest own tail
-    (record { some = a.some; most = a.most; lead = a.lead; trail = a.trail; rest = a.rest }) h (record { first = p.first; last = p.last }) e
+    (record { some = a.some; most = a.most; lead = a.lead; trail = a.trail; rest = a.rest }) h p e
 
-parts_by : (n : ℕ) (bs ds cs : List ℕ) (own tail : List Item) → AreSides (level_sides n bs ds cs) → IsHeadingText own → StandsApart (level_sides n bs ds cs) own
+parts_by : (n : ℕ) (bs ds cs : List ℕ) (own tail : List Item) → AreSides (level_sides n bs ds cs) → IsHeadingText own → IsOfLevel (level_sides n bs ds cs) own
     → EndsLine tail → parts_in (heading_line (level_sides n bs ds cs) own ++ tail) ≡ node (heading_with (level_sides n bs ds cs) own) ∷ parts_in tail
 parts_by zero bs ds cs own tail a h p e = absurd (omega (arith, a.some))
 parts_by (suc n) bs ds cs own tail a h p e = heading_parts n bs ds cs own tail a h p e
 
+apart_by : (n : ℕ) (bs ds cs : List ℕ) (own : List Item) → AreSides (level_sides n bs ds cs) → StandsApart (level_sides n bs ds cs) own
+    → IsOfLevel (level_sides n bs ds cs) own
+apart_by zero bs ds cs own a p = absurd (omega (arith, a.some))
+apart_by (suc n) bs ds cs own a p = apart_so n bs ds cs own a p
+
+pub apart_level : (s : Sides) (own : List Item) → AreSides s → StandsApart s own → IsOfLevel s own
+apart_level s own a p = apart_by s.level s.lead s.trail s.rest own
+    (record { some = a.some; most = a.most; lead = a.lead; trail = a.trail; rest = a.rest }) (record { first = p.first; last = p.last })
+
 -- with what stands before it
-pub heading_between : (xs : List Item) (s : Sides) (own tail : List Item) → AreClosed (before_marks xs) → AreSides s → IsHeadingText own → StandsApart s own → EndsLine tail
+pub heading_between : (xs : List Item) (s : Sides) (own tail : List Item) → AreClosed (before_marks xs) → AreSides s → IsHeadingText own → IsOfLevel s own → EndsLine tail
     → parts_in (xs ++ (heading_line s own ++ tail)) ≡ parts_in xs ++ node (heading_with s own) ∷ parts_in tail
 heading_between xs s own tail c a h p e =
-    let f = first_row s own tail a h.unbroken p e in
+    let f = first_row s own tail a h p e in
     row_behind xs (heading_line s own ++ tail) (heading_row (heading_line s own) f.0) f.1 c f.2 refl
     ∙ ap (λ (ps : List Part). parts_in xs ++ ps) (parts_by s.level s.lead s.trail s.rest own tail
-    (record { some = a.some; most = a.most; lead = a.lead; trail = a.trail; rest = a.rest }) h (record { first = p.first; last = p.last }) e)
+    (record { some = a.some; most = a.most; lead = a.lead; trail = a.trail; rest = a.rest }) h p e)
 
-pub heading_stands : (xs : List Item) (s : Sides) (own tail : List Item) → AreClosed (before_marks xs) → AreSides s → IsHeadingText own → StandsApart s own → EndsLine tail
+pub heading_stands : (xs : List Item) (s : Sides) (own tail : List Item) → AreClosed (before_marks xs) → AreSides s → IsHeadingText own → IsOfLevel s own → EndsLine tail
     → meaning (xs ++ (heading_line s own ++ tail)) ≡ body_with (blocks_in xs ++ heading_with s own ∷ blocks_in tail)
 heading_stands xs s own tail c a h p e =
     let t : ItemTree = heading_with s own in

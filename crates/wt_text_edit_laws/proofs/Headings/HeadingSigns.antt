@@ -217,7 +217,20 @@ visible (s ∷ ss) ts = past_by (is_idle s) (past is_idle (ss ++ 61 ∷ ts)) (s 
 text_visible : (front ts : List ℕ) (n : ℕ) (cs : List ℕ) → is_idle_all (front ++ (ts ++ (equals (suc n) ++ cs))) ≡ false
 text_visible front ts n cs = ap is_idle_all (sym (append_assoc front ts (equals (suc n) ++ cs))) ∙ visible (front ++ ts) (equals n ++ cs)
 
-rest_visible : (n : ℕ) (ts cs : List ℕ) → BeginsOther ts → is_idle_all (drop 2 (line_signs (suc n) ts cs)) ≡ false
+-- something is there
+abbrev pub HasSign : List ℕ → Type 0
+HasSign [] = ⊥
+HasSign (s ∷ ss) = Unit {0}
+
+some_sign : (ss ts : List ℕ) → BeginsSeen ss → HasSign (ss ++ ts)
+some_sign [] ts h = absurd h
+some_sign (s ∷ ss) ts h = tt
+
+pub signs_between : (bs ss ds : List ℕ) → BeginsSeen ss → HasSign (round bs ss ds)
+signs_between [] ss ds h = some_sign ss ds h
+signs_between (b ∷ bs) ss ds h = tt
+
+rest_visible : (n : ℕ) (ts cs : List ℕ) → HasSign ts → is_idle_all (drop 2 (line_signs (suc n) ts cs)) ≡ false
 rest_visible zero [] cs h = absurd h
 rest_visible zero (t ∷ ts) cs h = visible ts cs
 rest_visible (suc n) ts cs h = text_visible (equals n) ts (suc n) cs
@@ -235,7 +248,7 @@ first_third false true h k more e f g = cc
 first_third false false true k more e f g = refl
 first_third false false false k more e f g = cc
 
-pub kind_is : (n : ℕ) (ts cs : List ℕ) → AreIdle cs → BeginsOther ts → kind_of_signs 0 (line_signs (suc n) ts cs) ≡ line.Heading
+pub kind_is : (n : ℕ) (ts cs : List ℕ) → AreIdle cs → HasSign ts → kind_of_signs 0 (line_signs (suc n) ts cs) ≡ line.Heading
 unfolding kind_of_signs
 kind_is n ts cs b h =
     let c : List ℕ = line_signs (suc n) ts cs in
