@@ -730,6 +730,21 @@ class OtherBytes(BatchCase):
         )
 
 
+class CalledNames(unittest.TestCase):
+    """The names of pages that a text calls."""
+
+    def test_blanks_round_a_name_are_not_in_it(self) -> None:
+        self.assertEqual(
+            examine.called_names(b"{{ A\n}} {{B |c}} {{:D}} {{}} {{ }}"), ["Template:A", "Template:B", "D"]
+        )
+
+    def test_open_braces_before_many_blanks_take_no_long_time(self) -> None:
+        start = time.process_time()
+        for text in (b"{{" + b" " * 100_000, b"{{a" + b"\n" * 100_000 + b"["):
+            self.assertEqual(examine.called_names(text), [])
+        self.assertLess(time.process_time() - start, 5)
+
+
 class FileNames(unittest.TestCase):
     """Names of files that need no reading are taken for the title that reading them gives."""
 
