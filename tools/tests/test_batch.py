@@ -730,6 +730,23 @@ class OtherBytes(BatchCase):
         )
 
 
+class CalledNames(unittest.TestCase):
+    """The names that a text's calls have written out."""
+
+    def test_names(self) -> None:
+        for text, names in {
+            b"{{a}} {{ A | b }} {{a_b\n|x}}": ["Template:A", "Template:A b"],
+            b"{{:a}} {{user:x}} {{{1}}} {{ }} {{a\tb}}": ["A", "User:X", "Template:1"],
+        }.items():
+            self.assertEqual(examine.called_names(text), names, text)
+
+    def test_they_take_time_in_proportion(self) -> None:
+        for text in (b"{" * 500_000, b"{{" + b" " * 500_000 + b"a", b"{{a" + b"\n" * 500_000 + b"["):
+            began = time.process_time()
+            self.assertEqual(examine.called_names(text), [])
+            self.assertLess(time.process_time() - began, 5)
+
+
 class FileNames(unittest.TestCase):
     """Names of files that need no reading are taken for the title that reading them gives."""
 

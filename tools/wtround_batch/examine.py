@@ -20,7 +20,8 @@ MEMORY_OF_TEXTS = 32 << 20  # bytes of templates that a worker remembers
 GROUP_BYTES = 64 << 10  # of the questions with which those begin that go on side by side
 MOST_FINDINGS = 100  # of a page that are kept with their places
 # A call whose name is written out. Names that other calls make are found when the program asks for them.
-CALL = re.compile(rb"\{\{\s*([^{}|<>\[\]#]+?)\s*(?:\||\}\})")
+# Blanks beside the name are in it, so that there is one way alone to match.
+CALL = re.compile(rb"\{\{([^{}|<>\[\]#]+)(?:\||\}\})")
 # A call in whose name another one stands.
 CALL_OF_MADE_NAME = re.compile(rb"\{\{[^{}|#]*\{\{")
 
@@ -97,7 +98,7 @@ def makes_names(text: bytes) -> bool:
 
 def called_names(text: bytes) -> "list[str]":
     """The pages that a text calls by names that are written out."""
-    names = (called_name(target) for target in dict.fromkeys(CALL.findall(text)))
+    names = (called_name(target.strip()) for target in dict.fromkeys(CALL.findall(text)))
     return list(dict.fromkeys(name for name in names if name is not None))
 
 
