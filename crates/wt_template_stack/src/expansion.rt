@@ -31,7 +31,9 @@ use std::marker::Model;
 use wt_devices::Folder;
 use wt_names::{Title, full_name};
 use wt_span::{List, Mode, NoMemory, Piece, Str};
-use wt_transclusion::{Braces, ExpandRefusal, PageLookup, ReadText, Store, Values, charge, take};
+use wt_transclusion::{
+    Braces, ExpandRefusal, Nesting, PageLookup, ReadText, Store, Values, charge, take,
+};
 
 /// The full names of the pages that are being expanded. Contracts see them from the innermost on.
 #[derive(Drop)]
@@ -224,13 +226,13 @@ impl<'a> Expansion<'a> {
         ensures names { OnOk result (self.new.names ≡ self.old.names) }
     {
         let names = self.names.as_slice();
+        let nesting = Nesting { names, left };
         match take(
             self.alloc,
             self.arena,
             &mut self.store,
             folder,
-            names,
-            left,
+            nesting,
             &pending.title,
         )? {
             PageLookup::Message(pieces) => Ok(pieces),
