@@ -17,7 +17,7 @@ ghost use Rattle.wt_annotated.specs.PassNodes.{inner_label};
 use crate::cursor::Cursor;
 use crate::cut::cut_as;
 use crate::held::own_pieces;
-use crate::pass_node::{inner_node, leaf_node};
+use crate::pass_node::{Delimiters, inner_node, leaf_node};
 use crate::piece::width;
 use std::alloc::Global;
 use wt_inline::{NodeHead, PieceTree, with_room};
@@ -75,15 +75,11 @@ fn node_round<'a>(
     let AllMade { nodes, behind } = children;
     let end = behind.place + width(closing.as_slice());
     let nodes = cut_as(alloc, head.kind, nodes)?;
-    let node = inner_node(
-        alloc,
-        head,
-        at,
-        end,
-        opening.as_slice(),
-        nodes,
-        closing.as_slice(),
-    )?;
+    let delimiters = Delimiters {
+        opening: opening.as_slice(),
+        closing: closing.as_slice(),
+    };
+    let node = inner_node(alloc, head, at, end, delimiters, nodes)?;
     Ok(Made {
         node,
         behind: Cursor {

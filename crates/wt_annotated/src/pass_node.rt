@@ -36,21 +36,28 @@ pub fn leaf_node<'a>(
     })
 }
 
+/// What is in front of a node's children, and what is behind them.
+#[derive(Clone, Copy)]
+pub struct Delimiters<'d, 'a> {
+    pub opening: &'d [Piece<'a>],
+    pub closing: &'d [Piece<'a>],
+}
+
 /// A node of these delimiters and children, which ends at a place.
 pub fn inner_node<'a>(
     alloc: Global,
     head: NodeHead<'a>,
     at: Cursor,
     end: u32,
-    opening: &[Piece<'a>],
+    delimiters: Delimiters<'_, 'a>,
     children: List<Node<'a>>,
-    closing: &[Piece<'a>],
 ) -> Result<Node<'a>, NoMemory>
-    requires opening { width (items opening.now) < 2 ^ 32 }
-    requires closing { width (items closing.now) < 2 ^ 32 }
-    ensures { IfOk result (λ n. view n ≡ tree (inner_label at.place at.next (head_of head.entry) end (items opening.now) (items closing.now))
-        (views children.entry)) }
+    requires opening { width (items delimiters.opening.now) < 2 ^ 32 }
+    requires closing { width (items delimiters.closing.now) < 2 ^ 32 }
+    ensures { IfOk result (λ n. view n ≡ tree (inner_label at.place at.next (head_of head.entry) end
+        (items delimiters.entry.opening.now) (items delimiters.entry.closing.now)) (views children.entry)) }
 {
+    let Delimiters { opening, closing } = delimiters;
     let ranges = Ranges {
         start: at.place,
         end,

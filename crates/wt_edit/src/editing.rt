@@ -9,7 +9,6 @@ ghost use Rattle.wt_visible.specs.Restored.{restored_from};
 ghost use Rattle.wt_visible.specs.SameNodes.{same_node};
 ghost use Rattle.wt_selser.specs.Edits.{edit_answer};
 ghost use Rattle.wt_transclusion.specs.Asked.{Asks};
-ghost use Rattle.wt_tree.specs.Tiling.{InPreorder};
 ghost use Rattle.wt_tree.specs.Tree.{label};
 ghost use Rattle.wt_tree.specs.View.{view};
 ghost use Rattle.wt_tree.specs.declared.kind.Kind.TheVariants as kind;
@@ -48,20 +47,31 @@ fn new_refusal(refusal: ExpandRefusal) -> EditRefusal
     }
 }
 
+/// A page that was edited.
+#[derive(Clone, Copy)]
+struct Revision<'r, 'a> {
+    /// The page as it is stored.
+    page: &'r str,
+    /// Its tree with its items.
+    annotated: &'r Annotated<'a>,
+    /// The body that was read.
+    edited: &'r Node<'a>,
+}
+
 /// The number, from 1, of the first child in which what was found of the new page differs from what the edited
 /// tree shows, where groups are those of the page; or None.
 fn differing_child<'a>(
     alloc: Global,
     found: KnownPage<'a>,
-    tree: &Node<'a>,
-    edited: &Node<'a>,
+    revision: Revision<'_, 'a>,
 ) -> Result<Option<u32>, NoMemory>
-    requires body { (label (view tree.now)).kind ≡ kind.Body }
-    requires numbered { ∥ InPreorder (view tree.now) ∥₁ }
+    requires body { (label (view revision.annotated.now.tree.body)).kind ≡ kind.Body }
     ensures { IfOk result (IsFirstDiffering (shown_children (view found.entry.annotated.tree.body))
-        (shown_children (restored_from (view tree.now) (view edited.now)))) }
+        (shown_children (restored_from (view revision.entry.annotated.now.tree.body)
+        (view revision.entry.edited.now)))) }
 {
-    first_differing(alloc, found.annotated.body(), tree, edited)
+    let tree = revision.annotated.body();
+    first_differing(alloc, found.annotated.body(), tree, revision.edited)
 }
 
 /// Refuses a new page that doesn't show what the edited tree shows, where groups are those of the page. What the
@@ -69,24 +79,23 @@ fn differing_child<'a>(
 fn check_meaning<'a, F: Folder>(
     alloc: Global,
     new_page: &'a str,
-    tree: &Node<'a>,
-    edited: &Node<'a>,
+    revision: Revision<'_, 'a>,
     arena: &'a Bump<Global>,
     folder: &mut F,
     expansion: Expansion<'a>,
 ) -> Result<(), EditRefusal>
-    requires body { (label (view tree.now)).kind ≡ kind.Body }
-    requires numbered { ∥ InPreorder (view tree.now) ∥₁ }
+    requires body { (label (view revision.annotated.now.tree.body)).kind ≡ kind.Body }
     requires known { HoldsPages expansion }
     requires room { length new_page.now ≤ PAGE_BYTES }
     ensures meant { (pages : Pages) (met : List (List ℕ)) → F.pages folder.old ≡ Some pages
         → IsFree pages met expansion.entry
-        → OnOk result (new_answer pages (view tree.now) (view edited.now) new_page.entry.now
-        ≡ Ok new_page.entry.now) }
+        → OnOk result (new_answer pages (view revision.entry.annotated.now.tree.body)
+        (view revision.entry.edited.now) new_page.entry.now ≡ Ok new_page.entry.now) }
     ensures refused { (pages : Pages) (met : List (List ℕ)) → F.pages folder.old ≡ Some pages
         → IsFree pages met expansion.entry
         → IfErr result (λ e. Refuses e
-        (new_answer pages (view tree.now) (view edited.now) new_page.entry.now)) }
+        (new_answer pages (view revision.entry.annotated.now.tree.body) (view revision.entry.edited.now)
+        new_page.entry.now)) }
     ensures asks { Asks (F.answered folder.old) (F.answered folder.new) (F.most_asked folder.old)
         (F.most_asked folder.new) }
     ensures asked { (pages : Pages) (met : List (List ℕ)) → F.pages folder.old ≡ Some pages
@@ -97,7 +106,7 @@ fn check_meaning<'a, F: Folder>(
     ensures kept { F.pages folder.new ≡ F.pages folder.old }
 {
     match known_page(alloc, new_page, arena, folder, expansion) {
-        Ok(found) => match differing_child(alloc, found, tree, edited)? {
+        Ok(found) => match differing_child(alloc, found, revision)? {
             Some(child) => Err(EditRefusal::Unspelled(child)),
             None => Ok(()),
         },
@@ -108,38 +117,40 @@ fn check_meaning<'a, F: Folder>(
 /// The new page of a page of this tree, by what its expansion knows.
 fn edit_of_known<'a, F: Folder>(
     alloc: Global,
-    page: &str,
-    annotated: &Annotated<'a>,
+    revision: Revision<'_, 'a>,
     expansion: Expansion<'a>,
-    edited: &Node<'a>,
     arena: &'a Bump<Global>,
     folder: &mut F,
 ) -> Result<Str, EditRefusal>
-    requires body { (label (view annotated.now.tree.body)).kind ≡ kind.Body }
+    requires body { (label (view revision.annotated.now.tree.body)).kind ≡ kind.Body }
     requires known { HoldsPages expansion }
     ensures answered { (pages : Pages) (met : List (List ℕ)) → F.pages folder.old ≡ Some pages
         → IsFree pages met expansion.entry
-        → Answers (answer_by pages (view annotated.now.tree.body) (view edited.now)
-        (edit_answer same_node annotated.now.items page.now (view annotated.now.tree.body)
-        (view edited.now))) result }
+        → Answers (answer_by pages (view revision.entry.annotated.now.tree.body)
+        (view revision.entry.edited.now)
+        (edit_answer same_node revision.entry.annotated.now.items revision.entry.page.now
+        (view revision.entry.annotated.now.tree.body) (view revision.entry.edited.now))) result }
     ensures page { IfOk result IsPage }
-    ensures new_page { (new : List ℕ) → edit_answer same_node annotated.now.items page.now
-        (view annotated.now.tree.body) (view edited.now) ≡ Ok new
+    ensures new_page { (new : List ℕ)
+        → edit_answer same_node revision.entry.annotated.now.items revision.entry.page.now
+        (view revision.entry.annotated.now.tree.body) (view revision.entry.edited.now) ≡ Ok new
         → IsPage new ⊎ RanOutFirst (F.answered folder.old) (F.answered folder.new) result }
     ensures asks { Asks (F.answered folder.old) (F.answered folder.new) (F.most_asked folder.old)
         (F.most_asked folder.new) }
     ensures asked { (pages : Pages) (met : List (List ℕ)) → F.pages folder.old ≡ Some pages
         → IsFree pages met expansion.entry
-        → AsksNames (firsts_after met (fetches (new_work pages (edit_answer same_node annotated.now.items
-        page.now (view annotated.now.tree.body) (view edited.now)))))
+        → AsksNames (firsts_after met (fetches (new_work pages (edit_answer same_node
+        revision.entry.annotated.now.items revision.entry.page.now
+        (view revision.entry.annotated.now.tree.body) (view revision.entry.edited.now)))))
         (F.answered folder.old) (F.answered folder.new) result }
     ensures count { IsCounted (F.fault_count folder.old) (F.fault_count folder.new) result }
     ensures kept { F.pages folder.new ≡ F.pages folder.old }
 {
-    let tree = annotated.body();
-    let changed = splice(alloc, annotated.items(), page, tree, edited)?;
+    let tree = revision.annotated.body();
+    let items = revision.annotated.items();
+    let changed = splice(alloc, items, revision.page, tree, revision.edited)?;
     let text = arena.try_alloc_str(changed.as_str())?;
-    check_meaning(alloc, text, tree, edited, arena, folder, expansion)?;
+    check_meaning(alloc, text, revision, arena, folder, expansion)?;
     Ok(changed)
 }
 
@@ -185,5 +196,10 @@ pub fn edit<'a, F: Folder>(
         annotated,
         expansion,
     } = known;
-    edit_of_known(alloc, page, &annotated, expansion, edited, arena, folder)
+    let revision = Revision {
+        page,
+        annotated: &annotated,
+        edited,
+    };
+    edit_of_known(alloc, revision, expansion, arena, folder)
 }

@@ -271,7 +271,8 @@ fn push_or_nowiki<'t>(
     Ok(())
 }
 
-fn push_style_round<'t>(
+/// A style round what is inside it.
+fn push_style<'t>(
     alloc: Global,
     out: &mut Vec<Unit<'t>>,
     sign: &str,
@@ -311,11 +312,13 @@ fn push_signs<'t>(
             Ok(())
         }
         InlineForm::Bold => {
-            push_style(alloc, out, page, place, "'''", kept, node)?;
+            let inside = units_of(alloc, page, place, node.children.as_slice())?;
+            push_style(alloc, out, "'''", kept, inside)?;
             Ok(())
         }
         InlineForm::Italic => {
-            push_style(alloc, out, page, place, "''", kept, node)?;
+            let inside = units_of(alloc, page, place, node.children.as_slice())?;
+            push_style(alloc, out, "''", kept, inside)?;
             Ok(())
         }
         InlineForm::Shown
@@ -331,25 +334,6 @@ fn push_signs<'t>(
             Ok(())
         }
     }
-}
-
-#[cycle(signs)]
-fn push_style<'t>(
-    alloc: Global,
-    out: &mut Vec<Unit<'t>>,
-    page: &Page<'_, '_>,
-    place: Place,
-    sign: &str,
-    kept: Option<Kept<'_, '_>>,
-    node: &'t Node<'_>,
-) -> Result<(), NoMemory>
-    ensures { (same : Tree → Tree → Bool) → TellsSame same
-        → OnOk result (all_signs out.new.items ≡ all_signs out.old.items ++ style sign.now (option_map kept_view kept.entry)
-        (signs_of_all (page_view same page.now) place (views (out-Node node.now).children))) }
-{
-    let inside = units_of(alloc, page, place, node.children.as_slice())?;
-    push_style_round(alloc, out, sign, kept, inside)?;
-    Ok(())
 }
 
 /// A node as it was, if it is unchanged; else it is written anew.

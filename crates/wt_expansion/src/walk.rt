@@ -26,7 +26,7 @@ use wt_expand::{MOST_TEMPLATES, form_of};
 use wt_functions::function_named;
 use wt_names::{Title, href_of};
 use wt_span::{ItemForm, LexKind, Mode, NoMemory};
-use wt_template_stack::{Expansion, Reader};
+use wt_template_stack::{Expansion, PageCall, Reader, Scope};
 use wt_transclusion::{Braces, ExpandRefusal, Next, Values, is_function, title_of_target};
 
 /// A page that is walked over.
@@ -231,14 +231,12 @@ impl<'a> PageWalk<'a> {
     {
         let source = reader.slice(call.at.start, call.at.end)?;
         let values = Values::new(self.alloc);
-        let given = self.expansion.stretch(
-            folder,
-            reader,
-            call.at.end,
-            Mode::Page,
-            &values,
-            MOST_TEMPLATES,
-        )?;
+        let scope = Scope {
+            mode: Mode::Page,
+            values: &values,
+            left: MOST_TEMPLATES,
+        };
+        let given = self.expansion.stretch(folder, reader, call.at.end, scope)?;
         self.found
             .push_outer(self.alloc, source, call, None, given.as_slice())?;
         Ok(())
@@ -364,16 +362,17 @@ impl<'a> PageWalk<'a> {
         let source = reader.slice(call.at.start, call.at.end)?;
         let href = href_of(self.alloc, &title)?;
         let values = Values::new(self.alloc);
-        let given = self.expansion.call_page(
-            folder,
-            reader,
+        let called = PageCall {
             call,
-            reader.cursor.at_start,
+            at_start: reader.cursor.at_start,
             title,
-            Mode::Page,
-            &values,
-            MOST_TEMPLATES,
-        )?;
+        };
+        let scope = Scope {
+            mode: Mode::Page,
+            values: &values,
+            left: MOST_TEMPLATES,
+        };
+        let given = self.expansion.call_page(folder, reader, called, scope)?;
         self.found
             .push_outer(self.alloc, source, call, Some(href), given.as_slice())?;
         Ok(())

@@ -19,7 +19,8 @@ use bumpalo::Bump;
 use std::alloc::Global;
 use wt_html_elements::{Attribute, Content};
 use wt_html_nodes::{
-    FitFault, Head, Headed, Position, headed_by, is_grouped, is_section_name, is_unsourced,
+    FitFault, Head, Headed, Position, StartTag, headed_by, is_grouped, is_section_name,
+    is_unsourced,
 };
 use wt_schema::Standing;
 use wt_span::{List, NoMemory};
@@ -72,40 +73,33 @@ fn enter(
     number
 }
 
-/// What an element is. Its name and its attributes are freed.
+/// What an element is. Its start tag is freed.
 fn begin(
     alloc: Global,
     walk: &mut Traversal,
     position: Position,
     standing: Standing,
-    name: Vec<u8>,
-    attributes: Vec<Attribute>,
+    tag: StartTag,
     contents: &[Content],
 ) -> Result<Headed, FitFault>
     requires few { walk.old.next + 1 < 2 ^ 32 }
-    requires values { are_utf8_values (pairs attributes.items) ≡ true }
+    requires values { are_utf8_values (pairs tag.attributes.items) ≡ true }
     requires texts { are_utf8_markups (views contents.now) ≡ true }
     ensures headed { RowFits (position.inside || is_grouped standing)
-        (λ group held. fit_row walk.old.next (spot_with position group) standing (row_as standing name.items (pairs attributes.items)) (pairs attributes.items)
+        (λ group held. fit_row walk.old.next (spot_with position group) standing
+        (row_as standing tag.name.items (pairs tag.attributes.items)) (pairs tag.attributes.items)
         (views contents.now) held) result }
-    ensures passed { Passed walk.old walk.new 1 (unsourced_here position.inside standing walk.old.next name.items (pairs attributes.items)) }
+    ensures passed { Passed walk.old walk.new 1
+        (unsourced_here position.inside standing walk.old.next tag.name.items (pairs tag.attributes.items)) }
 {
     let number = enter(
         walk,
         position.inside,
         standing,
-        name.as_slice(),
-        attributes.as_slice(),
+        tag.name.as_slice(),
+        tag.attributes.as_slice(),
     );
-    headed_by(
-        alloc,
-        number,
-        position,
-        standing,
-        name.as_slice(),
-        attributes.as_slice(),
-        contents,
-    )
+    headed_by(alloc, number, position, standing, &tag, contents)
 }
 
 /// What a text or an element is made into: nothing, a node by itself, the head of a group with its first
@@ -297,15 +291,8 @@ fn piece<'a>(
             contents,
         } => {
             let standing = standing_in(role);
-            let headed = begin(
-                alloc,
-                walk,
-                position,
-                standing,
-                name,
-                attributes,
-                contents.as_slice(),
-            )?;
+            let tag = StartTag { name, attributes };
+            let headed = begin(alloc, walk, position, standing, tag, contents.as_slice())?;
             let inside = is_within(position.inside, standing);
             let children = nodes(alloc, arena, walk, headed.head.kind, inside, contents)?;
             let made = made_with(alloc, arena, inside, headed, children)?;

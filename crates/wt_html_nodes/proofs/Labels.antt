@@ -134,6 +134,12 @@ pub row_own : (n : ℕ) (p : Position) (s : Standing) (name : List ℕ) (ps qs :
     → RowFits (p.inside || is_grouped s) (λ group held. fit_row n (spot_with p group) s (row_as s name ps) ps c held) r
 row_own n p s name ps qs c r e h = rw (sym e) h
 
+pub row_own_of : (n : ℕ) (p : Position) (s : Standing) (name name' : List ℕ) (ps ps' qs : List Pair) (c : Markups) (r : Result Headed FitFault)
+    → name' ≡ name → ps' ≡ ps → qs ≡ pairs_for s ps'
+    → RowFits (p.inside || is_grouped s) (λ group held. fit_row n (spot_with p group) s (row name' qs) ps' c held) r
+    → RowFits (p.inside || is_grouped s) (λ group held. fit_row n (spot_with p group) s (row_as s name ps) ps c held) r
+row_own_of n p s name name' ps ps' qs c r a b e h = rw (sym a, sym b) (row_own n p s name' ps' qs c r e h)
+
 pub row_memory : (n : ℕ) (p : Position) (s : Standing) (o : Option Kind) (ps : List Pair) (c : Markups) (e : FitFault) → e ≡ faults.NoMemory
     → RowFits (p.inside || is_grouped s) (λ group held. fit_row n (spot_with p group) s o ps c held) (Err e)
 row_memory n p s o ps c e h =

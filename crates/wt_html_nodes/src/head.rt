@@ -271,6 +271,13 @@ fn headed_in(
     }
 }
 
+/// The start tag of an element.
+#[derive(Drop)]
+pub struct StartTag {
+    pub name: Vec<u8>,
+    pub attributes: Vec<Attribute>,
+}
+
 /// What the element of this number is where it is, and as it does; `Unfit` names that number. `contents`
 /// is what is in the element: its texts are looked at, and no element in it.
 pub fn headed_by(
@@ -278,16 +285,18 @@ pub fn headed_by(
     number: u32,
     position: Position,
     standing: Standing,
-    name: &[u8],
-    attributes: &[Attribute],
+    tag: &StartTag,
     contents: &[Content],
 ) -> Result<Headed, FitFault>
-    requires values { are_utf8_values (pairs attributes.now) ≡ true }
+    requires values { are_utf8_values (pairs tag.now.attributes.items) ≡ true }
     requires texts { are_utf8_markups (views contents.now) ≡ true }
     ensures { RowFits (position.inside || is_grouped standing)
-        (λ group held. fit_row number (spot_with position group) standing (row_as standing name.now (pairs attributes.now)) (pairs attributes.now)
+        (λ group held. fit_row number (spot_with position group) standing
+        (row_as standing tag.now.name.items (pairs tag.now.attributes.items)) (pairs tag.now.attributes.items)
         (views contents.now) held) result }
 {
+    let name = tag.name.as_slice();
+    let attributes = tag.attributes.as_slice();
     let element = Element {
         number,
         standing,

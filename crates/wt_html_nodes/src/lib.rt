@@ -16,7 +16,7 @@ mod typed;
 
 pub use attributes::{has, is_marked, is_typed, is_unsourced, text_of, value_of};
 pub use fault::FitFault;
-pub use head::{Head, Headed, Position, body_head, headed_by};
+pub use head::{Head, Headed, Position, StartTag, body_head, headed_by};
 pub use number::{decimal_of, id_of};
 pub use row::{holds_text, is_section_name, shows_text};
 pub use standing::is_grouped;

@@ -144,19 +144,36 @@ fn push_next(out: &mut Vec<u8>, number: u32, kind: Kind, attrs: &[Attr]) -> Resu
     Ok(())
 }
 
+/// An element of a group.
+#[derive(Clone, Copy)]
+pub struct GroupElement<'g, 't> {
+    /// Whether it is the first one.
+    pub first: bool,
+    /// The number of the group.
+    pub number: u32,
+    pub group: &'g Node<'t>,
+    pub kind: Kind,
+    /// The attributes of its own.
+    pub attrs: &'g [Attr],
+}
+
 /// The attributes of an element of a group, the first or not.
 pub fn push_group_attributes(
     alloc: Global,
     out: &mut Vec<u8>,
-    first: bool,
-    number: u32,
-    group: &Node<'_>,
-    kind: Kind,
-    attrs: &[Attr],
+    element: GroupElement<'_, '_>,
 ) -> Result<(), NoMemory>
-    ensures { OnOk result (out.new.items ≡ out.old.items ++ group_attributes first number (label_of (out-Node group.now))
-        (fixed_attributes kind ++ attrs_of attrs.now)) }
+    ensures { OnOk result (out.new.items ≡ out.old.items
+        ++ group_attributes element.entry.first element.entry.number (label_of (out-Node element.entry.group.now))
+        (fixed_attributes element.entry.kind ++ attrs_of element.entry.attrs.now)) }
 {
+    let GroupElement {
+        first,
+        number,
+        group,
+        kind,
+        attrs,
+    } = element;
     if first {
         push_first(alloc, out, number, group, kind, attrs)
     } else {

@@ -10,7 +10,7 @@ ghost use Rattle.wt_tree.specs.View.{attrs_of, label_of, view, views};
 ghost use Rattle.wt_tree.specs.declared.node.Node.{out-Node};
 
 use crate::bytes::{Escaping, push_escaped};
-use crate::group_attributes::push_group_attributes;
+use crate::group_attributes::{GroupElement, push_group_attributes};
 use crate::names::push_name;
 use crate::shown::push_shown_all;
 use crate::tags::push_end_of;
@@ -33,24 +33,20 @@ fn is_start(progress: Progress) -> bool
     matches!(progress, Progress::Start)
 }
 
-/// The tag of an element of a group, the first or not, of this kind and with these attributes of its
-/// own, and with this end.
+/// The tag of an element of a group, with this end.
 fn push_group_tag(
     alloc: Global,
     out: &mut Vec<u8>,
-    first: bool,
-    number: u32,
-    group: &Node<'_>,
-    kind: Kind,
-    attrs: &[Attr],
+    element: GroupElement<'_, '_>,
     end: &[u8],
 ) -> Result<(), NoMemory>
-    ensures { OnOk result (out.new.items ≡ out.old.items ++ tag_of kind
-        (group_attributes first number (label_of (out-Node group.now)) (fixed_attributes kind ++ attrs_of attrs.now)) end.now) }
+    ensures { OnOk result (out.new.items ≡ out.old.items ++ tag_of element.entry.kind
+        (group_attributes element.entry.first element.entry.number
+        (label_of (out-Node element.entry.group.now)) (fixed_attributes element.entry.kind ++ attrs_of element.entry.attrs.now)) end.now) }
 {
     push(out, b"<")?;
-    push_name(out, kind)?;
-    push_group_attributes(alloc, out, first, number, group, kind, attrs)?;
+    push_name(out, element.kind)?;
+    push_group_attributes(alloc, out, element)?;
     push(out, end)?;
     Ok(())
 }
@@ -66,18 +62,15 @@ fn push_span(
 ) -> Result<(), NoMemory>
     ensures { OnOk result (out.new.items ≡ out.old.items ++ span_start first number (label_of (out-Node group.now))) }
 {
-    let kind = Kind::Tag(TagName::Span);
     let attrs: List<Attr> = List::new(alloc);
-    push_group_tag(
-        alloc,
-        out,
+    let element = GroupElement {
         first,
         number,
         group,
-        kind,
-        attrs.as_slice(),
-        b">",
-    )
+        kind: Kind::Tag(TagName::Span),
+        attrs: attrs.as_slice(),
+    };
+    push_group_tag(alloc, out, element, b">")
 }
 
 #[tactic(auto, unfolding(crate::specs::Shown::span_end))]
@@ -148,13 +141,17 @@ fn push_group_element(
     ensures { OnOk result (out.new.items ≡ out.old.items ++ group_element first number (label_of (out-Node group.now)) (out-Node node.now).kind
         (fixed_attributes (out-Node node.now).kind ++ attrs_of (out-Node node.now).more.attrs) (shown_html_of_all (views (out-Node node.now).children))) }
 {
-    let attrs = node.attrs();
+    let element = GroupElement {
+        first,
+        number,
+        group,
+        kind: node.kind,
+        attrs: node.attrs(),
+    };
     match node.kind.writing() {
-        Writing::AsVoid => push_group_tag(
-            alloc, out, first, number, group, node.kind, attrs, b"/>",
-        ),
+        Writing::AsVoid => push_group_tag(alloc, out, element, b"/>"),
         Writing::RoundCharacter | Writing::RoundChildren => {
-            push_group_tag(alloc, out, first, number, group, node.kind, attrs, b">")?;
+            push_group_tag(alloc, out, element, b">")?;
             push_shown_all(out, node.children.as_slice())?;
             push_end_of(out, node.kind)
         }

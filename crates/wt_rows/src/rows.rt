@@ -101,6 +101,14 @@ pub fn line_kind(line: &[Piece<'_>], tables: u32) -> LineKind
     kind_of_pieces(front_of(line, content_len(line)), tables)
 }
 
+/// A line in three parts: its lead, what comes after it, and its ending.
+#[derive(Clone, Copy)]
+struct LineParts<'l, 'a> {
+    lead: &'l [Piece<'a>],
+    content: &'l [Piece<'a>],
+    ending: &'l [Piece<'a>],
+}
+
 impl<'a> PageRows<'a> {
     /// No rows yet.
     pub fn new(alloc: Global) -> PageRows<'a>
@@ -195,22 +203,26 @@ impl<'a> PageRows<'a> {
         self,
         alloc: Global,
         kind: LineKind,
-        lead: &[Piece<'a>],
         n: usize,
-        content: &[Piece<'a>],
-        ending: &[Piece<'a>],
+        line: LineParts<'_, 'a>,
     ) -> Result<PageRows<'a>, NoMemory>
         requires made { ArePageRows self }
-        requires lead { AreWhole lead.now }
-        requires sound { All IsSoundPiece content.now }
-        requires ending { AreWhole ending.now }
-        requires unbroken { IsUnbroken (items content.now) }
-        requires within { n ≤ length (items content.now) }
-        requires edge { 0 < n → IsEdgeIn (items content.now) n }
+        requires lead { AreWhole line.lead.now }
+        requires sound { All IsSoundPiece line.content.now }
+        requires ending { AreWhole line.ending.now }
+        requires unbroken { IsUnbroken (items line.content.now) }
+        requires within { n ≤ length (items line.content.now) }
+        requires edge { 0 < n → IsEdgeIn (items line.content.now) n }
         requires free { (ss : List ℕ) → Begins kind ss }
-        ensures rows { IfOk result (λ r. made_rows r ≡ made_rows self.entry ++ signed_rows kind (items lead.now) n (items content.now) (items ending.now)) }
+        ensures rows { IfOk result (λ r. made_rows r ≡ made_rows self.entry
+            ++ signed_rows kind (items line.entry.lead.now) n (items line.entry.content.now) (items line.entry.ending.now)) }
         ensures made_after { IfOk result (λ r. ArePageRows r) }
     {
+        let LineParts {
+            lead,
+            content,
+            ending,
+        } = line;
         let (sign, rest) = cut(alloc, content, n)?;
         if Signs::of(rest.as_slice()).is_idle() {
             let mut end = rest;
@@ -241,14 +253,12 @@ impl<'a> PageRows<'a> {
     {
         let n = idle_len(content)?;
         let (lead, rest) = cut(alloc, content, n)?;
-        self.with_sign(
-            alloc,
-            LineKind::TableEnd,
-            lead.as_slice(),
-            2,
-            rest.as_slice(),
+        let line = LineParts {
+            lead: lead.as_slice(),
+            content: rest.as_slice(),
             ending,
-        )
+        };
+        self.with_sign(alloc, LineKind::TableEnd, 2, line)
     }
 
     /// A rule.
@@ -268,14 +278,12 @@ impl<'a> PageRows<'a> {
         let n = marks_len(content);
         let rest = rest_of(content, n);
         let len = dashes(rest)?;
-        self.with_sign(
-            alloc,
-            LineKind::Rule,
-            front_of(content, n),
-            len,
-            rest,
+        let line = LineParts {
+            lead: front_of(content, n),
+            content: rest,
             ending,
-        )
+        };
+        self.with_sign(alloc, LineKind::Rule, len, line)
     }
 
     /// The rows of a line of this kind.

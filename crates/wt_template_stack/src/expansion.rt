@@ -31,7 +31,9 @@ use std::marker::Model;
 use wt_devices::Folder;
 use wt_names::{Title, full_name};
 use wt_span::{List, Mode, NoMemory, Piece, Str};
-use wt_transclusion::{Braces, ExpandRefusal, PageLookup, ReadText, Store, Values, charge, take};
+use wt_transclusion::{
+    Braces, ExpandRefusal, Nesting, PageLookup, ReadText, Store, Values, charge, take,
+};
 
 /// The full names of the pages that are being expanded. Contracts see them from the innermost on.
 #[derive(Drop)]
@@ -92,6 +94,26 @@ fn entered<'a>(
 {
     names.push(full_name(alloc, title)?)?;
     Ok(TextRun::of_text(alloc, text, Mode::Template))
+}
+
+/// What a text is read by.
+#[derive(Clone, Copy)]
+pub struct Scope<'v, 'a> {
+    pub mode: Mode,
+    /// The values of its arguments.
+    pub values: &'v Values<'a>,
+    /// How many more pages may be expanded within it.
+    pub left: u32,
+}
+
+/// A call of a page whose target is read.
+#[derive(Drop)]
+pub struct PageCall<'a> {
+    pub call: Braces<'a>,
+    /// Whether the call is at the start of a line.
+    pub at_start: bool,
+    /// What its target names.
+    pub title: Title,
 }
 
 /// An expansion: the pages that were fetched, what was spent, and the pages that are being expanded.
@@ -204,13 +226,13 @@ impl<'a> Expansion<'a> {
         ensures names { OnOk result (self.new.names ≡ self.old.names) }
     {
         let names = self.names.as_slice();
+        let nesting = Nesting { names, left };
         match take(
             self.alloc,
             self.arena,
             &mut self.store,
             folder,
-            names,
-            left,
+            nesting,
             &pending.title,
         )? {
             PageLookup::Message(pieces) => Ok(pieces),
@@ -225,8 +247,7 @@ impl<'a> Expansion<'a> {
         }
     }
 
-    /// What a stretch of a text gives, up to a place, where so many more pages may be expanded. The
-    /// reader is where it begins.
+    /// What a stretch of a text gives, up to a place. The reader is where it begins.
     ///
     /// # Errors
     ///
@@ -236,23 +257,24 @@ impl<'a> Expansion<'a> {
         folder: &mut F,
         reader: Reader<'a>,
         end: u32,
-        mode: Mode,
-        values: &Values<'a>,
-        left: u32,
+        scope: Scope<'_, 'a>,
     ) -> Result<List<Piece<'a>>, ExpandRefusal>
         ensures given { (pages : Pages) (page t : List ℕ) (frame : Frame) (met : List (List ℕ)) (p : ℕ) (s : Bool) (xs : List TextMember)
-            → Concerns (F.pages folder.old) pages self.new.store result → IsStore pages met self.old.store → AreValues values.now frame
-            → IsReading mode t reader.entry p s
-            → IsStretchOf mode t p end xs → AnswersOutput pages page (ledger self.old.spent met (F.answered folder.old))
-            (given_from (reading_of pages mode frame left self.old.names) s t p xs) self.new.store self.new.spent (F.answered folder.new) result }
+            → Concerns (F.pages folder.old) pages self.new.store result → IsStore pages met self.old.store
+            → AreValues scope.entry.values.now frame
+            → IsReading scope.entry.mode t reader.entry p s
+            → IsStretchOf scope.entry.mode t p end xs
+            → AnswersOutput pages page (ledger self.old.spent met (F.answered folder.old))
+            (given_from (reading_of pages scope.entry.mode frame scope.entry.left self.old.names) s t p xs)
+            self.new.store self.new.spent (F.answered folder.new) result }
         ensures grown { OnOk result (Grows (F.pages folder.old) self.old.store self.new.store) }
         ensures kept { F.pages folder.new ≡ F.pages folder.old }
         ensures asks { Asks (F.answered folder.old) (F.answered folder.new) (F.most_asked folder.old) (F.most_asked folder.new) }
         ensures count { IsCounted (F.fault_count folder.old) (F.fault_count folder.new) result }
         ensures names { OnOk result (self.new.names ≡ self.old.names) }
     {
-        let run = TextRun::new(self.alloc, reader, end, mode);
-        self.finish(folder, run, values, left)
+        let run = TextRun::new(self.alloc, reader, end, scope.mode);
+        self.finish(folder, run, scope.values, scope.left)
     }
 
     /// What a whole text gives.
@@ -264,27 +286,26 @@ impl<'a> Expansion<'a> {
         &mut self,
         folder: &mut F,
         text: ReadText<'a>,
-        mode: Mode,
-        values: &Values<'a>,
-        left: u32,
+        scope: Scope<'_, 'a>,
     ) -> Result<List<Piece<'a>>, ExpandRefusal>
         ensures given { (pages : Pages) (page t : List ℕ) (frame : Frame) (met : List (List ℕ))
-            → Concerns (F.pages folder.old) pages self.new.store result → IsStore pages met self.old.store → AreValues values.now frame
-            → IsRead mode t text.entry
+            → Concerns (F.pages folder.old) pages self.new.store result → IsStore pages met self.old.store
+            → AreValues scope.entry.values.now frame
+            → IsRead scope.entry.mode t text.entry
             → AnswersOutput pages page (ledger self.old.spent met (F.answered folder.old))
-            (text_given (reading_of pages mode frame left self.old.names) t) self.new.store self.new.spent (F.answered folder.new) result }
+            (text_given (reading_of pages scope.entry.mode frame scope.entry.left self.old.names) t)
+            self.new.store self.new.spent (F.answered folder.new) result }
         ensures grown { OnOk result (Grows (F.pages folder.old) self.old.store self.new.store) }
         ensures kept { F.pages folder.new ≡ F.pages folder.old }
         ensures asks { Asks (F.answered folder.old) (F.answered folder.new) (F.most_asked folder.old) (F.most_asked folder.new) }
         ensures count { IsCounted (F.fault_count folder.old) (F.fault_count folder.new) result }
         ensures names { OnOk result (self.new.names ≡ self.old.names) }
     {
-        let run = TextRun::of_text(self.alloc, text, mode);
-        self.finish(folder, run, values, left)
+        let run = TextRun::of_text(self.alloc, text, scope.mode);
+        self.finish(folder, run, scope.values, scope.left)
     }
 
-    /// What the call of a page gives whose target, which names this title, is read already. The reader
-    /// comes after the target or in front of it.
+    /// What a call of a page gives. The reader comes after its target or in front of it.
     ///
     /// # Errors
     ///
@@ -293,33 +314,37 @@ impl<'a> Expansion<'a> {
         &mut self,
         folder: &mut F,
         reader: Reader<'a>,
-        call: Braces<'a>,
-        at_start: bool,
-        title: Title,
-        mode: Mode,
-        values: &Values<'a>,
-        left: u32,
+        called: PageCall<'a>,
+        scope: Scope<'_, 'a>,
     ) -> Result<List<Piece<'a>>, ExpandRefusal>
-        ensures given { (pages : Pages) (page t : List ℕ) (frame : Frame) (met : List (List ℕ)) (p : ℕ) (s : Bool) (c : IsCallOf mode t call.entry)
-            → Concerns (F.pages folder.old) pages self.new.store result → IsStore pages met self.old.store → AreValues values.now frame
-            → IsReading mode t reader.entry p s
+        ensures given { (pages : Pages) (page t : List ℕ) (frame : Frame) (met : List (List ℕ)) (p : ℕ) (s : Bool)
+            (c : IsCallOf scope.entry.mode t called.entry.call)
+            → Concerns (F.pages folder.old) pages self.new.store result → IsStore pages met self.old.store
+            → AreValues scope.entry.values.now frame
+            → IsReading scope.entry.mode t reader.entry p s
             → p ≤ first_end (c.at + c.braces) (part_members 0 c.inside)
             → AnswersOutput pages page (ledger self.old.spent met (F.answered folder.old))
-            (page_called (reading_of pages mode frame left self.old.names) t call.entry c at_start title) self.new.store self.new.spent
-            (F.answered folder.new) result }
+            (page_called (reading_of pages scope.entry.mode frame scope.entry.left self.old.names) t
+            called.entry.call c called.entry.at_start called.entry.title)
+            self.new.store self.new.spent (F.answered folder.new) result }
         ensures grown { OnOk result (Grows (F.pages folder.old) self.old.store self.new.store) }
         ensures kept { F.pages folder.new ≡ F.pages folder.old }
         ensures asks { Asks (F.answered folder.old) (F.answered folder.new) (F.most_asked folder.old) (F.most_asked folder.new) }
         ensures count { IsCounted (F.fault_count folder.old) (F.fault_count folder.new) result }
         ensures names { OnOk result (self.new.names ≡ self.old.names) }
     {
+        let PageCall {
+            call,
+            at_start,
+            title,
+        } = called;
         charge(&mut self.spent, 1)?;
-        let mut run = TextRun::new(self.alloc, reader, call.at.end, mode);
+        let mut run = TextRun::new(self.alloc, reader, call.at.end, scope.mode);
         let pending = PendingCall::new(self.alloc, call, at_start, title);
         let turn = run.next_part(pending)?;
-        if let Some(pieces) = self.advance(folder, &mut run, turn, left)? {
+        if let Some(pieces) = self.advance(folder, &mut run, turn, scope.left)? {
             return Ok(pieces);
         }
-        self.finish(folder, run, values, left)
+        self.finish(folder, run, scope.values, scope.left)
     }
 }

@@ -10,7 +10,7 @@ mod page;
 mod reader;
 mod run;
 
-pub use expansion::{Expansion, OpenPages};
+pub use expansion::{Expansion, OpenPages, PageCall, Scope};
 pub use laws::steps_end;
 pub use level::PendingCall;
 pub use page::{expanded_text, read_page};

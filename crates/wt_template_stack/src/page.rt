@@ -11,7 +11,7 @@ ghost use Rattle.wt_transclusion.specs.Asked.{Asks};
 ghost use Rattle.wt_transclusion.specs.Reads.{IsRead};
 ghost use Rattle.wt_transclusion.specs.Stops.{Stops};
 
-use crate::expansion::Expansion;
+use crate::expansion::{Expansion, Scope};
 use bumpalo::Bump;
 use std::alloc::Global;
 use wt_braces::BraceRefusal;
@@ -79,7 +79,12 @@ pub fn expanded_text<'a, F: Folder>(
     let read = read_page(alloc, page, arena)?;
     let values = Values::new(alloc);
     let mut expansion = Expansion::new(alloc, arena);
-    let pieces = expansion.text(folder, read, Mode::Page, &values, MOST_TEMPLATES)?;
+    let scope = Scope {
+        mode: Mode::Page,
+        values: &values,
+        left: MOST_TEMPLATES,
+    };
+    let pieces = expansion.text(folder, read, scope)?;
     let text = text_shown(alloc, pieces.as_slice())?;
     Ok(text)
 }

@@ -34,6 +34,6 @@ pub use reading::read_in;
 pub use refusal::ExpandRefusal;
 pub use store::Store;
 pub use target::{is_function, title_of_target};
-pub use templates::{PageLookup, take};
+pub use templates::{Nesting, PageLookup, take};
 pub use trim::{behind_items, trimmed_items};
 pub use values::Values;

@@ -96,6 +96,15 @@ fn is_open(names: &[Str], full: &str) -> bool
     false
 }
 
+/// How deep a call is.
+#[derive(Clone, Copy)]
+pub struct Nesting<'n> {
+    /// The full names of the pages that are being expanded, the outermost first.
+    pub names: &'n [Str],
+    /// How many more pages may be expanded within them.
+    pub left: u32,
+}
+
 /// What is taken for a title where the pages of these names are being expanded, the outermost first,
 /// and so many more may be: a message where it is one of them or no more may be, else its page.
 pub fn take<'a, F: Folder>(
@@ -103,21 +112,22 @@ pub fn take<'a, F: Folder>(
     arena: &'a Bump<Global>,
     store: &mut Store<'a>,
     folder: &mut F,
-    names: &[Str],
-    left: u32,
+    nesting: Nesting<'_>,
     title: &Title,
 ) -> Result<PageLookup<'a>, ExpandRefusal>
     ensures taken { (pages : Pages) (met : List (List ℕ)) → Concerns (F.pages folder.old) pages store.new result
-        → IsStore pages met store.old → AnswersTaking pages met (reverse names.now) left title.now store.new result }
+        → IsStore pages met store.old
+        → AnswersTaking pages met (reverse nesting.entry.names.now) nesting.entry.left title.now store.new result }
     ensures grown { OnOk result (Grows (F.pages folder.old) store.old store.new) }
     ensures kept { F.pages folder.new ≡ F.pages folder.old }
     ensures asks { Asks (F.answered folder.old) (F.answered folder.new) (F.most_asked folder.old) (F.most_asked folder.new) }
     ensures named { (pages : Pages) (met : List (List ℕ)) → IsStore pages met store.old
-        → IsNamed left (reverse names.now) (full_name_of title.now) met (F.answered folder.old)
-        (F.answered folder.new) result }
+        → IsNamed nesting.entry.left (reverse nesting.entry.names.now) (full_name_of title.now) met
+        (F.answered folder.old) (F.answered folder.new) result }
     ensures count { IsCounted (F.fault_count folder.old) (F.fault_count folder.new) result }
-    ensures some_left { IfOk result (λ k. IsPage k → 0 < left) }
+    ensures some_left { IfOk result (λ k. IsPage k → 0 < nesting.entry.left) }
 {
+    let Nesting { names, left } = nesting;
     let full = full_name(alloc, title)?;
     if is_open(names, full.as_str()) {
         return Ok(PageLookup::Message(loop_message(alloc, arena, title)?));

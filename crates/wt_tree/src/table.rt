@@ -1,5 +1,5 @@
 //! The table of kinds in code: a row for each kind.
-ghost use Rattle.std.specs.Prelude.{◌≡◌};
+ghost use Rattle.std.specs.Prelude.{◌≡◌, false, true};
 ghost use Rattle.wt_tree.specs.Kinds.{
   row,
   shape,
@@ -32,6 +32,12 @@ ghost use Rattle.wt_tree.specs.Kinds.{
   order,
 };
 ghost use Rattle.wt_tree.specs.Tiling.{is_group};
+ghost use Rattle.wt_tree.specs.declared.kind.Showing.TheVariants.{Element};
+ghost use Rattle.wt_tree.specs.declared.row.Holding.TheVariants.{NoElements};
+ghost use Rattle.wt_tree.specs.declared.row.Payload.TheVariants.{NoData};
+ghost use Rattle.wt_tree.specs.declared.row.Placement.TheVariants.{Nowhere};
+ghost use Rattle.wt_tree.specs.declared.row.Texts.TheVariants.{Page};
+ghost use Rattle.wt_tree.specs.declared.row.Writing.TheVariants.{AsText, AsVoid, RoundChildren, Unwritten};
 
 use crate::kind::Showing::{Characters, Element, Inside, Nothing};
 use crate::kind::{AttrName, Kind, Showing, TagName};
@@ -50,26 +56,66 @@ use crate::row::{
     Fixed, Holding, Own, Payload, Placement, Shape, Spelling, Texts, Values, Writing,
 };
 
-fn row(
-    writing: Writing,
-    is_leaf: bool,
-    is_numbered: bool,
-    showing: Showing,
-    class: Placement,
-    holding: Holding,
-    texts: Texts,
-    payload: Payload,
-) -> Shape
-    ensures { result ≡ row writing is_leaf is_numbered showing class holding texts payload }
+/// An element round its children.
+fn element(class: Placement, holding: Holding, texts: Texts) -> Shape
+    ensures { result ≡ row RoundChildren false true Element class holding texts NoData }
 {
     Shape {
-        writing,
-        is_leaf,
-        is_numbered,
-        showing,
+        writing: RoundChildren,
+        is_leaf: false,
+        is_numbered: true,
+        showing: Element,
         class,
         holding,
         texts,
+        payload: NoData,
+    }
+}
+
+/// An element without an end tag.
+fn void_element(showing: Showing, class: Placement) -> Shape
+    ensures { result ≡ row AsVoid true true showing class NoElements Page NoData }
+{
+    Shape {
+        writing: AsVoid,
+        is_leaf: true,
+        is_numbered: true,
+        showing,
+        class,
+        holding: NoElements,
+        texts: Page,
+        payload: NoData,
+    }
+}
+
+/// A text that is written as it is.
+fn written_text(showing: Showing, texts: Texts) -> Shape
+    ensures { result ≡ row AsText true false showing Nowhere NoElements texts NoData }
+{
+    Shape {
+        writing: AsText,
+        is_leaf: true,
+        is_numbered: false,
+        showing,
+        class: Nowhere,
+        holding: NoElements,
+        texts,
+        payload: NoData,
+    }
+}
+
+/// What no element of its own is written for.
+fn unwritten(showing: Showing, payload: Payload) -> Shape
+    ensures { result ≡ row Unwritten true true showing Nowhere NoElements Page payload }
+{
+    Shape {
+        writing: Unwritten,
+        is_leaf: true,
+        is_numbered: true,
+        showing,
+        class: Nowhere,
+        holding: NoElements,
+        texts: Page,
         payload,
     }
 }
@@ -204,283 +250,87 @@ impl Kind {
         ensures { result ≡ shape self }
     {
         match self {
-            Kind::Body => row(
-                RoundChildren,
-                false,
-                false,
-                Element,
-                Nowhere,
-                Blocks,
-                Separators,
-                NoData,
-            ),
-            Kind::Section(number) => row(
-                AsSection(number),
-                false,
-                false,
-                Inside,
-                Section,
-                Blocks,
-                Separators,
-                NoData,
-            ),
-            Kind::Para => row(
-                RoundChildren,
-                false,
-                true,
-                Element,
-                Block,
-                Inlines,
-                Page,
-                NoData,
-            ),
-            Kind::Heading(_) => row(
-                RoundChildren,
-                false,
-                true,
-                Element,
-                Block,
-                Inlines,
-                Page,
-                NoData,
-            ),
-            Kind::Rule => row(AsVoid, true, true, Element, Block, NoElements, Page, NoData),
-            Kind::Ul => row(
-                RoundChildren,
-                false,
-                true,
-                Element,
-                List,
-                Items,
-                Separators,
-                NoData,
-            ),
-            Kind::Ol => row(
-                RoundChildren,
-                false,
-                true,
-                Element,
-                List,
-                Items,
-                Separators,
-                NoData,
-            ),
-            Kind::Dl => row(
-                RoundChildren,
-                false,
-                true,
-                Element,
-                List,
-                Terms,
-                Separators,
-                NoData,
-            ),
-            Kind::Li => row(
-                RoundChildren,
-                false,
-                true,
-                Element,
-                Item,
-                InlinesThenLists,
-                Bordered,
-                NoData,
-            ),
-            Kind::Dt => row(
-                RoundChildren,
-                false,
-                true,
-                Element,
-                Term,
-                InlinesThenLists,
-                Bordered,
-                NoData,
-            ),
-            Kind::Dd => row(
-                RoundChildren,
-                false,
-                true,
-                Element,
-                Term,
-                InlinesThenLists,
-                Bordered,
-                NoData,
-            ),
-            Kind::Pre => row(
-                RoundChildren,
-                false,
-                true,
-                Element,
-                Block,
-                Inlines,
-                Page,
-                NoData,
-            ),
-            Kind::Table => row(
-                RoundChildren,
-                false,
-                true,
-                Element,
-                Block,
-                TableParts,
-                Separators,
-                NoData,
-            ),
-            Kind::Tbody => row(
-                RoundChildren,
-                false,
-                true,
-                Element,
-                TablePart,
-                TableRows,
-                Separators,
-                NoData,
-            ),
-            Kind::Tr => row(
-                RoundChildren,
-                false,
-                true,
-                Element,
-                TableRow,
-                Cells,
-                Separators,
-                NoData,
-            ),
-            Kind::Caption => row(
-                RoundChildren,
-                false,
-                true,
-                Element,
-                TablePart,
-                InlinesThenBlocks,
-                Bordered,
-                NoData,
-            ),
-            Kind::Td => row(
-                RoundChildren,
-                false,
-                true,
-                Element,
-                Cell,
-                InlinesThenBlocks,
-                Bordered,
-                NoData,
-            ),
-            Kind::Th => row(
-                RoundChildren,
-                false,
-                true,
-                Element,
-                Cell,
-                InlinesThenBlocks,
-                Bordered,
-                NoData,
-            ),
-            Kind::Bold => row(
-                RoundChildren,
-                false,
-                true,
-                Element,
-                Inline,
-                Inlines,
-                Page,
-                NoData,
-            ),
-            Kind::Italic => row(
-                RoundChildren,
-                false,
-                true,
-                Element,
-                Inline,
-                Inlines,
-                Page,
-                NoData,
-            ),
-            Kind::WikiLink => row(
-                RoundChildren,
-                false,
-                true,
-                Element,
-                Inline,
-                Inlines,
-                Page,
-                NoData,
-            ),
-            Kind::ExtLink => row(
-                RoundChildren,
-                false,
-                true,
-                Element,
-                Inline,
-                Inlines,
-                Page,
-                NoData,
-            ),
-            Kind::Category => row(
-                AsVoid, true, true, Element, Anywhere, NoElements, Page, NoData,
-            ),
-            Kind::Tag(_) => row(
-                RoundChildren,
-                false,
-                true,
-                Element,
-                Inline,
-                Inlines,
-                Page,
-                NoData,
-            ),
-            Kind::Br => row(
-                AsVoid, true, true, Element, Inline, NoElements, Page, NoData,
-            ),
-            Kind::Entity => row(
-                RoundCharacter,
-                true,
-                true,
-                Characters,
-                Character,
-                NoElements,
-                OwnCharacter,
-                NoData,
-            ),
-            Kind::Nowiki => row(
-                RoundChildren,
-                false,
-                true,
-                Inside,
-                Inline,
-                Entities,
-                Page,
-                NoData,
-            ),
-            Kind::Island => row(
-                RoundChildren,
-                true,
-                true,
-                Element,
-                Inline,
-                NoElements,
-                Page,
-                ExtensionTag,
-            ),
-            Kind::Switch => row(
-                AsVoid, true, true, Element, Anywhere, NoElements, Page, NoData,
-            ),
-            Kind::Comment => row(AsVoid, true, true, Nothing, Mark, NoElements, Page, NoData),
-            Kind::Include => row(AsVoid, true, true, Nothing, Mark, NoElements, Page, NoData),
-            Kind::Skip => row(
-                AsVoid, true, true, Nothing, Anywhere, NoElements, Page, NoData,
-            ),
-            Kind::Sep => row(
-                AsText, true, false, Nothing, Nowhere, NoElements, Separators, NoData,
-            ),
-            Kind::Text => row(
-                AsText, true, false, Characters, Nowhere, NoElements, Page, NoData,
-            ),
-            Kind::Group => row(
-                Unwritten, true, true, Inside, Nowhere, NoElements, Page, GroupParts,
-            ),
-            Kind::Empty => row(
-                Unwritten, true, true, Nothing, Nowhere, NoElements, Page, NoData,
-            ),
+            Kind::Body => Shape {
+                writing: RoundChildren,
+                is_leaf: false,
+                is_numbered: false,
+                showing: Element,
+                class: Nowhere,
+                holding: Blocks,
+                texts: Separators,
+                payload: NoData,
+            },
+            Kind::Section(number) => Shape {
+                writing: AsSection(number),
+                is_leaf: false,
+                is_numbered: false,
+                showing: Inside,
+                class: Section,
+                holding: Blocks,
+                texts: Separators,
+                payload: NoData,
+            },
+            Kind::Para => element(Block, Inlines, Page),
+            Kind::Heading(_) => element(Block, Inlines, Page),
+            Kind::Rule => void_element(Element, Block),
+            Kind::Ul => element(List, Items, Separators),
+            Kind::Ol => element(List, Items, Separators),
+            Kind::Dl => element(List, Terms, Separators),
+            Kind::Li => element(Item, InlinesThenLists, Bordered),
+            Kind::Dt => element(Term, InlinesThenLists, Bordered),
+            Kind::Dd => element(Term, InlinesThenLists, Bordered),
+            Kind::Pre => element(Block, Inlines, Page),
+            Kind::Table => element(Block, TableParts, Separators),
+            Kind::Tbody => element(TablePart, TableRows, Separators),
+            Kind::Tr => element(TableRow, Cells, Separators),
+            Kind::Caption => element(TablePart, InlinesThenBlocks, Bordered),
+            Kind::Td => element(Cell, InlinesThenBlocks, Bordered),
+            Kind::Th => element(Cell, InlinesThenBlocks, Bordered),
+            Kind::Bold => element(Inline, Inlines, Page),
+            Kind::Italic => element(Inline, Inlines, Page),
+            Kind::WikiLink => element(Inline, Inlines, Page),
+            Kind::ExtLink => element(Inline, Inlines, Page),
+            Kind::Category => void_element(Element, Anywhere),
+            Kind::Tag(_) => element(Inline, Inlines, Page),
+            Kind::Br => void_element(Element, Inline),
+            Kind::Entity => Shape {
+                writing: RoundCharacter,
+                is_leaf: true,
+                is_numbered: true,
+                showing: Characters,
+                class: Character,
+                holding: NoElements,
+                texts: OwnCharacter,
+                payload: NoData,
+            },
+            Kind::Nowiki => Shape {
+                writing: RoundChildren,
+                is_leaf: false,
+                is_numbered: true,
+                showing: Inside,
+                class: Inline,
+                holding: Entities,
+                texts: Page,
+                payload: NoData,
+            },
+            Kind::Island => Shape {
+                writing: RoundChildren,
+                is_leaf: true,
+                is_numbered: true,
+                showing: Element,
+                class: Inline,
+                holding: NoElements,
+                texts: Page,
+                payload: ExtensionTag,
+            },
+            Kind::Switch => void_element(Element, Anywhere),
+            Kind::Comment => void_element(Nothing, Mark),
+            Kind::Include => void_element(Nothing, Mark),
+            Kind::Skip => void_element(Nothing, Anywhere),
+            Kind::Sep => written_text(Nothing, Separators),
+            Kind::Text => written_text(Characters, Page),
+            Kind::Group => unwritten(Inside, GroupParts),
+            Kind::Empty => unwritten(Nothing, NoData),
         }
     }
 

@@ -9,14 +9,14 @@ use Rattle.wt_edit.proofs.editing.check_meaning.Goals as goal
 
 pub returns-in-Some-clause-refused : goal.returns-in-Some-clause-refused
 returns-in-Some-clause-refused g c = λ pages met told free.
-    meant pages (view c.args.tree.now) (view c.args.edited.now) (view c.in-Ok.found.annotated.tree.body) c.args.new_page.now
+    meant pages (view c.args.revision.annotated.now.tree.body) (view c.args.revision.edited.now) (view c.in-Ok.found.annotated.tree.body) c.args.new_page.now
     c.in_ok-child-in-Ok.field-0 (c.in-Ok.ensures.whole pages met told free)
     (c.in-Ok.ensures.tree pages met told free) c.in_ok-child-in-Ok.ensures
     ∙ ap (shown_by c.args.new_page.now) c.in-Some.is
 
 pub returns-in-None-clause-meant : goal.returns-in-None-clause-meant
 returns-in-None-clause-meant g c = λ pages met told free.
-    meant pages (view c.args.tree.now) (view c.args.edited.now) (view c.in-Ok.found.annotated.tree.body) c.args.new_page.now
+    meant pages (view c.args.revision.annotated.now.tree.body) (view c.args.revision.edited.now) (view c.in-Ok.found.annotated.tree.body) c.args.new_page.now
     c.in_ok-child-in-Ok.field-0 (c.in-Ok.ensures.whole pages met told free)
     (c.in-Ok.ensures.tree pages met told free) c.in_ok-child-in-Ok.ensures
     ∙ ap (shown_by c.args.new_page.now) c.in-None.is
@@ -51,7 +51,7 @@ returns-in-Err-clause-asked g c = λ pages met told free.
 
 pub returns-in-Err-clause-refused : goal.returns-in-Err-clause-refused
 returns-in-Err-clause-refused g c = λ pages met told free.
-    new_refused pages (view c.args.tree.now) (view c.args.edited.now) c.args.new_page.now c.in-Err.refusal c.new_refusal.result
+    new_refused pages (view c.args.revision.annotated.now.tree.body) (view c.args.revision.edited.now) c.args.new_page.now c.in-Err.refusal c.new_refusal.result
     c.new_refusal.ensures (c.in-Err.ensures.refused pages met told free)
 
 pub returns-in-Err-clause-count : goal.returns-in-Err-clause-count

@@ -12,7 +12,7 @@ use Rattle.wt_transclusion.proofs.templates.take.Goals as goal
 
 pub returns-then-is_open-clause-taken : goal.returns-then-is_open-clause-taken
 returns-then-is_open-clause-taken g c = λ pages met told s. (
-  loop_taken pages c.args.left c.args.names.now c.args.title.now c.as_str.result.now
+  loop_taken pages c.args.nesting.left c.args.nesting.names.now c.args.title.now c.as_str.result.now
       c.in_ok-loop_message.field-0
       (c.as_str.ensures ∙ c.in_ok-full.ensures)
       (sym c.is_open.ensures ∙ c.if-is_open.true) c.in_ok-loop_message.ensures,
@@ -27,7 +27,7 @@ returns-then-left-eq0-clause-grown g c = grows_none (g.F.Folder.pages c.args.fol
 
 pub returns-then-left-eq0-clause-taken : goal.returns-then-left-eq0-clause-taken
 returns-then-left-eq0-clause-taken g c = λ pages met told s. (
-  depth_taken pages c.args.left c.args.names.now c.args.title.now c.as_str.result.now
+  depth_taken pages c.args.nesting.left c.args.nesting.names.now c.args.title.now c.as_str.result.now
       c.in_ok-depth_message.field-0
       (c.as_str.ensures ∙ c.in_ok-full.ensures)
       (sym c.is_open.ensures ∙ c.if-is_open.false) c.if-left-eq0.true c.in_ok-depth_message.ensures,
@@ -36,9 +36,9 @@ returns-then-left-eq0-clause-taken g c = λ pages met told s. (
 
 pub returns-in-Ok-Some-clause-taken : goal.returns-in-Ok-Some-clause-taken
 returns-in-Ok-Some-clause-taken g c = λ pages met told s.
-    page_taken pages met c.args.names.now c.args.left c.args.title.now c.as_str-2.result.now c.in-Ok-Some.field-0 c.in-Ok-Some.read c.template.new.self
+    page_taken pages met c.args.nesting.names.now c.args.nesting.left c.args.title.now c.as_str-2.result.now c.in-Ok-Some.field-0 c.in-Ok-Some.read c.template.new.self
     (c.as_str-2.ensures ∙ c.in_ok-full.ensures)
-    (ap (λ n. is_among n c.args.names.now) (c.as_str-2.ensures ∙ sym c.as_str.ensures) ∙ sym c.is_open.ensures
+    (ap (λ n. is_among n c.args.nesting.names.now) (c.as_str-2.ensures ∙ sym c.as_str.ensures) ∙ sym c.is_open.ensures
     ∙ c.if-is_open.false) c.if-left-eq0.false c.in-Ok-Some.field-0-is (c.in-Ok-Some.ensures.page pages met told s)
 
 pub returns-in-Ok-Some-clause-named : goal.returns-in-Ok-Some-clause-named
@@ -47,10 +47,10 @@ returns-in-Ok-Some-clause-named g c = λ pages met s.
 
 pub returns-in-Ok-None-clause-taken : goal.returns-in-Ok-None-clause-taken
 returns-in-Ok-None-clause-taken g c = λ pages met told s.
-    link_taken pages met c.args.names.now c.args.left c.args.title.now c.as_str-2.result.now
+    link_taken pages met c.args.nesting.names.now c.args.nesting.left c.args.title.now c.as_str-2.result.now
     c.in_ok-absent_link-in-Ok-None.field-0
     c.in-Ok-None.field-0 c.template.new.self
-    (c.as_str-2.ensures ∙ c.in_ok-full.ensures) (ap (λ n. is_among n c.args.names.now) (c.as_str-2.ensures ∙ sym c.as_str.ensures) ∙ sym c.is_open.ensures
+    (c.as_str-2.ensures ∙ c.in_ok-full.ensures) (ap (λ n. is_among n c.args.nesting.names.now) (c.as_str-2.ensures ∙ sym c.as_str.ensures) ∙ sym c.is_open.ensures
     ∙ c.if-is_open.false)
     c.if-left-eq0.false c.in-Ok-None.field-0-is (c.in-Ok-None.ensures.page pages met told s)
     (c.in_ok-absent_link-in-Ok-None.ensures ∙ ap (λ n. chars (absent_text n))
@@ -62,8 +62,8 @@ returns-in-Ok-None-clause-named g c = λ pages met s.
 
 pub returns-clause-taken : goal.returns-clause-taken
 returns-clause-taken g c = λ pages met told s.
-    refused_taken pages c.args.names.now c.args.left c.args.title.now c.as_str-2.result.now c.in-Err.refusal (c.as_str-2.ensures ∙ c.in_ok-full.ensures)
-    (ap (λ n. is_among n c.args.names.now) (c.as_str-2.ensures ∙ sym c.as_str.ensures) ∙ sym c.is_open.ensures ∙ c.if-is_open.false) c.if-left-eq0.false
+    refused_taken pages c.args.nesting.names.now c.args.nesting.left c.args.title.now c.as_str-2.result.now c.in-Err.refusal (c.as_str-2.ensures ∙ c.in_ok-full.ensures)
+    (ap (λ n. is_among n c.args.nesting.names.now) (c.as_str-2.ensures ∙ sym c.as_str.ensures) ∙ sym c.is_open.ensures ∙ c.if-is_open.false) c.if-left-eq0.false
     (c.in-Err.ensures.page pages met told s)
 
 pub returns-in_err-full-clause-asks : goal.returns-in_err-full-clause-asks
@@ -90,38 +90,38 @@ pub returns-in_err-full-clause-named : goal.returns-in_err-full-clause-named
 returns-in_err-full-clause-named g c = λ pages met s.
     let old = g.F.Folder.answered c.args.folder.now in
     let e : c.from_residual.result ≡ Err answer.NoMemory = search rules in
-    memory_named c.args.left (reverse c.args.names.now) (full_name_of c.args.title.now) met old old c.from_residual.result e (inl refl)
+    memory_named c.args.nesting.left (reverse c.args.nesting.names.now) (full_name_of c.args.title.now) met old old c.from_residual.result e (inl refl)
 
 pub returns-in_err-loop_message-clause-named : goal.returns-in_err-loop_message-clause-named
 returns-in_err-loop_message-clause-named g c = λ pages met s.
     let old = g.F.Folder.answered c.args.folder.now in
     let e : c.from_residual-in_err-loop_message.result ≡ Err answer.NoMemory = search rules in
-    memory_named c.args.left (reverse c.args.names.now) (full_name_of c.args.title.now) met old old c.from_residual-in_err-loop_message.result e (inl refl)
+    memory_named c.args.nesting.left (reverse c.args.nesting.names.now) (full_name_of c.args.title.now) met old old c.from_residual-in_err-loop_message.result e (inl refl)
 
 pub returns-in_err-depth_message-clause-named : goal.returns-in_err-depth_message-clause-named
 returns-in_err-depth_message-clause-named g c = λ pages met s.
     let old = g.F.Folder.answered c.args.folder.now in
     let e : c.from_residual-in_err-depth_message.result ≡ Err answer.NoMemory = search rules in
-    memory_named c.args.left (reverse c.args.names.now) (full_name_of c.args.title.now) met old old c.from_residual-in_err-depth_message.result e (inl refl)
+    memory_named c.args.nesting.left (reverse c.args.nesting.names.now) (full_name_of c.args.title.now) met old old c.from_residual-in_err-depth_message.result e (inl refl)
 
 pub returns-in_err-absent_link-in-Ok-None-clause-named : goal.returns-in_err-absent_link-in-Ok-None-clause-named
 returns-in_err-absent_link-in-Ok-None-clause-named g c = λ pages met s.
     let old = g.F.Folder.answered c.args.folder.now in
     let x = c.from_residual-in_err-absent_link-in-Ok-None.result in
     let e : x ≡ Err answer.NoMemory = search rules in
-    memory_named c.args.left (reverse c.args.names.now) (full_name_of c.args.title.now) met old
+    memory_named c.args.nesting.left (reverse c.args.nesting.names.now) (full_name_of c.args.title.now) met old
     (g.F.Folder.answered c.template.new.folder) x e
     (inr (c.in-Ok-None.ensures.named pages met s
-    ∙ taking_named c.args.left c.args.names.now c.args.title.now c.as_str-2.result.now met old
+    ∙ taking_named c.args.nesting.left c.args.nesting.names.now c.args.title.now c.as_str-2.result.now met old
     (c.as_str-2.ensures ∙ c.in_ok-full.ensures)
-    (ap (λ n. is_among n c.args.names.now) (c.as_str-2.ensures ∙ sym c.as_str.ensures) ∙ sym c.is_open.ensures
+    (ap (λ n. is_among n c.args.nesting.names.now) (c.as_str-2.ensures ∙ sym c.as_str.ensures) ∙ sym c.is_open.ensures
     ∙ c.if-is_open.false) c.if-left-eq0.false))
 
 pub returns-clause-named : goal.returns-clause-named
 returns-clause-named g c = λ pages met s.
-    title_named c.args.left c.args.names.now c.args.title.now c.as_str-2.result.now met
+    title_named c.args.nesting.left c.args.nesting.names.now c.args.title.now c.as_str-2.result.now met
     (g.F.Folder.answered c.args.folder.now) (g.F.Folder.answered c.template.new.folder) c.in-Err.refusal
     (c.as_str-2.ensures ∙ c.in_ok-full.ensures)
-    (ap (λ n. is_among n c.args.names.now) (c.as_str-2.ensures ∙ sym c.as_str.ensures) ∙ sym c.is_open.ensures
+    (ap (λ n. is_among n c.args.nesting.names.now) (c.as_str-2.ensures ∙ sym c.as_str.ensures) ∙ sym c.is_open.ensures
     ∙ c.if-is_open.false) c.if-left-eq0.false (c.in-Err.ensures.unmet pages met s)
     (c.in-Err.ensures.named pages met s)

@@ -6,7 +6,7 @@ use Rattle.wt_rows.proofs.rows.PageRows.with_sign.Goals as goal
 
 pub with_row-requires-clause-row : goal.with_row-requires-clause-row
 with_row-requires-clause-row c =
-    let xs = items c.args.content.now in
+    let xs = items c.args.line.content.now in
     let sign = c.in_ok-sign.sign in
     let rest = c.in_ok-sign.rest in
     let left = whole_back xs rest rest c.args.n refl c.in_ok-sign.ensures.sound_back c.in_ok-sign.ensures.back c.requires.unbroken in
@@ -15,13 +15,13 @@ with_row-requires-clause-row c =
       inside = whole_front xs sign c.as_slice-then-is_idle.result.now c.args.n c.as_slice-then-is_idle.ensures c.in_ok-sign.ensures.sound_front
           c.in_ok-sign.ensures.front c.requires.unbroken;
       ending = subst AreWhole (sym (c.as_slice-then-is_idle-2.ensures ∙ c.in_ok-extend_from_slice.ensures.ok))
-          (whole_append rest c.args.ending.now left c.requires.ending);
+          (whole_append rest c.args.line.ending.now left c.requires.ending);
       begins = c.requires.free _;
     }
 
 pub with_row-requires-2-clause-row : goal.with_row-requires-2-clause-row
 with_row-requires-2-clause-row c =
-    let xs = items c.args.content.now in
+    let xs = items c.args.line.content.now in
     let sign = c.in_ok-sign.sign in
     record {
       lead = c.requires.lead;
@@ -33,5 +33,5 @@ with_row-requires-2-clause-row c =
 
 pub with_marked-requires-clause-content : goal.with_marked-requires-clause-content
 with_marked-requires-clause-content c =
-    whole_back (items c.args.content.now) c.in_ok-sign.rest c.as_slice-3.result.now c.args.n c.as_slice-3.ensures c.in_ok-sign.ensures.sound_back
+    whole_back (items c.args.line.content.now) c.in_ok-sign.rest c.as_slice-3.result.now c.args.n c.as_slice-3.ensures c.in_ok-sign.ensures.sound_back
     c.in_ok-sign.ensures.back c.requires.unbroken

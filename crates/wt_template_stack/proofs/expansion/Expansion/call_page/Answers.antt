@@ -23,12 +23,12 @@ use Rattle.wt_template_stack.proofs.expansion.Expansion.call_page.Goals as goal
 pub returns-in_err-pieces-clause-given : goal.returns-in_err-pieces-clause-given
 returns-in_err-pieces-clause-given g c = λ pages page t frame met p s b told st v reading low.
     let self = c.args.self.now in
-    let r = reading_of pages c.args.mode frame c.args.left self.names in
+    let r = reading_of pages c.args.scope.mode frame c.args.scope.left self.names in
     let answered = g.F.Folder.answered c.args.folder.now in
-    let o = page_begun self.spent (after_values r c.args.at_start c.args.title [] 1 (later_parts (parts_of_call r t c.args.call b))) in
-    let all = page_called r t c.args.call b c.args.at_start c.args.title in
-    let first = page_alone r t c.new-run.result c.args.call c.args.at_start c.args.title c.new-pending.result b p s o refl
-    (subst (λ (x : Reader). IsReading c.args.mode t x p s) (sym c.new-run.ensures.reader) reading) c.new-run.ensures.mode c.new-run.ensures.levels low
+    let o = page_begun self.spent (after_values r c.args.called.at_start c.args.called.title [] 1 (later_parts (parts_of_call r t c.args.called.call b))) in
+    let all = page_called r t c.args.called.call b c.args.called.at_start c.args.called.title in
+    let first = page_alone r t c.new-run.result c.args.called.call c.args.called.at_start c.args.called.title c.new-pending.result b p s o refl
+    (subst (λ (x : Reader). IsReading c.args.scope.mode t x p s) (sym c.new-run.ensures.reader) reading) c.new-run.ensures.mode c.new-run.ensures.levels low
     (record {
       call = c.new-pending.ensures.call;
       at_start = c.new-pending.ensures.at_start;
@@ -44,17 +44,17 @@ returns-in_err-pieces-clause-given g c = λ pages page t frame met p s b told st
     let e : c.from_residual-in_err-pieces.result ≡ Err c.in_err-pieces.field-0.0 = search rules in
     let named = subst (λ x. Concerns (g.F.Folder.pages c.args.folder.now) pages c.advance.new.self.store x) e told in
     subst (λ x. AnswersOutput pages page before all c.advance.new.self.store c.advance.new.self.spent (g.F.Folder.answered c.advance.new.folder) x) (sym e)
-    (c.in_err-pieces.ensures.given pages page t c.args.mode frame before all named step)
+    (c.in_err-pieces.ensures.given pages page t c.args.scope.mode frame before all named step)
 
 pub returns-in-Some-clause-given : goal.returns-in-Some-clause-given
 returns-in-Some-clause-given g c = λ pages page t frame met p s b told st v reading low.
     let self = c.args.self.now in
-    let r = reading_of pages c.args.mode frame c.args.left self.names in
+    let r = reading_of pages c.args.scope.mode frame c.args.scope.left self.names in
     let answered = g.F.Folder.answered c.args.folder.now in
-    let o = page_begun self.spent (after_values r c.args.at_start c.args.title [] 1 (later_parts (parts_of_call r t c.args.call b))) in
-    let all = page_called r t c.args.call b c.args.at_start c.args.title in
-    let first = page_alone r t c.new-run.result c.args.call c.args.at_start c.args.title c.new-pending.result b p s o refl
-    (subst (λ (x : Reader). IsReading c.args.mode t x p s) (sym c.new-run.ensures.reader) reading) c.new-run.ensures.mode c.new-run.ensures.levels low
+    let o = page_begun self.spent (after_values r c.args.called.at_start c.args.called.title [] 1 (later_parts (parts_of_call r t c.args.called.call b))) in
+    let all = page_called r t c.args.called.call b c.args.called.at_start c.args.called.title in
+    let first = page_alone r t c.new-run.result c.args.called.call c.args.called.at_start c.args.called.title c.new-pending.result b p s o refl
+    (subst (λ (x : Reader). IsReading c.args.scope.mode t x p s) (sym c.new-run.ensures.reader) reading) c.new-run.ensures.mode c.new-run.ensures.levels low
     (record {
       call = c.new-pending.ensures.call;
       at_start = c.new-pending.ensures.at_start;
@@ -68,17 +68,17 @@ returns-in-Some-clause-given g c = λ pages page t frame met p s b told st v rea
     c.in_ok-charge.ensures.large c.in_ok-charge.ensures.spent) (c.in_ok-turn.ensures.answer r t o first) in
     let before = ledger self.spent met answered in
     subst (λ (x : Option (Listed Piece)). AnswersAdvance pages page r t before all c.advance.new.run c.advance.new.self.store c.advance.new.self.spent
-    (g.F.Folder.answered c.advance.new.folder) (Ok x)) c.in-Some.is (c.in_ok-pieces.ensures.given pages page t c.args.mode frame before all told step)
+    (g.F.Folder.answered c.advance.new.folder) (Ok x)) c.in-Some.is (c.in_ok-pieces.ensures.given pages page t c.args.scope.mode frame before all told step)
 
 pub returns-clause-given : goal.returns-clause-given
 returns-clause-given g c = λ pages page t frame met p s b told st v reading low.
     let self = c.args.self.now in
-    let r = reading_of pages c.args.mode frame c.args.left self.names in
+    let r = reading_of pages c.args.scope.mode frame c.args.scope.left self.names in
     let answered = g.F.Folder.answered c.args.folder.now in
-    let o = page_begun self.spent (after_values r c.args.at_start c.args.title [] 1 (later_parts (parts_of_call r t c.args.call b))) in
-    let all = page_called r t c.args.call b c.args.at_start c.args.title in
-    let first = page_alone r t c.new-run.result c.args.call c.args.at_start c.args.title c.new-pending.result b p s o refl
-    (subst (λ (x : Reader). IsReading c.args.mode t x p s) (sym c.new-run.ensures.reader) reading) c.new-run.ensures.mode c.new-run.ensures.levels low
+    let o = page_begun self.spent (after_values r c.args.called.at_start c.args.called.title [] 1 (later_parts (parts_of_call r t c.args.called.call b))) in
+    let all = page_called r t c.args.called.call b c.args.called.at_start c.args.called.title in
+    let first = page_alone r t c.new-run.result c.args.called.call c.args.called.at_start c.args.called.title c.new-pending.result b p s o refl
+    (subst (λ (x : Reader). IsReading c.args.scope.mode t x p s) (sym c.new-run.ensures.reader) reading) c.new-run.ensures.mode c.new-run.ensures.levels low
     (record {
       call = c.new-pending.ensures.call;
       at_start = c.new-pending.ensures.at_start;
@@ -98,11 +98,11 @@ returns-clause-given g c = λ pages page t frame met p s b told st v reading low
     c.in_ok-pieces.ensures.grown after (agrees_known pages met self.store st) told in
     let left = subst (λ (x : Option (Listed Piece)). AnswersAdvance pages page r t before all c.advance.new.run now.store now.spent told_now (Ok x))
     c.in_default.is
-    (c.in_ok-pieces.ensures.given pages page t c.args.mode frame before all agrees step) in
+    (c.in_ok-pieces.ensures.given pages page t c.args.scope.mode frame before all agrees step) in
     let there = subst (λ (ns : List (List ℕ)). Progress pages page
-    (reading_of pages c.args.mode frame c.args.left ns) t before all c.advance.new.run now.store now.spent told_now)
+    (reading_of pages c.args.scope.mode frame c.args.scope.left ns) t before all c.advance.new.run now.store now.spent told_now)
     (sym c.in_ok-pieces.ensures.names) left in
-    c.finish.ensures.given pages page t c.args.mode frame before all
+    c.finish.ensures.given pages page t c.args.scope.mode frame before all
     (subst (λ o. Concerns o pages c.finish.new.self.store c.finish.result) (sym c.in_ok-pieces.ensures.kept) told) v there
 
 pub returns-clause-grown : goal.returns-clause-grown
@@ -114,10 +114,10 @@ returns-clause-grown g c =
 pub returns-in_err-charge-clause-given : goal.returns-in_err-charge-clause-given
 returns-in_err-charge-clause-given g c = λ pages page t frame met p s b told st v reading low.
     let self = c.args.self.now in
-    let r = reading_of pages c.args.mode frame c.args.left self.names in
+    let r = reading_of pages c.args.scope.mode frame c.args.scope.left self.names in
     let answered = g.F.Folder.answered c.args.folder.now in
-    let o = after_values r c.args.at_start c.args.title [] 1 (later_parts (parts_of_call r t c.args.call b)) in
-    let all = page_called r t c.args.call b c.args.at_start c.args.title in
+    let o = after_values r c.args.called.at_start c.args.called.title [] 1 (later_parts (parts_of_call r t c.args.called.call b)) in
+    let all = page_called r t c.args.called.call b c.args.called.at_start c.args.called.title in
     let before = ledger self.spent met answered in
     let e : c.from_residual.result ≡ Err c.in_err-charge.field-0.0 = search rules in
     subst (λ x. AnswersOutput pages page before all self.store c.charge.new.spent answered x) (sym e)
@@ -128,10 +128,10 @@ returns-in_err-charge-clause-given g c = λ pages page t frame met p s b told st
 pub returns-in_err-turn-clause-given : goal.returns-in_err-turn-clause-given
 returns-in_err-turn-clause-given g c = λ pages page t frame met p s b told st v reading low.
     let self = c.args.self.now in
-    let r = reading_of pages c.args.mode frame c.args.left self.names in
+    let r = reading_of pages c.args.scope.mode frame c.args.scope.left self.names in
     let before = ledger self.spent met (g.F.Folder.answered c.args.folder.now) in
     let e : c.from_residual-in_err-turn.result ≡ Err answer.NoMemory = search rules in
-    memory_answered pages page before (page_called r t c.args.call b c.args.at_start c.args.title) self.store
+    memory_answered pages page before (page_called r t c.args.called.call b c.args.called.at_start c.args.called.title) self.store
     c.charge.new.spent
     c.from_residual-in_err-turn.result e
 
