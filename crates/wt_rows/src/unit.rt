@@ -73,17 +73,10 @@ pub fn unit_len(rows: &[RowAt]) -> usize
 pub fn begins_part(kind: LineKind) -> bool
     ensures { result ≡ begins_part kind }
 {
-    match kind {
-        LineKind::Caption | LineKind::Row | LineKind::Cell | LineKind::Header => true,
-        LineKind::TableOpen
-        | LineKind::TableEnd
-        | LineKind::Blank
-        | LineKind::Heading
-        | LineKind::Rule
-        | LineKind::List
-        | LineKind::Pre
-        | LineKind::Text => false,
-    }
+    matches!(
+        kind,
+        LineKind::Caption | LineKind::Row | LineKind::Cell | LineKind::Header
+    )
 }
 
 /// How many rows come before the first unit that begins a caption, a row of a table or cells.
