@@ -31,7 +31,7 @@ pub use laws::{
 pub use node::{Sources, leaf_ranges, leaf_sources, unnumbered_node};
 pub use number::{next_after, number_of};
 pub use page_text::{Progress, page_texts, page_width};
-pub use pass::{Made, annotated_node};
+pub use pass::{PassedNode, annotated_node};
 pub use seam::{
     are_of_page, call_of, first_call, first_found, has_page_item, is_hollow, is_parted,
     last_of_piece,

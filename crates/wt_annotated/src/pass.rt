@@ -26,19 +26,19 @@ use wt_tree::Node;
 
 /// A node, and where the pass comes after it.
 #[derive(Drop)]
-pub struct Made<'a> {
+pub struct PassedNode<'a> {
     pub node: Node<'a>,
     pub behind: Cursor,
 }
 
 /// The children of a node, and where the pass comes after them.
 #[derive(Drop)]
-struct AllMade<'a> {
+struct PassedNodes<'a> {
     nodes: List<Node<'a>>,
     behind: Cursor,
 }
 
-fn leaf<'a>(alloc: Global, tree: PieceTree<'a>, at: Cursor) -> Result<Made<'a>, NoMemory>
+fn leaf<'a>(alloc: Global, tree: PieceTree<'a>, at: Cursor) -> Result<PassedNode<'a>, NoMemory>
     requires leaf { is_leaf (out-PieceTree tree).head.kind ≡ true }
     requires place { at.place + width (tree_items (item_tree tree)) < 2 ^ 32 }
     ensures { IfOk result (λ m. IsMade at.place at.next (item_tree tree.entry) (view m.node) m.behind.place m.behind.next) }
@@ -52,7 +52,7 @@ fn leaf<'a>(alloc: Global, tree: PieceTree<'a>, at: Cursor) -> Result<Made<'a>, 
     let own = own_pieces(opening, children, closing)?;
     let behind = at.after(head.kind, width(own.as_slice()))?;
     let node = leaf_node(alloc, head, at, own.as_slice())?;
-    Ok(Made { node, behind })
+    Ok(PassedNode { node, behind })
 }
 
 /// A node round the children that are made.
@@ -61,9 +61,9 @@ fn node_round<'a>(
     head: NodeHead<'a>,
     at: Cursor,
     opening: List<Piece<'a>>,
-    children: AllMade<'a>,
+    children: PassedNodes<'a>,
     closing: List<Piece<'a>>,
-) -> Result<Made<'a>, NoMemory>
+) -> Result<PassedNode<'a>, NoMemory>
     requires opening { width (items opening) < 2 ^ 32 }
     requires closing { children.behind.place + width (items closing) < 2 ^ 32 }
     ensures node { IfOk result (λ m. view m.node
@@ -72,7 +72,7 @@ fn node_round<'a>(
     ensures place { IfOk result (λ m. m.behind.place ≡ children.entry.behind.place + width (items closing.entry)) }
     ensures number { IfOk result (λ m. m.behind.next ≡ children.entry.behind.next) }
 {
-    let AllMade { nodes, behind } = children;
+    let PassedNodes { nodes, behind } = children;
     let end = behind.place + width(closing.as_slice());
     let nodes = cut_as(alloc, head.kind, nodes)?;
     let delimiters = Delimiters {
@@ -80,7 +80,7 @@ fn node_round<'a>(
         closing: closing.as_slice(),
     };
     let node = inner_node(alloc, head, at, end, delimiters, nodes)?;
-    Ok(Made {
+    Ok(PassedNode {
         node,
         behind: Cursor {
             place: end,
@@ -95,7 +95,7 @@ fn annotated_all<'a>(
     alloc: Global,
     trees: List<PieceTree<'a>>,
     at: Cursor,
-) -> Result<AllMade<'a>, NoMemory>
+) -> Result<PassedNodes<'a>, NoMemory>
     requires { at.place + width (held_by_all (forest (item_trees trees))) < 2 ^ 32 }
     ensures { IfOk result (λ m. AreMade at.place at.next (forest (item_trees trees.entry)) (views m.nodes) m.behind.place m.behind.next) }
 {
@@ -106,7 +106,7 @@ fn annotated_all<'a>(
         behind = made.behind;
         nodes.push(made.node)?;
     }
-    Ok(AllMade { nodes, behind })
+    Ok(PassedNodes { nodes, behind })
 }
 
 /// The node of a tree that begins where the pass is.
@@ -115,7 +115,7 @@ pub fn annotated_node<'a>(
     alloc: Global,
     tree: PieceTree<'a>,
     at: Cursor,
-) -> Result<Made<'a>, NoMemory>
+) -> Result<PassedNode<'a>, NoMemory>
     requires { at.place + width (tree_items (item_tree tree)) < 2 ^ 32 }
     ensures { IfOk result (λ m. IsMade at.place at.next (item_tree tree.entry) (view m.node) m.behind.place m.behind.next) }
 {

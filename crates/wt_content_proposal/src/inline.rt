@@ -1,7 +1,7 @@
 //! Inline content as wikitext: what was in the page as it was, texts too, and what is new as `edit` spells it.
 
 use crate::groups::role_in_line;
-use crate::joints::{NOWHERE, Spot, place_of_new, source_of, with_joints};
+use crate::joints::{InsidePlace, NOWHERE, place_of_new, source_of, with_joints};
 use crate::known::{Block, Known, first_text, last_text};
 use crate::links::{is_bare_url, shortened, with_colons, with_fragment};
 use crate::nowiki::nowiki_round;
@@ -682,7 +682,7 @@ fn units_of<'n, 't, 'a>(
     writing: Writing<'_, 't, 'a>,
     nodes: &'n [Node<'_>],
     edges: Edges<'t, 'a>,
-    spot: Option<Spot<'_>>,
+    spot: Option<InsidePlace<'_>>,
 ) -> Result<Vec<Unit<'n>>, NoMemory> {
     let mut units = Vec::new(alloc);
     push_units(alloc, &mut units, writing, nodes, edges)?;
@@ -697,12 +697,12 @@ fn units_of<'n, 't, 'a>(
     with_joints(alloc, spot, units.as_slice())
 }
 
-fn spot_of<'w>(writing: Writing<'w, '_, '_>) -> Spot<'w> {
+fn spot_of<'w>(writing: Writing<'w, '_, '_>) -> InsidePlace<'w> {
     let (before, start, is_delimited) = match writing.block {
         Some(block) => (block.before, block.inside, block.start < block.inside),
         None => (b' ', NOWHERE, false),
     };
-    Spot {
+    InsidePlace {
         place: writing.place,
         before,
         in_tables: writing.known.has_tables,

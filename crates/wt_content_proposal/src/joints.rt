@@ -11,7 +11,7 @@ use wt_tree::Place;
 /// none), whether a table may be open there, the page, where it has this inside, in bytes, and whether the inside is
 /// that of preformatted text, behind whose space no block begins.
 #[derive(Clone, Copy)]
-pub struct Spot<'w> {
+pub struct InsidePlace<'w> {
     pub place: Place,
     pub before: u8,
     pub in_tables: bool,
@@ -20,7 +20,7 @@ pub struct Spot<'w> {
     pub is_preformatted: bool,
 }
 
-impl<'w> Spot<'w> {
+impl<'w> InsidePlace<'w> {
     /// Whether what starts at a place of the page begins a line there, or the inside.
     fn began(self, start: usize) -> bool {
         if start == self.start {
@@ -143,7 +143,7 @@ fn is_rule(source: &[u8], next: &[u8]) -> bool {
 }
 
 /// Whether a line of a paragraph that begins with these would be another block.
-fn begins_block(spot: Spot<'_>, first: u8, units: &[Unit<'_>]) -> bool {
+fn begins_block(spot: InsidePlace<'_>, first: u8, units: &[Unit<'_>]) -> bool {
     match first {
         b'-' => is_rule(source_at(units, 0), source_at(units, 1)),
         b'=' => may_end_with_equals(units),
@@ -157,7 +157,7 @@ fn is_list_sign(byte: u8) -> bool {
 }
 
 /// Whether an inside that begins with a byte would be read with the delimiter before it.
-fn joins_delimiter(spot: Spot<'_>, first: u8, units: &[Unit<'_>]) -> bool {
+fn joins_delimiter(spot: InsidePlace<'_>, first: u8, units: &[Unit<'_>]) -> bool {
     if spot.is_preformatted {
         return false;
     }
@@ -178,7 +178,7 @@ fn ends_line(unit: &Unit<'_>) -> bool {
 }
 
 /// Whether text that begins a line or the inside may do so as it is.
-fn may_begin(spot: Spot<'_>, units: &[Unit<'_>], at: usize) -> bool {
+fn may_begin(spot: InsidePlace<'_>, units: &[Unit<'_>], at: usize) -> bool {
     let Some(Unit::Text(text)) = units.get(at) else {
         return false;
     };
@@ -201,7 +201,7 @@ fn is_sign(byte: u8) -> bool {
 
 /// Whether what is in the page would be read otherwise at the start of a line or of the inside, where it begins
 /// with a byte.
-fn is_read_otherwise(spot: Spot<'_>, first: u8, units: &[Unit<'_>], at: usize) -> bool {
+fn is_read_otherwise(spot: InsidePlace<'_>, first: u8, units: &[Unit<'_>], at: usize) -> bool {
     let rest = units_from(units, at);
     match before(units, at) {
         None => joins_delimiter(spot, first, rest),
@@ -211,7 +211,7 @@ fn is_read_otherwise(spot: Spot<'_>, first: u8, units: &[Unit<'_>], at: usize) -
 }
 
 /// Whether what is in the page begins a line or the inside here, didn't there, and would be read otherwise.
-fn is_new_start(spot: Spot<'_>, units: &[Unit<'_>], at: usize) -> bool {
+fn is_new_start(spot: InsidePlace<'_>, units: &[Unit<'_>], at: usize) -> bool {
     let Some(Unit::Thing(thing)) = units.get(at) else {
         return false;
     };
@@ -222,7 +222,7 @@ fn is_new_start(spot: Spot<'_>, units: &[Unit<'_>], at: usize) -> bool {
 }
 
 /// Whether a unit is as it begins the inside in the page.
-fn is_standing_first(spot: Spot<'_>, unit: &Unit<'_>) -> bool {
+fn is_standing_first(spot: InsidePlace<'_>, unit: &Unit<'_>) -> bool {
     match unit {
         Unit::Thing(thing) => match thing.place {
             Some(place) => place.start == spot.start,
@@ -233,7 +233,7 @@ fn is_standing_first(spot: Spot<'_>, unit: &Unit<'_>) -> bool {
 }
 
 /// Whether the inside of a cell would make its sign that of a caption.
-fn is_caption_sign(spot: Spot<'_>, units: &[Unit<'_>], at: usize) -> bool {
+fn is_caption_sign(spot: InsidePlace<'_>, units: &[Unit<'_>], at: usize) -> bool {
     let Some(unit) = units.get(at) else {
         return false;
     };
@@ -424,7 +424,7 @@ fn meeting(units: &[Unit<'_>], at: usize) -> Option<Stretch> {
 // ---- all
 
 /// Where a joint comes before a unit, its place in the page.
-fn joint_before(spot: Option<Spot<'_>>, units: &[Unit<'_>], at: usize) -> Option<Stretch> {
+fn joint_before(spot: Option<InsidePlace<'_>>, units: &[Unit<'_>], at: usize) -> Option<Stretch> {
     if let Some(place) = meeting(units, at) {
         return Some(place);
     }
@@ -439,7 +439,7 @@ fn joint_before(spot: Option<Spot<'_>>, units: &[Unit<'_>], at: usize) -> Option
 }
 
 /// Whether a unit would be read otherwise at the start of a line or of the inside, and no table of neighbours says so.
-fn is_at_start(spot: Option<Spot<'_>>, units: &[Unit<'_>], at: usize) -> bool {
+fn is_at_start(spot: Option<InsidePlace<'_>>, units: &[Unit<'_>], at: usize) -> bool {
     match spot {
         Some(spot) => is_caption_sign(spot, units, at) || is_new_start(spot, units, at),
         None => false,
@@ -449,7 +449,7 @@ fn is_at_start(spot: Option<Spot<'_>>, units: &[Unit<'_>], at: usize) -> bool {
 fn push_before<'n>(
     alloc: Global,
     out: &mut Vec<Unit<'n>>,
-    spot: Option<Spot<'_>>,
+    spot: Option<InsidePlace<'_>>,
     units: &[Unit<'n>],
     at: usize,
 ) -> Result<(), NoMemory> {
@@ -466,7 +466,7 @@ fn push_before<'n>(
 /// none ends there: it is the inside of a link or tag.
 pub fn with_joints<'n>(
     alloc: Global,
-    spot: Option<Spot<'_>>,
+    spot: Option<InsidePlace<'_>>,
     units: &[Unit<'n>],
 ) -> Result<Vec<Unit<'n>>, NoMemory> {
     let mut out = Vec::new(alloc);

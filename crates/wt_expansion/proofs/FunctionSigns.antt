@@ -5,24 +5,23 @@ use Rattle.std.specs.List.{AllPass, prefix_len}
 use Rattle.std.specs.Char.{to_ascii_lowercase}
 use Rattle.std.proofs.Math.Seq.{drop-append_seam}
 use Rattle.std.proofs.lemmas.Bool.Decides.{nat_tests}
-use Rattle.wt_span.specs.Bytes.{lower}
+use Rattle.wt_span.specs.Bytes.{is_white, lower}
 use Rattle.wt_span.specs.declared.function.Function.{Function}
 use Rattle.wt_span.specs.declared.function.Function.TheVariants.{If, IfEq, Switch}
-use Rattle.wt_span.specs.Functions as words
 use Rattle.wt_span.specs.Functions.{word_of, function_of}
 use Rattle.wt_functions.specs.Laws.{Names}
 use Rattle.wt_functions.proofs.Naming.{naming}
 use Rattle.wt_expand.specs.Texts.{is_space, without_front}
 use Rattle.wt_expand.specs.Targets.{is_function}
 
-space_is : (b : ℕ) → words.is_space b ≡ true → is_space b ≡ true
+space_is : (b : ℕ) → is_white b ≡ true → is_space b ≡ true
 space_is b h = by_tests (b == 32) (b == 9) (b == 10) h
   where
     by_tests : (x y z : Bool) → ((x || y) || z) ≡ true → (x || (y || z)) ≡ true
     by_tests true y z e = refl
     by_tests false y z e = e
 
-behind_space : (space : List ℕ) (rest : List ℕ) → AllPass words.is_space space → prefix_len is_space (space ++ 35 ∷ rest) ≡ length space
+behind_space : (space : List ℕ) (rest : List ℕ) → AllPass is_white space → prefix_len is_space (space ++ 35 ∷ rest) ≡ length space
 behind_space [] rest all = refl
 behind_space (s ∷ ss) rest all =
     rw (space_is s (all zero 0 (omega arith)), behind_space ss rest (λ k d l. all (suc k) d (omega arith))) (one-add (length ss))
@@ -40,7 +39,7 @@ no_word If h = cc
 no_word IfEq h = cc
 no_word Switch h = cc
 
-begins_so : (f : Function) (space word rest : List ℕ) → AllPass words.is_space space → lower word ≡ word_of f
+begins_so : (f : Function) (space word rest : List ℕ) → AllPass is_white space → lower word ≡ word_of f
     → slice_index (without_front is_space (space ++ (word ++ rest))) 0 ≡ 35
 begins_so f space [] rest all w = absurd (no_word f w)
 begins_so f space (b ∷ bs) rest all w =
@@ -51,7 +50,7 @@ begins_so f space (b ∷ bs) rest all w =
 
 named_begins : (f : Function) (n : ℕ) (target : List ℕ) → Names f n target → slice_index (without_front is_space target) 0 ≡ 35
 named_begins f n target h =
-    subst (λ t. slice_index (without_front is_space t) 0 ≡ 35) (sym h.all) (begins_so f h.space h.word h.rest h.is_space h.is_word)
+    subst (λ t. slice_index (without_front is_space t) 0 ≡ 35) (sym h.all) (begins_so f h.space h.word h.rest h.is_white h.is_word)
 
 pub named_is_function : (source : List ℕ) (f : Function) (n : ℕ) → function_of (drop 2 source) ≡ Some (f, n) → is_function source ≡ true
 unfolding is_function

@@ -13,7 +13,8 @@ use Rattle.std.specs.Str.{bytes_eq}
 use Rattle.wt_span.specs.Bytes.{lower}
 use Rattle.wt_span.specs.declared.function.Function.{Function}
 use Rattle.wt_span.specs.declared.function.Function.TheVariants.{If, IfEq, Switch}
-use Rattle.wt_span.specs.Functions.{is_space, space_len, word_of, begins_with, named, function_of}
+use Rattle.wt_span.specs.Bytes.{is_white}
+use Rattle.wt_span.specs.Functions.{space_len, word_of, begins_with, named, function_of}
 use Rattle.wt_functions.specs.Laws.{Names}
 
 -- ---- a function that is named has its word there
@@ -26,11 +27,11 @@ length_lower : (bs : List ℕ) → length (lower bs) ≡ length bs
 length_lower [] = refl
 length_lower (b ∷ bs) = ap suc (length_lower bs)
 
-spaces : (target : List ℕ) → AllPass is_space (take (space_len target) target)
+spaces : (target : List ℕ) → AllPass is_white (take (space_len target) target)
 spaces target k d h =
-    let n : length (take (space_len target) target) ≡ space_len target = length-prefix_len is_space target in
+    let n : length (take (space_len target) target) ≡ space_len target = length-prefix_len is_white target in
     let m : k < space_len target = omega arith in
-    rw (get_or-take (space_len target) target k d m) (prefix_len_passes is_space target k d m)
+    rw (get_or-take (space_len target) target k d m) (prefix_len_passes is_white target k d m)
 
 -- the first test that holds
 first_by : (P : Function → Type 0) (a b c : Bool) (f : Function) → (a ≡ true → P If) → (b ≡ true → P IfEq) → (c ≡ true → P Switch) → cond a (Some If) (cond b (Some IfEq) (cond c (Some Switch) None)) ≡ Some f → P f
@@ -61,13 +62,13 @@ names_by target f n (Some g) e h =
     let same : g ≡ f = ap (λ (p : Function × ℕ). p.0) pair in
     let place : space_len target + length (word_of g) ≡ n = ap (λ (p : Function × ℕ). p.1) pair in
     let long : length (take (length (word_of g)) rest) ≡ length (word_of g) = sym (length_lower (take (length (word_of g)) rest)) ∙ ap length w in
-    let short : length (take (space_len target) target) ≡ space_len target = length-prefix_len is_space target in
+    let short : length (take (space_len target) target) ≡ space_len target = length-prefix_len is_white target in
     subst (λ x. Names x n target) same (record {
       space = take (space_len target) target;
       word = take (length (word_of g)) rest;
       rest = drop (length (word_of g)) rest;
       all = sym (ap (λ x. take (space_len target) target ++ x) (take-append-drop (length (word_of g)) rest) ∙ take-append-drop (space_len target) target);
-      is_space = spaces target;
+      is_white = spaces target;
       is_word = w;
       behind = omega arith;
     })
@@ -83,7 +84,7 @@ word_named If bs tail e = rw (lowered If If bs tail e)
 word_named IfEq bs tail e = rw (lowered If IfEq bs tail e, lowered IfEq IfEq bs tail e)
 word_named Switch bs tail e = rw (lowered If Switch bs tail e, lowered IfEq Switch bs tail e, lowered Switch Switch bs tail e)
 
-space_tells : (b : ℕ) → (b ≤ 32) ⊎ (is_space b ≡ false)
+space_tells : (b : ℕ) → (b ≤ 32) ⊎ (is_white b ≡ false)
 space_tells b =
     elim (eqb_tells b 32) [
       | inl s ↦ inl (omega arith)
@@ -94,10 +95,10 @@ space_tells b =
     ]
 
 -- a byte that is `#` without case is no blank or line break
-sign_stands : (b : ℕ) → to_ascii_lowercase b ≡ 35 → is_space b ≡ false
+sign_stands : (b : ℕ) → to_ascii_lowercase b ≡ 35 → is_white b ≡ false
 sign_stands b h = elim (space_tells b) [ inl s ↦ absurd (grind (arith, nat_tests)) | inr s ↦ s ]
 
-past_space : (space : List ℕ) (b : ℕ) (rest : List ℕ) → AllPass is_space space → is_space b ≡ false → space_len (space ++ b ∷ rest) ≡ length space
+past_space : (space : List ℕ) (b : ℕ) (rest : List ℕ) → AllPass is_white space → is_white b ≡ false → space_len (space ++ b ∷ rest) ≡ length space
 past_space [] b rest all h = rw h
 past_space (s ∷ ss) b rest all h = rw (all zero 0 (omega arith), past_space ss b rest (λ k d l. all (suc k) d (omega arith)) h) (one-add (length ss))
 
@@ -111,7 +112,7 @@ no_word If h = cc
 no_word IfEq h = cc
 no_word Switch h = cc
 
-named_behind : (f : Function) (space word rest : List ℕ) → AllPass is_space space → lower word ≡ word_of f → function_of (space ++ (word ++ rest)) ≡ Some (f, length space + length (word_of f))
+named_behind : (f : Function) (space word rest : List ℕ) → AllPass is_white space → lower word ≡ word_of f → function_of (space ++ (word ++ rest)) ≡ Some (f, length space + length (word_of f))
 unfolding function_of
 named_behind f space [] rest all w = absurd (no_word f w)
 named_behind f space (b ∷ bs) rest all w =
@@ -123,7 +124,7 @@ named_from : (f : Function) (n : ℕ) (target : List ℕ) → Names f n target �
 named_from f n target names =
     let long : length names.word ≡ length (word_of f) = sym (length_lower names.word) ∙ ap length names.is_word in
     let place : length names.space + length (word_of f) ≡ n = omega arith in
-    rw (names.all, named_behind f names.space names.word names.rest names.is_space names.is_word, place)
+    rw (names.all, named_behind f names.space names.word names.rest names.is_white names.is_word, place)
 
 names_of : (f : Function) (n : ℕ) (target : List ℕ) → function_of target ≡ Some (f, n) → Names f n target
 unfolding function_of

@@ -1,11 +1,11 @@
 -- What holds of every function call, in other words.
 use Rattle.std.specs.Prelude.{Bool, ◌≡◌, ℕ, ◌+◌, ◌<◌, ◌≤◌, List, ◌++◌, length, take, nat_lt, if◌then◌else◌}
-use Rattle.wt_span.specs.Bytes.{lower}
 use Rattle.std.specs.List.{AllPass}
 use Rattle.wt_span.specs.declared.function.Function.{Function}
 use Rattle.wt_span.specs.declared.function.Function.TheVariants.{If, IfEq, Switch}
 use Rattle.wt_functions.specs.declared.chooser.Ask.TheVariants.{Tell, Give}
-use Rattle.wt_span.specs.Functions.{is_space, word_of}
+use Rattle.wt_span.specs.Bytes.{is_white, lower}
+use Rattle.wt_span.specs.Functions.{word_of}
 use Rattle.wt_functions.specs.Choice.{Telling, text_at, told_count, chosen, given, asked}
 
 -- A target that names a function: blanks and line breaks, the function's word in any case, and anything; part 0 begins after
@@ -15,7 +15,7 @@ pub record Names (f : Function) (part_0 : ℕ) (target : List ℕ) : Type 0 wher
   pub word : List ℕ
   pub rest : List ℕ
   pub all : target ≡ space ++ (word ++ rest)
-  pub is_space : AllPass is_space space
+  pub is_white : AllPass is_white space
   pub is_word : lower word ≡ word_of f
   pub behind : part_0 ≡ length space + length word
 

@@ -2,13 +2,14 @@
 //! word in any case.
 ghost use Rattle.std.specs.Prelude.{◌≡◌, ◌≤◌, ◌<◌, ◌^◌, drop, length};
 ghost use Rattle.std.specs.List.{prefix_len};
-ghost use Rattle.wt_span.specs.Functions.{is_space, space_len, begins_with, named, function_of};
+ghost use Rattle.wt_span.specs.Bytes.{is_white};
+ghost use Rattle.wt_span.specs.Functions.{space_len, begins_with, named, function_of};
 
 use wt_span::{Function, PAGE_BYTES, front_of, rest_of};
 
 /// A space, a tab or a line break.
-fn is_space(byte: u8) -> bool
-    ensures { result ≡ is_space byte }
+fn is_white(byte: u8) -> bool
+    ensures { result ≡ is_white byte }
 {
     byte == b' ' || byte == b'\t' || byte == b'\n'
 }
@@ -19,7 +20,7 @@ fn space_len(bytes: &[u8]) -> usize
     ensures within { result ≤ length bytes.now }
 {
     for (i, byte) in bytes.iter().enumerate() {
-        if !is_space(*byte) {
+        if !is_white(*byte) {
             return i;
         }
     }

@@ -2,7 +2,7 @@
 -- what is on the right, and the characters that may not begin a line.
 use Rattle.std.specs.Prelude.{ℕ, Bool, true, false, not, ◌||◌, ◌&&◌, ◌==◌}
 use Rattle.std.specs.Char.{is_ascii_alphanumeric, is_ascii_lowercase}
-use Rattle.wt_span.specs.Bytes.{is_blank}
+use Rattle.wt_span.specs.Bytes.{is_blank, is_white}
 use Rattle.wt_span.specs.Characters as byte
 use Rattle.wt_guards.specs.declared.side.Side.{Side}
 use Rattle.wt_guards.specs.declared.side.Side.TheVariants.{Edge, Text, Link, Bare, Switch, Group, Toggle, Node}
@@ -15,13 +15,9 @@ is_word c = is_ascii_alphanumeric c || c == byte.underscore
 abbrev pub is_trail : ℕ → Bool
 is_trail c = is_ascii_lowercase c
 
--- a space, a tab or a line break
-abbrev pub is_space : ℕ → Bool
-is_space c = is_blank c || c == byte.line_break
-
 -- after these a group may be: a space, a tab, `(`, `,`, or the start of a line
 abbrev pub leads_group : ℕ → Bool
-leads_group c = is_space c || (c == byte.opening_parenthesis || c == byte.comma)
+leads_group c = is_white c || (c == byte.opening_parenthesis || c == byte.comma)
 
 -- `,` `;` `.` `?` `)`: these end a URL
 abbrev pub ends_url : ℕ → Bool
@@ -29,7 +25,7 @@ ends_url c = c == byte.comma || (c == byte.semicolon || (c == byte.full_stop || 
 
 -- these may be after a group: a space, a tab, the end of a line, and where it shows no `//` also what ends a URL
 abbrev pub follows_group : Bool → ℕ → Bool
-follows_group slashes c = is_space c || (not slashes && ends_url c)
+follows_group slashes c = is_white c || (not slashes && ends_url c)
 
 abbrev pub after_edge : Side → Bool
 after_edge Edge = false
@@ -63,7 +59,7 @@ after_link Node = false
 
 abbrev pub after_bare : Side → Bool
 after_bare Edge = false
-after_bare (Text c) = not (is_space c)
+after_bare (Text c) = not (is_white c)
 after_bare Link = true
 after_bare Bare = true
 after_bare Switch = true

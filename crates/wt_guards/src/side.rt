@@ -1,7 +1,8 @@
 //! What is next to what, and which neighbours may not be so.
 
 ghost use Rattle.std.specs.Prelude.{◌≡◌};
-ghost use Rattle.wt_guards.specs.Table.{hazard, line_start_hazard, is_word, is_space, leads_group, ends_url, follows_group, after_text, after_link, after_bare, after_switch, after_group, after_toggle, after_node};
+ghost use Rattle.wt_span.specs.Bytes.{is_white};
+ghost use Rattle.wt_guards.specs.Table.{hazard, line_start_hazard, is_word, leads_group, ends_url, follows_group, after_text, after_link, after_bare, after_switch, after_group, after_toggle, after_node};
 
 /// What is on one side of a place in the content: the start or end of the content, a text by the
 /// character next to the place, a link to a page, a bare URL, a switch such as `__TOC__`, a group of
@@ -24,8 +25,8 @@ fn is_word(c: char) -> bool
     c.is_ascii_alphanumeric() || c == '_'
 }
 
-fn is_space(c: char) -> bool
-    ensures { result ≡ is_space c }
+fn is_white(c: char) -> bool
+    ensures { result ≡ is_white c }
 {
     c == ' ' || c == '\t' || c == '\n'
 }
@@ -33,7 +34,7 @@ fn is_space(c: char) -> bool
 fn leads_group(c: char) -> bool
     ensures { result ≡ leads_group c }
 {
-    is_space(c) || c == '(' || c == ','
+    is_white(c) || c == '(' || c == ','
 }
 
 fn ends_url(c: char) -> bool
@@ -45,7 +46,7 @@ fn ends_url(c: char) -> bool
 fn follows_group(slashes: bool, c: char) -> bool
     ensures { result ≡ follows_group slashes c }
 {
-    is_space(c) || (!slashes && ends_url(c))
+    is_white(c) || (!slashes && ends_url(c))
 }
 
 fn after_text(c: char, right: Side) -> bool
@@ -73,7 +74,7 @@ fn after_bare(right: Side) -> bool
 {
     match right {
         Side::Edge => false,
-        Side::Text(c) => !is_space(c),
+        Side::Text(c) => !is_white(c),
         Side::Link | Side::Bare | Side::Switch | Side::Group { .. } | Side::Toggle | Side::Node =>
             true,
     }

@@ -14,10 +14,7 @@ use wt_span::{ItemForm, Origin, Piece, Text};
 pub fn is_chars(form: ItemForm) -> bool
     ensures { result ≡ is_chars form }
 {
-    match form {
-        ItemForm::Chars => true,
-        _ => false,
-    }
+    matches!(form, ItemForm::Chars)
 }
 
 /// A line break, of parted pieces.

@@ -62,39 +62,13 @@ impl Group {
 fn is_row(kind: LineKind) -> bool
     ensures { result ≡ is_row kind }
 {
-    match kind {
-        LineKind::Row => true,
-        LineKind::TableOpen
-        | LineKind::TableEnd
-        | LineKind::Blank
-        | LineKind::Caption
-        | LineKind::Cell
-        | LineKind::Header
-        | LineKind::Heading
-        | LineKind::Rule
-        | LineKind::List
-        | LineKind::Pre
-        | LineKind::Text => false,
-    }
+    matches!(kind, LineKind::Row)
 }
 
 fn is_caption(kind: LineKind) -> bool
     ensures { result ≡ is_caption kind }
 {
-    match kind {
-        LineKind::Caption => true,
-        LineKind::TableOpen
-        | LineKind::TableEnd
-        | LineKind::Blank
-        | LineKind::Row
-        | LineKind::Cell
-        | LineKind::Header
-        | LineKind::Heading
-        | LineKind::Rule
-        | LineKind::List
-        | LineKind::Pre
-        | LineKind::Text => false,
-    }
+    matches!(kind, LineKind::Caption)
 }
 
 /// How many rows the first group has.

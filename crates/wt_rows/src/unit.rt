@@ -18,16 +18,7 @@ fn depth_behind(depth: usize, kind: LineKind) -> Option<usize>
     match kind {
         LineKind::TableOpen => Some(depth + 1),
         LineKind::TableEnd => depth.checked_sub(1),
-        LineKind::Blank
-        | LineKind::Caption
-        | LineKind::Row
-        | LineKind::Cell
-        | LineKind::Header
-        | LineKind::Heading
-        | LineKind::Rule
-        | LineKind::List
-        | LineKind::Pre
-        | LineKind::Text => Some(depth),
+        _ => Some(depth),
     }
 }
 
@@ -55,17 +46,7 @@ pub fn unit_len(rows: &[RowAt]) -> usize
 {
     match rows[0].kind {
         LineKind::TableOpen => 1 + inner_len(rest_of(rows, 1)),
-        LineKind::TableEnd
-        | LineKind::Blank
-        | LineKind::Caption
-        | LineKind::Row
-        | LineKind::Cell
-        | LineKind::Header
-        | LineKind::Heading
-        | LineKind::Rule
-        | LineKind::List
-        | LineKind::Pre
-        | LineKind::Text => 1,
+        _ => 1,
     }
 }
 
@@ -73,17 +54,10 @@ pub fn unit_len(rows: &[RowAt]) -> usize
 pub fn begins_part(kind: LineKind) -> bool
     ensures { result ≡ begins_part kind }
 {
-    match kind {
-        LineKind::Caption | LineKind::Row | LineKind::Cell | LineKind::Header => true,
-        LineKind::TableOpen
-        | LineKind::TableEnd
-        | LineKind::Blank
-        | LineKind::Heading
-        | LineKind::Rule
-        | LineKind::List
-        | LineKind::Pre
-        | LineKind::Text => false,
-    }
+    matches!(
+        kind,
+        LineKind::Caption | LineKind::Row | LineKind::Cell | LineKind::Header
+    )
 }
 
 /// How many rows come before the first unit that begins a caption, a row of a table or cells.

@@ -11,6 +11,10 @@ is_break b = b == byte.line_break
 abbrev pub is_blank : ℕ → Bool
 is_blank b = b == byte.space || b == byte.tab
 
+-- a space, a tab or a line break
+abbrev pub is_white : ℕ → Bool
+is_white b = is_blank b || is_break b
+
 abbrev pub begins : List ℕ → List ℕ → Bool
 begins word bs = starts_with nat_eq bs word
 

@@ -1,19 +1,15 @@
 -- Which function a call's target names.
-use Rattle.std.specs.Prelude.{ℕ, ◌+◌, ◌||◌, Bool, Option, Some, None, List, take, drop, length, codes, if◌then◌else◌}
+use Rattle.std.specs.Prelude.{ℕ, ◌+◌, Bool, Option, Some, None, List, take, drop, length, codes, if◌then◌else◌}
 use Rattle.std.specs.Option.{option_map}
 use Rattle.std.specs.List.{prefix_len}
 use Rattle.std.specs.Str.{bytes_eq}
-use Rattle.wt_span.specs.Bytes.{is_blank, is_break, lower}
+use Rattle.wt_span.specs.Bytes.{is_white, lower}
 use Rattle.wt_span.specs.declared.function.Function.{Function}
 use Rattle.wt_span.specs.declared.function.Function.TheVariants.{If, IfEq, Switch}
 
--- a space, a tab or a line break
-abbrev pub is_space : ℕ → Bool
-is_space b = is_blank b || is_break b
-
 -- how many blanks and line breaks begin a text
 abbrev pub space_len : List ℕ → ℕ
-space_len bs = prefix_len is_space bs
+space_len bs = prefix_len is_white bs
 
 -- a function's word: `#`, its name and a colon, in lower case
 abbrev pub word_of : Function → List ℕ

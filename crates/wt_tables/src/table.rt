@@ -14,15 +14,6 @@ pub fn behind(tables: u32, kind: LineKind) -> u32
     match kind {
         LineKind::TableOpen => tables + 1,
         LineKind::TableEnd => tables.saturating_sub(1),
-        LineKind::Blank
-        | LineKind::Caption
-        | LineKind::Row
-        | LineKind::Cell
-        | LineKind::Header
-        | LineKind::Heading
-        | LineKind::Rule
-        | LineKind::List
-        | LineKind::Pre
-        | LineKind::Text => tables,
+        _ => tables,
     }
 }

@@ -1,7 +1,7 @@
 -- Links, categories and media: `[[`, a target, where it is a `|` and a text, and `]]`.
 use Rattle.std.specs.Prelude.{ℕ, suc, ◌+◌, ◌-◌, ◌==◌, ◌&&◌, ◌||◌, Bool, true, false, Option, Some, None, List, [], ◌∷◌, length, take, drop, reverse, slice_index, codes, encode_utf8, option_map, if◌then◌else◌}
 use Rattle.std.specs.List.{list_any, flat_map, prefix_len}
-use Rattle.wt_span.specs.Bytes.{is_blank, is_break}
+use Rattle.wt_span.specs.Bytes.{is_white}
 use Rattle.wt_span.specs.Characters as byte
 use Rattle.wt_names.specs.declared.title.Title.{Title}
 use Rattle.wt_names.specs.declared.namespace.Ns.{Ns}
@@ -43,15 +43,12 @@ text_of (glyph.Entity c) = encode_utf8 c
 text_of glyph.Atom = []
 text_of glyph.Mark = []
 
-abbrev pub is_space : ℕ → Bool
-is_space b = is_blank b || is_break b
-
 -- without the blanks and line breaks at its start, and at its end
 abbrev pub trimmed_start : List ℕ → List ℕ
-trimmed_start bs = drop (prefix_len is_space bs) bs
+trimmed_start bs = drop (prefix_len is_white bs) bs
 
 abbrev pub trimmed_end : List ℕ → List ℕ
-trimmed_end bs = take (length bs - prefix_len is_space (reverse bs)) bs
+trimmed_end bs = take (length bs - prefix_len is_white (reverse bs)) bs
 
 abbrev pub target_text : List Glyph → List ℕ
 target_text gs = trimmed_end (trimmed_start (flat_map text_of gs))

@@ -3,7 +3,8 @@
 ghost use Rattle.std.specs.Prelude.{◌≡◌, ◌≤◌, ◌-◌, ◌++◌, length, drop, take, reverse, IfOk, OnOk};
 ghost use Rattle.std.specs.List.{list_any, flat_map, prefix_len};
 ghost use Rattle.wt_names.specs.Written.{read_bytes};
-ghost use Rattle.wt_tiles.specs.Links.{is_atom, text_of, is_space, trimmed_start, trimmed_end, target_in, target_of, kind_in, kind_of};
+ghost use Rattle.wt_span.specs.Bytes.{is_white};
+ghost use Rattle.wt_tiles.specs.Links.{is_atom, text_of, trimmed_start, trimmed_end, target_in, target_of, kind_in, kind_of};
 
 use crate::glyph::Glyph;
 use std::alloc::Global;
@@ -94,19 +95,19 @@ fn text_of(alloc: Global, glyphs: &[Glyph]) -> Result<Vec<u8>, NoMemory>
 }
 
 /// A space, a tab or a line break.
-fn is_space(byte: u8) -> bool
-    ensures { result ≡ is_space byte }
+fn is_white(byte: u8) -> bool
+    ensures { result ≡ is_white byte }
 {
     byte == b' ' || byte == b'\t' || byte == b'\n'
 }
 
 /// How many blanks and line breaks are first.
 fn space_len(bytes: &[u8]) -> usize
-    ensures value { result ≡ prefix_len is_space bytes.now }
+    ensures value { result ≡ prefix_len is_white bytes.now }
     ensures within { result ≤ length bytes.now }
 {
     for (i, byte) in bytes.iter().enumerate() {
-        if !is_space(*byte) {
+        if !is_white(*byte) {
             return i;
         }
     }
@@ -115,11 +116,11 @@ fn space_len(bytes: &[u8]) -> usize
 
 /// How many bytes there are up to and with the last one that is neither blank nor line break.
 fn spaceless_len(bytes: &[u8]) -> usize
-    ensures value { result ≡ length bytes.now - prefix_len is_space (reverse bytes.now) }
+    ensures value { result ≡ length bytes.now - prefix_len is_white (reverse bytes.now) }
     ensures within { result ≤ length bytes.now }
 {
     let mut end = bytes.len();
-    while end > 0 && is_space(bytes[end - 1]) {
+    while end > 0 && is_white(bytes[end - 1]) {
         end -= 1;
     }
     end

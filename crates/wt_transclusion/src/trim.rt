@@ -12,17 +12,7 @@ use wt_span::{ItemForm, List, NoMemory, Piece, front_of, rest_of};
 pub fn is_chars(form: ItemForm) -> bool
     ensures { result ≡ is_chars form }
 {
-    match form {
-        ItemForm::Chars => true,
-        ItemForm::Entity(_)
-        | ItemForm::Nowiki
-        | ItemForm::Extension
-        | ItemForm::Function
-        | ItemForm::Comment
-        | ItemForm::Include
-        | ItemForm::Hidden
-        | ItemForm::EmptyCall => false,
-    }
+    matches!(form, ItemForm::Chars)
 }
 
 /// What is left of a piece without the blanks and line breaks at its start.
