@@ -1,16 +1,21 @@
 #!/usr/bin/env python3
 """Measures `wtround-batch`: pages a second, there and back, on one processor and on all of them.
 
-  bench/batch.py [--pages N] [--rounds N] [--from FOLDER] [--commands WORDS] [--program FILE] [--watch]
+  bench/batch.py [--pages N] [--rounds N] [--from FOLDER] [--commands WORDS] [--program FILE]
+                 [--stay] [--watch]
 
 It makes N pages (10,000) from those of examples/ and from the sections that `wtround gen` makes, one to
 forty of them, or takes N copies of the pages of FOLDER in turn. Then it runs `tools/batch` over them in
-turn on one processor (the first, in the next round the second, and so on) and on all, each time from
-nothing, after one run that doesn't count, with the Python that runs this file. It prints for each run the
-pages and megabytes a second, the processor time of all its processes, on how many processors they ran at
-once on average, how much of these processors' time other processes had, and how much the host of a virtual
-machine gave to others, and the peak memory of the largest process; and at the end the middle one of the
-rates' ratios.
+turn on one processor and on all, each time from nothing, after one run that doesn't count, with the Python
+that runs this file. It prints for each run the pages and megabytes a second, the processor time of all its
+processes, on how many processors they ran at once on average, how much of these processors' time other
+processes had, and how much the host of a virtual machine gave to others, and the peak memory of the largest
+process; and at the end the middle one of the rates' ratios, and the ratio of all runs together.
+
+The processors of a virtual machine aren't equally fast, and none is as fast at one time as at another: one
+is mostly a thread of a core that has two, and half as fast again while the host lets the other one rest. So
+a run on one processor is moved to the next one every half second: then it shows what one has on average.
+With --stay it stays on the first, in the next round on the second, and so on.
 
 On a machine that does other work the rates depend on that work. What can be told there is how far more
 processors would help: the rates of two runs are as their processors divided by their processor times, as
@@ -33,6 +38,7 @@ from pathlib import Path
 
 TOP = Path(__file__).resolve().parent.parent
 TOOL = TOP / "tools" / "batch"
+TURN_SECONDS = 0.5  # that a run on one processor has on each
 # Without what a shell may tell Python: some forbid it to keep compiled modules.
 ENVIRONMENT = {name: value for name, value in os.environ.items() if not name.startswith("PYTHON")}
 
@@ -64,38 +70,75 @@ def make_pages(folder: Path, count: int, taken: "list[Path]") -> int:
     return size
 
 
-class Watcher(threading.Thread):
+def threads_below(process_id: int) -> "list[Path]":
+    """The threads of a process and of those below it."""
+    children: "dict[int, list[int]]" = {}
+    for path in Path("/proc").glob("[0-9]*/stat"):
+        try:
+            parent = int(path.read_text().rpartition(")")[2].split()[1])
+        except OSError:
+            continue
+        children.setdefault(parent, []).append(int(path.parent.name))
+    found, waiting = [], [process_id]
+    while waiting:
+        found.append(waiting.pop())
+        waiting.extend(children.get(found[-1], []))
+    return [thread for number in found for thread in Path(f"/proc/{number}/task").glob("*")]
+
+
+class Regular(threading.Thread):
+    """Does something every so many seconds, until it is stopped."""
+
+    def __init__(self, process_id: int, seconds: float) -> None:
+        super().__init__(daemon=True)
+        self._process_id = process_id
+        self._seconds = seconds
+        self._is_stopped = threading.Event()
+
+    def run(self) -> None:
+        while not self._is_stopped.wait(self._seconds):
+            self.step()
+
+    def step(self) -> None:
+        raise NotImplementedError
+
+    def stop(self) -> None:
+        self._is_stopped.set()
+        self.join()
+
+
+class Mover(Regular):
+    """Moves a process and those below it from one processor to the next."""
+
+    def __init__(self, process_id: int, processors: "list[int]") -> None:
+        """It is on the first of these now."""
+        super().__init__(process_id, TURN_SECONDS)
+        self._processors = processors
+        self._turn = 0
+
+    def step(self) -> None:
+        self._turn = (self._turn + 1) % len(self._processors)
+        for thread in threads_below(self._process_id):
+            try:
+                os.sched_setaffinity(int(thread.name), {self._processors[self._turn]})
+            except OSError:
+                pass  # it has ended
+
+
+class Watcher(Regular):
     """Sums up how long the threads of a process and of those below it ran, and waited for a processor."""
 
     def __init__(self, process_id: int) -> None:
-        super().__init__(daemon=True)
-        self._process_id = process_id
+        super().__init__(process_id, 0.1)
         self._seen: "dict[str, tuple[int, int]]" = {}  # nanoseconds that a thread ran and waited
-        self.is_stopped = threading.Event()
 
-    def run(self) -> None:
-        while not self.is_stopped.wait(0.1):
-            for process_id in self._below():
-                for path in Path(f"/proc/{process_id}/task").glob("*/schedstat"):
-                    try:
-                        ran, waited, _ = map(int, path.read_text().split())
-                        self._seen[str(path)] = ran, waited
-                    except (OSError, ValueError):
-                        pass
-
-    def _below(self) -> "list[int]":
-        children: "dict[int, list[int]]" = {}
-        for path in Path("/proc").glob("[0-9]*/stat"):
+    def step(self) -> None:
+        for thread in threads_below(self._process_id):
             try:
-                parent = int(path.read_text().rpartition(")")[2].split()[1])
-            except OSError:
-                continue
-            children.setdefault(parent, []).append(int(path.parent.name))
-        found, waiting = [], [self._process_id]
-        while waiting:
-            found.append(waiting.pop())
-            waiting.extend(children.get(found[-1], []))
-        return found
+                ran, waited, _ = map(int, (thread / "schedstat").read_text().split())
+                self._seen[str(thread)] = ran, waited
+            except (OSError, ValueError):
+                pass
 
     def wanted(self) -> float:
         """Seconds."""
@@ -110,7 +153,7 @@ class Spent:
     stolen: float  # on what the host does besides
 
 
-def spent(processors: "set[int]") -> Spent:
+def spent(processors: "list[int]") -> Spent:
     lines = (line.split() for line in Path("/proc/stat").read_text().splitlines())
     names = {f"cpu{number}" for number in processors}
     counts = [list(map(int, words[1:9])) for words in lines if words[0] in names]
@@ -124,36 +167,56 @@ class Measured:
     seconds: float
     used: float  # seconds of processor time of all processes
     wanted: "float | None"  # and with what they waited for
-    others: float  # seconds of processor time of other processes
-    stolen: float  # seconds
+    others: float  # the part of these processors' time that other processes had
+    stolen: float  # and that the host gave to others
     peak: float  # MB of the largest process
 
 
-def run(root: Path, processors: "set[int]", words: "list[str]", is_watched: bool) -> Measured:
-    for name in ("state", "state.lock", "state-wal", "state-shm"):
-        (root / name).unlink(missing_ok=True)
-    before, spent_before = resource.getrusage(resource.RUSAGE_CHILDREN), spent(processors)
-    started = time.monotonic()
-    command = [sys.executable, str(TOOL), *words, "--quiet", "--state", "state", "-j", str(len(processors))]
-    process = subprocess.Popen(
-        command, cwd=root, env=ENVIRONMENT, stderr=subprocess.DEVNULL,
-        preexec_fn=lambda: os.sched_setaffinity(0, processors),
-    )  # fmt: skip
-    watcher = Watcher(process.pid)
-    if is_watched:
-        watcher.start()
-    if process.wait() != 0:
-        raise SystemExit("the run failed")
-    seconds = time.monotonic() - started
-    if is_watched:
-        watcher.is_stopped.set()
-        watcher.join()
-    after, spent_after = resource.getrusage(resource.RUSAGE_CHILDREN), spent(processors)
-    used = after.ru_utime + after.ru_stime - before.ru_utime - before.ru_stime
-    wanted = watcher.wanted() if is_watched else None
-    others = max(0.0, spent_after.busy - spent_before.busy - used)
-    stolen = spent_after.stolen - spent_before.stolen
-    return Measured(seconds, used, wanted, others, stolen, after.ru_maxrss / 1000)
+@dataclass(frozen=True)
+class Runner:
+    """What is the same in all runs."""
+
+    root: Path
+    words: "list[str]"
+    is_watched: bool
+
+    def run(self, processors: "list[int]", at_once: int) -> Measured:
+        """A run on so many of these processors at once; on one, it is moved from each to the next."""
+        for name in ("state", "state.lock", "state-wal", "state-shm"):
+            (self.root / name).unlink(missing_ok=True)
+        used_before, spent_before = used_by_children(), spent(processors)
+        started = time.monotonic()
+        command = [sys.executable, str(TOOL), *self.words, "--quiet", "--state", "state", "-j", str(at_once)]
+        process = subprocess.Popen(
+            command, cwd=self.root, env=ENVIRONMENT, stderr=subprocess.DEVNULL,
+            preexec_fn=lambda: os.sched_setaffinity(0, processors[:at_once]),
+        )  # fmt: skip
+        threads = [Mover(process.pid, processors)] if at_once < len(processors) else []
+        watcher = Watcher(process.pid)
+        threads += [watcher] if self.is_watched else []
+        for thread in threads:
+            thread.start()
+        if process.wait() != 0:
+            raise SystemExit("the run failed")
+        seconds = time.monotonic() - started
+        for thread in threads:
+            thread.stop()
+        used, spent_after = used_by_children() - used_before, spent(processors)
+        others = max(0.0, spent_after.busy - spent_before.busy - used)
+        return Measured(
+            seconds=seconds,
+            used=used,
+            wanted=watcher.wanted() if self.is_watched else None,
+            others=others / len(processors) / seconds,
+            stolen=(spent_after.stolen - spent_before.stolen) / len(processors) / seconds,
+            peak=resource.getrusage(resource.RUSAGE_CHILDREN).ru_maxrss / 1000,
+        )
+
+
+def used_by_children() -> float:
+    """Seconds of processor time."""
+    used = resource.getrusage(resource.RUSAGE_CHILDREN)
+    return used.ru_utime + used.ru_stime
 
 
 def told(measured: Measured, processors: int, pages: int, size: int) -> str:
@@ -162,8 +225,8 @@ def told(measured: Measured, processors: int, pages: int, size: int) -> str:
     return (
         f"{processors} processors: {pages / seconds:,.0f} pages/s, {size / seconds / 1e6:.2f} MB/s, "
         f"{seconds:.2f} s, {used:.1f} s of processor time, on {used / seconds:.2f} processors, {wanted}"
-        f"{100 * measured.others / seconds / processors:.0f} % had by others, "
-        f"{100 * measured.stolen / seconds / processors:.0f} % taken by the host, peak {measured.peak:.0f} MB"
+        f"{100 * measured.others:.0f} % had by others, {100 * measured.stolen:.0f} % taken by the host, "
+        f"peak {measured.peak:.0f} MB"
     )
 
 
@@ -176,35 +239,44 @@ def main() -> None:
     parser.add_argument("--from", dest="folder", type=Path)
     parser.add_argument("--commands", default="wikitext")
     parser.add_argument("--program")
+    parser.add_argument("--stay", action="store_true")
     parser.add_argument("--watch", action="store_true")
     arguments = parser.parse_args()
     taken = sorted(arguments.folder.glob("*.wiki")) if arguments.folder else []
     words = [arguments.commands]
     if arguments.program is not None:
         words += ["--program", os.path.realpath(arguments.program)]
-    everything = os.sched_getaffinity(0)
-    count = len(everything)
-    ratios = []
+    everything = sorted(os.sched_getaffinity(0))
     with tempfile.TemporaryDirectory() as folder:
         root = Path(folder)
         size = make_pages(root / "pages", arguments.pages, taken)
         load = os.getloadavg()[0]
         print(f"{arguments.pages:,} pages, {size:,} bytes, {arguments.commands}, load {load:.1f}")
-        run(root, everything, words, False)
-        for number in range(arguments.rounds):
-            # Processors that a host shares with others aren't equally fast, so each has its turn.
-            one = run(root, {sorted(everything)[number % count]}, words, arguments.watch)
-            all_of_them = run(root, everything, words, arguments.watch)
-            ratios.append(one.seconds / all_of_them.seconds)
-            times = all_of_them.used / one.used
-            print(told(one, 1, arguments.pages, size))
-            print(told(all_of_them, count, arguments.pages, size))
-            print(
-                f"rates {ratios[-1]:.2f} to 1; processor times {times:.3f} to 1, "
-                f"so {min(count, count / times):.2f} to 1 where {count} processors are free",
-                flush=True,
-            )
-    print(f"the middle one of {len(ratios)}: {statistics.median(ratios):.2f} to 1")
+        runner = Runner(root, words, arguments.watch)
+        runner.run(everything, len(everything))
+        measure(runner, everything, arguments, size)
+
+
+def measure(runner: Runner, everything: "list[int]", arguments: argparse.Namespace, size: int) -> None:
+    count = len(everything)
+    pairs: "list[tuple[Measured, Measured]]" = []
+    for number in range(arguments.rounds):
+        start = number % count
+        turns = everything[start:] + everything[:start]
+        one = runner.run(turns[:1] if arguments.stay else turns, 1)
+        all_of_them = runner.run(everything, count)
+        pairs.append((one, all_of_them))
+        times = all_of_them.used / one.used
+        print(told(one, 1, arguments.pages, size))
+        print(told(all_of_them, count, arguments.pages, size))
+        print(
+            f"rates {one.seconds / all_of_them.seconds:.2f} to 1; processor times {times:.3f} to 1, "
+            f"so {min(count, count / times):.2f} to 1 where {count} processors are free",
+            flush=True,
+        )
+    middle = statistics.median(one.seconds / many.seconds for one, many in pairs)
+    together = sum(one.seconds for one, _ in pairs) / sum(many.seconds for _, many in pairs)
+    print(f"the middle one of {len(pairs)}: {middle:.2f} to 1; all together {together:.2f} to 1")
 
 
 if __name__ == "__main__":

@@ -113,7 +113,7 @@ export class Commands {
     if (name === "") return;
     this.focus();
     if (this.#isIn("li,dt,dd,td,th,caption")) {
-      this.say("A heading can't stand in a list or a table.");
+      this.say("A list or a table can't hold a heading.");
       this.show();
       return;
     }

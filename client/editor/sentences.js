@@ -6,25 +6,25 @@ const UNDO = "Undo takes it back (Ctrl+Z).";
 /** @type {Record<string, string>} */
 const BY_NAME = {
   InTemplate: "This part comes from a template or function: change it there or in the page's source. " + UNDO,
-  Moved: `A template, a reference or a table would stand in another block: that can't be saved yet. ${UNDO}`,
+  Moved: `A template, a reference or a table would be in another block: that can't be saved yet. ${UNDO}`,
   UnknownId: "This was pasted from another page and can't be written here. " + UNDO,
-  RepeatedId: `This is a copy of what can't be written twice, as a template or a reference. ${UNDO}`,
+  RepeatedId: `This is a copy of something that can't be written twice, such as a template or a reference. ${UNDO}`,
   UnmarkedChange:
-    `This can be changed in the page's source alone so far (an item with a list, a table's rows). ${UNDO}`,
-  NotEditable: "This can be changed in the page's source alone so far. " + UNDO,
-  BadContent: "This can't stand in a paragraph. " + UNDO,
-  "BadContent Element": "This can't stand in a paragraph, an item or a cell here. " + UNDO,
-  "BadContent Href": "This is no address and no title: change where the link leads, or take it off.",
-  "BadContent LineBreak": "No line may end here: put a space.",
-  "BadContent Nested": "A link can't hold a link: take one of them off.",
+    `So far this can only be changed in the page's source (an item with a list, a table's rows). ${UNDO}`,
+  NotEditable: "So far this can only be changed in the page's source. " + UNDO,
+  BadContent: "A paragraph can't hold this. " + UNDO,
+  "BadContent Element": "A paragraph, an item or a cell can't hold this here. " + UNDO,
+  "BadContent Href": "This is no address and no title: change where the link leads, or remove the link.",
+  "BadContent LineBreak": "There can be no line break here: use a space.",
+  "BadContent Nested": "A link can't hold a link: remove one of them.",
   "BadContent EmptyList": "A list can't lose all its items yet. " + UNDO,
   Tangled:
-    `This paragraph can be edited as source alone: its source begins or ends in its neighbours. ${UNDO}`,
-  NewPageTooLong: "The page is too long: take something out.",
-  NewExpansion: "The page takes too many templates or functions: take some out.",
+    `This paragraph can only be edited as source: its source begins or ends in its neighbours. ${UNDO}`,
+  NewPageTooLong: "The page is too long: remove something.",
+  NewExpansion: "The page takes too many templates or functions: remove some.",
   Unspelled: "This can't be written so that it shows the same. Write it in another way, or undo it (Ctrl+Z).",
   HtmlRefused: "This text can't be sent as it is. " + UNDO,
-  ElementDoesNotFit: "This can't stand here. " + UNDO,
+  ElementDoesNotFit: "This can't be here. " + UNDO,
 };
 
 const STALE =

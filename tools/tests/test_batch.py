@@ -827,6 +827,71 @@ class Asking(unittest.TestCase):
         self.assertEqual(self.cases.ask_all([]), [])
 
 
+class Listed(program.Cases):
+    """The program, with a list of the commands that it was asked for."""
+
+    def __init__(self) -> None:
+        super().__init__(str(PROGRAM))
+        self.commands: "list[str]" = []
+
+    def ask_all(self, questions: "list[program.Question]") -> "list[program.Answer | program.Failure]":
+        for question in questions:
+            word = question.line.split(b"\t")[0].split(b",")[0]
+            self.commands.append(bytes.fromhex(word.decode()).decode())
+        return super().ask_all(questions)
+
+
+class Dictionary:
+    """A wiki in memory."""
+
+    def __init__(self, pages: "dict[str, bytes]") -> None:
+        self.text = pages.get
+
+
+@unittest.skipUnless(IS_ASKABLE, "wtround_cases is not built here")
+class Questions(unittest.TestCase):
+    """What the program is asked about a page: no more than is needed, and in the end with all templates."""
+
+    WIKI = {
+        "Template:T": b"'''t'''",
+        "Template:Name": b"T",
+        "Template:Chain": b"{{ {{Name}} }}",
+        "None": b"no call",
+        "Written": b"{{T}} {{no such}}",
+        "Made": b"{{ {{Name}} }}",
+        "Made by a template": b"{{Chain}}",
+        "With a comment": b"{{<!-- -->T}}",
+    }
+
+    def asked(self, title: str, *commands: str) -> "tuple[list[str], examine.Examined]":
+        cases = Listed()
+        self.addCleanup(cases.close)
+        examiner = examine.Examiner(Dictionary(self.WIKI), 60.0, wants_output=True)
+        (examined,) = examine.answered(cases, [examiner.examine(title, "", list(commands))])
+        return cases.commands, examined
+
+    def test_there_and_back(self) -> None:
+        for title, before, taken in (
+            ("None", [], []),
+            ("Written", [], ["Template:No such", "Template:T"]),
+            ("With a comment", ["html"], ["Template:T"]),
+            ("Made", ["expand"], ["Template:Name", "Template:T"]),
+            ("Made by a template", ["expand"], ["Template:Chain", "Template:Name", "Template:T"]),
+        ):
+            with self.subTest(title=title):
+                commands, examined = self.asked(title, "wikitext")
+                self.assertEqual(sorted(set(commands[:-2])), before)
+                self.assertEqual(commands[-2:], ["html", "wikitext"])
+                self.assertEqual(sorted(examined.known.names), taken)
+                self.assertEqual(examined.results["wikitext"].outcome, "came back")
+
+    def test_one_html_serves_two_commands(self) -> None:
+        commands, examined = self.asked("Written", "html", "wikitext", "ranges")
+        self.assertEqual(commands, ["html", "wikitext", "ranges"])
+        self.assertIn(b"<b", examined.results["html"].out)
+        self.assertEqual(examined.results["wikitext"].out, self.WIKI["Written"])
+
+
 class Words(BatchCase):
     def test_wrong_arguments(self) -> None:
         for words in (

@@ -4,7 +4,7 @@ from __future__ import annotations
 import json
 import re
 from functools import lru_cache
-from typing import Callable, Generator, Generic, Iterable, Protocol, TypeVar
+from typing import Callable, Generator, Generic, Iterable, NamedTuple, Protocol, TypeVar
 
 from .program import Answer, Cases, Died, Failure, Question, TooSlow, case
 from .siblings import explainer, importer
@@ -21,6 +21,8 @@ GROUP_BYTES = 64 << 10  # of the questions with which those begin that go on sid
 MOST_FINDINGS = 100  # of a page that are kept with their places
 # A call whose name is written out. Names that other calls make are found when the program asks for them.
 CALL = re.compile(rb"\{\{\s*([^{}|<>\[\]#]+?)\s*(?:\||\}\})")
+# A call in whose name another one stands.
+CALL_OF_MADE_NAME = re.compile(rb"\{\{[^{}|#]*\{\{")
 
 
 class Texts(Protocol):
@@ -30,31 +32,48 @@ class Texts(Protocol):
         ...
 
 
+class Template(NamedTuple):
+    """What is remembered of a page that others take."""
+
+    text: "bytes | None"  # None where it isn't there, as its digest
+    digest: "bytes | None"
+    called: "list[str]"  # the pages that it calls by names that are written out
+    makes_names: bool  # whether it calls others besides
+
+    @classmethod
+    def of(cls, text: "bytes | None") -> "Template":
+        if text is None:
+            return cls(None, None, [], False)
+        return cls(text, digest_of(text), called_names(text), makes_names(text))
+
+
 class Templates:
     """The texts of templates, of which the last used are remembered."""
 
     def __init__(self, texts: Texts) -> None:
         self._texts = texts
-        self._memory: "dict[str, tuple[bytes | None, bytes | None, list[str]]]" = {}
+        self._memory: "dict[str, Template]" = {}
         self._bytes = 0
 
-    def _look(self, name: str) -> "tuple[bytes | None, bytes | None, list[str]]":
+    def _look(self, name: str) -> "Template":
         found = self._memory.get(name)
         if found is None:
-            text = self._texts.text(name)
-            found = (text, None if text is None else digest_of(text), called_names(text or b""))
+            found = Template.of(self._texts.text(name))
             if self._bytes > MEMORY_OF_TEXTS:
                 self._memory.clear()
                 self._bytes = 0
             self._memory[name] = found
-            self._bytes += len(text or b"") + 500
+            self._bytes += len(found.text or b"") + 500
         return found
 
     def text(self, name: str) -> "bytes | None":
-        return self._look(name)[0]
+        return self._look(name).text
 
     def digest(self, name: str) -> "bytes | None":
-        return self._look(name)[1]
+        return self._look(name).digest
+
+    def makes_names(self, name: str) -> bool:
+        return self._look(name).makes_names
 
     def reached(self, names: "Iterable[str]") -> "dict[str, bytes]":
         """The templates of these names that are there, and all that they name themselves."""
@@ -64,11 +83,16 @@ class Templates:
             name = waiting.pop()
             if name not in seen:
                 seen.add(name)
-                text, _, called = self._look(name)
-                if text is not None:
-                    found[name] = text
-                    waiting.extend(called)
+                template = self._look(name)
+                if template.text is not None:
+                    found[name] = template.text
+                    waiting.extend(template.called)
         return found
+
+
+def makes_names(text: bytes) -> bool:
+    """Whether a text may call pages by names that other calls make."""
+    return CALL_OF_MADE_NAME.search(text) is not None
 
 
 def called_names(text: bytes) -> "list[str]":
@@ -196,22 +220,24 @@ class Examiner:
         held: "tuple[bytes, bytes] | None",
     ) -> "Asking[Examined]":
         digest = digest_of(text)
-        failure: "Result | None" = None
-        names: "list[str]" = []
-        is_sure = False
+        names, is_sure = called_names(text), False
         if known is not None and known.digest == digest:
-            names, current = known.names, self._digest_of_taken(known.names)
+            names, current = known.names or names, self._digest_of_taken(known.names)
             if known.taken_digest in (current, unsure(current)) and held == (digest, known.taken_digest):
-                return Examined(title, len(text), Known(stamp, digest, names, known.taken_digest), {})
+                return Examined(title, len(text), Known(stamp, digest, known.names, held[1]), {})
             is_sure = known.taken_digest == current
-        if not is_sure:
-            failure, names = yield from self.find_templates(title, text, names)
-        current = self._digest_of_taken(names)
-        if failure is not None:
-            now = Known(stamp, digest, names, unsure(current))
-            return Examined(title, len(text), now, {command: failure for command in commands})
-        results = yield from self.run(title, text, self.pages_of(title, text, names), commands)
-        return Examined(title, len(text), Known(stamp, digest, names, current), results)
+        pages = self.pages_of(title, text, names if is_sure else self._templates.reached(names))
+        failure = None if is_sure else (yield from self._completed(title, text, pages))
+        if failure is None:
+            results, asked = yield from self.run(title, text, pages, commands)
+        else:
+            results, asked = {command: failure for command in commands}, None
+        if asked is None:
+            guess = guessed_names(title, pages)
+            now = Known(stamp, digest, guess, unsure(self._digest_of_taken(guess)))
+        else:
+            now = Known(stamp, digest, asked, self._digest_of_taken(asked))
+        return Examined(title, len(text), now, results)
 
     def _digest_of_taken(self, names: "list[str]") -> bytes:
         return taken_digest((name, self._templates.digest(name)) for name in names)
@@ -227,10 +253,12 @@ class Examiner:
         ):
             names = known.names
         else:
-            _, names = yield from self.find_templates(title, text, [])
+            pages = self.pages_of(title, text, self._templates.reached(called_names(text)))
+            _, asked = yield from self.run(title, text, pages, ["expand"])
+            names = guessed_names(title, pages) if asked is None else asked
         return names, self.pages_of(title, text, names)
 
-    def pages_of(self, title: str, text: bytes, names: "list[str]") -> "dict[str, bytes]":
+    def pages_of(self, title: str, text: bytes, names: "Iterable[str]") -> "dict[str, bytes]":
         """The page and the templates of these names that are there."""
         pages = {
             name: text for name, text in ((n, self._templates.text(n)) for n in names) if text is not None
@@ -238,55 +266,61 @@ class Examiner:
         pages[title] = text
         return pages
 
-    def find_templates(
-        self, title: str, text: bytes, guess: "list[str]"
-    ) -> "Asking[tuple[Result | None, list[str]]]":
-        """The names of the pages that this one takes, by asking `expand`; or a failure, with a guess.
-
-        What the page seems to call is sent along. Where the program asks for more that is there, it is sent
-        too, until nothing is missing: then it has had all that it has in the wiki.
-        """
-        if b"{{" not in text:
-            return None, []
-        pages = self._templates.reached(guess or called_names(text))
-        pages[title] = text
-        left = self._time_limit
-        while True:
-            try:
-                answer = yield Question(case(["expand", title], b"", pages, wants_names=True), left)
-            except (Died, TooSlow) as ending:
-                return self._failed(ending), guessed_names(title, pages)
-            if answer.line == "no memory":
-                failure = self._explained(Result(NO_MEMORY, answer.line), title, text)
-                return failure, guessed_names(title, pages)
-            left -= answer.seconds
-            missing = [n for n in answer.names if n not in pages and self._templates.text(n) is not None]
-            if not missing:
-                return None, [name for name in answer.names if name != title]
-            pages.update(self._templates.reached(missing))
-            pages[title] = text
-
     def run(
         self, title: str, text: bytes, pages: "dict[str, bytes]", commands: "list[str]"
-    ) -> "Asking[dict[str, Result]]":
-        """What comes of the commands, with these pages and no others."""
+    ) -> "Asking[tuple[dict[str, Result], list[str] | None]]":
+        """What comes of the commands, and the names of the pages that they asked for; None if none could.
+
+        These pages are sent. Where a command asks for more that is there, it is put among them.
+        """
         results: "dict[str, Result]" = {}
+        asked: "dict[str, None] | None" = None
         html: "Answer | None" = None  # one answer of `html` serves two commands
         for command in sorted(commands, key=COMMANDS.index):
+            goes_back = command == "wikitext"
             try:
-                if command == "wikitext":
-                    html = html or (yield self._question("html", title, pages))
-                    results[command] = yield from self._there_and_back(title, text, html)
+                if goes_back and html is not None:
+                    answer = html
                 else:
-                    answer = yield self._question(command, title, pages)
-                    html = answer if command == "html" else html
+                    answer = yield from self._asked("html" if goes_back else command, title, pages)
+                if answer.line != "no memory":
+                    asked = {**(asked or {}), **dict.fromkeys(answer.names)}
+                html = answer if command == "html" else html
+                if goes_back:
+                    results[command] = yield from self._there_and_back(title, text, answer)
+                else:
                     results[command] = self._result(command, answer, title, text)
             except (Died, TooSlow) as ending:
                 results[command] = self._failed(ending)
-        return results
+        return results, None if asked is None else [name for name in asked if name != title]
 
-    def _question(self, command: str, title: str, pages: "dict[str, bytes]") -> Question:
-        return Question(case([command, title], b"", pages), self._time_limit)
+    def _completed(self, title: str, text: bytes, pages: "dict[str, bytes]") -> "Asking[Result | None]":
+        """Puts the pages among these that are called by made names; or what keeps them from being found.
+
+        `expand` tells them soonest. Names that are written out need no asking.
+        """
+        others = (name for name in pages if name != title)
+        if makes_names(text) or any(map(self._templates.makes_names, others)):
+            try:
+                yield from self._asked("expand", title, pages)
+            except (Died, TooSlow) as ending:
+                return self._failed(ending)
+        return None
+
+    def _asked(self, command: str, title: str, pages: "dict[str, bytes]") -> "Asking[Answer]":
+        """The answer of a command that was sent all pages that it asks for.
+
+        Those that weren't sent and are there are put among the pages, and it is asked again.
+        """
+        left = self._time_limit
+        while True:
+            answer = yield Question(case([command, title], b"", pages, wants_names=True), left)
+            missing = [n for n in answer.names if n not in pages and self._templates.text(n) is not None]
+            if not missing:
+                return answer
+            left -= answer.seconds
+            for name, text in self._templates.reached(missing).items():
+                pages.setdefault(name, text)
 
     def _failed(self, ending: Exception) -> Result:
         if isinstance(ending, TooSlow):

@@ -21,11 +21,13 @@ CHUNK = 1 << 20
 PIPE_BYTES = 1 << 20
 SET_PIPE_SIZE = 1031  # F_SETPIPE_SZ of Linux, which Python knows by name since 3.10
 PROBE_SECONDS = 10.0
+KEPT_BYTES = 16 << 20
+TRIM_THRESHOLD, MMAP_THRESHOLD = -1, -3  # M_TRIM_THRESHOLD and M_MMAP_THRESHOLD of the C library
 END_WITH_PARENT, SET_NAME = 1, 15  # PR_SET_PDEATHSIG and PR_SET_NAME of Linux
 LIBC = ctypes.CDLL(None)
-# The C library keeps more of the small pieces of memory that a page gave back for the next one, without joining
-# them. With 100 of each size (in place of 7) 3 % of the instructions are saved, with all of them 5 %, but memory is
-# seven times as large.
+# The C library keeps more of the small pieces of memory that a page gave back for the next one, without
+# joining them. With 100 of each size (in place of 7) 3 % of the instructions are saved, with all of them 5 %,
+# but memory is seven times as large.
 ENVIRONMENT = {"GLIBC_TUNABLES": "glibc.malloc.tcache_count=100"}
 
 
@@ -282,6 +284,30 @@ def end_with_parent() -> None:
 def name_process(name: str) -> None:
     """Gives this process a name, of at most fifteen bytes, that `ps` and `top` show."""
     LIBC.prctl(SET_NAME, name.encode())
+
+
+def be_patient() -> None:
+    """Lets this process, when what it waits for is there, wait until others wait too or had their time.
+
+    Otherwise a worker is let in at each answer of its program, and the two take the processor's caches from
+    each other twice a page. What it starts isn't so patient, but would lose a priority above the usual one.
+    """
+    try:
+        if os.sched_getscheduler(0) == os.SCHED_OTHER and os.nice(0) >= 0:
+            os.sched_setscheduler(0, os.SCHED_BATCH | os.SCHED_RESET_ON_FORK, os.sched_param(0))
+    except OSError:
+        pass  # it is quicker so, and nothing else
+
+
+def keep_memory() -> None:
+    """Lets the C library keep what this process gives back, where it can be told to.
+
+    Otherwise it gives the room of each group of cases to the system, and asks for as much at the next.
+    """
+    set_option = getattr(LIBC, "mallopt", None)
+    if set_option is not None:
+        set_option(TRIM_THRESHOLD, KEPT_BYTES)
+        set_option(MMAP_THRESHOLD, KEPT_BYTES)
 
 
 def widen(descriptor: int) -> None:

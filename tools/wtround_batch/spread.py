@@ -159,8 +159,8 @@ def answer(line: bytes, cases: Cases, time_limit: float, wants_output: bool) -> 
         raise ValueError
     commands = one_machine.words_of_commands(command.decode())
     examiner = Examiner(Lacking(pages), time_limit, wants_output)
-    (results,) = answered(cases, [examiner.run(title, pages[title], pages, commands)])
     names = [name for name in pages if name != title]
+    ((results, _),) = answered(cases, [examiner.run(title, pages[title], pages, commands)])
     return Examined(title, len(pages[title]), Known("", b"", names, b""), results)
 
 

@@ -133,6 +133,7 @@ class Folder:
 
     def __init__(self, path: str) -> None:
         self.path = path
+        self._prefix = os.path.join(path, "")  # of the path of each file
 
     def titles(self, namespaces: Namespaces) -> "Iterator[Union[str, Skipped]]":
         for name in self._names():
@@ -156,7 +157,7 @@ class Folder:
         return sum(1 for _ in (self._names() if namespaces.are_all else self.titles(namespaces)))
 
     def file_of(self, title: str) -> str:
-        return os.path.join(self.path, importer.file_name(title))
+        return self._prefix + importer.file_name(title)
 
     def entry(self, title: str) -> Entry:
         try:

@@ -16,7 +16,7 @@ from typing import IO
 
 from .examine import Asking, Examiner, answered
 from .outputs import Files, Lines, Nothing
-from .program import Cases
+from .program import Cases, be_patient, keep_memory
 from .results import Examined, Known, Result
 from .store import Export
 from .wiki import Folder
@@ -100,8 +100,8 @@ def known_as_json(known: "Known | None") -> "list | None":
     return None if known is None else [known.digest.hex(), known.names, known.taken_digest.hex()]
 
 
-def known_from_json(value: "list | None") -> "Known | None":
-    return None if value is None else Known("", bytes.fromhex(value[0]), value[1], bytes.fromhex(value[2]))
+def known_from_json(value: "list | None", stamp: str = "") -> "Known | None":
+    return None if value is None else Known(stamp, bytes.fromhex(value[0]), value[1], bytes.fromhex(value[2]))
 
 
 def held_from_json(value: "list | None") -> "tuple[bytes, bytes] | None":
@@ -127,9 +127,8 @@ def examined_as_json(examined: Examined) -> dict:
 
 
 def examined_from_json(value: dict) -> Examined:
-    known = known_from_json(value["known"])
+    known = known_from_json(value["known"], value["stamp"])
     assert known is not None
-    known = Known(value["stamp"], known.digest, known.names, known.taken_digest)
     results = {command: result_from_json(result) for command, result in value["results"].items()}
     return Examined(value["title"], value["bytes"], known, results)
 
@@ -155,6 +154,8 @@ def work(leader: socket.socket) -> None:
     if orders.processor is not None:
         # The worker and its program take turns: on one processor, neither has to wake another one up.
         os.sched_setaffinity(0, {orders.processor})
+    be_patient()
+    keep_memory()
     cases = Cases(orders.program, orders.memory_limit)
     cases.start_ahead()
     examiner = Examiner(orders.source(), orders.time_limit, orders.output != "nothing")

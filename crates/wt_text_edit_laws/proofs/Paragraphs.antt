@@ -2,6 +2,7 @@
 pub mod Apart
 pub mod Texts
 pub mod Joining
+pub mod Marks
 pub mod Standing
 pub mod Paragraphs
 pub mod PartTrees

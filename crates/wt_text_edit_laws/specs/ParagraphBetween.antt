@@ -1,7 +1,8 @@
 -- A typed paragraph of a page, and what may stand before and behind it so that neither becomes a part of the other.
-use Rattle.std.specs.Prelude.{◌≡◌, ℕ, false, None, List, [], ◌∷◌, ◌++◌}
+use Rattle.std.specs.Prelude.{◌≡◌, ℕ, false, None, List, [], ◌∷◌, ◌++◌, if◌then◌else◌}
+use Rattle.std.specs.List.{list_all}
 use Rattle.wt_tree.specs.declared.kind.Kind.TheVariants as kind
-use Rattle.wt_span.specs.Items.{Item, char}
+use Rattle.wt_span.specs.Items.{Item, char, is_mark}
 use Rattle.wt_lines.specs.Lines.{empty_end, full_lines}
 use Rattle.wt_blocks.specs.Paragraphs.{is_text}
 use Rattle.wt_tables.specs.Extents.{behind}
@@ -32,6 +33,12 @@ pub record AreClosed (xs : List Item) : Type 0 where
   pub whole : empty_end xs ≡ [] ∷ []
   pub closed : tables_behind 0 (full_lines xs) ≡ 0
 
+-- What comes before the comments at the end. A line of comments has its line break in it, so it belongs to the line behind it, and stands
+-- above the block that begins there.
+abbrev pub before_marks : List Item → List Item
+before_marks [] = []
+before_marks (x ∷ xs) = if list_all is_mark (x ∷ xs) then [] else x ∷ before_marks xs
+
 -- ---- before a paragraph
 
 -- the last row isn't text
@@ -42,8 +49,8 @@ EndApart (r ∷ s ∷ rs) = EndApart (s ∷ rs)
 
 -- Such lines, of which the last is no text: an empty line, a heading, a list, the end of a table, a rule, or preformatted text.
 pub record EndsApart (xs : List Item) : Type 0 where
-  pub are_closed : AreClosed xs
-  pub apart : EndApart (rows_of_lines xs)
+  pub are_closed : AreClosed (before_marks xs)
+  pub apart : EndApart (rows_of_lines (before_marks xs))
 
 -- ---- behind a paragraph
 

@@ -46,35 +46,35 @@ HasEnds bs = AtStarts (lexer Page) (λ after rest. ends_here rest ≡ true) fals
 
 -- ---- lexemes
 
--- no run of braces, of which calls and arguments are made
-abbrev pub IsNoBrace : LexKind → Type 0
-IsNoBrace Chars = Unit {0}
-IsNoBrace CommentLine = Unit {0}
-IsNoBrace Comment = Unit {0}
-IsNoBrace Raw = Unit {0}
-IsNoBrace Include = Unit {0}
-IsNoBrace Hidden = Unit {0}
-IsNoBrace (Entity c) = Unit {0}
-IsNoBrace Opens = ⊥
-IsNoBrace Closes = ⊥
-IsNoBrace LinkOpen = Unit {0}
-IsNoBrace LinkClose = Unit {0}
-IsNoBrace Pipe = Unit {0}
-IsNoBrace Equals = Unit {0}
+-- No run of closing braces, without which no call or argument is made. Opening braces that nothing closes are characters.
+abbrev pub IsNoCloser : LexKind → Type 0
+IsNoCloser Chars = Unit {0}
+IsNoCloser CommentLine = Unit {0}
+IsNoCloser Comment = Unit {0}
+IsNoCloser Raw = Unit {0}
+IsNoCloser Include = Unit {0}
+IsNoCloser Hidden = Unit {0}
+IsNoCloser (Entity c) = Unit {0}
+IsNoCloser Opens = Unit {0}
+IsNoCloser Closes = ⊥
+IsNoCloser LinkOpen = Unit {0}
+IsNoCloser LinkClose = Unit {0}
+IsNoCloser Pipe = Unit {0}
+IsNoCloser Equals = Unit {0}
 
-abbrev pub HaveNoBraces : List Word → Type 0
-HaveNoBraces [] = Unit {0}
-HaveNoBraces ((kind, n) ∷ ws) = IsNoBrace kind × HaveNoBraces ws
+abbrev pub HaveNoClosers : List Word → Type 0
+HaveNoClosers [] = Unit {0}
+HaveNoClosers ((kind, n) ∷ ws) = IsNoCloser kind × HaveNoClosers ws
 
 -- ---- the parts of a page
 
--- Before the text: nothing, or lines of any kind without two braces side by side. Tags and comments may be there.
+-- Before the text: nothing, or lines of any kind without two closing braces side by side. Tags and comments may be there.
 pub record StandsBefore (bs : List ℕ) : Type 0 where
   pub ends : AreWholeLines bs
   pub has_ends : HasEnds bs
-  pub uncalled : HaveNoBraces (words Page bs)
+  pub uncalled : HaveNoClosers (words Page bs)
 
--- After it: anything without two braces side by side. No comment begins it, nor follows the blanks that begin it.
+-- After it: anything without two closing braces side by side. No comment begins it, nor follows the blanks that begin it.
 pub record StandsBehind (bs : List ℕ) : Type 0 where
   pub uncommented : remarks_len 0 bs ≡ blank_len bs
-  pub uncalled : HaveNoBraces (words Page bs)
+  pub uncalled : HaveNoClosers (words Page bs)

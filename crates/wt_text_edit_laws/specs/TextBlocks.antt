@@ -15,10 +15,10 @@ use Rattle.wt_page.specs.Rows.{Row}
 use Rattle.wt_expand.specs.PageItems.{page_items}
 use Rattle.wt_text_edit_laws.specs.LonePages.{para_of}
 use Rattle.wt_typed_blocks.specs.Sent.{Block, paragraph, heading}
-use Rattle.wt_text_edit_laws.specs.TextBetween.{HaveNoBraces, StandsBefore}
+use Rattle.wt_text_edit_laws.specs.TextBetween.{HaveNoClosers, StandsBefore}
 use Rattle.wt_text_edit_laws.specs.Paragraphs.{AreLetters, IsParagraph}
-use Rattle.wt_text_edit_laws.specs.ParagraphBetween.{rows_of_lines, AreClosed, EndsApart, EndsParagraph}
-use Rattle.wt_text_edit_laws.specs.TypedHeadings.{Sides, AreSides, opening, closing, heading_line, heading_with, IsHeadingText, StandsApart, EndsLine}
+use Rattle.wt_text_edit_laws.specs.ParagraphBetween.{rows_of_lines, AreClosed, before_marks, EndsApart, EndsParagraph}
+use Rattle.wt_text_edit_laws.specs.TypedHeadings.{Sides, AreSides, opening, closing, heading_line, heading_with, IsHeadingText, IsOfLevel, EndsLine}
 
 -- ---- its source
 
@@ -48,9 +48,18 @@ block_tree (a_heading s) q = heading_with s (page_items q)
 
 -- ---- its text
 
+-- What a heading's line has beside its text. What is behind the last `=` reads the same whether a line break is after it or the page ends
+-- there: so a comment that begins there ends there.
+pub record IsFrame (s : Sides) : Type 0 where
+  pub sides : AreSides s
+  pub utf8 : IsUtf8 s.rest
+  pub stands : StandsBefore (s.rest ++ byte.line_break ∷ [])
+  pub uncalled : HaveNoClosers (words Page s.rest)
+  pub ended : page_items (s.rest ++ byte.line_break ∷ []) ≡ page_items s.rest ++ char None byte.line_break ∷ []
+
 -- any text on one line, as a heading spells it
 pub record IsTypedHeading (s : Sides) (q : List ℕ) : Type 0 where
-  pub sides : AreSides s
+  pub frame : IsFrame s
   pub setting : Setting
   pub text : List ℕ
   pub utf8 : IsUtf8 text
@@ -59,19 +68,19 @@ pub record IsTypedHeading (s : Sides) (q : List ℕ) : Type 0 where
   pub of_heading : setting.place ≡ place.Heading
   pub is : q ≡ spelled setting (letters text)
 
--- A heading that somebody wrote by hand, without two braces side by side, whether a line break is after it or the page ends
+-- A heading that somebody wrote by hand, without two closing braces side by side, whether a line break is after it or the page ends
 -- there: its text is characters and references, is read in its line as it is by itself, neither begins nor ends with a blank, and is not
 -- next to a `=` that is one more than its level says.
 pub record IsWrittenHeading (s : Sides) (q : List ℕ) : Type 0 where
-  pub sides : AreSides s
+  pub frame : IsFrame s
   pub utf8 : IsUtf8 q
   pub stands : StandsBefore (source_of (a_heading s) q ++ byte.line_break ∷ [])
-  pub uncalled : HaveNoBraces (words Page (source_of (a_heading s) q))
+  pub uncalled : HaveNoClosers (words Page (source_of (a_heading s) q))
   pub ended : page_items (source_of (a_heading s) q ++ byte.line_break ∷ []) ≡ heading_line s (page_items q) ++ char None byte.line_break ∷ []
   pub unended : page_items (source_of (a_heading s) q) ≡ heading_line s (page_items q)
   pub are_letters : AreLetters (page_items q)
   pub is_text : IsHeadingText (page_items q)
-  pub apart : StandsApart s (page_items q)
+  pub of_level : IsOfLevel s (page_items q)
 
 abbrev pub IsBlock : TextBlock → List ℕ → Type 0
 IsBlock a_paragraph q = IsParagraph q
@@ -79,10 +88,11 @@ IsBlock (a_heading s) q = IsTypedHeading s q ⊎ IsWrittenHeading s q
 
 -- ---- what stands before it
 
--- Lines that leave no table open, or nothing. Before a paragraph the last of them is no text.
+-- Lines that leave no table open, or nothing, and lines of comments directly above it, or none. Before a paragraph and these the last line is no
+-- text.
 abbrev pub LeadsTo : TextBlock → List Item → Type 0
 LeadsTo a_paragraph xs = EndsApart xs
-LeadsTo (a_heading s) xs = AreClosed xs
+LeadsTo (a_heading s) xs = AreClosed (before_marks xs)
 
 -- ---- what stands behind it
 
@@ -101,7 +111,7 @@ FirstApart (a_heading s) (r ∷ rs) = is_text r.kind ≡ false
 -- between a paragraph and this block
 abbrev pub BeginsApart : TextBlock → List Item → Type 0
 BeginsApart next [] = ⊥
-BeginsApart next (x ∷ xs) = (x ≡ char None byte.line_break) × AreClosed xs × FirstApart next (rows_of_lines xs)
+BeginsApart next (x ∷ xs) = (x ≡ char None byte.line_break) × AreClosed (before_marks xs) × FirstApart next (rows_of_lines (before_marks xs))
 
 -- between a heading and a block
 abbrev pub BeginsLine : List Item → Type 0

@@ -1,19 +1,23 @@
--- A heading with a text on a line by itself: so many `=`, the text, and as many `=`, and blanks or none beside the text and behind it all.
+-- A heading with a text on a line by itself: so many `=`, the text, and as many `=`, and blanks or none beside the text; behind it all blanks,
+-- comments and include tags, or nothing.
 use Rattle.std.specs.Prelude.{◌≡◌, ◌≤◌, ◌==◌, ℕ, true, false, None, List, [], ◌∷◌, ◌++◌, map, replicate}
 use Rattle.wt_tree.specs.declared.kind.Kind.TheVariants as kind
 use Rattle.wt_span.specs.Bytes.{is_blank}
 use Rattle.wt_span.specs.Characters as byte
 use Rattle.wt_span.specs.Items.{Item, char, sign}
+use Rattle.wt_lines.specs.Kinds.{is_idle}
 use Rattle.wt_lines.specs.Lines.{is_break_item}
 use Rattle.wt_inline.specs.declared.loose.Loose.TheVariants.{Text}
 use Rattle.wt_inline.specs.ItemTree.{plain, ItemTree, inner, forest}
 use Rattle.wt_inline.specs.Parts.{parts, children}
+use Rattle.wt_context.specs.Line.{line_parts}
+use Rattle.wt_expand.specs.PageItems.{page_items}
+use Rattle.wt_blocks.specs.Headings.{level}
 use Rattle.wt_text_edit_laws.specs.LonePages.{page_chars}
-use Rattle.wt_text_edit_laws.specs.StillItems.{StillItems}
 
 -- ---- what its line has beside the text
 
--- How many `=`, and the blanks behind the first of them, before the last, and behind these.
+-- How many `=`, the blanks behind the first of them and before the last, and what is behind these.
 pub record Sides : Type 0 where
   pub level : ℕ
   pub lead : List ℕ
@@ -29,12 +33,17 @@ abbrev pub AreBlanks : List ℕ → Type 0
 AreBlanks [] = Unit {0}
 AreBlanks (b ∷ bs) = (is_blank b ≡ true) × AreBlanks bs
 
+-- of items by their signs: blanks, comments and include tags
+abbrev pub AreIdle : List ℕ → Type 0
+AreIdle [] = Unit {0}
+AreIdle (s ∷ ss) = (is_idle s ≡ true) × AreIdle ss
+
 pub record AreSides (s : Sides) : Type 0 where
   pub some : 1 ≤ s.level
   pub most : s.level ≤ 6
   pub lead : AreBlanks s.lead
   pub trail : AreBlanks s.trail
-  pub rest : AreBlanks s.rest
+  pub rest : AreIdle (map sign (page_items s.rest))
 
 abbrev pub equals : ℕ → List ℕ
 equals n = replicate n byte.equals_sign
@@ -47,11 +56,14 @@ closing s = s.trail ++ (equals s.level ++ s.rest)
 
 -- ---- the line, and the heading that it is
 
+abbrev pub closing_items : Sides → List Item
+closing_items s = page_chars (s.trail ++ equals s.level) ++ page_items s.rest
+
 abbrev pub heading_line : Sides → List Item → List Item
-heading_line s xs = page_chars (opening s) ++ (xs ++ page_chars (closing s))
+heading_line s xs = page_chars (opening s) ++ (xs ++ closing_items s)
 
 abbrev pub heading_with : Sides → List Item → ItemTree
-heading_with s xs = inner (plain (kind.Heading s.level)) (page_chars (opening s)) (forest (children (parts Text xs))) (page_chars (closing s))
+heading_with s xs = inner (plain (kind.Heading s.level)) (page_chars (opening s)) (forest (children (parts Text xs))) (closing_items s)
 
 -- ---- what its text is
 
@@ -69,9 +81,9 @@ EndsSeen [] = ⊥
 EndsSeen (s ∷ []) = is_blank s ≡ false
 EndsSeen (s ∷ t ∷ ss) = EndsSeen (t ∷ ss)
 
--- Characters, references and nowikis on one line, of which the first and the last are no blank.
+-- One text on one line, in which no link, style, switch or address is, and of which the first and the last are no blank.
 pub record IsHeadingText (xs : List Item) : Type 0 where
-  pub still : StillItems xs
+  pub is_one : line_parts xs ≡ parts Text xs
   pub unbroken : NoBreaks xs
   pub begins : BeginsSeen (map sign xs)
   pub ends : EndsSeen (map sign xs)
@@ -90,6 +102,10 @@ EndsOther (s ∷ t ∷ ss) = EndsOther (t ∷ ss)
 -- what is between the first `=` and the last
 abbrev pub between : Sides → List Item → List ℕ
 between s xs = s.lead ++ (map sign xs ++ s.trail)
+
+-- The level of the line, which is the number of `=` of its shorter run, and six at most, is this: so one side may have more, or at six both.
+abbrev pub IsOfLevel : Sides → List Item → Type 0
+IsOfLevel s xs = level (heading_line s xs) ≡ s.level
 
 -- It neither begins nor ends with one more `=`.
 pub record StandsApart (s : Sides) (xs : List Item) : Type 0 where

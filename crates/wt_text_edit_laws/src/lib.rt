@@ -49,8 +49,8 @@ ghost use Rattle.wt_text_edit_laws.specs.ProseUnmarked.{unmarked_prose, IsUnmark
 ghost use Rattle.wt_text_edit_laws.specs.ProseEdits.{PassageEdit, old_passages, new_passages, sent_prose, IsProseEdit};
 ghost use Rattle.wt_text_edit_laws.specs.TextBetween.{AreWholeLines, HasEnds, StandsBefore, StandsBehind};
 ghost use Rattle.wt_text_edit_laws.specs.Paragraphs.{IsParagraph};
-ghost use Rattle.wt_text_edit_laws.specs.ParagraphBetween.{EndsApart, EndsParagraph, blocks_in, body_round, AreClosed, body_with};
-ghost use Rattle.wt_text_edit_laws.specs.TypedHeadings.{Sides, AreSides, heading_line, heading_with, IsHeadingText, StandsApart, EndsLine};
+ghost use Rattle.wt_text_edit_laws.specs.ParagraphBetween.{EndsApart, EndsParagraph, blocks_in, body_round, AreClosed, before_marks, body_with};
+ghost use Rattle.wt_text_edit_laws.specs.TypedHeadings.{Sides, AreSides, heading_line, heading_with, IsHeadingText, IsOfLevel, StandsApart, EndsLine};
 ghost use Rattle.wt_text_edit_laws.specs.Parts.{part_tree};
 ghost use Rattle.wt_text_edit_laws.specs.BlockSpots.{BlockSpot, spots_source, page_blocks, AreBlockSpots, SameRound, AreBlocks};
 ghost use Rattle.wt_text_edit_laws.specs.BlockEdits.{BlockEdit, new_spots, old_page, new_page, sent_page, IsBlockEdit};
@@ -232,18 +232,18 @@ pub fn typed_paragraph_stands_by_itself()
 
 // ---- a heading with a text among any other blocks
 
-/// A heading with a text on a line by itself, with blanks or none beside the text and after the last `=`, after whole
-/// lines that leave no table open, is a heading of the body, of as many `=` as it has. The body's other children are
+/// A heading with a text on a line by itself, with blanks or none beside the text, and blanks, comments and include
+/// tags or nothing after the last `=`, after whole lines that leave no table open, and lines of comments or none, is a
+/// heading of the body, of as many `=` as it has. The body's other children are
 /// those that what comes before it and what comes after it make by themselves, whatever its text is.
 #[tactic(auto, using(crate::proofs::Headings::HeadingRows::heading_stands))]
 pub fn heading_stands_by_itself()
-    ensures { (xs : List Item) (s : Sides) (own tail : List Item) → AreClosed xs → AreSides s → IsHeadingText own → StandsApart s own → EndsLine tail
+    ensures { (xs : List Item) (s : Sides) (own tail : List Item) → AreClosed (before_marks xs) → AreSides s → IsHeadingText own → IsOfLevel s own → EndsLine tail
         → meaning (xs ++ (heading_line s own ++ tail)) ≡ body_with (blocks_in xs ++ heading_with s own ∷ blocks_in tail) }
 {}
 
 /// Any text on one line, as the content of a heading spells it, is such a text, and neither begins nor ends with a `=`
 /// that would belong to the delimiters, whatever blanks are beside it, or none.
-#[tactic(auto, using(crate::proofs::Headings::TypedTexts::typed_heading_text, crate::proofs::Headings::TypedTexts::typed_apart))]
 pub fn typed_texts_are_heading_texts()
     ensures text { (s : Setting) (text : List ℕ) → s.within ≡ false → s.place ≡ place.Heading → IsUtf8 text → has_break text ≡ false
         → IsHeadingText (page_items (spelled s (letters text))) }

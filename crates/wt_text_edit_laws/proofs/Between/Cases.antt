@@ -6,7 +6,7 @@ use Rattle.wt_span.specs.Comments.{comment_len, comment_line_len}
 use Rattle.wt_span.specs.Entities.{named_entity, entity_names, decimal_entity, hex_entity, entity_at}
 use Rattle.wt_span.specs.Lexemes.{sign_word, form_at, closed, words}
 use Rattle.wt_span.specs.Tags.{tag_after, opening_tag, closing_tag, with_inside, is_extension, raw_len, include_at}
-use Rattle.wt_text_edit_laws.specs.TextBetween.{AreWholeLines, HasEnds, HaveNoBraces, StandsBefore, StandsBehind}
+use Rattle.wt_text_edit_laws.specs.TextBetween.{AreWholeLines, HasEnds, HaveNoClosers, StandsBefore, StandsBehind}
 
 -- ---- before a text
 
@@ -72,9 +72,14 @@ alone = record { ends = refl; has_ends = (refl, (refl, (refl, refl))); uncalled 
 unended : AreWholeLines (codes "a") → ⊥
 unended h = absurd (cc)
 
-call : HaveNoBraces (words Page (codes "{{a}}")) → ⊥
+call : HaveNoClosers (words Page (codes "{{a}}")) → ⊥
 unfolding comment_len comment_line_len named_entity entity_names decimal_entity hex_entity entity_at sign_word form_at closed words opening_tag closing_tag raw_len include_at
-call h = h.0
+call h = h.1.1.0
+
+-- but braces that nothing closes are characters
+open_call : StandsBefore (codes "{{a\n")
+unfolding comment_len comment_line_len named_entity entity_names decimal_entity hex_entity entity_at sign_word form_at closed words opening_tag closing_tag raw_len include_at
+open_call = record { ends = refl; has_ends = (refl, (refl, (refl, refl))); uncalled = (tt, (tt, tt)) }
 
 -- what doesn't end in the part may end in the text
 open_comment : HasEnds (codes "<!-- a\n") → ⊥

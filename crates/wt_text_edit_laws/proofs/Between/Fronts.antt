@@ -4,7 +4,7 @@ use Rattle.std.specs.Prelude.{if◌then◌else◌}
 use Rattle.std.proofs.lemmas.List.{take-append-le}
 use Rattle.wt_span.specs.declared.form.Mode.TheVariants.{Page}
 use Rattle.wt_span.specs.declared.form.LexKind.{LexKind}
-use Rattle.wt_span.specs.declared.form.LexKind.TheVariants.{Chars, Opens, Closes}
+use Rattle.wt_span.specs.declared.form.LexKind.TheVariants.{Chars, Closes}
 use Rattle.wt_span.specs.Bytes.{is_break}
 use Rattle.wt_span.specs.Items.{Item, char}
 use Rattle.wt_span.specs.Lexemes.{Word, Cut, cuts, closed, words, form_at}
@@ -19,7 +19,7 @@ use Rattle.wt_scans.specs.Scans.{after_all, skipped_by, Settles}
 use Rattle.wt_text_edit_laws.specs.LonePages.{of_items}
 use Rattle.wt_text_edit_laws.specs.TypedPages.{IsTypedPage}
 use Rattle.wt_text_edit_laws.proofs.Texts.TypedItems.{items_cut, closed_items}
-use Rattle.wt_text_edit_laws.proofs.Texts.TypedText.{IsNoBrace, HaveNoBraces, shown_expanded, shown_unrefused}
+use Rattle.wt_text_edit_laws.proofs.Texts.TypedText.{IsNoCloser, HaveNoClosers, shown_expanded, shown_unrefused}
 use Rattle.wt_text_edit_laws.proofs.Prose.Uncommented.{BeginsUncommented, either_flag}
 use Rattle.wt_text_edit_laws.proofs.Prose.InFront.{Reads, shown_closed}
 use Rattle.wt_text_edit_laws.proofs.Prose.ProseReading.{page_front}
@@ -27,26 +27,25 @@ use Rattle.wt_text_edit_laws.specs.TextBetween as is_spec
 use Rattle.wt_text_edit_laws.specs.TextBetween.{StandsBefore, StandsBehind}
 use Rattle.wt_text_edit_laws.proofs.Between.LineForms.{lines_settle}
 
--- ---- lexemes that aren't runs of braces
+-- ---- lexemes that aren't runs of closing braces
 
-kind_same : (kind : LexKind) → is_spec.IsNoBrace kind → IsNoBrace kind
-kind_same Opens h = h
+kind_same : (kind : LexKind) → is_spec.IsNoCloser kind → IsNoCloser kind
 kind_same Closes h = h
 kind_same k h = tt
 
-all_same : (ws : List Word) → is_spec.HaveNoBraces ws → HaveNoBraces ws
+all_same : (ws : List Word) → is_spec.HaveNoClosers ws → HaveNoClosers ws
 all_same [] h = tt
 all_same ((kind, n) ∷ ws) h = (kind_same kind h.0, all_same ws h.1)
 
-open_by : (t : Bool) (n : ℕ) (ws : List Word) → HaveNoBraces (if t then ws else (Chars, n) ∷ ws) → HaveNoBraces ws
+open_by : (t : Bool) (n : ℕ) (ws : List Word) → HaveNoClosers (if t then ws else (Chars, n) ∷ ws) → HaveNoClosers ws
 open_by true n ws h = h
 open_by false n ws h = h.1
 
-opened : (c : Cut) → HaveNoBraces (closed c.0 c.1) → HaveNoBraces c.1
+opened : (c : Cut) → HaveNoClosers (closed c.0 c.1) → HaveNoClosers c.1
 unfolding closed
 opened (n, ws) h = open_by (n == 0) n ws h
 
-words_shown : (bs : List ℕ) → is_spec.HaveNoBraces (words Page bs) → HaveNoBraces (cuts Page false 0 bs).1
+words_shown : (bs : List ℕ) → is_spec.HaveNoClosers (words Page bs) → HaveNoClosers (cuts Page false 0 bs).1
 unfolding words
 words_shown bs h = opened (cuts Page false 0 bs) (all_same (closed (cuts Page false 0 bs).0 (cuts Page false 0 bs).1) h)
 
@@ -54,7 +53,7 @@ words_shown bs h = opened (cuts Page false 0 bs) (all_same (closed (cuts Page fa
 
 pub record ReadsAfter (after : Bool) (bs : List ℕ) (xs : List Item) : Type 0 where
   pub items : items_cut bs (cuts Page after 0 bs) ≡ xs
-  pub shown : HaveNoBraces (cuts Page after 0 bs).1
+  pub shown : HaveNoClosers (cuts Page after 0 bs).1
 
 pub reads_after : (after : Bool) (bs : List ℕ) (xs : List Item) → Reads bs xs → ReadsAfter after bs xs
 reads_after after bs xs r = record { items = r.items after; shown = r.shown after }
@@ -67,7 +66,7 @@ first_items bs = closed_items bs (cuts Page false 0 bs)
 pub page_read : (bs : List ℕ) (xs : List Item) → ReadsAfter false bs xs → page_items bs ≡ xs
 page_read bs xs r = first_items bs ∙ r.items
 
-pub page_words : (bs : List ℕ) (xs : List Item) → ReadsAfter false bs xs → HaveNoBraces (words Page bs)
+pub page_words : (bs : List ℕ) (xs : List Item) → ReadsAfter false bs xs → HaveNoClosers (words Page bs)
 unfolding words
 page_words bs xs r = shown_closed (cuts Page false 0 bs) r.shown
 
@@ -81,7 +80,7 @@ either_cuts after (b ∷ bs) u =
 pub reads_either : (bs : List ℕ) (xs : List Item) → BeginsUncommented bs → ReadsAfter false bs xs → Reads bs xs
 reads_either bs xs u r = record {
   items = λ after. ap (items_cut bs) (either_cuts after bs u) ∙ r.items;
-  shown = λ after. subst (λ (c : Cut). HaveNoBraces c.1) (sym (either_cuts after bs u)) r.shown;
+  shown = λ after. subst (λ (c : Cut). HaveNoClosers c.1) (sym (either_cuts after bs u)) r.shown;
   begins = u;
 }
 
@@ -114,7 +113,7 @@ form_from a b bs kind j f =
 words_by : (a : Bool) (b : ℕ) (bs : List ℕ) → form_at Page a (b ∷ bs) ≡ None → (cuts Page a 0 (b ∷ bs)).1 ≡ (cuts Page (is_break b) 0 bs).1
 words_by a b bs f = ap (λ (c : Cut). c.1) (cuts_cons Page a b bs None f)
 
-words_from : (a : Bool) (b : ℕ) (bs : List ℕ) (kind : LexKind) (j : ℕ) → form_at Page a (b ∷ bs) ≡ Some (kind, suc j)
+pub words_from : (a : Bool) (b : ℕ) (bs : List ℕ) (kind : LexKind) (j : ℕ) → form_at Page a (b ∷ bs) ≡ Some (kind, suc j)
     → (cuts Page a 0 (b ∷ bs)).1 ≡ (kind, suc j) ∷ closed (cuts Page (is_break b) j bs).0 (cuts Page (is_break b) j bs).1
 words_from a b bs kind j f =
     let z : suc j - 1 ≡ j = omega arith in
@@ -124,13 +123,13 @@ words_from a b bs kind j f =
 -- what is read of both, in one
 record Joined (a : Bool) (n : ℕ) (q rest : List ℕ) (xs : List Item) : Type 0 where
   items : items_from a n (q ++ rest) ≡ items_from a n q ++ xs
-  shown : HaveNoBraces (cuts Page a n q).1 → HaveNoBraces (cuts Page a n (q ++ rest)).1
+  shown : HaveNoClosers (cuts Page a n q).1 → HaveNoClosers (cuts Page a n (q ++ rest)).1
 
 joined_byte : (a : Bool) (b : ℕ) (q rest : List ℕ) (xs : List Item) → form_at Page a (b ∷ (q ++ rest)) ≡ None → form_at Page a (b ∷ q) ≡ None
     → Joined (is_break b) 0 q rest xs → Joined a 0 (b ∷ q) rest xs
 joined_byte a b q rest xs e f j = record {
   items = byte_from a b (q ++ rest) e ∙ ap (λ ys. char None b ∷ ys) j.items ∙ sym (ap (λ ys. ys ++ xs) (byte_from a b q f));
-  shown = λ h. subst HaveNoBraces (sym (words_by a b (q ++ rest) e)) (j.shown (subst HaveNoBraces (words_by a b q f) h));
+  shown = λ h. subst HaveNoClosers (sym (words_by a b (q ++ rest) e)) (j.shown (subst HaveNoClosers (words_by a b q f) h));
 }
 
 joined_form : (a : Bool) (b : ℕ) (q rest : List ℕ) (xs : List Item) (kind : LexKind) (k : ℕ) → form_at Page a (b ∷ (q ++ rest)) ≡ Some (kind, suc k)
@@ -144,8 +143,8 @@ joined_form a b q rest xs kind k e f le j =
           ∙ sym (append_assoc own (items_from (is_break b) k q) xs)
           ∙ sym (ap (λ ys. ys ++ xs) (form_from a b q kind k f));
       shown = λ h.
-          let s = subst HaveNoBraces (words_from a b q kind k f) h in
-          subst HaveNoBraces (sym (words_from a b (q ++ rest) kind k e))
+          let s = subst HaveNoClosers (words_from a b q kind k f) h in
+          subst HaveNoClosers (sym (words_from a b (q ++ rest) kind k e))
           (s.0, shown_closed (cuts Page (is_break b) k (q ++ rest)) (j.shown (opened (cuts Page (is_break b) k q) s.1)));
     }
 
@@ -178,9 +177,12 @@ before_reads bs rest xs h r =
       shown = j.shown (words_shown bs h.uncalled);
     }
 
+-- by itself
+pub alone_reads : (bs : List ℕ) → is_spec.HaveNoClosers (words Page bs) → ReadsAfter false bs (page_items bs)
+alone_reads bs h = record { items = sym (first_items bs); shown = words_shown bs h }
+
 pub behind_reads : (bs : List ℕ) → StandsBehind bs → Reads bs (page_items bs)
-behind_reads bs h =
-    reads_either bs (page_items bs) (record { is = h.uncommented }) (record { items = sym (first_items bs); shown = words_shown bs h.uncalled })
+behind_reads bs h = reads_either bs (page_items bs) (record { is = h.uncommented }) (alone_reads bs h.uncalled)
 
 -- ---- a text between them
 

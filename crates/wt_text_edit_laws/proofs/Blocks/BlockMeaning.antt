@@ -1,19 +1,22 @@
 -- What a page with typed paragraphs and headings means: a body with what each of its parts makes by itself, and these blocks between.
-use Rattle.std.proofs.Common.{◌≡◌, ℕ, List, [], ◌∷◌, ◌++◌, refl, ap, ◌∙◌, subst, sym, inl, inr}
+use Rattle.std.proofs.Common.{◌≡◌, ℕ, List, [], ◌∷◌, ◌++◌, refl, ap, ◌∙◌, subst, sym, append_assoc, inl, inr}
 use Rattle.wt_span.specs.Items.{Item}
 use Rattle.wt_inline.specs.ItemTree.{ItemTree}
 use Rattle.wt_inline.specs.Parts.{Part, node, children}
 use Rattle.wt_page.specs.Rows.{Row, rows}
 use Rattle.wt_page.specs.Body.{meaning}
+use Rattle.wt_guards.specs.Content.{letters}
+use Rattle.wt_guards.specs.Guards.{spelled}
 use Rattle.wt_expand.specs.PageItems.{page_items}
-use Rattle.wt_text_edit_laws.specs.ParagraphBetween.{rows_of_lines, BeginApart, EndsParagraph, body_with}
+use Rattle.wt_text_edit_laws.specs.ParagraphBetween.{rows_of_lines, AreClosed, before_marks, BeginApart, EndsParagraph, body_with}
 use Rattle.wt_text_edit_laws.proofs.Paragraphs.Joining.{rows_before}
+use Rattle.wt_text_edit_laws.proofs.Paragraphs.Marks.{AreMarks, EndsInMarks, marks_end, rows_marks}
 use Rattle.wt_text_edit_laws.proofs.Paragraphs.Standing.{parts_in, round_node, body_is}
 use Rattle.wt_text_edit_laws.proofs.Paragraphs.Paragraphs.{paragraph_between}
-use Rattle.wt_text_edit_laws.specs.TypedHeadings.{Sides, AreSides, heading_line, IsHeadingText, StandsApart, EndsLine}
-use Rattle.wt_text_edit_laws.proofs.Headings.HeadingRows.{first_row, heading_between}
+use Rattle.wt_text_edit_laws.specs.TypedHeadings.{Sides, AreSides, heading_line, IsHeadingText, IsOfLevel, EndsLine}
+use Rattle.wt_text_edit_laws.proofs.Headings.HeadingRows.{heading_row, first_row, apart_level, heading_between}
 use Rattle.wt_text_edit_laws.proofs.Headings.TypedTexts.{typed_heading_text, typed_apart}
-use Rattle.wt_text_edit_laws.specs.TextBlocks.{TextBlock, a_paragraph, a_heading, block_items, block_tree, IsTypedHeading, IsBlock, LeadsTo, EndsBlock, FirstApart, BeginsApart, BeginsBetween}
+use Rattle.wt_text_edit_laws.specs.TextBlocks.{TextBlock, a_paragraph, a_heading, block_items, block_tree, IsFrame, IsTypedHeading, IsBlock, LeadsTo, EndsBlock, FirstApart, BeginsApart, BeginsBetween}
 use Rattle.wt_text_edit_laws.specs.BlockSpots.{BlockSpot, spots_source, page_blocks, IsBlockSpot, AreFurtherBlocks, AreBlockSpots}
 use Rattle.wt_text_edit_laws.proofs.Blocks.BlockReading.{spots_items, items_of_spots}
 
@@ -27,41 +30,56 @@ heading_text : (s : Sides) (q : List ℕ) → IsBlock (a_heading s) q → IsHead
 heading_text s q (inl t) = typed_is_text s q t
 heading_text s q (inr w) = w.is_text
 
-pub heading_sides : (s : Sides) (q : List ℕ) → IsBlock (a_heading s) q → AreSides s
-heading_sides s q (inl t) = t.sides
-heading_sides s q (inr w) = w.sides
+pub heading_frame : (s : Sides) (q : List ℕ) → IsBlock (a_heading s) q → IsFrame s
+heading_frame s q (inl t) = t.frame
+heading_frame s q (inr w) = w.frame
 
-heading_apart : (s : Sides) (q : List ℕ) → IsBlock (a_heading s) q → StandsApart s (page_items q)
-heading_apart s q (inl t) =
-    subst (λ (q : List ℕ). StandsApart s (page_items q)) (sym t.is) (typed_apart t.setting t.text s t.of_block t.of_heading t.utf8 t.one_line t.sides)
-heading_apart s q (inr w) = w.apart
+pub heading_sides : (s : Sides) (q : List ℕ) → IsBlock (a_heading s) q → AreSides s
+heading_sides s q h = let f = heading_frame s q h in f.sides
+
+heading_level : (s : Sides) (q : List ℕ) → IsBlock (a_heading s) q → IsOfLevel s (page_items q)
+heading_level s q (inl t) =
+    subst (λ (q : List ℕ). IsOfLevel s (page_items q)) (sym t.is)
+    (apart_level s (page_items (spelled t.setting (letters t.text))) t.frame.sides (typed_apart t.setting t.text s t.of_block t.of_heading t.utf8 t.one_line t.frame.sides))
+heading_level s q (inr w) = w.of_level
 
 block_between : (k : TextBlock) (xs : List Item) (q : List ℕ) (tail : List Item) → LeadsTo k xs → IsBlock k q → EndsBlock k tail
     → parts_in (xs ++ (block_items k q ++ tail)) ≡ parts_in xs ++ node (block_tree k q) ∷ parts_in tail
 block_between a_paragraph xs q tail c h e = paragraph_between xs q tail c h e
 block_between (a_heading s) xs q tail c h e =
-    heading_between xs s (page_items q) tail c (heading_sides s q h) (heading_text s q h) (heading_apart s q h) e
+    heading_between xs s (page_items q) tail c (heading_sides s q h) (heading_text s q h) (heading_level s q h) e
 
 -- ---- what stands behind one
 
-heading_first : (s : Sides) (q : List ℕ) (tail : List Item) → IsBlock (a_heading s) q → EndsLine tail
-    → BeginApart (rows (heading_line s (page_items q) ++ tail))
-heading_first s q tail h e =
-    let f = first_row s (page_items q) tail (heading_sides s q h) (heading_text s q h).unbroken (heading_apart s q h) e in
-    subst BeginApart (sym f.2) refl
+heading_first : (s : Sides) (ms : List Item) (q : List ℕ) (tail : List Item) → AreMarks ms → IsBlock (a_heading s) q → EndsLine tail
+    → BeginApart (rows (ms ++ (heading_line s (page_items q) ++ tail)))
+heading_first s ms q tail m h e =
+    let line : List Item = heading_line s (page_items q) in
+    let f = first_row s (page_items q) tail (heading_sides s q h) (heading_text s q h) (heading_level s q h) e in
+    subst BeginApart (sym (rows_marks ms (line ++ tail) (heading_row line f.0) f.1 m f.2 tt)) refl
 
-first_apart : (next : TextBlock) (rs : List Row) (q : List ℕ) (tail : List Item) → FirstApart next rs → IsBlock next q → EndsBlock next tail
-    → BeginApart (rs ++ rows (block_items next q ++ tail))
-first_apart a_paragraph [] q tail h b e = absurd h
-first_apart (a_heading s) [] q tail h b e = heading_first s q tail b e
-first_apart a_paragraph (r ∷ rs) q tail h b e = h
-first_apart (a_heading s) (r ∷ rs) q tail h b e = h
+first_apart : (next : TextBlock) (rs : List Row) (ms : List Item) (q : List ℕ) (tail : List Item) → FirstApart next rs → AreMarks ms → IsBlock next q
+    → EndsBlock next tail → BeginApart (rs ++ rows (ms ++ (block_items next q ++ tail)))
+first_apart a_paragraph [] ms q tail h m b e = absurd h
+first_apart (a_heading s) [] ms q tail h m b e = heading_first s ms q tail m b e
+first_apart a_paragraph (r ∷ rs) ms q tail h m b e = h
+first_apart (a_heading s) (r ∷ rs) ms q tail h m b e = h
+
+above_apart : (next : TextBlock) (xs : List Item) (q : List ℕ) (tail : List Item) → AreClosed (before_marks xs)
+    → FirstApart next (rows_of_lines (before_marks xs)) → IsBlock next q → EndsBlock next tail → BeginApart (rows (xs ++ (block_items next q ++ tail)))
+above_apart next xs q tail h f b e =
+    let g : EndsInMarks xs = marks_end xs in
+    let ys : List Item = block_items next q ++ tail in
+    let ls : List Item = before_marks xs in
+    let is : rows (xs ++ ys) ≡ rows_of_lines ls ++ rows (g.marks ++ ys) =
+    ap (λ (zs : List Item). rows (zs ++ ys)) g.is ∙ ap rows (append_assoc ls g.marks ys) ∙ rows_before ls (g.marks ++ ys) h in
+    subst BeginApart (sym is) (first_apart next (rows_of_lines ls) g.marks q tail f g.are_marks b e)
 
 ends_paragraph : (next : TextBlock) (xs : List Item) (q : List ℕ) (tail : List Item) → BeginsApart next xs → IsBlock next q → EndsBlock next tail
     → EndsParagraph (xs ++ (block_items next q ++ tail))
 ends_paragraph next [] q tail h b e = absurd h
 ends_paragraph next (x ∷ xs) q tail h b e =
-    (h.0, subst BeginApart (sym (rows_before xs (block_items next q ++ tail) h.1)) (first_apart next (rows_of_lines xs) q tail h.2 b e))
+    (h.0, above_apart next xs q tail h.1 h.2 b e)
 
 ends_heading : (s : Sides) (next : TextBlock) (xs ys : List Item) → BeginsBetween (a_heading s) next xs → EndsLine (xs ++ ys)
 ends_heading s next [] ys h = absurd h

@@ -1,11 +1,13 @@
 -- The items of a page with typed paragraphs and headings: those of its parts, each read as a page of its own; and it calls nothing.
-use Rattle.std.proofs.Common.{arith, refl, ◌≡◌, ℕ, zero, suc, Bool, true, false, List, [], ◌∷◌, ◌++◌, sym, ap, ◌∙◌, subst, append-nil, append_assoc, None, inl, inr}
+use Rattle.std.proofs.Common.{arith, refl, ◌≡◌, ◌≤◌, ℕ, zero, suc, Bool, true, false, List, [], ◌∷◌, ◌++◌, sym, ap, ◌∙◌, subst, append-nil, append_assoc, None, inl, inr}
 use Rattle.std.specs.Prelude.{◌==◌, ◌||◌}
 use Rattle.std.proofs.lemmas.Bool.Decides.{nat_tests}
+use Rattle.std.proofs.lemmas.List.{map-append}
 use Rattle.wt_span.specs.declared.form.Mode.TheVariants.{Page}
 use Rattle.wt_span.specs.declared.form.LexKind.TheVariants.{Equals}
 use Rattle.wt_span.specs.Bytes.{is_blank}
 use Rattle.wt_span.specs.Items.{Item, char, sources}
+use Rattle.wt_span.specs.Lexemes.{cuts}
 use Rattle.wt_spelling_laws.proofs.Forms.{comment_other, other_byte, equals_byte}
 use Rattle.wt_expand.specs.PageCalls.{expanded_page}
 use Rattle.wt_expand.specs.PageItems.{page_items}
@@ -14,19 +16,18 @@ use Rattle.wt_expand.specs.Expansion.{page_work}
 use Rattle.wt_expand.proofs.PageLaws.{page_sources}
 use Rattle.wt_text_edit_laws.specs.LonePages.{page_chars, of_items}
 use Rattle.wt_text_edit_laws.specs.TypedPages.{IsTypedPage}
-use Rattle.wt_text_edit_laws.proofs.Texts.TypedText.{shown_expanded, shown_unrefused}
+use Rattle.wt_text_edit_laws.proofs.Texts.TypedText.{HaveNoClosers, shown_expanded, shown_unrefused}
 use Rattle.wt_scans.specs.Lexer.{lexer}
 use Rattle.wt_scans.specs.Scans.{after_all}
-use Rattle.wt_text_edit_laws.proofs.Prose.Uncommented.{uncommented_other}
-use Rattle.wt_text_edit_laws.proofs.Prose.InFront.{Reads, reads_byte, reads_form}
+use Rattle.wt_text_edit_laws.proofs.Prose.Uncommented.{BeginsUncommented, uncommented_other}
+use Rattle.wt_text_edit_laws.proofs.Prose.InFront.{Reads, shown_closed, reads_byte, reads_form}
 use Rattle.wt_text_edit_laws.proofs.Prose.ProseReading.{page_front}
 use Rattle.wt_text_edit_laws.specs.TextBetween.{StandsBefore}
-use Rattle.wt_text_edit_laws.proofs.Between.Fronts.{ReadsAfter, reads_after, reads_either, page_read, page_words, before_reads, behind_reads}
+use Rattle.wt_text_edit_laws.proofs.Between.Fronts.{ReadsAfter, reads_after, reads_either, first_from, form_from, words_from, page_read, page_words, alone_reads, before_reads, behind_reads}
 use Rattle.wt_text_edit_laws.specs.ParagraphBetween.{EndsParagraph}
-use Rattle.wt_text_edit_laws.specs.Paragraphs.{AreLetters}
-use Rattle.wt_text_edit_laws.proofs.Paragraphs.Texts.{uncommented_text, letters_joined, EndsHere, here_begins, nothing_is, line_front, paragraph_front}
-use Rattle.wt_text_edit_laws.specs.TypedHeadings.{Sides, AreBlanks, AreSides, equals, opening, closing, heading_line, EndsLine}
-use Rattle.wt_text_edit_laws.specs.TextBlocks.{TextBlock, a_paragraph, a_heading, source_of, block_items, IsTypedHeading, IsWrittenHeading, IsBlock, EndsBlock, BeginsApart, BeginsLine, BeginsBetween}
+use Rattle.wt_text_edit_laws.proofs.Paragraphs.Texts.{EndsHere, here_begins, nothing_is, line_reads, paragraph_front}
+use Rattle.wt_text_edit_laws.specs.TypedHeadings.{Sides, AreBlanks, AreSides, equals, opening, closing, closing_items, heading_line, EndsLine}
+use Rattle.wt_text_edit_laws.specs.TextBlocks.{TextBlock, a_paragraph, a_heading, source_of, block_items, IsFrame, IsTypedHeading, IsWrittenHeading, IsBlock, EndsBlock, BeginsApart, BeginsLine, BeginsBetween}
 use Rattle.wt_text_edit_laws.specs.BlockSpots.{BlockSpot, spots_source, IsBlockSpot, AreFurtherBlocks, AreBlockSpots}
 
 -- ---- a heading's delimiters
@@ -43,7 +44,7 @@ quiet_joined : (bs cs : List ℕ) → AreQuiet bs → AreQuiet cs → AreQuiet (
 quiet_joined [] cs h g = g
 quiet_joined (b ∷ bs) cs h g = (h.0, quiet_joined bs cs h.1 g)
 
-run_quiet : (n : ℕ) → AreQuiet (equals n)
+pub run_quiet : (n : ℕ) → AreQuiet (equals n)
 run_quiet zero = tt
 run_quiet (suc n) = (refl, run_quiet n)
 
@@ -51,17 +52,12 @@ or_right : (a b : Bool) → b ≡ true → (a || b) ≡ true
 or_right true b e = refl
 or_right false b e = e
 
-blanks_quiet : (bs : List ℕ) → AreBlanks bs → AreQuiet bs
+pub blanks_quiet : (bs : List ℕ) → AreBlanks bs → AreQuiet bs
 blanks_quiet [] h = tt
 blanks_quiet (b ∷ bs) h = (or_right (b == 61) (is_blank b) h.0, blanks_quiet bs h.1)
 
 pub opening_quiet : (s : Sides) → AreSides s → AreQuiet (opening s)
 opening_quiet s a = quiet_joined (equals s.level) s.lead (run_quiet s.level) (blanks_quiet s.lead a.lead)
-
-pub closing_quiet : (s : Sides) → AreSides s → AreQuiet (closing s)
-closing_quiet s a =
-    quiet_joined s.trail (equals s.level ++ s.rest) (blanks_quiet s.trail a.trail)
-    (quiet_joined (equals s.level) s.rest (run_quiet s.level) (blanks_quiet s.rest a.rest))
 
 by_tests : (P : ℕ → Type 0) → P 61 → P 32 → P 9 → (b : ℕ) (u v w : Bool) → (b == 61) ≡ u → (b == 32) ≡ v → (b == 9) ≡ w → (u || (v || w)) ≡ true → P b
 by_tests P p q r b true v w e f g h = let is : b ≡ 61 = grind (arith, nat_tests, e) in subst P (sym is) p
@@ -92,20 +88,66 @@ read_quiet (b ∷ bs) rest xs h r =
     let so : Reads ends items = read_quiet bs rest xs h.1 r in
     each_quiet (λ (c : ℕ). Reads (c ∷ ends) (char None c ∷ items)) (read_equals ends items so) (read_space ends items so) (read_tab ends items so) b h.0
 
+-- behind a `=` it makes no difference what is read there behind a line break
+equals_reads : (bs : List ℕ) (xs : List Item) → ReadsAfter false bs xs → Reads (61 ∷ bs) (char None 61 ∷ xs)
+equals_reads bs xs r =
+    reads_either (61 ∷ bs) (char None 61 ∷ xs) (uncommented_other 61 bs refl (comment_other 61 bs (omega arith))) (record {
+      items = sym (first_from false (61 ∷ bs)) ∙ form_from false 61 bs Equals 0 (equals_byte Page bs)
+          ∙ ap (λ (ys : List Item). char None 61 ∷ ys) (first_from false bs ∙ r.items);
+      shown = subst HaveNoClosers (sym (words_from false 61 bs Equals 0 (equals_byte Page bs))) (tt, shown_closed (cuts Page false 0 bs) r.shown);
+    })
+
+run_reads : (n : ℕ) (bs : List ℕ) (xs : List Item) → ReadsAfter false bs xs → Reads (equals (suc n) ++ bs) (page_chars (equals (suc n)) ++ xs)
+run_reads zero bs xs r = equals_reads bs xs r
+run_reads (suc n) bs xs r = read_equals (equals (suc n) ++ bs) (page_chars (equals (suc n)) ++ xs) (run_reads n bs xs r)
+
+signs_read : (n : ℕ) (bs : List ℕ) (xs : List Item) → 1 ≤ n → ReadsAfter false bs xs → Reads (equals n ++ bs) (page_chars (equals n) ++ xs)
+signs_read zero bs xs some r = absurd (omega (arith, some))
+signs_read (suc n) bs xs some r = run_reads n bs xs r
+
+-- behind the last `=`, where a line break is after it or the page ends
+rest_reads : (s : Sides) (rest : List ℕ) (xs : List Item) → IsFrame s → EndsHere rest → Reads rest xs
+    → ReadsAfter false (s.rest ++ rest) (page_items s.rest ++ xs)
+rest_reads s [] xs f e r =
+    let own : List Item = page_items s.rest in
+    subst (λ ys. ReadsAfter false (s.rest ++ []) (own ++ ys)) (sym (nothing_is xs r))
+    (subst (λ bs. ReadsAfter false bs (own ++ [])) (sym (append-nil s.rest))
+    (subst (λ ys. ReadsAfter false s.rest ys) (sym (append-nil own)) (alone_reads s.rest f.uncalled)))
+rest_reads s (b ∷ r) xs f e read =
+    let P : ℕ → Type 0 = λ (c : ℕ). Reads (c ∷ r) xs → ReadsAfter false (s.rest ++ c ∷ r) (page_items s.rest ++ xs) in
+    subst P (sym e) (λ k. line_reads s.rest r (page_items s.rest) xs f.stands f.ended k) read
+
+closing_front : (s : Sides) (rest : List ℕ) (xs : List Item) → IsFrame s → EndsHere rest → Reads rest xs
+    → Reads (closing s ++ rest) (closing_items s ++ xs)
+closing_front s rest xs f e r =
+    let run : List ℕ = equals s.level in
+    let signs : List Item = page_chars run in
+    let blanks : List Item = page_chars s.trail in
+    let own : List Item = page_items s.rest in
+    let behind : Reads (run ++ (s.rest ++ rest)) (signs ++ (own ++ xs)) = signs_read s.level (s.rest ++ rest) (own ++ xs) f.sides.some (rest_reads s rest xs f e r) in
+    let all : Reads (s.trail ++ (run ++ (s.rest ++ rest))) (blanks ++ (signs ++ (own ++ xs))) =
+    read_quiet s.trail (run ++ (s.rest ++ rest)) (signs ++ (own ++ xs)) (blanks_quiet s.trail f.sides.trail) behind in
+    let source : closing s ++ rest ≡ s.trail ++ (run ++ (s.rest ++ rest)) =
+    append_assoc s.trail (run ++ s.rest) rest ∙ ap (λ (bs : List ℕ). s.trail ++ bs) (append_assoc run s.rest rest) in
+    let items : closing_items s ++ xs ≡ blanks ++ (signs ++ (own ++ xs)) =
+    ap (λ (zs : List Item). (zs ++ own) ++ xs) (map-append (char None) s.trail run)
+    ∙ append_assoc (blanks ++ signs) own xs ∙ append_assoc blanks signs (own ++ xs) in
+    subst (λ bs. Reads bs (closing_items s ++ xs)) (sym source) (subst (λ ys. Reads (s.trail ++ (run ++ (s.rest ++ rest))) ys) (sym items) all)
+
 -- its text is typed
 pub typed_text : (s : Sides) (q : List ℕ) → IsTypedHeading s q → IsTypedPage q
 typed_text s q h = record { setting = h.setting; text = h.text; utf8 = h.utf8; of_block = h.of_block; is = h.is }
 
-typed_front : (s : Sides) (q rest : List ℕ) (xs : List Item) → IsTypedHeading s q → Reads rest xs
+typed_front : (s : Sides) (q rest : List ℕ) (xs : List Item) → IsTypedHeading s q → EndsHere rest → Reads rest xs
     → Reads (source_of (a_heading s) q ++ rest) (heading_line s (page_items q) ++ xs)
-typed_front s q rest xs h r =
+typed_front s q rest xs h e r =
     let own : List Item = page_items q in
     let o : List Item = page_chars (opening s) in
-    let c : List Item = page_chars (closing s) in
-    let end : Reads (closing s ++ rest) (c ++ xs) = read_quiet (closing s) rest xs (closing_quiet s h.sides) r in
+    let c : List Item = closing_items s in
+    let end : Reads (closing s ++ rest) (c ++ xs) = closing_front s rest xs h.frame e r in
     let text : Reads (q ++ (closing s ++ rest)) (own ++ (c ++ xs)) = page_front q (closing s ++ rest) (c ++ xs) (typed_text s q h) end in
     let all : Reads (opening s ++ (q ++ (closing s ++ rest))) (o ++ (own ++ (c ++ xs))) =
-    read_quiet (opening s) (q ++ (closing s ++ rest)) (own ++ (c ++ xs)) (opening_quiet s h.sides) text in
+    read_quiet (opening s) (q ++ (closing s ++ rest)) (own ++ (c ++ xs)) (opening_quiet s h.frame.sides) text in
     let source : source_of (a_heading s) q ++ rest ≡ opening s ++ (q ++ (closing s ++ rest)) =
     append_assoc (opening s) (q ++ closing s) rest ∙ ap (λ (bs : List ℕ). opening s ++ bs) (append_assoc q (closing s) rest) in
     let items : heading_line s own ++ xs ≡ o ++ (own ++ (c ++ xs)) =
@@ -114,30 +156,35 @@ typed_front s q rest xs h r =
 
 -- ---- one that was written by hand, before a line break, or where the page ends
 
-chars_letters : (bs : List ℕ) → AreLetters (page_chars bs)
-chars_letters [] = tt
-chars_letters (b ∷ bs) = chars_letters bs
+-- no comment begins it
+run_begins : (n : ℕ) (bs : List ℕ) → 1 ≤ n → BeginsUncommented (equals n ++ bs)
+run_begins zero bs some = absurd (omega (arith, some))
+run_begins (suc n) bs some = uncommented_other 61 (equals n ++ bs) refl (comment_other 61 (equals n ++ bs) (omega arith))
 
-line_letters : (s : Sides) (xs : List Item) → AreLetters xs → AreLetters (heading_line s xs)
-line_letters s xs h =
-    letters_joined (page_chars (opening s)) (xs ++ page_chars (closing s)) (chars_letters (opening s))
-    (letters_joined xs (page_chars (closing s)) h (chars_letters (closing s)))
+heading_begins : (s : Sides) (q rest : List ℕ) → AreSides s → BeginsUncommented (source_of (a_heading s) q ++ rest)
+heading_begins s q rest a =
+    let more : List ℕ = q ++ closing s in
+    subst BeginsUncommented (sym (append_assoc (opening s) more rest ∙ append_assoc (equals s.level) s.lead (more ++ rest)))
+    (run_begins s.level (s.lead ++ (more ++ rest)) a.some)
 
 written_front : (s : Sides) (q rest : List ℕ) (xs : List Item) → IsWrittenHeading s q → EndsHere rest → Reads rest xs
     → Reads (source_of (a_heading s) q ++ rest) (heading_line s (page_items q) ++ xs)
 written_front s q [] xs h e r =
     let line : List ℕ = source_of (a_heading s) q in
     let own : List Item = heading_line s (page_items q) in
-    let alone : Reads line (page_items line) = behind_reads line (record { uncommented = uncommented_text line (subst AreLetters (sym h.unended) (line_letters s (page_items q) h.are_letters)); uncalled = h.uncalled }) in
+    let begins : BeginsUncommented line = subst BeginsUncommented (append-nil line) (heading_begins s q [] h.frame.sides) in
+    let alone : Reads line (page_items line) = reads_either line (page_items line) begins (alone_reads line h.uncalled) in
     subst (λ ys. Reads (line ++ []) (own ++ ys)) (sym (nothing_is xs r))
     (subst (λ bs. Reads bs (own ++ [])) (sym (append-nil line)) (subst (λ ys. Reads line ys) (h.unended ∙ sym (append-nil own)) alone))
 written_front s q (b ∷ r) xs h e read =
-    let P : ℕ → Type 0 = λ (c : ℕ). Reads (c ∷ r) xs → Reads (source_of (a_heading s) q ++ c ∷ r) (heading_line s (page_items q) ++ xs) in
-    subst P (sym e) (λ k. line_front (source_of (a_heading s) q) r (heading_line s (page_items q)) xs (line_letters s (page_items q) h.are_letters) h.stands h.ended k) read
+    let line : List ℕ = source_of (a_heading s) q in
+    let own : List Item = heading_line s (page_items q) in
+    let P : ℕ → Type 0 = λ (c : ℕ). Reads (c ∷ r) xs → Reads (line ++ c ∷ r) (own ++ xs) in
+    subst P (sym e) (λ k. reads_either (line ++ 10 ∷ r) (own ++ xs) (heading_begins s q (10 ∷ r) h.frame.sides) (line_reads line r own xs h.stands h.ended k)) read
 
 heading_front : (s : Sides) (q rest : List ℕ) (xs : List Item) → IsBlock (a_heading s) q → EndsHere rest → Reads rest xs
     → Reads (source_of (a_heading s) q ++ rest) (heading_line s (page_items q) ++ xs)
-heading_front s q rest xs (inl t) e r = typed_front s q rest xs t r
+heading_front s q rest xs (inl t) e r = typed_front s q rest xs t e r
 heading_front s q rest xs (inr w) e r = written_front s q rest xs w e r
 
 block_front : (k : TextBlock) (q rest : List ℕ) (xs : List Item) → IsBlock k q → EndsHere rest → Reads rest xs

@@ -21,11 +21,11 @@ use Rattle.wt_text_edit_laws.specs.TypedPages.{IsTypedPage}
 use Rattle.wt_text_edit_laws.specs.ParagraphBetween.{blocks_in}
 use Rattle.wt_text_edit_laws.proofs.Blocks.KeptBlocks.{block_shown, blocks_shown, blocks_source, part_source, others_show}
 use Rattle.wt_text_edit_laws.proofs.Blocks.PageKinds.{both_ordinary}
-use Rattle.wt_text_edit_laws.specs.TypedHeadings.{Sides, AreSides}
-use Rattle.wt_text_edit_laws.specs.TextBlocks.{TextBlock, a_paragraph, a_heading, source_of, IsTypedHeading, IsBlock}
+use Rattle.wt_text_edit_laws.specs.TypedHeadings.{Sides}
+use Rattle.wt_text_edit_laws.specs.TextBlocks.{TextBlock, a_paragraph, a_heading, source_of, IsFrame, IsTypedHeading, IsBlock}
 use Rattle.wt_text_edit_laws.specs.BlockSpots.{BlockSpot, spots_source, SameRound, AreBlocks}
 use Rattle.wt_text_edit_laws.specs.BlockEdits.{Sending, kept, Typing, types, keeps, typed_as, new_text, SpotEdit, old_spots, new_spots, all_kept, sending_for, spot_sendings, IsSentFor, AreSentFor, IsText, AreTexts}
-use Rattle.wt_text_edit_laws.proofs.Blocks.BlockMeaning.{heading_sides}
+use Rattle.wt_text_edit_laws.proofs.Blocks.BlockMeaning.{heading_frame}
 use Rattle.wt_text_edit_laws.proofs.Blocks.BlockTrees.{leaf_block, leafy_blocks, block_own}
 use Rattle.wt_text_edit_laws.proofs.Blocks.BlocksAgain.{AreClear}
 use Rattle.wt_text_edit_laws.proofs.Blocks.TypedFacts.{Facts, facts_nothing, facts_kept, facts_text, items_source}
@@ -181,9 +181,9 @@ typed_paragraph source text u = record {
   is = refl;
 }
 
-typed_heading : (s : Sides) (source text : List ℕ) → IsUtf8 text → has_break text ≡ false → AreSides s → IsTypedHeading s (typed_as (heading s.level) source text)
-typed_heading s source text u line a = record {
-  sides = a;
+typed_heading : (s : Sides) (source text : List ℕ) → IsUtf8 text → has_break text ≡ false → IsFrame s → IsTypedHeading s (typed_as (heading s.level) source text)
+typed_heading s source text u line f = record {
+  frame = f;
   setting = record { within = false; place = place.Heading; source = source };
   text = text;
   utf8 = u;
@@ -195,7 +195,7 @@ typed_heading s source text u line a = record {
 
 new_is : (k : TextBlock) (y : Typing) (q : List ℕ) → IsText k y → IsBlock k q → IsBlock k (new_text k y q)
 new_is a_paragraph (types p t text) q u h = inl (typed_paragraph (source_of a_paragraph q) text u.0)
-new_is (a_heading s) (types p t text) q u h = inl (typed_heading s (source_of (a_heading s) q) text u.0 u.1 (heading_sides s q h))
+new_is (a_heading s) (types p t text) q u h = inl (typed_heading s (source_of (a_heading s) q) text u.0 u.1 (heading_frame s q h))
 new_is a_paragraph (keeps v) q u h = h
 new_is (a_heading s) (keeps v) q u h = h
 

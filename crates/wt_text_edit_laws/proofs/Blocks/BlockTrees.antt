@@ -1,10 +1,12 @@
 -- The tree of a page with typed paragraphs and headings: the nodes of its parts and these blocks, by numbers and places.
-use Rattle.std.proofs.Common.{arith, ◌≡◌, ◌≤◌, ℕ, zero, suc, true, List, [], ◌∷◌, ◌++◌, map, refl, sym, ap, ◌∙◌, inl, inr}
+use Rattle.std.proofs.Common.{arith, ◌≡◌, ◌≤◌, ℕ, zero, suc, true, Some, None, List, [], ◌∷◌, ◌++◌, map, refl, sym, ap, ◌∙◌, inl, inr, All}
+use Rattle.std.proofs.lemmas.List.Elements.{All-head, All-tail}
 use Rattle.wt_tree.specs.declared.kind.Kind.TheVariants as kind
 use Rattle.wt_tree.specs.Tree.{tree}
-use Rattle.wt_span.specs.Items.{Item}
+use Rattle.wt_span.specs.Items.{Item, char, whole, call_of}
 use Rattle.wt_inline.specs.ItemTree.{plain, ItemTree, inner, forest, held_by_all}
 use Rattle.wt_expand.specs.PageItems.{page_items}
+use Rattle.wt_expand.proofs.PageLaws.{page_has_no_calls}
 use Rattle.wt_annotated.specs.Annotated.{annotated}
 use Rattle.wt_annotated.specs.GroupData.{group_data}
 use Rattle.wt_annotated.specs.CutTexts.{cut_texts}
@@ -20,7 +22,7 @@ use Rattle.wt_text_edit_laws.specs.ParagraphBetween.{blocks_in, body_with}
 use Rattle.wt_text_edit_laws.specs.Parts.{part_tree, HasNoGroups}
 use Rattle.wt_text_edit_laws.proofs.Paragraphs.Texts.{letters_own, paragraph_written}
 use Rattle.wt_text_edit_laws.proofs.Paragraphs.PartTrees.{ArePlain, plain_joined, part_plain, plain_tree}
-use Rattle.wt_text_edit_laws.specs.TypedHeadings.{Sides, AreSides, opening, closing}
+use Rattle.wt_text_edit_laws.specs.TypedHeadings.{Sides, AreSides, equals, opening, closing_items}
 use Rattle.wt_text_edit_laws.specs.TextBlocks.{TextBlock, a_paragraph, a_heading, block_of, block_tree, IsBlock}
 use Rattle.wt_text_edit_laws.specs.BlockSpots.{BlockSpot, spots_source, page_blocks, AreFurtherBlocks, AreBlockSpots, AreBlocks}
 use Rattle.wt_text_edit_laws.proofs.Blocks.BlockReading.{typed_text}
@@ -34,13 +36,13 @@ open_items (a_heading s) = page_chars (opening s)
 
 abbrev pub close_items : TextBlock → List Item
 close_items a_paragraph = []
-close_items (a_heading s) = page_chars (closing s)
+close_items (a_heading s) = closing_items s
 
 abbrev pub leaf_block : TextBlock → List Leaf → ItemTree
 leaf_block k ls = inner (plain (kind_of (block_of k))) (open_items k) (forest (map leaf_tree ls)) (close_items k)
 
 abbrev as_heading : Sides → ItemTree → ItemTree
-as_heading s (inner h o ts c) = inner (plain (kind.Heading s.level)) (page_chars (opening s)) ts (page_chars (closing s))
+as_heading s (inner h o ts c) = inner (plain (kind.Heading s.level)) (page_chars (opening s)) ts (closing_items s)
 
 pub block_leaves : (k : TextBlock) (q : List ℕ) → AreOwn (page_items q) → block_tree k q ≡ leaf_block k (leaves (page_items q))
 block_leaves a_paragraph q h = para_leaves (page_items q) h
@@ -80,12 +82,24 @@ heading_holds : (n : ℕ) (bs ds cs : List ℕ) (ls : List Leaf) → 1 ≤ n
 heading_holds zero bs ds cs ls h = absurd (omega (arith, h))
 heading_holds (suc n) bs ds cs ls h = refl
 
+all_of_page : (xs : List Item) → All (λ x. call_of x ≡ None) xs → AllOfPage xs
+all_of_page [] h = refl
+all_of_page (char None b ∷ xs) h = all_of_page xs (All-tail (λ x. call_of x ≡ None) (char None b) xs h)
+all_of_page (char (Some k) b ∷ xs) h = let e : Some k ≡ None = All-head (λ x. call_of x ≡ None) (char (Some k) b) xs h in cc
+all_of_page (whole f None bs ∷ xs) h = all_of_page xs (All-tail (λ x. call_of x ≡ None) (whole f None bs) xs h)
+all_of_page (whole f (Some k) bs ∷ xs) h = let e : Some k ≡ None = All-head (λ x. call_of x ≡ None) (whole f (Some k) bs) xs h in cc
+
+items_of_page : (bs : List ℕ) → AllOfPage (page_items bs)
+items_of_page bs = all_of_page (page_items bs) (page_has_no_calls bs)
+
 heading_plain : (s : Sides) (ls : List Leaf) → AreSides s → ArePlain (leaf_block (a_heading s) ls ∷ [])
 heading_plain s ls a =
     let o : List Item = page_chars (opening s) in
     let xs : List Item = held_by_all (forest (map leaf_tree ls)) in
-    let c : List Item = page_chars (closing s) in
-    let inside : AllOfPage (xs ++ c) = both_of_page xs c (leaves_of_page ls) (chars_of_page (closing s)) in
+    let c : List Item = closing_items s in
+    let signs : List ℕ = s.trail ++ equals s.level in
+    let end : AllOfPage c = both_of_page (page_chars signs) (page_items s.rest) (chars_of_page signs) (items_of_page s.rest) in
+    let inside : AllOfPage (xs ++ c) = both_of_page xs c (leaves_of_page ls) end in
     let all : AllOfPage (o ++ (xs ++ c)) = both_of_page o (xs ++ c) (chars_of_page (opening s)) inside in
     record {
       of_page = both_of_page ((o ++ (xs ++ c)) ++ []) [] (both_of_page (o ++ (xs ++ c)) [] all refl) refl;

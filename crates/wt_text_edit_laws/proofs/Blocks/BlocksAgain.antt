@@ -9,11 +9,11 @@ use Rattle.wt_text_edit_laws.specs.TextBetween.{AreWholeLines}
 use Rattle.wt_text_edit_laws.proofs.Prose.InFront.{reads_nothing, read_items}
 use Rattle.wt_text_edit_laws.proofs.Paragraphs.Texts.{paragraph_utf8}
 use Rattle.wt_text_edit_laws.proofs.Paragraphs.ClearLines.{clear_first, clear_line}
-use Rattle.wt_text_edit_laws.specs.TypedHeadings.{Sides, AreSides, opening, closing}
-use Rattle.wt_text_edit_laws.specs.TextBlocks.{TextBlock, a_paragraph, a_heading, source_of, IsBlock, BeginsBetween}
+use Rattle.wt_text_edit_laws.specs.TypedHeadings.{Sides, equals, opening, closing}
+use Rattle.wt_text_edit_laws.specs.TextBlocks.{TextBlock, a_paragraph, a_heading, source_of, IsFrame, IsBlock, BeginsBetween}
 use Rattle.wt_text_edit_laws.specs.BlockSpots.{BlockSpot, spots_source, IsBlockSpot, AreFurtherBlocks, AreBlockSpots, SameRound, AreBlocks}
-use Rattle.wt_text_edit_laws.proofs.Blocks.BlockReading.{AreQuiet, opening_quiet, closing_quiet, each_quiet, typed_text}
-use Rattle.wt_text_edit_laws.proofs.Blocks.BlockMeaning.{heading_sides}
+use Rattle.wt_text_edit_laws.proofs.Blocks.BlockReading.{AreQuiet, run_quiet, blanks_quiet, opening_quiet, each_quiet, typed_text}
+use Rattle.wt_text_edit_laws.proofs.Blocks.BlockMeaning.{heading_frame}
 
 -- ---- UTF-8
 
@@ -41,9 +41,11 @@ text_utf8 s q (inr w) = w.utf8
 block_utf8 : (k : TextBlock) (q : List ℕ) → IsBlock k q → IsUtf8 (source_of k q)
 block_utf8 a_paragraph q h = paragraph_utf8 q h
 block_utf8 (a_heading s) q h =
-    let a : AreSides s = heading_sides s q h in
-    IsUtf8-append (opening s) (q ++ closing s) (quiet_utf8 (opening s) (opening_quiet s a))
-    (IsUtf8-append q (closing s) (text_utf8 s q h) (quiet_utf8 (closing s) (closing_quiet s a)))
+    let f : IsFrame s = heading_frame s q h in
+    let end : IsUtf8 (equals s.level ++ s.rest) = IsUtf8-append (equals s.level) s.rest (quiet_utf8 (equals s.level) (run_quiet s.level)) f.utf8 in
+    IsUtf8-append (opening s) (q ++ closing s) (quiet_utf8 (opening s) (opening_quiet s f.sides))
+    (IsUtf8-append q (closing s) (text_utf8 s q h)
+    (IsUtf8-append s.trail (equals s.level ++ s.rest) (quiet_utf8 s.trail (blanks_quiet s.trail f.sides.trail)) end))
 
 spot_utf8 : (s : BlockSpot) (rest : List ℕ) → IsBlockSpot s → IsUtf8 rest → IsUtf8 (s.before ++ (source_of s.block s.text ++ rest))
 spot_utf8 s rest h u =

@@ -10,13 +10,25 @@ use Rattle.wt_tree.specs.Tree.{Label, Tree, tree, none}
 use Rattle.wt_span.specs.Comments.{comment_len, comment_line_len}
 use Rattle.wt_span.specs.Entities.{named_entity, entity_names, decimal_entity, hex_entity, entity_at}
 use Rattle.wt_span.specs.Lexemes.{sign_word, form_at, closed, words}
-use Rattle.wt_span.specs.Tags.{opening_tag, closing_tag, raw_len, include_at}
+use Rattle.wt_span.specs.Tags.{tag_after, opening_tag, closing_tag, with_inside, is_extension, raw_len, include_at}
 use Rattle.wt_lines.specs.Kinds.{kind_of_signs}
 use Rattle.wt_tree.specs.declared.edit_shape.Place.TheVariants as place
 use Rattle.wt_guards.specs.Guards.{nowiki, is_guarded, is_between_guard, is_start_guard, is_end_guard, is_blank_guard, is_parted}
 use Rattle.wt_guards.specs.Letters.{is_escaped, reference}
 use Rattle.wt_guards.specs.Table.{hazard, line_start_hazard}
 use Rattle.wt_inline.specs.Parts.{children}
+use Rattle.wt_blocks.specs.Headings.{level}
+use Rattle.wt_tiles.specs.Links.{link_at}
+use Rattle.wt_tiles.specs.Urls.{scheme_len, kept_len, ext_link_at, bare_url_at}
+use Rattle.wt_tiles.specs.Tags.{tag_at, opening_tag as tile_opening_tag, closing_tag as tile_closing_tag}
+use Rattle.wt_tiles.specs.Tiles.{tag_tile, switch_at, link_or_url, form_at as tile_form_at, closed as tiles_closed, shapes, tiles}
+use Rattle.wt_quotes.specs.Toggles.{toggle_at, toggles_of}
+use Rattle.wt_quotes.specs.Styles.{style_tree_of}
+use Rattle.wt_context.specs.Segments.{loose_segments}
+use Rattle.wt_context.specs.Chunks.{chunks}
+use Rattle.wt_context.specs.Styled.{with_styles}
+use Rattle.wt_context.specs.Nodes.{segments}
+use Rattle.wt_context.specs.Line.{context_parts}
 use Rattle.wt_page.specs.Rows.{rows}
 use Rattle.wt_page.specs.Body.{blocks, meaning}
 use Rattle.wt_annotated.specs.Annotated.{annotated}
@@ -25,8 +37,8 @@ use Rattle.wt_annotated.specs.Labels.{label_at}
 use Rattle.wt_expand.specs.PageItems.{page_items}
 use Rattle.wt_text_edit_laws.specs.TypedPages.{IsTypedPage}
 use Rattle.wt_typed_blocks.specs.Sent.{heading}
-use Rattle.wt_text_edit_laws.specs.TypedHeadings.{Sides, AreSides, spaced}
-use Rattle.wt_text_edit_laws.specs.TextBlocks.{a_paragraph, a_heading, IsTypedHeading, IsWrittenHeading, BeginsBetween}
+use Rattle.wt_text_edit_laws.specs.TypedHeadings.{Sides, spaced}
+use Rattle.wt_text_edit_laws.specs.TextBlocks.{a_paragraph, a_heading, IsFrame, IsTypedHeading, IsWrittenHeading, BeginsBetween}
 use Rattle.wt_text_edit_laws.specs.BlockSpots.{AreBlockSpots}
 use Rattle.wt_text_edit_laws.specs.BlockEdits.{BlockEdit, types, keeps, retyped, kept, old_spots, old_page, new_page, sendings}
 
@@ -74,13 +86,21 @@ sent = refl
 
 -- ---- such a page is one of the class
 
-spaced_sides : (n : ℕ) → 1 ≤ n → n ≤ 6 → AreSides (spaced n)
-spaced_sides n some most = record { some = some; most = most; lead = (refl, tt); trail = (refl, tt); rest = tt }
+spaced_frame : (n : ℕ) → 1 ≤ n → n ≤ 6 → IsFrame (spaced n)
+unfolding page_items words closed form_at comment_len comment_line_len raw_len opening_tag closing_tag include_at entity_at named_entity decimal_entity
+    hex_entity entity_names sign_word lib.Utf8.encode
+spaced_frame n some most = record {
+  sides = record { some = some; most = most; lead = (refl, tt); trail = (refl, tt); rest = tt };
+  utf8 = ([], (refl, refl));
+  stands = record { ends = refl; has_ends = (refl, refl); uncalled = (tt, tt) };
+  uncalled = tt;
+  ended = refl;
+}
 
 typed_h : IsTypedHeading (spaced 2) (codes "h")
 unfolding is_guarded is_between_guard is_start_guard is_end_guard is_blank_guard is_parted hazard line_start_hazard nowiki is_escaped chars lib.Utf8.encode
 typed_h = record {
-  sides = spaced_sides 2 (omega arith) (omega arith);
+  frame = spaced_frame 2 (omega arith) (omega arith);
   setting = record { within = false; place = place.Heading; source = [] };
   text = codes "h";
   utf8 = (codes "h", (refl, refl));
@@ -93,7 +113,7 @@ typed_h = record {
 typed_e : IsTypedHeading (spaced 3) (codes "e")
 unfolding is_guarded is_between_guard is_start_guard is_end_guard is_blank_guard is_parted hazard line_start_hazard nowiki is_escaped chars lib.Utf8.encode
 typed_e = record {
-  sides = spaced_sides 3 (omega arith) (omega arith);
+  frame = spaced_frame 3 (omega arith) (omega arith);
   setting = record { within = false; place = place.Heading; source = [] };
   text = codes "e";
   utf8 = (codes "e", (refl, refl));
@@ -158,40 +178,42 @@ are_spots = (
 
 -- a heading that was written by hand: a heading spells this ampersand as a reference
 written_heading : IsWrittenHeading (spaced 2) (codes "Q&A")
-unfolding page_items words closed form_at comment_len comment_line_len raw_len opening_tag closing_tag include_at entity_at named_entity decimal_entity
+unfolding level page_items words closed form_at comment_len comment_line_len raw_len opening_tag closing_tag include_at entity_at named_entity decimal_entity
     hex_entity entity_names sign_word lib.Utf8.encode
+    context_parts segments tiles shapes tiles_closed tile_form_at link_or_url link_at ext_link_at bare_url_at scheme_len kept_len
+    tag_tile tag_at tile_opening_tag tile_closing_tag switch_at loose_segments chunks with_styles style_tree_of toggles_of toggle_at
 written_heading = record {
-  sides = spaced_sides 2 (omega arith) (omega arith);
+  frame = spaced_frame 2 (omega arith) (omega arith);
   utf8 = (codes "Q&A", (refl, refl));
   stands = record { ends = refl; has_ends = (refl, (refl, (refl, (refl, (refl, (refl, (refl, (refl, (refl, (refl, refl)))))))))); uncalled = (tt, (tt, (tt, (tt, (tt, (tt, tt)))))) };
   uncalled = (tt, (tt, (tt, (tt, (tt, tt)))));
   ended = refl;
   unended = refl;
   are_letters = tt;
-  is_text = record {
-    still = (
-      record { bracket = refl; tag = refl; quotes = refl; switch = refl; address = refl },
-      (
-        record { bracket = refl; tag = refl; quotes = refl; switch = refl; address = refl },
-        (record { bracket = refl; tag = refl; quotes = refl; switch = refl; address = refl }, tt),
-      ),
-    );
-    unbroken = (refl, (refl, (refl, tt)));
-    begins = refl;
-    ends = refl;
-  };
-  apart = record { first = refl; last = refl };
+  is_text = record { is_one = refl; unbroken = (refl, (refl, (refl, tt))); begins = refl; ends = refl };
+  of_level = refl;
 }
 
 -- and one without spaces, with a space behind it
 abbrev bare : Sides
 bare = record { level = 2; lead = []; trail = []; rest = codes " " }
 
-written_bare : IsWrittenHeading bare (codes "Q&A")
+framed_bare : IsFrame bare
 unfolding page_items words closed form_at comment_len comment_line_len raw_len opening_tag closing_tag include_at entity_at named_entity decimal_entity
     hex_entity entity_names sign_word lib.Utf8.encode
-written_bare = record {
+framed_bare = record {
   sides = record { some = omega arith; most = omega arith; lead = tt; trail = tt; rest = (refl, tt) };
+  utf8 = (codes " ", (refl, refl));
+  stands = record { ends = refl; has_ends = (refl, (refl, refl)); uncalled = (tt, tt) };
+  uncalled = (tt, tt);
+  ended = refl;
+}
+
+written_bare : IsWrittenHeading bare (codes "Q&A")
+unfolding level page_items words closed form_at comment_len comment_line_len raw_len opening_tag closing_tag include_at entity_at named_entity decimal_entity
+    hex_entity entity_names sign_word
+written_bare = record {
+  frame = framed_bare;
   utf8 = written_heading.utf8;
   stands = record {
     ends = refl;
@@ -203,8 +225,50 @@ written_bare = record {
   unended = refl;
   are_letters = tt;
   is_text = written_heading.is_text;
-  apart = record { first = refl; last = refl };
+  of_level = refl;
 }
+
+-- one with a comment behind it, in whose text is a bracket that begins no link
+abbrev commented : Sides
+commented = record { level = 2; lead = codes " "; trail = codes " "; rest = codes " <!-- c -->" }
+
+framed_commented : IsFrame commented
+unfolding page_items words closed form_at comment_len comment_line_len raw_len tag_after opening_tag closing_tag with_inside is_extension include_at
+    entity_at named_entity decimal_entity hex_entity entity_names sign_word lib.Utf8.encode
+framed_commented = record {
+  sides = record { some = omega arith; most = omega arith; lead = (refl, tt); trail = (refl, tt); rest = (refl, (refl, tt)) };
+  utf8 = (codes " <!-- c -->", (refl, refl));
+  stands = record { ends = refl; has_ends = (refl, (refl, (refl, refl))); uncalled = (tt, (tt, (tt, tt))) };
+  uncalled = (tt, (tt, tt));
+  ended = refl;
+}
+
+written_commented : IsWrittenHeading commented (codes "a[")
+unfolding level page_items words closed form_at comment_len comment_line_len raw_len tag_after opening_tag closing_tag with_inside is_extension include_at
+    entity_at named_entity decimal_entity hex_entity entity_names sign_word lib.Utf8.encode
+    context_parts segments tiles shapes tiles_closed tile_form_at link_or_url link_at ext_link_at bare_url_at scheme_len kept_len
+    tag_tile tag_at tile_opening_tag tile_closing_tag switch_at loose_segments chunks with_styles style_tree_of toggles_of toggle_at
+written_commented = record {
+  frame = framed_commented;
+  utf8 = (codes "a[", (refl, refl));
+  stands = record {
+    ends = refl;
+    has_ends = (refl, (refl, (refl, (refl, (refl, (refl, (refl, (refl, (refl, (refl, (refl, refl)))))))))));
+    uncalled = (tt, (tt, (tt, (tt, (tt, (tt, (tt, (tt, tt))))))));
+  };
+  uncalled = (tt, (tt, (tt, (tt, (tt, (tt, (tt, tt)))))));
+  ended = refl;
+  unended = refl;
+  are_letters = tt;
+  is_text = record { is_one = refl; unbroken = (refl, (refl, tt)); begins = refl; ends = refl };
+  of_level = refl;
+}
+
+-- a comment that doesn't end there may end behind the heading
+open_comment : IsFrame (record { level = 2; lead = []; trail = []; rest = codes "<!-- c" }) → ⊥
+unfolding page_items words closed form_at comment_len comment_line_len raw_len tag_after opening_tag closing_tag with_inside is_extension include_at
+    entity_at named_entity decimal_entity hex_entity entity_names sign_word
+open_comment h = let e = h.stands.has_ends.0 in absurd (cc)
 
 -- its text becomes another one between the same signs
 abbrev retyped_bare : BlockEdit

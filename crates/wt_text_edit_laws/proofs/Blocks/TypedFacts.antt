@@ -36,7 +36,7 @@ use Rattle.wt_typed_blocks.specs.Typed.{place_of, block_source, new_sources, Tak
 use Rattle.wt_text_edit_laws.proofs.Prose.ProseTrees.{items_behind}
 use Rattle.wt_text_edit_laws.proofs.Prose.BlockFacts.{behind_source, behind_width}
 use Rattle.wt_text_edit_laws.proofs.Blocks.KeptBlocks.{block_shown}
-use Rattle.wt_text_edit_laws.specs.TypedHeadings.{opening, closing}
+use Rattle.wt_text_edit_laws.specs.TypedHeadings.{Sides, equals, opening, closing, closing_items}
 use Rattle.wt_text_edit_laws.specs.TextBlocks.{TextBlock, a_paragraph, a_heading, block_of, source_of}
 use Rattle.wt_text_edit_laws.specs.BlockEdits.{Sending, retyped, kept, sent_children, AreKept, Typing, types, keeps, typed_as, new_text, sending_for, IsText}
 use Rattle.wt_text_edit_laws.proofs.Blocks.BlockTrees.{open_items, close_items, leaf_block}
@@ -98,9 +98,16 @@ chars_are : (bs : List ℕ) → sources (page_chars bs) ≡ bs
 chars_are [] = refl
 chars_are (b ∷ bs) = ap (λ (cs : List ℕ). b ∷ cs) (chars_are bs)
 
+closing_is : (s : Sides) → sources (closing_items s) ≡ closing s
+closing_is s =
+    let signs : List ℕ = s.trail ++ equals s.level in
+    flat_map-append source (page_chars signs) (page_items s.rest)
+    ∙ ap₂ (λ (bs cs : List ℕ). bs ++ cs) (chars_are signs) (page_sources s.rest)
+    ∙ append_assoc s.trail (equals s.level) s.rest
+
 framed : (k : TextBlock) (q : List ℕ) → sources (open_items k) ++ (q ++ sources (close_items k)) ≡ source_of k q
 framed a_paragraph q = append-nil q
-framed (a_heading s) q = ap₂ (λ (bs cs : List ℕ). bs ++ (q ++ cs)) (chars_are (opening s)) (chars_are (closing s))
+framed (a_heading s) q = ap₂ (λ (bs cs : List ℕ). bs ++ (q ++ cs)) (chars_are (opening s)) (closing_is s)
 
 leaves_are : (q : List ℕ) → AreOwn (page_items q) → flat_map leaf_source (leaves (page_items q)) ≡ q
 leaves_are q h = leaves_source (page_items q) h ∙ page_sources q

@@ -11,7 +11,7 @@ use Rattle.wt_lines.specs.declared.kind.LineKind.{LineKind}
 use Rattle.wt_lines.specs.declared.kind.LineKind.TheVariants as line
 use Rattle.wt_lines.specs.Kinds.{is_mark_sign, is_idle, past, is_idle_all, is_heading, is_list, first_of, open_kind, rows as kind_rows, kind_of_signs}
 use Rattle.wt_blocks.specs.Headings.{equals as equals_len, core, level_of, open_len, trimmed_len, inside_len}
-use Rattle.wt_text_edit_laws.specs.TypedHeadings.{equals, AreBlanks, BeginsSeen, EndsSeen, BeginsOther, EndsOther}
+use Rattle.wt_text_edit_laws.specs.TypedHeadings.{equals, AreBlanks, AreIdle, BeginsSeen, EndsSeen, BeginsOther, EndsOther}
 
 -- of a heading's line with this between its `=`, and this behind them
 abbrev pub line_signs : ℕ → List ℕ → List ℕ → List ℕ
@@ -60,17 +60,21 @@ length_back (b ∷ bs) =
     let e : length (reverse bs) ≡ length bs = length_back bs in
     ap length (reverse-append (b ∷ []) bs) ∙ omega (arith, e, length-append (reverse bs) (b ∷ []))
 
-or_left : (a b : Bool) → a ≡ true → (a || b) ≡ true
-or_left true b e = refl
-or_left false b e = cc
+idle_joined : (bs cs : List ℕ) → AreIdle bs → AreIdle cs → AreIdle (bs ++ cs)
+idle_joined [] cs h g = g
+idle_joined (b ∷ bs) cs h g = (h.0, idle_joined bs cs h.1 g)
 
-idle_front : (bs ss : List ℕ) → AreBlanks bs → prefix_len is_idle (bs ++ 61 ∷ ss) ≡ length bs
+idle_back : (bs : List ℕ) → AreIdle bs → AreIdle (reverse bs)
+idle_back [] h = tt
+idle_back (b ∷ bs) h = subst AreIdle (sym (reverse-append (b ∷ []) bs)) (idle_joined (reverse bs) (b ∷ []) (idle_back bs h.1) (h.0, tt))
+
+idle_front : (bs ss : List ℕ) → AreIdle bs → prefix_len is_idle (bs ++ 61 ∷ ss) ≡ length bs
 idle_front [] ss h = refl
-idle_front (b ∷ bs) ss h = let e : is_idle b ≡ true = or_left (is_blank b) (is_mark_sign b) h.0 in let f = idle_front bs ss h.1 in rw e (omega (arith, f))
+idle_front (b ∷ bs) ss h = let e : is_idle b ≡ true = h.0 in let f = idle_front bs ss h.1 in rw e (omega (arith, f))
 
-past_front : (bs ss : List ℕ) → AreBlanks bs → past is_idle (bs ++ 61 ∷ ss) ≡ 61 ∷ ss
+past_front : (bs ss : List ℕ) → AreIdle bs → past is_idle (bs ++ 61 ∷ ss) ≡ 61 ∷ ss
 past_front [] ss h = refl
-past_front (b ∷ bs) ss h = let e : is_idle b ≡ true = or_left (is_blank b) (is_mark_sign b) h.0 in rw e (past_front bs ss h.1)
+past_front (b ∷ bs) ss h = let e : is_idle b ≡ true = h.0 in rw e (past_front bs ss h.1)
 
 blank_by : (s : ℕ) (ss : List ℕ) → is_blank s ≡ false → blank_len (s ∷ ss) ≡ 0
 blank_by s ss e = rw e refl
@@ -98,13 +102,13 @@ core_by ss cs e =
     let m : length (ss ++ cs) - prefix_len is_idle (reverse (ss ++ cs)) ≡ length ss = omega (arith, e, length-append ss cs) in
     ap (λ (k : ℕ). take k (ss ++ cs)) m ∙ take-append_seam ss cs
 
-pub core_is : (n : ℕ) (ts cs : List ℕ) → AreBlanks cs → core (line_signs (suc n) ts cs) ≡ body_signs (suc n) ts
+pub core_is : (n : ℕ) (ts cs : List ℕ) → AreIdle cs → core (line_signs (suc n) ts cs) ≡ body_signs (suc n) ts
 core_is n ts cs h =
     let back : reverse (body_signs (suc n) ts ++ cs) ≡ reverse cs ++ 61 ∷ (equals n ++ reverse (equals (suc n) ++ ts)) =
     ap reverse (sym (line_is (suc n) ts cs)) ∙ line_back (suc n) ts cs in
     ap core (line_is (suc n) ts cs)
     ∙ core_by (body_signs (suc n) ts) cs
-    (ap (prefix_len is_idle) back ∙ idle_front (reverse cs) (equals n ++ reverse (equals (suc n) ++ ts)) (blanks_back cs h) ∙ length_back cs)
+    (ap (prefix_len is_idle) back ∙ idle_front (reverse cs) (equals n ++ reverse (equals (suc n) ++ ts)) (idle_back cs h) ∙ length_back cs)
 
 -- ---- the level
 
@@ -213,7 +217,20 @@ visible (s ∷ ss) ts = past_by (is_idle s) (past is_idle (ss ++ 61 ∷ ts)) (s 
 text_visible : (front ts : List ℕ) (n : ℕ) (cs : List ℕ) → is_idle_all (front ++ (ts ++ (equals (suc n) ++ cs))) ≡ false
 text_visible front ts n cs = ap is_idle_all (sym (append_assoc front ts (equals (suc n) ++ cs))) ∙ visible (front ++ ts) (equals n ++ cs)
 
-rest_visible : (n : ℕ) (ts cs : List ℕ) → BeginsOther ts → is_idle_all (drop 2 (line_signs (suc n) ts cs)) ≡ false
+-- something is there
+abbrev pub HasSign : List ℕ → Type 0
+HasSign [] = ⊥
+HasSign (s ∷ ss) = Unit {0}
+
+some_sign : (ss ts : List ℕ) → BeginsSeen ss → HasSign (ss ++ ts)
+some_sign [] ts h = absurd h
+some_sign (s ∷ ss) ts h = tt
+
+pub signs_between : (bs ss ds : List ℕ) → BeginsSeen ss → HasSign (round bs ss ds)
+signs_between [] ss ds h = some_sign ss ds h
+signs_between (b ∷ bs) ss ds h = tt
+
+rest_visible : (n : ℕ) (ts cs : List ℕ) → HasSign ts → is_idle_all (drop 2 (line_signs (suc n) ts cs)) ≡ false
 rest_visible zero [] cs h = absurd h
 rest_visible zero (t ∷ ts) cs h = visible ts cs
 rest_visible (suc n) ts cs h = text_visible (equals n) ts (suc n) cs
@@ -231,14 +248,14 @@ first_third false true h k more e f g = cc
 first_third false false true k more e f g = refl
 first_third false false false k more e f g = cc
 
-pub kind_is : (n : ℕ) (ts cs : List ℕ) → AreBlanks cs → BeginsOther ts → kind_of_signs 0 (line_signs (suc n) ts cs) ≡ line.Heading
+pub kind_is : (n : ℕ) (ts cs : List ℕ) → AreIdle cs → HasSign ts → kind_of_signs 0 (line_signs (suc n) ts cs) ≡ line.Heading
 unfolding kind_of_signs
 kind_is n ts cs b h =
     let c : List ℕ = line_signs (suc n) ts cs in
     let r : List ℕ = equals (suc n) ++ reverse (equals (suc n) ++ ts) in
     let more : List (Bool × LineKind) = (begins (codes "----") c, line.Rule) ∷ (is_list c, line.List) ∷ (begins (codes " ") c, line.Pre) ∷ [] in
     let last : past is_idle (reverse c) ≡ r =
-    ap (past is_idle) (line_back (suc n) ts cs) ∙ past_front (reverse cs) (equals n ++ reverse (equals (suc n) ++ ts)) (blanks_back cs b) in
+    ap (past is_idle) (line_back (suc n) ts cs) ∙ past_front (reverse cs) (equals n ++ reverse (equals (suc n) ++ ts)) (idle_back cs b) in
     ap (λ (s : List ℕ). unwrap_or (first_of (kind_rows 0 (past is_idle c) (past is_mark_sign c) s)) line.Text) last
     ∙ first_third (length c == 0) (begins (codes "{|") c) (is_heading c r) (open_kind 0) more (some_length 61 (drop 1 c)) refl
     (heading_test (begins (codes "==") c) (is_idle_all (drop 1 c)) (is_idle_all (drop 2 c)) (text_visible (equals n) ts n cs) (rest_visible n ts cs h))

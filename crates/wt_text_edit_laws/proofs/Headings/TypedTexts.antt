@@ -23,6 +23,12 @@ use Rattle.wt_guards.proofs.Escapes.{is_escapable, each_escapable, escapable}
 use Rattle.wt_content.specs.Content.{has_break}
 use Rattle.wt_expand.specs.PageItems.{page_items}
 use Rattle.wt_expand.proofs.PageLaws.{page_sources}
+use Rattle.wt_tiles.specs.Contexts.{in_line}
+use Rattle.wt_inline.specs.declared.loose.Loose.TheVariants.{Text}
+use Rattle.wt_inline.specs.Parts.{parts}
+use Rattle.wt_context.specs.Line.{most_contexts, context_parts, line_parts}
+use Rattle.wt_text_edit_laws.specs.StillItems.{StillItems}
+use Rattle.wt_text_edit_laws.proofs.Texts.StillLines.{still_within}
 use Rattle.wt_text_edit_laws.proofs.Texts.TypedItems.{typed_still, typed_own}
 use Rattle.wt_text_edit_laws.proofs.Texts.TypedLeaves.{AreOwn}
 use Rattle.wt_text_edit_laws.specs.TypedHeadings.{Sides, AreBlanks, AreSides, NoBreaks, BeginsSeen, EndsSeen, IsHeadingText, BeginsOther, EndsOther, StandsApart}
@@ -369,6 +375,10 @@ same_break : (bs : List ℕ) → has_break bs ≡ has_line bs
 same_break [] = refl
 same_break (b ∷ bs) = ap (λ (v : Bool). is_break b || v) (same_break bs)
 
+still_one : (xs : List Item) → StillItems xs → line_parts xs ≡ parts Text xs
+unfolding context_parts
+still_one xs h = still_within most_contexts in_line xs h
+
 record IsTypedText (xs : List Item) : Type 0 where
   text : IsHeadingText xs
   begins : BeginsOther (map sign xs)
@@ -387,7 +397,7 @@ typed_is s text w p u b =
     let end = some_ends xs own first (ap last_seen is ∙ spelled_last s [] (chars text) w p) in
     record {
       text = record {
-        still = typed_still s text;
+        is_one = still_one xs (typed_still s text);
         unbroken = own_unbroken xs own (ap has_line is ∙ spelled_line s [] (chars text) line);
         begins = begin.0;
         ends = end.0;

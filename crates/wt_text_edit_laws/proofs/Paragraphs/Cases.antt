@@ -8,6 +8,7 @@ use Rattle.wt_span.specs.Lexemes.{sign_word, form_at, closed, words}
 use Rattle.wt_span.specs.Tags.{tag_after, opening_tag, closing_tag, with_inside, is_extension, raw_len, include_at}
 use Rattle.wt_lines.specs.Kinds.{kind_of_signs}
 use Rattle.wt_lines.specs.Lines.{full_lines}
+use Rattle.wt_guards.specs.Guards.{nowiki}
 use Rattle.wt_expand.specs.PageItems.{page_items}
 use Rattle.wt_blocks.specs.Nesting.{nested}
 use Rattle.wt_inline.specs.Parts.{children}
@@ -66,6 +67,12 @@ comment_above : AreClosed (page_items (codes "* a\n<!-- c -->\n")) → ⊥
 unfolding page_items words closed form_at comment_len comment_line_len raw_len tag_after opening_tag closing_tag with_inside is_extension include_at
     entity_at named_entity decimal_entity hex_entity entity_names sign_word kind_of_signs
 comment_above h = let e = h.whole in absurd (cc)
+
+-- it stands above the paragraph, and so do several
+comments_above : EndsApart (page_items (codes "* a\n<!-- c -->\n <!-- d --> <!-- e -->\n"))
+unfolding page_items words closed form_at comment_len comment_line_len raw_len tag_after opening_tag closing_tag with_inside is_extension include_at
+    entity_at named_entity decimal_entity hex_entity entity_names sign_word kind_of_signs
+comments_above = record { are_closed = record { whole = refl; closed = refl }; apart = refl }
 
 -- an open table takes the paragraph in, and with a line of text directly above it is one paragraph
 open_table : AreClosed (page_items (codes "{|\n| b\n")) → ⊥
@@ -143,7 +150,13 @@ ampersand_ended = refl
 reference_written : AreLetters (page_items (codes "&amp;"))
 unfolding page_items words closed form_at comment_len comment_line_len raw_len opening_tag closing_tag include_at entity_at named_entity decimal_entity
     hex_entity entity_names sign_word
-reference_written = (tt, (refl, (refl, (refl, (refl, (refl, tt))))), tt)
+reference_written = ((refl, (refl, (refl, (refl, (refl, tt))))), tt)
+
+-- and so is a `<nowiki/>` between two apostrophes
+nowiki_written : AreLetters (page_items (codes "'<nowiki/>'"))
+unfolding page_items words closed form_at comment_len comment_line_len raw_len tag_after opening_tag closing_tag with_inside is_extension include_at
+    entity_at named_entity decimal_entity hex_entity entity_names sign_word nowiki
+nowiki_written = (refl, tt)
 
 -- and so is a `<` that begins no tag, and no tag that shows its inside is a text
 less_written : AreLetters (page_items (codes "a < b"))

@@ -19,7 +19,7 @@ use Rattle.wt_text_edit_laws.specs.TypedPages.{IsTypedPage}
 use Rattle.wt_text_edit_laws.proofs.Texts.SpelledUtf8.{spelled_utf8}
 use Rattle.wt_text_edit_laws.proofs.Texts.TypedLeaves.{IsOwnForm, AreOwn}
 use Rattle.wt_text_edit_laws.proofs.Texts.TypedItems.{items_cut}
-use Rattle.wt_text_edit_laws.proofs.Texts.TypedText.{HaveNoBraces}
+use Rattle.wt_text_edit_laws.proofs.Texts.TypedText.{HaveNoClosers}
 use Rattle.wt_text_edit_laws.proofs.Prose.Uncommented.{BeginsUncommented, uncommented_byte, uncommented_other}
 use Rattle.wt_text_edit_laws.proofs.Prose.InFront.{Reads, reads_nothing, read_items}
 use Rattle.wt_text_edit_laws.proofs.Prose.ProseLines.{lines_block}
@@ -39,7 +39,7 @@ use Rattle.wt_lines.specs.Kinds.{line_kind}
 use Rattle.wt_lines.specs.Lines.{full_lines, content, empty_end}
 use Rattle.wt_lines.proofs.FullLines.{same_lines}
 use Rattle.wt_text_edit_laws.proofs.Texts.PlainRows.{AreTexts}
-use Rattle.wt_text_edit_laws.specs.Paragraphs.{IsReference, AreLetters, AreOneText, IsWrittenText, IsParagraph}
+use Rattle.wt_text_edit_laws.specs.Paragraphs.{IsLetterForm, AreLetters, AreOneText, IsWrittenText, IsParagraph}
 
 -- ---- no `<`
 
@@ -59,22 +59,22 @@ closed bs h = closed_by (ends_open bs) bs refl h
 
 -- ---- what is written is the page's own
 
-form_own : (f : ItemForm) (bs : List ℕ) → IsReference f → HasNoTag bs → IsOwnForm f bs
-form_own form.Chars bs r h = absurd r
-form_own (form.Entity c) bs r h = closed bs h
-form_own form.Nowiki bs r h = absurd r
-form_own form.Extension bs r h = absurd r
-form_own form.Function bs r h = absurd r
-form_own form.Comment bs r h = absurd r
-form_own form.Include bs r h = absurd r
-form_own form.Hidden bs r h = absurd r
-form_own form.EmptyCall bs r h = absurd r
+form_own : (f : ItemForm) (bs : List ℕ) → IsLetterForm f bs → IsOwnForm f bs
+form_own form.Chars bs h = absurd h
+form_own (form.Entity c) bs h = closed bs h
+form_own form.Nowiki bs h = h
+form_own form.Extension bs h = absurd h
+form_own form.Function bs h = absurd h
+form_own form.Comment bs h = absurd h
+form_own form.Include bs h = absurd h
+form_own form.Hidden bs h = absurd h
+form_own form.EmptyCall bs h = absurd h
 
 pub letters_own : (xs : List Item) → AreLetters xs → AreOwn xs
 letters_own [] a = tt
 letters_own (char None b ∷ xs) a = letters_own xs a
 letters_own (char (Some k) b ∷ xs) a = absurd a
-letters_own (whole f None bs ∷ xs) a = (form_own f bs a.0 a.1, letters_own xs a.2)
+letters_own (whole f None bs ∷ xs) a = (form_own f bs a.0, letters_own xs a.1)
 letters_own (whole f (Some k) bs ∷ xs) a = absurd a
 
 abbrev IsText : List Item → Type 0
@@ -106,11 +106,11 @@ paragraph_utf8 q (inr w) = w.utf8
 
 -- ---- no comment begins it
 
-pub letters_joined : (xs ys : List Item) → AreLetters xs → AreLetters ys → AreLetters (xs ++ ys)
+letters_joined : (xs ys : List Item) → AreLetters xs → AreLetters ys → AreLetters (xs ++ ys)
 letters_joined [] ys h g = g
 letters_joined (char None b ∷ xs) ys h g = letters_joined xs ys h g
 letters_joined (char (Some k) b ∷ xs) ys h g = absurd h
-letters_joined (whole f None bs ∷ xs) ys h g = (h.0, h.1, letters_joined xs ys h.2 g)
+letters_joined (whole f None bs ∷ xs) ys h g = (h.0, letters_joined xs ys h.1 g)
 letters_joined (whole f (Some k) bs ∷ xs) ys h g = absurd h
 
 blank_no_break : (b : ℕ) → is_blank b ≡ true → is_break b ≡ false
@@ -145,7 +145,7 @@ letters_begin (b ∷ bs) h = by (comment_len (b ∷ bs)) refl (λ g. letters_beg
 letters_alone : (q : List ℕ) → AreLetters (page_items q) → BeginsUncommented q
 letters_alone q h = letters_begin q (subst AreLetters (first_items q ∙ sym (first_from false q)) h)
 
-pub uncommented_text : (q : List ℕ) → AreLetters (page_items q) → remarks_len 0 q ≡ blank_len q
+uncommented_text : (q : List ℕ) → AreLetters (page_items q) → remarks_len 0 q ≡ blank_len q
 uncommented_text q h = let u = letters_alone q h in u.is
 
 -- the blanks of a line end before its line break, whatever follows it
@@ -190,7 +190,7 @@ rest_items r = items_cut r (cuts Page true 0 r)
 read_rest : (r : List ℕ) (xs : List Item) → Reads (10 ∷ r) xs → ReadsAfter true r (rest_items r)
 read_rest r xs h = record {
   items = refl;
-  shown = subst (λ (c : Cut). HaveNoBraces c.1) (cuts_cons Page false 10 r None (other_byte Page 10 r refl)) (h.shown false);
+  shown = subst (λ (c : Cut). HaveNoClosers c.1) (cuts_cons Page false 10 r None (other_byte Page 10 r refl)) (h.shown false);
 }
 
 rest_is : (r : List ℕ) (xs : List Item) → Reads (10 ∷ r) xs → xs ≡ char None 10 ∷ rest_items r
@@ -203,20 +203,25 @@ after_line : (a : Bool) (q : List ℕ) → after_all (lexer Page) a (q ++ 10 ∷
 after_line a [] = refl
 after_line a (b ∷ q) = after_line (is_break b) q
 
--- a line of characters and references, which is read so with its line break
-pub line_front : (q r : List ℕ) (own xs : List Item) → AreLetters own → StandsBefore (q ++ 10 ∷ []) → page_items (q ++ 10 ∷ []) ≡ own ++ char None 10 ∷ []
-    → Reads (10 ∷ r) xs → Reads (q ++ 10 ∷ r) (own ++ xs)
-line_front q r own xs t b ended s =
+-- a line that is read so with its line break
+pub line_reads : (q r : List ℕ) (own xs : List Item) → StandsBefore (q ++ 10 ∷ []) → page_items (q ++ 10 ∷ []) ≡ own ++ char None 10 ∷ []
+    → Reads (10 ∷ r) xs → ReadsAfter false (q ++ 10 ∷ r) (own ++ xs)
+line_reads q r own xs b ended s =
     let break : Item = char None 10 in
     let rest : List Item = rest_items r in
     let behind : ReadsAfter (after_all (lexer Page) false (q ++ 10 ∷ [])) r rest = subst (λ a. ReadsAfter a r rest) (sym (after_line false q)) (read_rest r xs s) in
     let whole : ReadsAfter false ((q ++ 10 ∷ []) ++ r) (page_items (q ++ 10 ∷ []) ++ rest) = before_reads (q ++ 10 ∷ []) r rest b behind in
     let all : page_items (q ++ 10 ∷ []) ++ rest ≡ own ++ xs =
     ap (λ zs. zs ++ rest) ended ∙ append_assoc own (break ∷ []) rest ∙ ap (λ zs. own ++ zs) (sym (rest_is r xs s)) in
-    let letters : AreLetters (page_items (q ++ 10 ∷ [])) = subst AreLetters (sym ended) (letters_joined own (break ∷ []) t tt) in
-    let front : Reads ((q ++ 10 ∷ []) ++ r) (own ++ xs) =
-    reads_either ((q ++ 10 ∷ []) ++ r) (own ++ xs) (line_begins q r b.ends letters) (subst (λ ys. ReadsAfter false ((q ++ 10 ∷ []) ++ r) ys) all whole) in
-    subst (λ bs. Reads bs (own ++ xs)) (append_assoc q (10 ∷ []) r) front
+    subst (λ bs. ReadsAfter false bs (own ++ xs)) (append_assoc q (10 ∷ []) r) (subst (λ ys. ReadsAfter false ((q ++ 10 ∷ []) ++ r) ys) all whole)
+
+-- one of characters, references and nowikis
+line_front : (q r : List ℕ) (own xs : List Item) → AreLetters own → StandsBefore (q ++ 10 ∷ []) → page_items (q ++ 10 ∷ []) ≡ own ++ char None 10 ∷ []
+    → Reads (10 ∷ r) xs → Reads (q ++ 10 ∷ r) (own ++ xs)
+line_front q r own xs t b ended s =
+    let letters : AreLetters (page_items (q ++ 10 ∷ [])) = subst AreLetters (sym ended) (letters_joined own (char None 10 ∷ []) t tt) in
+    reads_either (q ++ 10 ∷ r) (own ++ xs) (subst BeginsUncommented (append_assoc q (10 ∷ []) r) (line_begins q r b.ends letters))
+    (line_reads q r own xs b ended s)
 
 text_front : (q rest : List ℕ) (xs : List Item) → IsWrittenText q → EndsHere rest → Reads rest xs → Reads (q ++ rest) (page_items q ++ xs)
 text_front q [] xs h e r =

@@ -24,24 +24,24 @@ use Rattle.wt_expand.specs.PageItems.{items_of_word, page_items}
 use Rattle.wt_spelling_laws.proofs.Forms.{comment_other, comment_not, other_byte, equals_byte, IsTame, less_byte, and_byte, nowiki_form, reference_form}
 use Rattle.wt_spelling_laws.proofs.TextReads.{begin_next, bracket_escaped, not_bracket, equal_or, apart}
 use Rattle.wt_text_edit_laws.proofs.Texts.TypedItems.{ItemsOf, items_byte, items_form, skip, references, wide_form, wide_tame, tame_if, IsMild, wide_mild, mild_if, no_form_byte, after_it, items_are}
-use Rattle.wt_text_edit_laws.proofs.Texts.TypedText.{IsNoBrace, HaveNoBraces}
+use Rattle.wt_text_edit_laws.proofs.Texts.TypedText.{IsNoCloser, HaveNoClosers}
 use Rattle.wt_text_edit_laws.proofs.Prose.Uncommented.{BeginsUncommented, uncommented_byte, uncommented_other, either_flag}
 
 -- ---- what a text reads as, whether a line break stands before it or not
 
 pub record Reads (bs : List ℕ) (xs : List Item) : Type 0 where
   pub items : ItemsOf bs xs
-  pub shown : (after : Bool) → HaveNoBraces (cuts Page after 0 bs).1
+  pub shown : (after : Bool) → HaveNoClosers (cuts Page after 0 bs).1
   pub begins : BeginsUncommented bs
 
 pub reads_nothing : Reads [] []
 reads_nothing = record { items = λ after. refl; shown = λ after. tt; begins = record { is = refl } }
 
-shown_if : (t : Bool) (n : ℕ) (ws : List Word) → HaveNoBraces ws → HaveNoBraces (if t then ws else (Chars, n) ∷ ws)
+shown_if : (t : Bool) (n : ℕ) (ws : List Word) → HaveNoClosers ws → HaveNoClosers (if t then ws else (Chars, n) ∷ ws)
 shown_if true n ws h = h
 shown_if false n ws h = (tt, h)
 
-pub shown_closed : (c : Cut) → HaveNoBraces c.1 → HaveNoBraces (closed c.0 c.1)
+pub shown_closed : (c : Cut) → HaveNoClosers c.1 → HaveNoClosers (closed c.0 c.1)
 unfolding closed
 shown_closed (n, ws) h = shown_if (n == 0) n ws h
 
@@ -52,20 +52,20 @@ reads_byte b bs xs f c r =
     let no = λ (after : Bool). either_flag Page after (b ∷ bs) begins ∙ f in
     record {
       items = items_byte b bs xs no r.items;
-      shown = λ after. subst (λ (k : Cut). HaveNoBraces k.1) (sym (cuts_cons Page after b bs None (no after))) (r.shown (is_break b));
+      shown = λ after. subst (λ (k : Cut). HaveNoClosers k.1) (sym (cuts_cons Page after b bs None (no after))) (r.shown (is_break b));
       begins = begins;
     }
 
-form_shown : (kind : LexKind) (b : ℕ) (q rest : List ℕ) → IsNoBrace kind → ((after : Bool) → form_at Page after (b ∷ (q ++ rest)) ≡ Some (kind, suc (length q)))
-    → ((after : Bool) → HaveNoBraces (cuts Page after 0 rest).1) → (after : Bool) → HaveNoBraces (cuts Page after 0 (b ∷ (q ++ rest))).1
+form_shown : (kind : LexKind) (b : ℕ) (q rest : List ℕ) → IsNoCloser kind → ((after : Bool) → form_at Page after (b ∷ (q ++ rest)) ≡ Some (kind, suc (length q)))
+    → ((after : Bool) → HaveNoClosers (cuts Page after 0 rest).1) → (after : Bool) → HaveNoClosers (cuts Page after 0 (b ∷ (q ++ rest))).1
 form_shown kind b q rest k f r after =
     let z : suc (length q) - 1 ≡ length q = omega arith in
-    let P : Cut → Type 0 = λ c. IsNoBrace kind × HaveNoBraces (closed c.0 c.1) in
-    subst (λ (c : Cut). HaveNoBraces c.1) (sym (cuts_cons Page after b (q ++ rest) (Some (kind, suc (length q))) (f after)))
+    let P : Cut → Type 0 = λ c. IsNoCloser kind × HaveNoClosers (closed c.0 c.1) in
+    subst (λ (c : Cut). HaveNoClosers c.1) (sym (cuts_cons Page after b (q ++ rest) (Some (kind, suc (length q))) (f after)))
     (subst (λ (n : ℕ). P (cuts Page (is_break b) n (q ++ rest))) (sym z)
     (skip P q rest (is_break b) (λ a. (k, shown_closed (cuts Page a 0 rest) (r a)))))
 
-pub reads_form : (kind : LexKind) (b : ℕ) (q rest : List ℕ) (xs : List Item) → IsNoBrace kind
+pub reads_form : (kind : LexKind) (b : ℕ) (q rest : List ℕ) (xs : List Item) → IsNoCloser kind
     → form_at Page false (b ∷ (q ++ rest)) ≡ Some (kind, suc (length q)) → BeginsUncommented (b ∷ (q ++ rest)) → Reads rest xs
     → Reads (b ∷ (q ++ rest)) (items_of_word kind (b ∷ q) ++ xs)
 reads_form kind b q rest xs k f c r =
@@ -217,6 +217,6 @@ read_break bs xs r = reads_byte 10 bs xs (other_byte Page 10 bs refl) (comment_o
 pub read_items : (bs : List ℕ) (xs : List Item) → Reads bs xs → page_items bs ≡ xs
 read_items bs xs r = items_are bs xs r.items
 
-pub read_words : (bs : List ℕ) (xs : List Item) → Reads bs xs → HaveNoBraces (words Page bs)
+pub read_words : (bs : List ℕ) (xs : List Item) → Reads bs xs → HaveNoClosers (words Page bs)
 unfolding words
 read_words bs xs r = shown_closed (cuts Page false 0 bs) (r.shown false)

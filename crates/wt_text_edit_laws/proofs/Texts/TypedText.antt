@@ -1,4 +1,4 @@
--- What somebody types has no calls, whatever it is: no lexeme of what is spelled is a run of braces.
+-- What somebody types has no calls, whatever it is: no lexeme of what is spelled is a run of closing braces.
 use Rattle.std.proofs.Common.{arith, ◌≡◌, ℕ, ◌+◌, Bool, true, false, Option, Some, None, List, [], ◌∷◌, ◌++◌, take, drop, reverse, refl, sym, ap, ◌∙◌, subst}
 use Rattle.std.specs.Prelude.{◌-◌, option_map, if◌then◌else◌, slice_index, encode_utf8}
 use Rattle.std.specs.Option.{option_or}
@@ -22,26 +22,26 @@ use Rattle.wt_spelling_laws.specs.Reading.{shown_by, joined as joined_text, show
 use Rattle.wt_spelling_laws.proofs.TextReads.{text_reads_back}
 use Rattle.wt_text_edit_laws.specs.LonePages.{of_items}
 
--- ---- words that aren't runs of braces
+-- ---- words that aren't runs of closing braces
 
-abbrev pub IsNoBrace : LexKind → Type 0
-IsNoBrace Chars = Unit {0}
-IsNoBrace CommentLine = Unit {0}
-IsNoBrace Comment = Unit {0}
-IsNoBrace Raw = Unit {0}
-IsNoBrace Include = Unit {0}
-IsNoBrace Hidden = Unit {0}
-IsNoBrace (Entity c) = Unit {0}
-IsNoBrace Opens = ⊥
-IsNoBrace Closes = ⊥
-IsNoBrace LinkOpen = Unit {0}
-IsNoBrace LinkClose = Unit {0}
-IsNoBrace Pipe = Unit {0}
-IsNoBrace Equals = Unit {0}
+abbrev pub IsNoCloser : LexKind → Type 0
+IsNoCloser Chars = Unit {0}
+IsNoCloser CommentLine = Unit {0}
+IsNoCloser Comment = Unit {0}
+IsNoCloser Raw = Unit {0}
+IsNoCloser Include = Unit {0}
+IsNoCloser Hidden = Unit {0}
+IsNoCloser (Entity c) = Unit {0}
+IsNoCloser Opens = Unit {0}
+IsNoCloser Closes = ⊥
+IsNoCloser LinkOpen = Unit {0}
+IsNoCloser LinkClose = Unit {0}
+IsNoCloser Pipe = Unit {0}
+IsNoCloser Equals = Unit {0}
 
-abbrev pub HaveNoBraces : List Word → Type 0
-HaveNoBraces [] = Unit {0}
-HaveNoBraces ((kind, n) ∷ ws) = IsNoBrace kind × HaveNoBraces ws
+abbrev pub HaveNoClosers : List Word → Type 0
+HaveNoClosers [] = Unit {0}
+HaveNoClosers ((kind, n) ∷ ws) = IsNoCloser kind × HaveNoClosers ws
 
 -- what is left shows something, too
 rest_shows : (u t : List ℕ) (o : Option (List ℕ)) → option_map (λ cs. u ++ cs) o ≡ Some t → (v : List ℕ) × (o ≡ Some v)
@@ -52,7 +52,7 @@ raw_shows : (b : Bool) (t : List ℕ) (o : Option (List ℕ)) → joined_text (i
 raw_shows true t o e = rest_shows [] t o e
 raw_shows false t o e = cc
 
-both_show : (kind : LexKind) (bs t : List ℕ) (o : Option (List ℕ)) → joined_text (shown_by kind bs) o ≡ Some t → IsNoBrace kind × (v : List ℕ) × (o ≡ Some v)
+both_show : (kind : LexKind) (bs t : List ℕ) (o : Option (List ℕ)) → joined_text (shown_by kind bs) o ≡ Some t → IsNoCloser kind × (v : List ℕ) × (o ≡ Some v)
 both_show Chars bs t o e = let r = rest_shows bs t o e in (tt, r.0, r.1)
 both_show CommentLine bs t o e = absurd (cc)
 both_show Comment bs t o e = absurd (cc)
@@ -60,14 +60,14 @@ both_show Raw bs t o e = let r = raw_shows (bytes_eq bs nowiki) t o e in (tt, r.
 both_show Include bs t o e = absurd (cc)
 both_show Hidden bs t o e = absurd (cc)
 both_show (Entity c) bs t o e = let r = rest_shows (encode_utf8 c) t o e in (tt, r.0, r.1)
-both_show Opens bs t o e = cc
+both_show Opens bs t o e = absurd (cc)
 both_show Closes bs t o e = cc
 both_show LinkOpen bs t o e = absurd (cc)
 both_show LinkClose bs t o e = absurd (cc)
 both_show Pipe bs t o e = absurd (cc)
 both_show Equals bs t o e = let r = rest_shows bs t o e in (tt, r.0, r.1)
 
-all_shown : (ws : List Word) (bs t : List ℕ) → shown_words bs ws ≡ Some t → HaveNoBraces ws
+all_shown : (ws : List Word) (bs t : List ℕ) → shown_words bs ws ≡ Some t → HaveNoClosers ws
 all_shown [] bs t e = tt
 all_shown ((kind, n) ∷ ws) bs t e =
     let r = both_show kind (take n bs) t (shown_words (drop n bs) ws) e in
@@ -80,7 +80,7 @@ AreLexemes [] = Unit {0}
 AreLexemes (lexeme w ∷ ms) = AreLexemes ms
 AreLexemes (call k inside ∷ ms) = ⊥
 
-onto_lexemes : (ws : List Word) (before : List Member) → HaveNoBraces ws → AreLexemes before → AreLexemes (reduced_onto before ws)
+onto_lexemes : (ws : List Word) (before : List Member) → HaveNoClosers ws → AreLexemes before → AreLexemes (reduced_onto before ws)
 onto_lexemes [] before h l = l
 onto_lexemes ((Chars, n) ∷ ws) before h l = onto_lexemes ws (lexeme (Chars, n) ∷ before) h.1 l
 onto_lexemes ((CommentLine, n) ∷ ws) before h l = onto_lexemes ws (lexeme (CommentLine, n) ∷ before) h.1 l
@@ -89,7 +89,7 @@ onto_lexemes ((Raw, n) ∷ ws) before h l = onto_lexemes ws (lexeme (Raw, n) ∷
 onto_lexemes ((Include, n) ∷ ws) before h l = onto_lexemes ws (lexeme (Include, n) ∷ before) h.1 l
 onto_lexemes ((Hidden, n) ∷ ws) before h l = onto_lexemes ws (lexeme (Hidden, n) ∷ before) h.1 l
 onto_lexemes ((Entity c, n) ∷ ws) before h l = onto_lexemes ws (lexeme (Entity c, n) ∷ before) h.1 l
-onto_lexemes ((Opens, n) ∷ ws) before h l = absurd h.0
+onto_lexemes ((Opens, n) ∷ ws) before h l = onto_lexemes ws (lexeme (Opens, n) ∷ before) h.1 l
 onto_lexemes ((Closes, n) ∷ ws) before h l = absurd h.0
 onto_lexemes ((LinkOpen, n) ∷ ws) before h l = onto_lexemes ws (lexeme (LinkOpen, n) ∷ before) h.1 l
 onto_lexemes ((LinkClose, n) ∷ ws) before h l = onto_lexemes ws (lexeme (LinkClose, n) ∷ before) h.1 l
@@ -106,7 +106,7 @@ reverse_lexemes [] h = tt
 reverse_lexemes (lexeme w ∷ xs) h = subst AreLexemes (sym (reverse-append (lexeme w ∷ []) xs)) (both_lexemes (reverse xs) (lexeme w ∷ []) (reverse_lexemes xs h) tt)
 reverse_lexemes (call k inside ∷ xs) h = absurd h
 
-reduced_lexemes : (ws : List Word) → HaveNoBraces ws → AreLexemes (reduced ws)
+reduced_lexemes : (ws : List Word) → HaveNoClosers ws → AreLexemes (reduced ws)
 unfolding reduced
 reduced_lexemes ws h = reverse_lexemes (reduced_onto [] ws) (onto_lexemes ws [] h tt)
 
@@ -129,22 +129,22 @@ no_work r start bs (call k inside ∷ ms) h = absurd h
 
 -- ---- a page whose words show something
 
-page_members : (bs : List ℕ) → HaveNoBraces (words Page bs) → AreLexemes (reduced (words Page bs))
+page_members : (bs : List ℕ) → HaveNoClosers (words Page bs) → AreLexemes (reduced (words Page bs))
 page_members bs h = reduced_lexemes (words Page bs) h
 
-pub shown_expanded : (pages : Pages) (bs : List ℕ) → HaveNoBraces (words Page bs) → expanded_page pages bs ≡ of_items (page_items bs)
+pub shown_expanded : (pages : Pages) (bs : List ℕ) → HaveNoClosers (words Page bs) → expanded_page pages bs ≡ of_items (page_items bs)
 unfolding text_members
 shown_expanded pages bs h = without_calls pages bs (no_calls (reduced (words Page bs)) (page_members bs h))
 
-shown_work : (pages : Pages) (bs : List ℕ) → HaveNoBraces (words Page bs) → page_work pages bs ≡ entered None ∷ []
+shown_work : (pages : Pages) (bs : List ℕ) → HaveNoClosers (words Page bs) → page_work pages bs ≡ entered None ∷ []
 unfolding page_work text_members
 shown_work pages bs h = ap (λ es. entered None ∷ es) (no_work (page_reading pages) true bs (reduced (words Page bs)) (page_members bs h))
 
-shown_flat : (bs : List ℕ) → HaveNoBraces (words Page bs) → deep_place Page bs ≡ None
+shown_flat : (bs : List ℕ) → HaveNoClosers (words Page bs) → deep_place Page bs ≡ None
 unfolding deep_place too_deep calls
 shown_flat bs h = ap too_deep (no_places 0 0 None (reduced (words Page bs)) (page_members bs h))
 
-pub shown_unrefused : (pages : Pages) (bs : List ℕ) → HaveNoBraces (words Page bs) → first_refusal pages bs (page_work pages bs) ≡ None
+pub shown_unrefused : (pages : Pages) (bs : List ℕ) → HaveNoClosers (words Page bs) → first_refusal pages bs (page_work pages bs) ≡ None
 unfolding first_refusal
 shown_unrefused pages bs h =
     ap (refusal_from pages bs 0) (shown_work pages bs h)
@@ -152,7 +152,7 @@ shown_unrefused pages bs h =
 
 -- ---- a page that is what was typed
 
-typed_words : (s : Setting) (text : List ℕ) → IsUtf8 text → HaveNoBraces (words Page (spelled s (letters text)))
+typed_words : (s : Setting) (text : List ℕ) → IsUtf8 text → HaveNoClosers (words Page (spelled s (letters text)))
 unfolding read_text
 typed_words s text u =
     let bs : List ℕ = spelled s (letters text) in
