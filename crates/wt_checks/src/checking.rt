@@ -12,6 +12,7 @@ use crate::groups::first_in_template;
 use crate::ids::{first_moved, first_repeated, first_unknown};
 use crate::index::index_of;
 use crate::marks::first_wrongly_marked;
+use crate::number::NodeNumber;
 use crate::refusal::TreeRefusal;
 use crate::unmarked::first_unmarked_change;
 use crate::visit::{Visit, preorder};
@@ -30,22 +31,22 @@ fn check_visits(
     ensures { IfOk result (λ r. r ≡ refused values (indexed index.now) (all_seen edited.now)) }
 {
     if let Some(number) = first_unknown(index, edited) {
-        return Ok(Some(TreeRefusal::UnknownId(number)));
+        return Ok(Some(TreeRefusal::UnknownId(NodeNumber::new(number))));
     }
     if let Some(number) = first_repeated(alloc, index.len(), edited)? {
-        return Ok(Some(TreeRefusal::RepeatedId(number)));
+        return Ok(Some(TreeRefusal::RepeatedId(NodeNumber::new(number))));
     }
     if let Some(number) = first_moved(alloc, index, edited)? {
-        return Ok(Some(TreeRefusal::Moved(number)));
+        return Ok(Some(TreeRefusal::Moved(NodeNumber::new(number))));
     }
     if let Some(number) = first_in_template(alloc, values, index, edited)? {
-        return Ok(Some(TreeRefusal::InTemplate(number)));
+        return Ok(Some(TreeRefusal::InTemplate(NodeNumber::new(number))));
     }
     if let Some(number) = first_wrongly_marked(index, edited) {
-        return Ok(Some(TreeRefusal::NotEditable(number)));
+        return Ok(Some(TreeRefusal::NotEditable(NodeNumber::new(number))));
     }
     if let Some(number) = first_unmarked_change(index, edited) {
-        return Ok(Some(TreeRefusal::UnmarkedChange(number)));
+        return Ok(Some(TreeRefusal::UnmarkedChange(NodeNumber::new(number))));
     }
     Ok(None)
 }
@@ -94,13 +95,13 @@ fn check_visits_alone(
     ensures { IfOk result (λ r. r ≡ nodes_refused (indexed index.now) (all_seen edited.now)) }
 {
     if let Some(number) = first_unknown(index, edited) {
-        return Ok(Some(TreeRefusal::UnknownId(number)));
+        return Ok(Some(TreeRefusal::UnknownId(NodeNumber::new(number))));
     }
     if let Some(number) = first_repeated(alloc, index.len(), edited)? {
-        return Ok(Some(TreeRefusal::RepeatedId(number)));
+        return Ok(Some(TreeRefusal::RepeatedId(NodeNumber::new(number))));
     }
     if let Some(number) = first_in_template(alloc, false, index, edited)? {
-        return Ok(Some(TreeRefusal::InTemplate(number)));
+        return Ok(Some(TreeRefusal::InTemplate(NodeNumber::new(number))));
     }
     Ok(None)
 }

@@ -9,6 +9,7 @@ mod ids;
 mod index;
 mod laws;
 mod marks;
+mod number;
 mod read;
 mod refusal;
 mod shown;
@@ -25,6 +26,7 @@ pub use laws::{
     nodes_without_marks, only_the_page_is_taken, sections_make_no_difference, what_is_kept,
 };
 pub use marks::is_children;
+pub use number::NodeNumber;
 pub use refusal::TreeRefusal;
 pub use shown::{is_compared, is_text, same_character};
 pub use visit::{Visit, is_content, preorder};

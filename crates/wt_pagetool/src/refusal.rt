@@ -4,7 +4,7 @@ ghost use Rattle.wt_pagetool.specs.Refusals.{status_of, line_of, html_why, fit_w
 
 use crate::status::Status;
 use std::alloc::{AllocError, Global};
-use wt_checks::TreeRefusal;
+use wt_checks::{NodeNumber, TreeRefusal};
 use wt_devices::FetchRefusal;
 use wt_edit::{ContentWhy, EditRefusal};
 use wt_html_in::{FitWhy, HtmlRefusal, HtmlWhy};
@@ -46,9 +46,9 @@ pub enum Refusal {
     /// The comparison of the page with the edited tree refuses the edit.
     Checked(TreeRefusal),
     /// The inside of this marked node (`mwN`) can't be written.
-    BadContent { node: u32, why: ContentWhy },
+    BadContent { node: NodeNumber, why: ContentWhy },
     /// This marked node (`mwN`) can't be read by itself.
-    Tangled(u32),
+    Tangled(NodeNumber),
     /// The new page is longer than a page may be.
     NewPageTooLong,
     /// The expansion of the new page is refused.
@@ -311,7 +311,7 @@ fn check_name(check: TreeRefusal) -> &'static str
     }
 }
 
-fn check_node(check: TreeRefusal) -> u32
+fn check_node(check: TreeRefusal) -> NodeNumber
     ensures { result ≡ check_node check }
 {
     match check {
@@ -330,15 +330,16 @@ fn checked_line(alloc: Global, check: TreeRefusal) -> Result<String, AllocError>
     format!(in alloc;
         "wtround: edit refused: {} {}\n",
         check_name(check),
-        check_node(check)
+        check_node(check).get()
     )
 }
 
-fn content_line(alloc: Global, node: u32, why: ContentWhy) -> Result<String, AllocError>
+fn content_line(alloc: Global, node: NodeNumber, why: ContentWhy) -> Result<String, AllocError>
     ensures { IfOk result (λ line. string_bytes line ≡ line_of (Refusal.BadContent node why)) }
 {
     format!(in alloc;
-        "wtround: edit refused: BadContent {node} {}\n",
+        "wtround: edit refused: BadContent {} {}\n",
+        node.get(),
         content_why(why)
     )
 }
@@ -368,7 +369,10 @@ pub fn line_of(alloc: Global, refusal: &Refusal) -> Result<String, AllocError>
         Refusal::Unsourced(element) => unsourced_line(alloc, *element),
         Refusal::Checked(check) => checked_line(alloc, *check),
         Refusal::BadContent { node, why } => content_line(alloc, *node, *why),
-        Refusal::Tangled(node) => format!(in alloc; "wtround: edit refused: Tangled {node}\n"),
+        Refusal::Tangled(node) => format!(in alloc;
+            "wtround: edit refused: Tangled {}\n",
+            node.get()
+        ),
         Refusal::NewPageTooLong => format!(in alloc; "wtround: edit refused: NewPageTooLong\n"),
         Refusal::NewExpansion => format!(in alloc; "wtround: edit refused: NewExpansion\n"),
         Refusal::Unspelled(child) => format!(in alloc;

@@ -20,7 +20,7 @@ use crate::refusal::EditRefusal;
 use crate::slices::slices;
 use crate::tangled_block::is_tangled;
 use std::alloc::Global;
-use wt_checks::{Visit, check, is_children, is_content, numbered_nodes};
+use wt_checks::{NodeNumber, Visit, check, is_children, is_content, numbered_nodes};
 use wt_content::{ContentWhy, bad_children, bad_content};
 use wt_isolation::Passes;
 use wt_span::{Items, NoMemory, PAGE_BYTES, Str};
@@ -41,7 +41,7 @@ fn bad_pair(alloc: Global, pair: Pair<'_, '_>) -> Result<Option<EditRefusal>, No
 {
     let found = why_bad(alloc, pair)?;
     match found {
-        Some(why) => Ok(Some(EditRefusal::BadContent(pair.new.id, why))),
+        Some(why) => Ok(Some(EditRefusal::BadContent(NodeNumber::new(pair.new.id), why))),
         None => Ok(None),
     }
 }
@@ -75,7 +75,7 @@ fn tangled_pair(
     }
     let tangled = is_tangled(alloc, items, page, passes, pair.old)?;
     if tangled {
-        return Ok(Some(EditRefusal::Tangled(pair.new.id)));
+        return Ok(Some(EditRefusal::Tangled(NodeNumber::new(pair.new.id))));
     }
     Ok(None)
 }

@@ -3,7 +3,7 @@
 ghost use Rattle.std.specs.Prelude.{◌≡◌};
 
 use std::alloc::AllocError;
-use wt_checks::TreeRefusal;
+use wt_checks::{NodeNumber, TreeRefusal};
 use wt_content::ContentWhy;
 use wt_span::NoMemory;
 
@@ -13,9 +13,9 @@ pub enum EditRefusal {
     /// What the comparison of the two trees finds.
     Check(TreeRefusal),
     /// The inside of this marked node can't be written.
-    BadContent(u32, ContentWhy),
+    BadContent(NodeNumber, ContentWhy),
     /// This marked node can't be read by itself.
-    Tangled(u32),
+    Tangled(NodeNumber),
     /// The new page is longer than a page may be.
     NewPageTooLong,
     /// No memory was found.

@@ -3,7 +3,7 @@
 ghost use Rattle.std.specs.Prelude.{◌≡◌};
 
 use std::alloc::AllocError;
-use wt_checks::TreeRefusal;
+use wt_checks::{NodeNumber, TreeRefusal};
 use wt_content::ContentWhy;
 use wt_span::NoMemory;
 
@@ -14,7 +14,7 @@ pub enum SelserRefusal {
     /// changed.
     Check(TreeRefusal),
     /// The inside of this changed node can't be written.
-    BadContent(u32, ContentWhy),
+    BadContent(NodeNumber, ContentWhy),
     /// The new page is longer than a page may be.
     NewPageTooLong,
     /// The expansion of the new page is refused.
