@@ -412,7 +412,7 @@ impl<'a> TextRun<'a> {
         chooser.told(text.as_str())?;
         match chooser.ask() {
             Ask::Tell(number) => {
-                let part = part_at(call, number)?;
+                let part = part_at(call, number);
                 let next = Choosing {
                     call,
                     at_start,
@@ -427,7 +427,7 @@ impl<'a> TextRun<'a> {
                 Ok(())
             }
             Ask::Give(number) => {
-                let part = part_at(call, number)?;
+                let part = part_at(call, number);
                 if number == told && is_whole(function, part) {
                     return self.give_again(call, at_start, out, before, spent);
                 }
