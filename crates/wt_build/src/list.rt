@@ -57,26 +57,36 @@ fn begins_at(nodes: &[ListNode], line: usize) -> bool
     }
 }
 
+/// A list or an item by itself, without what is in it.
+#[derive(Clone, Copy)]
+struct Bare {
+    item: bool,
+    /// The sign of its first line that makes it.
+    sign: char,
+    /// The number of its first line.
+    line: usize,
+    /// Whether a list in it begins at that line, so that the line isn't its own.
+    inner: bool,
+}
+
 /// The stretches of an item that its line begins, or of one that has nothing of this line by itself,
 /// with the lists in it.
 fn item_stretches<'a>(
     alloc: Global,
     pieces: &[Piece<'a>],
     rows: &[RowAt],
-    sign: char,
-    line: usize,
-    own: bool,
+    bare: Bare,
     inside: List<StretchAt<'a>>,
 ) -> Result<List<StretchAt<'a>>, NoMemory>
     requires { All IsSoundPiece pieces.now }
     ensures { IfOk result (λ l. stretches_view pieces.now l
-        ≡ node_by (rows_view pieces.now rows.now) true sign line own (stretches_view pieces.now inside.entry)) }
+        ≡ node_by (rows_view pieces.now rows.now) true bare.sign bare.line bare.inner (stretches_view pieces.now inside.entry)) }
 {
-    if own {
-        let head = NodeHead::plain(item_kind(sign));
+    if bare.inner {
+        let head = NodeHead::plain(item_kind(bare.sign));
         return enclosed(alloc, head, pieces, inside);
     }
-    line_item(alloc, pieces, row_at(rows, line), sign, inside)
+    line_item(alloc, pieces, row_at(rows, bare.line), bare.sign, inside)
 }
 
 /// The stretches of a node, with those inside it.
@@ -84,20 +94,17 @@ fn node_stretches<'a>(
     alloc: Global,
     pieces: &[Piece<'a>],
     rows: &[RowAt],
-    item: bool,
-    sign: char,
-    line: usize,
-    own: bool,
+    bare: Bare,
     inside: List<StretchAt<'a>>,
 ) -> Result<List<StretchAt<'a>>, NoMemory>
     requires { All IsSoundPiece pieces.now }
     ensures { IfOk result (λ l. stretches_view pieces.now l
-        ≡ node_by (rows_view pieces.now rows.now) item sign line own (stretches_view pieces.now inside.entry)) }
+        ≡ node_by (rows_view pieces.now rows.now) bare.item bare.sign bare.line bare.inner (stretches_view pieces.now inside.entry)) }
 {
-    if item {
-        return item_stretches(alloc, pieces, rows, sign, line, own, inside);
+    if bare.item {
+        return item_stretches(alloc, pieces, rows, bare, inside);
     }
-    let head = NodeHead::plain(list_kind(sign));
+    let head = NodeHead::plain(list_kind(bare.sign));
     enclosed(alloc, head, pieces, inside)
 }
 
@@ -138,9 +145,14 @@ fn list_stretches<'a>(
         line,
         children,
     } = node;
-    let own = begins_at(children.as_slice(), line);
+    let bare = Bare {
+        item,
+        sign,
+        line,
+        inner: begins_at(children.as_slice(), line),
+    };
     let inside = all_lists(alloc, pieces, rows, children)?;
-    node_stretches(alloc, pieces, rows, item, sign, line, own, inside)
+    node_stretches(alloc, pieces, rows, bare, inside)
 }
 
 /// The prefixes of rows.

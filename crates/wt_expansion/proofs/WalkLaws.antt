@@ -1,9 +1,8 @@
 -- The stretches of members that stand one behind the other, and stretches that make the same page.
-use Rattle.std.proofs.Common.{◌≡◌, ℕ, zero, suc, ◌+◌, ◌-◌, ◌≤◌, Bool, false, Option, Some, None, List, [], ◌∷◌, ◌++◌, length, map, take, drop, refl, sym, ap, ◌∙◌, subst, arith, append_assoc, append-nil}
+use Rattle.std.proofs.Common.{◌≡◌, ℕ, suc, ◌+◌, ◌-◌, ◌≤◌, Bool, false, Option, Some, None, List, [], ◌∷◌, ◌++◌, length, map, take, drop, refl, sym, ap, ◌∙◌, subst, arith, append_assoc, append-nil}
 use Rattle.std.specs.Prelude.{slice_index}
 use Rattle.std.specs.Option.{option_and_then}
 use Rattle.std.proofs.lemmas.List.{drop-drop, get_or-drop}
-use Rattle.wt_span.specs.declared.form.Mode.{Mode}
 use Rattle.wt_span.specs.declared.form.LexKind.{LexKind}
 use Rattle.wt_span.specs.Bytes.{is_break}
 use Rattle.wt_span.specs.Items.{Item, char, whole}
@@ -19,6 +18,7 @@ use Rattle.wt_transclusion.specs.Cursors.{starts}
 use Rattle.wt_transclusion.specs.Parts.{start_after}
 use Rattle.wt_transclusion.specs.Steps.{Leads, one_lexeme, one_brace, one_more}
 use Rattle.wt_transclusion.specs.Stretch.{IsFull, AllFull}
+use Rattle.wt_transclusion.proofs.Chunks.{two_items}
 use Rattle.wt_expansion.specs.Made.{AreAlike}
 use Rattle.wt_expansion.proofs.SoundCalls.{calls_append}
 use Rattle.wt_expansion.proofs.TextOrder.{spans_append}
@@ -92,21 +92,6 @@ lexeme_cons : (r : Reading) (s : Bool) (t : List ℕ) (p n : ℕ) (kind : LexKin
     → strs r s t p (lexeme (kind, n) ∷ ys) ≡ own (lexeme_items r.mode kind (take n (drop p t))) ∷ strs r (starts t (p + n)) t (p + n) ys
 lexeme_cons r s t p n kind ys l = strs_cons r s t p (lexeme (kind, n)) ys l
 
-take_chars : (n : ℕ) (bs : List ℕ) → chars (take (suc n) bs) ≡ chars (take 1 bs) ++ chars (take n (drop 1 bs))
-take_chars n [] = sym (ap chars (none_taken n))
-  where
-    none_taken : (k : ℕ) → take {A = ℕ} k [] ≡ []
-    none_taken zero = refl
-    none_taken (suc k) = refl
-take_chars n (b ∷ bs) = refl
-
-two_items : (m : Mode) (kind : LexKind) (n : ℕ) (t : List ℕ) (p : ℕ) → ((md : Mode) (bs : List ℕ) → lexeme_items md kind bs ≡ chars bs)
-    → lexeme_items m kind (take 1 (drop p t)) ++ lexeme_items m kind (take n (drop (p + 1) t)) ≡ lexeme_items m kind (take (suc n) (drop p t))
-two_items m kind n t p h =
-    ap (λ xs. xs ++ lexeme_items m kind (take n (drop (p + 1) t))) (h m (take 1 (drop p t)))
-    ∙ ap (λ xs. chars (take 1 (drop p t)) ++ xs) (h m (take n (drop (p + 1) t)) ∙ ap (λ bs. chars (take n bs)) (sym (drop-drop 1 p t)))
-    ∙ sym (take_chars n (drop p t)) ∙ sym (h m (take (suc n) (drop p t)))
-
 own_two : (xs ys zs : List Item) (ss : List Stretch) → xs ++ ys ≡ zs → AreAlike (own zs ∷ ss) (own xs ∷ (own ys ∷ ss))
 own_two xs ys zs ss e = record {
   items = λ k. ap (λ us. us ++ numbered k ss) (sym e) ∙ append_assoc xs ys (numbered k ss);
@@ -120,7 +105,7 @@ own_more xs ss ts f = record { items = λ k. ap (λ ys. xs ++ ys) (f.items k); c
 full_left : (kind : LexKind) (n : ℕ) (xs ys : List Member) → Leads kind n xs ys → AllFull xs → AllFull ys
 full_left _ _ _ _ (one_lexeme kind n ys) f = f.1
 full_left _ _ _ _ (one_brace kind k zs h) f = (omega arith, f.1)
-full_left _ _ _ _ (one_more kind k xs us ys h a b) f = full_left kind k us ys b (full_left kind 1 xs us a f)
+full_left _ _ _ _ (one_more kind other n k xs us ys here there a b) f = full_left other k us ys b (full_left kind n xs us a f)
 
 pub leads_alike : (kind : LexKind) (n : ℕ) (xs ys : List Member) → Leads kind n xs ys → (r : Reading) (s : Bool) (t : List ℕ) (p : ℕ) → AllFull xs
     → AreAlike (own (lexeme_items r.mode kind (take n (drop p t))) ∷ strs r (starts t (p + n)) t (p + n) ys) (strs r s t p xs)
@@ -134,18 +119,20 @@ leads_alike _ _ _ _ (one_brace kind k zs h) r s t p f =
     let next : strs r (starts t (p + 1)) t (p + 1) (lexeme (kind, suc k) ∷ zs) ≡ own more ∷ rest =
     lexeme_cons r (starts t (p + 1)) t (p + 1) (suc k) kind zs (omega arith) ∙ ap (λ q. own more ∷ strs r (starts t q) t q zs) z in
     let here : strs r s t p (lexeme (kind, suc (suc k)) ∷ zs) ≡ own all ∷ rest = lexeme_cons r s t p (suc (suc k)) kind zs f.0 in
-    let back = own_two one more all rest (two_items r.mode kind (suc k) t p h) in
+    let both : 1 + suc k ≡ suc (suc k) = omega arith in
+    let two = sym (two_items kind kind r.mode t p 1 (suc k) h h) ∙ ap (λ i. lexeme_items r.mode kind (take i (drop p t))) both in
+    let back = own_two one more all rest two in
     alike_then _ _ _ (alike_same _ _ (ap (λ ss. own one ∷ ss) next))
     (alike_then _ _ _ (record { items = λ i. sym (back.items i); calls = refl; text_calls = refl }) (alike_same _ _ (sym here)))
-leads_alike _ _ _ _ (one_more kind k xs us ys h a b) r s t p f =
-    let one = lexeme_items r.mode kind (take 1 (drop p t)) in
-    let more = lexeme_items r.mode kind (take k (drop (p + 1) t)) in
-    let all = lexeme_items r.mode kind (take (suc k) (drop p t)) in
-    let z : p + 1 + k ≡ p + suc k = omega arith in
-    let first = leads_alike kind 1 xs us a r s t p f in
-    let second = leads_alike kind k us ys b r (starts t (p + 1)) t (p + 1) (full_left kind 1 xs us a f) in
-    let moved = subst (λ q. AreAlike (own more ∷ strs r (starts t q) t q ys) (strs r (starts t (p + 1)) t (p + 1) us)) z second in
-    alike_then _ _ _ (own_two one more all (strs r (starts t (p + suc k)) t (p + suc k) ys) (two_items r.mode kind k t p h))
+leads_alike _ _ _ _ (one_more kind other n k xs us ys here there a b) r s t p f =
+    let one = lexeme_items r.mode kind (take n (drop p t)) in
+    let more = lexeme_items r.mode other (take k (drop (p + n) t)) in
+    let all = lexeme_items r.mode kind (take (n + k) (drop p t)) in
+    let z : p + n + k ≡ p + (n + k) = omega arith in
+    let first = leads_alike kind n xs us a r s t p f in
+    let second = leads_alike other k us ys b r (starts t (p + n)) t (p + n) (full_left kind n xs us a f) in
+    let moved = subst (λ q. AreAlike (own more ∷ strs r (starts t q) t q ys) (strs r (starts t (p + n)) t (p + n) us)) z second in
+    alike_then _ _ _ (own_two one more all (strs r (starts t (p + (n + k))) t (p + (n + k)) ys) (sym (two_items kind other r.mode t p n k here there)))
     (alike_then _ _ _ (own_more one _ _ moved) first)
 
 -- ---- what stretches give

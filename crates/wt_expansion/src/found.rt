@@ -57,17 +57,7 @@ fn is_empty(piece: &Piece<'_>) -> bool
     ensures none { result ≡ true → items_of piece.now ≡ [] }
     ensures some { result ≡ false → 0 < length (items_of piece.now) }
 {
-    match piece.form {
-        ItemForm::Chars => piece.text.as_str().is_empty(),
-        ItemForm::Entity(_)
-        | ItemForm::Nowiki
-        | ItemForm::Extension
-        | ItemForm::Function
-        | ItemForm::Comment
-        | ItemForm::Include
-        | ItemForm::Hidden
-        | ItemForm::EmptyCall => false,
-    }
+    matches!(piece.form, ItemForm::Chars) && piece.text.as_str().is_empty()
 }
 
 /// Appends a piece of an outermost call.

@@ -1,5 +1,5 @@
 -- The bytes of one lexeme in front of the next call: what they give, and the stretch behind them.
-use Rattle.std.proofs.Common.{◌≡◌, ℕ, zero, suc, ◌+◌, ◌-◌, ◌≤◌, Bool, Option, List, [], ◌∷◌, ◌++◌, take, drop, refl, sym, ap, ◌∙◌, subst, arith, append_assoc}
+use Rattle.std.proofs.Common.{◌≡◌, ℕ, zero, suc, ◌+◌, ◌-◌, ◌≤◌, Bool, Option, None, List, [], ◌∷◌, ◌++◌, take, drop, refl, sym, ap, ◌∙◌, subst, arith, append_assoc, zero-add}
 use Rattle.std.specs.Prelude.{replicate, slice_index}
 use Rattle.std.proofs.lemmas.List.{drop-drop, get_or-drop}
 use Rattle.wt_span.specs.declared.form.Mode.{Mode}
@@ -7,12 +7,12 @@ use Rattle.wt_span.specs.declared.form.Mode.TheVariants as mode
 use Rattle.wt_span.specs.declared.form.LexKind.{LexKind}
 use Rattle.wt_span.specs.declared.form.LexKind.TheVariants as lex
 use Rattle.wt_span.specs.Bytes.{is_break}
-use Rattle.wt_span.specs.Items.{Item}
+use Rattle.wt_span.specs.Items.{Item, char}
 use Rattle.wt_span.specs.Braces.{Member, lexeme, call, members, width_of_all, CallAt, calls_of_all}
 use Rattle.wt_expand.specs.Expansion.{Output, Reading, just, then_output, joined, lexeme_items, chars, outputs_of}
 use Rattle.wt_transclusion.specs.Marks.{Mark, opens, closes, word_marks, marks_of_all}
 use Rattle.wt_transclusion.specs.Cursors.{starts}
-use Rattle.wt_transclusion.specs.Steps.{given_from, IsTaken, Leads, one_lexeme, one_more}
+use Rattle.wt_transclusion.specs.Steps.{given_from, IsCharacters, IsTaken, Leads, one_lexeme, one_more}
 use Rattle.wt_transclusion.specs.Steps as steps
 use Rattle.wt_transclusion.specs.Stretch.{AllFull, calls_before, BeginBehind, IsStretch}
 use Rattle.wt_transclusion.proofs.StretchLaws.{before_more, behind_later}
@@ -50,11 +50,9 @@ pub data IsRun : LexKind → Mark → Type 0 where
   opening : IsRun lex.Opens opens
   closing : IsRun lex.Closes closes
 
-run_chars : (kind : LexKind) (m : Mark) (md : Mode) (bs : List ℕ) → IsRun kind m → lexeme_items md kind bs ≡ chars bs
-run_chars kind m mode.Page bs opening = refl
-run_chars kind m mode.Template bs opening = refl
-run_chars kind m mode.Page bs closing = refl
-run_chars kind m mode.Template bs closing = refl
+run_chars : (kind : LexKind) (m : Mark) → IsRun kind m → IsCharacters kind
+run_chars kind m opening = λ md bs. elim md as (λ (d : Mode). lexeme_items d lex.Opens bs ≡ chars bs) [ mode.Page ↦ refl | mode.Template ↦ refl ]
+run_chars kind m closing = λ md bs. elim md as (λ (d : Mode). lexeme_items d lex.Closes bs ≡ chars bs) [ mode.Page ↦ refl | mode.Template ↦ refl ]
 
 same_stretch : (w : List Mark) (cs : List CallAt) (p e : ℕ) (xs zs : List Member) → AllFull zs → width_of_all (members xs) ≡ width_of_all (members zs)
     → marks_of_all (members xs) ≡ marks_of_all (members zs)
@@ -88,24 +86,33 @@ split_stretch w cs p e n kind m ys run l s =
     (λ parent c. let b : c + 0 ≡ c + 0 + 0 = omega arith in ap (λ k. calls_of_all k parent (c + 0) (members ys)) a
     ∙ ap (λ k. calls_of_all (p + 1 + n) parent k (members ys)) b) s
 
-take_chars : (n : ℕ) (bs : List ℕ) → chars (take (suc n) bs) ≡ chars (take 1 bs) ++ chars (take n (drop 1 bs))
-take_chars n [] = sym (ap chars (none n))
-  where
-    none : (k : ℕ) → take {A = ℕ} k [] ≡ []
-    none zero = refl
-    none (suc k) = refl
-take_chars n (b ∷ bs) = refl
+take_none : (k : ℕ) → take {A = ℕ} k [] ≡ []
+take_none zero = refl
+take_none (suc k) = refl
+
+take_chars : (n k : ℕ) (bs : List ℕ) → chars (take (n + k) bs) ≡ chars (take n bs) ++ chars (take k (drop n bs))
+take_chars zero k bs = ap (λ i. chars (take i bs)) (zero-add k)
+take_chars (suc n) k [] = ap chars (take_none (suc n + k)) ∙ sym (ap chars (take_none k))
+take_chars (suc n) k (b ∷ bs) =
+    let z : suc n + k ≡ suc (n + k) = omega arith in
+    ap (λ i. chars (take i (b ∷ bs))) z ∙ ap (λ xs. char None b ∷ xs) (take_chars n k bs)
 
 then_assoc : (a b : List Item) (o : Output) → then_output (just (a ++ b)) o ≡ then_output (just a) (then_output (just b) o)
 then_assoc a b o = ap (λ xs. let r : Output = record { items = xs; work = o.work } in r) (append_assoc a b o.items)
 
+-- characters that stand one behind the other
+pub two_items : (kind other : LexKind) (md : Mode) (t : List ℕ) (p n k : ℕ) → IsCharacters kind → IsCharacters other
+    → lexeme_items md kind (take (n + k) (drop p t)) ≡ lexeme_items md kind (take n (drop p t)) ++ lexeme_items md other (take k (drop (p + n) t))
+two_items kind other md t p n k here there =
+    here md (take (n + k) (drop p t)) ∙ take_chars n k (drop p t) ∙ ap (λ bs. chars (take n (drop p t)) ++ chars (take k bs)) (drop-drop n p t)
+    ∙ sym (ap (λ xs. xs ++ lexeme_items md other (take k (drop (p + n) t))) (here md (take n (drop p t)))
+    ∙ ap (λ xs. chars (take n (drop p t)) ++ xs) (there md (take k (drop (p + n) t))))
+
 run_items : (kind : LexKind) (m : Mark) (md : Mode) (t : List ℕ) (p n : ℕ) → IsRun kind m
     → lexeme_items md kind (take (suc n) (drop p t)) ≡ lexeme_items md kind (take 1 (drop p t)) ++ lexeme_items md kind (take n (drop (p + 1) t))
 run_items kind m md t p n run =
-    run_chars kind m md (take (suc n) (drop p t)) run ∙ take_chars n (drop p t)
-    ∙ ap (λ bs. chars (take 1 (drop p t)) ++ chars (take n bs)) (drop-drop 1 p t)
-    ∙ sym (ap (λ xs. xs ++ lexeme_items md kind (take n (drop (p + 1) t))) (run_chars kind m md (take 1 (drop p t)) run)
-    ∙ ap (λ xs. chars (take 1 (drop p t)) ++ xs) (run_chars kind m md (take n (drop (p + 1) t)) run))
+    let z : suc n ≡ 1 + n = omega arith in
+    ap (λ i. lexeme_items md kind (take i (drop p t))) z ∙ two_items kind kind md t p 1 n (run_chars kind m run) (run_chars kind m run)
 
 split_gives : (t : List ℕ) (p n : ℕ) (kind : LexKind) (m : Mark) (ys : List Member) (r : Reading) (s : Bool) → IsRun kind m → 1 ≤ n
     → given_from r s t p (lexeme (kind, suc n) ∷ ys) ≡ given_from r s t p (lexeme (kind, 1) ∷ (lexeme (kind, n) ∷ ys))
@@ -133,7 +140,7 @@ one_brace w cs t kind m p (suc (suc n)) e ys run s =
     record {
       left = zs;
       stretch = subst (λ k. IsStretch w cs k e zs) z (stretch_back w cs p e (lexeme (kind, 1) ∷ []) zs split);
-      leads = subst (λ k. Leads kind k (lexeme (kind, suc (suc n)) ∷ ys) zs) d (steps.one_brace kind n ys (λ md bs. run_chars kind m md bs run));
+      leads = subst (λ k. Leads kind k (lexeme (kind, suc (suc n)) ∷ ys) zs) d (steps.one_brace kind n ys (run_chars kind m run));
       gives = λ r st. split_gives t p (suc n) kind m ys r st run (omega arith) ∙ first_gives t p 1 kind zs r st (omega arith)
           ∙ ap (λ k. then_output (just (lexeme_items r.mode kind (take k (drop p t)))) (given_from r (starts t (p + 1)) t (p + 1) zs)) d;
     }
@@ -178,31 +185,27 @@ tail_of : (n : ℕ) (l : List Mark) (m : Mark) (ys : List Mark) → take (suc n)
 tail_of n [] m ys e = absurd (let z : [] ≡ m ∷ ys = e in cc)
 tail_of n (x ∷ l) m ys e = cc
 
-joined_reads : (w : List Mark) (cs : List CallAt) (t : List ℕ) (kind : LexKind) (m : Mark) (p n e : ℕ) (xs : List Member) → IsRun kind m
-    → (f : IsTaken w cs t kind p (p + 1) e xs)
-    → IsTaken w cs t kind (p + 1) (p + 1 + n) e f.left → IsTaken w cs t kind p (p + suc n) e xs
-joined_reads w cs t kind m p n e xs run f g =
-    let z : p + 1 + n ≡ p + suc n = omega arith in
-    let d : suc n ≡ (p + 1 + n) - p = omega arith in
-    let one : 1 ≡ (p + 1) - p = omega arith in
-    let k : n ≡ (p + 1 + n) - (p + 1) = omega arith in
-    subst (λ q. IsTaken w cs t kind p q e xs) z (record {
+-- Characters that are taken one behind the other are taken together.
+pub taken_more : (w : List Mark) (cs : List CallAt) (t : List ℕ) (kind other : LexKind) (p q z e : ℕ) (xs : List Member)
+    → IsCharacters kind → IsCharacters other → p ≤ q → q ≤ z
+    → (f : IsTaken w cs t kind p q e xs) → IsTaken w cs t other q z e f.left → IsTaken w cs t kind p z e xs
+taken_more w cs t kind other p q z e xs here there low high f g =
+    let n = q - p in
+    let k = z - q in
+    let d : n + k ≡ z - p = omega (arith, low, high) in
+    let at : p + n ≡ q = omega (arith, low) in
+    record {
       left = g.left;
       stretch = g.stretch;
-      leads = subst (λ j. Leads kind j xs g.left) d
-          (one_more kind n xs f.left g.left (λ md bs. run_chars kind m md bs run) (subst (λ j. Leads kind j xs f.left) (sym one) f.leads)
-          (subst (λ j. Leads kind j f.left g.left) (sym k) g.leads));
+      leads = subst (λ j. Leads kind j xs g.left) d (one_more kind other n k xs f.left g.left here there f.leads g.leads);
       gives = λ r s.
-          let o = given_from r (starts t (p + 1 + n)) t (p + 1 + n) g.left in
-          f.gives r s ∙ ap (then_output (just (lexeme_items r.mode kind (take ((p + 1) - p) (drop p t))))) (g.gives r (starts t (p + 1)))
-          ∙ ap (λ j. then_output (just (lexeme_items r.mode kind (take j (drop p t))))
-          (then_output (just (lexeme_items r.mode kind (take ((p + 1 + n) - (p + 1)) (drop (p + 1) t)))) o)) (sym one)
-          ∙ ap (λ j. then_output (just (lexeme_items r.mode kind (take 1 (drop p t))))
-          (then_output (just (lexeme_items r.mode kind (take j (drop (p + 1) t)))) o)) (sym k)
-          ∙ sym (then_assoc (lexeme_items r.mode kind (take 1 (drop p t))) (lexeme_items r.mode kind (take n (drop (p + 1) t))) o)
-          ∙ ap (λ ys. then_output (just ys) o) (sym (run_items kind m r.mode t p n run))
+          let o = given_from r (starts t z) t z g.left in
+          f.gives r s ∙ ap (then_output (just (lexeme_items r.mode kind (take n (drop p t))))) (g.gives r (starts t q))
+          ∙ sym (then_assoc (lexeme_items r.mode kind (take n (drop p t))) (lexeme_items r.mode other (take k (drop q t))) o)
+          ∙ ap (λ i. then_output (just (lexeme_items r.mode kind (take n (drop p t)) ++ lexeme_items r.mode other (take k (drop i t)))) o) (sym at)
+          ∙ ap (λ ys. then_output (just ys) o) (sym (two_items kind other r.mode t p n k here there))
           ∙ ap (λ j. then_output (just (lexeme_items r.mode kind (take j (drop p t)))) o) d;
-    })
+    }
 
 -- braces of one run
 pub read_run : (n : ℕ) (w : List Mark) (cs : List CallAt) (t : List ℕ) (kind : LexKind) (m : Mark) (p g e : ℕ) (xs : List Member) → IsRun kind m
@@ -231,5 +234,8 @@ read_run (suc n) w cs t kind m p g e (lexeme (c, k) ∷ ys) run s low high same 
     ∙ tail_of (suc n) (drop p w) m (replicate (suc n) m) same in
     let rest = read_run n w cs t kind m (p + 1) g e f.left run f.stretch (omega (arith, low)) high tail
     (subst (λ j. BeginBehind g (drop j cs)) (sym next) behind) in
+    let z : p + 1 + suc n ≡ p + suc (suc n) = omega arith in
+    let all = taken_more w cs t kind kind p (p + 1) (p + 1 + suc n) e (lexeme (kind, k) ∷ ys) (run_chars kind m run) (run_chars kind m run)
+    (omega arith) (omega arith) f rest in
     subst (λ d. IsTaken w cs t kind p (p + suc (suc n)) e (lexeme (d, k) ∷ ys)) (sym is)
-    (joined_reads w cs t kind m p (suc n) e (lexeme (kind, k) ∷ ys) run f rest)
+    (subst (λ q. IsTaken w cs t kind p q e (lexeme (kind, k) ∷ ys)) z all)

@@ -1,11 +1,13 @@
 -- Places of a text and the lexemes and calls there.
-use Rattle.std.proofs.Common.{◌≡◌, ℕ, suc, ◌+◌, ◌-◌, ◌<◌, ◌≤◌, Bool, true, false, cond, Some, None, List, [], ◌∷◌, ◌++◌, length, get_or, drop, map, refl, sym, ap, ◌∙◌, subst, arith, length-append}
+use Rattle.std.proofs.Common.{◌≡◌, ℕ, zero, suc, ◌+◌, ◌-◌, ◌<◌, ◌≤◌, Bool, true, false, cond, Some, None, List, [], ◌∷◌, ◌++◌, length, get_or, drop, map, refl, sym, ap, ◌∙◌, subst, arith, length-append}
 use Rattle.std.specs.Prelude.{nat_lt, nat_le, slice_get, min}
 use Rattle.std.specs.List.{prefix_len}
 use Rattle.std.proofs.lemmas.Bool.Decides.{nat_tests}
 use Rattle.std.proofs.lemmas.List.{length-drop, length-take, drop-drop, drop_at, drop_all, drop_more, drop-append-le}
+use Rattle.std.proofs.lemmas.Option.{slice_get_within, get_or_from_slice_get}
 use Rattle.std.proofs.lemmas.List.Sums.{prefix_len-le-length}
 use Rattle.wt_span.specs.declared.form.Mode.{Mode}
+use Rattle.wt_span.specs.declared.form.LexKind.{LexKind}
 use Rattle.wt_span.specs.Lexemes.{Word, words}
 use Rattle.wt_span.specs.Braces.{Member, members, width_of_all, CallAt, calls}
 use Rattle.wt_lex.specs.declared.lexeme.Lexeme.{Lexeme}
@@ -17,12 +19,13 @@ use Rattle.wt_transclusion.specs.declared.read.ReadText.{ReadText}
 use Rattle.wt_transclusion.specs.Reads.{braces_of, IsRead}
 use Rattle.wt_braces.specs.Words.{total_width}
 use Rattle.wt_transclusion.specs.declared.cursor.Next.TheVariants as next
-use Rattle.wt_transclusion.specs.Steps.{IsTaken, IsStretchOf, AnswersNext}
+use Rattle.wt_transclusion.specs.Steps.{MayFollow, no_more, and_one, IsTaken, IsStretchOf, AnswersNext}
 use Rattle.wt_transclusion.specs.Marks.{Mark, word_marks, words_marks}
 use Rattle.wt_transclusion.specs.Stretch.{calls_before, BeginBehind, IsStretch, IsLimit}
 use Rattle.wt_transclusion.proofs.Full.{AllSome, some_lexemes, wide_lexemes}
-use Rattle.wt_transclusion.proofs.StretchLaws.{behind_all}
+use Rattle.wt_transclusion.proofs.StretchLaws.{before_more, behind_later, behind_all}
 use Rattle.wt_transclusion.proofs.StretchCuts.{word_len, marks_len}
+use Rattle.wt_transclusion.proofs.Chunks.{taken_more}
 use Rattle.wt_transclusion.proofs.ChunkLaws.{IsLexemeThere, call_there, chunk_there}
 
 -- ---- going on
@@ -139,6 +142,54 @@ has_lexeme (x ∷ xs) s to p f a b = by_test (nat_le x.at.end p) refl (λ l. has
               ∙ drop-append-le (p - x.at.start) (word_marks x.kind len) (words_marks (map word_of xs)) (omega (arith, wide, l));
         }
 
+-- ---- the lexeme behind one
+
+-- a lexeme ends behind where those before it end
+ends_behind : (xs : List Lexeme) (s to : ℕ) → Follow s xs to → AllSome (map word_of xs) → (p : ℕ) → p ≤ s → prefix_len (λ y. nat_le y.at.end p) xs ≡ 0
+ends_behind [] s to f a p l = refl
+ends_behind (x ∷ xs) s to f a p l =
+    let one = a.0 in
+    let start = f.0 in
+    let high : nat_le x.at.end p ≡ false = let y : p < x.at.end = omega (arith, one, start, l) in grind (arith, nat_tests) in
+    ap (λ t. cond t (1 + prefix_len (λ y. nat_le y.at.end p) xs) 0) high
+
+-- one of these, with those behind it
+pub record IsNumbered (xs : List Lexeme) (s i : ℕ) (x : Lexeme) (rest : List Lexeme) : Type 0 where
+  pub there : slice_get xs i ≡ Some x
+  pub rest_is : rest ≡ drop (i + 1) xs
+  pub behind : s ≤ x.at.end
+  pub count : i + 1 ≡ prefix_len (λ y. nat_le y.at.end x.at.end) xs
+
+pub numbered : (xs : List Lexeme) (s to i : ℕ) (x : Lexeme) (rest : List Lexeme) → Follow s xs to → AllSome (map word_of xs)
+    → x ∷ rest ≡ drop i xs → IsNumbered xs s i x rest
+numbered [] s to zero x rest f a e = absurd (let z : x ∷ rest ≡ [] = e in cc)
+numbered [] s to (suc i) x rest f a e = absurd (let z : x ∷ rest ≡ [] = e in cc)
+numbered (y ∷ ys) s to zero x rest f a e =
+    let same : y ≡ x = let z : x ∷ rest ≡ y ∷ ys = e in cc in
+    let others : rest ≡ ys = let z : x ∷ rest ≡ y ∷ ys = e in cc in
+    let start = f.0 in
+    let ordered = y.at.ordered in
+    let ends : s ≤ y.at.end = omega (arith, start, ordered) in
+    let here : nat_le y.at.end y.at.end ≡ true = grind (arith, nat_tests) in
+    let none = ends_behind ys y.at.end to f.1 a.1 y.at.end (omega arith) in
+    let count : 0 + 1 ≡ prefix_len (λ z. nat_le z.at.end y.at.end) (y ∷ ys) =
+    sym (ap (λ t. cond t (1 + prefix_len (λ z. nat_le z.at.end y.at.end) ys) 0) here ∙ ap (λ n. 1 + n) none) in
+    subst (λ v. IsNumbered (y ∷ ys) s 0 v rest) same (record { there = refl; rest_is = others; behind = ends; count = count })
+numbered (y ∷ ys) s to (suc i) x rest f a e =
+    let h = numbered ys y.at.end to i x rest f.1 a.1 e in
+    let start = f.0 in
+    let ordered = y.at.ordered in
+    let behind = h.behind in
+    let here : nat_le y.at.end x.at.end ≡ true = let l : y.at.end ≤ x.at.end = behind in grind (arith, nat_tests) in
+    let counted = h.count in
+    let z : suc i + 1 ≡ suc (i + 1) = omega arith in
+    record {
+      there = h.there;
+      rest_is = h.rest_is ∙ sym (ap (λ k. drop k (y ∷ ys)) z);
+      behind = omega (arith, start, ordered, behind);
+      count = omega (arith, counted) ∙ sym (ap (λ t. cond t (1 + prefix_len (λ v. nat_le v.at.end x.at.end) ys) 0) here);
+    }
+
 -- ---- the next call
 
 pub limit_none : (cs : List CallAt) (e : ℕ) → cs ≡ [] → IsLimit cs e e
@@ -193,39 +244,92 @@ lexeme_at m t r p n h k low =
     (subst (λ ws. HasLexeme r.lexemes.now (words_marks ws) 0 p (prefix_len (λ x. nat_le x.at.end p) r.lexemes.now)) h.words_are
     (has_lexeme r.lexemes.now 0 (length t) p h.follow (omega arith) low))
 
-pub next_chunk : (m : Mode) (t : List ℕ) (r : ReadText) (p e g n i : ℕ) (x : Lexeme) (xs : List Member) → IsRead m t r
-    → i ≡ prefix_len (λ x. nat_le x.at.end p) r.lexemes.now
-    → n ≡ prefix_len (λ x. nat_lt x.at.start p) r.calls.now → IsStretchOf m t p e xs → p < e → IsLimit (drop n (map braces_of r.calls.now)) e g → (g ≡ p → ⊥)
-    → slice_get r.lexemes.now i ≡ Some x → AnswersNext m t p e xs (next.Chunk x.kind (min x.at.end g))
-next_chunk m t r p e g n i x xs h j k s low l other there =
-    let w = words_marks (words m t) in
+-- the calls of a text from a place on, with the next of them
+limit_of : (m : Mode) (t : List ℕ) (r : ReadText) (p e g n : ℕ) → IsRead m t r → n ≡ prefix_len (λ x. nat_lt x.at.start p) r.calls.now
+    → IsLimit (drop n (map braces_of r.calls.now)) e g → IsLimit (drop (calls_before p (calls 0 (words m t))) (calls 0 (words m t))) e g
+limit_of m t r p e g n h k l =
     let cs = calls 0 (words m t) in
     let is : n ≡ calls_before p cs = k ∙ count_calls p r.calls.now ∙ ap (calls_before p) h.calls_are in
-    let same : drop n (map braces_of r.calls.now) ≡ drop (calls_before p cs) cs = ap (drop n) h.calls_are ∙ ap (λ q. drop q cs) is in
-    let limit = subst (λ ds. IsLimit ds e g) same l in
-    let inside = stretch_within w cs p e xs s low in
+    subst (λ ds. IsLimit ds e g) (ap (drop n) h.calls_are ∙ ap (λ q. drop q cs) is) l
+
+-- up to a limit it is the limit of each place
+limit_on : (cs : List CallAt) (p q e g : ℕ) → IsLimit (drop (calls_before p cs) cs) e g → p ≤ q → q ≤ g → IsLimit (drop (calls_before q cs) cs) e g
+limit_on cs p q e g l low high =
+    let same : calls_before q cs ≡ calls_before p cs =
+    before_more p q cs [] (drop (calls_before p cs) cs) low refl tt (behind_later q g (drop (calls_before p cs) cs) high l.behind) ∙ omega arith in
+    subst (λ k. IsLimit (drop k cs) e g) (sym same) l
+
+limit_above : (p e g : ℕ) (xs : List Member) (w : List Mark) (cs : List CallAt) → IsStretch w cs p e xs → p < e
+    → IsLimit (drop (calls_before p cs) cs) e g → (g ≡ p → ⊥) → p < g
+limit_above p e g xs w cs s low l other =
+    let h = s.calls in
+    let m = l.most p (omega (arith, low)) (subst (BeginBehind p) (sym h.is)
+    (behind_all p h.parent (calls_before p cs) xs h.after (subst (λ j. BeginBehind j h.after) (sym s.width) h.behind))) in
+    omega (arith, m, other)
+
+-- bytes of the lexeme at a place
+one_chunk : (m : Mode) (t : List ℕ) (r : ReadText) (p e g i : ℕ) (x : Lexeme) (xs : List Member) → IsRead m t r
+    → i ≡ prefix_len (λ x. nat_le x.at.end p) r.lexemes.now
+    → IsStretchOf m t p e xs → IsLimit (drop (calls_before p (calls 0 (words m t))) (calls 0 (words m t))) e g → p < g
+    → slice_get r.lexemes.now i ≡ Some x
+    → (p < x.at.end) × IsTaken (words_marks (words m t)) (calls 0 (words m t)) t x.kind p (min x.at.end g) e xs
+one_chunk m t r p e g i x xs h j s limit low_limit there =
+    let w = words_marks (words m t) in
+    let cs = calls 0 (words m t) in
+    let within = limit.within in
+    let inside = stretch_within w cs p e xs s (omega (arith, low_limit, within)) in
     let len = text_len m t in
-    let f = lexeme_at m t r p i h j (omega (arith, low, inside, len)) in
+    let f = lexeme_at m t r p i h j (omega (arith, low_limit, within, inside, len)) in
     let y : f.lexeme ≡ x = let z : Some f.lexeme ≡ Some x = sym f.there ∙ there in cc in
     let begun : x.at.start ≤ p = subst (λ v. v.at.start ≤ p) y f.begun in
     let ends : p < x.at.end = subst (λ v. p < v.at.end) y f.ends in
     let marks : drop p w ≡ drop (p - x.at.start) (word_marks x.kind (x.at.end - x.at.start)) ++ f.after =
     ap (λ q. drop q w) (omega arith) ∙ f.marks ∙ ap (λ v. drop (p - v.at.start) (word_marks v.kind (v.at.end - v.at.start)) ++ f.after) y in
-    let within = limit.within in
-    let low_limit : p < g = above p e g xs w cs s low limit other in
     let z : x.at.start + (x.at.end - x.at.start) ≡ x.at.end = omega (arith, begun, ends) in
     let there : IsLexemeThere w p x.at.start
     (x.at.end - x.at.start) x.kind = record { begun = begun; ends = omega (arith, z, ends); after = f.after; is = marks } in
     let taken = chunk_there w cs t p e g x.at.start (x.at.end - x.at.start) x.kind xs s limit low_limit there in
-    (omega (arith, ends, low_limit), omega (arith, within), subst (λ q. IsTaken w cs t x.kind p (min q g) e xs) z taken)
+    (ends, subst (λ q. IsTaken w cs t x.kind p (min q g) e xs) z taken)
+
+-- Characters that follow the lexemes which are taken are taken with them.
+more_chunks : (m : Mode) (t : List ℕ) (r : ReadText) (p e g : ℕ) (xs : List Member) (kind : LexKind) (i to end : ℕ) (others : List Lexeme) → IsRead m t r
+    → IsLimit (drop (calls_before p (calls 0 (words m t))) (calls 0 (words m t))) e g → p < g
+    → i ≡ prefix_len (λ x. nat_le x.at.end to) r.lexemes.now → others ≡ drop i r.lexemes.now
+    → p < to → IsTaken (words_marks (words m t)) (calls 0 (words m t)) t kind p (min to g) e xs → MayFollow kind g to others end
+    → (p < end) × IsTaken (words_marks (words m t)) (calls 0 (words m t)) t kind p (min end g) e xs
+more_chunks m t r p e g xs kind i to end others h limit low j o first taken (no_more _ _) = (first, taken)
+more_chunks m t r p e g xs kind i to end others h limit low j o first taken (and_one _ _ x rest here there on follow) =
+    let w = words_marks (words m t) in
+    let cs = calls 0 (words m t) in
+    let z : min to g ≡ to = omega (arith, on) in
+    let f = subst (λ q. IsTaken w cs t kind p q e xs) z taken in
+    let n = numbered r.lexemes.now 0 (length t) i x rest h.follow (some_words m t r.lexemes.now h.words_are) o in
+    let later = limit_on cs p to e g limit (omega (arith, first)) (omega (arith, on)) in
+    let c = one_chunk m t r to e g i x f.left h j f.stretch later on n.there in
+    let ends = c.0 in
+    let all = taken_more w cs t kind x.kind p to (min x.at.end g) e xs here there (omega (arith, first)) (omega (arith, ends, on)) f c.1 in
+    more_chunks m t r p e g xs kind (i + 1) x.at.end end rest h limit low n.count n.rest_is (omega (arith, first, ends)) all follow
+
+pub next_chunk : (m : Mode) (t : List ℕ) (r : ReadText) (p e g n i end : ℕ) (x : Lexeme) (xs : List Member) → IsRead m t r
+    → i ≡ prefix_len (λ x. nat_le x.at.end p) r.lexemes.now
+    → n ≡ prefix_len (λ x. nat_lt x.at.start p) r.calls.now → IsStretchOf m t p e xs → p < e → IsLimit (drop n (map braces_of r.calls.now)) e g → (g ≡ p → ⊥)
+    → slice_get r.lexemes.now i ≡ Some x → MayFollow x.kind g x.at.end (drop (i + 1) r.lexemes.now) end → AnswersNext m t p e xs (next.Chunk x.kind (min end g))
+next_chunk m t r p e g n i end x xs h j k s low l other there follow =
+    let w = words_marks (words m t) in
+    let cs = calls 0 (words m t) in
+    let limit = limit_of m t r p e g n h k l in
+    let low_limit : p < g = limit_above p e g xs w cs s low limit other in
+    let one = one_chunk m t r p e g i x xs h j s limit low_limit there in
+    let row = row_at r.lexemes.now i x there in
+    let number = numbered r.lexemes.now 0 (length t) i x (drop (i + 1) r.lexemes.now) h.follow (some_words m t r.lexemes.now h.words_are) row in
+    let all = more_chunks m t r p e g xs x.kind (i + 1) x.at.end end (drop (i + 1) r.lexemes.now) h limit low_limit number.count refl one.0 one.1 follow in
+    let ends = all.0 in
+    let within = limit.within in
+    (omega (arith, ends, low_limit), omega (arith, within), all.1)
   where
-    above : (p e g : ℕ) (xs : List Member) (w : List Mark) (cs : List CallAt) → IsStretch w cs p e xs → p < e → IsLimit (drop (calls_before p cs) cs) e g
-        → (g ≡ p → ⊥) → p < g
-    above p e g xs w cs s low l other =
-        let h = s.calls in
-        let m = l.most p (omega (arith, low)) (subst (BeginBehind p) (sym h.is)
-        (behind_all p h.parent (calls_before p cs) xs h.after (subst (λ j. BeginBehind j h.after) (sym s.width) h.behind))) in
-        omega (arith, m, other)
+    row_at : (ys : List Lexeme) (a : ℕ) (v : Lexeme) → slice_get ys a ≡ Some v → v ∷ drop (a + 1) ys ≡ drop a ys
+    row_at ys a v is =
+        sym (drop_more ys a v (slice_get_within ys a v is) ∙ ap (λ z. z ∷ drop (a + 1) ys) (get_or_from_slice_get ys a v v is))
 
 pub next_lost : (m : Mode) (t : List ℕ) (r : ReadText) (p e i : ℕ) (xs : List Member) → IsRead m t r → i ≡ prefix_len (λ x. nat_le x.at.end p) r.lexemes.now
     → IsStretchOf m t p e xs → p < e

@@ -1,12 +1,13 @@
 //! Where a text is read.
 ghost use Rattle.std.specs.Prelude.{◌≡◌, ◌<◌, ◌≤◌, ℕ, List, true, drop, length, map, nat_lt, nat_le};
+ghost use Rattle.std.specs.Bool.{OnTrue};
 ghost use Rattle.std.specs.List.{prefix_len};
 ghost use Rattle.wt_span.specs.declared.form.Mode.{Mode as TextMode};
 ghost use Rattle.wt_transclusion.specs.Reads.{braces_of, IsRead};
 ghost use Rattle.wt_transclusion.specs.declared.read.ReadText.{ReadText as TextRead};
 ghost use Rattle.wt_span.specs.Braces.{Member as TextMember};
 ghost use Rattle.wt_transclusion.specs.Stretch.{IsLimit};
-ghost use Rattle.wt_transclusion.specs.Steps.{IsStretchOf, AnswersNext};
+ghost use Rattle.wt_transclusion.specs.Steps.{IsCharacters, MayFollow, IsStretchOf, AnswersNext};
 ghost use Rattle.wt_transclusion.specs.Cursors.{IsAt, IsOn, starts};
 
 use crate::read::{Braces, ReadText};
@@ -27,7 +28,7 @@ pub struct Cursor {
 /// What is at a place.
 #[derive(Clone, Copy, Debug)]
 pub enum Next {
-    /// Bytes of one lexeme, up to a place.
+    /// Bytes of one lexeme, or of several that are characters, up to a place; the kind is the first's.
     Chunk { kind: LexKind, to: u32 },
     /// The call of this number.
     Call(usize),
@@ -79,6 +80,46 @@ fn limit_at(calls: &[Braces<'_>], call: usize, end: u32) -> u32
     }
 }
 
+/// Whether each byte of a lexeme of this kind is a character by itself.
+fn is_characters(kind: LexKind) -> bool
+    ensures { OnTrue result (IsCharacters kind) }
+{
+    match kind {
+        LexKind::Chars
+        | LexKind::Opens
+        | LexKind::Closes
+        | LexKind::LinkOpen
+        | LexKind::LinkClose
+        | LexKind::Pipe
+        | LexKind::Equals => true,
+        LexKind::CommentLine
+        | LexKind::Comment
+        | LexKind::Raw
+        | LexKind::Include
+        | LexKind::Hidden
+        | LexKind::Entity(_) => false,
+    }
+}
+
+/// Up to where the bytes of a lexeme, which ends in front of the others, may be taken as one chunk: its
+/// end; or, where it is characters, the end of the last of those behind it that are characters too
+/// and begin in front of the limit.
+fn chunk_end(first: Lexeme, others: &[Lexeme], limit: u32) -> u32
+    ensures { MayFollow first.kind limit first.at.end others.now result }
+{
+    let mut to = first.at.end;
+    if !is_characters(first.kind) {
+        return to;
+    }
+    for lexeme in others {
+        if limit <= to || !is_characters(lexeme.kind) {
+            return to;
+        }
+        to = lexeme.at.end;
+    }
+    to
+}
+
 impl Cursor {
     /// The start of a text.
     pub fn start() -> Cursor
@@ -113,8 +154,8 @@ impl Cursor {
         }
     }
 
-    /// What is here, in front of the place `end`: the next call, or bytes of the lexeme up to its
-    /// end, the next call or `end`.
+    /// What is here, in front of the place `end`: the next call; or the bytes of the lexeme, up to its
+    /// end, the next call or `end`, and those of the lexemes behind it where all are characters.
     pub fn next(self, text: ReadText<'_>, end: u32) -> Next
         requires { self.at < end }
         ensures { (mode : TextMode) (bytes : List ℕ) (xs : List TextMember) → IsRead mode bytes text.entry
@@ -127,9 +168,10 @@ impl Cursor {
         }
         if self.lexeme < text.lexemes.len() {
             let lexeme = text.lexemes[self.lexeme];
+            let to = chunk_end(lexeme, rest_of(text.lexemes, self.lexeme + 1), limit);
             return Next::Chunk {
                 kind: lexeme.kind,
-                to: lexeme.at.end.min(limit),
+                to: to.min(limit),
             };
         }
         Next::Call(self.call)

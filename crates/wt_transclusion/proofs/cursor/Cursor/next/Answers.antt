@@ -1,9 +1,9 @@
-use Rattle.std.proofs.Common.{ℕ, get_or, sym, subst, drop, map, length, min, refl}
+use Rattle.std.proofs.Common.{ℕ, List, get_or, sym, subst, drop, map, length, min, refl}
 use Rattle.std.proofs.lemmas.Option.{slice_get_read, slice_get_past}
 use Rattle.wt_lex.specs.declared.lexeme.Lexeme.{Lexeme}
 use Rattle.wt_transclusion.specs.Reads.{braces_of}
 use Rattle.wt_transclusion.specs.declared.cursor.Next.TheVariants as next
-use Rattle.wt_transclusion.specs.Steps.{AnswersNext}
+use Rattle.wt_transclusion.specs.Steps.{MayFollow, AnswersNext}
 use Rattle.wt_transclusion.specs.Stretch.{IsLimit}
 use Rattle.wt_transclusion.proofs.CursorLaws.{next_call, next_chunk, next_lost}
 use Rattle.wt_transclusion.proofs.cursor.Cursor.next.Goals as goal
@@ -18,10 +18,13 @@ returns-then-self-text c = λ mode bytes xs h at s.
     let x = c.index-text-self.result in
     let y = get_or c.args.text.lexemes.now c.args.self.lexeme x in
     let g = c.limit_at-limit.result in
+    let end = c.chunk_end-to.result in
     let there = slice_get_read c.args.text.lexemes.now (length c.args.text.lexemes.now) c.args.self.lexeme x refl c.if-self-text.true c.index-text-self.is in
-    let chunk = next_chunk mode bytes c.args.text c.args.self.at c.args.end g c.args.self.call c.args.self.lexeme x xs h at.lexeme_is at.call_is s c.requires
-    c.limit_at-limit.ensures c.if-limit-self.false there in
-    let same = subst (λ (z : Lexeme). AnswersNext mode bytes c.args.self.at c.args.end xs (next.Chunk z.kind (min z.at.end g))) c.index-text-self.is chunk in
+    let follow = subst (λ (ys : List Lexeme). MayFollow x.kind g x.at.end ys end) c.rest_of.ensures
+    (subst (λ (z : Lexeme). MayFollow z.kind g z.at.end c.rest_of.result.now end) (sym c.index-text-self.is) c.chunk_end-to.ensures) in
+    let chunk = next_chunk mode bytes c.args.text c.args.self.at c.args.end g c.args.self.call c.args.self.lexeme end x xs h at.lexeme_is at.call_is s
+    c.requires c.limit_at-limit.ensures c.if-limit-self.false there follow in
+    let same = subst (λ (z : Lexeme). AnswersNext mode bytes c.args.self.at c.args.end xs (next.Chunk z.kind (min end g))) c.index-text-self.is chunk in
     subst (λ (q : ℕ). AnswersNext mode bytes c.args.self.at c.args.end xs (next.Chunk y.kind q)) (sym c.min.ensures) same
 
 pub returns : goal.returns
