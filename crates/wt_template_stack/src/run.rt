@@ -142,10 +142,7 @@ impl<'a> TextRun<'a> {
                 self.read_chunk(kind, to)?;
                 Ok(())
             }
-            Next::Call(number) => {
-                let call = self.reader.call(number)?;
-                self.begin(call, spent)
-            }
+            Next::Call(call) => self.begin(call, spent),
         }
     }
 

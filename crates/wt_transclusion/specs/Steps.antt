@@ -55,7 +55,7 @@ pub record IsCallThere (xs : List Member) : Type 0 where
 abbrev pub IsStretchOf : Mode → List ℕ → ℕ → ℕ → List Member → Type 0
 IsStretchOf m t p e xs = IsStretch (words_marks (words m t)) (calls 0 (words m t)) p e xs
 
--- what is at the first place of a stretch: its call, by its number, or bytes of a lexeme up to a place
+-- what is at the first place of a stretch: its call, or bytes of a lexeme up to a place
 abbrev pub AnswersNext : Mode → List ℕ → ℕ → ℕ → List Member → Next → Type 0
-AnswersNext m t p e xs (next.Call n) = IsCallThere xs × (n ≡ calls_before p (calls 0 (words m t)))
+AnswersNext m t p e xs (next.Call b) = IsCallThere xs × (slice_get (calls 0 (words m t)) (calls_before p (calls 0 (words m t))) ≡ Some (braces_of b))
 AnswersNext m t p e xs (next.Chunk kind to) = (p < to) × (to ≤ e) × IsTaken (words_marks (words m t)) (calls 0 (words m t)) t kind p to e xs
