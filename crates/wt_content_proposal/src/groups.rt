@@ -1,5 +1,6 @@
 //! Groups that may be at the start or end of a line though they were at none in the page, and beside anything.
 
+use crate::joints::source_of;
 use wt_guards::{Role, Stretch, Transclusion, Unit, line_start_hazard};
 use wt_tree::{InlineForm, Kind, Node};
 
@@ -35,11 +36,23 @@ fn are_of_line(nodes: &[Node<'_>]) -> bool {
     true
 }
 
-/// Whether what a group shows begins and ends no block wherever it is in a line.
-fn is_of_line(nodes: &[Node<'_>]) -> bool {
+/// Whether something of the line is before what comes next.
+fn is_within_line(left: Option<&Unit<'_>>) -> bool {
+    match left {
+        Some(unit) => source_of(unit).last().is_some_and(|last| *last != b'\n'),
+        None => false,
+    }
+}
+
+/// Whether what a group shows begins and ends no block wherever it is in a line, or, where it begins with a blank,
+/// where it is now, within one.
+fn is_of_line(nodes: &[Node<'_>], left: Option<&Unit<'_>>) -> bool {
     let begins = match nodes.first() {
         None => false,
-        Some(node) => !matches!(node.kind, Kind::Text) || may_begin(node.shown()),
+        Some(node) if !matches!(node.kind, Kind::Text) => true,
+        Some(node) => {
+            may_begin(node.shown()) || (node.shown().starts_with(" ") && is_within_line(left))
+        }
     };
     begins && are_of_line(nodes)
 }
@@ -153,7 +166,7 @@ pub fn role_in_line(role: Role, node: &Node<'_>, left: Option<&Unit<'_>>, place:
         Role::Group(group) if group.slashes && begins_in_word(nodes) && ends_in_word(left) => {
             Role::Node
         }
-        Role::Group(group) if is_of_line(nodes) => role_of_line(group, nodes, left, place),
+        Role::Group(group) if is_of_line(nodes, left) => role_of_line(group, nodes, left, place),
         other => other,
     }
 }

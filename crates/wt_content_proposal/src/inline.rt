@@ -362,6 +362,38 @@ fn has_own_text(alloc: Global, old: &Node<'_>) -> Result<bool, NoMemory> {
     Ok(has_target(opening.as_str()))
 }
 
+/// The letters after the brackets of a link to a page, which are part of its text.
+fn letters_behind(alloc: Global, old: &Node<'_>) -> Result<Str, NoMemory> {
+    match old.children.as_slice().last() {
+        Some(last) if old.closing().is_empty() && matches!(last.kind, Kind::Text) => {
+            flat(alloc, last)
+        }
+        _ => Ok(Str::new(alloc)),
+    }
+}
+
+/// Appends the new text of a link to a page and its brackets, which stay before the letters that were behind them
+/// where the text still ends with these.
+fn push_with_letters(
+    alloc: Global,
+    out: &mut Str,
+    old: &Node<'_>,
+    inside: &str,
+) -> Result<(), NoMemory> {
+    let letters = letters_behind(alloc, old)?;
+    match inside.strip_suffix(letters.as_str()) {
+        Some(text) if !text.is_empty() => {
+            out.push_str(text)?;
+            push_link_end(out, old)?;
+            out.push_str(letters.as_str())
+        }
+        _ => {
+            out.push_str(inside)?;
+            push_link_end(out, old)
+        }
+    }
+}
+
 /// Appends the text of an external link, apart from its URL where it begins with a blank.
 fn push_with_blank(out: &mut Str, inside: &str) -> Result<(), NoMemory> {
     if inside.starts_with(" ") {
@@ -397,13 +429,15 @@ fn link_round(
     };
     if matches!(old.kind, Kind::ExtLink) {
         push_with_blank(&mut out, inside)?;
-    } else {
-        out.push_str(inside)?;
-    }
-    push_link_end(&mut out, old)?;
-    if has_own_text(alloc, old)? {
+        push_texts(&mut out, old.closing())?;
         return Ok(Some(out));
     }
+    if has_own_text(alloc, old)? {
+        push_with_letters(alloc, &mut out, old, inside)?;
+        return Ok(Some(out));
+    }
+    out.push_str(inside)?;
+    push_link_end(&mut out, old)?;
     let out = shortened(alloc, out)?;
     Ok(Some(out))
 }

@@ -7,38 +7,44 @@ use wt_span::{NoMemory, Str};
 
 fn is_of_url(byte: u8) -> bool {
     match byte {
-        b'[' | b']' | b'<' | b'>' | b'"' | b'{' | b'}' | b'|' | b'&' | 127 => false,
+        b'[' | b']' | b'<' | b'>' | b'"' | b'|' | 127 => false,
         _ => byte > b' ',
     }
 }
 
-/// Whether the last byte of a URL would stay in it.
-fn is_last_of_url(byte: u8) -> bool {
-    !matches!(byte, b',' | b';' | b'.' | b':' | b'!' | b'?' | b')')
-}
-
-fn holds_apostrophes(url: &[u8]) -> bool {
-    let mut before = b' ';
-    for byte in url {
-        if *byte == b'\'' && before == b'\'' {
-            return true;
-        }
-        before = *byte;
+/// Whether these two side by side are the sign of something else.
+fn is_sign(before: u8, byte: u8) -> bool {
+    match byte {
+        b'\'' | b'{' | b'}' => before == byte,
+        b'#' => before == b'&',
+        _ => false,
     }
-    false
 }
 
-/// Whether a URL that is in a text is read as a link to all of it.
+/// Whether the last byte of a URL would stay in it.
+fn is_last_of_url(byte: u8, has_bracket: bool) -> bool {
+    match byte {
+        b',' | b';' | b'.' | b':' | b'!' | b'?' | b'{' | b' ' => false,
+        b')' => has_bracket,
+        _ => true,
+    }
+}
+
+/// Whether a URL that is in a text is read as a link to all of it. (A bar would be, but not in a cell.)
 pub fn is_bare_url(url: &[u8]) -> bool {
+    let mut before = b' ';
+    let mut has_bracket = false;
+    let mut is_in_entity = false;
     for byte in url {
-        if !is_of_url(*byte) {
+        let ends_entity = is_in_entity && *byte == b';';
+        if !is_of_url(*byte) || is_sign(before, *byte) || ends_entity {
             return false;
         }
+        is_in_entity = *byte == b'&' || (is_in_entity && byte.is_ascii_alphanumeric());
+        has_bracket = has_bracket || *byte == b'(';
+        before = *byte;
     }
-    match url.last() {
-        Some(byte) => is_last_of_url(*byte) && !holds_apostrophes(url),
-        None => false,
-    }
+    is_last_of_url(before, has_bracket)
 }
 
 // ---- the text of a link

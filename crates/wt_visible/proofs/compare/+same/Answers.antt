@@ -3,6 +3,7 @@ use Rattle.wt_tree.specs.declared.node.Node.{out-Node}
 use Rattle.wt_tree.specs.Plain.{ended, face, plains_before}
 use Rattle.wt_tree.specs.View.{label_of}
 use Rattle.wt_visible.specs.Views.{children_view, held_view}
+use Rattle.wt_visible.proofs.Sizes.{sizes, total, child_fewer, held_fewer}
 use Rattle.wt_visible.proofs.RestoredShown.{children_else, children_then, decided_of, elements_decided, elements_differ}
 use Rattle.wt_visible.proofs.ShownChildren.{same_more, differ_here, one_ends}
 use Rattle.wt_visible.proofs.compare.+same.Goals as goal
@@ -53,3 +54,19 @@ same_nodes-returns t c =
     (decided_of (children_view c.as_slice.result.now) (children_view c.as_slice-2.result.now) _ _ c.in_ok-inside.inside
     (ap children_view c.as_slice.ensures.value ∙ c.in_ok-left.ensures) (ap children_view c.as_slice-2.ensures.value ∙ c.in_ok-right.ensures)
     c.in_ok-inside.ensures)
+
+pub common_len-is_same-requires : goal.common_len-is_same-requires
+common_len-is_same-requires t c =
+    let few = child_fewer c.args.left.now c.loop-at.at c.index-left-at.result c.loop-at-test.true c.index-left-at.is in (
+      omega (arith, few, c.decreases),
+      tt,
+    )
+
+pub same_nodes-same_children-requires : goal.same_nodes-same_children-requires
+same_nodes-same_children-requires t c =
+    let held = plains_before (held_view c.args.a) ended in
+    let inside : total (children_view c.as_slice.result.now) ≡ sizes held =
+    ap (λ cs. total (children_view cs)) c.as_slice.ensures.value ∙ held_fewer c.in_ok-left.left.items held c.in_ok-left.ensures in (
+      omega (arith, inside, c.decreases),
+      tt,
+    )

@@ -7,13 +7,13 @@ abbrev pub decreases-same_nodes : goal.decreases-same_nodes
 decreases-same_nodes l = 4 * size (node_view l.a)
 
 abbrev pub decreases-is_same : goal.decreases-is_same
-decreases-is_same l = 4 * size (child_view l.a) + 1
+decreases-is_same l = 4 * size (child_view l.a.now) + 1
 
 abbrev pub decreases-common_len : goal.decreases-common_len
-decreases-common_len l = 4 * total (children_view l.left) + 2
+decreases-common_len l = 4 * total (children_view l.left.now) + 2
 
 abbrev pub decreases-same_children : goal.decreases-same_children
-decreases-same_children l = 4 * total (children_view l.left) + 3
+decreases-same_children l = 4 * total (children_view l.left.now) + 3
 
 abbrev pub invariant-common_len-loop-at : goal.invariant-common_len-loop-at
 invariant-common_len-loop-at l = record {

@@ -276,17 +276,6 @@ page-returns-in_err-pieces-clause-given g t c = λ pages page frame met told s v
     title frame x c.take.new.store c.as_slice-names.ensures (c.in_err-pieces.ensures.taken pages met named s)
     (c.in_err-pieces.ensures.named pages met s))
 
-pub page-returns-in_default-clause-given : goal.page-returns-in_default-clause-given
-page-returns-in_default-clause-given g t c = λ pages page frame met told s v.
-    let self = c.args.self.now in
-    let agrees = c.in_ok-pieces.ensures.grown.agrees pages told (agrees_known pages met self.store s) in
-    page_unread pages page self.spent met (g.F.Folder.answered c.args.folder.now)
-    (g.F.Folder.answered c.take.new.folder) c.args.left
-    (reverse c.as_slice-names.result.now) self.names c.args.pending.now.title frame c.in_ok-pieces.field-0
-    c.in-Page.read c.take.new.store
-    c.as_slice-names.ensures c.in-Page.is (c.in_ok-pieces.ensures.taken pages met agrees s)
-    (c.in_ok-pieces.ensures.named pages met s)
-
 pub page-returns-in_err-run-in-Page-clause-given : goal.page-returns-in_err-run-in-Page-clause-given
 page-returns-in_err-run-in-Page-clause-given g t c = λ pages page frame met told s v.
     let self = c.args.self.now in
