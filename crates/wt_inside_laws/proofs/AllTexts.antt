@@ -3,11 +3,11 @@ use Rattle.std.proofs.Common.{◌≡◌, ℕ, List, [], ◌∷◌, ◌++◌, ref
 use Rattle.wt_devices.specs.Device.{Pages}
 use Rattle.wt_page_round_trip.specs.PageTree.{page_tree}
 use Rattle.wt_local.specs.Replaced.{with_inside, with_insides}
-use Rattle.wt_block_edits.specs.BlockSpots.{BlockSpot, spots_source, AreBlockSpots, SameRound, AreBlocks}
-use Rattle.wt_block_edits.proofs.BlocksAgain.{spots_again}
-use Rattle.wt_block_edits.proofs.BlockTrees.{are_typed}
-use Rattle.wt_block_edits.specs.BlockEdits.{SpotEdit, BlockEdit, new_text, old_spots, new_spots, old_page, new_page, IsBlockEdit}
-use Rattle.wt_block_edits.proofs.BlockSpotFacts.{new_round, all_typed}
+use Rattle.wt_text_edit_laws.specs.BlockSpots.{BlockSpot, spots_source, AreBlockSpots, SameRound, AreBlocks}
+use Rattle.wt_text_edit_laws.proofs.Blocks.BlocksAgain.{spots_again}
+use Rattle.wt_text_edit_laws.proofs.Blocks.BlockTrees.{are_typed}
+use Rattle.wt_text_edit_laws.specs.BlockEdits.{SpotEdit, BlockEdit, new_text, old_spots, new_spots, old_page, new_page, IsBlockEdit}
+use Rattle.wt_text_edit_laws.proofs.Blocks.BlockSpotFacts.{new_round, all_typed}
 use Rattle.wt_inside_laws.specs.TextsReplaced.{Place, replaced_by, replaced_behind, all_replaced}
 use Rattle.wt_inside_laws.proofs.OneText.{typed_front, typed_rest, tree_replaced}
 

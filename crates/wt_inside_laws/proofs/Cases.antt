@@ -35,9 +35,9 @@ use Rattle.wt_tree.specs.declared.kind.Kind.TheVariants as kind
 use Rattle.wt_tree.specs.declared.kind.Mark.TheVariants as marks
 use Rattle.wt_tree.specs.Tree.{Label, Tree, tree, none}
 use Rattle.wt_guards.specs.Guards.{nowiki as guard, is_guarded, is_between_guard, is_start_guard, is_end_guard, is_blank_guard}
-use Rattle.wt_heading_laws.specs.TypedHeadings.{spaced}
-use Rattle.wt_block_edits.specs.Blocks.{a_paragraph, a_heading}
-use Rattle.wt_block_edits.specs.BlockEdits.{types, keeps, BlockEdit}
+use Rattle.wt_text_edit_laws.specs.TypedHeadings.{spaced}
+use Rattle.wt_text_edit_laws.specs.TextBlocks.{a_paragraph, a_heading}
+use Rattle.wt_text_edit_laws.specs.BlockEdits.{types, keeps, BlockEdit}
 use Rattle.wt_local.specs.Replaced.{Edit}
 use Rattle.wt_inside_laws.specs.TextsReplaced.{Place, replaced_by, all_replaced}
 

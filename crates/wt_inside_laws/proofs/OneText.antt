@@ -20,22 +20,22 @@ use Rattle.wt_annotated.specs.WithoutCalls.{placed, all_placed}
 use Rattle.wt_annotated.proofs.Widths.{width_append}
 use Rattle.wt_page_round_trip.specs.PageTree.{page_tree}
 use Rattle.wt_local.specs.Replaced.{Edit, moved, moved_label, with_inside, all_with_inside}
-use Rattle.wt_text_edits.proofs.LoneTrees.{sized}
-use Rattle.wt_text_edits.proofs.TypedLeaves.{AreOwn, HasAny, leaves}
-use Rattle.wt_heading_laws.specs.TypedHeadings.{Sides, equals, opening, closing}
+use Rattle.wt_text_edit_laws.proofs.Texts.LoneTrees.{sized}
+use Rattle.wt_text_edit_laws.proofs.Texts.TypedLeaves.{AreOwn, HasAny, leaves}
+use Rattle.wt_text_edit_laws.specs.TypedHeadings.{Sides, equals, opening, closing}
 use Rattle.wt_moved_laws.specs.Standing.{standing}
-use Rattle.wt_prose.proofs.ProseTrees.{blocks_of, number_behind, items_behind}
-use Rattle.wt_paragraph_laws.specs.Between.{blocks_in}
-use Rattle.wt_block_edits.specs.Blocks.{TextBlock, a_paragraph, a_heading, source_of, block_tree, IsBlock}
-use Rattle.wt_block_edits.specs.BlockSpots.{BlockSpot, spots_source, page_blocks, AreBlockSpots, SameRound, AreBlocks}
-use Rattle.wt_paragraph_laws.specs.Parts.{part_tree}
-use Rattle.wt_paragraph_laws.proofs.Texts.{paragraph_written}
-use Rattle.wt_block_edits.proofs.BlockMeaning.{heading_sides}
-use Rattle.wt_block_edits.proofs.BlockTrees.{block_leaves, as_leaves, block_own, are_typed, spots_tree}
-use Rattle.wt_block_edits.proofs.TypedFacts.{items_source}
-use Rattle.wt_block_edits.proofs.BlocksAgain.{spots_again}
-use Rattle.wt_block_edits.proofs.KeptBlocks.{blocks_source, part_source}
-use Rattle.wt_block_edits.proofs.BlocksTake.{page_is}
+use Rattle.wt_text_edit_laws.proofs.Prose.ProseTrees.{blocks_of, number_behind, items_behind}
+use Rattle.wt_text_edit_laws.specs.ParagraphBetween.{blocks_in}
+use Rattle.wt_text_edit_laws.specs.TextBlocks.{TextBlock, a_paragraph, a_heading, source_of, block_tree, IsBlock}
+use Rattle.wt_text_edit_laws.specs.BlockSpots.{BlockSpot, spots_source, page_blocks, AreBlockSpots, SameRound, AreBlocks}
+use Rattle.wt_text_edit_laws.specs.Parts.{part_tree}
+use Rattle.wt_text_edit_laws.proofs.Paragraphs.Texts.{paragraph_written}
+use Rattle.wt_text_edit_laws.proofs.Blocks.BlockMeaning.{heading_sides}
+use Rattle.wt_text_edit_laws.proofs.Blocks.BlockTrees.{block_leaves, as_leaves, block_own, are_typed, spots_tree}
+use Rattle.wt_text_edit_laws.proofs.Blocks.TypedFacts.{items_source}
+use Rattle.wt_text_edit_laws.proofs.Blocks.BlocksAgain.{spots_again}
+use Rattle.wt_text_edit_laws.proofs.Blocks.KeptBlocks.{blocks_source, part_source}
+use Rattle.wt_text_edit_laws.proofs.Blocks.BlocksTake.{page_is}
 use Rattle.wt_inside_laws.specs.TextsReplaced.{Place, spots_with, page_with, source_before, number_at, numbered_inside, block_at, replaced_by}
 use Rattle.wt_inside_laws.proofs.Shifted.{range_like, shifted, standing_shifted, placed_count}
 use Rattle.wt_inside_laws.proofs.Behind.{test_no_less, test_not_up, test_up, test_below, blocks_moved}

@@ -8,9 +8,9 @@ use Rattle.wt_annotated.specs.Numbering.{count_all}
 use Rattle.wt_annotated.specs.WithoutCalls.{placed, all_placed}
 use Rattle.wt_local.specs.Replaced.{Edit}
 use Rattle.wt_moved_laws.specs.Standing.{standing}
-use Rattle.wt_block_edits.specs.Blocks.{TextBlock, source_of, block_tree}
-use Rattle.wt_block_edits.specs.BlockSpots.{BlockSpot, spots_source, page_blocks}
-use Rattle.wt_block_edits.specs.BlockEdits.{SpotEdit, BlockEdit, new_text}
+use Rattle.wt_text_edit_laws.specs.TextBlocks.{TextBlock, source_of, block_tree}
+use Rattle.wt_text_edit_laws.specs.BlockSpots.{BlockSpot, spots_source, page_blocks}
+use Rattle.wt_text_edit_laws.specs.BlockEdits.{SpotEdit, BlockEdit, new_text}
 
 -- ---- the page
 

@@ -5,9 +5,9 @@ ghost use Rattle.std.specs.Prelude.{◌≡◌, ℕ, List};
 ghost use Rattle.wt_devices.specs.Device.{Pages};
 ghost use Rattle.wt_page_round_trip.specs.PageTree.{page_tree};
 ghost use Rattle.wt_local.specs.Replaced.{with_inside, with_insides};
-ghost use Rattle.wt_block_edits.specs.Blocks.{TextBlock, IsBlock};
-ghost use Rattle.wt_block_edits.specs.BlockSpots.{BlockSpot, AreBlockSpots};
-ghost use Rattle.wt_block_edits.specs.BlockEdits.{BlockEdit, old_page, new_page, IsBlockEdit};
+ghost use Rattle.wt_text_edit_laws.specs.TextBlocks.{TextBlock, IsBlock};
+ghost use Rattle.wt_text_edit_laws.specs.BlockSpots.{BlockSpot, AreBlockSpots};
+ghost use Rattle.wt_text_edit_laws.specs.BlockEdits.{BlockEdit, old_page, new_page, IsBlockEdit};
 ghost use Rattle.wt_inside_laws.specs.TextsReplaced.{Place, spots_with, page_with, replaced_by, all_replaced};
 
 /// Where the text of one paragraph or heading of a page with such blocks among any others becomes another text, the

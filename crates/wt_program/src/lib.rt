@@ -8,7 +8,7 @@ ghost use Rattle.wt_pagetool.specs.Calls.{call};
 ghost use Rattle.wt_pagetool.specs.Devices.{read_from, fetched_from, written_to};
 ghost use Rattle.wt_pagetool.specs.Promises.{AsksFor, Ends, EndsAsEdit, GivesBack, ReadsAtMost, Waits, Wrote};
 ghost use Rattle.wt_pagetool.specs.Words.{command_of, Fetches, Reads};
-ghost use Rattle.wt_block_edits.specs.Calls.{TakesTexts};
+ghost use Rattle.wt_text_edit_laws.specs.Calls.{TakesTexts};
 
 use std::alloc::Global;
 use wt_devices::{Folder, Sink, Source};
@@ -18,7 +18,7 @@ use wt_span::{List, PAGE_BYTES, Str};
 /// Answers the words of a command line, without the program's name, and gives the number to end with
 /// (`Status::code` of `wt_pagetool`). This is `run` of `wt_pagetool`, which says what each command does, with all
 /// that it promises and one promise more, which rests on the crates of laws (`takes_texts`).
-#[tactic(auto, using(wt_block_edits::proofs::BlocksCalls::takes))]
+#[tactic(auto, using(wt_text_edit_laws::proofs::Blocks::BlocksCalls::takes))]
 pub fn run<S: Source, F: Folder, W: Sink, E: Sink>(
     alloc: Global,
     words: &List<Str>,
@@ -28,7 +28,7 @@ pub fn run<S: Source, F: Folder, W: Sink, E: Sink>(
     err: &mut E,
 ) -> u8
     // Texts typed in paragraphs and headings of a page are taken, whatever they are: where a call sends such an
-    // edit of a page of the class of `wt_block_edits`, it is done, and with `edit` the page with these texts was
+    // edit of a page of the class of `wt_text_edit_laws`, it is done, and with `edit` the page with these texts was
     // written, and no line; or a device failed, or memory ran out.
     ensures takes_texts { TakesTexts (call words.now (read_from S.Source input.old input.new)
         (fetched_from F.Folder folder.old folder.new) (written_to W.Sink out.old out.new)

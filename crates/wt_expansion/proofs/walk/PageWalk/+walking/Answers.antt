@@ -149,11 +149,11 @@ with_target-returns-in_err-title-clause-given g t c = λ pages page met s n conc
     let l = ledger self.expansion.spent met (g.F.Folder.answered c.args.folder.now) in
     let now = c.target.new.self in
     let x = c.in_err-title.field-0.0 in
-    let e : c.from_residual-in_err-title.result ≡ Err x = search rules in
+    let e : c.from_residual.result ≡ Err x = search rules in
     let told = subst (λ (y : Result Unit ExpandRefusal). Concerns (g.F.Folder.pages c.args.folder.now) pages now.expansion.store y) e concerns in
     let named = sym (ap is_function (source_same page c.args.reader.text.text.now b n.is n.reading.read.text_is)) ∙ fn in
     let o = title_of_target (target_output pages page b n.is).items in
-    let r = c.in_err-title.ensures.given pages page met s n told free c.in_ok-part.ensures in
+    let r = c.in_err-title.ensures.given pages page met s n told free c.first_part-part.ensures in
     subst (λ (y : Result Unit ExpandRefusal). AnswersWalk pages page l (call_stretches_at pages page b n.is s) (call_work pages page b n.is s)
     n.is.at b.at.end self.found now.found now.expansion.store now.expansion.spent (g.F.Folder.answered c.target.new.folder) y) (sym e)
     (target_refused pages page l b n.is s (g.F.Folder.answered c.target.new.folder) x o
@@ -173,12 +173,12 @@ with_target-returns-in-None-clause-given g t c = λ pages page met s n concerns 
     c.behind_target.result kept (agrees_known pages met self.expansion.store free.stored) c.in_ok-title.ensures.grown c.behind_target.ensures.grown concerns in
     let named = sym (ap is_function (source_same page c.args.reader.text.text.now b n.is n.reading.read.text_is)) ∙ fn in
     let f = subst (λ (o : Option Title). TargetRead pages page l b n.is o self.found then.found then.expansion.store then.expansion.spent told) c.in-None.is
-    (c.in_ok-title.ensures.given pages page met s n agreed free c.in_ok-part.ensures) in
+    (c.in_ok-title.ensures.given pages page met s n agreed free c.first_part-part.ensures) in
     text_walked pages page l b n.is s self.found then.found now.found then.expansion.store now.expansion.store then.expansion.spent now.expansion.spent told
     (g.F.Folder.answered c.behind_target.new.folder) c.behind_target.result (is_called pages page b n.is None is named f.title_is) f
     (c.behind_target.ensures.given pages page f.works.met s n
     (still_concerns pages_told (g.F.Folder.pages c.target.new.folder) pages now.expansion.store c.behind_target.result (sym kept) concerns)
-    (record { stored = f.works.stored; names = c.in_ok-title.ensures.names ∙ free.names }) c.in_ok-part.ensures)
+    (record { stored = f.works.stored; names = c.in_ok-title.ensures.names ∙ free.names }) c.first_part-part.ensures)
 
 pub with_target-returns-in-Some-clause-given : goal.with_target-returns-in-Some-clause-given
 with_target-returns-in-Some-clause-given g t c = λ pages page met s n concerns free is fn.
@@ -196,7 +196,7 @@ with_target-returns-in-Some-clause-given g t c = λ pages page met s n concerns 
     c.page.result kept (agrees_known pages met self.expansion.store free.stored) c.in_ok-title.ensures.grown c.page.ensures.grown concerns in
     let named = sym (ap is_function (source_same page c.args.reader.text.text.now b n.is n.reading.read.text_is)) ∙ fn in
     let f = subst (λ (o : Option Title). TargetRead pages page l b n.is o self.found then.found then.expansion.store then.expansion.spent told) c.in-Some.is
-    (c.in_ok-title.ensures.given pages page met s n agreed free c.in_ok-part.ensures) in
+    (c.in_ok-title.ensures.given pages page met s n agreed free c.first_part-part.ensures) in
     page_walked_on pages page l b n.is s c.in-Some.title self.found then.found back now.found then.expansion.store now.expansion.store then.expansion.spent
     now.expansion.spent told (g.F.Folder.answered c.page.new.folder) mark.result.pieces mark.result.outer mark.result.text_calls c.page.result
     (is_called pages page b n.is (Some c.in-Some.title) is named f.title_is) f mark.ensures.pieces mark.ensures.outer mark.ensures.text_calls
@@ -506,19 +506,6 @@ walk_call-returns-in_err-push_slice-clause-given g t c = λ pages page met s n c
 
 pub walk_call-returns-in_err-push_slice-clause-asks : goal.walk_call-returns-in_err-push_slice-clause-asks
 walk_call-returns-in_err-push_slice-clause-asks g t c = asks_none (g.F.Folder.answered c.args.folder.now)
-    (g.F.Folder.most_asked c.args.folder.now)
-
-pub with_target-returns-in_err-part-clause-given : goal.with_target-returns-in_err-part-clause-given
-with_target-returns-in_err-part-clause-given g t c = λ pages page met s n concerns free is fn.
-    let x = c.args.self.now in
-    let e : c.from_residual.result ≡ Err answer.NoMemory = search rules in
-    none_walked pages page x.expansion.spent met (g.F.Folder.answered c.args.folder.now)
-    (call_stretches_at pages page c.args.call n.is s)
-    (call_work pages page c.args.call n.is s) n.is.at c.args.call.at.end
-    x.found x.found x.expansion.store x.expansion.spent c.from_residual.result e
-
-pub with_target-returns-in_err-part-clause-asks : goal.with_target-returns-in_err-part-clause-asks
-with_target-returns-in_err-part-clause-asks g t c = asks_none (g.F.Folder.answered c.args.folder.now)
     (g.F.Folder.most_asked c.args.folder.now)
 
 pub target-returns-in_err-push_text_call-clause-given : goal.target-returns-in_err-push_text_call-clause-given

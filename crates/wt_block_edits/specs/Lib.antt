@@ -1,6 +1,0 @@
-pub mod Blocks
-pub mod BlockSpots
-pub mod BlockEdits
-pub mod Unmarked
-pub mod Calls
-pub mod OwnNodes

@@ -1,4 +1,0 @@
-pub mod HeadingSigns
-pub mod HeadingRows
-pub mod TypedTexts
-mod Cases

@@ -1,8 +1,0 @@
-pub mod Apart
-pub mod Texts
-pub mod Joining
-pub mod Standing
-pub mod Paragraphs
-pub mod PartTrees
-pub mod ClearLines
-mod Cases

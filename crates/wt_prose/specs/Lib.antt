@@ -1,4 +1,0 @@
-pub mod ProsePages
-pub mod ProseTrees
-pub mod ProseEdits
-pub mod ProseUnmarked

@@ -1,7 +1,0 @@
-pub mod LineWords
-pub mod LineComments
-pub mod LineRemarks
-pub mod LineTags
-pub mod LineForms
-pub mod Fronts
-mod Cases

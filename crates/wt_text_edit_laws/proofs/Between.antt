@@ -1,0 +1,8 @@
+-- A text between two other parts of a page.
+pub mod LineWords
+pub mod LineComments
+pub mod LineRemarks
+pub mod LineTags
+pub mod LineForms
+pub mod Fronts
+mod Cases

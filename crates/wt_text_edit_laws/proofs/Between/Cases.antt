@@ -1,0 +1,111 @@
+-- Worked cases of what may come before a text and after it, by computing.
+use Rattle.std.proofs.Common.{refl}
+use Rattle.std.specs.Prelude.{[], codes}
+use Rattle.wt_span.specs.declared.form.Mode.TheVariants.{Page}
+use Rattle.wt_span.specs.Comments.{comment_len, comment_line_len}
+use Rattle.wt_span.specs.Entities.{named_entity, entity_names, decimal_entity, hex_entity, entity_at}
+use Rattle.wt_span.specs.Lexemes.{sign_word, form_at, closed, words}
+use Rattle.wt_span.specs.Tags.{tag_after, opening_tag, closing_tag, with_inside, is_extension, raw_len, include_at}
+use Rattle.wt_text_edit_laws.specs.TextBetween.{AreWholeLines, HasEnds, HaveNoBraces, StandsBefore, StandsBehind}
+
+-- ---- before a text
+
+-- the page's start
+start : StandsBefore []
+unfolding words closed
+start = record { ends = tt; has_ends = refl; uncalled = tt }
+
+-- a list item with a link
+item : StandsBefore (codes "* [[a|b]]\n")
+unfolding comment_len comment_line_len named_entity entity_names decimal_entity hex_entity entity_at sign_word form_at closed words opening_tag closing_tag raw_len include_at
+item = record {
+  ends = refl;
+  has_ends = (refl, (refl, (refl, (refl, (refl, (refl, (refl, (refl, refl))))))));
+  uncalled = (tt, (tt, (tt, (tt, (tt, (tt, (tt, tt)))))));
+}
+
+-- tags that show their inside are characters of the page, and so is a `<` that begins no tag, and a closing tag alone
+bold : StandsBefore (codes "<b>c</b>\n")
+unfolding comment_len comment_line_len named_entity entity_names decimal_entity hex_entity entity_at sign_word form_at closed words tag_after opening_tag closing_tag with_inside is_extension raw_len include_at
+bold = record { ends = refl; has_ends = (refl, (refl, (refl, (refl, (refl, (refl, (refl, (refl, (refl, refl))))))))); uncalled = (tt, tt) }
+
+break : HasEnds (codes "a<br>\n")
+unfolding comment_len comment_line_len named_entity entity_names decimal_entity hex_entity entity_at sign_word form_at closed words tag_after opening_tag closing_tag with_inside is_extension raw_len include_at
+break = (refl, (refl, (refl, (refl, (refl, (refl, refl))))))
+
+less_than : HasEnds (codes "a < b\n")
+unfolding comment_len comment_line_len named_entity entity_names decimal_entity hex_entity entity_at sign_word form_at closed words tag_after opening_tag closing_tag with_inside is_extension raw_len include_at
+less_than = (refl, (refl, (refl, (refl, (refl, (refl, refl))))))
+
+closing : HasEnds (codes "</p>\n")
+unfolding comment_len comment_line_len named_entity entity_names decimal_entity hex_entity entity_at sign_word form_at closed words tag_after opening_tag closing_tag with_inside is_extension raw_len include_at
+closing = (refl, (refl, (refl, (refl, (refl, refl)))))
+
+-- a tag of an extension is one lexeme with its inside
+footnote : StandsBefore (codes "a<ref>b</ref>\n")
+unfolding comment_len comment_line_len named_entity entity_names decimal_entity hex_entity entity_at sign_word form_at closed words tag_after opening_tag closing_tag with_inside is_extension raw_len include_at
+footnote = record { ends = refl; has_ends = (refl, (refl, (refl, refl))); uncalled = (tt, (tt, (tt, tt))) }
+
+-- what is inside of another lexeme counts for nothing
+nowiki : StandsBefore (codes "<nowiki><!--{{</nowiki>\n")
+unfolding comment_len comment_line_len named_entity entity_names decimal_entity hex_entity entity_at sign_word form_at closed words tag_after opening_tag closing_tag with_inside is_extension raw_len include_at
+nowiki = record { ends = refl; has_ends = (refl, (refl, refl)); uncalled = (tt, (tt, tt)) }
+
+hidden : HasEnds (codes "<includeonly>a\n</includeonly>\n")
+unfolding comment_len comment_line_len named_entity entity_names decimal_entity hex_entity entity_at sign_word form_at closed words tag_after opening_tag closing_tag with_inside is_extension raw_len include_at
+hidden = (refl, (refl, refl))
+
+-- a comment in a line, one over lines, and one alone in its line
+in_line : StandsBefore (codes "a<!-- c -->b\n")
+unfolding comment_len comment_line_len named_entity entity_names decimal_entity hex_entity entity_at sign_word form_at closed words tag_after opening_tag closing_tag with_inside is_extension raw_len include_at
+in_line = record { ends = refl; has_ends = (refl, (refl, (refl, (refl, refl)))); uncalled = (tt, (tt, (tt, tt))) }
+
+over_lines : StandsBefore (codes "<!--\n* a\n-->\n")
+unfolding comment_len comment_line_len named_entity entity_names decimal_entity hex_entity entity_at sign_word form_at closed words tag_after opening_tag closing_tag with_inside is_extension raw_len include_at
+over_lines = record { ends = refl; has_ends = (refl, (refl, refl)); uncalled = (tt, (tt, tt)) }
+
+alone : StandsBefore (codes "a\n <!-- c --> <!-- d -->\n")
+unfolding comment_len comment_line_len named_entity entity_names decimal_entity hex_entity entity_at sign_word form_at closed words tag_after opening_tag closing_tag with_inside is_extension raw_len include_at
+alone = record { ends = refl; has_ends = (refl, (refl, (refl, refl))); uncalled = (tt, (tt, tt)) }
+
+-- a line that doesn't end, and a call
+unended : AreWholeLines (codes "a") → ⊥
+unended h = absurd (cc)
+
+call : HaveNoBraces (words Page (codes "{{a}}")) → ⊥
+unfolding comment_len comment_line_len named_entity entity_names decimal_entity hex_entity entity_at sign_word form_at closed words opening_tag closing_tag raw_len include_at
+call h = h.0
+
+-- what doesn't end in the part may end in the text
+open_comment : HasEnds (codes "<!-- a\n") → ⊥
+unfolding comment_len comment_line_len named_entity entity_names decimal_entity hex_entity entity_at sign_word form_at closed words tag_after opening_tag closing_tag with_inside is_extension raw_len include_at
+open_comment h = let e = h.0 in absurd (cc)
+
+open_nowiki : HasEnds (codes "<nowiki>a\n") → ⊥
+unfolding comment_len comment_line_len named_entity entity_names decimal_entity hex_entity entity_at sign_word form_at closed words tag_after opening_tag closing_tag with_inside is_extension raw_len include_at
+open_nowiki h = let e = h.0 in absurd (cc)
+
+open_footnote : HasEnds (codes "<!-- c --><ref>a\n") → ⊥
+unfolding comment_len comment_line_len named_entity entity_names decimal_entity hex_entity entity_at sign_word form_at closed words tag_after opening_tag closing_tag with_inside is_extension raw_len include_at
+open_footnote h = let e = h.1.0 in absurd (cc)
+
+open_hidden : HasEnds (codes "<includeonly>a\n") → ⊥
+unfolding comment_len comment_line_len named_entity entity_names decimal_entity hex_entity entity_at sign_word form_at closed words tag_after opening_tag closing_tag with_inside is_extension raw_len include_at
+open_hidden h = let e = h.0 in absurd (cc)
+
+-- ---- behind a text
+
+-- the page's end
+end : StandsBehind []
+unfolding words closed
+end = record { uncommented = refl; uncalled = tt }
+
+-- a line of a comment, and one that never ends
+commented : StandsBehind (codes "\n<!-- c -->\n* a<!-- d")
+unfolding comment_len comment_line_len named_entity entity_names decimal_entity hex_entity entity_at sign_word form_at closed words tag_after opening_tag closing_tag with_inside is_extension raw_len include_at
+commented = record { uncommented = refl; uncalled = (tt, (tt, (tt, (tt, tt)))) }
+
+-- a comment in the text's own last line
+beside : StandsBehind (codes " <!-- c -->\n") → ⊥
+unfolding comment_len comment_line_len named_entity entity_names decimal_entity hex_entity entity_at sign_word form_at closed words tag_after opening_tag closing_tag with_inside is_extension raw_len include_at
+beside h = let e = h.uncommented in absurd (cc)

@@ -1,0 +1,182 @@
+-- The lexemes of lines in which what begins ends: none goes over their end, whatever follows them.
+use Rattle.std.proofs.Common.{arith, ◌≡◌, ℕ, zero, suc, ◌+◌, ◌<◌, ◌≤◌, Bool, true, false, Option, Some, None, List, [], ◌∷◌, ◌++◌, length, nat_lt, refl, sym, ap, ◌∙◌, subst}
+use Rattle.std.specs.Prelude.{◌&&◌, ◌||◌, is_some, if◌then◌else◌, slice_index}
+use Rattle.std.specs.Option.{unwrap_or}
+use Rattle.wt_span.specs.declared.form.Mode.TheVariants.{Page}
+use Rattle.wt_span.specs.declared.form.LexKind.{LexKind}
+use Rattle.wt_span.specs.declared.form.LexKind.TheVariants.{CommentLine, Comment, Raw, Include, Hidden}
+use Rattle.wt_span.specs.Bytes.{is_break, blank_len}
+use Rattle.wt_span.specs.Comments.{comment_len, comment_line_len, remarks_len}
+use Rattle.wt_span.specs.Tags.{Tag, opening_tag, closing_tag, with_inside, is_raw_name, raw_by, raw_len, hides, is_left_out, hidden_len, opening_include, closing_include, include_at}
+use Rattle.wt_span.specs.Entities.{entity_at}
+use Rattle.wt_span.specs.Lexemes.{Word, as_word, comment_line_word, entity_word, sign_word, form_at}
+use Rattle.wt_lex.proofs.Begins.{and_left, and_right}
+use Rattle.wt_lex.proofs.Forms.{OptFits, comment_fits}
+use Rattle.wt_lex.proofs.TagForms.{OptTag, opening_fits, inside_fits}
+use Rattle.wt_scans.specs.Lexer.{lexer}
+use Rattle.wt_scans.specs.Scans.{skipped_by, Settles, IsFrontOf}
+use Rattle.wt_scans.proofs.LexemeFronts.{lexemes_front}
+use Rattle.wt_text_edit_laws.specs.TextBetween.{AreWholeLines, ends_comment, ends_tag, ends_here}
+use Rattle.wt_text_edit_laws.proofs.Between.LineWords.{Within, or_within, signs_within, entity_within, entity_word_within}
+use Rattle.wt_text_edit_laws.proofs.Between.LineComments.{ends_behind, last_break, comment_same, remarks_same}
+use Rattle.wt_text_edit_laws.proofs.Between.LineRemarks.{AllEnd, remarks_short}
+use Rattle.wt_text_edit_laws.proofs.Between.LineTags.{TagWithin, opening_within, closing_within, opening_here, IsFound, inside_same}
+
+-- ---- lengths
+
+abbrev LenWithin : ℕ → Option ℕ → Type 0
+LenWithin k None = Unit {0}
+LenWithin k (Some n) = n ≤ k + 1
+
+fits_within : (k : ℕ) (bs : List ℕ) (o : Option ℕ) → OptFits bs o → length bs ≡ suc k → LenWithin k o
+fits_within k bs None f e = tt
+fits_within k bs (Some n) f e = omega (arith, f.within, e)
+
+word_within_len : (k : ℕ) (kind : LexKind) (o : Option ℕ) → LenWithin k o → Within k (as_word kind o)
+word_within_len k kind None h = tt
+word_within_len k kind (Some n) h = h
+
+-- what has its end in lines: a comment
+comment_word : (b : ℕ) (q rest : List ℕ) → AreWholeLines (b ∷ q) → ends_comment (b ∷ q) ≡ true → LenWithin (length q) (comment_len ((b ∷ q) ++ rest))
+comment_word b q rest l h =
+    let P : Option ℕ → Type 0 = LenWithin (length q) in
+    subst P (sym (comment_same b q rest l h)) (fits_within (length q) (b ∷ q) (comment_len (b ∷ q)) (comment_fits (b ∷ q)) refl)
+
+-- lines of comments and blanks
+line_word : (a : Bool) (b : ℕ) (q rest : List ℕ) → AreWholeLines (b ∷ q) → remarks_len 0 (b ∷ q) < length (b ∷ q)
+    → Within (length q) (comment_line_word a ((b ∷ q) ++ rest))
+unfolding comment_line_len
+line_word false b q rest l h = tt
+line_word true b q rest l h =
+    let bs : List ℕ = (b ∷ q) ++ rest in
+    let same = remarks_same 0 (b ∷ q) rest l h in
+    by bs (nat_lt (blank_len bs) (remarks_len 0 bs) && is_break (slice_index bs (remarks_len 0 bs))) (omega (arith, same, h))
+  where
+    by : (bs : List ℕ) (t : Bool) → remarks_len 0 bs + 1 ≤ length q + 1 → Within (length q) (as_word CommentLine (if t then Some (remarks_len 0 bs + 1) else None))
+    by bs true le = le
+    by bs false le = tt
+
+-- a tag with its inside
+inside_within : (b : ℕ) (q rest : List ℕ) (t : Tag) → AreWholeLines (b ∷ q) → opening_tag (b ∷ q) ≡ Some t → IsFound (with_inside t (b ∷ q))
+    → (n : ℕ) × (with_inside t ((b ∷ q) ++ rest) ≡ Some n) × (n ≤ length q + 1)
+inside_within b q rest t l e h =
+    let P : Option Tag → Type 0 = OptTag (b ∷ q) in
+    let fits = subst P e (opening_fits (b ∷ q)) in
+    let same = inside_same t (b ∷ q) rest l fits.within h in
+    by (with_inside t (b ∷ q)) h (inside_fits (b ∷ q) t fits) same
+  where
+    by : (o : Option ℕ) → IsFound o → OptFits (b ∷ q) o → with_inside t ((b ∷ q) ++ rest) ≡ o
+        → (n : ℕ) × (with_inside t ((b ∷ q) ++ rest) ≡ Some n) × (n ≤ length q + 1)
+    by None f g s = absurd f
+    by (Some n) f g s = (n, s, omega (arith, g.within))
+
+as_found : (o : Option ℕ) → is_some o ≡ true → IsFound o
+as_found None e = cc
+as_found (Some n) e = tt
+
+-- where it is looked for, its end is there
+ended_tag : (t : Tag) (bs : List ℕ) (raw hidden : Bool) → (if raw || hidden then is_some (with_inside t bs) else true) ≡ true
+    → (raw || hidden) ≡ true → IsFound (with_inside t bs)
+ended_tag t bs raw hidden h e = as_found (with_inside t bs) (ap (λ (v : Bool). if v then is_some (with_inside t bs) else true) (sym e) ∙ h)
+
+or_left : (u v : Bool) → u ≡ true → (u || v) ≡ true
+or_left true v e = refl
+or_left false v e = cc
+
+or_right : (u v : Bool) → v ≡ true → (u || v) ≡ true
+or_right true v e = refl
+or_right false v e = e
+
+abbrev EndsTag : List ℕ → Type 0
+EndsTag bs = ends_tag (opening_tag bs) bs ≡ true
+
+tag_ended : (bs : List ℕ) (t : Tag) → opening_tag bs ≡ Some t → EndsTag bs → (if is_raw_name t.name || hides Page t.name then is_some (with_inside t bs) else true) ≡ true
+tag_ended bs t e h = sym (ap (λ o. ends_tag o bs) e) ∙ h
+
+raw_word : (b : ℕ) (q rest : List ℕ) → AreWholeLines (b ∷ q) → EndsTag (b ∷ q) → LenWithin (length q) (raw_len ((b ∷ q) ++ rest))
+unfolding raw_len
+raw_word b q rest l h = by (opening_tag bs) refl
+  where
+    bs : List ℕ
+    bs = (b ∷ q) ++ rest
+
+    named : (t : Tag) (v : Bool) → is_raw_name t.name ≡ v → opening_tag bs ≡ Some t → LenWithin (length q) (if v then with_inside t bs else None)
+    named t false e f = tt
+    named t true e f =
+        let g : opening_tag (b ∷ q) ≡ Some t = opening_here b q rest t l f in
+        let found = ended_tag t (b ∷ q) (is_raw_name t.name) (hides Page t.name) (tag_ended (b ∷ q) t g h) (or_left (is_raw_name t.name) (hides Page t.name) e) in
+        let w = inside_within b q rest t l g found in
+        let P : Option ℕ → Type 0 = LenWithin (length q) in
+        subst P (sym w.1) w.2
+
+    by : (o : Option Tag) → opening_tag bs ≡ o → LenWithin (length q) (raw_by is_raw_name o bs)
+    by None e = tt
+    by (Some t) e = named t (is_raw_name t.name) refl e
+
+include_word : (b : ℕ) (q rest : List ℕ) → AreWholeLines (b ∷ q) → EndsTag (b ∷ q) → Within (length q) (include_at Page ((b ∷ q) ++ rest))
+unfolding include_at
+include_word b q rest l h =
+    or_within (length q) (opening_include Page (opening_tag bs) bs) (closing_include Page (closing_tag bs)) (opens (opening_tag bs) refl)
+    (closes (closing_tag bs) (closing_within (length q) bs (last_break b q rest l)))
+  where
+    bs : List ℕ
+    bs = (b ∷ q) ++ rest
+
+    closes : (o : Option Tag) → TagWithin (length q) o → Within (length q) (closing_include Page o)
+    closes None le = tt
+    closes (Some t) le = by (is_left_out Page t.name)
+      where
+        by : (v : Bool) → Within (length q) (if v then Some (Include, t.len) else None)
+        by true = le
+        by false = tt
+
+    hidden : (t : Tag) → opening_tag bs ≡ Some t → hides Page t.name ≡ true → hidden_len t bs ≤ length q + 1
+    hidden t f e =
+        let g : opening_tag (b ∷ q) ≡ Some t = opening_here b q rest t l f in
+        let found = ended_tag t (b ∷ q) (is_raw_name t.name) (hides Page t.name) (tag_ended (b ∷ q) t g h) (or_right (is_raw_name t.name) (hides Page t.name) e) in
+        let w = inside_within b q rest t l g found in
+        let P : ℕ → Type 0 = λ (n : ℕ). n ≤ length q + 1 in
+        subst P (sym (ap (λ o. unwrap_or o (length bs)) w.1)) w.2
+
+    opens : (o : Option Tag) → opening_tag bs ≡ o → Within (length q) (opening_include Page o bs)
+    opens None e = tt
+    opens (Some t) e = by (hides Page t.name) refl (is_left_out Page t.name) (subst (TagWithin (length q)) e (opening_within (length q) bs (last_break b q rest l)))
+      where
+        by : (v : Bool) → hides Page t.name ≡ v → (u : Bool) → t.len ≤ length q + 1
+            → Within (length q) (if v then Some (Hidden, hidden_len t bs) else (if u then Some (Include, t.len) else None))
+        by true f u le = hidden t e f
+        by false f true le = le
+        by false f false le = tt
+
+-- ---- any lexeme
+
+within_lines : (a : Bool) (b : ℕ) (q rest : List ℕ) → AreWholeLines (b ∷ q) → ends_here (b ∷ q) ≡ true → remarks_len 0 (b ∷ q) < length (b ∷ q)
+    → Within (length q) (form_at Page a ((b ∷ q) ++ rest))
+unfolding form_at
+within_lines a b q rest l h less =
+    let bs : List ℕ = (b ∷ q) ++ rest in
+    let k : ℕ = length q in
+    let g = last_break b q rest l in
+    let comment = and_left (ends_comment (b ∷ q)) (ends_tag (opening_tag (b ∷ q)) (b ∷ q)) h in
+    let tag = and_right (ends_comment (b ∷ q)) (ends_tag (opening_tag (b ∷ q)) (b ∷ q)) h in
+    or_within k (comment_line_word a bs) _ (line_word a b q rest l less)
+    (or_within k (as_word Comment (comment_len bs)) _ (word_within_len k Comment (comment_len bs) (comment_word b q rest l comment))
+    (or_within k (as_word Raw (raw_len bs)) _ (word_within_len k Raw (raw_len bs) (raw_word b q rest l tag))
+    (or_within k (include_at Page bs) _ (include_word b q rest l tag)
+    (or_within k (entity_word (entity_at bs)) (sign_word bs) (entity_word_within k (entity_at bs) (entity_within k bs g)) (signs_within k bs g)))))
+
+front_of : (b : ℕ) (q : List ℕ) (o p : Option Word) → IsFrontOf (lexer Page) (b ∷ q) o p → Within (length q) o → o ≡ p
+front_of b q None p f h = sym f
+front_of b q (Some w) p f h = sym (f (omega (arith, h)))
+
+form_settles : (a : Bool) (b : ℕ) (q rest : List ℕ) → AreWholeLines (b ∷ q) → AllEnd a 0 (b ∷ q) → form_at Page a ((b ∷ q) ++ rest) ≡ form_at Page a (b ∷ q)
+form_settles a b q rest l h =
+    front_of b q (form_at Page a ((b ∷ q) ++ rest)) (form_at Page a (b ∷ q)) (lexemes_front Page a (b ∷ q) rest)
+    (within_lines a b q rest l h.0 (remarks_short a 0 (b ∷ q) l (omega arith) h))
+
+-- what follows such lines changes none of their lexemes
+pub lines_settle : (rest : List ℕ) (a : Bool) (n : ℕ) (q : List ℕ) → AreWholeLines q → AllEnd a n q → Settles (lexer Page) rest a n q
+lines_settle rest a n [] l h = h
+lines_settle rest a (suc n) (b ∷ q) l h = lines_settle rest (is_break b) n q (ends_behind b q l) h
+lines_settle rest a zero (b ∷ q) l h =
+    (form_settles a b q rest l h, lines_settle rest (is_break b) (skipped_by (lexer Page) (form_at Page a (b ∷ q))) q (ends_behind b q l) h.1)

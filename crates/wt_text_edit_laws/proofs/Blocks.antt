@@ -1,0 +1,16 @@
+-- Pages of typed paragraphs and headings among any other blocks.
+pub mod BlockReading
+pub mod BlockMeaning
+pub mod BlockTrees
+pub mod BlocksAgain
+pub mod OtherBlocks
+pub mod PageKinds
+pub mod KeptBlocks
+pub mod TypedFacts
+pub mod BlockSpotFacts
+pub mod BlocksTake
+pub mod BlocksUnmarked
+pub mod BlocksCalls
+pub mod OwnNodes
+mod Cases
+mod PageCases

@@ -1,0 +1,225 @@
+-- The items of a page with typed paragraphs and headings: those of its parts, each read as a page of its own; and it calls nothing.
+use Rattle.std.proofs.Common.{arith, refl, ◌≡◌, ℕ, zero, suc, Bool, true, false, List, [], ◌∷◌, ◌++◌, sym, ap, ◌∙◌, subst, append-nil, append_assoc, None, inl, inr}
+use Rattle.std.specs.Prelude.{◌==◌, ◌||◌}
+use Rattle.std.proofs.lemmas.Bool.Decides.{nat_tests}
+use Rattle.wt_span.specs.declared.form.Mode.TheVariants.{Page}
+use Rattle.wt_span.specs.declared.form.LexKind.TheVariants.{Equals}
+use Rattle.wt_span.specs.Bytes.{is_blank}
+use Rattle.wt_span.specs.Items.{Item, char, sources}
+use Rattle.wt_spelling_laws.proofs.Forms.{comment_other, other_byte, equals_byte}
+use Rattle.wt_expand.specs.PageCalls.{expanded_page}
+use Rattle.wt_expand.specs.PageItems.{page_items}
+use Rattle.wt_expand.specs.Work.{Pages, first_refusal}
+use Rattle.wt_expand.specs.Expansion.{page_work}
+use Rattle.wt_expand.proofs.PageLaws.{page_sources}
+use Rattle.wt_text_edit_laws.specs.LonePages.{page_chars, of_items}
+use Rattle.wt_text_edit_laws.specs.TypedPages.{IsTypedPage}
+use Rattle.wt_text_edit_laws.proofs.Texts.TypedText.{shown_expanded, shown_unrefused}
+use Rattle.wt_scans.specs.Lexer.{lexer}
+use Rattle.wt_scans.specs.Scans.{after_all}
+use Rattle.wt_text_edit_laws.proofs.Prose.Uncommented.{uncommented_other}
+use Rattle.wt_text_edit_laws.proofs.Prose.InFront.{Reads, reads_byte, reads_form}
+use Rattle.wt_text_edit_laws.proofs.Prose.ProseReading.{page_front}
+use Rattle.wt_text_edit_laws.specs.TextBetween.{StandsBefore}
+use Rattle.wt_text_edit_laws.proofs.Between.Fronts.{ReadsAfter, reads_after, reads_either, page_read, page_words, before_reads, behind_reads}
+use Rattle.wt_text_edit_laws.specs.ParagraphBetween.{EndsParagraph}
+use Rattle.wt_text_edit_laws.specs.Paragraphs.{AreLetters}
+use Rattle.wt_text_edit_laws.proofs.Paragraphs.Texts.{uncommented_text, letters_joined, EndsHere, here_begins, nothing_is, line_front, paragraph_front}
+use Rattle.wt_text_edit_laws.specs.TypedHeadings.{Sides, AreBlanks, AreSides, equals, opening, closing, heading_line, EndsLine}
+use Rattle.wt_text_edit_laws.specs.TextBlocks.{TextBlock, a_paragraph, a_heading, source_of, block_items, IsTypedHeading, IsWrittenHeading, IsBlock, EndsBlock, BeginsApart, BeginsLine, BeginsBetween}
+use Rattle.wt_text_edit_laws.specs.BlockSpots.{BlockSpot, spots_source, IsBlockSpot, AreFurtherBlocks, AreBlockSpots}
+
+-- ---- a heading's delimiters
+
+-- a `=` or a blank
+abbrev IsQuiet : ℕ → Type 0
+IsQuiet b = (b == 61 || is_blank b) ≡ true
+
+abbrev pub AreQuiet : List ℕ → Type 0
+AreQuiet [] = Unit {0}
+AreQuiet (b ∷ bs) = IsQuiet b × AreQuiet bs
+
+quiet_joined : (bs cs : List ℕ) → AreQuiet bs → AreQuiet cs → AreQuiet (bs ++ cs)
+quiet_joined [] cs h g = g
+quiet_joined (b ∷ bs) cs h g = (h.0, quiet_joined bs cs h.1 g)
+
+run_quiet : (n : ℕ) → AreQuiet (equals n)
+run_quiet zero = tt
+run_quiet (suc n) = (refl, run_quiet n)
+
+or_right : (a b : Bool) → b ≡ true → (a || b) ≡ true
+or_right true b e = refl
+or_right false b e = e
+
+blanks_quiet : (bs : List ℕ) → AreBlanks bs → AreQuiet bs
+blanks_quiet [] h = tt
+blanks_quiet (b ∷ bs) h = (or_right (b == 61) (is_blank b) h.0, blanks_quiet bs h.1)
+
+pub opening_quiet : (s : Sides) → AreSides s → AreQuiet (opening s)
+opening_quiet s a = quiet_joined (equals s.level) s.lead (run_quiet s.level) (blanks_quiet s.lead a.lead)
+
+pub closing_quiet : (s : Sides) → AreSides s → AreQuiet (closing s)
+closing_quiet s a =
+    quiet_joined s.trail (equals s.level ++ s.rest) (blanks_quiet s.trail a.trail)
+    (quiet_joined (equals s.level) s.rest (run_quiet s.level) (blanks_quiet s.rest a.rest))
+
+by_tests : (P : ℕ → Type 0) → P 61 → P 32 → P 9 → (b : ℕ) (u v w : Bool) → (b == 61) ≡ u → (b == 32) ≡ v → (b == 9) ≡ w → (u || (v || w)) ≡ true → P b
+by_tests P p q r b true v w e f g h = let is : b ≡ 61 = grind (arith, nat_tests, e) in subst P (sym is) p
+by_tests P p q r b false true w e f g h = let is : b ≡ 32 = grind (arith, nat_tests, f) in subst P (sym is) q
+by_tests P p q r b false false true e f g h = let is : b ≡ 9 = grind (arith, nat_tests, g) in subst P (sym is) r
+by_tests P p q r b false false false e f g h = cc
+
+-- which it is
+pub each_quiet : (P : ℕ → Type 0) → P 61 → P 32 → P 9 → (b : ℕ) → IsQuiet b → P b
+each_quiet P p q r b h = by_tests P p q r b (b == 61) (b == 32) (b == 9) refl refl refl h
+
+-- ---- how they are read
+
+read_equals : (bs : List ℕ) (xs : List Item) → Reads bs xs → Reads (61 ∷ bs) (char None 61 ∷ xs)
+read_equals bs xs r = reads_form Equals 61 [] bs xs tt (equals_byte Page bs) (uncommented_other 61 bs refl (comment_other 61 bs (omega arith))) r
+
+read_space : (bs : List ℕ) (xs : List Item) → Reads bs xs → Reads (32 ∷ bs) (char None 32 ∷ xs)
+read_space bs xs r = reads_byte 32 bs xs (other_byte Page 32 bs refl) (comment_other 32 bs (omega arith)) r
+
+read_tab : (bs : List ℕ) (xs : List Item) → Reads bs xs → Reads (9 ∷ bs) (char None 9 ∷ xs)
+read_tab bs xs r = reads_byte 9 bs xs (other_byte Page 9 bs refl) (comment_other 9 bs (omega arith)) r
+
+read_quiet : (bs rest : List ℕ) (xs : List Item) → AreQuiet bs → Reads rest xs → Reads (bs ++ rest) (page_chars bs ++ xs)
+read_quiet [] rest xs h r = r
+read_quiet (b ∷ bs) rest xs h r =
+    let ends : List ℕ = bs ++ rest in
+    let items : List Item = page_chars bs ++ xs in
+    let so : Reads ends items = read_quiet bs rest xs h.1 r in
+    each_quiet (λ (c : ℕ). Reads (c ∷ ends) (char None c ∷ items)) (read_equals ends items so) (read_space ends items so) (read_tab ends items so) b h.0
+
+-- its text is typed
+pub typed_text : (s : Sides) (q : List ℕ) → IsTypedHeading s q → IsTypedPage q
+typed_text s q h = record { setting = h.setting; text = h.text; utf8 = h.utf8; of_block = h.of_block; is = h.is }
+
+typed_front : (s : Sides) (q rest : List ℕ) (xs : List Item) → IsTypedHeading s q → Reads rest xs
+    → Reads (source_of (a_heading s) q ++ rest) (heading_line s (page_items q) ++ xs)
+typed_front s q rest xs h r =
+    let own : List Item = page_items q in
+    let o : List Item = page_chars (opening s) in
+    let c : List Item = page_chars (closing s) in
+    let end : Reads (closing s ++ rest) (c ++ xs) = read_quiet (closing s) rest xs (closing_quiet s h.sides) r in
+    let text : Reads (q ++ (closing s ++ rest)) (own ++ (c ++ xs)) = page_front q (closing s ++ rest) (c ++ xs) (typed_text s q h) end in
+    let all : Reads (opening s ++ (q ++ (closing s ++ rest))) (o ++ (own ++ (c ++ xs))) =
+    read_quiet (opening s) (q ++ (closing s ++ rest)) (own ++ (c ++ xs)) (opening_quiet s h.sides) text in
+    let source : source_of (a_heading s) q ++ rest ≡ opening s ++ (q ++ (closing s ++ rest)) =
+    append_assoc (opening s) (q ++ closing s) rest ∙ ap (λ (bs : List ℕ). opening s ++ bs) (append_assoc q (closing s) rest) in
+    let items : heading_line s own ++ xs ≡ o ++ (own ++ (c ++ xs)) =
+    append_assoc o (own ++ c) xs ∙ ap (λ (zs : List Item). o ++ zs) (append_assoc own c xs) in
+    subst (λ bs. Reads bs (heading_line s own ++ xs)) (sym source) (subst (λ ys. Reads (opening s ++ (q ++ (closing s ++ rest))) ys) (sym items) all)
+
+-- ---- one that was written by hand, before a line break, or where the page ends
+
+chars_letters : (bs : List ℕ) → AreLetters (page_chars bs)
+chars_letters [] = tt
+chars_letters (b ∷ bs) = chars_letters bs
+
+line_letters : (s : Sides) (xs : List Item) → AreLetters xs → AreLetters (heading_line s xs)
+line_letters s xs h =
+    letters_joined (page_chars (opening s)) (xs ++ page_chars (closing s)) (chars_letters (opening s))
+    (letters_joined xs (page_chars (closing s)) h (chars_letters (closing s)))
+
+written_front : (s : Sides) (q rest : List ℕ) (xs : List Item) → IsWrittenHeading s q → EndsHere rest → Reads rest xs
+    → Reads (source_of (a_heading s) q ++ rest) (heading_line s (page_items q) ++ xs)
+written_front s q [] xs h e r =
+    let line : List ℕ = source_of (a_heading s) q in
+    let own : List Item = heading_line s (page_items q) in
+    let alone : Reads line (page_items line) = behind_reads line (record { uncommented = uncommented_text line (subst AreLetters (sym h.unended) (line_letters s (page_items q) h.are_letters)); uncalled = h.uncalled }) in
+    subst (λ ys. Reads (line ++ []) (own ++ ys)) (sym (nothing_is xs r))
+    (subst (λ bs. Reads bs (own ++ [])) (sym (append-nil line)) (subst (λ ys. Reads line ys) (h.unended ∙ sym (append-nil own)) alone))
+written_front s q (b ∷ r) xs h e read =
+    let P : ℕ → Type 0 = λ (c : ℕ). Reads (c ∷ r) xs → Reads (source_of (a_heading s) q ++ c ∷ r) (heading_line s (page_items q) ++ xs) in
+    subst P (sym e) (λ k. line_front (source_of (a_heading s) q) r (heading_line s (page_items q)) xs (line_letters s (page_items q) h.are_letters) h.stands h.ended k) read
+
+heading_front : (s : Sides) (q rest : List ℕ) (xs : List Item) → IsBlock (a_heading s) q → EndsHere rest → Reads rest xs
+    → Reads (source_of (a_heading s) q ++ rest) (heading_line s (page_items q) ++ xs)
+heading_front s q rest xs (inl t) e r = typed_front s q rest xs t r
+heading_front s q rest xs (inr w) e r = written_front s q rest xs w e r
+
+block_front : (k : TextBlock) (q rest : List ℕ) (xs : List Item) → IsBlock k q → EndsHere rest → Reads rest xs
+    → Reads (source_of k q ++ rest) (block_items k q ++ xs)
+block_front a_paragraph q rest xs h e r = paragraph_front q rest xs h e r
+block_front (a_heading s) q rest xs h e r = heading_front s q rest xs h e r
+
+-- ---- the parts
+
+abbrev pub spots_items : List BlockSpot → List ℕ → List Item
+spots_items [] behind = page_items behind
+spots_items (s ∷ ss) behind = page_items s.before ++ (block_items s.block s.text ++ spots_items ss behind)
+
+in_front : (bs rest : List ℕ) (xs : List Item) → StandsBefore bs → Reads rest xs → ReadsAfter false (bs ++ rest) (page_items bs ++ xs)
+in_front bs rest xs b r = before_reads bs rest xs b (reads_after (after_all (lexer Page) false bs) rest xs r)
+
+spot_reads : (s : BlockSpot) (rest : List ℕ) (xs : List Item) → IsBlockSpot s → EndsHere rest → Reads rest xs
+    → ReadsAfter false (s.before ++ (source_of s.block s.text ++ rest)) (page_items s.before ++ (block_items s.block s.text ++ xs))
+spot_reads s rest xs h e r =
+    in_front s.before (source_of s.block s.text ++ rest) (block_items s.block s.text ++ xs) h.before (block_front s.block s.text rest xs h.block e r)
+
+-- behind a paragraph or a heading the page ends, or a line break stands
+paragraph_ends : (xs : List Item) → EndsParagraph xs → EndsHere (sources xs)
+paragraph_ends [] e = tt
+paragraph_ends (y ∷ ys) e = subst (λ z. EndsHere (sources (z ∷ ys))) (sym e.0) refl
+
+line_ends : (xs : List Item) → EndsLine xs → EndsHere (sources xs)
+line_ends [] e = tt
+line_ends (y ∷ ys) e = subst (λ z. EndsHere (sources (z ∷ ys))) (sym e) refl
+
+source_ends : (k : TextBlock) (xs : List Item) → EndsBlock k xs → EndsHere (sources xs)
+source_ends a_paragraph xs e = paragraph_ends xs e
+source_ends (a_heading s) xs e = line_ends xs e
+
+abbrev BeginsHere : List ℕ → Type 0
+BeginsHere [] = ⊥
+BeginsHere (b ∷ bs) = b ≡ 10
+
+apart_begins : (next : TextBlock) (xs : List Item) → BeginsApart next xs → BeginsHere (sources xs)
+apart_begins next [] e = absurd e
+apart_begins next (y ∷ ys) e = subst (λ z. BeginsHere (sources (z ∷ ys))) (sym e.0) refl
+
+line_begins : (xs : List Item) → BeginsLine xs → BeginsHere (sources xs)
+line_begins [] e = absurd e
+line_begins (y ∷ ys) e = subst (λ z. BeginsHere (sources (z ∷ ys))) (sym e) refl
+
+source_begins : (last next : TextBlock) (xs : List Item) → BeginsBetween last next xs → BeginsHere (sources xs)
+source_begins a_paragraph next xs e = apart_begins next xs e
+source_begins (a_heading s) next xs e = line_begins xs e
+
+ends_before : (bs rest : List ℕ) → BeginsHere bs → EndsHere (bs ++ rest)
+ends_before [] rest h = absurd h
+ends_before (b ∷ bs) rest h = h
+
+further_ends : (last : TextBlock) (ss : List BlockSpot) (behind : List ℕ) → AreFurtherBlocks last ss behind → EndsHere (spots_source ss behind)
+further_ends last [] behind h = subst EndsHere (page_sources behind) (source_ends last (page_items behind) h.ends)
+further_ends last (s ∷ ss) behind h =
+    ends_before s.before (source_of s.block s.text ++ spots_source ss behind)
+    (subst BeginsHere (page_sources s.before) (source_begins last s.block (page_items s.before) h.1))
+
+further_reads : (last : TextBlock) (ss : List BlockSpot) (behind : List ℕ) → AreFurtherBlocks last ss behind
+    → Reads (spots_source ss behind) (spots_items ss behind)
+further_reads last [] behind h = behind_reads behind h.stands
+further_reads last (s ∷ ss) behind h =
+    reads_either (spots_source (s ∷ ss) behind) (spots_items (s ∷ ss) behind)
+    (here_begins (spots_source (s ∷ ss) behind) (further_ends last (s ∷ ss) behind h))
+    (spot_reads s (spots_source ss behind) (spots_items ss behind) h.0 (further_ends s.block ss behind h.2) (further_reads s.block ss behind h.2))
+
+spots_read : (ss : List BlockSpot) (behind : List ℕ) → AreBlockSpots ss behind → ReadsAfter false (spots_source ss behind) (spots_items ss behind)
+spots_read [] behind h = absurd h
+spots_read (s ∷ ss) behind h =
+    spot_reads s (spots_source ss behind) (spots_items ss behind) h.0 (further_ends s.block ss behind h.1) (further_reads s.block ss behind h.1)
+
+pub items_of_spots : (ss : List BlockSpot) (behind : List ℕ) → AreBlockSpots ss behind → page_items (spots_source ss behind) ≡ spots_items ss behind
+items_of_spots ss behind h = page_read (spots_source ss behind) (spots_items ss behind) (spots_read ss behind h)
+
+pub spots_expanded : (pages : Pages) (ss : List BlockSpot) (behind : List ℕ) → AreBlockSpots ss behind
+    → expanded_page pages (spots_source ss behind) ≡ of_items (page_items (spots_source ss behind))
+spots_expanded pages ss behind h =
+    shown_expanded pages (spots_source ss behind) (page_words (spots_source ss behind) (spots_items ss behind) (spots_read ss behind h))
+
+pub spots_unrefused : (pages : Pages) (ss : List BlockSpot) (behind : List ℕ) → AreBlockSpots ss behind
+    → first_refusal pages (spots_source ss behind) (page_work pages (spots_source ss behind)) ≡ None
+spots_unrefused pages ss behind h =
+    shown_unrefused pages (spots_source ss behind) (page_words (spots_source ss behind) (spots_items ss behind) (spots_read ss behind h))

@@ -1,0 +1,120 @@
+-- Pages with typed paragraphs and headings: they are UTF-8, no tag is open where such a block begins, and with other typed texts they are such
+-- pages again.
+use Rattle.std.proofs.Common.{◌≡◌, ℕ, false, List, [], ◌∷◌, ◌++◌, refl, sym, subst, inl, inr}
+use Rattle.std.specs.Str.{IsUtf8}
+use Rattle.std.proofs.lemmas.Str.{IsUtf8-append, IsUtf8-nil}
+use Rattle.wt_isolation.specs.OpenTags.{ends_open}
+use Rattle.wt_expand.specs.PageItems.{page_items}
+use Rattle.wt_text_edit_laws.specs.TextBetween.{AreWholeLines}
+use Rattle.wt_text_edit_laws.proofs.Prose.InFront.{reads_nothing, read_items}
+use Rattle.wt_text_edit_laws.proofs.Paragraphs.Texts.{paragraph_utf8}
+use Rattle.wt_text_edit_laws.proofs.Paragraphs.ClearLines.{clear_first, clear_line}
+use Rattle.wt_text_edit_laws.specs.TypedHeadings.{Sides, AreSides, opening, closing}
+use Rattle.wt_text_edit_laws.specs.TextBlocks.{TextBlock, a_paragraph, a_heading, source_of, IsBlock, BeginsBetween}
+use Rattle.wt_text_edit_laws.specs.BlockSpots.{BlockSpot, spots_source, IsBlockSpot, AreFurtherBlocks, AreBlockSpots, SameRound, AreBlocks}
+use Rattle.wt_text_edit_laws.proofs.Blocks.BlockReading.{AreQuiet, opening_quiet, closing_quiet, each_quiet, typed_text}
+use Rattle.wt_text_edit_laws.proofs.Blocks.BlockMeaning.{heading_sides}
+
+-- ---- UTF-8
+
+equals_utf8 : IsUtf8 (61 ∷ [])
+unfolding lib.Utf8.encode
+equals_utf8 = (61 ∷ [], (refl, refl))
+
+space_utf8 : IsUtf8 (32 ∷ [])
+unfolding lib.Utf8.encode
+space_utf8 = (32 ∷ [], (refl, refl))
+
+tab_utf8 : IsUtf8 (9 ∷ [])
+unfolding lib.Utf8.encode
+tab_utf8 = (9 ∷ [], (refl, refl))
+
+quiet_utf8 : (bs : List ℕ) → AreQuiet bs → IsUtf8 bs
+quiet_utf8 [] h = IsUtf8-nil
+quiet_utf8 (b ∷ bs) h =
+    IsUtf8-append (b ∷ []) bs (each_quiet (λ (c : ℕ). IsUtf8 (c ∷ [])) equals_utf8 space_utf8 tab_utf8 b h.0) (quiet_utf8 bs h.1)
+
+text_utf8 : (s : Sides) (q : List ℕ) → IsBlock (a_heading s) q → IsUtf8 q
+text_utf8 s q (inl t) = paragraph_utf8 q (inl (typed_text s q t))
+text_utf8 s q (inr w) = w.utf8
+
+block_utf8 : (k : TextBlock) (q : List ℕ) → IsBlock k q → IsUtf8 (source_of k q)
+block_utf8 a_paragraph q h = paragraph_utf8 q h
+block_utf8 (a_heading s) q h =
+    let a : AreSides s = heading_sides s q h in
+    IsUtf8-append (opening s) (q ++ closing s) (quiet_utf8 (opening s) (opening_quiet s a))
+    (IsUtf8-append q (closing s) (text_utf8 s q h) (quiet_utf8 (closing s) (closing_quiet s a)))
+
+spot_utf8 : (s : BlockSpot) (rest : List ℕ) → IsBlockSpot s → IsUtf8 rest → IsUtf8 (s.before ++ (source_of s.block s.text ++ rest))
+spot_utf8 s rest h u =
+    IsUtf8-append s.before (source_of s.block s.text ++ rest) h.before_utf8
+    (IsUtf8-append (source_of s.block s.text) rest (block_utf8 s.block s.text h.block) u)
+
+further_utf8 : (last : TextBlock) (ss : List BlockSpot) (behind : List ℕ) → AreFurtherBlocks last ss behind → IsUtf8 (spots_source ss behind)
+further_utf8 last [] behind h = h.utf8
+further_utf8 last (s ∷ ss) behind h = spot_utf8 s (spots_source ss behind) h.0 (further_utf8 s.block ss behind h.2)
+
+pub spots_utf8 : (ss : List BlockSpot) (behind : List ℕ) → AreBlockSpots ss behind → IsUtf8 (spots_source ss behind)
+spots_utf8 [] behind h = absurd h
+spots_utf8 (s ∷ ss) behind h = spot_utf8 s (spots_source ss behind) h.0 (further_utf8 s.block ss behind h.1)
+
+-- ---- no tag is open before a block
+
+nothing_between : (last next : TextBlock) → BeginsBetween last next (page_items []) → ⊥
+nothing_between a_paragraph next h = absurd (subst (BeginsBetween a_paragraph next) (read_items [] [] reads_nothing) h)
+nothing_between (a_heading s) next h = absurd (subst (BeginsBetween (a_heading s) next) (read_items [] [] reads_nothing) h)
+
+clear_between : (front bs : List ℕ) (last next : TextBlock) → AreWholeLines bs → BeginsBetween last next (page_items bs) → ends_open (front ++ bs) ≡ false
+clear_between front [] last next e h = absurd (nothing_between last next h)
+clear_between front (b ∷ bs) last next e h = clear_line front b bs e
+
+-- behind this front
+abbrev pub AreClear : List ℕ → List BlockSpot → Type 0
+AreClear front [] = Unit {0}
+AreClear front (s ∷ ss) = (ends_open (front ++ s.before) ≡ false) × AreClear ((front ++ s.before) ++ source_of s.block s.text) ss
+
+further_clear : (front : List ℕ) (last : TextBlock) (ss : List BlockSpot) (behind : List ℕ) → AreFurtherBlocks last ss behind → AreClear front ss
+further_clear front last [] behind h = tt
+further_clear front last (s ∷ ss) behind h = (
+  clear_between front s.before last s.block h.0.before.ends h.1,
+  further_clear ((front ++ s.before) ++ source_of s.block s.text) s.block ss behind h.2,
+)
+
+pub spots_clear : (ss : List BlockSpot) (behind : List ℕ) → AreBlockSpots ss behind → AreClear [] ss
+spots_clear [] behind h = absurd h
+spots_clear (s ∷ ss) behind h =
+    (clear_first s.before h.0.before.ends, further_clear (s.before ++ source_of s.block s.text) s.block ss behind h.1)
+
+-- ---- with other texts
+
+abbrev same_spot : List ℕ → TextBlock → List ℕ → BlockSpot
+same_spot bs k q = record { before = bs; block = k; text = q }
+
+spot_again : (s r : BlockSpot) → IsBlockSpot s → r.before ≡ s.before → r.block ≡ s.block → IsBlock r.block r.text → IsBlockSpot r
+spot_again s r h e k t =
+    let own : IsBlock s.block r.text = subst (λ k. IsBlock k r.text) k t in
+    let so : IsBlockSpot (same_spot s.before s.block r.text) = record {
+      before = h.before;
+      before_utf8 = h.before_utf8;
+      ungrouped = h.ungrouped;
+      leads = h.leads;
+      block = own;
+    } in
+    subst (λ bs. IsBlockSpot (same_spot bs r.block r.text)) (sym e) (subst (λ k. IsBlockSpot (same_spot s.before k r.text)) (sym k) so)
+
+further_again : (last : TextBlock) (ss rs : List BlockSpot) (behind : List ℕ) → AreFurtherBlocks last ss behind → SameRound ss rs → AreBlocks rs
+    → AreFurtherBlocks last rs behind
+further_again last [] [] behind h e t = h
+further_again last [] (r ∷ rs) behind h e t = absurd e
+further_again last (s ∷ ss) [] behind h e t = absurd e
+further_again last (s ∷ ss) (r ∷ rs) behind h e t = (
+  spot_again s r h.0 e.0 e.1 t.0,
+  subst (λ bs. BeginsBetween last r.block (page_items bs)) (sym e.0) (subst (λ k. BeginsBetween last k (page_items s.before)) (sym e.1) h.1),
+  subst (λ k. AreFurtherBlocks k rs behind) (sym e.1) (further_again s.block ss rs behind h.2 e.2 t.1),
+)
+
+pub spots_again : (ss rs : List BlockSpot) (behind : List ℕ) → AreBlockSpots ss behind → SameRound ss rs → AreBlocks rs → AreBlockSpots rs behind
+spots_again [] rs behind h e t = absurd h
+spots_again (s ∷ ss) [] behind h e t = absurd e
+spots_again (s ∷ ss) (r ∷ rs) behind h e t =
+    (spot_again s r h.0 e.0 e.1 t.0, subst (λ k. AreFurtherBlocks k rs behind) (sym e.1) (further_again s.block ss rs behind h.1 e.2 t.1))

@@ -1,0 +1,228 @@
+-- Worked cases of a page with a heading directly above a paragraph, and another one directly below it, by computing.
+use Rattle.std.proofs.Common.{arith, ◌≡◌, ◌≤◌, ℕ, false, None, [], ◌∷◌, refl, inl}
+use Rattle.std.specs.Prelude.{codes}
+use Rattle.std.specs.Fmt.{digits}
+use Rattle.std.specs.Str.{chars, IsUtf8}
+use Rattle.std.proofs.lemmas.Str.{IsUtf8-nil}
+use Rattle.wt_tree.specs.declared.kind.Kind.TheVariants as kind
+use Rattle.wt_tree.specs.declared.kind.Mark.TheVariants as marks
+use Rattle.wt_tree.specs.Tree.{Label, Tree, tree, none}
+use Rattle.wt_span.specs.Comments.{comment_len, comment_line_len}
+use Rattle.wt_span.specs.Entities.{named_entity, entity_names, decimal_entity, hex_entity, entity_at}
+use Rattle.wt_span.specs.Lexemes.{sign_word, form_at, closed, words}
+use Rattle.wt_span.specs.Tags.{opening_tag, closing_tag, raw_len, include_at}
+use Rattle.wt_lines.specs.Kinds.{kind_of_signs}
+use Rattle.wt_tree.specs.declared.edit_shape.Place.TheVariants as place
+use Rattle.wt_guards.specs.Guards.{nowiki, is_guarded, is_between_guard, is_start_guard, is_end_guard, is_blank_guard, is_parted}
+use Rattle.wt_guards.specs.Letters.{is_escaped, reference}
+use Rattle.wt_guards.specs.Table.{hazard, line_start_hazard}
+use Rattle.wt_inline.specs.Parts.{children}
+use Rattle.wt_page.specs.Rows.{rows}
+use Rattle.wt_page.specs.Body.{blocks, meaning}
+use Rattle.wt_annotated.specs.Annotated.{annotated}
+use Rattle.wt_annotated.specs.GroupData.{group_data}
+use Rattle.wt_annotated.specs.Labels.{label_at}
+use Rattle.wt_expand.specs.PageItems.{page_items}
+use Rattle.wt_text_edit_laws.specs.TypedPages.{IsTypedPage}
+use Rattle.wt_typed_blocks.specs.Sent.{heading}
+use Rattle.wt_text_edit_laws.specs.TypedHeadings.{Sides, AreSides, spaced}
+use Rattle.wt_text_edit_laws.specs.TextBlocks.{a_paragraph, a_heading, IsTypedHeading, IsWrittenHeading, BeginsBetween}
+use Rattle.wt_text_edit_laws.specs.BlockSpots.{AreBlockSpots}
+use Rattle.wt_text_edit_laws.specs.BlockEdits.{BlockEdit, types, keeps, retyped, kept, old_spots, old_page, new_page, sendings}
+
+abbrev free : Label
+free = record {
+  kind = kind.Text;
+  id = 0;
+  ranges = None;
+  opening = [];
+  closing = [];
+  own = [];
+  shown = [];
+  attrs = [];
+  origin = None;
+  mark = marks.Nothing;
+  mw = None;
+}
+
+-- what is kept has no part in the new page's source
+abbrev node : Tree
+node = tree free none
+
+-- `[c]` is typed in the heading `h`, the heading `e` is emptied, and the paragraph between them stays. A line break is between two of them.
+abbrev edited : BlockEdit
+edited = record {
+  spots = record { spot = record { before = []; block = a_heading (spaced 2); text = codes "h" }; others = []; typing = types free free (codes "[c]") }
+      ∷ record { spot = record { before = codes "\n"; block = a_paragraph; text = codes "b" }; others = node ∷ []; typing = keeps node }
+      ∷ record { spot = record { before = codes "\n"; block = a_heading (spaced 3); text = codes "e" }; others = node ∷ []; typing = types free free [] }
+      ∷ [];
+  behind = codes "\n";
+  others = node ∷ [];
+}
+
+was : old_page edited ≡ codes "== h ==\nb\n=== e ===\n"
+was = refl
+
+-- brackets are references, and an emptied heading has a `<nowiki/>`; each has its `=` and its spaces as before
+now : new_page edited ≡ codes "== &#91;c&#93; ==\nb\n=== <nowiki/> ===\n"
+unfolding is_guarded is_between_guard is_start_guard is_end_guard is_blank_guard is_parted hazard line_start_hazard nowiki is_escaped reference digits chars lib.Utf8.encode
+now = refl
+
+sent : sendings edited
+    ≡ retyped (heading 2) free free (codes "[c]") ∷ kept node ∷ kept node ∷ kept node ∷ retyped (heading 3) free free [] ∷ kept node ∷ []
+sent = refl
+
+-- ---- such a page is one of the class
+
+spaced_sides : (n : ℕ) → 1 ≤ n → n ≤ 6 → AreSides (spaced n)
+spaced_sides n some most = record { some = some; most = most; lead = (refl, tt); trail = (refl, tt); rest = tt }
+
+typed_h : IsTypedHeading (spaced 2) (codes "h")
+unfolding is_guarded is_between_guard is_start_guard is_end_guard is_blank_guard is_parted hazard line_start_hazard nowiki is_escaped chars lib.Utf8.encode
+typed_h = record {
+  sides = spaced_sides 2 (omega arith) (omega arith);
+  setting = record { within = false; place = place.Heading; source = [] };
+  text = codes "h";
+  utf8 = (codes "h", (refl, refl));
+  one_line = refl;
+  of_block = refl;
+  of_heading = refl;
+  is = refl;
+}
+
+typed_e : IsTypedHeading (spaced 3) (codes "e")
+unfolding is_guarded is_between_guard is_start_guard is_end_guard is_blank_guard is_parted hazard line_start_hazard nowiki is_escaped chars lib.Utf8.encode
+typed_e = record {
+  sides = spaced_sides 3 (omega arith) (omega arith);
+  setting = record { within = false; place = place.Heading; source = [] };
+  text = codes "e";
+  utf8 = (codes "e", (refl, refl));
+  one_line = refl;
+  of_block = refl;
+  of_heading = refl;
+  is = refl;
+}
+
+typed_b : IsTypedPage (codes "b")
+unfolding is_guarded is_between_guard is_start_guard is_end_guard is_blank_guard is_parted hazard line_start_hazard nowiki is_escaped chars lib.Utf8.encode
+typed_b = record {
+  setting = record { within = false; place = place.Paragraph; source = [] };
+  text = codes "b";
+  utf8 = (codes "b", (refl, refl));
+  of_block = refl;
+  is = refl;
+}
+
+break_utf8 : IsUtf8 (codes "\n")
+unfolding lib.Utf8.encode
+break_utf8 = (codes "\n", (refl, refl))
+
+are_spots : AreBlockSpots (old_spots edited.spots) (codes "\n")
+unfolding page_items words closed form_at comment_len comment_line_len raw_len opening_tag closing_tag include_at entity_at named_entity decimal_entity
+    hex_entity entity_names sign_word kind_of_signs annotated group_data label_at meaning rows blocks children
+are_spots = (
+  record {
+    before = record { ends = tt; has_ends = refl; uncalled = tt };
+    before_utf8 = IsUtf8-nil;
+    ungrouped = (refl, tt);
+    leads = record { whole = refl; closed = refl };
+    block = inl typed_h;
+  },
+  (
+    record {
+      before = record { ends = refl; has_ends = (refl, refl); uncalled = (tt, tt) };
+      before_utf8 = break_utf8;
+      ungrouped = (refl, ((refl, tt), tt));
+      leads = record { are_closed = record { whole = refl; closed = refl }; apart = refl };
+      block = inl typed_b;
+    },
+    refl,
+    (
+      record {
+        before = record { ends = refl; has_ends = (refl, refl); uncalled = (tt, tt) };
+        before_utf8 = break_utf8;
+        ungrouped = (refl, ((refl, tt), tt));
+        leads = record { whole = refl; closed = refl };
+        block = inl typed_e;
+      },
+      (refl, (record { whole = refl; closed = refl }), tt),
+      record {
+        stands = record { uncommented = refl; uncalled = (tt, tt) };
+        utf8 = break_utf8;
+        ungrouped = (refl, ((refl, tt), tt));
+        ends = refl;
+      },
+    ),
+  ),
+)
+
+-- a heading that was written by hand: a heading spells this ampersand as a reference
+written_heading : IsWrittenHeading (spaced 2) (codes "Q&A")
+unfolding page_items words closed form_at comment_len comment_line_len raw_len opening_tag closing_tag include_at entity_at named_entity decimal_entity
+    hex_entity entity_names sign_word lib.Utf8.encode
+written_heading = record {
+  sides = spaced_sides 2 (omega arith) (omega arith);
+  utf8 = (codes "Q&A", (refl, refl));
+  stands = record { ends = refl; has_ends = (refl, (refl, (refl, (refl, (refl, (refl, (refl, (refl, (refl, (refl, refl)))))))))); uncalled = (tt, (tt, (tt, (tt, (tt, (tt, tt)))))) };
+  uncalled = (tt, (tt, (tt, (tt, (tt, tt)))));
+  ended = refl;
+  unended = refl;
+  are_letters = tt;
+  is_text = record {
+    still = (
+      record { bracket = refl; tag = refl; quotes = refl; switch = refl; address = refl },
+      (
+        record { bracket = refl; tag = refl; quotes = refl; switch = refl; address = refl },
+        (record { bracket = refl; tag = refl; quotes = refl; switch = refl; address = refl }, tt),
+      ),
+    );
+    unbroken = (refl, (refl, (refl, tt)));
+    begins = refl;
+    ends = refl;
+  };
+  apart = record { first = refl; last = refl };
+}
+
+-- and one without spaces, with a space behind it
+abbrev bare : Sides
+bare = record { level = 2; lead = []; trail = []; rest = codes " " }
+
+written_bare : IsWrittenHeading bare (codes "Q&A")
+unfolding page_items words closed form_at comment_len comment_line_len raw_len opening_tag closing_tag include_at entity_at named_entity decimal_entity
+    hex_entity entity_names sign_word lib.Utf8.encode
+written_bare = record {
+  sides = record { some = omega arith; most = omega arith; lead = tt; trail = tt; rest = (refl, tt) };
+  utf8 = written_heading.utf8;
+  stands = record {
+    ends = refl;
+    has_ends = (refl, (refl, (refl, (refl, (refl, (refl, (refl, (refl, (refl, refl)))))))));
+    uncalled = (tt, (tt, (tt, (tt, (tt, (tt, tt))))));
+  };
+  uncalled = (tt, (tt, (tt, (tt, (tt, (tt, tt))))));
+  ended = refl;
+  unended = refl;
+  are_letters = tt;
+  is_text = written_heading.is_text;
+  apart = record { first = refl; last = refl };
+}
+
+-- its text becomes another one between the same signs
+abbrev retyped_bare : BlockEdit
+retyped_bare = record {
+  spots = record { spot = record { before = []; block = a_heading bare; text = codes "Q&A" }; others = []; typing = types free free (codes "=a=") } ∷ [];
+  behind = codes "\n";
+  others = node ∷ [];
+}
+
+bare_was : old_page retyped_bare ≡ codes "==Q&A== \n"
+bare_was = refl
+
+bare_now : new_page retyped_bare ≡ codes "==<nowiki/>=a&#61;== \n"
+unfolding is_guarded is_between_guard is_start_guard is_end_guard is_blank_guard is_parted hazard line_start_hazard nowiki is_escaped reference digits chars lib.Utf8.encode
+bare_now = refl
+
+-- two paragraphs with one line break between them would be one
+two_paragraphs : BeginsBetween a_paragraph a_paragraph (page_items (codes "\n")) → ⊥
+unfolding page_items words closed form_at comment_len comment_line_len raw_len opening_tag closing_tag include_at entity_at named_entity decimal_entity
+    hex_entity entity_names sign_word kind_of_signs
+two_paragraphs h = absurd h.2

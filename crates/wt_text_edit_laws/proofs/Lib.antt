@@ -1,0 +1,6 @@
+pub mod Texts
+pub mod Prose
+pub mod Between
+pub mod Paragraphs
+pub mod Headings
+pub mod Blocks

@@ -1,0 +1,9 @@
+-- A typed paragraph among any other blocks.
+pub mod Apart
+pub mod Texts
+pub mod Joining
+pub mod Standing
+pub mod Paragraphs
+pub mod PartTrees
+pub mod ClearLines
+mod Cases

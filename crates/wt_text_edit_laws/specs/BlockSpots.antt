@@ -1,0 +1,66 @@
+-- A page with typed paragraphs and headings among any other blocks: its parts, one after the other, and what each makes.
+use Rattle.std.specs.Prelude.{◌≡◌, ℕ, List, [], ◌∷◌, ◌++◌}
+use Rattle.std.specs.Str.{IsUtf8}
+use Rattle.wt_inline.specs.ItemTree.{ItemTree}
+use Rattle.wt_expand.specs.PageItems.{page_items}
+use Rattle.wt_text_edit_laws.specs.TextBetween.{StandsBefore, StandsBehind}
+use Rattle.wt_text_edit_laws.specs.ParagraphBetween.{blocks_in}
+use Rattle.wt_text_edit_laws.specs.Parts.{HasNoGroups}
+use Rattle.wt_text_edit_laws.specs.TextBlocks.{TextBlock, source_of, block_tree, IsBlock, LeadsTo, EndsBlock, BeginsBetween}
+
+-- ---- the page's source
+
+-- A paragraph or a heading with a text, and what stands before it, behind the one before or at the page's start: other blocks, with the line
+-- breaks round them.
+pub record BlockSpot : Type 0 where
+  pub before : List ℕ
+  pub block : TextBlock
+  pub text : List ℕ
+
+-- and what stands behind the last
+abbrev pub spots_source : List BlockSpot → List ℕ → List ℕ
+spots_source [] behind = behind
+spots_source (s ∷ ss) behind = s.before ++ (source_of s.block s.text ++ spots_source ss behind)
+
+-- ---- what it means
+
+abbrev pub page_blocks : List BlockSpot → List ℕ → List ItemTree
+page_blocks [] behind = blocks_in (page_items behind)
+page_blocks (s ∷ ss) behind = blocks_in (page_items s.before) ++ block_tree s.block s.text ∷ page_blocks ss behind
+
+-- ---- where the parts stand by themselves
+
+pub record IsBlockSpot (s : BlockSpot) : Type 0 where
+  pub before : StandsBefore s.before
+  pub before_utf8 : IsUtf8 s.before
+  pub ungrouped : HasNoGroups s.before
+  pub leads : LeadsTo s.block (page_items s.before)
+  pub block : IsBlock s.block s.text
+
+-- behind such a block
+pub record IsBlockEnd (last : TextBlock) (behind : List ℕ) : Type 0 where
+  pub stands : StandsBehind behind
+  pub utf8 : IsUtf8 behind
+  pub ungrouped : HasNoGroups behind
+  pub ends : EndsBlock last (page_items behind)
+
+abbrev pub AreFurtherBlocks : TextBlock → List BlockSpot → List ℕ → Type 0
+AreFurtherBlocks last [] behind = IsBlockEnd last behind
+AreFurtherBlocks last (s ∷ ss) behind = IsBlockSpot s × BeginsBetween last s.block (page_items s.before) × AreFurtherBlocks s.block ss behind
+
+-- There is one paragraph or heading at least; nothing need stand before the first.
+abbrev pub AreBlockSpots : List BlockSpot → List ℕ → Type 0
+AreBlockSpots [] behind = ⊥
+AreBlockSpots (s ∷ ss) behind = IsBlockSpot s × AreFurtherBlocks s.block ss behind
+
+-- ---- pages that are the same but for the texts of these
+
+abbrev pub SameRound : List BlockSpot → List BlockSpot → Type 0
+SameRound [] [] = Unit {0}
+SameRound [] (r ∷ rs) = ⊥
+SameRound (s ∷ ss) [] = ⊥
+SameRound (s ∷ ss) (r ∷ rs) = (r.before ≡ s.before) × (r.block ≡ s.block) × SameRound ss rs
+
+abbrev pub AreBlocks : List BlockSpot → Type 0
+AreBlocks [] = Unit {0}
+AreBlocks (s ∷ ss) = IsBlock s.block s.text × AreBlocks ss

@@ -1,0 +1,65 @@
+-- A paragraph whose content is one text, whoever wrote it.
+use Rattle.std.specs.Prelude.{◌≡◌, ◌⊎◌, ℕ, Some, None, List, [], ◌∷◌, ◌++◌, All}
+use Rattle.std.specs.Str.{IsUtf8}
+use Rattle.wt_span.specs.declared.form.Mode.TheVariants.{Page}
+use Rattle.wt_span.specs.declared.form.ItemForm.{ItemForm}
+use Rattle.wt_span.specs.declared.form.ItemForm.TheVariants as form
+use Rattle.wt_span.specs.Characters as byte
+use Rattle.wt_span.specs.Items.{Item, char, whole}
+use Rattle.wt_span.specs.Lexemes.{words}
+use Rattle.wt_lines.specs.declared.kind.LineKind.TheVariants as line
+use Rattle.wt_lines.specs.Kinds.{line_kind}
+use Rattle.wt_lines.specs.Lines.{lines, full_lines, content}
+use Rattle.wt_inline.specs.declared.loose.Loose.TheVariants.{Text}
+use Rattle.wt_inline.specs.Parts.{parts}
+use Rattle.wt_context.specs.Line.{line_parts}
+use Rattle.wt_page.specs.Rows.{marks_len}
+use Rattle.wt_expand.specs.PageItems.{page_items}
+use Rattle.wt_text_edit_laws.specs.TypedPages.{IsTypedPage}
+use Rattle.wt_text_edit_laws.specs.TextBetween.{HasNoTag, HaveNoBraces, StandsBefore}
+
+-- ---- a text that somebody wrote in the page's own wikitext
+
+abbrev pub IsReference : ItemForm → Type 0
+IsReference form.Chars = ⊥
+IsReference (form.Entity c) = Unit {0}
+IsReference form.Nowiki = ⊥
+IsReference form.Extension = ⊥
+IsReference form.Function = ⊥
+IsReference form.Comment = ⊥
+IsReference form.Include = ⊥
+IsReference form.Hidden = ⊥
+IsReference form.EmptyCall = ⊥
+
+-- Characters of the page, and references to characters, in which is no `<`. A `<` that begins no tag and no comment is a character.
+abbrev pub AreLetters : List Item → Type 0
+AreLetters [] = Unit {0}
+AreLetters (char None b ∷ xs) = AreLetters xs
+AreLetters (char (Some k) b ∷ xs) = ⊥
+AreLetters (whole f None bs ∷ xs) = IsReference f × HasNoTag bs × AreLetters xs
+AreLetters (whole f (Some k) bs ∷ xs) = ⊥
+
+abbrev pub IsTextLine : List Item → Type 0
+IsTextLine l = line_kind 0 l ≡ line.Text
+
+-- Lines before which no mark stands, and each of which is one text: no link, style, switch or address begins in it.
+abbrev pub AreOneText : List (List Item) → Type 0
+AreOneText [] = Unit {0}
+AreOneText (l ∷ ls) = (marks_len l ≡ 0) × (line_parts (content l) ≡ parts Text (content l)) × AreOneText ls
+
+-- Lines of text without two braces side by side, whether a line break stands behind them or the page ends there. They are
+-- characters and references, and nothing else.
+pub record IsWrittenText (q : List ℕ) : Type 0 where
+  pub utf8 : IsUtf8 q
+  pub stands : StandsBefore (q ++ byte.line_break ∷ [])
+  pub uncalled : HaveNoBraces (words Page q)
+  pub ended : page_items (q ++ byte.line_break ∷ []) ≡ page_items q ++ char None byte.line_break ∷ []
+  pub are_letters : AreLetters (page_items q)
+  pub are_one : AreOneText (full_lines (page_items q))
+  pub are_lines : All IsTextLine (lines (page_items q))
+
+-- ---- any such paragraph
+
+-- a text that was typed and spelled, or written
+abbrev pub IsParagraph : List ℕ → Type 0
+IsParagraph q = IsTypedPage q ⊎ IsWrittenText q
