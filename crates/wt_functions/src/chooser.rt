@@ -165,17 +165,17 @@ impl Chooser {
         })
     }
 
-    /// How many parts are told.
+    /// The last part that is told.
     #[tactic(auto, unfolding(crate::specs::Choice::told_count))]
-    fn told_count(&self) -> usize
-        ensures { result ≡ told_count self.now.function self.now.equals self.now.texts }
+    fn last_told(&self) -> usize
+        ensures { 1 + result ≡ told_count self.now.function self.now.equals self.now.texts }
     {
         match self.function {
-            Function::If => 1,
-            Function::IfEq => 1 + self.equals.len().min(1),
+            Function::If => 0,
+            Function::IfEq => self.equals.len().min(1),
             Function::Switch => match self.equal {
-                Some(part) => 1 + part,
-                None => 1 + self.equals.len(),
+                Some(part) => part,
+                None => self.equals.len(),
             },
         }
     }
@@ -202,7 +202,7 @@ impl Chooser {
         ensures { result ≡ asked self.now }
     {
         let told = self.texts.len();
-        if told < self.told_count() {
+        if told <= self.last_told() {
             return Ask::Tell(told);
         }
         match self.chosen() {
