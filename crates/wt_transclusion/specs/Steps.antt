@@ -1,5 +1,5 @@
 -- What is read of a stretch in one step.
-use Rattle.std.specs.Prelude.{◌≡◌, ◌<◌, ◌≤◌, ℕ, suc, ◌+◌, ◌-◌, Bool, List, ◌∷◌, take, drop}
+use Rattle.std.specs.Prelude.{◌≡◌, ◌<◌, ◌≤◌, ℕ, suc, ◌+◌, ◌-◌, Bool, Some, List, ◌∷◌, slice_get, take, drop}
 use Rattle.wt_span.specs.declared.form.Mode.{Mode}
 use Rattle.wt_span.specs.declared.form.LexKind.{LexKind}
 use Rattle.wt_span.specs.Lexemes.{words}
@@ -10,6 +10,7 @@ use Rattle.wt_transclusion.specs.declared.cursor.Next.{Next}
 use Rattle.wt_transclusion.specs.declared.cursor.Next.TheVariants as next
 use Rattle.wt_transclusion.specs.Cursors.{starts}
 use Rattle.wt_transclusion.specs.Marks.{Mark, words_marks}
+use Rattle.wt_transclusion.specs.Reads.{braces_of}
 use Rattle.wt_transclusion.specs.Stretch.{calls_before, IsStretch}
 
 -- what members give that begin at a place of a text

@@ -2,6 +2,7 @@ use Rattle.std.proofs.Common.{ℕ, List, get_or, sym, subst, drop, map, length, 
 use Rattle.std.proofs.lemmas.Option.{slice_get_read, slice_get_past}
 use Rattle.wt_lex.specs.declared.lexeme.Lexeme.{Lexeme}
 use Rattle.wt_transclusion.specs.Reads.{braces_of}
+use Rattle.wt_transclusion.specs.declared.read.Braces.{Braces}
 use Rattle.wt_transclusion.specs.declared.cursor.Next.TheVariants as next
 use Rattle.wt_transclusion.specs.Steps.{MayFollow, AnswersNext}
 use Rattle.wt_transclusion.specs.Stretch.{IsLimit}
@@ -10,10 +11,11 @@ use Rattle.wt_transclusion.proofs.cursor.Cursor.next.Goals as goal
 
 pub returns-then-limit-self : goal.returns-then-limit-self
 returns-then-limit-self c = λ mode bytes xs h at s.
-    next_call mode bytes c.args.text _ c.args.self.at c.args.end c.args.self.call xs h at.call_is s c.requires
+    subst (λ (b : Braces). AnswersNext mode bytes c.args.self.at c.args.end xs (next.Call b)) c.index-text-call.is
+    (next_call mode bytes c.args.text c.index-text-call.result c.args.self.at c.args.end c.args.self.call xs h at.call_is s c.requires
     (subst (IsLimit (drop c.args.self.call (map braces_of c.args.text.calls.now)) c.args.end) c.if-limit-self.true c.limit_at-limit.ensures.limit)
     (slice_get_read c.args.text.calls.now (length c.args.text.calls.now) c.args.self.call c.index-text-call.result refl
-    (c.limit_at-limit.ensures.there (omega arith)) c.index-text-call.is)
+    (c.limit_at-limit.ensures.there (omega arith)) c.index-text-call.is))
 
 pub returns-then-self-text : goal.returns-then-self-text
 returns-then-self-text c = λ mode bytes xs h at s.
