@@ -10,7 +10,7 @@ use Rattle.wt_template_stack.specs.ToldParts.{have_equals}
 
 -- of a call with a target
 pub parts_asked : (t : Telling) (ps : List PartOf) → 0 < length ps → t.equals ≡ have_equals ps → length t.equals < length ps
-parts_asked t [] some e = some
+parts_asked t [] some e = absurd (omega arith)
 parts_asked t (p ∷ ps) some e = let n = ap length e ∙ length-map ps _ in omega (arith, n)
 
 -- one more text changes no part
