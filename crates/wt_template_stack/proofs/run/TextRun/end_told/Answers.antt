@@ -13,12 +13,12 @@ use Rattle.wt_template_stack.proofs.run.TextRun.end_told.Goals as goal
 pub invariant_of-next-clause-parts : goal.invariant_of-next-clause-parts
 invariant_of-next-clause-parts c = parts_still c.args.choosing.chooser _ _ _ c.in_ok-told.ensures.ok c.args.choosing.parts
 
-pub part_at-part-in-Tell-requires : goal.part_at-part-in-Tell-requires
-part_at-part-in-Tell-requires c =
+pub part_at-part-requires : goal.part_at-part-requires
+part_at-part-requires c =
     told_is_there c.args.choosing.chooser _ _ _ _ c.in_ok-told.ensures.ok c.args.choosing.parts (sym c.ask.ensures ∙ c.in-Tell.is)
 
-pub part_at-part-in-Give-requires : goal.part_at-part-in-Give-requires
-part_at-part-in-Give-requires c =
+pub part_at-part-requires-in-Give : goal.part_at-part-requires-in-Give
+part_at-part-requires-in-Give c =
     given_is_there c.args.choosing.chooser _ _ _ _ c.in_ok-told.ensures.ok c.args.choosing.parts (sym c.ask.ensures ∙ c.in-Give.is)
 
 pub returns-in-Tell-clause-answer : goal.returns-in-Tell-clause-answer
@@ -27,10 +27,10 @@ returns-in-Tell-clause-answer c = λ r t total h s.
       total,
       spends_none c.args.spent.now total,
       c.in_ok-begin_level-in-Tell.ensures.answer r t total
-          (told_begins r t c.args.self.now c.args.choosing _ c.args.out c.as_str.result.now c.in-Tell.number c.part_at-part-in-Tell.result
+          (told_begins r t c.args.self.now c.args.choosing _ c.args.out c.as_str.result.now c.in-Tell.number c.part_at-part.result
           c.told_end-end.result c.args.spent.now total s h text
           (record { call_is = refl; at_start_is = refl; function_is = refl; begun_is = refl; number_is = refl; spent_is = refl; chooser_is = c.in_ok-told.ensures.ok })
-          (sym c.ask.ensures ∙ c.in-Tell.is) c.part_at-part-in-Tell.ensures c.told_end-end.ensures),
+          (sym c.ask.ensures ∙ c.in-Tell.is) c.part_at-part.ensures c.told_end-end.ensures),
     )
 
 pub returns-in-Give-clause-answer : goal.returns-in-Give-clause-answer
