@@ -11,8 +11,9 @@ from typing import Optional
 from .other_tools import titles
 from .pages import PageFolder, revision
 
-CALL = re.compile(r"\{\{+([^{}|]+)")  # where a call's target begins, behind all braces
-HIDDEN = re.compile(r"<!--.*?(?:-->|\Z)|</?(?:include|no|only)[a-z]*[^<>]*>", re.DOTALL | re.IGNORECASE)
+# Where a call's target begins, behind all braces, which are looked at once, from the first one on.
+CALL = re.compile(r"(?<!\{)\{\{+([^{}|]+)")
+HIDDEN = re.compile(r"<!--.*?(?:-->|\Z)|</?(?:include|no|only)[^<>]*>", re.DOTALL | re.IGNORECASE)
 MOST_NAMES = 100_000  # that are remembered
 TAG = re.compile(r'\s*(?:W/)?"([\x21\x23-\x7e]*)"\s*(?:,|\Z)')
 

@@ -29,6 +29,10 @@ from .refusals import Refusal
 from .tags import bears_mark, numbers
 
 CLIENT = Path(__file__).resolve().parent.parent.parent / "client"
+# Of one kind in an `Accept`: the version of Parsoid's HTML that it asks for, any profile, and what takes each version.
+WANTED_VERSION = re.compile(r'\s*text/html[^,]*?profile="[^"]*/Specs/HTML/([0-9]+)', re.IGNORECASE)
+WITH_PROFILE = re.compile(r'\s*text/html[^,]*profile="[^"]*"', re.IGNORECASE)
+ANY_HTML = re.compile(r"text/html|text/\*|\*/\*")
 STATIC = re.compile(r"(?!tests/)(?:[A-Za-z0-9_-]+/)*[A-Za-z0-9_-][A-Za-z0-9_.-]*\.(?:js|css|svg)")
 TYPES = {"js": "text/javascript", "css": "text/css", "svg": "image/svg+xml"}
 
@@ -518,10 +522,14 @@ def saved(found: Dict[str, object]) -> Answer:
 
 def check_accepted(field: str) -> None:
     """Refuses with 406 a request for another major version of the HTML alone."""
-    wanted = re.findall(r'text/html[^,]*?profile="[^"]*/Specs/HTML/([0-9]+)', field, re.IGNORECASE)
-    others = re.sub(r'text/html[^,]*profile="[^"]*"', "", field, flags=re.IGNORECASE)
-    takes_any = not wanted or re.search(r"text/html|text/\*|\*/\*", others)
-    if not takes_any and HTML_VERSION.split(".")[0] not in wanted:
+    wanted, takes_any = [], False
+    for kind in field.split(","):
+        version = WANTED_VERSION.match(kind)
+        if version:
+            wanted.append(version[1])
+        elif not WITH_PROFILE.match(kind):
+            takes_any = takes_any or ANY_HTML.search(kind) is not None
+    if wanted and not takes_any and HTML_VERSION.split(".")[0] not in wanted:
         sentence = f"The HTML is of version {HTML_VERSION}: ask for that, or for none."
         raise Refusal(406, "NotAcceptable", sentence)
 

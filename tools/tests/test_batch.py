@@ -731,18 +731,20 @@ class OtherBytes(BatchCase):
 
 
 class CalledNames(unittest.TestCase):
-    """The names of pages that a text calls."""
+    """The names that a text's calls have written out."""
 
-    def test_blanks_round_a_name_are_not_in_it(self) -> None:
-        self.assertEqual(
-            examine.called_names(b"{{ A\n}} {{B |c}} {{:D}} {{}} {{ }}"), ["Template:A", "Template:B", "D"]
-        )
+    def test_names(self) -> None:
+        for text, names in {
+            b"{{a}} {{ A | b }} {{a_b\n|x}}": ["Template:A", "Template:A b"],
+            b"{{:a}} {{user:x}} {{{1}}} {{ }} {{a\tb}}": ["A", "User:X", "Template:1"],
+        }.items():
+            self.assertEqual(examine.called_names(text), names, text)
 
-    def test_open_braces_before_many_blanks_take_no_long_time(self) -> None:
-        start = time.process_time()
-        for text in (b"{{" + b" " * 100_000, b"{{a" + b"\n" * 100_000 + b"["):
+    def test_they_take_time_in_proportion(self) -> None:
+        for text in (b"{" * 500_000, b"{{" + b" " * 500_000 + b"a", b"{{a" + b"\n" * 500_000 + b"["):
+            began = time.process_time()
             self.assertEqual(examine.called_names(text), [])
-        self.assertLess(time.process_time() - start, 5)
+            self.assertLess(time.process_time() - began, 5)
 
 
 class FileNames(unittest.TestCase):

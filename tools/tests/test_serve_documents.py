@@ -346,6 +346,12 @@ class Calls(unittest.TestCase):
             with self.subTest(text=text):
                 self.assertEqual(fingerprints.names_in(text.encode()), names)
 
+    def test_names_take_time_in_proportion(self) -> None:
+        for text in (b"{" * 500_000, b"a <no" + b"a" * 500_000, b"{{" + b" " * 500_000, b"<!--" * 100_000):
+            began = time.process_time()
+            self.assertEqual(fingerprints.names_in(text), ())
+            self.assertLess(time.process_time() - began, 5)
+
     def test_names_that_are_remembered(self) -> None:
         """The pages that were looked at last, up to a number of names in all."""
         names = fingerprints.NamesOfPages()

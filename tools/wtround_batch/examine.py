@@ -20,6 +20,7 @@ MEMORY_OF_TEXTS = 32 << 20  # bytes of templates that a worker remembers
 GROUP_BYTES = 64 << 10  # of the questions with which those begin that go on side by side
 MOST_FINDINGS = 100  # of a page that are kept with their places
 # A call whose name is written out. Names that other calls make are found when the program asks for them.
+# Blanks beside the name are in it, so that there is one way alone to match.
 CALL = re.compile(rb"\{\{([^{}|<>\[\]#]+)(?:\||\}\})")
 # A call in whose name another one stands.
 CALL_OF_MADE_NAME = re.compile(rb"\{\{[^{}|#]*\{\{")
