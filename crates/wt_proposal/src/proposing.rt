@@ -103,7 +103,7 @@ fn push_inside<'t, 'a>(
     let by = spelled(alloc, writing, inside(new), edges_of(inside(old)))?;
     let place = Slot {
         start: inside_start(old.ranges),
-        end: inside_end(old)?,
+        end: inside_end(old),
     };
     push_change(out, place, by)
 }
@@ -330,7 +330,7 @@ fn push_node<'t, 'a>(
     push_inside(alloc, out, plan, block.number, new, old)?;
     let children = held(alloc, old)?;
     let signs = signs_of(alloc, plan.known, old)?;
-    let begun = begun(old)?;
+    let begun = begun(old);
     let held = Held {
         children: children.as_slice(),
         signs: signs.as_str(),
