@@ -55,7 +55,7 @@ fn differing_child<'a>(
     found: KnownPage<'a>,
     tree: &Node<'a>,
     edited: &Node<'a>,
-) -> Result<Option<u32>, NoMemory>
+) -> Result<Option<usize>, NoMemory>
     requires body { (label (view tree.now)).kind ≡ kind.Body }
     requires numbered { ∥ InPreorder (view tree.now) ∥₁ }
     ensures { IfOk result (IsFirstDiffering (shown_children (view found.entry.annotated.tree.body))
