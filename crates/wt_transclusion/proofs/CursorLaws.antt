@@ -235,8 +235,7 @@ pub next_call : (m : Mode) (t : List ℕ) (r : ReadText) (b : Braces) (p e n : �
 next_call m t r b p e n xs h k s low l there =
     let is : n ≡ calls_before p (calls 0 (words m t)) = k ∙ count_calls p r.calls.now ∙ ap (calls_before p) h.calls_are in
     let same : drop n (map braces_of r.calls.now) ≡ drop (calls_before p (calls 0 (words m t))) (calls 0 (words m t)) = ap (drop n) h.calls_are
-    ∙ ap (λ j. drop j (calls 0 (words m t))) is in
-    (
+    ∙ ap (λ j. drop j (calls 0 (words m t))) is in (
       call_there (words_marks (words m t)) (calls 0 (words m t)) p e xs s low (subst (λ cs. IsLimit cs e p) same l),
       ap (slice_get (calls 0 (words m t))) (sym is) ∙ ap (λ cs. slice_get cs n) (sym h.calls_are) ∙ slice_get-map braces_of r.calls.now n
           ∙ ap (option_map braces_of) there,
