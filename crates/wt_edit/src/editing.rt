@@ -64,7 +64,7 @@ fn differing_child<'a>(
     alloc: Global,
     found: KnownPage<'a>,
     revision: Revision<'_, 'a>,
-) -> Result<Option<u32>, NoMemory>
+) -> Result<Option<usize>, NoMemory>
     requires body { (label (view revision.annotated.now.tree.body)).kind ≡ kind.Body }
     ensures { IfOk result (IsFirstDiffering (shown_children (view found.entry.annotated.tree.body))
         (shown_children (restored_from (view revision.entry.annotated.now.tree.body)

@@ -24,7 +24,7 @@ pub enum EditRefusal {
     /// The expansion of the new page is refused, for this cause. It is neither `FolderFault` nor `NoMemory`.
     NewExpansion(ExpandRefusal),
     /// The new page doesn't show what the edited tree shows, first in this child of the body, counted from 1.
-    Unspelled(u32),
+    Unspelled(usize),
     /// The folder failed, while the new page was expanded.
     FolderFault,
     /// No memory was found.

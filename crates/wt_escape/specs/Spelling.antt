@@ -1,5 +1,5 @@
 -- The spelling: the signs of the edited content, and what is written for a block.
-use Rattle.std.specs.Prelude.{ℕ, ◌+◌, ◌-◌, Bool, true, false, ◌==◌, Option, Some, None, List, [], ◌∷◌, ◌++◌, length, if◌then◌else◌, codes, replicate, encode_utf8}
+use Rattle.std.specs.Prelude.{ℕ, ◌+◌, ◌-◌, min, Bool, true, false, ◌==◌, Option, Some, None, List, [], ◌∷◌, ◌++◌, length, if◌then◌else◌, codes, replicate, encode_utf8}
 use Rattle.std.specs.Str.{bytes_eq}
 use Rattle.wt_span.specs.Characters as byte
 use Rattle.wt_names.specs.declared.namespace.Ns.{Ns}
@@ -69,10 +69,10 @@ is_style inline.AsItStood = false
 abbrev pub stretch : ℕ → ℕ → Option Stretch
 stretch start end = if start == end then None else Some (record { start = start; end = end })
 
--- where the delimiters of a style are in the page, if they aren't empty
+-- Where the delimiters of a style are in the page, if they aren't empty. Neither is longer than the style.
 abbrev pub opening_place : Option Kept → Option Stretch
 opening_place None = None
-opening_place (Some k) = if is_style (edit_shape (label k.node).kind).inline then stretch k.place.start (k.place.start + length (label k.node).opening) else None
+opening_place (Some k) = if is_style (edit_shape (label k.node).kind).inline then stretch k.place.start (min (k.place.start + length (label k.node).opening) k.place.end) else None
 
 abbrev pub closing_place : Option Kept → Option Stretch
 closing_place None = None

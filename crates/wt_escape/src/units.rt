@@ -1,7 +1,7 @@
 //! The edited content as units: texts as they are in the edited tree, and nodes with what they
 //! write.
 
-ghost use Rattle.std.specs.Prelude.{◌≡◌, [], ◌∷◌, ◌++◌, OnOk, IfOk, List, Bool, Some, None, option_map, string_bytes};
+ghost use Rattle.std.specs.Prelude.{◌≡◌, ◌+◌, min, [], ◌∷◌, ◌++◌, OnOk, IfOk, List, Bool, Some, None, option_map, string_bytes};
 ghost use Rattle.wt_tree.specs.Tree.{Tree};
 ghost use Rattle.wt_tree.specs.View.{view, views, label_of};
 ghost use Rattle.wt_tree.specs.declared.node.Node.{out-Node};
@@ -187,8 +187,15 @@ fn is_style(inline: InlineForm) -> bool
     }
 }
 
+/// Where an opening delimiter of this length ends that begins here, in a node that ends there.
+fn opening_end(start: usize, length: usize, end: usize) -> usize
+    ensures { result ≡ min (start + length) end }
+{
+    start.saturating_add(length).min(end)
+}
+
 /// Where the opening delimiter of a kept style is.
-fn opening_place(alloc: Global, kept: Option<Kept<'_, '_>>) -> Result<Option<Stretch>, NoMemory>
+fn opening_place(alloc: Global, kept: Option<Kept<'_, '_>>) -> Result<Option<Stretch>, AllocError>
     ensures { IfOk result (λ place. place ≡ opening_place (option_map kept_view kept.entry)) }
 {
     let Some(kept) = kept else {
@@ -198,10 +205,7 @@ fn opening_place(alloc: Global, kept: Option<Kept<'_, '_>>) -> Result<Option<Str
         return Ok(None);
     }
     let length = text_len(alloc, kept.node.opening())?;
-    // No block that is in memory is so long.
-    let Some(end) = kept.place.start.checked_add(length) else {
-        return Err(NoMemory);
-    };
+    let end = opening_end(kept.place.start, length, kept.place.end);
     Ok(stretch(kept.place.start, end))
 }
 

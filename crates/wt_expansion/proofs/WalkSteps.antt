@@ -74,16 +74,14 @@ pub record CallThere (t : List ℕ) (p end : ℕ) (xs : List Member) (b : Braces
   pub xs_is : xs ≡ call here.is.braces here.is.inside ∷ after
   pub stretch : IsStretchOf mode.Page t b.at.end end after
 
-pub call_there : (t : List ℕ) (p end : ℕ) (s : Bool) (xs : List Member) (reader : Reader) (n : ℕ) (b : Braces) → IsReading mode.Page t reader p s
-    → IsStretchOf mode.Page t p end xs → AnswersNext mode.Page t p end xs (next.Call n) → slice_get reader.text.calls.now n ≡ Some b
-    → CallThere t p end xs b reader s
-call_there t p end s xs reader n b reading st a f =
+pub call_there : (t : List ℕ) (p end : ℕ) (s : Bool) (xs : List Member) (reader : Reader) (b : Braces) → IsReading mode.Page t reader p s
+    → IsStretchOf mode.Page t p end xs → AnswersNext mode.Page t p end xs (next.Call b) → CallThere t p end xs b reader s
+call_there t p end s xs reader b reading st a =
     let k = a.0.braces in
     let ms = a.0.inside in
     let ys = a.0.after in
     let there = subst (IsStretchOf mode.Page t p end) a.0.is st in
-    let c = call_is mode.Page t reader.text.calls.now b p end k ms ys reading.read.calls_are
-    (subst (λ j. slice_get reader.text.calls.now j ≡ Some b) a.1 f) there in
+    let c = call_is mode.Page t b p end k ms ys a.1 there in
     let q : p + (k + width_of_all ms + k + 0) ≡ b.at.end = let z = c.end_is in omega (arith, z) in
     record {
       here = record {

@@ -162,8 +162,7 @@ impl<'a> PageWalk<'a> {
                 push_chunk(&mut self.found, reader, kind, to)?;
                 Ok(to)
             }
-            Next::Call(number) => {
-                let braces = reader.call(number)?;
+            Next::Call(braces) => {
                 self.walk_call(folder, reader, braces)?;
                 Ok(braces.at.end)
             }

@@ -1,5 +1,5 @@
 //! Which parts of a function call are told, and which one is given, one question after the other.
-ghost use Rattle.std.specs.Prelude.{◌≡◌, ℕ, ◌+◌, ◌<◌, ◌≤◌, ◌^◌, ◌++◌, ◌∷◌, [], Bool, true, false, Some, IfOk, OnOk, OnErr, length, drop, position, slice_index_or};
+ghost use Rattle.std.specs.Prelude.{◌≡◌, ℕ, ◌+◌, ◌<◌, ◌≤◌, ◌++◌, ◌∷◌, [], Bool, true, false, Some, IfOk, OnOk, OnErr, length, drop, position, slice_index_or};
 ghost use Rattle.std.specs.Option.{option_map};
 ghost use Rattle.wt_functions.specs.Choice.{Telling, text_at, if_there, first_from, equal_part, value_from, last_whole, is_default, last_default, chosen, told_count, asked, is_tell};
 
@@ -13,9 +13,9 @@ use wt_span::{Function, List, NoMemory, Str, rest_of};
 pub enum Ask {
     /// The text of this part is to be told: that of its name, where it is a part of `Switch` with a
     /// `=`, else that of the whole part.
-    Tell(u32),
+    Tell(usize),
     /// This part is given: its value, where it is a part of `Switch` with a `=`, else the whole part.
-    Give(u32),
+    Give(usize),
     /// Nothing is given.
     Nothing,
 }
@@ -29,25 +29,25 @@ pub struct Chooser {
     equals: List<bool>,
     texts: List<Str>,
     /// The first part told whose text is equal to that of part 0.
-    equal: Option<u32>,
+    equal: Option<usize>,
 }
 
 impl Model for Chooser {
     ghost use Rattle.wt_functions.specs.Choice.{Telling, equal_part};
-    ghost use Rattle.std.specs.Prelude.{◌≡◌, ◌<◌, ◌≤◌, ◌+◌, ◌^◌, length};
+    ghost use Rattle.std.specs.Prelude.{◌≡◌, ◌<◌, ◌≤◌, ◌+◌, length};
 
     ghost Value = { Telling };
 
     ghost view = { λ c. record { function = c.function; equals = c.equals; texts = c.texts } };
 
-    ghost invariant = { λ c. (length c.equals < 2 ^ 32) × (length c.texts ≤ length c.equals + 1) × (c.equal ≡ equal_part c.texts) };
+    ghost invariant = { λ c. (length c.texts ≤ length c.equals + 1) × (c.equal ≡ equal_part c.texts) };
 }
 
 /// A part that is there.
-fn if_there(equals: &[bool], part: u32) -> Option<u32>
+fn if_there(equals: &[bool], part: usize) -> Option<usize>
     ensures { result ≡ if_there equals.now part }
 {
-    if equals.len() < part as usize {
+    if equals.len() < part {
         None
     } else {
         Some(part)
@@ -72,26 +72,24 @@ fn first_true(flags: &[bool]) -> Option<usize>
 }
 
 /// The first part with a `=` from a part on, that part counted.
-fn value_from(equals: &[bool], part: u32) -> Option<u32>
+fn value_from(equals: &[bool], part: usize) -> Option<usize>
     requires some { 0 < part }
     requires there { part ≤ length equals.now }
-    requires few { length equals.now < 2 ^ 32 }
     ensures { result ≡ value_from equals.now part }
 {
-    match first_true(rest_of(equals, part as usize - 1)) {
-        Some(found) => Some(part + found as u32),
+    match first_true(rest_of(equals, part - 1)) {
+        Some(found) => Some(part + found),
         None => None,
     }
 }
 
 /// The last part, if there is one and it has no `=`.
 #[tactic(auto, unfolding(crate::specs::Choice::last_whole))]
-fn last_whole(equals: &[bool]) -> Option<u32>
-    requires { length equals.now < 2 ^ 32 }
+fn last_whole(equals: &[bool]) -> Option<usize>
     ensures { result ≡ last_whole equals.now }
 {
     match equals.last() {
-        Some(false) => Some(equals.len() as u32),
+        Some(false) => Some(equals.len()),
         Some(true) | None => None,
     }
 }
@@ -106,14 +104,13 @@ fn is_default(equals: &[bool], texts: &[Str], part: usize) -> bool
 }
 
 /// The last part with the name `#default`.
-fn last_default(equals: &[bool], texts: &[Str]) -> Option<u32>
-    requires { length equals.now < 2 ^ 32 }
+fn last_default(equals: &[bool], texts: &[Str]) -> Option<usize>
     ensures { result ≡ last_default equals.now texts.now (length equals.now) }
 {
     let mut part = equals.len();
     while part > 0 {
         if is_default(equals, texts, part) {
-            return Some(part as u32);
+            return Some(part);
         }
         part -= 1;
     }
@@ -122,8 +119,7 @@ fn last_default(equals: &[bool], texts: &[Str]) -> Option<u32>
 
 /// The part that `Switch` gives, where this one is the first equal part.
 #[tactic(auto, unfolding(crate::specs::Choice::chosen))]
-fn switched(equals: &[bool], texts: &[Str], equal: Option<u32>) -> Option<u32>
-    requires few { length equals.now < 2 ^ 32 }
+fn switched(equals: &[bool], texts: &[Str], equal: Option<usize>) -> Option<usize>
     requires texts { length texts.now ≤ length equals.now + 1 }
     requires equal { equal ≡ equal_part texts.now }
     ensures { result ≡ chosen Function.Switch equals.now texts.now }
@@ -138,13 +134,12 @@ fn switched(equals: &[bool], texts: &[Str], equal: Option<u32>) -> Option<u32>
 }
 
 /// The first part whose text is equal to that of part 0, when one more text is told.
-fn equal_after(texts: &[Str], equal: Option<u32>, text: &str) -> Option<u32>
-    requires few { length texts.now < 2 ^ 32 }
+fn equal_after(texts: &[Str], equal: Option<usize>, text: &str) -> Option<usize>
     requires before { equal ≡ equal_part texts.now }
     ensures { result ≡ equal_part (texts.now ++ text.now ∷ []) }
 {
     match texts {
-        [first, ..] if equal.is_none() && text == first.as_str() => Some(texts.len() as u32),
+        [first, ..] if equal.is_none() && text == first.as_str() => Some(texts.len()),
         _ => equal,
     }
 }
@@ -157,7 +152,6 @@ impl Chooser {
         function: Function,
         equals: &List<bool>,
     ) -> Result<Chooser, NoMemory>
-        requires { length equals.now < 2 ^ 32 }
         ensures { IfOk result (λ c. c ≡ record { function = function; equals = equals.now; texts = [] }) }
     {
         let mut copy = List::new(alloc);
@@ -171,24 +165,24 @@ impl Chooser {
         })
     }
 
-    /// How many parts are told.
+    /// The last part that is told.
     #[tactic(auto, unfolding(crate::specs::Choice::told_count))]
-    fn told_count(&self) -> usize
-        ensures { result ≡ told_count self.now.function self.now.equals self.now.texts }
+    fn last_told(&self) -> usize
+        ensures { 1 + result ≡ told_count self.now.function self.now.equals self.now.texts }
     {
         match self.function {
-            Function::If => 1,
-            Function::IfEq => 1 + self.equals.len().min(1),
+            Function::If => 0,
+            Function::IfEq => self.equals.len().min(1),
             Function::Switch => match self.equal {
-                Some(part) => 1 + part as usize,
-                None => 1 + self.equals.len(),
+                Some(part) => part,
+                None => self.equals.len(),
             },
         }
     }
 
     /// The part that is given, once all that are told were told.
     #[tactic(auto, unfolding(crate::specs::Choice::chosen))]
-    fn chosen(&self) -> Option<u32>
+    fn chosen(&self) -> Option<usize>
         ensures { result ≡ chosen self.now.function self.now.equals self.now.texts }
     {
         let (equals, texts) = (self.equals.as_slice(), self.texts.as_slice());
@@ -208,8 +202,8 @@ impl Chooser {
         ensures { result ≡ asked self.now }
     {
         let told = self.texts.len();
-        if told < self.told_count() {
-            return Ask::Tell(told as u32);
+        if told <= self.last_told() {
+            return Ask::Tell(told);
         }
         match self.chosen() {
             Some(part) => Ask::Give(part),

@@ -55,7 +55,7 @@ pub enum Refusal {
     NewExpansion,
     /// The new page doesn't mean what the edited tree shows, first in this child of the body, counted
     /// from 1.
-    Unspelled(u32),
+    Unspelled(usize),
     /// The input failed.
     ReadFault,
     /// The folder failed.

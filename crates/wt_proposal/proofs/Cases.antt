@@ -29,8 +29,9 @@ label_at k id start end open_w close_w = record {
 abbrev node : Kind → ℕ → ℕ → ℕ → ℕ → List Tree → Tree
 node k id start end open_w ts = tree (label_at k id start end open_w 0) (trees ts)
 
-abbrev words : List ℕ → Tree
-words bs = tree (record (label_at kind.Text 0 0 0 0 0) { own = bs; shown = bs }) none
+-- a text from a place on; in an edited tree the place doesn't count
+abbrev words : ℕ → List ℕ → Tree
+words start bs = tree (record (label_at kind.Text 0 start (start + length bs) 0 0) { own = bs; shown = bs }) none
 
 abbrev gap : Tree
 gap = tree (record (label_at kind.Sep 0 0 0 0 0) { own = 10 ∷ [] }) none
@@ -46,7 +47,7 @@ body size ts = node kind.Body 0 0 size 0 ts
 
 -- a paragraph of this text, from this place on
 abbrev para : ℕ → ℕ → List ℕ → Tree
-para id start bs = node kind.Para id start (start + length bs) 0 (words bs ∷ [])
+para id start bs = node kind.Para id start (start + length bs) 0 (words start bs ∷ [])
 
 -- `aa`, `b` and `c`, with two line breaks between: 0 to 2, 4 to 5, 7 to 8
 abbrev three : Tree
@@ -105,7 +106,7 @@ unfolding same_kind same_data
 moved_up = refl
 
 -- the second became a heading
-became_heading : edited (aa ∷ node (kind.Heading 2) 2 0 0 0 (words (codes "b") ∷ []) ∷ c ∷ []) ≡ slot 2 7 ∷ []
+became_heading : edited (aa ∷ node (kind.Heading 2) 2 0 0 0 (words 0 (codes "b") ∷ []) ∷ c ∷ []) ≡ slot 2 7 ∷ []
 unfolding same_kind same_data
 became_heading = refl
 
@@ -124,10 +125,10 @@ in_section = refl
 
 -- `* a` and, in the same item, `** b`: a list from 0 to 8, whose text is at 2; the inner list begins at 4
 abbrev outer : List ℕ → List Tree → Tree
-outer bs inner = body 8 (node kind.Ul 1 0 8 0 (node kind.Li 2 0 8 2 (words bs ∷ inner) ∷ []) ∷ [])
+outer bs inner = body 8 (node kind.Ul 1 0 8 0 (node kind.Li 2 0 8 2 (words 2 bs ∷ inner) ∷ []) ∷ [])
 
 abbrev inner : List ℕ → List Tree
-inner bs = gap ∷ node kind.Ul 3 4 8 0 (node kind.Li 4 4 8 3 (words bs ∷ []) ∷ []) ∷ []
+inner bs = gap ∷ node kind.Ul 3 4 8 0 (node kind.Li 4 4 8 3 (words 7 bs ∷ []) ∷ []) ∷ []
 
 abbrev nested : Tree
 nested = outer (codes "a") (inner (codes "b"))
@@ -149,7 +150,7 @@ inner_out = refl
 
 -- an item came behind the inner one
 abbrev inner_two : List Tree
-inner_two = gap ∷ node kind.Ul 3 0 0 0 (node kind.Li 4 0 0 0 (words (codes "b") ∷ []) ∷ node kind.Li 0 0 0 0 (words (codes "c") ∷ []) ∷ []) ∷ []
+inner_two = gap ∷ node kind.Ul 3 0 0 0 (node kind.Li 4 0 0 0 (words 0 (codes "b") ∷ []) ∷ node kind.Li 0 0 0 0 (words 0 (codes "c") ∷ []) ∷ []) ∷ []
 
 item_came : places nested (outer (codes "a") inner_two) ≡ slot 8 8 ∷ []
 unfolding same_kind same_data
@@ -165,13 +166,13 @@ abbrev row : ℕ → List Tree → Tree
 row id cells = node kind.Tr id 3 9 2 cells
 
 abbrev cell : Tree
-cell = node kind.Td 4 6 9 2 (words (codes "a") ∷ [])
+cell = node kind.Td 4 6 9 2 (words 8 (codes "a") ∷ [])
 
 abbrev table : Tree
 table = table_of (row 3 (cell ∷ []) ∷ [])
 
 -- a row came
-row_came : places table (table_of (row 3 (cell ∷ []) ∷ row 0 (node kind.Td 0 0 0 0 (words (codes "b") ∷ []) ∷ []) ∷ [])) ≡ slot 9 9 ∷ []
+row_came : places table (table_of (row 3 (cell ∷ []) ∷ row 0 (node kind.Td 0 0 0 0 (words 0 (codes "b") ∷ []) ∷ []) ∷ [])) ≡ slot 9 9 ∷ []
 unfolding same_kind same_data
 row_came = refl
 
@@ -182,10 +183,10 @@ cell_out = refl
 
 -- `! a !! b`: of two cells in a line the first was taken out, and the signs of the second may become one
 abbrev first_cell : Tree
-first_cell = node kind.Th 4 6 10 2 (words (codes "a ") ∷ [])
+first_cell = node kind.Th 4 6 10 2 (words 8 (codes "a ") ∷ [])
 
 abbrev second_cell : Tree
-second_cell = node kind.Th 5 10 14 3 (words (codes "b") ∷ [])
+second_cell = node kind.Th 5 10 14 3 (words 13 (codes "b") ∷ [])
 
 abbrev line_of : List Tree → Tree
 line_of cells = body 17 (tree (label_at kind.Table 1 0 17 2 2) (trees (node kind.Tbody 2 3 14 0 (node kind.Tr 3 3 14 2 cells ∷ []) ∷ [])) ∷ [])
@@ -195,7 +196,7 @@ unfolding same_kind same_data
 first_cell_out = refl
 
 -- a cell whose delimiter is its one sign
-short_cell : places (line_of (first_cell ∷ node kind.Th 5 10 12 1 (words (codes "b") ∷ []) ∷ []))
-    (line_of (node kind.Th 5 10 12 1 (words (codes "b") ∷ []) ∷ [])) ≡ slot 5 11 ∷ []
+short_cell : places (line_of (first_cell ∷ node kind.Th 5 10 12 1 (words 11 (codes "b") ∷ []) ∷ []))
+    (line_of (node kind.Th 5 10 12 1 (words 11 (codes "b") ∷ []) ∷ [])) ≡ slot 5 11 ∷ []
 unfolding same_kind same_data
 short_cell = refl

@@ -1,11 +1,10 @@
 -- Where a page may be written anew: the places in which an edited tree differs from it, in the page's order. All nodes
 -- of a page have ranges.
-use Rattle.std.specs.Prelude.{ℕ, ◌+◌, ◌-◌, ◌==◌, ◌&&◌, ◌||◌, not, nat_lt, Bool, true, false, Option, Some, None, List, [], ◌∷◌, ◌++◌, length, if◌then◌else◌}
+use Rattle.std.specs.Prelude.{ℕ, ◌+◌, ◌-◌, ◌==◌, ◌&&◌, ◌||◌, not, nat_lt, Bool, true, false, Option, Some, None, List, [], ◌∷◌, ◌++◌, if◌then◌else◌}
 use Rattle.wt_tree.specs.declared.kind.Ranges.{Ranges}
 use Rattle.wt_tree.specs.declared.row.Placement.{Placement}
 use Rattle.wt_tree.specs.declared.row.Placement.TheVariants.{Nowhere, Anywhere, Mark, Block, List as ListClass, Item, Term, TablePart, TableRow, Cell, Inline, Character, Section}
 use Rattle.wt_tree.specs.Kinds.{shape, showing}
-use Rattle.wt_tree.specs.Source.{flat_of_all}
 use Rattle.wt_tree.specs.Tiling.{end_of}
 use Rattle.wt_tree.specs.Tree.{Tree, tree, Trees, none, more, label}
 use Rattle.wt_checks.specs.Places.{Place, Page, page_of}
@@ -57,9 +56,14 @@ abbrev pub inside_stop : Option Ranges → ℕ
 inside_stop None = 0
 inside_stop (Some r) = r.end - r.close_w
 
--- where its inside ends, which is as long as the sources of what is in it
+-- where the last of these nodes ends; where there is none, a place
+abbrev pub end_behind : ℕ → Trees → ℕ
+end_behind at none = at
+end_behind at (more t ts) = end_behind (end_of (label t).ranges) ts
+
+-- where its inside ends: with the last node in it
 abbrev pub inside_end : Tree → ℕ
-inside_end t = inside_start (label t).ranges + length (flat_of_all (inside t))
+inside_end t = end_behind (inside_start (label t).ranges) (inside t)
 
 -- the inside of a node of the page, where it isn't as it was
 abbrev pub inside_place : Tree → Tree → List Slot

@@ -27,12 +27,12 @@ use wt_tree::{Kind, Node};
 #[derive(Clone, Copy)]
 pub enum Keeping {
     Everywhere,
-    ButIn(u32),
+    ButIn(usize),
     Nowhere,
 }
 
 impl Keeping {
-    fn keeps(self, block: u32) -> bool {
+    fn keeps(self, block: usize) -> bool {
         match self {
             Keeping::Everywhere => true,
             Keeping::ButIn(number) => number != block,
@@ -50,7 +50,7 @@ pub struct Plan<'w, 't, 'a> {
 
 impl<'w, 't, 'a> Plan<'w, 't, 'a> {
     /// Whether texts keep their bytes in the block with this number.
-    pub fn keeps(self, block: u32) -> bool {
+    pub fn keeps(self, block: usize) -> bool {
         self.keeping.keeps(block)
     }
 }
@@ -58,7 +58,7 @@ impl<'w, 't, 'a> Plan<'w, 't, 'a> {
 /// The number of a block of the body, and whether it grows with each child: it does in the body alone.
 #[derive(Clone, Copy)]
 pub struct Numbering {
-    pub number: u32,
+    pub number: usize,
     pub grows: bool,
 }
 
@@ -90,7 +90,7 @@ fn push_inside<'t, 'a>(
     alloc: Global,
     out: &mut Vec<Change>,
     plan: Plan<'_, 't, 'a>,
-    number: u32,
+    number: usize,
     new: &'t Node<'a>,
     old: &'t Node<'a>,
 ) -> Result<(), NoMemory> {
@@ -103,7 +103,7 @@ fn push_inside<'t, 'a>(
     let by = spelled(alloc, writing, inside(new), edges_of(inside(old)))?;
     let place = Slot {
         start: inside_start(old.ranges),
-        end: inside_end(old)?,
+        end: inside_end(old),
     };
     push_change(out, place, by)
 }
@@ -330,7 +330,7 @@ fn push_node<'t, 'a>(
     push_inside(alloc, out, plan, block.number, new, old)?;
     let children = held(alloc, old)?;
     let signs = signs_of(alloc, plan.known, old)?;
-    let begun = begun(old)?;
+    let begun = begun(old);
     let held = Held {
         children: children.as_slice(),
         signs: signs.as_str(),

@@ -2,10 +2,9 @@
 
 ghost use Rattle.std.specs.Prelude.{◌≡◌, ◌≤◌, ◌<◌, ◌+◌, ◌++◌, ◌||◌, true, false, length, take, drop, OnOk, IfOk, option_map};
 ghost use Rattle.wt_tree.specs.Kinds.{shape};
-ghost use Rattle.wt_tree.specs.Source.{flat, flat_of_all};
 ghost use Rattle.wt_tree.specs.Tiling.{end_of};
 ghost use Rattle.wt_tree.specs.Tree.{Tree, Trees, label, more};
-ghost use Rattle.wt_tree.specs.View.{texts_of, view, views};
+ghost use Rattle.wt_tree.specs.View.{view, views};
 ghost use Rattle.wt_tree.specs.declared.node.Node.{out-Node};
 ghost use Rattle.wt_checks.specs.Places.{Page, page_of};
 ghost use Rattle.wt_checks.specs.View.{indexed};
@@ -17,6 +16,7 @@ ghost use Rattle.wt_proposal.specs.Places.{
   begun,
   behind_number,
   counts,
+  end_behind,
   gap,
   gap_before,
   gap_end,
@@ -46,7 +46,7 @@ use wt_checks::{Visit, is_compared, original};
 use wt_difference::{
     Child, ends_inside, has_inside, held, inside, is_block_part, same_inside, stays_in,
 };
-use wt_span::{NoMemory, Text};
+use wt_span::NoMemory;
 use wt_tree::{Kind, Node, Placement, Ranges};
 
 // ---- a node
@@ -138,60 +138,22 @@ pub fn inside_stop(ranges: Option<Ranges>) -> usize
     }
 }
 
-/// A sum; one that is past 64 bits is answered as want of memory.
-fn sum_of(left: usize, right: usize) -> Result<usize, NoMemory>
-    ensures { IfOk result (λ n. n ≡ left + right) }
+/// Where the last of these nodes of the page ends; where there is none, this place.
+fn end_behind(at: usize, nodes: &[Node<'_>]) -> usize
+    ensures { result ≡ end_behind at (views nodes.now) }
 {
-    match left.checked_add(right) {
-        Some(sum) => Ok(sum),
-        None => Err(NoMemory),
-    }
-}
-
-/// How many bytes texts have.
-fn texts_len(texts: &[Text<'_>]) -> Result<usize, NoMemory>
-    ensures { IfOk result (λ n. n ≡ length (texts_of texts.now)) }
-{
-    let mut size: usize = 0;
-    for text in texts {
-        size = sum_of(size, text.as_str().len())?;
-    }
-    Ok(size)
-}
-
-/// How many bytes the source of a node has.
-#[cycle(source_len)]
-fn source_len(node: &Node<'_>) -> Result<usize, NoMemory>
-    ensures { IfOk result (λ n. n ≡ length (flat (view node.now))) }
-{
-    if node.kind.is_leaf() {
-        return texts_len(node.own());
-    }
-    let open = texts_len(node.opening())?;
-    let inside = sources_len(node.children.as_slice())?;
-    let close = texts_len(node.closing())?;
-    sum_of(sum_of(open, inside)?, close)
-}
-
-/// How many bytes the sources of nodes have.
-#[cycle(source_len)]
-fn sources_len(nodes: &[Node<'_>]) -> Result<usize, NoMemory>
-    ensures { IfOk result (λ n. n ≡ length (flat_of_all (views nodes.now))) }
-{
-    let mut size: usize = 0;
+    let mut end = at;
     for node in nodes {
-        let source = source_len(node)?;
-        size = sum_of(size, source)?;
+        end = end_of(node.ranges);
     }
-    Ok(size)
+    end
 }
 
 /// Where the inside of a node of the page ends.
-pub fn inside_end(node: &Node<'_>) -> Result<usize, NoMemory>
-    ensures { IfOk result (λ n. n ≡ inside_end (view node.now)) }
+pub fn inside_end(node: &Node<'_>) -> usize
+    ensures { result ≡ inside_end (view node.now) }
 {
-    let size = sources_len(inside(node))?;
-    sum_of(inside_start(node.ranges), size)
+    end_behind(inside_start(node.ranges), inside(node))
 }
 
 /// Appends the inside of a node of the page, where it isn't as it was.
@@ -207,10 +169,9 @@ fn push_inside_place(
     if same {
         return Ok(());
     }
-    let end = inside_end(old)?;
     out.push(Slot {
         start: inside_start(old.ranges),
-        end,
+        end: inside_end(old),
     })?;
     Ok(())
 }
@@ -256,16 +217,15 @@ fn gap(differs: bool, start: usize, end: usize) -> Option<Slot>
 // ---- along its edited children
 
 /// Where the walk along the children of a node of the page begins.
-pub fn begun(node: &Node<'_>) -> Result<Reached, NoMemory>
-    ensures { IfOk result (λ r. r ≡ begun (view node.now)) }
+pub fn begun(node: &Node<'_>) -> Reached
+    ensures { result ≡ begun (view node.now) }
 {
-    let end = inside_end(node)?;
-    Ok(Reached {
-        end,
+    Reached {
+        end: inside_end(node),
         number: 0,
         came: false,
         inside: has_inside(node.kind),
-    })
+    }
 }
 
 fn goes_on(reached: Reached, child: &Node<'_>) -> bool
@@ -451,7 +411,7 @@ fn push_along<'t, 'a>(
     ensures { OnOk result (out.new.items ≡ out.old.items
         ++ along (indexed index.now) (view old.now) (begun (view old.now)) (child_views children.now) (views nodes.now)) }
 {
-    let mut reached = begun(old)?;
+    let mut reached = begun(old);
     let mut from = 0;
     for child in nodes {
         let beside = Beside {

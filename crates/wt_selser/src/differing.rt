@@ -23,7 +23,7 @@ pub fn first_differing_indexed<'t, 'a>(
     new: &Node<'_>,
     index: &[Visit<'t, 'a>],
     edited: &'t Node<'a>,
-) -> Result<Option<u32>, NoMemory>
+) -> Result<Option<usize>, NoMemory>
     ensures { IfOk result (IsFirstDiffering (shown_children (view new.now)) (shown_children (restored (indexed index.now) (view edited.now)))) }
 {
     let left = shown_nodes(alloc, &[], new.children.as_slice())?;
@@ -38,7 +38,7 @@ pub fn first_differing<'t, 'a>(
     new: &Node<'_>,
     page: &'t Node<'a>,
     edited: &'t Node<'a>,
-) -> Result<Option<u32>, NoMemory>
+) -> Result<Option<usize>, NoMemory>
     requires body { (label (view page.now)).kind ≡ kind.Body }
     requires numbered { ∥ InPreorder (view page.now) ∥₁ }
     ensures { IfOk result (IsFirstDiffering (shown_children (view new.now)) (shown_children (restored_from (view page.now) (view edited.now)))) }

@@ -270,17 +270,11 @@ behind_same r t a b q (p ∷ x ∷ ps) = refl
 
 -- ---- a call
 
-pub slice_some : (m : Mode) (t : List ℕ) (bs : List Braces) (n : ℕ) (b : Braces) (c : CallAt) → map braces_of bs ≡ calls 0 (words m t)
-    → slice_get (calls 0 (words m t)) n ≡ Some c → slice_get bs n ≡ Some b → braces_of b ≡ c
-slice_some m t bs n b c is e f =
-    some_is (braces_of b) c (sym (slice_get-map braces_of bs n ∙ ap (option_map braces_of) f) ∙ ap (λ cs. slice_get cs n) is ∙ e)
-
-abbrev pub call_is : (m : Mode) (t : List ℕ) (bs : List Braces) (b : Braces) (p e k : ℕ) (ms : Members) (ys : List Member)
-    → map braces_of bs ≡ calls 0 (words m t)
-    → slice_get bs (calls_before p (calls 0 (words m t))) ≡ Some b → IsStretchOf m t p e (call k ms ∷ ys) → IsCallOf m t b
-call_is m t bs b p e k ms ys is f s =
+abbrev pub call_is : (m : Mode) (t : List ℕ) (b : Braces) (p e k : ℕ) (ms : Members) (ys : List Member)
+    → slice_get (calls 0 (words m t)) (calls_before p (calls 0 (words m t))) ≡ Some (braces_of b) → IsStretchOf m t p e (call k ms ∷ ys) → IsCallOf m t b
+call_is m t b p e k ms ys f s =
     let c = stretch_call _ _ p e k ms ys s in
-    let same = slice_some m t bs (calls_before p (calls 0 (words m t))) b (call_at p k c.0 ms) is c.1 f in
+    let same = some_is (braces_of b) (call_at p k c.0 ms) (sym f ∙ c.1) in
     let inside = stretch_inside _ _ p e k ms ys s in
     let end : p + (k + width_of_all ms + k) ≡ b.at.end = sym (ap (λ x. x.to) same) in
     record {

@@ -285,6 +285,7 @@ first_hands r t run b s title h total c p at_start running low f back =
             ∙ ap (drop 1) c.parts_are ∙ x.places;
         stand = subst (λ (k : Braces). ArePartsAt r.mode t k.at.end x.next x.parts) (sym f.call) x.stand;
       };
+      numbered = let n = f.number in let k = f.part in omega (arith, n, k);
       resumes = subst (λ (k : Braces). Resumes r t k.at.end (starts t k.at.end) (after_values r h.at_start h.title [] h.handed.number parts)
           (stack run.levels) total)
           (sym f.call) counted;

@@ -1,4 +1,5 @@
 pub mod AgainLaws
+pub mod AskedParts
 pub mod CallLaws
 pub mod CallSteps
 pub mod ChoiceSteps

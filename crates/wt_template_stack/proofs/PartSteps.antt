@@ -104,6 +104,7 @@ record PartThere (r : Reading) (t : List ℕ) (h : PendingCall) (ls : List Level
   from_is : part.at.start ≡ at
   to_is : part.at.end ≡ at + width_of (joined p.name p.value)
   equals_is : part.equals ≡ name_end at p.name
+  numbered : h.handed.number ≤ h.part
   resumes : Resumes r t h.call.at.end (starts t h.call.at.end) (after_values r h.at_start h.title frame h.handed.number
       (part_given r (starts t at) t at p.name p.value ∷ parts_given r (starts t (next_place at p)) t (next_place at p) rest)) ls total
 
@@ -146,6 +147,7 @@ named_there r t h ls frame at total (Some (xs, n)) value bar rest part equals w 
         ps = rest;
         pending = record { values = w.values; parts = w.places; stand = w.others };
         value_ends = sym to ∙ ap (λ k. k + width_of value) behind;
+        numbered = let y = w.numbered in omega (arith, y);
         stretch = subst (λ k. IsStretchOf r.mode t k part.at.end value) behind (subst (λ k. IsStretchOf r.mode t q k value) to cut.2);
         before = omega (arith, ti);
         within = omega (arith, ti, en);
@@ -175,6 +177,7 @@ unnamed_there r t h ls frame at total None value bar rest part w e =
         ps = rest;
         pending = record { values = w.values; parts = w.places; stand = w.others };
         named = tt;
+        numbered = let y = w.numbered in omega (arith, y);
         before = omega (arith, ti);
         within = omega (arith, ti, en);
         gives = subst (λ x. Resumes r t h.call.at.end (starts t h.call.at.end) x ls total)
@@ -221,6 +224,7 @@ has_part r t run h total w part e = by_parts w.ps w.pending.parts w.pending.stan
             from_is = ap (λ x. x.from) same.0;
             to_is = ap (λ x. x.to) same.0 ∙ wide;
             equals_is = ap (λ x. x.equals_at) same.0;
+            numbered = w.numbered;
             resumes = resumes;
           };
         }
@@ -275,6 +279,7 @@ name_ends r t run h to out_ps name total w e = record {
     ps = w.ends.ps;
     pending = w.ends.pending;
     named = e;
+    numbered = w.ends.numbered;
     before = w.ends.before;
     within = w.ends.within;
     gives = w.ends.gives;
@@ -291,6 +296,10 @@ name_begun r t run h to out_ps name at total w e few is =
     subst (λ k. BeginsLevel r t run k (starts t k) to (task.Value h (Some name)) total) (sym next)
     (name_ends r t run h to out_ps name total w e)
 
+next_within : (n part : ℕ) (o : Option Output) → n < part → next_number n o ≤ part
+next_within n part None l = omega arith
+next_within n part (Some o) l = omega arith
+
 -- the values with one more
 abbrev pub handing_with : PendingCall → Handed → PendingCall
 handing_with h handed = record { call = h.call; at_start = h.at_start; title = h.title; part = h.part; handed = handed }
@@ -300,9 +309,12 @@ pub value_ends : (r : Reading) (t : List ℕ) (run : TextRun) (h : PendingCall) 
     → HasEnded r t run (task.Value h name) out_ps total
     → ((frame : Frame) (named : Option Output) (given : Output) → AreValues h.handed.values frame → IsNamedBy name named → items out_ps ≡ given.items
     → AreValues handed.values (frame ++ values_from h.handed.number (record { name = named; value = given; all = given } ∷ [])))
-    → ((named : Option Output) → IsNamedBy name named → handed.number ≡ next_number h.handed.number named) → HandsParts r t run (handing_with h handed) total
-value_ends r t run h handed name out_ps total w put counted =
+    → ((named : Option Output) → IsNamedBy name named → h.handed.number + 1 < 2 ^ 64 → handed.number ≡ next_number h.handed.number named)
+    → h.part < 2 ^ 64 → HandsParts r t run (handing_with h handed) total
+value_ends r t run h handed name out_ps total w put counted few =
     let v = w.ends in
+    let low = v.numbered in
+    let number_is = counted v.given v.named (omega (arith, low, few)) in
     let o = just (items out_ps) in
     let frame = v.frame ++ values_from h.handed.number (record { name = v.given; value = o; all = o } ∷ []) in
     record {
@@ -315,9 +327,10 @@ value_ends r t run h handed name out_ps total w put counted =
       before = v.before;
       within = v.within;
       pending = record { values = put v.frame v.given o v.pending.values v.named refl; parts = v.pending.parts; stand = v.pending.stand };
+      numbered = subst (λ n. n ≤ h.part) (sym number_is) (next_within h.handed.number h.part v.given low);
       resumes = subst (λ n. Resumes r t h.call.at.end (starts t h.call.at.end)
           (after_values r h.at_start h.title frame n (parts_given r (starts t v.at) t v.at v.ps)) (stack run.levels) total)
-          (sym (counted v.given v.named)) v.gives;
+          (sym number_is) v.gives;
     }
 
 -- a part that is begun, or a page that is called, with nothing spent

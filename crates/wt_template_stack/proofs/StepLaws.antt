@@ -146,24 +146,23 @@ given_call r s k source ps qs os ns e f =
     ap (λ xs. called_output (called k source (target_part xs).items) r s k source xs os) e
     ∙ ap (called_output (called k source (target_part qs).items) r s k source qs) f
 
-pub call_next : (r : Reading) (t : List ℕ) (run : TextRun) (ls : List Level) (end : ℕ) (b : Braces) (n : ℕ) (total : Account)
+pub call_next : (r : Reading) (t : List ℕ) (run : TextRun) (ls : List Level) (end : ℕ) (b : Braces) (total : Account)
     → (h : Holds r t run ls total) → innermost_end ls ≡ Some end
-    → ((xs : List Member) → IsStretchOf r.mode t h.place end xs → AnswersNext r.mode t h.place end xs (next.Call n))
-    → slice_get run.reader.text.calls.now n ≡ Some b → BeginsCall r t run ls b total
-call_next r t run [] end b n total h e next_is f = absurd h.resumes
-call_next r t run (l ∷ ls) end b n total h e next_is f =
+    → ((xs : List Member) → IsStretchOf r.mode t h.place end xs → AnswersNext r.mode t h.place end xs (next.Call b))
+    → BeginsCall r t run ls b total
+call_next r t run [] end b total h e next_is = absurd h.resumes
+call_next r t run (l ∷ ls) end b total h e next_is =
     let same : end ≡ l.end = cc in
-    let a = subst (λ q. (xs : List Member) → IsStretchOf r.mode t h.place q xs → AnswersNext r.mode t h.place q xs (next.Call n)) same next_is
+    let a = subst (λ q. (xs : List Member) → IsStretchOf r.mode t h.place q xs → AnswersNext r.mode t h.place q xs (next.Call b)) same next_is
     h.resumes.0 h.resumes.1 in
     let p = h.place in
     let k = a.0.braces in
     let ms = a.0.inside in
     let ys = a.0.after in
-    let bs = run.reader.text.calls.now in
     let w = k + width_of_all ms + k in
     let source = take w (drop p t) in
     let st = subst (IsStretchOf r.mode t p l.end) a.0.is h.resumes.1 in
-    let c = call_is r.mode t bs b p l.end k ms ys h.running.reading.read.calls_are (subst (λ j. slice_get bs j ≡ Some b) a.1 f) st in
+    let c = call_is r.mode t b p l.end k ms ys a.1 st in
     let q : p + (w + 0) ≡ b.at.end = let z = c.end_is in omega (arith, z) in
     let os = outputs_of r false (drop k (drop p t)) ms in
     let os_is : os ≡ outs_of_call r t b c = ap (λ xs. outputs_of r false xs ms) (drop-drop k p t)

@@ -66,7 +66,7 @@ pub record IsToldSince (total : Account) (b : Braces) (f : Function) (number spe
 abbrev pub Back : Type 1
 Back = ℕ → Output → Type 0
 
--- the name of a value is read up to `e`, and the value ends at `to`
+-- The name of a value is read up to `e`, and the value ends at `to`. No value that was read has a number as high as that of its part.
 pub record NameWaits (r : Reading) (t : List ℕ) (e : ℕ) (h : PendingCall) (to : ℕ) (back : Back) (o : Output) : Type 0 where
   pub frame : Frame
   pub value : List Member
@@ -75,6 +75,7 @@ pub record NameWaits (r : Reading) (t : List ℕ) (e : ℕ) (h : PendingCall) (t
   pub pending : IsHanding r.mode t h frame at ps
   pub value_ends : to ≡ e + 1 + width_of value
   pub stretch : IsStretchOf r.mode t (e + 1) to value
+  pub numbered : h.handed.number < h.part
   pub before : to ≤ at
   pub within : to ≤ h.call.at.end
   pub gives : back h.call.at.end
@@ -88,6 +89,7 @@ pub record ValueWaits (r : Reading) (t : List ℕ) (e : ℕ) (h : PendingCall) (
   pub ps : List PartMembers
   pub pending : IsHanding r.mode t h frame at ps
   pub named : IsNamedBy name given
+  pub numbered : h.handed.number < h.part
   pub before : e ≤ at
   pub within : e ≤ h.call.at.end
   pub gives : back h.call.at.end (after_value r h.at_start h.title frame h.handed.number given (parts_given r (starts t at) t at ps) o)

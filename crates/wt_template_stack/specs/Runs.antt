@@ -97,6 +97,7 @@ pub record HandsParts (r : Reading) (t : List ℕ) (run : TextRun) (h : PendingC
   pub before : place ≤ at
   pub within : place ≤ h.call.at.end
   pub pending : IsHanding r.mode t h frame at ps
+  pub numbered : h.handed.number ≤ h.part
   pub resumes : Resumes r t h.call.at.end (starts t h.call.at.end)
       (after_values r h.at_start h.title frame h.handed.number (parts_given r (starts t at) t at ps)) (stack run.levels) total
 

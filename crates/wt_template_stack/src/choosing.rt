@@ -1,9 +1,9 @@
 //! A function by text of which the parts are told one after the other.
-ghost use Rattle.std.specs.Prelude.{◌≡◌, ◌<◌, ◌^◌, true, IfOk, is_some, not, slice_get};
+ghost use Rattle.std.specs.Prelude.{◌≡◌, ◌<◌, ◌^◌, Some, true, IfOk, is_some, length, not, slice_get};
 ghost use Rattle.wt_functions.specs.Choice.{asked, is_tell};
 ghost use Rattle.wt_template_stack.specs.ToldParts.{have_equals, name_end, told_end, given_start};
 
-use crate::reader::{MOST_BYTES, Reader};
+use crate::reader::Reader;
 use std::alloc::Global;
 use wt_braces::PartAt;
 use wt_functions::Chooser;
@@ -21,10 +21,11 @@ pub struct Choosing<'a> {
     /// The text where the call begins: a part may be given that was told before.
     pub begun: Reader<'a>,
     /// The part that is being told.
-    pub number: u32,
+    pub number: usize,
     /// What the expansion had cost when this part began.
     pub spent: u64,
     pub ghost asks: { is_tell (asked chooser) ≡ true },
+    pub ghost parts: { length chooser.equals < length call.parts.now },
 }
 
 impl<'a> Choosing<'a> {
@@ -41,9 +42,6 @@ impl<'a> Choosing<'a> {
         ensures { IfOk result (λ k. IsStarted k call.entry function begun.entry) }
     {
         let equals = have_equals(alloc, call.parts)?;
-        if equals.len() > MOST_BYTES {
-            return Err(NoMemory);
-        }
         Ok(Choosing {
             call,
             at_start: begun.cursor.at_start,
@@ -72,13 +70,11 @@ fn have_equals(alloc: Global, parts: &[PartAt]) -> Result<List<bool>, NoMemory>
 }
 
 /// The part of a number.
-pub fn part_at(call: Braces<'_>, number: u32) -> Result<PartAt, NoMemory>
-    ensures { IfOk result (λ part. slice_get call.entry.parts.now number ≡ Some part) }
+pub fn part_at(call: Braces<'_>, number: usize) -> PartAt
+    requires { number < length call.parts.now }
+    ensures { slice_get call.entry.parts.now number ≡ Some result }
 {
-    match call.parts.get(number as usize) {
-        Some(part) => Ok(*part),
-        None => Err(NoMemory),
-    }
+    call.parts[number]
 }
 
 /// Where a part ends its name by its `=`, if names count.

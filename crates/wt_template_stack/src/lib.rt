@@ -14,5 +14,5 @@ pub use expansion::{Expansion, OpenPages, PageCall, Scope};
 pub use laws::steps_end;
 pub use level::PendingCall;
 pub use page::{expanded_text, read_page};
-pub use reader::{MOST_BYTES, Reader};
+pub use reader::Reader;
 pub use run::{StepOutcome, TextRun};

@@ -1,5 +1,5 @@
 //! A text with the place up to which it is read.
-ghost use Rattle.std.specs.Prelude.{◌≡◌, ◌≤◌, ◌<◌, ℕ, List, Bool, Some, true, false, IfOk, length, slice_range, slice_get};
+ghost use Rattle.std.specs.Prelude.{◌≡◌, ◌≤◌, ◌<◌, ℕ, List, Bool, true, false, IfOk, length, slice_range};
 ghost use Rattle.wt_span.specs.Slice.{bytes_of, end_of, start_of};
 ghost use Rattle.wt_span.specs.declared.form.Mode.{Mode as TextMode};
 ghost use Rattle.wt_span.specs.Braces.{Member as TextMember};
@@ -8,10 +8,7 @@ ghost use Rattle.wt_transclusion.specs.Reads.{IsRead};
 ghost use Rattle.wt_transclusion.specs.Steps.{IsStretchOf, AnswersNext};
 
 use wt_span::{NoMemory, Range, Text};
-use wt_transclusion::{Braces, Cursor, Next, ReadText};
-
-/// The most bytes of a text, whose places are of 32 bits.
-pub const MOST_BYTES: usize = 4_294_967_295;
+use wt_transclusion::{Cursor, Next, ReadText};
 
 /// A text and a place of it.
 #[derive(Clone, Copy, Debug)]
@@ -68,22 +65,12 @@ impl<'a> Reader<'a> {
     }
 
     /// What is here in front of the place `end`.
-    pub fn next(self, end: u32) -> Next
+    pub fn next(self, end: u32) -> Next<'a>
         requires { self.cursor.at < end }
         ensures { (mode : TextMode) (bytes : List ℕ) (p : ℕ) (s : Bool) (xs : List TextMember) → IsReading mode bytes self.entry p s
             → IsStretchOf mode bytes p end xs → AnswersNext mode bytes p end xs result }
     {
         self.cursor.next(self.text, end)
-    }
-
-    /// The call of a number.
-    pub fn call(self, number: usize) -> Result<Braces<'a>, NoMemory>
-        ensures { IfOk result (λ b. slice_get self.entry.text.calls.now number ≡ Some b) }
-    {
-        match self.text.calls.get(number) {
-            Some(call) => Ok(*call),
-            None => Err(NoMemory),
-        }
     }
 
     /// The bytes between two places at which the text can be cut.
@@ -94,7 +81,7 @@ impl<'a> Reader<'a> {
         ensures within { IfOk result (λ x. to ≤ length self.entry.text.text.now) }
     {
         let text = self.text.text;
-        if from > to || to as usize > text.len() || text.len() > MOST_BYTES {
+        if from > to || to as usize > text.len() {
             return Err(NoMemory);
         }
         if !text.is_char_boundary(from as usize) || !text.is_char_boundary(to as usize) {

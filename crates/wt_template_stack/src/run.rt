@@ -1,5 +1,5 @@
 //! One text as it is expanded, with levels in place of calls within calls.
-ghost use Rattle.std.specs.Prelude.{◌≡◌, ◌+◌, ◌<◌, ◌≤◌, ◌∷◌, ◌++◌, [], ℕ, List, Option, Some, None, Bool, true, false, IfErr, IfOk, OnOk, drop, length, slice_get, slice_range};
+ghost use Rattle.std.specs.Prelude.{◌≡◌, ◌+◌, ◌^◌, ◌<◌, ◌≤◌, ◌∷◌, ◌++◌, [], ℕ, List, Option, Some, None, Bool, true, false, IfErr, IfOk, OnOk, drop, length, slice_get, slice_range};
 ghost use Rattle.wt_span.specs.Items.{items, items_of};
 ghost use Rattle.wt_span.specs.Slice.{bytes_of};
 ghost use Rattle.wt_span.specs.Functions.{function_of};
@@ -59,16 +59,12 @@ fn put_value<'a>(
     ensures values { OnOk result ((frame : Frame) (named : Option Gives) (given : Gives) → AreValues handed.old.values frame → IsNamedBy name named
         → items value.entry ≡ given.items → AreValues handed.new.values
         (frame ++ values_from handed.old.number (record { name = named; value = given; all = given } ∷ []))) }
-    ensures number { OnOk result ((named : Option Gives) → IsNamedBy name named → handed.new.number ≡ next_number handed.old.number named) }
+    ensures number { OnOk result ((named : Option Gives) → IsNamedBy name named → handed.old.number + 1 < 2 ^ 64
+        → handed.new.number ≡ next_number handed.old.number named) }
 {
     match name {
         Some(name) => handed.put_named(alloc, name, value.as_slice()),
-        None => {
-            if handed.number == u32::MAX {
-                return Err(NoMemory);
-            }
-            handed.put_numbered(alloc, value)
-        }
+        None => handed.put_numbered(alloc, value),
     }
 }
 
@@ -146,10 +142,7 @@ impl<'a> TextRun<'a> {
                 self.read_chunk(kind, to)?;
                 Ok(())
             }
-            Next::Call(number) => {
-                let call = self.reader.call(number)?;
-                self.begin(call, spent)
-            }
+            Next::Call(call) => self.begin(call, spent),
         }
     }
 
@@ -412,7 +405,7 @@ impl<'a> TextRun<'a> {
         chooser.told(text.as_str())?;
         match chooser.ask() {
             Ask::Tell(number) => {
-                let part = part_at(call, number)?;
+                let part = part_at(call, number);
                 let next = Choosing {
                     call,
                     at_start,
@@ -427,7 +420,7 @@ impl<'a> TextRun<'a> {
                 Ok(())
             }
             Ask::Give(number) => {
-                let part = part_at(call, number)?;
+                let part = part_at(call, number);
                 if number == told && is_whole(function, part) {
                     return self.give_again(call, at_start, out, before, spent);
                 }

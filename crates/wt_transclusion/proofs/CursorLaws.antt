@@ -4,7 +4,8 @@ use Rattle.std.specs.Prelude.{nat_lt, nat_le, slice_get, min}
 use Rattle.std.specs.List.{prefix_len}
 use Rattle.std.proofs.lemmas.Bool.Decides.{nat_tests}
 use Rattle.std.proofs.lemmas.List.{length-drop, length-take, drop-drop, drop_at, drop_all, drop_more, drop-append-le}
-use Rattle.std.proofs.lemmas.Option.{slice_get_within, get_or_from_slice_get}
+use Rattle.std.proofs.lemmas.Option.{slice_get_within, get_or_from_slice_get, slice_get-map}
+use Rattle.std.specs.Option.{option_map}
 use Rattle.std.proofs.lemmas.List.Sums.{prefix_len-le-length}
 use Rattle.wt_span.specs.declared.form.Mode.{Mode}
 use Rattle.wt_span.specs.declared.form.LexKind.{LexKind}
@@ -228,14 +229,17 @@ words_len ((kind, n) ∷ ws) = let a = length-append (word_marks kind n) (words_
 text_len : (m : Mode) (t : List ℕ) → length (words_marks (words m t)) ≡ length t
 text_len m t = words_len (words m t) ∙ wide_lexemes m false (words m t) t (words_are m t)
 
-pub next_call : (m : Mode) (t : List ℕ) (r : ReadText) (p e n : ℕ) (xs : List Member) → IsRead m t r → n ≡ prefix_len (λ x. nat_lt x.at.start p) r.calls.now
+pub next_call : (m : Mode) (t : List ℕ) (r : ReadText) (b : Braces) (p e n : ℕ) (xs : List Member) → IsRead m t r → n ≡ prefix_len (λ x. nat_lt x.at.start p) r.calls.now
     → IsStretchOf m t p e xs
-    → p < e → IsLimit (drop n (map braces_of r.calls.now)) e p → AnswersNext m t p e xs (next.Call n)
-next_call m t r p e n xs h k s low l =
+    → p < e → IsLimit (drop n (map braces_of r.calls.now)) e p → slice_get r.calls.now n ≡ Some b → AnswersNext m t p e xs (next.Call b)
+next_call m t r b p e n xs h k s low l there =
     let is : n ≡ calls_before p (calls 0 (words m t)) = k ∙ count_calls p r.calls.now ∙ ap (calls_before p) h.calls_are in
     let same : drop n (map braces_of r.calls.now) ≡ drop (calls_before p (calls 0 (words m t))) (calls 0 (words m t)) = ap (drop n) h.calls_are
-    ∙ ap (λ j. drop j (calls 0 (words m t))) is in
-    (call_there (words_marks (words m t)) (calls 0 (words m t)) p e xs s low (subst (λ cs. IsLimit cs e p) same l), is)
+    ∙ ap (λ j. drop j (calls 0 (words m t))) is in (
+      call_there (words_marks (words m t)) (calls 0 (words m t)) p e xs s low (subst (λ cs. IsLimit cs e p) same l),
+      ap (slice_get (calls 0 (words m t))) (sym is) ∙ ap (λ cs. slice_get cs n) (sym h.calls_are) ∙ slice_get-map braces_of r.calls.now n
+          ∙ ap (option_map braces_of) there,
+    )
 
 lexeme_at : (m : Mode) (t : List ℕ) (r : ReadText) (p n : ℕ) → IsRead m t r → n ≡ prefix_len (λ x. nat_le x.at.end p) r.lexemes.now → p < length t
     → HasLexeme r.lexemes.now (words_marks (words m t)) 0 p n

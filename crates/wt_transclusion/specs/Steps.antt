@@ -1,5 +1,5 @@
 -- What is read of a stretch in one step.
-use Rattle.std.specs.Prelude.{◌≡◌, ◌<◌, ◌≤◌, ℕ, suc, ◌+◌, ◌-◌, Bool, List, ◌∷◌, take, drop}
+use Rattle.std.specs.Prelude.{◌≡◌, ◌<◌, ◌≤◌, ℕ, suc, ◌+◌, ◌-◌, Bool, Some, List, ◌∷◌, slice_get, take, drop}
 use Rattle.wt_span.specs.declared.form.Mode.{Mode}
 use Rattle.wt_span.specs.declared.form.LexKind.{LexKind}
 use Rattle.wt_span.specs.Lexemes.{words}
@@ -10,6 +10,7 @@ use Rattle.wt_transclusion.specs.declared.cursor.Next.{Next}
 use Rattle.wt_transclusion.specs.declared.cursor.Next.TheVariants as next
 use Rattle.wt_transclusion.specs.Cursors.{starts}
 use Rattle.wt_transclusion.specs.Marks.{Mark, words_marks}
+use Rattle.wt_transclusion.specs.Reads.{braces_of}
 use Rattle.wt_transclusion.specs.Stretch.{calls_before, IsStretch}
 
 -- what members give that begin at a place of a text
@@ -55,7 +56,7 @@ pub record IsCallThere (xs : List Member) : Type 0 where
 abbrev pub IsStretchOf : Mode → List ℕ → ℕ → ℕ → List Member → Type 0
 IsStretchOf m t p e xs = IsStretch (words_marks (words m t)) (calls 0 (words m t)) p e xs
 
--- what is at the first place of a stretch: its call, by its number, or bytes of a lexeme up to a place
+-- what is at the first place of a stretch: its call, or bytes of a lexeme up to a place
 abbrev pub AnswersNext : Mode → List ℕ → ℕ → ℕ → List Member → Next → Type 0
-AnswersNext m t p e xs (next.Call n) = IsCallThere xs × (n ≡ calls_before p (calls 0 (words m t)))
+AnswersNext m t p e xs (next.Call b) = IsCallThere xs × (slice_get (calls 0 (words m t)) (calls_before p (calls 0 (words m t))) ≡ Some (braces_of b))
 AnswersNext m t p e xs (next.Chunk kind to) = (p < to) × (to ≤ e) × IsTaken (words_marks (words m t)) (calls 0 (words m t)) t kind p to e xs

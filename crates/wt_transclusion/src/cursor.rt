@@ -27,11 +27,11 @@ pub struct Cursor {
 
 /// What is at a place.
 #[derive(Clone, Copy, Debug)]
-pub enum Next {
+pub enum Next<'a> {
     /// Bytes of one lexeme, or of several that are characters, up to a place; the kind is the first's.
     Chunk { kind: LexKind, to: u32 },
-    /// The call of this number.
-    Call(usize),
+    /// A call.
+    Call(Braces<'a>),
 }
 
 /// How many lexemes end up to a place.
@@ -71,7 +71,8 @@ fn starts_line(text: &str, at: u32) -> bool
 
 /// The place where the call of a number begins, or `end` where none begins in front of that.
 fn limit_at(calls: &[Braces<'_>], call: usize, end: u32) -> u32
-    ensures { IsLimit (drop call (map braces_of calls.now)) end result }
+    ensures limit { IsLimit (drop call (map braces_of calls.now)) end result }
+    ensures there { result < end → call < length calls.now }
 {
     if call < calls.len() {
         calls[call].at.start.min(end)
@@ -156,7 +157,7 @@ impl Cursor {
 
     /// What is here, in front of the place `end`: the next call; or the bytes of the lexeme, up to its
     /// end, the next call or `end`, and those of the lexemes behind it where all are characters.
-    pub fn next(self, text: ReadText<'_>, end: u32) -> Next
+    pub fn next<'a>(self, text: ReadText<'a>, end: u32) -> Next<'a>
         requires { self.at < end }
         ensures { (mode : TextMode) (bytes : List ℕ) (xs : List TextMember) → IsRead mode bytes text.entry
             → IsAt text.entry self.at self → IsStretchOf mode bytes self.at end xs
@@ -164,7 +165,8 @@ impl Cursor {
     {
         let limit = limit_at(text.calls, self.call, end);
         if limit == self.at {
-            return Next::Call(self.call);
+            let call = self.call;
+            return Next::Call(text.calls[call]);
         }
         if self.lexeme < text.lexemes.len() {
             let lexeme = text.lexemes[self.lexeme];
@@ -174,6 +176,9 @@ impl Cursor {
                 to: to.min(limit),
             };
         }
-        Next::Call(self.call)
+        Next::Chunk {
+            kind: LexKind::Chars,
+            to: limit,
+        }
     }
 }

@@ -14,7 +14,7 @@ use wt_span::{List, NoMemory, Piece};
 #[derive(Drop)]
 pub struct Handed<'a> {
     pub values: Values<'a>,
-    pub number: u32,
+    pub number: usize,
 }
 
 impl<'a> Handed<'a> {
@@ -50,17 +50,16 @@ impl<'a> Handed<'a> {
 
     /// One more value, of a part without a name.
     pub fn put_numbered(&mut self, alloc: Global, value: List<Piece<'a>>) -> Result<(), NoMemory>
-        requires { self.old.number + 1 < 2 ^ 32 }
         ensures values { OnOk result ((frame : Frame) (value_given all : Gives) → AreValues self.old.values frame
             → items value.entry ≡ value_given.items → AreValues self.new.values
             (frame ++ values_from self.old.number (record { name = None; value = value_given; all = all } ∷ []))) }
-        ensures number { OnOk result (self.new.number ≡ self.old.number + 1) }
+        ensures number { OnOk result (self.old.number + 1 < 2 ^ 64 → self.new.number ≡ self.old.number + 1) }
     {
         let Ok(name) = format!(in alloc; "{}", self.number) else {
             return Err(NoMemory);
         };
         self.values.put(name, value)?;
-        self.number += 1;
+        self.number = self.number.saturating_add(1);
         Ok(())
     }
 }

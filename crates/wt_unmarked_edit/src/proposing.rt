@@ -316,7 +316,7 @@ fn last_page<'a, F: Folder>(
 
 /// The new page with the spelling of `edit` in this block alone, or else the last one.
 fn page_but_in<'a, F: Folder>(
-    block: u32,
+    block: usize,
     edit: &EditedPage<'_, 'a>,
     folder: &mut F,
     expansion: Expansion<'a>,

@@ -64,7 +64,7 @@ pub enum Fault {
     Expansion,
     /// It shows something else than the edited tree, first in this child of the body, counted from 1. With 0 it
     /// shows the same, but has lost a comment or an include tag; or none was proposed.
-    Block(u32),
+    Block(usize),
 }
 
 /// What reading a new page back says.
@@ -105,7 +105,7 @@ pub fn new_expansion<'a>(alloc: Global, arena: &'a Bump<Global>) -> Expansion<'a
 fn differing_child<'a>(
     found: &KnownPage<'a>,
     edit: &EditedPage<'_, 'a>,
-) -> Result<Option<u32>, NoMemory>
+) -> Result<Option<usize>, NoMemory>
     requires body { (label (view edit.now.tree.now)).kind ≡ kind.Body }
     requires numbered { ∥ InPreorder (view edit.now.tree.now) ∥₁ }
     ensures { IfOk result (IsFirstDiffering (shown_children (view found.now.annotated.tree.body))

@@ -21,7 +21,7 @@ pub enum SelserRefusal {
     NewExpansion,
     /// The new page doesn't show what the edited tree shows, first in this child of the body, counted from 1. With
     /// 0 it shows the same, but has lost a comment or an include tag; or none was found.
-    Unspelled(u32),
+    Unspelled(usize),
     /// The folder failed, while a new page was expanded.
     FolderFault,
     /// No memory was found.

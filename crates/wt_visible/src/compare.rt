@@ -1,6 +1,6 @@
 //! The first child in which two bodies differ.
 
-ghost use Rattle.std.specs.Prelude.{◌≡◌, suc, IfOk};
+ghost use Rattle.std.specs.Prelude.{◌≡◌, IfOk};
 ghost use Rattle.std.specs.Bool.{Decides};
 ghost use Rattle.wt_tree.specs.declared.node.Node.{out-Node};
 ghost use Rattle.wt_tree.specs.Plain.{ended, plains_before};
@@ -92,37 +92,21 @@ fn same_children(
     Ok(common == left.len() && common == right.len())
 }
 
-/// The number of the child at a place, counted from 1. A number past 32 bits is answered as want of
-/// memory.
-fn number_at(at: usize) -> Result<u32, NoMemory>
-    ensures { IfOk result (λ n. n ≡ suc at) }
-{
-    if at >= 4_294_967_295 {
-        return Err(NoMemory);
-    }
-    Ok(at as u32 + 1)
-}
-
 /// The number, from 1, of the first place in which two lists of children differ, or None where they are
 /// the same.
-///
-/// # Errors
-///
-/// Want of memory is also answered where the number is past 32 bits.
 pub fn first_of_children(
     alloc: Global,
     left: &[Child<'_, '_, '_>],
     right: &[Child<'_, '_, '_>],
-) -> Result<Option<u32>, NoMemory>
+) -> Result<Option<usize>, NoMemory>
     ensures { IfOk result (IsFirstDiffering (children_view left.now) (children_view right.now)) }
 {
     let common = common_len(alloc, left, right)?;
-    let number = number_at(common)?;
     if common < left.len() {
-        return Ok(Some(number));
+        return Ok(Some(common + 1));
     }
     if common < right.len() {
-        return Ok(Some(number));
+        return Ok(Some(common + 1));
     }
     Ok(None)
 }

@@ -215,14 +215,13 @@ step-returns-in_ok-push_chunk-in-Chunk-clause-given g t c = λ pages page met p 
 pub step-returns-in_err-walk_call-in-Call-clause-given : goal.step-returns-in_err-walk_call-in-Call-clause-given
 step-returns-in_err-walk_call-in-Call-clause-given g t c = λ pages page met p s xs concerns free reading st.
     let self = c.args.self.now in
-    let b = c.in_ok-braces-in-Call.braces in
+    let b = c.in-Call.braces in
     let l = ledger self.expansion.spent met (g.F.Folder.answered c.args.folder.now) in
     let now = c.walk_call.new.self in
     let x = c.in_err-walk_call-in-Call.field-0.0 in
     let e : c.from_residual-in_err-walk_call-in-Call.result ≡ Err x = search rules in
     let told = subst (λ (y : Result ℕ ExpandRefusal). Concerns (g.F.Folder.pages c.args.folder.now) pages now.expansion.store y) e concerns in
-    let h = call_there page p c.args.end s xs c.args.reader c.in-Call.number b reading st (c.in-Call.ensures mode.Page page p s xs reading st)
-    c.in_ok-braces-in-Call.ensures in
+    let h = call_there page p c.args.end s xs c.args.reader b reading st (c.in-Call.ensures mode.Page page p s xs reading st) in
     subst (λ (y : Result ℕ ExpandRefusal). AnswersStep pages page l (strs (at_page pages) s page p xs)
     (given_from (at_page pages) s page p xs).work p c.args.end
     self.found now.found now.expansion.store now.expansion.spent (g.F.Folder.answered c.walk_call.new.folder) y) (sym e)
@@ -233,11 +232,10 @@ step-returns-in_err-walk_call-in-Call-clause-given g t c = λ pages page met p s
 pub step-returns-in_ok-walk_call-in-Call-clause-given : goal.step-returns-in_ok-walk_call-in-Call-clause-given
 step-returns-in_ok-walk_call-in-Call-clause-given g t c = λ pages page met p s xs concerns free reading st.
     let self = c.args.self.now in
-    let b = c.in_ok-braces-in-Call.braces in
+    let b = c.in-Call.braces in
     let l = ledger self.expansion.spent met (g.F.Folder.answered c.args.folder.now) in
     let now = c.walk_call.new.self in
-    let h = call_there page p c.args.end s xs c.args.reader c.in-Call.number b reading st (c.in-Call.ensures mode.Page page p s xs reading st)
-    c.in_ok-braces-in-Call.ensures in
+    let h = call_there page p c.args.end s xs c.args.reader b reading st (c.in-Call.ensures mode.Page page p s xs reading st) in
     call_step pages page l p c.args.end s xs b c.args.reader h self.found now.found now.expansion.store now.expansion.spent
     (g.F.Folder.answered c.walk_call.new.folder) (c.in_ok-walk_call-in-Call.ensures.given pages page met s h.here concerns free)
 
@@ -468,19 +466,6 @@ step-returns-in_err-push_chunk-in-Chunk-clause-given g t c = λ pages page met p
 pub step-returns-in_err-push_chunk-in-Chunk-clause-asks :
     goal.step-returns-in_err-push_chunk-in-Chunk-clause-asks
 step-returns-in_err-push_chunk-in-Chunk-clause-asks g t c = asks_none (g.F.Folder.answered c.args.folder.now)
-    (g.F.Folder.most_asked c.args.folder.now)
-
-pub step-returns-in_err-braces-in-Call-clause-given : goal.step-returns-in_err-braces-in-Call-clause-given
-step-returns-in_err-braces-in-Call-clause-given g t c = λ pages page met p s xs concerns free reading st.
-    let x = c.args.self.now in
-    let e : c.from_residual-in_err-braces-in-Call.result ≡ Err answer.NoMemory = search rules in
-    none_stepped pages page x.expansion.spent met (g.F.Folder.answered c.args.folder.now)
-    (strs (at_page pages) s page p xs)
-    (given_from (at_page pages) s page p xs).work p c.args.end
-    x.found x.found x.expansion.store x.expansion.spent c.from_residual-in_err-braces-in-Call.result e
-
-pub step-returns-in_err-braces-in-Call-clause-asks : goal.step-returns-in_err-braces-in-Call-clause-asks
-step-returns-in_err-braces-in-Call-clause-asks g t c = asks_none (g.F.Folder.answered c.args.folder.now)
     (g.F.Folder.most_asked c.args.folder.now)
 
 pub walk_call-returns-in_err-choice-clause-given : goal.walk_call-returns-in_err-choice-clause-given

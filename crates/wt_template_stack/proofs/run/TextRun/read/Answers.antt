@@ -12,8 +12,8 @@ returns-in_ok-read_chunk-in-Chunk-clause-answer c = λ r t total h e. (
       (λ xs stands. c.in-Chunk.ensures r.mode t h.place h.at_start xs h.running.reading stands)),
 )
 
-pub returns-in_ok-call-in-Call-clause-answer : goal.returns-in_ok-call-in-Call-clause-answer
-returns-in_ok-call-in-Call-clause-answer c = λ r t total h e.
+pub returns-in-Call-clause-answer : goal.returns-in-Call-clause-answer
+returns-in-Call-clause-answer c = λ r t total h e.
     c.begin.ensures.answer r t total
-    (call_next r t c.args.self.now (stack c.args.self.now.levels) c.args.end c.in_ok-call-in-Call.call c.in-Call.number total h e
-    (λ xs stands. c.in-Call.ensures r.mode t h.place h.at_start xs h.running.reading stands) c.in_ok-call-in-Call.ensures)
+    (call_next r t c.args.self.now (stack c.args.self.now.levels) c.args.end c.in-Call.call total h e
+    (λ xs stands. c.in-Call.ensures r.mode t h.place h.at_start xs h.running.reading stands))
