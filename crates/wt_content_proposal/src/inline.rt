@@ -434,10 +434,10 @@ fn link_round(
     }
     if has_own_text(alloc, old)? {
         push_with_letters(alloc, &mut out, old, inside)?;
-        return Ok(Some(out));
+    } else {
+        out.push_str(inside)?;
+        push_link_end(&mut out, old)?;
     }
-    out.push_str(inside)?;
-    push_link_end(&mut out, old)?;
     let out = shortened(alloc, out)?;
     Ok(Some(out))
 }
