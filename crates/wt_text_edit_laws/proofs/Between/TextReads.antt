@@ -1,7 +1,6 @@
 -- A text that somebody typed between two parts of a page: the items of the page are those of all three, and it calls nothing.
 use Rattle.std.proofs.Common.{◌≡◌, ℕ, true, false, None, List, ◌++◌, sym, subst, All}
 use Rattle.wt_span.specs.declared.form.Mode.TheVariants.{Page}
-use Rattle.wt_span.specs.Items.{Item}
 use Rattle.wt_lines.specs.declared.kind.LineKind.TheVariants as line
 use Rattle.wt_lines.specs.Kinds.{line_kind}
 use Rattle.wt_lines.specs.Lines.{lines}

@@ -1,5 +1,5 @@
 -- A paragraph of one text, typed or written, is read the same before nothing and before a line break, and is a block of text.
-use Rattle.std.proofs.Common.{arith, ◌≡◌, ℕ, Bool, true, false, Some, None, List, [], ◌∷◌, ◌++◌, refl, sym, ap, ◌∙◌, subst, append-nil, append_assoc, inl, inr, zero, suc, ◌+◌, ◌<◌, ◌==◌, Option, length, take, cond}
+use Rattle.std.proofs.Common.{arith, ◌≡◌, ℕ, Bool, true, false, Some, None, List, [], ◌∷◌, ◌++◌, refl, sym, ap, ◌∙◌, subst, append-nil, append_assoc, inl, inr, zero, suc, ◌+◌, ◌<◌, Option, length, take, cond}
 use Rattle.std.specs.Str.{IsUtf8}
 use Rattle.wt_span.specs.declared.form.Mode.TheVariants.{Page}
 use Rattle.wt_span.specs.declared.form.LexKind.TheVariants.{Comment}
