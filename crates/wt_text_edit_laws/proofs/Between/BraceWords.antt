@@ -128,28 +128,30 @@ form_run a bs =
 
 -- ---- braces behind others
 
+none_past : (t u : Bool) (bs rs : List Brace) → NoneClose (if t then opening ∷ bs else (if u then closing ∷ bs else bs)) → (NoneClose bs → NoneClose rs) → NoneClose rs
+none_past true u bs rs h f = f h
+none_past false true bs rs h f = absurd h
+none_past false false bs rs h f = f h
+
 pub none_behind : (ss rs : List ℕ) → NoneClose (braces (ss ++ rs)) → NoneClose (braces rs)
 none_behind [] rs h = h
-none_behind (s ∷ ss) rs h = by (begins (codes "{{") (s ∷ (ss ++ rs))) (begins (codes "}}") (s ∷ (ss ++ rs))) h
-  where
-    by : (t u : Bool) → NoneClose (if t then opening ∷ braces (ss ++ rs) else (if u then closing ∷ braces (ss ++ rs) else braces (ss ++ rs))) → NoneClose (braces rs)
-    by true u h = none_behind ss rs h
-    by false true h = absurd h
-    by false false h = none_behind ss rs h
+none_behind (s ∷ ss) rs h =
+    none_past (begins (codes "{{") (s ∷ (ss ++ rs))) (begins (codes "}}") (s ∷ (ss ++ rs))) (braces (ss ++ rs)) (braces rs) h (λ g. none_behind ss rs g)
 
 pub none_pair : (bs : List Brace) → NoneClose bs → NonePairs bs
 none_pair [] h = tt
 none_pair (opening ∷ bs) h = h
 none_pair (closing ∷ bs) h = absurd h
 
+pairs_past : (t u : Bool) (bs rs : List Brace) → NonePairs (if t then opening ∷ bs else (if u then closing ∷ bs else bs)) → (NonePairs bs → NonePairs rs) → NonePairs rs
+pairs_past true u bs rs h f = f (none_pair bs h)
+pairs_past false true bs rs h f = f h
+pairs_past false false bs rs h f = f h
+
 pub pairs_behind : (ss rs : List ℕ) → NonePairs (braces (ss ++ rs)) → NonePairs (braces rs)
 pairs_behind [] rs h = h
-pairs_behind (s ∷ ss) rs h = by (begins (codes "{{") (s ∷ (ss ++ rs))) (begins (codes "}}") (s ∷ (ss ++ rs))) h
-  where
-    by : (t u : Bool) → NonePairs (if t then opening ∷ braces (ss ++ rs) else (if u then closing ∷ braces (ss ++ rs) else braces (ss ++ rs))) → NonePairs (braces rs)
-    by true u h = none_pair (braces rs) (none_behind ss rs h)
-    by false true h = pairs_behind ss rs h
-    by false false h = pairs_behind ss rs h
+pairs_behind (s ∷ ss) rs h =
+    pairs_past (begins (codes "{{") (s ∷ (ss ++ rs))) (begins (codes "}}") (s ∷ (ss ++ rs))) (braces (ss ++ rs)) (braces rs) h (λ g. pairs_behind ss rs g)
 
 -- ---- the items of a run
 
