@@ -1,21 +1,19 @@
 -- A page in whose items no two braces that open stand before two that close calls nothing.
-use Rattle.std.proofs.Common.{arith, ◌≡◌, ℕ, zero, suc, ◌+◌, ◌-◌, ◌==◌, Bool, true, false, Option, None, Some, List, [], ◌∷◌, ◌++◌, drop, reverse, refl, sym, ap, ◌∙◌, subst}
-use Rattle.std.specs.Prelude.{◌&&◌, slice_get, take, nat_le, if◌then◌else◌, option_map}
-use Rattle.std.specs.Option.{option_or}
+use Rattle.std.proofs.Common.{arith, ◌≡◌, ℕ, zero, suc, ◌+◌, ◌==◌, Bool, true, false, None, List, [], ◌∷◌, ◌++◌, refl, sym, ap, ◌∙◌, subst}
+use Rattle.std.specs.Prelude.{slice_get, if◌then◌else◌}
 use Rattle.std.specs.List.{position_or_len}
 use Rattle.wt_span.specs.declared.form.Mode.TheVariants.{Page}
 use Rattle.wt_span.specs.declared.form.LexKind.TheVariants.{Chars, CommentLine, Comment, Raw, Include, Hidden, Entity, Opens, Closes, LinkOpen, LinkClose, Pipe, Equals}
-use Rattle.wt_span.specs.Items.{Item, sign}
-use Rattle.wt_span.specs.Lexemes.{Word, cuts, closed, words}
-use Rattle.wt_span.specs.Braces.{Member, lexeme, call, members, open_left, has_two, left_over, taken, rewritten, again, closed_by, reduced_onto, reduced}
+use Rattle.wt_span.specs.Lexemes.{Word, cuts, words}
+use Rattle.wt_span.specs.Braces.{Member, lexeme, call, open_left, has_two, left_over, rewritten, again, closed_by, reduced_onto, reduced}
 use Rattle.wt_expand.specs.PageItems.{page_items}
 use Rattle.wt_expand.specs.PageCalls.{expanded_page}
 use Rattle.wt_expand.specs.Work.{Pages, first_refusal}
 use Rattle.wt_expand.specs.Expansion.{page_work}
 use Rattle.wt_text_edit_laws.specs.LonePages.{of_items}
-use Rattle.wt_text_edit_laws.specs.NoCalls.{NonePairs, braces, CallsNothing}
-use Rattle.wt_text_edit_laws.proofs.Texts.TypedText.{HaveNoClosers, AreLexemes, onto_lexemes, reverse_lexemes, lexemes_expanded, lexemes_unrefused}
-use Rattle.wt_text_edit_laws.proofs.Between.Fronts.{first_items, first_from, items_from}
+use Rattle.wt_text_edit_laws.specs.NoCalls.{CallsNothing}
+use Rattle.wt_text_edit_laws.proofs.Texts.TypedText.{AreLexemes, onto_lexemes, reverse_lexemes, lexemes_expanded, lexemes_unrefused}
+use Rattle.wt_text_edit_laws.proofs.Between.Fronts.{first_items, first_from}
 use Rattle.wt_text_edit_laws.proofs.Between.BraceWords.{CallNothing, calm_closed, pairs_words}
 
 -- ---- closing braces behind none that open
