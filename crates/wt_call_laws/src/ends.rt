@@ -8,7 +8,7 @@ ghost use Rattle.wt_pagetool.specs.Statuses.{code};
 ghost use Rattle.wt_pagetool.specs.declared.status.Status.TheVariants as status;
 
 /// A call ends in one way: it is done, it is refused, its answer isn't taken whole, or the line isn't. No two
-/// of them are told of one call, where the counts of the sinks aren't at their last value, and (of an answer
+/// of them hold of one call, where the counts of the sinks aren't at their last value, and (of an answer
 /// and a refusal) `err` says what it took. The number of a refusal is neither that of an answer nor that of a
 /// write fault.
 pub fn calls_end_in_one_way()

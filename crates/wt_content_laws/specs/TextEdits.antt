@@ -1,5 +1,5 @@
 -- A text edit round groups: only texts differ, directly in the block or in its bold and italic; every other node is the page's, and
--- among these are groups, and nodes in which groups stand.
+-- among these are groups, and nodes that hold groups.
 use Rattle.std.specs.Prelude.{◌≡◌, Bool, false, Some}
 use Rattle.wt_tree.specs.Plain.{plain}
 use Rattle.wt_tree.specs.Tiling.{is_group}

@@ -372,8 +372,8 @@ fn letters_behind(alloc: Global, old: &Node<'_>) -> Result<Str, NoMemory> {
     }
 }
 
-/// Appends the new text of a link to a page and its brackets, which stay before the letters that were behind them
-/// where the text still ends with these.
+/// Appends the new text of a link to a page and its brackets. Where the text still ends with the letters that came
+/// after the brackets, they come after them again.
 fn push_with_letters(
     alloc: Global,
     out: &mut Str,
@@ -434,10 +434,10 @@ fn link_round(
     }
     if has_own_text(alloc, old)? {
         push_with_letters(alloc, &mut out, old, inside)?;
-        return Ok(Some(out));
+    } else {
+        out.push_str(inside)?;
+        push_link_end(&mut out, old)?;
     }
-    out.push_str(inside)?;
-    push_link_end(&mut out, old)?;
     let out = shortened(alloc, out)?;
     Ok(Some(out))
 }
@@ -712,7 +712,7 @@ fn spot_of<'w>(writing: Writing<'w, '_, '_>) -> InsidePlace<'w> {
     }
 }
 
-/// Whether what holds nothing is told by its signs alone.
+/// Whether a block of this kind may be empty, since its signs alone show that it is there.
 fn may_be_empty(place: Place) -> bool {
     match place {
         Place::Item | Place::Term | Place::Cell | Place::Header => true,

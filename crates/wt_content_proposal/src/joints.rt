@@ -9,7 +9,7 @@ use wt_tree::Place;
 
 /// Where an inside is written: in what kind of block, the last byte of the delimiter before it (a space where there is
 /// none), whether a table may be open there, the page, where it has this inside, in bytes, and whether the inside is
-/// that of preformatted text, behind whose space no block begins.
+/// that of preformatted text, after whose space no block begins.
 #[derive(Clone, Copy)]
 pub struct InsidePlace<'w> {
     pub place: Place,
@@ -348,7 +348,7 @@ fn toggle_length(unit: Option<&Unit<'_>>) -> usize {
     }
 }
 
-/// Whether a bare URL begins behind a delimiter that is written anew, which it doesn't join.
+/// Whether a bare URL begins after a delimiter that is written anew, which it doesn't join.
 fn is_url_in_style(units: &[Unit<'_>], at: usize) -> bool {
     toggle_length(before(units, at)) != 0 && matches!(units.get(at), Some(unit) if is_bare(unit))
 }
@@ -357,7 +357,7 @@ fn is_bare(unit: &Unit<'_>) -> bool {
     matches!(role_of(unit), Some(Role::Bare(_)))
 }
 
-/// The length of a delimiter that stands in the page; 0 of anything else.
+/// The length of a delimiter that is in the page already; 0 of anything else.
 fn standing_toggle(unit: Option<&Unit<'_>>) -> usize {
     match unit {
         Some(Unit::Thing(thing)) if matches!(thing.role, Role::Node) && thing.place.is_some() => {
@@ -371,8 +371,8 @@ fn standing_toggle(unit: Option<&Unit<'_>>) -> usize {
     }
 }
 
-/// Whether a delimiter that is written anew and one that stands in the page meet that are of one length: they would
-/// make one run that is longer.
+/// Whether a delimiter that is written anew and one of the same length that is in the page already are side by
+/// side: they would make one longer run.
 fn meets_like(units: &[Unit<'_>], at: usize) -> bool {
     let left = before(units, at);
     let right = units.get(at);

@@ -18,7 +18,7 @@ pub fn element_answers_are_one()
     ensures place { (bytes : List ℕ) → (m n : ℕ) → (v w : HtmlWhy) → RefusedFor bytes (refusals.Html m v) → RefusedFor bytes (refusals.Html n w) → (m ≡ n) × (v ≡ w) }
 {}
 
-/// What can't be well-formed, told for such a reason, isn't made so by anything that follows.
+/// Input that was refused because it can't be well-formed doesn't become well-formed by anything that follows.
 pub fn ill_input_stays_ill()
     ensures { (bytes more : List ℕ) → (place : ℕ) → (w : HtmlWhy) → IsIll bytes (refusals.Html place w) → Well (bytes ++ more) → ⊥ }
 {}

@@ -14,7 +14,7 @@ use Rattle.wt_text_edit_laws.specs.BlockEdits.{SpotEdit, BlockEdit, new_text}
 
 -- ---- the page
 
--- What stands before a paragraph or heading: the spots before its own, and what stands between them and it.
+-- What comes before a paragraph or heading: the spots before its own, and what is between them and it.
 pub record Place : Type 0 where
   pub spots : List BlockSpot
   pub before : List ℕ
@@ -22,11 +22,11 @@ pub record Place : Type 0 where
 abbrev pub source_before : Place → List ℕ
 source_before p = spots_source p.spots p.before
 
--- the spots of a page that has a block with this text there, and these spots behind it
+-- the spots of a page that has a block with this text there, and these spots after it
 abbrev pub spots_with : Place → TextBlock → List ℕ → List BlockSpot → List BlockSpot
 spots_with p k text further = p.spots ++ record { before = p.before; block = k; text = text } ∷ further
 
--- the page itself, behind whose last spot this stands
+-- the page itself, in which this comes after the last spot
 abbrev pub page_with : Place → TextBlock → List ℕ → List BlockSpot → List ℕ → List ℕ
 page_with p k text further behind = spots_source (spots_with p k text further) behind
 
@@ -44,11 +44,11 @@ number_at p = 1 + numbered (page_blocks p.spots p.before)
 abbrev pub numbered_inside : TextBlock → List ℕ → ℕ
 numbered_inside k text = count_all (children (placed [] (block_tree k text)))
 
--- the block with this text as it stands there, with its numbers and places
+-- the block with this text as it is there, with its numbers and places
 abbrev pub block_at : Place → TextBlock → List ℕ → Tree
 block_at p k text = standing (number_at p) (page_items (source_before p)) (block_tree k text)
 
--- The text `new` stands in this block where `old` stood.
+-- The text `new` is in this block where `old` was.
 abbrev pub replaced_by : Place → TextBlock → List ℕ → List ℕ → Edit
 replaced_by p k old new = record {
   number = number_at p;
@@ -61,7 +61,7 @@ replaced_by p k old new = record {
 
 -- ---- the texts of an edit
 
--- One after the other, behind these spots. The last is replaced first, so each finds what stands before it as it was.
+-- One after the other, after these spots. The last is replaced first, so before each of them everything is still as it was.
 abbrev pub replaced_behind : List BlockSpot → List SpotEdit → List Edit
 replaced_behind front [] = []
 replaced_behind front (e ∷ es) =

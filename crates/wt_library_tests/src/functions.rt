@@ -4,8 +4,8 @@ use std::test::Fail;
 use wt_functions::{Ask, Chooser, function_of};
 use wt_span::{Function, List, NoMemory};
 
-/// The word of a function, the parts of a call, and what is asked of it: the parts that are told, then
-/// the one that is given.
+/// The word of a function, the parts of a call, and what it asks for: the parts that it looks at, then
+/// the one that it gives.
 static CASES: [(&str, &[&str], &str); 14] = [
     ("#if:", &["x", "a", "b"], "0 gives 1"),
     ("#IF:", &["", "a", "b"], "0 gives 2"),
@@ -27,7 +27,7 @@ static CASES: [(&str, &[&str], &str); 14] = [
     ("#switch:", &["z"], "0 gives nothing"),
 ];
 
-/// What is told of a part: of `Switch` its name.
+/// What a function looks at of a part: of `Switch` its name.
 fn told_text(function: Function, part: &str) -> &str {
     match part.split_once("=") {
         Some((name, _)) if function == Function::Switch => name,

@@ -49,7 +49,7 @@ may_begin last (b ∷ bs) = not (is_blank b || (is_break b || b == byte.closing_
 -- ---- a block and its page
 
 -- What comes before the block, its old and its new source, and what comes after it. No form but a run of braces goes over an edge of
--- the old source; the new one ends with a `{` before a `{` only where the old one did; and it closes no raw tag of the page that stood
+-- the old source; the new one ends with a `{` before a `{` only where the old one did; and it closes no raw tag of the page that was
 -- open.
 pub record Joints (before old new behind : List ℕ) : Type 0 where
   pub left : may_end_before (last_byte before) ≡ true

@@ -138,8 +138,8 @@ reaches size (Some r) = r.end == size
 abbrev pub holds_unclosed : List Item → List ℕ → Option Ranges → Bool
 holds_unclosed items page r = is_unclosed_item (last_of items) && reaches (length page) r
 
--- A paragraph or heading of the page that isn't tangled and holds no unclosed mark, and what it was edited to: its elements stand
--- untouched in their order, and each text between them is the page's or was typed.
+-- A paragraph or heading of the page that isn't tangled and holds no unclosed mark, and what it was edited to: its elements are
+-- untouched and in their order, and each text between them is the page's or was typed.
 pub record IsRetyped (same : Tree → Tree → Bool) (items : Expanded) (page : List ℕ) (p : Pair) : Type 0 where
   pub block : takes_text (edit_shape (label p.old).kind).form ≡ true
   pub untangled : is_tangled items page p.old ≡ false

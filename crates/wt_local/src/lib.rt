@@ -20,7 +20,7 @@ pub fn texts_stand_between_borders()
 {}
 
 /// Where the inside of a block of a page is replaced, its source is replaced in the page's, and every other
-/// byte stands.
+/// byte stays.
 #[tactic(auto, using(crate::proofs::Sources::swapped))]
 pub fn only_the_inside_changes()
     ensures { (e : Edit) (held : Trees) (t : Tree) → HasOnce e.number held t

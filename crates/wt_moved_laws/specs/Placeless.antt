@@ -1,4 +1,4 @@
--- A tree without its numbers and places: what it is wherever it stands.
+-- A tree without its numbers and places: what it is at any place.
 use Rattle.std.specs.Prelude.{None, List, [], ◌∷◌}
 use Rattle.wt_tree.specs.Tree.{Label, Tree, tree, Trees, none, more}
 use Rattle.wt_inline.specs.ItemTree.{ItemTree}

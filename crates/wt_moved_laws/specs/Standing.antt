@@ -9,7 +9,7 @@ use Rattle.wt_annotated.specs.CutTexts.{cut_texts}
 use Rattle.wt_annotated.specs.Numbering.{with_numbers}
 use Rattle.wt_annotated.specs.WithoutCalls.{placed}
 
--- with this number, where it has one, behind these items of the page
+-- with this number, where it has one, after these items of the page
 abbrev pub standing : ℕ → List Item → ItemTree → Tree
 standing n before t = cut_texts (with_numbers n (placed before t))
 

@@ -1,4 +1,4 @@
-//! Laws of nodes that are moved: what stands before a node changes its number and its place, and nothing else.
+//! Laws of nodes that are moved: what comes before a node changes its number and its place, and nothing else.
 #![tactic(auto)]
 
 ghost use Rattle.std.specs.Prelude.{◌≡◌, ℕ, List};
@@ -10,7 +10,7 @@ ghost use Rattle.wt_annotated.specs.Annotated.{unplaced};
 ghost use Rattle.wt_moved_laws.specs.Standing.{IsOrdinary, standing};
 
 /// A node of a page without calls shows the same whatever its number and its place are, and its source is that of
-/// its items. Where neither a body nor a section nor a group stands among its nodes, none does wherever it stands.
+/// its items. If neither a body nor a section nor a group is among its nodes, none is at any other place either.
 #[tactic(auto, using(crate::proofs::Moved::shows_the_same, crate::proofs::Ordinary::standing_ordinary, crate::proofs::Sources::standing_source))]
 pub fn moved_nodes_stay_the_same()
     ensures shown { (n m : ℕ) (before after : List Item) (t : ItemTree) (rest : Plains)

@@ -478,7 +478,7 @@ fn begins_without_sign(gap: Gap<'_, '_, '_>) -> bool {
     }
 }
 
-/// Appends a line of its own for an item behind, which stands on the line of its first item: else it would be taken
+/// Appends a line of its own for an item that follows and is on the line of its first item: else it would be taken
 /// into the one that comes.
 fn push_line_of_item(
     alloc: Global,

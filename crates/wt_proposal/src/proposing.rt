@@ -242,7 +242,7 @@ fn node_at<'t, 'a>(children: &[Child<'t, 'a>], at: Option<usize>) -> Option<&'t 
     Some(child.node)
 }
 
-/// A place up to the start of the node behind it, past which it may reach.
+/// A place, cut at the start of the node after it, past which it may reach.
 fn up_to(place: Slot, behind: Option<&Node<'_>>) -> Slot {
     let end = match behind {
         Some(node) => start_of(node.ranges),

@@ -107,7 +107,7 @@ fn is_of_row(kind: Kind) -> bool
     }
 }
 
-/// Where the gap before a node of the page ends: behind the sign of a cell, which may become another one.
+/// Where the gap before a node of the page ends: after the sign of a cell, which may become another one.
 fn gap_end(node: &Node<'_>) -> usize
     ensures { result ≡ gap_end (view node.now) }
 {

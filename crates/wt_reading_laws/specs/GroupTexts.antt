@@ -6,7 +6,7 @@ use Rattle.wt_span.specs.Cuts.{is_free, call_of_item, source_of_call}
 use Rattle.wt_annotated.specs.GroupParts.{Part, called, between}
 use Rattle.wt_reading_laws.specs.Places.{IsFirst, IsNowhere}
 
--- in the group, after `before` of all items, an item stands that comes from this call, and the item before it doesn't
+-- in the group, after `before` of all items, comes an item from this call, and the item before it isn't from it
 pub record CallBegins (all : List Item) (from size before call : ℕ) : Type 0 where
   pub starts : from ≤ before
   pub ends : before < from + size

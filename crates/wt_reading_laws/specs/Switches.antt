@@ -1,7 +1,7 @@
 -- Which part a `#switch` gives, by what is so of its parts. Part 0 is what is looked for; the others are numbered from 1.
 use Rattle.std.specs.Prelude.{◌≡◌, ℕ, ◌-◌, ◌<◌, ◌≤◌, Bool, true, false, Some, List, length, codes, slice_get}
 
--- a part after part 0 has a `=` or has none, as it is told of the parts from 1 on
+-- a part after part 0 has a `=` or has none, as the list says of the parts from 1 on
 abbrev pub Has : Bool → List Bool → ℕ → Type 0
 Has sign equals part = (0 < part) × (slice_get equals (part - 1) ≡ Some sign)
 

@@ -9,8 +9,8 @@ ghost use Rattle.wt_reading_laws.specs.Places.{IsFirst, IsLast};
 ghost use Rattle.wt_reading_laws.specs.GroupTexts.{AreItsCalls, AreParted, Begins, calls_among, page_text};
 
 /// The parts of a group, joined, are what is on the page from its first call to the end of its last.
-/// The calls among them are those that begin in the group, in order; between two of them at most one text
-/// stands, which isn't empty, and none before the first or after the last.
+/// The calls among them are those that begin in the group, in order; between two of them is at most one text,
+/// which isn't empty, and there is none before the first or after the last.
 pub fn parts_of_groups()
     ensures joined { (calls : List OuterCall) → (all : List Item) → (from : ℕ) → (size : ℕ)
         → (first : ℕ) → (last : ℕ)

@@ -35,53 +35,17 @@ pub enum PageLookup<'a> {
 fn message<'a>(
     alloc: Global,
     arena: &'a Bump<Global>,
-    text: &str,
+    text: Str,
 ) -> Result<List<Piece<'a>>, NoMemory>
-    ensures { IfOk result (λ ps. items ps ≡ chars text.now) }
+    ensures { IfOk result (λ ps. items ps ≡ chars text) }
 {
-    let kept = arena.try_alloc_str(text)?;
+    let kept = arena.try_alloc_str(text.as_str())?;
     if kept.len() > 4_294_967_295 {
         return Err(NoMemory);
     }
     let mut pieces = List::new(alloc);
     pieces.push(piece_of(Text::new(kept, 0), ItemForm::Chars))?;
     Ok(pieces)
-}
-
-/// The message that stands for a page that is being expanded already.
-fn loop_message<'a>(
-    alloc: Global,
-    arena: &'a Bump<Global>,
-    title: &Title,
-) -> Result<List<Piece<'a>>, NoMemory>
-    ensures { IfOk result (λ ps. items ps ≡ chars (loop_text title.now)) }
-{
-    let text = loop_text(alloc, title)?;
-    message(alloc, arena, text.as_str())
-}
-
-/// The message that stands for a page where no more may be expanded one inside another.
-fn depth_message<'a>(
-    alloc: Global,
-    arena: &'a Bump<Global>,
-    title: &Title,
-) -> Result<List<Piece<'a>>, NoMemory>
-    ensures { IfOk result (λ ps. items ps ≡ chars (depth_text title.now)) }
-{
-    let text = depth_text(alloc, title)?;
-    message(alloc, arena, text.as_str())
-}
-
-/// The link that stands for an absent page of this full name.
-fn absent_link<'a>(
-    alloc: Global,
-    arena: &'a Bump<Global>,
-    full: &str,
-) -> Result<List<Piece<'a>>, NoMemory>
-    ensures { IfOk result (λ ps. items ps ≡ chars (absent_text full.now)) }
-{
-    let text = absent_text(alloc, full)?;
-    message(alloc, arena, text.as_str())
 }
 
 /// Whether a full name is among those of the pages that are being expanded.
@@ -130,14 +94,19 @@ pub fn take<'a, F: Folder>(
     let Nesting { names, left } = nesting;
     let full = full_name(alloc, title)?;
     if is_open(names, full.as_str()) {
-        return Ok(PageLookup::Message(loop_message(alloc, arena, title)?));
+        let text = loop_text(alloc, title)?;
+        return Ok(PageLookup::Message(message(alloc, arena, text)?));
     }
     if left == 0 {
-        return Ok(PageLookup::Message(depth_message(alloc, arena, title)?));
+        let text = depth_text(alloc, title)?;
+        return Ok(PageLookup::Message(message(alloc, arena, text)?));
     }
     match store.template(alloc, arena, folder, full.as_str()) {
         Ok(Some(read)) => Ok(PageLookup::Page(read)),
-        Ok(None) => Ok(PageLookup::Link(absent_link(alloc, arena, full.as_str())?)),
+        Ok(None) => {
+            let text = absent_text(alloc, full.as_str())?;
+            Ok(PageLookup::Link(message(alloc, arena, text)?))
+        }
         Err(refusal) => Err(refusal),
     }
 }

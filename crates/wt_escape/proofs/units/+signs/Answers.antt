@@ -1,14 +1,15 @@
-use Rattle.std.proofs.Common.{arith, refl, sym, ap, ◌∙◌, append-nil, ◌++◌, []}
+use Rattle.std.proofs.Common.{arith, refl, sym, ap, ◌∙◌, append-nil, List, ◌++◌, [], ◌∷◌}
 use Rattle.std.specs.Prelude.{option_map}
 use Rattle.std.proofs.lemmas.Grind.{common_steps}
-use Rattle.wt_tree.specs.declared.node.Node.{out-Node}
+use Rattle.wt_span.specs.Characters as byte
+use Rattle.wt_tree.specs.declared.node.Node.{Node, out-Node}
 use Rattle.wt_tree.specs.View.{label_of, view, views}
 use Rattle.wt_tree.specs.declared.edit_shape.InlineForm.TheVariants as inline
 use Rattle.wt_tree.specs.declared.edit_shape.EditShape.{EditShape}
 use Rattle.wt_tree.specs.EditShapes.{edit_shape}
 use Rattle.wt_guards.specs.declared.role.Role.TheVariants as role
 use Rattle.wt_original.specs.Gathered.{kept_view}
-use Rattle.wt_escape.specs.Spelling.{unless_kept, new_thing, anew_by, signs_of_all}
+use Rattle.wt_escape.specs.Spelling.{unless_kept, new_thing, style, anew_by, signs_of_all}
 use Rattle.wt_original.specs.PageViews.{page_view}
 use Rattle.wt_guards.specs.Views.{all_signs}
 use Rattle.wt_guards.specs.Content.{letters}
@@ -24,6 +25,34 @@ push_signs-returns-in-Nothing t c = λ same tells.
     let k = option_map kept_view c.find-kept.result in
     signs_pushed n inline.Nothing p c.args.place k (all_signs c.args.out.now.items) (all_signs c.args.out.now.items) []
     (ap (λ (r : EditShape). r.inline) (sym c.edit_shape.ensures) ∙ c.in-Nothing.is) c.find-kept.ensures refl (sym (append-nil (all_signs c.args.out.now.items)))
+
+pub push_signs-returns-in_ok-push_style-in-Bold : goal.push_signs-returns-in_ok-push_style-in-Bold
+push_signs-returns-in_ok-push_style-in-Bold t c = λ same tells.
+    let n = c.args.node.now in
+    let p = page_view same c.args.page.now in
+    let pl = c.args.place in
+    let k = option_map kept_view c.find-kept.result in
+    let old = all_signs c.args.out.now.items in
+    let sign = byte.apostrophe ∷ byte.apostrophe ∷ byte.apostrophe ∷ [] in
+    signs_pushed n inline.Bold p pl k old (all_signs c.push_style.new.out.items)
+    (style sign k (signs_of_all p pl (views (out-Node n).children)))
+    (ap (λ (r : EditShape). r.inline) (sym c.edit_shape.ensures) ∙ c.in-Bold.is) c.find-kept.ensures refl
+    (c.in_ok-push_style-in-Bold.ensures ∙ ap (λ s. old ++ style sign k s)
+    (c.in_ok-inside-in-Bold.ensures same tells ∙ ap (λ (ns : List Node). signs_of_all p pl (views ns)) c.as_slice.ensures))
+
+pub push_signs-returns-in_ok-push_style-in-Italic : goal.push_signs-returns-in_ok-push_style-in-Italic
+push_signs-returns-in_ok-push_style-in-Italic t c = λ same tells.
+    let n = c.args.node.now in
+    let p = page_view same c.args.page.now in
+    let pl = c.args.place in
+    let k = option_map kept_view c.find-kept.result in
+    let old = all_signs c.args.out.now.items in
+    let sign = byte.apostrophe ∷ byte.apostrophe ∷ [] in
+    signs_pushed n inline.Italic p pl k old (all_signs c.push_style-in-Italic.new.out.items)
+    (style sign k (signs_of_all p pl (views (out-Node n).children)))
+    (ap (λ (r : EditShape). r.inline) (sym c.edit_shape.ensures) ∙ c.in-Italic.is) c.find-kept.ensures refl
+    (c.in_ok-push_style-in-Italic.ensures ∙ ap (λ s. old ++ style sign k s)
+    (c.in_ok-inside-in-Italic.ensures same tells ∙ ap (λ (ns : List Node). signs_of_all p pl (views ns)) c.as_slice-in-Italic.ensures))
 
 pub push_signs-returns-in_ok-push_unless_unchanged-in-Shown : goal.push_signs-returns-in_ok-push_unless_unchanged-in-Shown
 push_signs-returns-in_ok-push_unless_unchanged-in-Shown t c = λ same tells.
