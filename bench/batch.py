@@ -12,6 +12,11 @@ processes, on how many processors they ran at once on average, how much of these
 processes had, and how much the host of a virtual machine gave to others, and the peak memory of the largest
 process; and at the end the middle one of the rates' ratios, and the ratio of all runs together.
 
+Before each pair it has every processor do the same arithmetic, which needs no memory but the nearest cache,
+first one after the other and then all at once. Where that takes more processor time at once, the processors
+slow one another down, or the host slows them, and no program can be as many times as fast as there are
+processors.
+
 The processors of a virtual machine aren't equally fast, and none is as fast at one time as at another: one
 is mostly a thread of a core that has two, and half as fast again while the host lets the other one rest. So
 a run on one processor is moved to the next one every half second: then it shows what one has on average.
@@ -39,6 +44,7 @@ from pathlib import Path
 TOP = Path(__file__).resolve().parent.parent
 TOOL = TOP / "tools" / "batch"
 TURN_SECONDS = 0.5  # that a run on one processor has on each
+ARITHMETIC = "import hashlib\nfor _ in range(4000): hashlib.sha256(bytes(16384)).digest()"
 # Without what a shell may tell Python: some forbid it to keep compiled modules.
 ENVIRONMENT = {name: value for name, value in os.environ.items() if not name.startswith("PYTHON")}
 
@@ -219,6 +225,21 @@ def used_by_children() -> float:
     return used.ru_utime + used.ru_stime
 
 
+def arithmetic_time(processors: "list[int]") -> float:
+    """Seconds of processor time that the arithmetic takes on all of these processors at once."""
+    before = used_by_children()
+    processes = [
+        subprocess.Popen(
+            [sys.executable, "-c", ARITHMETIC], env=ENVIRONMENT,
+            preexec_fn=lambda number=number: os.sched_setaffinity(0, {number}),
+        )
+        for number in processors
+    ]  # fmt: skip
+    for process in processes:
+        process.wait()
+    return used_by_children() - before
+
+
 def told(measured: Measured, processors: int, pages: int, size: int) -> str:
     seconds, used = measured.seconds, measured.used
     wanted = "" if measured.wanted is None else f"{measured.wanted / seconds:.2f} wanted, "
@@ -260,9 +281,12 @@ def main() -> None:
 def measure(runner: Runner, everything: "list[int]", arguments: argparse.Namespace, size: int) -> None:
     count = len(everything)
     pairs: "list[tuple[Measured, Measured]]" = []
+    alone = together = 0.0  # seconds of arithmetic
     for number in range(arguments.rounds):
         start = number % count
         turns = everything[start:] + everything[:start]
+        alone += sum(arithmetic_time([processor]) for processor in turns)
+        together += arithmetic_time(turns)
         one = runner.run(turns[:1] if arguments.stay else turns, 1)
         all_of_them = runner.run(everything, count)
         pairs.append((one, all_of_them))
@@ -275,8 +299,10 @@ def measure(runner: Runner, everything: "list[int]", arguments: argparse.Namespa
             flush=True,
         )
     middle = statistics.median(one.seconds / many.seconds for one, many in pairs)
-    together = sum(one.seconds for one, _ in pairs) / sum(many.seconds for _, many in pairs)
-    print(f"the middle one of {len(pairs)}: {middle:.2f} to 1; all together {together:.2f} to 1")
+    rate = sum(one.seconds for one, _ in pairs) / sum(many.seconds for _, many in pairs)
+    times = sum(many.used for _, many in pairs) / sum(one.used for one, _ in pairs)
+    print(f"the middle one of {len(pairs)}: {middle:.2f} to 1; all together {rate:.2f} to 1")
+    print(f"processor times, all together: {times:.3f} to 1; of arithmetic alone {together / alone:.3f} to 1")
 
 
 if __name__ == "__main__":

@@ -11,6 +11,7 @@ import time
 import unittest
 from itertools import product
 from pathlib import Path
+from unittest import mock
 from urllib.parse import quote, unquote
 from xml.sax.saxutils import escape
 
@@ -18,7 +19,7 @@ from loading import REPOSITORY, TOOLS
 
 sys.dont_write_bytecode = True
 sys.path.insert(0, str(TOOLS))
-from wtround_batch import examine, program, wiki  # noqa: E402
+from wtround_batch import engine, examine, program, wiki  # noqa: E402
 
 try:
     import pty
@@ -459,11 +460,12 @@ class Outputs(BatchCase):
         (self.pages / "Template%3AT.wiki").chmod(0)
         self.assertEqual(self.report("html")["outcomes"]["html"]["unreadable"], 1)
 
-    def test_a_directory_among_the_pages(self) -> None:
+    def test_a_directory_and_a_pipe_among_the_pages(self) -> None:
         self.make()
         (self.pages / "Folder.wiki").mkdir()
+        os.mkfifo(self.pages / "Pipe.wiki")  # to open it could be to wait for ever
         self.assertEqual(
-            self.report("html")["outcomes"]["html"], {"answered": 2, "refused": 1, "unreadable": 1}
+            self.report("html")["outcomes"]["html"], {"answered": 2, "refused": 1, "unreadable": 2}
         )
 
     def test_the_longest_page(self) -> None:
@@ -907,6 +909,68 @@ class Questions(unittest.TestCase):
         self.assertEqual(commands, ["html", "wikitext", "ranges"])
         self.assertIn(b"<b", examined.results["html"].out)
         self.assertEqual(examined.results["wikitext"].out, self.WIKI["Written"])
+
+
+class Settings(unittest.TestCase):
+    """The settings of the environment with which the program is asked."""
+
+    def program(self, text: str) -> str:
+        folder = tempfile.TemporaryDirectory()
+        self.addCleanup(folder.cleanup)
+        path = Path(folder.name) / "program"
+        path.write_text("#!/bin/sh\n" + text)
+        path.chmod(0o755)
+        return str(path)
+
+    def settings(self, text: str, memory_limit: "int | None" = None) -> "dict[str, str]":
+        return program.settings_for(self.program(text), ["html"], memory_limit)
+
+    ANSWERS = "read case; printf '0\\t\\t\\t\\n'; read case\n"
+
+    def test_quick_ones_where_it_answers_with_them(self) -> None:
+        self.assertEqual(self.settings(self.ANSWERS), program.QUICK)
+
+    def test_plain_ones_where_it_ends_with_the_quick_ones(self) -> None:
+        text = f'case "$LD_PRELOAD" in *mimalloc*) exit 1;; esac\n{self.ANSWERS}'
+        self.assertEqual(self.settings(text), program.PLAIN)
+
+    def test_plain_ones_where_memory_is_limited(self) -> None:
+        self.assertEqual(self.settings(self.ANSWERS, 1 << 30), program.PLAIN)
+
+    def test_what_the_user_sets_stays(self) -> None:
+        text = f'[ -z "$LD_PRELOAD" ] || exit 1\n{self.ANSWERS}'
+        with mock.patch.dict(os.environ, LD_PRELOAD=""):
+            self.assertEqual(self.settings(text), program.QUICK)
+
+    def test_one_that_never_answers(self) -> None:
+        with self.assertRaises(program.ProgramError):
+            self.settings("exit 1\n")
+
+
+class LastPages(unittest.TestCase):
+    """In what order pages are given out."""
+
+    def sizes(self, sizes: "list[int]", jobs: int) -> "list[int]":
+        tasks = (engine.Task(f"P{k}", "", "", size, None, None) for k, size in enumerate(sizes))
+        ordered = engine.largest_first_at_the_end(tasks, lambda: len(sizes), jobs)
+        return [task.size for task in ordered]
+
+    def test_the_last_are_given_largest_first(self) -> None:
+        count, last = 2000, engine.SORTED_PAGES * 2
+        found = self.sizes(list(range(count)), 2)
+        self.assertEqual(found, [*range(count - last), *range(count - 1, count - last - 1, -1)])
+
+    def test_each_is_given_once(self) -> None:
+        for count in range(200):
+            found = self.sizes([k * 37 % 101 for k in range(count)], 1)
+            self.assertEqual(sorted(found), sorted(k * 37 % 101 for k in range(count)))
+
+    def test_no_page_is_counted_before_each_worker_has_its_first(self) -> None:
+        ordered = engine.largest_first_at_the_end(
+            (engine.Task("P", "", "", 1, None, None) for _ in range(100)), self.fail, 4
+        )
+        first = [next(ordered) for _ in range(engine.FIRST_BATCH_PAGES * engine.WAITING_BATCHES * 4)]
+        self.assertEqual(len(first), 64)
 
 
 class Words(BatchCase):

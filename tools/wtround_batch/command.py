@@ -10,7 +10,7 @@ from contextlib import closing, contextmanager
 from typing import Callable, Iterator
 
 from .nursery import STOPPING, Nursery, NurseryError
-from .program import ProgramError, find_program, refuse_unfit
+from .program import ProgramError, find_program, settings_for
 from .progress import Progress, spelled_time
 from .results import COMMANDS, DIFFERS, FAILURE_WORDS, OUTCOMES
 from .run import Choice, Counts, Run, Source, Target
@@ -158,13 +158,16 @@ def memory_of(arguments: argparse.Namespace) -> "int | None":
     return None if arguments.memory_limit is None else int(arguments.memory_limit * 1_000_000)
 
 
-def orders_of(arguments: argparse.Namespace, program: str, store: "Store | None") -> Orders:
+def orders_of(
+    arguments: argparse.Namespace, program: str, settings: "dict[str, str]", store: "Store | None"
+) -> Orders:
     output = (
         "files" if arguments.output is not None else "lines" if arguments.json is not None else "nothing"
     )
     export = arguments.export
     return Orders(
         program=program,
+        settings=settings,
         memory_limit=memory_of(arguments),
         time_limit=arguments.time_limit,
         commands=arguments.commands,
@@ -205,10 +208,15 @@ def told(counts: Counts, total: int) -> str:
 
 
 def run_all(
-    arguments: argparse.Namespace, program: str, nursery: Nursery, store: Store, progress: Progress
+    arguments: argparse.Namespace,
+    program: str,
+    settings: "dict[str, str]",
+    nursery: Nursery,
+    store: Store,
+    progress: Progress,
 ) -> int:
     with closing(read_source(arguments, store, progress)) as source:
-        orders = orders_of(arguments, program, store)
+        orders = orders_of(arguments, program, settings, store)
         target = Target(store, orders, arguments.json or arguments.output, arguments.again)
         choice = Choice(Namespaces.chosen(arguments.namespace), arguments.list)
         run = Run(store, source, choice, orders, target)
@@ -272,10 +280,10 @@ def main_of_run(words: "list[str]") -> int:
     progress = Progress(sys.stderr, arguments.quiet)
     with closing(Nursery(work)) as nursery:
         nursery.start_ahead(jobs_of(arguments))  # while this process gets the pages
-        refuse_unfit(program, arguments.commands)
+        settings = settings_for(program, arguments.commands, memory_of(arguments))
         with closing(Store(arguments.state)) as store:
             try:
-                return run_all(arguments, program, nursery, store, progress)
+                return run_all(arguments, program, settings, nursery, store, progress)
             finally:
                 progress.clear()
 

@@ -16,6 +16,7 @@ from .worker import FrameReader, Orders, examined_from_json, known_as_json, writ
 BATCH_PAGES = 16
 FIRST_BATCH_PAGES = 8  # while it isn't known how many pages there are
 BATCH_BYTES = 256 << 10
+SORTED_PAGES = 256  # for each worker, at the end
 STOP_SECONDS = 0.5  # within which a run stops
 WAITING_BATCHES = 2  # of a worker: the one that it works on, and the next
 
@@ -96,6 +97,17 @@ class Worker:
         return self._nursery.end(self._process_id)
 
 
+def largest_first_at_the_end(
+    tasks: "Iterator[Task]", pages: "Callable[[], int]", jobs: int
+) -> "Iterator[Task]":
+    """The tasks, the last of them by their sizes, so that no worker is left alone with a large page."""
+    uncounted = FIRST_BATCH_PAGES * WAITING_BATCHES * jobs  # that are given before the pages are counted
+    for given, task in enumerate(tasks, 1):
+        yield task
+        if given > uncounted and pages() - given <= SORTED_PAGES * jobs:
+            yield from sorted(tasks, key=lambda task: task.size, reverse=True)
+
+
 def batches_of(tasks: "Iterator[Task]", pages: "Callable[[], int]", jobs: int) -> "Iterator[list[Task]]":
     """The tasks by batches. `pages` counts how many tasks there are at most.
 
@@ -146,7 +158,7 @@ class Engine:
 
     def run(self, tasks: "Iterator[Task]", pages: "Callable[[], int]") -> "Generator[Done, None, None]":
         """`pages` counts how many tasks there are at most."""
-        batches = batches_of(tasks, pages, self._jobs)
+        batches = batches_of(largest_first_at_the_end(tasks, pages, self._jobs), pages, self._jobs)
         try:
             while not self._is_stopped():
                 self._hand_out(batches)

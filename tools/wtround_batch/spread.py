@@ -10,7 +10,7 @@ from typing import BinaryIO, Iterator
 from . import command as one_machine
 from .examine import Examiner, answered
 from .outputs import Lines, read_line
-from .program import Cases, case, find_program, refuse_unfit
+from .program import Cases, case, find_program, settings_for
 from .progress import Progress
 from .report import About, Report
 from .report_html import write_files
@@ -64,10 +64,11 @@ def cases_parser() -> argparse.ArgumentParser:
 def write_cases(words: "list[str]") -> int:
     arguments = cases_parser().parse_args(words)
     program = find_program(arguments.program)
-    refuse_unfit(program, ["expand"])
+    memory_limit = one_machine.memory_of(arguments)
+    settings = settings_for(program, ["expand"], memory_limit)
     progress = Progress(sys.stderr, arguments.quiet)
     store = Store(arguments.state)
-    cases = Cases(program, one_machine.memory_of(arguments))
+    cases = Cases(program, memory_limit, settings)
     try:
         with closing(one_machine.read_source(arguments, store, progress)) as source:
             examiner = Examiner(source, arguments.time_limit, wants_output=False)
@@ -128,7 +129,8 @@ def answers_parser() -> argparse.ArgumentParser:
 
 def write_answers(words: "list[str]") -> int:
     arguments = answers_parser().parse_args(words)
-    cases = Cases(find_program(arguments.program), one_machine.memory_of(arguments))
+    program, memory_limit = find_program(arguments.program), one_machine.memory_of(arguments)
+    cases = Cases(program, memory_limit, settings_for(program, ["html"], memory_limit))
     lines = Lines(is_packed=False, has_output=not arguments.no_output)
     status = 0
     for number, line in enumerate(sys.stdin.buffer, 1):

@@ -77,6 +77,7 @@ class Orders:
     """What a worker has to do. All of it can be written as JSON."""
 
     program: str
+    settings: "dict[str, str]"  # of its environment
     memory_limit: "int | None"  # bytes
     time_limit: float  # seconds
     commands: "list[str]"
@@ -156,7 +157,7 @@ def work(leader: socket.socket) -> None:
         os.sched_setaffinity(0, {orders.processor})
     be_patient()
     keep_memory()
-    cases = Cases(orders.program, orders.memory_limit)
+    cases = Cases(orders.program, orders.memory_limit, orders.settings)
     cases.start_ahead()
     examiner = Examiner(orders.source(), orders.time_limit, orders.output != "nothing")
     sink = orders.sink()

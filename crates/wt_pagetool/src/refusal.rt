@@ -298,8 +298,8 @@ fn content_why(why: ContentWhy) -> &'static str
 }
 
 #[tactic(auto, unfolding(crate::specs::Refusals::check_name))]
-fn check_name(check: TreeRefusal) -> &'static str
-    ensures { result.now ≡ check_name check }
+fn check_name(check: &TreeRefusal) -> &'static str
+    ensures { result.now ≡ check_name check.now }
 {
     match check {
         TreeRefusal::UnknownId(_) => "UnknownId",
@@ -329,7 +329,7 @@ fn checked_line(alloc: Global, check: TreeRefusal) -> Result<String, AllocError>
 {
     format!(in alloc;
         "wtround: edit refused: {} {}\n",
-        check_name(check),
+        check_name(&check),
         check_node(check).get()
     )
 }

@@ -5,4 +5,6 @@ pub mod LineRemarks
 pub mod LineTags
 pub mod LineForms
 pub mod Fronts
+pub mod Shown
+pub mod TextReads
 mod Cases
