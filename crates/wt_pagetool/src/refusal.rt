@@ -135,7 +135,7 @@ impl From<EditRefusal> for Refusal {
             EditRefusal::BadContent(node, why) => Refusal::BadContent { node, why },
             EditRefusal::Tangled(node) => Refusal::Tangled(node),
             EditRefusal::NewPageTooLong => Refusal::NewPageTooLong,
-            EditRefusal::NewExpansion(_) => Refusal::NewExpansion,
+            EditRefusal::NewExpansion(_cause) => Refusal::NewExpansion,
             EditRefusal::Unspelled(child) => Refusal::Unspelled(child),
             EditRefusal::FolderFault => Refusal::FolderFault,
             EditRefusal::NoMemory => Refusal::NoMemory,
