@@ -7,4 +7,6 @@ pub mod LineForms
 pub mod Fronts
 pub mod Shown
 pub mod TextReads
+pub mod BraceWords
+pub mod NoCalls
 mod Cases

@@ -47,6 +47,7 @@ ghost use Rattle.wt_text_edit_laws.specs.ProsePages.{Passage, prose, AreProse, I
 ghost use Rattle.wt_text_edit_laws.specs.ProseTrees.{prose_page};
 ghost use Rattle.wt_text_edit_laws.specs.ProseUnmarked.{unmarked_prose, IsUnmarkedEdit};
 ghost use Rattle.wt_text_edit_laws.specs.ProseEdits.{PassageEdit, old_passages, new_passages, sent_prose, IsProseEdit};
+ghost use Rattle.wt_text_edit_laws.specs.NoCalls.{CallsNothing};
 ghost use Rattle.wt_text_edit_laws.specs.TextBetween.{AreWholeLines, AreEnded, HasEnds, BeginsShown, StandsBefore, StandsBehind};
 ghost use Rattle.wt_text_edit_laws.specs.Paragraphs.{IsParagraph};
 ghost use Rattle.wt_text_edit_laws.specs.ParagraphBetween.{EndsApart, EndsParagraph, blocks_in, body_round, AreClosed, before_marks, body_with};
@@ -196,6 +197,17 @@ pub fn unmarked_prose_is_taken()
         → IsUnmarkedEdit es → stands ≡ Some (prose (old_passages es)) → length (prose (old_passages es)) ≤ PAGE_BYTES
         → length (prose (new_passages es)) ≤ PAGE_BYTES → length input ≤ HTML_BYTES
         → read input ≡ as_page (unmarked_prose b es) unsourced → DoneByEdit pages stands input }
+{}
+
+// ---- braces that make no call
+
+/// A page in which no two opening braces side by side come before two closing ones calls nothing, whatever the folder
+/// has: it has no calls and no arguments, nothing is fetched for it, and nothing refuses it. Braces inside of comments,
+/// nowikis and tags of extensions don't count.
+#[tactic(auto, using(crate::proofs::Between::NoCalls::calm_expanded, crate::proofs::Between::NoCalls::calm_unrefused))]
+pub fn unpaired_braces_call_nothing()
+    ensures expanded { (pages : Pages) (page : List ℕ) → CallsNothing (page_items page) → expanded_page pages page ≡ of_items (page_items page) }
+    ensures unrefused { (pages : Pages) (page : List ℕ) → CallsNothing (page_items page) → refusal_of_page pages page ≡ None }
 {}
 
 // ---- a text between two other parts of a page

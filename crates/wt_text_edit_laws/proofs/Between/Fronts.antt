@@ -104,7 +104,7 @@ form_from a b bs kind j f =
     ∙ ap (λ (n : ℕ). items_cut (b ∷ bs) (0, (kind, suc j) ∷ closed (cuts Page (is_break b) n bs).0 (cuts Page (is_break b) n bs).1)) z
     ∙ ap (λ ys. items_of_word kind (b ∷ take j bs) ++ ys) (closed_items (drop j bs) (cuts Page (is_break b) j bs))
 
-words_by : (a : Bool) (b : ℕ) (bs : List ℕ) → form_at Page a (b ∷ bs) ≡ None → (cuts Page a 0 (b ∷ bs)).1 ≡ (cuts Page (is_break b) 0 bs).1
+pub words_by : (a : Bool) (b : ℕ) (bs : List ℕ) → form_at Page a (b ∷ bs) ≡ None → (cuts Page a 0 (b ∷ bs)).1 ≡ (cuts Page (is_break b) 0 bs).1
 words_by a b bs f = ap (λ (c : Cut). c.1) (cuts_cons Page a b bs None f)
 
 pub words_from : (a : Bool) (b : ℕ) (bs : List ℕ) (kind : LexKind) (j : ℕ) → form_at Page a (b ∷ bs) ≡ Some (kind, suc j)
