@@ -1,5 +1,5 @@
 -- Clean nodes: those that can be edited by themselves, since no call reaches over one of their places.
--- Cuts are counted in the items that the whole tree holds, in which each `nowiki` stands opened. So the places between what
+-- Cuts are counted in the items that the whole tree holds, in which each `nowiki` is opened. So the places between what
 -- is in a `nowiki` of the page are free cuts, and those in one of a call are not, as between any other characters.
 use Rattle.std.specs.Prelude.{ℕ, ◌+◌, Bool, true, false, ◌&&◌, ◌||◌, Option, Some, None, List, ◌++◌, length}
 use Rattle.std.specs.List.{list_all, list_any}

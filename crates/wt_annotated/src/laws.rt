@@ -113,7 +113,7 @@ pub fn group_words()
 {}
 
 /// A walk over the tree that knows only the calls of the items beside it, and the byte at which it
-/// stands, makes the tree with its groups.
+/// is, makes the tree with its groups.
 pub fn groups_by_walking()
     ensures { (calls : List OuterCall) (carried : List Part → Option DataMw) (t : ItemTree)
         → walked calls carried None 0 None t ≡ placed calls carried (tree_items t) (grouped (tree_items t) 0 t) }

@@ -36,7 +36,7 @@ pub fn leaf_node<'a>(
     })
 }
 
-/// What is in front of a node's children, and what is behind them.
+/// What is before a node's children, and what is after them.
 #[derive(Clone, Copy)]
 pub struct Delimiters<'d, 'a> {
     pub opening: &'d [Piece<'a>],

@@ -12,8 +12,8 @@ pub fn spelled_attributes()
         → (s : Spelled) × IsSpelled s rest × (bs ≡ spell s ++ rest) × (a ≡ meaning s) }
 {}
 
-/// The attributes of a text are those that stand, one after the other, at its start or after a
-/// blank, the first that does each time; and no other list is so.
+/// The attributes of a text are those that come one after the other, each the first one at the text's start or
+/// after a blank; and no other list is so.
 pub fn one_reading()
     ensures are { (bs : List ℕ) → AreReadings true (readings true 0 bs) bs }
     ensures only { (rs : List Named) (bs : List ℕ) → AreReadings true rs bs → rs ≡ readings true 0 bs }

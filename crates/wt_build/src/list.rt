@@ -59,7 +59,7 @@ fn begins_at(nodes: &[ListNode], line: usize) -> bool
 
 /// A list or an item by itself, without what is in it.
 #[derive(Clone, Copy)]
-struct Bare {
+struct ListHead {
     item: bool,
     /// The sign of its first line that makes it.
     sign: char,
@@ -75,18 +75,18 @@ fn item_stretches<'a>(
     alloc: Global,
     pieces: &[Piece<'a>],
     rows: &[RowAt],
-    bare: Bare,
+    list: ListHead,
     inside: List<StretchAt<'a>>,
 ) -> Result<List<StretchAt<'a>>, NoMemory>
     requires { All IsSoundPiece pieces.now }
     ensures { IfOk result (λ l. stretches_view pieces.now l
-        ≡ node_by (rows_view pieces.now rows.now) true bare.sign bare.line bare.inner (stretches_view pieces.now inside.entry)) }
+        ≡ node_by (rows_view pieces.now rows.now) true list.sign list.line list.inner (stretches_view pieces.now inside.entry)) }
 {
-    if bare.inner {
-        let head = NodeHead::plain(item_kind(bare.sign));
+    if list.inner {
+        let head = NodeHead::plain(item_kind(list.sign));
         return enclosed(alloc, head, pieces, inside);
     }
-    line_item(alloc, pieces, row_at(rows, bare.line), bare.sign, inside)
+    line_item(alloc, pieces, row_at(rows, list.line), list.sign, inside)
 }
 
 /// The stretches of a node, with those inside it.
@@ -94,17 +94,17 @@ fn node_stretches<'a>(
     alloc: Global,
     pieces: &[Piece<'a>],
     rows: &[RowAt],
-    bare: Bare,
+    list: ListHead,
     inside: List<StretchAt<'a>>,
 ) -> Result<List<StretchAt<'a>>, NoMemory>
     requires { All IsSoundPiece pieces.now }
     ensures { IfOk result (λ l. stretches_view pieces.now l
-        ≡ node_by (rows_view pieces.now rows.now) bare.item bare.sign bare.line bare.inner (stretches_view pieces.now inside.entry)) }
+        ≡ node_by (rows_view pieces.now rows.now) list.item list.sign list.line list.inner (stretches_view pieces.now inside.entry)) }
 {
-    if bare.item {
-        return item_stretches(alloc, pieces, rows, bare, inside);
+    if list.item {
+        return item_stretches(alloc, pieces, rows, list, inside);
     }
-    let head = NodeHead::plain(list_kind(bare.sign));
+    let head = NodeHead::plain(list_kind(list.sign));
     enclosed(alloc, head, pieces, inside)
 }
 
@@ -145,14 +145,14 @@ fn list_stretches<'a>(
         line,
         children,
     } = node;
-    let bare = Bare {
+    let list = ListHead {
         item,
         sign,
         line,
         inner: begins_at(children.as_slice(), line),
     };
     let inside = all_lists(alloc, pieces, rows, children)?;
-    node_stretches(alloc, pieces, rows, bare, inside)
+    node_stretches(alloc, pieces, rows, list, inside)
 }
 
 /// The prefixes of rows.

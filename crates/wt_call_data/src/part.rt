@@ -31,7 +31,7 @@ fn link(alloc: Global, href: &Option<Str>) -> Result<Str, NoMemory>
     }
 }
 
-/// A call as a part of a group, before which so many calls of the group stand.
+/// A call as a part of a group, after so many calls of the group.
 #[tactic(auto, unfolding(crate::specs::CallData::call_part))]
 pub fn call_part<'a>(alloc: Global, outer: &Outer<'a>, number: u32) -> Result<Part, NoMemory>
     requires { IsSoundCall (outer_call outer.now) }

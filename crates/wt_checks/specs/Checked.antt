@@ -27,7 +27,7 @@ refused values page edited =
 unfoldable pub checked : Bool → Tree → Tree → Option TreeRefusal
 checked values page edited = refused values (page_of page) (places edited)
 
--- of the nodes alone: unknown and repeated numbers, and groups; where nodes stand isn't asked, nor what
+-- of the nodes alone: unknown and repeated numbers, and groups; where nodes are isn't asked, nor what
 -- is outside groups
 abbrev pub nodes_refused : Page → List Place → Option TreeRefusal
 nodes_refused page edited =

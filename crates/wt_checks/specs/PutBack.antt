@@ -116,8 +116,8 @@ AreAsRead edited = AllByRecursion IsAsRead (places edited)
 
 -- The edited tree is the page's but for what may differ: with that put back, all that is compared is
 -- the page's. Of what that doesn't see, kept nodes are in their order, groups are as they were, and so
--- are, outside marked content, kept marks and skips and the kept nodes inside new elements; marks stand
--- where they may.
+-- are, outside marked content, kept marks and skips and the kept nodes inside new elements; marks are
+-- where they may be.
 pub record IsThePage (values : Bool) (page edited : Tree) : Type 0 where
   pub compared : gist (put_back values (page_of page) edited) ≡ gist page
   pub order : InOrder (places page) (places edited)

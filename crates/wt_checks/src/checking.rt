@@ -107,7 +107,7 @@ fn check_visits_alone(
 }
 
 /// Compares the nodes of an edited tree with the page's, each alone: the first unknown or repeated number,
-/// or group that is marked or changed, or None where there is none. Where nodes stand doesn't count, and
+/// or group that is marked or changed, or None where there is none. Where nodes are doesn't count, and
 /// neither do marks and changes outside groups.
 pub fn check_nodes(
     alloc: Global,

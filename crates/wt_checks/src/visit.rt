@@ -8,7 +8,7 @@ use std::alloc::Global;
 use wt_span::NoMemory;
 use wt_tree::{Mark, Node};
 
-/// A node in preorder, with the number of its kept parent (0 for the body) and whether it stands
+/// A node in preorder, with the number of its kept parent (0 for the body) and whether it is
 /// inside a node that is marked `content`.
 #[derive(Clone, Copy)]
 pub struct Visit<'t, 'a> {

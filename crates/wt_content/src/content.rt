@@ -411,7 +411,7 @@ fn nested_fault(
     }
 }
 
-/// Where the children of a node stand that is written so.
+/// What is round the children of a node that is written in this form.
 fn below(around: Surroundings, inline: InlineForm) -> Surroundings
     ensures { result ≡ below around inline }
 {

@@ -5,6 +5,7 @@ use Rattle.wt_quotes.specs.declared.chunk.Chunk.{Chunk}
 use Rattle.wt_quotes.specs.declared.chunk.Chunk.TheVariants as chunk
 use Rattle.wt_context.specs.declared.seen.Seen.{Seen}
 use Rattle.wt_context.specs.declared.chunk.Chunking.{Chunking}
+use Rattle.wt_span.specs.Characters as byte
 use Rattle.wt_context.specs.Segments.{Segment}
 use Rattle.wt_context.specs.Seen.{nothing_seen, seen_letter, after_items}
 
@@ -16,7 +17,7 @@ other s = chunk.Text 1 s.last s.before
 abbrev pub flushed : Seen → ℕ → (Seen → List Chunk) → List Chunk
 flushed s n next =
     if nat_le 2 n then chunk.Run n ∷ next nothing_seen
-    else (if n == 0 then next s else other (seen_letter s (Some 39)) ∷ next (seen_letter s (Some 39)))
+    else (if n == 0 then next s else other (seen_letter s (Some byte.apostrophe)) ∷ next (seen_letter s (Some byte.apostrophe)))
 
 abbrev pub chunks_after : Seen → ℕ → List Segment → List Chunk
 chunks_after s n [] = flushed s n (λ t. [])

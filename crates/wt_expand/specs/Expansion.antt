@@ -1,4 +1,4 @@
--- What texts, calls and arguments give, and the work of it. A call is substituted in the text in which it stands; what it calls is
+-- What texts, calls and arguments give, and the work of it. A call is substituted in the text in which it is; what it calls is
 -- read with the values that it hands over.
 use Rattle.std.specs.Prelude.{ℕ, zero, suc, ◌+◌, ◌-◌, ◌==◌, ◌||◌, ◌&&◌, not, Bool, true, false, Option, Some, None, List, [], ◌∷◌, ◌++◌, length, map, take, drop, slice_index, codes, decimal, is_some, if◌then◌else◌}
 use Rattle.std.specs.Option.{option_or}

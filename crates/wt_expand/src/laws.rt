@@ -120,7 +120,7 @@ pub fn work_stops_at_its_first_refusal()
     ensures whole { (pages : Pages) (page : List ℕ) (work : List Entry) → first_refusal pages page work ≡ None → allowed_work pages page work ≡ work }
 {}
 
-/// A name is told exactly where an entry before the first refusal fetches it, and each once.
+/// The names that are answered are exactly those that an entry before the first refusal fetches, each once.
 pub fn told_names_are_fetched()
     ensures once { (pages : Pages) (page : List ℕ) (work : List Entry) → AreOnce (names_told pages page work) }
     ensures fetched { (pages : Pages) (page : List ℕ) (work : List Entry) (name : List ℕ) → Contains (names_told pages page work) name

@@ -9,7 +9,7 @@ use Rattle.wt_span.specs.Bytes.{is_white, lower}
 use Rattle.wt_span.specs.declared.function.Function.{Function}
 use Rattle.wt_span.specs.declared.function.Function.TheVariants.{If, IfEq, Switch}
 use Rattle.wt_span.specs.Functions.{word_of, function_of}
-use Rattle.wt_functions.specs.Laws.{Names}
+use Rattle.wt_functions.specs.Laws.{NamesFunction}
 use Rattle.wt_functions.proofs.Naming.{naming}
 use Rattle.wt_expand.specs.Texts.{is_space, without_front}
 use Rattle.wt_expand.specs.Targets.{is_function}
@@ -48,7 +48,7 @@ begins_so f space (b ∷ bs) rest all w =
     ap (λ n. drop n (space ++ 35 ∷ (bs ++ rest))) (behind_space space (bs ++ rest) all) ∙ drop-append_seam space (35 ∷ (bs ++ rest)) in
     subst (λ c. slice_index (without_front is_space (space ++ c ∷ (bs ++ rest))) 0 ≡ 35) (sym sign) (ap (λ xs. slice_index xs 0) left)
 
-named_begins : (f : Function) (n : ℕ) (target : List ℕ) → Names f n target → slice_index (without_front is_space target) 0 ≡ 35
+named_begins : (f : Function) (n : ℕ) (target : List ℕ) → NamesFunction f n target → slice_index (without_front is_space target) 0 ≡ 35
 named_begins f n target h =
     subst (λ t. slice_index (without_front is_space t) 0 ≡ 35) (sym h.all) (begins_so f h.space h.word h.rest h.is_white h.is_word)
 

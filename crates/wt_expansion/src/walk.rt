@@ -104,7 +104,7 @@ impl<'a> PageWalk<'a> {
         }
     }
 
-    /// A stretch of the page up to a place. The reader stands where it begins.
+    /// A stretch of the page up to a place. The reader is where it begins.
     ///
     /// # Errors
     ///

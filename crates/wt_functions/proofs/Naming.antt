@@ -15,7 +15,7 @@ use Rattle.wt_span.specs.declared.function.Function.{Function}
 use Rattle.wt_span.specs.declared.function.Function.TheVariants.{If, IfEq, Switch}
 use Rattle.wt_span.specs.Bytes.{is_white}
 use Rattle.wt_span.specs.Functions.{space_len, word_of, begins_with, named, function_of}
-use Rattle.wt_functions.specs.Laws.{Names}
+use Rattle.wt_functions.specs.Laws.{NamesFunction}
 
 -- ---- a function that is named has its word there
 
@@ -53,7 +53,7 @@ named_fits bs f h =
 abbrev pair_at : List ℕ → Function → Function × ℕ
 pair_at target g = (g, space_len target + length (word_of g))
 
-names_by : (target : List ℕ) (f : Function) (n : ℕ) (o : Option Function) → named (drop (space_len target) target) ≡ o → option_map (pair_at target) o ≡ Some (f, n) → Names f n target
+names_by : (target : List ℕ) (f : Function) (n : ℕ) (o : Option Function) → named (drop (space_len target) target) ≡ o → option_map (pair_at target) o ≡ Some (f, n) → NamesFunction f n target
 names_by target f n None e h = cc
 names_by target f n (Some g) e h =
     let rest : List ℕ = drop (space_len target) target in
@@ -63,7 +63,7 @@ names_by target f n (Some g) e h =
     let place : space_len target + length (word_of g) ≡ n = ap (λ (p : Function × ℕ). p.1) pair in
     let long : length (take (length (word_of g)) rest) ≡ length (word_of g) = sym (length_lower (take (length (word_of g)) rest)) ∙ ap length w in
     let short : length (take (space_len target) target) ≡ space_len target = length-prefix_len is_white target in
-    subst (λ x. Names x n target) same (record {
+    subst (λ x. NamesFunction x n target) same (record {
       space = take (space_len target) target;
       word = take (length (word_of g)) rest;
       rest = drop (length (word_of g)) rest;
@@ -120,15 +120,15 @@ named_behind f space (b ∷ bs) rest all w =
     let n : named ((b ∷ bs) ++ rest) ≡ Some f = word_named f ((b ∷ bs) ++ rest) (lower rest) (map-append to_ascii_lowercase (b ∷ bs) rest ∙ ap (λ x. x ++ lower rest) w) in
     rw (len, drop-append_seam space ((b ∷ bs) ++ rest), n)
 
-named_from : (f : Function) (n : ℕ) (target : List ℕ) → Names f n target → function_of target ≡ Some (f, n)
+named_from : (f : Function) (n : ℕ) (target : List ℕ) → NamesFunction f n target → function_of target ≡ Some (f, n)
 named_from f n target names =
     let long : length names.word ≡ length (word_of f) = sym (length_lower names.word) ∙ ap length names.is_word in
     let place : length names.space + length (word_of f) ≡ n = omega arith in
     rw (names.all, named_behind f names.space names.word names.rest names.is_white names.is_word, place)
 
-names_of : (f : Function) (n : ℕ) (target : List ℕ) → function_of target ≡ Some (f, n) → Names f n target
+names_of : (f : Function) (n : ℕ) (target : List ℕ) → function_of target ≡ Some (f, n) → NamesFunction f n target
 unfolding function_of
 names_of f n target h = names_by target f n (named (drop (space_len target) target)) refl h
 
-pub naming : (target : List ℕ) (f : Function) (n : ℕ) → (function_of target ≡ Some (f, n)) ↔ Names f n target
+pub naming : (target : List ℕ) (f : Function) (n : ℕ) → (function_of target ≡ Some (f, n)) ↔ NamesFunction f n target
 naming target f n = (names_of f n target, named_from f n target)

@@ -10,7 +10,7 @@ use Rattle.wt_functions.specs.Choice.{Telling, text_at, told_count, chosen, give
 
 -- A target that names a function: blanks and line breaks, the function's word in any case, and anything; part 0 begins after
 -- the word.
-pub record Names (f : Function) (part_0 : ℕ) (target : List ℕ) : Type 0 where
+pub record NamesFunction (f : Function) (part_0 : ℕ) (target : List ℕ) : Type 0 where
   pub space : List ℕ
   pub word : List ℕ
   pub rest : List ℕ

@@ -2,14 +2,14 @@
 ghost use Rattle.std.specs.Prelude.{◌≡◌, ◌+◌, ℕ, Bool, List, Some, length, ◌↔◌};
 ghost use Rattle.wt_span.specs.declared.function.Function.{Function};
 ghost use Rattle.wt_span.specs.Functions.{function_of};
-ghost use Rattle.wt_functions.specs.Laws.{Names, TellsInOrder, GivesAPart, TellsWhatIsNeeded, IsForGood, AsksAlong};
+ghost use Rattle.wt_functions.specs.Laws.{NamesFunction, TellsInOrder, GivesAPart, TellsWhatIsNeeded, IsForGood, AsksAlong};
 
 use crate::chooser::Chooser;
 
 /// A target names a function exactly where it is blanks and line breaks, the function's word in any
 /// case, and anything after it; and it names no other, nor at another place.
 pub fn named_by_its_word(target: &str)
-    ensures { (f : Function) → (part_0 : ℕ) → (function_of target.now ≡ Some (f, part_0)) ↔ Names f part_0 target.now }
+    ensures { (f : Function) → (part_0 : ℕ) → (function_of target.now ≡ Some (f, part_0)) ↔ NamesFunction f part_0 target.now }
 {}
 
 /// Parts are told in ascending order, each once, and only parts that are there are told or given.

@@ -227,7 +227,7 @@ is_mark (Group g) = false
 is_mark Function = false
 is_mark Node = false
 
--- What these are parted from wherever they stood: a group from a group, unless the nearest items round their place in the page are
+-- What these are parted from wherever they were in the page: a group from a group, unless the nearest items round their place in the page are
 -- both `=`; a group from a URL; a style delimiter from another one, and from a group whose item next to it is an apostrophe.
 abbrev pub is_parted_from_group : Transclusion → Role → Bool
 is_parted_from_group g Link = false

@@ -8,7 +8,7 @@ ghost use Rattle.wt_guards.specs.Guards.{Setting, spelled};
 ghost use Rattle.wt_guards.specs.WrittenLaws.{itself, breaks, IsQuiet, Pieces};
 
 /// Where no guard holds and no character is written as a reference, the content is written as it
-/// stands: each node by its source and each character by itself.
+/// is: each node by its source and each character by itself.
 #[tactic(auto, using(crate::proofs::SpellingLaws::quiet_from))]
 pub fn quiet_content_stays()
     ensures { (s : Setting) (signs : List ContentSign) → IsQuiet s [] signs → spelled s signs ≡ flat_map itself signs }

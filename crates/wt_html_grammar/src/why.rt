@@ -1,5 +1,5 @@
-/// Why bytes begin no well-formed input, at the place where the first of them stands that none can
-/// have there. Where several hold, the first in this order is meant.
+/// Why bytes begin no well-formed input. The place is that of the first byte that no such input has there. Where
+/// several reasons hold, the first in this order is meant.
 ///
 /// - `NotUtf8`: the byte continues no UTF-8.
 /// - `End`: the input ends.

@@ -41,8 +41,8 @@ impl<'a> Reader<'a> {
 
     #[tactic(auto, unfolding(crate::specs::Feeding::IsFed, crate::specs::Feeding::taken_of, crate::specs::Feeding::failed_of))]
     /// Takes the next piece. It refuses only what begins no well-formed input; that the input ends too
-    /// early, or that an element doesn't fit, is told by `finish`. Where it refuses it has failed, lets go
-    /// what it holds, and refuses so from then on.
+    /// early, or that an element doesn't fit, is answered by `finish`. Once it has refused, it frees what it
+    /// holds and refuses every further piece in the same way.
     pub fn feed(&mut self, piece: &[u8]) -> Result<(), HtmlRefusal>
         requires room { taken_of self.old + length piece.now < 2 ^ 32 }
         ensures fed { (bytes : List ℕ) → IsFed self.old bytes → IsFed self.new (bytes ++ piece.now) }

@@ -29,7 +29,8 @@ fn is_open(group: Option<&[u8]>, about: &[u8]) -> bool
     }
 }
 
-/// How an element with this `about` stands, by the `about` of the group that is open before it.
+/// Whether an element with this `about` begins a group, goes on with one or is in none, by the `about` of the group
+/// that is open before it.
 fn standing_by(group: Option<&[u8]>, about: &[u8], has_data: bool) -> Standing
     ensures { result ≡ standing_by (option_map (λ v. v.now) group.entry) (Some about.now) has_data }
 {
@@ -119,7 +120,7 @@ fn role_at(group: Option<&[u8]>, content: &Content, behind: &[Content]) -> Role
     }
 }
 
-/// How an element of this role stands.
+/// Whether an element of this role begins a group, goes on with one or is in none.
 pub fn standing_in(role: Role) -> Standing
     ensures { result ≡ standing_in role }
 {

@@ -24,8 +24,8 @@ abbrev pub IsTooDeep : List ℕ → List ℕ → Type 0
 IsTooDeep before behind =
     (levels : List Level) × (outside : List ℕ) × Within levels outside × (length levels ≡ NESTED_ELEMENTS) × (before ≡ outside ++ byte.less_than ∷ []) × Next is_lower behind
 
--- After `</`, in the name of the element that is open; or after the whole name, where a byte
--- stands with which a name goes on.
+-- After `</`, in the name of the element that is open; or after the whole name, before a byte
+-- with which a name goes on.
 abbrev pub InEndTagName : List ℕ → List ℕ → Type 0
 InEndTagName before behind =
     (l : Level) × (outer : List Level) × (outside got left : List ℕ) × Within (l ∷ outer) outside × (got ++ left ≡ l.name)

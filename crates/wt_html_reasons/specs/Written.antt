@@ -28,7 +28,7 @@ abbrev pub AreLevels : List Level → Type 0
 AreLevels [] = Unit {0}
 AreLevels (l ∷ outer) = IsLevel (length outer) l × AreLevels outer
 
--- The bytes are a head and these open elements with their contents so far: what follows them stands
+-- The bytes are a head and these open elements with their contents so far: what follows them is
 -- in the contents of the first, or, where none is open, is the root.
 abbrev pub Within : List Level → List ℕ → Type 0
 Within levels bytes = AreLevels levels × ((head : Head) × IsHead head × (bytes ≡ spell_head head ++ spell_levels levels))

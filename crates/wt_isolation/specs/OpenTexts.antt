@@ -51,7 +51,7 @@ in_style inline.Tag inside = false
 in_style inline.Break inside = false
 in_style inline.AsItStood inside = false
 
--- the text ends here, and what follows is told by `rest` with the text so far
+-- the text ends here, and `rest` says of what follows, with the text so far
 abbrev pub ended_by : InlineForm → List ℕ → Bool → (List ℕ → Bool) → Bool
 ended_by w text inside rest = is_open_before w text || (in_style w inside || rest [])
 

@@ -70,6 +70,6 @@ AreLines (l ∷ m ∷ ls) gs = (rest : List Glyph) × HasNoBreak l × (gs ≡ l 
 -- So many apostrophes each time, with one other item between each two runs, are the items.
 abbrev pub AreRuns : List ℕ → List Glyph → Type 0
 AreRuns [] gs = ⊥
-AreRuns (n ∷ []) gs = gs ≡ replicate n (glyph.Byte 39)
+AreRuns (n ∷ []) gs = gs ≡ replicate n (glyph.Byte byte.apostrophe)
 AreRuns (n ∷ m ∷ ns) gs =
-    (g : Glyph) × (rest : List Glyph) × (is_quote g ≡ false) × (gs ≡ replicate n (glyph.Byte 39) ++ g ∷ rest) × AreRuns (m ∷ ns) rest
+    (g : Glyph) × (rest : List Glyph) × (is_quote g ≡ false) × (gs ≡ replicate n (glyph.Byte byte.apostrophe) ++ g ∷ rest) × AreRuns (m ∷ ns) rest

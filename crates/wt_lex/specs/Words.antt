@@ -1,4 +1,4 @@
--- The forms that begin a text, in the groups in which they are told.
+-- The forms that begin a text, in the groups in which they are looked for.
 use Rattle.std.specs.Prelude.{ℕ, ◌-◌, ◌==◌, Bool, ◌&&◌, ◌||◌, Option, List, slice_index, nat_lt}
 use Rattle.std.specs.Option.{option_or}
 use Rattle.wt_span.specs.declared.form.Mode.{Mode}

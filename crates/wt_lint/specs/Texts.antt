@@ -3,6 +3,7 @@ use Rattle.std.specs.Prelude.{ℕ, ◌+◌, ◌-◌, ◌==◌, ◌&&◌, ◌||�
 use Rattle.std.specs.List.{prefix_len}
 use Rattle.wt_annotated.specs.Slices.{slice}
 use Rattle.wt_span.specs.Bytes.{is_blank}
+use Rattle.wt_span.specs.Characters as byte
 use Rattle.wt_lint.specs.Bytes.{suffix_len}
 use Rattle.wt_lint.specs.Found.{Span}
 
@@ -17,7 +18,7 @@ when false xs = []
 abbrev pub run_at : ℕ → ℕ → List ℕ → List Span
 run_at byte at bs = let n = prefix_len (λ b. b == byte) bs in when (nat_lt 1 n) ((at, at + n) ∷ [])
 
--- The whole runs of two or more of a byte: one begins where the byte stands and not before (`behind` says whether it does).
+-- The whole runs of two or more of a byte: one begins where the byte is and isn't before it (`behind` says whether it is).
 abbrev pub runs : ℕ → ℕ → Bool → List ℕ → List Span
 runs byte at behind [] = []
 runs byte at behind (b ∷ bs) = (if behind then [] else run_at byte at (b ∷ bs)) ++ runs byte (at + 1) (b == byte) bs
@@ -33,7 +34,7 @@ pairs byte at bs = []
 
 -- only spaces and tabs come after the last line break, or in the whole text where it has none
 abbrev pub is_front : List ℕ → Bool
-is_front bs = let n = suffix_len is_blank bs in n == length bs || slice_index bs (length bs - 1 - n) == 10
+is_front bs = let n = suffix_len is_blank bs in n == length bs || slice_index bs (length bs - 1 - n) == byte.line_break
 
 -- the place is the first of its line, blanks apart, or of the paragraph that begins at `from`
 abbrev pub stands_first : List ℕ → ℕ → ℕ → Bool
@@ -41,7 +42,7 @@ stands_first page from at = is_front (slice page from at)
 
 -- `|}` begins the text
 abbrev pub ends_table : List ℕ → Bool
-ends_table bs = slice_index bs 0 == 124 && slice_index bs 1 == 125
+ends_table bs = slice_index bs 0 == byte.vertical_bar && slice_index bs 1 == byte.closing_brace
 
 -- the `|}` that begins a text which is at this place, where it is first
 abbrev pub end_at : List ℕ → ℕ → ℕ → List ℕ → List Span

@@ -26,7 +26,7 @@ pub record IsTidy (t : Title) : Type 0 where
   pub single : squeezed t.name ≡ t.name
   pub ends : trimmed t.name ≡ t.name
   pub first : raised t.name ≡ t.name
-  pub main : t.ns ≡ Main → named_part (split_once 58 t.name) ≡ None
+  pub main : t.ns ≡ Main → named_part (split_once byte.colon t.name) ≡ None
   pub fragment : IfSome t.fragment IsTidyFragment
   pub good : is_good t ≡ true
 

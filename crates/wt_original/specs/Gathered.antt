@@ -64,7 +64,7 @@ pub record IsGatheredOf (block : Tree) (g : Gathered) : Type 0 where
   pub items : seen_so_far g ≡ seen block
   pub nodes : found_so_far g ≡ found_from 0 0 block
 
--- for each item, from the last one on, whether only blanks stand from it on up to a line break or the end
+-- for each item, from the last one on, whether there are only blanks from it on up to a line break or the end
 abbrev pub blank_ends : List Item → List Bool
 blank_ends [] = []
 blank_ends (x ∷ xs) = blank_ends xs ++ (are_blank_to_end (x ∷ xs) ∷ [])

@@ -6,7 +6,7 @@ use Rattle.wt_span.specs.Items.{Item}
 use Rattle.wt_inline.specs.ItemTree.{ItemTree, inner, ItemTrees, nothing, further, tree_items}
 use Rattle.wt_page_laws.specs.Roles.{role_of, head_of, is_cell, is_skipped}
 
--- what is told of each, in their order
+-- what the function gives of each, in their order
 abbrev pub of_each : {A : Type 0} → (ItemTree → List A) → ItemTrees → List A
 of_each told nothing = []
 of_each told (further t ts) = told t ++ of_each told ts

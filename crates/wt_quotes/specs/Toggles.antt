@@ -10,7 +10,7 @@ use Rattle.wt_quotes.specs.declared.toggle.Preceding.TheVariants.{OneLetter, Mid
 use Rattle.wt_quotes.specs.Runs.{run_length, last_of, before_of, chunk_before}
 
 -- the toggle of a run by its length: two switches italic, three bold, five both; four is one character
--- and a run of three, more than five are characters and a run of five; k is the run's place among the chunks
+-- (the first) and a run of three, more than five are characters and a run of five; k is the run's place among the chunks
 abbrev pub toggle_of : ℕ → ℕ → Option Toggle
 toggle_of k n =
     if nat_lt n 2 then None
@@ -41,7 +41,7 @@ class_by z y = if is_space z then Space else (if is_ascii_no_space z && is_space
 
 -- the class of a run after a chunk: the apostrophe of a run of four is the last item before its run of three
 abbrev pub class_of : ℕ → Option Chunk → Preceding
-class_of n before = if n == 4 then class_by (Some 39) (last_of before) else class_by (last_of before) (before_of before)
+class_of n before = if n == 4 then class_by (Some byte.apostrophe) (last_of before) else class_by (last_of before) (before_of before)
 
 abbrev pub class_at : List Chunk → ℕ → Preceding
 class_at chunks k = class_of (run_length (slice_get chunks k)) (chunk_before chunks k)

@@ -109,7 +109,7 @@ fn in_sections<'a>(
 
 /// The annotated tree of a page by its items and their meaning, the tree over them: its groups and the nodes
 /// that are kept, each with its place in bytes of the page, its source as it is there, and its number; each
-/// group carries its parts; the texts and separators of items and cells are cut anew; the body's children stand
+/// group carries its parts; the texts and separators of items and cells are cut anew; the body's children are
 /// in sections. The items are kept beside the tree.
 pub fn group<'a>(
     alloc: Global,

@@ -14,11 +14,11 @@ ghost use Rattle.wt_schema.specs.Unsourced.{unsourced};
 ghost use Rattle.wt_schema.specs.Read.{read, page};
 ghost use Rattle.wt_round_trip.specs.Written.{unranged, WrittenIn, PartIn, IsWritten};
 
-/// What is written for a page's tree is well-formed HTML. It stands for this very tree, but for its
-/// sections, in whose place stands what they hold, and for what is in its groups: in their place
-/// stand the nodes of the elements that show it. It is read as this tree, and every element outside groups says where it comes from, as every group does. The
-/// ranges of texts and separators, which no HTML has, aren't read; the source that the tree stands
-/// for is the same without them. (A group's number is a number of 64 bits.)
+/// What is written for a page's tree is well-formed HTML. It stands for this very tree, except that in place of its
+/// sections there is what they hold, and in place of what is in its groups there are the nodes of the elements that
+/// show it. It is read as this tree, and every element outside groups says where it comes from, as every group does.
+/// The ranges of texts and separators, which no HTML has, aren't read; the source that the tree stands for is the
+/// same without them. (A group's number is a number of 64 bits.)
 pub fn written_is_read()
     ensures stands { (t : Tree) → IsWritten t → groups t < 2 ^ 64
         → (m : Markup) × Stands (html_text t) m × (fit m ≡ Ok (unranged (without_sections t))) × (unsourced m ≡ None) }

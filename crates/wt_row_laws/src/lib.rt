@@ -43,13 +43,13 @@ pub fn blocks_are_read_by_cases()
 {}
 
 /// In a table whose inside is whole units, what comes after each line of cells or of a caption is blocks,
-/// told by cases of their rows.
+/// defined by cases of their rows.
 pub fn cells_hold_blocks()
     ensures { (first : Row) (inside : List Row) → AreUnits (units kind_of inside) inside
         → CellsHoldBlocks (table_of kind_of first inside) }
 {}
 
-/// The meaning of a page is found by blocks that are told by cases of their rows, and no other tree is.
+/// The meaning of a page is the one tree that is found by blocks which are defined by cases of their rows.
 pub fn meaning_is_read_by_cases()
     ensures are { (xs : List Item) → IsMeaningByCases (meaning xs) xs }
     ensures only { (t : ItemTree) (xs : List Item) → IsMeaningByCases t xs → t ≡ meaning xs }

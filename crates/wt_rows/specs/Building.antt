@@ -84,7 +84,7 @@ IsKindAt k l = (tables : ℕ) × (k ≡ kind_at tables l)
 abbrev pub rows_before : ℕ → PageRows → List Row
 rows_before start r = rows_view (take start r.pieces) r.rows
 
--- the rows are those of the pieces before a place, from which on a whole line of this kind stands
+-- the rows are those of the pieces before a place, at which a whole line of this kind begins
 pub record HasLine (start : ℕ) (k : LineKind) (r : PageRows) : Type 0 where
   pub place : start ≤ length r.pieces
   pub made : AreMade (take start r.pieces) r.rows

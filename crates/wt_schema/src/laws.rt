@@ -19,7 +19,7 @@ pub fn one_reading()
 
 /// The misfit that is reported is the first: with all elements in a list, in document order, each with
 /// its number and its parent's kind, every one before it fits by itself, and its reason is the first
-/// that holds of it. Where none is reported, all fit. A document without a body of its own is told as
+/// that holds of it. Where none is reported, all fit. A document without a body of its own is reported as
 /// such.
 pub fn first_misfit()
     ensures told { (m : Markup) (f : BodyElement) (n : ℕ) (w : FitWhy) → body_of m ≡ Some f → fit m ≡ Err (n, w) → FirstMisfit (places_of_body f) n w }

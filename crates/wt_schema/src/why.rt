@@ -4,8 +4,8 @@
 ///   one `body` in it.
 /// - `Element`: it is no row of the table of elements.
 /// - `Place`: it may not be in its parent.
-/// - `Data`: `data-parsoid` or `data-mw` is bad, or lacks what the kind needs, or `about` stands
-///   where no group is.
+/// - `Data`: `data-parsoid` or `data-mw` is bad, or lacks what the kind needs, or there is an
+///   `about` where no group may be.
 /// - `Text`: text other than spaces, tabs and line breaks directly in an element that holds none.
 #[derive(Clone, Copy, Debug, PartialEq, Eq)]
 pub enum FitWhy {

@@ -22,7 +22,7 @@ pub fn headings_open_sections()
     ensures { (ts : Trees) → NoneIsSection ts → map opening (sections_in_all (gathered ts)) ≡ lead_opening (up_to_heading ts) ++ openings 1 ts }
 {}
 
-/// The lead is there exactly where something comes before the first heading, holds just that, and stands
+/// The lead is there exactly where something comes before the first heading, holds just that, and is
 /// before the sections of the rest, which are what they are without it.
 pub fn lead_stands_before()
     ensures { (ts : Trees) → gathered ts ≡ lead_if_any (up_to_heading ts) (gathered (from_heading ts)) }
@@ -41,8 +41,8 @@ pub fn sections_leave_the_page()
     ensures numbers { (t : Tree) → InPreorder t → InPreorder (with_sections t) }
 {}
 
-/// After the heading that opens a section is in it no heading of the same or a smaller level, and in the
-/// lead stands none.
+/// In a section, after the heading that opens it, there is no heading of the same or a smaller level; in the lead
+/// there is none at all.
 pub fn sections_are_deep()
     ensures { (ts : Trees) → NoneIsSection ts → AllByRecursion IsDeep (sections_in_all (gathered ts)) }
 {}

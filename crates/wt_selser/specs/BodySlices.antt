@@ -155,7 +155,7 @@ abbrev pub step_slices : (Tree → Tree → Bool) → Page → Front → Step �
 step_slices same page f (stays t) ss = []
 step_slices same page f (goes t) ss = removed_with (label t).ranges (for_removed (f.is_parted && is_parted ss))
 step_slices same page f (kept t u) ss = child_slices same page u
-step_slices same page f (comes u) ss = at_place f.at (before_new f.is_start ++ (block_spelling same u 42 ++ tail f ss)) ∷ []
+step_slices same page f (comes u) ss = at_place f.at (before_new f.is_start ++ (block_spelling same u byte.asterisk ++ tail f ss)) ∷ []
 
 abbrev pub body_slices : (Tree → Tree → Bool) → Page → Front → List Step → List Change
 body_slices same page f [] = []

@@ -1,4 +1,4 @@
--- The cells of a line, by the numbers of its signs: 33 is `!`, 43 `+`, 91 `[`, 124 `|`, 256 any atom.
+-- The cells of a line, by the numbers of its signs (`sign`): that of a character is its byte.
 use Rattle.std.specs.Prelude.{ℕ, zero, suc, ◌+◌, ◌-◌, ◌==◌, ◌&&◌, ◌||◌, not, Bool, true, false, Option, Some, None, List, [], ◌∷◌, ◌++◌, length, map, take, drop, slice_index, nat_lt, codes, if◌then◌else◌}
 use Rattle.std.specs.List.{list_all, prefix_len, position_or_len, range_with_len}
 use Rattle.wt_span.specs.Bytes.{is_blank, begins}

@@ -7,7 +7,7 @@ use Rattle.wt_template_stack.specs.declared.choosing.Choosing.{Choosing}
 use Rattle.wt_template_stack.specs.declared.reader.Reader.{Reader}
 use Rattle.wt_template_stack.specs.ToldParts.{have_equals}
 
--- a call of which nothing is told, at whose first brace the reader stands
+-- a call of which nothing is told, at whose first brace the reader is
 pub record IsStarted (c : Choosing) (call : Braces) (function : Function) (begun : Reader) : Type 0 where
   pub call_is : c.call ≡ call
   pub at_start_is : c.at_start ≡ begun.cursor.at_start

@@ -65,7 +65,7 @@ after_target r at_start k source later behind o = after_target_by (title_of_targ
 abbrev pub after_given : Bool → Output → Output
 after_given at_start o = ended_with (record { items = with_break at_start (trimmed_items o.items); work = o.work })
 
--- a target from its part 0 on, before which so many bytes stand
+-- a target from its part 0 on, which comes after so many bytes
 abbrev pub behind_word : ℕ → Output → Output
 behind_word n o = record { items = drop n o.items; work = o.work }
 

@@ -35,7 +35,7 @@ LeadsToItself o bs = (bare_url_head (map (char o) bs)).attrs ≡ (attr.Href, bs)
 
 -- ---- switches
 
--- a name between `__` and `__` that is a switch is told in small letters
+-- a name between `__` and `__` that is a switch is known in small letters
 abbrev pub IsToldSmall : List ℕ → Type 0
 IsToldSmall name =
     switch_at (byte_glyphs (codes "__" ++ (name ++ codes "__"))) ≡ Some (leaf kind.Switch (length name + 4))
@@ -47,7 +47,7 @@ abbrev pub HasNo : ℕ → List Item → Type 0
 HasNo sign xs = All (λ x. is_in (λ b. b == sign) (glyph_of x) ≡ false) xs
 
 -- The key of `[[`, a target without `|` and brackets, `|`, a text without brackets, and `]]` is the text, in which further `|` may
--- stand, as it is written, but for marks.
+-- be, as it is written, but for marks.
 abbrev pub KeyIsBehindFirstPipe : Option ℕ → List Item → List Item → Type 0
 KeyIsBehindFirstPipe o target text =
     HasNo 124 target → HasNo 91 target → HasNo 93 target → HasNo 91 text → HasNo 93 text

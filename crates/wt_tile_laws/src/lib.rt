@@ -32,7 +32,7 @@ pub fn urls_lead_to_themselves()
     ensures { (o : Option ℕ) (bs : List ℕ) → LeadsToItself o bs }
 {}
 
-/// A switch is told by its name in small letters.
+/// A switch is known by its name in small letters.
 pub fn switches_are_told_in_small()
     ensures { (name : List ℕ) → IsToldSmall name }
 {}

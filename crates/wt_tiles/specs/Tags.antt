@@ -2,6 +2,7 @@
 -- that closes itself has a `/` before the `>`; a closing tag is `</`, a name, blanks and `>`. Names have no case.
 use Rattle.std.specs.Prelude.{ℕ, ◌+◌, ◌-◌, ◌==◌, ◌&&◌, ◌||◌, Bool, false, Option, Some, None, List, [], ◌∷◌, length, take, drop, nat_lt, codes, option_map, if◌then◌else◌}
 use Rattle.std.specs.Option.{option_or}
+use Rattle.wt_span.specs.Characters as byte
 use Rattle.wt_tree.specs.declared.kind.TagName.TheVariants as name
 use Rattle.wt_tiles.specs.declared.glyph.Glyph.{Glyph}
 use Rattle.wt_tiles.specs.declared.glyph.GlyphClass.TheVariants as class
@@ -77,11 +78,11 @@ name_len gs = if first_is class.Letter gs then run_len class.Name gs else 0
 
 -- what is between the name and the `>`: nothing, a blank and more, or `/`
 abbrev pub is_inside : List Glyph → Bool
-is_inside gs = length gs == 0 || (first_is class.Blank gs || (length gs == 1 && first_is (class.Only 47) gs))
+is_inside gs = length gs == 0 || (first_is class.Blank gs || (length gs == 1 && first_is (class.Only byte.slash) gs))
 
 -- the last item before the `>` is a `/`
 abbrev pub shape_of : List Glyph → TagShape
-shape_of gs = if first_is (class.Only 47) (drop (length gs - 1) gs) then Alone else Opening
+shape_of gs = if first_is (class.Only byte.slash) (drop (length gs - 1) gs) then Alone else Opening
 
 -- the opening tag of this name, by what follows the name
 unfoldable pub tag_after : List Glyph → List Glyph → Option Tag

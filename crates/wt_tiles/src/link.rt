@@ -140,7 +140,7 @@ fn head_len(colon: bool, n: usize, rest: &[Glyph]) -> usize
     }
 }
 
-/// A link to a page, whose `]]` stands after k items.
+/// A link to a page, whose `]]` comes after k items.
 fn page_link(head: usize, k: usize, rest: &[Glyph]) -> Shape
     requires head { head ≤ k }
     requires within { k + 2 ≤ length rest.now }
@@ -155,7 +155,7 @@ fn page_link(head: usize, k: usize, rest: &[Glyph]) -> Shape
     }
 }
 
-/// The link, category or media whose `]]` stands after k items; `head` of them belong to a link's
+/// The link, category or media whose `]]` comes after k items; `head` of them belong to a link's
 /// open delimiter.
 fn link_shape(kind: LinkKind, head: usize, k: usize, rest: &[Glyph]) -> Shape
     requires head { IsHead kind head k }

@@ -19,7 +19,7 @@ use std::alloc::Global;
 use wt_lines::{Line, chars_piece, is_chars, item_count};
 use wt_span::{ItemForm, List, NoMemory, Piece};
 
-/// A part of a context: a form, or the characters between two. Its parts are told in items: a byte
+/// A part of a context: a form, or the characters between two. Its parts are counted in items: a byte
 /// of a character is an item, and so is any other form.
 #[derive(Debug, Drop)]
 pub struct Tile<'a> {

@@ -8,11 +8,11 @@ AsksAtMost most None after = ⊤
 AsksAtMost most (Some before) None = ⊥
 AsksAtMost most (Some before) (Some after) = after ≤ max before most
 
--- these names are the first of all names, or all of them, where they are told
+-- these names are the first of all names, or all of them, where they are known
 abbrev pub AreFirst : Option (List (List ℕ)) → Option (List (List ℕ)) → Type 0
 AreFirst names all = (more : List (List ℕ)) × (all ≡ option_map (λ ns. ns ++ more) names)
 
--- the names told are all of these where something was found, and else the first of them
+-- the names answered are all of these where something was found, and else the first of them
 abbrev pub AnswersNames : {T R : Type 0} → Option (List (List ℕ)) → Option (List (List ℕ)) → Result T R → Type 0
 AnswersNames all names (Ok x) = names ≡ all
 AnswersNames all names (Err e) = AreFirst names all

@@ -59,7 +59,7 @@ met_with name met = if is_among name met then met else name ∷ met
 abbrev pub named_with : List ℕ → List (List ℕ) → Option (List (List ℕ)) → Option (List (List ℕ))
 named_with name met answered = if is_among name met then answered else option_map (λ names. names ++ name ∷ []) answered
 
--- The names told where the page of a name was asked for and isn't read: those with this name where the page is refused, those of before
+-- The names answered where the page of a name was asked for and isn't read: those with this name where the page is refused, those of before
 -- where the folder failed, and the ones or the others where memory is missing.
 abbrev pub TellsErr : Option (List (List ℕ)) → Option (List (List ℕ)) → Option (List (List ℕ)) → ExpandRefusal → Type 0
 TellsErr before with_name now (answer.BracesTooDeep title place) = now ≡ with_name

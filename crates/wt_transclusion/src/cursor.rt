@@ -102,9 +102,8 @@ fn is_characters(kind: LexKind) -> bool
     }
 }
 
-/// Up to where the bytes of a lexeme, which ends in front of the others, may be taken as one chunk: its
-/// end; or, where it is characters, the end of the last of those behind it that are characters too
-/// and begin in front of the limit.
+/// Up to where the bytes of a lexeme, which ends before the others, may be taken as one chunk: its end; or, if it
+/// is characters, the end of the last of those after it that are characters, too, and begin before the limit.
 fn chunk_end(first: Lexeme, others: &[Lexeme], limit: u32) -> u32
     ensures { MayFollow first.kind limit first.at.end others.now result }
 {
@@ -155,8 +154,8 @@ impl Cursor {
         }
     }
 
-    /// What is here, in front of the place `end`: the next call; or the bytes of the lexeme, up to its
-    /// end, the next call or `end`, and those of the lexemes behind it where all are characters.
+    /// What is here, before the place `end`: the next call; or the bytes of the lexeme, up to its end, the next
+    /// call or `end`, and those of the lexemes after it, if all are characters.
     pub fn next<'a>(self, text: ReadText<'a>, end: u32) -> Next<'a>
         requires { self.at < end }
         ensures { (mode : TextMode) (bytes : List ℕ) (xs : List TextMember) → IsRead mode bytes text.entry

@@ -1,4 +1,4 @@
--- What children look like whose texts and separators are cut, told of each where it is.
+-- What children look like whose texts and separators are cut: of each, by where it is.
 use Rattle.std.specs.Prelude.{◌≡◌, ℕ, ◌&&◌, ◌||◌, Bool, true, false, not, Option, List, [], ◌∷◌, length}
 use Rattle.wt_tree.specs.declared.kind.Ranges.{Ranges}
 use Rattle.wt_tree.specs.Tree.{Tree, Trees, none, more, label}

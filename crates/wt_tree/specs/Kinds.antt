@@ -79,7 +79,7 @@ writing k = (shape k).writing
 abbrev pub is_leaf : Kind → Bool
 is_leaf k = (shape k).is_leaf
 
--- Every node but the body, sections, texts and separators has a number. (The mark of an empty call stands
+-- Every node but the body, sections, texts and separators has a number. (The mark of an empty call is
 -- inside groups alone, where nothing is numbered.)
 abbrev pub is_numbered : Kind → Bool
 is_numbered k = (shape k).is_numbered
@@ -151,7 +151,7 @@ is_block k = is_class (shape k).class Block || is_class (shape k).class ListClas
 abbrev pub is_inline : Kind → Bool
 is_inline k = is_class (shape k).class Inline || is_class (shape k).class Character
 
--- The order of children: after a block or a list no inline element stands.
+-- The order of children: no inline element comes after a block or a list.
 abbrev pub may_follow : Bool → Kind → Bool
 may_follow behind k = not (behind && is_inline k)
 

@@ -1,4 +1,4 @@
--- Where a node may be, told by the node and not by what holds it; and how children are one after another.
+-- Where a node may be, by the node and not by what holds it; and how children are one after another.
 use Rattle.std.specs.Prelude.{◌≡◌, Bool, true, false, ◌||◌, ◌&&◌, List, [], ◌∷◌, ◌++◌}
 use Rattle.std.specs.List.{AllByRecursion}
 use Rattle.wt_tree.specs.Kinds.{is_block, is_inline, may_follow}

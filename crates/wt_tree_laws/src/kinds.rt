@@ -4,8 +4,7 @@ ghost use Rattle.wt_tree.specs.Kinds.{may_hold};
 ghost use Rattle.wt_tree.specs.declared.kind.Kind.{Kind};
 ghost use Rattle.wt_tree_laws.specs.Homes.{stands_in, follow, AreInTwo};
 
-/// What may be in a node is the same told by what is there: by a list of the places that each kind
-/// has.
+/// What may be in a node, said by the node that is in it: by a list of the places that each kind may have.
 pub fn kinds_have_their_places()
     ensures { (parent k : Kind) → may_hold parent k ≡ stands_in k parent }
 {}

@@ -1,5 +1,5 @@
 //! Laws of trees (`wt_tree`), in other words than the definitions that all crates above cite: what a tree
-//! has of its node, in which order its nodes stand, which may be where, and what elements show.
+//! has of its node, in which order its nodes are, which may be where, and what elements show.
 #![tactic(auto)]
 
 mod elements;

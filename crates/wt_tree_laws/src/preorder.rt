@@ -1,4 +1,4 @@
-//! In which order the nodes of a tree stand.
+//! In which order the nodes of a tree are.
 ghost use Rattle.std.specs.Prelude.{◌≡◌, ◌∷◌};
 ghost use Rattle.std.specs.List.{flat_map, AllByRecursion};
 ghost use Rattle.wt_tree.specs.Tree.{Label, Tree, tree, Trees, listed, subtrees};

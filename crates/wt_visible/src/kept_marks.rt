@@ -349,7 +349,7 @@ fn marks_of<'t, 'a>(alloc: Global, root: &'t Node<'a>) -> Result<Vec<Visit<'t, '
 
 /// Whether a new page keeps what an edited tree shows least of: the comments, include tags, calls and islands of
 /// the page that it still has by their numbers. The calls and islands of the new page are these, in the order of
-/// the edited tree and with the page's sources, without the white space round them. Each comment and tag stands
+/// the edited tree and with the page's sources, without the white space round them. Each comment and tag is
 /// there as often as in the edited tree, the tags in its order, and none more often than in the page. `index` has
 /// the page's nodes by their numbers.
 pub fn keeps_marks(

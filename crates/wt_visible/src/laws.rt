@@ -15,7 +15,7 @@ pub fn nodes_are_told()
     ensures { TellsSame same_node }
 {}
 
-/// The first child in which two bodies differ can be computed, and where none is told they show the same.
+/// The first child in which two bodies differ can be computed; if there is none, they show the same.
 pub fn differing_is_first()
     ensures told { (xs ys : List Plain) → (r : Option ℕ) → IsFirstDiffering xs ys r → r ≡ differing 1 xs ys }
     ensures same { (xs ys : List Plain) → differing 1 xs ys ≡ None → xs ≡ ys }
