@@ -108,7 +108,7 @@ pub fn units_from<'u, 'n>(units: &'u [Unit<'n>], at: usize) -> &'u [Unit<'n>] {
     }
 }
 
-/// The bytes that are written first, and those after them; none where there are none.
+/// The bytes of a unit; none where there is none.
 fn source_at<'u>(units: &'u [Unit<'_>], at: usize) -> &'u [u8] {
     match units.get(at) {
         Some(unit) => source_of(unit),
@@ -138,14 +138,24 @@ fn may_end_with_equals(units: &[Unit<'_>]) -> bool {
     false
 }
 
-fn is_rule(source: &[u8], next: &[u8]) -> bool {
-    source.starts_with(b"----") || (source.ends_with(b"-") && next.starts_with(b"-"))
+/// Whether what is written begins with four dashes.
+fn is_rule(units: &[Unit<'_>]) -> bool {
+    let mut count: usize = 0;
+    for unit in units {
+        let source = source_of(unit);
+        let dashes = source.iter().take_while(|byte| **byte == b'-').count();
+        count = count.saturating_add(dashes);
+        if dashes < source.len() {
+            return count > 3;
+        }
+    }
+    count > 3
 }
 
 /// Whether a line of a paragraph that begins with these would be another block.
 fn begins_block(spot: InsidePlace<'_>, first: u8, units: &[Unit<'_>]) -> bool {
     match first {
-        b'-' => is_rule(source_at(units, 0), source_at(units, 1)),
+        b'-' => is_rule(units),
         b'=' => may_end_with_equals(units),
         b'!' => spot.in_tables,
         _ => true,
