@@ -122,20 +122,54 @@ fn is_blank(byte: u8) -> bool {
 
 // ---- the start of a line
 
-/// Whether a line that goes on so ends with `=` as it is written: what is new there is written otherwise.
-fn may_end_with_equals(units: &[Unit<'_>]) -> bool {
-    for unit in units {
-        let source = source_of(unit);
-        let is_group = matches!(role_of(unit), Some(Role::Group(_)));
-        let is_standing = placed(Some(unit)).is_some();
-        if is_group || (is_standing && source.contains(&b'=')) {
-            return true;
-        }
-        if source.contains(&b'\n') {
-            return false;
+/// The bytes up to the first line break.
+fn line_of(source: &[u8]) -> &[u8] {
+    for at in 0..source.len() {
+        if source[at] == b'\n' {
+            return &source[..at];
         }
     }
-    false
+    source
+}
+
+/// The last byte that is no blank.
+fn last_letter(line: &[u8]) -> Option<u8> {
+    let mut last = None;
+    for byte in line {
+        if !is_blank(*byte) {
+            last = Some(*byte);
+        }
+    }
+    last
+}
+
+/// Whether a line may end with `=` after its part in a unit, by whether it may before that: a brace at its end may be
+/// that of a call, which shows anything, and a `=` that is typed at the end of a line is written otherwise.
+fn may_end_after(unit: &Unit<'_>, line: &[u8], may_before: bool) -> bool {
+    if matches!(role_of(unit), Some(Role::Mark { .. })) {
+        return may_before;
+    }
+    match last_letter(line) {
+        Some(byte) => matches!(unit, Unit::Thing(_)) && (byte == b'=' || byte == b'}'),
+        None => may_before,
+    }
+}
+
+/// Whether a line that goes on so may end with `=` as it is written.
+pub fn may_end_with_equals(units: &[Unit<'_>]) -> bool {
+    let mut may_end = false;
+    for unit in units {
+        if matches!(role_of(unit), Some(Role::Group(_))) {
+            return true;
+        }
+        let source = source_of(unit);
+        let line = line_of(source);
+        may_end = may_end_after(unit, line, may_end);
+        if line.len() < source.len() {
+            return may_end;
+        }
+    }
+    may_end
 }
 
 /// Whether what is written begins with four dashes.
