@@ -146,22 +146,26 @@ fn are_joined(left: Kind, right: Kind) -> bool {
     are_lists || !(is_lined(left) || is_lined(right))
 }
 
-/// Appends all that a node holds after its inside, each on a line of its own but a cell that shared one.
+/// Appends all that a node holds after its inside, each on a line of its own but a cell that shared one, and the first
+/// where it goes on in the line.
 #[cycle(blocks)]
 fn push_held(
     alloc: Global,
     out: &mut Str,
     around: Surroundings<'_, '_, '_>,
     node: &Node<'_>,
+    goes_on: bool,
 ) -> Result<(), NoMemory> {
     let mut before = None;
+    let mut is_begun = goes_on;
     for child in node.children.as_slice() {
         if is_written(child) {
-            if !shares_line(alloc, around.known, before, child)? {
+            if !is_begun && !shares_line(alloc, around.known, before, child)? {
                 push_break(out, node.kind, before, child.kind)?;
             }
             push_block(alloc, out, around.within(), child)?;
             before = Some(child);
+            is_begun = false;
         }
     }
     Ok(())
@@ -223,7 +227,7 @@ fn push_item(
     }
     push_signs(alloc, out, around.known, node, around.signs)?;
     push_inside(alloc, out, around, node)?;
-    push_held(alloc, out, around, node)
+    push_held(alloc, out, around, node, false)
 }
 
 /// Appends an item of a list that is in an item with these signs.
@@ -254,15 +258,23 @@ fn push_item_of(
     }
 }
 
-/// Whether a new item holds lists alone, where its line may be that of their first item, too.
+/// Whether an item is new, or had no line of its own in the page.
+fn has_no_line(known: &Known<'_, '_>, item: &Node<'_>) -> bool {
+    match original(known.index, item.id) {
+        Some(visit) if item.id != 0 => visit.node.opening().is_empty(),
+        _ => true,
+    }
+}
+
+/// Whether an item that has no line of its own holds lists alone: its line may be that of their first item, too.
 fn holds_lists_alone(around: Surroundings<'_, '_, '_>, item: &Node<'_>) -> bool {
     match item.children.as_slice().first() {
-        Some(first) => around.keeps && item.id == 0 && is_list(first.kind),
+        Some(first) => around.keeps && is_list(first.kind) && has_no_line(around.known, item),
         None => false,
     }
 }
 
-/// Appends the first item of a list: where it is new and holds lists alone, they begin on its line.
+/// Appends the first item of a list: where it has no line of its own and holds lists alone, they begin on its line.
 #[cycle(blocks)]
 fn push_first_item(
     alloc: Global,
@@ -270,20 +282,11 @@ fn push_first_item(
     around: Surroundings<'_, '_, '_>,
     item: &Node<'_>,
 ) -> Result<(), NoMemory> {
-    if !holds_lists_alone(around, item) {
-        return push_item(alloc, out, around, item);
+    if holds_lists_alone(around, item) {
+        push_held(alloc, out, around, item, true)
+    } else {
+        push_item(alloc, out, around, item)
     }
-    let mut is_first = true;
-    for list in item.children.as_slice() {
-        if is_list(list.kind) {
-            if !is_first {
-                out.push_str("\n")?;
-            }
-            is_first = false;
-            push_block(alloc, out, around.within(), list)?;
-        }
-    }
-    Ok(())
 }
 
 /// Appends the items of a list, each on a line of its own.
@@ -347,7 +350,7 @@ fn push_cell(
 ) -> Result<(), NoMemory> {
     push_opening(alloc, out, around.known, node, sign_before(sign, node))?;
     push_inside(alloc, out, around.in_table(), node)?;
-    push_held(alloc, out, around.in_table(), node)
+    push_held(alloc, out, around.in_table(), node, false)
 }
 
 /// Appends a table, or a row, with a line for each of its parts.
@@ -360,7 +363,7 @@ fn push_lines(
     node: &Node<'_>,
 ) -> Result<(), NoMemory> {
     push_opening(alloc, out, around.known, node, sign)?;
-    push_held(alloc, out, around.in_table(), node)
+    push_held(alloc, out, around.in_table(), node, false)
 }
 
 /// Whether a node is a group of the page that begins with a row without a sign.
