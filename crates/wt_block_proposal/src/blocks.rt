@@ -126,6 +126,25 @@ fn push_inside(
     out.push_str(source.as_str())
 }
 
+/// Whether a child is a comment or an include tag of the page that goes with what holds it.
+fn is_coming_mark(known: &Known<'_, '_>, child: &Node<'_>) -> bool {
+    child.kind.is_mark() && child.id != 0 && !known.is_left(None, child.id)
+}
+
+/// Appends a comment or an include tag as it was in the page, with the line break after it where it has one.
+fn push_mark(
+    alloc: Global,
+    out: &mut Str,
+    known: &Known<'_, '_>,
+    mark: &Node<'_>,
+) -> Result<(), NoMemory> {
+    let Some(visit) = original(known.index, mark.id) else {
+        return Ok(());
+    };
+    let source = flat(alloc, visit.node)?;
+    out.push_str(source.as_str())
+}
+
 /// Appends the line breaks before a block that a node holds: two in a cell between what one would join.
 fn push_break(
     out: &mut Str,
@@ -147,7 +166,7 @@ fn are_joined(left: Kind, right: Kind) -> bool {
 }
 
 /// Appends all that a node holds after its inside, each on a line of its own but a cell that shared one, and the first
-/// where it goes on in the line.
+/// where it goes on in the line. After a comment or an include tag the line is the one that it leaves.
 #[cycle(blocks)]
 fn push_held(
     alloc: Global,
@@ -166,6 +185,12 @@ fn push_held(
             push_block(alloc, out, around.within(), child)?;
             before = Some(child);
             is_begun = false;
+        } else if is_coming_mark(around.known, child) {
+            if !is_begun {
+                push_break(out, node.kind, before, Kind::Para)?;
+            }
+            push_mark(alloc, out, around.known, child)?;
+            is_begun = true;
         }
     }
     Ok(())
@@ -289,7 +314,15 @@ fn push_first_item(
     }
 }
 
-/// Appends the items of a list, each on a line of its own.
+/// Appends the line break before an item or a row, unless its line is begun.
+fn push_line(out: &mut Str, is_begun: bool) -> Result<(), NoMemory> {
+    if is_begun {
+        return Ok(());
+    }
+    out.push_str("\n")
+}
+
+/// Appends the items of a list, each on a line of its own; after a comment or an include tag on the one that it leaves.
 #[cycle(blocks)]
 fn push_items(
     alloc: Global,
@@ -298,19 +331,23 @@ fn push_items(
     list: &Node<'_>,
 ) -> Result<(), NoMemory> {
     let mut is_first = true;
+    let mut is_begun = true;
     for item in list.children.as_slice() {
         if is_written(item) {
-            if !is_first {
-                out.push_str("\n")?;
-            }
+            push_line(out, is_begun)?;
             push_item_of(alloc, out, around, list.kind, item, is_first)?;
             is_first = false;
+            is_begun = false;
+        } else if is_coming_mark(around.known, item) {
+            push_line(out, is_begun)?;
+            push_mark(alloc, out, around.known, item)?;
+            is_begun = true;
         }
     }
     Ok(())
 }
 
-/// Appends the rows of a table, each on a line of its own.
+/// Appends the rows of a table, each on a line of its own; after a comment or an include tag on the one that it leaves.
 #[cycle(blocks)]
 fn push_rows(
     alloc: Global,
@@ -318,14 +355,16 @@ fn push_rows(
     around: Surroundings<'_, '_, '_>,
     node: &Node<'_>,
 ) -> Result<(), NoMemory> {
-    let mut is_first = true;
+    let mut is_begun = true;
     for child in node.children.as_slice() {
         if is_written(child) {
-            if !is_first {
-                out.push_str("\n")?;
-            }
-            is_first = false;
+            push_line(out, is_begun)?;
             push_block(alloc, out, around.in_table(), child)?;
+            is_begun = false;
+        } else if is_coming_mark(around.known, child) {
+            push_line(out, is_begun)?;
+            push_mark(alloc, out, around.known, child)?;
+            is_begun = true;
         }
     }
     Ok(())
