@@ -9,7 +9,7 @@ use crate::kinds::{is_cell, is_item, is_lined, is_list, is_row_without_sign};
 use std::alloc::Global;
 use wt_checks::original;
 use wt_content_proposal::{Block, Edges, Known, Writing, block_of, edges_of, spelled};
-use wt_difference::{are_same, inside, is_block_part};
+use wt_difference::{are_same, ends_inside, has_inside, inside, is_block_part};
 use wt_selser::place_in;
 use wt_span::{NoMemory, Str};
 use wt_tree::{Kind, Node, flat, same_attrs, same_kind};
@@ -177,7 +177,9 @@ fn push_held(
 ) -> Result<(), NoMemory> {
     let mut before = None;
     let mut is_begun = goes_on;
+    let mut is_inside = has_inside(node.kind);
     for child in node.children.as_slice() {
+        is_inside = is_inside && !ends_inside(child);
         if is_written(child) {
             if !is_begun && !shares_line(alloc, around.known, before, child)? {
                 push_break(out, node.kind, before, child.kind)?;
@@ -185,7 +187,7 @@ fn push_held(
             push_block(alloc, out, around.within(), child)?;
             before = Some(child);
             is_begun = false;
-        } else if is_coming_mark(around.known, child) {
+        } else if !is_inside && is_coming_mark(around.known, child) {
             if !is_begun {
                 push_break(out, node.kind, before, Kind::Para)?;
             }
