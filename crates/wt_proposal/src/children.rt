@@ -20,13 +20,14 @@ use wt_tree::{Kind, Node, same_kind};
 /// A gap between two children that stay in their turn, or the part of it between two comments or include tags: where
 /// it is, from where on blanks before it count, these two as the page has them, the page's children between them, and
 /// the edited ones, with the number of the block of the first, whether they are lines of an item, a list or a table,
-/// with no empty line between them, and whether a cell holds them.
+/// with no empty line between them, and whether a cell holds them, or a row without a sign of its own.
 #[derive(Clone, Copy)]
 pub struct Gap<'w, 't, 'a> {
     pub place: Slot,
     pub blanks: usize,
     pub is_tight: bool,
     pub in_cell: bool,
+    pub in_row_without_sign: bool,
     pub before: Option<&'t Node<'a>>,
     pub behind: Option<&'t Node<'a>>,
     pub gone: &'w [Child<'t, 'a>],
@@ -233,6 +234,26 @@ fn push_gone(
         push_part_of(alloc, out, known, gap, place, by)?;
     }
     Ok(())
+}
+
+/// Whether the cells that go are all those of a row without a sign of its own.
+fn empties_row(gap: Gap<'_, '_, '_>) -> bool {
+    gap.in_row_without_sign && gap.before.is_none() && gap.behind.is_none()
+}
+
+/// Appends the slices that go, and the sign of the row that they leave in place of the first.
+fn push_emptied_row(
+    alloc: Global,
+    out: &mut Vec<Change>,
+    known: &Known<'_, '_>,
+    gap: Gap<'_, '_, '_>,
+    slices: &[Slot],
+) -> Result<(), NoMemory> {
+    if let Some(place) = slices.first() {
+        let sign = Str::copy_of(alloc, "|-")?;
+        push_change(out, *place, sign)?;
+    }
+    push_gone(alloc, out, known, gap, behind_first(slices), 0)
 }
 
 /// The line breaks that are wanted between the two that stay: one before a cell that doesn't go on in a line.
@@ -631,6 +652,7 @@ impl Passed {
             blanks: self.blanks,
             is_tight: gap.is_tight,
             in_cell: gap.in_cell,
+            in_row_without_sign: gap.in_row_without_sign,
             before: gap.before,
             behind: gap.behind,
             gone: children_between(gap.gone, self.gone, gone),
@@ -705,6 +727,9 @@ fn push_part<'t, 'a>(
     let slices = slices_of(alloc, gap.gone)?;
     let coming = coming_of(alloc, plan, outer, gap)?;
     match coming {
+        None if empties_row(gap) => {
+            push_emptied_row(alloc, out, plan.known, gap, slices.as_slice())
+        }
         None => push_gone(
             alloc,
             out,

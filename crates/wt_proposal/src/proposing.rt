@@ -14,7 +14,7 @@ use crate::slots::{
 };
 use crate::testing::tested;
 use std::alloc::Global;
-use wt_block_proposal::{is_cell, is_list, signs_of};
+use wt_block_proposal::{is_cell, is_list, is_row_without_sign, signs_of};
 use wt_checks::Visit;
 use wt_content_proposal::{Known, Writing, block_of, edges_of, spelled};
 use wt_difference::{Child, held, inside, same_inside};
@@ -110,13 +110,14 @@ fn push_inside<'t, 'a>(
 
 // ---- children
 
-/// The children that a node of the page holds, the signs with which it begins where it is an item, its kind, its
-/// number, and where its children begin and end.
+/// The children that a node of the page holds, the signs with which it begins where it is an item, its kind, whether it
+/// is a row without a sign of its own, its number, and where its children begin and end.
 #[derive(Clone, Copy)]
 struct Held<'w, 't, 'a> {
     children: &'w [Child<'t, 'a>],
     signs: &'w str,
     kind: Kind,
+    is_without_sign: bool,
     number: u32,
     begun: Reached,
     stop: usize,
@@ -275,6 +276,7 @@ fn push_span<'t, 'a>(
         blanks: span.place.start,
         is_tight: !held.signs.is_empty() || holds_parts(held.kind),
         in_cell: is_cell(held.kind),
+        in_row_without_sign: held.is_without_sign,
         before: node_at(held.children, span.from.checked_sub(1)),
         behind,
         gone: children_between(held.children, span.from, span.to),
@@ -335,6 +337,7 @@ fn push_node<'t, 'a>(
         children: children.as_slice(),
         signs: signs.as_str(),
         kind: old.kind,
+        is_without_sign: is_row_without_sign(old),
         number: old.id,
         begun,
         stop: inside_stop(old.ranges),
