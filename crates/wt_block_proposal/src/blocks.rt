@@ -6,6 +6,7 @@ use crate::delimiters::{
 };
 use crate::items::sign_of;
 use crate::kinds::{is_cell, is_item, is_lined, is_list, is_row_without_sign};
+use crate::style::{Style, USUAL, style_of};
 use std::alloc::Global;
 use wt_checks::original;
 use wt_content_proposal::{Block, Edges, Known, Writing, block_of, edges_of, spelled};
@@ -15,14 +16,15 @@ use wt_span::{NoMemory, Str};
 use wt_tree::{Kind, Node, flat, same_attrs, same_kind};
 
 /// What a block is written by: what is known of the page, whether texts keep their bytes, the signs of the item
-/// in which it is (of an item its own), and the page's text at its end, where the block is the second half of
-/// one that was there.
+/// in which it is (of an item its own), the page's text at its end, where the block is the second half of one that was
+/// there, and how it is written where it is a new item, cell or row.
 #[derive(Clone, Copy)]
 pub struct Surroundings<'w, 't, 'a> {
     pub known: &'w Known<'t, 'a>,
     pub keeps: bool,
     pub signs: &'w str,
     pub tail: Option<&'t Node<'a>>,
+    pub style: Style,
 }
 
 impl<'w, 't, 'a> Surroundings<'w, 't, 'a> {
@@ -38,6 +40,15 @@ impl<'w, 't, 'a> Surroundings<'w, 't, 'a> {
             keeps: self.keeps,
             signs: self.signs,
             tail: None,
+            style: USUAL,
+        }
+    }
+
+    /// The same for what a block of this kind holds: the cells of a row are written as those beside them.
+    fn within_kind(self, kind: Kind) -> Surroundings<'w, 't, 'a> {
+        match kind {
+            Kind::Tr => self.in_table(),
+            _ => self.within(),
         }
     }
 
@@ -48,6 +59,18 @@ impl<'w, 't, 'a> Surroundings<'w, 't, 'a> {
             keeps: self.keeps,
             signs: "",
             tail: None,
+            style: self.style,
+        }
+    }
+
+    /// The same for an item that comes after one of this style.
+    fn styled(self, style: Style) -> Surroundings<'w, 't, 'a> {
+        Surroundings {
+            known: self.known,
+            keeps: self.keeps,
+            signs: self.signs,
+            tail: None,
+            style: if self.keeps { style } else { USUAL },
         }
     }
 }
@@ -112,6 +135,18 @@ fn new_inside(
     spelled(alloc, writing, inside(node), edges)
 }
 
+/// The inside of a block.
+fn inside_of(
+    alloc: Global,
+    around: Surroundings<'_, '_, '_>,
+    node: &Node<'_>,
+) -> Result<Str, NoMemory> {
+    match original(around.known.index, node.id) {
+        Some(visit) if node.id != 0 => kept_inside(alloc, around, visit.node, node),
+        _ => new_inside(alloc, around, node),
+    }
+}
+
 /// Appends the inside of a block.
 fn push_inside(
     alloc: Global,
@@ -119,10 +154,7 @@ fn push_inside(
     around: Surroundings<'_, '_, '_>,
     node: &Node<'_>,
 ) -> Result<(), NoMemory> {
-    let source = match original(around.known.index, node.id) {
-        Some(visit) if node.id != 0 => kept_inside(alloc, around, visit.node, node)?,
-        _ => new_inside(alloc, around, node)?,
-    };
+    let source = inside_of(alloc, around, node)?;
     out.push_str(source.as_str())
 }
 
@@ -165,6 +197,48 @@ fn are_joined(left: Kind, right: Kind) -> bool {
     are_lists || !(is_lined(left) || is_lined(right))
 }
 
+/// Whether a new cell goes on in the line of the one before it, as those of the row beside do, in what is written so
+/// far: that one holds no blocks, and shows the blank before the signs where there is to be one.
+fn goes_on(
+    out: &Str,
+    around: Surroundings<'_, '_, '_>,
+    before: Option<&Node<'_>>,
+    cell: &Node<'_>,
+) -> bool {
+    let Some(before) = before else {
+        return false;
+    };
+    around.style.is_one_line
+        && cell.id == 0
+        && is_cell(cell.kind)
+        && same_kind(before.kind, cell.kind)
+        && !have_block_part(before.children.as_slice())
+        && (around.style.is_tight || out.as_str().ends_with(" "))
+}
+
+/// Appends what comes before a block that a node holds: a line break, or of a cell that goes on in a line the first of
+/// its two signs.
+fn push_start(
+    alloc: Global,
+    out: &mut Str,
+    around: Surroundings<'_, '_, '_>,
+    holder: Kind,
+    before: Option<&Node<'_>>,
+    child: &Node<'_>,
+) -> Result<(), NoMemory> {
+    if goes_on(out, around, before, child) {
+        return out.push_str(if matches!(child.kind, Kind::Th) {
+            "!"
+        } else {
+            "|"
+        });
+    }
+    if shares_line(alloc, around.known, before, child)? {
+        return Ok(());
+    }
+    push_break(out, holder, before, child.kind)
+}
+
 /// Appends all that a node holds after its inside, each on a line of its own but a cell that shared one, and the first
 /// where it goes on in the line. After a comment or an include tag the line is the one that it leaves.
 #[cycle(blocks)]
@@ -181,10 +255,10 @@ fn push_held(
     for child in node.children.as_slice() {
         is_inside = is_inside && !ends_inside(child);
         if is_written(child) {
-            if !is_begun && !shares_line(alloc, around.known, before, child)? {
-                push_break(out, node.kind, before, child.kind)?;
+            if !is_begun {
+                push_start(alloc, out, around, node.kind, before, child)?;
             }
-            push_block(alloc, out, around.within(), child)?;
+            push_block(alloc, out, around.within_kind(node.kind), child)?;
             before = Some(child);
             is_begun = false;
         } else if !is_inside && is_coming_mark(around.known, child) {
@@ -252,8 +326,10 @@ fn push_item(
             return out.push_str(source);
         }
     }
-    push_signs(alloc, out, around.known, node, around.signs)?;
-    push_inside(alloc, out, around, node)?;
+    let inside = inside_of(alloc, around, node)?;
+    let blank = around.style.blank_before(inside.as_str());
+    push_signs(alloc, out, around.known, node, around.signs, blank)?;
+    out.push_str(inside.as_str())?;
     push_held(alloc, out, around, node, false)
 }
 
@@ -277,6 +353,7 @@ fn push_item_of(
         keeps: around.keeps,
         signs: signs.as_str(),
         tail: None,
+        style: around.style,
     };
     if is_first {
         push_first_item(alloc, out, own, item)
@@ -324,6 +401,14 @@ fn push_line(out: &mut Str, is_begun: bool) -> Result<(), NoMemory> {
     out.push_str("\n")
 }
 
+/// How an item is written after this one: as it is where the page has it, else as this one was.
+fn style_behind(known: &Known<'_, '_>, item: &Node<'_>, style: Style) -> Style {
+    match original(known.index, item.id) {
+        Some(visit) if item.id != 0 => style_of(Some(visit.node)),
+        _ => style,
+    }
+}
+
 /// Appends the items of a list, each on a line of its own; after a comment or an include tag on the one that it leaves.
 #[cycle(blocks)]
 fn push_items(
@@ -334,12 +419,14 @@ fn push_items(
 ) -> Result<(), NoMemory> {
     let mut is_first = true;
     let mut is_begun = true;
+    let mut style = USUAL;
     for item in list.children.as_slice() {
         if is_written(item) {
             push_line(out, is_begun)?;
-            push_item_of(alloc, out, around, list.kind, item, is_first)?;
+            push_item_of(alloc, out, around.styled(style), list.kind, item, is_first)?;
             is_first = false;
             is_begun = false;
+            style = style_behind(around.known, item, style);
         } else if is_coming_mark(around.known, item) {
             push_line(out, is_begun)?;
             push_mark(alloc, out, around.known, item)?;
@@ -372,12 +459,12 @@ fn push_rows(
     Ok(())
 }
 
-/// The sign of a new cell: without its blank where a block is all that is in it.
-fn sign_before<'s>(sign: &'s str, node: &Node<'_>) -> &'s str {
-    if inside(node).is_empty() && !node.children.as_slice().is_empty() {
-        sign.strip_suffix(" ").unwrap_or(sign)
+/// The blank after the sign of a new cell: none where a block is all that is in it.
+fn blank_in(style: Style, node: &Node<'_>, inside: &str) -> &'static str {
+    if inside.is_empty() && !node.children.as_slice().is_empty() {
+        ""
     } else {
-        sign
+        style.blank_before(inside)
     }
 }
 
@@ -389,8 +476,11 @@ fn push_cell(
     sign: &str,
     node: &Node<'_>,
 ) -> Result<(), NoMemory> {
-    push_opening(alloc, out, around.known, node, sign_before(sign, node))?;
-    push_inside(alloc, out, around.in_table(), node)?;
+    let inside = inside_of(alloc, around.in_table(), node)?;
+    let mut opening = Str::copy_of(alloc, sign)?;
+    opening.push_str(blank_in(around.style, node, inside.as_str()))?;
+    push_opening(alloc, out, around.known, node, opening.as_str())?;
+    out.push_str(inside.as_str())?;
     push_held(alloc, out, around.in_table(), node, false)
 }
 
@@ -464,9 +554,9 @@ pub fn push_block(
         }
         Kind::Tbody => push_rows(alloc, out, around, node),
         Kind::Tr => push_lines(alloc, out, around, "|-", node),
-        Kind::Td => push_cell(alloc, out, around, "| ", node),
-        Kind::Th => push_cell(alloc, out, around, "! ", node),
-        Kind::Caption => push_cell(alloc, out, around, "|+ ", node),
+        Kind::Td => push_cell(alloc, out, around, "|", node),
+        Kind::Th => push_cell(alloc, out, around, "!", node),
+        Kind::Caption => push_cell(alloc, out, around, "|+", node),
         _ => Ok(()),
     }
 }

@@ -128,19 +128,20 @@ fn behind_signs(opening: &str) -> &str {
     rest
 }
 
-/// Appends the signs of an item, and the blanks that it had after its own; one where it is new.
+/// Appends the signs of an item, and the blanks that it had after its own; where it is new this one.
 pub fn push_signs(
     alloc: Global,
     out: &mut Str,
     known: &Known<'_, '_>,
     node: &Node<'_>,
     signs: &str,
+    blank: &str,
 ) -> Result<(), NoMemory> {
     out.push_str(signs)?;
     let Some(old) = standing_of(known, node) else {
-        return out.push_str(" ");
+        return out.push_str(blank);
     };
-    let opening = joined_or(alloc, old.opening(), " ")?;
+    let opening = joined_or(alloc, old.opening(), blank)?;
     out.push_str(behind_signs(opening.as_str()))
 }
 

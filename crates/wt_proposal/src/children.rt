@@ -8,7 +8,8 @@ use crate::proposing::{Numbering, Plan, children_between, nodes_between};
 use crate::slot::Slot;
 use std::alloc::Global;
 use wt_block_proposal::{
-    Surroundings, is_cell, is_item, is_lined, is_row_without_sign, push_block, signs_of,
+    Style, Surroundings, USUAL, is_cell, is_item, is_lined, is_row_without_sign, push_block,
+    signs_of, style_of,
 };
 use wt_checks::is_compared;
 use wt_content_proposal::{Known, joined as texts_joined, last_text};
@@ -278,7 +279,7 @@ fn first_gone<'t, 'a>(gone: &[Child<'t, 'a>]) -> Option<&'t Node<'a>> {
     None
 }
 
-/// An item of the page that is beside those that come.
+/// A child of the page that is beside those that come.
 fn item_beside<'t, 'a>(gap: Gap<'_, 't, 'a>) -> Option<&'t Node<'a>> {
     gap.before.or(gap.behind).or(first_gone(gap.gone))
 }
@@ -353,6 +354,15 @@ fn tail_of<'t, 'a>(gap: Gap<'_, 't, 'a>, left: usize) -> Option<&'t Node<'a>> {
     }
 }
 
+/// How new items, cells and rows are written in a gap: as those beside them, where texts keep their bytes.
+fn style_in(gap: Gap<'_, '_, '_>, keeps: bool) -> Style {
+    if keeps {
+        style_of(item_beside(gap))
+    } else {
+        USUAL
+    }
+}
+
 /// What comes, with line breaks between; nothing where nothing does.
 fn coming_of<'t, 'a>(
     alloc: Global,
@@ -372,6 +382,7 @@ fn coming_of<'t, 'a>(
                 keeps: plan.keeps(block.number),
                 signs: signs.as_str(),
                 tail: tail_of(gap, left),
+                style: style_in(gap, plan.keeps(block.number)),
             };
             coming = Some(followed(alloc, gap.is_tight, coming, around, node)?);
             block = block.next();
@@ -529,6 +540,21 @@ fn joins_line(page: &str, gap: Gap<'_, '_, '_>, coming: &Coming) -> bool {
         && coming.is_of_line
 }
 
+/// Whether what comes is one cell after the last one of a line, in which no blanks are beside the signs.
+fn comes_last_in_line(page: &str, gap: Gap<'_, '_, '_>, coming: &Coming) -> bool {
+    let Some(before) = gap.before else {
+        return false;
+    };
+    gap.behind.is_none()
+        && is_cell(coming.first)
+        && same_kind(before.kind, coming.first)
+        && count_of(gap.new) == 1
+        && coming.is_of_line
+        && style_of(gap.before).is_tight
+        && is_doubled(page, before)
+        && most_breaks(page, range_of(before).start, range_of(before).end) == 0
+}
+
 /// Whether what comes is one cell in the place of one that went on in the line of the cell before, which has its kind.
 fn takes_place_in_line(page: &str, gap: Gap<'_, '_, '_>, coming: &Coming, at: usize) -> bool {
     let Some(before) = gap.before else {
@@ -567,7 +593,8 @@ fn push_new(
     let before = breaks_before(page, gap, !slices.is_empty(), coming.first, place.start);
     let behind = breaks_behind(page, gap, &coming, end, to);
     let mut by = Str::new(alloc);
-    if slices.is_empty() && joins_line(page, gap, &coming) {
+    let is_in_line = joins_line(page, gap, &coming) || comes_last_in_line(page, gap, &coming);
+    if slices.is_empty() && is_in_line {
         push_in_line(&mut by, coming.source.as_str())?;
         return push_change(out, place, by);
     }
