@@ -300,6 +300,17 @@ fn begins_with(source: &[u8], signs: &[u8]) -> bool {
 
 // ---- blocks
 
+/// The blank at each side of the text of a new heading: none in a page whose headings have none, unless the text would
+/// join the signs.
+fn blank_in_heading(around: Surroundings<'_, '_, '_>, inside: &str) -> &'static str {
+    let joins = inside.is_empty() || inside.starts_with("=") || inside.ends_with("=");
+    if around.keeps && around.known.has_tight_headings && !joins {
+        ""
+    } else {
+        " "
+    }
+}
+
 fn push_heading(
     alloc: Global,
     out: &mut Str,
@@ -307,9 +318,11 @@ fn push_heading(
     level: u8,
     node: &Node<'_>,
 ) -> Result<(), NoMemory> {
-    push_heading_start(alloc, out, around.known, node.id, level)?;
-    push_inside(alloc, out, around, node)?;
-    push_heading_end(alloc, out, around.known, node.id, level)
+    let inside = inside_of(alloc, around, node)?;
+    let blank = blank_in_heading(around, inside.as_str());
+    push_heading_start(alloc, out, around.known, node.id, level, blank)?;
+    out.push_str(inside.as_str())?;
+    push_heading_end(alloc, out, around.known, node.id, level, blank)
 }
 
 /// Appends an item with its signs: as it was in the page, where it was there with these.

@@ -179,17 +179,18 @@ fn heading_of<'t, 'a>(known: &Known<'t, 'a>, number: u32) -> Option<&'t Node<'a>
     }
 }
 
-/// Appends the signs before the text of a heading, and the blanks that it had there.
+/// Appends the signs before the text of a heading, and the blanks that it had there; where it is new this one.
 pub fn push_heading_start(
     alloc: Global,
     out: &mut Str,
     known: &Known<'_, '_>,
     number: u32,
     level: u8,
+    blank: &str,
 ) -> Result<(), NoMemory> {
     push_equals(out, level)?;
     let Some(old) = heading_of(known, number) else {
-        return out.push_str(" ");
+        return out.push_str(blank);
     };
     let opening = joined(alloc, old.opening())?;
     let opening = opening.as_str();
@@ -199,16 +200,18 @@ pub fn push_heading_start(
     out.push_str(blanks)
 }
 
-/// Appends those after it, and what came after its last sign: comments and include tags are there, too.
+/// Appends those after it, and what came after its last sign: comments and include tags are there, too. Where it is new
+/// the blank comes before them.
 pub fn push_heading_end(
     alloc: Global,
     out: &mut Str,
     known: &Known<'_, '_>,
     number: u32,
     level: u8,
+    blank: &str,
 ) -> Result<(), NoMemory> {
     let Some(old) = heading_of(known, number) else {
-        out.push_str(" ")?;
+        out.push_str(blank)?;
         return push_equals(out, level);
     };
     let closing = joined(alloc, old.closing())?;
