@@ -25,9 +25,20 @@ fn ends_with_blank(texts: &[Text<'_>]) -> bool {
     }
 }
 
+/// Whether an item or a cell of the page has a sign, and no blank after it.
+fn ends_with_sign(part: &Node<'_>) -> bool {
+    !part.opening().is_empty() && !ends_with_blank(part.opening())
+}
+
+/// Whether an item, a cell or a caption of the page is empty, with no blank after its sign.
+pub fn is_bare_sign(part: &Node<'_>) -> bool {
+    let has_sign = is_item(part.kind) || is_cell(part.kind) || matches!(part.kind, Kind::Caption);
+    has_sign && inside(part).is_empty() && ends_with_sign(part)
+}
+
 /// Whether an item or a cell of the page has text, and no blank before it.
 fn is_tight(part: &Node<'_>) -> bool {
-    !part.opening().is_empty() && !ends_with_blank(part.opening()) && !inside(part).is_empty()
+    ends_with_sign(part) && !inside(part).is_empty()
 }
 
 /// Whether a cell of the page goes on in the line of the one before it.

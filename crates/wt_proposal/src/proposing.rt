@@ -14,8 +14,8 @@ use crate::slots::{
 };
 use crate::testing::tested;
 use std::alloc::Global;
-use wt_block_proposal::{is_cell, is_list, is_row_without_sign, signs_of};
-use wt_checks::Visit;
+use wt_block_proposal::{is_bare_sign, is_cell, is_list, is_row_without_sign, signs_of, style_of};
+use wt_checks::{Visit, is_compared};
 use wt_content_proposal::{Known, Writing, block_of, edges_of, spelled};
 use wt_difference::{Child, held, inside, same_inside};
 use wt_selser::{Change, place_in};
@@ -286,6 +286,42 @@ fn push_span<'t, 'a>(
     push_gap(alloc, out, plan, held.signs, gap)
 }
 
+/// The part of a list or a table that is beside one in its turn, which passes so many of the page's: the one before it,
+/// or the one after it.
+fn part_beside<'t, 'a>(held: Held<'_, 't, 'a>, from: usize, passed: usize) -> Option<&'t Node<'a>> {
+    let next = from.saturating_add(passed);
+    let before = node_at(held.children, from.checked_sub(1));
+    before
+        .or(part_at(held.children, next))
+        .or(part_at(held.children, next.saturating_add(1)))
+}
+
+/// The item, cell or other compared node at a place.
+fn part_at<'t, 'a>(children: &[Child<'t, 'a>], at: usize) -> Option<&'t Node<'a>> {
+    let node = node_at(children, Some(at))?;
+    if is_compared(node.kind) {
+        Some(node)
+    } else {
+        None
+    }
+}
+
+/// Appends the blank after the sign of an empty part that is filled, unless the one beside it has text and none.
+fn push_blank(
+    alloc: Global,
+    out: &mut Vec<Change>,
+    new: &Node<'_>,
+    old: &Node<'_>,
+    beside: Option<&Node<'_>>,
+) -> Result<(), NoMemory> {
+    if !is_bare_sign(old) || style_of(beside).is_tight || same_inside(alloc, old, new)? {
+        return Ok(());
+    }
+    let start = inside_start(old.ranges);
+    let blank = Str::copy_of(alloc, " ")?;
+    push_change(out, Slot { start, end: start }, blank)
+}
+
 /// Appends what is written anew of a node's children.
 #[cycle(proposing)]
 fn push_children<'t, 'a>(
@@ -311,6 +347,10 @@ fn push_children<'t, 'a>(
             push_span(alloc, out, plan, held, new, line.span(place, turn.passed))?;
         }
         if let Some(within) = turn.within {
+            if plan.keeps(line.block.number) {
+                let beside = part_beside(held, line.from, turn.passed);
+                push_blank(alloc, out, child, within, beside)?;
+            }
             push_node(alloc, out, plan, child, within, line.block.inside())?;
         }
         line = line.behind(turn.passed, turn.reached, at);
