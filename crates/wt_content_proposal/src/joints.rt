@@ -186,11 +186,27 @@ fn is_rule(units: &[Unit<'_>]) -> bool {
     count > 3
 }
 
+/// Whether a typed `=` comes first, with nothing but blanks after it in its piece: it is written as a reference.
+fn is_reference(units: &[Unit<'_>]) -> bool {
+    match units.first() {
+        Some(Unit::Text(text)) => {
+            let bytes = text.as_bytes();
+            let blanks = bytes
+                .iter()
+                .skip(1)
+                .take_while(|byte| is_blank(**byte))
+                .count();
+            blanks.saturating_add(1) == bytes.len()
+        }
+        _ => false,
+    }
+}
+
 /// Whether a line of a paragraph that begins with these would be another block.
 fn begins_block(spot: InsidePlace<'_>, first: u8, units: &[Unit<'_>]) -> bool {
     match first {
         b'-' => is_rule(units),
-        b'=' => may_end_with_equals(units),
+        b'=' => !is_reference(units) && may_end_with_equals(units),
         b'!' => spot.in_tables,
         _ => true,
     }
@@ -210,7 +226,7 @@ fn joins_delimiter(spot: InsidePlace<'_>, first: u8, units: &[Unit<'_>]) -> bool
     }
     match spot.place {
         Place::Paragraph => begins_block(spot, first, units),
-        Place::Heading => first == b'=',
+        Place::Heading => first == b'=' && !is_reference(units),
         Place::Item | Place::Term => is_list_sign(first) && !is_blank(spot.before),
         Place::Cell => first == b'-' && spot.before == b'|',
         Place::Header => first == b'!' && spot.before == b'!',
