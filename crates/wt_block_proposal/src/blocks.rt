@@ -1,8 +1,8 @@
 //! Blocks, items and rows as wikitext, where they are new, come from elsewhere or are of another kind now.
 
 use crate::delimiters::{
-    push_begun, push_closing, push_heading_end, push_heading_start, push_opening, push_signs,
-    shares_line,
+    goes_on_behind, push_begun, push_closing, push_heading_end, push_heading_start, push_opening,
+    push_signs, shares_line,
 };
 use crate::items::sign_of;
 use crate::kinds::{is_cell, is_item, is_lined, is_list, is_row_without_sign};
@@ -346,6 +346,27 @@ fn push_item(
     push_held(alloc, out, around, node, false)
 }
 
+/// Where an item begins: with its list, on a line of its own, or in the line of the item before it, as a definition may.
+#[derive(Clone, Copy)]
+enum Beginning {
+    OfList,
+    OfLine,
+    InLine,
+}
+
+/// Appends an item that goes on in a line, with the signs that it had there.
+#[cycle(blocks)]
+fn push_item_in_line(
+    alloc: Global,
+    out: &mut Str,
+    around: Surroundings<'_, '_, '_>,
+    item: &Node<'_>,
+) -> Result<(), NoMemory> {
+    push_opening(alloc, out, around.known, item, ":")?;
+    push_inside(alloc, out, around, item)?;
+    push_held(alloc, out, around, item, false)
+}
+
 /// Appends an item of a list that is in an item with these signs.
 #[cycle(blocks)]
 fn push_item_of(
@@ -354,7 +375,7 @@ fn push_item_of(
     around: Surroundings<'_, '_, '_>,
     list: Kind,
     item: &Node<'_>,
-    is_first: bool,
+    beginning: Beginning,
 ) -> Result<(), NoMemory> {
     if matches!(item.kind, Kind::Group) {
         return push_block(alloc, out, around, item);
@@ -368,10 +389,10 @@ fn push_item_of(
         tail: None,
         style: around.style,
     };
-    if is_first {
-        push_first_item(alloc, out, own, item)
-    } else {
-        push_item(alloc, out, own, item)
+    match beginning {
+        Beginning::OfList => push_first_item(alloc, out, own, item),
+        Beginning::OfLine => push_item(alloc, out, own, item),
+        Beginning::InLine => push_item_in_line(alloc, out, own, item),
     }
 }
 
@@ -406,6 +427,15 @@ fn push_first_item(
     }
 }
 
+/// Where an item begins after this one of its list.
+fn beginning_of(known: &Known<'_, '_>, before: Option<&Node<'_>>, item: &Node<'_>) -> Beginning {
+    match before {
+        None => Beginning::OfList,
+        Some(before) if goes_on_behind(known, before, item) => Beginning::InLine,
+        Some(_) => Beginning::OfLine,
+    }
+}
+
 /// Appends the line break before an item or a row, unless its line is begun.
 fn push_line(out: &mut Str, is_begun: bool) -> Result<(), NoMemory> {
     if is_begun {
@@ -430,14 +460,17 @@ fn push_items(
     around: Surroundings<'_, '_, '_>,
     list: &Node<'_>,
 ) -> Result<(), NoMemory> {
-    let mut is_first = true;
+    let mut before = None;
     let mut is_begun = true;
     let mut style = USUAL;
     for item in list.children.as_slice() {
         if is_written(item) {
-            push_line(out, is_begun)?;
-            push_item_of(alloc, out, around.styled(style), list.kind, item, is_first)?;
-            is_first = false;
+            let beginning = beginning_of(around.known, before, item);
+            if !matches!(beginning, Beginning::InLine) {
+                push_line(out, is_begun)?;
+            }
+            push_item_of(alloc, out, around.styled(style), list.kind, item, beginning)?;
+            before = Some(item);
             is_begun = false;
             style = style_behind(around.known, item, style);
         } else if is_coming_mark(around.known, item) {

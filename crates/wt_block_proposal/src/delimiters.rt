@@ -3,6 +3,7 @@
 use std::alloc::Global;
 use wt_checks::original;
 use wt_content_proposal::{Known, joined};
+use wt_difference::inside;
 use wt_span::{NoMemory, Str, Text};
 use wt_tree::{Kind, Node, same_attrs, same_kind};
 
@@ -87,6 +88,18 @@ pub fn push_begun(out: &mut Str, kind: Kind, source: &str) -> Result<(), NoMemor
 fn is_behind(before: &Node<'_>, node: &Node<'_>) -> bool {
     match (before.ranges, node.ranges) {
         (Some(before), Some(ranges)) => before.end == ranges.start,
+        _ => false,
+    }
+}
+
+/// Whether an item goes on in the line of the one before it, as it did in the page. Items on lines of their own have a
+/// line break between them, and blocks after the text of the first one end its line.
+pub fn goes_on_behind(known: &Known<'_, '_>, before: &Node<'_>, item: &Node<'_>) -> bool {
+    match (standing_of(known, before), standing_of(known, item)) {
+        (Some(left), Some(old)) => {
+            let is_text = inside(before).len() == before.children.as_slice().len();
+            is_behind(left, old) && is_text && !old.opening().is_empty()
+        }
         _ => false,
     }
 }
