@@ -85,6 +85,14 @@ impl Numbering {
 
 // ---- insides
 
+/// Whether a blank is written at a place of the page, where there was none.
+fn is_behind_blank(changes: &[Change], at: usize) -> bool {
+    match changes.last() {
+        Some(change) => change.start == at && change.end == at && change.by.as_str() == " ",
+        None => false,
+    }
+}
+
 /// Appends the inside of a node of the page, spelled as it was edited.
 fn push_inside<'t, 'a>(
     alloc: Global,
@@ -97,12 +105,16 @@ fn push_inside<'t, 'a>(
     if same_inside(alloc, old, new)? {
         return Ok(());
     }
-    let standing = block_of(alloc, old)?;
+    let start = inside_start(old.ranges);
+    let mut standing = block_of(alloc, old)?;
+    if is_behind_blank(out.as_slice(), start) {
+        standing.before = b' ';
+    }
     let keeps = plan.keeps(number);
     let writing = Writing::of(plan.known, Some(&standing), keeps, place_in(old.kind));
     let by = spelled(alloc, writing, inside(new), edges_of(inside(old)))?;
     let place = Slot {
-        start: inside_start(old.ranges),
+        start,
         end: inside_end(old),
     };
     push_change(out, place, by)
