@@ -19,7 +19,8 @@ use wt_span::{NoMemory, Str};
 use wt_tree::{Kind, Node, same_kind};
 
 /// A gap between two children that stay in their turn, or the part of it between two comments or include tags: where
-/// it is, from where on blanks before it count, these two as the page has them, the page's children between them, and
+/// it is, from where on blanks before it count, these two as the page has them, whether the one before is text alone as
+/// it was edited, the page's children between them, and
 /// the edited ones, with the number of the block of the first, whether they are lines of an item, a list or a table,
 /// with no empty line between them, and whether a cell holds them, or a row without a sign of its own.
 #[derive(Clone, Copy)]
@@ -30,6 +31,7 @@ pub struct Gap<'w, 't, 'a> {
     pub in_cell: bool,
     pub in_row_without_sign: bool,
     pub before: Option<&'t Node<'a>>,
+    pub is_behind_text: bool,
     pub behind: Option<&'t Node<'a>>,
     pub gone: &'w [Child<'t, 'a>],
     pub new: &'w [Node<'a>],
@@ -546,6 +548,7 @@ fn comes_last_in_line(page: &str, gap: Gap<'_, '_, '_>, coming: &Coming) -> bool
         return false;
     };
     gap.behind.is_none()
+        && gap.is_behind_text
         && is_cell(coming.first)
         && same_kind(before.kind, coming.first)
         && count_of(gap.new) == 1
@@ -681,6 +684,7 @@ impl Passed {
             in_cell: gap.in_cell,
             in_row_without_sign: gap.in_row_without_sign,
             before: gap.before,
+            is_behind_text: gap.is_behind_text,
             behind: gap.behind,
             gone: children_between(gap.gone, self.gone, gone),
             new: nodes_between(gap.new, self.new, new),

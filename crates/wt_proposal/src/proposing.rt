@@ -146,11 +146,13 @@ struct Line {
     block: Numbering,
 }
 
-/// A gap, by how many of the page's children come before it, and before what comes after it.
+/// A gap, by how many of the page's children come before it, whether the last of them is text alone as it was edited,
+/// and by how many come before what comes after it.
 #[derive(Clone, Copy)]
 struct Span {
     place: Slot,
     from: usize,
+    is_behind_text: bool,
     to: usize,
     is_last: bool,
     first: Numbering,
@@ -203,11 +205,23 @@ impl Line {
         }
     }
 
+    /// Whether the edited child before those that come, one of these, is text alone.
+    fn is_behind_text(self, nodes: &[Node<'_>]) -> bool {
+        match self.came_from.checked_sub(1) {
+            Some(at) => match nodes.get(at) {
+                Some(node) => inside(node).len() == node.children.as_slice().len(),
+                None => false,
+            },
+            None => false,
+        }
+    }
+
     /// The gap before a child that passes so many of the page's children, itself the last of them.
-    fn span(self, place: Slot, passed: usize) -> Span {
+    fn span(self, nodes: &[Node<'_>], place: Slot, passed: usize) -> Span {
         Span {
             place,
             from: self.from,
+            is_behind_text: self.is_behind_text(nodes),
             to: self.from.saturating_add(passed).saturating_sub(1),
             is_last: false,
             first: self.first,
@@ -215,13 +229,14 @@ impl Line {
     }
 
     /// The gap after the last child that stays in its turn.
-    fn last_span(self, held: Held<'_, '_, '_>) -> Span {
+    fn last_span(self, nodes: &[Node<'_>], held: Held<'_, '_, '_>) -> Span {
         Span {
             place: Slot {
                 start: self.reached.end,
                 end: held.stop,
             },
             from: self.from,
+            is_behind_text: self.is_behind_text(nodes),
             to: held.children.len(),
             is_last: true,
             first: self.first,
@@ -290,6 +305,7 @@ fn push_span<'t, 'a>(
         in_cell: is_cell(held.kind),
         in_row_without_sign: held.is_without_sign,
         before: node_at(held.children, span.from.checked_sub(1)),
+        is_behind_text: span.is_behind_text,
         behind,
         gone: children_between(held.children, span.from, span.to),
         new,
@@ -356,7 +372,14 @@ fn push_children<'t, 'a>(
         let turn = next_turn(plan.known.index, beside, child);
         if let Some(place) = turn.gap {
             let new = nodes_between(nodes, line.came_from, at);
-            push_span(alloc, out, plan, held, new, line.span(place, turn.passed))?;
+            push_span(
+                alloc,
+                out,
+                plan,
+                held,
+                new,
+                line.span(nodes, place, turn.passed),
+            )?;
         }
         if let Some(within) = turn.within {
             if plan.keeps(line.block.number) {
@@ -368,7 +391,7 @@ fn push_children<'t, 'a>(
         line = line.behind(turn.passed, turn.reached, at);
     }
     let new = nodes_between(nodes, line.came_from, nodes.len());
-    push_span(alloc, out, plan, held, new, line.last_span(held))
+    push_span(alloc, out, plan, held, new, line.last_span(nodes, held))
 }
 
 /// Appends what is written anew of a node of the page that stays.
