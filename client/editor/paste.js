@@ -2,6 +2,7 @@
 /** What is pasted, as paragraphs, headings, lists, bold, italic and links. */
 
 import { isPlain, saysBold, saysItalic } from "../lib/styles.js";
+import { withoutEnd } from "../lib/texts.js";
 
 /** @type {Record<string, string>} */
 const SAME = {
@@ -39,7 +40,8 @@ export function pasted(data, root, things) {
 /** @param {string} text */
 function fromText(text) {
   const out = document.createElement("div");
-  const paragraphs = text.replace(/\r\n?/g, "\n").replace(/^\n+|\n+$/g, "").split(/\n[ \t]*\n\s*/);
+  const lines = withoutEnd(text.replace(/\r\n?/g, "\n"), "\n");
+  const paragraphs = lines.replace(/^\n+/, "").split(/\n[ \t]*\n\s*/);
   if (paragraphs.length === 1) {
     out.textContent = paragraphs[0].replaceAll("\n", " ");
     return out.innerHTML;

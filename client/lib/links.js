@@ -17,7 +17,7 @@ const OTHER_SCHEME =
  *   link
  */
 export function linkTarget(href, rel, was = "") {
-  const address = href.replace(/^[ \t\n\r]+|[ \t\n\r]+$/g, "");
+  const address = withoutEnd(href, " \t\n\r").replace(/^[ \t\n\r]+/, "");
   const isAddress = /^(?:https?|ftp):\/\/./i.test(address);
   if (rel !== "" && href === was) return attributes(rel, href);
   if (rel === "mw:WikiLink" || (rel === "mw:ExtLink" && !isAddress)) return attributes(rel, href);

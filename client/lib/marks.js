@@ -6,7 +6,7 @@
 
 import { Part } from "./markup.js";
 import { Kept, Original } from "./original.js";
-import { isSame } from "./texts.js";
+import { isSame, withoutEnd } from "./texts.js";
 import { CELLS, HEADINGS, ITEMS, LINES } from "./kinds.js";
 
 /** What can be written anew, so that it may stand where it didn't stand in the page. */
@@ -63,7 +63,7 @@ function dropLastBlanks(part) {
   const last = part.children.length - 1;
   const text = part.children[last];
   if (typeof text !== "string") return;
-  const rest = text.replace(/[ \t\n]+$/, "");
+  const rest = withoutEnd(text, " \t\n");
   if (rest !== "") part.children[last] = rest;
   else part.children.pop();
 }

@@ -27,10 +27,22 @@ export function describe(element) {
   if (property.startsWith("mw:PageProp/")) return { kind: "switch", name, source };
   if (type === "mw:Placeholder") return describePlaceholder(source);
   if (type === "mw:Comment") {
-    return { kind: "comment", name: source.replace(/^<!--\s*|\s*-->\s*$/g, ""), source };
+    return { kind: "comment", name: insideOfComment(source), source };
   }
   if (rel !== "mw:PageProp/Category") return null;
   return { kind: "category", name: titleOf(element.getAttribute("href") ?? ""), source };
+}
+
+/**
+ * What stands between the signs of a comment, in time in proportion to it, however much white space it has.
+ * @param {string} source  with the line break of its own that a comment may have, and perhaps without an end
+ * @returns {string}
+ */
+function insideOfComment(source) {
+  const text = source.trim();
+  const start = text.startsWith("<!--") ? "<!--".length : 0;
+  const end = text.endsWith("-->") ? text.length - "-->".length : text.length;
+  return text.slice(start, end).trim();
 }
 
 /**

@@ -265,6 +265,16 @@ function isNewStyle(piece) {
 }
 
 /**
+ * The lines of a text, with a line break between two of them, and without the blanks beside it.
+ * @param {string} text
+ * @returns {string[]}
+ */
+function linesAndBreaks(text) {
+  const [first, ...others] = withoutTrails(text).split("\n");
+  return [first, ...others.flatMap((line) => ["\n", line.replace(/^[ \t]+/, "")])];
+}
+
+/**
  * Bold and italic end with a line in wikitext: what an editor made over several lines of a paragraph begins
  * anew on each.
  * @param {Part | string} piece
@@ -273,7 +283,7 @@ function isNewStyle(piece) {
 function splitAtLines(piece) {
   if (typeof piece === "string" || !isNewStyle(piece)) return [piece];
   const inner = piece.children.flatMap((child) =>
-    typeof child === "string" ? child.split(/[ \t]*(\n)[ \t]*/) : splitAtLines(child),
+    typeof child === "string" ? linesAndBreaks(child) : splitAtLines(child),
   );
   /** @type {(Part | string)[]} */
   const out = [];

@@ -1000,6 +1000,32 @@ test("names of what can't be edited", () => {
   assert.equal(bold, null);
 });
 
+/** @param {string} source */
+function nameOfComment(source) {
+  const data = JSON.stringify({ src: source }).replaceAll("<", "&lt;").replaceAll(">", "&gt;");
+  const [comment] = opened(page(`<meta typeof="mw:Comment" data-parsoid='${data}'/>`)).children;
+  return describe(comment)?.name;
+}
+
+test("the name of a comment is what stands between its signs", () => {
+  for (const source of ["<!-- a  b -->", "<!--a  b-->\n", "\n <!--\ta  b\n-->", "<!--a  b"]) {
+    assert.equal(nameOfComment(source), "a  b");
+  }
+  assert.deepEqual(["<!---->", "<!-- -->", ""].map(nameOfComment), ["", "", ""]);
+});
+
+test("a run of blanks is looked through once", () => {
+  const blanks = " ".repeat(100_000);
+  const start = process.cpuUsage();
+  assert.equal(nameOfComment(`<!--a${blanks}b-->`), `a${blanks}b`);
+  assert.equal(saved("<p>x</p>", `<p>x</p><p><b>a${blanks}b</b></p>`), `<p>x</p><p><b>a${blanks}b</b></p>`);
+  const list = '<ul id="mw1"><li id="mw2">a</li></ul>';
+  const item = `a${blanks}b`;
+  assert.ok(saved(list, list.replace("a</li>", `${item}</li>`), true).includes(`>${item}</li>`));
+  assert.ok(saved("<p>x</p>", `<p>x<a href="./A${blanks}B">y</a></p>`).includes('href="./A'));
+  assert.ok(process.cpuUsage(start).user < 2e6); // microseconds
+});
+
 test("links to titles", () => {
   assert.equal(hrefOf("Opava (river)"), "./Opava_(river)");
   assert.equal(hrefOf("A/B: ä#c d"), "./A/B:_%C3%A4#c_d");

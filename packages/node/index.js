@@ -133,7 +133,8 @@ function runIn(folder, program, words, input) {
 function runWithPage(command, text, input, pages = {}, options = {}) {
   const title = options.title ?? "Page";
   const own = title.replace(/[ _]+/g, " ").trim().replace(/^[a-z]/, (first) => first.toUpperCase());
-  const all = new Map(pages instanceof Map ? pages : Object.entries(pages));
+  const entries = [...(pages instanceof Map ? pages : Object.entries(pages))];
+  const all = new Map(entries.filter(([name]) => fileName(name) !== fileName(own)));
   return run([command, title], input, all.set(own, text), options);
 }
 

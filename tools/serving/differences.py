@@ -6,7 +6,7 @@ from difflib import SequenceMatcher
 from typing import Iterator
 
 CONTEXT = 3  # unchanged lines shown round a change
-SMALL = 400  # lines of a gap between unique lines that are compared one by one
+SMALL = 100  # lines of a gap between unique lines that are compared one by one
 
 
 def unified(old: str, new: str, name: str) -> str:

@@ -460,11 +460,12 @@ class Outputs(BatchCase):
         (self.pages / "Template%3AT.wiki").chmod(0)
         self.assertEqual(self.report("html")["outcomes"]["html"]["unreadable"], 1)
 
-    def test_a_directory_among_the_pages(self) -> None:
+    def test_a_directory_and_a_pipe_among_the_pages(self) -> None:
         self.make()
         (self.pages / "Folder.wiki").mkdir()
+        os.mkfifo(self.pages / "Pipe.wiki")  # to open it could be to wait for ever
         self.assertEqual(
-            self.report("html")["outcomes"]["html"], {"answered": 2, "refused": 1, "unreadable": 1}
+            self.report("html")["outcomes"]["html"], {"answered": 2, "refused": 1, "unreadable": 2}
         )
 
     def test_the_longest_page(self) -> None:

@@ -301,6 +301,15 @@ class Diffs(unittest.TestCase):
             differences.unified(old, new, "x")
             self.assertLess(time.process_time() - began, 5)
 
+    def test_all_paragraphs_under_many_headings_take_little_time(self) -> None:
+        def section(number: int, word: str) -> str:
+            return f"== {number} ==\n" + "".join(f"{word} {k % 3}\n\n" for k in range(199))
+
+        old, new = ("".join(section(k, word) for k in range(50)) for word in ("was", "is"))
+        began = time.process_time()
+        self.assertEqual(self.patched(old, differences.unified(old, new, "x")), new)
+        self.assertLess(time.process_time() - began, 5)
+
 
 class Tags(unittest.TestCase):
     def test_marks(self) -> None:

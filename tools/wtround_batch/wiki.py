@@ -4,6 +4,7 @@ from __future__ import annotations
 import io
 import os
 import re
+import stat
 import time
 import zlib
 from dataclasses import dataclass
@@ -128,6 +129,15 @@ def read_at_most(file: io.RawIOBase, most: int) -> bytes:
     return b"".join(parts)
 
 
+def open_regular(path: str, flags: int) -> int:
+    """Opens a file without waiting for a pipe's other end, and refuses what is no file."""
+    descriptor = os.open(path, flags | os.O_NONBLOCK)
+    if not stat.S_ISREG(os.fstat(descriptor).st_mode):
+        os.close(descriptor)
+        raise OSError(0, "it is no regular file", path)
+    return descriptor
+
+
 class Folder:
     """Pages in files that are named by their titles."""
 
@@ -173,7 +183,7 @@ class Folder:
         Raises OSError where its file is there and cannot be read.
         """
         try:
-            with open(self.file_of(title), "rb", buffering=0) as file:
+            with open(self.file_of(title), "rb", buffering=0, opener=open_regular) as file:
                 return read_at_most(file, importer.PAGE_LIMIT + 1)
         except FileNotFoundError:
             return None

@@ -135,7 +135,7 @@ impl From<EditRefusal> for Refusal {
             EditRefusal::BadContent(node, why) => Refusal::BadContent { node, why },
             EditRefusal::Tangled(node) => Refusal::Tangled(node),
             EditRefusal::NewPageTooLong => Refusal::NewPageTooLong,
-            EditRefusal::NewExpansion(_) => Refusal::NewExpansion,
+            EditRefusal::NewExpansion(_cause) => Refusal::NewExpansion,
             EditRefusal::Unspelled(child) => Refusal::Unspelled(child),
             EditRefusal::FolderFault => Refusal::FolderFault,
             EditRefusal::NoMemory => Refusal::NoMemory,
@@ -298,8 +298,8 @@ fn content_why(why: ContentWhy) -> &'static str
 }
 
 #[tactic(auto, unfolding(crate::specs::Refusals::check_name))]
-fn check_name(check: TreeRefusal) -> &'static str
-    ensures { result.now ≡ check_name check }
+fn check_name(check: &TreeRefusal) -> &'static str
+    ensures { result.now ≡ check_name check.now }
 {
     match check {
         TreeRefusal::UnknownId(_) => "UnknownId",
@@ -329,7 +329,7 @@ fn checked_line(alloc: Global, check: TreeRefusal) -> Result<String, AllocError>
 {
     format!(in alloc;
         "wtround: edit refused: {} {}\n",
-        check_name(check),
+        check_name(&check),
         check_node(check).get()
     )
 }

@@ -5,4 +5,8 @@ pub mod LineRemarks
 pub mod LineTags
 pub mod LineForms
 pub mod Fronts
+pub mod Shown
+pub mod TextReads
+pub mod BraceWords
+pub mod NoCalls
 mod Cases

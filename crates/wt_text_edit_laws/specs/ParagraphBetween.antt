@@ -34,7 +34,7 @@ pub record AreClosed (xs : List Item) : Type 0 where
   pub closed : tables_behind 0 (full_lines xs) ≡ 0
 
 -- What comes before the comments at the end. A line of comments has its line break in it, so it belongs to the line behind it, and stands
--- above the block that begins there.
+-- above the block that begins there; and so do comments and include tags on the block's own line.
 abbrev pub before_marks : List Item → List Item
 before_marks [] = []
 before_marks (x ∷ xs) = if list_all is_mark (x ∷ xs) then [] else x ∷ before_marks xs

@@ -1,9 +1,9 @@
 -- What comes before and after a text of a page.
-use Rattle.std.specs.Prelude.{◌≡◌, ℕ, ◌==◌, ◌&&◌, ◌||◌, Bool, true, false, Option, Some, None, List, [], ◌∷◌, drop, codes, is_some, if◌then◌else◌}
+use Rattle.std.specs.Prelude.{◌≡◌, ℕ, ◌==◌, ◌&&◌, ◌||◌, Bool, true, false, Option, Some, None, List, [], ◌∷◌, drop, codes, is_some, if◌then◌else◌, slice_index}
 use Rattle.wt_span.specs.declared.form.Mode.TheVariants.{Page}
 use Rattle.wt_span.specs.declared.form.LexKind.{LexKind}
 use Rattle.wt_span.specs.declared.form.LexKind.TheVariants.{Chars, CommentLine, Comment, Raw, Include, Hidden, Entity, Opens, Closes, LinkOpen, LinkClose, Pipe, Equals}
-use Rattle.wt_span.specs.Bytes.{begins, blank_len}
+use Rattle.wt_span.specs.Bytes.{is_break, begins, blank_len}
 use Rattle.wt_span.specs.Comments.{remarks_len}
 use Rattle.wt_span.specs.Tags.{Tag, opening_tag, with_inside, is_raw_name, hides}
 use Rattle.wt_span.specs.Lexemes.{Word, words}
@@ -19,11 +19,27 @@ abbrev pub HasNoTag : List ℕ → Type 0
 HasNoTag [] = Unit {0}
 HasNoTag (b ∷ bs) = ((b == byte.less_than) ≡ false) × HasNoTag bs
 
+-- nothing, or bytes of which the last passes a test
+abbrev pub EndsBy : (ℕ → Bool) → List ℕ → Type 0
+EndsBy test [] = Unit {0}
+EndsBy test (b ∷ []) = test b ≡ true
+EndsBy test (b ∷ c ∷ cs) = EndsBy test (c ∷ cs)
+
 -- nothing, or lines, the last of which ends
 abbrev pub AreWholeLines : List ℕ → Type 0
-AreWholeLines [] = Unit {0}
-AreWholeLines (b ∷ []) = b ≡ byte.line_break
-AreWholeLines (b ∷ c ∷ cs) = AreWholeLines (c ∷ cs)
+AreWholeLines bs = EndsBy is_break bs
+
+-- a line break, or the last byte of a comment or tag
+abbrev pub is_end : ℕ → Bool
+is_end b = b == byte.line_break || b == byte.greater_than
+
+-- nothing, or lines, and behind the last one comments and tags
+abbrev pub AreEnded : List ℕ → Type 0
+AreEnded bs = EndsBy is_end bs
+
+-- no line of comments and blanks begins these bytes, nor goes on in them
+abbrev pub BeginsShown : List ℕ → Type 0
+BeginsShown bs = is_break (slice_index bs (remarks_len 0 bs)) ≡ false
 
 -- ---- what begins in a part and ends in it
 
@@ -68,9 +84,10 @@ HaveNoClosers ((kind, n) ∷ ws) = IsNoCloser kind × HaveNoClosers ws
 
 -- ---- the parts of a page
 
--- Before the text: nothing, or lines of any kind without two closing braces side by side. Tags and comments may be there.
+-- Before the text: nothing, or lines of any kind without two closing braces side by side, and comments and tags behind the last one. Tags
+-- and comments may be in the lines, too.
 pub record StandsBefore (bs : List ℕ) : Type 0 where
-  pub ends : AreWholeLines bs
+  pub ends : AreEnded bs
   pub has_ends : HasEnds bs
   pub uncalled : HaveNoClosers (words Page bs)
 

@@ -88,8 +88,8 @@ IsBlock (a_heading s) q = IsTypedHeading s q ⊎ IsWrittenHeading s q
 
 -- ---- what stands before it
 
--- Lines that leave no table open, or nothing, and lines of comments directly above it, or none. Before a paragraph and these the last line is no
--- text.
+-- Lines that leave no table open, or nothing, and comments and include tags between these and the block, or none: in lines directly above it, or
+-- on its own line. Before a paragraph and these the last line is no text.
 abbrev pub LeadsTo : TextBlock → List Item → Type 0
 LeadsTo a_paragraph xs = EndsApart xs
 LeadsTo (a_heading s) xs = AreClosed (before_marks xs)

@@ -47,7 +47,8 @@ ghost use Rattle.wt_text_edit_laws.specs.ProsePages.{Passage, prose, AreProse, I
 ghost use Rattle.wt_text_edit_laws.specs.ProseTrees.{prose_page};
 ghost use Rattle.wt_text_edit_laws.specs.ProseUnmarked.{unmarked_prose, IsUnmarkedEdit};
 ghost use Rattle.wt_text_edit_laws.specs.ProseEdits.{PassageEdit, old_passages, new_passages, sent_prose, IsProseEdit};
-ghost use Rattle.wt_text_edit_laws.specs.TextBetween.{AreWholeLines, HasEnds, StandsBefore, StandsBehind};
+ghost use Rattle.wt_text_edit_laws.specs.NoCalls.{CallsNothing};
+ghost use Rattle.wt_text_edit_laws.specs.TextBetween.{AreWholeLines, AreEnded, HasEnds, BeginsShown, StandsBefore, StandsBehind};
 ghost use Rattle.wt_text_edit_laws.specs.Paragraphs.{IsParagraph};
 ghost use Rattle.wt_text_edit_laws.specs.ParagraphBetween.{EndsApart, EndsParagraph, blocks_in, body_round, AreClosed, before_marks, body_with};
 ghost use Rattle.wt_text_edit_laws.specs.TypedHeadings.{Sides, AreSides, heading_line, heading_with, IsHeadingText, IsOfLevel, StandsApart, EndsLine};
@@ -198,18 +199,31 @@ pub fn unmarked_prose_is_taken()
         → read input ≡ as_page (unmarked_prose b es) unsourced → DoneByEdit pages stands input }
 {}
 
+// ---- braces that make no call
+
+/// A page in which no two opening braces side by side come before two closing ones calls nothing, whatever the folder
+/// has: it has no calls and no arguments, nothing is fetched for it, and nothing refuses it. Braces inside of comments,
+/// nowikis and tags of extensions don't count.
+#[tactic(auto, using(crate::proofs::Between::NoCalls::calm_expanded, crate::proofs::Between::NoCalls::calm_unrefused))]
+pub fn unpaired_braces_call_nothing()
+    ensures expanded { (pages : Pages) (page : List ℕ) → CallsNothing (page_items page) → expanded_page pages page ≡ of_items (page_items page) }
+    ensures unrefused { (pages : Pages) (page : List ℕ) → CallsNothing (page_items page) → refusal_of_page pages page ≡ None }
+{}
+
 // ---- a text between two other parts of a page
 
 /// Of lines in which each comment, raw tag and hidden part ends that begins in them, every lexeme is read of them
-/// alone, whatever follows them: none goes over their end.
-#[tactic(auto, using(crate::proofs::Between::LineForms::lines_settle))]
+/// alone, whatever follows them: none goes over their end. So it is where comments or tags come after the last line
+/// break, before what doesn't begin with a line of comments and blanks.
+#[tactic(auto, using(crate::proofs::Between::LineForms::lines_settle, crate::proofs::Between::LineForms::marks_settle))]
 pub fn lines_end_lexemes()
-    ensures { (rest q : List ℕ) → AreWholeLines q → HasEnds q → Settles (lexer Page) rest false 0 q }
+    ensures lines { (rest q : List ℕ) → AreWholeLines q → HasEnds q → Settles (lexer Page) rest false 0 q }
+    ensures marks { (rest q : List ℕ) → AreEnded q → HasEnds q → BeginsShown rest → Settles (lexer Page) rest false 0 q }
 {}
 
 /// Whatever somebody types between two parts of a page, the items of the page are those of the part before, of the
 /// text and of the part after, each read as a page of its own. Nothing is called, and nothing refuses the page.
-#[tactic(auto, using(crate::proofs::Between::Fronts::items_between, crate::proofs::Between::Fronts::expanded_between, crate::proofs::Between::Fronts::unrefused_between))]
+#[tactic(auto, using(crate::proofs::Between::TextReads::items_between, crate::proofs::Between::TextReads::expanded_between, crate::proofs::Between::TextReads::unrefused_between))]
 pub fn texts_are_read_between()
     ensures items { (before text behind : List ℕ) → StandsBefore before → IsTypedPage text → StandsBehind behind
         → page_items (before ++ (text ++ behind)) ≡ page_items before ++ (page_items text ++ page_items behind) }

@@ -97,7 +97,12 @@ pub fn selser<'a, F: Folder>(
     let tree = annotated.body();
     let index = numbered_nodes(memory.alloc, tree)?;
     let beside = set_beside(memory.alloc, tree, index.as_slice(), edited)?;
-    match beside.refused {
+    let Beside {
+        edited,
+        same,
+        refused,
+    } = beside;
+    match refused {
         Some(check) => Err(SelserRefusal::Check(check)),
         None => {
             let edit = EditedPage {
@@ -105,8 +110,8 @@ pub fn selser<'a, F: Folder>(
                 tree,
                 index: index.as_slice(),
                 items: annotated.items(),
-                edited: &beside.edited,
-                same: beside.same,
+                edited: &edited,
+                same,
                 memory,
             };
             new_page(&edit, folder, expansion, readings)

@@ -94,6 +94,14 @@ test("refusals", { skip }, async () => {
   }
 });
 
+test("the page of a call is its text, whatever the pages have under its title", { skip }, async () => {
+  const titles = [["Main Page", "Main_Page"], ["Main_Page", "Main Page"], ["main page", "Main Page"], ["2024", "2024"]];
+  for (const [title, name] of titles) {
+    const pages = { "Template:T": "t", [name]: "old", "Main_Page": "older" };
+    assert.equal(await expand("new {{T}}", pages, { title }), "new t");
+  }
+});
+
 test("a program that isn't there", async () => {
   await assert.rejects(html("x", {}, { program: "/nowhere/wtround" }));
 });

@@ -140,7 +140,7 @@ final class Bughtiso
     {
         return match (true) {
             $answer->status === 0 => $answer->out,
-            $answer->status <= 4 => throw new Refusal($answer->line, $answer->status),
+            $answer->status >= 1 && $answer->status <= 4 => throw new Refusal($answer->line, $answer->status),
             default => throw new \RuntimeException(trim($answer->line) ?: "wtround ended with status $answer->status"),
         };
     }

@@ -18,20 +18,30 @@ final class Program implements Engine
             throw new \InvalidArgumentException('the program needs pages that can be walked');
         }
         $folder = sys_get_temp_dir() . '/bughtiso-' . bin2hex(random_bytes(8));
-        mkdir("$folder/pages", 0700, true);
+        if (!mkdir("$folder/pages", 0700, true)) {
+            throw new \RuntimeException("the folder $folder could not be made");
+        }
         try {
             foreach (count($words) > 1 ? $pages : [] as $name => $page) {
                 $file = self::fileName((string) $name);
                 // A page whose name has no file can't be fetched, and the program says so where it is wanted.
                 if (strlen($file) <= 255) {
-                    file_put_contents("$folder/pages/$file", $page);
+                    self::write("$folder/pages/$file", $page);
                 }
             }
-            file_put_contents("$folder/input", $input);
+            self::write("$folder/input", $input);
             return $this->run($words, $folder);
         } finally {
             self::remove("$folder/pages");
             self::remove($folder);
+        }
+    }
+
+    /** Writes a file whole, or throws: over half a page the program would answer another one. */
+    private static function write(string $path, string $bytes): void
+    {
+        if (file_put_contents($path, $bytes) !== strlen($bytes)) {
+            throw new \RuntimeException("$path could not be written");
         }
     }
 
@@ -60,8 +70,12 @@ final class Program implements Engine
         );
     }
 
-    /** The file of a page, as the program names it. */
-    private static function fileName(string $name): string
+    /**
+     * The file of a page, as the program names it.
+     *
+     * @internal
+     */
+    public static function fileName(string $name): string
     {
         $escape = fn (array $found): string => sprintf('%%%02X', ord($found[0]));
         return preg_replace_callback('/[^A-Za-z0-9_.-]/', $escape, str_replace(' ', '_', $name)) . '.wiki';

@@ -48,14 +48,15 @@ final class WithPage implements \ArrayAccess, \IteratorAggregate
     public function getIterator(): \Iterator
     {
         $own = ucfirst(trim((string) preg_replace('/[ _]+/', ' ', $this->title)));
-        yield $own => $this->text;
         if (!is_iterable($this->pages)) {
             throw new \InvalidArgumentException('the program needs pages that can be walked');
         }
         foreach ($this->pages as $name => $page) {
-            if ($name !== $own) {
-                yield $name => $page;
+            // A key of an array that is a number in letters is an `int`.
+            if (Program::fileName((string) $name) !== Program::fileName($own)) {
+                yield (string) $name => $page;
             }
         }
+        yield $own => $this->text;
     }
 }

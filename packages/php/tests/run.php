@@ -84,6 +84,9 @@ function tryCalls(Bughtiso $wiki): void
     check(str_contains($wiki->lint("'''b")[0]->sentence, 'apostrophes'), 'the sentence of a doubtful place');
     check($wiki->run(['gen', '1'])->status === 0, 'run');
     check($wiki->expand('a{{:Self}}b', [], 'Self') === 'aaTemplate loop: Selfbb', 'a page that calls itself');
+    foreach (['2024' => '2024', 'Main Page' => 'Main_Page', 'main page' => 'Main Page'] as $title => $name) {
+        check($wiki->expand('new {{T}}', [$name => 'old', 'Template:T' => 't'], (string) $title) === 'new t', "the page $title");
+    }
     $refusals = [
         [fn () => $wiki->edit($page, $edited, $pages), ['UnmarkedChange', null, 1, 'node', null]],
         [fn () => $wiki->html("a\xff"), ['PageNotUtf8', null, 1, 'byte of the page', null]],

@@ -5,7 +5,7 @@ import json
 import os
 from typing import Callable, Dict, Iterable, List, Mapping, NamedTuple, NewType, Optional, Sequence, Union
 
-from ._engines import Answer, Engine, engine
+from ._engines import Answer, Engine, engine, file_name
 from ._refusal import Refusal
 
 #: Wikitext or HTML: text, or its bytes in UTF-8.
@@ -107,9 +107,9 @@ class _WithPage:
 
     def names(self) -> Iterable[str]:
         words = " ".join(self._title.replace("_", " ").split())
-        own = words[:1].upper() + words[1:] if words[:1].isascii() else words
+        own = self._name = words[:1].upper() + words[1:] if words[:1].isascii() else words
+        yield from (name for name in self._pages if file_name(name) != file_name(own))
         yield own
-        yield from (name for name in self._pages if name != own)
 
 
 def _answer(command: str, text: Text, title: str, pages: Optional[Pages], data: bytes = b"") -> bytes:

@@ -145,7 +145,7 @@ class _Library(Engine):
 # ---------------------------------------------------------------- the program
 
 
-def _file_name(name: str) -> str:
+def file_name(name: str) -> str:
     """The file of a page, as the program names it."""
     kept = b"-_.ABCDEFGHIJKLMNOPQRSTUVWXYZabcdefghijklmnopqrstuvwxyz0123456789"
     return "".join(chr(b) if b in kept else f"%{b:02X}" for b in name.replace(" ", "_").encode()) + ".wiki"
@@ -169,7 +169,7 @@ class _Program(Engine):
 
 
 def _write_page(folder: str, name: str, page: Optional[bytes]) -> None:
-    file = _file_name(name)
+    file = file_name(name)
     # A page whose name has no file is one that can't be fetched, and the program says so where it is wanted.
     if page is not None and len(file) <= 255:
         with open(os.path.join(folder, file), "wb") as it:

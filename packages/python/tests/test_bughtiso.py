@@ -10,6 +10,7 @@ import threading
 import unittest
 from collections.abc import Mapping
 from pathlib import Path
+from unittest import mock
 from urllib.parse import quote
 
 sys.path.insert(0, str(Path(__file__).resolve().parent.parent))
@@ -150,6 +151,19 @@ class Calls(unittest.TestCase):
     def test_a_page_that_calls_itself(self):
         # The page isn't counted as being expanded, so it is read once as a template too.
         self.assertEqual(bughtiso.expand("a{{:Self}}b", title="Self"), "aaTemplate loop: Selfbb")
+
+
+class OwnPages(unittest.TestCase):
+    def test_the_page_of_the_call_is_its_text(self):
+        """Whatever the mapping has under its title, in words or as a file is named."""
+        for kind in ("library", "program"):
+            engine = available(kind)
+            if engine is None:
+                continue
+            for title, name in (("Main Page", "Main_Page"), ("Main_Page", "Main Page"), ("main page", "Main Page"), ("2024", "2024")):
+                with self.subTest(kind=kind, title=title, name=name), mock.patch("bughtiso._commands._engine", engine):
+                    pages = {name: "old", "Template:T": "t"}
+                    self.assertEqual(bughtiso.expand("new {{T}}", pages, title=title), "new t")
 
 
 class Versions(unittest.TestCase):

@@ -6,7 +6,9 @@ use Rattle.wt_span.specs.Comments.{comment_len, comment_line_len}
 use Rattle.wt_span.specs.Entities.{named_entity, entity_names, decimal_entity, hex_entity, entity_at}
 use Rattle.wt_span.specs.Lexemes.{sign_word, form_at, closed, words}
 use Rattle.wt_span.specs.Tags.{tag_after, opening_tag, closing_tag, with_inside, is_extension, raw_len, include_at}
-use Rattle.wt_text_edit_laws.specs.TextBetween.{AreWholeLines, HasEnds, HaveNoClosers, StandsBefore, StandsBehind}
+use Rattle.wt_expand.specs.PageItems.{page_items}
+use Rattle.wt_text_edit_laws.specs.NoCalls.{CallsNothing}
+use Rattle.wt_text_edit_laws.specs.TextBetween.{AreWholeLines, HasEnds, BeginsShown, HaveNoClosers, StandsBefore, StandsBehind}
 
 -- ---- before a text
 
@@ -68,6 +70,20 @@ alone : StandsBefore (codes "a\n <!-- c --> <!-- d -->\n")
 unfolding comment_len comment_line_len named_entity entity_names decimal_entity hex_entity entity_at sign_word form_at closed words tag_after opening_tag closing_tag with_inside is_extension raw_len include_at
 alone = record { ends = refl; has_ends = (refl, (refl, (refl, refl))); uncalled = (tt, (tt, tt)) }
 
+-- and behind the lines a comment and an include tag
+marked : StandsBefore (codes "a\n<!-- c --><noinclude>")
+unfolding comment_len comment_line_len named_entity entity_names decimal_entity hex_entity entity_at sign_word form_at closed words tag_after opening_tag closing_tag with_inside is_extension raw_len include_at
+marked = record { ends = refl; has_ends = (refl, (refl, (refl, (refl, refl)))); uncalled = (tt, (tt, (tt, tt))) }
+
+-- what follows these is something visible, or the page's end, and no line of comments and blanks
+seen : BeginsShown (codes " a\n")
+unfolding comment_len
+seen = refl
+
+blank_line : BeginsShown (codes " <!-- c -->\n") → ⊥
+unfolding comment_len
+blank_line h = absurd (cc)
+
 -- a line that doesn't end, and a call
 unended : AreWholeLines (codes "a") → ⊥
 unended h = absurd (cc)
@@ -114,3 +130,15 @@ commented = record { uncommented = refl; uncalled = (tt, (tt, (tt, (tt, tt)))) }
 beside : StandsBehind (codes " <!-- c -->\n") → ⊥
 unfolding comment_len comment_line_len named_entity entity_names decimal_entity hex_entity entity_at sign_word form_at closed words tag_after opening_tag closing_tag with_inside is_extension raw_len include_at
 beside h = let e = h.uncommented in absurd (cc)
+
+-- ---- braces
+
+-- two that close before two that open, and two that nothing closes behind a comment with a call in it
+unpaired : CallsNothing (page_items (codes "}} a {{ b } <!-- {{c}} -->"))
+unfolding page_items comment_len comment_line_len named_entity entity_names decimal_entity hex_entity entity_at sign_word form_at closed words tag_after opening_tag closing_tag with_inside is_extension raw_len include_at
+unpaired = tt
+
+-- two that open before two that close
+paired : CallsNothing (page_items (codes "{{ a }}")) → ⊥
+unfolding page_items comment_len comment_line_len named_entity entity_names decimal_entity hex_entity entity_at sign_word form_at closed words tag_after opening_tag closing_tag with_inside is_extension raw_len include_at
+paired h = h

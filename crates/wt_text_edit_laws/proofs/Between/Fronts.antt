@@ -1,4 +1,4 @@
--- Lines that have their ends read the same before whatever is read behind them; and so a text between two parts of a page.
+-- Parts of a page in which what begins ends are read the same before what is read behind them.
 use Rattle.std.proofs.Common.{arith, ◌≡◌, ℕ, zero, suc, ◌-◌, ◌≤◌, ◌==◌, Bool, true, false, Option, Some, None, List, [], ◌∷◌, ◌++◌, length, take, drop, refl, sym, ap, ◌∙◌, subst, append_assoc}
 use Rattle.std.specs.Prelude.{if◌then◌else◌}
 use Rattle.std.proofs.lemmas.List.{take-append-le}
@@ -10,22 +10,16 @@ use Rattle.wt_span.specs.Items.{Item, char}
 use Rattle.wt_span.specs.Lexemes.{Word, Cut, cuts, closed, words, form_at}
 use Rattle.wt_lex.proofs.AllForms.{form_fits}
 use Rattle.wt_lex.proofs.Cuts.{cuts_cons}
-use Rattle.wt_expand.specs.PageCalls.{expanded_page}
 use Rattle.wt_expand.specs.PageItems.{items_of_word, page_items}
-use Rattle.wt_expand.specs.Work.{Pages, first_refusal}
-use Rattle.wt_expand.specs.Expansion.{page_work}
 use Rattle.wt_scans.specs.Lexer.{lexer}
 use Rattle.wt_scans.specs.Scans.{after_all, skipped_by, Settles}
-use Rattle.wt_text_edit_laws.specs.LonePages.{of_items}
-use Rattle.wt_text_edit_laws.specs.TypedPages.{IsTypedPage}
 use Rattle.wt_text_edit_laws.proofs.Texts.TypedItems.{items_cut, closed_items}
-use Rattle.wt_text_edit_laws.proofs.Texts.TypedText.{IsNoCloser, HaveNoClosers, shown_expanded, shown_unrefused}
+use Rattle.wt_text_edit_laws.proofs.Texts.TypedText.{IsNoCloser, HaveNoClosers}
 use Rattle.wt_text_edit_laws.proofs.Prose.Uncommented.{BeginsUncommented, either_flag}
 use Rattle.wt_text_edit_laws.proofs.Prose.InFront.{Reads, shown_closed}
-use Rattle.wt_text_edit_laws.proofs.Prose.ProseReading.{page_front}
 use Rattle.wt_text_edit_laws.specs.TextBetween as is_spec
-use Rattle.wt_text_edit_laws.specs.TextBetween.{StandsBefore, StandsBehind}
-use Rattle.wt_text_edit_laws.proofs.Between.LineForms.{lines_settle}
+use Rattle.wt_text_edit_laws.specs.TextBetween.{AreWholeLines, BeginsShown, StandsBefore, StandsBehind}
+use Rattle.wt_text_edit_laws.proofs.Between.LineForms.{lines_settle, marks_settle}
 
 -- ---- lexemes that aren't runs of closing braces
 
@@ -110,7 +104,7 @@ form_from a b bs kind j f =
     ∙ ap (λ (n : ℕ). items_cut (b ∷ bs) (0, (kind, suc j) ∷ closed (cuts Page (is_break b) n bs).0 (cuts Page (is_break b) n bs).1)) z
     ∙ ap (λ ys. items_of_word kind (b ∷ take j bs) ++ ys) (closed_items (drop j bs) (cuts Page (is_break b) j bs))
 
-words_by : (a : Bool) (b : ℕ) (bs : List ℕ) → form_at Page a (b ∷ bs) ≡ None → (cuts Page a 0 (b ∷ bs)).1 ≡ (cuts Page (is_break b) 0 bs).1
+pub words_by : (a : Bool) (b : ℕ) (bs : List ℕ) → form_at Page a (b ∷ bs) ≡ None → (cuts Page a 0 (b ∷ bs)).1 ≡ (cuts Page (is_break b) 0 bs).1
 words_by a b bs f = ap (λ (c : Cut). c.1) (cuts_cons Page a b bs None f)
 
 pub words_from : (a : Bool) (b : ℕ) (bs : List ℕ) (kind : LexKind) (j : ℕ) → form_at Page a (b ∷ bs) ≡ Some (kind, suc j)
@@ -167,15 +161,24 @@ joined rest xs a zero (b ∷ q) h r =
 
 -- ---- what stands before, and what stands behind
 
-pub before_reads : (bs rest : List ℕ) (xs : List Item) → StandsBefore bs → ReadsAfter (after_all (lexer Page) false bs) rest xs
-    → ReadsAfter false (bs ++ rest) (page_items bs ++ xs)
-before_reads bs rest xs h r =
-    let j = joined rest xs false 0 bs (lines_settle rest false 0 bs h.ends h.has_ends) r in
+front_reads : (bs rest : List ℕ) (xs : List Item) → Settles (lexer Page) rest false 0 bs → is_spec.HaveNoClosers (words Page bs)
+    → ReadsAfter (after_all (lexer Page) false bs) rest xs → ReadsAfter false (bs ++ rest) (page_items bs ++ xs)
+front_reads bs rest xs s h r =
+    let j = joined rest xs false 0 bs s r in
     let items : items_from false 0 (bs ++ rest) ≡ items_from false 0 bs ++ xs = j.items in
     record {
       items = sym (first_from false (bs ++ rest)) ∙ items ∙ ap (λ ys. ys ++ xs) (first_from false bs ∙ sym (first_items bs));
-      shown = j.shown (words_shown bs h.uncalled);
+      shown = j.shown (words_shown bs h);
     }
+
+pub before_reads : (bs rest : List ℕ) (xs : List Item) → StandsBefore bs → BeginsShown rest → ReadsAfter (after_all (lexer Page) false bs) rest xs
+    → ReadsAfter false (bs ++ rest) (page_items bs ++ xs)
+before_reads bs rest xs h s r = front_reads bs rest xs (marks_settle rest false 0 bs s h.ends h.has_ends) h.uncalled r
+
+-- behind lines, whatever follows them
+pub lines_read : (bs rest : List ℕ) (xs : List Item) → AreWholeLines bs → StandsBefore bs → ReadsAfter (after_all (lexer Page) false bs) rest xs
+    → ReadsAfter false (bs ++ rest) (page_items bs ++ xs)
+lines_read bs rest xs l h r = front_reads bs rest xs (lines_settle rest false 0 bs l h.has_ends) h.uncalled r
 
 -- by itself
 pub alone_reads : (bs : List ℕ) → is_spec.HaveNoClosers (words Page bs) → ReadsAfter false bs (page_items bs)
@@ -183,25 +186,3 @@ alone_reads bs h = record { items = sym (first_items bs); shown = words_shown bs
 
 pub behind_reads : (bs : List ℕ) → StandsBehind bs → Reads bs (page_items bs)
 behind_reads bs h = reads_either bs (page_items bs) (record { is = h.uncommented }) (alone_reads bs h.uncalled)
-
--- ---- a text between them
-
-between_reads : (bs q cs : List ℕ) → StandsBefore bs → IsTypedPage q → StandsBehind cs
-    → ReadsAfter false (bs ++ (q ++ cs)) (page_items bs ++ (page_items q ++ page_items cs))
-between_reads bs q cs b h c =
-    let r : Reads (q ++ cs) (page_items q ++ page_items cs) = page_front q cs (page_items cs) h (behind_reads cs c) in
-    before_reads bs (q ++ cs) (page_items q ++ page_items cs) b (reads_after (after_all (lexer Page) false bs) (q ++ cs) (page_items q ++ page_items cs) r)
-
-pub items_between : (bs q cs : List ℕ) → StandsBefore bs → IsTypedPage q → StandsBehind cs
-    → page_items (bs ++ (q ++ cs)) ≡ page_items bs ++ (page_items q ++ page_items cs)
-items_between bs q cs b h c = page_read (bs ++ (q ++ cs)) (page_items bs ++ (page_items q ++ page_items cs)) (between_reads bs q cs b h c)
-
-pub expanded_between : (pages : Pages) (bs q cs : List ℕ) → StandsBefore bs → IsTypedPage q → StandsBehind cs
-    → expanded_page pages (bs ++ (q ++ cs)) ≡ of_items (page_items (bs ++ (q ++ cs)))
-expanded_between pages bs q cs b h c =
-    shown_expanded pages (bs ++ (q ++ cs)) (page_words (bs ++ (q ++ cs)) (page_items bs ++ (page_items q ++ page_items cs)) (between_reads bs q cs b h c))
-
-pub unrefused_between : (pages : Pages) (bs q cs : List ℕ) → StandsBefore bs → IsTypedPage q → StandsBehind cs
-    → first_refusal pages (bs ++ (q ++ cs)) (page_work pages (bs ++ (q ++ cs))) ≡ None
-unrefused_between pages bs q cs b h c =
-    shown_unrefused pages (bs ++ (q ++ cs)) (page_words (bs ++ (q ++ cs)) (page_items bs ++ (page_items q ++ page_items cs)) (between_reads bs q cs b h c))

@@ -1,38 +1,46 @@
--- Comments that begin lines and end in them: the same whatever follows the lines, and before their end.
+-- Comments that begin lines, or what ends with a comment or tag, and end in them: the same whatever follows, and in lines before their end.
 use Rattle.std.proofs.Common.{arith, ◌≡◌, ℕ, zero, suc, ◌+◌, ◌-◌, ◌<◌, ◌≤◌, Bool, true, false, Option, Some, None, List, [], ◌∷◌, ◌++◌, length, get_or, take, drop, refl, sym, ap, ◌∙◌, subst, length-drop}
-use Rattle.std.specs.Prelude.{◌||◌, if◌then◌else◌, codes}
+use Rattle.std.specs.Prelude.{◌==◌, ◌||◌, if◌then◌else◌, codes}
 use Rattle.std.proofs.lemmas.List.{drop-append-le}
 use Rattle.std.proofs.Math.Seq.{take-append_seam}
-use Rattle.wt_span.specs.Bytes.{is_blank, begins, through}
+use Rattle.wt_span.specs.Bytes.{is_blank, is_break, begins, through}
 use Rattle.wt_span.specs.Comments.{comment_len, remarks_len, remarks_with}
 use Rattle.wt_lex.proofs.Begins.{begins_len}
 use Rattle.wt_lex.proofs.Forms.{OptFits, comment_fits}
 use Rattle.wt_lex.proofs.Fronts.{begins_front, begins_none}
 use Rattle.wt_spelling_laws.specs.Reading.{stands}
-use Rattle.wt_text_edit_laws.specs.TextBetween.{AreWholeLines, ends_comment}
-use Rattle.wt_text_edit_laws.proofs.Between.LineWords.{unbroken, word_within}
+use Rattle.wt_text_edit_laws.specs.TextBetween.{EndsBy, AreWholeLines, is_end, AreEnded, ends_comment}
+use Rattle.wt_text_edit_laws.proofs.Between.LineWords.{lacks, word_before, unbroken_front, word_up_to}
 
 -- ---- lines
 
-pub ends_behind : (b : ℕ) (q : List ℕ) → AreWholeLines (b ∷ q) → AreWholeLines q
-ends_behind b [] e = tt
-ends_behind b (c ∷ q) e = e
+pub ends_behind : (test : ℕ → Bool) (b : ℕ) (q : List ℕ) → EndsBy test (b ∷ q) → EndsBy test q
+ends_behind test b [] e = tt
+ends_behind test b (c ∷ q) e = e
 
-pub ends_dropped : (n : ℕ) (q : List ℕ) → AreWholeLines q → AreWholeLines (drop n q)
-ends_dropped zero [] e = tt
-ends_dropped zero (b ∷ q) e = e
-ends_dropped (suc n) [] e = tt
-ends_dropped (suc n) (b ∷ q) e = ends_dropped n q (ends_behind b q e)
+pub ends_dropped : (test : ℕ → Bool) (n : ℕ) (q : List ℕ) → EndsBy test q → EndsBy test (drop n q)
+ends_dropped test zero [] e = tt
+ends_dropped test zero (b ∷ q) e = e
+ends_dropped test (suc n) [] e = tt
+ends_dropped test (suc n) (b ∷ q) e = ends_dropped test n q (ends_behind test b q e)
 
-pub last_break : (b : ℕ) (q rest : List ℕ) → AreWholeLines (b ∷ q) → get_or ((b ∷ q) ++ rest) (length q) 0 ≡ 10
-last_break b [] rest e = e
-last_break b (c ∷ q) rest e = last_break c q rest e
+pub last_end : (test : ℕ → Bool) (b : ℕ) (q rest : List ℕ) → EndsBy test (b ∷ q) → test (get_or ((b ∷ q) ++ rest) (length q) 0) ≡ true
+last_end test b [] rest e = e
+last_end test b (c ∷ q) rest e = last_end test c q rest e
 
-last_alone : (b : ℕ) (q : List ℕ) → AreWholeLines (b ∷ q) → get_or (b ∷ q) (length q) 0 ≡ 10
-last_alone b [] e = e
-last_alone b (c ∷ q) e = last_alone c q e
+last_alone : (test : ℕ → Bool) (b : ℕ) (q : List ℕ) → EndsBy test (b ∷ q) → test (get_or (b ∷ q) (length q) 0) ≡ true
+last_alone test b [] e = e
+last_alone test b (c ∷ q) e = last_alone test c q e
 
-begins_same : (w : List ℕ) (b : ℕ) (q rest : List ℕ) → unbroken w ≡ true → AreWholeLines (b ∷ q) → begins w ((b ∷ q) ++ rest) ≡ begins w (b ∷ q)
+break_ends : (b : ℕ) → is_break b ≡ true → is_end b ≡ true
+break_ends b e = ap (λ (v : Bool). v || b == 62) e
+
+pub lines_ended : (q : List ℕ) → AreWholeLines q → AreEnded q
+lines_ended [] l = tt
+lines_ended (b ∷ []) l = break_ends b l
+lines_ended (b ∷ c ∷ q) l = lines_ended (c ∷ q) l
+
+begins_same : (w : List ℕ) (b : ℕ) (q rest : List ℕ) → unbroken_front w ≡ true → AreEnded (b ∷ q) → begins w ((b ∷ q) ++ rest) ≡ begins w (b ∷ q)
 begins_same w b q rest u l = by (begins w bs) refl
   where
     bs : List ℕ
@@ -43,17 +51,17 @@ begins_same w b q rest u l = by (begins w bs) refl
 
     by : (t : Bool) → begins w bs ≡ t → t ≡ begins w (b ∷ q)
     by true e =
-        let le = word_within w bs (length q) e u (last_break b q rest l) in
+        let le = word_up_to w bs (length q) e u (last_end is_end b q rest l) in
         sym (begins_front w bs (suc (length q)) (omega (arith, le)) e) ∙ ap (begins w) cut
     by false e = sym (begins_none w bs (suc (length q)) e) ∙ ap (begins w) cut
 
 -- ---- comments
 
-through_same : (w ys rest : List ℕ) → unbroken w ≡ true → AreWholeLines ys → stands w ys ≡ true → through w (ys ++ rest) ≡ through w ys
+through_same : (w ys rest : List ℕ) → unbroken_front w ≡ true → AreEnded ys → stands w ys ≡ true → through w (ys ++ rest) ≡ through w ys
 through_same w [] rest u l h = cc
 through_same w (b ∷ ys) rest u l h =
     ap (λ (t : Bool). if t then length w else 1 + through w (ys ++ rest)) (begins_same w b ys rest u l)
-    ∙ by (begins w (b ∷ ys)) h (λ f. through_same w ys rest u (ends_behind b ys l) f)
+    ∙ by (begins w (b ∷ ys)) h (λ f. through_same w ys rest u (ends_behind is_end b ys l) f)
   where
     by : (t : Bool) → (t || stands w ys) ≡ true → (stands w ys ≡ true → through w (ys ++ rest) ≡ through w ys)
         → (if t then length w else 1 + through w (ys ++ rest)) ≡ (if t then length w else 1 + through w ys)
@@ -61,13 +69,13 @@ through_same w (b ∷ ys) rest u l h =
     by false h f = ap (λ (n : ℕ). 1 + n) (f h)
 
 -- a word that stands in lines ends before their end
-through_short : (w ys : List ℕ) → unbroken w ≡ true → AreWholeLines ys → stands w ys ≡ true → through w ys < length ys
+through_short : (w ys : List ℕ) → lacks is_break w ≡ true → AreWholeLines ys → stands w ys ≡ true → through w ys < length ys
 through_short w [] u l h = cc
-through_short w (b ∷ ys) u l h = by (begins w (b ∷ ys)) refl h (λ f. through_short w ys u (ends_behind b ys l) f)
+through_short w (b ∷ ys) u l h = by (begins w (b ∷ ys)) refl h (λ f. through_short w ys u (ends_behind is_break b ys l) f)
   where
     by : (t : Bool) → begins w (b ∷ ys) ≡ t → (t || stands w ys) ≡ true → (stands w ys ≡ true → through w ys < length ys)
         → (if t then length w else 1 + through w ys) < suc (length ys)
-    by true e h f = let le = word_within w (b ∷ ys) (length ys) e u (last_alone b ys l) in omega (arith, le)
+    by true e h f = let le = word_before is_break w (b ∷ ys) (length ys) e u (last_alone is_break b ys l) in omega (arith, le)
     by false e h f = let less = f h in omega (arith, less)
 
 found : (w ys : List ℕ) → through w ys < length ys → stands w ys ≡ true
@@ -78,7 +86,7 @@ found w (b ∷ ys) h = by (begins w (b ∷ ys)) h (λ f. found w ys f)
     by true h f = refl
     by false h f = f (omega arith)
 
-pub comment_same : (b : ℕ) (q rest : List ℕ) → AreWholeLines (b ∷ q) → ends_comment (b ∷ q) ≡ true → comment_len ((b ∷ q) ++ rest) ≡ comment_len (b ∷ q)
+pub comment_same : (b : ℕ) (q rest : List ℕ) → AreEnded (b ∷ q) → ends_comment (b ∷ q) ≡ true → comment_len ((b ∷ q) ++ rest) ≡ comment_len (b ∷ q)
 unfolding comment_len
 comment_same b q rest l h =
     let bs : List ℕ = (b ∷ q) ++ rest in
@@ -93,7 +101,7 @@ comment_same b q rest l h =
     by true e h =
         let long = begins_len (codes "<!--") (b ∷ q) e in
         ap (λ (ys : List ℕ). Some (4 + through (codes "-->") ys)) (drop-append-le 4 (b ∷ q) rest (omega (arith, long)))
-        ∙ ap (λ (n : ℕ). Some (4 + n)) (through_same (codes "-->") inside rest refl (ends_dropped 4 (b ∷ q) l) h)
+        ∙ ap (λ (n : ℕ). Some (4 + n)) (through_same (codes "-->") inside rest refl (ends_dropped is_end 4 (b ∷ q) l) h)
     by false e h = refl
 
 -- a comment that ends in lines ends before their end
@@ -106,7 +114,7 @@ comment_short b q c l h e = by (begins (codes "<!--") (b ∷ q)) h e
 
     by : (t : Bool) → (if t then stands (codes "-->") inside else true) ≡ true → (if t then Some (4 + through (codes "-->") inside) else None) ≡ Some c → c < suc (length q)
     by true h e =
-        let less = through_short (codes "-->") inside refl (ends_dropped 4 (b ∷ q) l) h in
+        let less = through_short (codes "-->") inside refl (ends_dropped is_break 4 (b ∷ q) l) h in
         let is : 4 + through (codes "-->") inside ≡ c = cc in
         omega (arith, less, is, length-drop 4 (b ∷ q))
     by false h e = cc
@@ -147,11 +155,11 @@ comment_within b bs c e =
     omega (arith, f.within)
 
 -- where they end before the end of lines, they are the same whatever follows the lines
-pub remarks_same : (k : ℕ) (ys rest : List ℕ) → AreWholeLines ys → remarks_len k ys < length ys → remarks_len k (ys ++ rest) ≡ remarks_len k ys
+pub remarks_same : (k : ℕ) (ys rest : List ℕ) → AreEnded ys → remarks_len k ys < length ys → remarks_len k (ys ++ rest) ≡ remarks_len k ys
 remarks_same zero [] rest l h = absurd (omega arith)
 remarks_same (suc k) [] rest l h = absurd (omega arith)
-remarks_same (suc k) (b ∷ ys) rest l h = ap (λ (n : ℕ). 1 + n) (remarks_same k ys rest (ends_behind b ys l) (omega arith))
-remarks_same zero (b ∷ ys) rest l h = by (comment_len (b ∷ ys)) refl h (λ k f. remarks_same k ys rest (ends_behind b ys l) f)
+remarks_same (suc k) (b ∷ ys) rest l h = ap (λ (n : ℕ). 1 + n) (remarks_same k ys rest (ends_behind is_end b ys l) (omega arith))
+remarks_same zero (b ∷ ys) rest l h = by (comment_len (b ∷ ys)) refl h (λ k f. remarks_same k ys rest (ends_behind is_end b ys l) f)
   where
     Rest : Type 0
     Rest = (k : ℕ) → remarks_len k ys < length ys → remarks_len k (ys ++ rest) ≡ remarks_len k ys

@@ -1,7 +1,8 @@
--- The lexemes of lines in which what begins ends: none goes over their end, whatever follows them.
-use Rattle.std.proofs.Common.{arith, ◌≡◌, ℕ, zero, suc, ◌+◌, ◌<◌, ◌≤◌, Bool, true, false, Option, Some, None, List, [], ◌∷◌, ◌++◌, length, nat_lt, refl, sym, ap, ◌∙◌, subst}
+-- The lexemes of lines in which what begins ends, and of what ends with a comment or tag: none goes over the end, whatever follows.
+use Rattle.std.proofs.Common.{arith, ◌≡◌, ℕ, zero, suc, ◌+◌, ◌<◌, ◌≤◌, Bool, true, false, Option, Some, None, List, [], ◌∷◌, ◌++◌, length, nat_lt, get_or, inl, inr, refl, sym, ap, ◌∙◌, subst}
 use Rattle.std.specs.Prelude.{◌&&◌, ◌||◌, is_some, if◌then◌else◌, slice_index}
 use Rattle.std.specs.Option.{unwrap_or}
+use Rattle.std.proofs.lemmas.Bool.{cases_lt}
 use Rattle.wt_span.specs.declared.form.Mode.TheVariants.{Page}
 use Rattle.wt_span.specs.declared.form.LexKind.{LexKind}
 use Rattle.wt_span.specs.declared.form.LexKind.TheVariants.{CommentLine, Comment, Raw, Include, Hidden}
@@ -16,10 +17,10 @@ use Rattle.wt_lex.proofs.TagForms.{OptTag, opening_fits, inside_fits}
 use Rattle.wt_scans.specs.Lexer.{lexer}
 use Rattle.wt_scans.specs.Scans.{skipped_by, Settles, IsFrontOf}
 use Rattle.wt_scans.proofs.LexemeFronts.{lexemes_front}
-use Rattle.wt_text_edit_laws.specs.TextBetween.{AreWholeLines, ends_comment, ends_tag, ends_here}
+use Rattle.wt_text_edit_laws.specs.TextBetween.{EndsBy, AreWholeLines, is_end, AreEnded, BeginsShown, ends_comment, ends_tag, ends_here}
 use Rattle.wt_text_edit_laws.proofs.Between.LineWords.{Within, or_within, signs_within, entity_within, entity_word_within}
-use Rattle.wt_text_edit_laws.proofs.Between.LineComments.{ends_behind, last_break, comment_same, remarks_same}
-use Rattle.wt_text_edit_laws.proofs.Between.LineRemarks.{AllEnd, remarks_short}
+use Rattle.wt_text_edit_laws.proofs.Between.LineComments.{ends_behind, last_end, lines_ended, comment_same, remarks_same}
+use Rattle.wt_text_edit_laws.proofs.Between.LineRemarks.{AllEnd, remarks_short, remarks_through}
 use Rattle.wt_text_edit_laws.proofs.Between.LineTags.{TagWithin, opening_within, closing_within, opening_here, IsFound, inside_same}
 
 -- ---- lengths
@@ -37,17 +38,17 @@ word_within_len k kind None h = tt
 word_within_len k kind (Some n) h = h
 
 -- what has its end in lines: a comment
-comment_word : (b : ℕ) (q rest : List ℕ) → AreWholeLines (b ∷ q) → ends_comment (b ∷ q) ≡ true → LenWithin (length q) (comment_len ((b ∷ q) ++ rest))
+comment_word : (b : ℕ) (q rest : List ℕ) → AreEnded (b ∷ q) → ends_comment (b ∷ q) ≡ true → LenWithin (length q) (comment_len ((b ∷ q) ++ rest))
 comment_word b q rest l h =
     let P : Option ℕ → Type 0 = LenWithin (length q) in
     subst P (sym (comment_same b q rest l h)) (fits_within (length q) (b ∷ q) (comment_len (b ∷ q)) (comment_fits (b ∷ q)) refl)
 
 -- lines of comments and blanks
-line_word : (a : Bool) (b : ℕ) (q rest : List ℕ) → AreWholeLines (b ∷ q) → remarks_len 0 (b ∷ q) < length (b ∷ q)
+line_ends : (a : Bool) (b : ℕ) (q rest : List ℕ) → AreEnded (b ∷ q) → remarks_len 0 (b ∷ q) < length (b ∷ q)
     → Within (length q) (comment_line_word a ((b ∷ q) ++ rest))
 unfolding comment_line_len
-line_word false b q rest l h = tt
-line_word true b q rest l h =
+line_ends false b q rest l h = tt
+line_ends true b q rest l h =
     let bs : List ℕ = (b ∷ q) ++ rest in
     let same = remarks_same 0 (b ∷ q) rest l h in
     by bs (nat_lt (blank_len bs) (remarks_len 0 bs) && is_break (slice_index bs (remarks_len 0 bs))) (omega (arith, same, h))
@@ -57,7 +58,7 @@ line_word true b q rest l h =
     by bs false le = tt
 
 -- a tag with its inside
-inside_within : (b : ℕ) (q rest : List ℕ) (t : Tag) → AreWholeLines (b ∷ q) → opening_tag (b ∷ q) ≡ Some t → IsFound (with_inside t (b ∷ q))
+inside_within : (b : ℕ) (q rest : List ℕ) (t : Tag) → AreEnded (b ∷ q) → opening_tag (b ∷ q) ≡ Some t → IsFound (with_inside t (b ∷ q))
     → (n : ℕ) × (with_inside t ((b ∷ q) ++ rest) ≡ Some n) × (n ≤ length q + 1)
 inside_within b q rest t l e h =
     let P : Option Tag → Type 0 = OptTag (b ∷ q) in
@@ -79,6 +80,10 @@ ended_tag : (t : Tag) (bs : List ℕ) (raw hidden : Bool) → (if raw || hidden 
     → (raw || hidden) ≡ true → IsFound (with_inside t bs)
 ended_tag t bs raw hidden h e = as_found (with_inside t bs) (ap (λ (v : Bool). if v then is_some (with_inside t bs) else true) (sym e) ∙ h)
 
+and_none : (u v : Bool) → v ≡ false → (u && v) ≡ false
+and_none true v e = e
+and_none false v e = refl
+
 or_left : (u v : Bool) → u ≡ true → (u || v) ≡ true
 or_left true v e = refl
 or_left false v e = cc
@@ -93,7 +98,7 @@ EndsTag bs = ends_tag (opening_tag bs) bs ≡ true
 tag_ended : (bs : List ℕ) (t : Tag) → opening_tag bs ≡ Some t → EndsTag bs → (if is_raw_name t.name || hides Page t.name then is_some (with_inside t bs) else true) ≡ true
 tag_ended bs t e h = sym (ap (λ o. ends_tag o bs) e) ∙ h
 
-raw_word : (b : ℕ) (q rest : List ℕ) → AreWholeLines (b ∷ q) → EndsTag (b ∷ q) → LenWithin (length q) (raw_len ((b ∷ q) ++ rest))
+raw_word : (b : ℕ) (q rest : List ℕ) → AreEnded (b ∷ q) → EndsTag (b ∷ q) → LenWithin (length q) (raw_len ((b ∷ q) ++ rest))
 unfolding raw_len
 raw_word b q rest l h = by (opening_tag bs) refl
   where
@@ -113,11 +118,11 @@ raw_word b q rest l h = by (opening_tag bs) refl
     by None e = tt
     by (Some t) e = named t (is_raw_name t.name) refl e
 
-include_word : (b : ℕ) (q rest : List ℕ) → AreWholeLines (b ∷ q) → EndsTag (b ∷ q) → Within (length q) (include_at Page ((b ∷ q) ++ rest))
+include_word : (b : ℕ) (q rest : List ℕ) → AreEnded (b ∷ q) → EndsTag (b ∷ q) → Within (length q) (include_at Page ((b ∷ q) ++ rest))
 unfolding include_at
 include_word b q rest l h =
     or_within (length q) (opening_include Page (opening_tag bs) bs) (closing_include Page (closing_tag bs)) (opens (opening_tag bs) refl)
-    (closes (closing_tag bs) (closing_within (length q) bs (last_break b q rest l)))
+    (closes (closing_tag bs) (closing_within (length q) bs (last_end is_end b q rest l)))
   where
     bs : List ℕ
     bs = (b ∷ q) ++ rest
@@ -140,7 +145,7 @@ include_word b q rest l h =
 
     opens : (o : Option Tag) → opening_tag bs ≡ o → Within (length q) (opening_include Page o bs)
     opens None e = tt
-    opens (Some t) e = by (hides Page t.name) refl (is_left_out Page t.name) (subst (TagWithin (length q)) e (opening_within (length q) bs (last_break b q rest l)))
+    opens (Some t) e = by (hides Page t.name) refl (is_left_out Page t.name) (subst (TagWithin (length q)) e (opening_within (length q) bs (last_end is_end b q rest l)))
       where
         by : (v : Bool) → hides Page t.name ≡ v → (u : Bool) → t.len ≤ length q + 1
             → Within (length q) (if v then Some (Hidden, hidden_len t bs) else (if u then Some (Include, t.len) else None))
@@ -150,16 +155,16 @@ include_word b q rest l h =
 
 -- ---- any lexeme
 
-within_lines : (a : Bool) (b : ℕ) (q rest : List ℕ) → AreWholeLines (b ∷ q) → ends_here (b ∷ q) ≡ true → remarks_len 0 (b ∷ q) < length (b ∷ q)
-    → Within (length q) (form_at Page a ((b ∷ q) ++ rest))
+within_lines : (a : Bool) (b : ℕ) (q rest : List ℕ) → AreEnded (b ∷ q) → ends_here (b ∷ q) ≡ true
+    → Within (length q) (comment_line_word a ((b ∷ q) ++ rest)) → Within (length q) (form_at Page a ((b ∷ q) ++ rest))
 unfolding form_at
-within_lines a b q rest l h less =
+within_lines a b q rest l h line =
     let bs : List ℕ = (b ∷ q) ++ rest in
     let k : ℕ = length q in
-    let g = last_break b q rest l in
+    let g = last_end is_end b q rest l in
     let comment = and_left (ends_comment (b ∷ q)) (ends_tag (opening_tag (b ∷ q)) (b ∷ q)) h in
     let tag = and_right (ends_comment (b ∷ q)) (ends_tag (opening_tag (b ∷ q)) (b ∷ q)) h in
-    or_within k (comment_line_word a bs) _ (line_word a b q rest l less)
+    or_within k (comment_line_word a bs) _ line
     (or_within k (as_word Comment (comment_len bs)) _ (word_within_len k Comment (comment_len bs) (comment_word b q rest l comment))
     (or_within k (as_word Raw (raw_len bs)) _ (word_within_len k Raw (raw_len bs) (raw_word b q rest l tag))
     (or_within k (include_at Page bs) _ (include_word b q rest l tag)
@@ -169,14 +174,65 @@ front_of : (b : ℕ) (q : List ℕ) (o p : Option Word) → IsFrontOf (lexer Pag
 front_of b q None p f h = sym f
 front_of b q (Some w) p f h = sym (f (omega (arith, h)))
 
-form_settles : (a : Bool) (b : ℕ) (q rest : List ℕ) → AreWholeLines (b ∷ q) → AllEnd a 0 (b ∷ q) → form_at Page a ((b ∷ q) ++ rest) ≡ form_at Page a (b ∷ q)
-form_settles a b q rest l h =
-    front_of b q (form_at Page a ((b ∷ q) ++ rest)) (form_at Page a (b ∷ q)) (lexemes_front Page a (b ∷ q) rest)
-    (within_lines a b q rest l h.0 (remarks_short a 0 (b ∷ q) l (omega arith) h))
+-- none of a line of comments and blanks goes over it
+abbrev LineWithin : List ℕ → List ℕ → Type 0
+LineWithin rest [] = Unit {0}
+LineWithin rest (b ∷ q) = (a : Bool) → AllEnd a 0 (b ∷ q) → Within (length q) (comment_line_word a ((b ∷ q) ++ rest))
 
--- what follows such lines changes none of their lexemes
+form_settles : (a : Bool) (b : ℕ) (q rest : List ℕ) → AreEnded (b ∷ q) → AllEnd a 0 (b ∷ q) → LineWithin rest (b ∷ q)
+    → form_at Page a ((b ∷ q) ++ rest) ≡ form_at Page a (b ∷ q)
+form_settles a b q rest l h line =
+    front_of b q (form_at Page a ((b ∷ q) ++ rest)) (form_at Page a (b ∷ q)) (lexemes_front Page a (b ∷ q) rest)
+    (within_lines a b q rest l h.0 (line a h))
+
+-- what follows changes none of the lexemes, where it ends no line of comments and blanks that begins before it
+settle_by : (test : ℕ → Bool) (rest : List ℕ) → ((q : List ℕ) → EndsBy test q → AreEnded q × LineWithin rest q)
+    → (a : Bool) (n : ℕ) (q : List ℕ) → EndsBy test q → AllEnd a n q → Settles (lexer Page) rest a n q
+settle_by test rest f a n [] l h = h
+settle_by test rest f a (suc n) (b ∷ q) l h = settle_by test rest f (is_break b) n q (ends_behind test b q l) h
+settle_by test rest f a zero (b ∷ q) l h = (
+  form_settles a b q rest (f (b ∷ q) l).0 h (f (b ∷ q) l).1,
+  settle_by test rest f (is_break b) (skipped_by (lexer Page) (form_at Page a (b ∷ q))) q (ends_behind test b q l) h.1,
+)
+
+-- ---- behind lines
+
+line_within : (rest q : List ℕ) → AreWholeLines q → LineWithin rest q
+line_within rest [] l = tt
+line_within rest (b ∷ q) l = λ a h. line_ends a b q rest (lines_ended (b ∷ q) l) (remarks_short a 0 (b ∷ q) l (omega arith) h)
+
 pub lines_settle : (rest : List ℕ) (a : Bool) (n : ℕ) (q : List ℕ) → AreWholeLines q → AllEnd a n q → Settles (lexer Page) rest a n q
-lines_settle rest a n [] l h = h
-lines_settle rest a (suc n) (b ∷ q) l h = lines_settle rest (is_break b) n q (ends_behind b q l) h
-lines_settle rest a zero (b ∷ q) l h =
-    (form_settles a b q rest l h, lines_settle rest (is_break b) (skipped_by (lexer Page) (form_at Page a (b ∷ q))) q (ends_behind b q l) h.1)
+lines_settle rest a n q l h = settle_by is_break rest (λ q l. (lines_ended q l, line_within rest q l)) a n q l h
+
+-- ---- behind a comment or tag
+
+get_behind : (xs ys : List ℕ) (i : ℕ) → get_or (xs ++ ys) (length xs + i) 0 ≡ get_or ys i 0
+get_behind [] ys i = let f : 0 + i ≡ i = omega arith in ap (λ (j : ℕ). get_or ys j 0) f
+get_behind (x ∷ xs) ys i =
+    let f : suc (length xs) + i ≡ suc (length xs + i) = omega arith in
+    ap (λ (j : ℕ). get_or (x ∷ (xs ++ ys)) j 0) f ∙ get_behind xs ys i
+
+no_line_by : (a : Bool) (bs : List ℕ) (n k : ℕ) → remarks_len 0 bs ≡ n → is_break (slice_index bs n) ≡ false → Within k (comment_line_word a bs)
+unfolding comment_line_len
+no_line_by false bs n k e f = tt
+no_line_by true bs n k e f =
+    let g : is_break (slice_index bs (remarks_len 0 bs)) ≡ false = ap (λ (i : ℕ). is_break (slice_index bs i)) e ∙ f in
+    let none : (nat_lt (blank_len bs) (remarks_len 0 bs) && is_break (slice_index bs (remarks_len 0 bs))) ≡ false =
+    and_none (nat_lt (blank_len bs) (remarks_len 0 bs)) (is_break (slice_index bs (remarks_len 0 bs))) g in
+    subst (λ (t : Bool). Within k (as_word CommentLine (if t then Some (remarks_len 0 bs + 1) else None))) (sym none) tt
+
+line_through : (a : Bool) (b : ℕ) (q rest : List ℕ) → AreEnded (b ∷ q) → AllEnd a 0 (b ∷ q) → BeginsShown rest
+    → Within (length q) (comment_line_word a ((b ∷ q) ++ rest))
+line_through a b q rest l h s = elim (cases_lt (remarks_len 0 (b ∷ q)) (length (b ∷ q))) [
+  | inl less ↦ line_ends a b q rest l less
+  | inr all ↦
+      no_line_by a ((b ∷ q) ++ rest) (length (b ∷ q) + remarks_len 0 rest) (length q) (remarks_through rest a 0 (b ∷ q) l h all)
+      (ap is_break (get_behind (b ∷ q) rest (remarks_len 0 rest)) ∙ s)
+]
+
+shown_within : (rest q : List ℕ) → BeginsShown rest → AreEnded q → LineWithin rest q
+shown_within rest [] s l = tt
+shown_within rest (b ∷ q) s l = λ a h. line_through a b q rest l h s
+
+pub marks_settle : (rest : List ℕ) (a : Bool) (n : ℕ) (q : List ℕ) → BeginsShown rest → AreEnded q → AllEnd a n q → Settles (lexer Page) rest a n q
+marks_settle rest a n q s l h = settle_by is_end rest (λ q l. (l, shown_within rest q s l)) a n q l h

@@ -1,5 +1,6 @@
--- Comments and blanks at a line's start, in lines in which what begins ends: they end before the end of the lines.
-use Rattle.std.proofs.Common.{arith, ◌≡◌, ◌⊎◌, inl, inr, ℕ, zero, suc, ◌+◌, ◌-◌, ◌<◌, ◌==◌, Bool, true, false, Option, Some, None, List, [], ◌∷◌, length, nat_lt, refl, sym, ap, ◌∙◌, subst}
+-- Comments and blanks at a line's start, in lines in which what begins ends: they end before the end of the lines. In what ends with a comment
+-- or tag they may go on in what follows it.
+use Rattle.std.proofs.Common.{arith, ◌≡◌, ◌⊎◌, inl, inr, ℕ, zero, suc, ◌+◌, ◌-◌, ◌<◌, ◌==◌, Bool, true, false, Option, Some, None, List, [], ◌∷◌, ◌++◌, ◌≤◌, length, nat_lt, refl, sym, ap, ◌∙◌, subst}
 use Rattle.std.specs.Prelude.{◌&&◌, if◌then◌else◌, slice_index}
 use Rattle.std.specs.Option.{option_or}
 use Rattle.std.proofs.lemmas.Bool.{eqb-true}
@@ -15,9 +16,9 @@ use Rattle.wt_lex.proofs.Forms.{OptFits, comment_fits}
 use Rattle.wt_spelling_laws.proofs.Forms.{other_byte}
 use Rattle.wt_scans.specs.Lexer.{lexer}
 use Rattle.wt_scans.specs.Scans.{skipped_by, AtStarts}
-use Rattle.wt_text_edit_laws.specs.TextBetween.{AreWholeLines, ends_comment, ends_tag, ends_here}
+use Rattle.wt_text_edit_laws.specs.TextBetween.{is_end, AreWholeLines, AreEnded, ends_comment, ends_tag, ends_here}
 use Rattle.wt_text_edit_laws.proofs.Between.LineWords.{either}
-use Rattle.wt_text_edit_laws.proofs.Between.LineComments.{ends_behind, comment_short}
+use Rattle.wt_text_edit_laws.proofs.Between.LineComments.{ends_behind, comment_same, comment_short}
 
 -- a comment line ends in the text, or none begins there
 line_or_none : (a : Bool) (bs : List ℕ) → (remarks_len 0 bs < length bs) ⊎ (form_at Page a bs ≡ form_at Page false bs)
@@ -59,7 +60,7 @@ abbrev pub AllEnd : Bool → ℕ → List ℕ → Type 0
 AllEnd a n q = AtStarts (lexer Page) EndsHere a n q
 
 more_lines : (b : ℕ) (ys : List ℕ) → is_blank b ≡ true → AreWholeLines (b ∷ ys) → 0 < length ys
-more_lines b [] e l = let z : is_blank 10 ≡ true = ap is_blank (sym l) ∙ e in cc
+more_lines b [] e l = let is : b ≡ 10 = eqb-true b 10 l in let z : is_blank 10 ≡ true = ap is_blank (sym is) ∙ e in cc
 more_lines b (c ∷ ys) e l = omega arith
 
 pub comment_some : (b : ℕ) (bs : List ℕ) (c : ℕ) → comment_len (b ∷ bs) ≡ Some c → 0 < c
@@ -93,11 +94,50 @@ remark_short a b ys (Some c) e l h same go =
 pub remarks_short : (a : Bool) (n : ℕ) (ys : List ℕ) → AreWholeLines ys → n < length ys → AllEnd a n ys → remarks_len n ys < length ys
 remarks_short a n [] l lt h = absurd (omega (arith, lt))
 remarks_short a (suc n) (b ∷ ys) l lt h =
-    let less = remarks_short (is_break b) n ys (ends_behind b ys l) (omega (arith, lt)) h in
+    let less = remarks_short (is_break b) n ys (ends_behind is_break b ys l) (omega (arith, lt)) h in
     omega (arith, less)
 remarks_short a zero (b ∷ ys) l lt h = elim (line_or_none a (b ∷ ys)) [
   | inl less ↦ less
   | inr same ↦
       remark_short a b ys (comment_len (b ∷ ys)) refl l (and_left (ends_comment (b ∷ ys)) (ends_tag (opening_tag (b ∷ ys)) (b ∷ ys)) h.0) same
-      (λ k is less. remarks_short (is_break b) k ys (ends_behind b ys l) less (subst (λ (i : ℕ). AllEnd (is_break b) i ys) is h.1))
+      (λ k is less. remarks_short (is_break b) k ys (ends_behind is_break b ys l) less (subst (λ (i : ℕ). AllEnd (is_break b) i ys) is h.1))
+]
+
+-- ---- what ends with a comment or tag
+
+abbrev RestThrough : Bool → ℕ → List ℕ → List ℕ → Type 0
+RestThrough a b ys rest = (k : ℕ) → skipped_by (lexer Page) (form_at Page a (b ∷ ys)) ≡ k → length ys ≤ remarks_len k ys
+    → remarks_len k (ys ++ rest) ≡ length ys + remarks_len 0 rest
+
+blanks_through : (a : Bool) (b : ℕ) (ys rest : List ℕ) (t : Bool) → is_blank b ≡ t → form_at Page a (b ∷ ys) ≡ form_at Page false (b ∷ ys)
+    → suc (length ys) ≤ (if t then 1 + remarks_len 0 ys else 0) → RestThrough a b ys rest
+    → (if t then 1 + remarks_len 0 (ys ++ rest) else 0) ≡ suc (length ys) + remarks_len 0 rest
+blanks_through a b ys rest true e same le go =
+    let is = go 0 (ap (skipped_by (lexer Page)) (same ∙ blank_form b ys e)) (omega (arith, le)) in
+    omega (arith, is)
+blanks_through a b ys rest false e same le go = absurd (omega (arith, le))
+
+remark_through : (a : Bool) (b : ℕ) (ys rest : List ℕ) (o : Option ℕ) → comment_len (b ∷ ys) ≡ o → AreEnded (b ∷ ys) → ends_comment (b ∷ ys) ≡ true
+    → form_at Page a (b ∷ ys) ≡ form_at Page false (b ∷ ys) → suc (length ys) ≤ remarks_with o b (λ n. remarks_len n ys) → RestThrough a b ys rest
+    → remarks_with o b (λ n. remarks_len n (ys ++ rest)) ≡ suc (length ys) + remarks_len 0 rest
+remark_through a b ys rest None e l h same le go = blanks_through a b ys rest (is_blank b) refl same le go
+remark_through a b ys rest (Some c) e l h same le go =
+    let is = go (c - 1) (ap (skipped_by (lexer Page)) (same ∙ comment_form b c ys e)) (omega (arith, le)) in
+    omega (arith, is)
+
+-- where they go up to the end, they go on with those that begin what follows
+pub remarks_through : (rest : List ℕ) (a : Bool) (n : ℕ) (ys : List ℕ) → AreEnded ys → AllEnd a n ys → length ys ≤ remarks_len n ys
+    → remarks_len n (ys ++ rest) ≡ length ys + remarks_len 0 rest
+remarks_through rest a zero [] l h le = omega arith
+remarks_through rest a (suc n) [] l h le = absurd (omega (arith, h))
+remarks_through rest a (suc n) (b ∷ ys) l h le =
+    let is = remarks_through rest (is_break b) n ys (ends_behind is_end b ys l) h (omega (arith, le)) in
+    omega (arith, is)
+remarks_through rest a zero (b ∷ ys) l h le = elim (line_or_none a (b ∷ ys)) [
+  | inl less ↦ absurd (omega (arith, less, le))
+  | inr same ↦
+      let ended : ends_comment (b ∷ ys) ≡ true = and_left (ends_comment (b ∷ ys)) (ends_tag (opening_tag (b ∷ ys)) (b ∷ ys)) h.0 in
+      ap (λ o. remarks_with o b (λ n. remarks_len n (ys ++ rest))) (comment_same b ys rest l ended)
+      ∙ remark_through a b ys rest (comment_len (b ∷ ys)) refl l ended same le
+      (λ k is so. remarks_through rest (is_break b) k ys (ends_behind is_end b ys l) (subst (λ (i : ℕ). AllEnd (is_break b) i ys) is h.1) so)
 ]

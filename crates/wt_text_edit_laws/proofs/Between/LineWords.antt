@@ -1,11 +1,10 @@
--- Words, signs and entities that begin lines end before the line break behind them.
-use Rattle.std.proofs.Common.{arith, ◌≡◌, ◌≢◌, ◌⊎◌, inl, inr, ℕ, zero, suc, ◌+◌, ◌-◌, ◌<◌, ◌≤◌, ◌==◌, Bool, true, false, Option, Some, None, List, [], ◌∷◌, length, get_or, drop, nat_lt, refl, sym, ap, ◌∙◌}
+-- Words, signs and entities that begin lines, or what ends with a comment or tag, end with or before their last byte.
+use Rattle.std.proofs.Common.{arith, ◌≡◌, ◌⊎◌, inl, inr, ℕ, zero, suc, ◌+◌, ◌-◌, ◌<◌, ◌≤◌, ◌==◌, Bool, true, false, Option, Some, None, List, [], ◌∷◌, length, get_or, drop, nat_lt, refl, sym, ap, ◌∙◌, subst}
 use Rattle.std.specs.Prelude.{◌&&◌, ◌||◌, not, if◌then◌else◌, codes}
 use Rattle.std.specs.Option.{option_or}
 use Rattle.std.specs.Char.{is_ascii_digit, is_ascii_hexdigit}
 use Rattle.std.specs.List.{list_all, prefix_len}
-use Rattle.std.proofs.lemmas.Bool.{cases_lt}
-use Rattle.std.proofs.lemmas.Bool.Decides.{nat_tests}
+use Rattle.std.proofs.lemmas.Bool.{cases_lt, eqb-true}
 use Rattle.std.proofs.lemmas.List.{get_or-drop}
 use Rattle.std.proofs.lemmas.List.Sums.{prefix_len_passes}
 use Rattle.wt_span.specs.declared.form.LexKind.{LexKind}
@@ -14,24 +13,62 @@ use Rattle.wt_span.specs.Bytes.{begins}
 use Rattle.wt_span.specs.Entities.{named_in, entity_names, named_entity, numbered, decimal_entity, hex_entity, entity_at}
 use Rattle.wt_span.specs.Lexemes.{Word, entity_word, run_at, sign_at, sign_word}
 use Rattle.wt_lex.proofs.Begins.{and_left, and_right, begins_get}
+use Rattle.wt_text_edit_laws.specs.TextBetween.{is_end}
 
--- ---- words without a line break
+pub either : (a b : Bool) → (a || b) ≡ true → (a ≡ true) ⊎ (b ≡ true)
+either true b e = inl refl
+either false b e = inr e
 
+-- ---- words in which no byte passes a test
+
+abbrev pub lacks : (ℕ → Bool) → List ℕ → Bool
+lacks test w = list_all (λ b. not (test b)) w
+
+-- neither a line break nor a `>`
 abbrev pub unbroken : List ℕ → Bool
-unbroken w = list_all (λ b. not (b == 10)) w
+unbroken w = lacks is_end w
 
-other_than : (x : ℕ) → not (x == 10) ≡ true → x ≢ 10
-other_than x e z = let f : not (x == 10) ≡ false = grind (arith, nat_tests) in absurd (cc)
+is_not : (v : Bool) → not v ≡ true → v ≡ false
+is_not true e = sym e
+is_not false e = refl
 
-no_break_at : (w : List ℕ) (k : ℕ) → unbroken w ≡ true → k < length w → get_or w k 0 ≢ 10
-no_break_at [] k e h = absurd (omega arith)
-no_break_at (x ∷ w) zero e h = other_than x (and_left (not (x == 10)) (unbroken w) e)
-no_break_at (x ∷ w) (suc k) e h = no_break_at w k (and_right (not (x == 10)) (unbroken w) e) (omega (arith, h))
+none_at : (test : ℕ → Bool) (w : List ℕ) (k : ℕ) → lacks test w ≡ true → k < length w → test (get_or w k 0) ≡ false
+none_at test [] k e h = absurd (omega arith)
+none_at test (x ∷ w) zero e h = is_not (test x) (and_left (not (test x)) (lacks test w) e)
+none_at test (x ∷ w) (suc k) e h = none_at test w k (and_right (not (test x)) (lacks test w) e) (omega (arith, h))
 
--- it ends before a line break
-pub word_within : (w bs : List ℕ) (k : ℕ) → begins w bs ≡ true → unbroken w ≡ true → get_or bs k 0 ≡ 10 → length w ≤ k
-word_within w bs k e u g = elim (cases_lt k (length w)) [
-  | inl lt ↦ absurd (no_break_at w k u lt (sym (begins_get w bs e k lt) ∙ g))
+-- it ends before a byte that does
+pub word_before : (test : ℕ → Bool) (w bs : List ℕ) (k : ℕ) → begins w bs ≡ true → lacks test w ≡ true → test (get_or bs k 0) ≡ true → length w ≤ k
+word_before test w bs k e u g = elim (cases_lt k (length w)) [
+  | inl lt ↦
+      let f : test (get_or w k 0) ≡ true = subst (λ (x : ℕ). test x ≡ true) (begins_get w bs e k lt) g in
+      let n : test (get_or w k 0) ≡ false = none_at test w k u lt in
+      absurd (cc)
+  | inr le ↦ le
+]
+
+pub word_within : (w bs : List ℕ) (k : ℕ) → begins w bs ≡ true → unbroken w ≡ true → is_end (get_or bs k 0) ≡ true → length w ≤ k
+word_within w bs k e u g = word_before is_end w bs k e u g
+
+-- words of which at most the last byte is a line break or a `>`
+abbrev pub unbroken_front : List ℕ → Bool
+unbroken_front [] = true
+unbroken_front (b ∷ []) = true
+unbroken_front (b ∷ c ∷ cs) = not (is_end b) && unbroken_front (c ∷ cs)
+
+none_in_front : (w : List ℕ) (k : ℕ) → unbroken_front w ≡ true → k + 1 < length w → is_end (get_or w k 0) ≡ false
+none_in_front [] k e h = absurd (omega (arith, h))
+none_in_front (b ∷ []) k e h = absurd (omega (arith, h))
+none_in_front (b ∷ c ∷ cs) zero e h = is_not (is_end b) (and_left (not (is_end b)) (unbroken_front (c ∷ cs)) e)
+none_in_front (b ∷ c ∷ cs) (suc k) e h = none_in_front (c ∷ cs) k (and_right (not (is_end b)) (unbroken_front (c ∷ cs)) e) (omega (arith, h))
+
+-- one ends with such a byte at the latest
+pub word_up_to : (w bs : List ℕ) (k : ℕ) → begins w bs ≡ true → unbroken_front w ≡ true → is_end (get_or bs k 0) ≡ true → length w ≤ k + 1
+word_up_to w bs k e u g = elim (cases_lt (k + 1) (length w)) [
+  | inl lt ↦
+      let f : is_end (get_or w k 0) ≡ true = subst (λ (x : ℕ). is_end x ≡ true) (begins_get w bs e k (omega (arith, lt))) g in
+      let n : is_end (get_or w k 0) ≡ false = none_in_front w k u lt in
+      absurd (cc)
   | inr le ↦ le
 ]
 
@@ -49,23 +86,23 @@ if_within : (k : ℕ) (t : Bool) (w : Word) → (t ≡ true → w.1 ≤ k + 1) �
 if_within k true w f = f refl
 if_within k false w f = tt
 
-run_ends : (byte k : ℕ) (bs : List ℕ) → (10 == byte) ≡ false → get_or bs k 0 ≡ 10 → prefix_len (λ b. b == byte) bs ≤ k
+run_ends : (byte k : ℕ) (bs : List ℕ) → is_end byte ≡ false → is_end (get_or bs k 0) ≡ true → prefix_len (λ b. b == byte) bs ≤ k
 run_ends byte k bs e g = elim (cases_lt k (prefix_len (λ b. b == byte) bs)) [
   | inl lt ↦ let p : (get_or bs k 0 == byte) ≡ true = prefix_len_passes (λ b. b == byte) bs k 0 lt in
-      let q : (10 == byte) ≡ true = ap (λ (x : ℕ). x == byte) (sym g) ∙ p in absurd (cc)
+      let q : is_end byte ≡ true = ap is_end (sym (eqb-true (get_or bs k 0) byte p)) ∙ g in absurd (cc)
   | inr le ↦ le
 ]
 
-run_within : (kind : LexKind) (byte k : ℕ) (bs : List ℕ) → (10 == byte) ≡ false → get_or bs k 0 ≡ 10 → Within k (run_at kind byte bs)
+run_within : (kind : LexKind) (byte k : ℕ) (bs : List ℕ) → is_end byte ≡ false → is_end (get_or bs k 0) ≡ true → Within k (run_at kind byte bs)
 run_within kind byte k bs e g =
     let n = prefix_len (λ b. b == byte) bs in
     let le = run_ends byte k bs e g in
     if_within k (nat_lt 1 n) (kind, n) (λ t. omega (arith, le))
 
-sign_within : (kind : LexKind) (w : List ℕ) (n k : ℕ) (bs : List ℕ) → unbroken w ≡ true → length w ≡ n → get_or bs k 0 ≡ 10 → Within k (sign_at kind w n bs)
+sign_within : (kind : LexKind) (w : List ℕ) (n k : ℕ) (bs : List ℕ) → unbroken w ≡ true → length w ≡ n → is_end (get_or bs k 0) ≡ true → Within k (sign_at kind w n bs)
 sign_within kind w n k bs u is g = if_within k (begins w bs) (kind, n) (λ e. let le = word_within w bs k e u g in omega (arith, le, is))
 
-pub signs_within : (k : ℕ) (bs : List ℕ) → get_or bs k 0 ≡ 10 → Within k (sign_word bs)
+pub signs_within : (k : ℕ) (bs : List ℕ) → is_end (get_or bs k 0) ≡ true → Within k (sign_word bs)
 unfolding sign_word
 signs_within k bs g =
     or_within k (run_at Opens 123 bs) _ (run_within Opens 123 k bs refl g)
@@ -97,7 +134,7 @@ abbrev all_unbroken : List (List ℕ × ℕ) → Bool
 all_unbroken [] = true
 all_unbroken ((name, c) ∷ entries) = unbroken name && all_unbroken entries
 
-named_within : (entries : List (List ℕ × ℕ)) (k : ℕ) (bs : List ℕ) → all_unbroken entries ≡ true → get_or bs k 0 ≡ 10 → EntityWithin k (named_in entries bs)
+named_within : (entries : List (List ℕ × ℕ)) (k : ℕ) (bs : List ℕ) → all_unbroken entries ≡ true → is_end (get_or bs k 0) ≡ true → EntityWithin k (named_in entries bs)
 named_within [] k bs u g = tt
 named_within ((name, c) ∷ entries) k bs u g =
     by (begins name bs) refl (named_within entries k bs (and_right (unbroken name) (all_unbroken entries) u) g)
@@ -110,46 +147,52 @@ names_unbroken : all_unbroken entity_names ≡ true
 unfolding entity_names
 names_unbroken = refl
 
--- a run of bytes that a line break isn't one of ends before it
-pub run_before : (start k : ℕ) (p : ℕ → Bool) (bs : List ℕ) → p 10 ≡ false → get_or bs k 0 ≡ 10 → start ≤ k → start + prefix_len p (drop start bs) ≤ k
+-- a run of bytes that neither a line break nor a `>` is one of ends before it
+abbrev pub StopsAtEnds : (ℕ → Bool) → Type 0
+StopsAtEnds p = (p 10 ≡ false) × (p 62 ≡ false)
+
+stops_at : (p : ℕ → Bool) (x : ℕ) → StopsAtEnds p → is_end x ≡ true → p x ≡ false
+stops_at p x d e = elim (either (x == 10) (x == 62) e) [
+  | inl f ↦ ap p (eqb-true x 10 f) ∙ d.0
+  | inr f ↦ ap p (eqb-true x 62 f) ∙ d.1
+]
+
+pub run_before : (start k : ℕ) (p : ℕ → Bool) (bs : List ℕ) → StopsAtEnds p → is_end (get_or bs k 0) ≡ true → start ≤ k → start + prefix_len p (drop start bs) ≤ k
 run_before start k p bs d g le = elim (cases_lt k (start + prefix_len p (drop start bs))) [
   | inl lt ↦
       let at : start + (k - start) ≡ k = omega (arith, le) in
       let passes : p (get_or (drop start bs) (k - start) 0) ≡ true = prefix_len_passes p (drop start bs) (k - start) 0 (omega (arith, lt, le)) in
-      let here : p 10 ≡ true = ap p (sym (get_or-drop start bs (k - start) 0 ∙ ap (λ (n : ℕ). get_or bs n 0) at ∙ g)) ∙ passes in
+      let here : p (get_or bs k 0) ≡ true = ap p (sym (get_or-drop start bs (k - start) 0 ∙ ap (λ (n : ℕ). get_or bs n 0) at)) ∙ passes in
+      let stops : p (get_or bs k 0) ≡ false = stops_at p (get_or bs k 0) d g in
       absurd (cc)
   | inr shorter ↦ shorter
 ]
 
-digits_end : (start k : ℕ) (is_digit : ℕ → Bool) (w bs : List ℕ) → begins w bs ≡ true → unbroken w ≡ true → length w ≡ start → is_digit 10 ≡ false
-    → get_or bs k 0 ≡ 10 → start + prefix_len is_digit (drop start bs) ≤ k
+digits_end : (start k : ℕ) (is_digit : ℕ → Bool) (w bs : List ℕ) → begins w bs ≡ true → unbroken w ≡ true → length w ≡ start → StopsAtEnds is_digit
+    → is_end (get_or bs k 0) ≡ true → start + prefix_len is_digit (drop start bs) ≤ k
 digits_end start k is_digit w bs b u is d g =
     let le = word_within w bs k b u g in
     run_before start k is_digit bs d g (omega (arith, le, is))
 
 numbered_within : (start most base k : ℕ) (is_digit : ℕ → Bool) (w bs : List ℕ) → begins w bs ≡ true → unbroken w ≡ true → length w ≡ start
-    → is_digit 10 ≡ false → get_or bs k 0 ≡ 10 → EntityWithin k (numbered start most base is_digit bs)
+    → StopsAtEnds is_digit → is_end (get_or bs k 0) ≡ true → EntityWithin k (numbered start most base is_digit bs)
 numbered_within start most base k is_digit w bs b u is d g =
     let n : ℕ = prefix_len is_digit (drop start bs) in
     let le : start + n ≤ k = digits_end start k is_digit w bs b u is d g in
     let size : start + n + 1 ≤ k + 1 = omega (arith, le) in
     if_found k _ (start + n + 1) _ size
 
-pub either : (a b : Bool) → (a || b) ≡ true → (a ≡ true) ⊎ (b ≡ true)
-either true b e = inl refl
-either false b e = inr e
-
-pub entity_within : (k : ℕ) (bs : List ℕ) → get_or bs k 0 ≡ 10 → EntityWithin k (entity_at bs)
+pub entity_within : (k : ℕ) (bs : List ℕ) → is_end (get_or bs k 0) ≡ true → EntityWithin k (entity_at bs)
 unfolding entity_at named_entity decimal_entity hex_entity
 entity_within k bs g =
     or_entity k (named_in entity_names bs) _ (named_within entity_names k bs names_unbroken g)
     (or_entity k (if begins (codes "&#") bs then numbered 2 7 10 is_ascii_digit bs else None) _
     (if_entity k (begins (codes "&#") bs) (numbered 2 7 10 is_ascii_digit bs)
-    (λ e. numbered_within 2 7 10 k is_ascii_digit (codes "&#") bs e refl refl refl g))
+    (λ e. numbered_within 2 7 10 k is_ascii_digit (codes "&#") bs e refl refl (refl, refl) g))
     (if_entity k (begins (codes "&#x") bs || begins (codes "&#X") bs) (numbered 3 6 16 is_ascii_hexdigit bs)
     (λ e. elim (either (begins (codes "&#x") bs) (begins (codes "&#X") bs) e) [
-      | inl f ↦ numbered_within 3 6 16 k is_ascii_hexdigit (codes "&#x") bs f refl refl refl g
-      | inr f ↦ numbered_within 3 6 16 k is_ascii_hexdigit (codes "&#X") bs f refl refl refl g
+      | inl f ↦ numbered_within 3 6 16 k is_ascii_hexdigit (codes "&#x") bs f refl refl (refl, refl) g
+      | inr f ↦ numbered_within 3 6 16 k is_ascii_hexdigit (codes "&#X") bs f refl refl (refl, refl) g
     ])))
 
 pub entity_word_within : (k : ℕ) (o : Option (ℕ × ℕ)) → EntityWithin k o → Within k (entity_word o)

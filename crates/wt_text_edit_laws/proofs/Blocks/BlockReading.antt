@@ -24,8 +24,9 @@ use Rattle.wt_text_edit_laws.proofs.Prose.InFront.{Reads, shown_closed, reads_by
 use Rattle.wt_text_edit_laws.proofs.Prose.ProseReading.{page_front}
 use Rattle.wt_text_edit_laws.specs.TextBetween.{StandsBefore}
 use Rattle.wt_text_edit_laws.proofs.Between.Fronts.{ReadsAfter, reads_after, reads_either, first_from, form_from, words_from, page_read, page_words, alone_reads, before_reads, behind_reads}
+use Rattle.wt_text_edit_laws.proofs.Between.Shown.{begins_shown, shown_before, shown_reads}
 use Rattle.wt_text_edit_laws.specs.ParagraphBetween.{EndsParagraph}
-use Rattle.wt_text_edit_laws.proofs.Paragraphs.Texts.{EndsHere, here_begins, nothing_is, line_reads, paragraph_front}
+use Rattle.wt_text_edit_laws.proofs.Paragraphs.Texts.{EndsHere, here_begins, nothing_is, line_reads, paragraph_front, paragraph_shown}
 use Rattle.wt_text_edit_laws.specs.TypedHeadings.{Sides, AreBlanks, AreSides, equals, opening, closing, closing_items, heading_line, EndsLine}
 use Rattle.wt_text_edit_laws.specs.TextBlocks.{TextBlock, a_paragraph, a_heading, source_of, block_items, IsFrame, IsTypedHeading, IsWrittenHeading, IsBlock, EndsBlock, BeginsApart, BeginsLine, BeginsBetween}
 use Rattle.wt_text_edit_laws.specs.BlockSpots.{BlockSpot, spots_source, IsBlockSpot, AreFurtherBlocks, AreBlockSpots}
@@ -192,19 +193,31 @@ block_front : (k : TextBlock) (q rest : List ℕ) (xs : List Item) → IsBlock k
 block_front a_paragraph q rest xs h e r = paragraph_front q rest xs h e r
 block_front (a_heading s) q rest xs h e r = heading_front s q rest xs h e r
 
+-- ---- a block begins with something visible
+
+run_shown : (n : ℕ) (bs : List ℕ) (ys : List Item) → 1 ≤ n → begins_shown (page_chars (equals n ++ bs) ++ ys) ≡ true
+run_shown zero bs ys some = absurd (omega (arith, some))
+run_shown (suc n) bs ys some = refl
+
+block_shown : (k : TextBlock) (q : List ℕ) → IsBlock k q → begins_shown (block_items k q) ≡ true
+block_shown a_paragraph q h = paragraph_shown q h
+block_shown (a_heading s) q (inl t) = run_shown s.level s.lead (page_items q ++ closing_items s) t.frame.sides.some
+block_shown (a_heading s) q (inr w) = run_shown s.level s.lead (page_items q ++ closing_items s) w.frame.sides.some
+
 -- ---- the parts
 
 abbrev pub spots_items : List BlockSpot → List ℕ → List Item
 spots_items [] behind = page_items behind
 spots_items (s ∷ ss) behind = page_items s.before ++ (block_items s.block s.text ++ spots_items ss behind)
 
-in_front : (bs rest : List ℕ) (xs : List Item) → StandsBefore bs → Reads rest xs → ReadsAfter false (bs ++ rest) (page_items bs ++ xs)
-in_front bs rest xs b r = before_reads bs rest xs b (reads_after (after_all (lexer Page) false bs) rest xs r)
+in_front : (bs rest : List ℕ) (xs : List Item) → StandsBefore bs → Reads rest xs → begins_shown xs ≡ true → ReadsAfter false (bs ++ rest) (page_items bs ++ xs)
+in_front bs rest xs b r s = before_reads bs rest xs b (shown_reads rest xs r s) (reads_after (after_all (lexer Page) false bs) rest xs r)
 
 spot_reads : (s : BlockSpot) (rest : List ℕ) (xs : List Item) → IsBlockSpot s → EndsHere rest → Reads rest xs
     → ReadsAfter false (s.before ++ (source_of s.block s.text ++ rest)) (page_items s.before ++ (block_items s.block s.text ++ xs))
 spot_reads s rest xs h e r =
     in_front s.before (source_of s.block s.text ++ rest) (block_items s.block s.text ++ xs) h.before (block_front s.block s.text rest xs h.block e r)
+    (shown_before (block_items s.block s.text) xs (block_shown s.block s.text h.block))
 
 -- behind a paragraph or a heading the page ends, or a line break stands
 paragraph_ends : (xs : List Item) → EndsParagraph xs → EndsHere (sources xs)

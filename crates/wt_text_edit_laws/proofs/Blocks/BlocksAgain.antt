@@ -5,7 +5,7 @@ use Rattle.std.specs.Str.{IsUtf8}
 use Rattle.std.proofs.lemmas.Str.{IsUtf8-append, IsUtf8-nil}
 use Rattle.wt_isolation.specs.OpenTags.{ends_open}
 use Rattle.wt_expand.specs.PageItems.{page_items}
-use Rattle.wt_text_edit_laws.specs.TextBetween.{AreWholeLines}
+use Rattle.wt_text_edit_laws.specs.TextBetween.{AreEnded}
 use Rattle.wt_text_edit_laws.proofs.Prose.InFront.{reads_nothing, read_items}
 use Rattle.wt_text_edit_laws.proofs.Paragraphs.Texts.{paragraph_utf8}
 use Rattle.wt_text_edit_laws.proofs.Paragraphs.ClearLines.{clear_first, clear_line}
@@ -66,7 +66,7 @@ nothing_between : (last next : TextBlock) → BeginsBetween last next (page_item
 nothing_between a_paragraph next h = absurd (subst (BeginsBetween a_paragraph next) (read_items [] [] reads_nothing) h)
 nothing_between (a_heading s) next h = absurd (subst (BeginsBetween (a_heading s) next) (read_items [] [] reads_nothing) h)
 
-clear_between : (front bs : List ℕ) (last next : TextBlock) → AreWholeLines bs → BeginsBetween last next (page_items bs) → ends_open (front ++ bs) ≡ false
+clear_between : (front bs : List ℕ) (last next : TextBlock) → AreEnded bs → BeginsBetween last next (page_items bs) → ends_open (front ++ bs) ≡ false
 clear_between front [] last next e h = absurd (nothing_between last next h)
 clear_between front (b ∷ bs) last next e h = clear_line front b bs e
 

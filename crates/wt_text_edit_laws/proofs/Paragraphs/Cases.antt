@@ -74,6 +74,12 @@ unfolding page_items words closed form_at comment_len comment_line_len raw_len t
     entity_at named_entity decimal_entity hex_entity entity_names sign_word kind_of_signs
 comments_above = record { are_closed = record { whole = refl; closed = refl }; apart = refl }
 
+-- and so do a comment and an include tag on its own line
+marks_before : EndsApart (page_items (codes "* a\n<!-- c --><noinclude>"))
+unfolding page_items words closed form_at comment_len comment_line_len raw_len tag_after opening_tag closing_tag with_inside is_extension include_at
+    entity_at named_entity decimal_entity hex_entity entity_names sign_word kind_of_signs
+marks_before = record { are_closed = record { whole = refl; closed = refl }; apart = refl }
+
 -- an open table takes the paragraph in, and with a line of text directly above it is one paragraph
 open_table : AreClosed (page_items (codes "{|\n| b\n")) → ⊥
 unfolding page_items words closed form_at comment_len comment_line_len raw_len opening_tag closing_tag include_at entity_at named_entity decimal_entity

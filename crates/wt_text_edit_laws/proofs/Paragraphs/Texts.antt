@@ -1,7 +1,6 @@
 -- A paragraph of one text, typed or written, is read the same before nothing and before a line break, and is a block of text.
-use Rattle.std.proofs.Common.{arith, ◌≡◌, ℕ, Bool, true, false, Some, None, List, [], ◌∷◌, ◌++◌, refl, sym, ap, ◌∙◌, subst, append-nil, append_assoc, inl, inr, zero, suc, ◌+◌, ◌<◌, ◌==◌, Option, length, take, cond}
+use Rattle.std.proofs.Common.{arith, ◌≡◌, ℕ, Bool, true, false, Some, None, List, [], ◌∷◌, ◌++◌, refl, sym, ap, ◌∙◌, subst, append-nil, append_assoc, inl, inr, zero, suc, ◌+◌, ◌<◌, Option, length, take, cond}
 use Rattle.std.specs.Str.{IsUtf8}
-use Rattle.std.proofs.lemmas.Bool.{eqb-true}
 use Rattle.wt_span.specs.declared.form.Mode.TheVariants.{Page}
 use Rattle.wt_span.specs.declared.form.LexKind.TheVariants.{Comment}
 use Rattle.wt_span.specs.declared.form.ItemForm.{ItemForm}
@@ -27,16 +26,17 @@ use Rattle.wt_text_edit_laws.proofs.Prose.ProseReading.{page_front}
 use Rattle.wt_text_edit_laws.proofs.Prose.ProseTexts.{IsWritten, some_leaf, written}
 use Rattle.wt_scans.specs.Lexer.{lexer}
 use Rattle.wt_scans.specs.Scans.{after_all}
-use Rattle.wt_text_edit_laws.specs.TextBetween.{HasNoTag, AreWholeLines, StandsBefore}
-use Rattle.wt_text_edit_laws.proofs.Between.LineWords.{either}
+use Rattle.wt_text_edit_laws.specs.TextBetween.{HasNoTag, AreWholeLines, AreEnded, StandsBefore}
 use Rattle.wt_text_edit_laws.proofs.Between.LineComments.{remarks_same}
 use Rattle.wt_text_edit_laws.proofs.Between.LineRemarks.{blank_form, comment_form, comment_some}
-use Rattle.wt_text_edit_laws.proofs.Between.Fronts.{ReadsAfter, first_items, items_from, first_from, byte_from, form_from, before_reads, behind_reads, reads_either}
+use Rattle.wt_text_edit_laws.proofs.Between.Fronts.{ReadsAfter, first_items, items_from, first_from, byte_from, form_from, lines_read, behind_reads, reads_either}
+use Rattle.wt_text_edit_laws.proofs.Between.Shown.{begins_shown, blank_no_break, shown_lines}
+use Rattle.wt_text_edit_laws.proofs.Between.TextReads.{typed_lines}
 use Rattle.std.specs.Prelude.{All, map}
 use Rattle.std.proofs.lemmas.List.Elements.{All-head, All-tail}
 use Rattle.wt_lines.specs.declared.kind.LineKind.TheVariants as line
 use Rattle.wt_lines.specs.Kinds.{line_kind}
-use Rattle.wt_lines.specs.Lines.{full_lines, content, empty_end}
+use Rattle.wt_lines.specs.Lines.{lines, full_lines, content, empty_end}
 use Rattle.wt_lines.proofs.FullLines.{same_lines}
 use Rattle.wt_text_edit_laws.proofs.Texts.PlainRows.{AreTexts}
 use Rattle.wt_text_edit_laws.specs.Paragraphs.{IsLetterForm, AreLetters, AreOneText, IsWrittenText, IsParagraph}
@@ -113,14 +113,6 @@ letters_joined (char (Some k) b ∷ xs) ys h g = absurd h
 letters_joined (whole f None bs ∷ xs) ys h g = (h.0, letters_joined xs ys h.1 g)
 letters_joined (whole f (Some k) bs ∷ xs) ys h g = absurd h
 
-blank_no_break : (b : ℕ) → is_blank b ≡ true → is_break b ≡ false
-blank_no_break b e =
-    let P : ℕ → Type 0 = λ (x : ℕ). is_break x ≡ false in
-    elim (either (b == 32) (b == 9) e) [
-      | inl f ↦ subst P (sym (eqb-true b 32 f)) refl
-      | inr f ↦ subst P (sym (eqb-true b 9 f)) refl
-    ]
-
 letters_begin : (bs : List ℕ) → AreLetters (items_from false 0 bs) → BeginsUncommented bs
 letters_begin [] h = record { is = refl }
 letters_begin (b ∷ bs) h = by (comment_len (b ∷ bs)) refl (λ g. letters_begin bs g)
@@ -161,7 +153,7 @@ blanks_same : (q r : List ℕ) → blank_len ((q ++ 10 ∷ []) ++ r) ≡ blank_l
 blanks_same [] r = refl
 blanks_same (b ∷ q) r = ap (λ (n : ℕ). cond (is_blank b) (1 + n) 0) (blanks_same q r)
 
-line_begins : (q r : List ℕ) → AreWholeLines (q ++ 10 ∷ []) → AreLetters (page_items (q ++ 10 ∷ [])) → BeginsUncommented ((q ++ 10 ∷ []) ++ r)
+line_begins : (q r : List ℕ) → AreEnded (q ++ 10 ∷ []) → AreLetters (page_items (q ++ 10 ∷ [])) → BeginsUncommented ((q ++ 10 ∷ []) ++ r)
 line_begins q r e h =
     let line : List ℕ = q ++ 10 ∷ [] in
     let u = letters_alone line h in
@@ -203,6 +195,11 @@ after_line : (a : Bool) (q : List ℕ) → after_all (lexer Page) a (q ++ 10 ∷
 after_line a [] = refl
 after_line a (b ∷ q) = after_line (is_break b) q
 
+one_line : (q : List ℕ) → AreWholeLines (q ++ 10 ∷ [])
+one_line [] = refl
+one_line (b ∷ []) = refl
+one_line (b ∷ c ∷ q) = one_line (c ∷ q)
+
 -- a line that is read so with its line break
 pub line_reads : (q r : List ℕ) (own xs : List Item) → StandsBefore (q ++ 10 ∷ []) → page_items (q ++ 10 ∷ []) ≡ own ++ char None 10 ∷ []
     → Reads (10 ∷ r) xs → ReadsAfter false (q ++ 10 ∷ r) (own ++ xs)
@@ -210,7 +207,8 @@ line_reads q r own xs b ended s =
     let break : Item = char None 10 in
     let rest : List Item = rest_items r in
     let behind : ReadsAfter (after_all (lexer Page) false (q ++ 10 ∷ [])) r rest = subst (λ a. ReadsAfter a r rest) (sym (after_line false q)) (read_rest r xs s) in
-    let whole : ReadsAfter false ((q ++ 10 ∷ []) ++ r) (page_items (q ++ 10 ∷ []) ++ rest) = before_reads (q ++ 10 ∷ []) r rest b behind in
+    let whole : ReadsAfter false ((q ++ 10 ∷ []) ++ r) (page_items (q ++ 10 ∷ []) ++ rest) =
+    lines_read (q ++ 10 ∷ []) r rest (one_line q) b behind in
     let all : page_items (q ++ 10 ∷ []) ++ rest ≡ own ++ xs =
     ap (λ zs. zs ++ rest) ended ∙ append_assoc own (break ∷ []) rest ∙ ap (λ zs. own ++ zs) (sym (rest_is r xs s)) in
     subst (λ bs. ReadsAfter false bs (own ++ xs)) (append_assoc q (10 ∷ []) r) (subst (λ ys. ReadsAfter false ((q ++ 10 ∷ []) ++ r) ys) all whole)
@@ -235,3 +233,12 @@ text_front q (b ∷ r) xs h e s =
 pub paragraph_front : (q rest : List ℕ) (xs : List Item) → IsParagraph q → EndsHere rest → Reads rest xs → Reads (q ++ rest) (page_items q ++ xs)
 paragraph_front q rest xs (inl t) e r = page_front q rest xs t r
 paragraph_front q rest xs (inr w) e r = text_front q rest xs w e r
+
+-- ---- its first line begins with something visible
+
+paragraph_lines : (q : List ℕ) → IsParagraph q → All IsText (lines (page_items q))
+paragraph_lines q (inl t) = typed_lines q t
+paragraph_lines q (inr w) = w.are_lines
+
+pub paragraph_shown : (q : List ℕ) → IsParagraph q → begins_shown (page_items q) ≡ true
+paragraph_shown q h = shown_lines (page_items q) (paragraph_lines q h)

@@ -8,7 +8,6 @@ use Rattle.wt_tree.specs.Tree.{Trees}
 use Rattle.wt_span.specs.Items.{Item, source, sources}
 use Rattle.wt_guards.specs.Guards.{nowiki}
 use Rattle.wt_inline.specs.ItemTree.{forest, tree_items, held_by_all}
-use Rattle.wt_tree.specs.EditShapes.{edit_shape}
 use Rattle.wt_isolation.specs.OpenTags.{ends_open, any_ends_open}
 use Rattle.wt_annotated.specs.CutTexts.{all_cut_texts}
 use Rattle.wt_annotated.specs.Labels.{label_at}

@@ -75,12 +75,12 @@ all_shown ((kind, n) ∷ ws) bs t e =
 
 -- ---- members without calls
 
-abbrev AreLexemes : List Member → Type 0
+abbrev pub AreLexemes : List Member → Type 0
 AreLexemes [] = Unit {0}
 AreLexemes (lexeme w ∷ ms) = AreLexemes ms
 AreLexemes (call k inside ∷ ms) = ⊥
 
-onto_lexemes : (ws : List Word) (before : List Member) → HaveNoClosers ws → AreLexemes before → AreLexemes (reduced_onto before ws)
+pub onto_lexemes : (ws : List Word) (before : List Member) → HaveNoClosers ws → AreLexemes before → AreLexemes (reduced_onto before ws)
 onto_lexemes [] before h l = l
 onto_lexemes ((Chars, n) ∷ ws) before h l = onto_lexemes ws (lexeme (Chars, n) ∷ before) h.1 l
 onto_lexemes ((CommentLine, n) ∷ ws) before h l = onto_lexemes ws (lexeme (CommentLine, n) ∷ before) h.1 l
@@ -101,7 +101,7 @@ both_lexemes [] ys h l = l
 both_lexemes (lexeme w ∷ xs) ys h l = both_lexemes xs ys h l
 both_lexemes (call k inside ∷ xs) ys h l = absurd h
 
-reverse_lexemes : (xs : List Member) → AreLexemes xs → AreLexemes (reverse xs)
+pub reverse_lexemes : (xs : List Member) → AreLexemes xs → AreLexemes (reverse xs)
 reverse_lexemes [] h = tt
 reverse_lexemes (lexeme w ∷ xs) h = subst AreLexemes (sym (reverse-append (lexeme w ∷ []) xs)) (both_lexemes (reverse xs) (lexeme w ∷ []) (reverse_lexemes xs h) tt)
 reverse_lexemes (call k inside ∷ xs) h = absurd h
@@ -132,23 +132,30 @@ no_work r start bs (call k inside ∷ ms) h = absurd h
 page_members : (bs : List ℕ) → HaveNoClosers (words Page bs) → AreLexemes (reduced (words Page bs))
 page_members bs h = reduced_lexemes (words Page bs) h
 
-pub shown_expanded : (pages : Pages) (bs : List ℕ) → HaveNoClosers (words Page bs) → expanded_page pages bs ≡ of_items (page_items bs)
+-- a page whose lexemes make no calls
+pub lexemes_expanded : (pages : Pages) (bs : List ℕ) → AreLexemes (reduced (words Page bs)) → expanded_page pages bs ≡ of_items (page_items bs)
 unfolding text_members
-shown_expanded pages bs h = without_calls pages bs (no_calls (reduced (words Page bs)) (page_members bs h))
+lexemes_expanded pages bs h = without_calls pages bs (no_calls (reduced (words Page bs)) h)
 
-shown_work : (pages : Pages) (bs : List ℕ) → HaveNoClosers (words Page bs) → page_work pages bs ≡ entered None ∷ []
+lexemes_work : (pages : Pages) (bs : List ℕ) → AreLexemes (reduced (words Page bs)) → page_work pages bs ≡ entered None ∷ []
 unfolding page_work text_members
-shown_work pages bs h = ap (λ es. entered None ∷ es) (no_work (page_reading pages) true bs (reduced (words Page bs)) (page_members bs h))
+lexemes_work pages bs h = ap (λ es. entered None ∷ es) (no_work (page_reading pages) true bs (reduced (words Page bs)) h)
 
-shown_flat : (bs : List ℕ) → HaveNoClosers (words Page bs) → deep_place Page bs ≡ None
+lexemes_flat : (bs : List ℕ) → AreLexemes (reduced (words Page bs)) → deep_place Page bs ≡ None
 unfolding deep_place too_deep calls
-shown_flat bs h = ap too_deep (no_places 0 0 None (reduced (words Page bs)) (page_members bs h))
+lexemes_flat bs h = ap too_deep (no_places 0 0 None (reduced (words Page bs)) h)
+
+pub lexemes_unrefused : (pages : Pages) (bs : List ℕ) → AreLexemes (reduced (words Page bs)) → first_refusal pages bs (page_work pages bs) ≡ None
+unfolding first_refusal
+lexemes_unrefused pages bs h =
+    ap (refusal_from pages bs 0) (lexemes_work pages bs h)
+    ∙ ap (λ (o : Option ℕ). option_or (option_map (braces_too_deep None) o) None) (lexemes_flat bs h)
+
+pub shown_expanded : (pages : Pages) (bs : List ℕ) → HaveNoClosers (words Page bs) → expanded_page pages bs ≡ of_items (page_items bs)
+shown_expanded pages bs h = lexemes_expanded pages bs (page_members bs h)
 
 pub shown_unrefused : (pages : Pages) (bs : List ℕ) → HaveNoClosers (words Page bs) → first_refusal pages bs (page_work pages bs) ≡ None
-unfolding first_refusal
-shown_unrefused pages bs h =
-    ap (refusal_from pages bs 0) (shown_work pages bs h)
-    ∙ ap (λ (o : Option ℕ). option_or (option_map (braces_too_deep None) o) None) (shown_flat bs h)
+shown_unrefused pages bs h = lexemes_unrefused pages bs (page_members bs h)
 
 -- ---- a page that is what was typed
 

@@ -7,7 +7,6 @@ use Rattle.wt_tree.specs.Tree.{Tree, tree, Trees, none, more}
 use Rattle.wt_span.specs.Items.{Item, sources}
 use Rattle.wt_span.specs.Origins.{Expanded}
 use Rattle.wt_inline.specs.ItemTree.{plain, inner, nothing, further, forest, held_by_all}
-use Rattle.wt_tree.specs.EditShapes.{edit_shape}
 use Rattle.wt_isolation.specs.OpenTags.{any_ends_open}
 use Rattle.wt_selser.specs.GroupFaults.{has_faulty_group}
 use Rattle.wt_annotated.specs.Annotated.{annotated}

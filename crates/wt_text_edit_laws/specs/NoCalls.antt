@@ -1,0 +1,29 @@
+-- Braces that make no call and no argument.
+use Rattle.std.specs.Prelude.{ℕ, List, [], ◌∷◌, map, codes, if◌then◌else◌}
+use Rattle.wt_span.specs.Bytes.{begins}
+use Rattle.wt_span.specs.Items.{Item, sign}
+
+-- two braces side by side
+pub data Brace : Type 0 where
+  opening : Brace
+  closing : Brace
+
+-- by the signs of items, in order; one for each place where two begin
+abbrev pub braces : List ℕ → List Brace
+braces [] = []
+braces (s ∷ ss) = if begins (codes "{{") (s ∷ ss) then opening ∷ braces ss else (if begins (codes "}}") (s ∷ ss) then closing ∷ braces ss else braces ss)
+
+abbrev pub NoneClose : List Brace → Type 0
+NoneClose [] = Unit {0}
+NoneClose (opening ∷ bs) = NoneClose bs
+NoneClose (closing ∷ bs) = ⊥
+
+-- None close behind any that open. Those that close before, and those that open and are never closed, are characters.
+abbrev pub NonePairs : List Brace → Type 0
+NonePairs [] = Unit {0}
+NonePairs (opening ∷ bs) = NoneClose bs
+NonePairs (closing ∷ bs) = NonePairs bs
+
+-- a page with these items calls nothing
+abbrev pub CallsNothing : List Item → Type 0
+CallsNothing xs = NonePairs (braces (map sign xs))
