@@ -1,28 +1,30 @@
 //! Blocks, items and rows as wikitext, where they are new, come from elsewhere or are of another kind now.
 
 use crate::delimiters::{
-    push_begun, push_closing, push_heading_end, push_heading_start, push_opening, push_signs,
-    shares_line,
+    goes_on_behind, push_begun, push_closing, push_heading_end, push_heading_start, push_opening,
+    push_signs, shares_line,
 };
 use crate::items::sign_of;
 use crate::kinds::{is_cell, is_item, is_lined, is_list, is_row_without_sign};
+use crate::style::{Style, USUAL, style_of};
 use std::alloc::Global;
 use wt_checks::original;
 use wt_content_proposal::{Block, Edges, Known, Writing, block_of, edges_of, spelled};
-use wt_difference::{are_same, inside, is_block_part};
+use wt_difference::{are_same, ends_inside, has_inside, inside, is_block_part};
 use wt_selser::place_in;
 use wt_span::{NoMemory, Str};
 use wt_tree::{Kind, Node, flat, same_attrs, same_kind};
 
 /// What a block is written by: what is known of the page, whether texts keep their bytes, the signs of the item
-/// in which it is (of an item its own), and the page's text at its end, where the block is the second half of
-/// one that was there.
+/// in which it is (of an item its own), the page's text at its end, where the block is the second half of one that was
+/// there, and how it is written where it is a new item, cell or row.
 #[derive(Clone, Copy)]
 pub struct Surroundings<'w, 't, 'a> {
     pub known: &'w Known<'t, 'a>,
     pub keeps: bool,
     pub signs: &'w str,
     pub tail: Option<&'t Node<'a>>,
+    pub style: Style,
 }
 
 impl<'w, 't, 'a> Surroundings<'w, 't, 'a> {
@@ -38,6 +40,15 @@ impl<'w, 't, 'a> Surroundings<'w, 't, 'a> {
             keeps: self.keeps,
             signs: self.signs,
             tail: None,
+            style: USUAL,
+        }
+    }
+
+    /// The same for what a block of this kind holds: the cells of a row are written as those beside them.
+    fn within_kind(self, kind: Kind) -> Surroundings<'w, 't, 'a> {
+        match kind {
+            Kind::Tr => self.in_table(),
+            _ => self.within(),
         }
     }
 
@@ -48,6 +59,18 @@ impl<'w, 't, 'a> Surroundings<'w, 't, 'a> {
             keeps: self.keeps,
             signs: "",
             tail: None,
+            style: self.style,
+        }
+    }
+
+    /// The same for an item that comes after one of this style.
+    fn styled(self, style: Style) -> Surroundings<'w, 't, 'a> {
+        Surroundings {
+            known: self.known,
+            keeps: self.keeps,
+            signs: self.signs,
+            tail: None,
+            style: if self.keeps { style } else { USUAL },
         }
     }
 }
@@ -112,6 +135,18 @@ fn new_inside(
     spelled(alloc, writing, inside(node), edges)
 }
 
+/// The inside of a block.
+fn inside_of(
+    alloc: Global,
+    around: Surroundings<'_, '_, '_>,
+    node: &Node<'_>,
+) -> Result<Str, NoMemory> {
+    match original(around.known.index, node.id) {
+        Some(visit) if node.id != 0 => kept_inside(alloc, around, visit.node, node),
+        _ => new_inside(alloc, around, node),
+    }
+}
+
 /// Appends the inside of a block.
 fn push_inside(
     alloc: Global,
@@ -119,10 +154,26 @@ fn push_inside(
     around: Surroundings<'_, '_, '_>,
     node: &Node<'_>,
 ) -> Result<(), NoMemory> {
-    let source = match original(around.known.index, node.id) {
-        Some(visit) if node.id != 0 => kept_inside(alloc, around, visit.node, node)?,
-        _ => new_inside(alloc, around, node)?,
+    let source = inside_of(alloc, around, node)?;
+    out.push_str(source.as_str())
+}
+
+/// Whether a child is a comment or an include tag of the page that goes with what holds it.
+fn is_coming_mark(known: &Known<'_, '_>, child: &Node<'_>) -> bool {
+    child.kind.is_mark() && child.id != 0 && !known.is_left(None, child.id)
+}
+
+/// Appends a comment or an include tag as it was in the page, with the line break after it where it has one.
+fn push_mark(
+    alloc: Global,
+    out: &mut Str,
+    known: &Known<'_, '_>,
+    mark: &Node<'_>,
+) -> Result<(), NoMemory> {
+    let Some(visit) = original(known.index, mark.id) else {
+        return Ok(());
     };
+    let source = flat(alloc, visit.node)?;
     out.push_str(source.as_str())
 }
 
@@ -146,22 +197,76 @@ fn are_joined(left: Kind, right: Kind) -> bool {
     are_lists || !(is_lined(left) || is_lined(right))
 }
 
-/// Appends all that a node holds after its inside, each on a line of its own but a cell that shared one.
+/// Whether a new cell goes on in the line of the one before it, as those of the row beside do, in what is written so
+/// far: that one holds no blocks, and shows the blank before the signs where there is to be one.
+fn goes_on(
+    out: &Str,
+    around: Surroundings<'_, '_, '_>,
+    before: Option<&Node<'_>>,
+    cell: &Node<'_>,
+) -> bool {
+    let Some(before) = before else {
+        return false;
+    };
+    around.style.is_one_line
+        && cell.id == 0
+        && is_cell(cell.kind)
+        && same_kind(before.kind, cell.kind)
+        && !have_block_part(before.children.as_slice())
+        && (around.style.is_tight || out.as_str().ends_with(" "))
+}
+
+/// Appends what comes before a block that a node holds: a line break, or of a cell that goes on in a line the first of
+/// its two signs.
+fn push_start(
+    alloc: Global,
+    out: &mut Str,
+    around: Surroundings<'_, '_, '_>,
+    holder: Kind,
+    before: Option<&Node<'_>>,
+    child: &Node<'_>,
+) -> Result<(), NoMemory> {
+    if goes_on(out, around, before, child) {
+        return out.push_str(if matches!(child.kind, Kind::Th) {
+            "!"
+        } else {
+            "|"
+        });
+    }
+    if shares_line(alloc, around.known, before, child)? {
+        return Ok(());
+    }
+    push_break(out, holder, before, child.kind)
+}
+
+/// Appends all that a node holds after its inside, each on a line of its own but a cell that shared one, and the first
+/// where it goes on in the line. After a comment or an include tag the line is the one that it leaves.
 #[cycle(blocks)]
 fn push_held(
     alloc: Global,
     out: &mut Str,
     around: Surroundings<'_, '_, '_>,
     node: &Node<'_>,
+    goes_on: bool,
 ) -> Result<(), NoMemory> {
     let mut before = None;
+    let mut is_begun = goes_on;
+    let mut is_inside = has_inside(node.kind);
     for child in node.children.as_slice() {
+        is_inside = is_inside && !ends_inside(child);
         if is_written(child) {
-            if !shares_line(alloc, around.known, before, child)? {
-                push_break(out, node.kind, before, child.kind)?;
+            if !is_begun {
+                push_start(alloc, out, around, node.kind, before, child)?;
             }
-            push_block(alloc, out, around.within(), child)?;
+            push_block(alloc, out, around.within_kind(node.kind), child)?;
             before = Some(child);
+            is_begun = false;
+        } else if !is_inside && is_coming_mark(around.known, child) {
+            if !is_begun {
+                push_break(out, node.kind, before, Kind::Para)?;
+            }
+            push_mark(alloc, out, around.known, child)?;
+            is_begun = true;
         }
     }
     Ok(())
@@ -195,6 +300,17 @@ fn begins_with(source: &[u8], signs: &[u8]) -> bool {
 
 // ---- blocks
 
+/// The blank at each side of the text of a new heading: none in a page whose headings have none, unless the text would
+/// join the signs.
+fn blank_in_heading(around: Surroundings<'_, '_, '_>, inside: &str) -> &'static str {
+    let joins = inside.is_empty() || inside.starts_with("=") || inside.ends_with("=");
+    if around.keeps && around.known.has_tight_headings && !joins {
+        ""
+    } else {
+        " "
+    }
+}
+
 fn push_heading(
     alloc: Global,
     out: &mut Str,
@@ -202,9 +318,11 @@ fn push_heading(
     level: u8,
     node: &Node<'_>,
 ) -> Result<(), NoMemory> {
-    push_heading_start(alloc, out, around.known, node.id, level)?;
-    push_inside(alloc, out, around, node)?;
-    push_heading_end(alloc, out, around.known, node.id, level)
+    let inside = inside_of(alloc, around, node)?;
+    let blank = blank_in_heading(around, inside.as_str());
+    push_heading_start(alloc, out, around.known, node.id, level, blank)?;
+    out.push_str(inside.as_str())?;
+    push_heading_end(alloc, out, around.known, node.id, level, blank)
 }
 
 /// Appends an item with its signs: as it was in the page, where it was there with these.
@@ -221,9 +339,32 @@ fn push_item(
             return out.push_str(source);
         }
     }
-    push_signs(alloc, out, around.known, node, around.signs)?;
-    push_inside(alloc, out, around, node)?;
-    push_held(alloc, out, around, node)
+    let inside = inside_of(alloc, around, node)?;
+    let blank = around.style.blank_before(inside.as_str());
+    push_signs(alloc, out, around.known, node, around.signs, blank)?;
+    out.push_str(inside.as_str())?;
+    push_held(alloc, out, around, node, false)
+}
+
+/// Where an item begins: with its list, on a line of its own, or in the line of the item before it, as a definition may.
+#[derive(Clone, Copy)]
+enum Beginning {
+    OfList,
+    OfLine,
+    InLine,
+}
+
+/// Appends an item that goes on in a line, with the signs that it had there.
+#[cycle(blocks)]
+fn push_item_in_line(
+    alloc: Global,
+    out: &mut Str,
+    around: Surroundings<'_, '_, '_>,
+    item: &Node<'_>,
+) -> Result<(), NoMemory> {
+    push_opening(alloc, out, around.known, item, ":")?;
+    push_inside(alloc, out, around, item)?;
+    push_held(alloc, out, around, item, false)
 }
 
 /// Appends an item of a list that is in an item with these signs.
@@ -234,7 +375,7 @@ fn push_item_of(
     around: Surroundings<'_, '_, '_>,
     list: Kind,
     item: &Node<'_>,
-    is_first: bool,
+    beginning: Beginning,
 ) -> Result<(), NoMemory> {
     if matches!(item.kind, Kind::Group) {
         return push_block(alloc, out, around, item);
@@ -246,23 +387,32 @@ fn push_item_of(
         keeps: around.keeps,
         signs: signs.as_str(),
         tail: None,
+        style: around.style,
     };
-    if is_first {
-        push_first_item(alloc, out, own, item)
-    } else {
-        push_item(alloc, out, own, item)
+    match beginning {
+        Beginning::OfList => push_first_item(alloc, out, own, item),
+        Beginning::OfLine => push_item(alloc, out, own, item),
+        Beginning::InLine => push_item_in_line(alloc, out, own, item),
     }
 }
 
-/// Whether a new item holds lists alone, where its line may be that of their first item, too.
+/// Whether an item is new, or had no line of its own in the page.
+fn has_no_line(known: &Known<'_, '_>, item: &Node<'_>) -> bool {
+    match original(known.index, item.id) {
+        Some(visit) if item.id != 0 => visit.node.opening().is_empty(),
+        _ => true,
+    }
+}
+
+/// Whether an item that has no line of its own holds lists alone: its line may be that of their first item, too.
 fn holds_lists_alone(around: Surroundings<'_, '_, '_>, item: &Node<'_>) -> bool {
     match item.children.as_slice().first() {
-        Some(first) => around.keeps && item.id == 0 && is_list(first.kind),
+        Some(first) => around.keeps && is_list(first.kind) && has_no_line(around.known, item),
         None => false,
     }
 }
 
-/// Appends the first item of a list: where it is new and holds lists alone, they begin on its line.
+/// Appends the first item of a list: where it has no line of its own and holds lists alone, they begin on its line.
 #[cycle(blocks)]
 fn push_first_item(
     alloc: Global,
@@ -270,23 +420,39 @@ fn push_first_item(
     around: Surroundings<'_, '_, '_>,
     item: &Node<'_>,
 ) -> Result<(), NoMemory> {
-    if !holds_lists_alone(around, item) {
-        return push_item(alloc, out, around, item);
+    if holds_lists_alone(around, item) {
+        push_held(alloc, out, around, item, true)
+    } else {
+        push_item(alloc, out, around, item)
     }
-    let mut is_first = true;
-    for list in item.children.as_slice() {
-        if is_list(list.kind) {
-            if !is_first {
-                out.push_str("\n")?;
-            }
-            is_first = false;
-            push_block(alloc, out, around.within(), list)?;
-        }
-    }
-    Ok(())
 }
 
-/// Appends the items of a list, each on a line of its own.
+/// Where an item begins after this one of its list.
+fn beginning_of(known: &Known<'_, '_>, before: Option<&Node<'_>>, item: &Node<'_>) -> Beginning {
+    match before {
+        None => Beginning::OfList,
+        Some(before) if goes_on_behind(known, before, item) => Beginning::InLine,
+        Some(_) => Beginning::OfLine,
+    }
+}
+
+/// Appends the line break before an item or a row, unless its line is begun.
+fn push_line(out: &mut Str, is_begun: bool) -> Result<(), NoMemory> {
+    if is_begun {
+        return Ok(());
+    }
+    out.push_str("\n")
+}
+
+/// How an item is written after this one: as it is where the page has it, else as this one was.
+fn style_behind(known: &Known<'_, '_>, item: &Node<'_>, style: Style) -> Style {
+    match original(known.index, item.id) {
+        Some(visit) if item.id != 0 => style_of(Some(visit.node)),
+        _ => style,
+    }
+}
+
+/// Appends the items of a list, each on a line of its own; after a comment or an include tag on the one that it leaves.
 #[cycle(blocks)]
 fn push_items(
     alloc: Global,
@@ -294,20 +460,29 @@ fn push_items(
     around: Surroundings<'_, '_, '_>,
     list: &Node<'_>,
 ) -> Result<(), NoMemory> {
-    let mut is_first = true;
+    let mut before = None;
+    let mut is_begun = true;
+    let mut style = USUAL;
     for item in list.children.as_slice() {
         if is_written(item) {
-            if !is_first {
-                out.push_str("\n")?;
+            let beginning = beginning_of(around.known, before, item);
+            if !matches!(beginning, Beginning::InLine) {
+                push_line(out, is_begun)?;
             }
-            push_item_of(alloc, out, around, list.kind, item, is_first)?;
-            is_first = false;
+            push_item_of(alloc, out, around.styled(style), list.kind, item, beginning)?;
+            before = Some(item);
+            is_begun = false;
+            style = style_behind(around.known, item, style);
+        } else if is_coming_mark(around.known, item) {
+            push_line(out, is_begun)?;
+            push_mark(alloc, out, around.known, item)?;
+            is_begun = true;
         }
     }
     Ok(())
 }
 
-/// Appends the rows of a table, each on a line of its own.
+/// Appends the rows of a table, each on a line of its own; after a comment or an include tag on the one that it leaves.
 #[cycle(blocks)]
 fn push_rows(
     alloc: Global,
@@ -315,25 +490,27 @@ fn push_rows(
     around: Surroundings<'_, '_, '_>,
     node: &Node<'_>,
 ) -> Result<(), NoMemory> {
-    let mut is_first = true;
+    let mut is_begun = true;
     for child in node.children.as_slice() {
         if is_written(child) {
-            if !is_first {
-                out.push_str("\n")?;
-            }
-            is_first = false;
+            push_line(out, is_begun)?;
             push_block(alloc, out, around.in_table(), child)?;
+            is_begun = false;
+        } else if is_coming_mark(around.known, child) {
+            push_line(out, is_begun)?;
+            push_mark(alloc, out, around.known, child)?;
+            is_begun = true;
         }
     }
     Ok(())
 }
 
-/// The sign of a new cell: without its blank where a block is all that is in it.
-fn sign_before<'s>(sign: &'s str, node: &Node<'_>) -> &'s str {
-    if inside(node).is_empty() && !node.children.as_slice().is_empty() {
-        sign.strip_suffix(" ").unwrap_or(sign)
+/// The blank after the sign of a new cell: none where a block is all that is in it.
+fn blank_in(style: Style, node: &Node<'_>, inside: &str) -> &'static str {
+    if inside.is_empty() && !node.children.as_slice().is_empty() {
+        ""
     } else {
-        sign
+        style.blank_before(inside)
     }
 }
 
@@ -345,9 +522,12 @@ fn push_cell(
     sign: &str,
     node: &Node<'_>,
 ) -> Result<(), NoMemory> {
-    push_opening(alloc, out, around.known, node, sign_before(sign, node))?;
-    push_inside(alloc, out, around.in_table(), node)?;
-    push_held(alloc, out, around.in_table(), node)
+    let inside = inside_of(alloc, around.in_table(), node)?;
+    let mut opening = Str::copy_of(alloc, sign)?;
+    opening.push_str(blank_in(around.style, node, inside.as_str()))?;
+    push_opening(alloc, out, around.known, node, opening.as_str())?;
+    out.push_str(inside.as_str())?;
+    push_held(alloc, out, around.in_table(), node, false)
 }
 
 /// Appends a table, or a row, with a line for each of its parts.
@@ -360,7 +540,7 @@ fn push_lines(
     node: &Node<'_>,
 ) -> Result<(), NoMemory> {
     push_opening(alloc, out, around.known, node, sign)?;
-    push_held(alloc, out, around.in_table(), node)
+    push_held(alloc, out, around.in_table(), node, false)
 }
 
 /// Whether a node is a group of the page that begins with a row without a sign.
@@ -420,9 +600,9 @@ pub fn push_block(
         }
         Kind::Tbody => push_rows(alloc, out, around, node),
         Kind::Tr => push_lines(alloc, out, around, "|-", node),
-        Kind::Td => push_cell(alloc, out, around, "| ", node),
-        Kind::Th => push_cell(alloc, out, around, "! ", node),
-        Kind::Caption => push_cell(alloc, out, around, "|+ ", node),
+        Kind::Td => push_cell(alloc, out, around, "|", node),
+        Kind::Th => push_cell(alloc, out, around, "!", node),
+        Kind::Caption => push_cell(alloc, out, around, "|+", node),
         _ => Ok(()),
     }
 }

@@ -3,6 +3,7 @@
 use std::alloc::Global;
 use wt_checks::original;
 use wt_content_proposal::{Known, joined};
+use wt_difference::inside;
 use wt_span::{NoMemory, Str, Text};
 use wt_tree::{Kind, Node, same_attrs, same_kind};
 
@@ -91,6 +92,18 @@ fn is_behind(before: &Node<'_>, node: &Node<'_>) -> bool {
     }
 }
 
+/// Whether an item goes on in the line of the one before it, as it did in the page. Items on lines of their own have a
+/// line break between them, and blocks after the text of the first one end its line.
+pub fn goes_on_behind(known: &Known<'_, '_>, before: &Node<'_>, item: &Node<'_>) -> bool {
+    match (standing_of(known, before), standing_of(known, item)) {
+        (Some(left), Some(old)) => {
+            let is_text = inside(before).len() == before.children.as_slice().len();
+            is_behind(left, old) && is_text && !old.opening().is_empty()
+        }
+        _ => false,
+    }
+}
+
 /// Whether a cell goes on in the line of the one before it, as it did in the page.
 pub fn shares_line(
     alloc: Global,
@@ -128,19 +141,20 @@ fn behind_signs(opening: &str) -> &str {
     rest
 }
 
-/// Appends the signs of an item, and the blanks that it had after its own; one where it is new.
+/// Appends the signs of an item, and the blanks that it had after its own; where it is new this one.
 pub fn push_signs(
     alloc: Global,
     out: &mut Str,
     known: &Known<'_, '_>,
     node: &Node<'_>,
     signs: &str,
+    blank: &str,
 ) -> Result<(), NoMemory> {
     out.push_str(signs)?;
     let Some(old) = standing_of(known, node) else {
-        return out.push_str(" ");
+        return out.push_str(blank);
     };
-    let opening = joined_or(alloc, old.opening(), " ")?;
+    let opening = joined_or(alloc, old.opening(), blank)?;
     out.push_str(behind_signs(opening.as_str()))
 }
 
@@ -178,17 +192,18 @@ fn heading_of<'t, 'a>(known: &Known<'t, 'a>, number: u32) -> Option<&'t Node<'a>
     }
 }
 
-/// Appends the signs before the text of a heading, and the blanks that it had there.
+/// Appends the signs before the text of a heading, and the blanks that it had there; where it is new this one.
 pub fn push_heading_start(
     alloc: Global,
     out: &mut Str,
     known: &Known<'_, '_>,
     number: u32,
     level: u8,
+    blank: &str,
 ) -> Result<(), NoMemory> {
     push_equals(out, level)?;
     let Some(old) = heading_of(known, number) else {
-        return out.push_str(" ");
+        return out.push_str(blank);
     };
     let opening = joined(alloc, old.opening())?;
     let opening = opening.as_str();
@@ -198,16 +213,18 @@ pub fn push_heading_start(
     out.push_str(blanks)
 }
 
-/// Appends those after it, and what came after its last sign: comments and include tags are there, too.
+/// Appends those after it, and what came after its last sign: comments and include tags are there, too. Where it is new
+/// the blank comes before them.
 pub fn push_heading_end(
     alloc: Global,
     out: &mut Str,
     known: &Known<'_, '_>,
     number: u32,
     level: u8,
+    blank: &str,
 ) -> Result<(), NoMemory> {
     let Some(old) = heading_of(known, number) else {
-        out.push_str(" ")?;
+        out.push_str(blank)?;
         return push_equals(out, level);
     };
     let closing = joined(alloc, old.closing())?;

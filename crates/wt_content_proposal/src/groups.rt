@@ -4,11 +4,20 @@ use crate::joints::source_of;
 use wt_guards::{Role, Stretch, Transclusion, Unit, line_start_hazard};
 use wt_tree::{InlineForm, Kind, Node};
 
+/// Whether a text that begins with a brace may be the start of a table, as it or with what comes after it.
+fn may_begin_table(text: &str) -> bool {
+    match text.as_bytes().get(1) {
+        Some(second) => *second == b'|',
+        None => true,
+    }
+}
+
 /// Whether a text may begin a line: it begins with no sign of a block.
 fn may_begin(text: &str) -> bool {
     match text.chars().next() {
         None => false,
-        Some(first) => !line_start_hazard(first) && first != '{' && first != '|',
+        Some('{') => !may_begin_table(text),
+        Some(first) => !line_start_hazard(first) && first != '|',
     }
 }
 

@@ -108,7 +108,7 @@ pub fn units_from<'u, 'n>(units: &'u [Unit<'n>], at: usize) -> &'u [Unit<'n>] {
     }
 }
 
-/// The bytes that are written first, and those after them; none where there are none.
+/// The bytes of a unit; none where there is none.
 fn source_at<'u>(units: &'u [Unit<'_>], at: usize) -> &'u [u8] {
     match units.get(at) {
         Some(unit) => source_of(unit),
@@ -122,31 +122,91 @@ fn is_blank(byte: u8) -> bool {
 
 // ---- the start of a line
 
-/// Whether a line that goes on so ends with `=` as it is written: what is new there is written otherwise.
-fn may_end_with_equals(units: &[Unit<'_>]) -> bool {
-    for unit in units {
-        let source = source_of(unit);
-        let is_group = matches!(role_of(unit), Some(Role::Group(_)));
-        let is_standing = placed(Some(unit)).is_some();
-        if is_group || (is_standing && source.contains(&b'=')) {
-            return true;
-        }
-        if source.contains(&b'\n') {
-            return false;
+/// The bytes up to the first line break.
+fn line_of(source: &[u8]) -> &[u8] {
+    for at in 0..source.len() {
+        if source[at] == b'\n' {
+            return &source[..at];
         }
     }
-    false
+    source
 }
 
-fn is_rule(source: &[u8], next: &[u8]) -> bool {
-    source.starts_with(b"----") || (source.ends_with(b"-") && next.starts_with(b"-"))
+/// The last byte that is no blank.
+fn last_letter(line: &[u8]) -> Option<u8> {
+    let mut last = None;
+    for byte in line {
+        if !is_blank(*byte) {
+            last = Some(*byte);
+        }
+    }
+    last
+}
+
+/// Whether a line may end with `=` after its part in a unit, by whether it may before that: a brace at its end may be
+/// that of a call, which shows anything, and a `=` that is typed at the end of a line is written otherwise.
+fn may_end_after(unit: &Unit<'_>, line: &[u8], may_before: bool) -> bool {
+    if matches!(role_of(unit), Some(Role::Mark { .. })) {
+        return may_before;
+    }
+    match last_letter(line) {
+        Some(byte) => matches!(unit, Unit::Thing(_)) && (byte == b'=' || byte == b'}'),
+        None => may_before,
+    }
+}
+
+/// Whether a line that goes on so may end with `=` as it is written.
+pub fn may_end_with_equals(units: &[Unit<'_>]) -> bool {
+    let mut may_end = false;
+    for unit in units {
+        if matches!(role_of(unit), Some(Role::Group(_))) {
+            return true;
+        }
+        let source = source_of(unit);
+        let line = line_of(source);
+        may_end = may_end_after(unit, line, may_end);
+        if line.len() < source.len() {
+            return may_end;
+        }
+    }
+    may_end
+}
+
+/// Whether what is written begins with four dashes.
+fn is_rule(units: &[Unit<'_>]) -> bool {
+    let mut count: usize = 0;
+    for unit in units {
+        let source = source_of(unit);
+        let dashes = source.iter().take_while(|byte| **byte == b'-').count();
+        count = count.saturating_add(dashes);
+        if dashes < source.len() {
+            return count > 3;
+        }
+    }
+    count > 3
+}
+
+/// Whether a typed `=` comes first, with nothing but blanks after it in its piece: it is written as a reference.
+fn is_reference(units: &[Unit<'_>]) -> bool {
+    match units.first() {
+        Some(Unit::Text(text)) => {
+            let bytes = text.as_bytes();
+            let blanks = bytes
+                .iter()
+                .skip(1)
+                .take_while(|byte| is_blank(**byte))
+                .count();
+            blanks.saturating_add(1) == bytes.len()
+        }
+        _ => false,
+    }
 }
 
 /// Whether a line of a paragraph that begins with these would be another block.
 fn begins_block(spot: InsidePlace<'_>, first: u8, units: &[Unit<'_>]) -> bool {
     match first {
-        b'-' => is_rule(source_at(units, 0), source_at(units, 1)),
-        b'=' => may_end_with_equals(units),
+        b'-' => is_rule(units),
+        b'=' => !is_reference(units) && may_end_with_equals(units),
         b'!' => spot.in_tables,
         _ => true,
     }
@@ -166,7 +226,7 @@ fn joins_delimiter(spot: InsidePlace<'_>, first: u8, units: &[Unit<'_>]) -> bool
     }
     match spot.place {
         Place::Paragraph => begins_block(spot, first, units),
-        Place::Heading => first == b'=',
+        Place::Heading => first == b'=' && !is_reference(units),
         Place::Item | Place::Term => is_list_sign(first) && !is_blank(spot.before),
         Place::Cell => first == b'-' && spot.before == b'|',
         Place::Header => first == b'!' && spot.before == b'!',

@@ -185,8 +185,8 @@ fn at_end(role: Role) -> Role {
 // ---- the page
 
 /// The page: its source, and its nodes by their numbers. Only where nodes of the edited page come from other
-/// blocks, all of it as one block, and by their numbers which nodes stay without being written anew inside; and
-/// whether it has a table.
+/// blocks, all of it as one block, and by their numbers which nodes stay without being written anew inside; whether
+/// it has a table; and whether it has headings, none of them with a blank before its text.
 #[derive(Drop)]
 pub struct Known<'t, 'a> {
     pub page: &'t str,
@@ -194,6 +194,7 @@ pub struct Known<'t, 'a> {
     pub whole: Option<Block<'t, 'a>>,
     pub staying: Vec<bool>,
     pub has_tables: bool,
+    pub has_tight_headings: bool,
 }
 
 fn has_tables(index: &[Visit<'_, '_>]) -> bool {
@@ -203,6 +204,24 @@ fn has_tables(index: &[Visit<'_, '_>]) -> bool {
         }
     }
     false
+}
+
+fn ends_with_blank(texts: &[Text<'_>]) -> bool {
+    matches!(last_byte(texts), b' ' | b'\t')
+}
+
+/// Whether the page has headings, and none of them has a blank before its text.
+fn has_tight_headings(index: &[Visit<'_, '_>]) -> bool {
+    let mut is_found = false;
+    for visit in index {
+        if matches!(visit.node.kind, Kind::Heading(_)) {
+            if ends_with_blank(visit.node.opening()) {
+                return false;
+            }
+            is_found = true;
+        }
+    }
+    is_found
 }
 
 /// Whether the page's node of this number is a child of the node `holder`.
@@ -316,6 +335,7 @@ impl<'t, 'a> Known<'t, 'a> {
             whole,
             staying,
             has_tables: has_tables(index),
+            has_tight_headings: has_tight_headings(index),
         })
     }
 

@@ -1,7 +1,7 @@
 //! Characters that stay as they were typed where they mean nothing, though `edit` writes references for them: it takes
 //! a typed piece for a whole text, and some characters for signs wherever they are.
 
-use crate::joints::{copy_of, role_of, source_of, units_from};
+use crate::joints::{copy_of, may_end_with_equals, role_of, source_of, units_from};
 use crate::texts::push_letters;
 use std::alloc::Global;
 use wt_guards::{Role, Thing, Unit};
@@ -147,12 +147,9 @@ impl<'t, 'u, 'n> Cut<'t, 'u, 'n> {
         }
     }
 
-    /// Whether a line, or what is written, begins here.
-    fn begins_line(self) -> bool {
-        match self.behind() {
-            Beside::Byte(byte) => byte == b'\n',
-            Beside::Edge | Beside::Unknown => true,
-        }
+    /// Whether the line may end with `=` as it is written. What is typed ends it otherwise.
+    fn may_end_with_equals(self) -> bool {
+        !self.rest.contains(&b'\n') && may_end_with_equals(self.around.units)
     }
 }
 
@@ -177,11 +174,25 @@ fn is_plain_angle(cut: Cut<'_, '_, '_>) -> bool {
     }
 }
 
-/// Whether `=` neither begins nor ends its line.
-fn is_plain_equals(cut: Cut<'_, '_, '_>) -> bool {
-    match cut.ahead(Passed::Blanks) {
-        Beside::Byte(byte) => byte != b'\n' && !cut.begins_line(),
+/// Whether `=` doesn't end its line, nor may it begin a heading or be taken for a sign of one.
+fn is_plain_equals(place: Option<Place>, cut: Cut<'_, '_, '_>) -> bool {
+    let is_within = match cut.ahead(Passed::Blanks) {
+        Beside::Byte(byte) => byte != b'\n',
         Beside::Edge | Beside::Unknown => false,
+    };
+    is_within
+        && match cut.behind() {
+            Beside::Byte(byte) => byte != b'\n' || !cut.may_end_with_equals(),
+            Beside::Edge => may_be_first(place) && !cut.may_end_with_equals(),
+            Beside::Unknown => false,
+        }
+}
+
+/// Whether an inside may begin with `=`.
+fn may_be_first(place: Option<Place>) -> bool {
+    match place {
+        Some(place) => !matches!(place, Place::Heading),
+        None => false,
     }
 }
 
@@ -199,16 +210,16 @@ fn is_plain_bracket(cut: Cut<'_, '_, '_>, byte: u8) -> bool {
         }
 }
 
-/// Whether a character means nothing where it is. In a link's text (`within`, which is that of a tag too) brackets
-/// may end the link.
-fn is_plain(within: bool, cut: Cut<'_, '_, '_>, byte: u8) -> bool {
+/// Whether a character means nothing where it is. In a link's text (without a place, as that of a tag) brackets may
+/// end the link.
+fn is_plain(place: Option<Place>, cut: Cut<'_, '_, '_>, byte: u8) -> bool {
     match byte {
         b'\'' => cut.is_alone(byte),
         b'&' => is_plain_ampersand(cut),
         b'<' => is_plain_angle(cut),
-        b'=' => is_plain_equals(cut),
+        b'=' => is_plain_equals(place, cut),
         b'>' => !cut.around.is_in_tag && !cut.is_behind_dashes(),
-        b'[' | b']' | b'{' | b'}' => !within && is_plain_bracket(cut, byte),
+        b'[' | b']' | b'{' | b'}' => place.is_some() && is_plain_bracket(cut, byte),
         _ => false,
     }
 }
@@ -301,7 +312,7 @@ fn push_text<'u, 'n>(
             rest: from(bytes, end),
             around,
         };
-        if is_plain(place.is_none(), cut, bytes[at]) {
+        if is_plain(place, cut, bytes[at]) {
             push_letters(out, piece(text, start, at))?;
             push_plain(alloc, out, piece(text, at, end))?;
             start = end;

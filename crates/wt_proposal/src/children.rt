@@ -8,7 +8,8 @@ use crate::proposing::{Numbering, Plan, children_between, nodes_between};
 use crate::slot::Slot;
 use std::alloc::Global;
 use wt_block_proposal::{
-    Surroundings, is_cell, is_item, is_lined, is_row_without_sign, push_block, signs_of,
+    Style, Surroundings, USUAL, is_cell, is_item, is_lined, is_row_without_sign, push_block,
+    signs_of, style_of,
 };
 use wt_checks::is_compared;
 use wt_content_proposal::{Known, joined as texts_joined, last_text};
@@ -18,16 +19,19 @@ use wt_span::{NoMemory, Str};
 use wt_tree::{Kind, Node, same_kind};
 
 /// A gap between two children that stay in their turn, or the part of it between two comments or include tags: where
-/// it is, from where on blanks before it count, these two as the page has them, the page's children between them, and
+/// it is, from where on blanks before it count, these two as the page has them, whether the one before is text alone as
+/// it was edited, the page's children between them, and
 /// the edited ones, with the number of the block of the first, whether they are lines of an item, a list or a table,
-/// with no empty line between them, and whether a cell holds them.
+/// with no empty line between them, and whether a cell holds them, or a row without a sign of its own.
 #[derive(Clone, Copy)]
 pub struct Gap<'w, 't, 'a> {
     pub place: Slot,
     pub blanks: usize,
     pub is_tight: bool,
     pub in_cell: bool,
+    pub in_row_without_sign: bool,
     pub before: Option<&'t Node<'a>>,
+    pub is_behind_text: bool,
     pub behind: Option<&'t Node<'a>>,
     pub gone: &'w [Child<'t, 'a>],
     pub new: &'w [Node<'a>],
@@ -235,6 +239,26 @@ fn push_gone(
     Ok(())
 }
 
+/// Whether the cells that go are all those of a row without a sign of its own.
+fn empties_row(gap: Gap<'_, '_, '_>) -> bool {
+    gap.in_row_without_sign && gap.before.is_none() && gap.behind.is_none()
+}
+
+/// Appends the slices that go, and the sign of the row that they leave in place of the first.
+fn push_emptied_row(
+    alloc: Global,
+    out: &mut Vec<Change>,
+    known: &Known<'_, '_>,
+    gap: Gap<'_, '_, '_>,
+    slices: &[Slot],
+) -> Result<(), NoMemory> {
+    if let Some(place) = slices.first() {
+        let sign = Str::copy_of(alloc, "|-")?;
+        push_change(out, *place, sign)?;
+    }
+    push_gone(alloc, out, known, gap, behind_first(slices), 0)
+}
+
 /// The line breaks that are wanted between the two that stay: one before a cell that doesn't go on in a line.
 fn wanted_between(page: &str, gap: Gap<'_, '_, '_>) -> usize {
     let (Some(before), Some(behind)) = (gap.before, gap.behind) else {
@@ -257,7 +281,7 @@ fn first_gone<'t, 'a>(gone: &[Child<'t, 'a>]) -> Option<&'t Node<'a>> {
     None
 }
 
-/// An item of the page that is beside those that come.
+/// A child of the page that is beside those that come.
 fn item_beside<'t, 'a>(gap: Gap<'_, 't, 'a>) -> Option<&'t Node<'a>> {
     gap.before.or(gap.behind).or(first_gone(gap.gone))
 }
@@ -332,6 +356,15 @@ fn tail_of<'t, 'a>(gap: Gap<'_, 't, 'a>, left: usize) -> Option<&'t Node<'a>> {
     }
 }
 
+/// How new items, cells and rows are written in a gap: as those beside them, where texts keep their bytes.
+fn style_in(gap: Gap<'_, '_, '_>, keeps: bool) -> Style {
+    if keeps {
+        style_of(item_beside(gap))
+    } else {
+        USUAL
+    }
+}
+
 /// What comes, with line breaks between; nothing where nothing does.
 fn coming_of<'t, 'a>(
     alloc: Global,
@@ -351,6 +384,7 @@ fn coming_of<'t, 'a>(
                 keeps: plan.keeps(block.number),
                 signs: signs.as_str(),
                 tail: tail_of(gap, left),
+                style: style_in(gap, plan.keeps(block.number)),
             };
             coming = Some(followed(alloc, gap.is_tight, coming, around, node)?);
             block = block.next();
@@ -508,6 +542,22 @@ fn joins_line(page: &str, gap: Gap<'_, '_, '_>, coming: &Coming) -> bool {
         && coming.is_of_line
 }
 
+/// Whether what comes is one cell after the last one of a line, in which no blanks are beside the signs.
+fn comes_last_in_line(page: &str, gap: Gap<'_, '_, '_>, coming: &Coming) -> bool {
+    let Some(before) = gap.before else {
+        return false;
+    };
+    gap.behind.is_none()
+        && gap.is_behind_text
+        && is_cell(coming.first)
+        && same_kind(before.kind, coming.first)
+        && count_of(gap.new) == 1
+        && coming.is_of_line
+        && style_of(gap.before).is_tight
+        && is_doubled(page, before)
+        && most_breaks(page, range_of(before).start, range_of(before).end) == 0
+}
+
 /// Whether what comes is one cell in the place of one that went on in the line of the cell before, which has its kind.
 fn takes_place_in_line(page: &str, gap: Gap<'_, '_, '_>, coming: &Coming, at: usize) -> bool {
     let Some(before) = gap.before else {
@@ -546,7 +596,8 @@ fn push_new(
     let before = breaks_before(page, gap, !slices.is_empty(), coming.first, place.start);
     let behind = breaks_behind(page, gap, &coming, end, to);
     let mut by = Str::new(alloc);
-    if slices.is_empty() && joins_line(page, gap, &coming) {
+    let is_in_line = joins_line(page, gap, &coming) || comes_last_in_line(page, gap, &coming);
+    if slices.is_empty() && is_in_line {
         push_in_line(&mut by, coming.source.as_str())?;
         return push_change(out, place, by);
     }
@@ -631,7 +682,9 @@ impl Passed {
             blanks: self.blanks,
             is_tight: gap.is_tight,
             in_cell: gap.in_cell,
+            in_row_without_sign: gap.in_row_without_sign,
             before: gap.before,
+            is_behind_text: gap.is_behind_text,
             behind: gap.behind,
             gone: children_between(gap.gone, self.gone, gone),
             new: nodes_between(gap.new, self.new, new),
@@ -705,6 +758,9 @@ fn push_part<'t, 'a>(
     let slices = slices_of(alloc, gap.gone)?;
     let coming = coming_of(alloc, plan, outer, gap)?;
     match coming {
+        None if empties_row(gap) => {
+            push_emptied_row(alloc, out, plan.known, gap, slices.as_slice())
+        }
         None => push_gone(
             alloc,
             out,

@@ -14,8 +14,8 @@ use crate::slots::{
 };
 use crate::testing::tested;
 use std::alloc::Global;
-use wt_block_proposal::{is_cell, is_list, signs_of};
-use wt_checks::Visit;
+use wt_block_proposal::{is_bare_sign, is_cell, is_list, is_row_without_sign, signs_of, style_of};
+use wt_checks::{Visit, is_compared};
 use wt_content_proposal::{Known, Writing, block_of, edges_of, spelled};
 use wt_difference::{Child, held, inside, same_inside};
 use wt_selser::{Change, place_in};
@@ -85,6 +85,14 @@ impl Numbering {
 
 // ---- insides
 
+/// Whether a blank is written at a place of the page, where there was none.
+fn is_behind_blank(changes: &[Change], at: usize) -> bool {
+    match changes.last() {
+        Some(change) => change.start == at && change.end == at && change.by.as_str() == " ",
+        None => false,
+    }
+}
+
 /// Appends the inside of a node of the page, spelled as it was edited.
 fn push_inside<'t, 'a>(
     alloc: Global,
@@ -97,12 +105,16 @@ fn push_inside<'t, 'a>(
     if same_inside(alloc, old, new)? {
         return Ok(());
     }
-    let standing = block_of(alloc, old)?;
+    let start = inside_start(old.ranges);
+    let mut standing = block_of(alloc, old)?;
+    if is_behind_blank(out.as_slice(), start) {
+        standing.before = b' ';
+    }
     let keeps = plan.keeps(number);
     let writing = Writing::of(plan.known, Some(&standing), keeps, place_in(old.kind));
     let by = spelled(alloc, writing, inside(new), edges_of(inside(old)))?;
     let place = Slot {
-        start: inside_start(old.ranges),
+        start,
         end: inside_end(old),
     };
     push_change(out, place, by)
@@ -110,13 +122,14 @@ fn push_inside<'t, 'a>(
 
 // ---- children
 
-/// The children that a node of the page holds, the signs with which it begins where it is an item, its kind, its
-/// number, and where its children begin and end.
+/// The children that a node of the page holds, the signs with which it begins where it is an item, its kind, whether it
+/// is a row without a sign of its own, its number, and where its children begin and end.
 #[derive(Clone, Copy)]
 struct Held<'w, 't, 'a> {
     children: &'w [Child<'t, 'a>],
     signs: &'w str,
     kind: Kind,
+    is_without_sign: bool,
     number: u32,
     begun: Reached,
     stop: usize,
@@ -133,11 +146,13 @@ struct Line {
     block: Numbering,
 }
 
-/// A gap, by how many of the page's children come before it, and before what comes after it.
+/// A gap, by how many of the page's children come before it, whether the last of them is text alone as it was edited,
+/// and by how many come before what comes after it.
 #[derive(Clone, Copy)]
 struct Span {
     place: Slot,
     from: usize,
+    is_behind_text: bool,
     to: usize,
     is_last: bool,
     first: Numbering,
@@ -190,11 +205,23 @@ impl Line {
         }
     }
 
+    /// Whether the edited child before those that come, one of these, is text alone.
+    fn is_behind_text(self, nodes: &[Node<'_>]) -> bool {
+        match self.came_from.checked_sub(1) {
+            Some(at) => match nodes.get(at) {
+                Some(node) => inside(node).len() == node.children.as_slice().len(),
+                None => false,
+            },
+            None => false,
+        }
+    }
+
     /// The gap before a child that passes so many of the page's children, itself the last of them.
-    fn span(self, place: Slot, passed: usize) -> Span {
+    fn span(self, nodes: &[Node<'_>], place: Slot, passed: usize) -> Span {
         Span {
             place,
             from: self.from,
+            is_behind_text: self.is_behind_text(nodes),
             to: self.from.saturating_add(passed).saturating_sub(1),
             is_last: false,
             first: self.first,
@@ -202,13 +229,14 @@ impl Line {
     }
 
     /// The gap after the last child that stays in its turn.
-    fn last_span(self, held: Held<'_, '_, '_>) -> Span {
+    fn last_span(self, nodes: &[Node<'_>], held: Held<'_, '_, '_>) -> Span {
         Span {
             place: Slot {
                 start: self.reached.end,
                 end: held.stop,
             },
             from: self.from,
+            is_behind_text: self.is_behind_text(nodes),
             to: held.children.len(),
             is_last: true,
             first: self.first,
@@ -275,13 +303,51 @@ fn push_span<'t, 'a>(
         blanks: span.place.start,
         is_tight: !held.signs.is_empty() || holds_parts(held.kind),
         in_cell: is_cell(held.kind),
+        in_row_without_sign: held.is_without_sign,
         before: node_at(held.children, span.from.checked_sub(1)),
+        is_behind_text: span.is_behind_text,
         behind,
         gone: children_between(held.children, span.from, span.to),
         new,
         first: span.first,
     };
     push_gap(alloc, out, plan, held.signs, gap)
+}
+
+/// The part of a list or a table that is beside one in its turn, which passes so many of the page's: the one before it,
+/// or the one after it.
+fn part_beside<'t, 'a>(held: Held<'_, 't, 'a>, from: usize, passed: usize) -> Option<&'t Node<'a>> {
+    let next = from.saturating_add(passed);
+    let before = node_at(held.children, from.checked_sub(1));
+    before
+        .or(part_at(held.children, next))
+        .or(part_at(held.children, next.saturating_add(1)))
+}
+
+/// The item, cell or other compared node at a place.
+fn part_at<'t, 'a>(children: &[Child<'t, 'a>], at: usize) -> Option<&'t Node<'a>> {
+    let node = node_at(children, Some(at))?;
+    if is_compared(node.kind) {
+        Some(node)
+    } else {
+        None
+    }
+}
+
+/// Appends the blank after the sign of an empty part that is filled, unless the one beside it has text and none.
+fn push_blank(
+    alloc: Global,
+    out: &mut Vec<Change>,
+    new: &Node<'_>,
+    old: &Node<'_>,
+    beside: Option<&Node<'_>>,
+) -> Result<(), NoMemory> {
+    if !is_bare_sign(old) || style_of(beside).is_tight || same_inside(alloc, old, new)? {
+        return Ok(());
+    }
+    let start = inside_start(old.ranges);
+    let blank = Str::copy_of(alloc, " ")?;
+    push_change(out, Slot { start, end: start }, blank)
 }
 
 /// Appends what is written anew of a node's children.
@@ -306,15 +372,26 @@ fn push_children<'t, 'a>(
         let turn = next_turn(plan.known.index, beside, child);
         if let Some(place) = turn.gap {
             let new = nodes_between(nodes, line.came_from, at);
-            push_span(alloc, out, plan, held, new, line.span(place, turn.passed))?;
+            push_span(
+                alloc,
+                out,
+                plan,
+                held,
+                new,
+                line.span(nodes, place, turn.passed),
+            )?;
         }
         if let Some(within) = turn.within {
+            if plan.keeps(line.block.number) {
+                let beside = part_beside(held, line.from, turn.passed);
+                push_blank(alloc, out, child, within, beside)?;
+            }
             push_node(alloc, out, plan, child, within, line.block.inside())?;
         }
         line = line.behind(turn.passed, turn.reached, at);
     }
     let new = nodes_between(nodes, line.came_from, nodes.len());
-    push_span(alloc, out, plan, held, new, line.last_span(held))
+    push_span(alloc, out, plan, held, new, line.last_span(nodes, held))
 }
 
 /// Appends what is written anew of a node of the page that stays.
@@ -335,6 +412,7 @@ fn push_node<'t, 'a>(
         children: children.as_slice(),
         signs: signs.as_str(),
         kind: old.kind,
+        is_without_sign: is_row_without_sign(old),
         number: old.id,
         begun,
         stop: inside_stop(old.ranges),

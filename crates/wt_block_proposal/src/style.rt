@@ -1,0 +1,104 @@
+//! How parts of lists and tables that are new are written: as those beside them in the page.
+
+use crate::kinds::{is_cell, is_item};
+use wt_difference::inside;
+use wt_span::Text;
+use wt_tree::{Kind, Node};
+
+/// How parts are written: whether no blank comes after their signs, and whether the cells of a row are in one line.
+#[derive(Clone, Copy)]
+pub struct Style {
+    pub is_tight: bool,
+    pub is_one_line: bool,
+}
+
+/// A blank after each sign, and each cell on a line of its own.
+pub const USUAL: Style = Style {
+    is_tight: false,
+    is_one_line: false,
+};
+
+fn ends_with_blank(texts: &[Text<'_>]) -> bool {
+    match texts.last() {
+        Some(text) => text.as_str().ends_with(" ") || text.as_str().ends_with("\t"),
+        None => false,
+    }
+}
+
+/// Whether an item or a cell of the page has a sign, and no blank after it.
+fn ends_with_sign(part: &Node<'_>) -> bool {
+    !part.opening().is_empty() && !ends_with_blank(part.opening())
+}
+
+/// Whether an item, a cell or a caption of the page is empty, with no blank after its sign.
+pub fn is_bare_sign(part: &Node<'_>) -> bool {
+    let has_sign = is_item(part.kind) || is_cell(part.kind) || matches!(part.kind, Kind::Caption);
+    has_sign && inside(part).is_empty() && ends_with_sign(part)
+}
+
+/// Whether an item or a cell of the page has text, and no blank before it.
+fn is_tight(part: &Node<'_>) -> bool {
+    ends_with_sign(part) && !inside(part).is_empty()
+}
+
+/// Whether a cell of the page goes on in the line of the one before it.
+fn is_doubled(cell: &Node<'_>) -> bool {
+    match cell.opening().first() {
+        Some(text) => text.as_str().starts_with("||") || text.as_str().starts_with("!!"),
+        None => false,
+    }
+}
+
+/// How the cells of a row of several are written: tight where all of them are, and in one line where all but the
+/// first go on in it.
+fn style_of_row(row: &Node<'_>) -> Style {
+    let mut style = Style {
+        is_tight: true,
+        is_one_line: true,
+    };
+    let mut count: usize = 0;
+    for cell in row.children.as_slice() {
+        if is_cell(cell.kind) {
+            style = Style {
+                is_tight: style.is_tight && is_tight(cell),
+                is_one_line: style.is_one_line && (count == 0 || is_doubled(cell)),
+            };
+            count = count.saturating_add(1);
+        }
+    }
+    if count > 1 { style } else { USUAL }
+}
+
+/// How a new item, cell or row is written beside this one of the page.
+pub fn style_of(part: Option<&Node<'_>>) -> Style {
+    match part {
+        Some(part) if matches!(part.kind, Kind::Tr) => style_of_row(part),
+        Some(part) if is_item(part.kind) || is_cell(part.kind) => Style {
+            is_tight: is_tight(part),
+            is_one_line: false,
+        },
+        _ => USUAL,
+    }
+}
+
+/// Whether what is written may come directly after the sign of an item or a cell.
+fn may_follow_sign(inside: &str) -> bool {
+    match inside.as_bytes().first() {
+        Some(byte) => !matches!(
+            *byte,
+            b' ' | b'\t' | b'*' | b'#' | b':' | b';' | b'-' | b'+' | b'|' | b'!' | b'{' | b'}'
+        ),
+        None => false,
+    }
+}
+
+impl Style {
+    /// The blank between a sign and what is written after it.
+    pub fn blank_before(self, inside: &str) -> &'static str {
+        if self.is_tight && may_follow_sign(inside) {
+            ""
+        } else {
+            " "
+        }
+    }
+}
