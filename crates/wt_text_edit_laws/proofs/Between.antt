@@ -9,4 +9,5 @@ pub mod Shown
 pub mod TextReads
 pub mod BraceWords
 pub mod NoCalls
+pub mod LessBraces
 mod Cases

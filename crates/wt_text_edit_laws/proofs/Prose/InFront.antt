@@ -1,6 +1,6 @@
 -- What is spelled of a text reads the same in front of whatever is read behind it: its items stand first, and all its words show something.
 use Rattle.std.proofs.Common.{arith, ◌≡◌, ℕ, suc, ◌-◌, ◌≤◌, ◌==◌, Bool, true, false, List, [], ◌∷◌, ◌++◌, length, map, refl, sym, ap, ◌∙◌, subst, append-nil, append_assoc, Some, None, inl, inr, All}
-use Rattle.std.specs.Prelude.{codes, encode_utf8, if◌then◌else◌}
+use Rattle.std.specs.Prelude.{◌||◌, codes, encode_utf8, if◌then◌else◌}
 use Rattle.std.specs.Str.{chars}
 use Rattle.std.proofs.lemmas.Bool.{cases_lt}
 use Rattle.std.proofs.lemmas.List.Elements.{All-head, All-tail}
@@ -72,19 +72,55 @@ reads_form kind b q rest xs k f c r =
     let at = λ (after : Bool). either_flag Page after (b ∷ (q ++ rest)) c ∙ f in
     record { items = items_form kind b q rest xs at r.items; shown = form_shown kind b q rest k at r.shown; begins = c }
 
+-- ---- no braces
+
+abbrev pub is_brace : ℕ → Bool
+is_brace b = b == 123 || b == 125
+
+-- no character is a brace; those of a reference or a nowiki don't count
+abbrev pub AreUnbraced : List Item → Type 0
+AreUnbraced [] = Unit {0}
+AreUnbraced (char o b ∷ xs) = (is_brace b ≡ false) × AreUnbraced xs
+AreUnbraced (whole f o bs ∷ xs) = AreUnbraced xs
+
+both_false : (a b : Bool) → a ≡ false → b ≡ false → (a || b) ≡ false
+both_false true b e f = e
+both_false false b e f = f
+
+wide_other : (b k : ℕ) → 128 ≤ b → k ≤ 127 → (b == k) ≡ false
+wide_other b k w le = elim (equal_or b k) [
+  | inl i ↦ absurd (omega (arith, i, w, le))
+  | inr n ↦ n
+]
+
+wide_unbraced : (b : ℕ) → 128 ≤ b → is_brace b ≡ false
+wide_unbraced b w = both_false (b == 123) (b == 125) (wide_other b 123 w (omega arith)) (wide_other b 125 w (omega arith))
+
+brackets_none : (a b c d e f : Bool) → (a || (b || (c || (d || (e || f))))) ≡ false → (c || d) ≡ false
+brackets_none false false false false e f h = refl
+brackets_none false false false true e f h = absurd (cc)
+brackets_none false false true d e f h = absurd (cc)
+brackets_none false true c d e f h = absurd (cc)
+brackets_none true b c d e f h = absurd (cc)
+
+bracket_unbraced : (c : ℕ) → is_bracket c ≡ false → is_brace c ≡ false
+bracket_unbraced c h = brackets_none (c == 91) (c == 93) (c == 123) (c == 125) (c == 124) (c == 62) h
+
 -- ---- what stands in front
 
 pub record InFront (q : List ℕ) : Type 0 where
   pub items : List Item
+  pub unbraced : AreUnbraced items
   pub reads : (rest : List ℕ) (xs : List Item) → Reads rest xs → Reads (q ++ rest) (items ++ xs)
 
 pub front_nothing : InFront []
-front_nothing = record { items = []; reads = λ rest xs r. r }
+front_nothing = record { items = []; unbraced = tt; reads = λ rest xs r. r }
 
-pub front_byte : (b : ℕ) (q : List ℕ) → ((rest : List ℕ) → form_at Page false (b ∷ (q ++ rest)) ≡ None)
+pub front_byte : (b : ℕ) (q : List ℕ) → is_brace b ≡ false → ((rest : List ℕ) → form_at Page false (b ∷ (q ++ rest)) ≡ None)
     → ((rest : List ℕ) → comment_len (b ∷ (q ++ rest)) ≡ None) → InFront q → InFront (b ∷ q)
-front_byte b q f c g = record {
+front_byte b q u f c g = record {
   items = char None b ∷ g.items;
+  unbraced = (u, g.unbraced);
   reads = λ rest xs r. reads_byte b (q ++ rest) (g.items ++ xs) (f rest) (c rest) (g.reads rest xs r);
 }
 
@@ -94,6 +130,7 @@ front_nowiki : (q : List ℕ) → InFront q → InFront (nowiki ++ q)
 unfolding nowiki comment_len opening_tag tag_after
 front_nowiki q g = record {
   items = whole form.Nowiki None nowiki ∷ g.items;
+  unbraced = g.unbraced;
   reads = λ rest xs r. let h = g.reads rest xs r in reads_form Raw 60 (codes "nowiki/>") (q ++ rest) (g.items ++ xs) tt (nowiki_form Page (q ++ rest))
       (uncommented_other 60 (codes "nowiki/>" ++ (q ++ rest)) refl refl) h;
 }
@@ -110,6 +147,7 @@ front_reference c q e g =
     let own : List ℕ = 38 ∷ r.others in
     subst (λ bs. InFront (bs ++ q)) (sym r.is) (record {
       items = whole (form.Entity c) None own ∷ g.items;
+      unbraced = g.unbraced;
       reads = λ rest xs k. let h = g.reads rest xs k in
           subst (λ bs. Reads bs (whole (form.Entity c) None own ∷ (g.items ++ xs))) (sym (append_assoc own q rest))
           (reads_form (Entity c) 38 r.others (q ++ rest) (g.items ++ xs) tt (f (q ++ rest))
@@ -122,7 +160,7 @@ front_wide : (bs q : List ℕ) → All IsWide bs → InFront q → InFront (bs +
 front_wide [] q h g = g
 front_wide (b ∷ bs) q h g =
     let w : 128 ≤ b = All-head IsWide b bs h in
-    front_byte b (bs ++ q) (λ rest. other_byte Page b ((bs ++ q) ++ rest) (wide_form b w)) (λ rest. comment_other b ((bs ++ q) ++ rest) (omega (arith, w)))
+    front_byte b (bs ++ q) (wide_unbraced b w) (λ rest. other_byte Page b ((bs ++ q) ++ rest) (wide_form b w)) (λ rest. comment_other b ((bs ++ q) ++ rest) (omega (arith, w)))
     (front_wide bs q (All-tail IsWide b bs h) g)
 
 front_less : (s : Setting) (before : List ContentSign) (cs : List ℕ) → is_escaped s.within s.place before 60 (map letter cs) ≡ false
@@ -131,7 +169,7 @@ unfolding is_escaped
 front_less s before [] e g = cc
 front_less s before (d ∷ ds) e g =
     let n = begin_next IsTame s 60 d before ds refl refl (refl, omega arith, omega arith) (λ h. tame_if d e) wide_tame in
-    front_byte 60 (after_it s 60 before (d ∷ ds))
+    front_byte 60 (after_it s 60 before (d ∷ ds)) refl
     (λ rest. ap (λ bs. form_at Page false (60 ∷ (bs ++ rest))) n.is ∙ less_byte Page n.first (n.others ++ rest) n.fits)
     (λ rest. ap (λ bs. comment_len (60 ∷ (bs ++ rest))) n.is ∙ comment_not n.first (n.others ++ rest) n.fits.1) g
 
@@ -141,13 +179,14 @@ unfolding is_escaped
 front_and s before [] e g = cc
 front_and s before (d ∷ ds) e g =
     let n = begin_next IsMild s 38 d before ds refl refl (refl, omega arith) (λ h. mild_if d e) wide_mild in
-    front_byte 38 (after_it s 38 before (d ∷ ds))
+    front_byte 38 (after_it s 38 before (d ∷ ds)) refl
     (λ rest. ap (λ bs. form_at Page false (38 ∷ (bs ++ rest))) n.is ∙ and_byte Page n.first (n.others ++ rest) n.fits.0 n.fits.1)
     (λ rest. comment_other 38 (after_it s 38 before (d ∷ ds) ++ rest) (omega arith)) g
 
 front_equals : (q : List ℕ) → InFront q → InFront (61 ∷ q)
 front_equals q g = record {
   items = char None 61 ∷ g.items;
+  unbraced = (refl, g.unbraced);
   reads = λ rest xs r. let h = g.reads rest xs r in
       reads_form Equals 61 [] (q ++ rest) (g.items ++ xs) tt (equals_byte Page (q ++ rest))
       (uncommented_other 61 (q ++ rest) refl (comment_other 61 (q ++ rest) (omega arith))) h;
@@ -155,7 +194,7 @@ front_equals q g = record {
 
 front_other : (c : ℕ) (q : List ℕ) → is_bracket c ≡ false → (c == 60) ≡ false → (c == 38) ≡ false → (c == 61) ≡ false → InFront q → InFront (c ∷ q)
 front_other c q b l a e g =
-    front_byte c q (λ rest. other_byte Page c (q ++ rest) (no_form_byte c b l a e)) (λ rest. comment_other c (q ++ rest) (apart c 60 l)) g
+    front_byte c q (bracket_unbraced c b) (λ rest. other_byte Page c (q ++ rest) (no_form_byte c b l a e)) (λ rest. comment_other c (q ++ rest) (apart c 60 l)) g
 
 front_small : (s : Setting) (before : List ContentSign) (c : ℕ) (cs : List ℕ) → is_escaped s.within s.place before c (map letter cs) ≡ false
     → InFront (after_it s c before cs) → InFront (c ∷ after_it s c before cs)
@@ -200,6 +239,12 @@ pub its_items : (q : List ℕ) (g : InFront q) → page_items q ≡ g.items
 its_items q g =
     let r : Reads (q ++ []) (g.items ++ []) = g.reads [] [] reads_nothing in
     ap page_items (sym (append-nil q)) ∙ items_are (q ++ []) (g.items ++ []) r.items ∙ append-nil g.items
+
+-- typed text has no braces
+pub spelled_unbraced : (s : Setting) (text : List ℕ) → AreUnbraced (page_items (spelled s (letters text)))
+spelled_unbraced s text =
+    let g : InFront (spelled s (letters text)) = front_from s [] (chars text) in
+    subst AreUnbraced (sym (its_items (spelled s (letters text)) g)) g.unbraced
 
 pub typed_front : (s : Setting) (text rest : List ℕ) (xs : List Item) → Reads rest xs
     → Reads (spelled s (letters text) ++ rest) (page_items (spelled s (letters text)) ++ xs)
