@@ -13,21 +13,21 @@ use Rattle.wt_text_edit_laws.specs.BlockSpots.{BlockSpot, spots_source}
 use Rattle.wt_text_edit_laws.specs.BlockEdits.{Typing, types, keeps, SpotEdit, BlockEdit}
 
 -- a paragraph or heading of the page, and the text that is typed in it, if any is
-pub record Turn : Type 0 where
+pub record TypedSpot : Type 0 where
   pub spot : BlockSpot
   pub text : Option (List ℕ)
 
-abbrev pub turn_spots : List Turn → List BlockSpot
-turn_spots rs = map (λ r. r.spot) rs
+abbrev pub spots_of : List TypedSpot → List BlockSpot
+spots_of rs = map (λ r. r.spot) rs
 
 -- any text, and in a heading one line
-abbrev pub IsTurn : TextBlock → Option (List ℕ) → Type 0
-IsTurn k (Some text) = IsUtf8 text × Takes (block_of k) text
-IsTurn k None = Unit {0}
+abbrev pub IsTypedSpot : TextBlock → Option (List ℕ) → Type 0
+IsTypedSpot k (Some text) = IsUtf8 text × Takes (block_of k) text
+IsTypedSpot k None = Unit {0}
 
-abbrev pub AreTurns : List Turn → Type 0
-AreTurns [] = Unit {0}
-AreTurns (r ∷ rs) = IsTurn r.spot.block r.text × AreTurns rs
+abbrev pub AreTypedSpots : List TypedSpot → Type 0
+AreTypedSpots [] = Unit {0}
+AreTypedSpots (r ∷ rs) = IsTypedSpot r.spot.block r.text × AreTypedSpots rs
 
 -- ---- nodes of the page
 
@@ -58,18 +58,18 @@ typing_by l (Some text) ts = types l l text
 typing_by l None none = keeps (tree l none)
 typing_by l None (more t ts) = keeps (unmarked t)
 
-abbrev pub own_spots : Label → List Turn → Trees → List SpotEdit
+abbrev pub own_spots : Label → List TypedSpot → Trees → List SpotEdit
 own_spots l [] ts = []
 own_spots l (r ∷ rs) ts =
     let rest : Trees = nodes_behind (block_count r.spot.before) ts in
     record { spot = r.spot; others = first_nodes (block_count r.spot.before) ts; typing = typing_by l r.text rest } ∷ own_spots l rs (past_one rest)
 
 -- the nodes behind the last paragraph or heading
-abbrev pub last_nodes : List Turn → Trees → Trees
+abbrev pub last_nodes : List TypedSpot → Trees → Trees
 last_nodes [] ts = ts
 last_nodes (r ∷ rs) ts = last_nodes rs (past_one (nodes_behind (block_count r.spot.before) ts))
 
-abbrev pub own_edit : Label → List Turn → List ℕ → BlockEdit
+abbrev pub own_edit : Label → List TypedSpot → List ℕ → BlockEdit
 own_edit l rs behind =
-    let ts : Trees = children (part_tree (spots_source (turn_spots rs) behind)) in
+    let ts : Trees = children (part_tree (spots_source (spots_of rs) behind)) in
     record { spots = own_spots l rs ts; behind = behind; others = first_nodes (block_count behind) (last_nodes rs ts) }

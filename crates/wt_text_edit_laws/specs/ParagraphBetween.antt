@@ -1,6 +1,7 @@
 -- A typed paragraph of a page, and what may stand before and behind it so that neither becomes a part of the other.
 use Rattle.std.specs.Prelude.{◌≡◌, ℕ, false, None, List, [], ◌∷◌, ◌++◌, if◌then◌else◌}
 use Rattle.std.specs.List.{list_all}
+use Rattle.wt_span.specs.Characters as byte
 use Rattle.wt_tree.specs.declared.kind.Kind.TheVariants as kind
 use Rattle.wt_span.specs.Items.{Item, char, is_mark}
 use Rattle.wt_lines.specs.Lines.{empty_end, full_lines}
@@ -63,7 +64,7 @@ BeginApart (r ∷ rs) = is_text r.kind ≡ false
 -- a heading, a list, a table.
 abbrev pub EndsParagraph : List Item → Type 0
 EndsParagraph [] = Unit {0}
-EndsParagraph (y ∷ ys) = (y ≡ char None 10) × BeginApart (rows ys)
+EndsParagraph (y ∷ ys) = (y ≡ char None byte.line_break) × BeginApart (rows ys)
 
 -- ---- the page
 

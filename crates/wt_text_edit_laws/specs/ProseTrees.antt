@@ -1,6 +1,7 @@
 -- What prose means as a page: a body with a paragraph for each of its paragraphs, and a separator for the line breaks after it.
 use Rattle.std.specs.Prelude.{ℕ, zero, suc, List, [], ◌∷◌, replicate}
 use Rattle.std.specs.List.{flat_map}
+use Rattle.wt_span.specs.Characters as byte
 use Rattle.wt_tree.specs.declared.kind.Kind.TheVariants as kind
 use Rattle.wt_tree.specs.Tree.{Tree}
 use Rattle.wt_inline.specs.declared.loose.Loose.TheVariants.{Sep}
@@ -16,7 +17,7 @@ use Rattle.wt_text_edit_laws.specs.ProsePages.{Passage}
 -- one separator for all line breaks side by side
 abbrev pub separator : ℕ → List ItemTree
 separator zero = []
-separator (suc n) = loose_leaf Sep (page_chars (replicate (suc n) 10)) ∷ []
+separator (suc n) = loose_leaf Sep (page_chars (replicate (suc n) byte.line_break)) ∷ []
 
 abbrev pub passage_blocks : Passage → List ItemTree
 passage_blocks p = para_of (page_items p.paragraph) ∷ separator p.breaks

@@ -72,32 +72,28 @@ abbrev pub NoBreaks : List Item → Type 0
 NoBreaks [] = Unit {0}
 NoBreaks (x ∷ xs) = (is_break_item x ≡ false) × NoBreaks xs
 
-abbrev pub BeginsSeen : List ℕ → Type 0
-BeginsSeen [] = ⊥
-BeginsSeen (s ∷ ss) = is_blank s ≡ false
+-- there is a first sign, and it doesn't pass this test
+abbrev pub BeginsWithout : (ℕ → Bool) → List ℕ → Type 0
+BeginsWithout test [] = ⊥
+BeginsWithout test (s ∷ ss) = test s ≡ false
 
-abbrev pub EndsSeen : List ℕ → Type 0
-EndsSeen [] = ⊥
-EndsSeen (s ∷ []) = is_blank s ≡ false
-EndsSeen (s ∷ t ∷ ss) = EndsSeen (t ∷ ss)
+-- there is a last one, and it doesn't
+abbrev pub EndsWithout : (ℕ → Bool) → List ℕ → Type 0
+EndsWithout test [] = ⊥
+EndsWithout test (s ∷ []) = test s ≡ false
+EndsWithout test (s ∷ t ∷ ss) = EndsWithout test (t ∷ ss)
+
+abbrev pub is_equals_sign : ℕ → Bool
+is_equals_sign s = s == byte.equals_sign
 
 -- One text on one line, in which no link, style, switch or address is, and of which the first and the last are no blank.
 pub record IsHeadingText (xs : List Item) : Type 0 where
   pub is_one : line_parts xs ≡ parts Text xs
   pub unbroken : NoBreaks xs
-  pub begins : BeginsSeen (map sign xs)
-  pub ends : EndsSeen (map sign xs)
+  pub begins : BeginsWithout is_blank (map sign xs)
+  pub ends : EndsWithout is_blank (map sign xs)
 
 -- ---- where its `=` end
-
-abbrev pub BeginsOther : List ℕ → Type 0
-BeginsOther [] = ⊥
-BeginsOther (s ∷ ss) = (s == byte.equals_sign) ≡ false
-
-abbrev pub EndsOther : List ℕ → Type 0
-EndsOther [] = ⊥
-EndsOther (s ∷ []) = (s == byte.equals_sign) ≡ false
-EndsOther (s ∷ t ∷ ss) = EndsOther (t ∷ ss)
 
 -- what is between the first `=` and the last
 abbrev pub between : Sides → List Item → List ℕ
@@ -109,8 +105,8 @@ IsOfLevel s xs = level (heading_line s xs) ≡ s.level
 
 -- It neither begins nor ends with one more `=`.
 pub record StandsApart (s : Sides) (xs : List Item) : Type 0 where
-  pub first : BeginsOther (between s xs)
-  pub last : EndsOther (between s xs)
+  pub first : BeginsWithout is_equals_sign (between s xs)
+  pub last : EndsWithout is_equals_sign (between s xs)
 
 -- ---- what follows it
 

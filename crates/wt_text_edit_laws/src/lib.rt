@@ -55,7 +55,7 @@ ghost use Rattle.wt_text_edit_laws.specs.TypedHeadings.{Sides, AreSides, heading
 ghost use Rattle.wt_text_edit_laws.specs.Parts.{part_tree};
 ghost use Rattle.wt_text_edit_laws.specs.BlockSpots.{BlockSpot, spots_source, page_blocks, AreBlockSpots, SameRound, AreBlocks};
 ghost use Rattle.wt_text_edit_laws.specs.BlockEdits.{BlockEdit, new_spots, old_page, new_page, sent_page, IsBlockEdit};
-ghost use Rattle.wt_text_edit_laws.specs.OwnNodes.{Turn, turn_spots, AreTurns, own_edit};
+ghost use Rattle.wt_text_edit_laws.specs.OwnNodes.{TypedSpot, spots_of, AreTypedSpots, own_edit};
 ghost use Rattle.wt_text_edit_laws.specs.UnmarkedBlocks.{unmarked_page, IsUnmarkedBlockEdit};
 ghost use Rattle.wt_text_edit_laws.specs.Calls.{TakesTexts};
 
@@ -310,7 +310,7 @@ pub fn typed_blocks_take_any_texts()
 /// There is such an edit of each such page, with any texts: the one that sends every other node as it is in the page,
 /// without marks.
 pub fn pages_have_such_edits()
-    ensures { (l : Label) (rs : List Turn) (behind : List ℕ) → AreBlockSpots (turn_spots rs) behind → AreTurns rs
+    ensures { (l : Label) (rs : List TypedSpot) (behind : List ℕ) → AreBlockSpots (spots_of rs) behind → AreTypedSpots rs
         → IsBlockEdit (own_edit l rs behind) }
 {}
 

@@ -14,7 +14,7 @@ use Rattle.wt_text_edit_laws.specs.Parts.{part_tree}
 use Rattle.wt_text_edit_laws.specs.TextBlocks.{TextBlock}
 use Rattle.wt_text_edit_laws.specs.BlockSpots.{BlockSpot, spots_source, AreBlockSpots}
 use Rattle.wt_text_edit_laws.specs.BlockEdits.{Sending, old_spots, all_kept, sending_for, spot_sendings, AreKept, IsSentFor, AreSentFor, IsText, AreTexts, IsBlockEdit}
-use Rattle.wt_text_edit_laws.specs.OwnNodes.{Turn, turn_spots, IsTurn, AreTurns, first_nodes, nodes_behind, past_one, block_count, typing_by, own_spots, last_nodes, own_edit}
+use Rattle.wt_text_edit_laws.specs.OwnNodes.{TypedSpot, spots_of, IsTypedSpot, AreTypedSpots, first_nodes, nodes_behind, past_one, block_count, typing_by, own_spots, last_nodes, own_edit}
 use Rattle.wt_text_edit_laws.proofs.Blocks.BlockTrees.{leaf_block, leafy_blocks, spots_tree}
 
 -- ---- a node without marks stands as it is
@@ -44,7 +44,7 @@ kept_one k l text none ds h = tt
 kept_one k l (Some text) (more t ts) ds h = h
 kept_one k l None (more t ts) ds h = (stands_unmarked t, h)
 
-kept_own : (l : Label) (rs : List Turn) (n : ℕ) (ts : Trees) → AreKept (spot_sendings (own_spots l rs ts) (first_nodes n (last_nodes rs ts))) ts
+kept_own : (l : Label) (rs : List TypedSpot) (n : ℕ) (ts : Trees) → AreKept (spot_sendings (own_spots l rs ts) (first_nodes n (last_nodes rs ts))) ts
 kept_own l [] n ts = kept_all n ts
 kept_own l (r ∷ rs) n ts =
     let rest : Trees = nodes_behind (block_count r.spot.before) ts in
@@ -72,48 +72,48 @@ behind_spot us v vs m before =
     let b = behind_first us (v ∷ vs) m before in
     (number_behind b.0 b.1 v, items_behind b.1 v, ap past_one b.2)
 
-sent_own : (l : Label) (rs : List Turn) (behind : List ℕ) (m : ℕ) (before : List Item)
-    → AreSentFor (own_spots l rs (blocks_of m before (leafy_blocks (turn_spots rs) behind)))
+sent_own : (l : Label) (rs : List TypedSpot) (behind : List ℕ) (m : ℕ) (before : List Item)
+    → AreSentFor (own_spots l rs (blocks_of m before (leafy_blocks (spots_of rs) behind)))
 sent_own l [] behind m before = tt
 sent_own l (r ∷ rs) behind m before =
     let us : List ItemTree = blocks_in (page_items r.spot.before) in
     let v : ItemTree = leaf_block r.spot.block (leaves (page_items r.spot.text)) in
-    let vs : List ItemTree = leafy_blocks (turn_spots rs) behind in
+    let vs : List ItemTree = leafy_blocks (spots_of rs) behind in
     let b = behind_spot us v vs m before in
     (first_count us (v ∷ vs) m before, subst (λ ts. AreSentFor (own_spots l rs ts)) (sym b.2) (sent_own l rs behind b.0 b.1))
 
 last_count : (us : List ItemTree) (m : ℕ) (before : List Item) → length (first_nodes (length us) (blocks_of m before us)) ≡ length us
 last_count us m before = ap (λ ts. length (first_nodes (length us) (blocks_of m before ts))) (sym (append-nil us)) ∙ first_count us [] m before
 
-sent_last : (rs : List Turn) (behind : List ℕ) (m : ℕ) (before : List Item)
-    → IsSentFor (first_nodes (block_count behind) (last_nodes rs (blocks_of m before (leafy_blocks (turn_spots rs) behind)))) behind
+sent_last : (rs : List TypedSpot) (behind : List ℕ) (m : ℕ) (before : List Item)
+    → IsSentFor (first_nodes (block_count behind) (last_nodes rs (blocks_of m before (leafy_blocks (spots_of rs) behind)))) behind
 sent_last [] behind m before = last_count (blocks_in (page_items behind)) m before
 sent_last (r ∷ rs) behind m before =
     let us : List ItemTree = blocks_in (page_items r.spot.before) in
     let v : ItemTree = leaf_block r.spot.block (leaves (page_items r.spot.text)) in
-    let b = behind_spot us v (leafy_blocks (turn_spots rs) behind) m before in
+    let b = behind_spot us v (leafy_blocks (spots_of rs) behind) m before in
     subst (λ ts. IsSentFor (first_nodes (block_count behind) (last_nodes rs ts)) behind) (sym b.2) (sent_last rs behind b.0 b.1)
 
 -- ---- the page, and the texts
 
-same_spots : (l : Label) (rs : List Turn) (ts : Trees) → old_spots (own_spots l rs ts) ≡ turn_spots rs
+same_spots : (l : Label) (rs : List TypedSpot) (ts : Trees) → old_spots (own_spots l rs ts) ≡ spots_of rs
 same_spots l [] ts = refl
 same_spots l (r ∷ rs) ts = ap (λ ss. r.spot ∷ ss) (same_spots l rs (past_one (nodes_behind (block_count r.spot.before) ts)))
 
-text_own : (k : TextBlock) (l : Label) (text : Option (List ℕ)) (rest : Trees) → IsTurn k text → IsText k (typing_by l text rest)
+text_own : (k : TextBlock) (l : Label) (text : Option (List ℕ)) (rest : Trees) → IsTypedSpot k text → IsText k (typing_by l text rest)
 text_own k l (Some text) rest h = h
 text_own k l None none h = tt
 text_own k l None (more t ts) h = tt
 
-texts_own : (l : Label) (rs : List Turn) (ts : Trees) → AreTurns rs → AreTexts (own_spots l rs ts)
+texts_own : (l : Label) (rs : List TypedSpot) (ts : Trees) → AreTypedSpots rs → AreTexts (own_spots l rs ts)
 texts_own l [] ts h = tt
 texts_own l (r ∷ rs) ts h =
     let rest : Trees = nodes_behind (block_count r.spot.before) ts in
     (text_own r.spot.block l r.text rest h.0, texts_own l rs (past_one rest) h.1)
 
-pub is_edit : (l : Label) (rs : List Turn) (behind : List ℕ) → AreBlockSpots (turn_spots rs) behind → AreTurns rs → IsBlockEdit (own_edit l rs behind)
+pub is_edit : (l : Label) (rs : List TypedSpot) (behind : List ℕ) → AreBlockSpots (spots_of rs) behind → AreTypedSpots rs → IsBlockEdit (own_edit l rs behind)
 is_edit l rs behind h texts =
-    let ss : List BlockSpot = turn_spots rs in
+    let ss : List BlockSpot = spots_of rs in
     let ts : Trees = children (part_tree (spots_source ss behind)) in
     let same : old_spots (own_spots l rs ts) ≡ ss = same_spots l rs ts in
     let nodes : ts ≡ blocks_of 1 [] (leafy_blocks ss behind) = ap children (spots_tree ss behind h) in

@@ -21,8 +21,9 @@ use Rattle.wt_context.specs.Nodes.{segments}
 use Rattle.wt_context.specs.Line.{context_parts}
 use Rattle.wt_blocks.specs.Headings.{level, closing}
 use Rattle.wt_expand.specs.PageItems.{page_items}
+use Rattle.wt_span.specs.Bytes.{is_blank}
 use Rattle.wt_text_edit_laws.specs.LonePages.{page_chars}
-use Rattle.wt_text_edit_laws.specs.TypedHeadings.{Sides, spaced, AreIdle, closing_items, heading_line, NoBreaks, BeginsSeen, EndsSeen, IsHeadingText, IsOfLevel, StandsApart}
+use Rattle.wt_text_edit_laws.specs.TypedHeadings.{Sides, spaced, AreIdle, closing_items, heading_line, NoBreaks, BeginsWithout, EndsWithout, IsHeadingText, IsOfLevel, StandsApart}
 
 second_level : heading_line (spaced 2) (page_chars (codes "a b")) ≡ page_chars (codes "== a b ==")
 unfolding page_items words closed form_at comment_len comment_line_len raw_len tag_after opening_tag closing_tag with_inside is_extension include_at
@@ -109,10 +110,10 @@ unfolding context_parts segments tiles shapes tiles_closed tile_form_at link_or_
 bracket = record { is_one = refl; unbroken = (refl, (refl, (refl, (refl, (refl, tt))))); begins = refl; ends = refl }
 
 -- a blank at an end would be a part of the delimiter, and a line break would end the heading
-blank_first : BeginsSeen (codes " a") → ⊥
+blank_first : BeginsWithout is_blank (codes " a") → ⊥
 blank_first h = absurd (cc)
 
-blank_last : EndsSeen (codes "a ") → ⊥
+blank_last : EndsWithout is_blank (codes "a ") → ⊥
 blank_last h = absurd (cc)
 
 two_lines : NoBreaks (page_chars (codes "a\nb")) → ⊥

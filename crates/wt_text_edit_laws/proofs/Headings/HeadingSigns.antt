@@ -11,7 +11,7 @@ use Rattle.wt_lines.specs.declared.kind.LineKind.{LineKind}
 use Rattle.wt_lines.specs.declared.kind.LineKind.TheVariants as line
 use Rattle.wt_lines.specs.Kinds.{is_mark_sign, is_idle, past, is_idle_all, is_heading, is_list, first_of, open_kind, rows as kind_rows, kind_of_signs}
 use Rattle.wt_blocks.specs.Headings.{equals as equals_len, core, level_of, open_len, trimmed_len, inside_len}
-use Rattle.wt_text_edit_laws.specs.TypedHeadings.{equals, AreBlanks, AreIdle, BeginsSeen, EndsSeen, BeginsOther, EndsOther}
+use Rattle.wt_text_edit_laws.specs.TypedHeadings.{equals, AreBlanks, AreIdle, BeginsWithout, EndsWithout, is_equals_sign}
 
 -- of a heading's line with this between its `=`, and this behind them
 abbrev pub line_signs : ℕ → List ℕ → List ℕ → List ℕ
@@ -83,11 +83,11 @@ blank_front : (bs ss : List ℕ) → AreBlanks bs → blank_len ss ≡ 0 → bla
 blank_front [] ss h e = e
 blank_front (b ∷ bs) ss h e = let f = blank_front bs ss h.1 e in let g : is_blank b ≡ true = h.0 in rw g (omega (arith, f))
 
-seen_first : (ss ts : List ℕ) → BeginsSeen ss → blank_len (ss ++ ts) ≡ 0
+seen_first : (ss ts : List ℕ) → BeginsWithout is_blank ss → blank_len (ss ++ ts) ≡ 0
 seen_first [] ts h = absurd h
 seen_first (s ∷ ss) ts h = blank_by s (ss ++ ts) h
 
-ends_back : (ss ts : List ℕ) → EndsSeen ss → blank_len (reverse ss ++ ts) ≡ 0
+ends_back : (ss ts : List ℕ) → EndsWithout is_blank ss → blank_len (reverse ss ++ ts) ≡ 0
 ends_back [] ts h = absurd h
 ends_back (s ∷ []) ts h = blank_by s ts h
 ends_back (s ∷ t ∷ ss) ts h =
@@ -112,25 +112,25 @@ core_is n ts cs h =
 
 -- ---- the level
 
-other_first : (ss ts : List ℕ) → BeginsOther ss → BeginsOther (ss ++ ts)
+other_first : (ss ts : List ℕ) → BeginsWithout is_equals_sign ss → BeginsWithout is_equals_sign (ss ++ ts)
 other_first [] ts h = absurd h
 other_first (s ∷ ss) ts h = h
 
-other_back : (ss ts : List ℕ) → EndsOther ss → BeginsOther (reverse ss ++ ts)
+other_back : (ss ts : List ℕ) → EndsWithout is_equals_sign ss → BeginsWithout is_equals_sign (reverse ss ++ ts)
 other_back [] ts h = absurd h
 other_back (s ∷ []) ts h = h
 other_back (s ∷ t ∷ ss) ts h =
-    subst BeginsOther (sym (ap (λ (us : List ℕ). us ++ ts) (reverse-append (s ∷ []) (t ∷ ss)) ∙ append_assoc (reverse (t ∷ ss)) (s ∷ []) ts))
+    subst (BeginsWithout is_equals_sign) (sym (ap (λ (us : List ℕ). us ++ ts) (reverse-append (s ∷ []) (t ∷ ss)) ∙ append_assoc (reverse (t ∷ ss)) (s ∷ []) ts))
     (other_back (t ∷ ss) (s ∷ ts) h)
 
 none_by : (s : ℕ) (ss : List ℕ) → (s == 61) ≡ false → equals_len (s ∷ ss) ≡ 0
 none_by s ss e = rw e refl
 
-none_first : (ss : List ℕ) → BeginsOther ss → equals_len ss ≡ 0
+none_first : (ss : List ℕ) → BeginsWithout is_equals_sign ss → equals_len ss ≡ 0
 none_first [] h = absurd h
 none_first (s ∷ ss) h = none_by s ss h
 
-run_len : (n : ℕ) (ss : List ℕ) → BeginsOther ss → equals_len (equals n ++ ss) ≡ n
+run_len : (n : ℕ) (ss : List ℕ) → BeginsWithout is_equals_sign ss → equals_len (equals n ++ ss) ≡ n
 run_len zero ss h = none_first ss h
 run_len (suc n) ss h = let e : equals_len (equals n ++ ss) ≡ n = run_len n ss h in omega (arith, e)
 
@@ -147,7 +147,7 @@ level_by c n a b lt le =
     let f : (equals_len c == length c) ≡ false = grind (arith, nat_tests, a, lt) in
     other (equals_len c == length c) (min 6 ((length c - 1) / 2)) (min 6 (min (equals_len c) (equals_len (reverse c)))) f ∙ omega (arith, a, b, le)
 
-pub level_is : (n : ℕ) (ts : List ℕ) → 1 ≤ n → n ≤ 6 → BeginsOther ts → EndsOther ts → level_of (body_signs n ts) ≡ n
+pub level_is : (n : ℕ) (ts : List ℕ) → 1 ≤ n → n ≤ 6 → BeginsWithout is_equals_sign ts → EndsWithout is_equals_sign ts → level_of (body_signs n ts) ≡ n
 level_is n ts some le h g =
     level_by (body_signs n ts) n (run_len n (ts ++ equals n) (other_first ts (equals n) h))
     (ap equals_len (body_back n ts ∙ ap (λ (ss : List ℕ). equals n ++ ss) (reverse-append (equals n) ts))
@@ -163,7 +163,7 @@ drop_run n ss = ap (λ (k : ℕ). drop k (equals n ++ ss)) (sym (length-replicat
 abbrev pub round : List ℕ → List ℕ → List ℕ → List ℕ
 round bs ss ds = bs ++ (ss ++ ds)
 
-pub open_is : (n : ℕ) (bs ss ds : List ℕ) → level_of (body_signs n (round bs ss ds)) ≡ n → AreBlanks bs → BeginsSeen ss
+pub open_is : (n : ℕ) (bs ss ds : List ℕ) → level_of (body_signs n (round bs ss ds)) ≡ n → AreBlanks bs → BeginsWithout is_blank ss
     → open_len (body_signs n (round bs ss ds)) ≡ n + length bs
 open_is n bs ss ds e h g =
     let c : List ℕ = body_signs n (round bs ss ds) in
@@ -181,14 +181,14 @@ past_open n bs ss ds =
     let size : n + length bs ≡ length (equals n ++ bs) = omega (arith, length-replicate {A = ℕ} n 61, length-append (equals n) bs) in
     ap (λ (k : ℕ). drop k (body_signs n (round bs ss ds))) size ∙ ap (drop (length (equals n ++ bs))) whole ∙ drop-append_seam (equals n ++ bs) rest
 
-trimmed : (ss ds : List ℕ) → AreBlanks ds → EndsSeen ss → trimmed_len (ss ++ ds) ≡ length ss
+trimmed : (ss ds : List ℕ) → AreBlanks ds → EndsWithout is_blank ss → trimmed_len (ss ++ ds) ≡ length ss
 trimmed ss ds h e =
     let r : reverse (ss ++ ds) ≡ reverse ds ++ (reverse ss ++ []) = reverse-append ss ds ∙ ap (λ (ts : List ℕ). reverse ds ++ ts) (sym (append-nil (reverse ss))) in
     let b : blank_len (reverse (ss ++ ds)) ≡ length ds =
     ap blank_len r ∙ blank_front (reverse ds) (reverse ss ++ []) (blanks_back ds h) (ends_back ss [] e) ∙ length_back ds in
     ap (λ (k : ℕ). length (ss ++ ds) - k) b ∙ omega (arith, length-append ss ds)
 
-pub inside_is : (n : ℕ) (bs ss ds : List ℕ) → level_of (body_signs n (round bs ss ds)) ≡ n → AreBlanks bs → AreBlanks ds → BeginsSeen ss → EndsSeen ss
+pub inside_is : (n : ℕ) (bs ss ds : List ℕ) → level_of (body_signs n (round bs ss ds)) ≡ n → AreBlanks bs → AreBlanks ds → BeginsWithout is_blank ss → EndsWithout is_blank ss
     → inside_len (body_signs n (round bs ss ds)) ≡ length ss
 inside_is n bs ss ds e h g begins ends =
     let c : List ℕ = body_signs n (round bs ss ds) in
@@ -222,11 +222,11 @@ abbrev pub HasSign : List ℕ → Type 0
 HasSign [] = ⊥
 HasSign (s ∷ ss) = Unit {0}
 
-some_sign : (ss ts : List ℕ) → BeginsSeen ss → HasSign (ss ++ ts)
+some_sign : (ss ts : List ℕ) → BeginsWithout is_blank ss → HasSign (ss ++ ts)
 some_sign [] ts h = absurd h
 some_sign (s ∷ ss) ts h = tt
 
-pub signs_between : (bs ss ds : List ℕ) → BeginsSeen ss → HasSign (round bs ss ds)
+pub signs_between : (bs ss ds : List ℕ) → BeginsWithout is_blank ss → HasSign (round bs ss ds)
 signs_between [] ss ds h = some_sign ss ds h
 signs_between (b ∷ bs) ss ds h = tt
 

@@ -31,7 +31,7 @@ use Rattle.wt_text_edit_laws.specs.StillItems.{StillItems}
 use Rattle.wt_text_edit_laws.proofs.Texts.StillLines.{still_within}
 use Rattle.wt_text_edit_laws.proofs.Texts.TypedItems.{typed_still, typed_own}
 use Rattle.wt_text_edit_laws.proofs.Texts.TypedLeaves.{AreOwn}
-use Rattle.wt_text_edit_laws.specs.TypedHeadings.{Sides, AreBlanks, AreSides, NoBreaks, BeginsSeen, EndsSeen, IsHeadingText, BeginsOther, EndsOther, StandsApart}
+use Rattle.wt_text_edit_laws.specs.TypedHeadings.{Sides, AreBlanks, AreSides, NoBreaks, BeginsWithout, EndsWithout, IsHeadingText, is_equals_sign, StandsApart}
 
 -- ---- bytes
 
@@ -127,7 +127,7 @@ form_seen form.Include bs xs h = absurd h.0
 form_seen form.Hidden bs xs h = absurd h.0
 form_seen form.EmptyCall bs xs h = absurd h.0
 
-own_begins : (xs : List Item) → AreOwn xs → first_seen (sources xs) ≡ true → BeginsSeen (map sign xs) × BeginsOther (map sign xs)
+own_begins : (xs : List Item) → AreOwn xs → first_seen (sources xs) ≡ true → BeginsWithout is_blank (map sign xs) × BeginsWithout is_equals_sign (map sign xs)
 own_begins [] h e = cc
 own_begins (char None b ∷ xs) h e = char_seen b e
 own_begins (char (Some k) b ∷ xs) h e = absurd h
@@ -140,17 +140,17 @@ own_rest (char (Some k) b) xs h = absurd h
 own_rest (whole f None bs) xs h = h.1
 own_rest (whole f (Some k) bs) xs h = absurd h
 
-one_ends : (x : Item) → AreOwn (x ∷ []) → last_seen (source x ++ []) ≡ true → EndsSeen (sign x ∷ []) × EndsOther (sign x ∷ [])
+one_ends : (x : Item) → AreOwn (x ∷ []) → last_seen (source x ++ []) ≡ true → EndsWithout is_blank (sign x ∷ []) × EndsWithout is_equals_sign (sign x ∷ [])
 one_ends (char None b) h e = char_seen b e
 one_ends (char (Some k) b) h e = absurd h
 one_ends (whole f None bs) h e = form_seen f bs [] h
 one_ends (whole f (Some k) bs) h e = absurd h
 
-own_ends : (x : Item) (xs : List Item) → AreOwn (x ∷ xs) → last_seen (sources (x ∷ xs)) ≡ true → EndsSeen (map sign (x ∷ xs)) × EndsOther (map sign (x ∷ xs))
+own_ends : (x : Item) (xs : List Item) → AreOwn (x ∷ xs) → last_seen (sources (x ∷ xs)) ≡ true → EndsWithout is_blank (map sign (x ∷ xs)) × EndsWithout is_equals_sign (map sign (x ∷ xs))
 own_ends x [] h e = one_ends x h e
 own_ends x (y ∷ xs) h e = own_ends y xs (own_rest x (y ∷ xs) h) (last_rest (source x) (sources (y ∷ xs)) e)
 
-some_ends : (xs : List Item) → AreOwn xs → first_seen (sources xs) ≡ true → last_seen (sources xs) ≡ true → EndsSeen (map sign xs) × EndsOther (map sign xs)
+some_ends : (xs : List Item) → AreOwn xs → first_seen (sources xs) ≡ true → last_seen (sources xs) ≡ true → EndsWithout is_blank (map sign xs) × EndsWithout is_equals_sign (map sign xs)
 some_ends [] h f e = cc
 some_ends (x ∷ xs) h f e = own_ends x xs h e
 
@@ -381,8 +381,8 @@ still_one xs h = still_within most_contexts in_line xs h
 
 record IsTypedText (xs : List Item) : Type 0 where
   text : IsHeadingText xs
-  begins : BeginsOther (map sign xs)
-  ends : EndsOther (map sign xs)
+  begins : BeginsWithout is_equals_sign (map sign xs)
+  ends : EndsWithout is_equals_sign (map sign xs)
 
 typed_is : (s : Setting) (text : List ℕ) → s.within ≡ false → s.place ≡ place.Heading → IsUtf8 text → has_break text ≡ false
     → IsTypedText (page_items (spelled s (letters text)))
@@ -415,28 +415,28 @@ typed_heading_text s text w p u b = (typed_is s text w p u b).text
 unequal : (b : ℕ) → is_blank b ≡ true → (b == 61) ≡ false
 unequal b e = grind (arith, nat_tests, e)
 
-begins_other : (bs ss : List ℕ) → AreBlanks bs → BeginsOther ss → BeginsOther (bs ++ ss)
+begins_other : (bs ss : List ℕ) → AreBlanks bs → BeginsWithout is_equals_sign ss → BeginsWithout is_equals_sign (bs ++ ss)
 begins_other [] ss h g = g
 begins_other (b ∷ bs) ss h g = unequal b h.0
 
-begins_still : (ss ts : List ℕ) → BeginsOther ss → BeginsOther (ss ++ ts)
+begins_still : (ss ts : List ℕ) → BeginsWithout is_equals_sign ss → BeginsWithout is_equals_sign (ss ++ ts)
 begins_still [] ts g = absurd g
 begins_still (s ∷ ss) ts g = g
 
-ends_still : (ss : List ℕ) (t : ℕ) (ts : List ℕ) → EndsOther (t ∷ ts) → EndsOther (ss ++ t ∷ ts)
+ends_still : (ss : List ℕ) (t : ℕ) (ts : List ℕ) → EndsWithout is_equals_sign (t ∷ ts) → EndsWithout is_equals_sign (ss ++ t ∷ ts)
 ends_still [] t ts g = g
 ends_still (s ∷ []) t ts g = g
 ends_still (s ∷ r ∷ ss) t ts g = ends_still (r ∷ ss) t ts g
 
-ends_blank : (b : ℕ) (bs : List ℕ) → AreBlanks (b ∷ bs) → EndsOther (b ∷ bs)
+ends_blank : (b : ℕ) (bs : List ℕ) → AreBlanks (b ∷ bs) → EndsWithout is_equals_sign (b ∷ bs)
 ends_blank b [] h = unequal b h.0
 ends_blank b (c ∷ bs) h = ends_blank c bs h.1
 
-ends_other : (ss bs : List ℕ) → AreBlanks bs → EndsOther ss → EndsOther (ss ++ bs)
-ends_other ss [] h g = subst EndsOther (sym (append-nil ss)) g
+ends_other : (ss bs : List ℕ) → AreBlanks bs → EndsWithout is_equals_sign ss → EndsWithout is_equals_sign (ss ++ bs)
+ends_other ss [] h g = subst (EndsWithout is_equals_sign) (sym (append-nil ss)) g
 ends_other ss (b ∷ bs) h g = ends_still ss b bs (ends_blank b bs h)
 
-ends_behind : (bs ss : List ℕ) → EndsOther ss → EndsOther (bs ++ ss)
+ends_behind : (bs ss : List ℕ) → EndsWithout is_equals_sign ss → EndsWithout is_equals_sign (bs ++ ss)
 ends_behind bs [] g = absurd g
 ends_behind bs (s ∷ ss) g = ends_still bs s ss g
 
