@@ -11,16 +11,15 @@ use Rattle.wt_tiles.specs.Tiles.{tiles}
 use Rattle.wt_tiles.specs.Contexts.{in_line}
 use Rattle.wt_tiles.specs.Cutting.{joined, tile_of, IsEdgeIn}
 use Rattle.wt_tiles.proofs.Joining.{tiles_join}
-use Rattle.wt_tiles.proofs.Words.{edge_at}
+use Rattle.wt_tiles.proofs.Words.{edge_after, edge_at}
 use Rattle.wt_lines.specs.declared.sign.LineSign.{LineSign}
 use Rattle.wt_tables.specs.Views.{numbers}
 use Rattle.wt_tables.proofs.Numbers.{numbers_len}
 use Rattle.wt_tiles.specs.declared.tile.Tile.{Tile}
 use Rattle.wt_page.specs.Rows.{signs}
-use Rattle.wt_page.specs.Lists.{is_bare, seen_signs, colon_at, term_len, with_blanks}
+use Rattle.wt_page.specs.Lists.{is_bare, seen_signs, colon_at, term_len}
 use Rattle.wt_build.specs.SeenSigns.{seen_sign, seen_by}
 use Rattle.wt_rows.proofs.LowSigns.{low_sign}
-use Rattle.wt_build.proofs.Items.{blanks_cut}
 
 abbrev is_other : ℕ → Bool
 is_other s = not (s == 58)
@@ -149,13 +148,13 @@ colon_found xs n e =
       sign = omega (arith, first, low);
     }
 
--- the open delimiter of a definition: the `:` with the blanks behind it
-pub behind_colon : (line rest : List Item) (n m : ℕ) → rest ≡ drop n line → term_len 59 line ≡ Some n → m ≡ with_blanks 1 rest
-    → (m ≤ length rest) × (0 < m → IsEdgeIn rest m)
-behind_colon line rest n m er e em =
+-- the `:` itself, of what is left of the line
+pub behind_colon : (line rest : List Item) (n : ℕ) → rest ≡ drop n line → term_len 59 line ≡ Some n → (1 ≤ length rest) × IsEdgeIn rest 1
+behind_colon line rest n er e =
     let found = colon_found line n e in
-    blanks_cut rest 1 m (subst (λ (xs : List Item). 1 ≤ length xs) (sym er) found.behind)
-    (λ s. subst (λ (xs : List Item). get_or (signs xs) 0 0 < 128) (sym er) found.sign) em
+    let some : 1 ≤ length rest = subst (λ (xs : List Item). 1 ≤ length xs) (sym er) found.behind in
+    let low : get_or (signs rest) 0 0 < 128 = subst (λ (xs : List Item). get_or (signs xs) 0 0 < 128) (sym er) found.sign in
+    (some, edge_after (map glyph_of rest) 0 1 refl (low_sign rest 0 (omega (arith, some)) low))
 
 -- ---- signs are appended
 

@@ -1,6 +1,6 @@
 //! The innermost item that a line of a list begins.
 
-ghost use Rattle.std.specs.Prelude.{◌≡◌, ◌==◌, [], true, false, Some, All, IfOk};
+ghost use Rattle.std.specs.Prelude.{◌≡◌, ◌==◌, [], true, false, Some, All, IfOk, drop, take};
 ghost use Rattle.wt_span.specs.Items.{items};
 ghost use Rattle.wt_span.specs.Origins.{IsSoundPiece};
 ghost use Rattle.wt_span.specs.Characters as byte;
@@ -17,7 +17,8 @@ use std::alloc::Global;
 use wt_context::{line_children, with_line};
 use wt_inline::{Children, NodeHead, PieceTree};
 use wt_rows::{
-    RowAt, StretchAt, before, between, cut, opened_line, prefix_of, with_blanks, with_separators,
+    Front, RowAt, StretchAt, before, between, cut, cut_with, opened_line, prefix_of,
+    with_separators,
 };
 use wt_span::{List, NoMemory, Piece};
 use wt_tree::Kind;
@@ -33,12 +34,19 @@ pub fn item_kind(sign: char) -> Kind
     }
 }
 
-/// How many items the open delimiter of an item has: the prefix of its line, and the blanks after.
-fn item_opening_len(alloc: Global, line: &[Piece<'_>]) -> Result<usize, NoMemory>
-    ensures { IfOk result (λ n. n ≡ item_opening_len (items line.now)) }
+/// The open delimiter of an item, which is the prefix of its line and the blanks after; and the rest
+/// of the line.
+fn cut_opening<'a>(
+    alloc: Global,
+    line: &[Piece<'a>],
+) -> Result<(List<Piece<'a>>, List<Piece<'a>>), NoMemory>
+    requires { All IsSoundPiece line.now }
+    ensures front { IfOk result (λ r. items r.0 ≡ take (item_opening_len (items line.now)) (items line.now)) }
+    ensures back { IfOk result (λ r. items r.1 ≡ drop (item_opening_len (items line.now)) (items line.now)) }
+    ensures sound { IfOk result (λ r. All IsSoundPiece r.1) }
 {
     let prefix = prefix_of(alloc, line)?;
-    with_blanks(line, prefix.as_str().len())
+    cut_with(alloc, line, prefix.as_str().len(), Front::Blanks)
 }
 
 /// A term, which ends at its `:`.
@@ -77,9 +85,7 @@ fn term_and_definition<'a>(
     let (front, rest) = cut(alloc, line, n)?;
     let term = term(alloc, opening, front.as_slice())?;
     let node = Box::new(alloc, term)?;
-    let behind = rest.as_slice();
-    let len = with_blanks(behind, 1)?;
-    let (colon, content) = cut(alloc, behind, len)?;
+    let (colon, content) = cut_with(alloc, rest.as_slice(), 1, Front::Blanks)?;
     let head = NodeHead::plain(Kind::Dd);
     let definition = opened_line(alloc, head, colon, content.as_slice(), pieces, after)?;
     before(alloc, StretchAt::Tree(node), definition)
@@ -145,8 +151,7 @@ pub fn line_item<'a>(
     ensures { IfOk result (λ l. stretches_view pieces.now l ≡ line_item sign (row_view pieces.now row) (stretches_view pieces.now inside.entry)) }
 {
     let line = between(pieces, row.from, row.to);
-    let n = item_opening_len(alloc, line)?;
-    let (opening, rest) = cut(alloc, line, n)?;
+    let (opening, rest) = cut_opening(alloc, line)?;
     if is_plain(sign, inside.as_slice()) {
         return plain_item(alloc, row, sign, opening, rest.as_slice());
     }

@@ -12,11 +12,18 @@ pub fn push(out: &mut Vec<u8>, bytes: &[u8]) -> Result<(), NoMemory>
     Ok(())
 }
 
+/// Appends a count in decimal digits.
+pub fn push_count(out: &mut Vec<u8>, count: usize) -> Result<(), NoMemory>
+    ensures { OnOk result (out.new.items ≡ out.old.items ++ decimal count) }
+{
+    let mut buffer = itoa::Buffer::new();
+    push(out, buffer.format(count).as_bytes())?;
+    Ok(())
+}
+
 /// Appends a number in decimal digits.
 pub fn push_number(out: &mut Vec<u8>, number: u32) -> Result<(), NoMemory>
     ensures { OnOk result (out.new.items ≡ out.old.items ++ decimal number) }
 {
-    let mut buffer = itoa::Buffer::new();
-    push(out, buffer.format(number).as_bytes())?;
-    Ok(())
+    push_count(out, number as usize)
 }

@@ -13,7 +13,7 @@ mod shelf;
 mod streams;
 mod write;
 
-pub use bytes::{push, push_number};
+pub use bytes::{push, push_count, push_number};
 pub use device::{Failed, FetchRefusal, Fetched, Folder, Sink, Source};
 pub use directory::DirFolder;
 pub use memory::{MemSink, MemSource, NeverFailsSource};

@@ -17,7 +17,7 @@ use Rattle.wt_braces.specs.Views.{part_of}
 use Rattle.wt_transclusion.specs.declared.read.Braces.{Braces}
 use Rattle.wt_expansion.specs.Calls.{outer_of}
 use Rattle.wt_expansion.specs.declared.found.Collected.{Collected}
-use Rattle.wt_expansion.specs.Made.{AreCalled, Give, Appends, items_of_call, AppendsCall}
+use Rattle.wt_expansion.specs.Made.{AreCalled, GiveKept, kept, Appends, items_of_call, AppendsCall}
 use Rattle.wt_expansion.specs.Walks.{Adds}
 use Rattle.wt_expansion.proofs.PieceLaws.{give_append}
 use Rattle.wt_expansion.proofs.SoundCalls.{calls_append}
@@ -129,13 +129,14 @@ outer_by k c (x ∷ xs) = refl
 
 -- a call with what it gives
 pub outer_adds : (old new : Collected) (o : Outer) (c : OuterCall) (given : List Item) (to : ℕ)
-    → AppendsCall (length old.outer.items) c.source given old.pieces.items new.pieces.items → new.outer.items ≡ old.outer.items ++ o ∷ []
-    → new.text_calls ≡ old.text_calls → outer_call o ≡ c → to ≡ c.start + length c.source → Adds old new c.start (outer c given ∷ []) to
-outer_adds old new o c given to (qs, is, f, items_are) outers texts same to_is =
+    → AppendsCall (kept (length old.outer.items)) c.source given old.pieces.items new.pieces.items → new.outer.items ≡ old.outer.items ++ o ∷ []
+    → new.text_calls ≡ old.text_calls → outer_call o ≡ c → to ≡ c.start + length c.source → 0 < length c.source
+    → Adds old new c.start (outer c given ∷ []) to
+outer_adds old new o c given to (qs, is, f, items_are) outers texts same to_is some =
     record {
       pieces = qs;
       pieces_are = is;
-      give = (qs, [], sym (append-nil qs), items_are ∙ outer_by (length old.outer.items) c given, f, refl, (refl, sym to_is));
+      give = (qs, [], sym (append-nil qs), items_are ∙ outer_by (kept (length old.outer.items)) c given, f, (refl, some), (refl, sym to_is));
       outer_are = ap (map outer_call) outers ∙ map-append outer_call old.outer.items (o ∷ []) ∙ ap (λ d. map outer_call old.outer.items ++ d ∷ []) same;
       texts_are = ap (λ v. map span_of v.items) texts ∙ sym (append-nil (map span_of old.text_calls.items));
     }
@@ -154,7 +155,7 @@ adds_then a b c at ss ts mid to f g =
       pieces = f.pieces ++ g.pieces;
       pieces_are = g.pieces_are ∙ ap (λ ps. ps ++ g.pieces) f.pieces_are ∙ append_assoc a.pieces.items f.pieces g.pieces;
       give = give_append at (length a.outer.items) ss ts f.pieces g.pieces mid to f.give
-          (subst (λ n. Give mid n ts g.pieces to) (map_len a b at ss mid f) g.give);
+          (subst (λ n. GiveKept mid n ts g.pieces to) (map_len a b at ss mid f) g.give);
       outer_are = g.outer_are ∙ ap (λ cs. cs ++ outer_calls ts) f.outer_are ∙ append_assoc (map outer_call a.outer.items) (outer_calls ss) (outer_calls ts)
           ∙ ap (λ cs. map outer_call a.outer.items ++ cs) (sym (calls_append ss ts));
       texts_are = g.texts_are ∙ ap (λ us. us ++ text_spans ts) f.texts_are ∙ append_assoc (map span_of a.text_calls.items) (text_spans ss) (text_spans ts)
@@ -179,7 +180,7 @@ adds_back a b c at ss to p o t f =
     record {
       pieces = f.pieces;
       pieces_are = f.pieces_are ∙ ap (λ ps. ps ++ f.pieces) p;
-      give = subst (λ k. Give at k ss f.pieces to) n f.give;
+      give = subst (λ k. GiveKept at k ss f.pieces to) n f.give;
       outer_are = f.outer_are ∙ ap (λ cs. cs ++ outer_calls ss) o;
       texts_are = f.texts_are ∙ ap (λ us. us ++ text_spans ss) t;
     }

@@ -1,5 +1,5 @@
 -- A walk over the whole page, where some pages are known already.
-use Rattle.std.proofs.Common.{◌≡◌, ℕ, Bool, true, false, Option, Some, None, option_map, List, [], ◌∷◌, ◌++◌, drop, refl, sym, ap, ◌∙◌, subst, append-nil}
+use Rattle.std.proofs.Common.{◌≡◌, ◌<◌, ℕ, Bool, true, false, Option, Some, None, option_map, List, [], ◌∷◌, ◌++◌, drop, refl, sym, ap, ◌∙◌, subst, append-nil}
 use Rattle.std.specs.Str.{IsUtf8}
 use Rattle.wt_span.specs.declared.form.Mode.TheVariants as mode
 use Rattle.wt_span.specs.declared.form.Piece.{Piece}
@@ -62,10 +62,10 @@ whole_by pages page met known work before now spent c =
 
 pub page_is_found : (pages : Pages) (page : List ℕ) (met : List (List ℕ)) (spent : ℕ) (answered told : Option (List (List ℕ))) (to : ℕ)
     (old new : Collected) (x : Expansion) (ps : List Piece) (cs : List Outer) (ts : List Range) → IsUtf8 page
-    → deep_place mode.Page page ≡ None → spent ≡ 0 → old.pieces.items ≡ [] → old.outer.items ≡ [] → old.text_calls.items ≡ []
+    → to < 4294967296 → deep_place mode.Page page ≡ None → spent ≡ 0 → old.pieces.items ≡ [] → old.outer.items ≡ [] → old.text_calls.items ≡ []
     → x.names ≡ [] → WalkedFrom pages page met spent answered to old new x.store x.spent told
     → ps ≡ new.pieces.items → cs ≡ new.outer.items → ts ≡ new.text_calls.items → IsFound pages page met x answered told ps cs ts
-page_is_found pages page met spent answered told to old new x ps cs ts utf8 fits free a b c names h p q r =
+page_is_found pages page met spent answered told to old new x ps cs ts utf8 short fits free a b c names h p q r =
     let known = h.works.met in
     let walked = (given_from (at_page pages) true page 0 (page_members page)).work in
     let w = (text_given (page_reading pages) page).work in
@@ -76,7 +76,7 @@ page_is_found pages page met spent answered told to old new x ps cs ts utf8 fits
     let same : known ≡ known_after met (fetches (page_work pages page)) =
     whole.known_is ∙ ap (λ (es : List Entry). known_after met (fetches es)) (sym (page_work_is pages page)) in
     record {
-      found = page_found pages page old new to ps cs ts utf8 a b c h.finds p q r;
+      found = page_found pages page old new to ps cs ts utf8 short a b c h.finds p q r;
       allowed = entered_first pages page fits ∙ ap (refusal_from pages page 0) (sym (append-nil w))
           ∙ comes_refusal pages page (ledger 0 met answered) w (ledger x.spent known told) [] comes [];
       more = record {

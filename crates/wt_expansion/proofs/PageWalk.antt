@@ -1,5 +1,5 @@
 -- A walk over the whole page finds the expanded page.
-use Rattle.std.proofs.Common.{◌≡◌, ℕ, true, List, [], ◌++◌, length, drop, map, sym, ap, ◌∙◌, subst}
+use Rattle.std.proofs.Common.{◌≡◌, ◌<◌, ℕ, true, List, [], ◌++◌, length, drop, map, sym, ap, ◌∙◌, subst}
 use Rattle.std.specs.Str.{IsUtf8}
 use Rattle.wt_span.specs.declared.form.Mode.TheVariants as mode
 use Rattle.wt_span.specs.declared.form.Piece.{Piece}
@@ -17,9 +17,9 @@ use Rattle.wt_transclusion.proofs.StretchCuts.{whole_stretch}
 use Rattle.wt_template_stack.proofs.PageLaws.{reading_is}
 use Rattle.wt_template_stack.proofs.StepLaws.{drop_none}
 use Rattle.wt_expansion.specs.declared.found.Collected.{Collected}
-use Rattle.wt_expansion.specs.Made.{AreAlike, Give}
+use Rattle.wt_expansion.specs.Made.{AreAlike, Give, GiveKept}
 use Rattle.wt_expansion.specs.Walks.{Finds, at_page}
-use Rattle.wt_expansion.proofs.PieceLaws.{page_is_items, page_pieces}
+use Rattle.wt_expansion.proofs.PieceLaws.{all_numbered, page_is_items, page_pieces}
 
 -- the members of the page
 abbrev pub page_members : List ℕ → List Member
@@ -46,13 +46,14 @@ pub record ArePage (pages : Pages) (page : List ℕ) (ps : List Piece) (cs : Lis
   pub same : record { items = items ps; outer = map outer_call cs; text_calls = map span_of ts } ≡ expanded_page pages page
 
 pub page_found : (pages : Pages) (page : List ℕ) (old new : Collected) (to : ℕ) (ps : List Piece) (cs : List Outer) (ts : List Range) → IsUtf8 page
-    → old.pieces.items ≡ [] → old.outer.items ≡ [] → old.text_calls.items ≡ []
+    → to < 4294967296 → old.pieces.items ≡ [] → old.outer.items ≡ [] → old.text_calls.items ≡ []
     → Finds old new 0 (all_stretches (at_page pages) 0 true (drop 0 page) (members (page_members page))) to
     → ps ≡ new.pieces.items → cs ≡ new.outer.items → ts ≡ new.text_calls.items → ArePage pages page ps cs ts
-page_found pages page old new to ps cs ts utf8 no_pieces no_outer no_texts f ps_is cs_is ts_is =
+page_found pages page old new to ps cs ts utf8 short no_pieces no_outer no_texts f ps_is cs_is ts_is =
     let done = f.done in
     let alike : AreAlike done (page_stretches pages page) = subst (AreAlike done) (stretches_are pages page) f.alike in
-    let give : Give 0 0 done f.adds.pieces to = subst (λ (n : ℕ). Give 0 n done f.adds.pieces to) (ap length no_outer) f.adds.give in
+    let give : Give 0 0 done f.adds.pieces to =
+    all_numbered done f.adds.pieces to short (subst (λ (n : ℕ). GiveKept 0 n done f.adds.pieces to) (ap length no_outer) f.adds.give) in
     let same_ps : ps ≡ f.adds.pieces = ps_is ∙ f.adds.pieces_are ∙ ap (λ (xs : List Piece). xs ++ f.adds.pieces) no_pieces in
     let same_cs : map outer_call cs ≡ outer_calls done =
     ap (map outer_call) cs_is ∙ f.adds.outer_are ∙ ap (λ (xs : List Outer). map outer_call xs ++ outer_calls done) no_outer in

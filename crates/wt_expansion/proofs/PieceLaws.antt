@@ -19,7 +19,7 @@ use Rattle.wt_expand.specs.Work.{Pages}
 use Rattle.wt_expand.specs.PageCalls.{Stretch, own, outer, text_call, outer_items, numbered, outer_calls, text_spans, page_stretches, expanded_page}
 use Rattle.wt_expand.proofs.MadePieces.{once_page}
 use Rattle.wt_expand.proofs.PiecePlaces.{get_mid}
-use Rattle.wt_expansion.specs.Made.{AreOwn, AreCalled, Give, AreAlike}
+use Rattle.wt_expansion.specs.Made.{AreOwn, AreCalled, Give, GiveKept, kept, AreAlike}
 use Rattle.wt_expansion.specs.Sound.{AreSoundItems}
 use Rattle.wt_expansion.proofs.SoundCalls.{page_calls_sound}
 use Rattle.wt_expansion.proofs.SoundItems.{page_items_sound}
@@ -40,11 +40,11 @@ give_items at k (outer c xs ∷ ss) ps to (qs, rs, is, xs_are, o, s, g) =
 give_items at k (text_call s ∷ ss) ps to g = give_items at k ss ps to g
 
 -- what gives some stretches, and then what gives others
-pub give_append : (at k : ℕ) (ss ts : List Stretch) (ps qs : List Piece) (mid to : ℕ) → Give at k ss ps mid
-    → Give mid (k + length (outer_calls ss)) ts qs to → Give at k (ss ++ ts) (ps ++ qs) to
+pub give_append : (at k : ℕ) (ss ts : List Stretch) (ps qs : List Piece) (mid to : ℕ) → GiveKept at k ss ps mid
+    → GiveKept mid (k + length (outer_calls ss)) ts qs to → GiveKept at k (ss ++ ts) (ps ++ qs) to
 give_append at k [] ts ps qs mid to g h =
     let z : k + 0 ≡ k = omega arith in
-    subst (λ rs. Give at k ts (rs ++ qs) to) (sym g.0) (subst (λ n. Give n k ts qs to) (sym g.1) (subst (λ n. Give mid n ts qs to) z h))
+    subst (λ rs. GiveKept at k ts (rs ++ qs) to) (sym g.0) (subst (λ n. GiveKept n k ts qs to) (sym g.1) (subst (λ n. GiveKept mid n ts qs to) z h))
 give_append at k (own xs ∷ ss) ts ps qs mid to (us, rs, m, is, xs_are, o, g) h =
     (us, rs ++ qs, m, ap (λ vs. vs ++ qs) is ∙ append_assoc us rs qs, xs_are, o, give_append m k ss ts rs qs mid to g h)
 give_append at k (outer c xs ∷ ss) ts ps qs mid to (us, rs, is, xs_are, o, s, g) h =
@@ -55,9 +55,50 @@ give_append at k (outer c xs ∷ ss) ts ps qs mid to (us, rs, is, xs_are, o, s, 
       xs_are,
       o,
       s,
-      give_append (at + length c.source) (suc k) ss ts rs qs mid to g (subst (λ n. Give mid n ts qs to) z h),
+      give_append (at + length c.source) (suc k) ss ts rs qs mid to g (subst (λ n. GiveKept mid n ts qs to) z h),
     )
 give_append at k (text_call s ∷ ss) ts ps qs mid to g h = give_append at k ss ts ps qs mid to g h
+
+-- ---- numbers of 32 bits
+
+own_on : (at : ℕ) (ps : List Piece) (to : ℕ) → AreOwn at ps to → at ≤ to
+own_on at [] to o = omega (arith, o)
+own_on at (p ∷ ps) to o =
+    let here = o.0.start in
+    let rest = own_on (end_of p.text) ps to o.1 in
+    omega (arith, here, rest)
+
+-- a call for each byte at most
+calls_few : (at k : ℕ) (ss : List Stretch) (ps : List Piece) (to : ℕ) → GiveKept at k ss ps to → at + length (outer_calls ss) ≤ to
+calls_few at k [] ps to g = let e = g.1 in omega (arith, e)
+calls_few at k (own xs ∷ ss) ps to (qs, rs, mid, is, xs_are, o, g) =
+    let here = own_on at qs mid o in
+    let rest = calls_few mid k ss rs to g in
+    omega (arith, here, rest)
+calls_few at k (outer c xs ∷ ss) ps to (qs, rs, is, xs_are, o, s, g) =
+    let some = s.1 in
+    let rest = calls_few (at + length c.source) (suc k) ss rs to g in
+    omega (arith, some, rest)
+calls_few at k (text_call s ∷ ss) ps to g = calls_few at k ss ps to g
+
+give_all : (at k : ℕ) (ss : List Stretch) (ps : List Piece) (to : ℕ) → k + length (outer_calls ss) ≤ 4294967296 → GiveKept at k ss ps to → Give at k ss ps to
+give_all at k [] ps to few g = g
+give_all at k (own xs ∷ ss) ps to few (qs, rs, mid, is, xs_are, o, g) = (qs, rs, mid, is, xs_are, o, give_all mid k ss rs to few g)
+give_all at k (outer c xs ∷ ss) ps to few (qs, rs, is, xs_are, o, s, g) =
+    let same : kept k ≡ k = omega (arith, few) in (
+      qs,
+      rs,
+      is,
+      xs_are ∙ ap (λ j. outer_items j c xs) same,
+      subst (λ j. AreCalled j qs) same o,
+      s.0,
+      give_all (at + length c.source) (suc k) ss rs to (omega (arith, few)) g,
+    )
+give_all at k (text_call s ∷ ss) ps to few g = give_all at k ss ps to few g
+
+-- in a page of fewer than 2^32 bytes each call has its number
+pub all_numbered : (ss : List Stretch) (ps : List Piece) (to : ℕ) → to < 4294967296 → GiveKept 0 0 ss ps to → Give 0 0 ss ps to
+all_numbered ss ps to l g = let few = calls_few 0 0 ss ps to g in give_all 0 0 ss ps to (omega (arith, few, l)) g
 
 -- ---- pieces by themselves
 

@@ -1,5 +1,5 @@
 -- Calls of the page: what is found of each, and its work.
-use Rattle.std.proofs.Common.{◌≡◌, ℕ, ◌+◌, ◌-◌, ◌≤◌, Bool, true, false, Option, Some, None, List, [], ◌∷◌, Ok, map, take, drop, refl, sym, ap, ◌∙◌, subst, arith, append-nil}
+use Rattle.std.proofs.Common.{◌≡◌, ℕ, ◌+◌, ◌-◌, ◌<◌, ◌≤◌, Bool, true, false, Option, Some, None, List, [], ◌∷◌, Ok, length, map, take, drop, refl, sym, ap, ◌∙◌, subst, arith, append-nil}
 use Rattle.std.specs.Prelude.{◌==◌, ◌||◌, is_some, slice_range, if◌then◌else◌}
 use Rattle.wt_span.specs.declared.form.Mode.TheVariants as mode
 use Rattle.wt_span.specs.declared.form.ItemForm.TheVariants as form
@@ -156,14 +156,15 @@ source_same t bs b c same =
 pub outer_found : (t : List ℕ) (b : Braces) (c : IsCallOf mode.Page t b) (source : Text) (href : Option (List ℕ)) (d : Called) (old new : Collected)
     (given xs : List Item)
     → start_of source ≡ b.at.start → end_of source ≡ b.at.end → bytes_of source ≡ source_of mode.Page t b c → href ≡ link_of d → given ≡ xs
-    → Adds old new (start_of source) (outer (outer_of source b href) given ∷ []) (end_of source)
+    → (0 < length (bytes_of source) → Adds old new (start_of source) (outer (outer_of source b href) given ∷ []) (end_of source))
     → Adds old new c.at (outer (outer_at c.at c.braces (source_of mode.Page t b c) c.inside d) xs ∷ []) b.at.end
 outer_found t b c source href d old new given xs s_is e_is b_is h_is g_is a =
     let at = s_is ∙ c.start_is in
+    let some : 0 < length (bytes_of source) = let x = c.start_is in let y = c.end_is in let z = c.two in omega (arith, s_is, e_is, x, y, z) in
     subst (λ ys. Adds old new c.at (outer (outer_at c.at c.braces (source_of mode.Page t b c) c.inside d) ys ∷ []) b.at.end) g_is
     (subst (λ o. Adds old new c.at (outer o given ∷ []) b.at.end) (outer_is t b c source href d at b_is h_is)
     (subst (λ n. Adds old new n (outer (outer_of source b href) given ∷ []) b.at.end) at
-    (subst (λ n. Adds old new (start_of source) (outer (outer_of source b href) given ∷ []) n) e_is a)))
+    (subst (λ n. Adds old new (start_of source) (outer (outer_of source b href) given ∷ []) n) e_is (a some))))
 
 pub walked_by : (pages : Pages) (t : List ℕ) (l : Ledger) (ss ts : List Stretch) (work done : List Entry) (at to : ℕ) (old new : Collected) (store : Store)
     (spent : ℕ) (answered : Option (List (List ℕ))) → ts ≡ ss → done ≡ work → Adds old new at ts to → Works pages t l done store spent answered []
@@ -211,7 +212,7 @@ pub unlinked_walked : (pages : Pages) (t : List ℕ) (l : Ledger) (b : Braces) (
     → is_by_source b.argument (slice_range reader.text.text.now b.at.start b.at.end) ≡ true
     → AnswersOutput pages t l (given_from (at_page pages) s t n.is.at (call n.is.braces n.is.inside ∷ [])) store spent answered (Ok ps)
     → start_of source ≡ b.at.start → end_of source ≡ b.at.end → bytes_of source ≡ slice_range reader.text.text.now b.at.start b.at.end
-    → Adds old new (start_of source) (outer (outer_of source b None) (items ps) ∷ []) (end_of source)
+    → (0 < length (bytes_of source) → Adds old new (start_of source) (outer (outer_of source b None) (items ps) ∷ []) (end_of source))
     → Walked pages t l (call_stretches_at pages t b n.is s) (call_work pages t b n.is s) n.is.at b.at.end old new store spent answered
 unlinked_walked pages t l b reader s n source old new store spent answered ps is h s_is e_is b_is a =
     let c = n.is in
@@ -264,7 +265,7 @@ pub page_walked : (pages : Pages) (t : List ℕ) (l : Ledger) (b : Braces) (read
     (source : Text) (old new : Collected) (store : Store) (spent : ℕ) (answered : Option (List (List ℕ))) (ps : List Piece)
     → AnswersOutput pages t l (page_called (at_page pages) t b n.is s title) store spent answered (Ok ps) → Some href ≡ link_of (page title)
     → start_of source ≡ b.at.start → end_of source ≡ b.at.end → bytes_of source ≡ slice_range reader.text.text.now b.at.start b.at.end
-    → Adds old new (start_of source) (outer (outer_of source b (Some href)) (items ps) ∷ []) (end_of source)
+    → (0 < length (bytes_of source) → Adds old new (start_of source) (outer (outer_of source b (Some href)) (items ps) ∷ []) (end_of source))
     → Walked pages t l (page_stretch pages t b n.is s title) (page_work_at pages t b n.is s title) n.is.at b.at.end old new store spent answered
 page_walked pages t l b reader s n title href source old new store spent answered ps h link s_is e_is b_is a =
     let c = n.is in

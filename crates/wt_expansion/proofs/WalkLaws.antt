@@ -3,9 +3,11 @@ use Rattle.std.proofs.Common.{◌≡◌, ℕ, suc, ◌+◌, ◌-◌, ◌≤◌, 
 use Rattle.std.specs.Prelude.{slice_index}
 use Rattle.std.specs.Option.{option_and_then}
 use Rattle.std.proofs.lemmas.List.{drop-drop, get_or-drop}
+use Rattle.std.proofs.lemmas.List.Concat.{flat_map-append}
 use Rattle.wt_span.specs.declared.form.LexKind.{LexKind}
 use Rattle.wt_span.specs.Bytes.{is_break}
-use Rattle.wt_span.specs.Items.{Item, char, whole}
+use Rattle.wt_span.specs.declared.form.Piece.{Piece}
+use Rattle.wt_span.specs.Items.{Item, char, whole, items, items_of}
 use Rattle.wt_span.specs.Origins.{OuterCall}
 use Rattle.wt_span.specs.Braces.{Member, Members, lexeme, call, none, more, members, width, width_of_all}
 use Rattle.wt_braces.specs.PartMembers.{part_members, width_of}
@@ -19,7 +21,7 @@ use Rattle.wt_transclusion.specs.Parts.{start_after}
 use Rattle.wt_transclusion.specs.Steps.{Leads, one_lexeme, one_brace, one_more}
 use Rattle.wt_transclusion.specs.Stretch.{IsFull, AllFull}
 use Rattle.wt_transclusion.proofs.Chunks.{two_items}
-use Rattle.wt_expansion.specs.Made.{AreAlike}
+use Rattle.wt_expansion.specs.Made.{AreAlike, GiveKept, kept}
 use Rattle.wt_expansion.proofs.SoundCalls.{calls_append}
 use Rattle.wt_expansion.proofs.TextOrder.{spans_append}
 
@@ -202,6 +204,22 @@ target_numbered k (own xs ∷ ss) = target_same xs (numbered k ss) (given_items 
 target_numbered k (outer c xs ∷ ss) =
     target_outer k c xs (numbered (suc k) ss) ∙ target_same xs (numbered (suc k) ss) (given_items ss) (target_numbered (suc k) ss)
 target_numbered k (text_call s ∷ ss) = target_numbered k ss
+
+target_given : (at k : ℕ) (ss : List Stretch) (ps : List Piece) (to : ℕ) → GiveKept at k ss ps to → target_text (items ps) ≡ target_text (given_items ss)
+target_given at k [] ps to g = ap (λ qs. target_text (items qs)) g.0
+target_given at k (own xs ∷ ss) ps to (qs, rs, mid, is, xs_are, o, g) =
+    ap target_text (ap items is ∙ flat_map-append items_of qs rs ∙ ap (λ ys. ys ++ items rs) xs_are)
+    ∙ target_same xs (items rs) (given_items ss) (target_given mid k ss rs to g)
+target_given at k (outer c xs ∷ ss) ps to (qs, rs, is, xs_are, o, s, g) =
+    ap target_text (ap items is ∙ flat_map-append items_of qs rs ∙ ap (λ ys. ys ++ items rs) xs_are) ∙ target_outer (kept k) c xs (items rs)
+    ∙ target_same xs (items rs) (given_items ss) (target_given (at + length c.source) (suc k) ss rs to g)
+target_given at k (text_call s ∷ ss) ps to g = target_given at k ss ps to g
+
+-- what pieces say that give stretches
+pub title_given : (at k : ℕ) (ss : List Stretch) (ps : List Piece) (to : ℕ) → GiveKept at k ss ps to
+    → title_of_target (items ps) ≡ title_of_target (numbered k ss)
+unfolding title_of_target
+title_given at k ss ps to g = ap (option_and_then title_in_target) (target_given at k ss ps to g ∙ sym (target_numbered k ss))
 
 pub title_numbered : (k : ℕ) (ss : List Stretch) → title_of_target (numbered k ss) ≡ title_of_target (given_items ss)
 unfolding title_of_target

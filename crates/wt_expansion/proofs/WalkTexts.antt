@@ -34,9 +34,8 @@ use Rattle.wt_template_stack.proofs.StepLaws.{joined_append}
 use Rattle.wt_expansion.specs.declared.found.Collected.{Collected}
 use Rattle.wt_expansion.specs.Walks.{at_page, Adds, Works, Walked, AnswersWalk, TargetRead, call_stretches_at, call_work, page_stretch, page_work_at, target_members, target_output, front_stretches, behind_stretches, behind_work}
 use Rattle.wt_expansion.proofs.FoundLaws.{adds_then, adds_marked}
-use Rattle.wt_expansion.proofs.PieceLaws.{give_items}
 use Rattle.wt_expansion.proofs.WalkCalls.{what, stretches_is, output_is}
-use Rattle.wt_expansion.proofs.WalkLaws.{strs, strs_append, alike_same, alike_then, alike_append}
+use Rattle.wt_expansion.proofs.WalkLaws.{strs, strs_append, alike_same, alike_then, alike_append, title_given}
 use Rattle.wt_expansion.proofs.WalkTargets.{TargetStands, title_read, page_found, page_work_is}
 
 -- ---- the members of a call are those of its target and those behind it
@@ -212,8 +211,8 @@ target_done pages t l b c part h old one two new store spent answered rest title
     record {
       title_is = title_is ∙ ap title_of_target (ap items rest_is
           ∙ ap (λ qs. items (drop (length two.pieces.items) qs)) f.adds.pieces_are
-          ∙ ap items (drop_at two.pieces.items f.adds.pieces (length two.pieces.items) refl)
-          ∙ give_items at (length two.outer.items) f.done f.adds.pieces (first_end at ps) f.adds.give)
+          ∙ ap items (drop_at two.pieces.items f.adds.pieces (length two.pieces.items) refl))
+          ∙ title_given at (length two.outer.items) f.done f.adds.pieces (first_end at ps) f.adds.give
           ∙ title_read pages t b c f.done (length two.outer.items) f.alike;
       finds = record {
         done = front ++ f.done;

@@ -1,5 +1,5 @@
 -- Pieces that give an expanded page, stretch by stretch.
-use Rattle.std.specs.Prelude.{◌≡◌, ◌<◌, ℕ, suc, ◌+◌, List, [], ◌∷◌, ◌++◌, Some, length, map}
+use Rattle.std.specs.Prelude.{◌≡◌, ◌<◌, ℕ, suc, ◌+◌, List, [], ◌∷◌, ◌++◌, Some, length, map, min}
 use Rattle.wt_span.specs.declared.form.Piece.{Piece}
 use Rattle.wt_span.specs.declared.origin.Origin.TheVariants as origin
 use Rattle.wt_span.specs.Slice.{start_of, end_of}
@@ -33,6 +33,21 @@ Give at k (outer c xs ∷ ss) ps to =
     (qs : List Piece) × (rs : List Piece) × (ps ≡ qs ++ rs) × (items qs ≡ outer_items k c xs) × AreCalled k qs × (c.start ≡ at)
     × Give (at + length c.source) (suc k) ss rs to
 Give at k (text_call s ∷ ss) ps to = Give at k ss ps to
+
+-- A call's number has 32 bits, so that of a later call than the last that has one would be the same. No page has so many: each call
+-- has a byte.
+abbrev pub kept : ℕ → ℕ
+kept k = min k 4294967295
+
+-- The same of pieces that are marked by numbers of 32 bits; a call has some source.
+abbrev pub GiveKept : ℕ → ℕ → List Stretch → List Piece → ℕ → Type 0
+GiveKept at k [] ps to = (ps ≡ []) × (at ≡ to)
+GiveKept at k (own xs ∷ ss) ps to =
+    (qs : List Piece) × (rs : List Piece) × (mid : ℕ) × (ps ≡ qs ++ rs) × (items qs ≡ xs) × AreOwn at qs mid × GiveKept mid k ss rs to
+GiveKept at k (outer c xs ∷ ss) ps to =
+    (qs : List Piece) × (rs : List Piece) × (ps ≡ qs ++ rs) × (items qs ≡ outer_items (kept k) c xs) × AreCalled (kept k) qs
+    × ((c.start ≡ at) × (0 < length c.source)) × GiveKept (at + length c.source) (suc k) ss rs to
+GiveKept at k (text_call s ∷ ss) ps to = GiveKept at k ss ps to
 
 -- stretches that make the same page, where neighbours of the page itself may be cut elsewhere
 pub record AreAlike (ss ts : List Stretch) : Type 0 where

@@ -26,7 +26,7 @@ use Rattle.wt_template_stack.specs.Ledgers.{Ledger, Comes, Refuses, ledger, read
 use Rattle.wt_template_stack.specs.Readers.{IsReading}
 use Rattle.wt_template_stack.specs.Runs.{page_called}
 use Rattle.wt_expansion.specs.declared.found.Collected.{Collected}
-use Rattle.wt_expansion.specs.Made.{AreAlike, Give}
+use Rattle.wt_expansion.specs.Made.{AreAlike, GiveKept}
 
 -- the page is read with no values, and none of its templates is being expanded
 abbrev pub at_page : Pages → Reading
@@ -36,7 +36,7 @@ at_page pages = reading_of pages mode.Page [] MOST_TEMPLATES []
 pub record Adds (old new : Collected) (at : ℕ) (ss : List Stretch) (to : ℕ) : Type 0 where
   pub pieces : List Piece
   pub pieces_are : new.pieces.items ≡ old.pieces.items ++ pieces
-  pub give : Give at (length old.outer.items) ss pieces to
+  pub give : GiveKept at (length old.outer.items) ss pieces to
   pub outer_are : map outer_call new.outer.items ≡ map outer_call old.outer.items ++ outer_calls ss
   pub texts_are : map span_of new.text_calls.items ≡ map span_of old.text_calls.items ++ text_spans ss
 

@@ -175,7 +175,8 @@ impl<'a> Collected<'a> {
         Ok(())
     }
 
-    /// An outermost call, with what it gives.
+    /// An outermost call, with what it gives. Its pieces have its number, of which 32 bits are kept; a
+    /// page has fewer calls.
     pub fn push_outer(
         &mut self,
         alloc: Global,
@@ -184,13 +185,11 @@ impl<'a> Collected<'a> {
         href: Option<Str>,
         given: &[Piece<'a>],
     ) -> Result<(), NoMemory>
-        ensures { OnOk result (Adds self.old self.new (start_of source.entry) (outer (outer_of source.entry call.entry href) (items given.now) ∷ [])
+        ensures { OnOk result (0 < length (bytes_of source.entry)
+            → Adds self.old self.new (start_of source.entry) (outer (outer_of source.entry call.entry href) (items given.now) ∷ [])
             (end_of source.entry)) }
     {
-        if self.outer.len() >= 4_294_967_295 {
-            return Err(NoMemory);
-        }
-        let number = self.outer.len() as u32;
+        let number = self.outer.len().min(u32::MAX as usize) as u32;
         push_given(&mut self.pieces, number, source, given)?;
         self.outer.push(Outer {
             source,

@@ -22,7 +22,7 @@ pub enum Ask {
 
 /// A function call that is being decided. Contracts see what was told so far: the function, its
 /// parts, and the texts of the parts from 0 on.
-#[derive(Debug, Drop)]
+#[derive(Debug)]
 pub struct Chooser {
     alloc: Global,
     function: Function,
@@ -30,6 +30,19 @@ pub struct Chooser {
     texts: List<Str>,
     /// The first part told whose text is equal to that of part 0.
     equal: Option<usize>,
+}
+
+// One call wherever a chooser is let go, in place of one for each of its lists.
+impl Drop for Chooser {
+    fn drop(self) {
+        let Chooser {
+            alloc: _,
+            function: _,
+            equals: _,
+            texts: _,
+            equal: _,
+        } = self;
+    }
 }
 
 impl Model for Chooser {

@@ -1,4 +1,5 @@
 pub mod JoinedValue
 pub mod ShownParts
+pub mod GroupCounts
 pub mod Htmls
 pub mod Runs

@@ -10,17 +10,17 @@ ghost use Rattle.wt_tree.specs.declared.node.Node.{out-Node};
 use crate::attributes::{push_attribute, push_carried, push_fixed, push_own};
 use crate::bytes::{Escaping, push_escaped};
 use std::alloc::Global;
-use wt_devices::{push, push_number};
+use wt_devices::{push, push_count};
 use wt_span::NoMemory;
 use wt_tree::{Attr, AttrName, Fixed, Kind, Node};
 
 /// The number of the group.
 #[tactic(auto, unfolding(wt_markup::specs::Html::about_attribute))]
-fn push_about(out: &mut Vec<u8>, number: u32) -> Result<(), NoMemory>
+fn push_about(out: &mut Vec<u8>, number: usize) -> Result<(), NoMemory>
     ensures { OnOk result (out.new.items ≡ out.old.items ++ about_attribute number) }
 {
     push(out, b" about=\"#mwt")?;
-    push_number(out, number)?;
+    push_count(out, number)?;
     push(out, b"\"")?;
     Ok(())
 }
@@ -119,7 +119,7 @@ fn push_typed(out: &mut Vec<u8>, words: &[Attr], kind: Kind, attrs: &[Attr]) -> 
 fn push_first(
     alloc: Global,
     out: &mut Vec<u8>,
-    number: u32,
+    number: usize,
     group: &Node<'_>,
     kind: Kind,
     attrs: &[Attr],
@@ -135,7 +135,7 @@ fn push_first(
 
 /// The attributes of another element of a group.
 #[tactic(auto, unfolding(wt_markup::specs::Html::next_attributes))]
-fn push_next(out: &mut Vec<u8>, number: u32, kind: Kind, attrs: &[Attr]) -> Result<(), NoMemory>
+fn push_next(out: &mut Vec<u8>, number: usize, kind: Kind, attrs: &[Attr]) -> Result<(), NoMemory>
     ensures { OnOk result (out.new.items ≡ out.old.items ++ next_attributes number (fixed_attributes kind ++ attrs_of attrs.now)) }
 {
     push_about(out, number)?;
@@ -150,7 +150,7 @@ pub struct GroupElement<'g, 't> {
     /// Whether it is the first one.
     pub first: bool,
     /// The number of the group.
-    pub number: u32,
+    pub number: usize,
     pub group: &'g Node<'t>,
     pub kind: Kind,
     /// The attributes of its own.

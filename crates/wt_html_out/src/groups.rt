@@ -57,7 +57,7 @@ fn push_span(
     alloc: Global,
     out: &mut Vec<u8>,
     first: bool,
-    number: u32,
+    number: usize,
     group: &Node<'_>,
 ) -> Result<(), NoMemory>
     ensures { OnOk result (out.new.items ≡ out.old.items ++ span_start first number (label_of (out-Node group.now))) }
@@ -85,7 +85,7 @@ fn push_text_start(
     alloc: Global,
     out: &mut Vec<u8>,
     progress: Progress,
-    number: u32,
+    number: usize,
     group: &Node<'_>,
 ) -> Result<(), NoMemory>
     ensures { OnOk result (out.new.items ≡ out.old.items ++ text_start progress number (label_of (out-Node group.now))) }
@@ -112,7 +112,7 @@ fn push_text(
     alloc: Global,
     out: &mut Vec<u8>,
     progress: Progress,
-    number: u32,
+    number: usize,
     group: &Node<'_>,
     text: &[u8],
 ) -> Result<Progress, NoMemory>
@@ -134,7 +134,7 @@ fn push_group_element(
     alloc: Global,
     out: &mut Vec<u8>,
     first: bool,
-    number: u32,
+    number: usize,
     group: &Node<'_>,
     node: &Node<'_>,
 ) -> Result<(), NoMemory>
@@ -165,7 +165,7 @@ fn push_part(
     alloc: Global,
     out: &mut Vec<u8>,
     progress: Progress,
-    number: u32,
+    number: usize,
     node: &Node<'_>,
     group: &Node<'_>,
 ) -> Result<Progress, NoMemory>
@@ -198,7 +198,7 @@ fn push_parts(
     alloc: Global,
     out: &mut Vec<u8>,
     progress: Progress,
-    number: u32,
+    number: usize,
     nodes: &[Node<'_>],
     group: &Node<'_>,
 ) -> Result<Progress, NoMemory>
@@ -217,7 +217,7 @@ fn push_ending(
     alloc: Global,
     out: &mut Vec<u8>,
     progress: Progress,
-    number: u32,
+    number: usize,
     group: &Node<'_>,
 ) -> Result<(), NoMemory>
     ensures { OnOk result (out.new.items ≡ out.old.items ++ ending progress number (label_of (out-Node group.now))) }
@@ -236,7 +236,7 @@ fn push_ending(
 pub fn push_group(
     alloc: Global,
     out: &mut Vec<u8>,
-    number: u32,
+    number: usize,
     group: &Node<'_>,
 ) -> Result<(), NoMemory>
     ensures { OnOk result (out.new.items ≡ out.old.items ++ group_html number (label_of (out-Node group.now))

@@ -1,4 +1,4 @@
-ghost use Rattle.std.specs.Prelude.{◌≡◌, ◌<◌, ◌≤◌, ◌++◌, ◌+◌, suc, length, Err, IfOk, OnOk};
+ghost use Rattle.std.specs.Prelude.{◌≡◌, ◌<◌, ◌≤◌, ◌++◌, ◌+◌, length, Err, IfOk, OnOk};
 ghost use Rattle.wt_html_out.specs.declared.refusal.LengthRefusal.TheVariants.{TooLong};
 ghost use Rattle.wt_markup.specs.Escapes.{escaped};
 ghost use Rattle.wt_markup.specs.Html.{html, html_of_all, groups, groups_of_all, frame_start, frame_end, html_text};
@@ -22,17 +22,6 @@ fn push_source(out: &mut Vec<u8>, texts: &[Text<'_>]) -> Result<(), NoMemory>
     Ok(())
 }
 
-/// The number of a group after so many others. More groups than there are numbers don't fit into
-/// memory.
-pub fn next_group(before: u32) -> Result<u32, NoMemory>
-    ensures { IfOk result (λ n. n ≡ suc before) }
-{
-    if before == u32::MAX {
-        return Err(NoMemory);
-    }
-    Ok(before + 1)
-}
-
 /// Stops the writer where it has written more than so many bytes.
 fn stop_past(most: usize, out: &[u8]) -> Result<(), LengthRefusal>
     ensures within { OnOk result (length out.now ≤ most) }
@@ -44,22 +33,26 @@ fn stop_past(most: usize, out: &[u8]) -> Result<(), LengthRefusal>
     Ok(())
 }
 
-/// A node after so many groups; it gives how many come before what follows it. The writer stops
-/// after the first child with which the text is too long.
+/// A node after so many groups; it gives how many come before what follows it, which are no more
+/// than the bytes that are written. The writer stops after the first child with which the text is too
+/// long.
 #[cycle(html)]
+#[tactic(auto, using(crate::proofs::GroupCounts::longer, crate::proofs::GroupCounts::group_longer))]
 fn push_html(
     alloc: Global,
     out: &mut Vec<u8>,
     most: usize,
-    before: u32,
+    before: usize,
     node: &Node<'_>,
-) -> Result<u32, LengthRefusal>
+) -> Result<usize, LengthRefusal>
+    requires { before ≤ length out.old.items }
     ensures text { OnOk result (out.new.items ≡ out.old.items ++ html before (view node.now)) }
     ensures groups { IfOk result (λ n. n ≡ before + groups (view node.now)) }
+    ensures few { IfOk result (λ n. n ≤ length out.new.items) }
     ensures too_long { result ≡ Err TooLong → most < length (out.old.items ++ html before (view node.now)) }
 {
     if node.kind.is_group() {
-        let number = next_group(before)?;
+        let number = before + 1;
         push_group(alloc, out, number, node)?;
         return Ok(number);
     }
@@ -93,11 +86,13 @@ fn push_all(
     alloc: Global,
     out: &mut Vec<u8>,
     most: usize,
-    before: u32,
+    before: usize,
     nodes: &[Node<'_>],
-) -> Result<u32, LengthRefusal>
+) -> Result<usize, LengthRefusal>
+    requires { before ≤ length out.old.items }
     ensures text { OnOk result (out.new.items ≡ out.old.items ++ html_of_all before (views nodes.now)) }
     ensures groups { IfOk result (λ n. n ≡ before + groups_of_all (views nodes.now)) }
+    ensures few { IfOk result (λ n. n ≤ length out.new.items) }
     ensures too_long { result ≡ Err TooLong → most < length (out.old.items ++ html_of_all before (views nodes.now)) }
 {
     let mut behind = before;

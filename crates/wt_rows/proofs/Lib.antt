@@ -2,6 +2,7 @@ pub mod Attributing
 pub mod Cases
 pub mod Celling
 pub mod FirstUnits
+pub mod FrontCuts
 pub mod Grouping
 pub mod GroupSteps
 pub mod Growing

@@ -9,7 +9,7 @@ use Rattle.wt_span.specs.declared.form.ItemForm.TheVariants as form
 use Rattle.wt_span.specs.declared.form.Piece.{Piece}
 use Rattle.wt_span.specs.Slice.{bytes_of}
 use Rattle.wt_span.specs.Whole.{IsWhole}
-use Rattle.wt_span.specs.Bytes.{begins}
+use Rattle.wt_span.specs.Bytes.{begins, is_blank}
 use Rattle.wt_span.specs.Items.{Item, char, whole, sign, items, items_of, items_by, call_of_origin}
 use Rattle.wt_span.specs.Origins.{IsSoundPiece}
 use Rattle.wt_span.specs.Runs.{IsRun, AreRuns}
@@ -23,7 +23,9 @@ use Rattle.wt_tiles.specs.Glyphs.{glyph_of}
 use Rattle.wt_tiles.specs.Edges.{is_low, low_at}
 use Rattle.wt_tiles.specs.Cutting.{IsEdgeIn}
 use Rattle.wt_page.specs.Rows.{signs, idle_len, dashes}
+use Rattle.wt_rows.specs.declared.front.Front.TheVariants as front
 use Rattle.wt_rows.specs.Building.{IsTableLine, IsIdleCut}
+use Rattle.wt_rows.specs.Fronts.{front_len, IsFrontCut}
 use Rattle.wt_rows.proofs.KindSigns.{Tells, past_idle}
 use Rattle.wt_rows.proofs.LowSigns.{form_low}
 
@@ -126,6 +128,12 @@ dash_low s e = grind (arith, nat_tests)
 
 pub dashes_edge : (xs : List Item) → 0 < dashes xs → IsEdgeIn xs (dashes xs)
 dashes_edge xs s = before_low xs (dashes xs) s (λ k l. prefix_low (λ t. t == 45) dash_low xs k l)
+
+blank_low : (s : ℕ) → is_blank s ≡ true → s < 128
+blank_low s e = grind (arith, nat_tests)
+
+pub blanks_edge : (xs : List Item) → IsFrontCut front.Blanks xs
+blanks_edge xs s = before_low xs (front_len front.Blanks xs) s (λ k l. prefix_low is_blank blank_low xs k l)
 
 -- ---- the first signs of lines of tables
 

@@ -1,15 +1,16 @@
 -- One more row behind those that were made.
 use Rattle.std.proofs.Common.{◌≡◌, ◌≤◌, ℕ, ◌-◌, List, [], ◌∷◌, ◌++◌, length, take, drop, refl, sym, ap, ◌∙◌, subst, arith, append_assoc, append-nil, length-append, length-drop}
 use Rattle.std.specs.Prelude.{All}
+use Rattle.std.specs.List.{prefix_len}
 use Rattle.std.proofs.lemmas.List.{drop_all, take_all, map-append}
 use Rattle.wt_span.proofs.Lists.{take_append, drop_append}
 use Rattle.wt_span.specs.declared.form.Piece.{Piece}
-use Rattle.wt_span.specs.Items.{Item, items}
+use Rattle.wt_span.specs.Items.{Item, items, is_mark}
 use Rattle.wt_span.specs.Origins.{IsSoundPiece}
 use Rattle.wt_lines.specs.declared.kind.LineKind.{LineKind}
 use Rattle.wt_lines.specs.Kinds.{past, is_idle}
 use Rattle.wt_lines.specs.Lines.{IsUnbroken}
-use Rattle.wt_lines.specs.Pieces.{AllParted}
+use Rattle.wt_lines.specs.Pieces.{AllParted, AreLeadingMarks}
 use Rattle.wt_headings.proofs.Pieces.{all_append}
 use Rattle.wt_rows.specs.declared.row.RowAt.{RowAt}
 use Rattle.std.proofs.lemmas.List.Elements.{All-nil}
@@ -120,6 +121,17 @@ whole_front xs qs q n e s f u =
 pub whole_back : (xs : List Item) (qs q : List Piece) (n : ℕ) → q ≡ qs → All IsSoundPiece qs → items qs ≡ drop n xs → IsUnbroken xs → AreWhole q
 whole_back xs qs q n e s f u =
     subst AreWhole (sym e) (record { sound = s; parted = unbroken_parted qs s (subst IsUnbroken (sym f) (unbroken_drop n xs u)) })
+
+-- two parts of what is left of a line
+pub whole_cut : (xs : List Item) (rest r own behind : List Piece) (n m : ℕ) → r ≡ rest → items rest ≡ drop n xs → IsUnbroken xs
+    → All IsSoundPiece own → items own ≡ take m (items r) → All IsSoundPiece behind → items behind ≡ drop m (items r) → AreWhole own × AreWhole behind
+whole_cut xs rest r own behind n m e f u so o sb b =
+    let v : IsUnbroken (items r) = subst IsUnbroken (sym (ap items e ∙ f)) (unbroken_drop n xs u) in
+    (whole_front (items r) own own m refl so o v, whole_back (items r) behind behind m refl sb b v)
+
+-- what is behind the marks at the front of a line
+pub unbroken_behind : (ps r : List Piece) (n : ℕ) → r ≡ drop n ps → AreLeadingMarks ps n → IsUnbroken (items ps) → IsUnbroken (items r)
+unbroken_behind ps r n e cut u = subst IsUnbroken (cut.1 ∙ ap items (sym e)) (unbroken_drop (prefix_len is_mark (items ps)) (items ps) u)
 
 pub idle_begins : (k : LineKind) (xs : List Item) (qs q : List Piece) (n : ℕ) → q ≡ qs → items qs ≡ drop n xs → n ≡ idle_len xs
     → Begins k (past is_idle (signs xs)) → Begins k (signs (items q))

@@ -1,15 +1,10 @@
 -- The signs at the front of a line.
-use Rattle.std.proofs.Common.{◌≡◌, ◌<◌, ℕ, suc, ◌+◌, ◌-◌, Bool, true, false, List, [], ◌∷◌, ◌++◌, take, drop, refl, sym, ap, ◌∙◌, cond, arith, append_assoc, append-nil}
+use Rattle.std.proofs.Common.{◌≡◌, ◌<◌, ℕ, suc, ◌+◌, ◌-◌, Bool, true, false, List, [], ◌∷◌, ◌++◌, take, refl, sym, ap, ◌∙◌, cond, arith, append_assoc, append-nil}
 use Rattle.std.specs.Prelude.{min}
 use Rattle.std.specs.List.{prefix_len}
 use Rattle.std.proofs.Math.Nat.{min-zero, zero-min}
-use Rattle.std.proofs.lemmas.List.{drop-drop}
 use Rattle.wt_blocks.specs.Nesting.{is_list_sign}
 use Rattle.wt_rows.specs.Prefixes.{list_signs}
-
--- one sign further
-pub one_further : (whole s t : List ℕ) (i b : ℕ) → s ≡ b ∷ t → s ≡ drop i whole → t ≡ drop (i + 1) whole
-one_further whole s t i b e h = sym (ap (drop 1) e) ∙ ap (drop 1) h ∙ drop-drop 1 i whole
 
 -- ---- signs of lists
 

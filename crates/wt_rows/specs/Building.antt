@@ -56,12 +56,15 @@ made_rows r = rows_view r.pieces r.rows
 abbrev pub cut_row : LineKind → ℕ → List Item → List Item → Row
 cut_row k n content end = record { kind = k; lead = take n content; items = drop n content; ending = end }
 
--- a row with a sign of so many items, and a second one of what is seen after it
+-- a row of a sign, and a second one of what is seen after it
+abbrev pub parted_rows : LineKind → List Item → List Item → List Item → List Item → List Row
+parted_rows k lead own rest end =
+    if is_idle_all (signs rest) then record { kind = k; lead = lead; items = own; ending = rest ++ end } ∷ []
+    else record { kind = k; lead = lead; items = own; ending = [] } ∷ cut_row line.Text (marks_len rest) rest end ∷ []
+
+-- the same where the sign has so many items
 abbrev pub signed_rows : LineKind → List Item → ℕ → List Item → List Item → List Row
-signed_rows k lead n content end =
-    let rest = drop n content in
-    if is_idle_all (signs rest) then record { kind = k; lead = lead; items = take n content; ending = rest ++ end } ∷ []
-    else record { kind = k; lead = lead; items = take n content; ending = [] } ∷ cut_row line.Text (marks_len rest) rest end ∷ []
+signed_rows k lead n content end = parted_rows k lead (take n content) (drop n content) end
 
 -- the end of a table after blanks and marks, and a rule after marks
 abbrev pub table_end_rows : List Item → List Item → List Row

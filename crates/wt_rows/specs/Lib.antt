@@ -1,5 +1,6 @@
 pub mod Building
 pub mod Delimiters
+pub mod Fronts
 pub mod Groups
 pub mod GroupViews
 pub mod Portions

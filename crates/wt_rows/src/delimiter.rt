@@ -1,16 +1,12 @@
 //! The delimiters of tables and of their rows, with the stray lines after them.
 
 ghost use Rattle.std.specs.Prelude.{◌≡◌, ◌<◌, ◌≤◌, ◌+◌, ◌==◌, ◌∷◌, ◌++◌, true, All, codes, length, drop, IfOk};
-ghost use Rattle.std.specs.List.{prefix_len};
 ghost use Rattle.wt_span.specs.Bytes.{begins};
 ghost use Rattle.wt_span.specs.Items.{items};
 ghost use Rattle.wt_span.specs.Origins.{IsSoundPiece};
-ghost use Rattle.wt_lines.specs.Signs.{left, number};
 ghost use Rattle.wt_tree.specs.View.{attrs_of};
-ghost use Rattle.wt_attributes.specs.Attributes.{attributes};
-ghost use Rattle.wt_tables.specs.Cells.{is_dash, table_attributes, row_attributes};
+ghost use Rattle.wt_tables.specs.Cells.{table_attributes, row_attributes};
 ghost use Rattle.wt_tables.specs.Parts.{is_blank_kind};
-ghost use Rattle.wt_tiles.specs.Cutting.{IsEdgeIn};
 ghost use Rattle.wt_page.specs.Rows.{signs};
 ghost use Rattle.wt_page.specs.Stretches.{gap};
 ghost use Rattle.wt_page.specs.Tables.{is_blank_row, stray_len, gaps};
@@ -18,14 +14,14 @@ ghost use Rattle.wt_rows.specs.Ready.{AreReadyRows};
 ghost use Rattle.wt_rows.specs.Delimiters.{IsJoined};
 ghost use Rattle.wt_rows.specs.Views.{row_view, rows_view, stretches_view};
 
-use crate::cuts::cut;
-use crate::prefix::past;
+use crate::cuts::{cut, cut_with};
+use crate::front::Front;
 use crate::row::{RowAt, between};
 use crate::stretch::{StretchAt, before};
 use std::alloc::Global;
 use wt_attributes::read_attributes;
 use wt_headings::content_len;
-use wt_lines::{LineKind, LineSign, Signs};
+use wt_lines::{LineKind, Signs};
 use wt_span::{List, NoMemory, Piece};
 use wt_tree::Attr;
 
@@ -110,46 +106,14 @@ pub fn joined_row(pieces: &[Piece<'_>], rows: &[RowAt]) -> RowAt
     }
 }
 
-/// The attributes that come after so many items of a line.
-fn attrs_behind(alloc: Global, line: &[Piece<'_>], n: usize) -> Result<List<Attr>, NoMemory>
-    requires sound { All IsSoundPiece line.now }
-    requires within { n ≤ length (items line.now) }
-    requires edge { 0 < n → IsEdgeIn (items line.now) n }
-    ensures { IfOk result (λ l. attrs_of l ≡ attributes (drop n (items line.now))) }
-{
-    let (_sign, rest) = cut(alloc, line, n)?;
-    read_attributes(alloc, rest.as_slice())
-}
-
 /// The attributes of a table, by the line that opens it.
 pub fn table_attrs(alloc: Global, line: &[Piece<'_>]) -> Result<List<Attr>, NoMemory>
     requires sound { All IsSoundPiece line.now }
     requires sign { begins (codes "{|") (signs (items line.now)) ≡ true }
     ensures { IfOk result (λ l. attrs_of l ≡ table_attributes (items line.now)) }
 {
-    attrs_behind(alloc, line, 2)
-}
-
-fn is_dash(sign: LineSign) -> bool
-    ensures { result ≡ is_dash (number sign) }
-{
-    sign.is_byte(b'-')
-}
-
-/// How many `-` are at the front, and so many more.
-fn dashes_after(signs: Signs<'_, '_>, n: usize) -> Result<usize, NoMemory>
-    ensures { IfOk result (λ len. len ≡ n + prefix_len is_dash (left signs.entry)) }
-{
-    let mut rest = signs;
-    let mut len = n;
-    while let Some((sign, after)) = rest.split_first() {
-        if !is_dash(sign) {
-            return Ok(len);
-        }
-        len = len.checked_add(1).ok_or(NoMemory)?;
-        rest = after;
-    }
-    Ok(len)
+    let (_, rest) = cut(alloc, line, 2)?;
+    read_attributes(alloc, rest.as_slice())
 }
 
 /// The attributes of a row of a table, by the line that opens it: after all `-` of its sign.
@@ -158,8 +122,8 @@ pub fn row_attrs(alloc: Global, line: &[Piece<'_>]) -> Result<List<Attr>, NoMemo
     requires sign { begins (codes "|-") (signs (items line.now)) ≡ true }
     ensures { IfOk result (λ l. attrs_of l ≡ row_attributes (items line.now)) }
 {
-    let n = dashes_after(past(Signs::of(line), 1), 1)?;
-    attrs_behind(alloc, line, n)
+    let (_, rest) = cut_with(alloc, line, 1, Front::Dashes)?;
+    read_attributes(alloc, rest.as_slice())
 }
 
 /// The line break of a delimiter's last line, the blank lines after it, and other stretches.

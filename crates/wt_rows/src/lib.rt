@@ -6,6 +6,7 @@
 mod cell;
 mod cuts;
 mod delimiter;
+mod front;
 mod group;
 mod part;
 mod portion;
@@ -17,12 +18,13 @@ mod unit;
 mod unread;
 
 pub use cell::row_cells;
-pub use cuts::cut;
+pub use cuts::{cut, cut_with};
 pub use delimiter::gaps;
+pub use front::Front;
 pub use group::{Group, captions_len, going_len, groups};
 pub use part::{opened_row, whole_table};
 pub use portion::next_portion;
-pub use prefix::{prefix_of, with_blanks};
+pub use prefix::prefix_of;
 pub use row::{RowAt, between};
 pub use rows::PageRows;
 pub use stretch::{

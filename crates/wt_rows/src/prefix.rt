@@ -1,12 +1,10 @@
-//! The prefixes of lines of lists, and the blanks after them.
+//! The prefixes of lines of lists.
 
-ghost use Rattle.std.specs.Prelude.{ℕ, suc, ◌≡◌, ◌+◌, ◌∷◌, ◌++◌, [], true, false, length, drop, IfOk, MatchOption};
-ghost use Rattle.std.specs.List.{prefix_len};
-ghost use Rattle.wt_span.specs.Bytes.{is_blank};
+ghost use Rattle.std.specs.Prelude.{ℕ, suc, ◌≡◌, ◌∷◌, ◌++◌, [], true, false, length, IfOk, MatchOption};
 ghost use Rattle.wt_span.specs.Items.{items};
 ghost use Rattle.wt_lines.specs.Signs.{left, number};
 ghost use Rattle.wt_blocks.specs.Nesting.{is_list_sign};
-ghost use Rattle.wt_page.specs.Lists.{prefix_of, with_blanks};
+ghost use Rattle.wt_page.specs.Lists.{prefix_of};
 ghost use Rattle.wt_rows.specs.Prefixes.{list_signs};
 
 use std::alloc::Global;
@@ -51,48 +49,4 @@ pub fn prefix_of(alloc: Global, line: &[Piece<'_>]) -> Result<Str, NoMemory>
         rest = after;
     }
     Ok(prefix)
-}
-
-/// What is left after so many signs.
-pub fn past<'p, 'a>(signs: Signs<'p, 'a>, n: usize) -> Signs<'p, 'a>
-    ensures { left result ≡ drop n (left signs.entry) }
-{
-    let mut rest = signs;
-    for i in 0..n {
-        let Some((_, after)) = rest.split_first() else {
-            return rest;
-        };
-        rest = after;
-    }
-    rest
-}
-
-fn is_blank(sign: LineSign) -> bool
-    ensures { result ≡ is_blank (number sign) }
-{
-    sign.is_byte(b' ') || sign.is_byte(b'\t')
-}
-
-/// How many blanks are at the front, and so many more.
-fn blanks_after(signs: Signs<'_, '_>, n: usize) -> Result<usize, NoMemory>
-    ensures { IfOk result (λ len. len ≡ n + prefix_len is_blank (left signs.entry)) }
-{
-    let mut rest = signs;
-    let mut len = n;
-    while let Some((sign, after)) = rest.split_first() {
-        if !is_blank(sign) {
-            return Ok(len);
-        }
-        len = len.checked_add(1).ok_or(NoMemory)?;
-        rest = after;
-    }
-    Ok(len)
-}
-
-/// So many items, and the blanks after them. More than a machine word counts are answered as want
-/// of memory.
-pub fn with_blanks(line: &[Piece<'_>], n: usize) -> Result<usize, NoMemory>
-    ensures { IfOk result (λ len. len ≡ with_blanks n (items line.now)) }
-{
-    blanks_after(past(Signs::of(line), n), n)
 }

@@ -8,11 +8,12 @@ ghost use Rattle.wt_lines.specs.Lines.{IsUnbroken, content};
 ghost use Rattle.wt_lines.specs.Pieces.{AreLeadingMarks};
 ghost use Rattle.wt_headings.specs.Lines.{kind_at};
 ghost use Rattle.wt_tiles.specs.Cutting.{IsEdgeIn};
-ghost use Rattle.wt_page.specs.Rows.{signs, marks_len, idle_len, dashes, line_rows, unwritten_end, rows};
+ghost use Rattle.wt_page.specs.Rows.{signs, marks_len, idle_len, line_rows, unwritten_end, rows};
 ghost use Rattle.wt_rows.specs.Ready.{Begins};
-ghost use Rattle.wt_rows.specs.Building.{AreWhole, IsRowOf, row_of, AreMade, ArePageRows, made_rows, rows_before, HasLine, IsTextLine, cut_row, signed_rows, table_end_rows, rule_rows, IsKindAt, IsIdleCut, IsSeenFirst};
+ghost use Rattle.wt_rows.specs.Building.{AreWhole, IsRowOf, row_of, AreMade, ArePageRows, made_rows, rows_before, HasLine, IsTextLine, cut_row, parted_rows, table_end_rows, rule_rows, IsKindAt, IsIdleCut, IsSeenFirst};
 
-use crate::cuts::cut;
+use crate::cuts::{cut, cut_front};
+use crate::front::Front;
 use crate::row::RowAt;
 use std::alloc::Global;
 use wt_headings::content_len;
@@ -24,39 +25,6 @@ use wt_span::{List, NoMemory, Piece, front_of, rest_of};
 pub struct PageRows<'a> {
     pub pieces: List<Piece<'a>>,
     pub rows: List<RowAt>,
-}
-
-/// How many blanks and marks are at the front, in items. More than a machine word counts are
-/// answered as want of memory.
-fn idle_len(line: &[Piece<'_>]) -> Result<usize, NoMemory>
-    ensures { IfOk result (λ n. n ≡ idle_len (items line.now)) }
-{
-    let mut rest = Signs::of(line);
-    let mut len: usize = 0;
-    while let Some((sign, after)) = rest.split_first() {
-        if !sign.is_idle() {
-            return Ok(len);
-        }
-        len = len.checked_add(1).ok_or(NoMemory)?;
-        rest = after;
-    }
-    Ok(len)
-}
-
-/// How many `-` are at the front. More than a machine word counts are answered as want of memory.
-fn dashes(line: &[Piece<'_>]) -> Result<usize, NoMemory>
-    ensures { IfOk result (λ n. n ≡ dashes (items line.now)) }
-{
-    let mut rest = Signs::of(line);
-    let mut len: usize = 0;
-    while let Some((sign, after)) = rest.split_first() {
-        if !sign.is_byte(b'-') {
-            return Ok(len);
-        }
-        len = len.checked_add(1).ok_or(NoMemory)?;
-        rest = after;
-    }
-    Ok(len)
 }
 
 /// The first byte of a text.
@@ -101,11 +69,13 @@ pub fn line_kind(line: &[Piece<'_>], tables: u32) -> LineKind
     kind_of_pieces(front_of(line, content_len(line)), tables)
 }
 
-/// A line in three parts: its lead, what comes after it, and its ending.
-#[derive(Clone, Copy)]
-struct LineParts<'l, 'a> {
+/// A line with a sign that is a row by itself.
+#[derive(Drop)]
+struct SignedLine<'l, 'a> {
     lead: &'l [Piece<'a>],
-    content: &'l [Piece<'a>],
+    sign: List<Piece<'a>>,
+    /// What comes after the sign, without the line's ending.
+    behind: List<Piece<'a>>,
     ending: &'l [Piece<'a>],
 }
 
@@ -192,46 +162,37 @@ impl<'a> PageRows<'a> {
             ≡ made_rows self.entry ++ cut_row kind (idle_len (items content.now)) (items content.now) (items ending.now) ∷ []) }
         ensures made_after { IfOk result (λ r. ArePageRows r) }
     {
-        let n = idle_len(content)?;
-        let (lead, rest) = cut(alloc, content, n)?;
+        let (lead, rest) = cut_front(alloc, content, Front::Idle)?;
         self.with_row(kind, lead.as_slice(), rest.as_slice(), ending)
     }
 
-    /// A sign of n items after its lead, and what comes after it on the line: the end of its row,
-    /// or a row of text where something is seen.
-    fn with_sign(
-        self,
-        alloc: Global,
-        kind: LineKind,
-        n: usize,
-        line: LineParts<'_, 'a>,
-    ) -> Result<PageRows<'a>, NoMemory>
+    /// A sign after its lead, and what comes after it on the line: the end of its row, or a row of
+    /// text where something is seen.
+    fn with_sign(self, kind: LineKind, line: SignedLine<'_, 'a>) -> Result<PageRows<'a>, NoMemory>
         requires made { ArePageRows self }
         requires lead { AreWhole line.lead.now }
-        requires sound { All IsSoundPiece line.content.now }
+        requires sign { AreWhole line.sign }
+        requires behind { AreWhole line.behind }
         requires ending { AreWhole line.ending.now }
-        requires unbroken { IsUnbroken (items line.content.now) }
-        requires within { n ≤ length (items line.content.now) }
-        requires edge { 0 < n → IsEdgeIn (items line.content.now) n }
         requires free { (ss : List ℕ) → Begins kind ss }
         ensures rows { IfOk result (λ r. made_rows r ≡ made_rows self.entry
-            ++ signed_rows kind (items line.entry.lead.now) n (items line.entry.content.now) (items line.entry.ending.now)) }
+            ++ parted_rows kind (items line.entry.lead.now) (items line.entry.sign) (items line.entry.behind) (items line.entry.ending.now)) }
         ensures made_after { IfOk result (λ r. ArePageRows r) }
     {
-        let LineParts {
+        let SignedLine {
             lead,
-            content,
+            sign,
+            behind,
             ending,
         } = line;
-        let (sign, rest) = cut(alloc, content, n)?;
-        if Signs::of(rest.as_slice()).is_idle() {
-            let mut end = rest;
+        if Signs::of(behind.as_slice()).is_idle() {
+            let mut end = behind;
             end.extend_from_slice(ending)?;
             return self.with_row(kind, lead, sign.as_slice(), end.as_slice());
         }
         let none = front_of(ending, 0);
         let made = self.with_row(kind, lead, sign.as_slice(), none)?;
-        made.with_marked(LineKind::Text, rest.as_slice(), ending)
+        made.with_marked(LineKind::Text, behind.as_slice(), ending)
     }
 
     /// The end of a table.
@@ -251,14 +212,15 @@ impl<'a> PageRows<'a> {
         ensures rows { IfOk result (λ r. made_rows r ≡ made_rows self.entry ++ table_end_rows (items content.now) (items ending.now)) }
         ensures made_after { IfOk result (λ r. ArePageRows r) }
     {
-        let n = idle_len(content)?;
-        let (lead, rest) = cut(alloc, content, n)?;
-        let line = LineParts {
+        let (lead, rest) = cut_front(alloc, content, Front::Idle)?;
+        let (sign, behind) = cut(alloc, rest.as_slice(), 2)?;
+        let line = SignedLine {
             lead: lead.as_slice(),
-            content: rest.as_slice(),
+            sign,
+            behind,
             ending,
         };
-        self.with_sign(alloc, LineKind::TableEnd, 2, line)
+        self.with_sign(LineKind::TableEnd, line)
     }
 
     /// A rule.
@@ -276,14 +238,14 @@ impl<'a> PageRows<'a> {
         ensures made_after { IfOk result (λ r. ArePageRows r) }
     {
         let n = marks_len(content);
-        let rest = rest_of(content, n);
-        let len = dashes(rest)?;
-        let line = LineParts {
+        let (sign, behind) = cut_front(alloc, rest_of(content, n), Front::Dashes)?;
+        let line = SignedLine {
             lead: front_of(content, n),
-            content: rest,
+            sign,
+            behind,
             ending,
         };
-        self.with_sign(alloc, LineKind::Rule, len, line)
+        self.with_sign(LineKind::Rule, line)
     }
 
     /// The rows of a line of this kind.

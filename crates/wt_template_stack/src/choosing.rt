@@ -1,14 +1,17 @@
 //! A function by text of which the parts are told one after the other.
-ghost use Rattle.std.specs.Prelude.{◌≡◌, ◌<◌, ◌^◌, Some, true, IfOk, is_some, length, not, slice_get};
+ghost use Rattle.std.specs.Prelude.{◌≡◌, ◌<◌, ◌^◌, Some, true, IfOk, OnOk, is_some, length, not, slice_get};
 ghost use Rattle.wt_functions.specs.Choice.{asked, is_tell};
+ghost use Rattle.wt_span.specs.Items.{items};
+ghost use Rattle.wt_expand.specs.Texts.{name_text};
+ghost use Rattle.wt_template_stack.specs.Choosings.{with_text};
 ghost use Rattle.wt_template_stack.specs.ToldParts.{have_equals, name_end, told_end, given_start};
 
 use crate::reader::Reader;
 use std::alloc::Global;
 use wt_braces::PartAt;
 use wt_functions::Chooser;
-use wt_span::{Function, List, NoMemory, rest_of};
-use wt_transclusion::Braces;
+use wt_span::{Function, List, NoMemory, Piece, rest_of};
+use wt_transclusion::{Braces, name_text};
 
 /// A function by text of which a part is being told.
 #[derive(Drop)]
@@ -67,6 +70,15 @@ fn have_equals(alloc: Global, parts: &[PartAt]) -> Result<List<bool>, NoMemory>
         equals.push(part.equals.is_some())?;
     }
     Ok(equals)
+}
+
+/// Tells the text of the part that was asked for, which gave these pieces.
+pub fn tell(alloc: Global, chooser: &mut Chooser, out: &[Piece<'_>]) -> Result<(), NoMemory>
+    requires { is_tell (asked chooser.old) ≡ true }
+    ensures { OnOk result (chooser.new ≡ with_text chooser.old (name_text (items out.now))) }
+{
+    let text = name_text(alloc, out)?;
+    chooser.told(text.as_str())
 }
 
 /// The part of a number.

@@ -17,7 +17,7 @@ ghost use Rattle.wt_template_stack.specs.Measures.{BeginsLater, GetsOn, steps_be
 ghost use Rattle.wt_template_stack.specs.Runs.{AnswersGoing, AnswersTurn, BeginsCall, BeginsLevel, GivesAgain, HandsParts, HasEnded, Holds, IsRunning, Returns, TakesChunk, TakesPart};
 ghost use Rattle.wt_template_stack.specs.declared.level.Task.TheVariants as tasks;
 
-use crate::choosing::{Choosing, given_start, is_whole, part_at, told_end};
+use crate::choosing::{Choosing, given_start, is_whole, part_at, tell, told_end};
 use crate::level::{Level, Levels, PendingCall, Task};
 use crate::reader::Reader;
 use std::alloc::Global;
@@ -391,7 +391,6 @@ impl<'a> TextRun<'a> {
         ensures fault { IfErr result IsNoFault }
         ensures gets_on { OnOk result (steps_left self.new < steps_behind (tasks.Told choosing.entry) + steps_left self.old) }
     {
-        let text = name_text(self.alloc, out.as_slice())?;
         let Choosing {
             call,
             at_start,
@@ -402,7 +401,7 @@ impl<'a> TextRun<'a> {
             spent: before,
         } = choosing;
         let mut chooser = chooser;
-        chooser.told(text.as_str())?;
+        tell(self.alloc, &mut chooser, out.as_slice())?;
         match chooser.ask() {
             Ask::Tell(number) => {
                 let part = part_at(call, number);

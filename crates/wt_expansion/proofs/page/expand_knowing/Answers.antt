@@ -83,7 +83,7 @@ new-items-requires g c =
     let walked = c.in_ok-stretch.ensures.given pages bytes met 0 true (page_members bytes) agrees free
     (c.start.ensures mode.Page bytes c.in_ok-text.ensures.read) (page_stands bytes) in
     let found = page_is_found pages bytes met walk.expansion.spent answered told_now (length bytes) walk.found next.found next.expansion
-    c.from_vec-pieces.result c.from_vec-outer.result c.from_vec-text_calls.result c.utf8.page c.in_ok-text.ensures.fits spent
+    c.from_vec-pieces.result c.from_vec-outer.result c.from_vec-text_calls.result c.utf8.page c.requires.short c.in_ok-text.ensures.fits spent
     c.new-walk.ensures.pieces c.new-walk.ensures.outer c.new-walk.ensures.text_calls (c.in_ok-stretch.ensures.names ∙ free.names) walked
     c.from_vec-pieces.ensures c.from_vec-outer.ensures c.from_vec-text_calls.ensures in
     found.found.owed
@@ -103,7 +103,7 @@ returns-clause-items g c = λ pages met told h.
     let walked = c.in_ok-stretch.ensures.given pages bytes met 0 true (page_members bytes) agrees free
     (c.start.ensures mode.Page bytes c.in_ok-text.ensures.read) (page_stands bytes) in
     let found = page_is_found pages bytes met walk.expansion.spent answered told_now (length bytes) walk.found next.found next.expansion
-    c.from_vec-pieces.result c.from_vec-outer.result c.from_vec-text_calls.result c.utf8.page c.in_ok-text.ensures.fits spent
+    c.from_vec-pieces.result c.from_vec-outer.result c.from_vec-text_calls.result c.utf8.page c.requires.short c.in_ok-text.ensures.fits spent
     c.new-walk.ensures.pieces c.new-walk.ensures.outer c.new-walk.ensures.text_calls (c.in_ok-stretch.ensures.names ∙ free.names) walked
     c.from_vec-pieces.ensures c.from_vec-outer.ensures c.from_vec-text_calls.ensures in
     let given : c.new-items.result ≡ record {
@@ -142,7 +142,7 @@ returns-clause-some g c =
     let walked = c.in_ok-stretch.ensures.given pages bytes met 0 true (page_members bytes) agrees free
     (c.start.ensures mode.Page bytes c.in_ok-text.ensures.read) (page_stands bytes) in
     let found = page_is_found pages bytes met walk.expansion.spent answered told_now (length bytes) walk.found next.found next.expansion
-    c.from_vec-pieces.result c.from_vec-outer.result c.from_vec-text_calls.result c.utf8.page c.in_ok-text.ensures.fits spent
+    c.from_vec-pieces.result c.from_vec-outer.result c.from_vec-text_calls.result c.utf8.page c.requires.short c.in_ok-text.ensures.fits spent
     c.new-walk.ensures.pieces c.new-walk.ensures.outer c.new-walk.ensures.text_calls (c.in_ok-stretch.ensures.names ∙ free.names) walked
     c.from_vec-pieces.ensures c.from_vec-outer.ensures c.from_vec-text_calls.ensures in
     let given : c.new-items.result ≡ record {
@@ -175,7 +175,7 @@ returns-clause-whole g c = λ pages met told h.
     let walked = c.in_ok-stretch.ensures.given pages bytes met 0 true (page_members bytes) agrees free
     (c.start.ensures mode.Page bytes c.in_ok-text.ensures.read) (page_stands bytes) in
     let found = page_is_found pages bytes met walk.expansion.spent answered told_now (length bytes) walk.found next.found next.expansion
-    c.from_vec-pieces.result c.from_vec-outer.result c.from_vec-text_calls.result c.utf8.page c.in_ok-text.ensures.fits spent
+    c.from_vec-pieces.result c.from_vec-outer.result c.from_vec-text_calls.result c.utf8.page c.requires.short c.in_ok-text.ensures.fits spent
     c.new-walk.ensures.pieces c.new-walk.ensures.outer c.new-walk.ensures.text_calls (c.in_ok-stretch.ensures.names ∙ free.names) walked
     c.from_vec-pieces.ensures c.from_vec-outer.ensures c.from_vec-text_calls.ensures in
     found.allowed
@@ -195,7 +195,7 @@ returns-clause-named g c = λ pages met told h.
     let walked = c.in_ok-stretch.ensures.given pages bytes met 0 true (page_members bytes) agrees free
     (c.start.ensures mode.Page bytes c.in_ok-text.ensures.read) (page_stands bytes) in
     let found = page_is_found pages bytes met walk.expansion.spent answered told_now (length bytes) walk.found next.found next.expansion
-    c.from_vec-pieces.result c.from_vec-outer.result c.from_vec-text_calls.result c.utf8.page c.in_ok-text.ensures.fits spent
+    c.from_vec-pieces.result c.from_vec-outer.result c.from_vec-text_calls.result c.utf8.page c.requires.short c.in_ok-text.ensures.fits spent
     c.new-walk.ensures.pieces c.new-walk.ensures.outer c.new-walk.ensures.text_calls (c.in_ok-stretch.ensures.names ∙ free.names) walked
     c.from_vec-pieces.ensures c.from_vec-outer.ensures c.from_vec-text_calls.ensures in
     found.more
@@ -221,7 +221,7 @@ returns-clause-known g c =
     let walked = c.in_ok-stretch.ensures.given pages bytes met 0 true (page_members bytes) agrees free
     (c.start.ensures mode.Page bytes c.in_ok-text.ensures.read) (page_stands bytes) in
     let found = page_is_found pages bytes met walk.expansion.spent answered told_now (length bytes) walk.found next.found next.expansion
-    c.from_vec-pieces.result c.from_vec-outer.result c.from_vec-text_calls.result c.utf8.page c.in_ok-text.ensures.fits spent
+    c.from_vec-pieces.result c.from_vec-outer.result c.from_vec-text_calls.result c.utf8.page c.requires.short c.in_ok-text.ensures.fits spent
     c.new-walk.ensures.pieces c.new-walk.ensures.outer c.new-walk.ensures.text_calls (c.in_ok-stretch.ensures.names ∙ free.names) walked
     c.from_vec-pieces.ensures c.from_vec-outer.ensures c.from_vec-text_calls.ensures in
     (pages, known_after met (fetches (page_work pages bytes)), found.more.free)

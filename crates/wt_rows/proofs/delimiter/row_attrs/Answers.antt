@@ -1,26 +1,22 @@
-use Rattle.std.proofs.Common.{◌≡◌, ◌+◌, drop, ap, ◌∙◌}
-use Rattle.std.specs.List.{prefix_len}
+use Rattle.std.proofs.Common.{ap, drop, ◌∙◌}
 use Rattle.std.proofs.lemmas.Result.{IfOk-weaker}
+use Rattle.wt_attributes.specs.Attributes.{attributes}
 use Rattle.wt_span.specs.Items.{items}
-use Rattle.wt_tables.specs.Cells.{is_dash}
-use Rattle.wt_page.specs.Rows.{signs}
 use Rattle.wt_rows.proofs.Attributing.{row_cut, row_read}
+use Rattle.wt_rows.proofs.LineCuts.{dashes_edge}
 use Rattle.wt_rows.proofs.delimiter.row_attrs.Goals as goal
 
-pub attrs_behind-requires-clause-within : goal.attrs_behind-requires-clause-within
-attrs_behind-requires-clause-within c =
-    let len : c.in_ok-n.n ≡ 1 + prefix_len is_dash (drop 1 (signs (items c.args.line.now))) =
-    c.in_ok-n.ensures ∙ ap (λ ss. 1 + prefix_len is_dash ss) (c.past.ensures ∙ ap (drop 1) c.of.ensures) in
-    (row_cut (items c.args.line.now) c.in_ok-n.n c.requires.sign len).0
+pub cut_with-requires-clause-within : goal.cut_with-requires-clause-within
+cut_with-requires-clause-within c = (row_cut (items c.args.line.now) c.requires.sign).0
 
-pub attrs_behind-requires-clause-edge : goal.attrs_behind-requires-clause-edge
-attrs_behind-requires-clause-edge c =
-    let len : c.in_ok-n.n ≡ 1 + prefix_len is_dash (drop 1 (signs (items c.args.line.now))) =
-    c.in_ok-n.ensures ∙ ap (λ ss. 1 + prefix_len is_dash ss) (c.past.ensures ∙ ap (drop 1) c.of.ensures) in
-    (row_cut (items c.args.line.now) c.in_ok-n.n c.requires.sign len).1
+pub cut_with-requires-clause-edge : goal.cut_with-requires-clause-edge
+cut_with-requires-clause-edge c = λ some. (row_cut (items c.args.line.now) c.requires.sign).1
+
+pub cut_with-requires-clause-edge_behind : goal.cut_with-requires-clause-edge_behind
+cut_with-requires-clause-edge_behind c = dashes_edge (drop 1 (items c.args.line.now))
 
 pub returns : goal.returns
 returns c =
-    let len : c.in_ok-n.n ≡ 1 + prefix_len is_dash (drop 1 (signs (items c.args.line.now))) =
-    c.in_ok-n.ensures ∙ ap (λ ss. 1 + prefix_len is_dash ss) (c.past.ensures ∙ ap (drop 1) c.of.ensures) in
-    IfOk-weaker c.attrs_behind.result _ _ (λ l e. e ∙ row_read (items c.args.line.now) c.in_ok-n.n c.requires.sign len) c.attrs_behind.ensures
+    IfOk-weaker c.read_attributes.result _ _
+    (λ l e. e ∙ ap (λ ps. attributes (items ps)) c.as_slice.ensures ∙ ap attributes c.in_ok-rest.ensures.back
+    ∙ row_read (items c.args.line.now) c.requires.sign) c.read_attributes.ensures

@@ -54,9 +54,9 @@ returns-clause-given g c = λ pages page met s n concerns free is.
     (page_called (reading_of pages mode.Page [] 40 []) page b n.is x c.args.title) now.store now.spent answered (Ok given)) n.reading.starts named in
     page_walked pages page l b c.args.reader s n c.args.title c.in_ok-href.href source self.found c.push_outer.new.self now.store now.spent answered given own
     (ap Some c.in_ok-href.ensures) c.in_ok-source.ensures.start c.in_ok-source.ensures.end c.in_ok-source.ensures.bytes
-    (subst (λ qs. Adds self.found c.push_outer.new.self (start_of source) (outer (outer_of source b (Some c.in_ok-href.href)) (items qs) ∷ [])
+    (λ some. subst (λ qs. Adds self.found c.push_outer.new.self (start_of source) (outer (outer_of source b (Some c.in_ok-href.href)) (items qs) ∷ [])
     (end_of source)) c.as_slice.ensures
-    c.in_ok-push_outer.ensures)
+    (c.in_ok-push_outer.ensures some))
 
 pub returns-in_err-push_outer-clause-given : goal.returns-in_err-push_outer-clause-given
 returns-in_err-push_outer-clause-given g c = λ pages page met s n concerns free is.

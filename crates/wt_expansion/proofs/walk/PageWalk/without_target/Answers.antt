@@ -51,8 +51,8 @@ returns-clause-given g c = λ pages page met s n concerns free is.
     free.names h in
     unlinked_walked pages page l b c.args.reader s n source self.found c.push_outer.new.self now.store now.spent answered given is own
     c.in_ok-source.ensures.start c.in_ok-source.ensures.end c.in_ok-source.ensures.bytes
-    (subst (λ qs. Adds self.found c.push_outer.new.self (start_of source) (outer (outer_of source b None) (items qs) ∷ []) (end_of source)) c.as_slice.ensures
-    c.in_ok-push_outer.ensures)
+    (λ some. subst (λ qs. Adds self.found c.push_outer.new.self (start_of source) (outer (outer_of source b None) (items qs) ∷ []) (end_of source))
+    c.as_slice.ensures (c.in_ok-push_outer.ensures some))
 
 pub returns-in_err-push_outer-clause-given : goal.returns-in_err-push_outer-clause-given
 returns-in_err-push_outer-clause-given g c = λ pages page met s n concerns free is.

@@ -11,52 +11,56 @@ use Rattle.std.proofs.lemmas.Result.{on_ok_weaker}
 use Rattle.wt_template_stack.proofs.run.TextRun.end_told.Goals as goal
 
 pub invariant_of-next-clause-parts : goal.invariant_of-next-clause-parts
-invariant_of-next-clause-parts c = parts_still c.args.choosing.chooser _ _ _ c.in_ok-told.ensures.ok c.args.choosing.parts
+invariant_of-next-clause-parts c = parts_still c.args.choosing.chooser _ _ _ c.in_ok-tell.ensures c.args.choosing.parts
 
 pub part_at-part-requires : goal.part_at-part-requires
 part_at-part-requires c =
-    told_is_there c.args.choosing.chooser _ _ _ _ c.in_ok-told.ensures.ok c.args.choosing.parts (sym c.ask.ensures ∙ c.in-Tell.is)
+    told_is_there c.args.choosing.chooser _ _ _ _ c.in_ok-tell.ensures c.args.choosing.parts (sym c.ask.ensures ∙ c.in-Tell.is)
 
 pub part_at-part-requires-in-Give : goal.part_at-part-requires-in-Give
 part_at-part-requires-in-Give c =
-    given_is_there c.args.choosing.chooser _ _ _ _ c.in_ok-told.ensures.ok c.args.choosing.parts (sym c.ask.ensures ∙ c.in-Give.is)
+    given_is_there c.args.choosing.chooser _ _ _ _ c.in_ok-tell.ensures c.args.choosing.parts (sym c.ask.ensures ∙ c.in-Give.is)
 
 pub returns-in-Tell-clause-answer : goal.returns-in-Tell-clause-answer
 returns-in-Tell-clause-answer c = λ r t total h s.
-    let text = c.as_str.ensures.value ∙ c.in_ok-text.ensures ∙ ap (λ ps. name_text (items ps)) c.as_slice.ensures in (
+    let told = name_text (items c.as_slice.result.now) in
+    let text = ap (λ ps. name_text (items ps)) c.as_slice.ensures in (
       total,
       spends_none c.args.spent.now total,
       c.in_ok-begin_level-in-Tell.ensures.answer r t total
-          (told_begins r t c.args.self.now c.args.choosing _ c.args.out c.as_str.result.now c.in-Tell.number c.part_at-part.result
+          (told_begins r t c.args.self.now c.args.choosing _ c.args.out told c.in-Tell.number c.part_at-part.result
           c.told_end-end.result c.args.spent.now total s h text
-          (record { call_is = refl; at_start_is = refl; function_is = refl; begun_is = refl; number_is = refl; spent_is = refl; chooser_is = c.in_ok-told.ensures.ok })
+          (record { call_is = refl; at_start_is = refl; function_is = refl; begun_is = refl; number_is = refl; spent_is = refl; chooser_is = c.in_ok-tell.ensures })
           (sym c.ask.ensures ∙ c.in-Tell.is) c.part_at-part.ensures c.told_end-end.ensures),
     )
 
 pub returns-in-Give-clause-answer : goal.returns-in-Give-clause-answer
 returns-in-Give-clause-answer c = λ r t total h s.
-    let text = c.as_str.ensures.value ∙ c.in_ok-text.ensures ∙ ap (λ ps. name_text (items ps)) c.as_slice.ensures in (
+    let told = name_text (items c.as_slice.result.now) in
+    let text = ap (λ ps. name_text (items ps)) c.as_slice.ensures in (
       total,
       spends_none c.args.spent.now total,
       c.in_ok-begin_level-in-Give.ensures.answer r t total
-          (given_begins r t c.args.self.now _ c.args.choosing c.args.out c.as_str.result.now c.in-Give.number c.part_at-part-in-Give.result
-          c.given_start-start.result total h text (ap asked (sym c.in_ok-told.ensures.ok) ∙ sym c.ask.ensures ∙ c.in-Give.is)
+          (given_begins r t c.args.self.now _ c.args.choosing c.args.out told c.in-Give.number c.part_at-part-in-Give.result
+          c.given_start-start.result total h text (ap asked (sym c.in_ok-tell.ensures) ∙ sym c.ask.ensures ∙ c.in-Give.is)
           c.part_at-part-in-Give.ensures (omega arith) c.given_start-start.ensures refl refl refl),
     )
 
 pub returns-clause-answer : goal.returns-clause-answer
 returns-clause-answer c = λ r t total h s.
-    let text = c.as_str.ensures.value ∙ c.in_ok-text.ensures ∙ ap (λ ps. name_text (items ps)) c.as_slice.ensures in
+    let told = name_text (items c.as_slice.result.now) in
+    let text = ap (λ ps. name_text (items ps)) c.as_slice.ensures in
     c.give.ensures.answer r t total
-    (nothing_returns r t c.args.self.now c.args.choosing c.args.out c.as_str.result.now total h text
-    (ap asked (sym c.in_ok-told.ensures.ok) ∙ sym c.ask.ensures ∙ c.in-Nothing.is))
+    (nothing_returns r t c.args.self.now c.args.choosing c.args.out told total h text
+    (ap asked (sym c.in_ok-tell.ensures) ∙ sym c.ask.ensures ∙ c.in-Nothing.is))
 
 pub returns-then-is_whole-clause-answer : goal.returns-then-is_whole-clause-answer
 returns-then-is_whole-clause-answer c = λ r t total h s.
-    let text = c.as_str.ensures.value ∙ c.in_ok-text.ensures ∙ ap (λ ps. name_text (items ps)) c.as_slice.ensures in
+    let told = name_text (items c.as_slice.result.now) in
+    let text = ap (λ ps. name_text (items ps)) c.as_slice.ensures in
     c.give_again.ensures.answer r t total
-    (given_again r t c.args.self.now c.args.choosing c.args.out c.as_str.result.now c.in-Give.number c.part_at-part-in-Give.result total h text
-    (ap asked (sym c.in_ok-told.ensures.ok) ∙ sym c.ask.ensures ∙ c.in-Give.is) c.part_at-part-in-Give.ensures c.if-number-told.true
+    (given_again r t c.args.self.now c.args.choosing c.args.out told c.in-Give.number c.part_at-part-in-Give.result total h text
+    (ap asked (sym c.in_ok-tell.ensures) ∙ sym c.ask.ensures ∙ c.in-Give.is) c.part_at-part-in-Give.ensures c.if-number-told.true
     (none_of (name_end c.args.choosing.function c.part_at-part-in-Give.result.equals) (sym c.is_whole.ensures ∙ c.if-is_whole.true))) s
 
 pub returns-in-Tell-clause-gets_on : goal.returns-in-Tell-clause-gets_on
