@@ -67,9 +67,26 @@ fn bared(alloc: Global, content: Content) -> Result<Content, NoMemory>
     }
 }
 
+fn is_section(content: &Content) -> bool {
+    match content {
+        Content::Text(_) => false,
+        Content::Element { name, .. } => is_section_name(name.as_slice()),
+    }
+}
+
+/// What is in a body, where the attributes of its sections go that don't count.
+pub fn bared_in(alloc: Global, contents: Vec<Content>) -> Result<Vec<Content>, NoMemory> {
+    for content in contents.as_slice() {
+        if is_section(content) {
+            return all_bared(alloc, contents);
+        }
+    }
+    Ok(contents)
+}
+
 /// What is in a body or in a section, where the attributes of sections go that don't count.
 #[cycle(baring)]
-pub fn all_bared(alloc: Global, contents: Vec<Content>) -> Result<Vec<Content>, NoMemory>
+fn all_bared(alloc: Global, contents: Vec<Content>) -> Result<Vec<Content>, NoMemory>
     ensures { IfOk result (λ v. views v.items ≡ all_bared (views contents.items)) }
 {
     let mut all = Vec::with_capacity(alloc, contents.len())?;
@@ -113,10 +130,22 @@ fn opened<'a>(alloc: Global, nodes: List<Node<'a>>) -> Result<List<Node<'a>>, No
     Ok(List::from_vec(out))
 }
 
+fn has_section(nodes: &[Node<'_>]) -> bool {
+    for node in nodes {
+        if node.kind.is_section() {
+            return true;
+        }
+    }
+    false
+}
+
 /// The tree of a body without its sections.
 pub fn without_sections<'a>(alloc: Global, body: Node<'a>) -> Result<Node<'a>, NoMemory>
     ensures { IfOk result (λ n. view n ≡ without_sections (view body.entry)) }
 {
+    if !has_section(body.children.as_slice()) {
+        return Ok(body);
+    }
     let children = opened(alloc, body.children)?;
     Ok(Node { children, ..body })
 }
