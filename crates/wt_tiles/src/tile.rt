@@ -116,7 +116,7 @@ impl<'p, 'a> Rest<'p, 'a> {
     {
         let mut all = List::new(alloc);
         if let Some(piece) = self.first {
-            all.push(piece)?;
+            all.push_tight(piece)?;
         }
         all.extend_from_slice(self.pieces)?;
         Ok(all)
