@@ -35,12 +35,11 @@ impl<'a> Children<'a> {
     fn closed(self, alloc: Global) -> Result<List<PieceTree<'a>>, NoMemory>
         ensures { IfOk result (λ l. Ends (growth self.entry) (item_trees l)) }
     {
-        let Children { trees, run } = self;
+        let Children { mut trees, run } = self;
         match run {
             None => Ok(trees),
             Some(run) => {
                 let leaf = run.leaf(alloc)?;
-                let mut trees = trees;
                 trees.push_tight(leaf)?;
                 Ok(trees)
             }
