@@ -3,10 +3,10 @@ use Rattle.std.proofs.Common.{◌≡◌, ◌<◌, ◌+◌, ℕ, length, drop, ge
 use Rattle.std.proofs.lemmas.List.{drop_more}
 use Rattle.std.specs.Prelude.{if◌then◌else◌}
 use Rattle.wt_tree.specs.Kinds.{is_section}
-use Rattle.wt_tree.specs.Opened.{opened_before, all_opened_before, opened}
+use Rattle.wt_tree.specs.Opened.{opened_before, all_opened_before, opened, without_sections}
 use Rattle.wt_tree.specs.Recutting.{appended}
 use Rattle.wt_tree.specs.Tree.{Tree, tree, Trees, none, more}
-use Rattle.wt_tree.specs.View.{view, views}
+use Rattle.wt_tree.specs.View.{label_of, view, views}
 use Rattle.wt_tree.specs.declared.node.Node.{Node, out-Node}
 use Rattle.wt_tree.proofs.Views.{view_out}
 use Rattle.wt_html_grammar.proofs.Steps.{if_false}
@@ -71,3 +71,7 @@ open_on P ns i n b l is f g h s =
     let ys = drop (i + 1) ns in
     let e : drop i ns ≡ n ∷ ys = drop_more ns i n l ∙ ap (λ (x : Node). x ∷ ys) (sym is) in
     h (ap (λ zs. opened (views zs)) e ∙ before_kept n (opened (views ys)) (sym f ∙ g) ∙ ap (more (view n)) s ∙ ap views (sym e))
+
+-- the tree of a body in which is no section
+pub whole : (n : Node) → opened (views (out-Node n).children) ≡ views (out-Node n).children → view n ≡ without_sections (view n)
+whole n e = view_out n ∙ ap (tree (label_of (out-Node n))) (sym e) ∙ ap without_sections (sym (view_out n))

@@ -1,7 +1,7 @@
 //! Sections of an edited page: of their attributes the mark of an edit alone counts, and what they hold
 //! is in their place.
 
-ghost use Rattle.std.specs.Prelude.{◌≡◌, true, filter, IfOk, OnOk};
+ghost use Rattle.std.specs.Prelude.{◌≡◌, true, false, filter, IfOk, OnOk};
 ghost use Rattle.wt_tree.specs.Opened.{opened, opened_before, without_sections};
 ghost use Rattle.wt_tree.specs.Recutting.{appended};
 ghost use Rattle.wt_tree.specs.Tree.{none as no_trees};
@@ -67,13 +67,13 @@ fn bared(alloc: Global, content: Content) -> Result<Content, NoMemory>
     }
 }
 
-/// Whether it is no section, and so keeps its attributes.
-fn is_kept(content: &Content) -> bool
-    ensures { result ≡ true → bared (view_content content.now) ≡ view_content content.now }
+/// Whether it is a section. All else keeps its attributes.
+fn is_section(content: &Content) -> bool
+    ensures { result ≡ false → bared (view_content content.now) ≡ view_content content.now }
 {
     match content {
-        Content::Text(_) => true,
-        Content::Element { name, .. } => !is_section_name(name.as_slice()),
+        Content::Text(_) => false,
+        Content::Element { name, .. } => is_section_name(name.as_slice()),
     }
 }
 
@@ -82,7 +82,7 @@ fn are_kept(contents: &[Content]) -> bool
     ensures { result ≡ true → all_bared (views contents.now) ≡ views contents.now }
 {
     for content in contents {
-        if !is_kept(content) {
+        if is_section(content) {
             return false;
         }
     }
