@@ -30,7 +30,7 @@ fn with_attr<'a>(
     ensures { IfOk result (λ h. head_of h ≡ with_attrs kind ((name, value) ∷ [])) }
 {
     let mut attrs = List::new(alloc);
-    attrs.push(Attr { name, value })?;
+    attrs.push_tight(Attr { name, value })?;
     NodeHead::with_attrs(alloc, kind, attrs)
 }
 

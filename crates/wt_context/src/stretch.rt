@@ -86,7 +86,7 @@ impl<'a> Stretch<'a> {
         ensures { IfOk result (λ s. items s.pieces ≡ items self.entry.pieces ++ items_of piece.entry) }
     {
         let Stretch { mut pieces } = self;
-        pieces.push(piece)?;
+        pieces.push_tight(piece)?;
         Ok(Stretch { pieces })
     }
 }

@@ -75,7 +75,7 @@ impl<'a> Token<'a> {
         ensures { OnOk result (items out.new ≡ items out.old ++ segment_items (token_segments self.entry)) }
     {
         match self {
-            Token::Quotes(quotes) => out.push(quotes.piece),
+            Token::Quotes(quotes) => out.push_tight(quotes.piece),
             Token::Stretch(stretch) => out.extend_from_slice(stretch.pieces.as_slice()),
             Token::Tile(tile) => out.extend_from_slice(tile.pieces.as_slice()),
         }

@@ -64,7 +64,7 @@ fn split_sign<'a>(alloc: Global, piece: Piece<'a>) -> Result<(Piece<'a>, List<Pi
     let (front, back) = split_ascii(piece.text);
     let first = chars_piece(front, piece.origin);
     let second = chars_piece(back, piece.origin);
-    rest.push(second)?;
+    rest.push_tight(second)?;
     Ok((first, rest))
 }
 
@@ -101,7 +101,7 @@ fn split_some<'a>(
 {
     let (mut front, back) = split_items(alloc, pieces, n - 1)?;
     let (first, rest) = split_first(alloc, back.as_slice())?;
-    front.push(first)?;
+    front.push_tight(first)?;
     Ok((front, rest))
 }
 

@@ -1,5 +1,6 @@
 -- Sections without the attributes that don't count: as many elements, and texts in UTF-8 as before.
-use Rattle.std.proofs.Common.{◌≡◌, ℕ, suc, ◌+◌, ◌++◌, Bool, true, false, List, [], ◌∷◌, refl, sym, ap, ap₂, ◌∙◌}
+use Rattle.std.proofs.Common.{◌≡◌, ◌<◌, length, drop, get_or, ℕ, suc, ◌+◌, ◌++◌, Bool, true, false, List, [], ◌∷◌, refl, sym, ap, ap₂, ◌∙◌}
+use Rattle.std.proofs.lemmas.List.{drop_more}
 use Rattle.std.specs.Prelude.{filter, ◌&&◌, if◌then◌else◌}
 use Rattle.std.specs.Str.{is_utf8}
 use Rattle.wt_html_grammar.specs.Markup.{Pair, Markup, Markups, text, node, empty, more}
@@ -119,3 +120,14 @@ no_pairs (p ∷ ps) = ap (λ qs. p ∷ qs) (no_pairs ps)
 
 pub marks_end : (vs xs : List Attribute) (all : List Pair) → xs ≡ [] → pairs vs ++ filter is_mark_pair (pairs xs) ≡ all → pairs vs ≡ all
 marks_end vs xs all e h = sym (no_pairs (pairs vs)) ∙ ap (λ zs. pairs vs ++ filter is_mark_pair (pairs zs)) (sym e) ∙ h
+
+-- ---- contents among which is no section
+
+-- the content at a place is as it was, and those after it are
+pub kept_on : (P : Type 0) (cs : List Content) (i : ℕ) (c : Content) → i < length cs → c ≡ get_or cs i c
+    → bared (view_content c) ≡ view_content c
+    → (all_bared (markups (drop i cs)) ≡ markups (drop i cs) → P) → all_bared (markups (drop (i + 1) cs)) ≡ markups (drop (i + 1) cs) → P
+kept_on P cs i c l is f h s =
+    let ys = drop (i + 1) cs in
+    let e : drop i cs ≡ c ∷ ys = drop_more cs i c l ∙ ap (λ (x : Content). x ∷ ys) (sym is) in
+    h (ap (λ zs. all_bared (markups zs)) e ∙ ap₂ more f s ∙ ap markups (sym e))

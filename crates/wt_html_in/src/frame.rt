@@ -6,7 +6,7 @@ ghost use Rattle.wt_html_in.specs.Frame.{found_of, found_if_any, is_element, num
 
 use crate::edited::Edited;
 use crate::nodes::node_of;
-use crate::sections::{all_bared, without_sections};
+use crate::sections::{bared_in, without_sections};
 use crate::walk::{Traversal, nodes};
 use bumpalo::Bump;
 use std::alloc::Global;
@@ -111,7 +111,7 @@ fn body_as(alloc: Global, content: Content, number: u32) -> Result<Option<BodyEl
             contents,
         } => {
             if name.as_slice() == b"body".as_slice() {
-                let contents = all_bared(alloc, contents)?;
+                let contents = bared_in(alloc, contents)?;
                 Ok(Some(BodyElement {
                     number,
                     attributes,

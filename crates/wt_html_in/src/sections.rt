@@ -1,7 +1,7 @@
 //! Sections of an edited page: of their attributes the mark of an edit alone counts, and what they hold
 //! is in their place.
 
-ghost use Rattle.std.specs.Prelude.{◌≡◌, filter, IfOk, OnOk};
+ghost use Rattle.std.specs.Prelude.{◌≡◌, true, false, filter, IfOk, OnOk};
 ghost use Rattle.wt_tree.specs.Opened.{opened, opened_before, without_sections};
 ghost use Rattle.wt_tree.specs.Recutting.{appended};
 ghost use Rattle.wt_tree.specs.Tree.{none as no_trees};
@@ -67,9 +67,42 @@ fn bared(alloc: Global, content: Content) -> Result<Content, NoMemory>
     }
 }
 
+/// Whether it is a section. All else keeps its attributes.
+fn is_section(content: &Content) -> bool
+    ensures { result ≡ false → bared (view_content content.now) ≡ view_content content.now }
+{
+    match content {
+        Content::Text(_) => false,
+        Content::Element { name, .. } => is_section_name(name.as_slice()),
+    }
+}
+
+/// Whether no section is among these texts and elements.
+fn are_kept(contents: &[Content]) -> bool
+    ensures { result ≡ true → all_bared (views contents.now) ≡ views contents.now }
+{
+    for content in contents {
+        if is_section(content) {
+            return false;
+        }
+    }
+    true
+}
+
+/// What is in a body, where the attributes of its sections go that don't count.
+pub fn bared_in(alloc: Global, contents: Vec<Content>) -> Result<Vec<Content>, NoMemory>
+    ensures { IfOk result (λ v. views v.items ≡ all_bared (views contents.items)) }
+{
+    if are_kept(contents.as_slice()) {
+        Ok(contents)
+    } else {
+        all_bared(alloc, contents)
+    }
+}
+
 /// What is in a body or in a section, where the attributes of sections go that don't count.
 #[cycle(baring)]
-pub fn all_bared(alloc: Global, contents: Vec<Content>) -> Result<Vec<Content>, NoMemory>
+fn all_bared(alloc: Global, contents: Vec<Content>) -> Result<Vec<Content>, NoMemory>
     ensures { IfOk result (λ v. views v.items ≡ all_bared (views contents.items)) }
 {
     let mut all = Vec::with_capacity(alloc, contents.len())?;
@@ -113,10 +146,25 @@ fn opened<'a>(alloc: Global, nodes: List<Node<'a>>) -> Result<List<Node<'a>>, No
     Ok(List::from_vec(out))
 }
 
+/// Whether no section is among these nodes.
+fn are_open(nodes: &[Node<'_>]) -> bool
+    ensures { result ≡ true → opened (trees nodes.now) ≡ trees nodes.now }
+{
+    for node in nodes {
+        if node.kind.is_section() {
+            return false;
+        }
+    }
+    true
+}
+
 /// The tree of a body without its sections.
 pub fn without_sections<'a>(alloc: Global, body: Node<'a>) -> Result<Node<'a>, NoMemory>
     ensures { IfOk result (λ n. view n ≡ without_sections (view body.entry)) }
 {
+    if are_open(body.children.as_slice()) {
+        return Ok(body);
+    }
     let children = opened(alloc, body.children)?;
     Ok(Node { children, ..body })
 }

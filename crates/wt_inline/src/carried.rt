@@ -112,7 +112,7 @@ fn typeof_attr(alloc: Global, front: &str, back: &str) -> Result<List<Attr>, NoM
     let mut value = Str::copy_of(alloc, front)?;
     value.push_str(back)?;
     let mut attrs = List::new(alloc);
-    attrs.push(Attr {
+    attrs.push_tight(Attr {
         name: AttrName::Typeof,
         value,
     })?;

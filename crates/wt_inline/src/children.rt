@@ -5,7 +5,6 @@ ghost use Rattle.wt_inline.specs.Parts.{node, parts, same_origin};
 ghost use Rattle.wt_inline.specs.View.{item_tree, item_trees};
 
 use crate::loose::Loose;
-use crate::room::with_room;
 use crate::run::Run;
 use crate::tree::PieceTree;
 use std::alloc::Global;
@@ -17,17 +16,6 @@ use wt_span::{List, NoMemory, Piece};
 pub struct Children<'a> {
     trees: List<PieceTree<'a>>,
     run: Option<Run<'a>>,
-}
-
-/// These trees, where there are none yet with room for one: most nodes have one child.
-fn roomed<'a>(alloc: Global, trees: List<PieceTree<'a>>) -> Result<List<PieceTree<'a>>, NoMemory>
-    ensures { IfOk result (λ l. l ≡ trees.entry) }
-{
-    if trees.len() == 0 {
-        with_room(alloc, 1)
-    } else {
-        Ok(trees)
-    }
 }
 
 impl<'a> Children<'a> {
@@ -47,13 +35,12 @@ impl<'a> Children<'a> {
     fn closed(self, alloc: Global) -> Result<List<PieceTree<'a>>, NoMemory>
         ensures { IfOk result (λ l. Ends (growth self.entry) (item_trees l)) }
     {
-        let Children { trees, run } = self;
+        let Children { mut trees, run } = self;
         match run {
             None => Ok(trees),
             Some(run) => {
                 let leaf = run.leaf(alloc)?;
-                let mut trees = roomed(alloc, trees)?;
-                trees.push(leaf)?;
+                trees.push_tight(leaf)?;
                 Ok(trees)
             }
         }
@@ -115,7 +102,7 @@ impl<'a> Children<'a> {
         } else {
             let mut trees = trees;
             let leaf = run.leaf(alloc)?;
-            trees.push(leaf)?;
+            trees.push_tight(leaf)?;
             Children::begun(alloc, trees, loose, piece)
         }
     }
@@ -145,7 +132,7 @@ impl<'a> Children<'a> {
         ensures { IfOk result (λ c. Grows (growth self.entry) (node (item_tree tree.entry) ∷ []) (growth c)) }
     {
         let mut trees = self.closed(alloc)?;
-        trees.push(tree)?;
+        trees.push_tight(tree)?;
         Ok(Children { trees, run: None })
     }
 

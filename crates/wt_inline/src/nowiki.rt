@@ -27,7 +27,7 @@ fn chars<'a>(alloc: Global, text: Text<'a>, origin: Origin) -> Result<List<Piece
     if text.as_str().is_empty() {
         return Ok(pieces);
     }
-    pieces.push(chars_piece(text, origin))?;
+    pieces.push_tight(chars_piece(text, origin))?;
     Ok(pieces)
 }
 

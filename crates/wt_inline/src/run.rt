@@ -73,7 +73,7 @@ impl<'a> Run<'a> {
             origin,
             mut pieces,
         } = self;
-        pieces.push(piece)?;
+        pieces.push_tight(piece)?;
         Ok(Run {
             loose,
             origin,

@@ -58,16 +58,16 @@ fn push_split<'a>(
 {
     let count = item_count(&piece);
     if count <= n {
-        front.push(piece)?;
+        front.push_tight(piece)?;
         return Ok(n - count);
     }
     if n == 0 {
-        back.push(piece)?;
+        back.push_tight(piece)?;
         return Ok(0);
     }
     let cut = cut_piece(piece, n);
-    front.push(cut.0)?;
-    back.push(cut.1)?;
+    front.push_tight(cut.0)?;
+    back.push_tight(cut.1)?;
     Ok(0)
 }
 

@@ -47,7 +47,7 @@ pub fn group_attrs(alloc: Global, mw: &Option<DataMw>) -> Result<List<Attr>, NoM
 {
     let value = Str::copy_of(alloc, group_word(mw))?;
     let mut attrs = List::new(alloc);
-    attrs.push(Attr {
+    attrs.push_tight(Attr {
         name: AttrName::Typeof,
         value,
     })?;

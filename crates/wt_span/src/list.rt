@@ -80,6 +80,18 @@ impl<T: Drop> List<T> {
         self.items.push(item)?;
         Ok(())
     }
+
+    /// Appends a member as `push` does; a list of up to three takes no more room than it needs.
+    pub fn push_tight(&mut self, item: T) -> Result<(), NoMemory>
+        ensures ok { OnOk result (self.new ≡ self.old ++ item ∷ []) }
+        ensures err { OnErr result (self.new ≡ self.old) }
+    {
+        if self.items.len() < 3 {
+            self.items.reserve_exact(1)?;
+        }
+        self.items.push(item)?;
+        Ok(())
+    }
 }
 
 impl<T: Copy> List<T> {

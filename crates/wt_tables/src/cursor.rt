@@ -148,7 +148,7 @@ impl<'p, 'a> Cursor<'p, 'a> {
                 None => return Ok((out, cursor)),
                 Some((piece, rest)) => {
                     left -= item_count(&piece);
-                    out.push(piece)?;
+                    out.push_tight(piece)?;
                     cursor = rest;
                 }
             }

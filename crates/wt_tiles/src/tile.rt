@@ -116,7 +116,7 @@ impl<'p, 'a> Rest<'p, 'a> {
     {
         let mut all = List::new(alloc);
         if let Some(piece) = self.first {
-            all.push(piece)?;
+            all.push_tight(piece)?;
         }
         all.extend_from_slice(self.pieces)?;
         Ok(all)
@@ -163,7 +163,7 @@ fn take_piece<'p, 'a>(
 {
     let count = item_count(&piece);
     if count <= n {
-        taken.push(piece)?;
+        taken.push_tight(piece)?;
         return Ok((
             n - count,
             Rest {
@@ -173,7 +173,7 @@ fn take_piece<'p, 'a>(
         ));
     }
     let cut = cut_piece(piece, n);
-    taken.push(cut.0)?;
+    taken.push_tight(cut.0)?;
     Ok((
         0,
         Rest {

@@ -15,7 +15,7 @@ split_first-requires-clause-low c = low_past (items c.args.pieces.now) (items c.
 
 pub returns-clause-front : goal.returns-clause-front
 returns-clause-front c =
-    items_more c.in_ok-front.front c.push.new.self c.in_ok-first.first c.in_ok-push.ensures.ok
+    items_more c.in_ok-front.front c.push_tight.new.self c.in_ok-first.first c.in_ok-push_tight.ensures.ok
     ∙ split_front (items c.args.pieces.now) (items c.in_ok-front.front) (items c.as_slice.result.now)
     (items_of c.in_ok-first.first) c.args.n c.requires.some c.in_ok-front.ensures.front
     (ap items c.as_slice.ensures ∙ c.in_ok-front.ensures.back) c.in_ok-first.ensures.first

@@ -10,7 +10,7 @@ use Rattle.wt_context.proofs.token.Token.push_pieces.Goals as goal
 pub returns-in-Quotes : goal.returns-in-Quotes
 returns-in-Quotes c =
     let p = c.in-Quotes.quotes.piece in
-    on_ok_weaker c.push.result
-    (λ e. items_more c.args.out.now c.push.new.self p e
+    on_ok_weaker c.push_tight.result
+    (λ e. items_more c.args.out.now c.push_tight.new.self p e
     ∙ ap (λ xs. items c.args.out.now ++ xs) (sym (quote_items (items_of p)) ∙ ap (λ t. segment_items (token_segments t)) (sym c.in-Quotes.is)))
-    c.push.ensures.ok
+    c.push_tight.ensures.ok

@@ -10,7 +10,7 @@ pub invariant_of-result : goal.invariant_of-result
 invariant_of-result c =
     let p = c.args.piece in
     let self = c.args.self in
-    let is : items c.push.new.self ≡ items self.pieces ++ items_of p = items_more self.pieces c.push.new.self p c.in_ok-push.ensures.ok in
+    let is : items c.push_tight.new.self ≡ items self.pieces ++ items_of p = items_more self.pieces c.push_tight.new.self p c.in_ok-push_tight.ensures.ok in
     record {
       some = omega (arith, ap length is, length-append (items self.pieces) (items_of p), self.some);
       one_origin = ap (are_of (call_of_origin self.origin)) is ∙ more_are (call_of_origin self.origin)

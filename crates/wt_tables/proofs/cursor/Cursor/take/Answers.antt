@@ -16,10 +16,10 @@ loop-left-preserved c =
     let ys = waiting c.in-Some.rest in
     record {
       front = taken_more (items l.out) _ (items_of p) ys (waiting l.cursor) _ l.left c.item_count-left.result
-          c.in-Some.ensures.items k w (pushed_items l.out c.push.new.self p c.in_ok-push-in-Some.ensures.ok) l.invariant.front;
+          c.in-Some.ensures.items k w (pushed_items l.out c.push_tight.new.self p c.in_ok-push_tight-in-Some.ensures.ok) l.invariant.front;
       back = dropped_more (items_of p) ys (waiting l.cursor) _ l.left c.item_count-left.result c.in-Some.ensures.items k w l.invariant.back;
       low = low_more (items_of p) ys (waiting l.cursor) l.left c.item_count-left.result c.in-Some.ensures.items k w l.invariant.low;
-      sound_out = subst (All IsSoundPiece) (sym c.in_ok-push-in-Some.ensures.ok)
+      sound_out = subst (All IsSoundPiece) (sym c.in_ok-push_tight-in-Some.ensures.ok)
           (All-push IsSoundPiece l.out p l.invariant.sound_out c.in-Some.ensures.sound_piece);
       sound = c.in-Some.ensures.sound_rest;
     }
