@@ -8,8 +8,8 @@ use crate::proposing::{Numbering, Plan, children_between, nodes_between};
 use crate::slot::Slot;
 use std::alloc::Global;
 use wt_block_proposal::{
-    Style, Surroundings, USUAL, is_cell, is_item, is_lined, is_row_without_sign, push_block,
-    signs_of, style_of,
+    Surroundings, USUAL, is_cell, is_item, is_lined, is_row_without_sign, push_block, signs_of,
+    style_of,
 };
 use wt_checks::is_compared;
 use wt_content_proposal::{Known, joined as texts_joined, last_text};
@@ -232,8 +232,12 @@ fn push_gone(
         let place = with_blanks(page, gap, *slice);
         standing = most_breaks(page, at, place.start).max(standing);
         at = place.end;
-        let behind = most_breaks(page, at, gap.place.end).max(standing);
-        let by = breaks(alloc, if left == 0 { wanted } else { 0 }, behind)?;
+        let by = if left == 0 {
+            let behind = most_breaks(page, at, gap.place.end).max(standing);
+            breaks(alloc, wanted, behind)?
+        } else {
+            Str::new(alloc)
+        };
         push_part_of(alloc, out, known, gap, place, by)?;
     }
     Ok(())
@@ -356,15 +360,6 @@ fn tail_of<'t, 'a>(gap: Gap<'_, 't, 'a>, left: usize) -> Option<&'t Node<'a>> {
     }
 }
 
-/// How new items, cells and rows are written in a gap: as those beside them, where texts keep their bytes.
-fn style_in(gap: Gap<'_, '_, '_>, keeps: bool) -> Style {
-    if keeps {
-        style_of(item_beside(gap))
-    } else {
-        USUAL
-    }
-}
-
 /// What comes, with line breaks between; nothing where nothing does.
 fn coming_of<'t, 'a>(
     alloc: Global,
@@ -375,16 +370,18 @@ fn coming_of<'t, 'a>(
     let mut coming: Option<Coming> = None;
     let mut left = count_of(gap.new);
     let mut block = gap.first;
+    let beside = style_of(item_beside(gap));
     for node in gap.new {
         if is_compared(node.kind) {
             left = left.saturating_sub(1);
             let signs = signs_in(alloc, plan.known, gap, node.kind, outer)?;
+            let keeps = plan.keeps(block.number);
             let around = Surroundings {
                 known: plan.known,
-                keeps: plan.keeps(block.number),
+                keeps,
                 signs: signs.as_str(),
                 tail: tail_of(gap, left),
-                style: style_in(gap, plan.keeps(block.number)),
+                style: if keeps { beside } else { USUAL },
             };
             coming = Some(followed(alloc, gap.is_tight, coming, around, node)?);
             block = block.next();
