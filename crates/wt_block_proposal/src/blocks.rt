@@ -44,10 +44,12 @@ impl<'w, 't, 'a> Surroundings<'w, 't, 'a> {
         }
     }
 
-    /// The same for what a block of this kind holds: the cells of a row are written as those beside them.
+    /// The same for what a block of this kind holds: the cells of a row are written as those beside them, and lists in
+    /// an item as this one.
     fn within_kind(self, kind: Kind) -> Surroundings<'w, 't, 'a> {
         match kind {
             Kind::Tr => self.in_table(),
+            Kind::Li | Kind::Dt | Kind::Dd => self.styled(self.style),
             _ => self.within(),
         }
     }
@@ -452,6 +454,15 @@ fn style_behind(known: &Known<'_, '_>, item: &Node<'_>, style: Style) -> Style {
     }
 }
 
+/// How the first item of a list is written: in an item as this one is.
+fn style_of_first(around: Surroundings<'_, '_, '_>) -> Style {
+    if around.signs.is_empty() {
+        USUAL
+    } else {
+        around.style
+    }
+}
+
 /// Appends the items of a list, each on a line of its own; after a comment or an include tag on the one that it leaves.
 #[cycle(blocks)]
 fn push_items(
@@ -462,7 +473,7 @@ fn push_items(
 ) -> Result<(), NoMemory> {
     let mut before = None;
     let mut is_begun = true;
-    let mut style = USUAL;
+    let mut style = style_of_first(around);
     for item in list.children.as_slice() {
         if is_written(item) {
             let beginning = beginning_of(around.known, before, item);

@@ -49,24 +49,25 @@ fn is_doubled(cell: &Node<'_>) -> bool {
     }
 }
 
-/// How the cells of a row of several are written: tight where all of them are, and in one line where all but the
-/// first go on in it.
+/// How the cells of a row are written: tight where some have text and none has a blank after its sign, and in one line
+/// where there are several and all but the first go on in it.
 fn style_of_row(row: &Node<'_>) -> Style {
-    let mut style = Style {
-        is_tight: true,
-        is_one_line: true,
-    };
+    let mut are_bare = true;
+    let mut have_text = false;
+    let mut is_one_line = true;
     let mut count: usize = 0;
     for cell in row.children.as_slice() {
         if is_cell(cell.kind) {
-            style = Style {
-                is_tight: style.is_tight && is_tight(cell),
-                is_one_line: style.is_one_line && (count == 0 || is_doubled(cell)),
-            };
+            are_bare = are_bare && ends_with_sign(cell);
+            have_text = have_text || !inside(cell).is_empty();
+            is_one_line = is_one_line && (count == 0 || is_doubled(cell));
             count = count.saturating_add(1);
         }
     }
-    if count > 1 { style } else { USUAL }
+    Style {
+        is_tight: are_bare && have_text,
+        is_one_line: is_one_line && count > 1,
+    }
 }
 
 /// How a new item, cell or row is written beside this one of the page.
@@ -81,14 +82,14 @@ pub fn style_of(part: Option<&Node<'_>>) -> Style {
     }
 }
 
-/// Whether what is written may come directly after the sign of an item or a cell.
+/// Whether what is written may come directly after the sign of an item or a cell; nothing may.
 fn may_follow_sign(inside: &str) -> bool {
     match inside.as_bytes().first() {
         Some(byte) => !matches!(
             *byte,
             b' ' | b'\t' | b'*' | b'#' | b':' | b';' | b'-' | b'+' | b'|' | b'!' | b'{' | b'}'
         ),
-        None => false,
+        None => true,
     }
 }
 

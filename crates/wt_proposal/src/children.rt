@@ -8,8 +8,8 @@ use crate::proposing::{Numbering, Plan, children_between, nodes_between};
 use crate::slot::Slot;
 use std::alloc::Global;
 use wt_block_proposal::{
-    Surroundings, USUAL, is_cell, is_item, is_lined, is_row_without_sign, push_block, signs_of,
-    style_of,
+    Style, Surroundings, USUAL, is_cell, is_item, is_lined, is_row_without_sign, push_block,
+    signs_of, style_of,
 };
 use wt_checks::is_compared;
 use wt_content_proposal::{Known, joined as texts_joined, last_text};
@@ -22,7 +22,8 @@ use wt_tree::{Kind, Node, same_kind};
 /// it is, from where on blanks before it count, these two as the page has them, whether the one before is text alone as
 /// it was edited, the page's children between them, and
 /// the edited ones, with the number of the block of the first, whether they are lines of an item, a list or a table,
-/// with no empty line between them, and whether a cell holds them, or a row without a sign of its own.
+/// with no empty line between them, whether a cell holds them, or a row without a sign of its own, and how a list in an
+/// item is written that holds them.
 #[derive(Clone, Copy)]
 pub struct Gap<'w, 't, 'a> {
     pub place: Slot,
@@ -30,6 +31,7 @@ pub struct Gap<'w, 't, 'a> {
     pub is_tight: bool,
     pub in_cell: bool,
     pub in_row_without_sign: bool,
+    pub style: Style,
     pub before: Option<&'t Node<'a>>,
     pub is_behind_text: bool,
     pub behind: Option<&'t Node<'a>>,
@@ -360,6 +362,16 @@ fn tail_of<'t, 'a>(gap: Gap<'_, 't, 'a>, left: usize) -> Option<&'t Node<'a>> {
     }
 }
 
+/// How what comes is written: as the item, cell or row beside it, or, where lists come in an item, as this one.
+fn style_beside(gap: Gap<'_, '_, '_>) -> Style {
+    match item_beside(gap) {
+        Some(node) if is_item(node.kind) || is_cell(node.kind) || matches!(node.kind, Kind::Tr) => {
+            style_of(Some(node))
+        }
+        _ => gap.style,
+    }
+}
+
 /// What comes, with line breaks between; nothing where nothing does.
 fn coming_of<'t, 'a>(
     alloc: Global,
@@ -370,7 +382,7 @@ fn coming_of<'t, 'a>(
     let mut coming: Option<Coming> = None;
     let mut left = count_of(gap.new);
     let mut block = gap.first;
-    let beside = style_of(item_beside(gap));
+    let beside = style_beside(gap);
     for node in gap.new {
         if is_compared(node.kind) {
             left = left.saturating_sub(1);
@@ -680,6 +692,7 @@ impl Passed {
             is_tight: gap.is_tight,
             in_cell: gap.in_cell,
             in_row_without_sign: gap.in_row_without_sign,
+            style: gap.style,
             before: gap.before,
             is_behind_text: gap.is_behind_text,
             behind: gap.behind,

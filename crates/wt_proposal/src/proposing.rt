@@ -14,7 +14,9 @@ use crate::slots::{
 };
 use crate::testing::tested;
 use std::alloc::Global;
-use wt_block_proposal::{is_bare_sign, is_cell, is_list, is_row_without_sign, signs_of, style_of};
+use wt_block_proposal::{
+    Style, USUAL, is_bare_sign, is_cell, is_item, is_list, is_row_without_sign, signs_of, style_of,
+};
 use wt_checks::{Visit, is_compared};
 use wt_content_proposal::{Known, Writing, block_of, edges_of, spelled};
 use wt_difference::{Child, held, inside, same_inside};
@@ -123,13 +125,14 @@ fn push_inside<'t, 'a>(
 // ---- children
 
 /// The children that a node of the page holds, the signs with which it begins where it is an item, its kind, whether it
-/// is a row without a sign of its own, its number, and where its children begin and end.
+/// is a row without a sign of its own, how lists are written in it, its number, and where its children begin and end.
 #[derive(Clone, Copy)]
 struct Held<'w, 't, 'a> {
     children: &'w [Child<'t, 'a>],
     signs: &'w str,
     kind: Kind,
     is_without_sign: bool,
+    style: Style,
     number: u32,
     begun: Reached,
     stop: usize,
@@ -304,6 +307,7 @@ fn push_span<'t, 'a>(
         is_tight: !held.signs.is_empty() || holds_parts(held.kind),
         in_cell: is_cell(held.kind),
         in_row_without_sign: held.is_without_sign,
+        style: held.style,
         before: node_at(held.children, span.from.checked_sub(1)),
         is_behind_text: span.is_behind_text,
         behind,
@@ -394,6 +398,15 @@ fn push_children<'t, 'a>(
     push_span(alloc, out, plan, held, new, line.last_span(nodes, held))
 }
 
+/// How new lists are written in a node of the page: in an item as this one is.
+fn style_in(node: &Node<'_>) -> Style {
+    if is_item(node.kind) {
+        style_of(Some(node))
+    } else {
+        USUAL
+    }
+}
+
 /// Appends what is written anew of a node of the page that stays.
 #[cycle(proposing)]
 fn push_node<'t, 'a>(
@@ -413,6 +426,7 @@ fn push_node<'t, 'a>(
         signs: signs.as_str(),
         kind: old.kind,
         is_without_sign: is_row_without_sign(old),
+        style: style_in(old),
         number: old.id,
         begun,
         stop: inside_stop(old.ranges),
