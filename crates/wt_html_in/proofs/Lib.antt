@@ -8,3 +8,4 @@ pub mod Opened
 pub mod Frames
 pub mod Standing
 pub mod Reading
+pub mod Borders

@@ -10,6 +10,7 @@ mod reader;
 mod refusal;
 mod roles;
 mod sections;
+mod texts;
 mod walk;
 mod whole;
 

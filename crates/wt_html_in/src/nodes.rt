@@ -3,56 +3,32 @@ ghost use Rattle.std.specs.Str.{is_utf8};
 ghost use Rattle.wt_tree.specs.Tree.{tree, none as no_trees};
 ghost use Rattle.wt_tree.specs.View.{view, views, texts_of};
 ghost use Rattle.wt_tree.specs.Recut.{text_leaf, sep_leaf};
-ghost use Rattle.wt_span.specs.Slice.{bytes_of};
 ghost use Rattle.wt_schema.specs.Fit.{leaf_in, source_of};
 ghost use Rattle.wt_html_nodes.specs.Heads.{label_of_head};
 ghost use Rattle.wt_html_in.specs.Fits.{held_in};
 ghost use Rattle.wt_html_in.specs.Sources.{source_view, source_told, sourced_label};
 
+use crate::texts::{in_arena, kept, slices_of};
 use bumpalo::Bump;
 use std::alloc::Global;
 use wt_datamw::Sync;
 use wt_html_nodes::{Head, holds_text, shows_text, text_of};
-use wt_span::{List, NoMemory, Str, Text};
+use wt_span::{List, NoMemory, Str};
 use wt_tree::{Kind, More, Node, Ranges, Shown, Slices, Source, Texts, recut_texts};
-
-/// A text in the arena. One of 2^32 - 1 bytes or more is answered as want of memory.
-fn stored<'a>(arena: &'a Bump<Global>, text: &str) -> Result<Text<'a>, NoMemory>
-    ensures { IfOk result (λ t. bytes_of t ≡ text.now) }
-{
-    let text = arena.try_alloc_str(text)?;
-    if 4294967295 <= text.len() {
-        return Err(NoMemory);
-    }
-    Ok(Text::new(text, 0))
-}
-
-/// A text in the arena; nothing where it is empty.
-fn kept<'a>(arena: &'a Bump<Global>, text: &str) -> Result<Slices<'a>, NoMemory>
-    ensures { IfOk result (λ l. texts_of l ≡ text.now) }
-{
-    match text.as_bytes() {
-        [] => Ok(Slices::none()),
-        [_, ..] => {
-            let text = stored(arena, text)?;
-            Ok(Slices::one(text))
-        }
-    }
-}
 
 fn text_leaf<'a>(alloc: Global, arena: &'a Bump<Global>, text: &str) -> Result<Node<'a>, NoMemory>
     ensures { IfOk result (λ n. view n ≡ text_leaf None text.now) }
 {
-    let text = stored(arena, text)?;
-    let own = Slices::one(text);
-    let shown = Shown::written(text.as_str());
+    let text = in_arena(arena, text)?;
+    let own = slices_of(alloc, text)?;
+    let shown = Shown::written(text);
     Ok(Node::leaf(alloc, Kind::Text, None, own, shown))
 }
 
 fn sep_leaf<'a>(alloc: Global, arena: &'a Bump<Global>, text: &str) -> Result<Node<'a>, NoMemory>
     ensures { IfOk result (λ n. view n ≡ sep_leaf None text.now) }
 {
-    let own = kept(arena, text)?;
+    let own = kept(alloc, arena, text)?;
     Ok(Node::leaf(alloc, Kind::Sep, None, own, Shown::none()))
 }
 
@@ -100,21 +76,29 @@ fn no_source<'a>() -> ReadSource<'a>
     }
 }
 
-fn own_of<'a>(arena: &'a Bump<Global>, src: &Option<Str>) -> Result<Slices<'a>, NoMemory>
+fn own_of<'a>(
+    alloc: Global,
+    arena: &'a Bump<Global>,
+    src: &Option<Str>,
+) -> Result<Slices<'a>, NoMemory>
     ensures { IfOk result (λ l. texts_of l ≡ source_of src.now) }
 {
     match src {
         None => Ok(Slices::none()),
-        Some(text) => kept(arena, text.as_str()),
+        Some(text) => kept(alloc, arena, text.as_str()),
     }
 }
 
-fn source_in<'a>(arena: &'a Bump<Global>, sync: &Sync) -> Result<ReadSource<'a>, NoMemory>
+fn source_in<'a>(
+    alloc: Global,
+    arena: &'a Bump<Global>,
+    sync: &Sync,
+) -> Result<ReadSource<'a>, NoMemory>
     ensures { IfOk result (λ s. source_view s ≡ source_told (Some sync.now)) }
 {
-    let opening = kept(arena, sync.opening.as_str())?;
-    let closing = kept(arena, sync.closing.as_str())?;
-    let own = own_of(arena, &sync.src)?;
+    let opening = kept(alloc, arena, sync.opening.as_str())?;
+    let closing = kept(alloc, arena, sync.closing.as_str())?;
+    let own = own_of(alloc, arena, &sync.src)?;
     Ok(ReadSource {
         ranges: Some(sync.dsr),
         opening,
@@ -123,12 +107,16 @@ fn source_in<'a>(arena: &'a Bump<Global>, sync: &Sync) -> Result<ReadSource<'a>,
     })
 }
 
-fn source_for<'a>(arena: &'a Bump<Global>, sync: &Option<Sync>) -> Result<ReadSource<'a>, NoMemory>
+fn source_for<'a>(
+    alloc: Global,
+    arena: &'a Bump<Global>,
+    sync: &Option<Sync>,
+) -> Result<ReadSource<'a>, NoMemory>
     ensures { IfOk result (λ s. source_view s ≡ source_told sync.now) }
 {
     match sync {
         None => Ok(no_source()),
-        Some(sync) => source_in(arena, sync),
+        Some(sync) => source_in(alloc, arena, sync),
     }
 }
 
@@ -200,7 +188,7 @@ pub fn node_of<'a>(
 ) -> Result<Node<'a>, NoMemory>
     ensures { IfOk result (λ n. view n ≡ tree (label_of_head head) (held_in inside head.kind (views nodes.entry))) }
 {
-    let source = source_for(arena, &head.sync)?;
+    let source = source_for(alloc, arena, &head.sync)?;
     let children = children_in(alloc, inside, head.kind, nodes)?;
     sourced(alloc, head, source, children)
 }
