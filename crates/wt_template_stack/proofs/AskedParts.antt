@@ -5,8 +5,7 @@ use Rattle.wt_braces.specs.declared.call.PartAt.{PartAt as PartOf}
 use Rattle.wt_functions.specs.declared.chooser.Ask.TheVariants.{Tell, Give}
 use Rattle.wt_functions.specs.Choice.{Telling, asked}
 use Rattle.wt_functions.proofs.ChoiceLaws.{told_in_order, given_there}
-use Rattle.wt_template_stack.specs.Choosings.{with_text}
-use Rattle.wt_template_stack.specs.ToldParts.{have_equals}
+use Rattle.wt_template_stack.specs.ToldParts.{have_equals, with_text}
 
 -- of a call with a target
 pub parts_asked : (t : Telling) (ps : List PartOf) → 0 < length ps → t.equals ≡ have_equals ps → length t.equals < length ps

@@ -29,13 +29,13 @@ use Rattle.wt_template_stack.specs.declared.reader.Reader.{Reader}
 use Rattle.wt_template_stack.specs.declared.run.TextRun.{TextRun}
 use Rattle.wt_template_stack.specs.Accounts.{Account, Does, spent_of}
 use Rattle.wt_template_stack.specs.Calls.{IsCallOf, source_of, parts_of_call, outs_of_call, first_end}
-use Rattle.wt_template_stack.specs.Choosings.{IsStarted, with_text, IsToldMore}
+use Rattle.wt_template_stack.specs.Choosings.{IsStarted, IsToldMore}
 use Rattle.wt_template_stack.specs.Levels.{Back, IsToldSince, Resumes, ToldWaits}
 use Rattle.wt_template_stack.specs.Readers.{IsReading}
 use Rattle.wt_template_stack.specs.Rests.{with_work, ended_with, after_given, behind_word, later_told, after_told}
 use Rattle.wt_template_stack.specs.Runs.{HasEnded, GivesAgain, Returns, BeginsLevel, BeginsCall}
 use Rattle.wt_template_stack.specs.Stacks.{stack}
-use Rattle.wt_template_stack.specs.ToldParts.{name_end, told_end, given_start}
+use Rattle.wt_template_stack.specs.ToldParts.{name_end, told_end, given_start, with_text}
 use Rattle.wt_template_stack.proofs.CallLaws.{second_of}
 use Rattle.wt_template_stack.proofs.CallSteps.{part_get}
 use Rattle.wt_template_stack.proofs.FirstAsked.{first_asked}

@@ -1,11 +1,10 @@
 -- Functions whose parts are told one after the other.
-use Rattle.std.specs.Prelude.{◌≡◌, ℕ, List, [], ◌∷◌, ◌++◌}
+use Rattle.std.specs.Prelude.{◌≡◌, ℕ, List, []}
 use Rattle.wt_span.specs.declared.function.Function.{Function}
-use Rattle.wt_functions.specs.Choice.{Telling}
 use Rattle.wt_transclusion.specs.declared.read.Braces.{Braces}
 use Rattle.wt_template_stack.specs.declared.choosing.Choosing.{Choosing}
 use Rattle.wt_template_stack.specs.declared.reader.Reader.{Reader}
-use Rattle.wt_template_stack.specs.ToldParts.{have_equals}
+use Rattle.wt_template_stack.specs.ToldParts.{have_equals, with_text}
 
 -- a call of which nothing is told, at whose first brace the reader is
 pub record IsStarted (c : Choosing) (call : Braces) (function : Function) (begun : Reader) : Type 0 where
@@ -15,10 +14,6 @@ pub record IsStarted (c : Choosing) (call : Braces) (function : Function) (begun
   pub begun_is : c.begun ≡ begun
   pub number_is : c.number ≡ 0
   pub chooser_is : c.chooser ≡ record { function = function; equals = have_equals call.parts.now; texts = [] }
-
--- when one more text is told
-abbrev pub with_text : Telling → List ℕ → Telling
-with_text t text = record { function = t.function; equals = t.equals; texts = t.texts ++ text ∷ [] }
 
 -- a call to whose function one more text is told, and the part of a number is told next, when so much was spent
 pub record IsToldMore (c : Choosing) (text : List ℕ) (number spent : ℕ) (next : Choosing) : Type 0 where

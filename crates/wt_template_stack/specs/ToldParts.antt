@@ -1,7 +1,8 @@
 -- Which bytes of a function's part are told and which are given.
-use Rattle.std.specs.Prelude.{ℕ, ◌+◌, Bool, Option, Some, None, List, map, drop, is_some}
+use Rattle.std.specs.Prelude.{ℕ, ◌+◌, Bool, Option, Some, None, List, [], ◌∷◌, ◌++◌, map, drop, is_some}
 use Rattle.wt_span.specs.declared.function.Function.{Function}
 use Rattle.wt_span.specs.declared.function.Function.TheVariants.{If, IfEq, Switch}
+use Rattle.wt_functions.specs.Choice.{Telling}
 use Rattle.wt_braces.specs.declared.call.PartAt.{PartAt}
 
 -- where the name of a part ends by its `=`; of `#switch` alone parts have names
@@ -29,3 +30,7 @@ given_start f p = start_by (name_end f p.equals) p.at.start
 -- which parts after the target have a `=`
 abbrev pub have_equals : List PartAt → List Bool
 have_equals ps = map (λ p. is_some p.equals) (drop 1 ps)
+
+-- when one more text is told
+abbrev pub with_text : Telling → List ℕ → Telling
+with_text t text = record { function = t.function; equals = t.equals; texts = t.texts ++ text ∷ [] }

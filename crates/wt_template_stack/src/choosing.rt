@@ -3,8 +3,7 @@ ghost use Rattle.std.specs.Prelude.{◌≡◌, ◌<◌, ◌^◌, Some, true, IfO
 ghost use Rattle.wt_functions.specs.Choice.{asked, is_tell};
 ghost use Rattle.wt_span.specs.Items.{items};
 ghost use Rattle.wt_expand.specs.Texts.{name_text};
-ghost use Rattle.wt_template_stack.specs.Choosings.{with_text};
-ghost use Rattle.wt_template_stack.specs.ToldParts.{have_equals, name_end, told_end, given_start};
+ghost use Rattle.wt_template_stack.specs.ToldParts.{have_equals, name_end, told_end, given_start, with_text};
 
 use crate::reader::Reader;
 use std::alloc::Global;

@@ -81,10 +81,10 @@ impl<'a> Reader<'a> {
         ensures within { IfOk result (λ x. to ≤ length self.entry.text.text.now) }
     {
         let text = self.text.text;
-        if from > to || to as usize > text.len() {
-            return Err(NoMemory);
-        }
-        if !text.is_char_boundary(from as usize) || !text.is_char_boundary(to as usize) {
+        if from > to
+            || !text.is_char_boundary(from as usize)
+            || !text.is_char_boundary(to as usize)
+        {
             return Err(NoMemory);
         }
         Ok(Text::new(text, 0).slice(Range {

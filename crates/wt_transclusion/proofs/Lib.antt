@@ -1,9 +1,11 @@
 pub mod AskedLaws
 pub mod Behind
+pub mod Borders
 pub mod ChunkLaws
 pub mod Chunks
 pub mod Counts
 pub mod CursorLaws
+pub mod CutTexts
 pub mod FirstParts
 pub mod Firsts
 pub mod Full

@@ -1,5 +1,6 @@
 //! What is taken for a title: a message, or the text of its page.
-ghost use Rattle.std.specs.Prelude.{◌≡◌, ◌<◌, List, ℕ, Some, IfOk, OnOk, reverse};
+ghost use Rattle.std.specs.Prelude.{◌≡◌, ◌<◌, ◌^◌, List, ℕ, Some, IfOk, OnOk, length, reverse};
+ghost use Rattle.std.specs.Str.{IsCharBoundary};
 ghost use Rattle.wt_names.specs.Namespace.{full_name_of};
 ghost use Rattle.wt_span.specs.Items.{items};
 ghost use Rattle.wt_expand.specs.Work.{Pages, is_among};
@@ -31,7 +32,36 @@ pub enum PageLookup<'a> {
     Page(ReadText<'a>),
 }
 
-/// A text that isn't too long as pieces, kept in the arena.
+/// The most bytes of one `Text`.
+const MOST_BYTES: usize = 4_294_967_295;
+
+/// How many bytes of a text with more than `MOST_BYTES` go into its first piece: up to the last border
+/// between characters within that limit.
+fn front_len(text: &str) -> usize
+    requires { MOST_BYTES < length text.now }
+    ensures some { 0 < result }
+    ensures few { result < 2 ^ 32 }
+    ensures border { IsCharBoundary text.now result }
+{
+    text.floor_char_boundary(MOST_BYTES)
+}
+
+/// A text as characters: one piece, or several where it has more than `MOST_BYTES`.
+fn pieces_of<'a>(alloc: Global, text: &'a str) -> Result<List<Piece<'a>>, NoMemory>
+    ensures { IfOk result (λ ps. items ps ≡ chars text.entry.now) }
+{
+    let mut pieces = List::new(alloc);
+    let mut rest = text;
+    while rest.len() > MOST_BYTES {
+        let (front, behind) = rest.split_at(front_len(rest));
+        pieces.push(piece_of(Text::new(front, 0), ItemForm::Chars))?;
+        rest = behind;
+    }
+    pieces.push(piece_of(Text::new(rest, 0), ItemForm::Chars))?;
+    Ok(pieces)
+}
+
+/// A text as pieces, kept in the arena.
 fn message<'a>(
     alloc: Global,
     arena: &'a Bump<Global>,
@@ -40,12 +70,7 @@ fn message<'a>(
     ensures { IfOk result (λ ps. items ps ≡ chars text) }
 {
     let kept = arena.try_alloc_str(text.as_str())?;
-    if kept.len() > 4_294_967_295 {
-        return Err(NoMemory);
-    }
-    let mut pieces = List::new(alloc);
-    pieces.push(piece_of(Text::new(kept, 0), ItemForm::Chars))?;
-    Ok(pieces)
+    pieces_of(alloc, kept)
 }
 
 /// Whether a full name is among those of the pages that are being expanded.
