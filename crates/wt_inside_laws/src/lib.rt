@@ -11,10 +11,10 @@ ghost use Rattle.wt_text_edit_laws.specs.BlockEdits.{BlockEdit, old_page, new_pa
 ghost use Rattle.wt_inside_laws.specs.TextsReplaced.{Place, spots_with, page_with, replaced_by, all_replaced};
 
 /// Where the text of one paragraph or heading of a page with such blocks among any others becomes another text, and
-/// the page is such a page again, the tree of the new page, in its sections, is that of the old one with the block's inside replaced: the nodes before
-/// the block are the same with their numbers and places, what is round it ends later or earlier by the difference of
-/// the two texts, and what comes after it has its places moved by as many bytes, and its numbers by the difference
-/// of how many nodes have a number in the two.
+/// the page is such a page again, the tree of the new page, in its sections, is that of the old one with the
+/// block's inside replaced: the nodes before the block are the same with their numbers and places, what is round it
+/// ends later or earlier by the difference of the two texts, and what comes after it has its places moved by as
+/// many bytes, and its numbers by the difference of how many nodes have a number in the two.
 #[tactic(auto, using(crate::proofs::OneText::tree_replaced))]
 pub fn only_that_text_is_another()
     ensures { (pages : Pages) (p : Place) (b : TextBlock) (old new : List ℕ) (further : List BlockSpot) (behind : List ℕ)
