@@ -1,5 +1,5 @@
 -- Worked cases, by computing: the page of a paragraph, an empty line and a heading, in which texts are typed.
-use Rattle.std.proofs.Common.{◌≡◌, ℕ, List, [], ◌∷◌, refl}
+use Rattle.std.proofs.Common.{◌≡◌, ℕ, ◌+◌, List, [], ◌∷◌, refl}
 use Rattle.std.specs.Prelude.{None, Some, codes}
 use Rattle.std.specs.Fmt.{digits}
 use Rattle.std.specs.Str.{chars}
@@ -12,7 +12,7 @@ use Rattle.wt_tree.specs.Tree.{Label, Tree, tree, Trees, none, more}
 use Rattle.wt_guards.specs.Guards.{nowiki, is_guarded, is_between_guard, is_start_guard, is_end_guard, is_blank_guard, is_parted}
 use Rattle.wt_guards.specs.Letters.{is_escaped, reference}
 use Rattle.wt_guards.specs.Table.{hazard, line_start_hazard}
-use Rattle.wt_typed_blocks.specs.Sent.{StandsAsIs, paragraph, heading, Sent, stands, typed, Sents, none_sent, more_sent, old_children, all_show}
+use Rattle.wt_typed_blocks.specs.Sent.{StandsAsIs, paragraph, heading, Sent, stands, typed, holds, Sents, none_sent, more_sent, old_children, all_show}
 use Rattle.wt_typed_blocks.specs.Typed.{new_sources, TakeTexts, StandAt}
 use Rattle.wt_typed_blocks.specs.Unmarked.{AreToldApart}
 
@@ -78,7 +78,7 @@ unfolding is_guarded is_between_guard is_start_guard is_end_guard is_blank_guard
 one_new_page = refl
 
 one_place : StandAt 0 one_typed
-one_place = (refl, tt, tt, tt)
+one_place = (refl, (tt, (tt, tt)))
 
 one_shows : all_show one_typed
     ≡ along (element (record { kind = kind.Para; attrs = []; mw = None }) (along (text (codes "[d]")) ended))
@@ -90,7 +90,7 @@ unfolding is_guarded is_between_guard is_start_guard is_end_guard is_blank_guard
 both_typed = refl
 
 both_places : StandAt 0 two_typed
-both_places = (refl, tt, refl, tt)
+both_places = (refl, (tt, (refl, tt)))
 
 -- a heading takes no line break
 two_lines : TakeTexts (more_sent (as_heading (codes "d\ne")) none_sent) → ⊥
@@ -145,4 +145,4 @@ unfolding is_guarded is_between_guard is_start_guard is_end_guard is_blank_guard
 cell_new_page = refl
 
 cell_place : StandAt 0 (in_cell [])
-cell_place = ((refl, (tt, (refl, (refl, (refl, (tt, refl, tt), tt), tt), tt), tt), tt), tt)
+cell_place = ((refl, (tt, ((refl, ((refl, ((refl, (tt, (refl, tt))), tt)), tt)), (tt, tt)))), tt)

@@ -181,14 +181,14 @@ good same paragraph l ts m x (c ∷ cs) h = refl
 good same (heading n) l ts m x [] h = refl
 good same (heading n) l ts m x (c ∷ cs) h = one_line (c ∷ cs) h
 
+none_by : {B : Type 0} (o a b : Option B) → first_with o a ≡ None → (a ≡ None → b ≡ None) → first_with o b ≡ None
+none_by None a b e k = k e
+none_by (Some y) a b e k = cc
+
 -- of two lists of which none gives any, none does
 none_joined : {A B : Type 0} (f : A → Option B) (xs ys : List A) → first_of f xs ≡ None → first_of f ys ≡ None → first_of f (xs ++ ys) ≡ None
 none_joined f [] ys h g = g
-none_joined f (x ∷ xs) ys h g = none_by (f x) h
-  where
-    none_by : (o : Option B) → first_with o (first_of f xs) ≡ None → first_with o (first_of f (xs ++ ys)) ≡ None
-    none_by None e = none_joined f xs ys e g
-    none_by (Some y) e = cc
+none_joined f (x ∷ xs) ys h g = none_by (f x) (first_of f xs) (first_of f (xs ++ ys)) h (λ e. none_joined f xs ys e g)
 
 mutual
   not_bad : (same : Same) (s : Sent) → TakesText s → first_of (bad_pair same) (pairs_in s) ≡ None

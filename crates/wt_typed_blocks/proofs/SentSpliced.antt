@@ -1,6 +1,6 @@
 -- The new page of such an edit: the sources of its blocks, one after the other.
-use Rattle.std.proofs.Common.{arith, ◌≡◌, ℕ, ◌+◌, ◌-◌, ◌≤◌, List, [], ◌∷◌, ◌++◌, length, take, drop, refl, sym, ap, ◌∙◌, subst, append_assoc, append-nil, length-append, length-drop}
-use Rattle.std.specs.Prelude.{Option, Some, false}
+use Rattle.std.proofs.Common.{arith, ◌≡◌, ℕ, Bool, true, ◌+◌, ◌-◌, ◌≤◌, List, [], ◌∷◌, ◌++◌, length, take, drop, refl, sym, ap, ◌∙◌, subst, append_assoc, append-nil, length-append, length-drop}
+use Rattle.std.specs.Prelude.{if◌then◌else◌, Option, Some, false}
 use Rattle.std.proofs.lemmas.List.{take-append-le, take_all, drop-append-le, drop_all}
 use Rattle.wt_tree.specs.declared.kind.Ranges.{Ranges}
 use Rattle.wt_tree.specs.Kinds.{is_leaf}

@@ -48,7 +48,7 @@ abbrev kept_children : Sents → Trees
 kept_children none_sent = none
 kept_children (more_sent s ss) = more (kept_child s) (kept_children ss)
 
-abbrev kept_body : Label → List Sent → Tree
+abbrev kept_body : Label → Sents → Tree
 kept_body l ss = tree (record l { kind = kind.Body; id = 0 }) (kept_children ss)
 
 mutual
