@@ -1,18 +1,16 @@
 -- Rows before others that they don't join: their blocks are before the others' blocks.
-use Rattle.std.proofs.Common.{◌≡◌, Bool, false, List, [], ◌∷◌, ◌++◌, map, refl, sym, ap, ◌∙◌, subst, append-nil, append_assoc, arith, inl, inr}
+use Rattle.std.proofs.Common.{◌≡◌, Bool, false, List, [], ◌∷◌, ◌++◌, refl, sym, ap, ◌∙◌, subst, append-nil, append_assoc, arith, inl, inr}
 use Rattle.std.specs.List.{AllByRecursion, flat_map}
 use Rattle.std.proofs.lemmas.Grind.{flat_map-append}
 use Rattle.wt_span.specs.Runs.{runs, IsRun, AreRuns}
 use Rattle.wt_span.proofs.RunLaws.{runs_are, runs_only}
 use Rattle.wt_lines.specs.declared.kind.LineKind.{LineKind}
 use Rattle.wt_lines.specs.declared.kind.LineKind.TheVariants as line
-use Rattle.wt_tables.specs.Extents.{is_open}
 use Rattle.wt_tables.specs.Parts.{joined, units, unit_kind}
 use Rattle.wt_page.specs.Rows.{Row, kind_of}
 use Rattle.wt_page.specs.Stretches.{Stretch}
 use Rattle.wt_page.specs.Tables.{Reading}
 use Rattle.wt_page.specs.Body.{one_block, same_block, run_stretches, blocks_by}
-use Rattle.wt_row_laws.specs.Blocks.{BeginOtherwise}
 use Rattle.wt_row_laws.specs.Units.{IsUnit, AreUnits}
 use Rattle.wt_row_laws.specs.Rounds.{EndOtherwise}
 use Rattle.wt_row_laws.proofs.Falling.{IsPart, unit_is_part}

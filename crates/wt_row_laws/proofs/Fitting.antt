@@ -1,7 +1,7 @@
 -- What is made of stretches round a place, whatever tree is at it, is round that place again.
-use Rattle.std.proofs.Common.{◌≡◌, ℕ, zero, suc, ◌+◌, ◌≤◌, Bool, true, false, List, [], ◌∷◌, ◌++◌, length, take, drop, refl, sym, ap, ◌∙◌, append-nil, append_assoc, length-append, arith, cond}
-use Rattle.std.specs.Prelude.{map, reverse, if◌then◌else◌}
-use Rattle.std.specs.List.{flat_map, prefix_len}
+use Rattle.std.proofs.Common.{◌≡◌, ℕ, zero, suc, ◌+◌, ◌≤◌, Bool, false, List, [], ◌∷◌, ◌++◌, length, take, drop, refl, sym, ap, ◌∙◌, append_assoc, length-append, arith, cond}
+use Rattle.std.specs.Prelude.{map, reverse}
+use Rattle.std.specs.List.{prefix_len}
 use Rattle.std.proofs.lemmas.List.{reverse-append, length-reverse, map-append}
 use Rattle.std.proofs.lemmas.List.Sums.{prefix_len-le-length}
 use Rattle.std.proofs.lemmas.Grind.{flat_map-append}
@@ -10,7 +10,7 @@ use Rattle.wt_span.specs.Runs.{runs}
 use Rattle.wt_span.proofs.RunLaws.{runs_alone}
 use Rattle.wt_inline.specs.ItemTree.{Head, ItemTree, inner, forest}
 use Rattle.wt_inline.specs.Parts.{Part, loose, node, one_leaf, child, children}
-use Rattle.wt_page.specs.Stretches.{Stretch, gap, block, is_gap, stretch_parts, stretches_parts, front_len, front_gaps, past_front, block_len, before_end, end_gaps, tree_block, node_of, opened_by, enclosed}
+use Rattle.wt_page.specs.Stretches.{Stretch, block, is_gap, stretch_parts, stretches_parts, front_len, front_gaps, past_front, block_len, before_end, end_gaps, tree_block, node_of, opened_by, enclosed}
 use Rattle.wt_row_laws.specs.Rounds.{Holder, round, Around, filled}
 
 -- of any tree at the place
@@ -116,7 +116,7 @@ fits_before t f vs h =
     }
 
 -- one node more round it
-node_is : (h : Head) (o : List Item) (a : Around) (t : ItemTree) (us vs : List Stretch) (c : List Item)
+pub node_is : (h : Head) (o : List Item) (a : Around) (t : ItemTree) (us vs : List Stretch) (c : List Item)
     → node_of h o (us ++ tree_block (round a.holders t) ∷ vs) c
     ≡ round (record { head = h; opening = o; before = children (stretches_parts us); behind = children (stretches_parts vs); closing = c } ∷ a.holders) t
 node_is h o a t us vs c =

@@ -1,7 +1,6 @@
 -- A paragraph in cells of tables, one in the other: whatever its text is, it is at the same place in the same nodes.
-use Rattle.std.proofs.Common.{◌≡◌, ◌≤◌, ◌<◌, ◌-◌, ℕ, zero, suc, true, false, List, [], ◌∷◌, ◌++◌, length, map, refl, sym, ap, ◌∙◌, subst, append-nil, append_assoc, arith, inl, inr}
-use Rattle.std.specs.List.{AllByRecursion, flat_map}
-use Rattle.std.proofs.lemmas.Grind.{flat_map-append}
+use Rattle.std.proofs.Common.{◌≡◌, ◌≤◌, ◌-◌, ℕ, zero, suc, true, false, List, [], ◌∷◌, ◌++◌, length, map, refl, sym, ap, ◌∙◌, subst, append-nil, append_assoc, arith, inl, inr}
+use Rattle.std.specs.List.{AllByRecursion}
 use Rattle.wt_span.specs.Items.{Item}
 use Rattle.wt_span.specs.Runs.{IsRun}
 use Rattle.wt_lines.specs.declared.kind.LineKind.{LineKind}
@@ -10,16 +9,16 @@ use Rattle.wt_lines.specs.declared.kind.TheConstants.{MOST_TABLES}
 use Rattle.wt_tables.specs.Extents.{behind, inner_len}
 use Rattle.wt_tables.specs.Parts.{joined, taken_len, put_first, units_from, units, unit_kind, begins_part, begins_group, table_of}
 use Rattle.wt_inline.specs.ItemTree.{ItemTree}
-use Rattle.wt_page.specs.Rows.{Row, kind_of, first_lead, last_ending}
+use Rattle.wt_page.specs.Rows.{Row, kind_of, last_ending}
 use Rattle.wt_page.specs.Stretches.{Stretch, gap, tree_block}
 use Rattle.wt_page.specs.Tables.{Reading, table_by, gaps}
-use Rattle.wt_page.specs.Texts.{with_separators, para}
+use Rattle.wt_page.specs.Texts.{para}
 use Rattle.wt_page.specs.Body.{one_block, same_block, blocks_by, within, blocks}
-use Rattle.wt_row_laws.specs.Blocks.{Block, table, paragraph, AllAre, BeginOtherwise, AreBlocks, block_parts}
+use Rattle.wt_row_laws.specs.Blocks.{table, paragraph, AllAre, BeginOtherwise, AreBlocks}
 use Rattle.wt_row_laws.specs.Units.{IsUnit, AreUnits, Level}
-use Rattle.wt_row_laws.specs.Rounds.{Around, TableRound, in_cell, in_cells, is_cell, BeginNoPart, BeginsPart, AreContent, IsTableRound, EndOtherwise, AreTexts, ParagraphStands}
+use Rattle.wt_row_laws.specs.Rounds.{Around, TableRound, in_cell, in_cells, is_cell, BeginsPart, AreContent, IsTableRound, EndOtherwise, AreTexts, ParagraphStands}
 use Rattle.wt_row_laws.proofs.Falling.{IsOther, sort, Falls, IsPart, part_is_unit}
-use Rattle.wt_row_laws.proofs.UnitCuts.{first_unit, units_only, level_put, level_rest, level_open, level_end, level_other, level_ends, level_units}
+use Rattle.wt_row_laws.proofs.UnitCuts.{first_unit, level_put, level_rest, level_open, level_end, level_other, level_ends, level_units}
 use Rattle.wt_row_laws.proofs.BlockCases.{read_by_cases}
 use Rattle.wt_row_laws.proofs.Apart.{Apart, all_apart, units_join, units_beside, blocks_beside, text_behind, text_before}
 use Rattle.wt_row_laws.proofs.Fitting.{Fits, fits_same, fits_behind, fits_before}

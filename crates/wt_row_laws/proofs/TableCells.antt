@@ -1,27 +1,26 @@
 -- A table, whatever rows are in one of its cells.
-use Rattle.std.proofs.Common.{◌≡◌, ℕ, suc, ◌+◌, Bool, true, false, List, [], ◌∷◌, ◌++◌, map, take, drop, refl, sym, ap, ◌∙◌, append-nil, append_assoc, cond}
+use Rattle.std.proofs.Common.{◌≡◌, ℕ, ◌+◌, Bool, true, false, List, [], ◌∷◌, ◌++◌, map, take, drop, refl, ap, ◌∙◌}
 use Rattle.std.specs.Prelude.{not, if◌then◌else◌}
 use Rattle.std.specs.List.{AllByRecursion, flat_map, prefix_len}
 use Rattle.std.proofs.lemmas.List.{map-append}
 use Rattle.std.proofs.lemmas.Grind.{flat_map-append}
 use Rattle.wt_tree.specs.declared.kind.Kind.TheVariants as kind
-use Rattle.wt_span.specs.Items.{Item}
 use Rattle.wt_span.specs.Runs.{put, runs, IsRun}
 use Rattle.wt_span.proofs.RunLaws.{runs_cut}
 use Rattle.wt_lines.specs.declared.kind.LineKind.{LineKind}
 use Rattle.wt_lines.specs.declared.kind.LineKind.TheVariants as line
 use Rattle.wt_tables.specs.Cells.{Cell, cells_from}
-use Rattle.wt_tables.specs.Parts.{RowOf, TableOf, joined, units, unit_kind, begins_part, begins_group, groups, group_kind, is_row, is_caption, with_stray, past_stray, plain_len, captions_len, table_by as parts_by, table_of, row_by as row_parts, row_of, rows_of}
+use Rattle.wt_tables.specs.Parts.{RowOf, TableOf, joined, units, begins_part, begins_group, groups, group_kind, is_row, is_caption, with_stray, past_stray, plain_len, captions_len, table_by as parts_by, table_of, row_by as row_parts, row_of, rows_of}
 use Rattle.wt_inline.specs.ItemTree.{plain, ItemTree}
 use Rattle.wt_page.specs.Rows.{Row, kind_of}
 use Rattle.wt_page.proofs.HeldBody.{units_joined}
 use Rattle.wt_page.specs.Stretches.{Stretch, gap, block, tree_block, node_of, opened_by, enclosed}
-use Rattle.wt_page.specs.Tables.{Reading, cell_by, cells_by, cell_stretches, delimiter, behind_delimiter, delimiter_lead, first_items, row_by, row_stretches, rows_stretches, table_inside, table_by, with_attrs, cell_kind}
+use Rattle.wt_page.specs.Tables.{Reading, cell_by, cells_by, cell_stretches, delimiter, behind_delimiter, delimiter_lead, first_items, row_by, row_stretches, rows_stretches, table_by, with_attrs, cell_kind}
 use Rattle.wt_tables.specs.Cells.{table_attributes, row_attributes}
 use Rattle.wt_context.specs.Line.{line_parts}
-use Rattle.wt_row_laws.specs.Rounds.{is_cell, BeginsPart, BeginNoPart}
-use Rattle.wt_row_laws.proofs.Apart.{Apart, runs_apart, all_apart}
-use Rattle.wt_row_laws.proofs.Fitting.{Fits, stops, first_taken, rest_dropped, fits_same, fits_behind, fits_before, fits_node, fits_opened, fits_enclosed}
+use Rattle.wt_row_laws.specs.Rounds.{is_cell, BeginNoPart}
+use Rattle.wt_row_laws.proofs.Apart.{runs_apart, all_apart}
+use Rattle.wt_row_laws.proofs.Fitting.{Fits, first_taken, rest_dropped, fits_same, fits_behind, fits_before, fits_node, fits_opened, fits_enclosed}
 
 abbrev Group : Type 0
 Group = List (List Row)

@@ -10,7 +10,6 @@ use Rattle.wt_tree.specs.declared.kind.Mark.{Mark}
 use Rattle.wt_tree.specs.Tree.{Label, Tree, tree, Trees, none, more, label}
 use Rattle.wt_guards.specs.Content.{letters}
 use Rattle.wt_guards.specs.Guards.{spelled}
-use Rattle.wt_tree.specs.EditShapes.{edit_shape}
 use Rattle.wt_original.specs.Kept.{kept_with}
 use Rattle.wt_escape.specs.Spelling.{inline_spelling}
 use Rattle.wt_checks.specs.Marks.{is_children}
