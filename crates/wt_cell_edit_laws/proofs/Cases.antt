@@ -1,9 +1,8 @@
 -- Worked cases of what is round a paragraph in a cell, by computing.
-use Rattle.std.proofs.Common.{◌≡◌, ◌≤◌, ℕ, List, [], ◌∷◌, length, refl, arith}
+use Rattle.std.proofs.Common.{ℕ, List, [], ◌∷◌, refl, arith}
 use Rattle.std.specs.Prelude.{codes}
 use Rattle.wt_span.specs.Comments.{comment_len, comment_line_len}
 use Rattle.wt_span.specs.Entities.{named_entity, entity_names, decimal_entity, hex_entity, entity_at}
-use Rattle.wt_span.specs.Items.{Item}
 use Rattle.wt_span.specs.Lexemes.{sign_word, form_at, closed, words}
 use Rattle.wt_span.specs.Tags.{opening_tag, closing_tag, raw_len, include_at}
 use Rattle.wt_lines.specs.declared.kind.LineKind.{LineKind}
