@@ -47,12 +47,6 @@ Falls (suc d) [] = ⊥
 Falls zero (r ∷ rs) = ⊥
 Falls (suc d) (r ∷ rs) = Falls (behind (suc d) r.kind) rs
 
--- So many tables are open at the first row, none behind the last, and each row that ends one has one to end.
-abbrev pub Level : ℕ → List Row → Type 0
-Level zero [] = Unit {0}
-Level (suc d) [] = ⊥
-Level d (r ∷ rs) = (r.kind ≡ line.TableEnd → 0 < d) × Level (behind d r.kind) rs
-
 pub falls_open : (d : ℕ) (r : Row) (rs : List Row) → r.kind ≡ line.TableOpen → Falls (suc d) (r ∷ rs) → Falls (suc (suc d)) rs
 falls_open d r rs e h = subst (λ (n : ℕ). Falls n rs) (ap (behind (suc d)) e) h
 

@@ -20,7 +20,8 @@ use Rattle.wt_page.specs.Rows.{Row, idle_len, marks_len, dashes, behind_sign, is
 use Rattle.wt_page.specs.Stretches.{stretches_parts}
 use Rattle.wt_page.specs.Body.{within, blocks, meaning}
 use Rattle.wt_row_laws.specs.Blocks.{Block, blank, table as table_block, heading, rule, lists, preformatted, paragraph, BeginOtherwise, AreBlocks, block_parts, IsMeaningByCases}
-use Rattle.wt_row_laws.proofs.Falling.{IsOther, sort, Falls, Level, part_is_unit}
+use Rattle.wt_row_laws.specs.Units.{Level}
+use Rattle.wt_row_laws.proofs.Falling.{IsOther, sort, Falls, part_is_unit}
 use Rattle.wt_row_laws.proofs.UnitCuts.{cut, inside_of, level_rest, rows_level}
 use Rattle.wt_row_laws.proofs.BlockCases.{read_by_cases}
 

@@ -13,8 +13,8 @@ use Rattle.wt_tables.proofs.Opens.{end_inside}
 use Rattle.wt_headings.specs.Lines.{kind_at}
 use Rattle.wt_page.specs.Rows.{Row, kind_of, idle_len, marks_len, dashes, behind_sign, is_unseen, sign_row, whole_row, line_rows, unwritten_end, rows_from}
 use Rattle.wt_page.proofs.HeldBody.{units_joined}
-use Rattle.wt_row_laws.specs.Units.{IsUnit, AreUnits, HoldsUnits}
-use Rattle.wt_row_laws.proofs.Falling.{IsOther, sort, Falls, Level, falls_open, falls_end, falls_other, falls_len, IsPart, part_is_unit, unit_is_part}
+use Rattle.wt_row_laws.specs.Units.{IsUnit, AreUnits, HoldsUnits, Level}
+use Rattle.wt_row_laws.proofs.Falling.{IsOther, sort, Falls, falls_open, falls_end, falls_other, falls_len, IsPart, part_is_unit, unit_is_part}
 
 -- ---- the first unit
 
@@ -48,22 +48,22 @@ pub level_rest : (d : ℕ) (r : Row) (rs : List Row) → Level d (r ∷ rs) → 
 level_rest zero r rs h = h.1
 level_rest (suc d) r rs h = h.1
 
-level_ends : (d : ℕ) (r : Row) (rs : List Row) → Level d (r ∷ rs) → r.kind ≡ line.TableEnd → 0 < d
+pub level_ends : (d : ℕ) (r : Row) (rs : List Row) → Level d (r ∷ rs) → r.kind ≡ line.TableEnd → 0 < d
 level_ends zero r rs h e = h.0 e
 level_ends (suc d) r rs h e = h.0 e
 
-level_put : (d : ℕ) (r : Row) (rs : List Row) → (r.kind ≡ line.TableEnd → 0 < d) → Level (behind d r.kind) rs → Level d (r ∷ rs)
+pub level_put : (d : ℕ) (r : Row) (rs : List Row) → (r.kind ≡ line.TableEnd → 0 < d) → Level (behind d r.kind) rs → Level d (r ∷ rs)
 level_put zero r rs e h = (e, h)
 level_put (suc d) r rs e h = (e, h)
 
-level_open : (d : ℕ) (r : Row) (rs : List Row) → r.kind ≡ line.TableOpen → Level d (r ∷ rs) → Level (suc d) rs
+pub level_open : (d : ℕ) (r : Row) (rs : List Row) → r.kind ≡ line.TableOpen → Level d (r ∷ rs) → Level (suc d) rs
 level_open d r rs e h = subst (λ (n : ℕ). Level n rs) (ap (behind d) e) (level_rest d r rs h)
 
-level_end : (d : ℕ) (r : Row) (rs : List Row) → r.kind ≡ line.TableEnd → Level (suc d) (r ∷ rs) → Level d rs
+pub level_end : (d : ℕ) (r : Row) (rs : List Row) → r.kind ≡ line.TableEnd → Level (suc d) (r ∷ rs) → Level d rs
 level_end d r rs e h =
     let n : suc d - 1 ≡ d = omega arith in subst (λ (m : ℕ). Level m rs) (ap (behind (suc d)) e ∙ n) (level_rest (suc d) r rs h)
 
-level_other : (d : ℕ) (r : Row) (rs : List Row) → IsOther r.kind → Level d (r ∷ rs) → Level d rs
+pub level_other : (d : ℕ) (r : Row) (rs : List Row) → IsOther r.kind → Level d (r ∷ rs) → Level d rs
 level_other d r rs o h = subst (λ (n : ℕ). Level n rs) (o.stays d) (level_rest d r rs h)
 
 -- ---- level rows are cut where no table is open
@@ -168,7 +168,7 @@ rows_level n [] = ends_level n
 rows_level n (l ∷ ls) =
     line_level (kind_at n l) n l (rows_from (behind n (kind_at n l)) ls) (end_inside n (content l)) (rows_level (behind n (kind_at n l)) ls)
 
-level_units : (rs : List Row) → Level 0 rs → AreUnits (units kind_of rs) rs
+pub level_units : (rs : List Row) → Level 0 rs → AreUnits (units kind_of rs) rs
 level_units rs h = record { join = units_joined kind_of rs; each = units_level (length rs) rs (omega arith) h }
 
 pub units_are : (ls : List (List Item)) → AreUnits (units kind_of (rows_from 0 ls)) (rows_from 0 ls)

@@ -2,3 +2,4 @@ pub mod Blocks
 pub mod Cells
 pub mod Counts
 pub mod Units
+pub mod Rounds

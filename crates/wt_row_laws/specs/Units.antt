@@ -1,7 +1,8 @@
 -- Units of rows by counts: a row that neither opens nor ends a table, or all rows of a table.
-use Rattle.std.specs.Prelude.{◌≡◌, ◌<◌, ℕ, List, [], ◌∷◌, ◌++◌, length, take}
+use Rattle.std.specs.Prelude.{◌≡◌, ◌<◌, ℕ, zero, suc, List, [], ◌∷◌, ◌++◌, length, take}
 use Rattle.std.specs.List.{AllByRecursion}
 use Rattle.wt_lines.specs.declared.kind.LineKind.TheVariants as line
+use Rattle.wt_tables.specs.Extents.{behind}
 use Rattle.wt_tables.specs.Parts.{joined, units}
 use Rattle.wt_page.specs.Rows.{Row, kind_of}
 use Rattle.wt_row_laws.specs.Counts.{opened, ended}
@@ -25,3 +26,9 @@ pub record HoldsUnits (rs : List Row) : Type 0 where
   pub are_rows : rs ≡ inside ++ last ∷ []
   pub ends : last.kind ≡ line.TableEnd
   pub are_units : AreUnits (units kind_of inside) inside
+
+-- So many tables are open at the first row, none behind the last, and each row that ends one has one to end.
+abbrev pub Level : ℕ → List Row → Type 0
+Level zero [] = Unit {0}
+Level (suc d) [] = ⊥
+Level d (r ∷ rs) = (r.kind ≡ line.TableEnd → 0 < d) × Level (behind d r.kind) rs

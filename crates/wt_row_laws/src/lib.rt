@@ -2,10 +2,11 @@
 //! counts, blocks by cases.
 #![tactic(auto)]
 
-ghost use Rattle.std.specs.Prelude.{◌≡◌, List, ◌∷◌};
-ghost use Rattle.std.specs.List.{flat_map};
+ghost use Rattle.std.specs.Prelude.{◌≡◌, ◌≤◌, List, ◌∷◌, length};
+ghost use Rattle.std.specs.List.{AllByRecursion, flat_map};
 ghost use Rattle.wt_span.specs.Items.{Item};
 ghost use Rattle.wt_lines.specs.declared.kind.LineKind.TheVariants as kind;
+ghost use Rattle.wt_lines.specs.declared.kind.TheConstants.{MOST_TABLES};
 ghost use Rattle.wt_tables.specs.Parts.{units, table_of};
 ghost use Rattle.wt_inline.specs.ItemTree.{ItemTree};
 ghost use Rattle.wt_page.specs.Rows.{Row, kind_of, rows_from};
@@ -14,7 +15,8 @@ ghost use Rattle.wt_page.specs.Body.{blocks_by, meaning};
 ghost use Rattle.wt_row_laws.specs.Counts.{KindIsCounted};
 ghost use Rattle.wt_row_laws.specs.Units.{IsUnit, AreUnits, HoldsUnits};
 ghost use Rattle.wt_row_laws.specs.Cells.{CellsHoldBlocks};
-ghost use Rattle.wt_row_laws.specs.Blocks.{Block, AreBlocks, block_parts, IsMeaningByCases};
+ghost use Rattle.wt_row_laws.specs.Blocks.{Block, AreBlocks, BeginOtherwise, block_parts, IsMeaningByCases};
+ghost use Rattle.wt_row_laws.specs.Rounds.{TableRound, AreContent, IsTableRound, EndOtherwise, ParagraphStands};
 
 /// The kind of a line is that at which so many tables are open as the rows before it have opened, less
 /// those that they have ended.
@@ -53,4 +55,13 @@ pub fn cells_hold_blocks()
 pub fn meaning_is_read_by_cases()
     ensures are { (xs : List Item) → IsMeaningByCases (meaning xs) xs }
     ensures only { (t : ItemTree) (xs : List Item) → IsMeaningByCases t xs → t ≡ meaning xs }
+{}
+
+/// A paragraph in a cell of a table, which may be in a cell of another one, and so on, is at a place in the tree that
+/// its text doesn't move: whatever rows of text it is made of, the same nodes are round it, with the same children
+/// before it and behind it.
+#[tactic(auto, using(crate::proofs::InCells::paragraph_stands))]
+pub fn paragraphs_stand_in_cells()
+    ensures { (ts : List TableRound) (xs ys : List Row) (lead ending : List Item) → AllByRecursion IsTableRound ts → length ts ≤ MOST_TABLES
+        → AreContent xs → AreContent ys → EndOtherwise kind.Text xs → BeginOtherwise kind.Text ys → ParagraphStands ts xs ys lead ending }
 {}

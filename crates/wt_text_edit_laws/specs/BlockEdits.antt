@@ -6,7 +6,7 @@ use Rattle.wt_guards.specs.Content.{letters}
 use Rattle.wt_guards.specs.Guards.{spelled}
 use Rattle.wt_checks.specs.Kept.{children}
 use Rattle.wt_expand.specs.PageItems.{page_items}
-use Rattle.wt_typed_blocks.specs.Sent.{Block, Sent, stands, typed, StandsAsIs, new_body}
+use Rattle.wt_typed_blocks.specs.Sent.{Block, Sent, stands, typed, Sents, none_sent, more_sent, StandsAsIs, new_body}
 use Rattle.wt_typed_blocks.specs.Typed.{place_of, Takes}
 use Rattle.wt_text_edit_laws.specs.ParagraphBetween.{blocks_in}
 use Rattle.wt_text_edit_laws.specs.Parts.{part_tree}
@@ -25,10 +25,10 @@ abbrev pub sent_child : Sending → Tree → Sent
 sent_child (retyped k p t text) (tree l ts) = typed k l ts p t text
 sent_child (kept u) t = stands t u
 
-abbrev pub sent_children : List Sending → Trees → List Sent
-sent_children [] ts = []
-sent_children (s ∷ ss) none = []
-sent_children (s ∷ ss) (more t ts) = sent_child s t ∷ sent_children ss ts
+abbrev pub sent_children : List Sending → Trees → Sents
+sent_children [] ts = none_sent
+sent_children (s ∷ ss) none = none_sent
+sent_children (s ∷ ss) (more t ts) = more_sent (sent_child s t) (sent_children ss ts)
 
 abbrev pub AreKept : List Sending → Trees → Type 0
 AreKept [] ts = Unit {0}

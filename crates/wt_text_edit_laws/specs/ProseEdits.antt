@@ -5,7 +5,7 @@ use Rattle.std.specs.Str.{IsUtf8}
 use Rattle.wt_tree.specs.Tree.{Label, Tree, tree, Trees, none, more, label}
 use Rattle.wt_checks.specs.Kept.{children}
 use Rattle.wt_text_edit_laws.specs.LoneEdits.{typed_in}
-use Rattle.wt_typed_blocks.specs.Sent.{paragraph, Sent, stands, typed, StandsAsIs, new_body}
+use Rattle.wt_typed_blocks.specs.Sent.{paragraph, Sent, stands, typed, Sents, none_sent, more_sent, StandsAsIs, new_body}
 use Rattle.wt_text_edit_laws.specs.ProsePages.{Passage, AreProse}
 use Rattle.wt_text_edit_laws.specs.ProseTrees.{prose_body}
 
@@ -52,10 +52,10 @@ abbrev pub sent_child : Sending → Tree → Sent
 sent_child (retyped p t text) (tree l ts) = typed paragraph l ts p t text
 sent_child (kept u) t = stands t u
 
-abbrev pub sent_children : List Sending → Trees → List Sent
-sent_children [] ts = []
-sent_children (s ∷ ss) none = []
-sent_children (s ∷ ss) (more t ts) = sent_child s t ∷ sent_children ss ts
+abbrev pub sent_children : List Sending → Trees → Sents
+sent_children [] ts = none_sent
+sent_children (s ∷ ss) none = none_sent
+sent_children (s ∷ ss) (more t ts) = more_sent (sent_child s t) (sent_children ss ts)
 
 abbrev pub all_sendings : List PassageEdit → List Sending
 all_sendings es = flat_map sendings es

@@ -1,5 +1,5 @@
 -- Worked cases, by computing: the page of a paragraph, an empty line and a heading, in which texts are typed.
-use Rattle.std.proofs.Common.{◌≡◌, ℕ, List, [], ◌∷◌, refl}
+use Rattle.std.proofs.Common.{◌≡◌, ℕ, ◌+◌, List, [], refl}
 use Rattle.std.specs.Prelude.{None, Some, codes}
 use Rattle.std.specs.Fmt.{digits}
 use Rattle.std.specs.Str.{chars}
@@ -12,7 +12,7 @@ use Rattle.wt_tree.specs.Tree.{Label, Tree, tree, Trees, none, more}
 use Rattle.wt_guards.specs.Guards.{nowiki, is_guarded, is_between_guard, is_start_guard, is_end_guard, is_blank_guard, is_parted}
 use Rattle.wt_guards.specs.Letters.{is_escaped, reference}
 use Rattle.wt_guards.specs.Table.{hazard, line_start_hazard}
-use Rattle.wt_typed_blocks.specs.Sent.{StandsAsIs, paragraph, heading, Sent, stands, typed, old_children, all_show}
+use Rattle.wt_typed_blocks.specs.Sent.{StandsAsIs, paragraph, heading, Sent, stands, typed, holds, Sents, none_sent, more_sent, old_children, all_show}
 use Rattle.wt_typed_blocks.specs.Typed.{new_sources, TakeTexts, StandAt}
 use Rattle.wt_typed_blocks.specs.Unmarked.{AreToldApart}
 
@@ -62,9 +62,13 @@ abbrev as_heading : List ℕ → Sent
 as_heading bs = typed (heading 2) second_block (words 7 8 (codes "c")) (sent_label (kind.Heading 2) 0 []) (sent_label kind.Text 0 []) bs
 
 -- `[d]` is typed in the paragraph, and the heading is sent as it stands
-abbrev one_typed : List Sent
-one_typed = as_paragraph (codes "[d]") ∷ gap
-    ∷ stands (tree second_block (words 7 8 (codes "c"))) (tree (sent_label (kind.Heading 2) 2 []) (sent_words (codes "c"))) ∷ []
+abbrev one_typed : Sents
+one_typed = more_sent (as_paragraph (codes "[d]")) (more_sent gap
+    (more_sent (stands (tree second_block (words 7 8 (codes "c"))) (tree (sent_label (kind.Heading 2) 2 []) (sent_words (codes "c")))) none_sent))
+
+-- nothing is typed in the paragraph, and `[d]` in the heading
+abbrev two_typed : Sents
+two_typed = more_sent (as_paragraph []) (more_sent gap (more_sent (as_heading (codes "[d]")) none_sent))
 
 one_page : flat_of_all (old_children one_typed) ≡ codes "a b\n\n==c=="
 one_page = refl
@@ -74,23 +78,22 @@ unfolding is_guarded is_between_guard is_start_guard is_end_guard is_blank_guard
 one_new_page = refl
 
 one_place : StandAt 0 one_typed
-one_place = (refl, tt)
+one_place = (refl, (tt, (tt, tt)))
 
 one_shows : all_show one_typed
     ≡ along (element (record { kind = kind.Para; attrs = []; mw = None }) (along (text (codes "[d]")) ended))
     (along (element (record { kind = kind.Heading 2; attrs = []; mw = None }) (along (text (codes "c")) ended)) ended)
 one_shows = refl
 
--- nothing is typed in the paragraph, and `[d]` in the heading
-both_typed : new_sources (as_paragraph [] ∷ gap ∷ as_heading (codes "[d]") ∷ []) ≡ codes "<nowiki/>\n\n==&#91;d&#93;=="
+both_typed : new_sources two_typed ≡ codes "<nowiki/>\n\n==&#91;d&#93;=="
 unfolding is_guarded is_between_guard is_start_guard is_end_guard is_blank_guard is_parted hazard line_start_hazard nowiki is_escaped reference digits chars lib.Utf8.encode
 both_typed = refl
 
-both_places : StandAt 0 (as_paragraph [] ∷ gap ∷ as_heading (codes "[d]") ∷ [])
-both_places = (refl, (refl, tt))
+both_places : StandAt 0 two_typed
+both_places = (refl, (tt, (refl, tt)))
 
 -- a heading takes no line break
-two_lines : TakeTexts (as_heading (codes "d\ne") ∷ []) → ⊥
+two_lines : TakeTexts (more_sent (as_heading (codes "d\ne")) none_sent) → ⊥
 two_lines h = let e = h.0 in absurd (cc)
 
 -- a heading isn't sent as it stands where its text isn't in it
@@ -106,5 +109,40 @@ one_apart : AreToldApart one_typed
 one_apart = (refl, ((record { id = refl; kind = refl; attrs = refl; mw = refl; shown = refl }, tt), ((record { id = refl; kind = refl; attrs = refl; mw = refl; shown = refl }, ((record { id = refl; kind = refl; attrs = refl; mw = refl; shown = refl }, tt), tt)), tt)))
 
 -- where the page's own text is typed there is no difference
-same_text : AreToldApart (as_paragraph (codes "a b") ∷ []) → ⊥
+same_text : AreToldApart (more_sent (as_paragraph (codes "a b")) none_sent) → ⊥
 same_text h = let e = h.0 in absurd (cc)
+
+-- ---- the page `{|`, `|`, `a b`, `|}`, in whose cell `[d]` is typed
+
+abbrev cell_label : Kind → ℕ → ℕ → ℕ → ℕ → ℕ → List ℕ → List ℕ → Label
+cell_label k id start end opens closes opening closing = record (a_label k id start end 0 [] []) {
+  ranges = Some (record { start = start; end = end; open_w = opens; close_w = closes });
+  opening = opening;
+  closing = closing;
+}
+
+abbrev break_at : ℕ → Sent
+break_at start = stands (tree (a_label kind.Sep 0 start (start + 1) 0 [] (codes "\n")) none) (tree (sent_label kind.Sep 0 (codes "\n")) none)
+
+-- a node that is sent as it is but for what it holds
+abbrev round : Label → Kind → ℕ → Sents → Sent
+round l k id ss = holds l (sent_label k id []) ss
+
+abbrev in_cell : List ℕ → Sents
+in_cell bs =
+    let typed_in : Sent = typed paragraph (a_label kind.Para 5 5 8 0 [] []) (words 5 8 (codes "a b")) (sent_label kind.Para 0 []) (sent_label kind.Text 0 []) bs in
+    let cell : Sent = round (cell_label kind.Td 4 3 8 1 0 (codes "|") []) kind.Td 4 (more_sent (break_at 4) (more_sent typed_in none_sent)) in
+    let row : Sent = round (a_label kind.Tr 3 3 8 0 [] []) kind.Tr 3 (more_sent cell none_sent) in
+    let rows : Sent = round (a_label kind.Tbody 2 3 8 0 [] []) kind.Tbody 2 (more_sent row none_sent) in
+    more_sent (round (cell_label kind.Table 1 0 11 2 2 (codes "{|") (codes "|}")) kind.Table 1
+    (more_sent (break_at 2) (more_sent rows (more_sent (break_at 8) none_sent)))) none_sent
+
+cell_page : flat_of_all (old_children (in_cell [])) ≡ codes "{|\n|\na b\n|}"
+cell_page = refl
+
+cell_new_page : new_sources (in_cell (codes "[d]")) ≡ codes "{|\n|\n&#91;d&#93;\n|}"
+unfolding is_guarded is_between_guard is_start_guard is_end_guard is_blank_guard is_parted hazard line_start_hazard nowiki is_escaped reference digits chars lib.Utf8.encode
+cell_new_page = refl
+
+cell_place : StandAt 0 (in_cell [])
+cell_place = ((refl, (tt, ((refl, ((refl, ((refl, (tt, (refl, tt))), tt)), tt)), (tt, tt)))), tt)

@@ -15,13 +15,13 @@ use Rattle.wt_selser.specs.declared.refusal.EditRefusal.{EditRefusal}
 use Rattle.wt_selser.specs.declared.refusal.EditRefusal.TheVariants as refusal
 use Rattle.wt_selser.specs.Edits.{most_bytes, if_short, unless_refused, pairs_answer, edit_answer}
 use Rattle.wt_selser.specs.Splice.{spliced}
-use Rattle.wt_typed_blocks.specs.Sent.{Sent, old_children, AreSent, old_body, new_body}
+use Rattle.wt_typed_blocks.specs.Sent.{Sents, old_children, AreSent, old_body, new_body}
 use Rattle.wt_typed_blocks.specs.Typed.{new_sources, TakeTexts, StandAt, AreUntangled}
 use Rattle.wt_typed_blocks.proofs.SentKept.{found, passes}
 use Rattle.wt_typed_blocks.proofs.SentSlices.{Same, pairs_of, changes_of, marked_are, slices_are, none_refused}
 use Rattle.wt_typed_blocks.proofs.SentSpliced.{spliced_is}
 
-slices_of_body : (same : Same) (l b : Label) (ss : List Sent) → InPreorder (old_body l ss) → have_frame (old_children ss) ≡ false → AreSent ss
+slices_of_body : (same : Same) (l b : Label) (ss : Sents) → InPreorder (old_body l ss) → have_frame (old_children ss) ≡ false → AreSent ss
     → slices same (old_body l ss) (new_body l b ss) ≡ changes_of same ss
 slices_of_body same l b ss pre f h = slices_are same (page_of (old_body l ss)) 0 (is_content l.mark) ss h (found l ss pre)
 
@@ -31,7 +31,7 @@ not_longer n m h = grind (arith, nat_tests)
 short : (new : List ℕ) → length new ≤ most_bytes → if_short new ≡ Ok new
 short new h = ap (λ (t : Bool). if t then Err refusal.NewPageTooLong else Ok new) (not_longer (length new) most_bytes h)
 
-pub answer_is : (same : Same) (items : Expanded) (page : List ℕ) (l b : Label) (ss : List Sent) → InPreorder (old_body l ss) → NoneIsGroup (old_children ss)
+pub answer_is : (same : Same) (items : Expanded) (page : List ℕ) (l b : Label) (ss : Sents) → InPreorder (old_body l ss) → NoneIsGroup (old_children ss)
     → have_frame (old_children ss) ≡ false → AreSent ss → TakeTexts ss → AreUntangled items page ss → page ≡ flat_of_all (old_children ss) → StandAt 0 ss
     → length (new_sources ss) ≤ most_bytes → edit_answer same items page (old_body l ss) (new_body l b ss) ≡ Ok (new_sources ss)
 unfolding edit_answer

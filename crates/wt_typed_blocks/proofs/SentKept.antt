@@ -4,6 +4,7 @@ use Rattle.std.specs.Prelude.{◌==◌, ◌&&◌, ◌||◌, not, if◌then◌els
 use Rattle.std.specs.List.{AllByRecursion}
 use Rattle.wt_tree.specs.declared.kind.Kind.{Kind}
 use Rattle.wt_tree.specs.declared.kind.Kind.TheVariants as kind
+use Rattle.wt_tree.specs.declared.kind.Mark.{Mark}
 use Rattle.wt_tree.specs.declared.kind.Mark.TheVariants as marks
 use Rattle.wt_tree.specs.declared.kind.Showing.TheVariants.{Characters}
 use Rattle.wt_tree.specs.Kinds.{showing, writing}
@@ -22,7 +23,7 @@ use Rattle.wt_checks.proofs.InOrder.{not_zero_kept}
 use Rattle.wt_checks.proofs.Lookups.{each_split, each_join}
 use Rattle.wt_checks.proofs.Repeated.{or_false}
 use Rattle.wt_checks.proofs.WhatIsKept.{increasing, unrefused}
-use Rattle.wt_typed_blocks.specs.Sent.{IsSentAsIs, StandsAsIs, AllStandAsIs, Block, paragraph, heading, kind_of, text_in, Sent, stands, typed, old_child, new_child, old_children, new_children, IsSent, AreSent, old_body, new_body}
+use Rattle.wt_typed_blocks.specs.Sent.{IsSentAsIs, StandsAsIs, AllStandAsIs, Block, paragraph, heading, kind_of, text_in, Sent, stands, typed, holds, Sents, none_sent, more_sent, old_child, new_child, old_children, new_children, IsSent, AreSent, old_body, new_body}
 
 -- ---- numbers in their order
 
@@ -75,27 +76,42 @@ typed_under : (b : Bool) (i : ℕ) (xs ys : List ℕ) → xs ≡ [] → IsSublis
 typed_under true i xs ys e = inl (refl, subst (λ (zs : List ℕ). IsSublist zs ys) (sym e) tt)
 typed_under false i xs ys e = subst (λ (zs : List ℕ). IsSublist zs ys) (sym e) tt
 
-child_under : (n m : ℕ) (v w : Bool) (s : Sent) → IsSent s → IsSublist (kept_under n (placed m w (new_child s))) (kept_under n (placed m v (old_child s)))
-child_under n m v w (stands t u) h =
-    subst (λ (ks : List ℕ). IsSublist ks (kept_under n (placed m v t))) (sym (same_under n m v w t u h)) (one_sublist (kept_under n (placed m v t)))
-child_under n m v w (typed k l ts p x text) h =
-    typed_under (not (l.id == 0) && m == n) l.id (kept_under n (all_placed (parent_below m l.id) (w || true) (text_in x text)))
-    (kept_under n (all_placed (parent_below m l.id) (v || is_content l.mark) ts)) (under_text n (parent_below m l.id) (w || true) x text)
+both_under : (b : Bool) (i : ℕ) (xs ys : List ℕ) → IsSublist xs ys → IsSublist (if b then i ∷ xs else xs) (if b then i ∷ ys else ys)
+both_under true i xs ys h = inl (refl, h)
+both_under false i xs ys h = h
 
-children_under : (n m : ℕ) (v w : Bool) (ss : List Sent) → AreSent ss
-    → IsSublist (kept_under n (all_placed m w (new_children ss))) (kept_under n (all_placed m v (old_children ss)))
-children_under n m v w [] h = tt
-children_under n m v w (s ∷ ss) h =
-    let xs : List ℕ = kept_under n (placed m w (new_child s)) in
-    let ys : List ℕ = kept_under n (all_placed m w (new_children ss)) in
-    let us : List ℕ = kept_under n (placed m v (old_child s)) in
-    let vs : List ℕ = kept_under n (all_placed m v (old_children ss)) in
-    subst (λ (zs : List ℕ). IsSublist zs (kept_under n (placed m v (old_child s) ++ all_placed m v (old_children ss))))
-    (sym (under_join n (placed m w (new_child s)) (all_placed m w (new_children ss))))
-    (subst (λ (zs : List ℕ). IsSublist (xs ++ ys) zs) (sym (under_join n (placed m v (old_child s)) (all_placed m v (old_children ss))))
-    (both_sublists xs ys us vs (child_under n m v w s h.0) (children_under n m v w ss h.1)))
+mutual
+  child_under : (n m : ℕ) (v w : Bool) (s : Sent) → IsSent s → IsSublist (kept_under n (placed m w (new_child s))) (kept_under n (placed m v (old_child s)))
+  child_under n m v w (stands t u) h =
+      subst (λ (ks : List ℕ). IsSublist ks (kept_under n (placed m v t))) (sym (same_under n m v w t u h)) (one_sublist (kept_under n (placed m v t)))
+  child_under n m v w (typed k l ts p x text) h =
+      typed_under (not (l.id == 0) && m == n) l.id (kept_under n (all_placed (parent_below m l.id) (w || true) (text_in x text)))
+      (kept_under n (all_placed (parent_below m l.id) (v || is_content l.mark) ts)) (under_text n (parent_below m l.id) (w || true) x text)
+  child_under n m v w (holds l k ss) h =
+      let c : Bool = w || is_content k.mark in
+      let d : Bool = v || is_content l.mark in
+      let ys : List ℕ = kept_under n (all_placed (parent_below m l.id) d (old_children ss)) in
+      let P : ℕ → Type 0 = λ i. IsSublist
+      (if not (i == 0) && m == n then i ∷ kept_under n (all_placed (parent_below m i) c (new_children ss)) else kept_under n (all_placed (parent_below m i) c (new_children ss)))
+      (if not (l.id == 0) && m == n then l.id ∷ ys else ys) in
+      subst P (sym h.0.id)
+      (both_under (not (l.id == 0) && m == n) l.id (kept_under n (all_placed (parent_below m l.id) c (new_children ss))) ys
+      (children_under n (parent_below m l.id) d c ss h.1))
 
-ordered : (l b : Label) (ss : List Sent) → AreSent ss → InOrder (places (old_body l ss)) (places (new_body l b ss))
+  children_under : (n m : ℕ) (v w : Bool) (ss : Sents) → AreSent ss
+      → IsSublist (kept_under n (all_placed m w (new_children ss))) (kept_under n (all_placed m v (old_children ss)))
+  children_under n m v w none_sent h = tt
+  children_under n m v w (more_sent s ss) h =
+      let xs : List ℕ = kept_under n (placed m w (new_child s)) in
+      let ys : List ℕ = kept_under n (all_placed m w (new_children ss)) in
+      let us : List ℕ = kept_under n (placed m v (old_child s)) in
+      let vs : List ℕ = kept_under n (all_placed m v (old_children ss)) in
+      subst (λ (zs : List ℕ). IsSublist zs (kept_under n (placed m v (old_child s) ++ all_placed m v (old_children ss))))
+      (sym (under_join n (placed m w (new_child s)) (all_placed m w (new_children ss))))
+      (subst (λ (zs : List ℕ). IsSublist (xs ++ ys) zs) (sym (under_join n (placed m v (old_child s)) (all_placed m v (old_children ss))))
+      (both_sublists xs ys us vs (child_under n m v w s h.0) (children_under n m v w ss h.1)))
+
+ordered : (l b : Label) (ss : Sents) → AreSent ss → InOrder (places (old_body l ss)) (places (new_body l b ss))
 ordered l b ss h = λ n. children_under n 0 (is_content l.mark) false ss h
 
 -- ---- no groups
@@ -118,7 +134,7 @@ each : (P : Place → Type 0) → ((p : Place) → P p) → (ps : List Place) �
 each P f [] = tt
 each P f (p ∷ ps) = (f p, each P f ps)
 
-groups_stand : (l b : Label) (ss : List Sent) → NoneIsGroup (old_children ss)
+groups_stand : (l b : Label) (ss : Sents) → NoneIsGroup (old_children ss)
     → AllByRecursion (GroupKept false (page_of (old_body l ss))) (places (new_body l b ss))
 groups_stand l b ss g =
     let t : Tree = old_body l ss in
@@ -142,11 +158,15 @@ one_entry kind.Skip l m es fs i f e = e
 one_entry kind.Empty l m es fs i f e = e
 one_entry k l m es fs i f e = ap (λ (z : ℕ). entry_child z ∷ es) (sym i) ∙ ap (λ (zs : List Entry). entry_child m.id ∷ zs) e
 
+label_entry : (l m : Label) (es fs : List Entry) → IsSentAsIs l m → es ≡ fs
+    → (if is_compared (showing l.kind) then entry l ∷ es else es) ≡ (if is_compared (showing m.kind) then entry m ∷ fs else fs)
+label_entry l m es fs h e =
+    one_entry l.kind l m es fs h.id h.shown e
+    ∙ ap (λ (k : Kind). if is_compared (showing k) then entry_by (writing k) m ∷ fs else fs) (sym h.kind)
+
 entry_same : (t u : Tree) (es fs : List Entry) → StandsAsIs t u → es ≡ fs
     → (if is_compared (showing (label t).kind) then entry (label t) ∷ es else es) ≡ (if is_compared (showing (label u).kind) then entry (label u) ∷ fs else fs)
-entry_same (tree l ts) (tree m us) es fs h e =
-    one_entry l.kind l m es fs h.0.id h.0.shown e
-    ∙ ap (λ (k : Kind). if is_compared (showing k) then entry_by (writing k) m ∷ fs else fs) (sym h.0.kind)
+entry_same (tree l ts) (tree m us) es fs h e = label_entry l m es fs h.0 e
 
 entries_same : (ts us : Trees) → AllStandAsIs ts us → entries ts ≡ entries us
 entries_same none none h = refl
@@ -154,11 +174,11 @@ entries_same none (more u us) h = absurd h
 entries_same (more t ts) none h = absurd h
 entries_same (more t ts) (more u us) h = entry_same t u (entries ts) (entries us) h.0 (entries_same ts us h.1)
 
-as_it_was : (l m : Label) (ts us : Trees) → IsSentAsIs l m → AllStandAsIs ts us → have_frame ts ≡ false → NodeAsItWas (tree l ts) (tree m us)
-as_it_was l m ts us s h f =
+as_it_was : (l m : Label) (ts us : Trees) → IsSentAsIs l m → entries ts ≡ entries us → have_frame ts ≡ false → NodeAsItWas (tree l ts) (tree m us)
+as_it_was l m ts us s e f =
     let holds : HoldsTheSame (tree l ts) (tree m us) = record {
       character = own_same l.kind l.shown m.shown s.shown ∙ ap (λ (k : Kind). own_character (writing k) m.shown) (sym s.kind);
-      held = ap entries (bare_root (tree l ts) f) ∙ entries_same ts us h;
+      held = ap entries (bare_root (tree l ts) f) ∙ e;
     } in
     record { kind = sym s.kind; attrs = sym s.attrs; mw = inr (sym s.mw); holds = inr holds }
 
@@ -169,7 +189,7 @@ kept_of : (a b : Bool) → (a || b) ≡ true → b ≡ false → a ≡ true
 kept_of true b e f = refl
 kept_of false b e f = absurd (cc)
 
-node_kept : (page : Page) (i j : ℕ) (v w : Bool) (l m : Label) (ts us : Trees) → IsSentAsIs l m → AllStandAsIs ts us → is_frame l.kind ≡ false
+node_kept : (page : Page) (i j : ℕ) (v w : Bool) (l m : Label) (ts us : Trees) → IsSentAsIs l m → entries ts ≡ entries us → is_frame l.kind ≡ false
     → have_frame ts ≡ false → Itself page (record { node = tree l ts; parent = i; in_content = v })
     → NodeKept page (record { node = tree m us; parent = j; in_content = w })
 node_kept page i j v w l m ts us s h f d it = λ a b.
@@ -184,7 +204,7 @@ mutual
       → AllByRecursion (NodeKept page) (placed j w u)
   nodes_kept page i j v w (tree l ts) (tree m us) h f it =
       let d = or_false (is_frame l.kind) (have_frame ts) f in (
-        node_kept page i j v w l m ts us h.0 h.1 d.0 d.1 it.0,
+        node_kept page i j v w l m ts us h.0 (entries_same ts us h.1) d.0 d.1 it.0,
         all_nodes_kept page (parent_below i l.id) (parent_below j m.id) (v || is_content l.mark) (w || is_content m.mark) ts us h.1 d.1 it.1,
       )
 
@@ -202,43 +222,51 @@ text_kept : (page : Page) (j : ℕ) (w : Bool) (x : Label) (text : List ℕ) →
 text_kept page j w x [] = tt
 text_kept page j w x (c ∷ cs) = (λ a b. absurd (cc), tt)
 
-child_kept : (page : Page) (i j : ℕ) (v w : Bool) (s : Sent) → IsSent s → has_frame (old_child s) ≡ false → AllByRecursion (Itself page) (placed i v (old_child s))
-    → AllByRecursion (NodeKept page) (placed j w (new_child s))
-child_kept page i j v w (stands t u) h f it = nodes_kept page i j v w t u h f it
-child_kept page i j v w (typed k l ts m x text) h f it =
-    let old : Tree = old_child (typed k l ts m x text) in
-    let new : Tree = new_child (typed k l ts m x text) in
-    let was : NodeAsItWas old new = record { kind = refl; attrs = refl; mw = inr refl; holds = inl refl } in (
-      kept_by page (record { node = new; parent = j; in_content = w }) (record { node = old; parent = i; in_content = v }) (it.0 (not_zero_kept l.id h)) was,
-      text_kept page (parent_below j l.id) (w || true) x text,
-    )
+mutual
+  child_entry : (s : Sent) (es fs : List Entry) → IsSent s → es ≡ fs
+      → (if is_compared (showing (label (old_child s)).kind) then entry (label (old_child s)) ∷ es else es)
+      ≡ (if is_compared (showing (label (new_child s)).kind) then entry (label (new_child s)) ∷ fs else fs)
+  child_entry (stands t u) es fs h e = entry_same t u es fs h e
+  child_entry (typed paragraph l ts m x text) es fs h e = ap (λ (zs : List Entry). entry_child l.id ∷ zs) e
+  child_entry (typed (heading n) l ts m x text) es fs h e = ap (λ (zs : List Entry). entry_child l.id ∷ zs) e
+  child_entry (holds l m ss) es fs h e = label_entry l m es fs h.0 e
 
-children_kept : (page : Page) (i j : ℕ) (v w : Bool) (ss : List Sent) → AreSent ss → have_frame (old_children ss) ≡ false
-    → AllByRecursion (Itself page) (all_placed i v (old_children ss)) → AllByRecursion (NodeKept page) (all_placed j w (new_children ss))
-children_kept page i j v w [] h f it = tt
-children_kept page i j v w (s ∷ ss) h f it =
-    let d = or_false (has_frame (old_child s)) (have_frame (old_children ss)) f in
-    let p = each_split (Itself page) (placed i v (old_child s)) (all_placed i v (old_children ss)) it in
-    each_join (NodeKept page) (placed j w (new_child s)) (all_placed j w (new_children ss)) (child_kept page i j v w s h.0 d.0 p.0)
-    (children_kept page i j v w ss h.1 d.1 p.1)
+  child_entries : (ss : Sents) → AreSent ss → entries (old_children ss) ≡ entries (new_children ss)
+  child_entries none_sent h = refl
+  child_entries (more_sent s ss) h = child_entry s (entries (old_children ss)) (entries (new_children ss)) h.0 (child_entries ss h.1)
 
-child_entry : (s : Sent) (es fs : List Entry) → IsSent s → es ≡ fs
-    → (if is_compared (showing (label (old_child s)).kind) then entry (label (old_child s)) ∷ es else es)
-    ≡ (if is_compared (showing (label (new_child s)).kind) then entry (label (new_child s)) ∷ fs else fs)
-child_entry (stands t u) es fs h e = entry_same t u es fs h e
-child_entry (typed paragraph l ts m x text) es fs h e = ap (λ (zs : List Entry). entry_child l.id ∷ zs) e
-child_entry (typed (heading n) l ts m x text) es fs h e = ap (λ (zs : List Entry). entry_child l.id ∷ zs) e
+mutual
+  child_kept : (page : Page) (i j : ℕ) (v w : Bool) (s : Sent) → IsSent s → has_frame (old_child s) ≡ false → AllByRecursion (Itself page) (placed i v (old_child s))
+      → AllByRecursion (NodeKept page) (placed j w (new_child s))
+  child_kept page i j v w (stands t u) h f it = nodes_kept page i j v w t u h f it
+  child_kept page i j v w (typed k l ts m x text) h f it =
+      let old : Tree = old_child (typed k l ts m x text) in
+      let new : Tree = new_child (typed k l ts m x text) in
+      let was : NodeAsItWas old new = record { kind = refl; attrs = refl; mw = inr refl; holds = inl refl } in (
+        kept_by page (record { node = new; parent = j; in_content = w }) (record { node = old; parent = i; in_content = v }) (it.0 (not_zero_kept l.id h)) was,
+        text_kept page (parent_below j l.id) (w || true) x text,
+      )
+  child_kept page i j v w (holds l m ss) h f it =
+      let d = or_false (is_frame l.kind) (have_frame (old_children ss)) f in (
+        node_kept page i j v w l m (old_children ss) (new_children ss) h.0 (child_entries ss h.1) d.0 d.1 it.0,
+        children_kept page (parent_below i l.id) (parent_below j m.id) (v || is_content l.mark) (w || is_content m.mark) ss h.1 d.1 it.1,
+      )
 
-child_entries : (ss : List Sent) → AreSent ss → entries (old_children ss) ≡ entries (new_children ss)
-child_entries [] h = refl
-child_entries (s ∷ ss) h = child_entry s (entries (old_children ss)) (entries (new_children ss)) h.0 (child_entries ss h.1)
+  children_kept : (page : Page) (i j : ℕ) (v w : Bool) (ss : Sents) → AreSent ss → have_frame (old_children ss) ≡ false
+      → AllByRecursion (Itself page) (all_placed i v (old_children ss)) → AllByRecursion (NodeKept page) (all_placed j w (new_children ss))
+  children_kept page i j v w none_sent h f it = tt
+  children_kept page i j v w (more_sent s ss) h f it =
+      let d = or_false (has_frame (old_child s)) (have_frame (old_children ss)) f in
+      let p = each_split (Itself page) (placed i v (old_child s)) (all_placed i v (old_children ss)) it in
+      each_join (NodeKept page) (placed j w (new_child s)) (all_placed j w (new_children ss)) (child_kept page i j v w s h.0 d.0 p.0)
+      (children_kept page i j v w ss h.1 d.1 p.1)
 
 -- what is found by its number in the page
-pub found : (l : Label) (ss : List Sent) → InPreorder (old_body l ss)
+pub found : (l : Label) (ss : Sents) → InPreorder (old_body l ss)
     → AllByRecursion (Itself (page_of (old_body l ss))) (all_placed 0 (is_content l.mark) (old_children ss))
 found l ss pre = (each_itself (places (old_body l ss)) (increasing (old_body l ss) refl pre)).1
 
-nodes_stand : (l b : Label) (ss : List Sent) → InPreorder (old_body l ss) → have_frame (old_children ss) ≡ false → AreSent ss
+nodes_stand : (l b : Label) (ss : Sents) → InPreorder (old_body l ss) → have_frame (old_children ss) ≡ false → AreSent ss
     → AllByRecursion (NodeKept (page_of (old_body l ss))) (places (new_body l b ss))
 nodes_stand l b ss pre f h =
     let t : Tree = old_body l ss in
@@ -273,25 +301,31 @@ allowed_in : (k : Block) (o : Option Place) → allows (editing (kind_of k)) mar
 allowed_in paragraph o = refl
 allowed_in (heading n) o = refl
 
-child_marked : (page : Page) (j : ℕ) (s : Sent) → IsSent s → AllByRecursion (MarkKept page) (placed j false (new_child s))
-child_marked page j (stands t u) h = marks_none page j false t u h
-child_marked page j (typed k l ts m x text) h = (
-  λ e. record {
-    outside = refl;
-    old = ap (λ (b : Bool). b || is_body (kind_of k)) (not_zero_kept l.id h);
-    allowed = allowed_in k (page l.id);
-  },
-  text_unmarked page (parent_below j l.id) true x text,
-)
+mutual
+  child_marked : (page : Page) (j : ℕ) (s : Sent) → IsSent s → AllByRecursion (MarkKept page) (placed j false (new_child s))
+  child_marked page j (stands t u) h = marks_none page j false t u h
+  child_marked page j (typed k l ts m x text) h = (
+    λ e. record {
+      outside = refl;
+      old = ap (λ (b : Bool). b || is_body (kind_of k)) (not_zero_kept l.id h);
+      allowed = allowed_in k (page l.id);
+    },
+    text_unmarked page (parent_below j l.id) true x text,
+  )
+  child_marked page j (holds l m ss) h = (
+    λ e. let n : is_marked m.mark ≡ false = ap is_marked h.0.unmarked in absurd (cc),
+    subst (λ (c : Mark). AllByRecursion (MarkKept page) (all_placed (parent_below j m.id) (is_content c) (new_children ss))) (sym h.0.unmarked)
+        (children_marked page (parent_below j m.id) ss h.1),
+  )
 
-children_marked : (page : Page) (j : ℕ) (ss : List Sent) → AreSent ss → AllByRecursion (MarkKept page) (all_placed j false (new_children ss))
-children_marked page j [] h = tt
-children_marked page j (s ∷ ss) h =
-    each_join (MarkKept page) (placed j false (new_child s)) (all_placed j false (new_children ss)) (child_marked page j s h.0) (children_marked page j ss h.1)
+  children_marked : (page : Page) (j : ℕ) (ss : Sents) → AreSent ss → AllByRecursion (MarkKept page) (all_placed j false (new_children ss))
+  children_marked page j none_sent h = tt
+  children_marked page j (more_sent s ss) h =
+      each_join (MarkKept page) (placed j false (new_child s)) (all_placed j false (new_children ss)) (child_marked page j s h.0) (children_marked page j ss h.1)
 
 -- ---- all of it
 
-pub passes : (l b : Label) (ss : List Sent) → InPreorder (old_body l ss) → NoneIsGroup (old_children ss) → have_frame (old_children ss) ≡ false → AreSent ss
+pub passes : (l b : Label) (ss : Sents) → InPreorder (old_body l ss) → NoneIsGroup (old_children ss) → have_frame (old_children ss) ≡ false → AreSent ss
     → checked false (old_body l ss) (new_body l b ss) ≡ None
 passes l b ss pre g f h =
     let t : Tree = old_body l ss in

@@ -1,5 +1,5 @@
 -- What a body that is sent so shows.
-use Rattle.std.proofs.Common.{◌≡◌, ℕ, Bool, List, [], ◌∷◌, refl, ap, ◌∙◌}
+use Rattle.std.proofs.Common.{◌≡◌, ℕ, Bool, false, List, [], ◌∷◌, refl, ap, ◌∙◌}
 use Rattle.wt_tree.specs.declared.kind.Kind.{Kind}
 use Rattle.wt_tree.specs.declared.kind.AttrName.{AttrName}
 use Rattle.wt_tree.specs.declared.node.DataMw.{DataMw}
@@ -13,7 +13,7 @@ use Rattle.wt_checks.specs.Places.{Page, page_of}
 use Rattle.wt_visible.specs.Children.{shown_children, listed}
 use Rattle.wt_visible.specs.Restored.{held_by, restored, all_restored, restored_from}
 use Rattle.std.specs.Prelude.{Option}
-use Rattle.wt_typed_blocks.specs.Sent.{IsSentAsIs, StandsAsIs, AllStandAsIs, paragraph, heading, Sent, stands, typed, old_child, new_child, old_children, new_children, IsSent, AreSent, new_body, shows_before, all_show}
+use Rattle.wt_typed_blocks.specs.Sent.{IsSentAsIs, StandsAsIs, AllStandAsIs, paragraph, heading, Sent, stands, typed, holds, Sents, none_sent, more_sent, old_child, new_child, old_children, new_children, IsSent, AreSent, new_body, shows_before, show_before, all_show}
 
 same_face : (l m : Label) → IsSentAsIs l m → face m ≡ face l
 same_face l m s =
@@ -45,18 +45,31 @@ mutual
       ap (λ (ps : Plains). plain_before (restored page u) ps) (all_show_same page ts us rest h.1 g.1)
       ∙ shows_same page t u (plains_before ts rest) h.0 g.0
 
-child_shows : (page : Page) (s : Sent) (rest : Plains) → IsSent s → HasNoGroup (old_child s) → plain_before (restored page (new_child s)) rest ≡ shows_before s rest
-child_shows page (stands t u) rest h g = shows_same page t u rest h g
-child_shows page (typed paragraph l ts m x []) rest h g = refl
-child_shows page (typed paragraph l ts m x (c ∷ cs)) rest h g = refl
-child_shows page (typed (heading n) l ts m x []) rest h g = refl
-child_shows page (typed (heading n) l ts m x (c ∷ cs)) rest h g = refl
+-- a node that is sent as it is, with children that show something else
+holder_shows : (page : Page) (l m : Label) (us : Trees) (f : Plains → Plains) (rest : Plains) → IsSentAsIs l m → is_group l.kind ≡ false
+    → ((ps : Plains) → plains_before (all_restored page us) ps ≡ f ps) → plain_before (restored page (tree m us)) rest ≡ shown_before (showing l.kind) l f rest
+holder_shows page l m us f rest h g e =
+    ap (λ (b : Bool). plain_before (tree m (held_by page b m.id us (all_restored page us))) rest) (ap is_group h.kind ∙ g)
+    ∙ ap (λ (k : Kind). shown_before (showing k) m (λ ps. plains_before (all_restored page us) ps) rest) h.kind
+    ∙ shown_same (showing l.kind) l m (λ ps. plains_before (all_restored page us) ps) f rest h.shown (same_face l m h) e
 
-children_show : (page : Page) (ss : List Sent) → AreSent ss → NoneIsGroup (old_children ss) → plains_before (all_restored page (new_children ss)) ended ≡ all_show ss
-children_show page [] h g = refl
-children_show page (s ∷ ss) h g =
-    ap (λ (ps : Plains). plain_before (restored page (new_child s)) ps) (children_show page ss h.1 g.1) ∙ child_shows page s (all_show ss) h.0 g.0
+mutual
+  child_shows : (page : Page) (s : Sent) (rest : Plains) → IsSent s → HasNoGroup (old_child s) → plain_before (restored page (new_child s)) rest ≡ shows_before s rest
+  child_shows page (stands t u) rest h g = shows_same page t u rest h g
+  child_shows page (typed paragraph l ts m x []) rest h g = refl
+  child_shows page (typed paragraph l ts m x (c ∷ cs)) rest h g = refl
+  child_shows page (typed (heading n) l ts m x []) rest h g = refl
+  child_shows page (typed (heading n) l ts m x (c ∷ cs)) rest h g = refl
+  child_shows page (holds l m ss) rest h g =
+      holder_shows page l m (new_children ss) (λ ps. show_before ss ps) rest h.0 g.0 (λ ps. children_show page ss ps h.1 g.1)
 
-pub body_shows : (t : Tree) (l b : Label) (ss : List Sent) → AreSent ss → NoneIsGroup (old_children ss)
+  children_show : (page : Page) (ss : Sents) (rest : Plains) → AreSent ss → NoneIsGroup (old_children ss)
+      → plains_before (all_restored page (new_children ss)) rest ≡ show_before ss rest
+  children_show page none_sent rest h g = refl
+  children_show page (more_sent s ss) rest h g =
+      ap (λ (ps : Plains). plain_before (restored page (new_child s)) ps) (children_show page ss rest h.1 g.1)
+      ∙ child_shows page s (show_before ss rest) h.0 g.0
+
+pub body_shows : (t : Tree) (l b : Label) (ss : Sents) → AreSent ss → NoneIsGroup (old_children ss)
     → shown_children (restored_from t (new_body l b ss)) ≡ listed (all_show ss)
-body_shows t l b ss h g = ap listed (children_show (page_of t) ss h g)
+body_shows t l b ss h g = ap listed (children_show (page_of t) ss ended h g)

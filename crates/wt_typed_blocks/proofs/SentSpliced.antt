@@ -1,17 +1,18 @@
 -- The new page of such an edit: the sources of its blocks, one after the other.
-use Rattle.std.proofs.Common.{arith, ◌≡◌, ℕ, ◌+◌, ◌-◌, ◌≤◌, List, [], ◌∷◌, ◌++◌, length, take, drop, refl, sym, ap, ◌∙◌, subst, append_assoc, append-nil, length-append, length-drop}
-use Rattle.std.specs.Prelude.{Option, Some, false}
+use Rattle.std.proofs.Common.{arith, ◌≡◌, ℕ, Bool, true, ◌+◌, ◌-◌, ◌≤◌, List, [], ◌∷◌, ◌++◌, length, take, drop, refl, sym, ap, ◌∙◌, subst, append_assoc, append-nil, length-append, length-drop}
+use Rattle.std.specs.Prelude.{if◌then◌else◌, Option, Some, false}
 use Rattle.std.proofs.lemmas.List.{take-append-le, take_all, drop-append-le, drop_all}
 use Rattle.wt_tree.specs.declared.kind.Ranges.{Ranges}
+use Rattle.wt_tree.specs.Kinds.{is_leaf}
 use Rattle.wt_tree.specs.Source.{flat, flat_of_all}
 use Rattle.wt_tree.specs.Tree.{Label, Trees}
 use Rattle.wt_guards.specs.Content.{letters}
 use Rattle.wt_guards.specs.Guards.{spelled}
 use Rattle.wt_selser.specs.Changes.{change_with}
 use Rattle.wt_selser.specs.Splice.{Change, between, spliced_from, spliced}
-use Rattle.wt_typed_blocks.specs.Sent.{Block, paragraph, heading, Sent, stands, typed, old_child, old_children}
-use Rattle.wt_typed_blocks.specs.Typed.{place_of, block_source, new_sources, StandAt}
-use Rattle.wt_typed_blocks.proofs.SentSlices.{Same, written, changes_of, written_is}
+use Rattle.wt_typed_blocks.specs.Sent.{Block, paragraph, heading, Sent, stands, typed, holds, Sents, none_sent, more_sent, old_child, old_children}
+use Rattle.wt_typed_blocks.specs.Typed.{place_of, block_source, old_source, new_source, new_sources, StandsAt, StandAt}
+use Rattle.wt_typed_blocks.proofs.SentSlices.{Same, written, change_of, changes_of, written_is}
 
 -- what stands from a place on in a front, before what follows it
 up_to : (from : ℕ) (front rest : List ℕ) → from ≤ length front → between from (length front) (front ++ rest) ≡ drop from front
@@ -75,33 +76,90 @@ one_more front o inner c by rest page from cs new le is later =
     ∙ append_assoc (drop from front) o (by ++ (c ++ new))
     ∙ ap (λ (xs : List ℕ). drop from front ++ xs) (sym (append_assoc (o ++ by) c new ∙ append_assoc o by (c ++ new)))
 
--- the changes from the first of these children on, which stand behind a front of the page
-spliced_on : (same : Same) (page front : List ℕ) (from : ℕ) (ss : List Sent) → page ≡ front ++ flat_of_all (old_children ss) → StandAt (length front) ss
-    → from ≤ length front → spliced_from page from (changes_of same ss) ≡ drop from front ++ new_sources ss
-spliced_on same page front from [] is h le = ap (drop from) (is ∙ append-nil front) ∙ sym (append-nil (drop from front))
-spliced_on same page front from (stands t u ∷ ss) is h le =
-    let long : length (front ++ flat t) ≡ length front + length (flat t) = length-append front (flat t) in
-    spliced_on same page (front ++ flat t) from ss (is ∙ sym (append_assoc front (flat t) (flat_of_all (old_children ss))))
-    (subst (λ (n : ℕ). StandAt n ss) (sym long) h) (omega (arith, long, le))
-    ∙ ap (λ (xs : List ℕ). xs ++ new_sources ss) (drop-append-le from front (flat t) le) ∙ append_assoc (drop from front) (flat t) (new_sources ss)
-spliced_on same page front from (typed k l ts m x text ∷ ss) is h le =
-    let s : Sent = typed k l ts m x text in
-    let old : List ℕ = block_source l ts in
-    let rest : List ℕ = flat_of_all (old_children ss) in
-    let by : List ℕ = spelled (record { within = false; place = place_of k; source = old }) (letters text) in
-    let now : page ≡ front ++ (old ++ rest) = is ∙ ap (λ (xs : List ℕ). front ++ (xs ++ rest)) (block_flat k l ts m x text) in
-    let long : length (front ++ old) ≡ length front + length old = length-append front old in
-    let closed : length old ≡ length (l.opening ++ flat_of_all ts) + length l.closing = length-append (l.opening ++ flat_of_all ts) l.closing in
-    let end : ℕ = length front + length old - length l.closing in
-    let later : spliced_from page end (changes_of same ss) ≡ drop end (front ++ old) ++ new_sources ss =
-    spliced_on same page (front ++ old) end ss (now ∙ sym (append_assoc front old rest)) (subst (λ (n : ℕ). StandAt n ss) (sym long) h.1)
-    (omega (arith, long)) in
-    let C : Option Ranges → List ℕ → List ℕ = λ r new. spliced_from page from (change_with r new ++ changes_of same ss) in
-    ap (λ (r : Option Ranges). C r (written same s)) h.0
-    ∙ ap (C (Some (record { start = length front; end = length front + length old; open_w = length l.opening; close_w = length l.closing }))) (written_is same k l ts m x text)
-    ∙ one_more front l.opening (flat_of_all ts) l.closing by rest page from (changes_of same ss) (new_sources ss) le now later
+-- ---- all slices
 
-pub spliced_is : (same : Same) (page : List ℕ) (ss : List Sent) → page ≡ flat_of_all (old_children ss) → StandAt 0 ss
+source_by : (leaf : Bool) (own inner : List ℕ) → leaf ≡ false → (if leaf then own else inner) ≡ inner
+source_by true own inner e = cc
+source_by false own inner e = refl
+
+source_is : (at : ℕ) (s : Sent) → StandsAt at s → flat (old_child s) ≡ old_source s
+source_is at (stands t u) h = refl
+source_is at (typed k l ts m x text) h = block_flat k l ts m x text
+source_is at (holds l m ss) h = source_by (is_leaf l.kind) l.own (block_source l (old_children ss)) h.0
+
+-- After a front of the page, from any place in it on, the changes make this page.
+abbrev Makes : List ℕ → List Change → List ℕ → List ℕ → Type 0
+Makes page cs front new = (from : ℕ) → from ≤ length front → spliced_from page from cs ≡ drop from front ++ new
+
+-- what stands in front of the inside of a node
+opened_front : (front o : List ℕ) (page : List ℕ) (cs : List Change) (new : List ℕ) → Makes page cs (front ++ o) new → Makes page cs front (o ++ new)
+opened_front front o page cs new k = λ from le.
+    let long : length (front ++ o) ≡ length front + length o = length-append front o in
+    k from (omega (arith, long, le))
+    ∙ ap (λ (xs : List ℕ). xs ++ new) (drop-append-le from front o le) ∙ append_assoc (drop from front) o new
+
+mutual
+  one_makes : (same : Same) (page front rest : List ℕ) (s : Sent) (cs : List Change) (new : List ℕ) → page ≡ front ++ (old_source s ++ rest)
+      → StandsAt (length front) s → Makes page cs (front ++ old_source s) new → Makes page (change_of same s ++ cs) front (new_source s ++ new)
+  one_makes same page front rest (stands t u) cs new is h k = opened_front front (flat t) page cs new k
+  one_makes same page front rest (typed k l ts m x text) cs new is h later = λ from le.
+      let s : Sent = typed k l ts m x text in
+      let old : List ℕ = block_source l ts in
+      let by : List ℕ = spelled (record { within = false; place = place_of k; source = old }) (letters text) in
+      let long : length (front ++ old) ≡ length front + length old = length-append front old in
+      let end : ℕ = length front + length old - length l.closing in
+      let C : Option Ranges → List ℕ → List ℕ = λ r bs. spliced_from page from (change_with r bs ++ cs) in
+      ap (λ (r : Option Ranges). C r (written same s)) h
+      ∙ ap (C (Some (record { start = length front; end = length front + length old; open_w = length l.opening; close_w = length l.closing }))) (written_is same k l ts m x text)
+      ∙ one_more front l.opening (flat_of_all ts) l.closing by rest page from cs new le is (later end (omega (arith, long)))
+  one_makes same page front rest (holds l m ss) cs new is h k =
+      let o : List ℕ = l.opening in
+      let inner : List ℕ = flat_of_all (old_children ss) in
+      let c : List ℕ = l.closing in
+      let long : length (front ++ o) ≡ length front + length o = length-append front o in
+      let now : page ≡ (front ++ o) ++ (inner ++ (c ++ rest)) =
+      is ∙ ap (λ (xs : List ℕ). front ++ xs) (append_assoc (o ++ inner) c rest ∙ append_assoc o inner (c ++ rest)) ∙ sym (append_assoc front o (inner ++ (c ++ rest))) in
+      let ends : front ++ ((o ++ inner) ++ c) ≡ ((front ++ o) ++ inner) ++ c =
+      ap (λ (xs : List ℕ). front ++ xs) (append_assoc o inner c) ∙ sym (append_assoc front o (inner ++ c)) ∙ sym (append_assoc (front ++ o) inner c) in
+      let behind_it : Makes page cs ((front ++ o) ++ inner) (c ++ new) =
+      opened_front ((front ++ o) ++ inner) c page cs new (subst (λ (xs : List ℕ). Makes page cs xs new) ends k) in
+      let inside : Makes page (changes_of same ss ++ cs) (front ++ o) (new_sources ss ++ (c ++ new)) =
+      all_make same page (front ++ o) (c ++ rest) ss cs (c ++ new) now (subst (λ (n : ℕ). StandAt n ss) (sym long) h.1) behind_it in
+      subst (λ (xs : List ℕ). Makes page (changes_of same ss ++ cs) front xs)
+      (ap (λ (xs : List ℕ). o ++ xs) (sym (append_assoc (new_sources ss) c new)) ∙ sym (append_assoc o (new_sources ss ++ c) new)
+      ∙ ap (λ (xs : List ℕ). xs ++ new) (sym (append_assoc o (new_sources ss) c)))
+      (opened_front front o page (changes_of same ss ++ cs) (new_sources ss ++ (c ++ new)) inside)
+
+  all_make : (same : Same) (page front rest : List ℕ) (ss : Sents) (cs : List Change) (new : List ℕ)
+      → page ≡ front ++ (flat_of_all (old_children ss) ++ rest) → StandAt (length front) ss → Makes page cs (front ++ flat_of_all (old_children ss)) new
+      → Makes page (changes_of same ss ++ cs) front (new_sources ss ++ new)
+  all_make same page front rest none_sent cs new is h k = subst (λ (xs : List ℕ). Makes page cs xs new) (append-nil front) k
+  all_make same page front rest (more_sent s ss) cs new is h k =
+      let q : List ℕ = old_source s in
+      let tail : List ℕ = flat_of_all (old_children ss) in
+      let e : flat (old_child s) ≡ q = source_is (length front) s h.0 in
+      let long : length (front ++ q) ≡ length front + length q = length-append front q in
+      let joined : flat (old_child s) ++ tail ≡ q ++ tail = ap (λ (xs : List ℕ). xs ++ tail) e in
+      let now : page ≡ front ++ (q ++ (tail ++ rest)) =
+      is ∙ ap (λ (xs : List ℕ). front ++ (xs ++ rest)) joined ∙ ap (λ (xs : List ℕ). front ++ xs) (append_assoc q tail rest) in
+      let further : page ≡ (front ++ q) ++ (tail ++ rest) = now ∙ sym (append_assoc front q (tail ++ rest)) in
+      let ends : front ++ (flat (old_child s) ++ tail) ≡ (front ++ q) ++ tail = ap (λ (xs : List ℕ). front ++ xs) joined ∙ sym (append_assoc front q tail) in
+      let later : Makes page (changes_of same ss ++ cs) (front ++ q) (new_sources ss ++ new) =
+      all_make same page (front ++ q) rest ss cs new further (subst (λ (n : ℕ). StandAt n ss) (sym long) h.1) (subst (λ (xs : List ℕ). Makes page cs xs new) ends k) in
+      let all : Makes page (change_of same s ++ (changes_of same ss ++ cs)) front (new_source s ++ (new_sources ss ++ new)) =
+      one_makes same page front (tail ++ rest) s (changes_of same ss ++ cs) (new_sources ss ++ new) now h.0 later in
+      subst (λ (ds : List Change). Makes page ds front ((new_source s ++ new_sources ss) ++ new)) (sym (append_assoc (change_of same s) (changes_of same ss) cs))
+      (subst (λ (xs : List ℕ). Makes page (change_of same s ++ (changes_of same ss ++ cs)) front xs) (sym (append_assoc (new_source s) (new_sources ss) new)) all)
+
+nothing_left : (page : List ℕ) → Makes page [] page []
+nothing_left page = λ from le. sym (append-nil (drop from page))
+
+pub spliced_is : (same : Same) (page : List ℕ) (ss : Sents) → page ≡ flat_of_all (old_children ss) → StandAt 0 ss
     → spliced page (changes_of same ss) ≡ new_sources ss
 unfolding spliced
-spliced_is same page ss is h = let le : 0 ≤ 0 = omega arith in spliced_on same page [] 0 ss is h le
+spliced_is same page ss is h =
+    let le : 0 ≤ 0 = omega arith in
+    let end : Makes page [] ([] ++ flat_of_all (old_children ss)) [] = subst (λ (xs : List ℕ). Makes page [] xs []) is (nothing_left page) in
+    ap (spliced_from page 0) (sym (append-nil (changes_of same ss)))
+    ∙ all_make same page [] [] ss [] [] (is ∙ sym (append-nil (flat_of_all (old_children ss)))) h end 0 le
+    ∙ append-nil (new_sources ss)

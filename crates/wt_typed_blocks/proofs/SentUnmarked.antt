@@ -3,6 +3,7 @@ use Rattle.std.proofs.Common.{◌≡◌, ℕ, Bool, true, false, List, [], ◌�
 use Rattle.std.specs.Prelude.{◌&&◌, ◌||◌, not, if◌then◌else◌, Option, Some, None}
 use Rattle.std.specs.List.{AllByRecursion}
 use Rattle.std.specs.Str.{bytes_eq}
+use Rattle.wt_tree.specs.declared.kind.Kind.{Kind}
 use Rattle.wt_tree.specs.declared.kind.Kind.TheVariants as kind
 use Rattle.wt_tree.specs.declared.kind.Mark.{Mark}
 use Rattle.wt_tree.specs.declared.kind.Mark.TheVariants as marks
@@ -15,7 +16,7 @@ use Rattle.wt_checks.specs.BareSections.{HasBareSections}
 use Rattle.wt_checks.specs.Groups.{is_marked, has_mark, have_mark}
 use Rattle.wt_checks.specs.Kept.{children}
 use Rattle.wt_checks.specs.Places.{Place, all_placed, placed, Page, page_of, is_content}
-use Rattle.wt_checks.specs.PutBack.{has_frame, have_frame, IsOneBody}
+use Rattle.wt_checks.specs.PutBack.{is_frame, has_frame, have_frame, IsOneBody}
 use Rattle.wt_checks.specs.Unmarked.{is_compared}
 use Rattle.wt_checks.specs.WithoutMarks.{unmarked, all_unmarked}
 use Rattle.wt_checks.proofs.Compares.{kinds_decide, attrs_decide}
@@ -31,7 +32,7 @@ use Rattle.wt_difference.specs.Remarked.{mark_of, remarked_in, all_remarked, rem
 use Rattle.wt_difference.specs.Unedited.{GroupOr, IsUnedited, AreUnedited}
 use Rattle.wt_difference.proofs.Remarks.{bare_stays, marks_alone, none_marked}
 use Rattle.wt_difference.proofs.UneditedLaws.{nothing_differs}
-use Rattle.wt_typed_blocks.specs.Sent.{StandsAsIs, AllStandAsIs, Block, paragraph, heading, kind_of, text_in, Sent, stands, typed, old_child, new_child, old_children, new_children, IsSent, AreSent, old_body, new_body}
+use Rattle.wt_typed_blocks.specs.Sent.{StandsAsIs, AllStandAsIs, Block, paragraph, heading, kind_of, text_in, Sent, stands, typed, holds, Sents, none_sent, more_sent, old_child, new_child, old_children, new_children, IsSent, AreSent, old_body, new_body}
 use Rattle.wt_typed_blocks.specs.Unmarked.{free_child, free_children, free_body, AreToldApart}
 use Rattle.wt_typed_blocks.proofs.SentFrames.{no_frame_sent}
 use Rattle.wt_typed_blocks.proofs.SentKept.{found}
@@ -41,12 +42,13 @@ use Rattle.wt_typed_blocks.proofs.SentKept.{found}
 abbrev kept_child : Sent → Tree
 kept_child (stands t u) = u
 kept_child (typed k l ts m x text) = old_child (typed k l ts m x text)
+kept_child (holds l m ss) = tree m none
 
-abbrev kept_children : List Sent → Trees
-kept_children [] = none
-kept_children (s ∷ ss) = more (kept_child s) (kept_children ss)
+abbrev kept_children : Sents → Trees
+kept_children none_sent = none
+kept_children (more_sent s ss) = more (kept_child s) (kept_children ss)
 
-abbrev kept_body : Label → List Sent → Tree
+abbrev kept_body : Label → Sents → Tree
 kept_body l ss = tree (record l { kind = kind.Body; id = 0 }) (kept_children ss)
 
 mutual
@@ -60,34 +62,45 @@ mutual
   all_unedited_themselves none h = tt
   all_unedited_themselves (more t ts) h = (unedited_itself t h.0, all_unedited_themselves ts h.1)
 
-kept_unedited : (ss : List Sent) → NoneIsGroup (old_children ss) → AreToldApart ss → AreUnedited (old_children ss) (kept_children ss)
-kept_unedited [] g a = tt
-kept_unedited (stands t u ∷ ss) g a = (a.0, kept_unedited ss g.1 a.1)
-kept_unedited (typed k l ts m x text ∷ ss) g a = (unedited_itself (old_child (typed k l ts m x text)) g.0, kept_unedited ss g.1 a.1)
+kept_unedited : (ss : Sents) → NoneIsGroup (old_children ss) → AreToldApart ss → AreUnedited (old_children ss) (kept_children ss)
+kept_unedited none_sent g a = tt
+kept_unedited (more_sent (stands t u) ss) g a = (a.0, kept_unedited ss g.1 a.1)
+kept_unedited (more_sent (typed k l ts m x text) ss) g a = (unedited_itself (old_child (typed k l ts m x text)) g.0, kept_unedited ss g.1 a.1)
+kept_unedited (more_sent (holds l m rs) ss) g a = absurd a.0
 
 -- ---- no frame in it
 
-kept_frameless : (ss : List Sent) → AreSent ss → have_frame (old_children ss) ≡ false → have_frame (kept_children ss) ≡ false
-kept_frameless [] h f = refl
-kept_frameless (stands t u ∷ ss) h f =
+kept_frameless : (ss : Sents) → AreSent ss → have_frame (old_children ss) ≡ false → have_frame (kept_children ss) ≡ false
+kept_frameless none_sent h f = refl
+kept_frameless (more_sent (stands t u) ss) h f =
     let d = or_false (has_frame t) (have_frame (old_children ss)) f in
     ap (λ (b : Bool). b || have_frame (kept_children ss)) (no_frame_sent t u h.0 d.0) ∙ kept_frameless ss h.1 d.1
-kept_frameless (typed k l ts m x text ∷ ss) h f =
+kept_frameless (more_sent (typed k l ts m x text) ss) h f =
     let d = or_false (has_frame (old_child (typed k l ts m x text))) (have_frame (old_children ss)) f in
     ap (λ (b : Bool). b || have_frame (kept_children ss)) d.0 ∙ kept_frameless ss h.1 d.1
+kept_frameless (more_sent (holds l m rs) ss) h f =
+    let d = or_false (has_frame (old_child (holds l m rs))) (have_frame (old_children ss)) f in
+    let e = or_false (is_frame l.kind) (have_frame (old_children rs)) d.0 in
+    ap (λ (k : Kind). (is_frame k || false) || have_frame (kept_children ss)) h.0.0.kind
+    ∙ ap (λ (b : Bool). (b || false) || have_frame (kept_children ss)) e.0 ∙ kept_frameless ss h.1 d.1
 
-free_frameless_child : (s : Sent) → IsSent s → has_frame (old_child s) ≡ false → has_frame (free_child s) ≡ false
-free_frameless_child (stands t u) h f = no_frame_sent t u h f
-free_frameless_child (typed paragraph l ts m x []) h f = refl
-free_frameless_child (typed paragraph l ts m x (c ∷ cs)) h f = refl
-free_frameless_child (typed (heading n) l ts m x []) h f = refl
-free_frameless_child (typed (heading n) l ts m x (c ∷ cs)) h f = refl
+mutual
+  free_frameless_child : (s : Sent) → IsSent s → has_frame (old_child s) ≡ false → has_frame (free_child s) ≡ false
+  free_frameless_child (stands t u) h f = no_frame_sent t u h f
+  free_frameless_child (typed paragraph l ts m x []) h f = refl
+  free_frameless_child (typed paragraph l ts m x (c ∷ cs)) h f = refl
+  free_frameless_child (typed (heading n) l ts m x []) h f = refl
+  free_frameless_child (typed (heading n) l ts m x (c ∷ cs)) h f = refl
+  free_frameless_child (holds l m ss) h f =
+      let d = or_false (is_frame l.kind) (have_frame (old_children ss)) f in
+      ap (λ (k : Kind). is_frame k || have_frame (free_children ss)) h.0.kind ∙ ap (λ (b : Bool). b || have_frame (free_children ss)) d.0
+      ∙ free_frameless ss h.1 d.1
 
-free_frameless : (ss : List Sent) → AreSent ss → have_frame (old_children ss) ≡ false → have_frame (free_children ss) ≡ false
-free_frameless [] h f = refl
-free_frameless (s ∷ ss) h f =
-    let d = or_false (has_frame (old_child s)) (have_frame (old_children ss)) f in
-    ap (λ (b : Bool). b || have_frame (free_children ss)) (free_frameless_child s h.0 d.0) ∙ free_frameless ss h.1 d.1
+  free_frameless : (ss : Sents) → AreSent ss → have_frame (old_children ss) ≡ false → have_frame (free_children ss) ≡ false
+  free_frameless none_sent h f = refl
+  free_frameless (more_sent s ss) h f =
+      let d = or_false (has_frame (old_child s)) (have_frame (old_children ss)) f in
+      ap (λ (b : Bool). b || have_frame (free_children ss)) (free_frameless_child s h.0 d.0) ∙ free_frameless ss h.1 d.1
 
 -- ---- it has no marks
 
@@ -105,7 +118,7 @@ not_true : (b : Bool) → true ≡ not b → b ≡ false
 not_true true e = absurd (cc)
 not_true false e = refl
 
-own_remarked : (t : Tree) (l : Label) (ss : List Sent) → (label t).kind ≡ kind.Body → InPreorder t → HasBareSections t → without_sections t ≡ old_body l ss
+own_remarked : (t : Tree) (l : Label) (ss : Sents) → (label t).kind ≡ kind.Body → InPreorder t → HasBareSections t → without_sections t ≡ old_body l ss
     → NoneIsGroup (old_children ss) → have_frame (old_children ss) ≡ false → AreSent ss → AreToldApart ss
     → remarked t (kept_body l ss) ≡ unmarked (kept_body l ss)
 own_remarked t l ss k pre bare w g f h a =
@@ -118,24 +131,27 @@ own_remarked t l ss k pre bare w g f h a =
 
 -- ---- the blocks in which texts were typed are found
 
-abbrev Finds : Page → Bool → List Sent → Type 0
-Finds page v [] = Unit {0}
-Finds page v (stands t u ∷ ss) = Finds page v ss
-Finds page v (typed k l ts m x text ∷ ss) =
+abbrev Finds : Page → Bool → Sents → Type 0
+Finds page v none_sent = Unit {0}
+Finds page v (more_sent (stands t u) ss) = Finds page v ss
+Finds page v (more_sent (typed k l ts m x text) ss) =
     (page l.id ≡ Some (record { node = old_child (typed k l ts m x text); parent = 0; in_content = v })) × Finds page v ss
+Finds page v (more_sent (holds l m rs) ss) = Finds page v ss
 
-finds : (page other : Page) (v : Bool) (ss : List Sent) → AreAlike page other → AreSent ss → AllByRecursion (Itself other) (all_placed 0 v (old_children ss))
+finds : (page other : Page) (v : Bool) (ss : Sents) → AreAlike page other → AreSent ss → AllByRecursion (Itself other) (all_placed 0 v (old_children ss))
     → Finds page v ss
-finds page other v [] alike h it = tt
-finds page other v (stands t u ∷ ss) alike h it =
+finds page other v none_sent alike h it = tt
+finds page other v (more_sent (stands t u) ss) alike h it =
     finds page other v ss alike h.1 (each_split (Itself other) (placed 0 v t) (all_placed 0 v (old_children ss)) it).1
-finds page other v (typed k l ts m x text ∷ ss) alike h it =
+finds page other v (more_sent (typed k l ts m x text) ss) alike h it =
     let old : Tree = old_child (typed k l ts m x text) in
     let p = each_split (Itself other) (placed 0 v old) (all_placed 0 v (old_children ss)) it in
     let is_kept = not_zero_kept l.id h.0 in (
       kept_found page other (record { node = old; parent = 0; in_content = v }) alike is_kept ∙ p.0.0 is_kept,
       finds page other v ss alike h.1 p.1,
     )
+finds page other v (more_sent (holds l m rs) ss) alike h it =
+    finds page other v ss alike h.1 (each_split (Itself other) (placed 0 v (old_child (holds l m rs))) (all_placed 0 v (old_children ss)) it).1
 
 -- ---- their marks
 
@@ -187,17 +203,18 @@ rest_of : Trees → Trees
 rest_of none = none
 rest_of (more u us) = us
 
-children_remarked : (page : Page) (v : Bool) (ss : List Sent) → AreSent ss → AreToldApart ss → Finds page v ss
+children_remarked : (page : Page) (v : Bool) (ss : Sents) → AreSent ss → AreToldApart ss → Finds page v ss
     → all_remarked page 0 (kept_children ss) ≡ all_unmarked (kept_children ss) → all_remarked page 0 (free_children ss) ≡ new_children ss
 unfolding first_or rest_of
-children_remarked page v [] h a q e = refl
-children_remarked page v (stands t u ∷ ss) h a q e =
+children_remarked page v none_sent h a q e = refl
+children_remarked page v (more_sent (stands t u) ss) h a q e =
     let stays : (if is_stable page 0 u then remarked_in page u else unmarked u) ≡ u = ap (first_or u) e ∙ bare_stays u (no_mark t u h.0) in
     ap (λ (c : Tree). more c (all_remarked page 0 (free_children ss))) stays
     ∙ ap (more u) (children_remarked page v ss h.1 a.1 q (ap rest_of e))
-children_remarked page v (typed k l ts m x text ∷ ss) h a q e =
+children_remarked page v (more_sent (typed k l ts m x text) ss) h a q e =
     ap (λ (c : Tree). more c (all_remarked page 0 (free_children ss))) (typed_remarked page v k l ts m x text h.0 q.0 a.0)
     ∙ ap (more (new_child (typed k l ts m x text))) (children_remarked page v ss h.1 a.1 q.1 (ap rest_of e))
+children_remarked page v (more_sent (holds l m rs) ss) h a q e = absurd a.0
 
 -- ---- the body's own mark
 
@@ -206,21 +223,30 @@ partner_alike : (k : Block) (l : Label) (ts : Trees) (m x : Label) (text : List 
 partner_alike k l ts m x text None = refl
 partner_alike k l ts m x text (Some q) = refl
 
+holder_alike : (m : Label) (ts us : Trees) (o : Option Place) → is_partner 0 (tree m ts) o ≡ is_partner 0 (tree m us) o
+holder_alike m ts us None = refl
+holder_alike m ts us (Some q) = refl
+
 compared : (k : Block) (n : ℕ) (ns : List ℕ) → (if is_compared (showing (kind_of k)) then n ∷ ns else ns) ≡ n ∷ ns
 compared paragraph n ns = refl
 compared (heading i) n ns = refl
 
-numbers_alike : (page : Page) (ss : List Sent) → numbers_in page 0 (free_children ss) ≡ numbers_in page 0 (kept_children ss)
-numbers_alike page [] = refl
-numbers_alike page (stands t u ∷ ss) =
+numbers_alike : (page : Page) (ss : Sents) → numbers_in page 0 (free_children ss) ≡ numbers_in page 0 (kept_children ss)
+numbers_alike page none_sent = refl
+numbers_alike page (more_sent (stands t u) ss) =
     ap (λ (ns : List ℕ). if is_compared (showing (label u).kind) then (if stays_in page 0 u then (label u).id else 0) ∷ ns else ns) (numbers_alike page ss)
-numbers_alike page (typed k l ts m x text ∷ ss) =
+numbers_alike page (more_sent (typed k l ts m x text) ss) =
     ap (λ (b : Bool). if is_compared (showing (kind_of k)) then (if b then l.id else 0) ∷ numbers_in page 0 (free_children ss) else
     numbers_in page 0 (free_children ss)) (partner_alike k l ts m x text (page l.id))
     ∙ ap (λ (ns : List ℕ). if is_compared (showing (kind_of k)) then (if is_partner 0 (old_child (typed k l ts m x text)) (page l.id) then l.id else 0) ∷ ns else ns)
     (numbers_alike page ss)
+numbers_alike page (more_sent (holds l m rs) ss) =
+    ap (λ (b : Bool). if is_compared (showing m.kind) then (if b then m.id else 0) ∷ numbers_in page 0 (free_children ss) else
+    numbers_in page 0 (free_children ss)) (holder_alike m (free_children rs) none (page m.id))
+    ∙ ap (λ (ns : List ℕ). if is_compared (showing m.kind) then (if is_partner 0 (tree m none) (page m.id) then m.id else 0) ∷ ns else ns)
+    (numbers_alike page ss)
 
-body_mark : (t : Tree) (l b : Label) (ss : List Sent) → HasBareSections t → have_frame (old_children ss) ≡ false → AreSent ss
+body_mark : (t : Tree) (l b : Label) (ss : Sents) → HasBareSections t → have_frame (old_children ss) ≡ false → AreSent ss
     → mark_of (page_of t) (kept_body l ss) (page_of t 0) ≡ marks.Nothing → mark_of (page_of t) (free_body l b ss) (page_of t 0) ≡ marks.Nothing
 body_mark t l b ss bare f h e =
     let page : Page = page_of t in
@@ -234,7 +260,7 @@ body_mark t l b ss bare f h e =
 
 -- ---- the body
 
-pub told_by_difference : (t : Tree) (l b : Label) (ss : List Sent) → (label t).kind ≡ kind.Body → InPreorder t → HasBareSections t
+pub told_by_difference : (t : Tree) (l b : Label) (ss : Sents) → (label t).kind ≡ kind.Body → InPreorder t → HasBareSections t
     → without_sections t ≡ old_body l ss → InPreorder (old_body l ss) → NoneIsGroup (old_children ss) → have_frame (old_children ss) ≡ false
     → AreSent ss → AreToldApart ss → remarked t (free_body l b ss) ≡ new_body l b ss
 unfolding remarked

@@ -15,7 +15,7 @@ ghost use Rattle.wt_visible.specs.Children.{shown_children, listed};
 ghost use Rattle.wt_visible.specs.Restored.{restored_from};
 ghost use Rattle.wt_difference.specs.Remarked.{remarked};
 ghost use Rattle.wt_selser.specs.Edits.{edit_answer, most_bytes};
-ghost use Rattle.wt_typed_blocks.specs.Sent.{Sent, old_children, old_body, new_body, AreSent, all_show};
+ghost use Rattle.wt_typed_blocks.specs.Sent.{Sents, old_children, old_body, new_body, AreSent, all_show};
 ghost use Rattle.wt_typed_blocks.specs.Typed.{new_sources, TakeTexts, StandAt, AreUntangled};
 ghost use Rattle.wt_typed_blocks.specs.Unmarked.{free_body, AreToldApart};
 
@@ -23,7 +23,7 @@ ghost use Rattle.wt_typed_blocks.specs.Unmarked.{free_body, AreToldApart};
 /// is, no check refuses it.
 #[tactic(auto, using(crate::proofs::SentKept::passes))]
 pub fn typed_texts_pass_the_checks()
-    ensures { (l b : Label) (ss : List Sent) → InPreorder (old_body l ss) → NoneIsGroup (old_children ss) → have_frame (old_children ss) ≡ false
+    ensures { (l b : Label) (ss : Sents) → InPreorder (old_body l ss) → NoneIsGroup (old_children ss) → have_frame (old_children ss) ≡ false
         → AreSent ss → checked false (old_body l ss) (new_body l b ss) ≡ None }
 {}
 
@@ -32,11 +32,11 @@ pub fn typed_texts_pass_the_checks()
 /// blocks may be tangled. So it is of a page in sections, too.
 #[tactic(auto, using(crate::proofs::SentAnswer::answer_is, crate::proofs::SentSections::answer_in_sections))]
 pub fn typed_texts_are_taken()
-    ensures body { (same : Tree → Tree → Bool) (items : Expanded) (page : List ℕ) (l b : Label) (ss : List Sent) → InPreorder (old_body l ss)
+    ensures body { (same : Tree → Tree → Bool) (items : Expanded) (page : List ℕ) (l b : Label) (ss : Sents) → InPreorder (old_body l ss)
         → NoneIsGroup (old_children ss) → have_frame (old_children ss) ≡ false → AreSent ss → TakeTexts ss → AreUntangled items page ss
         → page ≡ flat_of_all (old_children ss) → StandAt 0 ss → length (new_sources ss) ≤ most_bytes
         → edit_answer same items page (old_body l ss) (new_body l b ss) ≡ Ok (new_sources ss) }
-    ensures sections { (same : Tree → Tree → Bool) (items : Expanded) (page : List ℕ) (tree : Tree) (l b : Label) (ss : List Sent)
+    ensures sections { (same : Tree → Tree → Bool) (items : Expanded) (page : List ℕ) (tree : Tree) (l b : Label) (ss : Sents)
         → HasBareSections tree → without_sections tree ≡ old_body l ss → InPreorder (old_body l ss) → NoneIsGroup (old_children ss)
         → have_frame (old_children ss) ≡ false → AreSent ss → TakeTexts ss → AreUntangled items page ss
         → page ≡ flat_of_all (old_children ss) → StandAt 0 ss → length (new_sources ss) ≤ most_bytes
@@ -46,7 +46,7 @@ pub fn typed_texts_are_taken()
 /// What was sent shows what the page does, but in each of these blocks its text.
 #[tactic(auto, using(crate::proofs::SentShows::body_shows))]
 pub fn typed_texts_are_shown()
-    ensures { (tree : Tree) (l b : Label) (ss : List Sent) → AreSent ss → NoneIsGroup (old_children ss)
+    ensures { (tree : Tree) (l b : Label) (ss : Sents) → AreSent ss → NoneIsGroup (old_children ss)
         → shown_children (restored_from tree (new_body l b ss)) ≡ listed (all_show ss) }
 {}
 
@@ -55,7 +55,7 @@ pub fn typed_texts_are_shown()
 /// the page's own.
 #[tactic(auto, using(crate::proofs::SentUnmarked::told_by_difference))]
 pub fn typed_texts_are_told_apart()
-    ensures { (tree : Tree) (l b : Label) (ss : List Sent) → (label tree).kind ≡ kind.Body → InPreorder tree → HasBareSections tree
+    ensures { (tree : Tree) (l b : Label) (ss : Sents) → (label tree).kind ≡ kind.Body → InPreorder tree → HasBareSections tree
         → without_sections tree ≡ old_body l ss → InPreorder (old_body l ss) → NoneIsGroup (old_children ss)
         → have_frame (old_children ss) ≡ false → AreSent ss → AreToldApart ss → remarked tree (free_body l b ss) ≡ new_body l b ss }
 {}

@@ -34,7 +34,7 @@ use Rattle.wt_pagetool.proofs.SectionEdits.{page_bare}
 use Rattle.wt_text_edit_laws.specs.LonePages.{of_items}
 use Rattle.wt_text_edit_laws.proofs.Texts.LoneTrees.{sized}
 use Rattle.wt_text_edit_laws.proofs.Texts.TypedShown.{gathered_shows}
-use Rattle.wt_typed_blocks.specs.Sent.{Sent, old_body, new_body}
+use Rattle.wt_typed_blocks.specs.Sent.{Sents, old_body, new_body}
 use Rattle.wt_typed_blocks.specs.Typed.{new_sources}
 use Rattle.wt_typed_blocks.proofs.SentSections.{answer_in_sections}
 use Rattle.wt_typed_blocks.proofs.SentShows.{body_shows}
@@ -83,7 +83,7 @@ shows_so pages ss behind h =
 abbrev pub label_of : BlockEdit → Label
 label_of e = body_label (old_spots e.spots) e.behind
 
-abbrev pub blocks_sent : BlockEdit → List Sent
+abbrev pub blocks_sent : BlockEdit → Sents
 blocks_sent e = sent_children (sendings e) (body_blocks (old_spots e.spots) e.behind)
 
 pub tree_is : (e : BlockEdit) → IsBlockEdit e → old_tree e ≡ tree (label_of e) (body_blocks (old_spots e.spots) e.behind)
@@ -119,7 +119,7 @@ answer_so : (pages : Pages) (e : BlockEdit) (b : Label) → IsBlockEdit e → le
     ≡ Ok (new_page e)
 answer_so pages e b h le =
     let page : List ℕ = old_page e in
-    let ss : List Sent = blocks_sent e in
+    let ss : Sents = blocks_sent e in
     let f = facts_of pages e h in
     let u : IsUtf8 page = spots_utf8 (old_spots e.spots) e.behind h.are_spots in
     let free = spots_unrefused pages (old_spots e.spots) e.behind h.are_spots in

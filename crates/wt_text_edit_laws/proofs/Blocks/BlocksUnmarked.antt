@@ -21,7 +21,7 @@ use Rattle.wt_pagetool.specs.declared.refusal.Refusal.TheVariants.{TooLong}
 use Rattle.wt_pagetool.specs.Answers.{refused, text_answer, title_answer, edit_to, IsText}
 use Rattle.wt_pagetool.specs.Selser.{EditIsDone, DoneByEdit}
 use Rattle.wt_pagetool.proofs.SectionEdits.{page_bare}
-use Rattle.wt_typed_blocks.specs.Sent.{Sent, old_body}
+use Rattle.wt_typed_blocks.specs.Sent.{Sents, old_body}
 use Rattle.wt_typed_blocks.specs.Unmarked.{free_body, AreToldApart}
 use Rattle.wt_typed_blocks.proofs.SentUnmarked.{told_by_difference}
 use Rattle.wt_text_edit_laws.proofs.Prose.ProseTakes.{not_longer}
@@ -46,7 +46,7 @@ marks_are : (pages : Pages) (e : BlockEdit) (b : Label) → IsUnmarkedBlockEdit 
 marks_are pages e b h =
     let page : List ℕ = old_page e in
     let t : Tree = page_tree pages page in
-    let ss : List Sent = blocks_sent e in
+    let ss : Sents = blocks_sent e in
     let f = facts_of pages e h.edit in
     let u : IsUtf8 page = spots_utf8 (old_spots e.spots) e.behind h.edit.are_spots in
     let free = spots_unrefused pages (old_spots e.spots) e.behind h.edit.are_spots in

@@ -31,7 +31,7 @@ use Rattle.wt_moved_laws.specs.Standing.{standing, IsOrdinary}
 use Rattle.wt_moved_laws.proofs.Moved.{shows_the_same}
 use Rattle.wt_moved_laws.proofs.Ordinary.{standing_ordinary, ordinary_ungrouped, ordinary_unframed}
 use Rattle.wt_moved_laws.proofs.Sources.{standing_source}
-use Rattle.wt_typed_blocks.specs.Sent.{kind_of, Sent, old_children, AreSent, all_show}
+use Rattle.wt_typed_blocks.specs.Sent.{kind_of, Sents, old_children, AreSent, all_show}
 use Rattle.wt_typed_blocks.specs.Typed.{place_of, block_source, new_sources, Takes, TakeTexts, StandAt, AreUntangled}
 use Rattle.wt_text_edit_laws.proofs.Prose.ProseTrees.{items_behind}
 use Rattle.wt_text_edit_laws.proofs.Prose.BlockFacts.{behind_source, behind_width}
@@ -75,7 +75,7 @@ pub facts_kept : (xs : List Item) (n : ℕ) (before : List Item) (t : ItemTree) 
     → Facts xs before (kept u ∷ ds) (more (standing n before t) us) (sources (tree_items t) ++ was) (sources (tree_items t) ++ now) (block_shown t shown)
 facts_kept xs n before t u ds us was now shown o f =
     let q : List ℕ = sources (tree_items t) in
-    let ss : List Sent = sent_children ds us in
+    let ss : Sents = sent_children ds us in
     let own : Tree = standing n before t in
     let ordinary : IsOrdinary own = standing_ordinary n before t o in
     let its : flat own ≡ q = standing_source n before t in
@@ -84,10 +84,10 @@ facts_kept xs n before t u ds us was now shown o f =
       ungrouped = (ordinary_ungrouped own ordinary, f.ungrouped);
       unframed = ap (λ (b : Bool). b || have_frame us) (ordinary_unframed own ordinary) ∙ f.unframed;
       sent = λ h. (h.0, f.sent h.1);
-      takes = f.takes;
-      untangled = λ page e. f.untangled page (e ∙ behind_source before (tree_items t) q was refl);
+      takes = (tt, f.takes);
+      untangled = λ page e. (tt, f.untangled page (e ∙ behind_source before (tree_items t) q was refl));
       flat = ap (λ cs. cs ++ flat_of_all us) its ∙ ap (λ cs. q ++ cs) f.flat;
-      stand = subst (λ (at : ℕ). StandAt at ss) (behind_width before (tree_items t) (flat own) (sym its)) f.stand;
+      stand = (tt, subst (λ (at : ℕ). StandAt at ss) (behind_width before (tree_items t) (flat own) (sym its)) f.stand);
       new = ap (λ cs. cs ++ new_sources ss) its ∙ ap (λ cs. q ++ cs) f.new;
       shows = shows_the_same n 0 before [] t (all_show ss) ∙ ap (block_shown t) f.shows;
     }
@@ -196,7 +196,7 @@ facts_typed xs n before k q p x text ds us was now shown le clear h takes o f =
     let l : Label = text_label k n before ls in
     let ts : Trees = text_nodes k n before ls in
     let e : own ≡ tree l ts = its_node k n before ls in
-    let ss : List Sent = sent_children ds us in
+    let ss : Sents = sent_children ds us in
     let is : sources (tree_items block) ≡ source_of k q = items_source k q h in
     let its : flat (tree l ts) ≡ source_of k q = ap flat (sym e) ∙ standing_source n before block ∙ is in
     let inside : block_source l ts ≡ source_of k q =

@@ -25,12 +25,12 @@ whole_apart (x ∷ []) [] e = tt
 whole_apart (x ∷ []) (y ∷ ys) e = ap not (is_break_by (is_break_item x) e)
 whole_apart (x ∷ z ∷ zs) ys e = whole_apart (z ∷ zs) ys e
 
-lines_join : (xs ys : List Item) → IsWhole xs → full_lines (xs ++ ys) ≡ full_lines xs ++ full_lines ys
+pub lines_join : (xs ys : List Item) → IsWhole xs → full_lines (xs ++ ys) ≡ full_lines xs ++ full_lines ys
 lines_join xs ys e = runs_apart goes_on xs ys (whole_apart xs ys e)
 
 -- ---- rows
 
-rows_join : (n : ℕ) (ls ms : List (List Item)) → rows_from n (ls ++ ms) ≡ written_rows n ls ++ rows_from (tables_behind n ls) ms
+pub rows_join : (n : ℕ) (ls ms : List (List Item)) → rows_from n (ls ++ ms) ≡ written_rows n ls ++ rows_from (tables_behind n ls) ms
 rows_join n [] ms = refl
 rows_join n (l ∷ ls) ms =
     let own : List Row = line_rows (kind_at n l) l in

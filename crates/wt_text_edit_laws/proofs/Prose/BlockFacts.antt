@@ -25,7 +25,7 @@ use Rattle.wt_text_edit_laws.proofs.Texts.TypedLeaves.{Leaf, letters, reference,
 use Rattle.wt_text_edit_laws.proofs.Texts.TypedShown.{leaves_show}
 use Rattle.wt_text_edit_laws.proofs.Texts.TypedNodes.{nodes, next, behind, chars_source, nodes_flat, held_sources, none_open}
 use Rattle.wt_text_edit_laws.proofs.Texts.TypedTrees.{none_faulty}
-use Rattle.wt_typed_blocks.specs.Sent.{Sent, old_children, AreSent, all_show}
+use Rattle.wt_typed_blocks.specs.Sent.{Sents, old_children, AreSent, all_show}
 use Rattle.wt_typed_blocks.specs.Typed.{new_sources, TakeTexts, StandAt, AreUntangled}
 use Rattle.wt_text_edit_laws.specs.ProseEdits.{Sending, retyped, kept, sent_children, AreKept}
 use Rattle.wt_text_edit_laws.proofs.Prose.ProseTrees.{blocks_of, held, para_label, para_nodes, number_behind, items_behind, sep_items, sep_label, sep_tree}
@@ -66,7 +66,7 @@ behind_width before ys q e =
 
 -- ---- what holds of blocks
 
-abbrev pub sent_of : List Sending → ℕ → List Item → List ItemTree → List Sent
+abbrev pub sent_of : List Sending → ℕ → List Item → List ItemTree → Sents
 sent_of ds n before ts = sent_children ds (blocks_of n before ts)
 
 abbrev pub paragraph_shown : List ℕ → Plains → Plains
@@ -112,16 +112,16 @@ facts_sep xs n before k u ds ts was now shown f =
     let own : List Item = sep_items k ++ [] in
     let m : ℕ = number_behind n before (sep_tree k) in
     let after : List Item = items_behind before (sep_tree k) in
-    let ss : List Sent = sent_of ds m after ts in
+    let ss : Sents = sent_of ds m after ts in
     record {
       old = ap (λ us. more (tree (sep_label before k) none) us) f.old;
       ungrouped = ((refl, tt), f.ungrouped);
       unframed = f.unframed;
       sent = λ h. (h.0, f.sent h.1);
-      takes = f.takes;
-      untangled = λ page e. f.untangled page (e ∙ behind_source before own (replicate k 10) was (sep_source k));
+      takes = (tt, f.takes);
+      untangled = λ page e. (tt, f.untangled page (e ∙ behind_source before own (replicate k 10) was (sep_source k)));
       flat = ap (λ cs. cs ++ flat_of_all (blocks_of m after ts)) (sep_source k) ∙ ap (λ cs. replicate k 10 ++ cs) f.flat;
-      stand = subst (λ (at : ℕ). StandAt at ss) (behind_width before own (sources own) refl) f.stand;
+      stand = (tt, subst (λ (at : ℕ). StandAt at ss) (behind_width before own (sources own) refl) f.stand);
       new = ap (λ cs. cs ++ new_sources ss) (sep_source k) ∙ ap (λ cs. replicate k 10 ++ cs) f.new;
       shows = f.shows;
     }
@@ -140,16 +140,16 @@ facts_kept xs n before ls u ds ts was now shown f =
     let q : List ℕ = flat_map leaf_source ls in
     let m : ℕ = number_behind n before (leaves_para ls) in
     let after : List Item = items_behind before (leaves_para ls) in
-    let ss : List Sent = sent_of ds m after ts in
+    let ss : Sents = sent_of ds m after ts in
     record {
       old = ap (λ us. more (tree (para_label n before ls) (para_nodes n before ls)) us) f.old;
       ungrouped = ((refl, nodes_ungrouped (n + 1) (before ++ []) ls), f.ungrouped);
       unframed = ap (λ (b : Bool). b || have_frame (blocks_of m after ts)) (nodes_unframed (n + 1) (before ++ []) ls) ∙ f.unframed;
       sent = λ h. (h.0, f.sent h.1);
-      takes = f.takes;
-      untangled = λ page e. f.untangled page (e ∙ behind_source before (held ls ++ []) q was (held_source ls));
+      takes = (tt, f.takes);
+      untangled = λ page e. (tt, f.untangled page (e ∙ behind_source before (held ls ++ []) q was (held_source ls)));
       flat = ap (λ cs. cs ++ flat_of_all (blocks_of m after ts)) (para_source n before ls) ∙ ap (λ cs. q ++ cs) f.flat;
-      stand = subst (λ (at : ℕ). StandAt at ss) (para_width n before ls) f.stand;
+      stand = (tt, subst (λ (at : ℕ). StandAt at ss) (para_width n before ls) f.stand);
       new = ap (λ cs. cs ++ new_sources ss) (para_source n before ls) ∙ ap (λ cs. q ++ cs) f.new;
       shows =
           ap (λ ps. along (element (record { kind = kind.Para; attrs = []; mw = None }) ps) (all_show ss)) (leaves_show (n + 1) (before ++ []) ls ended)
@@ -172,7 +172,7 @@ facts_retyped xs n before ls p t text ds ts was now shown le clear shut f =
     let q : List ℕ = flat_map leaf_source ls in
     let m : ℕ = number_behind n before (leaves_para ls) in
     let after : List Item = items_behind before (leaves_para ls) in
-    let ss : List Sent = sent_of ds m after ts in
+    let ss : Sents = sent_of ds m after ts in
     let us : Trees = para_nodes n before ls in
     let some : n ≢ 0 = omega (arith, le) in
     let ranged : ℕ → Option Ranges = λ (size : ℕ). Some (record { start = width before; end = width before + size; open_w = 0; close_w = 0 }) in

@@ -131,18 +131,18 @@ para_ended : (l : List Item) (ls : List (List Item)) → last_break (ending l) l
 para_ended l [] e = ap (λ xs. line_parts xs ++ []) (content_ended l e)
 para_ended l (m ∷ ls) e = ap (λ qs. line_parts (content l) ++ qs) (later_ended (ending l) m ls e)
 
-last_ended : (l : List Item) (ls : List (List Item)) → last_ending (map text_row (ended l ls)) ≡ break ∷ []
+pub last_ended : (l : List Item) (ls : List (List Item)) → last_ending (map text_row (ended l ls)) ≡ break ∷ []
 last_ended l [] = ending_behind l break []
 last_ended l (m ∷ ls) = last_ended m ls
 
-last_unended : (l : List Item) (ls : List (List Item)) → last_ending (map text_row (l ∷ ls)) ≡ last_break (ending l) ls
+pub last_unended : (l : List Item) (ls : List (List Item)) → last_ending (map text_row (l ∷ ls)) ≡ last_break (ending l) ls
 last_unended l [] = refl
 last_unended l (m ∷ ls) = last_unended m ls
 
-block_para : (xs : List Item) (b : IsTextBlock xs) → para (map text_row (b.first ∷ b.others)) ≡ para_of xs
+pub block_para : (xs : List Item) (b : IsTextBlock xs) → para (map text_row (b.first ∷ b.others)) ≡ para_of xs
 block_para xs b = para_is xs b.first b.others b.are_joined b.are_texts b.are_unended
 
-block_ended : (xs : List Item) (b : IsTextBlock xs) → para (map text_row (ended b.first b.others)) ≡ para_of xs
+pub block_ended : (xs : List Item) (b : IsTextBlock xs) → para (map text_row (ended b.first b.others)) ≡ para_of xs
 unfolding para
 block_ended xs b =
     ap (λ ps. inner (plain kind.Para) [] (forest (children ps)) []) (para_ended b.first b.others b.are_unended) ∙ block_para xs b

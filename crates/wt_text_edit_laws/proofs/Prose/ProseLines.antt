@@ -63,7 +63,7 @@ run_items : (m os others : List Item) → others ≡ m ++ os → IsRun goes_on m
 run_items [] os others e r = absurd r
 run_items (x ∷ m) os others e r = subst HasItems (sym e) tt
 
-ended_runs : (l : List Item) (ls : List (List Item)) (xs zs : List Item) → AreRuns goes_on (l ∷ ls) xs → last_break (ending l) ls ≡ []
+pub ended_runs : (l : List Item) (ls : List (List Item)) (xs zs : List Item) → AreRuns goes_on (l ∷ ls) xs → last_break (ending l) ls ≡ []
     → AreRuns goes_on (ended l ls ++ full_lines zs) (xs ++ break ∷ zs)
 ended_runs l [] xs zs r e =
     let is : xs ≡ l = r.1 ∙ ap (λ os. l ++ os) r.3 ∙ append-nil l in
@@ -112,7 +112,7 @@ ended_line l h e =
     let c : content (l ++ break ∷ []) ≡ content l = content_ended l e in
     record { kind = ap (line_kind 0) c ∙ h.kind; unled = ended_unled l h.unled; is = ap line_parts c ∙ h.is ∙ ap (parts Text) (sym c) }
 
-ended_texts : (l : List Item) (ls : List (List Item)) → AreTexts (l ∷ ls) → last_break (ending l) ls ≡ [] → AreTexts (ended l ls)
+pub ended_texts : (l : List Item) (ls : List (List Item)) → AreTexts (l ∷ ls) → last_break (ending l) ls ≡ [] → AreTexts (ended l ls)
 ended_texts l [] h e = (ended_line l h.0 e, tt)
 ended_texts l (m ∷ ls) h e = (h.0, ended_texts m ls h.1 e)
 

@@ -38,7 +38,7 @@ use Rattle.wt_text_edit_laws.specs.TypedPages.{IsTypedPage}
 use Rattle.wt_text_edit_laws.proofs.Texts.LoneTrees.{sized}
 use Rattle.wt_text_edit_laws.proofs.Texts.SpelledUtf8.{spelled_utf8}
 use Rattle.wt_text_edit_laws.proofs.Texts.TypedShown.{gathered_shows}
-use Rattle.wt_typed_blocks.specs.Sent.{Sent, old_body, new_body}
+use Rattle.wt_typed_blocks.specs.Sent.{Sents, old_body, new_body}
 use Rattle.wt_typed_blocks.specs.Typed.{new_sources}
 use Rattle.wt_typed_blocks.proofs.SentSections.{answer_in_sections}
 use Rattle.wt_typed_blocks.proofs.SentShows.{body_shows}
@@ -85,7 +85,7 @@ page_shows pages ps h =
 
 -- ---- what was sent
 
-abbrev pub blocks_sent : List PassageEdit → List Sent
+abbrev pub blocks_sent : List PassageEdit → Sents
 blocks_sent es = sent_children (all_sendings es) (blocks_from 1 [] (old_passages es))
 
 pub sent_is : (b : Label) (es : List PassageEdit) → AreProse (old_passages es) → sent_prose b es ≡ new_body (body_label (old_passages es)) b (blocks_sent es)
@@ -122,7 +122,7 @@ answer_so : (pages : Pages) (es : List PassageEdit) (b : Label) (h : IsProseEdit
 answer_so pages es b h le =
     let ps : List Passage = old_passages es in
     let page : List ℕ = prose ps in
-    let ss : List Sent = blocks_sent es in
+    let ss : Sents = blocks_sent es in
     let f = facts_of es h in
     let u : IsUtf8 page = prose_utf8 ps h.are_prose in
     let free = prose_unrefused pages ps h.are_prose in

@@ -22,7 +22,7 @@ use Rattle.wt_pagetool.specs.declared.refusal.Refusal.TheVariants.{TooLong}
 use Rattle.wt_pagetool.specs.Answers.{refused, text_answer, title_answer, edit_to, IsText}
 use Rattle.wt_pagetool.specs.Selser.{EditIsDone, DoneByEdit}
 use Rattle.wt_pagetool.proofs.SectionEdits.{page_bare}
-use Rattle.wt_typed_blocks.specs.Sent.{Sent, old_body}
+use Rattle.wt_typed_blocks.specs.Sent.{Sents, old_body}
 use Rattle.wt_typed_blocks.specs.Unmarked.{free_body, AreToldApart}
 use Rattle.wt_typed_blocks.proofs.SentUnmarked.{told_by_difference}
 use Rattle.wt_text_edit_laws.specs.ProsePages.{Passage, prose, AreProse}
@@ -55,7 +55,7 @@ marks_are pages es b h =
     let ps : List Passage = old_passages es in
     let page : List ℕ = prose ps in
     let t : Tree = page_tree pages page in
-    let ss : List Sent = blocks_sent es in
+    let ss : Sents = blocks_sent es in
     let f = facts_of es h.edit in
     let u : IsUtf8 page = prose_utf8 ps h.edit.are_prose in
     let free = prose_unrefused pages ps h.edit.are_prose in

@@ -1,0 +1,3 @@
+mod Cases
+pub mod CellRows
+pub mod Cells
