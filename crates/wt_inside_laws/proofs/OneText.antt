@@ -27,13 +27,12 @@ use Rattle.wt_moved_laws.specs.Standing.{standing}
 use Rattle.wt_text_edit_laws.proofs.Prose.ProseTrees.{blocks_of, number_behind, items_behind}
 use Rattle.wt_text_edit_laws.specs.ParagraphBetween.{blocks_in}
 use Rattle.wt_text_edit_laws.specs.TextBlocks.{TextBlock, a_paragraph, a_heading, source_of, block_tree, IsBlock}
-use Rattle.wt_text_edit_laws.specs.BlockSpots.{BlockSpot, spots_source, page_blocks, AreBlockSpots, SameRound, AreBlocks}
+use Rattle.wt_text_edit_laws.specs.BlockSpots.{BlockSpot, spots_source, page_blocks, AreBlockSpots, AreBlocks}
 use Rattle.wt_text_edit_laws.specs.Parts.{part_tree}
 use Rattle.wt_text_edit_laws.proofs.Paragraphs.Texts.{paragraph_written}
 use Rattle.wt_text_edit_laws.proofs.Blocks.BlockMeaning.{heading_sides}
 use Rattle.wt_text_edit_laws.proofs.Blocks.BlockTrees.{block_leaves, as_leaves, block_own, are_typed, spots_tree}
 use Rattle.wt_text_edit_laws.proofs.Blocks.TypedFacts.{items_source}
-use Rattle.wt_text_edit_laws.proofs.Blocks.BlocksAgain.{spots_again}
 use Rattle.wt_text_edit_laws.proofs.Blocks.KeptBlocks.{blocks_source, part_source}
 use Rattle.wt_text_edit_laws.proofs.Blocks.BlocksTake.{page_is}
 use Rattle.wt_inside_laws.specs.TextsReplaced.{Place, spots_with, page_with, source_before, number_at, numbered_inside, block_at, replaced_by}
@@ -325,37 +324,22 @@ body_so p vs b old new f h k =
 
 -- ---- the page
 
-round_same : (ss : List BlockSpot) → SameRound ss ss
-round_same [] = tt
-round_same (s ∷ ss) = (refl, refl, round_same ss)
-
-round_so : (ss rs : List BlockSpot) (before : List ℕ) (b : TextBlock) (old new : List ℕ)
-    → SameRound (ss ++ record { before = before; block = b; text = old } ∷ rs) (ss ++ record { before = before; block = b; text = new } ∷ rs)
-round_so [] rs before b old new = (refl, refl, round_same rs)
-round_so (s ∷ ss) rs before b old new = (refl, refl, round_so ss rs before b old new)
-
-typed_so : (ss rs : List BlockSpot) (before : List ℕ) (b : TextBlock) (new : List ℕ) → AreBlocks ss → IsBlock b new → AreBlocks rs
-    → AreBlocks (ss ++ record { before = before; block = b; text = new } ∷ rs)
-typed_so [] rs before b new h k r = (k, r)
-typed_so (s ∷ ss) rs before b new h k r = (h.0, typed_so ss rs before b new h.1 k r)
-
 pub tree_replaced : (pages : Pages) (p : Place) (b : TextBlock) (old new : List ℕ) (rs : List BlockSpot) (behind : List ℕ)
-    → AreBlockSpots (spots_with p b old rs) behind → IsBlock b new
+    → AreBlockSpots (spots_with p b old rs) behind → AreBlockSpots (spots_with p b new rs) behind
     → page_tree pages (page_with p b new rs behind) ≡ with_inside (replaced_by p b old new) (page_tree pages (page_with p b old rs behind))
-tree_replaced pages p b old new rs behind h k =
+tree_replaced pages p b old new rs behind h again =
     let e : Edit = replaced_by p b old new in
     let s : BlockSpot = record { before = p.before; block = b; text = old } in
     let typed : AreBlocks (spots_with p b old rs) = are_typed (spots_with p b old rs) behind h in
     let front : AreBlocks p.spots = typed_front p.spots (s ∷ rs) typed in
     let rest : AreBlocks (s ∷ rs) = typed_rest p.spots (s ∷ rs) typed in
-    let again : AreBlockSpots (spots_with p b new rs) behind =
-    spots_again (spots_with p b old rs) (spots_with p b new rs) behind h (round_so p.spots rs p.before b old new)
-    (typed_so p.spots rs p.before b new front k rest.1) in
+    let now : BlockSpot = record { before = p.before; block = b; text = new } in
+    let own : AreBlocks (now ∷ rs) = typed_rest p.spots (now ∷ rs) (are_typed (spots_with p b new rs) behind again) in
     let vs : List ItemTree = page_blocks rs behind in
     let ts : List ItemTree = blocks_with p vs b old in
     let us : Trees = blocks_of 1 [] ts in
     page_is pages (spots_with p b new rs) behind again
-    ∙ ap with_sections (tree_so p b rs behind new again ∙ sym (body_so p vs b old new front rest.0 k))
+    ∙ ap with_sections (tree_so p b rs behind new again ∙ sym (body_so p vs b old new front rest.0 own.0))
     ∙ sections_moved e (body_label ts) us (opened p b old new ts us) (opened p b old new ts (gathered us)) (omega arith)
     ∙ ap (λ t. with_inside e (with_sections t)) (sym (tree_so p b rs behind old h))
     ∙ ap (with_inside e) (sym (page_is pages (spots_with p b old rs) behind h))

@@ -5,21 +5,21 @@ ghost use Rattle.std.specs.Prelude.{◌≡◌, ℕ, List};
 ghost use Rattle.wt_devices.specs.Device.{Pages};
 ghost use Rattle.wt_page_round_trip.specs.PageTree.{page_tree};
 ghost use Rattle.wt_local.specs.Replaced.{with_inside, with_insides};
-ghost use Rattle.wt_text_edit_laws.specs.TextBlocks.{TextBlock, IsBlock};
+ghost use Rattle.wt_text_edit_laws.specs.TextBlocks.{TextBlock};
 ghost use Rattle.wt_text_edit_laws.specs.BlockSpots.{BlockSpot, AreBlockSpots};
 ghost use Rattle.wt_text_edit_laws.specs.BlockEdits.{BlockEdit, old_page, new_page, IsBlockEdit};
 ghost use Rattle.wt_inside_laws.specs.TextsReplaced.{Place, spots_with, page_with, replaced_by, all_replaced};
 
-/// Where the text of one paragraph or heading of a page with such blocks among any others becomes another text, the
-/// tree of the new page, in its sections, is that of the old one with the block's inside replaced: the nodes before
+/// Where the text of one paragraph or heading of a page with such blocks among any others becomes another text, and
+/// the page is such a page again, the tree of the new page, in its sections, is that of the old one with the block's inside replaced: the nodes before
 /// the block are the same with their numbers and places, what is round it ends later or earlier by the difference of
 /// the two texts, and what comes after it has its places moved by as many bytes, and its numbers by the difference
 /// of how many nodes have a number in the two.
 #[tactic(auto, using(crate::proofs::OneText::tree_replaced))]
 pub fn only_that_text_is_another()
     ensures { (pages : Pages) (p : Place) (b : TextBlock) (old new : List ℕ) (further : List BlockSpot) (behind : List ℕ)
-        → AreBlockSpots (spots_with p b old further) behind → IsBlock b new → page_tree pages (page_with p b new further behind)
-        ≡ with_inside (replaced_by p b old new) (page_tree pages (page_with p b old further behind)) }
+        → AreBlockSpots (spots_with p b old further) behind → AreBlockSpots (spots_with p b new further) behind
+        → page_tree pages (page_with p b new further behind) ≡ with_inside (replaced_by p b old new) (page_tree pages (page_with p b old further behind)) }
 {}
 
 /// So of an edit that types texts in any of these paragraphs and headings, one, several or all: the tree of the new

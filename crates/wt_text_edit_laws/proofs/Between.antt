@@ -3,6 +3,7 @@ pub mod LineWords
 pub mod LineComments
 pub mod LineRemarks
 pub mod LineTags
+pub mod ClosingTags
 pub mod LineForms
 pub mod Fronts
 pub mod Shown

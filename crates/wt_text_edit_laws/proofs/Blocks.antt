@@ -3,6 +3,8 @@ pub mod BlockReading
 pub mod BlockMeaning
 pub mod BlockTrees
 pub mod BlocksAgain
+pub mod TypedBraces
+pub mod TypedAgain
 pub mod OtherBlocks
 pub mod PageKinds
 pub mod KeptBlocks

@@ -3,10 +3,11 @@ use Rattle.std.specs.Prelude.{◌≡◌, ℕ, List, [], ◌∷◌, ◌++◌}
 use Rattle.std.specs.Str.{IsUtf8}
 use Rattle.wt_inline.specs.ItemTree.{ItemTree}
 use Rattle.wt_expand.specs.PageItems.{page_items}
-use Rattle.wt_text_edit_laws.specs.TextBetween.{StandsBefore, StandsBehind}
+use Rattle.wt_text_edit_laws.specs.NoCalls.{CallsNothing}
+use Rattle.wt_text_edit_laws.specs.TextBetween.{AreEnded, HasEndsBefore, StandsBehind}
 use Rattle.wt_text_edit_laws.specs.ParagraphBetween.{blocks_in}
 use Rattle.wt_text_edit_laws.specs.Parts.{HasNoGroups}
-use Rattle.wt_text_edit_laws.specs.TextBlocks.{TextBlock, source_of, block_tree, IsBlock, LeadsTo, EndsBlock, BeginsBetween}
+use Rattle.wt_text_edit_laws.specs.TextBlocks.{TextBlock, source_of, block_tree, IsBlock, TextEnds, LeadsTo, EndsBlock, BeginsBetween}
 
 -- ---- the page's source
 
@@ -31,7 +32,7 @@ page_blocks (s ∷ ss) behind = blocks_in (page_items s.before) ++ block_tree s.
 -- ---- where the parts stand by themselves
 
 pub record IsBlockSpot (s : BlockSpot) : Type 0 where
-  pub before : StandsBefore s.before
+  pub ended : AreEnded s.before
   pub before_utf8 : IsUtf8 s.before
   pub ungrouped : HasNoGroups s.before
   pub leads : LeadsTo s.block (page_items s.before)
@@ -48,10 +49,24 @@ abbrev pub AreFurtherBlocks : TextBlock → List BlockSpot → List ℕ → Type
 AreFurtherBlocks last [] behind = IsBlockEnd last behind
 AreFurtherBlocks last (s ∷ ss) behind = IsBlockSpot s × BeginsBetween last s.block (page_items s.before) × AreFurtherBlocks s.block ss behind
 
+-- ---- what is asked of the page as a whole
+
+-- What begins before a block ends before it, and what begins in its text ends there; or it is a tag that nothing in the page closes.
+abbrev pub EndBeforeBlocks : List BlockSpot → List ℕ → Type 0
+EndBeforeBlocks [] behind = Unit {0}
+EndBeforeBlocks (s ∷ ss) behind =
+    HasEndsBefore (source_of s.block s.text ++ spots_source ss behind) s.before × TextEnds s.block s.text (spots_source ss behind)
+    × EndBeforeBlocks ss behind
+
+-- Nowhere do two opening braces side by side come before two closing ones, and nothing that begins before a block, or in its text, ends behind it.
+pub record AsAWhole (ss : List BlockSpot) (behind : List ℕ) : Type 0 where
+  pub calls_nothing : CallsNothing (page_items (spots_source ss behind))
+  pub end_before : EndBeforeBlocks ss behind
+
 -- There is one paragraph or heading at least; nothing need stand before the first.
 abbrev pub AreBlockSpots : List BlockSpot → List ℕ → Type 0
 AreBlockSpots [] behind = ⊥
-AreBlockSpots (s ∷ ss) behind = IsBlockSpot s × AreFurtherBlocks s.block ss behind
+AreBlockSpots (s ∷ ss) behind = IsBlockSpot s × AreFurtherBlocks s.block ss behind × AsAWhole (s ∷ ss) behind
 
 -- ---- pages that are the same but for the texts of these
 

@@ -1,12 +1,10 @@
 -- A paragraph whose content is one text, whoever wrote it.
 use Rattle.std.specs.Prelude.{◌≡◌, ◌⊎◌, ℕ, Some, None, List, [], ◌∷◌, ◌++◌, All}
 use Rattle.std.specs.Str.{IsUtf8}
-use Rattle.wt_span.specs.declared.form.Mode.TheVariants.{Page}
 use Rattle.wt_span.specs.declared.form.ItemForm.{ItemForm}
 use Rattle.wt_span.specs.declared.form.ItemForm.TheVariants as form
 use Rattle.wt_span.specs.Characters as byte
 use Rattle.wt_span.specs.Items.{Item, char, whole}
-use Rattle.wt_span.specs.Lexemes.{words}
 use Rattle.wt_lines.specs.declared.kind.LineKind.TheVariants as line
 use Rattle.wt_lines.specs.Kinds.{line_kind}
 use Rattle.wt_lines.specs.Lines.{lines, full_lines, content}
@@ -17,7 +15,7 @@ use Rattle.wt_context.specs.Line.{line_parts}
 use Rattle.wt_page.specs.Rows.{marks_len}
 use Rattle.wt_expand.specs.PageItems.{page_items}
 use Rattle.wt_text_edit_laws.specs.TypedPages.{IsTypedPage}
-use Rattle.wt_text_edit_laws.specs.TextBetween.{HasNoTag, HaveNoClosers, StandsBefore}
+use Rattle.wt_text_edit_laws.specs.TextBetween.{HasNoTag}
 
 -- ---- a text that somebody wrote in the page's own wikitext
 
@@ -49,12 +47,10 @@ abbrev pub AreOneText : List (List Item) → Type 0
 AreOneText [] = Unit {0}
 AreOneText (l ∷ ls) = (marks_len l ≡ 0) × (line_parts (content l) ≡ parts Text (content l)) × AreOneText ls
 
--- Lines of text without two closing braces side by side, whether a line break stands behind them or the page ends there. They are
--- characters, references and `<nowiki/>`, and nothing else.
+-- Lines of text, read the same whether a line break stands behind them or the page ends there. They are characters, references and
+-- `<nowiki/>`, and nothing else.
 pub record IsWrittenText (q : List ℕ) : Type 0 where
   pub utf8 : IsUtf8 q
-  pub stands : StandsBefore (q ++ byte.line_break ∷ [])
-  pub uncalled : HaveNoClosers (words Page q)
   pub ended : page_items (q ++ byte.line_break ∷ []) ≡ page_items q ++ char None byte.line_break ∷ []
   pub are_letters : AreLetters (page_items q)
   pub are_one : AreOneText (full_lines (page_items q))

@@ -1,12 +1,9 @@
 -- What comes before and after a text of a page.
-use Rattle.std.specs.Prelude.{◌≡◌, ℕ, ◌==◌, ◌&&◌, ◌||◌, Bool, true, false, Option, Some, None, List, [], ◌∷◌, drop, codes, is_some, if◌then◌else◌, slice_index}
+use Rattle.std.specs.Prelude.{◌≡◌, ℕ, ◌==◌, ◌&&◌, ◌||◌, not, Bool, true, false, Option, Some, None, List, [], ◌∷◌, ◌++◌, drop, codes, is_some, if◌then◌else◌, slice_index}
 use Rattle.wt_span.specs.declared.form.Mode.TheVariants.{Page}
-use Rattle.wt_span.specs.declared.form.LexKind.{LexKind}
-use Rattle.wt_span.specs.declared.form.LexKind.TheVariants.{Chars, CommentLine, Comment, Raw, Include, Hidden, Entity, Opens, Closes, LinkOpen, LinkClose, Pipe, Equals}
 use Rattle.wt_span.specs.Bytes.{is_break, begins, blank_len}
 use Rattle.wt_span.specs.Comments.{remarks_len}
 use Rattle.wt_span.specs.Tags.{Tag, opening_tag, with_inside, is_raw_name, hides}
-use Rattle.wt_span.specs.Lexemes.{Word, words}
 use Rattle.wt_span.specs.Characters as byte
 use Rattle.wt_spelling_laws.specs.Reading.{stands}
 use Rattle.wt_scans.specs.Scans.{AtStarts}
@@ -60,38 +57,34 @@ ends_here bs = ends_comment bs && ends_tag (opening_tag bs) bs
 abbrev pub HasEnds : List ℕ → Type 0
 HasEnds bs = AtStarts (lexer Page) (λ after rest. ends_here rest ≡ true) false 0 bs
 
--- ---- lexemes
+-- The same before the rest of a page; or the tag is one of an extension or `<nowiki>` that has no closing tag, neither in these bytes nor in
+-- the rest, and so is characters. An open `<includeonly>` would hide the rest.
+abbrev pub ends_tag_before : List ℕ → Option Tag → List ℕ → Bool
+ends_tag_before rest None bs = true
+ends_tag_before rest (Some t) bs =
+    if is_raw_name t.name || hides Page t.name
+    then is_some (with_inside t bs) || (not (hides Page t.name) && not (is_some (with_inside t (bs ++ rest))))
+    else true
 
--- No run of closing braces, without which no call or argument is made. Opening braces that nothing closes are characters.
-abbrev pub IsNoCloser : LexKind → Type 0
-IsNoCloser Chars = Unit {0}
-IsNoCloser CommentLine = Unit {0}
-IsNoCloser Comment = Unit {0}
-IsNoCloser Raw = Unit {0}
-IsNoCloser Include = Unit {0}
-IsNoCloser Hidden = Unit {0}
-IsNoCloser (Entity c) = Unit {0}
-IsNoCloser Opens = Unit {0}
-IsNoCloser Closes = ⊥
-IsNoCloser LinkOpen = Unit {0}
-IsNoCloser LinkClose = Unit {0}
-IsNoCloser Pipe = Unit {0}
-IsNoCloser Equals = Unit {0}
+abbrev pub ends_before : List ℕ → List ℕ → Bool
+ends_before rest bs = ends_comment bs && ends_tag_before rest (opening_tag bs) bs
 
-abbrev pub HaveNoClosers : List Word → Type 0
-HaveNoClosers [] = Unit {0}
-HaveNoClosers ((kind, n) ∷ ws) = IsNoCloser kind × HaveNoClosers ws
+-- So of a part before the rest of a page.
+abbrev pub HasEndsBefore : List ℕ → List ℕ → Type 0
+HasEndsBefore rest bs = AtStarts (lexer Page) (λ after here. ends_before rest here ≡ true) false 0 bs
+
+-- So of a line before the rest of a page. Where the page ends with it nothing is asked.
+abbrev pub LineEnds : List ℕ → List ℕ → Type 0
+LineEnds line [] = Unit {0}
+LineEnds line (b ∷ rest) = HasEndsBefore rest (line ++ b ∷ [])
 
 -- ---- the parts of a page
 
--- Before the text: nothing, or lines of any kind without two closing braces side by side, and comments and tags behind the last one. Tags
--- and comments may be in the lines, too.
+-- Before the text: nothing, or lines of any kind, and comments and tags behind the last one. Tags and comments may be in the lines, too.
 pub record StandsBefore (bs : List ℕ) : Type 0 where
   pub ends : AreEnded bs
   pub has_ends : HasEnds bs
-  pub uncalled : HaveNoClosers (words Page bs)
 
--- After it: anything without two closing braces side by side. No comment begins it, nor follows the blanks that begin it.
+-- After it: anything. No comment begins it, nor follows the blanks that begin it.
 pub record StandsBehind (bs : List ℕ) : Type 0 where
   pub uncommented : remarks_len 0 bs ≡ blank_len bs
-  pub uncalled : HaveNoClosers (words Page bs)

@@ -1,10 +1,8 @@
 -- A paragraph or a heading with a text: its source, what it is, and what may stand round it.
 use Rattle.std.specs.Prelude.{◌≡◌, ◌⊎◌, ℕ, false, List, [], ◌∷◌, ◌++◌, None}
 use Rattle.std.specs.Str.{IsUtf8}
-use Rattle.wt_span.specs.declared.form.Mode.TheVariants.{Page}
 use Rattle.wt_span.specs.Characters as byte
 use Rattle.wt_span.specs.Items.{Item, char}
-use Rattle.wt_span.specs.Lexemes.{words}
 use Rattle.wt_blocks.specs.Paragraphs.{is_text}
 use Rattle.wt_tree.specs.declared.edit_shape.Place.TheVariants as place
 use Rattle.wt_guards.specs.Content.{letters}
@@ -14,8 +12,9 @@ use Rattle.wt_inline.specs.ItemTree.{ItemTree}
 use Rattle.wt_page.specs.Rows.{Row}
 use Rattle.wt_expand.specs.PageItems.{page_items}
 use Rattle.wt_text_edit_laws.specs.LonePages.{para_of}
+use Rattle.wt_text_edit_laws.specs.TypedPages.{IsTypedPage}
 use Rattle.wt_typed_blocks.specs.Sent.{Block, paragraph, heading}
-use Rattle.wt_text_edit_laws.specs.TextBetween.{HaveNoClosers, StandsBefore}
+use Rattle.wt_text_edit_laws.specs.TextBetween.{StandsBefore, LineEnds}
 use Rattle.wt_text_edit_laws.specs.Paragraphs.{AreLetters, IsParagraph}
 use Rattle.wt_text_edit_laws.specs.ParagraphBetween.{rows_of_lines, AreClosed, before_marks, EndsApart, EndsParagraph}
 use Rattle.wt_text_edit_laws.specs.TypedHeadings.{Sides, AreSides, opening, closing, heading_line, heading_with, IsHeadingText, IsOfLevel, EndsLine}
@@ -54,7 +53,6 @@ pub record IsFrame (s : Sides) : Type 0 where
   pub sides : AreSides s
   pub utf8 : IsUtf8 s.rest
   pub stands : StandsBefore (s.rest ++ byte.line_break ∷ [])
-  pub uncalled : HaveNoClosers (words Page s.rest)
   pub ended : page_items (s.rest ++ byte.line_break ∷ []) ≡ page_items s.rest ++ char None byte.line_break ∷ []
 
 -- any text on one line, as a heading spells it
@@ -68,14 +66,12 @@ pub record IsTypedHeading (s : Sides) (q : List ℕ) : Type 0 where
   pub of_heading : setting.place ≡ place.Heading
   pub is : q ≡ spelled setting (letters text)
 
--- A heading that somebody wrote by hand, without two closing braces side by side, whether a line break is after it or the page ends
--- there: its text is characters and references, is read in its line as it is by itself, neither begins nor ends with a blank, and is not
--- next to a `=` that is one more than its level says.
+-- A heading that somebody wrote by hand, read the same whether a line break is after it or the page ends there: its text is characters and
+-- references, is read in its line as it is by itself, neither begins nor ends with a blank, and is not next to a `=` that is one more than
+-- its level says.
 pub record IsWrittenHeading (s : Sides) (q : List ℕ) : Type 0 where
   pub frame : IsFrame s
   pub utf8 : IsUtf8 q
-  pub stands : StandsBefore (source_of (a_heading s) q ++ byte.line_break ∷ [])
-  pub uncalled : HaveNoClosers (words Page (source_of (a_heading s) q))
   pub ended : page_items (source_of (a_heading s) q ++ byte.line_break ∷ []) ≡ heading_line s (page_items q) ++ char None byte.line_break ∷ []
   pub unended : page_items (source_of (a_heading s) q) ≡ heading_line s (page_items q)
   pub are_letters : AreLetters (page_items q)
@@ -85,6 +81,16 @@ pub record IsWrittenHeading (s : Sides) (q : List ℕ) : Type 0 where
 abbrev pub IsBlock : TextBlock → List ℕ → Type 0
 IsBlock a_paragraph q = IsParagraph q
 IsBlock (a_heading s) q = IsTypedHeading s q ⊎ IsWrittenHeading s q
+
+-- one that was typed
+abbrev pub IsTypedIn : TextBlock → List ℕ → Type 0
+IsTypedIn a_paragraph q = IsTypedPage q
+IsTypedIn (a_heading s) q = IsTypedHeading s q
+
+-- Nothing begins in what is typed. What begins in a text that was written by hand ends in it, or is a tag that nothing in the rest of the page
+-- closes.
+abbrev pub TextEnds : TextBlock → List ℕ → List ℕ → Type 0
+TextEnds k q rest = IsTypedIn k q ⊎ LineEnds (source_of k q) rest
 
 -- ---- what stands before it
 

@@ -48,12 +48,12 @@ ghost use Rattle.wt_text_edit_laws.specs.ProseTrees.{prose_page};
 ghost use Rattle.wt_text_edit_laws.specs.ProseUnmarked.{unmarked_prose, IsUnmarkedEdit};
 ghost use Rattle.wt_text_edit_laws.specs.ProseEdits.{PassageEdit, old_passages, new_passages, sent_prose, IsProseEdit};
 ghost use Rattle.wt_text_edit_laws.specs.NoCalls.{CallsNothing};
-ghost use Rattle.wt_text_edit_laws.specs.TextBetween.{AreWholeLines, AreEnded, HasEnds, BeginsShown, StandsBefore, StandsBehind};
+ghost use Rattle.wt_text_edit_laws.specs.TextBetween.{AreWholeLines, AreEnded, HasEndsBefore, BeginsShown, StandsBefore, StandsBehind};
 ghost use Rattle.wt_text_edit_laws.specs.Paragraphs.{IsParagraph};
 ghost use Rattle.wt_text_edit_laws.specs.ParagraphBetween.{EndsApart, EndsParagraph, blocks_in, body_round, AreClosed, before_marks, body_with};
 ghost use Rattle.wt_text_edit_laws.specs.TypedHeadings.{Sides, AreSides, heading_line, heading_with, IsHeadingText, IsOfLevel, StandsApart, EndsLine};
 ghost use Rattle.wt_text_edit_laws.specs.Parts.{part_tree};
-ghost use Rattle.wt_text_edit_laws.specs.BlockSpots.{BlockSpot, spots_source, page_blocks, AreBlockSpots, SameRound, AreBlocks};
+ghost use Rattle.wt_text_edit_laws.specs.BlockSpots.{BlockSpot, spots_source, page_blocks, AreBlockSpots, SameRound, AreBlocks, AsAWhole};
 ghost use Rattle.wt_text_edit_laws.specs.BlockEdits.{BlockEdit, new_spots, old_page, new_page, sent_page, IsBlockEdit};
 ghost use Rattle.wt_text_edit_laws.specs.OwnNodes.{TypedSpot, spots_of, AreTypedSpots, own_edit};
 ghost use Rattle.wt_text_edit_laws.specs.UnmarkedBlocks.{unmarked_page, IsUnmarkedBlockEdit};
@@ -213,24 +213,26 @@ pub fn unpaired_braces_call_nothing()
 // ---- a text between two other parts of a page
 
 /// Of lines in which each comment, raw tag and hidden part ends that begins in them, every lexeme is read of them
-/// alone, whatever follows them: none goes over their end. So it is where comments or tags come after the last line
-/// break, before what doesn't begin with a line of comments and blanks.
+/// alone, whatever follows them: none goes over their end. So it is where a raw tag has no closing tag, neither in
+/// them nor in what follows, and where comments or tags come after the last line break, before what doesn't begin with
+/// a line of comments and blanks.
 #[tactic(auto, using(crate::proofs::Between::LineForms::lines_settle, crate::proofs::Between::LineForms::marks_settle))]
 pub fn lines_end_lexemes()
-    ensures lines { (rest q : List ℕ) → AreWholeLines q → HasEnds q → Settles (lexer Page) rest false 0 q }
-    ensures marks { (rest q : List ℕ) → AreEnded q → HasEnds q → BeginsShown rest → Settles (lexer Page) rest false 0 q }
+    ensures lines { (rest q : List ℕ) → AreWholeLines q → HasEndsBefore rest q → Settles (lexer Page) rest false 0 q }
+    ensures marks { (rest q : List ℕ) → AreEnded q → HasEndsBefore rest q → BeginsShown rest → Settles (lexer Page) rest false 0 q }
 {}
 
 /// Whatever somebody types between two parts of a page, the items of the page are those of the part before, of the
-/// text and of the part after, each read as a page of its own. Nothing is called, and nothing refuses the page.
+/// text and of the part after, each read as a page of its own. Where the two parts call nothing with no text between
+/// them, nothing is called, and nothing refuses the page.
 #[tactic(auto, using(crate::proofs::Between::TextReads::items_between, crate::proofs::Between::TextReads::expanded_between, crate::proofs::Between::TextReads::unrefused_between))]
 pub fn texts_are_read_between()
     ensures items { (before text behind : List ℕ) → StandsBefore before → IsTypedPage text → StandsBehind behind
         → page_items (before ++ (text ++ behind)) ≡ page_items before ++ (page_items text ++ page_items behind) }
     ensures expanded { (pages : Pages) (before text behind : List ℕ) → StandsBefore before → IsTypedPage text → StandsBehind behind
-        → expanded_page pages (before ++ (text ++ behind)) ≡ of_items (page_items (before ++ (text ++ behind))) }
+        → CallsNothing (page_items before ++ page_items behind) → expanded_page pages (before ++ (text ++ behind)) ≡ of_items (page_items (before ++ (text ++ behind))) }
     ensures unrefused { (pages : Pages) (before text behind : List ℕ) → StandsBefore before → IsTypedPage text → StandsBehind behind
-        → refusal_of_page pages (before ++ (text ++ behind)) ≡ None }
+        → CallsNothing (page_items before ++ page_items behind) → refusal_of_page pages (before ++ (text ++ behind)) ≡ None }
 {}
 
 // ---- a typed paragraph among any other blocks
@@ -269,8 +271,8 @@ pub fn typed_texts_are_heading_texts()
 
 /// A page of typed paragraphs and headings among any other blocks has what each of its parts makes as a page by
 /// itself, and these paragraphs and headings between; its tree is that with numbers and places in order. It calls
-/// nothing, whatever the folder has, and nothing refuses it. With any other typed texts in them it is such a page
-/// again.
+/// nothing, whatever the folder has, and nothing refuses it. With any other texts in them it is such a page again,
+/// where these pair no braces of the page and close none of its tags, as no typed text does.
 #[tactic(auto, using(crate::proofs::Blocks::BlockReading::spots_expanded, crate::proofs::Blocks::BlockReading::spots_unrefused, crate::proofs::Blocks::BlockMeaning::spots_meaning, crate::proofs::Blocks::BlockTrees::tree_of_spots, crate::proofs::Blocks::BlocksAgain::spots_utf8, crate::proofs::Blocks::BlocksAgain::spots_again))]
 pub fn blocks_stand_round_typed_texts()
     ensures expanded { (pages : Pages) (ss : List BlockSpot) (behind : List ℕ) → AreBlockSpots ss behind
@@ -283,7 +285,7 @@ pub fn blocks_stand_round_typed_texts()
         → part_tree (spots_source ss behind) ≡ cut_texts (annotated (body_with (page_blocks ss behind))) }
     ensures utf8 { (ss : List BlockSpot) (behind : List ℕ) → AreBlockSpots ss behind → IsUtf8 (spots_source ss behind) }
     ensures again { (ss rs : List BlockSpot) (behind : List ℕ) → AreBlockSpots ss behind → SameRound ss rs → AreBlocks rs
-        → AreBlockSpots rs behind }
+        → AsAWhole rs behind → AreBlockSpots rs behind }
 {}
 
 /// Such a page takes any texts in them, in a heading any on one line: an edit that sends any of these paragraphs and

@@ -20,8 +20,17 @@ use Rattle.wt_lex.proofs.Begins.{begins_get, begins_len}
 use Rattle.wt_expand.specs.PageItems.{items_of_word}
 use Rattle.wt_text_edit_laws.specs.NoCalls.{Brace, opening, closing, braces, NoneClose, NonePairs}
 use Rattle.wt_text_edit_laws.proofs.Texts.TypedText.{IsNoCloser, HaveNoClosers}
-use Rattle.wt_text_edit_laws.proofs.Prose.InFront.{shown_closed}
 use Rattle.wt_text_edit_laws.proofs.Between.Fronts.{items_from, byte_from, form_from, words_by, words_from}
+
+-- ---- what is read with the characters before it
+
+shown_if : (t : Bool) (n : ℕ) (ws : List Word) → HaveNoClosers ws → HaveNoClosers (if t then ws else (Chars, n) ∷ ws)
+shown_if true n ws h = h
+shown_if false n ws h = (tt, h)
+
+shown_closed : (c : Cut) → HaveNoClosers c.1 → HaveNoClosers (closed c.0 c.1)
+unfolding closed
+shown_closed (n, ws) h = shown_if (n == 0) n ws h
 
 -- ---- the bytes of a run
 

@@ -1,10 +1,8 @@
 -- Parts of a page in which what begins ends are read the same before what is read behind them.
-use Rattle.std.proofs.Common.{arith, ◌≡◌, ℕ, zero, suc, ◌-◌, ◌≤◌, ◌==◌, Bool, true, false, Option, Some, None, List, [], ◌∷◌, ◌++◌, length, take, drop, refl, sym, ap, ◌∙◌, subst, append_assoc}
-use Rattle.std.specs.Prelude.{if◌then◌else◌}
+use Rattle.std.proofs.Common.{arith, ◌≡◌, ℕ, zero, suc, ◌-◌, ◌≤◌, Bool, false, Option, Some, None, List, [], ◌∷◌, ◌++◌, length, take, drop, refl, sym, ap, ◌∙◌, subst, append_assoc}
 use Rattle.std.proofs.lemmas.List.{take-append-le}
 use Rattle.wt_span.specs.declared.form.Mode.TheVariants.{Page}
 use Rattle.wt_span.specs.declared.form.LexKind.{LexKind}
-use Rattle.wt_span.specs.declared.form.LexKind.TheVariants.{Chars, Closes}
 use Rattle.wt_span.specs.Bytes.{is_break}
 use Rattle.wt_span.specs.Items.{Item, char}
 use Rattle.wt_span.specs.Lexemes.{Word, Cut, cuts, closed, words, form_at}
@@ -14,43 +12,18 @@ use Rattle.wt_expand.specs.PageItems.{items_of_word, page_items}
 use Rattle.wt_scans.specs.Lexer.{lexer}
 use Rattle.wt_scans.specs.Scans.{after_all, skipped_by, Settles}
 use Rattle.wt_text_edit_laws.proofs.Texts.TypedItems.{items_cut, closed_items}
-use Rattle.wt_text_edit_laws.proofs.Texts.TypedText.{IsNoCloser, HaveNoClosers}
 use Rattle.wt_text_edit_laws.proofs.Prose.Uncommented.{BeginsUncommented, either_flag}
-use Rattle.wt_text_edit_laws.proofs.Prose.InFront.{Reads, shown_closed}
-use Rattle.wt_text_edit_laws.specs.TextBetween as is_spec
-use Rattle.wt_text_edit_laws.specs.TextBetween.{AreWholeLines, BeginsShown, StandsBefore, StandsBehind}
+use Rattle.wt_text_edit_laws.proofs.Prose.InFront.{Reads}
+use Rattle.wt_text_edit_laws.specs.TextBetween.{AreWholeLines, AreEnded, HasEndsBefore, BeginsShown, StandsBehind}
 use Rattle.wt_text_edit_laws.proofs.Between.LineForms.{lines_settle, marks_settle}
-
--- ---- lexemes that aren't runs of closing braces
-
-kind_same : (kind : LexKind) → is_spec.IsNoCloser kind → IsNoCloser kind
-kind_same Closes h = h
-kind_same k h = tt
-
-all_same : (ws : List Word) → is_spec.HaveNoClosers ws → HaveNoClosers ws
-all_same [] h = tt
-all_same ((kind, n) ∷ ws) h = (kind_same kind h.0, all_same ws h.1)
-
-open_by : (t : Bool) (n : ℕ) (ws : List Word) → HaveNoClosers (if t then ws else (Chars, n) ∷ ws) → HaveNoClosers ws
-open_by true n ws h = h
-open_by false n ws h = h.1
-
-opened : (c : Cut) → HaveNoClosers (closed c.0 c.1) → HaveNoClosers c.1
-unfolding closed
-opened (n, ws) h = open_by (n == 0) n ws h
-
-words_shown : (bs : List ℕ) → is_spec.HaveNoClosers (words Page bs) → HaveNoClosers (cuts Page false 0 bs).1
-unfolding words
-words_shown bs h = opened (cuts Page false 0 bs) (all_same (closed (cuts Page false 0 bs).0 (cuts Page false 0 bs).1) h)
 
 -- ---- what is read from a place on, where it is known whether a line break stands before it
 
 pub record ReadsAfter (after : Bool) (bs : List ℕ) (xs : List Item) : Type 0 where
   pub items : items_cut bs (cuts Page after 0 bs) ≡ xs
-  pub shown : HaveNoClosers (cuts Page after 0 bs).1
 
 pub reads_after : (after : Bool) (bs : List ℕ) (xs : List Item) → Reads bs xs → ReadsAfter after bs xs
-reads_after after bs xs r = record { items = r.items after; shown = r.shown after }
+reads_after after bs xs r = record { items = r.items after }
 
 pub first_items : (bs : List ℕ) → page_items bs ≡ items_cut bs (cuts Page false 0 bs)
 unfolding page_items words
@@ -59,10 +32,6 @@ first_items bs = closed_items bs (cuts Page false 0 bs)
 -- a page that is read so
 pub page_read : (bs : List ℕ) (xs : List Item) → ReadsAfter false bs xs → page_items bs ≡ xs
 page_read bs xs r = first_items bs ∙ r.items
-
-pub page_words : (bs : List ℕ) (xs : List Item) → ReadsAfter false bs xs → HaveNoClosers (words Page bs)
-unfolding words
-page_words bs xs r = shown_closed (cuts Page false 0 bs) r.shown
 
 -- where no comment begins it, it makes no difference whether a line break stands before
 either_cuts : (after : Bool) (bs : List ℕ) → BeginsUncommented bs → cuts Page after 0 bs ≡ cuts Page false 0 bs
@@ -74,7 +43,6 @@ either_cuts after (b ∷ bs) u =
 pub reads_either : (bs : List ℕ) (xs : List Item) → BeginsUncommented bs → ReadsAfter false bs xs → Reads bs xs
 reads_either bs xs u r = record {
   items = λ after. ap (items_cut bs) (either_cuts after bs u) ∙ r.items;
-  shown = λ after. subst (λ (c : Cut). HaveNoClosers c.1) (sym (either_cuts after bs u)) r.shown;
   begins = u;
 }
 
@@ -117,13 +85,11 @@ words_from a b bs kind j f =
 -- what is read of both, in one
 record Joined (a : Bool) (n : ℕ) (q rest : List ℕ) (xs : List Item) : Type 0 where
   items : items_from a n (q ++ rest) ≡ items_from a n q ++ xs
-  shown : HaveNoClosers (cuts Page a n q).1 → HaveNoClosers (cuts Page a n (q ++ rest)).1
 
 joined_byte : (a : Bool) (b : ℕ) (q rest : List ℕ) (xs : List Item) → form_at Page a (b ∷ (q ++ rest)) ≡ None → form_at Page a (b ∷ q) ≡ None
     → Joined (is_break b) 0 q rest xs → Joined a 0 (b ∷ q) rest xs
 joined_byte a b q rest xs e f j = record {
   items = byte_from a b (q ++ rest) e ∙ ap (λ ys. char None b ∷ ys) j.items ∙ sym (ap (λ ys. ys ++ xs) (byte_from a b q f));
-  shown = λ h. subst HaveNoClosers (sym (words_by a b (q ++ rest) e)) (j.shown (subst HaveNoClosers (words_by a b q f) h));
 }
 
 joined_form : (a : Bool) (b : ℕ) (q rest : List ℕ) (xs : List Item) (kind : LexKind) (k : ℕ) → form_at Page a (b ∷ (q ++ rest)) ≡ Some (kind, suc k)
@@ -136,10 +102,6 @@ joined_form a b q rest xs kind k e f le j =
           ∙ ap (λ ys. own ++ ys) j.items
           ∙ sym (append_assoc own (items_from (is_break b) k q) xs)
           ∙ sym (ap (λ ys. ys ++ xs) (form_from a b q kind k f));
-      shown = λ h.
-          let s = subst HaveNoClosers (words_from a b q kind k f) h in
-          subst HaveNoClosers (sym (words_from a b (q ++ rest) kind k e))
-          (s.0, shown_closed (cuts Page (is_break b) k (q ++ rest)) (j.shown (opened (cuts Page (is_break b) k q) s.1)));
     }
 
 joined_by : (a : Bool) (b : ℕ) (q rest : List ℕ) (xs : List Item) (o : Option Word) → form_at Page a (b ∷ (q ++ rest)) ≡ o → form_at Page a (b ∷ q) ≡ o
@@ -153,36 +115,33 @@ joined_by a b q rest xs (Some (kind, suc k)) e f go =
 joined : (rest : List ℕ) (xs : List Item) (a : Bool) (n : ℕ) (q : List ℕ) → Settles (lexer Page) rest a n q
     → ReadsAfter (after_all (lexer Page) a q) rest xs → Joined a n q rest xs
 joined rest xs a (suc n) [] h r = absurd (omega (arith, h))
-joined rest xs a zero [] h r = record { items = first_from a rest ∙ r.items; shown = λ s. r.shown }
-joined rest xs a (suc n) (b ∷ q) h r = let j = joined rest xs (is_break b) n q h r in record { items = j.items; shown = j.shown }
+joined rest xs a zero [] h r = record { items = first_from a rest ∙ r.items }
+joined rest xs a (suc n) (b ∷ q) h r = let j = joined rest xs (is_break b) n q h r in record { items = j.items }
 joined rest xs a zero (b ∷ q) h r =
     joined_by a b q rest xs (form_at Page a (b ∷ q)) h.0 refl
     (λ k is. joined rest xs (is_break b) k q (subst (λ (i : ℕ). Settles (lexer Page) rest (is_break b) i q) is h.1) r)
 
 -- ---- what stands before, and what stands behind
 
-front_reads : (bs rest : List ℕ) (xs : List Item) → Settles (lexer Page) rest false 0 bs → is_spec.HaveNoClosers (words Page bs)
+front_reads : (bs rest : List ℕ) (xs : List Item) → Settles (lexer Page) rest false 0 bs
     → ReadsAfter (after_all (lexer Page) false bs) rest xs → ReadsAfter false (bs ++ rest) (page_items bs ++ xs)
-front_reads bs rest xs s h r =
+front_reads bs rest xs s r =
     let j = joined rest xs false 0 bs s r in
     let items : items_from false 0 (bs ++ rest) ≡ items_from false 0 bs ++ xs = j.items in
-    record {
-      items = sym (first_from false (bs ++ rest)) ∙ items ∙ ap (λ ys. ys ++ xs) (first_from false bs ∙ sym (first_items bs));
-      shown = j.shown (words_shown bs h);
-    }
+    record { items = sym (first_from false (bs ++ rest)) ∙ items ∙ ap (λ ys. ys ++ xs) (first_from false bs ∙ sym (first_items bs)) }
 
-pub before_reads : (bs rest : List ℕ) (xs : List Item) → StandsBefore bs → BeginsShown rest → ReadsAfter (after_all (lexer Page) false bs) rest xs
+pub before_reads : (bs rest : List ℕ) (xs : List Item) → AreEnded bs → HasEndsBefore rest bs → BeginsShown rest → ReadsAfter (after_all (lexer Page) false bs) rest xs
     → ReadsAfter false (bs ++ rest) (page_items bs ++ xs)
-before_reads bs rest xs h s r = front_reads bs rest xs (marks_settle rest false 0 bs s h.ends h.has_ends) h.uncalled r
+before_reads bs rest xs l h s r = front_reads bs rest xs (marks_settle rest false 0 bs s l h) r
 
 -- behind lines, whatever follows them
-pub lines_read : (bs rest : List ℕ) (xs : List Item) → AreWholeLines bs → StandsBefore bs → ReadsAfter (after_all (lexer Page) false bs) rest xs
+pub lines_read : (bs rest : List ℕ) (xs : List Item) → AreWholeLines bs → HasEndsBefore rest bs → ReadsAfter (after_all (lexer Page) false bs) rest xs
     → ReadsAfter false (bs ++ rest) (page_items bs ++ xs)
-lines_read bs rest xs l h r = front_reads bs rest xs (lines_settle rest false 0 bs l h.has_ends) h.uncalled r
+lines_read bs rest xs l h r = front_reads bs rest xs (lines_settle rest false 0 bs l h) r
 
 -- by itself
-pub alone_reads : (bs : List ℕ) → is_spec.HaveNoClosers (words Page bs) → ReadsAfter false bs (page_items bs)
-alone_reads bs h = record { items = sym (first_items bs); shown = words_shown bs h }
+pub alone_reads : (bs : List ℕ) → ReadsAfter false bs (page_items bs)
+alone_reads bs = record { items = sym (first_items bs) }
 
 pub behind_reads : (bs : List ℕ) → StandsBehind bs → Reads bs (page_items bs)
-behind_reads bs h = reads_either bs (page_items bs) (record { is = h.uncommented }) (alone_reads bs h.uncalled)
+behind_reads bs h = reads_either bs (page_items bs) (record { is = h.uncommented }) (alone_reads bs)

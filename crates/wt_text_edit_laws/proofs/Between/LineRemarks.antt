@@ -16,7 +16,7 @@ use Rattle.wt_lex.proofs.Forms.{OptFits, comment_fits}
 use Rattle.wt_spelling_laws.proofs.Forms.{other_byte}
 use Rattle.wt_scans.specs.Lexer.{lexer}
 use Rattle.wt_scans.specs.Scans.{skipped_by, AtStarts}
-use Rattle.wt_text_edit_laws.specs.TextBetween.{is_end, AreWholeLines, AreEnded, ends_comment, ends_tag, ends_here}
+use Rattle.wt_text_edit_laws.specs.TextBetween.{is_end, AreWholeLines, AreEnded, ends_comment, ends_tag_before, ends_before}
 use Rattle.wt_text_edit_laws.proofs.Between.LineWords.{either}
 use Rattle.wt_text_edit_laws.proofs.Between.LineComments.{ends_behind, comment_same, comment_short}
 
@@ -52,12 +52,15 @@ comment_form b c bs e =
     ap (λ (o : Option ℕ). option_or (as_word Comment o) (option_or (as_word Raw (raw_len (b ∷ bs)))
     (option_or (include_at Page (b ∷ bs)) (option_or (entity_word (entity_at (b ∷ bs))) (sign_word (b ∷ bs)))))) e
 
--- what begins where a lexeme may begin ends here
-abbrev pub EndsHere : Bool → List ℕ → Type 0
-EndsHere after rest = ends_here rest ≡ true
+-- what begins where a lexeme may begin ends here, or nothing closes it, before this rest
+abbrev pub EndsHere : List ℕ → Bool → List ℕ → Type 0
+EndsHere rest after here = ends_before rest here ≡ true
 
-abbrev pub AllEnd : Bool → ℕ → List ℕ → Type 0
-AllEnd a n q = AtStarts (lexer Page) EndsHere a n q
+abbrev pub AllEnd : List ℕ → Bool → ℕ → List ℕ → Type 0
+AllEnd rest a n q = AtStarts (lexer Page) (EndsHere rest) a n q
+
+comment_ends : (rest bs : List ℕ) → ends_before rest bs ≡ true → ends_comment bs ≡ true
+comment_ends rest bs h = and_left (ends_comment bs) (ends_tag_before rest (opening_tag bs) bs) h
 
 more_lines : (b : ℕ) (ys : List ℕ) → is_blank b ≡ true → AreWholeLines (b ∷ ys) → 0 < length ys
 more_lines b [] e l = let is : b ≡ 10 = eqb-true b 10 l in let z : is_blank 10 ≡ true = ap is_blank (sym is) ∙ e in cc
@@ -91,16 +94,16 @@ remark_short a b ys (Some c) e l h same go =
     omega (arith, less)
 
 -- comments and blanks of such lines end before their end
-pub remarks_short : (a : Bool) (n : ℕ) (ys : List ℕ) → AreWholeLines ys → n < length ys → AllEnd a n ys → remarks_len n ys < length ys
-remarks_short a n [] l lt h = absurd (omega (arith, lt))
-remarks_short a (suc n) (b ∷ ys) l lt h =
-    let less = remarks_short (is_break b) n ys (ends_behind is_break b ys l) (omega (arith, lt)) h in
+pub remarks_short : (rest : List ℕ) (a : Bool) (n : ℕ) (ys : List ℕ) → AreWholeLines ys → n < length ys → AllEnd rest a n ys → remarks_len n ys < length ys
+remarks_short rest a n [] l lt h = absurd (omega (arith, lt))
+remarks_short rest a (suc n) (b ∷ ys) l lt h =
+    let less = remarks_short rest (is_break b) n ys (ends_behind is_break b ys l) (omega (arith, lt)) h in
     omega (arith, less)
-remarks_short a zero (b ∷ ys) l lt h = elim (line_or_none a (b ∷ ys)) [
+remarks_short rest a zero (b ∷ ys) l lt h = elim (line_or_none a (b ∷ ys)) [
   | inl less ↦ less
   | inr same ↦
-      remark_short a b ys (comment_len (b ∷ ys)) refl l (and_left (ends_comment (b ∷ ys)) (ends_tag (opening_tag (b ∷ ys)) (b ∷ ys)) h.0) same
-      (λ k is less. remarks_short (is_break b) k ys (ends_behind is_break b ys l) less (subst (λ (i : ℕ). AllEnd (is_break b) i ys) is h.1))
+      remark_short a b ys (comment_len (b ∷ ys)) refl l (comment_ends rest (b ∷ ys) h.0) same
+      (λ k is less. remarks_short rest (is_break b) k ys (ends_behind is_break b ys l) less (subst (λ (i : ℕ). AllEnd rest (is_break b) i ys) is h.1))
 ]
 
 -- ---- what ends with a comment or tag
@@ -126,7 +129,7 @@ remark_through a b ys rest (Some c) e l h same le go =
     omega (arith, is)
 
 -- where they go up to the end, they go on with those that begin what follows
-pub remarks_through : (rest : List ℕ) (a : Bool) (n : ℕ) (ys : List ℕ) → AreEnded ys → AllEnd a n ys → length ys ≤ remarks_len n ys
+pub remarks_through : (rest : List ℕ) (a : Bool) (n : ℕ) (ys : List ℕ) → AreEnded ys → AllEnd rest a n ys → length ys ≤ remarks_len n ys
     → remarks_len n (ys ++ rest) ≡ length ys + remarks_len 0 rest
 remarks_through rest a zero [] l h le = omega arith
 remarks_through rest a (suc n) [] l h le = absurd (omega (arith, h))
@@ -136,8 +139,8 @@ remarks_through rest a (suc n) (b ∷ ys) l h le =
 remarks_through rest a zero (b ∷ ys) l h le = elim (line_or_none a (b ∷ ys)) [
   | inl less ↦ absurd (omega (arith, less, le))
   | inr same ↦
-      let ended : ends_comment (b ∷ ys) ≡ true = and_left (ends_comment (b ∷ ys)) (ends_tag (opening_tag (b ∷ ys)) (b ∷ ys)) h.0 in
+      let ended : ends_comment (b ∷ ys) ≡ true = comment_ends rest (b ∷ ys) h.0 in
       ap (λ o. remarks_with o b (λ n. remarks_len n (ys ++ rest))) (comment_same b ys rest l ended)
       ∙ remark_through a b ys rest (comment_len (b ∷ ys)) refl l ended same le
-      (λ k is so. remarks_through rest (is_break b) k ys (ends_behind is_end b ys l) (subst (λ (i : ℕ). AllEnd (is_break b) i ys) is h.1) so)
+      (λ k is so. remarks_through rest (is_break b) k ys (ends_behind is_end b ys l) (subst (λ (i : ℕ). AllEnd rest (is_break b) i ys) is h.1) so)
 ]

@@ -79,7 +79,7 @@ opening_here b q rest t l e =
     let le = subst (TagWithin (length q)) e (opening_within (length q) bs (last_end is_end b q rest l)) in
     sym (ap opening_tag (take-append_seam (b ∷ q) rest)) ∙ opening_front bs t (suc (length q)) e (omega (arith, le))
 
-closing_same : (b : ℕ) (q rest : List ℕ) → AreEnded (b ∷ q) → closing_tag ((b ∷ q) ++ rest) ≡ closing_tag (b ∷ q)
+pub closing_same : (b : ℕ) (q rest : List ℕ) → AreEnded (b ∷ q) → closing_tag ((b ∷ q) ++ rest) ≡ closing_tag (b ∷ q)
 closing_same b q rest l = by (closing_tag bs) (closing_tag (b ∷ q)) refl refl
   where
     bs : List ℕ

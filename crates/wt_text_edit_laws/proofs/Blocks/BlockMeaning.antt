@@ -90,7 +90,7 @@ ends_between : (last next : TextBlock) (xs : List Item) (q : List ℕ) (tail : L
 ends_between a_paragraph next xs q tail h b e = ends_paragraph next xs q tail h b e
 ends_between (a_heading s) next xs q tail h b e = ends_heading s next xs (block_items next q ++ tail) h
 
-further_end : (last : TextBlock) (ss : List BlockSpot) (behind : List ℕ) → AreFurtherBlocks last ss behind → EndsBlock last (spots_items ss behind)
+pub further_end : (last : TextBlock) (ss : List BlockSpot) (behind : List ℕ) → AreFurtherBlocks last ss behind → EndsBlock last (spots_items ss behind)
 further_end last [] behind h = h.ends
 further_end last (s ∷ ss) behind h =
     ends_between last s.block (page_items s.before) s.text (spots_items ss behind) h.1 h.0.block (further_end s.block ss behind h.2)

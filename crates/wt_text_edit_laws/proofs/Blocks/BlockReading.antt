@@ -7,7 +7,6 @@ use Rattle.wt_span.specs.declared.form.Mode.TheVariants.{Page}
 use Rattle.wt_span.specs.declared.form.LexKind.TheVariants.{Equals}
 use Rattle.wt_span.specs.Bytes.{is_blank}
 use Rattle.wt_span.specs.Items.{Item, char, sources}
-use Rattle.wt_span.specs.Lexemes.{cuts}
 use Rattle.wt_spelling_laws.proofs.Forms.{comment_other, other_byte, equals_byte}
 use Rattle.wt_expand.specs.PageCalls.{expanded_page}
 use Rattle.wt_expand.specs.PageItems.{page_items}
@@ -16,20 +15,22 @@ use Rattle.wt_expand.specs.Expansion.{page_work}
 use Rattle.wt_expand.proofs.PageLaws.{page_sources}
 use Rattle.wt_text_edit_laws.specs.LonePages.{page_chars, of_items}
 use Rattle.wt_text_edit_laws.specs.TypedPages.{IsTypedPage}
-use Rattle.wt_text_edit_laws.proofs.Texts.TypedText.{HaveNoClosers, shown_expanded, shown_unrefused}
 use Rattle.wt_scans.specs.Lexer.{lexer}
 use Rattle.wt_scans.specs.Scans.{after_all}
 use Rattle.wt_text_edit_laws.proofs.Prose.Uncommented.{BeginsUncommented, uncommented_other}
-use Rattle.wt_text_edit_laws.proofs.Prose.InFront.{Reads, shown_closed, reads_byte, reads_form}
+use Rattle.wt_text_edit_laws.proofs.Prose.InFront.{Reads, reads_byte, reads_form}
 use Rattle.wt_text_edit_laws.proofs.Prose.ProseReading.{page_front}
-use Rattle.wt_text_edit_laws.specs.TextBetween.{StandsBefore}
-use Rattle.wt_text_edit_laws.proofs.Between.Fronts.{ReadsAfter, reads_after, reads_either, first_from, form_from, words_from, page_read, page_words, alone_reads, before_reads, behind_reads}
+use Rattle.wt_text_edit_laws.specs.NoCalls.{CallsNothing}
+use Rattle.wt_text_edit_laws.specs.TextBetween.{AreEnded, HasEndsBefore, LineEnds}
+use Rattle.wt_text_edit_laws.proofs.Between.LineForms.{ends_before_any}
+use Rattle.wt_text_edit_laws.proofs.Between.Fronts.{ReadsAfter, reads_after, reads_either, first_from, form_from, page_read, alone_reads, before_reads, behind_reads}
 use Rattle.wt_text_edit_laws.proofs.Between.Shown.{begins_shown, shown_before, shown_reads}
+use Rattle.wt_text_edit_laws.proofs.Between.NoCalls.{calm_expanded, calm_unrefused}
 use Rattle.wt_text_edit_laws.specs.ParagraphBetween.{EndsParagraph}
 use Rattle.wt_text_edit_laws.proofs.Paragraphs.Texts.{EndsHere, here_begins, nothing_is, line_reads, paragraph_front, paragraph_shown}
 use Rattle.wt_text_edit_laws.specs.TypedHeadings.{Sides, AreBlanks, AreSides, equals, opening, closing, closing_items, heading_line, EndsLine}
-use Rattle.wt_text_edit_laws.specs.TextBlocks.{TextBlock, a_paragraph, a_heading, source_of, block_items, IsFrame, IsTypedHeading, IsWrittenHeading, IsBlock, EndsBlock, BeginsApart, BeginsLine, BeginsBetween}
-use Rattle.wt_text_edit_laws.specs.BlockSpots.{BlockSpot, spots_source, IsBlockSpot, AreFurtherBlocks, AreBlockSpots}
+use Rattle.wt_text_edit_laws.specs.TextBlocks.{TextBlock, a_paragraph, a_heading, source_of, block_items, IsFrame, IsTypedHeading, IsWrittenHeading, IsBlock, TextEnds, EndsBlock, BeginsApart, BeginsLine, BeginsBetween}
+use Rattle.wt_text_edit_laws.specs.BlockSpots.{BlockSpot, spots_source, IsBlockSpot, AreFurtherBlocks, EndBeforeBlocks, AreBlockSpots}
 
 -- ---- a heading's delimiters
 
@@ -41,7 +42,7 @@ abbrev pub AreQuiet : List ℕ → Type 0
 AreQuiet [] = Unit {0}
 AreQuiet (b ∷ bs) = IsQuiet b × AreQuiet bs
 
-quiet_joined : (bs cs : List ℕ) → AreQuiet bs → AreQuiet cs → AreQuiet (bs ++ cs)
+pub quiet_joined : (bs cs : List ℕ) → AreQuiet bs → AreQuiet cs → AreQuiet (bs ++ cs)
 quiet_joined [] cs h g = g
 quiet_joined (b ∷ bs) cs h g = (h.0, quiet_joined bs cs h.1 g)
 
@@ -73,7 +74,7 @@ each_quiet P p q r b h = by_tests P p q r b (b == 61) (b == 32) (b == 9) refl re
 -- ---- how they are read
 
 read_equals : (bs : List ℕ) (xs : List Item) → Reads bs xs → Reads (61 ∷ bs) (char None 61 ∷ xs)
-read_equals bs xs r = reads_form Equals 61 [] bs xs tt (equals_byte Page bs) (uncommented_other 61 bs refl (comment_other 61 bs (omega arith))) r
+read_equals bs xs r = reads_form Equals 61 [] bs xs (equals_byte Page bs) (uncommented_other 61 bs refl (comment_other 61 bs (omega arith))) r
 
 read_space : (bs : List ℕ) (xs : List Item) → Reads bs xs → Reads (32 ∷ bs) (char None 32 ∷ xs)
 read_space bs xs r = reads_byte 32 bs xs (other_byte Page 32 bs refl) (comment_other 32 bs (omega arith)) r
@@ -95,7 +96,6 @@ equals_reads bs xs r =
     reads_either (61 ∷ bs) (char None 61 ∷ xs) (uncommented_other 61 bs refl (comment_other 61 bs (omega arith))) (record {
       items = sym (first_from false (61 ∷ bs)) ∙ form_from false 61 bs Equals 0 (equals_byte Page bs)
           ∙ ap (λ (ys : List Item). char None 61 ∷ ys) (first_from false bs ∙ r.items);
-      shown = subst HaveNoClosers (sym (words_from false 61 bs Equals 0 (equals_byte Page bs))) (tt, shown_closed (cuts Page false 0 bs) r.shown);
     })
 
 run_reads : (n : ℕ) (bs : List ℕ) (xs : List Item) → ReadsAfter false bs xs → Reads (equals (suc n) ++ bs) (page_chars (equals (suc n)) ++ xs)
@@ -113,10 +113,10 @@ rest_reads s [] xs f e r =
     let own : List Item = page_items s.rest in
     subst (λ ys. ReadsAfter false (s.rest ++ []) (own ++ ys)) (sym (nothing_is xs r))
     (subst (λ bs. ReadsAfter false bs (own ++ [])) (sym (append-nil s.rest))
-    (subst (λ ys. ReadsAfter false s.rest ys) (sym (append-nil own)) (alone_reads s.rest f.uncalled)))
+    (subst (λ ys. ReadsAfter false s.rest ys) (sym (append-nil own)) (alone_reads s.rest)))
 rest_reads s (b ∷ r) xs f e read =
     let P : ℕ → Type 0 = λ (c : ℕ). Reads (c ∷ r) xs → ReadsAfter false (s.rest ++ c ∷ r) (page_items s.rest ++ xs) in
-    subst P (sym e) (λ k. line_reads s.rest r (page_items s.rest) xs f.stands f.ended k) read
+    subst P (sym e) (λ k. line_reads s.rest r (page_items s.rest) xs (ends_before_any r (s.rest ++ 10 ∷ []) f.stands.has_ends) f.ended k) read
 
 closing_front : (s : Sides) (rest : List ℕ) (xs : List Item) → IsFrame s → EndsHere rest → Reads rest xs
     → Reads (closing s ++ rest) (closing_items s ++ xs)
@@ -168,30 +168,31 @@ heading_begins s q rest a =
     subst BeginsUncommented (sym (append_assoc (opening s) more rest ∙ append_assoc (equals s.level) s.lead (more ++ rest)))
     (run_begins s.level (s.lead ++ (more ++ rest)) a.some)
 
-written_front : (s : Sides) (q rest : List ℕ) (xs : List Item) → IsWrittenHeading s q → EndsHere rest → Reads rest xs
+written_front : (s : Sides) (q rest : List ℕ) (xs : List Item) → IsWrittenHeading s q → LineEnds (source_of (a_heading s) q) rest → EndsHere rest → Reads rest xs
     → Reads (source_of (a_heading s) q ++ rest) (heading_line s (page_items q) ++ xs)
-written_front s q [] xs h e r =
+written_front s q [] xs h l e r =
     let line : List ℕ = source_of (a_heading s) q in
     let own : List Item = heading_line s (page_items q) in
     let begins : BeginsUncommented line = subst BeginsUncommented (append-nil line) (heading_begins s q [] h.frame.sides) in
-    let alone : Reads line (page_items line) = reads_either line (page_items line) begins (alone_reads line h.uncalled) in
+    let alone : Reads line (page_items line) = reads_either line (page_items line) begins (alone_reads line) in
     subst (λ ys. Reads (line ++ []) (own ++ ys)) (sym (nothing_is xs r))
     (subst (λ bs. Reads bs (own ++ [])) (sym (append-nil line)) (subst (λ ys. Reads line ys) (h.unended ∙ sym (append-nil own)) alone))
-written_front s q (b ∷ r) xs h e read =
+written_front s q (b ∷ r) xs h l e read =
     let line : List ℕ = source_of (a_heading s) q in
     let own : List Item = heading_line s (page_items q) in
-    let P : ℕ → Type 0 = λ (c : ℕ). Reads (c ∷ r) xs → Reads (line ++ c ∷ r) (own ++ xs) in
-    subst P (sym e) (λ k. reads_either (line ++ 10 ∷ r) (own ++ xs) (heading_begins s q (10 ∷ r) h.frame.sides) (line_reads line r own xs h.stands h.ended k)) read
+    let P : ℕ → Type 0 = λ (c : ℕ). HasEndsBefore r (line ++ c ∷ []) → Reads (c ∷ r) xs → Reads (line ++ c ∷ r) (own ++ xs) in
+    subst P (sym e) (λ m k. reads_either (line ++ 10 ∷ r) (own ++ xs) (heading_begins s q (10 ∷ r) h.frame.sides) (line_reads line r own xs m h.ended k)) l read
 
-heading_front : (s : Sides) (q rest : List ℕ) (xs : List Item) → IsBlock (a_heading s) q → EndsHere rest → Reads rest xs
+heading_front : (s : Sides) (q rest : List ℕ) (xs : List Item) → IsBlock (a_heading s) q → TextEnds (a_heading s) q rest → EndsHere rest → Reads rest xs
     → Reads (source_of (a_heading s) q ++ rest) (heading_line s (page_items q) ++ xs)
-heading_front s q rest xs (inl t) e r = typed_front s q rest xs t e r
-heading_front s q rest xs (inr w) e r = written_front s q rest xs w e r
+heading_front s q rest xs (inl t) l e r = typed_front s q rest xs t e r
+heading_front s q rest xs (inr w) (inl t) e r = typed_front s q rest xs t e r
+heading_front s q rest xs (inr w) (inr l) e r = written_front s q rest xs w l e r
 
-block_front : (k : TextBlock) (q rest : List ℕ) (xs : List Item) → IsBlock k q → EndsHere rest → Reads rest xs
+block_front : (k : TextBlock) (q rest : List ℕ) (xs : List Item) → IsBlock k q → TextEnds k q rest → EndsHere rest → Reads rest xs
     → Reads (source_of k q ++ rest) (block_items k q ++ xs)
-block_front a_paragraph q rest xs h e r = paragraph_front q rest xs h e r
-block_front (a_heading s) q rest xs h e r = heading_front s q rest xs h e r
+block_front a_paragraph q rest xs h l e r = paragraph_front q rest xs h l e r
+block_front (a_heading s) q rest xs h l e r = heading_front s q rest xs h l e r
 
 -- ---- a block begins with something visible
 
@@ -210,13 +211,14 @@ abbrev pub spots_items : List BlockSpot → List ℕ → List Item
 spots_items [] behind = page_items behind
 spots_items (s ∷ ss) behind = page_items s.before ++ (block_items s.block s.text ++ spots_items ss behind)
 
-in_front : (bs rest : List ℕ) (xs : List Item) → StandsBefore bs → Reads rest xs → begins_shown xs ≡ true → ReadsAfter false (bs ++ rest) (page_items bs ++ xs)
-in_front bs rest xs b r s = before_reads bs rest xs b (shown_reads rest xs r s) (reads_after (after_all (lexer Page) false bs) rest xs r)
+in_front : (bs rest : List ℕ) (xs : List Item) → AreEnded bs → HasEndsBefore rest bs → Reads rest xs → begins_shown xs ≡ true
+    → ReadsAfter false (bs ++ rest) (page_items bs ++ xs)
+in_front bs rest xs l h r s = before_reads bs rest xs l h (shown_reads rest xs r s) (reads_after (after_all (lexer Page) false bs) rest xs r)
 
-spot_reads : (s : BlockSpot) (rest : List ℕ) (xs : List Item) → IsBlockSpot s → EndsHere rest → Reads rest xs
+spot_reads : (s : BlockSpot) (rest : List ℕ) (xs : List Item) → IsBlockSpot s → HasEndsBefore (source_of s.block s.text ++ rest) s.before → TextEnds s.block s.text rest → EndsHere rest → Reads rest xs
     → ReadsAfter false (s.before ++ (source_of s.block s.text ++ rest)) (page_items s.before ++ (block_items s.block s.text ++ xs))
-spot_reads s rest xs h e r =
-    in_front s.before (source_of s.block s.text ++ rest) (block_items s.block s.text ++ xs) h.before (block_front s.block s.text rest xs h.block e r)
+spot_reads s rest xs h b l e r =
+    in_front s.before (source_of s.block s.text ++ rest) (block_items s.block s.text ++ xs) h.ended b (block_front s.block s.text rest xs h.block l e r)
     (shown_before (block_items s.block s.text) xs (block_shown s.block s.text h.block))
 
 -- behind a paragraph or a heading the page ends, or a line break stands
@@ -232,7 +234,7 @@ source_ends : (k : TextBlock) (xs : List Item) → EndsBlock k xs → EndsHere (
 source_ends a_paragraph xs e = paragraph_ends xs e
 source_ends (a_heading s) xs e = line_ends xs e
 
-abbrev BeginsHere : List ℕ → Type 0
+abbrev pub BeginsHere : List ℕ → Type 0
 BeginsHere [] = ⊥
 BeginsHere (b ∷ bs) = b ≡ 10
 
@@ -244,7 +246,7 @@ line_begins : (xs : List Item) → BeginsLine xs → BeginsHere (sources xs)
 line_begins [] e = absurd e
 line_begins (y ∷ ys) e = subst (λ z. BeginsHere (sources (z ∷ ys))) (sym e) refl
 
-source_begins : (last next : TextBlock) (xs : List Item) → BeginsBetween last next xs → BeginsHere (sources xs)
+pub source_begins : (last next : TextBlock) (xs : List Item) → BeginsBetween last next xs → BeginsHere (sources xs)
 source_begins a_paragraph next xs e = apart_begins next xs e
 source_begins (a_heading s) next xs e = line_begins xs e
 
@@ -252,34 +254,39 @@ ends_before : (bs rest : List ℕ) → BeginsHere bs → EndsHere (bs ++ rest)
 ends_before [] rest h = absurd h
 ends_before (b ∷ bs) rest h = h
 
-further_ends : (last : TextBlock) (ss : List BlockSpot) (behind : List ℕ) → AreFurtherBlocks last ss behind → EndsHere (spots_source ss behind)
+pub further_ends : (last : TextBlock) (ss : List BlockSpot) (behind : List ℕ) → AreFurtherBlocks last ss behind → EndsHere (spots_source ss behind)
 further_ends last [] behind h = subst EndsHere (page_sources behind) (source_ends last (page_items behind) h.ends)
 further_ends last (s ∷ ss) behind h =
     ends_before s.before (source_of s.block s.text ++ spots_source ss behind)
     (subst BeginsHere (page_sources s.before) (source_begins last s.block (page_items s.before) h.1))
 
-further_reads : (last : TextBlock) (ss : List BlockSpot) (behind : List ℕ) → AreFurtherBlocks last ss behind
+further_reads : (last : TextBlock) (ss : List BlockSpot) (behind : List ℕ) → AreFurtherBlocks last ss behind → EndBeforeBlocks ss behind
     → Reads (spots_source ss behind) (spots_items ss behind)
-further_reads last [] behind h = behind_reads behind h.stands
-further_reads last (s ∷ ss) behind h =
+further_reads last [] behind h b = behind_reads behind h.stands
+further_reads last (s ∷ ss) behind h b =
     reads_either (spots_source (s ∷ ss) behind) (spots_items (s ∷ ss) behind)
     (here_begins (spots_source (s ∷ ss) behind) (further_ends last (s ∷ ss) behind h))
-    (spot_reads s (spots_source ss behind) (spots_items ss behind) h.0 (further_ends s.block ss behind h.2) (further_reads s.block ss behind h.2))
+    (spot_reads s (spots_source ss behind) (spots_items ss behind) h.0 b.0 b.1 (further_ends s.block ss behind h.2) (further_reads s.block ss behind h.2 b.2))
 
-spots_read : (ss : List BlockSpot) (behind : List ℕ) → AreBlockSpots ss behind → ReadsAfter false (spots_source ss behind) (spots_items ss behind)
-spots_read [] behind h = absurd h
-spots_read (s ∷ ss) behind h =
-    spot_reads s (spots_source ss behind) (spots_items ss behind) h.0 (further_ends s.block ss behind h.1) (further_reads s.block ss behind h.1)
+-- whatever the braces among them are
+pub items_of_parts : (s : BlockSpot) (ss : List BlockSpot) (behind : List ℕ) → IsBlockSpot s → AreFurtherBlocks s.block ss behind
+    → EndBeforeBlocks (s ∷ ss) behind → page_items (spots_source (s ∷ ss) behind) ≡ spots_items (s ∷ ss) behind
+items_of_parts s ss behind h f b =
+    page_read (spots_source (s ∷ ss) behind) (spots_items (s ∷ ss) behind)
+    (spot_reads s (spots_source ss behind) (spots_items ss behind) h b.0 b.1 (further_ends s.block ss behind f) (further_reads s.block ss behind f b.2))
 
 pub items_of_spots : (ss : List BlockSpot) (behind : List ℕ) → AreBlockSpots ss behind → page_items (spots_source ss behind) ≡ spots_items ss behind
-items_of_spots ss behind h = page_read (spots_source ss behind) (spots_items ss behind) (spots_read ss behind h)
+items_of_spots [] behind h = absurd h
+items_of_spots (s ∷ ss) behind h = items_of_parts s ss behind h.0 h.1 h.2.end_before
+
+spots_calm : (ss : List BlockSpot) (behind : List ℕ) → AreBlockSpots ss behind → CallsNothing (page_items (spots_source ss behind))
+spots_calm [] behind h = absurd h
+spots_calm (s ∷ ss) behind h = h.2.calls_nothing
 
 pub spots_expanded : (pages : Pages) (ss : List BlockSpot) (behind : List ℕ) → AreBlockSpots ss behind
     → expanded_page pages (spots_source ss behind) ≡ of_items (page_items (spots_source ss behind))
-spots_expanded pages ss behind h =
-    shown_expanded pages (spots_source ss behind) (page_words (spots_source ss behind) (spots_items ss behind) (spots_read ss behind h))
+spots_expanded pages ss behind h = calm_expanded pages (spots_source ss behind) (spots_calm ss behind h)
 
 pub spots_unrefused : (pages : Pages) (ss : List BlockSpot) (behind : List ℕ) → AreBlockSpots ss behind
     → first_refusal pages (spots_source ss behind) (page_work pages (spots_source ss behind)) ≡ None
-spots_unrefused pages ss behind h =
-    shown_unrefused pages (spots_source ss behind) (page_words (spots_source ss behind) (spots_items ss behind) (spots_read ss behind h))
+spots_unrefused pages ss behind h = calm_unrefused pages (spots_source ss behind) (spots_calm ss behind h)

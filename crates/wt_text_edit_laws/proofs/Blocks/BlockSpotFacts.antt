@@ -1,5 +1,5 @@
 -- What holds of all blocks of a page in whose paragraphs and headings texts were typed, and what the new page shows.
-use Rattle.std.proofs.Common.{arith, ◌≡◌, ℕ, ◌≤◌, false, List, [], ◌∷◌, ◌++◌, length, refl, sym, ap, ap₂, ◌∙◌, subst, append-nil, append_assoc, inl}
+use Rattle.std.proofs.Common.{arith, ◌≡◌, ℕ, ◌≤◌, false, List, [], ◌∷◌, ◌++◌, length, refl, sym, ap, ap₂, ◌∙◌, subst, append-nil, append_assoc, ◌⊎◌, inl, inr}
 use Rattle.std.specs.Str.{IsUtf8}
 use Rattle.std.proofs.lemmas.Grind.{flat_map-append}
 use Rattle.wt_tree.specs.Plain.{Plains, ended}
@@ -22,12 +22,13 @@ use Rattle.wt_text_edit_laws.specs.ParagraphBetween.{blocks_in}
 use Rattle.wt_text_edit_laws.proofs.Blocks.KeptBlocks.{block_shown, blocks_shown, blocks_source, part_source, others_show}
 use Rattle.wt_text_edit_laws.proofs.Blocks.PageKinds.{both_ordinary}
 use Rattle.wt_text_edit_laws.specs.TypedHeadings.{Sides}
-use Rattle.wt_text_edit_laws.specs.TextBlocks.{TextBlock, a_paragraph, a_heading, source_of, IsFrame, IsTypedHeading, IsBlock}
+use Rattle.wt_text_edit_laws.specs.TextBlocks.{TextBlock, a_paragraph, a_heading, source_of, IsFrame, IsTypedHeading, IsBlock, IsTypedIn}
 use Rattle.wt_text_edit_laws.specs.BlockSpots.{BlockSpot, spots_source, SameRound, AreBlocks}
 use Rattle.wt_text_edit_laws.specs.BlockEdits.{Sending, kept, Typing, types, keeps, typed_as, new_text, SpotEdit, old_spots, new_spots, all_kept, sending_for, spot_sendings, IsSentFor, AreSentFor, IsText, AreTexts}
 use Rattle.wt_text_edit_laws.proofs.Blocks.BlockMeaning.{heading_frame}
 use Rattle.wt_text_edit_laws.proofs.Blocks.BlockTrees.{leaf_block, leafy_blocks, block_own}
 use Rattle.wt_text_edit_laws.proofs.Blocks.BlocksAgain.{AreClear}
+use Rattle.wt_text_edit_laws.proofs.Blocks.TypedBraces.{AreTypedOver}
 use Rattle.wt_text_edit_laws.proofs.Blocks.TypedFacts.{Facts, facts_nothing, facts_kept, facts_text, items_source}
 
 -- ---- what is known of the parts
@@ -198,6 +199,15 @@ new_is a_paragraph (types p t text) q u h = inl (typed_paragraph (source_of a_pa
 new_is (a_heading s) (types p t text) q u h = inl (typed_heading s (source_of (a_heading s) q) text u.0 u.1 (heading_frame s q h))
 new_is a_paragraph (keeps v) q u h = h
 new_is (a_heading s) (keeps v) q u h = h
+
+over_is : (k : TextBlock) (y : Typing) (q : List ℕ) → IsText k y → IsBlock k q → (new_text k y q ≡ q) ⊎ IsTypedIn k (new_text k y q)
+over_is a_paragraph (types p t text) q u h = inr (typed_paragraph (source_of a_paragraph q) text u.0)
+over_is (a_heading s) (types p t text) q u h = inr (typed_heading s (source_of (a_heading s) q) text u.0 u.1 (heading_frame s q h))
+over_is k (keeps v) q u h = inl refl
+
+pub typed_over : (es : List SpotEdit) → AreTexts es → AreBlocks (old_spots es) → AreTypedOver (old_spots es) (new_spots es)
+typed_over [] u h = tt
+typed_over (e ∷ es) u h = (over_is e.spot.block e.typing e.spot.text u.0 h.0, typed_over es u.1 h.1)
 
 pub all_typed : (es : List SpotEdit) → AreTexts es → AreBlocks (old_spots es) → AreBlocks (new_spots es)
 all_typed [] u h = tt

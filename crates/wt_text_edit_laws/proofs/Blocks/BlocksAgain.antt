@@ -11,7 +11,7 @@ use Rattle.wt_text_edit_laws.proofs.Paragraphs.Texts.{paragraph_utf8}
 use Rattle.wt_text_edit_laws.proofs.Paragraphs.ClearLines.{clear_first, clear_line}
 use Rattle.wt_text_edit_laws.specs.TypedHeadings.{Sides, equals, opening, closing}
 use Rattle.wt_text_edit_laws.specs.TextBlocks.{TextBlock, a_paragraph, a_heading, source_of, IsFrame, IsBlock, BeginsBetween}
-use Rattle.wt_text_edit_laws.specs.BlockSpots.{BlockSpot, spots_source, IsBlockSpot, AreFurtherBlocks, AreBlockSpots, SameRound, AreBlocks}
+use Rattle.wt_text_edit_laws.specs.BlockSpots.{BlockSpot, spots_source, IsBlockSpot, AreFurtherBlocks, AsAWhole, AreBlockSpots, SameRound, AreBlocks}
 use Rattle.wt_text_edit_laws.proofs.Blocks.BlockReading.{AreQuiet, run_quiet, blanks_quiet, opening_quiet, each_quiet, typed_text}
 use Rattle.wt_text_edit_laws.proofs.Blocks.BlockMeaning.{heading_frame}
 
@@ -78,14 +78,14 @@ AreClear front (s ∷ ss) = (ends_open (front ++ s.before) ≡ false) × AreClea
 further_clear : (front : List ℕ) (last : TextBlock) (ss : List BlockSpot) (behind : List ℕ) → AreFurtherBlocks last ss behind → AreClear front ss
 further_clear front last [] behind h = tt
 further_clear front last (s ∷ ss) behind h = (
-  clear_between front s.before last s.block h.0.before.ends h.1,
+  clear_between front s.before last s.block h.0.ended h.1,
   further_clear ((front ++ s.before) ++ source_of s.block s.text) s.block ss behind h.2,
 )
 
 pub spots_clear : (ss : List BlockSpot) (behind : List ℕ) → AreBlockSpots ss behind → AreClear [] ss
 spots_clear [] behind h = absurd h
 spots_clear (s ∷ ss) behind h =
-    (clear_first s.before h.0.before.ends, further_clear (s.before ++ source_of s.block s.text) s.block ss behind h.1)
+    (clear_first s.before h.0.ended, further_clear (s.before ++ source_of s.block s.text) s.block ss behind h.1)
 
 -- ---- with other texts
 
@@ -96,7 +96,7 @@ spot_again : (s r : BlockSpot) → IsBlockSpot s → r.before ≡ s.before → r
 spot_again s r h e k t =
     let own : IsBlock s.block r.text = subst (λ k. IsBlock k r.text) k t in
     let so : IsBlockSpot (same_spot s.before s.block r.text) = record {
-      before = h.before;
+      ended = h.ended;
       before_utf8 = h.before_utf8;
       ungrouped = h.ungrouped;
       leads = h.leads;
@@ -115,8 +115,13 @@ further_again last (s ∷ ss) (r ∷ rs) behind h e t = (
   subst (λ k. AreFurtherBlocks k rs behind) (sym e.1) (further_again s.block ss rs behind h.2 e.2 t.1),
 )
 
-pub spots_again : (ss rs : List BlockSpot) (behind : List ℕ) → AreBlockSpots ss behind → SameRound ss rs → AreBlocks rs → AreBlockSpots rs behind
-spots_again [] rs behind h e t = absurd h
-spots_again (s ∷ ss) [] behind h e t = absurd e
-spots_again (s ∷ ss) (r ∷ rs) behind h e t =
+pub parts_again : (s r : BlockSpot) (ss rs : List BlockSpot) (behind : List ℕ) → AreBlockSpots (s ∷ ss) behind → SameRound (s ∷ ss) (r ∷ rs) → AreBlocks (r ∷ rs)
+    → IsBlockSpot r × AreFurtherBlocks r.block rs behind
+parts_again s r ss rs behind h e t =
     (spot_again s r h.0 e.0 e.1 t.0, subst (λ k. AreFurtherBlocks k rs behind) (sym e.1) (further_again s.block ss rs behind h.1 e.2 t.1))
+
+pub spots_again : (ss rs : List BlockSpot) (behind : List ℕ) → AreBlockSpots ss behind → SameRound ss rs → AreBlocks rs
+    → AsAWhole rs behind → AreBlockSpots rs behind
+spots_again [] rs behind h e t w = absurd h
+spots_again (s ∷ ss) [] behind h e t w = absurd e
+spots_again (s ∷ ss) (r ∷ rs) behind h e t w = let p = parts_again s r ss rs behind h e t in (p.0, p.1, w)

@@ -30,6 +30,7 @@ use Rattle.wt_context.specs.Styled.{with_styles}
 use Rattle.wt_context.specs.Nodes.{segments}
 use Rattle.wt_context.specs.Line.{context_parts}
 use Rattle.wt_page.specs.Rows.{rows}
+use Rattle.wt_page.specs.Texts.{para}
 use Rattle.wt_page.specs.Body.{blocks, meaning}
 use Rattle.wt_annotated.specs.Annotated.{annotated}
 use Rattle.wt_annotated.specs.GroupData.{group_data}
@@ -92,8 +93,7 @@ unfolding page_items words closed form_at comment_len comment_line_len raw_len o
 spaced_frame n some most = record {
   sides = record { some = some; most = most; lead = (refl, tt); trail = (refl, tt); rest = tt };
   utf8 = ([], (refl, refl));
-  stands = record { ends = refl; has_ends = (refl, refl); uncalled = (tt, tt) };
-  uncalled = tt;
+  stands = record { ends = refl; has_ends = (refl, refl) };
   ended = refl;
 }
 
@@ -142,7 +142,7 @@ unfolding page_items words closed form_at comment_len comment_line_len raw_len o
     hex_entity entity_names sign_word kind_of_signs annotated group_data label_at meaning rows blocks children
 are_spots = (
   record {
-    before = record { ends = tt; has_ends = refl; uncalled = tt };
+    ended = tt;
     before_utf8 = IsUtf8-nil;
     ungrouped = (refl, tt);
     leads = record { whole = refl; closed = refl };
@@ -150,7 +150,7 @@ are_spots = (
   },
   (
     record {
-      before = record { ends = refl; has_ends = (refl, refl); uncalled = (tt, tt) };
+      ended = refl;
       before_utf8 = break_utf8;
       ungrouped = (refl, ((refl, tt), tt));
       leads = record { are_closed = record { whole = refl; closed = refl }; apart = refl };
@@ -159,7 +159,7 @@ are_spots = (
     refl,
     (
       record {
-        before = record { ends = refl; has_ends = (refl, refl); uncalled = (tt, tt) };
+        ended = refl;
         before_utf8 = break_utf8;
         ungrouped = (refl, ((refl, tt), tt));
         leads = record { whole = refl; closed = refl };
@@ -167,14 +167,47 @@ are_spots = (
       },
       (refl, (record { whole = refl; closed = refl }), tt),
       record {
-        stands = record { uncommented = refl; uncalled = (tt, tt) };
+        stands = record { uncommented = refl };
         utf8 = break_utf8;
         ungrouped = (refl, ((refl, tt), tt));
         ends = refl;
       },
     ),
   ),
+  record { calls_nothing = tt; end_before = (refl, inl typed_h, ((refl, refl), inl typed_b, ((refl, refl), inl typed_e, tt))) },
 )
+
+-- braces that close before any open, and braces that nothing closes, are in it, and a call isn't
+unpaired_utf8 : IsUtf8 (codes "\n\n}} {{\n")
+unfolding lib.Utf8.encode
+unpaired_utf8 = (codes "\n\n}} {{\n", (refl, refl))
+
+unpaired : AreBlockSpots (record { before = []; block = a_paragraph; text = codes "b" } ∷ []) (codes "\n\n}} {{\n")
+unfolding page_items words closed form_at comment_len comment_line_len raw_len opening_tag closing_tag include_at entity_at named_entity decimal_entity
+    hex_entity entity_names sign_word kind_of_signs annotated group_data label_at meaning rows blocks para children
+    context_parts segments tiles shapes tiles_closed tile_form_at link_or_url link_at ext_link_at bare_url_at scheme_len kept_len
+    tag_tile tag_at tile_opening_tag tile_closing_tag switch_at loose_segments chunks with_styles style_tree_of toggles_of toggle_at
+unpaired = (
+  record {
+    ended = tt;
+    before_utf8 = IsUtf8-nil;
+    ungrouped = (refl, tt);
+    leads = record { are_closed = record { whole = refl; closed = refl }; apart = tt };
+    block = inl typed_b;
+  },
+  record {
+    stands = record { uncommented = refl };
+    utf8 = unpaired_utf8;
+    ungrouped = (refl, ((refl, tt), ((refl, ((refl, tt), tt)), ((refl, tt), tt))));
+    ends = (refl, refl);
+  },
+  record { calls_nothing = tt; end_before = (refl, inl typed_b, tt) },
+)
+
+paired : AreBlockSpots (record { before = []; block = a_paragraph; text = codes "b" } ∷ []) (codes "\n\n{{a}}\n") → ⊥
+unfolding page_items words closed form_at comment_len comment_line_len raw_len opening_tag closing_tag include_at entity_at named_entity decimal_entity
+    hex_entity entity_names sign_word
+paired h = h.2.calls_nothing
 
 -- a heading that was written by hand: a heading spells this ampersand as a reference
 written_heading : IsWrittenHeading (spaced 2) (codes "Q&A")
@@ -185,8 +218,6 @@ unfolding level page_items words closed form_at comment_len comment_line_len raw
 written_heading = record {
   frame = spaced_frame 2 (omega arith) (omega arith);
   utf8 = (codes "Q&A", (refl, refl));
-  stands = record { ends = refl; has_ends = (refl, (refl, (refl, (refl, (refl, (refl, (refl, (refl, (refl, (refl, refl)))))))))); uncalled = (tt, (tt, (tt, (tt, (tt, (tt, tt)))))) };
-  uncalled = (tt, (tt, (tt, (tt, (tt, tt)))));
   ended = refl;
   unended = refl;
   are_letters = tt;
@@ -204,8 +235,7 @@ unfolding page_items words closed form_at comment_len comment_line_len raw_len o
 framed_bare = record {
   sides = record { some = omega arith; most = omega arith; lead = tt; trail = tt; rest = (refl, tt) };
   utf8 = (codes " ", (refl, refl));
-  stands = record { ends = refl; has_ends = (refl, (refl, refl)); uncalled = (tt, tt) };
-  uncalled = (tt, tt);
+  stands = record { ends = refl; has_ends = (refl, (refl, refl)) };
   ended = refl;
 }
 
@@ -215,12 +245,6 @@ unfolding level page_items words closed form_at comment_len comment_line_len raw
 written_bare = record {
   frame = framed_bare;
   utf8 = written_heading.utf8;
-  stands = record {
-    ends = refl;
-    has_ends = (refl, (refl, (refl, (refl, (refl, (refl, (refl, (refl, (refl, refl)))))))));
-    uncalled = (tt, (tt, (tt, (tt, (tt, (tt, tt))))));
-  };
-  uncalled = (tt, (tt, (tt, (tt, (tt, (tt, tt))))));
   ended = refl;
   unended = refl;
   are_letters = tt;
@@ -238,8 +262,7 @@ unfolding page_items words closed form_at comment_len comment_line_len raw_len t
 framed_commented = record {
   sides = record { some = omega arith; most = omega arith; lead = (refl, tt); trail = (refl, tt); rest = (refl, (refl, tt)) };
   utf8 = (codes " <!-- c -->", (refl, refl));
-  stands = record { ends = refl; has_ends = (refl, (refl, (refl, refl))); uncalled = (tt, (tt, (tt, tt))) };
-  uncalled = (tt, (tt, tt));
+  stands = record { ends = refl; has_ends = (refl, (refl, (refl, refl))) };
   ended = refl;
 }
 
@@ -251,12 +274,6 @@ unfolding level page_items words closed form_at comment_len comment_line_len raw
 written_commented = record {
   frame = framed_commented;
   utf8 = (codes "a[", (refl, refl));
-  stands = record {
-    ends = refl;
-    has_ends = (refl, (refl, (refl, (refl, (refl, (refl, (refl, (refl, (refl, (refl, (refl, refl)))))))))));
-    uncalled = (tt, (tt, (tt, (tt, (tt, (tt, (tt, (tt, tt))))))));
-  };
-  uncalled = (tt, (tt, (tt, (tt, (tt, (tt, (tt, tt)))))));
   ended = refl;
   unended = refl;
   are_letters = tt;

@@ -1,5 +1,5 @@
 -- A paragraph of one text, typed or written, is read the same before nothing and before a line break, and is a block of text.
-use Rattle.std.proofs.Common.{arith, ◌≡◌, ℕ, Bool, true, false, Some, None, List, [], ◌∷◌, ◌++◌, refl, sym, ap, ◌∙◌, subst, append-nil, append_assoc, inl, inr, zero, suc, ◌+◌, ◌<◌, Option, length, take, cond}
+use Rattle.std.proofs.Common.{◌⊎◌, arith, ◌≡◌, ℕ, Bool, true, false, Some, None, List, [], ◌∷◌, ◌++◌, refl, sym, ap, ◌∙◌, subst, append-nil, append_assoc, inl, inr, zero, suc, ◌+◌, ◌<◌, Option, length, take, cond}
 use Rattle.std.specs.Str.{IsUtf8}
 use Rattle.wt_span.specs.declared.form.Mode.TheVariants.{Page}
 use Rattle.wt_span.specs.declared.form.LexKind.TheVariants.{Comment}
@@ -8,7 +8,7 @@ use Rattle.wt_span.specs.declared.form.ItemForm.TheVariants as form
 use Rattle.wt_span.specs.Items.{Item, char, whole}
 use Rattle.wt_span.specs.Bytes.{is_blank, is_break, blank_len}
 use Rattle.wt_span.specs.Comments.{comment_len, remarks_len}
-use Rattle.wt_span.specs.Lexemes.{Cut, cuts}
+use Rattle.wt_span.specs.Lexemes.{cuts}
 use Rattle.wt_lex.proofs.Cuts.{cuts_cons}
 use Rattle.wt_isolation.specs.OpenTags.{ends_open, EndsOpen}
 use Rattle.wt_isolation.proofs.OpenTags.{opened}
@@ -18,7 +18,6 @@ use Rattle.wt_text_edit_laws.specs.TypedPages.{IsTypedPage}
 use Rattle.wt_text_edit_laws.proofs.Texts.SpelledUtf8.{spelled_utf8}
 use Rattle.wt_text_edit_laws.proofs.Texts.TypedLeaves.{IsOwnForm, AreOwn}
 use Rattle.wt_text_edit_laws.proofs.Texts.TypedItems.{items_cut}
-use Rattle.wt_text_edit_laws.proofs.Texts.TypedText.{HaveNoClosers}
 use Rattle.wt_text_edit_laws.proofs.Prose.Uncommented.{BeginsUncommented, uncommented_byte, uncommented_other}
 use Rattle.wt_text_edit_laws.proofs.Prose.InFront.{Reads, reads_nothing, read_items}
 use Rattle.wt_text_edit_laws.proofs.Prose.ProseLines.{lines_block}
@@ -26,8 +25,8 @@ use Rattle.wt_text_edit_laws.proofs.Prose.ProseReading.{page_front}
 use Rattle.wt_text_edit_laws.proofs.Prose.ProseTexts.{IsWritten, some_leaf, written}
 use Rattle.wt_scans.specs.Lexer.{lexer}
 use Rattle.wt_scans.specs.Scans.{after_all}
-use Rattle.wt_text_edit_laws.specs.TextBetween.{HasNoTag, AreWholeLines, AreEnded, StandsBefore}
-use Rattle.wt_text_edit_laws.proofs.Between.LineComments.{remarks_same}
+use Rattle.wt_text_edit_laws.specs.TextBetween.{HasNoTag, AreWholeLines, AreEnded, HasEndsBefore, LineEnds}
+use Rattle.wt_text_edit_laws.proofs.Between.LineComments.{lines_ended, remarks_same}
 use Rattle.wt_text_edit_laws.proofs.Between.LineRemarks.{blank_form, comment_form, comment_some}
 use Rattle.wt_text_edit_laws.proofs.Between.Fronts.{ReadsAfter, first_items, items_from, first_from, byte_from, form_from, lines_read, behind_reads, reads_either}
 use Rattle.wt_text_edit_laws.proofs.Between.Shown.{begins_shown, blank_no_break, shown_lines}
@@ -180,10 +179,7 @@ abbrev rest_items : List ℕ → List Item
 rest_items r = items_cut r (cuts Page true 0 r)
 
 read_rest : (r : List ℕ) (xs : List Item) → Reads (10 ∷ r) xs → ReadsAfter true r (rest_items r)
-read_rest r xs h = record {
-  items = refl;
-  shown = subst (λ (c : Cut). HaveNoClosers c.1) (cuts_cons Page false 10 r None (other_byte Page 10 r refl)) (h.shown false);
-}
+read_rest r xs h = record { items = refl }
 
 rest_is : (r : List ℕ) (xs : List Item) → Reads (10 ∷ r) xs → xs ≡ char None 10 ∷ rest_items r
 rest_is r xs h = sym (h.items false) ∙ ap (items_cut (10 ∷ r)) (cuts_cons Page false 10 r None (other_byte Page 10 r refl))
@@ -201,7 +197,7 @@ one_line (b ∷ []) = refl
 one_line (b ∷ c ∷ q) = one_line (c ∷ q)
 
 -- a line that is read so with its line break
-pub line_reads : (q r : List ℕ) (own xs : List Item) → StandsBefore (q ++ 10 ∷ []) → page_items (q ++ 10 ∷ []) ≡ own ++ char None 10 ∷ []
+pub line_reads : (q r : List ℕ) (own xs : List Item) → HasEndsBefore r (q ++ 10 ∷ []) → page_items (q ++ 10 ∷ []) ≡ own ++ char None 10 ∷ []
     → Reads (10 ∷ r) xs → ReadsAfter false (q ++ 10 ∷ r) (own ++ xs)
 line_reads q r own xs b ended s =
     let break : Item = char None 10 in
@@ -214,25 +210,27 @@ line_reads q r own xs b ended s =
     subst (λ bs. ReadsAfter false bs (own ++ xs)) (append_assoc q (10 ∷ []) r) (subst (λ ys. ReadsAfter false ((q ++ 10 ∷ []) ++ r) ys) all whole)
 
 -- one of characters, references and nowikis
-line_front : (q r : List ℕ) (own xs : List Item) → AreLetters own → StandsBefore (q ++ 10 ∷ []) → page_items (q ++ 10 ∷ []) ≡ own ++ char None 10 ∷ []
+line_front : (q r : List ℕ) (own xs : List Item) → AreLetters own → HasEndsBefore r (q ++ 10 ∷ []) → page_items (q ++ 10 ∷ []) ≡ own ++ char None 10 ∷ []
     → Reads (10 ∷ r) xs → Reads (q ++ 10 ∷ r) (own ++ xs)
 line_front q r own xs t b ended s =
     let letters : AreLetters (page_items (q ++ 10 ∷ [])) = subst AreLetters (sym ended) (letters_joined own (char None 10 ∷ []) t tt) in
-    reads_either (q ++ 10 ∷ r) (own ++ xs) (subst BeginsUncommented (append_assoc q (10 ∷ []) r) (line_begins q r b.ends letters))
+    reads_either (q ++ 10 ∷ r) (own ++ xs) (subst BeginsUncommented (append_assoc q (10 ∷ []) r) (line_begins q r (lines_ended (q ++ 10 ∷ []) (one_line q)) letters))
     (line_reads q r own xs b ended s)
 
-text_front : (q rest : List ℕ) (xs : List Item) → IsWrittenText q → EndsHere rest → Reads rest xs → Reads (q ++ rest) (page_items q ++ xs)
-text_front q [] xs h e r =
-    let alone : Reads q (page_items q) = behind_reads q (record { uncommented = uncommented_text q h.are_letters; uncalled = h.uncalled }) in
+text_front : (q rest : List ℕ) (xs : List Item) → IsWrittenText q → LineEnds q rest → EndsHere rest → Reads rest xs → Reads (q ++ rest) (page_items q ++ xs)
+text_front q [] xs h l e r =
+    let alone : Reads q (page_items q) = behind_reads q (record { uncommented = uncommented_text q h.are_letters }) in
     subst (λ ys. Reads (q ++ []) (page_items q ++ ys)) (sym (nothing_is xs r))
     (subst (λ bs. Reads bs (page_items q ++ [])) (sym (append-nil q)) (subst (λ ys. Reads q ys) (sym (append-nil (page_items q))) alone))
-text_front q (b ∷ r) xs h e s =
-    let P : ℕ → Type 0 = λ (c : ℕ). Reads (c ∷ r) xs → Reads (q ++ c ∷ r) (page_items q ++ xs) in
-    subst P (sym e) (λ k. line_front q r (page_items q) xs h.are_letters h.stands h.ended k) s
+text_front q (b ∷ r) xs h l e s =
+    let P : ℕ → Type 0 = λ (c : ℕ). HasEndsBefore r (q ++ c ∷ []) → Reads (c ∷ r) xs → Reads (q ++ c ∷ r) (page_items q ++ xs) in
+    subst P (sym e) (λ m k. line_front q r (page_items q) xs h.are_letters m h.ended k) l s
 
-pub paragraph_front : (q rest : List ℕ) (xs : List Item) → IsParagraph q → EndsHere rest → Reads rest xs → Reads (q ++ rest) (page_items q ++ xs)
-paragraph_front q rest xs (inl t) e r = page_front q rest xs t r
-paragraph_front q rest xs (inr w) e r = text_front q rest xs w e r
+pub paragraph_front : (q rest : List ℕ) (xs : List Item) → IsParagraph q → IsTypedPage q ⊎ LineEnds q rest → EndsHere rest → Reads rest xs
+    → Reads (q ++ rest) (page_items q ++ xs)
+paragraph_front q rest xs (inl t) l e r = page_front q rest xs t r
+paragraph_front q rest xs (inr w) (inl t) e r = page_front q rest xs t r
+paragraph_front q rest xs (inr w) (inr l) e r = text_front q rest xs w l e r
 
 -- ---- its first line begins with something visible
 

@@ -1,5 +1,5 @@
 -- The items of prose: those of each paragraph, and the line breaks behind it; and it calls nothing.
-use Rattle.std.proofs.Common.{◌≡◌, ℕ, zero, suc, List, [], ◌∷◌, ◌++◌, sym, subst, append_assoc, None}
+use Rattle.std.proofs.Common.{◌≡◌, ℕ, zero, suc, List, [], ◌∷◌, ◌++◌, refl, sym, subst, append_assoc, None}
 use Rattle.std.specs.Prelude.{replicate}
 use Rattle.std.specs.List.{flat_map}
 use Rattle.wt_span.specs.Items.{Item, char}
@@ -9,9 +9,11 @@ use Rattle.wt_expand.specs.Work.{Pages, first_refusal}
 use Rattle.wt_expand.specs.Expansion.{page_work}
 use Rattle.wt_text_edit_laws.specs.LonePages.{of_items}
 use Rattle.wt_text_edit_laws.specs.TypedPages.{IsTypedPage}
-use Rattle.wt_text_edit_laws.proofs.Texts.TypedText.{shown_expanded, shown_unrefused}
+use Rattle.wt_text_edit_laws.specs.NoCalls.{NonePairs, CallsNothing}
 use Rattle.wt_text_edit_laws.specs.ProsePages.{Passage, passage_source, prose, AreProse}
-use Rattle.wt_text_edit_laws.proofs.Prose.InFront.{Reads, reads_nothing, typed_front, read_break, read_items, read_words}
+use Rattle.wt_text_edit_laws.proofs.Prose.InFront.{Reads, reads_nothing, AreUnbraced, typed_front, read_break, read_items}
+use Rattle.wt_text_edit_laws.proofs.Between.NoCalls.{calm_expanded, calm_unrefused}
+use Rattle.wt_text_edit_laws.proofs.Between.LessBraces.{none_unbraced, unbraced_joined, page_unbraced}
 
 -- a line break of the page
 abbrev pub break : Item
@@ -48,8 +50,26 @@ prose_reads (p ∷ q ∷ ps) h = passage_reads p (prose (q ∷ ps)) (prose_items
 pub items_of_prose : (ps : List Passage) → AreProse ps → page_items (prose ps) ≡ prose_items ps
 items_of_prose ps h = read_items (prose ps) (prose_items ps) (prose_reads ps h)
 
+-- ---- it calls nothing
+
+breaks_unbraced : (n : ℕ) → AreUnbraced (replicate n break)
+breaks_unbraced zero = tt
+breaks_unbraced (suc n) = (refl, breaks_unbraced n)
+
+passage_unbraced : (p : Passage) → IsTypedPage p.paragraph → AreUnbraced (passage_items p)
+passage_unbraced p h = unbraced_joined (page_items p.paragraph) (replicate p.breaks break) (page_unbraced p.paragraph h) (breaks_unbraced p.breaks)
+
+prose_unbraced : (ps : List Passage) → AreProse ps → AreUnbraced (prose_items ps)
+prose_unbraced [] h = absurd h
+prose_unbraced (p ∷ []) h = unbraced_joined (passage_items p) [] (passage_unbraced p h) tt
+prose_unbraced (p ∷ q ∷ ps) h = unbraced_joined (passage_items p) (prose_items (q ∷ ps)) (passage_unbraced p h.0) (prose_unbraced (q ∷ ps) h.2)
+
+prose_calm : (ps : List Passage) → AreProse ps → CallsNothing (page_items (prose ps))
+prose_calm ps h =
+    subst CallsNothing (sym (items_of_prose ps h)) (subst NonePairs (sym (none_unbraced (prose_items ps) (prose_unbraced ps h))) tt)
+
 pub prose_expanded : (pages : Pages) (ps : List Passage) → AreProse ps → expanded_page pages (prose ps) ≡ of_items (page_items (prose ps))
-prose_expanded pages ps h = shown_expanded pages (prose ps) (read_words (prose ps) (prose_items ps) (prose_reads ps h))
+prose_expanded pages ps h = calm_expanded pages (prose ps) (prose_calm ps h)
 
 pub prose_unrefused : (pages : Pages) (ps : List Passage) → AreProse ps → first_refusal pages (prose ps) (page_work pages (prose ps)) ≡ None
-prose_unrefused pages ps h = shown_unrefused pages (prose ps) (read_words (prose ps) (prose_items ps) (prose_reads ps h))
+prose_unrefused pages ps h = calm_unrefused pages (prose ps) (prose_calm ps h)

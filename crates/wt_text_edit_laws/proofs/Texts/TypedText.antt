@@ -151,10 +151,10 @@ lexemes_unrefused pages bs h =
     ap (refusal_from pages bs 0) (lexemes_work pages bs h)
     ∙ ap (λ (o : Option ℕ). option_or (option_map (braces_too_deep None) o) None) (lexemes_flat bs h)
 
-pub shown_expanded : (pages : Pages) (bs : List ℕ) → HaveNoClosers (words Page bs) → expanded_page pages bs ≡ of_items (page_items bs)
+shown_expanded : (pages : Pages) (bs : List ℕ) → HaveNoClosers (words Page bs) → expanded_page pages bs ≡ of_items (page_items bs)
 shown_expanded pages bs h = lexemes_expanded pages bs (page_members bs h)
 
-pub shown_unrefused : (pages : Pages) (bs : List ℕ) → HaveNoClosers (words Page bs) → first_refusal pages bs (page_work pages bs) ≡ None
+shown_unrefused : (pages : Pages) (bs : List ℕ) → HaveNoClosers (words Page bs) → first_refusal pages bs (page_work pages bs) ≡ None
 shown_unrefused pages bs h = lexemes_unrefused pages bs (page_members bs h)
 
 -- ---- a page that is what was typed

@@ -1,0 +1,123 @@
+-- A text that is typed has no braces, so where texts are typed the page has fewer of them, and calls nothing either.
+use Rattle.std.proofs.Common.{◌≡◌, ◌⊎◌, inl, inr, ℕ, ◌==◌, Bool, true, false, List, [], ◌∷◌, ◌++◌, map, refl, sym, ap, ◌∙◌, subst}
+use Rattle.std.proofs.lemmas.Bool.{eqb-true}
+use Rattle.wt_span.specs.Items.{Item, char, whole, sign}
+use Rattle.wt_lines.specs.Kinds.{is_idle}
+use Rattle.wt_expand.specs.PageItems.{page_items}
+use Rattle.wt_text_edit_laws.specs.LonePages.{page_chars}
+use Rattle.wt_text_edit_laws.specs.NoCalls.{Brace, CallsNothing}
+use Rattle.wt_text_edit_laws.proofs.Prose.InFront.{is_brace, AreUnbraced}
+use Rattle.wt_text_edit_laws.proofs.Between.LineWords.{either}
+use Rattle.wt_text_edit_laws.proofs.Between.LessBraces.{IsSome, all_some, some_both, pairs_some, BeginsUnbraced, braces_of, items_behind_end, items_before_start, none_unbraced, unbraced_joined, page_unbraced, ended_unbraced}
+use Rattle.wt_text_edit_laws.specs.ParagraphBetween.{EndsParagraph}
+use Rattle.wt_text_edit_laws.specs.TypedHeadings.{Sides, AreIdle, equals, opening, closing_items, EndsLine}
+use Rattle.wt_text_edit_laws.specs.TextBlocks.{TextBlock, a_paragraph, a_heading, block_items, IsFrame, IsTypedIn, EndsBlock}
+use Rattle.wt_text_edit_laws.specs.BlockSpots.{BlockSpot, spots_source, IsBlockSpot, AreFurtherBlocks, EndBeforeBlocks, AreBlockSpots, SameRound}
+use Rattle.wt_text_edit_laws.proofs.Blocks.BlockReading.{AreQuiet, run_quiet, blanks_quiet, opening_quiet, quiet_joined, each_quiet, typed_text, spots_items, items_of_parts}
+use Rattle.wt_text_edit_laws.proofs.Blocks.BlockMeaning.{further_end}
+
+-- ---- a block in which a text was typed
+
+quiet_unbraced : (bs : List ℕ) → AreQuiet bs → AreUnbraced (page_chars bs)
+quiet_unbraced [] h = tt
+quiet_unbraced (b ∷ bs) h = (each_quiet (λ (c : ℕ). is_brace c ≡ false) refl refl refl b h.0, quiet_unbraced bs h.1)
+
+idle_by : (b : ℕ) (v : Bool) → is_brace b ≡ v → is_idle b ≡ true → v ≡ false
+idle_by b false e h = refl
+idle_by b true e h = elim (either (b == 123) (b == 125) e) [
+  | inl f ↦ let g : is_idle 123 ≡ true = subst (λ (x : ℕ). is_idle x ≡ true) (eqb-true b 123 f) h in absurd (cc)
+  | inr f ↦ let g : is_idle 125 ≡ true = subst (λ (x : ℕ). is_idle x ≡ true) (eqb-true b 125 f) h in absurd (cc)
+]
+
+idle_unbraced : (xs : List Item) → AreIdle (map sign xs) → AreUnbraced xs
+idle_unbraced [] h = tt
+idle_unbraced (char o b ∷ xs) h = (idle_by b (is_brace b) refl h.0, idle_unbraced xs h.1)
+idle_unbraced (whole f o bs ∷ xs) h = idle_unbraced xs h.1
+
+line_unbraced : (s : Sides) (own : List Item) → IsFrame s → AreUnbraced own → AreUnbraced (page_chars (opening s) ++ (own ++ closing_items s))
+line_unbraced s own f u =
+    let ends : AreUnbraced (closing_items s) =
+    unbraced_joined (page_chars (s.trail ++ equals s.level)) (page_items s.rest)
+    (quiet_unbraced (s.trail ++ equals s.level) (quiet_joined s.trail (equals s.level) (blanks_quiet s.trail f.sides.trail) (run_quiet s.level)))
+    (idle_unbraced (page_items s.rest) f.sides.rest) in
+    unbraced_joined (page_chars (opening s)) (own ++ closing_items s) (quiet_unbraced (opening s) (opening_quiet s f.sides))
+    (unbraced_joined own (closing_items s) u ends)
+
+typed_unbraced : (k : TextBlock) (q : List ℕ) → IsTypedIn k q → AreUnbraced (block_items k q)
+typed_unbraced a_paragraph q h = page_unbraced q h
+typed_unbraced (a_heading s) q h = line_unbraced s (page_items q) h.frame (page_unbraced q (typed_text s q h))
+
+-- ---- pages that are the same but for texts that were typed
+
+abbrev pub AreTypedOver : List BlockSpot → List BlockSpot → Type 0
+AreTypedOver [] rs = Unit {0}
+AreTypedOver (s ∷ ss) [] = Unit {0}
+AreTypedOver (s ∷ ss) (r ∷ rs) = ((r.text ≡ s.text) ⊎ IsTypedIn r.block r.text) × AreTypedOver ss rs
+
+block_fewer : (k : TextBlock) (was now : List ℕ) → (now ≡ was) ⊎ IsTypedIn k now → IsSome (braces_of (block_items k now)) (braces_of (block_items k was))
+block_fewer k was now (inl e) =
+    subst (λ q. IsSome (braces_of (block_items k q)) (braces_of (block_items k was))) (sym e) (all_some (braces_of (block_items k was)))
+block_fewer k was now (inr h) =
+    subst (λ (bs : List Brace). IsSome bs (braces_of (block_items k was))) (sym (none_unbraced (block_items k now) (typed_unbraced k now h))) tt
+
+-- behind a block the page ends, or a line break stands
+paragraph_apart : (xs : List Item) → EndsParagraph xs → BeginsUnbraced (map sign xs)
+paragraph_apart [] e = tt
+paragraph_apart (y ∷ ys) e = subst (λ z. is_brace (sign z) ≡ false) (sym e.0) refl
+
+line_apart : (xs : List Item) → EndsLine xs → BeginsUnbraced (map sign xs)
+line_apart [] e = tt
+line_apart (y ∷ ys) e = subst (λ z. is_brace (sign z) ≡ false) (sym e) refl
+
+behind_apart : (k : TextBlock) (xs : List Item) → EndsBlock k xs → BeginsUnbraced (map sign xs)
+behind_apart a_paragraph xs e = paragraph_apart xs e
+behind_apart (a_heading s) xs e = line_apart xs e
+
+braces_split : (s : BlockSpot) (ss : List BlockSpot) (behind : List ℕ) → IsBlockSpot s → AreFurtherBlocks s.block ss behind
+    → braces_of (spots_items (s ∷ ss) behind) ≡ braces_of (page_items s.before) ++ (braces_of (block_items s.block s.text) ++ braces_of (spots_items ss behind))
+braces_split s ss behind h f =
+    let own : List Item = block_items s.block s.text in
+    let rest : List Item = spots_items ss behind in
+    items_behind_end (page_items s.before) (own ++ rest) (ended_unbraced s.before h.ended)
+    ∙ ap (λ (bs : List Brace). braces_of (page_items s.before) ++ bs) (items_before_start own rest (behind_apart s.block rest (further_end s.block ss behind f)))
+
+-- one block more
+spot_fewer : (s r : BlockSpot) (ss rs : List BlockSpot) (behind : List ℕ) → IsBlockSpot s → AreFurtherBlocks s.block ss behind
+    → IsBlockSpot r → AreFurtherBlocks r.block rs behind → SameRound (s ∷ ss) (r ∷ rs) → (r.text ≡ s.text) ⊎ IsTypedIn r.block r.text
+    → IsSome (braces_of (spots_items rs behind)) (braces_of (spots_items ss behind))
+    → IsSome (braces_of (spots_items (r ∷ rs) behind)) (braces_of (spots_items (s ∷ ss) behind))
+spot_fewer s r ss rs behind h f g k e o rest =
+    let front : IsSome (braces_of (page_items r.before)) (braces_of (page_items s.before)) =
+    subst (λ q. IsSome (braces_of (page_items q)) (braces_of (page_items s.before))) (sym e.0) (all_some (braces_of (page_items s.before))) in
+    let own : IsSome (braces_of (block_items r.block r.text)) (braces_of (block_items s.block s.text)) =
+    subst (λ b. IsSome (braces_of (block_items r.block r.text)) (braces_of (block_items b s.text))) e.1 (block_fewer r.block s.text r.text o) in
+    subst (λ (bs : List Brace). IsSome bs (braces_of (spots_items (s ∷ ss) behind))) (sym (braces_split r rs behind g k))
+    (subst (λ (bs : List Brace). IsSome (braces_of (page_items r.before) ++ (braces_of (block_items r.block r.text) ++ braces_of (spots_items rs behind))) bs)
+    (sym (braces_split s ss behind h f))
+    (some_both (braces_of (page_items r.before)) (braces_of (page_items s.before))
+    (braces_of (block_items r.block r.text) ++ braces_of (spots_items rs behind)) (braces_of (block_items s.block s.text) ++ braces_of (spots_items ss behind)) front
+    (some_both (braces_of (block_items r.block r.text)) (braces_of (block_items s.block s.text)) (braces_of (spots_items rs behind)) (braces_of (spots_items ss behind)) own rest)))
+
+-- the new page, whose parts stand by themselves, too, has fewer braces
+further_fewer : (last next : TextBlock) (ss rs : List BlockSpot) (behind : List ℕ) → AreFurtherBlocks last ss behind → AreFurtherBlocks next rs behind
+    → SameRound ss rs → AreTypedOver ss rs → IsSome (braces_of (spots_items rs behind)) (braces_of (spots_items ss behind))
+further_fewer last next [] [] behind f k e t = all_some (braces_of (page_items behind))
+further_fewer last next [] (r ∷ rs) behind f k e t = absurd e
+further_fewer last next (s ∷ ss) [] behind f k e t = absurd e
+further_fewer last next (s ∷ ss) (r ∷ rs) behind f k e t =
+    spot_fewer s r ss rs behind f.0 f.2 k.0 k.2 e t.0 (further_fewer s.block r.block ss rs behind f.2 k.2 e.2 t.1)
+
+spots_fewer : (s r : BlockSpot) (ss rs : List BlockSpot) (behind : List ℕ) → IsBlockSpot s → AreFurtherBlocks s.block ss behind
+    → IsBlockSpot r → AreFurtherBlocks r.block rs behind → SameRound (s ∷ ss) (r ∷ rs) → AreTypedOver (s ∷ ss) (r ∷ rs)
+    → IsSome (braces_of (spots_items (r ∷ rs) behind)) (braces_of (spots_items (s ∷ ss) behind))
+spots_fewer s r ss rs behind h f g k e t = spot_fewer s r ss rs behind h f g k e t.0 (further_fewer s.block r.block ss rs behind f k e.2 t.1)
+
+-- so it calls nothing
+pub still_calm : (s r : BlockSpot) (ss rs : List BlockSpot) (behind : List ℕ) → AreBlockSpots (s ∷ ss) behind → IsBlockSpot r → AreFurtherBlocks r.block rs behind
+    → EndBeforeBlocks (r ∷ rs) behind → SameRound (s ∷ ss) (r ∷ rs) → AreTypedOver (s ∷ ss) (r ∷ rs) → CallsNothing (page_items (spots_source (r ∷ rs) behind))
+still_calm s r ss rs behind h g k b e o =
+    let was : List Item = spots_items (s ∷ ss) behind in
+    let now : List Item = spots_items (r ∷ rs) behind in
+    let calm : CallsNothing was = subst CallsNothing (items_of_parts s ss behind h.0 h.1 h.2.end_before) h.2.calls_nothing in
+    let so : CallsNothing now = pairs_some (braces_of now) (braces_of was) (spots_fewer s r ss rs behind h.0 h.1 g k e o) calm in
+    subst CallsNothing (sym (items_of_parts r rs behind g k b)) so
