@@ -1,3 +1,8 @@
 mod Cases
 pub mod CellRows
 pub mod Cells
+pub mod Chains
+pub mod Cuts
+pub mod Fills
+pub mod Nodes
+pub mod Paths

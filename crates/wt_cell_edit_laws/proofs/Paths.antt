@@ -1,13 +1,13 @@
 -- What holds of a list of nodes of which one is sent with a text in it or in a block in it.
-use Rattle.std.proofs.Common.{◌≡◌, ℕ, zero, suc, ◌+◌, List, [], ◌∷◌, ◌++◌, length, refl, sym, ap, ◌∙◌, subst, arith, append-nil, append_assoc, length-append}
+use Rattle.std.proofs.Common.{◌≡◌, ℕ, zero, suc, ◌+◌, List, ◌++◌, length, refl, sym, ap, ◌∙◌, subst, arith, append_assoc, length-append}
 use Rattle.wt_span.specs.Origins.{Expanded}
 use Rattle.wt_tree.specs.Plain.{Plains, plain_before, plains_before}
 use Rattle.wt_tree.specs.Source.{flat, flat_of_all}
-use Rattle.wt_tree.specs.Tree.{Label, Tree, tree, Trees, none, more}
+use Rattle.wt_tree.specs.Tree.{Tree, Trees, none, more}
 use Rattle.wt_typed_blocks.specs.Sent.{Sent, stands, typed, holds, Sents, none_sent, more_sent, old_child, old_children, IsSent, AreSent, shows_before, show_before}
 use Rattle.wt_typed_blocks.specs.Typed.{new_source, new_sources, TakesText, TakeTexts, StandsAt, StandAt, IsUntangled, AreUntangled}
-use Rattle.wt_cell_edit_laws.specs.CellEdits.{IsKept, AllKept, TypesAt, TypesIn}
-use Rattle.wt_cell_edit_laws.proofs.Cuts.{beside, flat_beside}
+use Rattle.wt_cell_edit_laws.specs.CellEdits.{AllKept, TypesAt, TypesIn}
+use Rattle.wt_cell_edit_laws.proofs.Cuts.{beside}
 
 -- ---- equal trees
 
@@ -38,7 +38,7 @@ count_of (more t ts) = suc (count_of ts)
 pub record Facts (items : Expanded) (page : List ℕ) (at : ℕ) (s : Sent) (new : List ℕ) (shown : Plains → Plains) : Type 0 where
   pub takes : TakesText s
   pub untangled : IsUntangled items page s
-  pub stands : StandsAt at s
+  pub is_at : StandsAt at s
   pub new : new_source s ≡ new
   pub shows : (rest : Plains) → shows_before s rest ≡ shown rest
 
@@ -81,7 +81,7 @@ first_facts items page at is text p bs new shown s ss one t sent kept e =
     record {
       take = (f.takes, g.take);
       untangled = (f.untangled, g.untangled);
-      stand = (f.stands, g.stand);
+      stand = (f.is_at, g.stand);
       new = ap (λ cs. cs ++ new_sources ss) f.new ∙ ap (λ cs. new ++ cs) (g.new ∙ ap flat_of_all rest_is);
       show = λ rest. f.shows (show_before ss rest) ∙ ap shown (g.show rest ∙ ap (λ us. plains_before us rest) rest_is);
     }

@@ -1,6 +1,19 @@
 -- What is sent where a text is typed in one paragraph of a page, wherever it is.
-use Rattle.std.specs.Prelude.{◌≡◌, ℕ, zero, suc, List, [], ◌∷◌}
-use Rattle.wt_typed_blocks.specs.Sent.{paragraph, Sent, stands, typed, holds, Sents, none_sent, more_sent}
+use Rattle.std.specs.Prelude.{◌≡◌, ◌≤◌, ℕ, zero, suc, List, [], ◌∷◌, ◌++◌, length}
+use Rattle.std.specs.Str.{IsUtf8}
+use Rattle.wt_span.specs.declared.limits.TheConstants.{PAGE_BYTES}
+use Rattle.wt_devices.specs.Device.{Pages}
+use Rattle.wt_tree.specs.Tree.{Label, label}
+use Rattle.wt_checks.specs.Kept.{children}
+use Rattle.wt_expand.specs.PageItems.{page_items}
+use Rattle.wt_pagetool.specs.Answers.{done, edit_to}
+use Rattle.wt_typed_blocks.specs.Sent.{paragraph, Sent, stands, typed, holds, Sents, none_sent, more_sent, old_children, AreSent, new_body}
+use Rattle.wt_text_edit_laws.specs.BlockEdits.{typed_as}
+use Rattle.wt_text_edit_laws.specs.NoCalls.{CallsNothing}
+use Rattle.wt_text_edit_laws.specs.Parts.{part_tree, HasNoGroups}
+use Rattle.wt_text_edit_laws.specs.TextBetween.{StandsBefore, StandsBehind}
+use Rattle.wt_text_edit_laws.specs.TypedPages.{IsTypedPage}
+use Rattle.wt_cell_edit_laws.specs.InCells.{IsInCell}
 
 -- a node that stays
 abbrev pub IsKept : Sent → Type 0
@@ -25,3 +38,47 @@ abbrev mutual
   TypesIn i is text none_sent = ⊥
   TypesIn zero is text (more_sent s ss) = TypesAt is text s × AllKept ss
   TypesIn (suc i) is text (more_sent s ss) = IsKept s × TypesIn i is text ss
+
+abbrev pub TypesByPath : List ℕ → List ℕ → Sents → Type 0
+TypesByPath [] text ss = ⊥
+TypesByPath (i ∷ is) text ss = TypesIn i is text ss
+
+-- ---- pages with a typed paragraph in a cell
+
+-- what comes before it, its source, and what follows it
+pub record CellPage : Type 0 where
+  pub before : List ℕ
+  pub text : List ℕ
+  pub behind : List ℕ
+
+abbrev pub page_with : CellPage → List ℕ → List ℕ
+page_with c q = c.before ++ (q ++ c.behind)
+
+-- What is before it and behind it may be any lines that call nothing and in which what begins there ends there, so that the paragraph is in a
+-- cell; and no node of the page can only be kept as a whole.
+pub record IsCellPage (c : CellPage) : Type 0 where
+  pub stands : StandsBefore c.before
+  pub follows : StandsBehind c.behind
+  pub before_utf8 : IsUtf8 c.before
+  pub behind_utf8 : IsUtf8 c.behind
+  pub calls_nothing : CallsNothing (page_items c.before ++ page_items c.behind)
+  pub in_cell : IsInCell (page_items c.before) (page_items c.behind)
+  pub is_typed : IsTypedPage c.text
+  pub ungrouped : HasNoGroups (page_with c c.text)
+
+-- the page with this text in the paragraph, as it is spelled
+abbrev pub new_page : CellPage → List ℕ → List ℕ
+new_page c text = page_with c (typed_as paragraph c.text text)
+
+-- What is sent for the children of the body types this text in the paragraph at this path, and is the page's own in all else.
+pub record IsCellEdit (c : CellPage) (path text : List ℕ) (ss : Sents) : Type 0 where
+  pub utf8 : IsUtf8 text
+  pub old : old_children ss ≡ children (part_tree (page_with c c.text))
+  pub sent : AreSent ss
+  pub types : TypesByPath path text ss
+
+-- The paragraph is at a path at which any text may be typed: the edit is done, and the new page is the same with this text in it.
+pub record TakesTexts (c : CellPage) : Type 0 where
+  pub path : List ℕ
+  pub takes : (pages : Pages) (b : Label) (text : List ℕ) (ss : Sents) → IsCellEdit c path text ss → length (new_page c text) ≤ PAGE_BYTES
+      → edit_to pages (page_with c c.text) (new_body (label (part_tree (page_with c c.text))) b ss) ≡ done (new_page c text)

@@ -1,7 +1,7 @@
 //! Laws of texts that are typed in paragraphs in cells of tables.
 #![tactic(auto)]
 
-ghost use Rattle.std.specs.Prelude.{ℕ, List};
+ghost use Rattle.std.specs.Prelude.{◌≡◌, ℕ, List};
 ghost use Rattle.wt_span.specs.Items.{Item};
 ghost use Rattle.wt_expand.specs.PageItems.{page_items};
 ghost use Rattle.wt_text_edit_laws.specs.TypedPages.{IsTypedPage};
@@ -14,4 +14,10 @@ ghost use Rattle.wt_cell_edit_laws.specs.InCells.{IsInCell, AreTextLines, Stands
 pub fn typed_paragraph_stands_in_its_cell()
     ensures stands { (xs tail : List Item) → IsInCell xs tail → StandsInCell xs tail }
     ensures typed { (n : ℕ) (q : List ℕ) → IsTypedPage q → AreTextLines n (page_items q) }
+{}
+
+/// Trial.
+#[tactic(auto, using(crate::proofs::Chains::chain_facts, crate::proofs::Fills::plain_with, crate::proofs::Fills::new_is, crate::proofs::Fills::same_round))]
+pub fn trial()
+    ensures { (n : ℕ) → n ≡ n }
 {}
