@@ -5,4 +5,6 @@ pub mod Chains
 pub mod Cuts
 pub mod Fills
 pub mod Nodes
+pub mod Pages
 pub mod Paths
+pub mod Takes

@@ -1,16 +1,15 @@
 -- The tree of a page with a typed paragraph in a cell, whatever was typed in it.
-use Rattle.std.proofs.Common.{arith, ◌≡◌, ◌≢◌, ℕ, ◌≤◌, Bool, false, None, List, [], ◌∷◌, ◌++◌, refl, sym, ap, ap₂, ◌∙◌, subst, append-nil, append_assoc, inl}
+use Rattle.std.proofs.Common.{arith, ◌≡◌, ◌≢◌, ℕ, false, None, List, [], ◌∷◌, ◌++◌, refl, sym, ap, ap₂, ◌∙◌, subst, append-nil, append_assoc, inl}
 use Rattle.std.specs.Prelude.{codes}
-use Rattle.std.specs.List.{list_any, list_all}
 use Rattle.std.specs.Str.{IsUtf8, chars}
 use Rattle.std.specs.Fmt.{digits}
 use Rattle.std.proofs.lemmas.Str.{IsUtf8-append}
 use Rattle.std.proofs.lemmas.Grind.{flat_map-append}
 use Rattle.wt_devices.specs.Device.{Pages}
 use Rattle.wt_tree.specs.declared.kind.Kind.TheVariants as kind
-use Rattle.wt_tree.specs.Plain.{Plains, ended, plain_before, plains_before}
+use Rattle.wt_tree.specs.Plain.{ended, plains_before}
 use Rattle.wt_tree.specs.Tiling.{HasNoGroup}
-use Rattle.wt_tree.specs.Tree.{Label, Tree, tree, Trees, more}
+use Rattle.wt_tree.specs.Tree.{Label, tree, Trees, more}
 use Rattle.wt_tree.specs.declared.edit_shape.Place.TheVariants as place
 use Rattle.wt_span.specs.Items.{Item, source, sources}
 use Rattle.wt_guards.specs.Guards.{Setting, nowiki, is_guarded, is_between_guard, is_start_guard, is_end_guard, is_blank_guard, is_parted}
@@ -21,9 +20,8 @@ use Rattle.wt_isolation.specs.OpenTags.{ends_open}
 use Rattle.wt_page.specs.Body.{meaning}
 use Rattle.wt_page.proofs.HeldBody.{sources_meaning}
 use Rattle.wt_annotated.specs.Annotated.{annotated, all_unplaced}
-use Rattle.wt_annotated.specs.Clean.{is_page}
 use Rattle.wt_annotated.specs.GroupData.{group_data}
-use Rattle.wt_annotated.specs.WithoutCalls.{NoneEmpty, IsPlain}
+use Rattle.wt_annotated.specs.WithoutCalls.{IsPlain}
 use Rattle.wt_annotated.proofs.NoGroups.{only_plain}
 use Rattle.wt_expand.specs.PageCalls.{expanded_page}
 use Rattle.wt_expand.specs.PageItems.{page_items}
@@ -33,13 +31,13 @@ use Rattle.wt_expand.proofs.PageLaws.{page_sources}
 use Rattle.wt_row_laws.specs.Rounds.{Holder, round}
 use Rattle.wt_moved_laws.specs.Standing.{standing, AreOrdinary}
 use Rattle.wt_moved_laws.proofs.Moved.{shows_the_same}
-use Rattle.wt_text_edit_laws.specs.LonePages.{of_items, para_of}
+use Rattle.wt_text_edit_laws.specs.LonePages.{of_items}
 use Rattle.wt_text_edit_laws.specs.Parts.{part_tree}
 use Rattle.wt_text_edit_laws.specs.ParagraphBetween.{body_with}
 use Rattle.wt_text_edit_laws.specs.TypedPages.{IsTypedPage}
 use Rattle.wt_text_edit_laws.proofs.Between.TextReads.{items_between, expanded_between, unrefused_between}
 use Rattle.wt_text_edit_laws.proofs.Texts.LoneTrees.{sized}
-use Rattle.wt_text_edit_laws.proofs.Texts.TypedLeaves.{AreOwn, Leaf, leaves, leaves_source, leaves_para, para_leaves}
+use Rattle.wt_text_edit_laws.proofs.Texts.TypedLeaves.{AreOwn, leaves, leaves_source, leaves_para, para_leaves}
 use Rattle.wt_text_edit_laws.proofs.Texts.TypedShown.{is_plain_page}
 use Rattle.wt_text_edit_laws.proofs.Prose.ProseTrees.{blocks_of, number_behind, items_behind}
 use Rattle.wt_text_edit_laws.proofs.Prose.ProseFacts.{plains_of}
@@ -68,7 +66,7 @@ para q = leaves_para (leaves (page_items q))
 abbrev pub body_nodes : (c : CellPage) → IsCellPage c → List ℕ → List ItemTree
 body_nodes c h q = (place_in c h).before ++ round (place_in c h).holders (para q) ∷ (place_in c h).behind
 
-own_of : (q : List ℕ) → IsTypedPage q → AreOwn (page_items q)
+pub own_of : (q : List ℕ) → IsTypedPage q → AreOwn (page_items q)
 own_of q t = (paragraph_written q (inl t)).1
 
 pub means : (c : CellPage) (h : IsCellPage c) (q : List ℕ) → IsTypedPage q → meaning (page_items (page_with c q)) ≡ body_with (body_nodes c h q)
@@ -150,6 +148,18 @@ pub sides_are : (c : CellPage) (h : IsCellPage c) → (source_before c h ≡ c.b
 sides_are c h =
     let apart : 97 ≢ 98 = λ e. absurd (omega (arith, e)) in
     same_round (source_before c h) (source_behind c h) c.before c.behind 97 98 apart (round_source c h (97 ∷ []) letter_a) (round_source c h (98 ∷ []) letter_b)
+
+blocks_whole : (us : List ItemTree) → blocks_source us ≡ sources (held_by_all (forest us))
+blocks_whole us = sym (held_source us)
+
+pub nodes_source : (c : CellPage) (h : IsCellPage c) (q : List ℕ) → IsTypedPage q → blocks_source (body_nodes c h q) ≡ page_with c q
+nodes_source c h q t =
+    let own : List Item = held_by_all (forest (body_nodes c h q)) in
+    blocks_whole (body_nodes c h q)
+    ∙ ap sources (sym (append-nil own))
+    ∙ ap (λ m. sources (tree_items m)) (sym (means c h q t))
+    ∙ sources_meaning (page_items (page_with c q))
+    ∙ page_sources (page_with c q)
 
 inner_sources : (b : List Item) (hs : List Holder) → sources (inner_items b hs) ≡ sources b ++ sources (items_fore hs)
 inner_sources b [] = sym (append-nil (sources b))
