@@ -129,13 +129,13 @@ aft_same OwnCharacter xs ys e = e
 
 -- ---- a node that holds others
 
-abbrev holder_label : ℕ → List Item → Head → List Item → List Item → List Item → Label
+abbrev pub holder_label : ℕ → List Item → Head → List Item → List Item → List Item → Label
 holder_label n b h o own c = with_id (number_of h.kind n) (label_at (width b) 0 false h o own c)
 
-abbrev kids : ℕ → List Item → Head → List Item → ItemTrees → Trees
+abbrev pub kids : ℕ → List Item → Head → List Item → ItemTrees → Trees
 kids n b h o ts = cut_as (texts_of_kind h.kind) (all_cut_texts (all_with_numbers (next_after h.kind n) (all_placed (b ++ o) ts)))
 
-standing_inner : (n : ℕ) (b : List Item) (h : Head) (o : List Item) (ts : ItemTrees) (c : List Item) → is_leaf h.kind ≡ false → is_group h.kind ≡ false
+pub standing_inner : (n : ℕ) (b : List Item) (h : Head) (o : List Item) (ts : ItemTrees) (c : List Item) → is_leaf h.kind ≡ false → is_group h.kind ≡ false
     → standing n b (inner h o ts c) ≡ tree (holder_label n b h o (o ++ (held_by_all ts ++ c)) c) (kids n b h o ts)
 unfolding label_at
 standing_inner n b h o ts c leaf group =
@@ -169,7 +169,7 @@ abbrev pub aft_of : ℕ → List Item → Holder → ItemTree → Trees
 aft_of n b h u =
     aft (texts_of_kind h.head.kind) (blocks_of (number_behind (own_number n b h) (own_items b h) u) (items_behind (own_items b h) u) h.behind)
 
-kids_are : (n : ℕ) (b : List Item) (h : Holder) (u : ItemTree) → AtBorder (texts_of_kind h.head.kind) (standing (own_number n b h) (own_items b h) u)
+pub kids_are : (n : ℕ) (b : List Item) (h : Holder) (u : ItemTree) → AtBorder (texts_of_kind h.head.kind) (standing (own_number n b h) (own_items b h) u)
     → kids n b h.head h.opening (forest (h.before ++ u ∷ h.behind)) ≡ beside (fore_of n b h) (more (standing (own_number n b h) (own_items b h) u) (aft_of n b h u))
 kids_are n b h u e =
     let m : ℕ = own_number n b h in

@@ -39,15 +39,17 @@ use Rattle.wt_text_edit_laws.specs.LonePages.{of_items}
 use Rattle.wt_text_edit_laws.specs.BlockEdits.{typed_as}
 use Rattle.wt_text_edit_laws.specs.Parts.{part_tree}
 use Rattle.wt_text_edit_laws.specs.TypedPages.{IsTypedPage}
+use Rattle.wt_text_edit_laws.proofs.Texts.TypedLeaves.{leaves}
 use Rattle.wt_text_edit_laws.proofs.Texts.TypedShown.{gathered_shows}
 use Rattle.wt_text_edit_laws.proofs.Texts.TakesAnyText.{typed_again}
 use Rattle.wt_text_edit_laws.proofs.Prose.ProseTakes.{as_edit, not_longer}
 use Rattle.wt_text_edit_laws.proofs.Prose.ProseTrees.{blocks_of, number_behind, items_behind}
 use Rattle.wt_text_edit_laws.proofs.Blocks.KeptBlocks.{block_shown, blocks_source}
-use Rattle.wt_cell_edit_laws.specs.CellEdits.{CellPage, page_with, IsCellPage, new_page, IsCellEdit, TakesTexts}
+use Rattle.wt_cell_edit_laws.specs.CellEdits.{LeadsFrom, CellPage, page_with, IsCellPage, new_page, IsCellEdit, TakesText}
 use Rattle.wt_cell_edit_laws.proofs.Paths.{count_of, Facts, AllFacts, list_facts}
 use Rattle.wt_cell_edit_laws.proofs.Nodes.{number_after, items_after, blocks_split, blocks_flat, width_after}
 use Rattle.wt_cell_edit_laws.proofs.Chains.{inner_items, path_in, new_in, chain_facts}
+use Rattle.wt_cell_edit_laws.proofs.Leading.{number_grows, leads_past, chain_leads}
 use Rattle.wt_cell_edit_laws.proofs.Fills.{new_is, items_fore, items_aft}
 use Rattle.wt_cell_edit_laws.proofs.Pages.{place_in, para, body_nodes, own_of, nodes_source, body_label, tree_is, source_behind, sides_are, place_sources, place_clear, first_of, rest_from, shows, page_utf8, page_expanded, page_unrefused, ordinary}
 
@@ -56,6 +58,16 @@ use Rattle.wt_cell_edit_laws.proofs.Pages.{place_in, para, body_nodes, own_of, n
 abbrev pub path_of : (c : CellPage) → IsCellPage c → List ℕ
 path_of c h =
     count_of (first_of c h) ∷ path_in (number_after 1 [] (place_in c h).before) (items_after [] (place_in c h).before) (place_in c h).holders
+
+page_leads : (c : CellPage) (h : IsCellPage c) → LeadsFrom (path_of c h) (blocks_of 1 [] (body_nodes c h c.text))
+page_leads c h =
+    let s = place_in c h in
+    let u : ItemTree = round s.holders (para c.text) in
+    let m : ℕ = number_after 1 [] s.before in
+    let a : List Item = items_after [] s.before in
+    let le : 1 ≤ m = number_grows 1 [] s.before in
+    subst (λ ts. LeadsFrom (path_of c h) ts) (sym (blocks_split 1 [] s.before (u ∷ s.behind)))
+    (leads_past (first_of c h) (standing m a u) (rest_from c h c.text) (path_in m a s.holders) (chain_leads m a s.holders (leaves (page_items c.text)) le s.of_cells))
 
 -- ---- what was sent
 
@@ -199,5 +211,32 @@ takes_text c h pages b text ss e le =
     ∙ ap (edit_by pages t u) (answer_so pages c h b text ss e le)
     ∙ new_done pages c h b text ss t e le
 
-pub takes_texts : (c : CellPage) → IsCellPage c → TakesTexts c
-takes_texts c h = record { path = path_of c h; takes = takes_text c h }
+pub takes_any : (c : CellPage) → IsCellPage c → TakesText c
+takes_any c h = record {
+  path = path_of c h;
+  leads = subst (λ t. LeadsFrom (path_of c h) (children t)) (sym (tree_is c h c.text h.is_typed)) (page_leads c h);
+  takes = takes_text c h;
+}
+
+-- ---- and it is such a page again
+
+no_pages : Pages
+no_pages = λ title. None
+
+abbrev with_text : CellPage → List ℕ → CellPage
+with_text c q = record { before = c.before; text = q; behind = c.behind }
+
+pub again : (c : CellPage) (text : List ℕ) → IsCellPage c → IsUtf8 text → IsCellPage (with_text c (typed_as paragraph c.text text))
+again c text h u =
+    let q : List ℕ = typed_as paragraph c.text text in
+    let t : IsTypedPage q = typed_new c text u in
+    record {
+      stands = h.stands;
+      follows = h.follows;
+      before_utf8 = h.before_utf8;
+      behind_utf8 = h.behind_utf8;
+      calls_nothing = h.calls_nothing;
+      in_cell = h.in_cell;
+      is_typed = t;
+      ungrouped = subst HasNoGroup (sym (tree_is c h q t)) (refl, blocks_ungrouped 1 [] (body_nodes c h q) (ordinary no_pages c h q t));
+    }

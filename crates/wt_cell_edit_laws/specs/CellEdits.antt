@@ -1,10 +1,12 @@
 -- What is sent where a text is typed in one paragraph of a page, wherever it is.
-use Rattle.std.specs.Prelude.{◌≡◌, ◌≤◌, ℕ, zero, suc, List, [], ◌∷◌, ◌++◌, length}
+use Rattle.std.specs.Prelude.{◌≡◌, ◌≢◌, ◌≤◌, ℕ, zero, suc, List, [], ◌∷◌, ◌++◌, length}
 use Rattle.std.specs.Str.{IsUtf8}
 use Rattle.wt_span.specs.declared.limits.TheConstants.{PAGE_BYTES}
 use Rattle.wt_devices.specs.Device.{Pages}
-use Rattle.wt_tree.specs.Tree.{Label, label}
+use Rattle.wt_tree.specs.declared.kind.Kind.TheVariants as kind
+use Rattle.wt_tree.specs.Tree.{Label, Tree, tree, Trees, none, more, label}
 use Rattle.wt_checks.specs.Kept.{children}
+use Rattle.wt_checks.specs.WithoutMarks.{mark_off, unmarked}
 use Rattle.wt_expand.specs.PageItems.{page_items}
 use Rattle.wt_pagetool.specs.Answers.{done, edit_to}
 use Rattle.wt_typed_blocks.specs.Sent.{paragraph, Sent, stands, typed, holds, Sents, none_sent, more_sent, old_children, AreSent, new_body}
@@ -77,8 +79,44 @@ pub record IsCellEdit (c : CellPage) (path text : List ℕ) (ss : Sents) : Type 
   pub sent : AreSent ss
   pub types : TypesByPath path text ss
 
+-- At this path is a paragraph with a number.
+abbrev mutual
+  pub Leads : List ℕ → Tree → Type 0
+  Leads [] (tree l ts) = (l.kind ≡ kind.Para) × (l.id ≢ 0)
+  Leads (i ∷ is) (tree l ts) = LeadsIn i is ts
+
+  pub LeadsIn : ℕ → List ℕ → Trees → Type 0
+  LeadsIn i is none = ⊥
+  LeadsIn zero is (more t ts) = Leads is t
+  LeadsIn (suc i) is (more t ts) = LeadsIn i is ts
+
+abbrev pub LeadsFrom : List ℕ → Trees → Type 0
+LeadsFrom [] ts = ⊥
+LeadsFrom (i ∷ is) ts = LeadsIn i is ts
+
 -- The paragraph is at a path at which any text may be typed: the edit is done, and the new page is the same with this text in it.
-pub record TakesTexts (c : CellPage) : Type 0 where
+pub record TakesText (c : CellPage) : Type 0 where
   pub path : List ℕ
+  pub leads : LeadsFrom path (children (part_tree (page_with c c.text)))
   pub takes : (pages : Pages) (b : Label) (text : List ℕ) (ss : Sents) → IsCellEdit c path text ss → length (new_page c text) ≤ PAGE_BYTES
       → edit_to pages (page_with c c.text) (new_body (label (part_tree (page_with c c.text))) b ss) ≡ done (new_page c text)
+
+-- ---- the edit that sends every other node as it is in the page, without marks
+
+abbrev pub own_kept : Trees → Sents
+own_kept none = none_sent
+own_kept (more t ts) = more_sent (stands t (unmarked t)) (own_kept ts)
+
+abbrev mutual
+  pub own_sent : List ℕ → Label → List ℕ → Tree → Sent
+  own_sent [] m text (tree l ts) = typed paragraph l ts m m text
+  own_sent (i ∷ is) m text (tree l ts) = holds l (mark_off l) (own_in i is m text ts)
+
+  pub own_in : ℕ → List ℕ → Label → List ℕ → Trees → Sents
+  own_in i is m text none = none_sent
+  own_in zero is m text (more t ts) = more_sent (own_sent is m text t) (own_kept ts)
+  own_in (suc i) is m text (more t ts) = more_sent (stands t (unmarked t)) (own_in i is m text ts)
+
+abbrev pub own_sents : List ℕ → Label → List ℕ → Trees → Sents
+own_sents [] m text ts = own_kept ts
+own_sents (i ∷ is) m text ts = own_in i is m text ts
