@@ -1,1 +1,3 @@
 pub mod InCells
+pub mod CellEdits
+pub mod CellCalls

@@ -1,6 +1,8 @@
 -- What stands round a paragraph in a cell: rows round rows, and nodes round a node.
-use Rattle.std.specs.Prelude.{◌≡◌, Bool, true, false, List, [], ◌∷◌, ◌++◌}
+use Rattle.std.specs.Prelude.{◌≡◌, ◌⊎◌, Bool, true, false, List, [], ◌∷◌, ◌++◌}
 use Rattle.std.specs.List.{AllByRecursion}
+use Rattle.wt_tree.specs.declared.kind.Kind.{Kind}
+use Rattle.wt_tree.specs.declared.kind.Kind.TheVariants as kind
 use Rattle.wt_span.specs.Items.{Item}
 use Rattle.wt_lines.specs.declared.kind.LineKind.{LineKind}
 use Rattle.wt_lines.specs.declared.kind.LineKind.TheVariants as line
@@ -15,6 +17,9 @@ use Rattle.wt_row_laws.specs.Units.{Level}
 
 -- ---- a place in a tree
 
+abbrev pub IsCellKind : Kind → Type 0
+IsCellKind k = (k ≡ kind.Td) ⊎ (k ≡ kind.Th)
+
 -- a node, and what it holds before a place and behind it
 pub record Holder : Type 0 where
   pub head : Head
@@ -27,6 +32,15 @@ pub record Holder : Type 0 where
 abbrev pub round : List Holder → ItemTree → ItemTree
 round [] t = t
 round (h ∷ hs) t = inner h.head h.opening (forest (h.before ++ round hs t ∷ h.behind)) h.closing
+
+-- Tables in cells, one in the other: each table holds a body, this a row, this a cell, and this the next table.
+abbrev pub AreCellHolders : List Holder → Type 0
+AreCellHolders [] = Unit {0}
+AreCellHolders (t ∷ []) = ⊥
+AreCellHolders (t ∷ b ∷ []) = ⊥
+AreCellHolders (t ∷ b ∷ r ∷ []) = ⊥
+AreCellHolders (t ∷ b ∷ r ∷ c ∷ hs) =
+    (t.head.kind ≡ kind.Table) × (b.head.kind ≡ kind.Tbody) × (r.head.kind ≡ kind.Tr) × IsCellKind c.head.kind × AreCellHolders hs
 
 -- what rows make: what comes before these nodes, and what comes behind them
 pub record Around : Type 0 where
@@ -115,4 +129,5 @@ AreTexts lead ending (r ∷ rs) = AllAre line.Text (r ∷ rs) × (r.lead ≡ lea
 -- Whatever rows of text there are between these rows in these cells, they make one paragraph, and it is at the same place in the same nodes.
 pub record ParagraphStands (ts : List TableRound) (xs ys : List Row) (lead ending : List Item) : Type 0 where
   pub around : Around
+  pub of_cells : AreCellHolders around.holders
   pub stands : (rs : List Row) → AreTexts lead ending rs → blocks (in_cells ts (xs ++ (rs ++ ys))) ≡ filled around (para rs)
