@@ -31,7 +31,7 @@ level_join zero [] ss h g = g
 level_join (suc d) [] ss h g = absurd h
 level_join d (r ∷ rs) ss h g = level_put d r (rs ++ ss) (level_ends d r rs h) (level_join (behind d r.kind) rs ss (level_rest d r rs h) g)
 
-one_level : (r : Row) → IsOther r.kind → Level 0 (r ∷ [])
+pub one_level : (r : Row) → IsOther r.kind → Level 0 (r ∷ [])
 one_level r o = level_put 0 r [] (λ e. absurd (o.no_end e)) (subst (λ (n : ℕ). Level n []) (sym (o.stays 0)) tt)
 
 -- a row that ends a table behind level rows ends the one that is open there
@@ -73,7 +73,7 @@ level_raised d (r ∷ rs) last e h =
 
 -- ---- units
 
-rows_units : (rs : List Row) → Level 0 rs → AreUnits (units kind_of rs) rs
+pub rows_units : (rs : List Row) → Level 0 rs → AreUnits (units kind_of rs) rs
 rows_units rs h = level_units rs h
 
 part_other : (k : LineKind) → begins_part k ≡ true → IsOther k
@@ -92,7 +92,7 @@ text_other r e =
       | inr (inr o) ↦ o
     ]
 
-alone_first : (r : Row) (rs : List Row) → IsOther r.kind → units kind_of (r ∷ rs) ≡ (r ∷ []) ∷ units kind_of rs
+pub alone_first : (r : Row) (rs : List Row) → IsOther r.kind → units kind_of (r ∷ rs) ≡ (r ∷ []) ∷ units kind_of rs
 alone_first r rs o = first_unit (r ∷ []) rs (inr (o, refl))
 
 first_begins : (rs : List Row) → BeginsPart rs → FirstBegins (units kind_of rs)
@@ -106,7 +106,7 @@ plain_join : (us vs : List (List Row)) → AllByRecursion (λ u. begins_group ki
 plain_join [] vs h g = g
 plain_join (u ∷ us) vs (h, hs) g = (h, plain_join us vs hs g)
 
-content_join : (rs ss : List Row) → AreContent rs → AreContent ss → AreContent (rs ++ ss)
+pub content_join : (rs ss : List Row) → AreContent rs → AreContent ss → AreContent (rs ++ ss)
 content_join rs ss h g = record {
   level = level_join 0 rs ss h.level g.level;
   plain = subst (λ us. AllByRecursion (λ u. begins_group kind_of u ≡ false) us)
@@ -241,7 +241,7 @@ cell_fits I p read t g h c f =
     (first_begins t.further h.begins) f)))
 
 -- and in cells one in the other
-cells_fit_within : (I : Type 0) (p : I → ItemTree) (g : I → List Row) → ((i : I) → AreContent (g i))
+pub cells_fit_within : (I : Type 0) (p : I → ItemTree) (g : I → List Row) → ((i : I) → AreContent (g i))
     → ((read : Reading) → Fits I p AreCellHolders (λ i. blocks_by read (g i))) → (n : ℕ) (ts : List TableRound) → length ts ≤ n → AllByRecursion IsTableRound ts
     → Fits I p AreCellHolders (λ i. within n (in_cells ts (g i)))
 cells_fit_within I p g c f zero [] le h = f gaps

@@ -1,4 +1,4 @@
--- What stands round a paragraph in a cell: rows round rows, and nodes round a node.
+-- What stands round a paragraph or heading in a cell: rows round rows, and nodes round a node.
 use Rattle.std.specs.Prelude.{◌≡◌, ◌⊎◌, Bool, true, false, List, [], ◌∷◌, ◌++◌}
 use Rattle.std.specs.List.{AllByRecursion}
 use Rattle.wt_tree.specs.declared.kind.Kind.{Kind}
@@ -8,6 +8,7 @@ use Rattle.wt_lines.specs.declared.kind.LineKind.{LineKind}
 use Rattle.wt_lines.specs.declared.kind.LineKind.TheVariants as line
 use Rattle.wt_tables.specs.Parts.{units, begins_part, begins_group}
 use Rattle.wt_inline.specs.ItemTree.{Head, ItemTree, inner, forest}
+use Rattle.wt_headings.specs.Headings.{heading}
 use Rattle.wt_page.specs.Rows.{Row, kind_of, last_ending}
 use Rattle.wt_page.specs.Stretches.{Stretch, tree_block}
 use Rattle.wt_page.specs.Texts.{para}
@@ -131,3 +132,15 @@ pub record ParagraphStands (ts : List TableRound) (xs ys : List Row) (lead endin
   pub around : Around
   pub of_cells : AreCellHolders around.holders
   pub stands : (rs : List Row) → AreTexts lead ending rs → blocks (in_cells ts (xs ++ (rs ++ ys))) ≡ filled around (para rs)
+
+-- a row that is a heading, with these separators before and behind it
+pub record IsHeading (lead ending : List Item) (r : Row) : Type 0 where
+  pub is : r.kind ≡ line.Heading
+  pub led : r.lead ≡ lead
+  pub ended : r.ending ≡ ending
+
+-- And whatever heading there is, it is at the same place in the same nodes.
+pub record HeadingStands (ts : List TableRound) (xs ys : List Row) (lead ending : List Item) : Type 0 where
+  pub around : Around
+  pub of_cells : AreCellHolders around.holders
+  pub stands : (r : Row) → IsHeading lead ending r → blocks (in_cells ts (xs ++ r ∷ ys)) ≡ filled around (heading r.items)
