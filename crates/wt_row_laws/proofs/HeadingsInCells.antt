@@ -1,5 +1,5 @@
 -- A heading in cells of tables, one in the other: whatever it is, it is at the same place in the same nodes.
-use Rattle.std.proofs.Common.{◌≡◌, ◌≤◌, ℕ, false, List, [], ◌∷◌, ◌++◌, length, refl, sym, ap, ◌∙◌, subst, append-nil, append_assoc, inl, inr}
+use Rattle.std.proofs.Common.{◌≡◌, ◌≤◌, false, List, [], ◌∷◌, ◌++◌, length, refl, sym, ap, ◌∙◌, subst, append_assoc, inl, inr}
 use Rattle.std.specs.List.{AllByRecursion}
 use Rattle.wt_span.specs.Items.{Item}
 use Rattle.wt_span.specs.Runs.{IsRun}
@@ -7,7 +7,6 @@ use Rattle.wt_lines.specs.declared.kind.LineKind.{LineKind}
 use Rattle.wt_lines.specs.declared.kind.LineKind.TheVariants as line
 use Rattle.wt_lines.specs.declared.kind.TheConstants.{MOST_TABLES}
 use Rattle.wt_tables.specs.Parts.{units, unit_kind, begins_part, begins_group}
-use Rattle.wt_inline.specs.ItemTree.{ItemTree}
 use Rattle.wt_headings.specs.Headings.{heading}
 use Rattle.wt_page.specs.Rows.{Row, kind_of}
 use Rattle.wt_page.specs.Stretches.{gap, tree_block}
@@ -15,7 +14,7 @@ use Rattle.wt_page.specs.Tables.{Reading}
 use Rattle.wt_page.specs.Body.{one_block, same_block, blocks_by, blocks}
 use Rattle.wt_row_laws.specs.Blocks.{heading as heading_block, AreBlocks}
 use Rattle.wt_row_laws.specs.Units.{AreUnits}
-use Rattle.wt_row_laws.specs.Rounds.{AreCellHolders, Around, TableRound, AreContent, IsTableRound, IsHeading, HeadingStands}
+use Rattle.wt_row_laws.specs.Rounds.{AreCellHolders, TableRound, AreContent, IsTableRound, IsHeading, HeadingStands}
 use Rattle.wt_row_laws.proofs.Falling.{IsOther, sort}
 use Rattle.wt_row_laws.proofs.BlockCases.{read_by_cases}
 use Rattle.wt_row_laws.proofs.Apart.{Apart, all_apart, units_beside, blocks_beside}
