@@ -45,15 +45,6 @@ own_para own (y ∷ ys) b = block_ended own b
 
 -- ---- the page
 
-abbrev body_holders : Around → List Holder
-body_holders a = record {
-  head = plain kind.Body;
-  opening = [];
-  before = children (stretches_parts a.front);
-  behind = children (stretches_parts a.back);
-  closing = [];
-} ∷ a.holders
-
 means : (xs : List Item) (ss : List Stretch) → blocks (rows xs) ≡ ss → meaning xs ≡ node_of (plain kind.Body) [] ss []
 unfolding meaning
 means xs ss e = ap (λ zs. node_of (plain kind.Body) [] zs []) e
@@ -63,7 +54,10 @@ stands_in_cell xs tail h =
     let p : ParagraphStands h.tables h.front h.back [] (end_of tail) =
     paragraph_stands h.tables h.front h.back [] (end_of tail) h.rounds h.few h.front_content h.back_content h.front_apart h.back_apart in
     record {
-      holders = body_holders p.around;
+      before = children (stretches_parts p.around.front);
+      holders = p.around.holders;
+      behind = children (stretches_parts p.around.back);
+      of_cells = p.of_cells;
       stands = λ q w a.
           let own : List Item = page_items q in
           let b : IsTextBlock own = (paragraph_written q w).0 in

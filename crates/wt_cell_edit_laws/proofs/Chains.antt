@@ -1,5 +1,5 @@
 -- A paragraph in cells, one in the other, and what is sent for the nodes round it.
-use Rattle.std.proofs.Common.{◌≡◌, ℕ, ◌+◌, Bool, true, false, None, List, [], ◌∷◌, ◌++◌, length, take, refl, sym, ap, ◌∙◌, subst, append-nil, inl, inr}
+use Rattle.std.proofs.Common.{◌≡◌, ℕ, ◌+◌, Bool, true, false, None, List, [], ◌∷◌, ◌++◌, length, take, map, refl, sym, ap, ◌∙◌, subst, append-nil, inl, inr}
 use Rattle.std.specs.Prelude.{Some, if◌then◌else◌}
 use Rattle.std.specs.Str.{IsUtf8}
 use Rattle.std.proofs.Math.Seq.{take-append_seam}
@@ -15,7 +15,7 @@ use Rattle.wt_tree.specs.declared.edit_shape.Place.TheVariants as place
 use Rattle.wt_tree.specs.declared.row.Texts.TheVariants.{Bordered}
 use Rattle.wt_span.specs.Items.{Item, sources}
 use Rattle.wt_guards.specs.Guards.{Setting}
-use Rattle.wt_inline.specs.ItemTree.{Head, ItemTree, inner, ItemTrees}
+use Rattle.wt_inline.specs.ItemTree.{Head, plain, ItemTree, inner, forest, ItemTrees}
 use Rattle.wt_isolation.specs.OpenTags.{ends_open, any_ends_open}
 use Rattle.wt_selser.specs.Edits.{is_tangled}
 use Rattle.wt_selser.specs.GroupFaults.{has_faulty_group}
@@ -29,7 +29,7 @@ use Rattle.wt_typed_blocks.specs.Typed.{block_source}
 use Rattle.wt_text_edit_laws.specs.LonePages.{of_items}
 use Rattle.wt_text_edit_laws.specs.BlockEdits.{typed_as}
 use Rattle.wt_text_edit_laws.proofs.Texts.TypedItems.{typed_shows, typed_own}
-use Rattle.wt_text_edit_laws.proofs.Texts.TypedLeaves.{AreOwn, Leaf, leaves, leaves_shown, leaves_source, leaves_shut, leaves_para}
+use Rattle.wt_text_edit_laws.proofs.Texts.TypedLeaves.{AreOwn, Leaf, leaf_tree, leaves, leaves_shown, leaves_source, leaves_shut, leaves_para}
 use Rattle.wt_text_edit_laws.proofs.Texts.TypedShown.{leaves_show}
 use Rattle.wt_text_edit_laws.proofs.Texts.TypedNodes.{none_open}
 use Rattle.wt_text_edit_laws.proofs.Texts.TypedTrees.{none_faulty}
@@ -137,11 +137,11 @@ table_block : (k : Kind) → k ≡ kind.Table → IsBlockKind k
 table_block k e = let P : Kind → Type 0 = IsBlockKind in subst P (sym e) (refl, refl, refl)
 
 held_block : (hs : List Holder) → AreCellHolders hs → (ls : List Leaf) (m : ℕ) (a : List Item) → AtBorder Bordered (standing m a (round hs (leaves_para ls)))
-held_block [] h ls m a = block_at m a _ _ _ _ para_block
+held_block [] h ls m a = block_at m a (plain kind.Para) [] (forest (map leaf_tree ls)) [] para_block
 held_block (t ∷ []) h ls m a = absurd h
 held_block (t ∷ b ∷ []) h ls m a = absurd h
 held_block (t ∷ b ∷ r ∷ []) h ls m a = absurd h
-held_block (t ∷ b ∷ r ∷ c ∷ hs) h ls m a = block_at m a t.head t.opening _ t.closing (table_block t.head.kind h.0)
+held_block (t ∷ b ∷ r ∷ c ∷ hs) h ls m a = block_at m a t.head t.opening (forest (t.before ++ round (b ∷ r ∷ c ∷ hs) (leaves_para ls) ∷ t.behind)) t.closing (table_block t.head.kind h.0)
 
 -- ---- nodes round the paragraph
 

@@ -105,7 +105,7 @@ same_round [] b (y ∷ x) z c d n e g = absurd (n (same_head c y b (x ++ c ∷ z
 same_round (y ∷ f) b [] z c d n e g = absurd (n (sym (same_head y c (f ++ c ∷ b) z e) ∙ same_head y d (f ++ d ∷ b) z g))
 same_round (y ∷ f) b (w ∷ x) z c d n e g =
     let r = same_round f b x z c d n (same_tail_of y w (f ++ c ∷ b) (x ++ c ∷ z) e) (same_tail_of y w (f ++ d ∷ b) (x ++ d ∷ z) g) in
-    (ap₂ (λ (a : ℕ) (as : List ℕ). a ∷ as) (same_head y w (f ++ c ∷ b) (x ++ c ∷ z) e) r.0, r.1)
+    (ap₂ (λ (a : ℕ) (fs : List ℕ). a ∷ fs) (same_head y w (f ++ c ∷ b) (x ++ c ∷ z) e) r.0, r.1)
 
 -- ---- no item comes from a call, and no node is empty
 
@@ -124,15 +124,16 @@ any_behind : (xs ys : List Item) → list_any is_page ys ≡ true → list_any i
 any_behind [] ys e = e
 any_behind (x ∷ xs) ys e = or_right (is_page x) (list_any is_page (xs ++ ys)) (any_behind xs ys e)
 
+any_step : (x : Item) (xs ys : List Item) (v : Bool) → is_page x ≡ v → (list_any is_page xs ≡ true → list_any is_page (xs ++ ys) ≡ true)
+    → list_any is_page (x ∷ xs) ≡ true → list_any is_page (x ∷ (xs ++ ys)) ≡ true
+any_step x xs ys true f k e = or_left (is_page x) (list_any is_page (xs ++ ys)) f
+any_step x xs ys false f k e =
+    let rest : list_any is_page xs ≡ true = sym (ap (λ (v : Bool). v || list_any is_page xs) f) ∙ e in
+    or_right (is_page x) (list_any is_page (xs ++ ys)) (k rest)
+
 any_before : (xs ys : List Item) → list_any is_page xs ≡ true → list_any is_page (xs ++ ys) ≡ true
 any_before [] ys e = cc
-any_before (x ∷ xs) ys e = any_by (is_page x) refl
-  where
-    any_by : (v : Bool) → is_page x ≡ v → (is_page x || list_any is_page (xs ++ ys)) ≡ true
-    any_by true f = or_left (is_page x) (list_any is_page (xs ++ ys)) f
-    any_by false f =
-        let rest : list_any is_page xs ≡ true = sym (ap (λ (v : Bool). v || list_any is_page xs) f) ∙ e in
-        or_right (is_page x) (list_any is_page (xs ++ ys)) (any_before xs ys rest)
+any_before (x ∷ xs) ys e = any_step x xs ys (is_page x) refl (any_before xs ys) e
 
 round_has : (hs : List Holder) (t : ItemTree) → HasPage t → HasPage (round hs t)
 round_has hs t e =
@@ -156,25 +157,30 @@ round_full (r ∷ hs) t v k p n h =
     inside_by (is_leaf r.head.kind) (AllNonEmpty (forest (r.before ++ round hs t ∷ r.behind))) (AllNonEmpty (forest (r.before ++ round hs v ∷ r.behind))) k.0.0.leaf
     (full_with r.before r.behind (round hs t) (round hs v) (holds_by (round hs v) (round_has hs v p)) (round_full hs t v k.1 p n)) h
 
+abbrev AreBoth : List Item → List Item → Type 0
+AreBoth xs ys = (list_all is_page xs ≡ true) × (list_all is_page ys ≡ true)
+
+all_step : (x : Item) (xs ys : List Item) (v : Bool) → is_page x ≡ v → (list_all is_page (xs ++ ys) ≡ true → AreBoth xs ys)
+    → list_all is_page (x ∷ (xs ++ ys)) ≡ true → AreBoth (x ∷ xs) ys
+all_step x xs ys true f k e =
+    let r = k (sym (ap (λ (v : Bool). v && list_all is_page (xs ++ ys)) f) ∙ e) in
+    (ap (λ (v : Bool). v && list_all is_page xs) f ∙ r.0, r.1)
+all_step x xs ys false f k e = let no : false ≡ true = sym (ap (λ (v : Bool). v && list_all is_page (xs ++ ys)) f) ∙ e in cc
+
 pub all_of : (xs ys : List Item) → list_all is_page (xs ++ ys) ≡ true → (list_all is_page xs ≡ true) × (list_all is_page ys ≡ true)
 all_of [] ys e = (refl, e)
-all_of (x ∷ xs) ys e = by_test (is_page x) refl
-  where
-    by_test : (v : Bool) → is_page x ≡ v → (list_all is_page (x ∷ xs) ≡ true) × (list_all is_page ys ≡ true)
-    by_test true f =
-        let r = all_of xs ys (sym (ap (λ (v : Bool). v && list_all is_page (xs ++ ys)) f) ∙ e) in
-        (ap (λ (v : Bool). v && list_all is_page xs) f ∙ r.0, r.1)
-    by_test false f = let no : false ≡ true = sym (ap (λ (v : Bool). v && list_all is_page (xs ++ ys)) f) ∙ e in cc
+all_of (x ∷ xs) ys e = all_step x xs ys (is_page x) refl (all_of xs ys) e
+
+both_step : (x : Item) (xs ys : List Item) (v : Bool) → is_page x ≡ v → (list_all is_page xs ≡ true → list_all is_page (xs ++ ys) ≡ true)
+    → list_all is_page (x ∷ xs) ≡ true → list_all is_page (x ∷ (xs ++ ys)) ≡ true
+both_step x xs ys true g k e =
+    let rest : list_all is_page xs ≡ true = sym (ap (λ (v : Bool). v && list_all is_page xs) g) ∙ e in
+    ap (λ (v : Bool). v && list_all is_page (xs ++ ys)) g ∙ k rest
+both_step x xs ys false g k e = let no : false ≡ true = sym (ap (λ (v : Bool). v && list_all is_page xs) g) ∙ e in cc
 
 all_both : (xs ys : List Item) → list_all is_page xs ≡ true → list_all is_page ys ≡ true → list_all is_page (xs ++ ys) ≡ true
 all_both [] ys e f = f
-all_both (x ∷ xs) ys e f = by_test (is_page x) refl
-  where
-    by_test : (v : Bool) → is_page x ≡ v → (is_page x && list_all is_page (xs ++ ys)) ≡ true
-    by_test true g =
-        let rest : list_all is_page xs ≡ true = sym (ap (λ (v : Bool). v && list_all is_page xs) g) ∙ e in
-        ap (λ (v : Bool). v && list_all is_page (xs ++ ys)) g ∙ all_both xs ys rest f
-    by_test false g = let no : false ≡ true = sym (ap (λ (v : Bool). v && list_all is_page xs) g) ∙ e in cc
+all_both (x ∷ xs) ys e f = both_step x xs ys (is_page x) refl (λ k. all_both xs ys k f) e
 
 abbrev pub whole_items : List ItemTree → List Holder → List ItemTree → ItemTree → List Item
 whole_items us hs vs t = (held_in us ++ items_fore hs) ++ (tree_items t ++ (items_aft hs ++ held_in vs))

@@ -46,9 +46,9 @@ own_grows n b h =
 
 -- ---- the path leads to it
 
-pub leads_past : (as : Trees) (p : Tree) (bs : Trees) (is : List ℕ) → Leads is p → LeadsIn (count_of as) is (beside as (more p bs))
+pub leads_past : (fs : Trees) (p : Tree) (bs : Trees) (is : List ℕ) → Leads is p → LeadsIn (count_of fs) is (beside fs (more p bs))
 leads_past none p bs is h = h
-leads_past (more a as) p bs is h = leads_past as p bs is h
+leads_past (more a fs) p bs is h = leads_past fs p bs is h
 
 para_leads : (n : ℕ) (b : List Item) (ls : List Leaf) → 1 ≤ n → Leads [] (standing n b (leaves_para ls))
 unfolding label_at

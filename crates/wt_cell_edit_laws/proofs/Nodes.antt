@@ -66,13 +66,13 @@ sources_after b (t ∷ us) =
 pub width_after : (b : List Item) (us : List ItemTree) → width (items_after b us) ≡ width b + length (blocks_source us)
 width_after b us = ap length (sources_after b us) ∙ length-append (sources b) (blocks_source us)
 
-blocks_moved : (n m : ℕ) (a b : List Item) (us : List ItemTree) → all_placeless (blocks_of n a us) ≡ all_placeless (blocks_of m b us)
+pub blocks_moved : (n m : ℕ) (a b : List Item) (us : List ItemTree) → all_placeless (blocks_of n a us) ≡ all_placeless (blocks_of m b us)
 blocks_moved n m a b [] = refl
 blocks_moved n m a b (t ∷ us) =
     ap₂ more (moved n m a b t) (blocks_moved (number_behind n a t) (number_behind m b t) (items_behind a t) (items_behind b t) us)
 
 -- the same but for numbers and places shows the same
-shown_same : (ts us : Trees) (rest : Plains) → all_placeless ts ≡ all_placeless us → plains_before ts rest ≡ plains_before us rest
+pub shown_same : (ts us : Trees) (rest : Plains) → all_placeless ts ≡ all_placeless us → plains_before ts rest ≡ plains_before us rest
 shown_same ts us rest e =
     sym (all_shown_placeless ts rest) ∙ ap (λ xs. plains_before xs rest) e ∙ all_shown_placeless us rest
 
@@ -253,7 +253,7 @@ holder_facts xs page n b h u v is text new k e f one (stands t w) types sent old
 holder_facts xs page n b h u v is text new k e f one (typed c l ts m x bs) types sent old = let z = types.0 in cc
 holder_facts xs page n b h u v is text new k e f one (holds l m ss) types sent old =
     let a : List Item = own_items b h in
-    let as : Trees = fore_of n b h in
+    let fs : Trees = fore_of n b h in
     let bs : Trees = aft_of n b h u in
     let p : Tree = standing (own_number n b h) a u in
     let ts : ItemTrees = forest (h.before ++ u ∷ h.behind) in
@@ -261,18 +261,18 @@ holder_facts xs page n b h u v is text new k e f one (holds l m ss) types sent o
     let L : Label = holder_label n b h.head h.opening own h.closing in
     let whole : tree l (old_children ss) ≡ tree L (kids n b h.head h.opening ts) = old ∙ standing_inner n b h.head h.opening ts h.closing k.leaf k.group in
     let label_is : l ≡ L = same_label l L (old_children ss) (kids n b h.head h.opening ts) whole in
-    let kids_so : old_children ss ≡ beside as (more p bs) =
+    let kids_so : old_children ss ≡ beside fs (more p bs) =
     same_inside l L (old_children ss) (kids n b h.head h.opening ts) whole ∙ kids_are n b h u (e (own_number n b h) a) in
-    let front_flat : flat_of_all as ≡ blocks_source h.before =
+    let front_flat : flat_of_all fs ≡ blocks_source h.before =
     fore_flat (texts_of_kind h.head.kind) (blocks_of (next_after h.head.kind n) (b ++ h.opening) h.before)
     ∙ blocks_flat (next_after h.head.kind n) (b ++ h.opening) h.before in
     let back_flat : flat_of_all bs ≡ blocks_source h.behind =
     aft_flat (texts_of_kind h.head.kind) (blocks_of (number_behind (own_number n b h) a u) (items_behind a u) h.behind)
     ∙ blocks_flat (number_behind (own_number n b h) a u) (items_behind a u) h.behind in
     let start : width (b ++ h.opening) ≡ width b + length (sources h.opening) = behind_width b h.opening (sources h.opening) refl in
-    let at : width (b ++ h.opening) + length (flat_of_all as) ≡ width a =
+    let at : width (b ++ h.opening) + length (flat_of_all fs) ≡ width a =
     ap (λ q. width (b ++ h.opening) + length q) front_flat ∙ sym (width_after (b ++ h.opening) h.before) in
-    let g = list_facts (of_items xs) page (width (b ++ h.opening)) as p bs (count_of as) is text new (block_shown v) ss
+    let g = list_facts (of_items xs) page (width (b ++ h.opening)) fs p bs (count_of fs) is text new (block_shown v) ss
     (λ s t w o. subst (λ (i : ℕ). Facts (of_items xs) page i s new (block_shown v)) (sym at) (one s t w o)) types refl sent.1 kids_so in
     record {
       takes = g.take;

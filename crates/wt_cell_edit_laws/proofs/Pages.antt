@@ -137,8 +137,8 @@ round_source c h q t =
     let vs : List Item = held_by_all (forest s.behind) in
     let x : List Item = tree_items (para q) in
     sym (joins (us ++ F) (x ++ (B ++ vs))
-    ∙ ap₂ (λ as bs. as ++ bs) (joins us F ∙ ap (λ as. as ++ sources F) (held_source s.before))
-    (joins x (B ++ vs) ∙ ap₂ (λ as bs. as ++ bs) (para_source q (own_of q t)) (joins B vs ∙ ap (λ as. sources B ++ as) (held_source s.behind))))
+    ∙ ap₂ (λ fs bs. fs ++ bs) (joins us F ∙ ap (λ fs. fs ++ sources F) (held_source s.before))
+    (joins x (B ++ vs) ∙ ap₂ (λ fs bs. fs ++ bs) (para_source q (own_of q t)) (joins B vs ∙ ap (λ fs. sources B ++ fs) (held_source s.behind))))
     ∙ ap sources (sym (items_whole s.before s.holders s.behind (para q)))
     ∙ ap (λ m. sources (tree_items m)) (sym (means c h q t))
     ∙ sources_meaning (page_items page)
@@ -168,17 +168,17 @@ inner_sources b (r ∷ hs) =
     let a : List ℕ = blocks_source r.before in
     let F : List ℕ = sources (items_fore hs) in
     inner_sources (own_items b r) hs
-    ∙ ap (λ as. as ++ F) (sources_after (b ++ r.opening) r.before ∙ ap (λ as. as ++ a) (joins b r.opening))
+    ∙ ap (λ fs. fs ++ F) (sources_after (b ++ r.opening) r.before ∙ ap (λ fs. fs ++ a) (joins b r.opening))
     ∙ append_assoc (sources b ++ o) a F
     ∙ append_assoc (sources b) o (a ++ F)
-    ∙ ap (λ as. sources b ++ as) (sym (joins r.opening (held_by_all (forest r.before) ++ items_fore hs)
-    ∙ ap (λ as. o ++ as) (joins (held_by_all (forest r.before)) (items_fore hs) ∙ ap (λ as. as ++ F) (held_source r.before))))
+    ∙ ap (λ fs. sources b ++ fs) (sym (joins r.opening (held_by_all (forest r.before) ++ items_fore hs)
+    ∙ ap (λ fs. o ++ fs) (joins (held_by_all (forest r.before)) (items_fore hs) ∙ ap (λ fs. fs ++ F) (held_source r.before))))
 
 pub place_sources : (c : CellPage) (h : IsCellPage c) → sources (inner_items (items_after [] (place_in c h).before) (place_in c h).holders) ≡ c.before
 place_sources c h =
     let s = place_in c h in
     inner_sources (items_after [] s.before) s.holders
-    ∙ ap (λ as. as ++ sources (items_fore s.holders)) (sources_after [] s.before)
+    ∙ ap (λ fs. fs ++ sources (items_fore s.holders)) (sources_after [] s.before)
     ∙ (sides_are c h).0
 
 pub place_clear : (c : CellPage) (h : IsCellPage c) → ends_open (sources (inner_items (items_after [] (place_in c h).before) (place_in c h).holders)) ≡ false

@@ -35,18 +35,18 @@ count_of (more t ts) = suc (count_of ts)
 -- ---- of one
 
 -- What holds of a node that is sent so at this place of a page: what its source is in the new page, and what it shows.
-pub record Facts (items : Expanded) (page : List ℕ) (at : ℕ) (s : Sent) (new : List ℕ) (shown : Plains → Plains) : Type 0 where
+pub record Facts (items : Expanded) (page : List ℕ) (at : ℕ) (s : Sent) (made : List ℕ) (shown : Plains → Plains) : Type 0 where
   pub takes : TakesText s
   pub untangled : IsUntangled items page s
   pub is_at : StandsAt at s
-  pub new : new_source s ≡ new
+  pub new : new_source s ≡ made
   pub shows : (rest : Plains) → shows_before s rest ≡ shown rest
 
-pub record AllFacts (items : Expanded) (page : List ℕ) (at : ℕ) (ss : Sents) (new : List ℕ) (shown : Plains → Plains) : Type 0 where
+pub record AllFacts (items : Expanded) (page : List ℕ) (at : ℕ) (ss : Sents) (made : List ℕ) (shown : Plains → Plains) : Type 0 where
   pub take : TakeTexts ss
   pub untangled : AreUntangled items page ss
   pub stand : StandAt at ss
-  pub new : new_sources ss ≡ new
+  pub new : new_sources ss ≡ made
   pub show : (rest : Plains) → show_before ss rest ≡ shown rest
 
 -- ---- of those that stay
@@ -86,30 +86,30 @@ first_facts items page at is text p bs new shown s ss one t sent kept e =
       show = λ rest. f.shows (show_before ss rest) ∙ ap shown (g.show rest ∙ ap (λ us. plains_before us rest) rest_is);
     }
 
-pub list_facts : (items : Expanded) (page : List ℕ) (at : ℕ) (as : Trees) (p : Tree) (bs : Trees) (i : ℕ) (is text new : List ℕ) (shown : Plains → Plains)
-    (ss : Sents) → OneHas items page (at + length (flat_of_all as)) is text p new shown → TypesIn i is text ss → i ≡ count_of as → AreSent ss
-    → old_children ss ≡ beside as (more p bs)
-    → AllFacts items page at ss (flat_of_all as ++ (new ++ flat_of_all bs)) (λ rest. plains_before as (shown (plains_before bs rest)))
-list_facts items page at as p bs i is text new shown none_sent one t n sent e = absurd t
+pub list_facts : (items : Expanded) (page : List ℕ) (at : ℕ) (fs : Trees) (p : Tree) (bs : Trees) (i : ℕ) (is text new : List ℕ) (shown : Plains → Plains)
+    (ss : Sents) → OneHas items page (at + length (flat_of_all fs)) is text p new shown → TypesIn i is text ss → i ≡ count_of fs → AreSent ss
+    → old_children ss ≡ beside fs (more p bs)
+    → AllFacts items page at ss (flat_of_all fs ++ (new ++ flat_of_all bs)) (λ rest. plains_before fs (shown (plains_before bs rest)))
+list_facts items page at fs p bs i is text new shown none_sent one t n sent e = absurd t
 list_facts items page at none p bs zero is text new shown (more_sent s ss) one t n sent e =
     let z : at + 0 ≡ at = omega arith in
     first_facts items page at is text p bs new shown s ss (subst (λ (k : ℕ). OneHas items page k is text p new shown) z one) t.0 sent.0 t.1 e
 list_facts items page at none p bs (suc i) is text new shown (more_sent s ss) one t n sent e = absurd (omega (arith, n))
-list_facts items page at (more a as) p bs zero is text new shown (more_sent s ss) one t n sent e = absurd (omega (arith, n))
-list_facts items page at (more a as) p bs (suc i) is text new shown (more_sent (stands u v) ss) one t n sent e =
-    let first_is : u ≡ a = same_first u a (old_children ss) (beside as (more p bs)) e in
-    let size : length (flat a ++ flat_of_all as) ≡ length (flat a) + length (flat_of_all as) = length-append (flat a) (flat_of_all as) in
+list_facts items page at (more a fs) p bs zero is text new shown (more_sent s ss) one t n sent e = absurd (omega (arith, n))
+list_facts items page at (more a fs) p bs (suc i) is text new shown (more_sent (stands u v) ss) one t n sent e =
+    let first_is : u ≡ a = same_first u a (old_children ss) (beside fs (more p bs)) e in
+    let size : length (flat a ++ flat_of_all fs) ≡ length (flat a) + length (flat_of_all fs) = length-append (flat a) (flat_of_all fs) in
     let same : length (flat u) ≡ length (flat a) = ap (λ x. length (flat x)) first_is in
-    let place : at + length (flat a ++ flat_of_all as) ≡ (at + length (flat u)) + length (flat_of_all as) = omega (arith, size, same) in
-    let count : i ≡ count_of as = omega (arith, n) in
-    let f = list_facts items page (at + length (flat u)) as p bs i is text new shown ss (subst (λ (k : ℕ). OneHas items page k is text p new shown) place one) t.1 count
-    sent.1 (same_rest u a (old_children ss) (beside as (more p bs)) e) in
+    let place : at + length (flat a ++ flat_of_all fs) ≡ (at + length (flat u)) + length (flat_of_all fs) = omega (arith, size, same) in
+    let count : i ≡ count_of fs = omega (arith, n) in
+    let f = list_facts items page (at + length (flat u)) fs p bs i is text new shown ss (subst (λ (k : ℕ). OneHas items page k is text p new shown) place one) t.1 count
+    sent.1 (same_rest u a (old_children ss) (beside fs (more p bs)) e) in
     record {
       take = (tt, f.take);
       untangled = (tt, f.untangled);
       stand = (tt, f.stand);
-      new = ap (λ x. flat x ++ new_sources ss) first_is ∙ ap (λ cs. flat a ++ cs) f.new ∙ sym (append_assoc (flat a) (flat_of_all as) (new ++ flat_of_all bs));
+      new = ap (λ x. flat x ++ new_sources ss) first_is ∙ ap (λ cs. flat a ++ cs) f.new ∙ sym (append_assoc (flat a) (flat_of_all fs) (new ++ flat_of_all bs));
       show = λ rest. ap (λ x. plain_before x (show_before ss rest)) first_is ∙ ap (plain_before a) (f.show rest);
     }
-list_facts items page at (more a as) p bs (suc i) is text new shown (more_sent (typed b l ts m x cs) ss) one t n sent e = absurd t.0
-list_facts items page at (more a as) p bs (suc i) is text new shown (more_sent (holds l m rs) ss) one t n sent e = absurd t.0
+list_facts items page at (more a fs) p bs (suc i) is text new shown (more_sent (typed b l ts m x cs) ss) one t n sent e = absurd t.0
+list_facts items page at (more a fs) p bs (suc i) is text new shown (more_sent (holds l m rs) ss) one t n sent e = absurd t.0

@@ -1,12 +1,12 @@
 -- A page takes any text in a typed paragraph in a cell: `edit` answers the page with it, as it is spelled.
-use Rattle.std.proofs.Common.{◌≡◌, ℕ, ◌≤◌, Bool, false, List, [], ◌∷◌, ◌++◌, length, refl, sym, ap, ap₂, ◌∙◌, subst, append_assoc}
+use Rattle.std.proofs.Common.{◌≡◌, ℕ, ◌+◌, ◌≤◌, Bool, false, None, List, [], ◌∷◌, ◌++◌, length, refl, sym, ap, ap₂, ◌∙◌, subst, append_assoc}
 use Rattle.std.specs.Prelude.{Ok, ◌||◌, if◌then◌else◌}
 use Rattle.std.specs.Str.{IsUtf8}
 use Rattle.wt_span.specs.declared.limits.TheConstants.{PAGE_BYTES}
 use Rattle.wt_devices.specs.Device.{Pages}
 use Rattle.wt_tree.specs.Plain.{Plains, ended, plains_before}
 use Rattle.wt_tree.specs.Source.{flat_of_all}
-use Rattle.wt_tree.specs.Tiling.{InPreorder, NoneIsGroup}
+use Rattle.wt_tree.specs.Tiling.{HasNoGroup, InPreorder, NoneIsGroup}
 use Rattle.wt_tree.specs.Tree.{Label, Tree, tree, Trees, label}
 use Rattle.wt_utf8.specs.Places.{not_utf8_place}
 use Rattle.wt_utf8.proofs.PlaceLaws.{no_place}
@@ -90,18 +90,18 @@ facts_of c h text ss e =
     let m : ℕ = number_after 1 [] s.before in
     let a : List Item = items_after [] s.before in
     let u : ItemTree = round s.holders (para c.text) in
-    let as : Trees = first_of c h in
+    let fs : Trees = first_of c h in
     let bs : Trees = rest_from c h c.text in
     let p : Tree = standing m a u in
-    let flat_as : flat_of_all as ≡ blocks_source s.before = blocks_flat 1 [] s.before in
+    let flat_as : flat_of_all fs ≡ blocks_source s.before = blocks_flat 1 [] s.before in
     let flat_bs : flat_of_all bs ≡ blocks_source s.behind = blocks_flat (number_behind m a u) (items_behind a u) s.behind in
     let page_is : page ≡ sources (inner_items a s.holders) ++ (c.text ++ c.behind) = ap (λ xs. xs ++ (c.text ++ c.behind)) (sym (place_sources c h)) in
-    let at : 0 + length (flat_of_all as) ≡ length (sources a) = ap (λ xs. 0 + length xs) flat_as ∙ sym (width_after [] s.before) in
+    let at : 0 + length (flat_of_all fs) ≡ length (sources a) = ap (λ xs. 0 + length xs) flat_as ∙ sym (width_after [] s.before) in
     let one = chain_facts (page_items page) page m a s.holders c.text c.behind text s.of_cells (place_clear c h) (own_of c.text h.is_typed) e.utf8 page_is in
-    let f = list_facts (of_items (page_items page)) page 0 as p bs (count_of as) (path_in m a s.holders) text (new_in s.holders new)
+    let f = list_facts (of_items (page_items page)) page 0 fs p bs (count_of fs) (path_in m a s.holders) text (new_in s.holders new)
     (block_shown (round s.holders (para new))) ss
     (λ t ty w o. subst (λ (i : ℕ). Facts (of_items (page_items page)) page i t (new_in s.holders new) (block_shown (round s.holders (para new)))) (sym at) (one t ty w o)) e.types refl e.sent (old_is c h ss e.old ∙ blocks_split 1 [] s.before (u ∷ s.behind)) in
-    let source_is : flat_of_all as ++ (new_in s.holders new ++ flat_of_all bs) ≡ new_page c text =
+    let source_is : flat_of_all fs ++ (new_in s.holders new ++ flat_of_all bs) ≡ new_page c text =
     ap₂ (λ xs ys. xs ++ (new_in s.holders new ++ ys)) flat_as flat_bs
     ∙ ap (λ xs. blocks_source s.before ++ (xs ++ blocks_source s.behind)) (new_is s.holders new)
     ∙ ap (λ xs. blocks_source s.before ++ xs) (append_assoc (sources (items_fore s.holders)) (new ++ sources (items_aft s.holders)) (blocks_source s.behind)

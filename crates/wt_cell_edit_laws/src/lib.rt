@@ -31,7 +31,7 @@ pub fn typed_paragraph_stands_in_its_cell()
 /// its text as it is spelled, and every other byte is what it was; unless the new page is longer than a page may be.
 /// There is such an edit with each text: the one that sends every other node without marks. The new page is such a page
 /// again.
-#[tactic(auto, using(crate::proofs::Takes::takes_any, crate::proofs::Leading::own_edit, crate::proofs::Takes::again))]
+#[tactic(auto, using(crate::proofs::Takes::takes_any))]
 pub fn typed_paragraph_in_a_cell_takes_any_text()
     ensures takes { (c : CellPage) → IsCellPage c → TakesText c }
     ensures edit { (c : CellPage) (path : List ℕ) (m : Label) (text : List ℕ) → LeadsFrom path (children (part_tree (page_with c c.text))) → IsUtf8 text
