@@ -27,7 +27,7 @@ use Rattle.wt_cell_edit_laws.proofs.CellRows.{in_order, own_rows, page_rows}
 
 -- ---- its rows are one paragraph
 
-abbrev end_of : List Item → List Item
+abbrev pub end_of : List Item → List Item
 end_of [] = []
 end_of (y ∷ ys) = break ∷ []
 
@@ -45,7 +45,7 @@ own_para own (y ∷ ys) b = block_ended own b
 
 -- ---- the page
 
-means : (xs : List Item) (ss : List Stretch) → blocks (rows xs) ≡ ss → meaning xs ≡ node_of (plain kind.Body) [] ss []
+pub means : (xs : List Item) (ss : List Stretch) → blocks (rows xs) ≡ ss → meaning xs ≡ node_of (plain kind.Body) [] ss []
 unfolding meaning
 means xs ss e = ap (λ zs. node_of (plain kind.Body) [] zs []) e
 

@@ -5,6 +5,7 @@ pub mod CellsCalls
 pub mod Chains
 pub mod Cuts
 pub mod Fills
+pub mod HeadingCells
 pub mod Leading
 pub mod Nodes
 pub mod Pages

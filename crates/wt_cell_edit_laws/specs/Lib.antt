@@ -1,3 +1,4 @@
 pub mod InCells
 pub mod CellEdits
 pub mod CellCalls
+pub mod HeadingsInCells

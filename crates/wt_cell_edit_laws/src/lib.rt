@@ -15,6 +15,7 @@ ghost use Rattle.wt_text_edit_laws.specs.Parts.{part_tree};
 ghost use Rattle.wt_text_edit_laws.specs.TypedPages.{IsTypedPage};
 ghost use Rattle.wt_cell_edit_laws.specs.CellCalls.{TakesTextsInCells};
 ghost use Rattle.wt_cell_edit_laws.specs.CellEdits.{CellPage, page_with, IsCellPage, IsCellEdit, LeadsFrom, TakesText, own_sents};
+ghost use Rattle.wt_cell_edit_laws.specs.HeadingsInCells.{IsHeadingInCell, HeadingStandsInCell};
 ghost use Rattle.wt_cell_edit_laws.specs.InCells.{IsInCell, AreTextLines, StandsInCell};
 
 /// A paragraph in a cell of a table, which may be in a cell of another table, is at a place of the page's tree that its
@@ -24,6 +25,13 @@ ghost use Rattle.wt_cell_edit_laws.specs.InCells.{IsInCell, AreTextLines, Stands
 pub fn typed_paragraph_stands_in_its_cell()
     ensures stands { (xs tail : List Item) → IsInCell xs tail → StandsInCell xs tail }
     ensures typed { (n : ℕ) (q : List ℕ) → IsTypedPage q → AreTextLines n (page_items q) }
+{}
+
+/// And so is a heading in a cell, between any lines: whatever text was typed in it, or written by hand, and whatever its
+/// level is, however many tables are open, its line is a heading.
+#[tactic(auto, using(crate::proofs::HeadingCells::heading_in_cell))]
+pub fn heading_stands_in_its_cell()
+    ensures { (xs tail : List Item) → IsHeadingInCell xs tail → HeadingStandsInCell xs tail }
 {}
 
 /// Such a paragraph takes any text: there is a path at which it is in the page's tree, and an edit that sends it marked
