@@ -2,6 +2,7 @@ mod Cases
 pub mod CellRows
 pub mod Cells
 pub mod CellsCalls
+pub mod CellsUnmarked
 pub mod Chains
 pub mod Cuts
 pub mod Fills

@@ -78,7 +78,7 @@ abbrev new_shown : (c : CellPage) → IsCellPage c → List ℕ → Plains → P
 new_shown c h text rest =
     plains_before (first_of c h) (block_shown (round (place_in c h).holders (para (typed_as paragraph c.text text))) (plains_before (rest_from c h c.text) rest))
 
-old_is : (c : CellPage) (h : IsCellPage c) (ss : Sents) → old_children ss ≡ children (part_tree (page_with c c.text)) → old_children ss ≡ blocks_of 1 [] (body_nodes c h c.text)
+pub old_is : (c : CellPage) (h : IsCellPage c) (ss : Sents) → old_children ss ≡ children (part_tree (page_with c c.text)) → old_children ss ≡ blocks_of 1 [] (body_nodes c h c.text)
 old_is c h ss e = e ∙ ap children (tree_is c h c.text h.is_typed)
 
 facts_of : (c : CellPage) (h : IsCellPage c) (text : List ℕ) (ss : Sents) → IsCellEdit c (path_of c h) text ss
@@ -112,12 +112,12 @@ facts_of c h text ss e =
 
 -- ---- the page's body
 
-blocks_ungrouped : (n : ℕ) (b : List Item) (ts : List ItemTree) → AreOrdinary (all_unplaced (forest ts)) → NoneIsGroup (blocks_of n b ts)
+pub blocks_ungrouped : (n : ℕ) (b : List Item) (ts : List ItemTree) → AreOrdinary (all_unplaced (forest ts)) → NoneIsGroup (blocks_of n b ts)
 blocks_ungrouped n b [] o = tt
 blocks_ungrouped n b (t ∷ ts) o =
     (ordinary_ungrouped (standing n b t) (standing_ordinary n b t o.0), blocks_ungrouped (number_behind n b t) (items_behind b t) ts o.1)
 
-blocks_unframed : (n : ℕ) (b : List Item) (ts : List ItemTree) → AreOrdinary (all_unplaced (forest ts)) → have_frame (blocks_of n b ts) ≡ false
+pub blocks_unframed : (n : ℕ) (b : List Item) (ts : List ItemTree) → AreOrdinary (all_unplaced (forest ts)) → have_frame (blocks_of n b ts) ≡ false
 blocks_unframed n b [] o = refl
 blocks_unframed n b (t ∷ ts) o =
     ap (λ (v : Bool). v || have_frame (blocks_of (number_behind n b t) (items_behind b t) ts)) (ordinary_unframed (standing n b t) (standing_ordinary n b t o.0))
@@ -127,7 +127,7 @@ plain_is : (pages : Pages) (c : CellPage) (h : IsCellPage c) (q : List ℕ) → 
     → ungathered (expanded_page pages (page_with c q)).outer (expanded_page pages (page_with c q)).items ≡ part_tree (page_with c q)
 plain_is pages c h q t = ap (λ x. ungathered x.outer x.items) (page_expanded pages c h q t)
 
-opened_is : (pages : Pages) (c : CellPage) (h : IsCellPage c) (ss : Sents) → old_children ss ≡ children (part_tree (page_with c c.text))
+pub opened_is : (pages : Pages) (c : CellPage) (h : IsCellPage c) (ss : Sents) → old_children ss ≡ children (part_tree (page_with c c.text))
     → ungathered (expanded_page pages (page_with c c.text)).outer (expanded_page pages (page_with c c.text)).items ≡ old_body (body_label c h c.text) ss
 opened_is pages c h ss e =
     plain_is pages c h c.text h.is_typed ∙ tree_is c h c.text h.is_typed ∙ ap (λ us. tree (body_label c h c.text) us) (sym (old_is c h ss e))

@@ -2,3 +2,4 @@ pub mod InCells
 pub mod CellEdits
 pub mod CellCalls
 pub mod HeadingsInCells
+pub mod UnmarkedCells
