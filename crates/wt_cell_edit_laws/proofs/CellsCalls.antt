@@ -1,14 +1,13 @@
 -- A call that keeps what `run` promises answers such an edit with the new page, or a device failed, or memory ran out.
-use Rattle.std.proofs.Common.{◌≡◌, ℕ, ◌≤◌, Bool, Option, Some, List, length, sym, ap, ◌∙◌}
+use Rattle.std.proofs.Common.{◌≡◌, ℕ, ◌≤◌, Bool, Option, Some, List, length, ap, ◌∙◌}
 use Rattle.std.specs.Prelude.{if◌then◌else◌}
 use Rattle.wt_span.specs.declared.limits.TheConstants.{HTML_BYTES, PAGE_BYTES}
 use Rattle.wt_devices.specs.Device.{Pages}
-use Rattle.wt_tree.specs.Tree.{Label, Tree, label}
+use Rattle.wt_tree.specs.Tree.{Label, label}
 use Rattle.wt_utf8.specs.Places.{not_utf8_place}
 use Rattle.wt_utf8.proofs.PlaceLaws.{no_place}
 use Rattle.wt_schema.specs.Read.{page as as_page, read}
 use Rattle.wt_pagetool.specs.declared.refusal.Refusal.TheVariants.{TooLong, InputTooLong}
-use Rattle.wt_pagetool.specs.declared.command.Command.TheVariants.{Edit}
 use Rattle.wt_pagetool.specs.Answers.{Answer, done, refused, text_answer, title_answer, edited_answer, input_answer, edit_of, answer_to, answer_told}
 use Rattle.wt_pagetool.specs.Calls.{Call, known_answer}
 use Rattle.wt_pagetool.specs.Promises.{Ends}
@@ -16,8 +15,8 @@ use Rattle.wt_typed_blocks.specs.Sent.{Sents, new_body}
 use Rattle.wt_text_edit_laws.specs.Parts.{part_tree}
 use Rattle.wt_text_edit_laws.proofs.Prose.ProseTakes.{not_longer}
 use Rattle.wt_text_edit_laws.proofs.Blocks.BlocksCalls.{page_ends, page_completes}
-use Rattle.wt_cell_edit_laws.specs.CellEdits.{CellPage, page_with, IsCellPage, new_page, IsCellEdit, TakesText}
-use Rattle.wt_cell_edit_laws.specs.CellCalls.{SendsInCell, TakesThere, TakesTextsInCells}
+use Rattle.wt_cell_edit_laws.specs.CellEdits.{CellPage, page_with, IsCellPage, new_page, IsCellEdit}
+use Rattle.wt_cell_edit_laws.specs.CellCalls.{SendsInCell, TakesTextsInCells}
 use Rattle.wt_cell_edit_laws.proofs.Pages.{page_utf8}
 use Rattle.wt_cell_edit_laws.proofs.Takes.{takes_any}
 

@@ -1,8 +1,8 @@
 -- Without marks a typed paragraph in a cell takes any other text, too: `edit` of the difference is done.
-use Rattle.std.proofs.Common.{◌≡◌, ℕ, ◌≤◌, Bool, Option, Some, List, [], length, sym, ap, ◌∙◌, refl, subst}
+use Rattle.std.proofs.Common.{◌≡◌, ℕ, ◌≤◌, Bool, Option, List, [], length, sym, ap, ◌∙◌, refl, subst}
 use Rattle.std.specs.Prelude.{◌⊎◌, if◌then◌else◌, IfSome}
 use Rattle.std.specs.Str.{IsUtf8}
-use Rattle.wt_span.specs.declared.limits.TheConstants.{HTML_BYTES, PAGE_BYTES}
+use Rattle.wt_span.specs.declared.limits.TheConstants.{PAGE_BYTES}
 use Rattle.wt_devices.specs.Device.{Pages}
 use Rattle.wt_tree.specs.Opened.{without_sections}
 use Rattle.wt_tree.specs.Tiling.{InPreorder, NoneIsGroup}
@@ -11,7 +11,7 @@ use Rattle.wt_utf8.specs.Places.{not_utf8_place}
 use Rattle.wt_utf8.proofs.PlaceLaws.{no_place}
 use Rattle.wt_checks.specs.PutBack.{have_frame}
 use Rattle.wt_expand.specs.PageCalls.{expanded_page}
-use Rattle.wt_schema.specs.Read.{page as as_page, read}
+use Rattle.wt_schema.specs.Read.{page as as_page}
 use Rattle.wt_page_round_trip.specs.PageTree.{page_tree}
 use Rattle.wt_page_round_trip.proofs.Pages.{page_opened}
 use Rattle.wt_page_round_trip.proofs.PageTrees.{ungathered_numbered, page_numbered}
@@ -29,8 +29,8 @@ use Rattle.wt_typed_blocks.specs.Unmarked.{free_body}
 use Rattle.wt_typed_blocks.proofs.SentUnmarked.{told_by_difference}
 use Rattle.wt_text_edit_laws.specs.Parts.{part_tree}
 use Rattle.wt_text_edit_laws.proofs.Prose.ProseTakes.{not_longer}
-use Rattle.wt_cell_edit_laws.specs.CellEdits.{CellPage, page_with, IsCellPage, new_page, IsCellEdit}
-use Rattle.wt_cell_edit_laws.specs.UnmarkedCells.{unmarked_page, IsUnmarkedCellEdit, TakesUnmarked, SendsUnmarked, TakesUnmarkedInCells}
+use Rattle.wt_cell_edit_laws.specs.CellEdits.{CellPage, page_with, IsCellPage, new_page}
+use Rattle.wt_cell_edit_laws.specs.UnmarkedCells.{unmarked_page, IsUnmarkedCellEdit, TakesUnmarked, TakesUnmarkedInCells}
 use Rattle.wt_cell_edit_laws.proofs.Pages.{body_label, body_nodes, tree_is, page_utf8, page_unrefused, ordinary}
 use Rattle.wt_cell_edit_laws.proofs.Takes.{old_is, opened_is, blocks_ungrouped, blocks_unframed, takes_any}
 

@@ -1,26 +1,24 @@
 -- The path leads to the paragraph, and an edit that sends every other node as it is in the page types a text there.
-use Rattle.std.proofs.Common.{arith, ◌≡◌, ◌≢◌, ℕ, zero, suc, ◌+◌, ◌≤◌, Bool, true, false, List, [], ◌∷◌, ◌++◌, refl, sym, ap, ap₂, ◌∙◌, subst}
+use Rattle.std.proofs.Common.{arith, ◌≡◌, ◌≢◌, ℕ, zero, suc, ◌+◌, ◌≤◌, Bool, true, false, List, [], ◌∷◌, ◌++◌, refl, sym, ap, ap₂, subst}
 use Rattle.std.specs.Prelude.{if◌then◌else◌}
 use Rattle.std.specs.Str.{IsUtf8}
 use Rattle.wt_tree.specs.declared.kind.Kind.{Kind}
-use Rattle.wt_tree.specs.declared.kind.Kind.TheVariants as kind
 use Rattle.wt_tree.specs.Kinds.{is_numbered}
 use Rattle.wt_tree.specs.Tree.{Label, Tree, tree, Trees, none, more}
 use Rattle.wt_span.specs.Items.{Item}
 use Rattle.wt_inline.specs.ItemTree.{ItemTree, forest}
 use Rattle.wt_annotated.specs.Labels.{label_at}
-use Rattle.wt_annotated.specs.Numbering.{count, next_after}
-use Rattle.wt_annotated.specs.WithoutCalls.{placed}
+use Rattle.wt_annotated.specs.Numbering.{next_after}
 use Rattle.wt_checks.specs.Kept.{children}
-use Rattle.wt_checks.specs.WithoutMarks.{mark_off, unmarked, all_unmarked}
+use Rattle.wt_checks.specs.WithoutMarks.{unmarked}
 use Rattle.wt_row_laws.specs.Rounds.{Holder, round, AreCellHolders}
 use Rattle.wt_moved_laws.specs.Standing.{standing}
-use Rattle.wt_typed_blocks.specs.Sent.{paragraph, Sent, stands, typed, holds, Sents, none_sent, more_sent, old_child, old_children, StandsAsIs, AllStandAsIs, IsSent, AreSent}
+use Rattle.wt_typed_blocks.specs.Sent.{old_child, old_children, IsSent, AreSent}
 use Rattle.wt_text_edit_laws.specs.Parts.{part_tree}
 use Rattle.wt_text_edit_laws.proofs.Texts.TypedLeaves.{Leaf, leaves_para}
 use Rattle.wt_text_edit_laws.proofs.Prose.ProseTrees.{number_behind, items_behind}
 use Rattle.wt_text_edit_laws.proofs.Blocks.OwnNodes.{stands_unmarked}
-use Rattle.wt_cell_edit_laws.specs.CellEdits.{AllKept, TypesAt, TypesIn, TypesByPath, CellPage, page_with, IsCellEdit, Leads, LeadsIn, LeadsFrom, own_kept, own_sent, own_in, own_sents}
+use Rattle.wt_cell_edit_laws.specs.CellEdits.{AllKept, TypesAt, TypesIn, CellPage, page_with, IsCellEdit, Leads, LeadsIn, LeadsFrom, own_kept, own_sent, own_in, own_sents}
 use Rattle.wt_cell_edit_laws.proofs.Cuts.{beside}
 use Rattle.wt_cell_edit_laws.proofs.Paths.{count_of}
 use Rattle.wt_cell_edit_laws.proofs.Nodes.{number_after, fore_of, own_number, own_items, aft_of, standing_inner, kids_are}
