@@ -175,10 +175,16 @@ are_ok (t ∷ b ∷ []) ls ks h = absurd h
 are_ok (t ∷ b ∷ r ∷ []) ls ks h = absurd h
 are_ok (t ∷ b ∷ r ∷ c ∷ hs) ls ks h = (
   (as_holder t.head.kind kind.Table h.0 table_holder, λ m a. unbordered t.head.kind kind.Table _ h.0 tt, λ m a. unbordered t.head.kind kind.Table _ h.0 tt),
-  ((as_holder b.head.kind kind.Tbody h.1 rows_holder, λ m a. unbordered b.head.kind kind.Tbody _ h.1 tt, λ m a. unbordered b.head.kind kind.Tbody _ h.1 tt),
-  ((as_holder r.head.kind kind.Tr h.2 row_holder, λ m a. unbordered r.head.kind kind.Tr _ h.2 tt, λ m a. unbordered r.head.kind kind.Tr _ h.2 tt),
-  ((cell_holder c.head.kind h.3, λ m a. in_cell c.head.kind _ h.3 (held_block hs h.4 ls m a), λ m a. in_cell c.head.kind _ h.3 (held_block hs h.4 ks m a)),
-  are_ok hs ls ks h.4))),
+  (
+    (as_holder b.head.kind kind.Tbody h.1 rows_holder, λ m a. unbordered b.head.kind kind.Tbody _ h.1 tt, λ m a. unbordered b.head.kind kind.Tbody _ h.1 tt),
+    (
+      (as_holder r.head.kind kind.Tr h.2 row_holder, λ m a. unbordered r.head.kind kind.Tr _ h.2 tt, λ m a. unbordered r.head.kind kind.Tr _ h.2 tt),
+      (
+        (cell_holder c.head.kind h.3, λ m a. in_cell c.head.kind _ h.3 (held_block hs h.4 ls m a), λ m a. in_cell c.head.kind _ h.3 (held_block hs h.4 ks m a)),
+        are_ok hs ls ks h.4,
+      ),
+    ),
+  ),
 )
 
 chain_by : (xs : List Item) (page : List ℕ) (n : ℕ) (b : List Item) (hs : List Holder) (t v : ItemTree) (text new : List ℕ) → AreOk hs t v
