@@ -1,6 +1,6 @@
 -- A call that keeps what `run` promises answers such an edit with the new page, or a device failed, or memory ran out.
-use Rattle.std.proofs.Common.{◌≡◌, ℕ, ◌≤◌, Bool, Option, Some, List, length, ap, ◌∙◌}
-use Rattle.std.specs.Prelude.{if◌then◌else◌}
+use Rattle.std.proofs.Common.{◌≡◌, ℕ, ◌≤◌, Bool, Option, Some, List, length, ap, ◌∙◌, subst}
+use Rattle.std.specs.Prelude.{◌⊎◌, if◌then◌else◌, IfSome}
 use Rattle.wt_span.specs.declared.limits.TheConstants.{HTML_BYTES, PAGE_BYTES}
 use Rattle.wt_devices.specs.Device.{Pages}
 use Rattle.wt_tree.specs.Tree.{Label, label}
@@ -8,17 +8,23 @@ use Rattle.wt_utf8.specs.Places.{not_utf8_place}
 use Rattle.wt_utf8.proofs.PlaceLaws.{no_place}
 use Rattle.wt_schema.specs.Read.{page as as_page, read}
 use Rattle.wt_pagetool.specs.declared.refusal.Refusal.TheVariants.{TooLong, InputTooLong}
+use Rattle.wt_pagetool.specs.declared.command.Command.TheVariants.{Edit, Selser}
 use Rattle.wt_pagetool.specs.Answers.{Answer, done, refused, text_answer, title_answer, edited_answer, input_answer, edit_of, answer_to, answer_told}
 use Rattle.wt_pagetool.specs.Calls.{Call, known_answer}
-use Rattle.wt_pagetool.specs.Promises.{Ends}
+use Rattle.wt_pagetool.specs.declared.status.Status.TheVariants as status
+use Rattle.wt_pagetool.specs.Promises.{Ends, EndsAsEdit}
+use Rattle.wt_pagetool.specs.Selser.{DoneByEdit}
+use Rattle.wt_pagetool.specs.Statuses.{code, IsFaultOrNoMemory}
 use Rattle.wt_typed_blocks.specs.Sent.{Sents, new_body}
 use Rattle.wt_text_edit_laws.specs.Parts.{part_tree}
 use Rattle.wt_text_edit_laws.proofs.Prose.ProseTakes.{not_longer}
 use Rattle.wt_text_edit_laws.proofs.Blocks.BlocksCalls.{page_ends, page_completes}
 use Rattle.wt_cell_edit_laws.specs.CellEdits.{CellPage, page_with, IsCellPage, new_page, IsCellEdit}
-use Rattle.wt_cell_edit_laws.specs.CellCalls.{SendsInCell, TakesTextsInCells}
+use Rattle.wt_cell_edit_laws.specs.CellCalls.{sent_page, SendsInCell, TakesTextsInCells}
+use Rattle.wt_cell_edit_laws.specs.UnmarkedCells.{unmarked_page, IsUnmarkedCellEdit}
 use Rattle.wt_cell_edit_laws.proofs.Pages.{page_utf8}
 use Rattle.wt_cell_edit_laws.proofs.Takes.{takes_any}
+use Rattle.wt_cell_edit_laws.proofs.CellsUnmarked.{unmarked_done}
 
 -- of what is under a title, to an input
 edit_is : (pages : Pages) (p : CellPage) (h : IsCellPage p) (text input : List ℕ) (ss : Sents) (b : Label) (unsourced : Option ℕ)
@@ -35,7 +41,7 @@ edit_is pages p h text input ss b unsourced e short le small is =
     ∙ ap (edited_answer pages page) is
     ∙ (takes_any p h).takes pages b text ss e le
 
-answer_is : (c : Call) (p : CellPage) (h : IsCellPage p) (text : List ℕ) (ss : Sents) → IsCellEdit p (takes_any p h).path text ss → (s : SendsInCell c p text ss)
+answer_is : (c : Call) (p : CellPage) (h : IsCellPage p) (text : List ℕ) (ss : Sents) → IsCellEdit p (takes_any p h).path text ss → (s : SendsInCell c Edit p text (sent_page p ss))
     → known_answer c ≡ Some (done (new_page p text))
 unfolding answer_told
 answer_is c p h text ss e s =
@@ -45,10 +51,20 @@ answer_is c p h text ss e s =
     ∙ ap (λ (stands : Option (List ℕ)). Some (edit_of s.pages stands s.input)) s.found
     ∙ ap (λ (a : Answer). Some a) (edit_is s.pages p h text s.input ss s.body s.unsourced e s.old_within s.new_within s.within s.reads)
 
-pub takes_in_cells : (c : Call) (ended : ℕ) → Ends c ended → TakesTextsInCells c ended
-takes_in_cells c ended ends = λ p h. record {
+selser_ends : (c : Call) (ended : ℕ) (p : CellPage) (h : IsCellPage p) (text : List ℕ) (ss : Sents) → IsUnmarkedCellEdit p (takes_any p h).path text ss
+    → SendsInCell c Selser p text (unmarked_page p ss) → EndsAsEdit c ended → (ended ≡ code status.Done) ⊎ IsFaultOrNoMemory ended
+selser_ends c ended p h text ss e s ends =
+    let P : Pages → List ℕ → Type 0 = λ pages bytes. DoneByEdit pages (pages s.title) bytes → (ended ≡ code status.Done) ⊎ IsFaultOrNoMemory ended in
+    let over = subst (λ (told : Option Pages). IfSome told (λ pages. IfSome c.input.left_before (λ bytes. P pages bytes))) s.told
+    (ends.selser_as_edit s.title s.words) in
+    let both : P s.pages s.input = subst (λ (given : Option (List ℕ)). IfSome given (λ bytes. P s.pages bytes)) s.given over in
+    both (unmarked_done p h s.pages (s.pages s.title) s.input s.body s.unsourced text ss e s.found s.old_within s.new_within s.within s.reads)
+
+pub takes_in_cells : (c : Call) (ended : ℕ) → Ends c ended → EndsAsEdit c ended → TakesTextsInCells c ended
+takes_in_cells c ended ends as_edit = λ p h. record {
   path = (takes_any p h).path;
   leads = (takes_any p h).leads;
   edit = λ text ss e s. page_ends c ended (new_page p text) (answer_is c p h text ss e s) ends;
+  selser = λ text ss e s. selser_ends c ended p h text ss e s as_edit;
   complete = λ text ss e s sound. page_completes c ended (new_page p text) (answer_is c p h text ss e s) ends sound;
 }

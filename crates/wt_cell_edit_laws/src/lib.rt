@@ -16,7 +16,7 @@ ghost use Rattle.wt_text_edit_laws.specs.TypedPages.{IsTypedPage};
 ghost use Rattle.wt_cell_edit_laws.specs.CellCalls.{TakesTextsInCells};
 ghost use Rattle.wt_cell_edit_laws.specs.CellEdits.{CellPage, page_with, IsCellPage, IsCellEdit, LeadsFrom, TakesText, own_sents};
 ghost use Rattle.wt_cell_edit_laws.specs.HeadingsInCells.{IsHeadingInCell, HeadingStandsInCell};
-ghost use Rattle.wt_cell_edit_laws.specs.UnmarkedCells.{TakesUnmarked, TakesUnmarkedInCells};
+ghost use Rattle.wt_cell_edit_laws.specs.UnmarkedCells.{TakesUnmarked};
 ghost use Rattle.wt_cell_edit_laws.specs.InCells.{IsInCell, AreTextLines, StandsInCell};
 
 /// A paragraph in a cell of a table, which may be in a cell of another table, is at a place of the page's tree that its
@@ -49,14 +49,6 @@ pub fn typed_paragraph_in_a_cell_takes_any_text()
         → IsCellPage (record { before = c.before; text = typed_as paragraph c.text text; behind = c.behind }) }
 {}
 
-/// So every call that keeps what `run` of `wt_pagetool` promises (`Ends`) takes such a text: `edit` has written the new
-/// page and no line; or a device failed, or memory ran out. Where no device failed, only want of memory may come in the
-/// place of the new page.
-#[tactic(auto, using(crate::proofs::CellsCalls::takes_in_cells))]
-pub fn calls_take_texts_in_cells()
-    ensures { (c : Call) (ended : ℕ) → Ends c ended → TakesTextsInCells c ended }
-{}
-
 /// Without marks, too, as a browser sends it: where the text that was typed is another one than what the paragraph held,
 /// `edit` of the difference is done, whatever marks the paragraph and the body have.
 #[tactic(auto, using(crate::proofs::CellsUnmarked::takes_unmarked))]
@@ -64,9 +56,10 @@ pub fn typed_paragraph_in_a_cell_takes_any_text_without_marks()
     ensures { (c : CellPage) → IsCellPage c → TakesUnmarked c }
 {}
 
-/// So every call of `selser` that keeps what `run` of `wt_pagetool` promises (`EndsAsEdit`) is done, which is never
-/// refused then; or a device failed, or memory ran out.
-#[tactic(auto, using(crate::proofs::CellsUnmarked::takes_unmarked_in_cells))]
-pub fn calls_take_texts_in_cells_without_marks()
-    ensures { (c : Call) (ended : ℕ) → EndsAsEdit c ended → TakesUnmarkedInCells c ended }
+/// So every call that keeps what `run` of `wt_pagetool` promises (`Ends`, `EndsAsEdit`) takes such a text: `edit` has
+/// written the new page and no line, and `selser` is done; or a device failed, or memory ran out. Where no device
+/// failed, only want of memory may come in the place of the new page.
+#[tactic(auto, using(crate::proofs::CellsCalls::takes_in_cells))]
+pub fn calls_take_texts_in_cells()
+    ensures { (c : Call) (ended : ℕ) → Ends c ended → EndsAsEdit c ended → TakesTextsInCells c ended }
 {}
