@@ -12,6 +12,7 @@ use Rattle.wt_expand.specs.PageItems.{page_items}
 use Rattle.wt_page.specs.Rows.{Row}
 use Rattle.wt_row_laws.specs.Rounds.{TableRound, AreContent, IsTableRound}
 use Rattle.wt_text_edit_laws.specs.LonePages.{page_chars}
+use Rattle.wt_cell_edit_laws.specs.HeadingsInCells.{IsHeadingInCell}
 use Rattle.wt_cell_edit_laws.specs.InCells.{IsInCell}
 
 abbrev line_row : LineKind → List ℕ → List ℕ → Row
@@ -71,4 +72,21 @@ in_two_cells = record {
   back_content = no_rows;
   front_apart = tt;
   back_apart = tt;
+}
+
+-- A heading in a cell, directly below a line of text.
+heading_below_text : IsHeadingInCell (page_items (codes "{|\n|\na\n")) (page_items (codes "\n|}"))
+unfolding page_items words closed form_at comment_len comment_line_len raw_len opening_tag closing_tag include_at entity_at named_entity decimal_entity
+    hex_entity entity_names sign_word kind_of_signs
+heading_below_text = record {
+  tables = small_table [] ∷ [];
+  front = line_row line.Text (codes "a") (codes "\n") ∷ [];
+  back = [];
+  whole = refl;
+  are_before = refl;
+  are_behind = (refl, refl);
+  few = omega arith;
+  rounds = (is_small [], tt);
+  front_content = record { level = ((λ e. absurd (cc)), tt); plain = (refl, tt) };
+  back_content = no_rows;
 }

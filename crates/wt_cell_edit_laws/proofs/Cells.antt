@@ -12,7 +12,7 @@ use Rattle.wt_page.specs.Body.{blocks, meaning}
 use Rattle.wt_expand.specs.PageItems.{page_items}
 use Rattle.wt_spelling_laws.proofs.TextKinds.{lines_are_text}
 use Rattle.wt_row_laws.specs.Blocks.{AllAre}
-use Rattle.wt_row_laws.specs.Rounds.{Holder, Around, filled, in_cells, AreTexts as AreTextRows, ParagraphStands}
+use Rattle.wt_row_laws.specs.Rounds.{filled, in_cells, AreTexts as AreTextRows, ParagraphStands}
 use Rattle.wt_row_laws.proofs.Fitting.{node_is}
 use Rattle.wt_row_laws.proofs.InCells.{paragraph_stands}
 use Rattle.wt_text_edit_laws.specs.LonePages.{para_of}
@@ -27,7 +27,7 @@ use Rattle.wt_cell_edit_laws.proofs.CellRows.{in_order, own_rows, page_rows}
 
 -- ---- its rows are one paragraph
 
-abbrev end_of : List Item → List Item
+abbrev pub end_of : List Item → List Item
 end_of [] = []
 end_of (y ∷ ys) = break ∷ []
 
@@ -45,16 +45,7 @@ own_para own (y ∷ ys) b = block_ended own b
 
 -- ---- the page
 
-abbrev body_holders : Around → List Holder
-body_holders a = record {
-  head = plain kind.Body;
-  opening = [];
-  before = children (stretches_parts a.front);
-  behind = children (stretches_parts a.back);
-  closing = [];
-} ∷ a.holders
-
-means : (xs : List Item) (ss : List Stretch) → blocks (rows xs) ≡ ss → meaning xs ≡ node_of (plain kind.Body) [] ss []
+pub means : (xs : List Item) (ss : List Stretch) → blocks (rows xs) ≡ ss → meaning xs ≡ node_of (plain kind.Body) [] ss []
 unfolding meaning
 means xs ss e = ap (λ zs. node_of (plain kind.Body) [] zs []) e
 
@@ -63,7 +54,10 @@ stands_in_cell xs tail h =
     let p : ParagraphStands h.tables h.front h.back [] (end_of tail) =
     paragraph_stands h.tables h.front h.back [] (end_of tail) h.rounds h.few h.front_content h.back_content h.front_apart h.back_apart in
     record {
-      holders = body_holders p.around;
+      before = children (stretches_parts p.around.front);
+      holders = p.around.holders;
+      behind = children (stretches_parts p.around.back);
+      of_cells = p.of_cells;
       stands = λ q w a.
           let own : List Item = page_items q in
           let b : IsTextBlock own = (paragraph_written q w).0 in

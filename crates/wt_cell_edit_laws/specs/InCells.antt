@@ -7,14 +7,15 @@ use Rattle.wt_lines.specs.declared.kind.LineKind.TheVariants as line
 use Rattle.wt_lines.specs.declared.kind.TheConstants.{MOST_TABLES}
 use Rattle.wt_lines.specs.Kinds.{line_kind}
 use Rattle.wt_lines.specs.Lines.{lines, empty_end, full_lines}
+use Rattle.wt_inline.specs.ItemTree.{ItemTree}
 use Rattle.wt_page.specs.Rows.{Row, unwritten_end, rows_from}
 use Rattle.wt_page.specs.Body.{meaning}
 use Rattle.wt_expand.specs.PageItems.{page_items}
 use Rattle.wt_row_laws.specs.Blocks.{BeginOtherwise}
-use Rattle.wt_row_laws.specs.Rounds.{Holder, round, TableRound, AreContent, IsTableRound, EndOtherwise}
+use Rattle.wt_row_laws.specs.Rounds.{Holder, round, AreCellHolders, TableRound, AreContent, IsTableRound, EndOtherwise}
 use Rattle.wt_text_edit_laws.specs.LonePages.{para_of}
 use Rattle.wt_text_edit_laws.specs.Paragraphs.{IsParagraph}
-use Rattle.wt_text_edit_laws.specs.ParagraphBetween.{written_rows, tables_behind}
+use Rattle.wt_text_edit_laws.specs.ParagraphBetween.{written_rows, tables_behind, body_with}
 
 -- ---- rows round a place in cells
 
@@ -61,8 +62,11 @@ pub record IsInCell (xs tail : List Item) : Type 0 where
 abbrev pub AreTextLines : ℕ → List Item → Type 0
 AreTextLines n xs = All (λ l. line_kind n l ≡ line.Text) (lines xs)
 
--- Whatever the text is, the paragraph is in the same nodes of the page, with the same children before and behind it.
+-- Whatever the text is, the paragraph is in the same nodes, which are a child of the body, and what is before and behind it is the same, too.
 pub record StandsInCell (xs tail : List Item) : Type 0 where
+  pub before : List ItemTree
   pub holders : List Holder
+  pub behind : List ItemTree
+  pub of_cells : AreCellHolders holders
   pub stands : (q : List ℕ) → IsParagraph q → AreTextLines (open_tables xs) (page_items q)
-      → meaning (xs ++ (page_items q ++ tail)) ≡ round holders (para_of (page_items q))
+      → meaning (xs ++ (page_items q ++ tail)) ≡ body_with (before ++ round holders (para_of (page_items q)) ∷ behind)

@@ -1,1 +1,5 @@
 pub mod InCells
+pub mod CellEdits
+pub mod CellCalls
+pub mod HeadingsInCells
+pub mod UnmarkedCells

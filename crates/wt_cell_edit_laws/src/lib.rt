@@ -2,9 +2,21 @@
 #![tactic(auto)]
 
 ghost use Rattle.std.specs.Prelude.{ℕ, List};
+ghost use Rattle.std.specs.Str.{IsUtf8};
 ghost use Rattle.wt_span.specs.Items.{Item};
+ghost use Rattle.wt_tree.specs.Tree.{Label};
+ghost use Rattle.wt_checks.specs.Kept.{children};
 ghost use Rattle.wt_expand.specs.PageItems.{page_items};
+ghost use Rattle.wt_pagetool.specs.Calls.{Call};
+ghost use Rattle.wt_pagetool.specs.Promises.{Ends, EndsAsEdit};
+ghost use Rattle.wt_typed_blocks.specs.Sent.{paragraph};
+ghost use Rattle.wt_text_edit_laws.specs.BlockEdits.{typed_as};
+ghost use Rattle.wt_text_edit_laws.specs.Parts.{part_tree};
 ghost use Rattle.wt_text_edit_laws.specs.TypedPages.{IsTypedPage};
+ghost use Rattle.wt_cell_edit_laws.specs.CellCalls.{TakesTextsInCells};
+ghost use Rattle.wt_cell_edit_laws.specs.CellEdits.{CellPage, page_with, IsCellPage, IsCellEdit, LeadsFrom, TakesText, own_sents};
+ghost use Rattle.wt_cell_edit_laws.specs.HeadingsInCells.{IsHeadingInCell, HeadingStandsInCell};
+ghost use Rattle.wt_cell_edit_laws.specs.UnmarkedCells.{TakesUnmarked, TakesUnmarkedInCells};
 ghost use Rattle.wt_cell_edit_laws.specs.InCells.{IsInCell, AreTextLines, StandsInCell};
 
 /// A paragraph in a cell of a table, which may be in a cell of another table, is at a place of the page's tree that its
@@ -14,4 +26,47 @@ ghost use Rattle.wt_cell_edit_laws.specs.InCells.{IsInCell, AreTextLines, Stands
 pub fn typed_paragraph_stands_in_its_cell()
     ensures stands { (xs tail : List Item) → IsInCell xs tail → StandsInCell xs tail }
     ensures typed { (n : ℕ) (q : List ℕ) → IsTypedPage q → AreTextLines n (page_items q) }
+{}
+
+/// And so is a heading in a cell, between any lines: whatever text was typed in it, or written by hand, and whatever its
+/// level is, however many tables are open, its line is a heading.
+#[tactic(auto, using(crate::proofs::HeadingCells::heading_in_cell))]
+pub fn heading_stands_in_its_cell()
+    ensures { (xs tail : List Item) → IsHeadingInCell xs tail → HeadingStandsInCell xs tail }
+{}
+
+/// Such a paragraph takes any text: there is a path at which it is in the page's tree, and an edit that sends it marked
+/// `content`, with any text typed in it, and all else as it is in the page, is done; in the new page the paragraph is
+/// its text as it is spelled, and every other byte is what it was; unless the new page is longer than a page may be.
+/// There is such an edit with each text: the one that sends every other node without marks. The new page is such a page
+/// again.
+#[tactic(auto, using(crate::proofs::Takes::takes_any))]
+pub fn typed_paragraph_in_a_cell_takes_any_text()
+    ensures takes { (c : CellPage) → IsCellPage c → TakesText c }
+    ensures edit { (c : CellPage) (path : List ℕ) (m : Label) (text : List ℕ) → LeadsFrom path (children (part_tree (page_with c c.text))) → IsUtf8 text
+        → IsCellEdit c path text (own_sents path m text (children (part_tree (page_with c c.text)))) }
+    ensures again { (c : CellPage) (text : List ℕ) → IsCellPage c → IsUtf8 text
+        → IsCellPage (record { before = c.before; text = typed_as paragraph c.text text; behind = c.behind }) }
+{}
+
+/// So every call that keeps what `run` of `wt_pagetool` promises (`Ends`) takes such a text: `edit` has written the new
+/// page and no line; or a device failed, or memory ran out. Where no device failed, only want of memory may come in the
+/// place of the new page.
+#[tactic(auto, using(crate::proofs::CellsCalls::takes_in_cells))]
+pub fn calls_take_texts_in_cells()
+    ensures { (c : Call) (ended : ℕ) → Ends c ended → TakesTextsInCells c ended }
+{}
+
+/// Without marks, too, as a browser sends it: where the text that was typed is another one than what the paragraph held,
+/// `edit` of the difference is done, whatever marks the paragraph and the body have.
+#[tactic(auto, using(crate::proofs::CellsUnmarked::takes_unmarked))]
+pub fn typed_paragraph_in_a_cell_takes_any_text_without_marks()
+    ensures { (c : CellPage) → IsCellPage c → TakesUnmarked c }
+{}
+
+/// So every call of `selser` that keeps what `run` of `wt_pagetool` promises (`EndsAsEdit`) is done, which is never
+/// refused then; or a device failed, or memory ran out.
+#[tactic(auto, using(crate::proofs::CellsUnmarked::takes_unmarked_in_cells))]
+pub fn calls_take_texts_in_cells_without_marks()
+    ensures { (c : Call) (ended : ℕ) → EndsAsEdit c ended → TakesUnmarkedInCells c ended }
 {}

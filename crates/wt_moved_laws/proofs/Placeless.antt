@@ -26,7 +26,7 @@ mutual
   shown_placeless (tree l ts) rest =
       shown_by (showing l.kind) l (λ ps. plains_before (all_placeless ts) ps) (λ ps. plains_before ts ps) rest (λ ps. all_shown_placeless ts ps)
 
-  all_shown_placeless : (ts : Trees) (rest : Plains) → plains_before (all_placeless ts) rest ≡ plains_before ts rest
+  pub all_shown_placeless : (ts : Trees) (rest : Plains) → plains_before (all_placeless ts) rest ≡ plains_before ts rest
   all_shown_placeless none rest = refl
   all_shown_placeless (more t ts) rest =
       shown_placeless t (plains_before (all_placeless ts) rest) ∙ ap (plain_before t) (all_shown_placeless ts rest)

@@ -48,7 +48,7 @@ onto_same (tree l us) ts =
     either (is_text (tree l us)) (text_onto l.ranges l.own ts) (more (tree l us) ts) (text_onto None l.own (all_placeless ts))
     (more (placeless (tree l us)) (all_placeless ts)) (text_onto_same l.ranges l.own ts) refl
 
-joined_same : (ts : Trees) → all_placeless (joined_texts ts) ≡ joined_texts (all_placeless ts)
+pub joined_same : (ts : Trees) → all_placeless (joined_texts ts) ≡ joined_texts (all_placeless ts)
 joined_same none = refl
 joined_same (more t ts) = onto_same t (joined_texts ts) ∙ ap (onto (placeless t)) (joined_same ts)
 
@@ -75,14 +75,14 @@ cut_one behind leads (tree l us) ts =
     either (is_text (tree l us)) (text_before all l.ranges l.own ts) (more (tree l us) ts) (text_before all None l.own (all_placeless ts))
     (more (placeless (tree l us)) (all_placeless ts)) (parts_same l.ranges (front_of all l.own) (rest_of all l.own) ts) refl
 
-cut_same : (behind : Bool) (ts : Trees) → all_placeless (cut_from behind ts) ≡ cut_from behind (all_placeless ts)
+pub cut_same : (behind : Bool) (ts : Trees) → all_placeless (cut_from behind ts) ≡ cut_from behind (all_placeless ts)
 cut_same behind none = refl
 cut_same behind (more t ts) =
     cut_one behind (leads_to_block ts) t (cut_from (behind || is_border t) ts)
     ∙ ap (cut_before behind (leads_to_block ts) (placeless t)) (cut_same (behind || is_border t) ts)
     ∙ ap₂ (λ (leads border : Bool). cut_before behind leads (placeless t) (cut_from (behind || border) (all_placeless ts))) (sym (leads_same ts)) (sym (border_same t))
 
-recut_same : (ts : Trees) → all_placeless (recut ts) ≡ recut (all_placeless ts)
+pub recut_same : (ts : Trees) → all_placeless (recut ts) ≡ recut (all_placeless ts)
 recut_same ts = cut_same false (joined_texts ts) ∙ ap (cut_from false) (joined_same ts)
 
 -- ---- all texts of a tree

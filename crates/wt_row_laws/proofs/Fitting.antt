@@ -13,9 +13,10 @@ use Rattle.wt_inline.specs.Parts.{Part, loose, node, one_leaf, child, children}
 use Rattle.wt_page.specs.Stretches.{Stretch, block, is_gap, stretch_parts, stretches_parts, front_len, front_gaps, past_front, block_len, before_end, end_gaps, tree_block, node_of, opened_by, enclosed}
 use Rattle.wt_row_laws.specs.Rounds.{Holder, round, Around, filled}
 
--- of any tree at the place
-pub record Fits (I : Type 0) (t : I → ItemTree) (f : I → List Stretch) : Type 0 where
+-- of any tree at the place, in nodes of which this holds
+pub record Fits (I : Type 0) (t : I → ItemTree) (P : List Holder → Type 0) (f : I → List Stretch) : Type 0 where
   pub around : Around
+  pub held : P around.holders
   pub is : (i : I) → f i ≡ filled around (t i)
 
 -- ---- lists
@@ -96,22 +97,26 @@ rest_dropped p xs y ys e =
 
 -- ---- round a place
 
-pub fits_same : {I : Type 0} (t : I → ItemTree) (f g : I → List Stretch) → ((i : I) → f i ≡ g i) → Fits I t g → Fits I t f
-fits_same t f g e h = record { around = h.around; is = λ i. e i ∙ h.is i }
+pub fits_same : {I : Type 0} (t : I → ItemTree) (P : List Holder → Type 0) (f g : I → List Stretch) → ((i : I) → f i ≡ g i) → Fits I t P g → Fits I t P f
+fits_same t P f g e h = record { around = h.around; held = h.held; is = λ i. e i ∙ h.is i }
 
-pub fits_behind : {I : Type 0} (t : I → ItemTree) (f : I → List Stretch) (us : List Stretch) → Fits I t f → Fits I t (λ i. us ++ f i)
-fits_behind t f us h =
+pub fits_behind : {I : Type 0} (t : I → ItemTree) (P : List Holder → Type 0) (f : I → List Stretch) (us : List Stretch) → Fits I t P f
+    → Fits I t P (λ i. us ++ f i)
+fits_behind t P f us h =
     let a : Around = h.around in
     record {
       around = record { front = us ++ a.front; holders = a.holders; back = a.back };
+      held = h.held;
       is = λ i. ap (λ ss. us ++ ss) (h.is i) ∙ sym (append_assoc us a.front (tree_block (round a.holders (t i)) ∷ a.back));
     }
 
-pub fits_before : {I : Type 0} (t : I → ItemTree) (f : I → List Stretch) (vs : List Stretch) → Fits I t f → Fits I t (λ i. f i ++ vs)
-fits_before t f vs h =
+pub fits_before : {I : Type 0} (t : I → ItemTree) (P : List Holder → Type 0) (f : I → List Stretch) (vs : List Stretch) → Fits I t P f
+    → Fits I t P (λ i. f i ++ vs)
+fits_before t P f vs h =
     let a : Around = h.around in
     record {
       around = record { front = a.front; holders = a.holders; back = a.back ++ vs };
+      held = h.held;
       is = λ i. ap (λ ss. ss ++ vs) (h.is i) ∙ append_assoc a.front (tree_block (round a.holders (t i)) ∷ a.back) vs;
     }
 
@@ -128,19 +133,28 @@ abbrev one_round : Head → List Item → Around → List Stretch → List Stret
 one_round h o a us vs c =
     record { head = h; opening = o; before = children (stretches_parts us); behind = children (stretches_parts vs); closing = c } ∷ a.holders
 
-pub fits_node : {I : Type 0} (t : I → ItemTree) (f : I → List Stretch) (h : Head) (o c : List Item) → Fits I t f → Fits I t (λ i. tree_block (node_of h o (f i) c) ∷ [])
-fits_node t f h o c g =
+-- a node with this head round the others
+abbrev pub Raises : Head → (List Holder → Type 0) → (List Holder → Type 0) → Type 0
+Raises h P Q = (r : Holder) (hs : List Holder) → r.head ≡ h → P hs → Q (r ∷ hs)
+
+pub fits_node : {I : Type 0} (t : I → ItemTree) (P Q : List Holder → Type 0) (f : I → List Stretch) (h : Head) (o c : List Item) → Raises h P Q
+    → Fits I t P f → Fits I t Q (λ i. tree_block (node_of h o (f i) c) ∷ [])
+fits_node t P Q f h o c q g =
     let a : Around = g.around in
     record {
       around = record { front = []; holders = one_round h o a a.front a.back c; back = [] };
+      held = q (record { head = h; opening = o; before = children (stretches_parts a.front); behind = children (stretches_parts a.back); closing = c }) a.holders refl g.held;
       is = λ i. ap (λ ss. tree_block (node_of h o ss c) ∷ []) (g.is i) ∙ ap (λ u. tree_block u ∷ []) (node_is h o a (t i) a.front a.back c);
     }
 
-pub fits_opened : {I : Type 0} (t : I → ItemTree) (f : I → List Stretch) (h : Head) (o : List Item) → Fits I t f → Fits I t (λ i. opened_by h o (f i))
-fits_opened t f h o g =
+pub fits_opened : {I : Type 0} (t : I → ItemTree) (P Q : List Holder → Type 0) (f : I → List Stretch) (h : Head) (o : List Item) → Raises h P Q
+    → Fits I t P f → Fits I t Q (λ i. opened_by h o (f i))
+fits_opened t P Q f h o q g =
     let a : Around = g.around in
     record {
       around = record { front = []; holders = one_round h o a a.front (before_end a.back) []; back = end_gaps a.back };
+      held = q (record { head = h; opening = o; before = children (stretches_parts a.front); behind = children (stretches_parts (before_end a.back)); closing = [] })
+          a.holders refl g.held;
       is = λ i.
           let u : ItemTree = round a.holders (t i) in
           ap (opened_by h o) (g.is i)
@@ -149,17 +163,19 @@ fits_opened t f h o g =
           ∙ ap (λ ss. tree_block (round (one_round h o a a.front (before_end a.back) []) (t i)) ∷ ss) (behind_last a.front (node u ∷ []) a.back);
     }
 
-pub fits_enclosed : {I : Type 0} (t : I → ItemTree) (f : I → List Stretch) (h : Head) → Fits I t f → Fits I t (λ i. enclosed h (f i))
-fits_enclosed {I} t f h g =
+pub fits_enclosed : {I : Type 0} (t : I → ItemTree) (P Q : List Holder → Type 0) (f : I → List Stretch) (h : Head) → Raises h P Q
+    → Fits I t P f → Fits I t Q (λ i. enclosed h (f i))
+fits_enclosed {I} t P Q f h q g =
     let a : Around = g.around in
     let us : List Stretch = front_gaps a.front in
     let rest : List Stretch = past_front a.front in
-    let past : Fits I t (λ i. rest ++ tree_block (round a.holders (t i)) ∷ a.back) = record { around = record { front = rest; holders = a.holders; back = a.back }; is = λ i. refl } in
-    let opened = fits_opened t (λ i. rest ++ tree_block (round a.holders (t i)) ∷ a.back) h [] past in
-    fits_same t (λ i. enclosed h (f i)) (λ i. us ++ opened_by h [] (rest ++ tree_block (round a.holders (t i)) ∷ a.back))
+    let past : Fits I t P (λ i. rest ++ tree_block (round a.holders (t i)) ∷ a.back) =
+    record { around = record { front = rest; holders = a.holders; back = a.back }; held = g.held; is = λ i. refl } in
+    let opened = fits_opened t P Q (λ i. rest ++ tree_block (round a.holders (t i)) ∷ a.back) h [] q past in
+    fits_same t Q (λ i. enclosed h (f i)) (λ i. us ++ opened_by h [] (rest ++ tree_block (round a.holders (t i)) ∷ a.back))
     (λ i.
     let u : Stretch = tree_block (round a.holders (t i)) in
     ap (enclosed h) (g.is i)
     ∙ ap (λ ss. ss ++ opened_by h [] (past_front (filled a (t i)))) (first_taken is_gap a.front u a.back refl)
     ∙ ap (λ ss. us ++ opened_by h [] ss) (rest_dropped is_gap a.front u a.back refl))
-    (fits_behind t (λ i. opened_by h [] (rest ++ tree_block (round a.holders (t i)) ∷ a.back)) us opened)
+    (fits_behind t Q (λ i. opened_by h [] (rest ++ tree_block (round a.holders (t i)) ∷ a.back)) us opened)

@@ -16,7 +16,7 @@ use Rattle.wt_page.specs.Texts.{para}
 use Rattle.wt_page.specs.Body.{one_block, same_block, blocks_by, within, blocks}
 use Rattle.wt_row_laws.specs.Blocks.{table, paragraph, AllAre, BeginOtherwise, AreBlocks}
 use Rattle.wt_row_laws.specs.Units.{IsUnit, AreUnits, Level}
-use Rattle.wt_row_laws.specs.Rounds.{Around, TableRound, in_cell, in_cells, is_cell, BeginsPart, AreContent, IsTableRound, EndOtherwise, AreTexts, ParagraphStands}
+use Rattle.wt_row_laws.specs.Rounds.{AreCellHolders, Around, TableRound, in_cell, in_cells, is_cell, BeginsPart, AreContent, IsTableRound, EndOtherwise, AreTexts, ParagraphStands}
 use Rattle.wt_row_laws.proofs.Falling.{IsOther, sort, Falls, IsPart, part_is_unit}
 use Rattle.wt_row_laws.proofs.UnitCuts.{first_unit, level_put, level_rest, level_open, level_end, level_other, level_ends, level_units}
 use Rattle.wt_row_laws.proofs.BlockCases.{read_by_cases}
@@ -31,7 +31,7 @@ level_join zero [] ss h g = g
 level_join (suc d) [] ss h g = absurd h
 level_join d (r ∷ rs) ss h g = level_put d r (rs ++ ss) (level_ends d r rs h) (level_join (behind d r.kind) rs ss (level_rest d r rs h) g)
 
-one_level : (r : Row) → IsOther r.kind → Level 0 (r ∷ [])
+pub one_level : (r : Row) → IsOther r.kind → Level 0 (r ∷ [])
 one_level r o = level_put 0 r [] (λ e. absurd (o.no_end e)) (subst (λ (n : ℕ). Level n []) (sym (o.stays 0)) tt)
 
 -- a row that ends a table behind level rows ends the one that is open there
@@ -73,7 +73,7 @@ level_raised d (r ∷ rs) last e h =
 
 -- ---- units
 
-rows_units : (rs : List Row) → Level 0 rs → AreUnits (units kind_of rs) rs
+pub rows_units : (rs : List Row) → Level 0 rs → AreUnits (units kind_of rs) rs
 rows_units rs h = level_units rs h
 
 part_other : (k : LineKind) → begins_part k ≡ true → IsOther k
@@ -92,7 +92,7 @@ text_other r e =
       | inr (inr o) ↦ o
     ]
 
-alone_first : (r : Row) (rs : List Row) → IsOther r.kind → units kind_of (r ∷ rs) ≡ (r ∷ []) ∷ units kind_of rs
+pub alone_first : (r : Row) (rs : List Row) → IsOther r.kind → units kind_of (r ∷ rs) ≡ (r ∷ []) ∷ units kind_of rs
 alone_first r rs o = first_unit (r ∷ []) rs (inr (o, refl))
 
 first_begins : (rs : List Row) → BeginsPart rs → FirstBegins (units kind_of rs)
@@ -106,7 +106,7 @@ plain_join : (us vs : List (List Row)) → AllByRecursion (λ u. begins_group ki
 plain_join [] vs h g = g
 plain_join (u ∷ us) vs (h, hs) g = (h, plain_join us vs hs g)
 
-content_join : (rs ss : List Row) → AreContent rs → AreContent ss → AreContent (rs ++ ss)
+pub content_join : (rs ss : List Row) → AreContent rs → AreContent ss → AreContent (rs ++ ss)
 content_join rs ss h g = record {
   level = level_join 0 rs ss h.level g.level;
   plain = subst (λ us. AllByRecursion (λ u. begins_group kind_of u ≡ false) us)
@@ -226,24 +226,24 @@ cells_content (t ∷ ts) rs (h, hs) g = cell_content t (in_cells ts rs) h (cells
 
 -- what a cell makes, whatever rows are in it
 cell_fits : (I : Type 0) (p : I → ItemTree) (read : Reading) (t : TableRound) (g : I → List Row) → IsTableRound t → ((i : I) → AreContent (g i))
-    → Fits I p (λ i. read (g i)) → Fits I p (λ i. blocks_by read (in_cell t (g i)))
+    → Fits I p AreCellHolders (λ i. read (g i)) → Fits I p AreCellHolders (λ i. blocks_by read (in_cell t (g i)))
 cell_fits I p read t g h c f =
     let own : I → List Row = λ i. t.first ∷ (inner_rows t (g i) ++ t.last ∷ []) in
     let made : I → List Stretch = λ i. table_by read (table_of kind_of t.first (inner_rows t (g i))) t.last in
-    fits_same p (λ i. blocks_by read (in_cell t (g i))) (λ i. blocks_by read t.before ++ (made i ++ blocks_by read t.behind))
+    fits_same p AreCellHolders (λ i. blocks_by read (in_cell t (g i))) (λ i. blocks_by read t.before ++ (made i ++ blocks_by read t.behind))
     (λ i.
     let part : IsPart (own i) = table_part t (inner_rows t (g i)) h.opens h.ends (inner_level t (g i) h (c i).level) in
     round_blocks read t.before (own i) t.behind h.before h.behind part h.opens
     ∙ ap (λ ss. blocks_by read t.before ++ (ss ++ blocks_by read t.behind)) (table_blocks read t (inner_rows t (g i)) h.opens part))
-    (fits_behind p (λ i. made i ++ blocks_by read t.behind) (blocks_by read t.before)
-    (fits_before p made (blocks_by read t.behind)
+    (fits_behind p AreCellHolders (λ i. made i ++ blocks_by read t.behind) (blocks_by read t.before)
+    (fits_before p AreCellHolders made (blocks_by read t.behind)
     (table_fits I p read t.first t.cell t.last t.inside t.further g h.of_cells (λ i. inner_units t (g i) h (c i).level) (λ i. (c i).plain)
     (first_begins t.further h.begins) f)))
 
 -- and in cells one in the other
-cells_fit_within : (I : Type 0) (p : I → ItemTree) (g : I → List Row) → ((i : I) → AreContent (g i))
-    → ((read : Reading) → Fits I p (λ i. blocks_by read (g i))) → (n : ℕ) (ts : List TableRound) → length ts ≤ n → AllByRecursion IsTableRound ts
-    → Fits I p (λ i. within n (in_cells ts (g i)))
+pub cells_fit_within : (I : Type 0) (p : I → ItemTree) (g : I → List Row) → ((i : I) → AreContent (g i))
+    → ((read : Reading) → Fits I p AreCellHolders (λ i. blocks_by read (g i))) → (n : ℕ) (ts : List TableRound) → length ts ≤ n → AllByRecursion IsTableRound ts
+    → Fits I p AreCellHolders (λ i. within n (in_cells ts (g i)))
 cells_fit_within I p g c f zero [] le h = f gaps
 cells_fit_within I p g c f (suc n) [] le h = f (within n)
 cells_fit_within I p g c f zero (t ∷ ts) le h = absurd (omega (arith, le))
@@ -317,9 +317,10 @@ text_around read lead ending xs ys =
     record { front = blocks_by read xs ++ gap lead ∷ []; holders = []; back = gap ending ∷ blocks_by read ys }
 
 text_fits : (read : Reading) (lead ending : List Item) (xs ys : List Row) → AreContent xs → AreContent ys → EndOtherwise line.Text xs
-    → BeginOtherwise line.Text ys → Fits (IsText lead ending) (λ i. para i.0) (λ i. blocks_by read (xs ++ (i.0 ++ ys)))
+    → BeginOtherwise line.Text ys → Fits (IsText lead ending) (λ i. para i.0) AreCellHolders (λ i. blocks_by read (xs ++ (i.0 ++ ys)))
 text_fits read lead ending xs ys h g e b = record {
   around = text_around read lead ending xs ys;
+  held = tt;
   is = λ i. text_round read lead ending xs i.0 ys h g e b i.1
       ∙ sym (append_assoc (blocks_by read xs) (gap lead ∷ []) (tree_block (para i.0) ∷ gap ending ∷ blocks_by read ys));
 }
@@ -332,4 +333,4 @@ paragraph_stands ts xs ys lead ending h le a b e o =
     let g : I → List Row = λ i. xs ++ (i.0 ++ ys) in
     let own : (i : I) → AreContent (g i) = λ i. content_join xs (i.0 ++ ys) a (content_join i.0 ys (texts_content i.0 (all_texts lead ending i.0 i.1)) b) in
     let f = cells_fit_within I (λ i. para i.0) g own (λ read. text_fits read lead ending xs ys a b e o) MOST_TABLES ts le h in
-    record { around = f.around; stands = λ rs t. f.is (rs, t) }
+    record { around = f.around; of_cells = f.held; stands = λ rs t. f.is (rs, t) }

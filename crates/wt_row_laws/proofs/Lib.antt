@@ -5,6 +5,7 @@ pub mod CellBlocks
 pub mod Counting
 pub mod Falling
 pub mod Fitting
+pub mod HeadingsInCells
 pub mod InCells
 pub mod PageBlocks
 pub mod TableCells

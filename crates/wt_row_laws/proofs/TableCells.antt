@@ -1,26 +1,29 @@
 -- A table, whatever rows are in one of its cells.
-use Rattle.std.proofs.Common.{◌≡◌, ℕ, ◌+◌, Bool, true, false, List, [], ◌∷◌, ◌++◌, map, take, drop, refl, ap, ◌∙◌}
+use Rattle.std.proofs.Common.{◌≡◌, ℕ, zero, suc, Bool, true, false, List, [], ◌∷◌, ◌++◌, map, take, drop, refl, sym, ap, ◌∙◌, subst, inl, inr}
 use Rattle.std.specs.Prelude.{not, if◌then◌else◌}
 use Rattle.std.specs.List.{AllByRecursion, flat_map, prefix_len}
 use Rattle.std.proofs.lemmas.List.{map-append}
 use Rattle.std.proofs.lemmas.Grind.{flat_map-append}
+use Rattle.wt_tree.specs.declared.kind.Kind.{Kind}
 use Rattle.wt_tree.specs.declared.kind.Kind.TheVariants as kind
+use Rattle.wt_span.specs.Items.{Item}
 use Rattle.wt_span.specs.Runs.{put, runs, IsRun}
 use Rattle.wt_span.proofs.RunLaws.{runs_cut}
 use Rattle.wt_lines.specs.declared.kind.LineKind.{LineKind}
 use Rattle.wt_lines.specs.declared.kind.LineKind.TheVariants as line
-use Rattle.wt_tables.specs.Cells.{Cell, cells_from}
+use Rattle.wt_tables.specs.declared.scan.Splits.{Splits}
+use Rattle.wt_tables.specs.Cells.{signs as cell_signs, Cell, splits_at, onto, parts as cell_parts, split_by, header_by, cells_in, cells_from}
 use Rattle.wt_tables.specs.Parts.{RowOf, TableOf, joined, units, begins_part, begins_group, groups, group_kind, is_row, is_caption, with_stray, past_stray, plain_len, captions_len, table_by as parts_by, table_of, row_by as row_parts, row_of, rows_of}
-use Rattle.wt_inline.specs.ItemTree.{plain, ItemTree}
+use Rattle.wt_inline.specs.ItemTree.{Head, plain, ItemTree}
 use Rattle.wt_page.specs.Rows.{Row, kind_of}
 use Rattle.wt_page.proofs.HeldBody.{units_joined}
 use Rattle.wt_page.specs.Stretches.{Stretch, gap, block, tree_block, node_of, opened_by, enclosed}
 use Rattle.wt_page.specs.Tables.{Reading, cell_by, cells_by, cell_stretches, delimiter, behind_delimiter, delimiter_lead, first_items, row_by, row_stretches, rows_stretches, table_by, with_attrs, cell_kind}
 use Rattle.wt_tables.specs.Cells.{table_attributes, row_attributes}
 use Rattle.wt_context.specs.Line.{line_parts}
-use Rattle.wt_row_laws.specs.Rounds.{is_cell, BeginNoPart}
+use Rattle.wt_row_laws.specs.Rounds.{IsCellKind, Holder, AreCellHolders, is_cell, BeginNoPart}
 use Rattle.wt_row_laws.proofs.Apart.{runs_apart, all_apart}
-use Rattle.wt_row_laws.proofs.Fitting.{Fits, first_taken, rest_dropped, fits_same, fits_behind, fits_before, fits_node, fits_opened, fits_enclosed}
+use Rattle.wt_row_laws.proofs.Fitting.{Fits, first_taken, rest_dropped, fits_same, fits_behind, fits_before, Raises, fits_node, fits_opened, fits_enclosed}
 
 abbrev Group : Type 0
 Group = List (List Row)
@@ -191,30 +194,96 @@ groups_round us vs ws u e h b =
     runs_apart goes_on us (u ∷ (vs ++ ws)) (all_apart goes_on us u (vs ++ ws) (λ x. ap not e))
     ∙ ap (λ gs. groups kind_of us ++ gs) (runs_cut goes_on (u ∷ vs) ws (group_run u vs ws h b))
 
+-- ---- the nodes round a place
+
+abbrev Under : (Kind → Type 0) → (List Holder → Type 0) → List Holder → Type 0
+Under K P [] = ⊥
+Under K P (h ∷ hs) = K h.head.kind × P hs
+
+abbrev IsKind : Kind → Kind → Type 0
+IsKind j k = k ≡ j
+
+-- in a cell, a row, a body, a table
+abbrev InCell : List Holder → Type 0
+InCell hs = Under IsCellKind AreCellHolders hs
+
+abbrev InRow : List Holder → Type 0
+InRow hs = Under (IsKind kind.Tr) InCell hs
+
+abbrev InRows : List Holder → Type 0
+InRows hs = Under (IsKind kind.Tbody) InRow hs
+
+abbrev InTable : List Holder → Type 0
+InTable hs = Under (IsKind kind.Table) InRows hs
+
+cell_holders : (hs : List Holder) → InTable hs → AreCellHolders hs
+cell_holders [] h = absurd h
+cell_holders (t ∷ []) h = absurd h.1
+cell_holders (t ∷ b ∷ []) h = absurd h.1.1
+cell_holders (t ∷ b ∷ r ∷ []) h = absurd h.1.1.1
+cell_holders (t ∷ b ∷ r ∷ c ∷ hs) h = (h.0, h.1.0, h.1.1.0, h.1.1.1.0, h.1.1.1.1)
+
+raised : (K : Kind → Type 0) (P : List Holder → Type 0) (h : Head) → K h.kind → Raises h P (Under K P)
+raised K P h k = λ r hs e p. (subst (λ (g : Head). K g.kind) (sym e) k, p)
+
 -- ---- cells
 
-cells_fit : (I : Type 0) (t : I → ItemTree) (f : I → List Stretch) (cs : List Cell) → Fits I t f → Fits I t (λ i. cells_by false cs (f i))
-cells_fit I t f [] h = h
-cells_fit I t f (c ∷ []) h =
-    fits_opened t (λ i. block (line_parts c.rest) ∷ f i) (with_attrs (cell_kind false c.header) c.attrs) c.opening
-    (fits_behind t f (block (line_parts c.rest) ∷ []) h)
-cells_fit I t f (c ∷ d ∷ cs) h = fits_behind t (λ i. cells_by false (d ∷ cs) (f i)) (cell_by false c []) (cells_fit I t f (d ∷ cs) h)
+cell_of_kind : (header : Bool) → IsCellKind (cell_kind false header)
+cell_of_kind true = inr refl
+cell_of_kind false = inl refl
 
-line_fits : (I : Type 0) (t : I → ItemTree) (read : Reading) (c : Row) (g : I → List Row) → Fits I t (λ i. read (g i))
-    → Fits I t (λ i. cell_stretches read false (c ∷ g i))
+abbrev HasAny : {A : Type 0} → List A → Type 0
+HasAny [] = ⊥
+HasAny (x ∷ xs) = Unit {0}
+
+some_onto : (x : Item) (ps : List (List Item)) → HasAny (onto x ps)
+some_onto x [] = tt
+some_onto x (p ∷ ps) = tt
+
+some_by : (v : Bool) (x : Item) (ps qs : List (List Item)) → HasAny (if v then [] ∷ ps else onto x qs)
+some_by true x ps qs = tt
+some_by false x ps qs = some_onto x qs
+
+some_parts : (by : Splits) (n : ℕ) (xs : List Item) → HasAny (cell_parts by n xs)
+some_parts by zero [] = tt
+some_parts by (suc n) [] = tt
+some_parts by (suc n) (x ∷ xs) = some_onto x (cell_parts by n xs)
+some_parts by zero (x ∷ xs) = some_by (splits_at by (x ∷ xs)) x (onto x (cell_parts by 1 xs)) (cell_parts by zero xs)
+
+some_in : (header : Bool) (n : ℕ) (ps : List (List Item)) → HasAny ps → HasAny (cells_in header n ps)
+some_in header n [] h = absurd h
+some_in header n (p ∷ ps) h = tt
+
+some_cells : (xs : List Item) → HasAny (cells_from false xs)
+some_cells xs = some_in (header_by false (cell_signs xs)) 1 (cell_parts (split_by false (cell_signs xs)) 1 xs) (some_parts (split_by false (cell_signs xs)) 1 xs)
+
+cells_fit : (I : Type 0) (t : I → ItemTree) (f : I → List Stretch) (cs : List Cell) → HasAny cs → Fits I t AreCellHolders f
+    → Fits I t InCell (λ i. cells_by false cs (f i))
+cells_fit I t f [] some h = absurd some
+cells_fit I t f (c ∷ []) some h =
+    let head : Head = with_attrs (cell_kind false c.header) c.attrs in
+    fits_opened t AreCellHolders InCell (λ i. block (line_parts c.rest) ∷ f i) head c.opening (raised IsCellKind AreCellHolders head (cell_of_kind c.header))
+    (fits_behind t AreCellHolders f (block (line_parts c.rest) ∷ []) h)
+cells_fit I t f (c ∷ d ∷ cs) some h =
+    fits_behind t InCell (λ i. cells_by false (d ∷ cs) (f i)) (cell_by false c []) (cells_fit I t f (d ∷ cs) tt h)
+
+line_fits : (I : Type 0) (t : I → ItemTree) (read : Reading) (c : Row) (g : I → List Row) → Fits I t AreCellHolders (λ i. read (g i))
+    → Fits I t InCell (λ i. cell_stretches read false (c ∷ g i))
 unfolding cell_stretches
 line_fits I t read c g h =
-    fits_behind t (λ i. cells_by false (cells_from false c.items) (gap c.ending ∷ read (g i))) (gap c.lead ∷ [])
-    (cells_fit I t (λ i. gap c.ending ∷ read (g i)) (cells_from false c.items) (fits_behind t (λ i. read (g i)) (gap c.ending ∷ []) h))
+    fits_behind t InCell (λ i. cells_by false (cells_from false c.items) (gap c.ending ∷ read (g i))) (gap c.lead ∷ [])
+    (cells_fit I t (λ i. gap c.ending ∷ read (g i)) (cells_from false c.items) (some_cells c.items)
+    (fits_behind t AreCellHolders (λ i. read (g i)) (gap c.ending ∷ []) h))
 
 -- ---- a row
 
-made_fits : (I : Type 0) (t : I → ItemTree) (rs : List Row) (f : I → List Stretch) → Fits I t f → Fits I t (λ i. row_by rs (f i))
-made_fits I t [] f h = fits_enclosed t f (plain kind.Tr) h
+made_fits : (I : Type 0) (t : I → ItemTree) (rs : List Row) (f : I → List Stretch) → Fits I t InCell f → Fits I t InRow (λ i. row_by rs (f i))
+made_fits I t [] f h = fits_enclosed t InCell InRow f (plain kind.Tr) (raised (IsKind kind.Tr) InCell (plain kind.Tr) refl) h
 made_fits I t (r ∷ rs) f h =
-    fits_behind t (λ i. opened_by (with_attrs kind.Tr (row_attributes r.items)) (delimiter (r ∷ rs)) (behind_delimiter (r ∷ rs) ++ f i)) (gap (delimiter_lead (r ∷ rs)) ∷ [])
-    (fits_opened t (λ i. behind_delimiter (r ∷ rs) ++ f i) (with_attrs kind.Tr (row_attributes r.items)) (delimiter (r ∷ rs))
-    (fits_behind t f (behind_delimiter (r ∷ rs)) h))
+    let head : Head = with_attrs kind.Tr (row_attributes r.items) in
+    fits_behind t InRow (λ i. opened_by head (delimiter (r ∷ rs)) (behind_delimiter (r ∷ rs) ++ f i)) (gap (delimiter_lead (r ∷ rs)) ∷ [])
+    (fits_opened t InCell InRow (λ i. behind_delimiter (r ∷ rs) ++ f i) head (delimiter (r ∷ rs)) (raised (IsKind kind.Tr) InCell head refl)
+    (fits_behind t InCell f (behind_delimiter (r ∷ rs)) h))
 
 abbrev with_cells : RowOf Row → List (List Row) → RowOf Row
 with_cells r cs = record { opening = r.opening; between = r.between; cells = r.cells ++ cs }
@@ -263,21 +332,21 @@ row_is read r cs ds d =
     ∙ ap (λ ss. F r.cells ++ ss) (flat_map-append (cell_stretches read false) cs (d ∷ ds)))
 
 row_fits : (I : Type 0) (t : I → ItemTree) (read : Reading) (c : Row) (g : I → List Row) (before behind : List Group) → is_row c.kind ≡ false
-    → Fits I t (λ i. read (g i)) → Fits I t (λ i. row_stretches read (row_of kind_of (before ++ ((c ∷ []) ∷ units kind_of (g i)) ∷ behind)))
+    → Fits I t AreCellHolders (λ i. read (g i)) → Fits I t InRow (λ i. row_stretches read (row_of kind_of (before ++ ((c ∷ []) ∷ units kind_of (g i)) ∷ behind)))
 row_fits I t read c g before behind e h =
     let r = cell_round I before c (λ i. units kind_of (g i)) behind e in
     let F : List (List Row) → List Stretch = flat_map (cell_stretches read false) in
     let rs : List Row = r.first.opening ++ r.first.between in
     let own : I → List Stretch = λ i. cell_stretches read false (c ∷ g i) in
     let all : I → List Stretch = λ i. F r.first.cells ++ (F r.others ++ (own i ++ F r.back)) in
-    fits_same t (λ i. row_stretches read (row_of kind_of (before ++ ((c ∷ []) ∷ units kind_of (g i)) ∷ behind))) (λ i. row_by rs (all i))
+    fits_same t InRow (λ i. row_stretches read (row_of kind_of (before ++ ((c ∷ []) ∷ units kind_of (g i)) ∷ behind))) (λ i. row_by rs (all i))
     (λ i. ap (row_stretches read) (r.is i)
     ∙ row_is read r.first r.others r.back (joined ((c ∷ []) ∷ units kind_of (g i)))
     ∙ ap (λ (d : List Row). row_by rs (F r.first.cells ++ (F r.others ++ (cell_stretches read false (c ∷ d) ++ F r.back)))) (units_joined kind_of (g i)))
     (made_fits I t rs all
-    (fits_behind t (λ i. F r.others ++ (own i ++ F r.back)) (F r.first.cells)
-    (fits_behind t (λ i. own i ++ F r.back) (F r.others)
-    (fits_before t own (F r.back) (line_fits I t read c g h)))))
+    (fits_behind t InCell (λ i. F r.others ++ (own i ++ F r.back)) (F r.first.cells)
+    (fits_behind t InCell (λ i. own i ++ F r.back) (F r.others)
+    (fits_before t InCell own (F r.back) (line_fits I t read c g h)))))
 
 -- ---- all rows
 
@@ -287,7 +356,7 @@ rows_some read [] ss r = refl
 rows_some read (x ∷ rs) ss r = refl
 
 rows_fit : (I : Type 0) (t : I → ItemTree) (read : Reading) (c : Row) (g : I → List Row) (xs ys : List Group) → is_row c.kind ≡ false
-    → Fits I t (λ i. read (g i)) → Fits I t (λ i. rows_stretches read (rows_of kind_of (xs ++ ((c ∷ []) ∷ units kind_of (g i)) ∷ ys)))
+    → Fits I t AreCellHolders (λ i. read (g i)) → Fits I t InRows (λ i. rows_stretches read (rows_of kind_of (xs ++ ((c ∷ []) ∷ units kind_of (g i)) ∷ ys)))
 rows_fit I t read c g xs ys e h =
     let y : I → Group = λ i. (c ∷ []) ∷ units kind_of (g i) in
     let r = row_round I xs y ys (λ i. ap not e) in
@@ -295,13 +364,13 @@ rows_fit I t read c g xs ys e h =
     let S : List (RowOf Row) → List Stretch = flat_map (row_stretches read) in
     let own : I → List Stretch = λ i. row_stretches read (row_of kind_of (r.before ++ y i ∷ r.behind)) in
     let all : I → List Stretch = λ i. S (M r.front) ++ (own i ++ S (M r.back)) in
-    fits_same t (λ i. rows_stretches read (rows_of kind_of (xs ++ y i ∷ ys))) (λ i. enclosed (plain kind.Tbody) (all i))
+    fits_same t InRows (λ i. rows_stretches read (rows_of kind_of (xs ++ y i ∷ ys))) (λ i. enclosed (plain kind.Tbody) (all i))
     (λ i. ap (λ rs. rows_stretches read (M rs)) (r.is i)
     ∙ ap (rows_stretches read) (map-append (row_of kind_of) r.front ((r.before ++ y i ∷ r.behind) ∷ r.back))
     ∙ rows_some read (M r.front) (M r.back) (row_of kind_of (r.before ++ y i ∷ r.behind))
     ∙ ap (enclosed (plain kind.Tbody)) (flat_map-append (row_stretches read) (M r.front) (row_of kind_of (r.before ++ y i ∷ r.behind) ∷ M r.back)))
-    (fits_enclosed t all (plain kind.Tbody)
-    (fits_behind t (λ i. own i ++ S (M r.back)) (S (M r.front)) (fits_before t own (S (M r.back)) (row_fits I t read c g r.before r.behind e h))))
+    (fits_enclosed t InRow InRows all (plain kind.Tbody) (raised (IsKind kind.Tbody) InRow (plain kind.Tbody) refl)
+    (fits_behind t InRow (λ i. own i ++ S (M r.back)) (S (M r.front)) (fits_before t InRow own (S (M r.back)) (row_fits I t read c g r.before r.behind e h))))
 
 -- ---- a table
 
@@ -346,25 +415,25 @@ parts_round first us vs ws c e h b all is =
     ∙ ap (λ zs. parts_with first front (map joined (take m gs)) zs) (rest_dropped caption_first gs g more (cell_no_caption c.kind e))
 
 made_table : (I : Type 0) (t : I → ItemTree) (read : Reading) (first last : Row) (plain captions : List (List Row)) (rest : I → List Group)
-    → Fits I t (λ i. rows_stretches read (rows_of kind_of (rest i))) → Fits I t (λ i. table_by read (parts_with first plain captions (rest i)) last)
+    → Fits I t InRows (λ i. rows_stretches read (rows_of kind_of (rest i))) → Fits I t InTable (λ i. table_by read (parts_with first plain captions (rest i)) last)
 unfolding table_by
 made_table I t read first last front captions rest h =
     let opening : List Row = with_stray kind_of (first ∷ []) front ++ past_stray kind_of front in
     let C : List Stretch = flat_map (cell_stretches read true) captions in
     let rows : I → List Stretch = λ i. rows_stretches read (rows_of kind_of (rest i)) in
     let inside : I → List Stretch = λ i. behind_delimiter opening ++ ((C ++ rows i) ++ (gap last.lead ∷ [])) in
-    let fits = fits_behind t (λ i. (C ++ rows i) ++ (gap last.lead ∷ [])) (behind_delimiter opening)
-    (fits_before t (λ i. C ++ rows i) (gap last.lead ∷ []) (fits_behind t rows C h)) in
-    let head = with_attrs kind.Table (table_attributes (first_items opening)) in
-    fits_behind t (λ i. (tree_block (node_of head (delimiter opening) (inside i) last.items) ∷ []) ++ (gap last.ending ∷ [])) (gap (delimiter_lead opening) ∷ [])
-    (fits_before t (λ i. tree_block (node_of head (delimiter opening) (inside i) last.items) ∷ []) (gap last.ending ∷ [])
-    (fits_node t inside head (delimiter opening) last.items fits))
+    let fits = fits_behind t InRows (λ i. (C ++ rows i) ++ (gap last.lead ∷ [])) (behind_delimiter opening)
+    (fits_before t InRows (λ i. C ++ rows i) (gap last.lead ∷ []) (fits_behind t InRows rows C h)) in
+    let head : Head = with_attrs kind.Table (table_attributes (first_items opening)) in
+    fits_behind t InTable (λ i. (tree_block (node_of head (delimiter opening) (inside i) last.items) ∷ []) ++ (gap last.ending ∷ [])) (gap (delimiter_lead opening) ∷ [])
+    (fits_before t InTable (λ i. tree_block (node_of head (delimiter opening) (inside i) last.items) ∷ []) (gap last.ending ∷ [])
+    (fits_node t InRows InTable inside head (delimiter opening) last.items (raised (IsKind kind.Table) InRows head refl) fits))
 
 -- rows in a cell, whole units that begin no part, before those that begin another part
 pub table_fits : (I : Type 0) (t : I → ItemTree) (read : Reading) (first c last : Row) (inside further : List Row) (g : I → List Row) → is_cell c.kind ≡ true
     → ((i : I) → units kind_of (inside ++ (c ∷ (g i ++ further))) ≡ units kind_of inside ++ (c ∷ []) ∷ (units kind_of (g i) ++ units kind_of further))
-    → ((i : I) → BeginNoPart (g i)) → FirstBegins (units kind_of further) → Fits I t (λ i. read (g i))
-    → Fits I t (λ i. table_by read (table_of kind_of first (inside ++ (c ∷ (g i ++ further)))) last)
+    → ((i : I) → BeginNoPart (g i)) → FirstBegins (units kind_of further) → Fits I t AreCellHolders (λ i. read (g i))
+    → Fits I t AreCellHolders (λ i. table_by read (table_of kind_of first (inside ++ (c ∷ (g i ++ further)))) last)
 table_fits I t read first c last inside further g e cut plain begins h =
     let us : List (List Row) = units kind_of inside in
     let ws : List (List Row) = units kind_of further in
@@ -374,7 +443,8 @@ table_fits I t read first c last inside further g e cut plain begins h =
     let front : List (List Row) = take (prefix_len is_plain us) us in
     let captions : List (List Row) = map joined (take m gs) in
     let own : I → List Group = λ i. drop m gs ++ ((c ∷ []) ∷ units kind_of (g i)) ∷ groups kind_of ws in
-    fits_same t (λ i. table_by read (table_of kind_of first (inside ++ (c ∷ (g i ++ further)))) last) (λ i. table_by read (parts_with first front captions (own i)) last)
+    let made = made_table I t read first last front captions own (rows_fit I t read c g (drop m gs) (groups kind_of ws) (cell_no_row c.kind e) h) in
+    fits_same t AreCellHolders (λ i. table_by read (table_of kind_of first (inside ++ (c ∷ (g i ++ further)))) last) (λ i. table_by read (parts_with first front captions (own i)) last)
     (λ i. ap (λ p. table_by read p last)
     (parts_round first us (units kind_of (g i)) ws c e (plain i) begins (units kind_of (inside ++ (c ∷ (g i ++ further)))) (cut i)))
-    (made_table I t read first last front captions own (rows_fit I t read c g (drop m gs) (groups kind_of ws) (cell_no_row c.kind e) h))
+    (record { around = made.around; held = cell_holders made.around.holders made.held; is = made.is })

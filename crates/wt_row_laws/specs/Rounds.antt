@@ -1,11 +1,14 @@
--- What stands round a paragraph in a cell: rows round rows, and nodes round a node.
-use Rattle.std.specs.Prelude.{◌≡◌, Bool, true, false, List, [], ◌∷◌, ◌++◌}
+-- What stands round a paragraph or heading in a cell: rows round rows, and nodes round a node.
+use Rattle.std.specs.Prelude.{◌≡◌, ◌⊎◌, Bool, true, false, List, [], ◌∷◌, ◌++◌}
 use Rattle.std.specs.List.{AllByRecursion}
+use Rattle.wt_tree.specs.declared.kind.Kind.{Kind}
+use Rattle.wt_tree.specs.declared.kind.Kind.TheVariants as kind
 use Rattle.wt_span.specs.Items.{Item}
 use Rattle.wt_lines.specs.declared.kind.LineKind.{LineKind}
 use Rattle.wt_lines.specs.declared.kind.LineKind.TheVariants as line
 use Rattle.wt_tables.specs.Parts.{units, begins_part, begins_group}
 use Rattle.wt_inline.specs.ItemTree.{Head, ItemTree, inner, forest}
+use Rattle.wt_headings.specs.Headings.{heading}
 use Rattle.wt_page.specs.Rows.{Row, kind_of, last_ending}
 use Rattle.wt_page.specs.Stretches.{Stretch, tree_block}
 use Rattle.wt_page.specs.Texts.{para}
@@ -14,6 +17,9 @@ use Rattle.wt_row_laws.specs.Blocks.{AllAre}
 use Rattle.wt_row_laws.specs.Units.{Level}
 
 -- ---- a place in a tree
+
+abbrev pub IsCellKind : Kind → Type 0
+IsCellKind k = (k ≡ kind.Td) ⊎ (k ≡ kind.Th)
 
 -- a node, and what it holds before a place and behind it
 pub record Holder : Type 0 where
@@ -27,6 +33,15 @@ pub record Holder : Type 0 where
 abbrev pub round : List Holder → ItemTree → ItemTree
 round [] t = t
 round (h ∷ hs) t = inner h.head h.opening (forest (h.before ++ round hs t ∷ h.behind)) h.closing
+
+-- Tables in cells, one in the other: each table holds a body, this a row, this a cell, and this the next table.
+abbrev pub AreCellHolders : List Holder → Type 0
+AreCellHolders [] = Unit {0}
+AreCellHolders (t ∷ []) = ⊥
+AreCellHolders (t ∷ b ∷ []) = ⊥
+AreCellHolders (t ∷ b ∷ r ∷ []) = ⊥
+AreCellHolders (t ∷ b ∷ r ∷ c ∷ hs) =
+    (t.head.kind ≡ kind.Table) × (b.head.kind ≡ kind.Tbody) × (r.head.kind ≡ kind.Tr) × IsCellKind c.head.kind × AreCellHolders hs
 
 -- what rows make: what comes before these nodes, and what comes behind them
 pub record Around : Type 0 where
@@ -115,4 +130,17 @@ AreTexts lead ending (r ∷ rs) = AllAre line.Text (r ∷ rs) × (r.lead ≡ lea
 -- Whatever rows of text there are between these rows in these cells, they make one paragraph, and it is at the same place in the same nodes.
 pub record ParagraphStands (ts : List TableRound) (xs ys : List Row) (lead ending : List Item) : Type 0 where
   pub around : Around
+  pub of_cells : AreCellHolders around.holders
   pub stands : (rs : List Row) → AreTexts lead ending rs → blocks (in_cells ts (xs ++ (rs ++ ys))) ≡ filled around (para rs)
+
+-- a row that is a heading, with these separators before and behind it
+pub record IsHeading (lead ending : List Item) (r : Row) : Type 0 where
+  pub is : r.kind ≡ line.Heading
+  pub led : r.lead ≡ lead
+  pub ended : r.ending ≡ ending
+
+-- And whatever heading there is, it is at the same place in the same nodes.
+pub record HeadingStands (ts : List TableRound) (xs ys : List Row) (lead ending : List Item) : Type 0 where
+  pub around : Around
+  pub of_cells : AreCellHolders around.holders
+  pub stands : (r : Row) → IsHeading lead ending r → blocks (in_cells ts (xs ++ r ∷ ys)) ≡ filled around (heading r.items)

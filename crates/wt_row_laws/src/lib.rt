@@ -16,7 +16,7 @@ ghost use Rattle.wt_row_laws.specs.Counts.{KindIsCounted};
 ghost use Rattle.wt_row_laws.specs.Units.{IsUnit, AreUnits, HoldsUnits};
 ghost use Rattle.wt_row_laws.specs.Cells.{CellsHoldBlocks};
 ghost use Rattle.wt_row_laws.specs.Blocks.{Block, AreBlocks, BeginOtherwise, block_parts, IsMeaningByCases};
-ghost use Rattle.wt_row_laws.specs.Rounds.{TableRound, AreContent, IsTableRound, EndOtherwise, ParagraphStands};
+ghost use Rattle.wt_row_laws.specs.Rounds.{TableRound, AreContent, IsTableRound, EndOtherwise, ParagraphStands, HeadingStands};
 
 /// The kind of a line is that at which so many tables are open as the rows before it have opened, less
 /// those that they have ended.
@@ -64,4 +64,11 @@ pub fn meaning_is_read_by_cases()
 pub fn paragraphs_stand_in_cells()
     ensures { (ts : List TableRound) (xs ys : List Row) (lead ending : List Item) → AllByRecursion IsTableRound ts → length ts ≤ MOST_TABLES
         → AreContent xs → AreContent ys → EndOtherwise kind.Text xs → BeginOtherwise kind.Text ys → ParagraphStands ts xs ys lead ending }
+{}
+
+/// And so is a heading there, whatever it is: no other row is part of it, so it may stand between any rows of a cell.
+#[tactic(auto, using(crate::proofs::HeadingsInCells::heading_stands))]
+pub fn headings_stand_in_cells()
+    ensures { (ts : List TableRound) (xs ys : List Row) (lead ending : List Item) → AllByRecursion IsTableRound ts → length ts ≤ MOST_TABLES
+        → AreContent xs → AreContent ys → HeadingStands ts xs ys lead ending }
 {}

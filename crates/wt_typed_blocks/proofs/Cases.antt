@@ -1,5 +1,5 @@
 -- Worked cases, by computing: the page of a paragraph, an empty line and a heading, in which texts are typed.
-use Rattle.std.proofs.Common.{◌≡◌, ℕ, ◌+◌, List, [], refl}
+use Rattle.std.proofs.Common.{◌≡◌, ℕ, ◌+◌, List, [], refl, arith}
 use Rattle.std.specs.Prelude.{None, Some, codes}
 use Rattle.std.specs.Fmt.{digits}
 use Rattle.std.specs.Str.{chars}
@@ -14,7 +14,7 @@ use Rattle.wt_guards.specs.Letters.{is_escaped, reference}
 use Rattle.wt_guards.specs.Table.{hazard, line_start_hazard}
 use Rattle.wt_typed_blocks.specs.Sent.{StandsAsIs, paragraph, heading, Sent, stands, typed, holds, Sents, none_sent, more_sent, old_children, all_show}
 use Rattle.wt_typed_blocks.specs.Typed.{new_sources, TakeTexts, StandAt}
-use Rattle.wt_typed_blocks.specs.Unmarked.{AreToldApart}
+use Rattle.wt_typed_blocks.specs.Unmarked.{IsToldApart, AreToldApart}
 
 abbrev a_label : Kind → ℕ → ℕ → ℕ → ℕ → List ℕ → List ℕ → Label
 a_label k id start end width sign own = record {
@@ -146,3 +146,37 @@ cell_new_page = refl
 
 cell_place : StandAt 0 (in_cell [])
 cell_place = ((refl, (tt, ((refl, ((refl, ((refl, (tt, (refl, tt))), tt)), tt)), (tt, tt)))), tt)
+
+-- Without marks the difference tells this text apart, too. The cell's own text ends before its first line break.
+is_line : (start : ℕ) → IsToldApart (break_at start)
+is_line start = (record { id = refl; kind = refl; attrs = refl; mw = refl; shown = refl }, tt)
+
+cell_apart : AreToldApart (in_cell (codes "[d]"))
+cell_apart = (
+  (
+    record { own = record { id = refl; kind = refl; attrs = refl; mw = refl; shown = refl }; numbered = λ e. omega (arith, e); part = refl; behind_text = λ e. absurd (cc) },
+    (
+      is_line 2,
+      (
+        (
+          record { own = record { id = refl; kind = refl; attrs = refl; mw = refl; shown = refl }; numbered = λ e. omega (arith, e); part = refl; behind_text = λ e. absurd (cc) },
+          (
+            (
+              record { own = record { id = refl; kind = refl; attrs = refl; mw = refl; shown = refl }; numbered = λ e. omega (arith, e); part = refl; behind_text = λ e. absurd (cc) },
+              (
+                (
+                  record { own = record { id = refl; kind = refl; attrs = refl; mw = refl; shown = refl }; numbered = λ e. omega (arith, e); part = refl; behind_text = λ e. tt },
+                  (is_line 4, (refl, tt)),
+                ),
+                tt,
+              ),
+            ),
+            tt,
+          ),
+        ),
+        (is_line 8, tt),
+      ),
+    ),
+  ),
+  tt,
+)

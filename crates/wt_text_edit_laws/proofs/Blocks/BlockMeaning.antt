@@ -26,7 +26,7 @@ typed_is_text : (s : Sides) (q : List ℕ) → IsTypedHeading s q → IsHeadingT
 typed_is_text s q h =
     subst (λ (q : List ℕ). IsHeadingText (page_items q)) (sym h.is) (typed_heading_text h.setting h.text h.of_block h.of_heading h.utf8 h.one_line)
 
-heading_text : (s : Sides) (q : List ℕ) → IsBlock (a_heading s) q → IsHeadingText (page_items q)
+pub heading_text : (s : Sides) (q : List ℕ) → IsBlock (a_heading s) q → IsHeadingText (page_items q)
 heading_text s q (inl t) = typed_is_text s q t
 heading_text s q (inr w) = w.is_text
 
@@ -37,7 +37,7 @@ heading_frame s q (inr w) = w.frame
 pub heading_sides : (s : Sides) (q : List ℕ) → IsBlock (a_heading s) q → AreSides s
 heading_sides s q h = let f = heading_frame s q h in f.sides
 
-heading_level : (s : Sides) (q : List ℕ) → IsBlock (a_heading s) q → IsOfLevel s (page_items q)
+pub heading_level : (s : Sides) (q : List ℕ) → IsBlock (a_heading s) q → IsOfLevel s (page_items q)
 heading_level s q (inl t) =
     subst (λ (q : List ℕ). IsOfLevel s (page_items q)) (sym t.is)
     (apart_level s (page_items (spelled t.setting (letters t.text))) t.frame.sides (typed_apart t.setting t.text s t.of_block t.of_heading t.utf8 t.one_line t.frame.sides))

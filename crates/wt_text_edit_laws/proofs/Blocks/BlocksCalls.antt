@@ -32,29 +32,35 @@ held a other = other
 same_bytes : (new bytes : List ℕ) → done new ≡ done bytes → bytes ≡ new
 same_bytes new bytes e = sym (ap (λ a. held a new) e)
 
-wrote_page : (c : Call) (e : BlockEdit) → known_answer c ≡ Some (done (new_page e)) → WasDone c → Took c.out (new_page e)
-wrote_page c e known w =
-    let told : done (new_page e) ≡ done w.bytes = subst (λ (k : Option Answer). IfSome k (λ a. a ≡ done w.bytes)) known w.answer in
-    subst (λ bytes. Took c.out bytes) (same_bytes (new_page e) w.bytes told) w.wrote
+wrote_page : (c : Call) (new : List ℕ) → known_answer c ≡ Some (done new) → WasDone c → Took c.out new
+wrote_page c new known w =
+    let told : done new ≡ done w.bytes = subst (λ (k : Option Answer). IfSome k (λ a. a ≡ done w.bytes)) known w.answer in
+    subst (λ bytes. Took c.out bytes) (same_bytes new w.bytes told) w.wrote
 
-done_or : (c : Call) (e : BlockEdit) (ended : ℕ) (Failed : Type 0) → known_answer c ≡ Some (done (new_page e)) → Ends c ended
-    → (ended ≡ code status.Done) ⊎ Failed → WroteNewPage c ended (new_page e) ⊎ Failed
-done_or c e ended Failed known ends (inl d) = let w = ends.done d in inl (d, wrote_page c e known w, w.silent)
-done_or c e ended Failed known ends (inr f) = inr f
+done_or : (c : Call) (new : List ℕ) (ended : ℕ) (Failed : Type 0) → known_answer c ≡ Some (done new) → Ends c ended
+    → (ended ≡ code status.Done) ⊎ Failed → WroteNewPage c ended new ⊎ Failed
+done_or c new ended Failed known ends (inl d) = let w = ends.done d in inl (d, wrote_page c new known w, w.silent)
+done_or c new ended Failed known ends (inr f) = inr f
+
+-- where the answer is this page
+pub page_ends : (c : Call) (ended : ℕ) (new : List ℕ) → known_answer c ≡ Some (done new) → Ends c ended → WroteNewPage c ended new ⊎ IsFaultOrNoMemory ended
+page_ends c ended new known ends =
+    done_or c new ended (IsFaultOrNoMemory ended) known ends
+    (subst (λ (k : Option Answer). IfSome k (λ a. (ended ≡ code (status_of_answer a)) ⊎ IsFaultOrNoMemory ended)) known ends.exact)
+
+pub page_completes : (c : Call) (ended : ℕ) (new : List ℕ) → known_answer c ≡ Some (done new) → Ends c ended → NothingFailed c
+    → WroteNewPage c ended new ⊎ (ended ≡ code status.NoMemory)
+page_completes c ended new known ends sound =
+    done_or c new ended (ended ≡ code status.NoMemory) known ends
+    (subst (λ (k : Option Answer). IfSome k (λ a. (ended ≡ code (status_of_answer a)) ⊎ (ended ≡ code status.NoMemory))) known (ends.complete sound))
 
 edit_ends : (c : Call) (ended : ℕ) (e : BlockEdit) → IsBlockEdit e → Sends c Edit e sent_page → Ends c ended
     → WroteNewPage c ended (new_page e) ⊎ IsFaultOrNoMemory ended
-edit_ends c ended e h s ends =
-    let known = answer_is c e h s in
-    done_or c e ended (IsFaultOrNoMemory ended) known ends
-    (subst (λ (k : Option Answer). IfSome k (λ a. (ended ≡ code (status_of_answer a)) ⊎ IsFaultOrNoMemory ended)) known ends.exact)
+edit_ends c ended e h s ends = page_ends c ended (new_page e) (answer_is c e h s) ends
 
 edit_completes : (c : Call) (ended : ℕ) (e : BlockEdit) → IsBlockEdit e → Sends c Edit e sent_page → Ends c ended → NothingFailed c
     → WroteNewPage c ended (new_page e) ⊎ (ended ≡ code status.NoMemory)
-edit_completes c ended e h s ends sound =
-    let known = answer_is c e h s in
-    done_or c e ended (ended ≡ code status.NoMemory) known ends
-    (subst (λ (k : Option Answer). IfSome k (λ a. (ended ≡ code (status_of_answer a)) ⊎ (ended ≡ code status.NoMemory))) known (ends.complete sound))
+edit_completes c ended e h s ends sound = page_completes c ended (new_page e) (answer_is c e h s) ends sound
 
 -- ---- `selser`
 

@@ -28,7 +28,7 @@ abbrev pub blocks_source : List ItemTree → List ℕ
 blocks_source [] = []
 blocks_source (t ∷ ts) = sources (tree_items t) ++ blocks_source ts
 
-held_source : (ts : List ItemTree) → sources (held_by_all (forest ts)) ≡ blocks_source ts
+pub held_source : (ts : List ItemTree) → sources (held_by_all (forest ts)) ≡ blocks_source ts
 held_source [] = refl
 held_source (t ∷ ts) = flat_map-append source (tree_items t) (held_by_all (forest ts)) ∙ ap (λ bs. sources (tree_items t) ++ bs) (held_source ts)
 

@@ -20,7 +20,7 @@ use Rattle.wt_text_edit_laws.proofs.Blocks.BlockTrees.{leaf_block, leafy_blocks,
 -- ---- a node without marks stands as it is
 
 mutual
-  stands_unmarked : (t : Tree) → StandsAsIs t (unmarked t)
+  pub stands_unmarked : (t : Tree) → StandsAsIs t (unmarked t)
   stands_unmarked (tree l ts) =
       (record { kind = refl; id = refl; attrs = refl; mw = refl; shown = λ e. refl; unmarked = refl }, all_stand_unmarked ts)
 

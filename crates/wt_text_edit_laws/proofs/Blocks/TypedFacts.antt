@@ -176,7 +176,7 @@ typed_shown k q text rest u own =
 
 -- ---- one in which a text was typed
 
-all_false : (a b c : Bool) → a ≡ false → b ≡ false → c ≡ false → ((a || b) || c) ≡ false
+pub all_false : (a b c : Bool) → a ≡ false → b ≡ false → c ≡ false → ((a || b) || c) ≡ false
 all_false false false false e f g = refl
 all_false true b c e f g = cc
 all_false false true c e f g = cc

@@ -1,5 +1,6 @@
 -- A heading's line as a row and as a tree, before others and behind others.
 use Rattle.std.proofs.Common.{arith, ◌≡◌, ℕ, zero, suc, ◌+◌, true, false, not, None, List, [], ◌∷◌, ◌++◌, length, take, drop, map, refl, sym, ap, ◌∙◌, subst, append-nil, append_assoc, length-append}
+use Rattle.std.specs.Prelude.{replicate}
 use Rattle.std.specs.List.{flat_map}
 use Rattle.std.proofs.Math.Seq.{take-append_seam, drop-append_seam}
 use Rattle.std.proofs.lemmas.Bool.Decides.{nat_tests}
@@ -22,7 +23,7 @@ use Rattle.wt_inline.specs.Parts.{Part, node, parts, children}
 use Rattle.wt_context.specs.Line.{line_trees}
 use Rattle.wt_headings.specs.Headings.{heading}
 use Rattle.wt_headings.specs.Lines.{kind_at, ending}
-use Rattle.wt_page.specs.Rows.{Row, kind_of, line_rows, rows, rows_from}
+use Rattle.wt_page.specs.Rows.{Row, kind_of, unwritten_end, line_rows, rows, rows_from}
 use Rattle.wt_page.specs.Stretches.{Stretch, stretches_parts}
 use Rattle.wt_page.specs.Body.{one_block, same_block, run_stretches, within, blocks, body_parts, meaning}
 use Rattle.wt_rows.proofs.FirstUnits.{unit_one}
@@ -221,51 +222,63 @@ content_whole (x ∷ y ∷ xs) h = ap (λ zs. x ∷ zs) (content_whole (y ∷ xs
 abbrev pub heading_row : List Item → List Item → Row
 heading_row l end = record { kind = line.Heading; lead = []; items = l; ending = end }
 
-row_by : (x : Item) (xs : List Item) (l end : List Item) (k : LineKind) → kind_at 0 (char None 61 ∷ xs) ≡ k → k ≡ line.Heading
+row_by : (tables : ℕ) (xs l end : List Item) (k : LineKind) → kind_at tables (char None 61 ∷ xs) ≡ k → k ≡ line.Heading
     → content (char None 61 ∷ xs) ≡ l → ending (char None 61 ∷ xs) ≡ end → line_rows k (char None 61 ∷ xs) ≡ heading_row l end ∷ []
-row_by x xs l end k e f c d =
+row_by tables xs l end k e f c d =
     ap (λ (j : LineKind). line_rows j (char None 61 ∷ xs)) f
     ∙ ap (λ (ys : List Item). record { kind = line.Heading; lead = []; items = ys; ending = ending (char None 61 ∷ xs) } ∷ []) c
     ∙ ap (λ (ys : List Item). heading_row l ys ∷ []) d
 
-kind_so : (n : ℕ) (bs ds cs : List ℕ) (own l : List Item) → AreSides (sides n bs ds cs) → IsHeadingText own
-    → content l ≡ heading_line (sides n bs ds cs) own → kind_at 0 l ≡ line.Heading
-kind_so n bs ds cs own l a h e =
+kind_so : (tables n : ℕ) (bs ds cs : List ℕ) (own l : List Item) → AreSides (sides n bs ds cs) → IsHeadingText own
+    → content l ≡ heading_line (sides n bs ds cs) own → kind_at tables l ≡ line.Heading
+kind_so tables n bs ds cs own l a h e =
     let s : Sides = sides n bs ds cs in
-    ap (λ (xs : List Item). kind_of_signs 0 (map sign xs)) e ∙ ap (kind_of_signs 0) (signs_are s own) ∙ kind_is n (between s own) (rest_signs s) a.rest (signs_between bs (map sign own) ds h.begins)
+    ap (λ (xs : List Item). kind_of_signs tables (map sign xs)) e ∙ ap (kind_of_signs tables) (signs_are s own) ∙ kind_is tables n (between s own) (rest_signs s) a.rest (signs_between bs (map sign own) ds h.begins)
 
 -- behind the first `=`
 abbrev others : ℕ → List ℕ → List ℕ → List ℕ → List Item → List Item
 others n bs ds cs own = page_chars (run_of n ++ bs) ++ (own ++ closing_items (sides n bs ds cs))
 
-ended_rows : (n : ℕ) (bs ds cs : List ℕ) (own zs : List Item) → AreSides (sides n bs ds cs) → IsHeadingText own → IsOfLevel (sides n bs ds cs) own
-    → rows (heading_line (sides n bs ds cs) own ++ char None 10 ∷ zs) ≡ heading_row (heading_line (sides n bs ds cs) own) (char None 10 ∷ []) ∷ rows zs
-unfolding rows
-ended_rows n bs ds cs own zs a h p =
+-- where so many tables are open
+ended_from : (tables n : ℕ) (bs ds cs : List ℕ) (own zs : List Item) → AreSides (sides n bs ds cs) → IsHeadingText own → IsOfLevel (sides n bs ds cs) own
+    → rows_from tables (full_lines (heading_line (sides n bs ds cs) own ++ char None 10 ∷ zs))
+    ≡ heading_row (heading_line (sides n bs ds cs) own) (char None 10 ∷ []) ∷ rows_from tables (full_lines zs)
+ended_from tables n bs ds cs own zs a h p =
     let l : List Item = heading_line (sides n bs ds cs) own in
     let u : NoBreaks l = line_unbroken (sides n bs ds cs) own a h.unbroken in
     let m : List Item = l ++ char None 10 ∷ [] in
     let c : content m ≡ l = content_ended l (none_ends l u) ∙ content_whole l u in
-    let k : kind_at 0 m ≡ line.Heading = kind_so n bs ds cs own m a h c in
+    let k : kind_at tables m ≡ line.Heading = kind_so tables n bs ds cs own m a h c in
     let rest : List Item = others n bs ds cs own in
-    ap (λ ys. rows_from 0 (full_lines ys)) (sym (append_assoc l (char None 10 ∷ []) zs))
-    ∙ ap (rows_from 0) (runs_cut goes_on m zs (ended_run (char None 61) rest zs u))
-    ∙ ap (λ (j : LineKind). line_rows j m ++ rows_from (behind 0 j) (full_lines zs)) k
-    ∙ ap (λ (rs : List Row). rs ++ rows_from 0 (full_lines zs)) (row_by (char None 61) (rest ++ char None 10 ∷ []) l (char None 10 ∷ []) line.Heading k refl c (ending_behind l (char None 10) []))
+    ap (λ ys. rows_from tables (full_lines ys)) (sym (append_assoc l (char None 10 ∷ []) zs))
+    ∙ ap (rows_from tables) (runs_cut goes_on m zs (ended_run (char None 61) rest zs u))
+    ∙ ap (λ (j : LineKind). line_rows j m ++ rows_from (behind tables j) (full_lines zs)) k
+    ∙ ap (λ (rs : List Row). rs ++ rows_from tables (full_lines zs))
+    (row_by tables (rest ++ char None 10 ∷ []) l (char None 10 ∷ []) line.Heading k refl c (ending_behind l (char None 10) []))
+
+last_from : (tables n : ℕ) (bs ds cs : List ℕ) (own : List Item) → AreSides (sides n bs ds cs) → IsHeadingText own → IsOfLevel (sides n bs ds cs) own
+    → rows_from tables (full_lines (heading_line (sides n bs ds cs) own))
+    ≡ heading_row (heading_line (sides n bs ds cs) own) [] ∷ replicate tables unwritten_end
+last_from tables n bs ds cs own a h p =
+    let l : List Item = heading_line (sides n bs ds cs) own in
+    let u : NoBreaks l = line_unbroken (sides n bs ds cs) own a h.unbroken in
+    let c : content l ≡ l = content_whole l u in
+    let k : kind_at tables l ≡ line.Heading = kind_so tables n bs ds cs own l a h c in
+    let rest : List Item = others n bs ds cs own in
+    ap (λ ys. rows_from tables (full_lines ys)) (sym (append-nil l))
+    ∙ ap (rows_from tables) (runs_cut goes_on l [] (alone_run (char None 61) rest [] u))
+    ∙ ap (λ (j : LineKind). line_rows j l ++ rows_from (behind tables j) []) k
+    ∙ ap (λ (rs : List Row). rs ++ replicate tables unwritten_end) (row_by tables rest l [] line.Heading k refl c (none_ends l u))
+
+ended_rows : (n : ℕ) (bs ds cs : List ℕ) (own zs : List Item) → AreSides (sides n bs ds cs) → IsHeadingText own → IsOfLevel (sides n bs ds cs) own
+    → rows (heading_line (sides n bs ds cs) own ++ char None 10 ∷ zs) ≡ heading_row (heading_line (sides n bs ds cs) own) (char None 10 ∷ []) ∷ rows zs
+unfolding rows
+ended_rows n bs ds cs own zs a h p = ended_from 0 n bs ds cs own zs a h p
 
 last_rows : (n : ℕ) (bs ds cs : List ℕ) (own : List Item) → AreSides (sides n bs ds cs) → IsHeadingText own → IsOfLevel (sides n bs ds cs) own
     → rows (heading_line (sides n bs ds cs) own) ≡ heading_row (heading_line (sides n bs ds cs) own) [] ∷ []
 unfolding rows
-last_rows n bs ds cs own a h p =
-    let l : List Item = heading_line (sides n bs ds cs) own in
-    let u : NoBreaks l = line_unbroken (sides n bs ds cs) own a h.unbroken in
-    let c : content l ≡ l = content_whole l u in
-    let k : kind_at 0 l ≡ line.Heading = kind_so n bs ds cs own l a h c in
-    let rest : List Item = others n bs ds cs own in
-    ap (λ ys. rows_from 0 (full_lines ys)) (sym (append-nil l))
-    ∙ ap (rows_from 0) (runs_cut goes_on l [] (alone_run (char None 61) rest [] u))
-    ∙ ap (λ (j : LineKind). line_rows j l ++ rows_from (behind 0 j) []) k
-    ∙ ap (λ (rs : List Row). rs ++ []) (row_by (char None 61) rest l [] line.Heading k refl c (none_ends l u))
+last_rows n bs ds cs own a h p = last_from 0 n bs ds cs own a h p
 
 -- ---- its parts
 
@@ -392,3 +405,40 @@ heading_stands xs s own tail c a h p e =
     let t : ItemTree = heading_with s own in
     body_is (xs ++ (heading_line s own ++ tail)) (parts_in xs ++ node t ∷ parts_in tail) (heading_between xs s own tail c a h p e)
     ∙ ap body_with (round_node t (parts_in xs) (parts_in tail))
+
+-- ---- where tables are open
+
+abbrev by_level : Sides → Sides
+by_level s = level_sides s.level s.lead s.trail s.rest
+
+sides_so : (s : Sides) → AreSides s → AreSides (by_level s)
+sides_so s a = record { some = a.some; most = a.most; lead = a.lead; trail = a.trail; rest = a.rest }
+
+then_by : (tables n : ℕ) (bs ds cs : List ℕ) (own zs : List Item) → AreSides (level_sides n bs ds cs) → IsHeadingText own → IsOfLevel (level_sides n bs ds cs) own
+    → rows_from tables (full_lines (heading_line (level_sides n bs ds cs) own ++ char None 10 ∷ zs))
+    ≡ heading_row (heading_line (level_sides n bs ds cs) own) (char None 10 ∷ []) ∷ rows_from tables (full_lines zs)
+then_by tables zero bs ds cs own zs a h p = absurd (omega (arith, a.some))
+then_by tables (suc n) bs ds cs own zs a h p = ended_from tables n bs ds cs own zs a h p
+
+pub rows_then : (tables : ℕ) (s : Sides) (own zs : List Item) → AreSides s → IsHeadingText own → IsOfLevel s own
+    → rows_from tables (full_lines (heading_line s own ++ char None 10 ∷ zs))
+    ≡ heading_row (heading_line s own) (char None 10 ∷ []) ∷ rows_from tables (full_lines zs)
+rows_then tables s own zs a h p = then_by tables s.level s.lead s.trail s.rest own zs (sides_so s a) h p
+
+last_by : (tables n : ℕ) (bs ds cs : List ℕ) (own : List Item) → AreSides (level_sides n bs ds cs) → IsHeadingText own → IsOfLevel (level_sides n bs ds cs) own
+    → rows_from tables (full_lines (heading_line (level_sides n bs ds cs) own))
+    ≡ heading_row (heading_line (level_sides n bs ds cs) own) [] ∷ replicate tables unwritten_end
+last_by tables zero bs ds cs own a h p = absurd (omega (arith, a.some))
+last_by tables (suc n) bs ds cs own a h p = last_from tables n bs ds cs own a h p
+
+pub rows_last : (tables : ℕ) (s : Sides) (own : List Item) → AreSides s → IsHeadingText own → IsOfLevel s own
+    → rows_from tables (full_lines (heading_line s own)) ≡ heading_row (heading_line s own) [] ∷ replicate tables unwritten_end
+rows_last tables s own a h p = last_by tables s.level s.lead s.trail s.rest own (sides_so s a) h p
+
+tree_by : (n : ℕ) (bs ds cs : List ℕ) (own : List Item) → AreSides (level_sides n bs ds cs) → IsHeadingText own → IsOfLevel (level_sides n bs ds cs) own
+    → heading (heading_line (level_sides n bs ds cs) own) ≡ heading_with (level_sides n bs ds cs) own
+tree_by zero bs ds cs own a h p = absurd (omega (arith, a.some))
+tree_by (suc n) bs ds cs own a h p = tree_so n bs ds cs own a h p
+
+pub tree_is : (s : Sides) (own : List Item) → AreSides s → IsHeadingText own → IsOfLevel s own → heading (heading_line s own) ≡ heading_with s own
+tree_is s own a h p = tree_by s.level s.lead s.trail s.rest own (sides_so s a) h p

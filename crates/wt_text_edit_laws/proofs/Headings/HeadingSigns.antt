@@ -1,6 +1,6 @@
 -- The signs of a heading's line: its kind, its level, and where its delimiters end.
 use Rattle.std.proofs.Common.{arith, ◌≡◌, ℕ, zero, suc, ◌+◌, ◌-◌, ◌<◌, ◌≤◌, Bool, true, false, not, List, [], ◌∷◌, ◌++◌, length, take, drop, refl, sym, ap, ◌∙◌, subst, append-nil, append_assoc, length-append}
-use Rattle.std.specs.Prelude.{◌/◌, ◌==◌, ◌&&◌, ◌||◌, if◌then◌else◌, min, reverse, codes}
+use Rattle.std.specs.Prelude.{◌/◌, ◌==◌, ◌&&◌, ◌||◌, if◌then◌else◌, min, reverse, codes, nat_lt, Some}
 use Rattle.std.specs.List.{prefix_len}
 use Rattle.std.specs.Option.{unwrap_or}
 use Rattle.std.proofs.Math.Seq.{take-append_seam, drop-append_seam}
@@ -9,7 +9,7 @@ use Rattle.std.proofs.lemmas.List.{reverse-append, length-replicate}
 use Rattle.wt_span.specs.Bytes.{is_blank, blank_len, begins}
 use Rattle.wt_lines.specs.declared.kind.LineKind.{LineKind}
 use Rattle.wt_lines.specs.declared.kind.LineKind.TheVariants as line
-use Rattle.wt_lines.specs.Kinds.{is_mark_sign, is_idle, past, is_idle_all, is_heading, is_list, first_of, open_kind, rows as kind_rows, kind_of_signs}
+use Rattle.wt_lines.specs.Kinds.{is_mark_sign, is_idle, past, is_idle_all, is_heading, is_list, first_of, open_kind, table_rows, rows as kind_rows, kind_of_signs}
 use Rattle.wt_blocks.specs.Headings.{equals as equals_len, core, level_of, open_len, trimmed_len, inside_len}
 use Rattle.wt_text_edit_laws.specs.TypedHeadings.{equals, AreBlanks, AreIdle, BeginsWithout, EndsWithout, is_equals_sign}
 
@@ -241,21 +241,24 @@ heading_test true false true e f = cc
 heading_test true false false e f = refl
 heading_test false false d e f = refl
 
-first_third : (a b h : Bool) (k : LineKind) (more : List (Bool × LineKind)) → a ≡ false → b ≡ false → h ≡ true
-    → unwrap_or (first_of ((a, line.Blank) ∷ (b, k) ∷ (h, line.Heading) ∷ more)) line.Text ≡ line.Heading
-first_third true b h k more e f g = cc
-first_third false true h k more e f g = cc
-first_third false false true k more e f g = refl
-first_third false false false k more e f g = cc
+-- A line that begins with `=` is of no kind that counts in a table alone.
+past_tables : (t : Bool) (k : LineKind) (ss r : List ℕ) (more : List (Bool × LineKind)) → is_heading (61 ∷ ss) r ≡ true
+    → unwrap_or (first_of ((false, line.Blank) ∷ (false, k) ∷ ((if t then table_rows (61 ∷ ss) else []) ++ (is_heading (61 ∷ ss) r, line.Heading) ∷ more))) line.Text
+    ≡ line.Heading
+past_tables true k ss r more e = ap (λ (h : Bool). unwrap_or (if h then Some line.Heading else first_of more) line.Text) e
+past_tables false k ss r more e = ap (λ (h : Bool). unwrap_or (if h then Some line.Heading else first_of more) line.Text) e
 
-pub kind_is : (n : ℕ) (ts cs : List ℕ) → AreIdle cs → HasSign ts → kind_of_signs 0 (line_signs (suc n) ts cs) ≡ line.Heading
+-- where any number of tables are open
+pub kind_is : (tables n : ℕ) (ts cs : List ℕ) → AreIdle cs → HasSign ts → kind_of_signs tables (line_signs (suc n) ts cs) ≡ line.Heading
 unfolding kind_of_signs
-kind_is n ts cs b h =
+kind_is tables n ts cs b h =
     let c : List ℕ = line_signs (suc n) ts cs in
     let r : List ℕ = equals (suc n) ++ reverse (equals (suc n) ++ ts) in
     let more : List (Bool × LineKind) = (begins (codes "----") c, line.Rule) ∷ (is_list c, line.List) ∷ (begins (codes " ") c, line.Pre) ∷ [] in
+    let rows : List (Bool × LineKind) = (if nat_lt 0 tables then table_rows c else []) ++ (is_heading c r, line.Heading) ∷ more in
     let last : past is_idle (reverse c) ≡ r =
     ap (past is_idle) (line_back (suc n) ts cs) ∙ past_front (reverse cs) (equals n ++ reverse (equals (suc n) ++ ts)) (idle_back cs b) in
-    ap (λ (s : List ℕ). unwrap_or (first_of (kind_rows 0 (past is_idle c) (past is_mark_sign c) s)) line.Text) last
-    ∙ first_third (length c == 0) (begins (codes "{|") c) (is_heading c r) (open_kind 0) more (some_length 61 (drop 1 c)) refl
+    ap (λ (s : List ℕ). unwrap_or (first_of (kind_rows tables (past is_idle c) (past is_mark_sign c) s)) line.Text) last
+    ∙ ap (λ (a : Bool). unwrap_or (first_of ((a, line.Blank) ∷ (false, open_kind tables) ∷ rows)) line.Text) (some_length 61 (drop 1 c))
+    ∙ past_tables (nat_lt 0 tables) (open_kind tables) (drop 1 c) r more
     (heading_test (begins (codes "==") c) (is_idle_all (drop 1 c)) (is_idle_all (drop 2 c)) (text_visible (equals n) ts n cs) (rest_visible n ts cs h))

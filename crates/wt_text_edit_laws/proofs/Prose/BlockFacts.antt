@@ -49,7 +49,7 @@ nodes_unframed n before (guard ∷ ls) = nodes_unframed (next n before guard) (b
 pub held_source : (ls : List Leaf) → sources (held ls ++ []) ≡ flat_map leaf_source ls
 held_source ls = ap sources (append-nil (held ls)) ∙ held_sources ls
 
-para_source : (n : ℕ) (before : List Item) (ls : List Leaf) → flat_of_all (para_nodes n before ls) ++ [] ≡ flat_map leaf_source ls
+pub para_source : (n : ℕ) (before : List Item) (ls : List Leaf) → flat_of_all (para_nodes n before ls) ++ [] ≡ flat_map leaf_source ls
 para_source n before ls = append-nil (flat_of_all (para_nodes n before ls)) ∙ nodes_flat (n + 1) (before ++ []) ls
 
 -- ---- places

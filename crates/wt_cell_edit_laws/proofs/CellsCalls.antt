@@ -1,0 +1,54 @@
+-- A call that keeps what `run` promises answers such an edit with the new page, or a device failed, or memory ran out.
+use Rattle.std.proofs.Common.{◌≡◌, ℕ, ◌≤◌, Bool, Option, Some, List, length, ap, ◌∙◌}
+use Rattle.std.specs.Prelude.{if◌then◌else◌}
+use Rattle.wt_span.specs.declared.limits.TheConstants.{HTML_BYTES, PAGE_BYTES}
+use Rattle.wt_devices.specs.Device.{Pages}
+use Rattle.wt_tree.specs.Tree.{Label, label}
+use Rattle.wt_utf8.specs.Places.{not_utf8_place}
+use Rattle.wt_utf8.proofs.PlaceLaws.{no_place}
+use Rattle.wt_schema.specs.Read.{page as as_page, read}
+use Rattle.wt_pagetool.specs.declared.refusal.Refusal.TheVariants.{TooLong, InputTooLong}
+use Rattle.wt_pagetool.specs.Answers.{Answer, done, refused, text_answer, title_answer, edited_answer, input_answer, edit_of, answer_to, answer_told}
+use Rattle.wt_pagetool.specs.Calls.{Call, known_answer}
+use Rattle.wt_pagetool.specs.Promises.{Ends}
+use Rattle.wt_typed_blocks.specs.Sent.{Sents, new_body}
+use Rattle.wt_text_edit_laws.specs.Parts.{part_tree}
+use Rattle.wt_text_edit_laws.proofs.Prose.ProseTakes.{not_longer}
+use Rattle.wt_text_edit_laws.proofs.Blocks.BlocksCalls.{page_ends, page_completes}
+use Rattle.wt_cell_edit_laws.specs.CellEdits.{CellPage, page_with, IsCellPage, new_page, IsCellEdit}
+use Rattle.wt_cell_edit_laws.specs.CellCalls.{SendsInCell, TakesTextsInCells}
+use Rattle.wt_cell_edit_laws.proofs.Pages.{page_utf8}
+use Rattle.wt_cell_edit_laws.proofs.Takes.{takes_any}
+
+-- of what is under a title, to an input
+edit_is : (pages : Pages) (p : CellPage) (h : IsCellPage p) (text input : List ℕ) (ss : Sents) (b : Label) (unsourced : Option ℕ)
+    → IsCellEdit p (takes_any p h).path text ss → length (page_with p p.text) ≤ PAGE_BYTES → length (new_page p text) ≤ PAGE_BYTES → length input ≤ HTML_BYTES
+    → read input ≡ as_page (new_body (label (part_tree (page_with p p.text))) b ss) unsourced
+    → edit_of pages (Some (page_with p p.text)) input ≡ done (new_page p text)
+unfolding title_answer input_answer edited_answer
+edit_is pages p h text input ss b unsourced e short le small is =
+    let page : List ℕ = page_with p p.text in
+    let made : List ℕ → Answer = λ page. input_answer (edited_answer pages page) input in
+    ap (λ (v : Bool). if v then refused TooLong else text_answer page made (not_utf8_place page)) (not_longer (length page) PAGE_BYTES short)
+    ∙ ap (text_answer page made) (no_place page (page_utf8 p h p.text h.is_typed))
+    ∙ ap (λ (v : Bool). if v then refused InputTooLong else edited_answer pages page (read input)) (not_longer (length input) HTML_BYTES small)
+    ∙ ap (edited_answer pages page) is
+    ∙ (takes_any p h).takes pages b text ss e le
+
+answer_is : (c : Call) (p : CellPage) (h : IsCellPage p) (text : List ℕ) (ss : Sents) → IsCellEdit p (takes_any p h).path text ss → (s : SendsInCell c p text ss)
+    → known_answer c ≡ Some (done (new_page p text))
+unfolding answer_told
+answer_is c p h text ss e s =
+    ap (λ (told : Option Pages). answer_told told c.input.left_before c.words) s.told
+    ∙ ap (λ (given : Option (List ℕ)). answer_told (Some s.pages) given c.words) s.given
+    ∙ ap (answer_to (Some s.pages) (Some s.input)) s.words
+    ∙ ap (λ (stands : Option (List ℕ)). Some (edit_of s.pages stands s.input)) s.found
+    ∙ ap (λ (a : Answer). Some a) (edit_is s.pages p h text s.input ss s.body s.unsourced e s.old_within s.new_within s.within s.reads)
+
+pub takes_in_cells : (c : Call) (ended : ℕ) → Ends c ended → TakesTextsInCells c ended
+takes_in_cells c ended ends = λ p h. record {
+  path = (takes_any p h).path;
+  leads = (takes_any p h).leads;
+  edit = λ text ss e s. page_ends c ended (new_page p text) (answer_is c p h text ss e s) ends;
+  complete = λ text ss e s sound. page_completes c ended (new_page p text) (answer_is c p h text ss e s) ends sound;
+}

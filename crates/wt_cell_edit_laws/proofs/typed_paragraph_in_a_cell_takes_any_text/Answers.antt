@@ -1,0 +1,9 @@
+use Rattle.wt_cell_edit_laws.proofs.Leading.{own_edit}
+use Rattle.wt_cell_edit_laws.proofs.Takes.{again}
+use Rattle.wt_cell_edit_laws.proofs.typed_paragraph_in_a_cell_takes_any_text.Goals as goal
+
+pub returns-clause-edit : goal.returns-clause-edit
+returns-clause-edit c = own_edit
+
+pub returns-clause-again : goal.returns-clause-again
+returns-clause-again c = again
