@@ -37,7 +37,7 @@ is_small : (end : List ℕ) → IsTableRound (small_table end)
 is_small end = record { before = no_rows; opens = refl; inside = tt; of_cells = refl; further = tt; begins = tt; ends = refl; behind = no_rows }
 
 -- a paragraph that is all a cell has
-in_a_cell : IsInCell (page_items (codes "{|\n|\n")) (page_items (codes "\n|}"))
+pub in_a_cell : IsInCell (page_items (codes "{|\n|\n")) (page_items (codes "\n|}"))
 unfolding page_items words closed form_at comment_len comment_line_len raw_len opening_tag closing_tag include_at entity_at named_entity decimal_entity
     hex_entity entity_names sign_word kind_of_signs
 in_a_cell = record {

@@ -9,6 +9,7 @@ pub mod Fills
 pub mod HeadingCells
 pub mod Leading
 pub mod Nodes
+mod PageCases
 pub mod Pages
 pub mod Paths
 pub mod Takes
