@@ -1,16 +1,15 @@
 //! Blocks, items and rows as wikitext, where they are new, come from elsewhere or are of another kind now.
 
-use crate::delimiters::{
-    begins_line, goes_on_behind, push_begun, push_closing, push_heading_end, push_heading_start,
-    push_opening, push_signs, shared_line, shares_line,
-};
-use crate::items::sign_of;
-use crate::kinds::{is_cell, is_item, is_lined, is_list, is_row_without_sign};
-use crate::style::{Style, USUAL, has_signed_text, style_of};
 use std::alloc::Global;
+use wt_block_signs::{
+    Style, USUAL, begins_line, goes_on_behind, has_signed_text, is_cell, is_item, is_lined,
+    is_list, is_row_without_sign, push_begun, push_closing, push_heading_end, push_heading_start,
+    push_opening, push_signs, shared_line, shares_line, sign_of, style_of,
+};
 use wt_checks::original;
-use wt_content_proposal::{Block, Edges, Known, Writing, block_of, edges_of, spelled};
+use wt_content_proposal::{Edges, Writing, edges_of, spelled};
 use wt_difference::{are_same, ends_inside, has_inside, inside, is_block_part};
+use wt_known::{Block, Known, block_of};
 use wt_span::{NoMemory, Str};
 use wt_tree::{Kind, Node, flat, same_attrs, same_kind};
 

@@ -3,12 +3,5 @@
 #![tactic(auto)]
 
 mod blocks;
-mod delimiters;
-mod items;
-mod kinds;
-mod style;
 
 pub use blocks::{Surroundings, push_block, push_if_in_line};
-pub use items::signs_of;
-pub use kinds::{is_cell, is_item, is_lined, is_list, is_part, is_row_without_sign};
-pub use style::{Style, USUAL, is_bare_sign, joins_sign, style_of, style_within};

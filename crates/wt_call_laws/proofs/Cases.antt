@@ -1,9 +1,9 @@
 -- Worked cases of devices and of the line of `gen`.
 use Rattle.std.proofs.Common.{◌≡◌, Some, refl}
 use Rattle.std.specs.Prelude.{codes}
-use Rattle.wt_pagetool.specs.Devices.{SinkUse, Took}
+use Rattle.wt_commands.specs.Devices.{SinkUse, Took}
 use Rattle.std.specs.Fmt.{digits}
-use Rattle.wt_pagetool.specs.Gen.{line}
+use Rattle.wt_commands.specs.Gen.{line}
 use Rattle.wt_call_laws.specs.Uses.{both}
 
 -- a sink that had `a` and took `bc`, and then `d`

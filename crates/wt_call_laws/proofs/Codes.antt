@@ -1,8 +1,8 @@
 -- Statuses and their numbers.
 use Rattle.std.proofs.Common.{arith, ◌≡◌, ◌↔◌, ℕ, zero, suc, ◌≤◌, refl, sym, ap, ◌∙◌}
-use Rattle.wt_pagetool.specs.Statuses.{IsAnswer, IsDoneOrRefused, IsFaultOrNoMemory, code}
-use Rattle.wt_pagetool.specs.declared.status.Status.{Status}
-use Rattle.wt_pagetool.specs.declared.status.Status.TheVariants.{Done, Usage, PageRefused, HtmlRefused, EditRefused, ReadFault, FolderFault, WriteFault, NoMemory}
+use Rattle.wt_commands.specs.Statuses.{IsAnswer, IsDoneOrRefused, IsFaultOrNoMemory, code}
+use Rattle.wt_commands.specs.declared.status.Status.{Status}
+use Rattle.wt_commands.specs.declared.status.Status.TheVariants.{Done, Usage, PageRefused, HtmlRefused, EditRefused, ReadFault, FolderFault, WriteFault, NoMemory}
 
 back : ℕ → Status
 back zero = Done

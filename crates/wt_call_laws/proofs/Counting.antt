@@ -5,7 +5,7 @@ use Rattle.std.proofs.lemmas.List.{map-append}
 use Rattle.wt_tree.specs.Look.{rows}
 use Rattle.wt_tree.specs.Tiling.{ids, ids_of_all}
 use Rattle.wt_tree.specs.Tree.{Tree, tree, Trees, none, more, label, subtrees, subtrees_of_all}
-use Rattle.wt_pagetool.specs.Gen.{Row, number_count}
+use Rattle.wt_commands.specs.Gen.{Row, number_count}
 use Rattle.wt_call_laws.specs.Uses.{others_than_zero}
 
 abbrev number : Row → ℕ

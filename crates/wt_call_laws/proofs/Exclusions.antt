@@ -2,15 +2,15 @@
 use Rattle.std.proofs.Common.{arith, ◌≡◌, ℕ, ◌-◌, ◌^◌, ◌<◌, List, length, Option, Some, None, sym, ap, ◌∙◌, subst, length-append}
 use Rattle.std.specs.Io.KnownBytes.{Appends, Keeps}
 use Rattle.wt_devices.specs.Device.{Rose}
-use Rattle.wt_pagetool.specs.Calls.{Call, IsDue, IsDueAs}
-use Rattle.wt_pagetool.specs.Devices.{FolderFailed, SourceFailed}
+use Rattle.wt_commands.specs.Calls.{Call, IsDue, IsDueAs}
+use Rattle.wt_commands.specs.Devices.{FolderFailed, SourceFailed}
 use Rattle.wt_pagetool.specs.Promises.{Ends}
-use Rattle.wt_pagetool.specs.Refusals.{line_of, status_of}
-use Rattle.wt_pagetool.specs.Reports.{ErrFailed, OutFailed, WasDone, WasRefused}
-use Rattle.wt_pagetool.specs.Statuses.{code}
-use Rattle.wt_pagetool.specs.declared.refusal.Refusal.{Refusal}
-use Rattle.wt_pagetool.specs.declared.status.Status.{Status}
-use Rattle.wt_pagetool.specs.declared.status.Status.TheVariants as status
+use Rattle.wt_commands.specs.Refusals.{line_of, status_of}
+use Rattle.wt_commands.specs.Reports.{ErrFailed, OutFailed, WasDone, WasRefused}
+use Rattle.wt_commands.specs.Statuses.{code}
+use Rattle.wt_commands.specs.declared.refusal.Refusal.{Refusal}
+use Rattle.wt_commands.specs.declared.status.Status.{Status}
+use Rattle.wt_commands.specs.declared.status.Status.TheVariants as status
 use Rattle.wt_call_laws.proofs.Codes.{apart}
 
 due_not : (c : Call) (r : Refusal) (s : Status) → status_of r ≡ s → IsDue c.words c.input c.folder r → IsDueAs s c.words c.input c.folder r

@@ -7,8 +7,8 @@ use Rattle.std.proofs.KnownBytes.{Appends-trans}
 use Rattle.wt_devices.specs.Device.{Rose}
 use Rattle.wt_html_in.specs.Feeding.{IsFed}
 use Rattle.wt_html_in.specs.declared.reader.Reader.{Reader}
-use Rattle.wt_pagetool.specs.Devices.{FailedAfter, SinkUse, Took, Untouched}
-use Rattle.wt_pagetool.specs.Inputs.{FedSoFar, FedWhole, GivesAtMost}
+use Rattle.wt_commands.specs.Devices.{FailedAfter, SinkUse, Took, Untouched}
+use Rattle.wt_commands.specs.Inputs.{FedSoFar, FedWhole, GivesAtMost}
 use Rattle.wt_span.specs.declared.limits.TheConstants.{HTML_BYTES}
 use Rattle.wt_call_laws.specs.Uses.{both, Meet}
 

@@ -4,10 +4,10 @@ use Rattle.wt_selser.specs.declared.refusal.EditRefusal.{EditRefusal}
 use Rattle.wt_selser.specs.declared.refusal.EditRefusal.TheVariants as of_edit
 use Rattle.wt_unmarked_edit.specs.Found.{IsOfNewPage, late_refusal, refusal_of_fault}
 use Rattle.wt_unmarked_edit.specs.declared.reading_back.Fault.{Fault}
-use Rattle.wt_unmarked_edit.specs.declared.refusal.SelserRefusal.{SelserRefusal}
-use Rattle.wt_unmarked_edit.specs.declared.refusal.SelserRefusal.TheVariants as refusal
-use Rattle.wt_pagetool.specs.Refusals.{refusal_of_edit, refusal_of_selser, status_of}
-use Rattle.wt_pagetool.specs.declared.status.Status.TheVariants as status
+use Rattle.wt_selser_refusal.specs.declared.refusal.SelserRefusal.{SelserRefusal}
+use Rattle.wt_selser_refusal.specs.declared.refusal.SelserRefusal.TheVariants as refusal
+use Rattle.wt_commands.specs.Refusals.{refusal_of_edit, refusal_of_selser, status_of}
+use Rattle.wt_commands.specs.declared.status.Status.TheVariants as status
 
 pub one_of_two : (e : EditRefusal) → (first : Fault) → (late_refusal (Err e) first ≡ refusal_of_fault first)
     ⊎ (refusal_of_selser (late_refusal (Err e) first) ≡ refusal_of_edit e)

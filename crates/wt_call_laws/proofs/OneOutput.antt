@@ -5,9 +5,9 @@ use Rattle.wt_tree.specs.Source.{flat}
 use Rattle.wt_tree.specs.Tree.{Tree}
 use Rattle.wt_schema.specs.Read.{page as as_page}
 use Rattle.wt_page_round_trip.specs.PageTree.{page_tree}
-use Rattle.wt_pagetool.specs.Answers.{page_output}
-use Rattle.wt_pagetool.specs.Reports.{WroteEdit, WrotePage, WroteSource, new_page}
-use Rattle.wt_pagetool.specs.declared.command.PageCommand.{PageCommand}
+use Rattle.wt_commands.specs.Answers.{page_output}
+use Rattle.wt_commands.specs.Reports.{WroteEdit, WrotePage, WroteSource, new_page}
+use Rattle.wt_commands.specs.declared.command.PageCommand.{PageCommand}
 
 one_some : (o : Option (List ℕ)) (x y : List ℕ) → o ≡ Some x → o ≡ Some y → x ≡ y
 one_some None x y e f = cc

@@ -11,14 +11,14 @@ use Rattle.wt_page_round_trip.specs.PageTree.{page_tree}
 use Rattle.wt_page_round_trip.proofs.PageTrees.{page_numbered}
 use Rattle.wt_round_trip.specs.Written.{unranged}
 use Rattle.wt_visible.specs.Restored.{restored_from}
-use Rattle.wt_pagetool.specs.Answers.{done, html_answer}
+use Rattle.wt_commands.specs.Answers.{done, html_answer}
 use Rattle.wt_pagetool.specs.Selser.{IsUnchanged}
-use Rattle.wt_pagetool.proofs.EditLaws.{restored_bare}
-use Rattle.wt_pagetool.proofs.SectionEdits.{plain_page}
+use Rattle.wt_commands.proofs.EditLaws.{restored_bare}
+use Rattle.wt_commands.proofs.SectionEdits.{plain_page}
 use Rattle.wt_pagetool.proofs.SelserUnchanged.{nodes_taken}
-use Rattle.wt_pagetool.proofs.ShownLaws.{page_body, page_face, read_face, same_shown}
-use Rattle.wt_pagetool.proofs.UnchangedLaws.{IsInSections, sections_shown, read_again}
-use Rattle.wt_pagetool.proofs.UneditedRead.{unedited_read}
+use Rattle.wt_commands.proofs.ShownLaws.{page_body, page_face, read_face, same_shown}
+use Rattle.wt_commands.proofs.UnchangedLaws.{IsInSections, sections_shown, read_again}
+use Rattle.wt_commands.proofs.UneditedRead.{unedited_read}
 
 none_found : (t u : Tree) → IsInSections t u → (label t).kind ≡ kind.Body → InPreorder t → difference t (unranged u) ≡ []
 none_found t u h b i =

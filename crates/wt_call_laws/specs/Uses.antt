@@ -1,6 +1,6 @@
 -- Two calls of a sink, one after the other.
 use Rattle.std.specs.Prelude.{◌≡◌, ℕ, suc, ◌==◌, if◌then◌else◌, List, [], ◌∷◌}
-use Rattle.wt_pagetool.specs.Devices.{SinkUse}
+use Rattle.wt_commands.specs.Devices.{SinkUse}
 
 -- the second call begins with what the first one left
 pub record Meet (first second : SinkUse) : Type 0 where

@@ -3,8 +3,8 @@ ghost use Rattle.std.specs.Prelude.{◌≡◌, ◌↔◌, ℕ, ◌≤◌, List, 
 ghost use Rattle.std.specs.Io.KnownBytes.{IsAtEnd};
 ghost use Rattle.wt_html_in.specs.Feeding.{IsFed};
 ghost use Rattle.wt_html_in.specs.declared.reader.Reader.{Reader};
-ghost use Rattle.wt_pagetool.specs.Devices.{FailedAfter, SinkUse, Took, Untouched};
-ghost use Rattle.wt_pagetool.specs.Inputs.{FedSoFar, FedWhole, GivesAtMost};
+ghost use Rattle.wt_commands.specs.Devices.{FailedAfter, SinkUse, Took, Untouched};
+ghost use Rattle.wt_commands.specs.Inputs.{FedSoFar, FedWhole, GivesAtMost};
 ghost use Rattle.wt_span.specs.declared.limits.TheConstants.{HTML_BYTES};
 ghost use Rattle.wt_call_laws.specs.Uses.{both, Meet};
 

@@ -1,11 +1,11 @@
 //! In which ways a call can't end.
 ghost use Rattle.std.specs.Prelude.{◌≡◌, ℕ, ◌-◌, ◌^◌, ◌<◌, List, Some};
-ghost use Rattle.wt_pagetool.specs.Calls.{Call};
-ghost use Rattle.wt_pagetool.specs.Devices.{FolderFailed, SourceFailed};
+ghost use Rattle.wt_commands.specs.Calls.{Call};
+ghost use Rattle.wt_commands.specs.Devices.{FolderFailed, SourceFailed};
 ghost use Rattle.wt_pagetool.specs.Promises.{Ends};
-ghost use Rattle.wt_pagetool.specs.Reports.{ErrFailed, OutFailed, WasDone, WasRefused};
-ghost use Rattle.wt_pagetool.specs.Statuses.{code};
-ghost use Rattle.wt_pagetool.specs.declared.status.Status.TheVariants as status;
+ghost use Rattle.wt_commands.specs.Reports.{ErrFailed, OutFailed, WasDone, WasRefused};
+ghost use Rattle.wt_commands.specs.Statuses.{code};
+ghost use Rattle.wt_commands.specs.declared.status.Status.TheVariants as status;
 
 /// A call ends in one way: it is done, it is refused, its answer isn't taken whole, or the line isn't. No two
 /// of them hold of one call, where the counts of the sinks aren't at their last value, and (of an answer

@@ -3,9 +3,9 @@ ghost use Rattle.std.specs.Prelude.{◌≡◌, ◌⊎◌, List, ℕ, Ok, Err};
 ghost use Rattle.wt_selser.specs.declared.refusal.EditRefusal.{EditRefusal};
 ghost use Rattle.wt_unmarked_edit.specs.Found.{IsOfNewPage, late_refusal, refusal_of_fault};
 ghost use Rattle.wt_unmarked_edit.specs.declared.reading_back.Fault.{Fault};
-ghost use Rattle.wt_unmarked_edit.specs.declared.refusal.SelserRefusal.{SelserRefusal};
-ghost use Rattle.wt_pagetool.specs.Refusals.{refusal_of_edit, refusal_of_selser, status_of};
-ghost use Rattle.wt_pagetool.specs.declared.status.Status.TheVariants as status;
+ghost use Rattle.wt_selser_refusal.specs.declared.refusal.SelserRefusal.{SelserRefusal};
+ghost use Rattle.wt_commands.specs.Refusals.{refusal_of_edit, refusal_of_selser, status_of};
+ghost use Rattle.wt_commands.specs.declared.status.Status.TheVariants as status;
 
 /// A refusal of `selser` is that of the first new page, or what `edit` names for the marks of the difference;
 /// what refuses a new page is reported as the refusal of an edit.

@@ -1,7 +1,7 @@
 //! What the number with which a call ends says.
 ghost use Rattle.std.specs.Prelude.{◌≡◌, ◌↔◌, ℕ, ◌≤◌};
-ghost use Rattle.wt_pagetool.specs.Statuses.{IsAnswer, IsDoneOrRefused, IsFaultOrNoMemory, code};
-ghost use Rattle.wt_pagetool.specs.declared.status.Status.{Status};
+ghost use Rattle.wt_commands.specs.Statuses.{IsAnswer, IsDoneOrRefused, IsFaultOrNoMemory, code};
+ghost use Rattle.wt_commands.specs.declared.status.Status.{Status};
 
 /// No two statuses have one number, and the numbers are those up to 8. Who knows the number knows whether
 /// the call was answered, or else whether a device failed or memory ran out.

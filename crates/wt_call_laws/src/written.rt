@@ -1,8 +1,8 @@
 //! What is written is one.
 ghost use Rattle.std.specs.Prelude.{◌≡◌, ◌++◌, ℕ, List, Option, Some};
 ghost use Rattle.wt_devices.specs.Device.{Pages};
-ghost use Rattle.wt_pagetool.specs.Reports.{WroteEdit, WrotePage, WroteSource, new_page};
-ghost use Rattle.wt_pagetool.specs.declared.command.PageCommand.{PageCommand};
+ghost use Rattle.wt_commands.specs.Reports.{WroteEdit, WrotePage, WroteSource, new_page};
+ghost use Rattle.wt_commands.specs.declared.command.PageCommand.{PageCommand};
 ghost use Rattle.wt_splice.specs.Splice.{spliced, OutsideStands};
 ghost use Rattle.wt_tree.specs.Tree.{Tree};
 

@@ -8,14 +8,14 @@ use Rattle.wt_tree.specs.Tree.{Label, Tree}
 use Rattle.wt_utf8.specs.Places.{not_utf8_place}
 use Rattle.wt_utf8.proofs.PlaceLaws.{no_place}
 use Rattle.wt_schema.specs.Read.{page as as_page, read}
-use Rattle.wt_pagetool.specs.declared.refusal.Refusal.TheVariants.{TooLong, InputTooLong}
-use Rattle.wt_pagetool.specs.declared.command.Command.TheVariants.{Edit, Selser}
-use Rattle.wt_pagetool.specs.Answers.{Answer, done, refused, text_answer, title_answer, edited_answer, input_answer, edit_of, edit_to, answer_to, answer_told}
-use Rattle.wt_pagetool.specs.Calls.{Call, known_answer}
-use Rattle.wt_pagetool.specs.declared.status.Status.TheVariants as status
+use Rattle.wt_commands.specs.declared.refusal.Refusal.TheVariants.{TooLong, InputTooLong}
+use Rattle.wt_commands.specs.declared.command.Command.TheVariants.{Edit, Selser}
+use Rattle.wt_commands.specs.Answers.{Answer, done, refused, text_answer, title_answer, edited_answer, input_answer, edit_of, edit_to, answer_to, answer_told}
+use Rattle.wt_commands.specs.Calls.{Call, known_answer}
+use Rattle.wt_commands.specs.declared.status.Status.TheVariants as status
 use Rattle.wt_pagetool.specs.Promises.{Ends, EndsAsEdit}
 use Rattle.wt_pagetool.specs.Selser.{DoneByEdit}
-use Rattle.wt_pagetool.specs.Statuses.{code, IsFaultOrNoMemory}
+use Rattle.wt_commands.specs.Statuses.{code, IsFaultOrNoMemory}
 use Rattle.wt_text_edit_laws.specs.BlockSpots.{BlockSpot, spots_source}
 use Rattle.wt_text_edit_laws.proofs.Prose.ProseTakes.{not_longer}
 use Rattle.wt_text_edit_laws.proofs.Blocks.BlocksCalls.{page_ends, page_completes}

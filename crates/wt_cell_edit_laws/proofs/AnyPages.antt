@@ -2,7 +2,7 @@
 use Rattle.std.proofs.Common.{arith, ℕ, ◌≤◌, true, List, [], map}
 use Rattle.wt_tree.specs.declared.row.Texts.TheVariants.{Page}
 use Rattle.wt_row_laws.specs.Frames.{content}
-use Rattle.wt_pagetool.specs.Calls.{Call}
+use Rattle.wt_commands.specs.Calls.{Call}
 use Rattle.wt_pagetool.specs.Promises.{Ends, EndsAsEdit}
 use Rattle.wt_typed_blocks.specs.Sent.{Sents}
 use Rattle.wt_typed_blocks.specs.Unmarked.{AreToldApart}
@@ -38,7 +38,7 @@ take_by ss behind f h = record {
   paths = paths_of f;
   lead = all_lead ss behind f h;
   edits = λ m os u. own_edit ss behind (paths_of f) m os (paths_full (tree_by ss) true Page 1 [] [] f.frames) (paths_apart (tree_by ss) true Page 1 [] [] f.frames)
-      (all_lead ss behind f h) u;
+      h.ungrouped (all_lead ss behind f h) u;
   takes = λ pages b es e le. made_done pages ss (new_spots f es) behind f es b h (makes ss behind f es h e) le;
   unmarked = λ pages stands input b unsourced es e found short le small is.
       unmarked_done pages ss (new_spots f es) behind f es b stands input unsourced h (makes ss behind f es h e.edit) (told ss behind f es h e) found short le small is;

@@ -25,13 +25,14 @@ use Rattle.wt_visible.specs.SameNodes.{same_node}
 use Rattle.wt_visible.proofs.DifferingLaws.{same_none}
 use Rattle.wt_difference.specs.Remarked.{remarked}
 use Rattle.wt_selser.specs.Edits.{most_bytes, edit_answer}
-use Rattle.wt_pagetool.specs.declared.refusal.Refusal.TheVariants.{TooLong}
-use Rattle.wt_pagetool.specs.Answers.{Answer, done, refused, text_answer, title_answer, expanded_by, unspelled_by, unspelled_answer, new_by, new_expanded, new_answer, edit_by, edit_from, edit_to, IsText}
+use Rattle.wt_commands.specs.declared.refusal.Refusal.TheVariants.{TooLong}
+use Rattle.wt_commands.specs.Answers.{Answer, done, refused, text_answer, title_answer, expanded_by, unspelled_by, unspelled_answer, new_by, new_expanded, new_answer, edit_by, edit_from, edit_to, IsText}
 use Rattle.wt_pagetool.specs.Selser.{EditIsDone, DoneByEdit}
-use Rattle.wt_pagetool.proofs.SectionEdits.{page_bare}
+use Rattle.wt_commands.proofs.SectionEdits.{page_bare}
 use Rattle.wt_typed_blocks.specs.Sent.{Sents, old_children, AreSent, old_body, new_body}
 use Rattle.wt_typed_blocks.specs.Typed.{new_sources}
 use Rattle.wt_typed_blocks.specs.Unmarked.{free_body, AreToldApart}
+use Rattle.wt_typed_blocks.proofs.SentGroups.{outside}
 use Rattle.wt_typed_blocks.proofs.SentSections.{answer_in_sections}
 use Rattle.wt_typed_blocks.proofs.SentShows.{body_shows}
 use Rattle.wt_typed_blocks.proofs.SentUnmarked.{told_by_difference}
@@ -47,7 +48,8 @@ use Rattle.wt_cell_edit_laws.proofs.Nodes.{blocks_flat}
 use Rattle.wt_cell_edit_laws.proofs.Paths.{AllFacts}
 use Rattle.wt_cell_edit_laws.proofs.PlaceTrees.{Framed}
 use Rattle.wt_cell_edit_laws.proofs.SpotTrees.{same_self, over_self, nodes_over, label_over, over_tree, over_source, over_utf8, over_expanded, over_unrefused, over_ordinary}
-use Rattle.wt_cell_edit_laws.proofs.Ungrouped.{blocks_ungrouped, blocks_unframed}
+use Rattle.wt_text_edit_laws.proofs.Blocks.BlocksUngrouped.{blocks_ungrouped}
+use Rattle.wt_cell_edit_laws.proofs.Unframed.{blocks_unframed}
 
 -- ---- what was sent
 
@@ -113,9 +115,8 @@ answer_so pages ss rs behind f es b h m le =
     (page_bare pages page u free)
     (page_opened pages page u free ∙ opened_is pages ss rs behind f es h m)
     (in_order pages ss rs behind f es h m)
-    (none_group pages ss rs behind f es h m)
     (none_frame pages ss rs behind f es h m)
-    m.sent m.facts.take m.facts.untangled
+    m.sent (outside es (none_group pages ss rs behind f es h m)) m.facts.take m.facts.untangled
     (sym (ap flat_of_all (old_is ss rs behind f es h m) ∙ source_is)) m.facts.stand short
     ∙ ap Ok m.facts.new
 
@@ -188,7 +189,6 @@ marks_are pages ss rs behind f es b h m apart =
     ∙ told_by_difference t L b es (kind_opened t ∙ ap (λ (p : Tree). (label p).kind) opened)
     (page_numbered pages page) (page_bare pages page u free) opened
     (in_order pages ss rs behind f es h m)
-    (none_group pages ss rs behind f es h m)
     (none_frame pages ss rs behind f es h m)
     m.sent apart
     ∙ sym (ap (λ (p : Tree). new_body (label p) b es) tree_is)

@@ -27,7 +27,7 @@ use Rattle.wt_text_edit_laws.proofs.Blocks.PageKinds.{page_ordinary}
 use Rattle.wt_cell_edit_laws.specs.AnyBlocks.{open_behind_part, EndsFor, StaysText, IsSpotAt, past_break, BeginsAfter, EndsAfter, AreSpotsAfter, AreParts, AreSpots}
 use Rattle.wt_cell_edit_laws.proofs.Cells.{typed_stays_text}
 use Rattle.wt_cell_edit_laws.proofs.SpotSlots.{open_size}
-use Rattle.wt_cell_edit_laws.proofs.Ungrouped.{blocks_ungrouped}
+use Rattle.wt_text_edit_laws.proofs.Blocks.BlocksUngrouped.{spots_ungrouped}
 
 -- ---- no table is open
 
@@ -144,23 +144,10 @@ body_parts (s ∷ ss) behind h =
 
 -- ---- the page
 
-no_pages : Pages
-no_pages = λ title. None
-
-body_ungrouped : (ss : List BlockSpot) (behind : List ℕ) → AreBlockSpots ss behind → HasNoGroups (spots_source ss behind)
-body_ungrouped ss behind h =
-    let page : List ℕ = spots_source ss behind in
-    let ts : List ItemTree = leafy_blocks ss behind in
-    let ordinary : AreOrdinary (all_unplaced (forest (page_blocks ss behind))) =
-    page_ordinary no_pages page (page_blocks ss behind) (spots_utf8 ss behind h) (spots_unrefused no_pages ss behind h) (spots_expanded no_pages ss behind h)
-    (spots_meaning ss behind h) in
-    subst HasNoGroup (sym (spots_tree ss behind h))
-    (refl, blocks_ungrouped 1 [] ts (subst (λ ts. AreOrdinary (all_unplaced (forest ts))) (as_leaves ss behind (are_typed ss behind h)) ordinary))
-
 pub body_spots : (ss : List BlockSpot) (behind : List ℕ) → AreBlockSpots ss behind → AreSpots ss behind
 body_spots [] behind h = absurd h
 body_spots (s ∷ ss) behind h = record {
   parts = body_parts (s ∷ ss) behind h;
   whole = h.2;
-  ungrouped = body_ungrouped (s ∷ ss) behind h;
+  ungrouped = spots_ungrouped (s ∷ ss) behind h;
 }

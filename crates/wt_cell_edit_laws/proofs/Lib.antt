@@ -34,5 +34,5 @@ pub mod SpotSlots
 pub mod SpotTrees
 pub mod SpotsRead
 pub mod Takes
-pub mod Ungrouped
+pub mod Unframed
 pub mod ToldApart

@@ -3,6 +3,7 @@ use Rattle.std.proofs.Common.{◌≡◌, ◌≢◌, ◌⊎◌, inl, inr, ℕ, ze
 use Rattle.wt_tree.specs.declared.kind.Kind.{Kind}
 use Rattle.wt_tree.specs.declared.row.Texts.{Texts}
 use Rattle.wt_tree.specs.Kinds.{texts_of_kind}
+use Rattle.wt_tree.specs.Tiling.{HasNoGroup, NoneIsGroup}
 use Rattle.wt_tree.specs.Tree.{Label, Tree, tree, Trees, none, more}
 use Rattle.wt_span.specs.Items.{Item}
 use Rattle.wt_inline.specs.ItemTree.{ItemTree}
@@ -13,9 +14,9 @@ use Rattle.wt_typed_blocks.specs.Sent.{kind_of, Sents, old_child, old_children, 
 use Rattle.wt_typed_blocks.specs.Typed.{TakesText, TakeTexts}
 use Rattle.wt_text_edit_laws.specs.BlockSpots.{BlockSpot, spots_source}
 use Rattle.wt_text_edit_laws.specs.OwnNodes.{IsTypedSpot}
-use Rattle.wt_text_edit_laws.specs.Parts.{part_tree}
+use Rattle.wt_text_edit_laws.specs.Parts.{part_tree, HasNoGroups}
 use Rattle.wt_text_edit_laws.specs.TextBlocks.{TextBlock, block_of}
-use Rattle.wt_text_edit_laws.proofs.Blocks.OwnNodes.{stands_unmarked}
+use Rattle.wt_text_edit_laws.proofs.Blocks.OwnNodes.{stands_unmarked, none_inside}
 use Rattle.wt_text_edit_laws.proofs.Prose.ProseTrees.{blocks_of, number_behind, items_behind}
 use Rattle.wt_cell_edit_laws.specs.AnyBlocks.{typed_at, typed_among, typed_by, first_paths, other_paths, EndHere, GoOn, TypesOnly, AllTypeOnly, IsTextEdit, LeadsTo, LeadsAmong, AllLead}
 use Rattle.wt_cell_edit_laws.specs.OwnTexts.{AreTypings, PathText, path_texts, in_first, in_others, first_texts, other_texts, here_or, text_here, sent_block, sent_node, own_text, own_texts, own_sent}
@@ -147,25 +148,25 @@ mutual
   old_texts m ys (more t ts) h =
       ap₂ more (old_text m (first_texts ys) t (all_first_led ys t ts h)) (old_texts m (other_texts ys) ts (all_others_led ys t ts h))
 
-block_is_sent : (o : Option (List ℕ)) (k : TextBlock) (m l : Label) (ts : Trees) → l.id ≢ 0 → IsSent (sent_block o k m l ts)
-block_is_sent None k m l ts e = stands_unmarked (tree l ts)
-block_is_sent (Some text) k m l ts e = e
+block_is_sent : (o : Option (List ℕ)) (k : TextBlock) (m l : Label) (ts : Trees) → HasNoGroup (tree l ts) → l.id ≢ 0 → IsSent (sent_block o k m l ts)
+block_is_sent None k m l ts g e = stands_unmarked (tree l ts) g
+block_is_sent (Some text) k m l ts g e = e
 
-node_is_sent : (o : Option PathText) (ys : List PathText) (m l : Label) (ts : Trees) (ss : Sents) → HereLeads o (tree l ts) → AreSent ss
+node_is_sent : (o : Option PathText) (ys : List PathText) (m l : Label) (ts : Trees) (ss : Sents) → HasNoGroup (tree l ts) → HereLeads o (tree l ts) → AreSent ss
     → IsSent (sent_node o ys m l ts ss)
-node_is_sent (Some y) ys m l ts ss h s = block_is_sent y.text y.block m l ts h.1
-node_is_sent None [] m l ts ss h s = stands_unmarked (tree l ts)
-node_is_sent None (y ∷ ys) m l ts ss h s = (record { kind = refl; id = refl; attrs = refl; mw = refl; shown = λ e. refl; unmarked = refl }, s)
+node_is_sent (Some y) ys m l ts ss g h s = block_is_sent y.text y.block m l ts g h.1
+node_is_sent None [] m l ts ss g h s = stands_unmarked (tree l ts) g
+node_is_sent None (y ∷ ys) m l ts ss g h s = (record { kind = refl; id = refl; attrs = refl; mw = refl; shown = λ e. refl; unmarked = refl }, s)
 
 mutual
-  text_is_sent : (m : Label) (ys : List PathText) (t : Tree) → AreLedTo ys t → IsSent (own_text m ys t)
-  text_is_sent m ys (tree l ts) h =
-      node_is_sent (text_here ys) ys m l ts (own_texts m ys ts) (here_leads ys (tree l ts) h) (texts_are_sent m ys ts (all_led_inside ys l ts h))
+  text_is_sent : (m : Label) (ys : List PathText) (t : Tree) → HasNoGroup t → AreLedTo ys t → IsSent (own_text m ys t)
+  text_is_sent m ys (tree l ts) g h =
+      node_is_sent (text_here ys) ys m l ts (own_texts m ys ts) g (here_leads ys (tree l ts) h) (texts_are_sent m ys ts g.1 (all_led_inside ys l ts h))
 
-  texts_are_sent : (m : Label) (ys : List PathText) (ts : Trees) → AreLedIn ys ts → AreSent (own_texts m ys ts)
-  texts_are_sent m ys none h = tt
-  texts_are_sent m ys (more t ts) h =
-      (text_is_sent m (first_texts ys) t (all_first_led ys t ts h), texts_are_sent m (other_texts ys) ts (all_others_led ys t ts h))
+  texts_are_sent : (m : Label) (ys : List PathText) (ts : Trees) → NoneIsGroup ts → AreLedIn ys ts → AreSent (own_texts m ys ts)
+  texts_are_sent m ys none g h = tt
+  texts_are_sent m ys (more t ts) g h =
+      (text_is_sent m (first_texts ys) t g.0 (all_first_led ys t ts h), texts_are_sent m (other_texts ys) ts g.1 (all_others_led ys t ts h))
 
 -- ---- texts are typed there alone
 
@@ -456,9 +457,9 @@ led_children : (ys : List PathText) (t : Tree) → AreLedTo ys t → AreLedIn ys
 led_children ys (tree l ts) h = all_led_inside ys l ts h
 
 pub own_edit : (ss : List BlockSpot) (behind : List ℕ) (paths : List (List ℕ)) (m : Label) (os : List (Option (List ℕ))) → NoneEmpty paths → AreApart paths
-    → AllLead ss paths (part_tree (spots_source ss behind)) → AreTypings ss os
+    → HasNoGroups (spots_source ss behind) → AllLead ss paths (part_tree (spots_source ss behind)) → AreTypings ss os
     → IsTextEdit ss behind paths (own_sent ss behind paths m os) × (map (typed_by (own_sent ss behind paths m os)) paths ≡ os)
-own_edit ss behind paths m os full apart lead u =
+own_edit ss behind paths m os full apart g lead u =
     let t : Tree = part_tree (spots_source ss behind) in
     let ts : Trees = children t in
     let ys : List PathText = path_texts ss paths os in
@@ -467,7 +468,7 @@ own_edit ss behind paths m os full apart lead u =
     let are : paths_in ys ≡ paths = paths_so ss paths os t lead u in (
       record {
         old = old_texts m ys ts led;
-        sent = texts_are_sent m ys ts led;
+        sent = texts_are_sent m ys ts (none_inside t g) led;
         types = subst (λ ps. AllTypeOnly ps (own_texts m ys ts)) are (texts_type m ys ts fit);
         take = texts_take m ys ts fit;
       },

@@ -47,7 +47,7 @@ use Rattle.wt_cell_edit_laws.proofs.FramesPlain.{IsFull, AreFull, frames_plain}
 use Rattle.wt_cell_edit_laws.proofs.ManyFacts.{AllBorders}
 use Rattle.wt_cell_edit_laws.proofs.PlaceTrees.{tree_by, counted, Framed}
 use Rattle.wt_cell_edit_laws.proofs.SpotsRead.{parts_read, parts_blocks, parts_over, whole_over}
-use Rattle.wt_cell_edit_laws.proofs.Ungrouped.{blocks_ungrouped}
+use Rattle.wt_text_edit_laws.proofs.Blocks.BlocksUngrouped.{blocks_ungrouped}
 
 -- ---- the trees by numbers
 

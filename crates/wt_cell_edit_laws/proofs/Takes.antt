@@ -6,7 +6,7 @@ use Rattle.wt_devices.specs.Device.{Pages}
 use Rattle.wt_tree.specs.declared.kind.Kind.TheVariants as kind
 use Rattle.wt_tree.specs.Tree.{Label, Tree, tree, Trees, none, more, label}
 use Rattle.wt_checks.specs.Kept.{children}
-use Rattle.wt_pagetool.specs.Answers.{done, edit_to}
+use Rattle.wt_commands.specs.Answers.{done, edit_to}
 use Rattle.wt_typed_blocks.specs.Sent.{paragraph, Sent, stands, typed, holds, Sents, none_sent, more_sent, new_body}
 use Rattle.wt_typed_blocks.specs.Typed.{Takes, TakesText as SentTakes, TakeTexts}
 use Rattle.wt_text_edit_laws.specs.BlockEdits.{typed_as}
@@ -151,7 +151,7 @@ again c text h u =
     let ts : Trees = children (part_tree (page_with c c.text)) in
     let m : Label = label (part_tree (page_with c c.text)) in
     let ss : Sents = own_sents (path_of c h) m text ts in
-    let e : IsCellEdit c (path_of c h) text ss = own_edit c (path_of c h) m text (path_leads c h) u in
+    let e : IsCellEdit c (path_of c h) text ss = own_edit c (path_of c h) m text h.ungrouped (path_leads c h) u in
     let new : AreSpots (with_texts (one_spot c) (map (typed_by ss) (taken c h).paths)) c.behind = (taken c h).again ss (at_path c h text ss e) in
     record {
       stands = h.stands;

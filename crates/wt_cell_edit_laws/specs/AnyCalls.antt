@@ -4,12 +4,12 @@ use Rattle.wt_span.specs.declared.limits.TheConstants.{HTML_BYTES, PAGE_BYTES}
 use Rattle.wt_devices.specs.Device.{Pages}
 use Rattle.wt_tree.specs.Tree.{Label, Tree}
 use Rattle.wt_schema.specs.Read.{page as as_page, read}
-use Rattle.wt_pagetool.specs.declared.command.Command.{Command}
-use Rattle.wt_pagetool.specs.declared.command.Command.TheVariants.{Edit, Selser}
-use Rattle.wt_pagetool.specs.declared.status.Status.TheVariants as status
-use Rattle.wt_pagetool.specs.Calls.{Call, NothingFailed}
-use Rattle.wt_pagetool.specs.Statuses.{code, IsFaultOrNoMemory}
-use Rattle.wt_pagetool.specs.Words.{command_of}
+use Rattle.wt_commands.specs.declared.command.Command.{Command}
+use Rattle.wt_commands.specs.declared.command.Command.TheVariants.{Edit, Selser}
+use Rattle.wt_commands.specs.declared.status.Status.TheVariants as status
+use Rattle.wt_commands.specs.Calls.{Call, NothingFailed}
+use Rattle.wt_commands.specs.Statuses.{code, IsFaultOrNoMemory}
+use Rattle.wt_commands.specs.Words.{command_of}
 use Rattle.wt_typed_blocks.specs.Sent.{Sents}
 use Rattle.wt_text_edit_laws.specs.BlockSpots.{BlockSpot, spots_source}
 use Rattle.wt_text_edit_laws.specs.Calls.{WroteNewPage}

@@ -8,7 +8,7 @@ use Rattle.wt_tree.specs.Tree.{Label, Tree, tree, Trees, none, more, label}
 use Rattle.wt_checks.specs.Kept.{children}
 use Rattle.wt_checks.specs.WithoutMarks.{mark_off, unmarked}
 use Rattle.wt_expand.specs.PageItems.{page_items}
-use Rattle.wt_pagetool.specs.Answers.{done, edit_to}
+use Rattle.wt_commands.specs.Answers.{done, edit_to}
 use Rattle.wt_typed_blocks.specs.Sent.{paragraph, Sent, stands, typed, holds, Sents, none_sent, more_sent, old_children, AreSent, new_body}
 use Rattle.wt_text_edit_laws.specs.BlockEdits.{typed_as}
 use Rattle.wt_text_edit_laws.specs.NoCalls.{CallsNothing}

@@ -9,7 +9,7 @@ use Rattle.wt_names.specs.Good.{is_forbidden, is_allowed, has_signature, is_step
 use Rattle.wt_names.specs.Written.{read_link}
 use Rattle.wt_tree.specs.declared.kind.Kind.{Kind}
 use Rattle.wt_tree.specs.declared.kind.Kind.TheVariants as kind
-use Rattle.wt_tree.specs.declared.kind.TagName.TheVariants as tag
+use Rattle.wt_span.specs.declared.tag_name.TagName.TheVariants as tag
 use Rattle.wt_tree.specs.declared.kind.AttrName.TheVariants as attr
 use Rattle.wt_tree.specs.declared.kind.Mark.TheVariants as mark
 use Rattle.wt_tree.specs.Tree.{Label, Tree, tree, none, trees}

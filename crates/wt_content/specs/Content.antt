@@ -14,7 +14,7 @@ use Rattle.wt_tree.specs.declared.edit_shape.InlineForm.TheVariants as inline
 use Rattle.wt_tree.specs.EditShapes.{edit_shape}
 use Rattle.wt_original.specs.Kept.{Kept, kept_with}
 use Rattle.wt_original.specs.Page.{Page, page_of, is_unchanged}
-use Rattle.wt_escape.specs.Spelling.{href_of}
+use Rattle.wt_link_spelling.specs.Spelling.{href_of}
 use Rattle.wt_content.specs.declared.reason.ContentWhy.{ContentWhy}
 use Rattle.wt_content.specs.declared.reason.ContentWhy.TheVariants as why
 use Rattle.wt_content.specs.declared.content.Standing.{Standing}

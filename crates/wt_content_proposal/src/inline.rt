@@ -1,10 +1,10 @@
 //! Inline content as wikitext: what was in the page as it was, texts too, and what is new as `edit` spells it.
 
-use crate::known::{Block, Known, first_text, last_text};
 use crate::nowiki::nowiki_round;
 use std::alloc::Global;
-use wt_escape::{external_link_of, href_of, page_link_of};
 use wt_guards::{Role, Setting, Stretch, Thing, Unit, spelling_of};
+use wt_known::{Block, Known, first_text, joined, last_text};
+use wt_link_spelling::{external_link, href_of, page_link};
 use wt_original::{Kept, is_unchanged, shown_text};
 use wt_span::{NoMemory, Str, Text};
 use wt_text_proposal::{
@@ -12,7 +12,7 @@ use wt_text_proposal::{
     push_nowiki, push_text, role_in_line, shortened, source_of, with_colons, with_fragment,
     with_joints, with_plain,
 };
-use wt_tree::{InlineForm, Kind, Node, Place, flat, same_attrs, same_kind};
+use wt_tree::{InlineForm, Kind, Node, Place, flat, push_texts, same_attrs, same_kind};
 
 /// How an inside is written: what is known of the page, the block in which it is, whether texts keep their
 /// bytes, and what kind of block it is.
@@ -79,20 +79,6 @@ fn push_thing(
         place,
     }))?;
     Ok(())
-}
-
-fn push_texts(out: &mut Str, texts: &[Text<'_>]) -> Result<(), NoMemory> {
-    for text in texts {
-        out.push_str(text.as_str())?;
-    }
-    Ok(())
-}
-
-/// Texts that follow one another in one.
-pub fn joined(alloc: Global, texts: &[Text<'_>]) -> Result<Str, NoMemory> {
-    let mut out = Str::new(alloc);
-    push_texts(&mut out, texts)?;
-    Ok(out)
 }
 
 fn place_of(kept: Option<Kept<'_, '_>>) -> Option<Stretch> {
@@ -455,7 +441,7 @@ fn with_blank(alloc: Global, keeps: bool, inside: &str) -> Result<Str, NoMemory>
 fn new_source(alloc: Global, keeps: bool, node: &Node<'_>, inside: &str) -> Result<Str, NoMemory> {
     match node.kind.edit_shape().inline {
         InlineForm::PageLink => {
-            let link = page_link_of(alloc, node, inside)?;
+            let link = page_link(alloc, node, inside)?;
             if keeps {
                 let link = with_fragment(alloc, link, inside)?;
                 shortened(alloc, link)
@@ -465,7 +451,7 @@ fn new_source(alloc: Global, keeps: bool, node: &Node<'_>, inside: &str) -> Resu
         }
         InlineForm::ExternalLink => {
             let inside = with_blank(alloc, keeps, inside)?;
-            external_link_of(alloc, node, inside.as_str())
+            external_link(alloc, node, inside.as_str())
         }
         InlineForm::Break => Str::copy_of(alloc, "<br>"),
         InlineForm::Nothing

@@ -3,8 +3,6 @@
 #![tactic(auto)]
 
 mod inline;
-mod known;
 mod nowiki;
 
-pub use inline::{Edges, Writing, edges_of, joined, spelled};
-pub use known::{Block, Known, Sides, block_of, last_text};
+pub use inline::{Edges, Writing, edges_of, spelled};

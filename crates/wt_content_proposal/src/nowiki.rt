@@ -1,8 +1,7 @@
 //! A `nowiki` of the page whose text was changed: its tags stay, and what is in it is written as it is shown.
 
-use crate::inline::joined;
-use crate::known::{Block, Known};
 use std::alloc::Global;
+use wt_known::{Block, Known, joined};
 use wt_original::shown_text;
 use wt_span::{NoMemory, Str};
 use wt_tree::{Kind, Node, flat};

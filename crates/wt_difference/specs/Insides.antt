@@ -67,6 +67,10 @@ from_blocks (more t ts) = if ends_inside t then more t ts else from_blocks ts
 abbrev pub inside : Tree → Trees
 inside (tree l ts) = if has_inside l.kind then before_blocks ts else none
 
+-- what comes after the inside
+abbrev pub behind_inside : Tree → Trees
+behind_inside (tree l ts) = if has_inside l.kind then from_blocks ts else ts
+
 -- the children of a node that are blocks, items, rows or cells, with what is between them, where what a
 -- section holds is in its place
 abbrev pub held : Tree → Trees

@@ -5,8 +5,10 @@ ghost use Rattle.wt_tree.specs.Opened.{opened, opened_before};
 ghost use Rattle.wt_recut.specs.Recutting.{appended};
 ghost use Rattle.wt_tree.specs.Tree.{none};
 ghost use Rattle.wt_tree.specs.View.{view, views};
+ghost use Rattle.wt_tree.specs.declared.node.Node.{out-Node};
 ghost use Rattle.wt_difference.specs.Insides.{
   before_blocks,
+  behind_inside,
   ends_inside,
   from_blocks,
   has_inside,
@@ -116,6 +118,18 @@ pub fn inside<'t, 'a>(node: &'t Node<'a>) -> &'t [Node<'a>]
 }
 
 // ---- what comes after it
+
+/// How many of a node's children are its inside: the others come after it.
+pub fn inside_count(node: &Node<'_>) -> usize
+    ensures within { result ≤ length (out-Node node.now).children }
+    ensures behind { views (drop result (out-Node node.now).children) ≡ behind_inside (view node.now) }
+{
+    if has_inside(node.kind) {
+        inside_len(node.children.as_slice())
+    } else {
+        0
+    }
+}
 
 #[cycle(opening)]
 fn push_opened<'t, 'a>(out: &mut Vec<Child<'t, 'a>>, node: &'t Node<'a>) -> Result<(), NoMemory>

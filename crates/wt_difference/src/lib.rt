@@ -9,7 +9,7 @@ mod remarking;
 mod tokens;
 
 pub use differing::{same_children, same_inside, stays_in};
-pub use insides::{Child, ends_inside, has_inside, held, inside, is_block_part};
+pub use insides::{Child, ends_inside, has_inside, held, inside, inside_count, is_block_part};
 pub use laws::{comparisons, marks_alone, nothing_differs};
 pub use remarking::remark;
 pub use tokens::are_same;

@@ -16,7 +16,7 @@ use Rattle.wt_tree.specs.EditShapes.{edit_shape}
 use Rattle.wt_original.specs.Kept.{Kept, KeptNode, kept_with, first_with, kept_of, kept_nodes, items, visible, is_delimited, holds_kept, found_at, found_if, found_from, found_in}
 use Rattle.wt_original.specs.Numbers.{counts_up}
 use Rattle.wt_original.specs.Page.{Page, page_of, TellsSame, node_or, restored, restored_all}
-use Rattle.wt_escape.specs.Spelling.{inline_spelling, signs_of_all, children_of}
+use Rattle.wt_link_spelling.specs.Spelling.{inline_spelling, signs_of_all, children_of}
 use Rattle.wt_escape.specs.OwnContent.{IsStyle, IsPlainBy, IsPlain, ArePlain, IsBare, AreBare, IsPlainBlock}
 use Rattle.wt_guards.specs.Content.{ContentSign}
 use Rattle.wt_original.proofs.Numbers.{first_is, pass, stop}

@@ -3,4 +3,3 @@ pub mod ShownBreaks
 pub mod Signing
 pub mod SpelledBack
 mod TreeCases
-pub mod Insides

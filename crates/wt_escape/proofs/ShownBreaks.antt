@@ -24,7 +24,7 @@ use Rattle.wt_tree.specs.declared.edit_shape.InlineForm.TheVariants as inline
 use Rattle.wt_tree.specs.EditShapes.{edit_shape}
 use Rattle.wt_original.specs.Kept.{Kept, kept_with, shown}
 use Rattle.wt_original.specs.Page.{Page, page_of, is_unchanged}
-use Rattle.wt_escape.specs.Spelling.{kept_thing, new_thing, as_it_stood, unless_kept, closing_place, toggle, or_nowiki, style, spelled_within, href_of, only_text, is_text, colon, link_text, page_link, after_space, external_link, tag_pair, break_tag, signs_by, signs_of, signs_of_all, children_of, inline_spelling}
+use Rattle.wt_link_spelling.specs.Spelling.{kept_thing, new_thing, as_it_stood, unless_kept, closing_place, toggle, or_nowiki, style, spelled_within, href_of, only_text, is_text, colon, link_text, page_link, after_space, external_link, tag_pair, break_tag, signs_by, signs_of, signs_of_all, children_of, inline_spelling}
 use Rattle.wt_escape.specs.LineBreaks.{breaks_as_it_stood, breaks_unless_kept, breaks_of_link_text, breaks_of_link, breaks_of_tag, breaks_by, breaks_in, breaks_in_all, IsTextBy, HasTexts, HaveTexts}
 use Rattle.wt_escape.proofs.SpelledBack.{written_text}
 

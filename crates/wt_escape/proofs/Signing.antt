@@ -13,7 +13,7 @@ use Rattle.wt_tree.specs.EditShapes.{edit_shape}
 use Rattle.wt_guards.specs.Content.{ContentSign}
 use Rattle.wt_original.specs.Kept.{Kept, kept_with}
 use Rattle.wt_original.specs.Page.{Page, is_unchanged}
-use Rattle.wt_escape.specs.Spelling.{kept_thing, unless_kept, anew_by, signs_by, signs_of, signs_of_all}
+use Rattle.wt_link_spelling.specs.Spelling.{kept_thing, unless_kept, anew_by, signs_by, signs_of, signs_of_all}
 use Rattle.wt_escape.specs.Units.{Leaves}
 
 pub leaves_none : (p : Page) (k : Option Kept) (t : Tree) (us : List ContentSign) → k ≡ None → Leaves false us us (unless_kept p k t)

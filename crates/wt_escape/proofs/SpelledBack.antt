@@ -17,7 +17,7 @@ use Rattle.wt_tree.specs.EditShapes.{edit_shape}
 use Rattle.wt_guards.specs.Content.{ContentSign, letter, letters}
 use Rattle.wt_original.specs.Kept.{Kept, kept_with}
 use Rattle.wt_original.specs.Page.{Page, page_of, TellsSame, restored, is_unchanged}
-use Rattle.wt_escape.specs.Spelling.{kept_thing, unless_kept, as_it_stood, toggle, or_nowiki, style, opening_place, closing_place, signs_by, signs_of, signs_of_all, children_of, inline_spelling}
+use Rattle.wt_link_spelling.specs.Spelling.{kept_thing, unless_kept, as_it_stood, toggle, or_nowiki, style, opening_place, closing_place, signs_by, signs_of, signs_of_all, children_of, inline_spelling}
 use Rattle.wt_guards.specs.WrittenLaws.{itself, IsQuiet}
 use Rattle.wt_escape.specs.OwnContent.{IsStyle, HasSigns, setting_in}
 use Rattle.wt_guards.proofs.SpellingLaws.{quiet_from}

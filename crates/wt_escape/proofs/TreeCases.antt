@@ -10,7 +10,7 @@ use Rattle.wt_names.specs.Good.{is_forbidden, is_allowed, has_signature, is_step
 use Rattle.wt_names.specs.Written.{read_link}
 use Rattle.wt_tree.specs.declared.kind.Kind.{Kind}
 use Rattle.wt_tree.specs.declared.kind.Kind.TheVariants as kind
-use Rattle.wt_tree.specs.declared.kind.TagName.TheVariants as tag
+use Rattle.wt_span.specs.declared.tag_name.TagName.TheVariants as tag
 use Rattle.wt_tree.specs.declared.kind.AttrName.TheVariants as attr
 use Rattle.wt_tree.specs.declared.kind.Mark.TheVariants as mark
 use Rattle.wt_tree.specs.Tree.{Label, Tree, tree, none, trees}
@@ -20,7 +20,7 @@ use Rattle.wt_original.specs.Kept.{kept_with}
 use Rattle.wt_guards.specs.Table.{hazard, line_start_hazard}
 use Rattle.wt_guards.specs.Letters.{is_escaped, reference}
 use Rattle.wt_guards.specs.Guards.{is_start_guard, is_end_guard, is_blank_guard, is_parted, is_between_guard, is_guarded, nowiki}
-use Rattle.wt_escape.specs.Spelling.{inline_spelling, block_spelling, break_tag}
+use Rattle.wt_link_spelling.specs.Spelling.{inline_spelling, block_spelling, break_tag}
 
 abbrev labelled : Kind → ℕ → List ℕ → List ℕ → List ℕ → List ℕ → Label
 labelled k id opening closing own shown = record {

@@ -1,4 +1,3 @@
 pub mod LineBreaks
 pub mod OwnContent
-pub mod Spelling
 pub mod Units

@@ -13,7 +13,7 @@ use Rattle.wt_tree.specs.declared.edit_shape.InlineForm.TheVariants as inline
 use Rattle.wt_tree.specs.EditShapes.{edit_shape}
 use Rattle.wt_original.specs.Kept.{Kept, kept_with, shown}
 use Rattle.wt_original.specs.Page.{Page, is_unchanged}
-use Rattle.wt_escape.specs.Spelling.{is_text, only_text, href_of}
+use Rattle.wt_link_spelling.specs.Spelling.{is_text, only_text, href_of}
 
 -- as many as are in the page, if it is kept
 abbrev pub breaks_as_it_stood : Option Kept → ℕ

@@ -16,7 +16,7 @@ use Rattle.wt_tree.specs.EditShapes.{edit_shape}
 use Rattle.wt_original.specs.Kept.{kept_nodes}
 use Rattle.wt_original.specs.Numbers.{counts_up}
 use Rattle.wt_original.specs.Page.{Page, page_of}
-use Rattle.wt_escape.specs.Spelling.{signs_of_all, children_of}
+use Rattle.wt_link_spelling.specs.Spelling.{signs_of_all, children_of}
 
 abbrev pub HasSigns : List ContentSign → Type 0
 HasSigns [] = ⊥

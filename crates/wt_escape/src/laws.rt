@@ -3,7 +3,7 @@
 ghost use Rattle.std.specs.Prelude.{◌≡◌, Bool};
 ghost use Rattle.wt_tree.specs.declared.edit_shape.Place.{Place};
 ghost use Rattle.wt_original.specs.Page.{TellsSame, page_of};
-ghost use Rattle.wt_escape.specs.Spelling.{children_of, inline_spelling};
+ghost use Rattle.wt_link_spelling.specs.Spelling.{children_of, inline_spelling};
 ghost use Rattle.wt_escape.specs.LineBreaks.{breaks_in_all, HaveTexts};
 ghost use Rattle.wt_escape.specs.OwnContent.{IsPlainBlock};
 ghost use Rattle.wt_guards.specs.WrittenLaws.{breaks};

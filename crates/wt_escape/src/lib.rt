@@ -6,11 +6,9 @@
 #![tactic(auto)]
 
 mod laws;
-mod links;
 mod spell;
 mod units;
 
 pub use laws::{line_breaks_shown, spelled_back};
-pub use links::{external_link as external_link_of, href_of, page_link as page_link_of};
 pub use spell::{spell_block, spell_inline};
 pub use wt_guards::{Side, hazard, line_start_hazard};

@@ -4,7 +4,7 @@ ghost use Rattle.std.specs.Prelude.{◌≡◌, ◌++◌, IfOk, OnOk, Bool, strin
 ghost use Rattle.wt_tree.specs.Tree.{Tree};
 ghost use Rattle.wt_tree.specs.View.{view};
 ghost use Rattle.wt_original.specs.Page.{TellsSame};
-ghost use Rattle.wt_escape.specs.Spelling.{content, inline_spelling, equals, place_in, framed, form_of, block_spelling};
+ghost use Rattle.wt_link_spelling.specs.Spelling.{content, inline_spelling, equals, place_in, framed, form_of, block_spelling};
 ghost use Rattle.wt_original.specs.PageViews.{page_view};
 ghost use Rattle.wt_tree.specs.declared.edit_shape.BlockForm.TheVariants as form;
 
@@ -38,7 +38,7 @@ fn content(
 /// is. A node of `new` with the number of a node in `old` that shows the same is written as it is
 /// in the page. The delimiters of the block aren't written. It takes time in the size of both, where
 /// the numbers in `old` count up in preorder, as a page's do; others are looked up one by one.
-#[tactic(auto, unfolding(crate::specs::Spelling::inline_spelling))]
+#[tactic(auto, unfolding(wt_link_spelling::specs::Spelling::inline_spelling))]
 pub fn spell_inline(
     alloc: Global,
     old: &Node<'_>,
@@ -114,7 +114,7 @@ fn push_framed(
 /// A new paragraph, heading, rule or item of a list, as wikitext without a line break at its end.
 /// `sign` is the sign of the item's list, `*` or `#`, and counts for an item alone; another kind of
 /// block is written as a paragraph.
-#[tactic(auto, unfolding(crate::specs::Spelling::block_spelling))]
+#[tactic(auto, unfolding(wt_link_spelling::specs::Spelling::block_spelling))]
 pub fn spell_block(alloc: Global, new: &Node<'_>, sign: char) -> Result<Str, NoMemory>
     ensures { (same : Tree → Tree → Bool) → TellsSame same → IfOk result (λ s. s ≡ block_spelling same (view new.now) sign) }
 {

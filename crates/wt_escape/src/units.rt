@@ -11,16 +11,16 @@ ghost use Rattle.wt_original.specs.Kept.{shown};
 ghost use Rattle.wt_tree.specs.EditShapes.{edit_shape};
 ghost use Rattle.wt_original.specs.Gathered.{kept_view};
 ghost use Rattle.wt_original.specs.Page.{TellsSame};
-ghost use Rattle.wt_escape.specs.Spelling.{place_of, kept_thing, new_thing, as_it_stood, unless_kept, is_style, stretch, opening_place, closing_place, toggle, or_nowiki, style, spelled_within, break_tag, href_of, page_link, external_link, tag_pair, anew_by, signs_of, signs_of_all};
+ghost use Rattle.wt_link_spelling.specs.Spelling.{place_of, kept_thing, new_thing, as_it_stood, unless_kept, is_style, stretch, opening_place, closing_place, toggle, or_nowiki, style, spelled_within, break_tag, href_of, page_link, external_link, tag_pair, anew_by, signs_of, signs_of_all};
 ghost use Rattle.wt_original.specs.PageViews.{page_view};
 ghost use Rattle.wt_escape.specs.Units.{Leaves};
 ghost use Rattle.wt_guards.specs.Views.{all_signs};
 ghost use Rattle.wt_names.specs.Written.{read_link};
 ghost use Rattle.wt_guards.specs.declared.role.Role.TheVariants as role;
 
-use crate::links::{external_link, page_link, tag_pair};
 use std::alloc::{AllocError, Global};
 use wt_guards::{Role, Setting, Signs, Stretch, Thing, Unit, spelling_of};
+use wt_link_spelling::{external_link, page_link, tag_pair};
 use wt_original::{Kept, Page, is_unchanged, shown_text, text_len};
 use wt_span::{NoMemory, Str};
 use wt_tree::{InlineForm, Node, Place, flat};
@@ -412,7 +412,7 @@ fn push_anew(
     }
 }
 
-#[tactic(auto, unfolding(crate::specs::Spelling::break_tag))]
+#[tactic(auto, unfolding(wt_link_spelling::specs::Spelling::break_tag))]
 fn break_source(alloc: Global) -> Result<Str, NoMemory>
     ensures { IfOk result (λ s. s ≡ break_tag) }
 {

@@ -1,6 +1,7 @@
 -- What is appended to what was found.
-use Rattle.std.proofs.Common.{◌≡◌, ℕ, zero, suc, ◌+◌, ◌<◌, ◌≤◌, min, Option, Some, List, [], ◌∷◌, ◌++◌, length, map, take, drop, get_or, refl, sym, ap, ◌∙◌, subst, arith, append_assoc, append-nil, length-append}
-use Rattle.std.proofs.lemmas.List.{take_more, take_all, take_at, map-append, length-map, take-map}
+use Rattle.std.proofs.Common.{◌≡◌, ℕ, zero, suc, ◌+◌, ◌-◌, ◌<◌, ◌≤◌, min, Option, Some, None, List, [], ◌∷◌, ◌++◌, length, map, take, drop, get_or, refl, sym, ap, ◌∙◌, subst, arith, append_assoc, append-nil, length-append}
+use Rattle.std.proofs.lemmas.List.{length-drop, length-map, length-take-le, map-append, take-map, take_all, take_at, take_more}
+use Rattle.std.specs.Prelude.{slice_range}
 use Rattle.std.proofs.lemmas.List.Concat.{flat_map-append}
 use Rattle.wt_span.specs.declared.form.ItemForm.{ItemForm}
 use Rattle.wt_span.specs.declared.form.ItemForm.TheVariants as form
@@ -11,7 +12,7 @@ use Rattle.wt_span.specs.declared.range.Range.{Range}
 use Rattle.wt_span.specs.Slice.{bytes_of, start_of}
 use Rattle.wt_span.specs.Items.{Item, char, whole, items_by, items_of, items, call_of_origin}
 use Rattle.wt_span.specs.Origins.{OuterCall, outer_call, span_of}
-use Rattle.wt_expand.specs.PageCalls.{Stretch, outer, from_call, outer_items, outer_calls, text_spans}
+use Rattle.wt_expand.specs.PageCalls.{Stretch, own, outer, from_call, outer_items, outer_calls, text_spans}
 use Rattle.wt_span.specs.declared.text.Text.{Text}
 use Rattle.wt_braces.specs.Views.{part_of}
 use Rattle.wt_transclusion.specs.declared.read.Braces.{Braces}
@@ -232,3 +233,30 @@ adds_marked old mid back new p o t at ss to from ts end pn on tn f pb ob tb g =
     (ap (map span_of) (tb ∙ ap (λ n. take n mid.text_calls.items) tn)
     ∙ taken_back span_of old.text_calls.items mid.text_calls.items (text_spans ss) f.texts_are)
     g
+
+-- ---- bytes of the page
+
+some_items : (f : ItemForm) (bs : List ℕ) → 0 < length bs → 0 < length (items_by f None bs)
+some_items form.Chars bs l = omega (arith, l, length-map bs (char None))
+some_items (form.Entity c) bs l = omega arith
+some_items form.Nowiki bs l = omega arith
+some_items form.Extension bs l = omega arith
+some_items form.Function bs l = omega arith
+some_items form.Comment bs l = omega arith
+some_items form.Include bs l = omega arith
+some_items form.Hidden bs l = omega arith
+some_items form.EmptyCall bs l = omega arith
+
+pub some_bytes : (t : List ℕ) (from to : ℕ) → from < to → to ≤ length t → 0 < length (slice_range t from to)
+some_bytes t from to low within =
+    let d = length-drop from t in
+    let e = length-take-le (to - from) (drop from t) (omega (arith, d, within)) in
+    omega (arith, e, low)
+
+-- what is found of bytes, by what they and their places are
+pub adds_there : (old new : Collected) (f : ItemForm) (from to at end : ℕ) (bs cs : List ℕ) → at ≡ from → end ≡ to → bs ≡ cs → 0 < length cs
+    → (0 < length (items_by f None bs) → Adds old new at (own (items_by f None bs) ∷ []) end) → Adds old new from (own (items_by f None cs) ∷ []) to
+adds_there old new f from to at end bs cs start stop same some adds =
+    subst (λ k. Adds old new k (own (items_by f None cs) ∷ []) to) start (subst (λ k. Adds old new at (own (items_by f None cs) ∷ []) k) stop
+    (subst (λ (xs : List ℕ). Adds old new at (own (items_by f None xs) ∷ []) end) same
+    (adds (subst (λ (xs : List ℕ). 0 < length (items_by f None xs)) (sym same) (some_items f cs some)))))

@@ -1,5 +1,5 @@
 //! The walk over the page: its own pieces, its outermost calls and its text calls.
-ghost use Rattle.std.specs.Prelude.{◌≡◌, ◌+◌, ◌<◌, ◌∷◌, [], ℕ, List, Bool, None, Some, false, true, OnOk, drop, is_some, slice_get, slice_range};
+ghost use Rattle.std.specs.Prelude.{◌≡◌, ◌+◌, ◌<◌, ◌∷◌, [], ℕ, List, Bool, None, Some, false, true, OnOk, drop, slice_get, slice_range};
 ghost use Rattle.wt_span.specs.declared.form.Mode.TheVariants as text_mode;
 ghost use Rattle.wt_span.specs.Braces.{Member as TextMember, members};
 ghost use Rattle.wt_span.specs.Items.{items_by};
@@ -12,7 +12,6 @@ ghost use Rattle.wt_transclusion.specs.Answers.{IsCounted};
 ghost use Rattle.wt_transclusion.specs.Asked.{Asks};
 ghost use Rattle.wt_transclusion.specs.Steps.{IsStretchOf, given_from};
 ghost use Rattle.wt_transclusion.specs.Stores.{Concerns, Grows};
-ghost use Rattle.wt_span.specs.Functions.{function_of};
 ghost use Rattle.wt_template_stack.specs.Calls.{first_end};
 ghost use Rattle.wt_template_stack.specs.Ledgers.{ledger};
 ghost use Rattle.wt_template_stack.specs.Measures.{bytes_left};
@@ -71,24 +70,6 @@ fn push_chunk<'a>(
         to,
         form_of(kind, text.as_str()),
     )
-}
-
-/// Whether a call is a function.
-fn begins_function(reader: Reader<'_>, call: Braces<'_>) -> bool
-    ensures { CanBeCut reader.entry.text.text.now call.entry.at.start call.entry.at.end
-        → result ≡ is_function (slice_range reader.entry.text.text.now call.entry.at.start call.entry.at.end) }
-{
-    let source = reader.slice(call.at.start, call.at.end);
-    is_function(source.as_str().as_bytes())
-}
-
-/// Whether a call is a function by text.
-fn begins_choice(reader: Reader<'_>, call: Braces<'_>) -> bool
-    ensures { CanBeCut reader.entry.text.text.now call.entry.at.start call.entry.at.end
-        → result ≡ is_some (function_of (drop 2 (slice_range reader.entry.text.text.now call.entry.at.start call.entry.at.end))) }
-{
-    let source = reader.slice(call.at.start, call.at.end);
-    function_named(source.as_str().as_bytes()).is_some()
 }
 
 impl<'a> PageWalk<'a> {
@@ -195,19 +176,13 @@ impl<'a> PageWalk<'a> {
         if call.argument {
             return self.without_target(folder, reader, call);
         }
-        let choice = begins_choice(reader, call);
-        if choice {
-            return self.without_target(folder, reader, call);
-        }
-        let function = begins_function(reader, call);
-        if function {
-            push_slice(
-                &mut self.found,
-                reader,
-                call.at.start,
-                call.at.end,
-                ItemForm::Function,
-            )?;
+        let source = reader.slice(call.at.start, call.at.end);
+        let bytes = source.as_str().as_bytes();
+        if is_function(bytes) {
+            if function_named(bytes).is_some() {
+                return self.without_target(folder, reader, call);
+            }
+            self.found.push_own(source, ItemForm::Function)?;
             return Ok(());
         }
         self.with_target(folder, reader, call)

@@ -1,5 +1,5 @@
 -- A place between the page's characters lies in each text of the page between its characters: the text is there in the page.
-use Rattle.std.proofs.Common.{◌≡◌, ◌≤◌, ◌<◌, ℕ, zero, suc, ◌+◌, ◌-◌, Bool, true, false, Option, None, List, [], ◌∷◌, ◌++◌, length, get_or, refl, sym, ap, ◌∙◌, subst, arith, length-append, append_assoc}
+use Rattle.std.proofs.Common.{◌≡◌, ◌≤◌, ◌<◌, ℕ, ◌+◌, ◌-◌, true, Option, None, List, [], ◌∷◌, ◌++◌, length, get_or, refl, sym, ap, ◌∙◌, subst, arith, length-append, append_assoc}
 use Rattle.std.proofs.Math.ListN.{get_or-append}
 use Rattle.std.specs.Prelude.{All, is_none, IsCharBoundary}
 use Rattle.std.specs.List.{AllByRecursion}
@@ -8,7 +8,7 @@ use Rattle.wt_span.specs.declared.form.Piece.{Piece}
 use Rattle.wt_span.specs.declared.origin.Origin.{Origin}
 use Rattle.wt_span.specs.declared.origin.Origin.TheVariants as origin
 use Rattle.wt_span.specs.Cuts.{page_of, place, text_between}
-use Rattle.wt_span.specs.Slice.{bytes_of, end_of, start_of}
+use Rattle.wt_span.specs.Slice.{bytes_of, start_of}
 use Rattle.wt_span.specs.Items.{Item, call_of_origin, items, items_by, items_of, sources}
 use Rattle.wt_span.specs.Origins.{AreItems, OuterCall, Span}
 use Rattle.wt_expand.specs.PiecePlaces.{BeginFrom, IsBegin}
@@ -18,7 +18,7 @@ use Rattle.wt_expand.proofs.PiecePlaces.{AllFrom, form_from, pieces_begin, text_
 use Rattle.wt_lines.specs.Pieces.{is_chars}
 use Rattle.wt_lines.proofs.PieceSigns.{false_true}
 use Rattle.wt_tree.specs.declared.kind.Ranges.{Ranges}
-use Rattle.wt_isolation.specs.PieceParts.{IsBetweenCharacters, IsCutWhole, IsPieceCutWhole, is_page_chars}
+use Rattle.wt_isolation.specs.PieceParts.{IsBetweenCharacters, IsPieceCutWhole, is_page_chars}
 use Rattle.wt_isolation.proofs.SliceItems.{and_second}
 use Rattle.wt_isolation.proofs.SlicedPieces.{member}
 

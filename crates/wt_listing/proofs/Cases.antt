@@ -3,7 +3,7 @@ use Rattle.std.proofs.Common.{◌≡◌, refl, []}
 use Rattle.std.specs.Prelude.{Some, None, codes}
 use Rattle.std.specs.Fmt.{digits}
 use Rattle.wt_tree.specs.declared.kind.Kind.TheVariants as kind
-use Rattle.wt_tree.specs.declared.kind.TagName.TheVariants.{Sup}
+use Rattle.wt_span.specs.declared.tag_name.TagName.TheVariants.{Sup}
 use Rattle.wt_tree.specs.Kinds.{spelling}
 use Rattle.wt_listing.specs.Listing.{line, line_of, place_numbers}
 

@@ -20,7 +20,7 @@ use Rattle.wt_tree.specs.declared.edit_shape.BlockForm.TheVariants as block
 use Rattle.wt_tree.specs.EditShapes.{edit_shape}
 use Rattle.wt_original.specs.Kept.{Kept, kept_nodes, kept_with}
 use Rattle.wt_original.specs.Page.{Page, page_of, is_unchanged}
-use Rattle.wt_escape.specs.Spelling.{children_of}
+use Rattle.wt_link_spelling.specs.Spelling.{children_of}
 use Rattle.wt_checks.specs.Checked.{checked}
 use Rattle.wt_content.specs.Content.{has_break}
 use Rattle.wt_slices.specs.Changes.{Pair, marked, AllStay}

@@ -5,7 +5,7 @@ use Rattle.wt_tree.specs.declared.kind.AttrName.{AttrName}
 use Rattle.wt_tree.specs.declared.kind.AttrName.TheVariants as attr
 use Rattle.wt_tree.specs.declared.kind.Kind.{Kind}
 use Rattle.wt_tree.specs.declared.kind.Kind.TheVariants as kind
-use Rattle.wt_tree.specs.declared.kind.TagName.{TagName}
+use Rattle.wt_span.specs.declared.tag_name.TagName.{TagName}
 use Rattle.wt_tree.specs.Kinds.{shape, spelling, is_anywhere}
 use Rattle.wt_tree.specs.Values.{placeholder as placeholder_type, extension_prefix}
 use Rattle.wt_round_trip.specs.Written.{HasAttributes}

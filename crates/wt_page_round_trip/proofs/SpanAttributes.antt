@@ -10,8 +10,8 @@ use Rattle.wt_span.specs.Items.{Item}
 use Rattle.wt_tree.specs.declared.kind.AttrName.{AttrName}
 use Rattle.wt_tree.specs.declared.kind.AttrName.TheVariants as attr
 use Rattle.wt_tree.specs.declared.kind.Kind.TheVariants as kind
-use Rattle.wt_tree.specs.declared.kind.TagName.{TagName}
-use Rattle.wt_tree.specs.declared.kind.TagName.TheVariants as name
+use Rattle.wt_span.specs.declared.tag_name.TagName.{TagName}
+use Rattle.wt_span.specs.declared.tag_name.TagName.TheVariants as name
 use Rattle.wt_tree.specs.declared.row.Values.TheVariants as value
 use Rattle.wt_tree.specs.declared.row.Own.{Own}
 use Rattle.wt_tree.specs.Kinds.{own, spelling}

@@ -4,30 +4,30 @@ use Rattle.std.specs.Prelude.{◌+◌, Option, Some, None, IfSome, IfErr, OnOk, 
 use Rattle.std.specs.Io.KnownBytes.{IsAtEnd}
 use Rattle.wt_span.specs.declared.limits.TheConstants.{HTML_BYTES}
 use Rattle.wt_transclusion.specs.Asked.{AreFirst}
-use Rattle.wt_pagetool.specs.declared.command.Command.{Command}
-use Rattle.wt_pagetool.specs.declared.command.Command.TheVariants.{Page, Expand, Edit, Selser, Gen, Wikitext}
-use Rattle.wt_pagetool.specs.declared.output.Output.{Output}
-use Rattle.wt_pagetool.specs.declared.refusal.Refusal.{Refusal}
-use Rattle.wt_pagetool.specs.declared.status.Status.{Status}
-use Rattle.wt_pagetool.specs.declared.status.Status.TheVariants as status
-use Rattle.wt_pagetool.specs.declared.wikitext_command.TheConstants.{PIECE}
-use Rattle.wt_pagetool.specs.Answers.{answer_told}
-use Rattle.wt_pagetool.specs.Asked.{AsksNames}
-use Rattle.wt_pagetool.specs.Calls.{call, IsDue, IsDueAs}
-use Rattle.wt_pagetool.specs.Causes.{Answered, FailsAlone, IsKept, found_status}
-use Rattle.wt_pagetool.specs.Devices.{SourceUse, FolderUse, SinkUse}
-use Rattle.wt_pagetool.specs.Inputs.{GivesAtMost, StopsWithin}
+use Rattle.wt_commands.specs.declared.command.Command.{Command}
+use Rattle.wt_commands.specs.declared.command.Command.TheVariants.{Page, Expand, Edit, Selser, Gen, Wikitext}
+use Rattle.wt_commands.specs.declared.output.Output.{Output}
+use Rattle.wt_commands.specs.declared.refusal.Refusal.{Refusal}
+use Rattle.wt_commands.specs.declared.status.Status.{Status}
+use Rattle.wt_commands.specs.declared.status.Status.TheVariants as status
+use Rattle.wt_commands.specs.declared.wikitext_command.TheConstants.{PIECE}
+use Rattle.wt_commands.specs.Answers.{answer_told}
+use Rattle.wt_commands.specs.Asked.{AsksNames}
+use Rattle.wt_commands.specs.Calls.{call, IsDue, IsDueAs}
+use Rattle.wt_commands.specs.Causes.{Answered, FailsAlone, IsKept, found_status}
+use Rattle.wt_commands.specs.Devices.{SourceUse, FolderUse, SinkUse}
+use Rattle.wt_commands.specs.Inputs.{GivesAtMost, StopsWithin}
 use Rattle.wt_pagetool.specs.Promises.{Wrote, GivesBack, EndsAsEdit, Ends, AsksFor, ReadsAtMost}
-use Rattle.wt_pagetool.specs.Reports.{Reported}
+use Rattle.wt_commands.specs.Reports.{Reported}
 use Rattle.wt_pagetool.specs.Selser.{AnswersSelser}
-use Rattle.wt_pagetool.specs.Statuses.{code}
-use Rattle.wt_pagetool.specs.Words.{command_of, Fetches, Reads}
-use Rattle.wt_pagetool.proofs.FaultLaws.{read_fault_stops}
-use Rattle.wt_pagetool.proofs.GivenBackLaws.{run_gives_back}
-use Rattle.wt_pagetool.proofs.RunLaws.{found_folder_fault, found_read_fault, run_page, run_wikitext, run_exact, run_done, run_refused, run_fault, run_complete, run_kept, run_all, run_asks, run_fewer, run_expansion, run_counts, run_edit}
+use Rattle.wt_commands.specs.Statuses.{code}
+use Rattle.wt_commands.specs.Words.{command_of, Fetches, Reads}
+use Rattle.wt_commands.proofs.FaultLaws.{read_fault_stops}
+use Rattle.wt_commands.proofs.GivenBackLaws.{run_gives_back}
+use Rattle.wt_commands.proofs.RunLaws.{found_folder_fault, found_read_fault, run_page, run_wikitext, run_exact, run_done, run_refused, run_fault, run_complete, run_kept, run_all, run_asks, run_fewer, run_expansion, run_counts, run_edit}
 use Rattle.wt_pagetool.proofs.SelserRuns.{run_selser, run_selser_as_edit, run_selser_refused}
 use Rattle.wt_pagetool.proofs.SelserUnchanged.{run_selser_changes_nothing, run_selser_keeps}
-use Rattle.wt_pagetool.proofs.UnchangedLaws.{run_changes_nothing}
+use Rattle.wt_commands.proofs.UnchangedLaws.{run_changes_nothing}
 
 -- What was found for `selser`.
 abbrev pub FoundBySelser : List (List ℕ) → SourceUse → FolderUse → Result Output Refusal → Type 0

@@ -19,19 +19,19 @@ use Rattle.wt_span.specs.declared.limits.TheConstants.{HTML_BYTES}
 use Rattle.wt_transclusion.specs.Answers.{IsRefused}
 use Rattle.wt_transclusion.specs.declared.refusal.ExpandRefusal.{ExpandRefusal}
 use Rattle.wt_tree.specs.Tree.{Tree}
-use Rattle.wt_pagetool.specs.declared.output.Output.{Output}
-use Rattle.wt_pagetool.specs.declared.refusal.Refusal.{Refusal}
-use Rattle.wt_pagetool.specs.declared.status.Status.{Status}
-use Rattle.wt_pagetool.specs.declared.status.Status.TheVariants as status
-use Rattle.wt_pagetool.specs.Answers.{Answer, done, refused, expanded_by, input_answer, nodes_answer, refusal_alone, refusal_of_page, remarked_of, selser_told, taken_answer, taken_from, taken_of, taken_to, title_answer, IsText}
-use Rattle.wt_pagetool.specs.Causes.{Answered, Refuses, RefusesInput, RefusesTitle, IsFetched, refusal_of, refusal_of_expansion}
-use Rattle.wt_pagetool.specs.Inputs.{FedWhole}
-use Rattle.wt_pagetool.specs.Refusals.{status_of}
+use Rattle.wt_commands.specs.declared.output.Output.{Output}
+use Rattle.wt_commands.specs.declared.refusal.Refusal.{Refusal}
+use Rattle.wt_commands.specs.declared.status.Status.{Status}
+use Rattle.wt_commands.specs.declared.status.Status.TheVariants as status
+use Rattle.wt_commands.specs.Answers.{Answer, done, refused, expanded_by, input_answer, nodes_answer, refusal_alone, refusal_of_page, remarked_of, selser_told, taken_answer, taken_from, taken_of, taken_to, title_answer, IsText}
+use Rattle.wt_commands.specs.Causes.{Answered, Refuses, RefusesInput, RefusesTitle, IsFetched, refusal_of, refusal_of_expansion}
+use Rattle.wt_commands.specs.Inputs.{FedWhole}
+use Rattle.wt_commands.specs.Refusals.{status_of}
 use Rattle.wt_pagetool.specs.Selser.{AnswersSelser, Finds, FindsFor, FindsNew, FindsNone, FindsUnder, OrFound}
-use Rattle.wt_pagetool.proofs.AnswerLaws.{input_within}
-use Rattle.wt_pagetool.proofs.ExpandLaws.{fetched_as, refusal_is}
-use Rattle.wt_pagetool.proofs.PageLaws.{title_stands}
-use Rattle.wt_pagetool.proofs.StatusLaws.{IsUnansweredBy, no_answer, no_refusal}
+use Rattle.wt_commands.proofs.AnswerLaws.{input_within}
+use Rattle.wt_commands.proofs.ExpandLaws.{fetched_as, refusal_is}
+use Rattle.wt_commands.proofs.PageLaws.{title_stands}
+use Rattle.wt_commands.proofs.StatusLaws.{IsUnansweredBy, no_answer, no_refusal}
 
 -- ---- refusals
 

@@ -20,31 +20,32 @@ use Rattle.wt_span.specs.Origins.{Expanded}
 use Rattle.wt_span.specs.declared.limits.TheConstants.{HTML_BYTES}
 use Rattle.wt_tree.specs.Plain.{plain}
 use Rattle.wt_tree.specs.Tree.{Tree}
-use Rattle.wt_pagetool.specs.declared.command.Command.TheVariants.{Selser}
-use Rattle.wt_pagetool.specs.declared.output.Output.{Output}
-use Rattle.wt_pagetool.specs.declared.refusal.Refusal.{Refusal}
-use Rattle.wt_pagetool.specs.declared.status.Status.{Status}
-use Rattle.wt_pagetool.specs.declared.status.Status.TheVariants as status
-use Rattle.wt_pagetool.specs.Answers.{Answer, done, refused, answer_of_edit, edit_by, edit_from, expanded_by, input_answer, new_expanded, nodes_answer, refusal_of_page, remarked_of, taken_answer, taken_from, taken_of, taken_to, title_answer, unspelled_answer, IsText, IsUnrefused}
-use Rattle.wt_pagetool.specs.Causes.{RefusesAs}
-use Rattle.wt_pagetool.specs.Calls.{IsDue}
-use Rattle.wt_pagetool.specs.Devices.{SourceUse, FolderUse, SinkUse}
-use Rattle.wt_pagetool.specs.Outputs.{output_bytes}
-use Rattle.wt_pagetool.specs.Refusals.{status_of}
-use Rattle.wt_pagetool.specs.Reports.{Reported, WroteSelser}
+use Rattle.wt_commands.specs.declared.command.Command.TheVariants.{Selser}
+use Rattle.wt_commands.specs.declared.output.Output.{Output}
+use Rattle.wt_commands.specs.declared.refusal.Refusal.{Refusal}
+use Rattle.wt_commands.specs.declared.status.Status.{Status}
+use Rattle.wt_commands.specs.declared.status.Status.TheVariants as status
+use Rattle.wt_commands.specs.Answers.{Answer, done, refused, answer_of_edit, edit_by, edit_from, expanded_by, input_answer, new_expanded, nodes_answer, refusal_of_page, remarked_of, taken_answer, taken_from, taken_of, taken_to, title_answer, unspelled_answer, IsText, IsUnrefused}
+use Rattle.wt_commands.specs.Causes.{RefusesAs}
+use Rattle.wt_commands.specs.Calls.{IsDue}
+use Rattle.wt_commands.specs.Devices.{SourceUse, FolderUse, SinkUse}
+use Rattle.wt_commands.specs.Outputs.{output_bytes}
+use Rattle.wt_commands.specs.Refusals.{status_of}
+use Rattle.wt_pagetool.specs.Rewrites.{WroteSelser}
+use Rattle.wt_commands.specs.Reports.{Reported}
 use Rattle.wt_unmarked_edit.specs.Found.{ReadsBack}
 use Rattle.wt_pagetool.specs.Selser.{AnswersSelser, DoneByEdit, EditIsDone, Finds, FindsFor, FindsNew, FindsNone, FindsUnder, IsUnfound, NoneFor, NoneUnder, OrFound, RefusedSelser, RefusesSelser}
-use Rattle.wt_pagetool.specs.Statuses.{code, IsAnswer, IsDoneOrRefused, IsFaultOrNoMemory}
-use Rattle.wt_pagetool.specs.Words.{command_of, Reads}
-use Rattle.wt_pagetool.proofs.AnswerLaws.{input_done, input_within}
-use Rattle.wt_pagetool.proofs.EditLaws.{answer_ok, new_done, unspelled_done}
-use Rattle.wt_pagetool.proofs.PageLaws.{expanded_done, page_text, title_made, title_stands}
-use Rattle.wt_pagetool.proofs.RunLaws.{FoundDone, ended_of, found_done}
-use Rattle.wt_pagetool.proofs.SelserShown.{remarked_shown}
-use Rattle.wt_pagetool.proofs.ShownLaws.{same_shown, page_face, read_face}
-use Rattle.wt_pagetool.proofs.EditLaws.{restored_bare}
+use Rattle.wt_commands.specs.Statuses.{code, IsAnswer, IsDoneOrRefused, IsFaultOrNoMemory}
+use Rattle.wt_commands.specs.Words.{command_of, Reads}
+use Rattle.wt_commands.proofs.AnswerLaws.{input_done, input_within}
+use Rattle.wt_commands.proofs.EditLaws.{answer_ok, new_done, unspelled_done}
+use Rattle.wt_commands.proofs.PageLaws.{expanded_done, page_text, title_made, title_stands}
+use Rattle.wt_commands.proofs.RunLaws.{FoundDone, ended_of, found_done}
+use Rattle.wt_commands.proofs.SelserShown.{remarked_shown}
+use Rattle.wt_commands.proofs.ShownLaws.{same_shown, page_face, read_face}
+use Rattle.wt_commands.proofs.EditLaws.{restored_bare}
 use Rattle.wt_pagetool.proofs.UnmarkedEdits.{done_back, reads_back}
-use Rattle.wt_pagetool.proofs.StatusLaws.{is_answer, is_done, IsUnansweredBy, unanswered}
+use Rattle.wt_commands.proofs.StatusLaws.{is_answer, is_done, IsUnansweredBy, unanswered}
 
 -- ---- a page that is taken
 

@@ -26,29 +26,29 @@ use Rattle.wt_page_round_trip.proofs.PageTrees.{page_numbered}
 use Rattle.wt_round_trip.specs.Written.{unranged}
 use Rattle.wt_visible.specs.Children.{shown_children}
 use Rattle.wt_visible.specs.Restored.{restored_from}
-use Rattle.wt_pagetool.specs.declared.output.Output.{Output}
-use Rattle.wt_pagetool.specs.declared.refusal.Refusal.{Refusal}
-use Rattle.wt_pagetool.specs.declared.status.Status.{Status}
-use Rattle.wt_pagetool.specs.declared.status.Status.TheVariants as status
-use Rattle.wt_pagetool.specs.Answers.{Answer, done, refused, IsUnrefused, expanded_by, html_answer, input_answer, new_answer, new_by, new_expanded, unspelled_answer, nodes_answer, remarked_of, taken_from, taken_to, taken_answer, taken_of}
-use Rattle.wt_pagetool.specs.Causes.{RefusesAs, Answered}
-use Rattle.wt_pagetool.specs.Devices.{SinkUse}
-use Rattle.wt_pagetool.specs.GivenBack.{GaveBack}
-use Rattle.wt_pagetool.specs.Refusals.{status_of}
-use Rattle.wt_pagetool.specs.Reports.{Reported}
+use Rattle.wt_commands.specs.declared.output.Output.{Output}
+use Rattle.wt_commands.specs.declared.refusal.Refusal.{Refusal}
+use Rattle.wt_commands.specs.declared.status.Status.{Status}
+use Rattle.wt_commands.specs.declared.status.Status.TheVariants as status
+use Rattle.wt_commands.specs.Answers.{Answer, done, refused, IsUnrefused, expanded_by, html_answer, input_answer, new_answer, new_by, new_expanded, unspelled_answer, nodes_answer, remarked_of, taken_from, taken_to, taken_answer, taken_of}
+use Rattle.wt_commands.specs.Causes.{RefusesAs, Answered}
+use Rattle.wt_commands.specs.Devices.{SinkUse}
+use Rattle.wt_commands.specs.GivenBack.{GaveBack}
+use Rattle.wt_commands.specs.Refusals.{status_of}
+use Rattle.wt_commands.specs.Reports.{Reported}
 use Rattle.wt_unmarked_edit.specs.Found.{PageMustDo}
 use Rattle.wt_pagetool.specs.Selser.{FindsNone, FindsNew, FindsFor, FindsUnder, IsUnchanged, OrFound, AnswersSelser}
-use Rattle.wt_pagetool.specs.Statuses.{code}
-use Rattle.wt_pagetool.proofs.AnswerLaws.{input_within}
-use Rattle.wt_pagetool.proofs.GivenBackLaws.{gave_step}
-use Rattle.wt_pagetool.proofs.SectionEdits.{plain_page}
-use Rattle.wt_pagetool.proofs.SelserShown.{remarked_shown}
-use Rattle.wt_pagetool.proofs.EditLaws.{restored_bare}
-use Rattle.wt_pagetool.proofs.ShownLaws.{page_body, page_face, read_face, same_shown, shown_same}
-use Rattle.wt_pagetool.proofs.UnchangedLaws.{IsInSections, sections_shown, none_differs, read_again}
-use Rattle.wt_pagetool.proofs.UnchangedShown.{unchanged_unmarked}
-use Rattle.wt_pagetool.proofs.UnchangedTree.{unchanged_checked}
-use Rattle.wt_pagetool.proofs.UneditedRead.{unedited_read}
+use Rattle.wt_commands.specs.Statuses.{code}
+use Rattle.wt_commands.proofs.AnswerLaws.{input_within}
+use Rattle.wt_commands.proofs.GivenBackLaws.{gave_step}
+use Rattle.wt_commands.proofs.SectionEdits.{plain_page}
+use Rattle.wt_commands.proofs.SelserShown.{remarked_shown}
+use Rattle.wt_commands.proofs.EditLaws.{restored_bare}
+use Rattle.wt_commands.proofs.ShownLaws.{page_body, page_face, read_face, same_shown, shown_same}
+use Rattle.wt_commands.proofs.UnchangedLaws.{IsInSections, sections_shown, none_differs, read_again}
+use Rattle.wt_commands.proofs.UnchangedShown.{unchanged_unmarked}
+use Rattle.wt_commands.proofs.UnchangedTree.{unchanged_checked}
+use Rattle.wt_commands.proofs.UneditedRead.{unedited_read}
 use Rattle.wt_pagetool.proofs.UnmarkedEdits.{back}
 
 -- ---- without a mark, groups have none

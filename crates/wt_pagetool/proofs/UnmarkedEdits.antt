@@ -12,21 +12,21 @@ use Rattle.wt_span.specs.Origins.{Expanded}
 use Rattle.wt_tree.specs.Tree.{Tree}
 use Rattle.wt_edit.specs.declared.refusal.EditRefusal.{EditRefusal as WholeRefusal}
 use Rattle.wt_edit.specs.Edits.{IsPage, new_answer as new_edit}
-use Rattle.wt_unmarked_edit.specs.declared.refusal.SelserRefusal.{SelserRefusal}
-use Rattle.wt_unmarked_edit.specs.declared.refusal.SelserRefusal.TheVariants as of_selser
+use Rattle.wt_selser_refusal.specs.declared.refusal.SelserRefusal.{SelserRefusal}
+use Rattle.wt_selser_refusal.specs.declared.refusal.SelserRefusal.TheVariants as of_selser
 use Rattle.wt_unmarked_edit.specs.Counts.{IsCountedErr}
 use Rattle.wt_unmarked_edit.specs.Found.{FindsNew as FindsPage, FindsNone as FindsNoPage, IsCheck, ReadsBack, UnlessChecked}
-use Rattle.wt_pagetool.specs.declared.output.Output.{Output}
-use Rattle.wt_pagetool.specs.declared.output.Output.TheVariants.{Text}
-use Rattle.wt_pagetool.specs.declared.refusal.Refusal.{Refusal}
-use Rattle.wt_pagetool.specs.declared.refusal.Refusal.TheVariants.{Checked}
-use Rattle.wt_pagetool.specs.Answers.{done, refused, edit_by, new_answer, new_expanded, nodes_answer, refusal_of_page, unspelled_answer}
-use Rattle.wt_pagetool.specs.Causes.{IsKept, IsOfEdit, Refuses}
-use Rattle.wt_pagetool.specs.Refusals.{refusal_of_selser, status_of}
+use Rattle.wt_commands.specs.declared.output.Output.{Output}
+use Rattle.wt_commands.specs.declared.output.Output.TheVariants.{Text}
+use Rattle.wt_commands.specs.declared.refusal.Refusal.{Refusal}
+use Rattle.wt_commands.specs.declared.refusal.Refusal.TheVariants.{Checked}
+use Rattle.wt_commands.specs.Answers.{done, refused, edit_by, new_answer, new_expanded, nodes_answer, refusal_of_page, unspelled_answer}
+use Rattle.wt_commands.specs.Causes.{IsKept, IsOfEdit, Refuses}
+use Rattle.wt_commands.specs.Refusals.{refusal_of_selser, status_of}
 use Rattle.wt_pagetool.specs.Selser.{FindsNew, FindsNone, OrFound}
-use Rattle.wt_pagetool.proofs.EditLaws.{new_done, unspelled_done}
-use Rattle.wt_pagetool.proofs.PageLaws.{text_of, title_made}
-use Rattle.wt_pagetool.proofs.WholeEdits.{answer_as, as_new}
+use Rattle.wt_commands.proofs.EditLaws.{new_done, unspelled_done}
+use Rattle.wt_commands.proofs.PageLaws.{text_of, title_made}
+use Rattle.wt_commands.proofs.WholeEdits.{answer_as, as_new}
 
 -- ---- a new page that reads back is the answer of an edit that makes it
 

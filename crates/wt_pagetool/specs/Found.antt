@@ -2,17 +2,17 @@
 use Rattle.std.specs.Prelude.{◌≡◌, ◌+◌, ℕ, List, Some, IfSome, IfErr, OnOk, Result}
 use Rattle.std.specs.Io.KnownBytes.{IsAtEnd}
 use Rattle.wt_span.specs.declared.limits.TheConstants.{HTML_BYTES}
-use Rattle.wt_pagetool.specs.declared.command.Command.TheVariants.{Edit, Selser}
-use Rattle.wt_pagetool.specs.declared.output.Output.{Output}
-use Rattle.wt_pagetool.specs.declared.refusal.Refusal.{Refusal}
-use Rattle.wt_pagetool.specs.declared.wikitext_command.TheConstants.{PIECE}
-use Rattle.wt_pagetool.specs.Answers.{answer_told}
-use Rattle.wt_pagetool.specs.Calls.{IsDue}
-use Rattle.wt_pagetool.specs.Causes.{Answered, FailsAlone, IsKept, found_status}
-use Rattle.wt_pagetool.specs.Devices.{FolderUse, SourceUse}
-use Rattle.wt_pagetool.specs.Inputs.{GivesAtMost, StopsWithin}
+use Rattle.wt_commands.specs.declared.command.Command.TheVariants.{Edit, Selser}
+use Rattle.wt_commands.specs.declared.output.Output.{Output}
+use Rattle.wt_commands.specs.declared.refusal.Refusal.{Refusal}
+use Rattle.wt_commands.specs.declared.wikitext_command.TheConstants.{PIECE}
+use Rattle.wt_commands.specs.Answers.{answer_told}
+use Rattle.wt_commands.specs.Calls.{IsDue}
+use Rattle.wt_commands.specs.Causes.{Answered, FailsAlone, IsKept, found_status}
+use Rattle.wt_commands.specs.Devices.{FolderUse, SourceUse}
+use Rattle.wt_commands.specs.Inputs.{GivesAtMost, StopsWithin}
 use Rattle.wt_pagetool.specs.Selser.{AnswersSelser}
-use Rattle.wt_pagetool.specs.Words.{command_of, Reads}
+use Rattle.wt_commands.specs.Words.{command_of, Reads}
 
 -- What was found, where the contracts can name what the devices hold: the answer to the words; of `selser` a new page or a refusal as its
 -- definition says. A refusal that was found is due.

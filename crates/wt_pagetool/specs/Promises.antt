@@ -4,21 +4,22 @@ use Rattle.std.specs.Prelude.{◌≡◌, ◌≢◌, ◌⊎◌, ◌+◌, ℕ, ⊤
 use Rattle.wt_expand.specs.Work.{Pages}
 use Rattle.wt_span.specs.declared.limits.TheConstants.{HTML_BYTES}
 use Rattle.wt_transclusion.specs.Stops.{AnswersFewer}
-use Rattle.wt_pagetool.specs.declared.status.Status.TheVariants as status
-use Rattle.wt_pagetool.specs.declared.command.Command.{Command}
-use Rattle.wt_pagetool.specs.declared.command.Command.TheVariants.{Page, Expand, Edit, Selser, Gen, Wikitext}
-use Rattle.wt_pagetool.specs.declared.command.PageCommand.{PageCommand}
-use Rattle.wt_pagetool.specs.declared.wikitext_command.TheConstants.{PIECE}
-use Rattle.wt_pagetool.specs.Answers.{done as answered, html_answer, status_of_answer, IsNoText}
-use Rattle.wt_pagetool.specs.Asked.{AnswersAll, AnswersFirst}
-use Rattle.wt_pagetool.specs.Calls.{Call, known_answer, KeptCounts, NothingFailed}
-use Rattle.wt_pagetool.specs.GivenBack.{GaveBack}
-use Rattle.wt_pagetool.specs.Inputs.{GivesAtMost}
-use Rattle.wt_pagetool.specs.Reports.{WasDone, WasRefused, OutFailed, ErrFailed}
-use Rattle.wt_pagetool.specs.Reports.{WrotePage, WroteExpansion, WroteEdit, WroteSelser, WroteCounts, WroteSource}
+use Rattle.wt_commands.specs.declared.status.Status.TheVariants as status
+use Rattle.wt_commands.specs.declared.command.Command.{Command}
+use Rattle.wt_commands.specs.declared.command.Command.TheVariants.{Page, Expand, Edit, Selser, Gen, Wikitext}
+use Rattle.wt_commands.specs.declared.command.PageCommand.{PageCommand}
+use Rattle.wt_commands.specs.declared.wikitext_command.TheConstants.{PIECE}
+use Rattle.wt_commands.specs.Answers.{done as answered, html_answer, status_of_answer, IsNoText}
+use Rattle.wt_commands.specs.Asked.{AnswersAll, AnswersFirst}
+use Rattle.wt_commands.specs.Calls.{Call, known_answer, KeptCounts, NothingFailed}
+use Rattle.wt_commands.specs.GivenBack.{GaveBack}
+use Rattle.wt_commands.specs.Inputs.{GivesAtMost}
+use Rattle.wt_commands.specs.Reports.{WasDone, WasRefused, OutFailed, ErrFailed}
+use Rattle.wt_pagetool.specs.Rewrites.{WroteSelser}
+use Rattle.wt_commands.specs.Reports.{WrotePage, WroteExpansion, WroteEdit, WroteCounts, WroteSource}
 use Rattle.wt_pagetool.specs.Selser.{DoneByEdit, IsUnchanged, RefusedSelser}
-use Rattle.wt_pagetool.specs.Statuses.{code, IsDoneOrRefused, IsFaultOrNoMemory}
-use Rattle.wt_pagetool.specs.Words.{command_of}
+use Rattle.wt_commands.specs.Statuses.{code, IsDoneOrRefused, IsFaultOrNoMemory}
+use Rattle.wt_commands.specs.Words.{command_of}
 
 -- ---- what is written
 

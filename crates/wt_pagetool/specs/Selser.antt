@@ -11,18 +11,18 @@ use Rattle.wt_span.specs.Origins.{Expanded}
 use Rattle.wt_span.specs.declared.limits.TheConstants.{HTML_BYTES}
 use Rattle.wt_tree.specs.Plain.{plain}
 use Rattle.wt_tree.specs.Tree.{Tree}
-use Rattle.wt_unmarked_edit.specs.declared.refusal.SelserRefusal.{SelserRefusal}
+use Rattle.wt_selser_refusal.specs.declared.refusal.SelserRefusal.{SelserRefusal}
 use Rattle.wt_unmarked_edit.specs.Found.{IsNewPage, IsNoNewPage}
-use Rattle.wt_pagetool.specs.declared.output.Output.{Output}
-use Rattle.wt_pagetool.specs.declared.refusal.Refusal.{Refusal}
-use Rattle.wt_pagetool.specs.declared.status.Status.{Status}
-use Rattle.wt_pagetool.specs.declared.status.Status.TheVariants as status
-use Rattle.wt_pagetool.specs.Answers.{Answer, done, refused, edit_to, remarked_of, taken_of, IsText, IsUnrefused}
-use Rattle.wt_pagetool.specs.Causes.{Answered}
-use Rattle.wt_pagetool.specs.Devices.{SinkUse, Took}
-use Rattle.wt_pagetool.specs.Outputs.{output_bytes}
-use Rattle.wt_pagetool.specs.Refusals.{line_of, refusal_of_selser, status_of}
-use Rattle.wt_pagetool.specs.Statuses.{code}
+use Rattle.wt_commands.specs.declared.output.Output.{Output}
+use Rattle.wt_commands.specs.declared.refusal.Refusal.{Refusal}
+use Rattle.wt_commands.specs.declared.status.Status.{Status}
+use Rattle.wt_commands.specs.declared.status.Status.TheVariants as status
+use Rattle.wt_commands.specs.Answers.{Answer, done, refused, edit_to, remarked_of, taken_of, IsText, IsUnrefused}
+use Rattle.wt_commands.specs.Causes.{Answered}
+use Rattle.wt_commands.specs.Devices.{SinkUse, Took}
+use Rattle.wt_commands.specs.Outputs.{output_bytes}
+use Rattle.wt_commands.specs.Refusals.{line_of, refusal_of_selser, status_of}
+use Rattle.wt_commands.specs.Statuses.{code}
 
 -- ---- what is found
 

@@ -16,26 +16,23 @@ ghost use Rattle.wt_tree.specs.View.{view};
 ghost use Rattle.wt_tree.specs.declared.kind.Kind.TheVariants as kind;
 ghost use Rattle.wt_selser.specs.Borders.{page_text};
 ghost use Rattle.wt_slices.specs.Borders.{HasBorders};
-ghost use Rattle.wt_pagetool.specs.Answers.{input_answer, nodes_answer, selser_told, taken_answer, taken_to, IsNoText};
-ghost use Rattle.wt_pagetool.specs.Causes.{found_status, Answered, FailsAlone, IsKept, IsOfEdit};
-ghost use Rattle.wt_pagetool.specs.Inputs.{GivesAtMost, StopsWithin};
+ghost use Rattle.wt_commands.specs.Answers.{input_answer, nodes_answer, selser_told, taken_answer, taken_to, IsNoText};
+ghost use Rattle.wt_commands.specs.Causes.{found_status, Answered, FailsAlone, IsKept, IsOfEdit};
+ghost use Rattle.wt_commands.specs.Inputs.{GivesAtMost, StopsWithin};
 ghost use Rattle.wt_pagetool.specs.Selser.{AnswersSelser, Finds, FindsFor, FindsNew, OrFound};
 ghost use Rattle.wt_unmarked_edit.specs.Tried.{KnowsOf};
 
-use crate::fetch::fetched_page;
-use crate::output::Output;
-use crate::page::text_of_page;
-use crate::refusal::Refusal;
-use crate::wikitext_command::{PIECE, read_all};
 use bumpalo::Bump;
 use std::alloc::Global;
+use wt_commands::{Output, PIECE, Refusal, fetched_page, read_all, text_of_page};
 use wt_devices::{Folder, Source};
 use wt_edit::{KnownPage, known_page};
 use wt_html_in::Reader;
+use wt_selser_refusal::{MOST_READINGS, Readings};
 use wt_span::{HTML_BYTES, PAGE_BYTES};
 use wt_template_stack::Expansion;
 use wt_tree::Node;
-use wt_unmarked_edit::{MOST_READINGS, Memory, Readings, selser};
+use wt_unmarked_edit::{Memory, selser};
 
 /// The new page of a page that was expanded, by the tree to which it was edited.
 fn page_of_known<'a, F: Folder>(

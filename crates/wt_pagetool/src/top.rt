@@ -1,30 +1,24 @@
 ghost use Rattle.std.specs.Prelude.{◌≡◌, ◌+◌, IfSome};
 ghost use Rattle.wt_transclusion.specs.Asked.{Asks, AsksAtMost};
-ghost use Rattle.wt_pagetool.specs.Asked.{names_told, AsksNames};
-ghost use Rattle.wt_pagetool.specs.Calls.{call};
-ghost use Rattle.wt_pagetool.specs.Devices.{read_from, fetched_from, written_to};
+ghost use Rattle.wt_commands.specs.Asked.{names_told, AsksNames};
+ghost use Rattle.wt_commands.specs.Calls.{call};
+ghost use Rattle.wt_commands.specs.Devices.{read_from, fetched_from, written_to};
 ghost use Rattle.wt_pagetool.specs.Found.{CountsFaults, FindsAnswer, ReadsInput};
 ghost use Rattle.wt_pagetool.specs.Promises.{AsksFor, Ends, EndsAsEdit, GivesBack, ReadsAtMost, Waits, Wrote};
-ghost use Rattle.wt_pagetool.specs.Words.{command_of, Fetches, Reads};
+ghost use Rattle.wt_commands.specs.Words.{command_of, Fetches, Reads};
 
-use crate::command::{Command, PageCommand, command_of};
-use crate::edit_command::edited_page;
-use crate::expand_command::expansion_of_title;
-use crate::gen_command::counts_of_made;
-use crate::output::Output;
-use crate::page_command::output_of_title;
-use crate::refusal::Refusal;
-use crate::report::report;
 use crate::selser_command::selser_page;
-use crate::status::Status;
-use crate::wikitext_command::wikitext_of_input;
 use std::alloc::Global;
+use wt_commands::{
+    Command, Output, PageCommand, Refusal, Status, command_of, counts_of_made, edited_page,
+    expansion_of_title, output_of_title, report, wikitext_of_input,
+};
 use wt_devices::{Folder, Sink, Source};
+use wt_selser_refusal::Readings;
 use wt_span::{List, PAGE_BYTES, Str};
-use wt_unmarked_edit::Readings;
 
 /// What the words ask for, or why it can't be had. The records of the clauses are in `specs/Found.antt`.
-#[tactic(auto, using(crate::proofs::GenLaws::few_sections), unfolding(crate::specs::Answers::answer_told, crate::specs::Asked::names_told))]
+#[tactic(auto, using(wt_commands::proofs::GenLaws::few_sections), unfolding(wt_commands::specs::Answers::answer_told, wt_commands::specs::Asked::names_told))]
 fn find_answer<S: Source, F: Folder>(
     alloc: Global,
     words: &List<Str>,

@@ -100,10 +100,25 @@ moved_down : edited (b ∷ c ∷ aa ∷ []) ≡ slot 0 4 ∷ slot 8 8 ∷ []
 unfolding same_kind same_data
 moved_down = refl
 
--- the last moved to the front: it is the last one in its turn, so all before it is written anew
-moved_up : edited (c ∷ aa ∷ b ∷ []) ≡ slot 0 7 ∷ slot 8 8 ∷ []
+-- the last moved to the front: before the first, and behind the second
+moved_up : edited (c ∷ aa ∷ b ∷ []) ≡ slot 0 0 ∷ slot 5 8 ∷ []
 unfolding same_kind same_data
 moved_up = refl
+
+-- two that were exchanged: the one that is first now stays, and the other moved
+exchanged : edited (aa ∷ c ∷ b ∷ []) ≡ slot 2 7 ∷ slot 8 8 ∷ []
+unfolding same_kind same_data
+exchanged = refl
+
+-- in the other order: of three that could stay alone, the first does
+turned_round : edited (c ∷ b ∷ aa ∷ []) ≡ slot 0 7 ∷ slot 8 8 ∷ []
+unfolding same_kind same_data
+turned_round = refl
+
+-- one that came beside one that moved up
+came_and_moved : edited (c ∷ aa ∷ written 0 (codes "n") ∷ b ∷ []) ≡ slot 0 0 ∷ slot 2 4 ∷ slot 5 8 ∷ []
+unfolding same_kind same_data
+came_and_moved = refl
 
 -- the second became a heading
 became_heading : edited (aa ∷ node (kind.Heading 2) 2 0 0 0 (words 0 (codes "b") ∷ []) ∷ c ∷ []) ≡ slot 2 7 ∷ []

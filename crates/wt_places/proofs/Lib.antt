@@ -1,4 +1,5 @@
 mod Cases
 pub mod Passing
 pub mod Rewriting
+pub mod Turning
 pub mod Walking

@@ -9,10 +9,11 @@ use Rattle.wt_tree.specs.Tiling.{end_of}
 use Rattle.wt_tree.specs.Tree.{Tree, tree, Trees, none, more, label}
 use Rattle.wt_checks.specs.Places.{Place, Page, page_of}
 use Rattle.wt_checks.specs.Unmarked.{is_compared}
-use Rattle.wt_difference.specs.Difference.{same_inside, stays_in}
+use Rattle.wt_difference.specs.Difference.{same_inside}
 use Rattle.wt_difference.specs.Insides.{ends_inside, has_inside, held, inside, is_block_part}
 use Rattle.wt_places.specs.declared.reached.Reached.{Reached}
 use Rattle.wt_places.specs.declared.slot.Slot.{Slot}
+use Rattle.wt_places.specs.Turns.{is_in_turn}
 
 abbrev pub slot : ℕ → ℕ → Slot
 slot start end = record { start = start; end = end }
@@ -91,20 +92,9 @@ gap differs start end = if differs then slot start end ∷ [] else []
 
 -- ---- along its edited children
 
--- at its first child: nothing has come, and its inside goes on
+-- at its first child after the inside: nothing has come
 abbrev pub begun : Tree → Reached
-begun t = record { end = inside_end t; number = 0; came = false; inside = has_inside (label t).kind }
-
--- the inside goes on with this child
-abbrev pub goes_on : Reached → Tree → Bool
-goes_on r u = r.inside && not (ends_inside u)
-
-abbrev pub counts : Reached → Tree → Bool
-counts r u = is_compared (showing (label u).kind) && not (goes_on r u)
-
--- An edited child stays in its turn where it stays, and the page has it after all that did before it.
-abbrev pub is_in_turn : Page → ℕ → Reached → Tree → Bool
-is_in_turn page holder r u = counts r u && (stays_in page holder u && nat_lt r.number (label u).id)
+begun t = record { end = inside_end t; number = 0; came = false }
 
 -- the page's node, where it has one
 abbrev pub node_or : Tree → Option Place → Tree
@@ -116,8 +106,8 @@ partner page u = node_or u (page (label u).id)
 
 -- after it, by whether it is in its turn
 abbrev pub arrived : Bool → Tree → Reached → Tree → Reached
-arrived true t r u = record { end = end_of (label t).ranges; number = (label u).id; came = false; inside = false }
-arrived false t r u = record { end = r.end; number = r.number; came = r.came || counts r u; inside = goes_on r u }
+arrived true t r u = record { end = end_of (label t).ranges; number = (label u).id; came = false }
+arrived false t r u = record { end = r.end; number = r.number; came = r.came || is_compared (showing (label u).kind) }
 
 -- what the page has after it then
 abbrev pub rest_behind : Bool → Tree → Trees → Trees
@@ -137,14 +127,16 @@ if_in_turn false ss = []
 -- one comes there. The first is the page's node, the second what it was edited to.
 abbrev mutual
   pub places_in : Page → Tree → Tree → List Slot
-  places_in page t (tree m us) = inside_place t (tree m us) ++ along page t (begun t) (held t) us
+  places_in page t (tree m us) = inside_place t (tree m us) ++ along page t (has_inside m.kind) (begun t) (held t) us
 
-  -- from where one has come on, with these children of the page to come
-  pub along : Page → Tree → Reached → Trees → Trees → List Slot
-  along page t r ts none = gap (r.came || some_count ts) r.end (inside_stop (label t).ranges)
-  along page t r ts (more u us) =
-      if_in_turn (is_in_turn page (label t).id r u) (gap_before r ts (partner page u) u ++ if_in_turn (is_block_part (label u).kind) (places_in page (partner page u) u))
-      ++ along page t (arrived (is_in_turn page (label t).id r u) (partner page u) r u) (rest_behind (is_in_turn page (label t).id r u) u ts) us
+  -- from where one has come on, with these children of the page to come; whether the inside goes on till then
+  pub along : Page → Tree → Bool → Reached → Trees → Trees → List Slot
+  along page t within r ts none = gap (r.came || some_count ts) r.end (inside_stop (label t).ranges)
+  along page t within r ts (more u us) = if within && not (ends_inside u) then along page t true r ts us else
+      if_in_turn (is_in_turn page (label t).id r.number u us)
+      (gap_before r ts (partner page u) u ++ if_in_turn (is_block_part (label u).kind) (places_in page (partner page u) u))
+      ++ along page t false (arrived (is_in_turn page (label t).id r.number u us) (partner page u) r u)
+      (rest_behind (is_in_turn page (label t).id r.number u us) u ts) us
 
 -- of a page's tree and an edited one
 abbrev pub places : Tree → Tree → List Slot

@@ -1,6 +1,6 @@
 //! The places of a page that may be written anew.
 
-ghost use Rattle.std.specs.Prelude.{◌≡◌, ◌≤◌, ◌<◌, ◌+◌, ◌++◌, ◌||◌, true, false, length, take, drop, OnOk, IfOk, option_map};
+ghost use Rattle.std.specs.Prelude.{◌≡◌, ◌≤◌, ◌<◌, ◌+◌, ◌++◌, ◌||◌, true, false, length, take, drop, OnOk, IfOk, option_map, if◌then◌else◌};
 ghost use Rattle.wt_tree.specs.Kinds.{shape};
 ghost use Rattle.wt_tree.specs.Tiling.{end_of};
 ghost use Rattle.wt_tree.specs.Tree.{Tree, Trees, label, more};
@@ -8,25 +8,22 @@ ghost use Rattle.wt_tree.specs.View.{view, views};
 ghost use Rattle.wt_tree.specs.declared.node.Node.{out-Node};
 ghost use Rattle.wt_checks.specs.Places.{Page, page_of};
 ghost use Rattle.wt_checks.specs.View.{indexed};
-ghost use Rattle.wt_difference.specs.Insides.{held, is_block_part};
+ghost use Rattle.wt_difference.specs.Insides.{behind_inside, held, is_block_part};
 ghost use Rattle.wt_difference.specs.Views.{child_views};
 ghost use Rattle.wt_places.specs.Places.{
   along,
   before_number,
   begun,
   behind_number,
-  counts,
   end_behind,
   gap,
   gap_before,
   gap_end,
-  goes_on,
   if_in_turn,
   inside_end,
   inside_place,
   inside_start,
   inside_stop,
-  is_in_turn,
   is_of_row,
   partner,
   places,
@@ -37,15 +34,15 @@ ghost use Rattle.wt_places.specs.Places.{
   some_count,
   start_of,
 };
+ghost use Rattle.wt_places.specs.Turns.{is_in_turn};
 ghost use Rattle.wt_places.specs.Views.{slots_of, places_within};
 
+use crate::in_turn::turns;
 use crate::reached::Reached;
 use crate::slot::Slot;
 use std::alloc::Global;
 use wt_checks::{Visit, is_compared, original};
-use wt_difference::{
-    Child, ends_inside, has_inside, held, inside, is_block_part, same_inside, stays_in,
-};
+use wt_difference::{Child, held, inside, inside_count, is_block_part, same_inside};
 use wt_span::NoMemory;
 use wt_tree::{Kind, Node, Placement, Ranges};
 
@@ -216,7 +213,7 @@ fn gap(differs: bool, start: usize, end: usize) -> Option<Slot>
 
 // ---- along its edited children
 
-/// Where the walk along the children of a node of the page begins.
+/// Where the walk along the children of a node of the page begins, after its inside.
 pub fn begun(node: &Node<'_>) -> Reached
     ensures { result ≡ begun (view node.now) }
 {
@@ -224,28 +221,7 @@ pub fn begun(node: &Node<'_>) -> Reached
         end: inside_end(node),
         number: 0,
         came: false,
-        inside: has_inside(node.kind),
     }
-}
-
-fn goes_on(reached: Reached, child: &Node<'_>) -> bool
-    ensures { result ≡ goes_on reached (view child.now) }
-{
-    reached.inside && !ends_inside(child)
-}
-
-/// Whether a child counts: it shows something, and comes after the inside.
-pub fn counts(reached: Reached, child: &Node<'_>) -> bool
-    ensures { result ≡ counts reached (view child.now) }
-{
-    is_compared(child.kind) && !goes_on(reached, child)
-}
-
-/// Whether an edited child of the node with this number stays in its turn.
-pub fn is_in_turn(index: &[Visit<'_, '_>], holder: u32, reached: Reached, child: &Node<'_>) -> bool
-    ensures { result ≡ is_in_turn (indexed index.now) holder reached (view child.now) }
-{
-    counts(reached, child) && stays_in(index, holder, child) && reached.number < child.id
 }
 
 /// The page's node with the number of an edited one; that one itself, where there is none.
@@ -267,7 +243,6 @@ pub fn reached_behind(old: &Node<'_>, reached: Reached, child: &Node<'_>) -> Rea
         end: end_of(old.ranges),
         number: child.id,
         came: false,
-        inside: false,
     }
 }
 
@@ -278,18 +253,17 @@ pub fn reached_past(reached: Reached, child: &Node<'_>) -> Reached
     Reached {
         end: reached.end,
         number: reached.number,
-        came: reached.came || counts(reached, child),
-        inside: goes_on(reached, child),
+        came: reached.came || is_compared(child.kind),
     }
 }
 
 // ---- one child
 
-/// How far the walk has come before a child: the number of the node whose children these are, those of the page's
-/// children that are still to come, and how far it has come.
+/// How far the walk has come before a child, and whether it stays in its turn: those of the page's children that are
+/// still to come, and how far it has come.
 #[derive(Clone, Copy)]
 pub struct Beside<'w, 't, 'a> {
-    pub holder: u32,
+    pub is_in_turn: bool,
     pub rest: &'w [Child<'t, 'a>],
     pub reached: Reached,
 }
@@ -357,12 +331,14 @@ pub fn next_turn<'t, 'a>(
     child: &'t Node<'a>,
 ) -> ChildOutcome<'t, 'a>
     ensures fits { result.passed ≤ length beside.entry.rest.now }
-    ensures goes_on { (t : Tree) (us : Trees) → (label t).id ≡ beside.entry.holder
+    ensures number { result.reached.number ≡ (if beside.entry.is_in_turn then (label (view child.now)).id else beside.entry.reached.number) }
+    ensures goes_on { (t : Tree) (us : Trees)
+        → beside.entry.is_in_turn ≡ is_in_turn (indexed index.now) (label t).id beside.entry.reached.number (view child.now) us
         → slots_of result.gap ++ (places_within (indexed index.now) (view child.now) (option_map (λ n. view n.now) result.within)
-        ++ along (indexed index.now) t result.reached (child_views (drop result.passed beside.entry.rest.now)) us)
-        ≡ along (indexed index.now) t beside.entry.reached (child_views beside.entry.rest.now) (more (view child.now) us) }
+        ++ along (indexed index.now) t false result.reached (child_views (drop result.passed beside.entry.rest.now)) us)
+        ≡ along (indexed index.now) t false beside.entry.reached (child_views beside.entry.rest.now) (more (view child.now) us) }
 {
-    if !is_in_turn(index, beside.holder, beside.reached, child) {
+    if !beside.is_in_turn {
         return ChildOutcome {
             gap: None,
             within: None,
@@ -397,37 +373,49 @@ fn push_last(
     push_gap(out, gap(differs, reached.end, stop))
 }
 
-/// Appends the gaps between the children of a node, and the places within them. `children` are those that the
-/// page's node holds.
+/// A node of the page, and the children that it holds.
+#[derive(Clone, Copy)]
+struct Standing<'w, 't, 'a> {
+    node: &'t Node<'a>,
+    children: &'w [Child<'t, 'a>],
+}
+
+/// Appends the gaps between the children of a node, and the places within them. `nodes` are the edited ones, of which
+/// the first `from` are its inside.
 #[cycle(placing)]
 fn push_along<'t, 'a>(
     alloc: Global,
     out: &mut Vec<Slot>,
     index: &[Visit<'t, 'a>],
     nodes: &'t [Node<'a>],
-    old: &'t Node<'a>,
-    children: &[Child<'t, 'a>],
+    from: usize,
+    standing: Standing<'_, 't, 'a>,
 ) -> Result<(), NoMemory>
+    requires { from ≤ length nodes.now }
     ensures { OnOk result (out.new.items ≡ out.old.items
-        ++ along (indexed index.now) (view old.now) (begun (view old.now)) (child_views children.now) (views nodes.now)) }
+        ++ along (indexed index.now) (view standing.entry.node.now) false (begun (view standing.entry.node.now))
+        (child_views standing.entry.children.now) (views (drop from nodes.now))) }
 {
-    let mut reached = begun(old);
-    let mut from = 0;
-    for child in nodes {
+    let Standing { node, children } = standing;
+    let turns = turns(alloc, index, node.id, &nodes[from..])?;
+    let mut reached = begun(node);
+    let mut passed = 0;
+    for at in from..nodes.len() {
+        let child = &nodes[at];
         let beside = Beside {
-            holder: old.id,
-            rest: &children[from..],
+            is_in_turn: turns[at - from],
+            rest: &children[passed..],
             reached,
         };
         let turn = next_turn(index, beside, child);
         push_gap(out, turn.gap)?;
-        if let Some(standing) = turn.within {
-            push_places(alloc, out, index, child, standing)?;
+        if let Some(within) = turn.within {
+            push_places(alloc, out, index, child, within)?;
         }
-        from += turn.passed;
+        passed += turn.passed;
         reached = turn.reached;
     }
-    push_last(out, reached, &children[from..], inside_stop(old.ranges))
+    push_last(out, reached, &children[passed..], inside_stop(node.ranges))
 }
 
 /// Appends the places of a node of the page, and within it.
@@ -443,13 +431,17 @@ fn push_places<'t, 'a>(
 {
     push_inside_place(alloc, out, old, new)?;
     let children = held(alloc, old)?;
+    let standing = Standing {
+        node: old,
+        children: children.as_slice(),
+    };
     push_along(
         alloc,
         out,
         index,
         new.children.as_slice(),
-        old,
-        children.as_slice(),
+        inside_count(new),
+        standing,
     )?;
     Ok(())
 }

@@ -3,11 +3,11 @@
 
 ghost use Rattle.std.specs.Prelude.{◌≡◌, ◌+◌};
 ghost use Rattle.wt_transclusion.specs.Asked.{AsksAtMost};
-ghost use Rattle.wt_pagetool.specs.Asked.{names_told};
-ghost use Rattle.wt_pagetool.specs.Calls.{call};
-ghost use Rattle.wt_pagetool.specs.Devices.{read_from, fetched_from, written_to};
+ghost use Rattle.wt_commands.specs.Asked.{names_told};
+ghost use Rattle.wt_commands.specs.Calls.{call};
+ghost use Rattle.wt_commands.specs.Devices.{read_from, fetched_from, written_to};
 ghost use Rattle.wt_pagetool.specs.Promises.{AsksFor, Ends, EndsAsEdit, GivesBack, ReadsAtMost, Waits, Wrote};
-ghost use Rattle.wt_pagetool.specs.Words.{command_of, Fetches, Reads};
+ghost use Rattle.wt_commands.specs.Words.{command_of, Fetches, Reads};
 ghost use Rattle.wt_text_edit_laws.specs.Calls.{TakesTexts};
 ghost use Rattle.wt_cell_edit_laws.specs.AnyCalls.{TakesTextsAnywhere};
 ghost use Rattle.wt_cell_edit_laws.specs.CellCalls.{TakesTextsInCells};

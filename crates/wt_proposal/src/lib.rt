@@ -2,10 +2,7 @@
 //! stays as it was, texts too. Whether a proposal is any good is found by reading it back, and by nothing here.
 #![tactic(auto)]
 
-mod blanks;
-mod breaks;
 mod children;
-mod lines;
 mod proposing;
 
 pub use proposing::{Keeping, proposal};

@@ -1,24 +1,25 @@
 //! A proposal: the page in which the places of the difference are written anew.
 
-ghost use Rattle.std.specs.Prelude.{◌≡◌, IfOk, IfSome};
+ghost use Rattle.std.specs.Prelude.{◌≡◌, ◌≤◌, IfOk, IfSome, length};
 ghost use Rattle.wt_checks.specs.Places.{page_of};
 ghost use Rattle.wt_checks.specs.View.{indexed};
 ghost use Rattle.wt_tree.specs.View.{view};
 ghost use Rattle.wt_places.specs.Rewritten.{IsRewritten};
 
-use crate::blanks::byte_at;
-use crate::children::{Gap, push_change, push_gap};
+use crate::children::push_gap;
 use std::alloc::Global;
-use wt_block_proposal::{
+use wt_block_signs::{
     Style, USUAL, is_bare_sign, is_cell, is_item, is_list, is_row_without_sign, joins_sign,
     signs_of, style_of, style_within,
 };
 use wt_checks::{Visit, is_compared};
-use wt_content_proposal::{Known, Writing, block_of, edges_of, spelled};
-use wt_difference::{Child, held, inside, same_inside};
+use wt_content_proposal::{Writing, edges_of, spelled};
+use wt_difference::{Child, held, inside, inside_count, same_inside};
+use wt_gaps::{Gap, Numbering, byte_at, children_between, nodes_between, push_change};
+use wt_known::{Known, block_of};
 use wt_places::{
-    Beside, Reached, Slot, begun, counts, inside_end, inside_start, inside_stop, next_turn, places,
-    start_of, tested,
+    Beside, Reached, Slot, begun, inside_end, inside_start, inside_stop, next_turn, places,
+    start_of, tested, turns,
 };
 use wt_span::{NoMemory, Str};
 use wt_splice::Change;
@@ -54,34 +55,6 @@ impl<'w, 't, 'a> Plan<'w, 't, 'a> {
     /// Whether texts keep their bytes in the block with this number.
     pub fn keeps(self, block: usize) -> bool {
         self.keeping.keeps(block)
-    }
-}
-
-/// The number of a block of the body, and whether it grows with each child: it does in the body alone.
-#[derive(Clone, Copy)]
-pub struct Numbering {
-    pub number: usize,
-    pub grows: bool,
-}
-
-impl Numbering {
-    /// The number of the next child.
-    pub fn next(self) -> Numbering {
-        if !self.grows {
-            return self;
-        }
-        Numbering {
-            number: self.number.saturating_add(1),
-            grows: true,
-        }
-    }
-
-    /// Within this child.
-    fn inside(self) -> Numbering {
-        Numbering {
-            number: self.number,
-            grows: false,
-        }
     }
 }
 
@@ -262,8 +235,8 @@ struct Part<'t, 'a> {
 }
 
 /// The children that a node of the page holds, the signs with which it begins where it is an item, its kind, whether it
-/// is a row without a sign of its own, how new lists or cells are written in it, its number, and where its children
-/// begin and end.
+/// is a row without a sign of its own, how new lists or cells are written in it, its number, where its children begin
+/// and end, and how many of the edited ones are its inside.
 #[derive(Clone, Copy)]
 struct Held<'w, 't, 'a> {
     children: &'w [Child<'t, 'a>],
@@ -274,6 +247,7 @@ struct Held<'w, 't, 'a> {
     number: u32,
     begun: Reached,
     stop: usize,
+    from: usize,
 }
 
 /// How far one has come along the edited children of a node: how many of the page's children are passed, the first
@@ -301,11 +275,11 @@ struct Span {
 }
 
 impl Line {
-    fn of(reached: Reached, block: Numbering) -> Line {
+    fn of(held: Held<'_, '_, '_>, block: Numbering) -> Line {
         Line {
             from: 0,
-            came_from: 0,
-            reached,
+            came_from: held.from,
+            reached: held.begun,
             first: block.next(),
             block,
         }
@@ -313,7 +287,7 @@ impl Line {
 
     /// With the number of the child in hand.
     fn at(self, child: &Node<'_>) -> Line {
-        let block = if counts(self.reached, child) {
+        let block = if is_compared(child.kind) {
             self.block.next()
         } else {
             self.block
@@ -329,7 +303,7 @@ impl Line {
 
     /// After the child with this index, which passes so many of the page's children.
     fn behind(self, passed: usize, reached: Reached, at: usize) -> Line {
-        let is_begun = passed > 0 || reached.inside;
+        let is_begun = passed > 0;
         Line {
             from: self.from.saturating_add(passed),
             came_from: if is_begun {
@@ -388,27 +362,6 @@ impl Line {
     }
 }
 
-/// The children from one place up to another; none where there are none.
-pub fn children_between<'w, 't, 'a>(
-    children: &'w [Child<'t, 'a>],
-    from: usize,
-    to: usize,
-) -> &'w [Child<'t, 'a>] {
-    if from <= to && to <= children.len() {
-        &children[from..to]
-    } else {
-        &children[..0]
-    }
-}
-
-pub fn nodes_between<'w, 'a>(nodes: &'w [Node<'a>], from: usize, to: usize) -> &'w [Node<'a>] {
-    if from <= to && to <= nodes.len() {
-        &nodes[from..to]
-    } else {
-        &nodes[..0]
-    }
-}
-
 fn node_at<'t, 'a>(children: &[Child<'t, 'a>], at: Option<usize>) -> Option<&'t Node<'a>> {
     let child = children.get(at?)?;
     Some(child.node)
@@ -458,7 +411,7 @@ fn push_span<'t, 'a>(
         new,
         first: span.first,
     };
-    push_gap(alloc, out, plan, held.signs, gap)
+    push_gap(alloc, out, plan, held.signs, &gap)
 }
 
 /// The part of a list or a table that is beside one in its turn, which passes so many of the page's: the one before it,
@@ -503,7 +456,7 @@ fn push_blank(
     push_change(out, Slot { start, end: start }, blank)
 }
 
-/// Appends what is written anew of a node's children.
+/// Appends what is written anew of a node's children, of which the first ones are its inside.
 #[cycle(proposing)]
 fn push_children<'t, 'a>(
     alloc: Global,
@@ -512,13 +465,16 @@ fn push_children<'t, 'a>(
     nodes: &'t [Node<'a>],
     held: Held<'_, 't, 'a>,
     block: Numbering,
-) -> Result<(), NoMemory> {
-    let mut line = Line::of(held.begun, block);
-    for at in 0..nodes.len() {
+) -> Result<(), NoMemory>
+    requires { held.from ≤ length nodes.now }
+{
+    let turns = turns(alloc, plan.known.index, held.number, &nodes[held.from..])?;
+    let mut line = Line::of(held, block);
+    for at in held.from..nodes.len() {
         let child = &nodes[at];
         line = line.at(child);
         let beside = Beside {
-            holder: held.number,
+            is_in_turn: turns[at - held.from],
             rest: children_between(held.children, line.from, held.children.len()),
             reached: line.reached,
         };
@@ -591,6 +547,7 @@ fn push_node<'t, 'a>(
         number: old.id,
         begun,
         stop: inside_stop(old.ranges),
+        from: inside_count(new),
     };
     push_children(alloc, out, plan, new.children.as_slice(), held, block)
 }

@@ -9,8 +9,8 @@ use Rattle.wt_tree.specs.declared.kind.AttrName.{AttrName}
 use Rattle.wt_tree.specs.declared.kind.AttrName.TheVariants as attr
 use Rattle.wt_tree.specs.declared.kind.Kind.{Kind}
 use Rattle.wt_tree.specs.declared.kind.Kind.TheVariants as kind
-use Rattle.wt_tree.specs.declared.kind.TagName.{TagName}
-use Rattle.wt_tree.specs.declared.kind.TagName.TheVariants as tag
+use Rattle.wt_span.specs.declared.tag_name.TagName.{TagName}
+use Rattle.wt_span.specs.declared.tag_name.TagName.TheVariants as tag
 use Rattle.wt_tree.specs.declared.kind.Ranges.{Ranges}
 use Rattle.wt_tree.specs.declared.row.Placement.{Placement}
 use Rattle.wt_tree.specs.declared.row.Placement.TheVariants.{Nowhere, Section}

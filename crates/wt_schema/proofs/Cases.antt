@@ -12,7 +12,7 @@ use Rattle.wt_schema.specs.declared.why.FitWhy.TheVariants as why
 use Rattle.wt_tree.specs.Kinds.{spelling, tag_name, attribute_name}
 use Rattle.wt_tree.specs.Values.{extension_prefix, placeholder, no_include, no_include_end, only_include, only_include_end, include_only, switch_prefix, is_switch}
 use Rattle.std.specs.Fmt.{digits}
-use Rattle.wt_tree.specs.declared.kind.TagName.TheVariants as tag
+use Rattle.wt_span.specs.declared.tag_name.TagName.TheVariants as tag
 use Rattle.wt_tree.specs.declared.node.DataMw.TheVariants as parts
 use Rattle.serde_json.proofs.OnLiterals.{serde_json_on_literals}
 use Rattle.wt_datamw.specs.MwRead.{is_mw_shape, has_small_numbers, mw_of_data, mw_told}

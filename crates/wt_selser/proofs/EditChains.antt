@@ -36,7 +36,7 @@ use Rattle.wt_content.specs.declared.children.Holder.TheVariants as holder
 use Rattle.wt_slices.specs.BodySlices.{all_child_slices, body_slices, child_slices, list_at, slices, slices_of, start}
 use Rattle.wt_slices.specs.Changes.{all_insides, change_with, inside_of, insides, marked, place_in}
 use Rattle.wt_slices.specs.ListSlices.{list_slices, sign_of}
-use Rattle.wt_escape.specs.Spelling.{inline_spelling}
+use Rattle.wt_link_spelling.specs.Spelling.{inline_spelling}
 use Rattle.wt_selser.specs.declared.refusal.EditRefusal.{EditRefusal}
 use Rattle.wt_selser.specs.declared.refusal.EditRefusal.TheVariants as refusal
 use Rattle.wt_selser.specs.Edits.{unless_refused, if_short, refused_pairs, most_bytes, edit_answer}

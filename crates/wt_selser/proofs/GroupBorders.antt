@@ -10,7 +10,7 @@ use Rattle.wt_checks.specs.Places.{Place, Page, number, page_of, places}
 use Rattle.wt_slices.specs.declared.change.Pair.{Pair as Found}
 use Rattle.wt_slices.specs.Borders.{HasBorders}
 use Rattle.wt_slices.specs.Changes.{Pair, is_edited, marked, pair_at, pair_with}
-use Rattle.wt_slices.specs.Views.{pair_of, pairs_of}
+use Rattle.wt_slices.specs.Views.{pairs_of}
 use Rattle.wt_slices.proofs.Borders.{AtPlace, InPage, page_said}
 use Rattle.std.specs.Str.{IsCharBoundary}
 use Rattle.wt_selser.specs.Borders.{AllHaveBorders, HaveOldBorders, IsAtBorders}

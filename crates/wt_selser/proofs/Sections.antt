@@ -27,7 +27,7 @@ use Rattle.wt_content.specs.declared.children.Holder.{Holder}
 use Rattle.wt_content.specs.declared.children.Holder.TheVariants as holder
 use Rattle.wt_content.specs.Children.{is_child, bad_children}
 use Rattle.wt_content.specs.Content.{bad_content}
-use Rattle.wt_escape.specs.Spelling.{block_spelling}
+use Rattle.wt_link_spelling.specs.Spelling.{block_spelling}
 use Rattle.wt_slices.specs.declared.body.Front.{Front}
 use Rattle.wt_slices.specs.BodySlices.{past, start, step_slices, body_slices, list_at, child_slices, all_child_slices, slices_of, slices}
 use Rattle.wt_selser.specs.declared.refusal.EditRefusal.{EditRefusal}

@@ -5,7 +5,7 @@ use Rattle.std.specs.List.{AllByRecursion}
 use Rattle.wt_tree.specs.declared.kind.Ranges.{Ranges}
 use Rattle.wt_tree.specs.Tiling.{TiledFrom, end_of}
 use Rattle.wt_tree.specs.Tree.{Tree, Trees, none, more, label, listed}
-use Rattle.wt_escape.specs.Spelling.{block_spelling}
+use Rattle.wt_link_spelling.specs.Spelling.{block_spelling}
 use Rattle.wt_checks.specs.Places.{Page}
 use Rattle.wt_checks.proofs.Found.{Found}
 use Rattle.wt_checks.proofs.InOrder.{same_by, test_equal}

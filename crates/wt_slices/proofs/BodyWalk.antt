@@ -14,7 +14,7 @@ use Rattle.wt_checks.specs.Kept.{children}
 use Rattle.wt_checks.specs.Marks.{is_children}
 use Rattle.wt_checks.specs.Places.{Place, Page}
 use Rattle.wt_checks.specs.View.{seen}
-use Rattle.wt_escape.specs.Spelling.{block_spelling}
+use Rattle.wt_link_spelling.specs.Spelling.{block_spelling}
 use Rattle.wt_content.specs.declared.children.Holder.TheVariants as holder
 use Rattle.wt_content.specs.Children.{is_mark, is_separator, is_space}
 use Rattle.wt_content.specs.Content.{has_break}

@@ -7,7 +7,7 @@ use Rattle.wt_tree.specs.Kinds.{is_section}
 use Rattle.wt_tree.specs.Opened.{opened_before, all_opened_before, opened}
 use Rattle.wt_tree.specs.Tiling.{end_of}
 use Rattle.wt_tree.specs.Tree.{Label, Tree, tree, Trees, none, more, label}
-use Rattle.wt_escape.specs.Spelling.{inline_spelling, block_spelling}
+use Rattle.wt_link_spelling.specs.Spelling.{inline_spelling, block_spelling}
 use Rattle.wt_span.specs.Characters as byte
 use Rattle.wt_checks.specs.Kept.{children}
 use Rattle.wt_checks.specs.Marks.{is_children}

@@ -8,7 +8,7 @@ use Rattle.wt_tree.specs.declared.kind.Mark.{Mark}
 use Rattle.wt_tree.specs.declared.kind.Mark.TheVariants as marks
 use Rattle.wt_tree.specs.declared.kind.Ranges.{Ranges}
 use Rattle.wt_tree.specs.Tree.{Tree, tree, Trees, none, more}
-use Rattle.wt_escape.specs.Spelling.{block_spelling, inline_spelling}
+use Rattle.wt_link_spelling.specs.Spelling.{block_spelling, inline_spelling}
 use Rattle.wt_slices.specs.BodySlices.{slices}
 use Rattle.wt_slices.specs.ListSlices.{at_place}
 

@@ -7,7 +7,7 @@ use Rattle.wt_tree.specs.Tiling.{end_of}
 use Rattle.wt_tree.specs.Tree.{Tree, Trees, none, more, label}
 use Rattle.wt_tree.specs.View.{view, views}
 use Rattle.wt_tree.proofs.Views.{view_out}
-use Rattle.wt_escape.specs.Spelling.{block_spelling}
+use Rattle.wt_link_spelling.specs.Spelling.{block_spelling}
 use Rattle.wt_checks.specs.Places.{Page}
 use Rattle.wt_checks.proofs.InOrder.{test_equal, test_other}
 use Rattle.wt_content.specs.declared.children.Holder.TheVariants as holder

@@ -7,7 +7,7 @@ use Rattle.wt_tree.specs.declared.node.Node.{Node, out-Node}
 use Rattle.wt_tree.specs.Tree.{Tree, label}
 use Rattle.wt_tree.specs.View.{view, views}
 use Rattle.wt_tree.proofs.Views.{view_out}
-use Rattle.wt_escape.specs.Spelling.{inline_spelling}
+use Rattle.wt_link_spelling.specs.Spelling.{inline_spelling}
 use Rattle.wt_checks.specs.declared.visit.Visit.{Visit}
 use Rattle.wt_checks.specs.Places.{Place, Page, is_content}
 use Rattle.wt_checks.specs.View.{seen}

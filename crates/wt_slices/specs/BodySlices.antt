@@ -8,7 +8,7 @@ use Rattle.wt_tree.specs.Tiling.{end_of}
 use Rattle.wt_tree.specs.Tree.{Tree, tree, Trees, none, more, label}
 use Rattle.wt_span.specs.Bytes.{is_blank}
 use Rattle.wt_span.specs.Characters as byte
-use Rattle.wt_escape.specs.Spelling.{block_spelling}
+use Rattle.wt_link_spelling.specs.Spelling.{block_spelling}
 use Rattle.wt_checks.specs.Kept.{children}
 use Rattle.wt_checks.specs.Marks.{is_children}
 use Rattle.wt_checks.specs.Places.{Place, Page, page_of}

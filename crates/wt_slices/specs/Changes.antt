@@ -8,7 +8,7 @@ use Rattle.wt_tree.specs.declared.kind.Mark.{Mark}
 use Rattle.wt_tree.specs.Tree.{Tree, tree, Trees, none, more, label}
 use Rattle.wt_tree.specs.EditShapes.{edit_shape}
 use Rattle.wt_tree.specs.declared.edit_shape.Place.{Place as Surround}
-use Rattle.wt_escape.specs.Spelling.{inline_spelling}
+use Rattle.wt_link_spelling.specs.Spelling.{inline_spelling}
 use Rattle.wt_checks.specs.Marks.{is_children}
 use Rattle.wt_checks.specs.Places.{Place, places, Page, page_of, number, is_content}
 use Rattle.wt_splice.specs.Splice.{Change}

@@ -6,7 +6,7 @@ use Rattle.wt_tree.specs.declared.kind.Kind.TheVariants as kind
 use Rattle.wt_tree.specs.declared.kind.Ranges.{Ranges}
 use Rattle.wt_tree.specs.Tiling.{end_of}
 use Rattle.wt_tree.specs.Tree.{Tree, Trees, none, more, label}
-use Rattle.wt_escape.specs.Spelling.{block_spelling}
+use Rattle.wt_link_spelling.specs.Spelling.{block_spelling}
 use Rattle.wt_checks.specs.Places.{Page}
 use Rattle.wt_content.specs.declared.children.Holder.TheVariants as holder
 use Rattle.wt_content.specs.Children.{is_child, is_kept_child}

@@ -7,7 +7,7 @@ ghost use Rattle.wt_tree.specs.Source.{flat};
 ghost use Rattle.wt_tree.specs.Tree.{Tree};
 ghost use Rattle.wt_tree.specs.View.{view, views};
 ghost use Rattle.wt_original.specs.Page.{TellsSame};
-ghost use Rattle.wt_escape.specs.Spelling.{block_spelling};
+ghost use Rattle.wt_link_spelling.specs.Spelling.{block_spelling};
 ghost use Rattle.wt_checks.specs.View.{indexed, seen};
 ghost use Rattle.wt_content.specs.Content.{has_break};
 ghost use Rattle.wt_slices.specs.BodySlices.{before_new, false_unless, begins_new, blank_at, blank_first, body_slices, break_at, child_slices, for_removed, holds_break, holds_kept, is_kept, is_new, is_parted, leaves_blank, leaves_break, list_at, parts_with, past, past_node, removed_with, start, step_slices, tail, tail_at_end, tail_before, true_if};

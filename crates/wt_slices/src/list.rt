@@ -6,7 +6,7 @@ ghost use Rattle.wt_tree.specs.Tiling.{end_of};
 ghost use Rattle.wt_tree.specs.Tree.{Tree};
 ghost use Rattle.wt_tree.specs.View.{view, views};
 ghost use Rattle.wt_original.specs.Page.{TellsSame};
-ghost use Rattle.wt_escape.specs.Spelling.{block_spelling};
+ghost use Rattle.wt_link_spelling.specs.Spelling.{block_spelling};
 ghost use Rattle.wt_checks.specs.View.{indexed};
 ghost use Rattle.wt_slices.specs.ListSlices.{at_place, first_removed, first_start, from_kept, item_slices, list_slices, new_before, new_one_before, removed_before, sign_of, start_of};
 ghost use Rattle.wt_slices.specs.Steps.{Step as Taken};

@@ -15,6 +15,7 @@ mod range;
 mod slice;
 mod steps;
 mod str;
+mod tag_name;
 mod text;
 
 pub use form::{ItemForm, LexKind, Mode, Outer, Piece};
@@ -29,4 +30,5 @@ pub use range::{Range, Tiles};
 pub use slice::{front_of, rest_of};
 pub use steps::Steps;
 pub use str::Str;
+pub use tag_name::TagName;
 pub use text::Text;

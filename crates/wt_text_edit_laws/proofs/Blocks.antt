@@ -8,6 +8,7 @@ pub mod TypedAgain
 pub mod OtherBlocks
 pub mod PageKinds
 pub mod KeptBlocks
+pub mod BlocksUngrouped
 pub mod TypedFacts
 pub mod BlockSpotFacts
 pub mod BlocksTake

@@ -4,13 +4,13 @@ use Rattle.wt_span.specs.declared.limits.TheConstants.{HTML_BYTES, PAGE_BYTES}
 use Rattle.wt_devices.specs.Device.{Pages}
 use Rattle.wt_tree.specs.Tree.{Label, Tree}
 use Rattle.wt_schema.specs.Read.{page as as_page, read}
-use Rattle.wt_pagetool.specs.declared.command.Command.{Command}
-use Rattle.wt_pagetool.specs.declared.command.Command.TheVariants.{Edit, Selser}
-use Rattle.wt_pagetool.specs.declared.status.Status.TheVariants as status
-use Rattle.wt_pagetool.specs.Calls.{Call, NothingFailed}
-use Rattle.wt_pagetool.specs.Devices.{Untouched, Took}
-use Rattle.wt_pagetool.specs.Statuses.{code, IsFaultOrNoMemory}
-use Rattle.wt_pagetool.specs.Words.{command_of}
+use Rattle.wt_commands.specs.declared.command.Command.{Command}
+use Rattle.wt_commands.specs.declared.command.Command.TheVariants.{Edit, Selser}
+use Rattle.wt_commands.specs.declared.status.Status.TheVariants as status
+use Rattle.wt_commands.specs.Calls.{Call, NothingFailed}
+use Rattle.wt_commands.specs.Devices.{Untouched, Took}
+use Rattle.wt_commands.specs.Statuses.{code, IsFaultOrNoMemory}
+use Rattle.wt_commands.specs.Words.{command_of}
 use Rattle.wt_text_edit_laws.specs.BlockEdits.{BlockEdit, old_page, new_page, sent_page, IsBlockEdit}
 use Rattle.wt_text_edit_laws.specs.UnmarkedBlocks.{unmarked_page, IsUnmarkedBlockEdit}
 

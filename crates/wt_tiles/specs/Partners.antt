@@ -1,8 +1,8 @@
 -- What closes what: the closing tag that balances an opening one, and the `]]` that balances a `[[`. Each is the first place
 -- where more has been closed than opened; the depth counts how many of those opened on the way aren't closed yet.
 use Rattle.std.specs.Prelude.{ℕ, zero, suc, ◌==◌, Option, Some, None, List, [], ◌∷◌, codes, if◌then◌else◌}
-use Rattle.wt_tree.specs.declared.kind.TagName.{TagName}
-use Rattle.wt_tree.specs.declared.kind.TagName.TheVariants as name
+use Rattle.wt_span.specs.declared.tag_name.TagName.{TagName}
+use Rattle.wt_span.specs.declared.tag_name.TagName.TheVariants as name
 use Rattle.wt_tiles.specs.declared.glyph.Glyph.{Glyph}
 use Rattle.wt_tiles.specs.declared.tag.Name.{Name}
 use Rattle.wt_tiles.specs.declared.tag.Name.TheVariants.{Paired, Break, Island}

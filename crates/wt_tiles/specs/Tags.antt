@@ -3,7 +3,7 @@
 use Rattle.std.specs.Prelude.{ℕ, ◌+◌, ◌-◌, ◌==◌, ◌&&◌, ◌||◌, Bool, false, Option, Some, None, List, [], ◌∷◌, length, take, drop, nat_lt, codes, option_map, if◌then◌else◌}
 use Rattle.std.specs.Option.{option_or}
 use Rattle.wt_span.specs.Characters as byte
-use Rattle.wt_tree.specs.declared.kind.TagName.TheVariants as name
+use Rattle.wt_span.specs.declared.tag_name.TagName.TheVariants as name
 use Rattle.wt_tiles.specs.declared.glyph.Glyph.{Glyph}
 use Rattle.wt_tiles.specs.declared.glyph.GlyphClass.TheVariants as class
 use Rattle.wt_tiles.specs.declared.tag.Name.{Name}

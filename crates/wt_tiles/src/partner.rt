@@ -1,7 +1,7 @@
 //! Tags that are in pairs: which closing tag belongs to an opening one.
 
 ghost use Rattle.std.specs.Prelude.{◌≡◌, ◌<◌, ◌≤◌, ◌-◌, ◌+◌, ℕ, Some, None, length, drop, slice_get, IfOk};
-ghost use Rattle.wt_tree.specs.declared.kind.TagName.{TagName as PairName};
+ghost use Rattle.wt_span.specs.declared.tag_name.TagName.{TagName as PairName};
 ghost use Rattle.wt_tiles.specs.Tags.{tag_at};
 ghost use Rattle.wt_tiles.specs.Partners.{number, turn_of_shape};
 ghost use Rattle.wt_tiles.specs.Tables.{nearest, nearest_by, own_partner, AreNearest, IsPartnerTable};
@@ -11,8 +11,7 @@ use crate::glyph::Glyph;
 use crate::tag::{Name, Tag, TagShape, tag_at};
 use std::alloc::Global;
 use std::marker::Model;
-use wt_span::{List, NoMemory, rest_of};
-use wt_tree::TagName;
+use wt_span::{List, NoMemory, TagName, rest_of};
 
 /// How many names are in pairs.
 const NAMES: usize = 7;

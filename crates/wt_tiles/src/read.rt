@@ -1,7 +1,7 @@
 //! The tiles of a context, without their items.
 
 ghost use Rattle.std.specs.Prelude.{◌≡◌, ◌<◌, ◌≤◌, ◌+◌, ◌-◌, ◌^◌, ◌++◌, ◌∷◌, [], true, false, length, drop, IfOk, IfSome, OnOk};
-ghost use Rattle.wt_tree.specs.declared.kind.TagName.{TagName as PairName};
+ghost use Rattle.wt_span.specs.declared.tag_name.TagName.{TagName as PairName};
 ghost use Rattle.wt_tiles.specs.Tags.{tag_at};
 ghost use Rattle.wt_tiles.specs.Tables.{pair_left};
 ghost use Rattle.wt_tiles.specs.Tiles.{len_of, pair_or_island, closing_for, shape_of_tag, tag_tile, tag_or_switch, outside, link_or_url, form_at, tile_with, size, closed, shapes};
@@ -19,8 +19,7 @@ use crate::switch::switch_at;
 use crate::tag::{Name, Tag, TagShape, tag_at};
 use crate::url::{bare_url_at, ext_link_at};
 use std::alloc::Global;
-use wt_span::{List, NoMemory, rest_of};
-use wt_tree::TagName;
+use wt_span::{List, NoMemory, TagName, rest_of};
 
 /// How many pairs of tags may be open round each other.
 pub const MOST_PAIRS: u32 = 16;

@@ -4,9 +4,7 @@ ghost use Rattle.std.specs.Prelude.{◌≡◌, ◌<◌, ◌≤◌, ◌+◌, ◌^
 ghost use Rattle.wt_tiles.specs.Tags.{live_name, is_style_name, is_phrase_name, is_block_name, is_list_name, is_table_name, is_include_name, is_island_name, name_of, name_len, is_inside, shape_of, tag_after, opening_tag, closing_tag, tag_at};
 
 use crate::glyph::{Glyph, GlyphClass, begins, first_is, is_like, run_len};
-use wt_span::{front_of, rest_of};
-use wt_tree::TagName;
-
+use wt_span::{TagName, front_of, rest_of};
 /// What a tag that counts is by its name: one of a pair, a line break, or always an island.
 #[derive(Clone, Copy, Debug, PartialEq, Eq)]
 pub enum Name {

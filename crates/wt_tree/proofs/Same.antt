@@ -5,11 +5,11 @@ use Rattle.std.specs.Prelude.{◌==◌, ◌&&◌}
 use Rattle.std.specs.Bool.{Decides}
 use Rattle.std.proofs.lemmas.Bool.Decides.{Decides-eqb, Decides-like}
 use Rattle.wt_tree.specs.declared.kind.Kind.{Kind}
-use Rattle.wt_tree.specs.declared.kind.TagName.{TagName}
+use Rattle.wt_span.specs.declared.tag_name.TagName.{TagName}
 use Rattle.wt_tree.specs.contracts.kind.KindPartialEq.TheImpl.{eq-value}
-use Rattle.wt_tree.specs.contracts.kind.TagNamePartialEq.TheImpl as tag
+use Rattle.wt_span.specs.contracts.tag_name.TagNamePartialEq.TheImpl as tag
 use Rattle.wt_tree.specs.contracts.kind.Kind.{the_parts, as_values, the_make, the_eta}
-use Rattle.wt_tree.specs.contracts.kind.TagName.{the_type}
+use Rattle.wt_span.specs.contracts.tag_name.TagName.{the_type}
 use Rattle.std.specs.Prelude.{Option, Some, None, option_copied}
 use denote.Ref.{Bor}
 use Rattle.std.specs.Option.{option_eq}

@@ -2,7 +2,7 @@
 -- the top is in a `span`, and where nothing is shown there is one empty `span`.
 use Rattle.std.specs.Prelude.{None, []}
 use Rattle.wt_tree.specs.declared.kind.Kind.TheVariants as kind
-use Rattle.wt_tree.specs.declared.kind.TagName.TheVariants as tag
+use Rattle.wt_span.specs.declared.tag_name.TagName.TheVariants as tag
 use Rattle.wt_tree.specs.Plain.{Face, Plain, text, element, Plains, ended, along}
 
 -- the element round a text, and round nothing

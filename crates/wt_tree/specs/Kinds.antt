@@ -3,8 +3,8 @@
 use Rattle.std.specs.Prelude.{ℕ, List, [], ◌∷◌, ◌++◌, Bool, true, false, not, ◌==◌, ◌&&◌, ◌||◌, Option, Some, None, codes, decimal}
 use Rattle.wt_tree.specs.declared.kind.Kind.{Kind}
 use Rattle.wt_tree.specs.declared.kind.Kind.TheVariants as kind
-use Rattle.wt_tree.specs.declared.kind.TagName.{TagName}
-use Rattle.wt_tree.specs.declared.kind.TagName.TheVariants as tag
+use Rattle.wt_span.specs.declared.tag_name.TagName.{TagName}
+use Rattle.wt_span.specs.declared.tag_name.TagName.TheVariants as tag
 use Rattle.wt_tree.specs.declared.kind.AttrName.{AttrName}
 use Rattle.wt_tree.specs.declared.kind.AttrName.TheVariants as attr
 use Rattle.wt_tree.specs.declared.row.Writing.{Writing}

@@ -1,3 +1,5 @@
+use wt_span::TagName;
+
 /// Where a node is in the page, in bytes: from `start` up to `end`, and how many of these bytes
 /// its opening and closing delimiters have. It is what Parsoid calls `dsr`. A leaf that is written
 /// as an element has its whole length as `open_w`; a text and a group have 0.
@@ -17,18 +19,6 @@ pub enum Mark {
     Content,
     Children,
     Other,
-}
-
-/// The HTML tags of a page that are read as paired elements.
-#[derive(Clone, Copy, Debug, PartialEq, Eq)]
-pub enum TagName {
-    Sup,
-    Sub,
-    Small,
-    S,
-    U,
-    Code,
-    Span,
 }
 
 /// What a node is. A `Section` has its number: 0 where it is the lead, else the place of its heading among

@@ -20,7 +20,7 @@ mod table;
 pub use annotated::Annotated;
 pub use compare::{plain_eq, same_attrs, same_data, same_face, same_kind};
 pub use edit_shape::{BlockForm, EditShape, Editing, InlineForm, ItemsOf, Place, Sort};
-pub use kind::{AttrName, Kind, Mark, Ranges, Showing, TagName};
+pub use kind::{AttrName, Kind, Mark, Ranges, Showing};
 pub use laws::{joining_once, plain_forgets};
 pub use look::{find, walk};
 pub use more::More;
@@ -30,4 +30,4 @@ pub use row::{Fixed, Holding, Own, Payload, Placement, Shape, Spelling, Texts, V
 pub use shown::Shown;
 pub use slices::Slices;
 pub use source::{flat, push_texts};
-pub use wt_span::Origin;
+pub use wt_span::{Origin, TagName};

@@ -40,7 +40,7 @@ ghost use Rattle.wt_tree.specs.declared.row.Texts.TheVariants.{Page};
 ghost use Rattle.wt_tree.specs.declared.row.Writing.TheVariants.{AsText, AsVoid, RoundChildren, Unwritten};
 
 use crate::kind::Showing::{Characters, Element, Inside, Nothing};
-use crate::kind::{AttrName, Kind, Showing, TagName};
+use crate::kind::{AttrName, Kind, Showing};
 use crate::row::Holding::{
     Blocks, Cells, Entities, Inlines, InlinesThenBlocks, InlinesThenLists, Items, NoElements,
     TableParts, TableRows, Terms,
@@ -55,6 +55,7 @@ use crate::row::Writing::{AsSection, AsText, AsVoid, RoundCharacter, RoundChildr
 use crate::row::{
     Fixed, Holding, Own, Payload, Placement, Shape, Spelling, Texts, Values, Writing,
 };
+use wt_span::TagName;
 
 /// An element round its children.
 fn element(class: Placement, holding: Holding, texts: Texts) -> Shape

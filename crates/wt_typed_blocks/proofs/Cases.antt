@@ -12,7 +12,7 @@ use Rattle.wt_tree.specs.Tree.{Label, Tree, tree, Trees, none, more}
 use Rattle.wt_guards.specs.Guards.{nowiki, is_guarded, is_between_guard, is_start_guard, is_end_guard, is_blank_guard, is_parted}
 use Rattle.wt_guards.specs.Letters.{is_escaped, reference}
 use Rattle.wt_guards.specs.Table.{hazard, line_start_hazard}
-use Rattle.wt_typed_blocks.specs.Sent.{StandsAsIs, paragraph, heading, Sent, stands, typed, holds, Sents, none_sent, more_sent, old_children, all_show}
+use Rattle.wt_typed_blocks.specs.Sent.{StandsAsIs, paragraph, heading, Sent, stands, typed, holds, Sents, none_sent, more_sent, old_children, IsSent, AreSent, all_show}
 use Rattle.wt_typed_blocks.specs.Typed.{new_sources, TakeTexts, StandAt}
 use Rattle.wt_typed_blocks.specs.Unmarked.{IsToldApart, AreToldApart}
 
@@ -180,3 +180,45 @@ cell_apart = (
   ),
   tt,
 )
+
+-- ---- the page `{{h}}`, `a b`, where the call gives a heading with `c`; in the paragraph `[d]` is typed
+
+abbrev a_heading : ℕ → List ℕ → Trees
+a_heading id bs = more (tree (sent_label (kind.Heading 2) id []) (sent_words bs)) none
+
+abbrev group_sent : Trees → Sent
+group_sent us = stands (tree (a_label kind.Group 1 0 5 0 [] (codes "{{h}}")) (a_heading 0 (codes "c"))) (tree (sent_label kind.Group 1 []) us)
+
+abbrev behind_group : Trees → Sents
+behind_group us =
+    let typed_behind : Sent = typed paragraph (a_label kind.Para 2 6 9 0 [] []) (words 6 9 (codes "a b")) (sent_label kind.Para 0 []) (sent_label kind.Text 0 []) (codes "[d]") in
+    more_sent (group_sent us) (more_sent (break_at 5) (more_sent typed_behind none_sent))
+
+group_page : flat_of_all (old_children (behind_group none)) ≡ codes "{{h}}\na b"
+group_page = refl
+
+group_new_page : new_sources (behind_group none) ≡ codes "{{h}}\n&#91;d&#93;"
+unfolding is_guarded is_between_guard is_start_guard is_end_guard is_blank_guard is_parted hazard line_start_hazard nowiki is_escaped reference digits chars lib.Utf8.encode
+group_new_page = refl
+
+-- the group is sent with the heading that is written for it
+group_stands : AreSent (behind_group (a_heading 0 (codes "c")))
+group_stands = (
+  (
+    record { kind = refl; id = refl; attrs = refl; mw = refl; shown = λ e. absurd (cc); unmarked = refl },
+    record { numbered = λ e. omega (arith, e); elements = refl; unnumbered = (refl, (refl, tt)); unmarked = refl; unframed = refl },
+  ),
+  ((record { kind = refl; id = refl; attrs = refl; mw = refl; shown = λ e. refl; unmarked = refl }, tt), (λ e. omega (arith, e), tt)),
+)
+
+group_shows : all_show (behind_group none)
+    ≡ along (element (record { kind = kind.Heading 2; attrs = []; mw = None }) (along (text (codes "c")) ended))
+    (along (element (record { kind = kind.Para; attrs = []; mw = None }) (along (text (codes "[d]")) ended)) ended)
+group_shows = refl
+
+-- it isn't sent as it is without the heading, nor with a number in it
+no_element : IsSent (group_sent none) → ⊥
+no_element h = let e = h.1.elements in absurd (cc)
+
+numbered_element : IsSent (group_sent (a_heading 3 (codes "c"))) → ⊥
+numbered_element h = let e = h.1.unnumbered.0 in absurd (cc)

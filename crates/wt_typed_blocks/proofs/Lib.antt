@@ -1,3 +1,4 @@
+pub mod SentGroups
 pub mod SentKept
 pub mod SentShows
 pub mod SentSlices

@@ -4,7 +4,7 @@ use Rattle.std.specs.Prelude.{Option, Ok, Err, option_map, nat_lt, if◌then◌e
 use Rattle.std.proofs.lemmas.Bool.Decides.{nat_tests}
 use Rattle.wt_span.specs.Origins.{Expanded}
 use Rattle.wt_tree.specs.Source.{flat_of_all}
-use Rattle.wt_tree.specs.Tiling.{NoneIsGroup, InPreorder}
+use Rattle.wt_tree.specs.Tiling.{InPreorder}
 use Rattle.wt_tree.specs.Tree.{Label, Tree}
 use Rattle.wt_checks.specs.declared.refusal.TreeRefusal.{TreeRefusal}
 use Rattle.wt_checks.specs.Places.{is_content, page_of}
@@ -15,7 +15,7 @@ use Rattle.wt_selser.specs.declared.refusal.EditRefusal.{EditRefusal}
 use Rattle.wt_selser.specs.declared.refusal.EditRefusal.TheVariants as refusal
 use Rattle.wt_selser.specs.Edits.{most_bytes, if_short, unless_refused, pairs_answer, edit_answer}
 use Rattle.wt_splice.specs.Splice.{spliced}
-use Rattle.wt_typed_blocks.specs.Sent.{Sents, old_children, AreSent, old_body, new_body}
+use Rattle.wt_typed_blocks.specs.Sent.{Sents, old_children, AreSent, old_body, new_body, AreOutsideGroups}
 use Rattle.wt_typed_blocks.specs.Typed.{new_sources, TakeTexts, StandAt, AreUntangled}
 use Rattle.wt_typed_blocks.proofs.SentKept.{found, passes}
 use Rattle.wt_typed_blocks.proofs.SentSlices.{Same, pairs_of, changes_of, marked_are, slices_are, none_refused}
@@ -31,15 +31,15 @@ not_longer n m h = grind (arith, nat_tests)
 short : (new : List ℕ) → length new ≤ most_bytes → if_short new ≡ Ok new
 short new h = ap (λ (t : Bool). if t then Err refusal.NewPageTooLong else Ok new) (not_longer (length new) most_bytes h)
 
-pub answer_is : (same : Same) (items : Expanded) (page : List ℕ) (l b : Label) (ss : Sents) → InPreorder (old_body l ss) → NoneIsGroup (old_children ss)
-    → have_frame (old_children ss) ≡ false → AreSent ss → TakeTexts ss → AreUntangled items page ss → page ≡ flat_of_all (old_children ss) → StandAt 0 ss
+pub answer_is : (same : Same) (items : Expanded) (page : List ℕ) (l b : Label) (ss : Sents) → InPreorder (old_body l ss)
+    → have_frame (old_children ss) ≡ false → AreSent ss → AreOutsideGroups ss → TakeTexts ss → AreUntangled items page ss → page ≡ flat_of_all (old_children ss) → StandAt 0 ss
     → length (new_sources ss) ≤ most_bytes → edit_answer same items page (old_body l ss) (new_body l b ss) ≡ Ok (new_sources ss)
 unfolding edit_answer
-answer_is same items page l b ss pre g f h t a is at le =
+answer_is same items page l b ss pre f h o t a is at le =
     let old : Tree = old_body l ss in
     let new : Tree = new_body l b ss in
     ap (λ (c : Option TreeRefusal). unless_refused (option_map refusal.Check c) (pairs_answer same items page (marked old new) (slices same old new)))
-    (passes l b ss pre g f h)
+    (passes l b ss pre f h o)
     ∙ ap (λ (ps : List Pair). pairs_answer same items page ps (slices same old new)) (marked_are l b ss h (found l ss pre))
     ∙ ap (pairs_answer same items page (pairs_of ss)) (slices_of_body same l b ss pre f h)
     ∙ ap (λ (r : Option EditRefusal). unless_refused r (if_short (spliced page (changes_of same ss)))) (none_refused same items page ss t a)

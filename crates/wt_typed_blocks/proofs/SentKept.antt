@@ -8,28 +8,25 @@ use Rattle.wt_tree.specs.declared.kind.Mark.{Mark}
 use Rattle.wt_tree.specs.declared.kind.Mark.TheVariants as marks
 use Rattle.wt_tree.specs.declared.kind.Showing.TheVariants.{Characters}
 use Rattle.wt_tree.specs.Kinds.{showing, writing}
-use Rattle.wt_tree.specs.Tiling.{is_group, HasNoGroup, NoneIsGroup, InPreorder}
+use Rattle.wt_tree.specs.Tiling.{is_group, InPreorder}
 use Rattle.wt_tree.specs.Tree.{Label, Tree, tree, Trees, none, more, label}
 use Rattle.wt_checks.specs.Checked.{checked}
-use Rattle.wt_checks.specs.Groups.{is_marked}
+use Rattle.wt_checks.specs.Groups.{is_marked, has_mark, have_mark}
 use Rattle.wt_checks.specs.Kept.{IsSublist, kept_under, InOrder, GroupAsItWas, HoldsTheSame, NodeAsItWas, GroupKept, NodeKept, MarkKept, Kept}
 use Rattle.wt_checks.specs.Marks.{editing, allows}
 use Rattle.wt_checks.specs.Places.{Place, placed, all_placed, places, number, kind_at, is_kept, is_body, is_content, Page, page_of, parent_below}
 use Rattle.wt_checks.specs.PutBack.{is_frame, has_frame, have_frame}
 use Rattle.wt_checks.specs.Unmarked.{Entry, text as entry_text, child as entry_child, is_compared, entry_by, entry, entries, own_character}
-use Rattle.wt_checks.proofs.Found.{Itself, each_itself, found_has, found_root}
+use Rattle.wt_checks.proofs.Found.{Itself, each_itself, found_root}
 use Rattle.wt_checks.proofs.Frames.{no_frame, bare_root}
 use Rattle.wt_checks.proofs.InOrder.{not_zero_kept}
 use Rattle.wt_checks.proofs.Lookups.{each_split, each_join}
 use Rattle.wt_checks.proofs.Repeated.{or_false}
 use Rattle.wt_checks.proofs.WhatIsKept.{increasing, unrefused}
-use Rattle.wt_typed_blocks.specs.Sent.{IsSentAsIs, StandsAsIs, AllStandAsIs, Block, paragraph, heading, kind_of, text_in, Sent, stands, typed, holds, Sents, none_sent, more_sent, old_child, new_child, old_children, new_children, IsSent, AreSent, old_body, new_body}
+use Rattle.wt_typed_blocks.specs.Sent.{IsSentAsIs, GroupIsSent, StandsAsIs, AllStandAsIs, Block, paragraph, heading, kind_of, text_in, Sent, stands, typed, holds, Sents, none_sent, more_sent, old_child, new_child, old_children, new_children, IsSent, AreSent, old_body, new_body, IsOutsideGroups, AreOutsideGroups}
+use Rattle.wt_typed_blocks.proofs.SentGroups.{in_group, no_mark, all_new, new_under, new_groups, new_nodes}
 
 -- ---- numbers in their order
-
-one_sublist : (xs : List ℕ) → IsSublist xs xs
-one_sublist [] = tt
-one_sublist (x ∷ xs) = inl (refl, one_sublist xs)
 
 more_sublist : (xs us vs : List ℕ) → IsSublist xs vs → IsSublist xs (us ++ vs)
 more_sublist [] us vs h = tt
@@ -50,40 +47,55 @@ under_join : (n : ℕ) (ps qs : List Place) → kept_under n (ps ++ qs) ≡ kept
 under_join n [] qs = refl
 under_join n (p ∷ ps) qs = join_by (is_kept p && p.parent == n) (number p) (kept_under n ps) (kept_under n (ps ++ qs)) (kept_under n qs) (under_join n ps qs)
 
-mutual
-  same_under : (n m : ℕ) (v w : Bool) (t u : Tree) → StandsAsIs t u → kept_under n (placed m w u) ≡ kept_under n (placed m v t)
-  same_under n m v w (tree l ts) (tree k us) h =
-      let rest : ℕ → List ℕ = λ i. kept_under n (all_placed (parent_below m i) (w || is_content k.mark) us) in
-      ap (λ (i : ℕ). if not (i == 0) && m == n then i ∷ rest i else rest i) h.0.id
-      ∙ ap (λ (ks : List ℕ). if not (l.id == 0) && m == n then l.id ∷ ks else ks)
-      (all_same_under n (parent_below m l.id) (v || is_content l.mark) (w || is_content k.mark) ts us h.1)
+both_joined : (n : ℕ) (ps qs rs zs : List Place) → IsSublist (kept_under n ps) (kept_under n rs) → IsSublist (kept_under n qs) (kept_under n zs)
+    → IsSublist (kept_under n (ps ++ qs)) (kept_under n (rs ++ zs))
+both_joined n ps qs rs zs h k =
+    subst (λ (xs : List ℕ). IsSublist xs (kept_under n (rs ++ zs))) (sym (under_join n ps qs))
+    (subst (λ (xs : List ℕ). IsSublist (kept_under n ps ++ kept_under n qs) xs) (sym (under_join n rs zs))
+    (both_sublists (kept_under n ps) (kept_under n qs) (kept_under n rs) (kept_under n zs) h k))
 
-  all_same_under : (n m : ℕ) (v w : Bool) (ts us : Trees) → AllStandAsIs ts us → kept_under n (all_placed m w us) ≡ kept_under n (all_placed m v ts)
-  all_same_under n m v w none none h = refl
-  all_same_under n m v w none (more u us) h = absurd h
-  all_same_under n m v w (more t ts) none h = absurd h
-  all_same_under n m v w (more t ts) (more u us) h =
-      under_join n (placed m w u) (all_placed m w us)
-      ∙ ap (λ ks. ks ++ kept_under n (all_placed m w us)) (same_under n m v w t u h.0)
-      ∙ ap (λ ks. kept_under n (placed m v t) ++ ks) (all_same_under n m v w ts us h.1)
-      ∙ sym (under_join n (placed m v t) (all_placed m v ts))
+both_under : (b : Bool) (i : ℕ) (xs ys : List ℕ) → IsSublist xs ys → IsSublist (if b then i ∷ xs else xs) (if b then i ∷ ys else ys)
+both_under true i xs ys h = inl (refl, h)
+both_under false i xs ys h = h
+
+-- of nodes of which none has a number none is there
+none_sublist : (xs ys : List ℕ) → xs ≡ [] → IsSublist xs ys
+none_sublist xs ys e = subst (λ (zs : List ℕ). IsSublist zs ys) (sym e) tt
+
+mutual
+  some_under : (n m : ℕ) (v w : Bool) (t u : Tree) → StandsAsIs t u → IsSublist (kept_under n (placed m w u)) (kept_under n (placed m v t))
+  some_under n m v w (tree l ts) (tree k us) h =
+      let c : Bool = w || is_content k.mark in
+      let d : Bool = v || is_content l.mark in
+      let ys : List ℕ = kept_under n (all_placed (parent_below m l.id) d ts) in
+      let P : ℕ → Type 0 = λ i. IsSublist
+      (if not (i == 0) && m == n then i ∷ kept_under n (all_placed (parent_below m i) c us) else kept_under n (all_placed (parent_below m i) c us))
+      (if not (l.id == 0) && m == n then l.id ∷ ys else ys) in
+      subst P (sym h.0.id)
+      (both_under (not (l.id == 0) && m == n) l.id (kept_under n (all_placed (parent_below m l.id) c us)) ys
+      (in_group (is_group l.kind) h.1
+      (λ e g. none_sublist (kept_under n (all_placed (parent_below m l.id) c us)) ys
+      (new_under n (all_placed (parent_below m l.id) c us) (all_new (parent_below m l.id) c us g.unnumbered g.unframed)))
+      (λ e a. all_some_under n (parent_below m l.id) d c ts us a)))
+
+  all_some_under : (n m : ℕ) (v w : Bool) (ts us : Trees) → AllStandAsIs ts us → IsSublist (kept_under n (all_placed m w us)) (kept_under n (all_placed m v ts))
+  all_some_under n m v w none none h = tt
+  all_some_under n m v w none (more u us) h = absurd h
+  all_some_under n m v w (more t ts) none h = absurd h
+  all_some_under n m v w (more t ts) (more u us) h =
+      both_joined n (placed m w u) (all_placed m w us) (placed m v t) (all_placed m v ts) (some_under n m v w t u h.0) (all_some_under n m v w ts us h.1)
 
 under_text : (n m : ℕ) (w : Bool) (x : Label) (text : List ℕ) → kept_under n (all_placed m w (text_in x text)) ≡ []
 under_text n m w x [] = refl
 under_text n m w x (b ∷ bs) = refl
 
 typed_under : (b : Bool) (i : ℕ) (xs ys : List ℕ) → xs ≡ [] → IsSublist (if b then i ∷ xs else xs) (if b then i ∷ ys else ys)
-typed_under true i xs ys e = inl (refl, subst (λ (zs : List ℕ). IsSublist zs ys) (sym e) tt)
-typed_under false i xs ys e = subst (λ (zs : List ℕ). IsSublist zs ys) (sym e) tt
-
-both_under : (b : Bool) (i : ℕ) (xs ys : List ℕ) → IsSublist xs ys → IsSublist (if b then i ∷ xs else xs) (if b then i ∷ ys else ys)
-both_under true i xs ys h = inl (refl, h)
-both_under false i xs ys h = h
+typed_under true i xs ys e = inl (refl, none_sublist xs ys e)
+typed_under false i xs ys e = none_sublist xs ys e
 
 mutual
   child_under : (n m : ℕ) (v w : Bool) (s : Sent) → IsSent s → IsSublist (kept_under n (placed m w (new_child s))) (kept_under n (placed m v (old_child s)))
-  child_under n m v w (stands t u) h =
-      subst (λ (ks : List ℕ). IsSublist ks (kept_under n (placed m v t))) (sym (same_under n m v w t u h)) (one_sublist (kept_under n (placed m v t)))
+  child_under n m v w (stands t u) h = some_under n m v w t u h
   child_under n m v w (typed k l ts p x text) h =
       typed_under (not (l.id == 0) && m == n) l.id (kept_under n (all_placed (parent_below m l.id) (w || true) (text_in x text)))
       (kept_under n (all_placed (parent_below m l.id) (v || is_content l.mark) ts)) (under_text n (parent_below m l.id) (w || true) x text)
@@ -102,45 +114,11 @@ mutual
       → IsSublist (kept_under n (all_placed m w (new_children ss))) (kept_under n (all_placed m v (old_children ss)))
   children_under n m v w none_sent h = tt
   children_under n m v w (more_sent s ss) h =
-      let xs : List ℕ = kept_under n (placed m w (new_child s)) in
-      let ys : List ℕ = kept_under n (all_placed m w (new_children ss)) in
-      let us : List ℕ = kept_under n (placed m v (old_child s)) in
-      let vs : List ℕ = kept_under n (all_placed m v (old_children ss)) in
-      subst (λ (zs : List ℕ). IsSublist zs (kept_under n (placed m v (old_child s) ++ all_placed m v (old_children ss))))
-      (sym (under_join n (placed m w (new_child s)) (all_placed m w (new_children ss))))
-      (subst (λ (zs : List ℕ). IsSublist (xs ++ ys) zs) (sym (under_join n (placed m v (old_child s)) (all_placed m v (old_children ss))))
-      (both_sublists xs ys us vs (child_under n m v w s h.0) (children_under n m v w ss h.1)))
+      both_joined n (placed m w (new_child s)) (all_placed m w (new_children ss)) (placed m v (old_child s)) (all_placed m v (old_children ss))
+      (child_under n m v w s h.0) (children_under n m v w ss h.1)
 
 ordered : (l b : Label) (ss : Sents) → AreSent ss → InOrder (places (old_body l ss)) (places (new_body l b ss))
 ordered l b ss h = λ n. children_under n 0 (is_content l.mark) false ss h
-
--- ---- no groups
-
-mutual
-  ungrouped : (m : ℕ) (w : Bool) (t : Tree) → HasNoGroup t → AllByRecursion (λ q. is_group (kind_at q) ≡ false) (placed m w t)
-  ungrouped m w (tree l ts) h = (h.0, all_ungrouped (parent_below m l.id) (w || is_content l.mark) ts h.1)
-
-  all_ungrouped : (m : ℕ) (w : Bool) (ts : Trees) → NoneIsGroup ts → AllByRecursion (λ q. is_group (kind_at q) ≡ false) (all_placed m w ts)
-  all_ungrouped m w none h = tt
-  all_ungrouped m w (more t ts) h =
-      each_join (λ q. is_group (kind_at q) ≡ false) (placed m w t) (all_placed m w ts) (ungrouped m w t h.0) (all_ungrouped m w ts h.1)
-
-no_group : (o : Option Place) (u : Tree) → ((q : Place) → o ≡ Some q → is_group (kind_at q) ≡ false)
-    → MatchOption o (Unit {0}) (λ q. is_group (kind_at q) ≡ true → GroupAsItWas false q.node u)
-no_group None u f = tt
-no_group (Some q) u f = λ g. let e : is_group (kind_at q) ≡ false = f q refl in absurd (cc)
-
-each : (P : Place → Type 0) → ((p : Place) → P p) → (ps : List Place) → AllByRecursion P ps
-each P f [] = tt
-each P f (p ∷ ps) = (f p, each P f ps)
-
-groups_stand : (l b : Label) (ss : Sents) → NoneIsGroup (old_children ss)
-    → AllByRecursion (GroupKept false (page_of (old_body l ss))) (places (new_body l b ss))
-groups_stand l b ss g =
-    let t : Tree = old_body l ss in
-    each (GroupKept false (page_of t)) (λ p. λ k. no_group (page_of t (number p)) p.node
-    (λ q e. (found_has (λ r. is_group (kind_at r) ≡ false) (number p) q (places t) (refl, all_ungrouped 0 (is_content l.mark) (old_children ss) g) e).0))
-    (places (new_body l b ss))
 
 -- ---- nodes as they were
 
@@ -189,24 +167,43 @@ kept_of : (a b : Bool) → (a || b) ≡ true → b ≡ false → a ≡ true
 kept_of true b e f = refl
 kept_of false b e f = absurd (cc)
 
+-- a node that stands is found by its number
+found_sent : (page : Page) (i : ℕ) (v : Bool) (l m : Label) (ts : Trees) → IsSentAsIs l m → Itself page (record { node = tree l ts; parent = i; in_content = v })
+    → not (m.id == 0) ≡ true → page m.id ≡ Some (record { node = tree l ts; parent = i; in_content = v })
+found_sent page i v l m ts s it k = ap page s.id ∙ it (ap (λ (n : ℕ). not (n == 0)) (sym s.id) ∙ k)
+
+kept_sent : (l m : Label) → IsSentAsIs l m → is_frame l.kind ≡ false → (not (m.id == 0) || is_body m.kind) ≡ true → not (m.id == 0) ≡ true
+kept_sent l m s f a = kept_of (not (m.id == 0)) (is_body m.kind) a (ap is_body s.kind ∙ (no_frame l.kind f).0)
+
 node_kept : (page : Page) (i j : ℕ) (v w : Bool) (l m : Label) (ts us : Trees) → IsSentAsIs l m → entries ts ≡ entries us → is_frame l.kind ≡ false
     → have_frame ts ≡ false → Itself page (record { node = tree l ts; parent = i; in_content = v })
     → NodeKept page (record { node = tree m us; parent = j; in_content = w })
 node_kept page i j v w l m ts us s h f d it = λ a b.
-    let k : not (m.id == 0) ≡ true = kept_of (not (m.id == 0)) (is_body m.kind) a (ap is_body s.kind ∙ (no_frame l.kind f).0) in
-    let e : page m.id ≡ Some (record { node = tree l ts; parent = i; in_content = v }) =
-    ap page s.id ∙ it (ap (λ (n : ℕ). not (n == 0)) (sym s.id) ∙ k) in
-    kept_by page (record { node = tree m us; parent = j; in_content = w }) (record { node = tree l ts; parent = i; in_content = v }) e
-    (as_it_was l m ts us s h d) a b
+    kept_by page (record { node = tree m us; parent = j; in_content = w }) (record { node = tree l ts; parent = i; in_content = v })
+    (found_sent page i v l m ts s it (kept_sent l m s f a)) (as_it_was l m ts us s h d) a b
+
+-- a group is asked otherwise
+group_no_node : (page : Page) (i j : ℕ) (v w : Bool) (l m : Label) (ts us : Trees) → IsSentAsIs l m → is_group l.kind ≡ true → is_frame l.kind ≡ false
+    → Itself page (record { node = tree l ts; parent = i; in_content = v }) → NodeKept page (record { node = tree m us; parent = j; in_content = w })
+group_no_node page i j v w l m ts us s e f it = λ a b.
+    subst (λ (o : Option Place). MatchOption o (Unit {0}) (λ r. is_group (kind_at r) ≡ false → NodeAsItWas r.node (tree m us)))
+    (sym (found_sent page i v l m ts s it (kept_sent l m s f a))) (λ x. let d : is_group l.kind ≡ false = x in absurd (cc))
 
 mutual
   nodes_kept : (page : Page) (i j : ℕ) (v w : Bool) (t u : Tree) → StandsAsIs t u → has_frame t ≡ false → AllByRecursion (Itself page) (placed i v t)
       → AllByRecursion (NodeKept page) (placed j w u)
   nodes_kept page i j v w (tree l ts) (tree m us) h f it =
-      let d = or_false (is_frame l.kind) (have_frame ts) f in (
-        node_kept page i j v w l m ts us h.0 (entries_same ts us h.1) d.0 d.1 it.0,
-        all_nodes_kept page (parent_below i l.id) (parent_below j m.id) (v || is_content l.mark) (w || is_content m.mark) ts us h.1 d.1 it.1,
-      )
+      let d = or_false (is_frame l.kind) (have_frame ts) f in
+      let c : Bool = w || is_content m.mark in
+      in_group (is_group l.kind) h.1
+      (λ e g. (
+        group_no_node page i j v w l m ts us h.0 e d.0 it.0,
+        new_nodes page (all_placed (parent_below j m.id) c us) (all_new (parent_below j m.id) c us g.unnumbered g.unframed),
+      ))
+      (λ e a. (
+        node_kept page i j v w l m ts us h.0 (entries_same ts us a) d.0 d.1 it.0,
+        all_nodes_kept page (parent_below i l.id) (parent_below j m.id) (v || is_content l.mark) c ts us a d.1 it.1,
+      ))
 
   all_nodes_kept : (page : Page) (i j : ℕ) (v w : Bool) (ts us : Trees) → AllStandAsIs ts us → have_frame ts ≡ false
       → AllByRecursion (Itself page) (all_placed i v ts) → AllByRecursion (NodeKept page) (all_placed j w us)
@@ -277,21 +274,102 @@ nodes_stand l b ss pre f h =
       children_kept (page_of t) 0 0 (is_content l.mark) false ss h f (found l ss pre),
     )
 
+-- ---- groups as they were
+
+group_by : (page : Page) (p q : Place) → (is_kept p ≡ true → page (number p) ≡ Some q) → (is_group (kind_at q) ≡ true → GroupAsItWas false q.node p.node)
+    → GroupKept false page p
+group_by page p q f h = λ k.
+    subst (λ (o : Option Place). MatchOption o (Unit {0}) (λ r. is_group (kind_at r) ≡ true → GroupAsItWas false r.node p.node)) (sym (f k)) h
+
+no_group_by : (page : Page) (p q : Place) → (is_kept p ≡ true → page (number p) ≡ Some q) → is_group (kind_at q) ≡ false → GroupKept false page p
+no_group_by page p q f e = group_by page p q f (λ x. absurd (cc))
+
+group_was : (l m : Label) (ts us : Trees) → IsSentAsIs l m → is_group l.kind ≡ true → GroupIsSent l ts us → GroupAsItWas false (tree l ts) (tree m us)
+group_was l m ts us s e g = record {
+  unmarked = ap (λ (c : Mark). is_marked c || have_mark us) s.unmarked ∙ g.unmarked;
+  group = ap is_group s.kind ∙ e;
+  attrs = sym s.attrs;
+  elements = g.elements;
+  mw = inr (sym s.mw);
+}
+
+mutual
+  groups_kept : (page : Page) (i j : ℕ) (v w : Bool) (t u : Tree) → StandsAsIs t u → AllByRecursion (Itself page) (placed i v t)
+      → AllByRecursion (GroupKept false page) (placed j w u)
+  groups_kept page i j v w (tree l ts) (tree m us) h it =
+      let old : Place = record { node = tree l ts; parent = i; in_content = v } in
+      let new : Place = record { node = tree m us; parent = j; in_content = w } in
+      let c : Bool = w || is_content m.mark in
+      in_group (is_group l.kind) h.1
+      (λ e g. (
+        group_by page new old (found_sent page i v l m ts h.0 it.0) (λ x. group_was l m ts us h.0 e g),
+        new_groups page (all_placed (parent_below j m.id) c us) (all_new (parent_below j m.id) c us g.unnumbered g.unframed),
+      ))
+      (λ e a. (
+        no_group_by page new old (found_sent page i v l m ts h.0 it.0) e,
+        all_groups_kept page (parent_below i l.id) (parent_below j m.id) (v || is_content l.mark) c ts us a it.1,
+      ))
+
+  all_groups_kept : (page : Page) (i j : ℕ) (v w : Bool) (ts us : Trees) → AllStandAsIs ts us → AllByRecursion (Itself page) (all_placed i v ts)
+      → AllByRecursion (GroupKept false page) (all_placed j w us)
+  all_groups_kept page i j v w none none h it = tt
+  all_groups_kept page i j v w none (more u us) h it = absurd h
+  all_groups_kept page i j v w (more t ts) none h it = absurd h
+  all_groups_kept page i j v w (more t ts) (more u us) h it =
+      let s = each_split (Itself page) (placed i v t) (all_placed i v ts) it in
+      each_join (GroupKept false page) (placed j w u) (all_placed j w us) (groups_kept page i j v w t u h.0 s.0) (all_groups_kept page i j v w ts us h.1 s.1)
+
+text_ungrouped : (page : Page) (j : ℕ) (w : Bool) (x : Label) (text : List ℕ) → AllByRecursion (GroupKept false page) (all_placed j w (text_in x text))
+text_ungrouped page j w x [] = tt
+text_ungrouped page j w x (c ∷ cs) = (λ k. absurd (cc), tt)
+
+block_ungrouped : (k : Block) → is_group (kind_of k) ≡ false
+block_ungrouped paragraph = refl
+block_ungrouped (heading n) = refl
+
+mutual
+  child_groups : (page : Page) (i j : ℕ) (v w : Bool) (s : Sent) → IsSent s → IsOutsideGroups s → AllByRecursion (Itself page) (placed i v (old_child s))
+      → AllByRecursion (GroupKept false page) (placed j w (new_child s))
+  child_groups page i j v w (stands t u) h o it = groups_kept page i j v w t u h it
+  child_groups page i j v w (typed k l ts m x text) h o it =
+      let old : Tree = old_child (typed k l ts m x text) in
+      let new : Tree = new_child (typed k l ts m x text) in (
+        no_group_by page (record { node = new; parent = j; in_content = w }) (record { node = old; parent = i; in_content = v }) it.0 (block_ungrouped k),
+        text_ungrouped page (parent_below j l.id) (w || true) x text,
+      )
+  child_groups page i j v w (holds l m ss) h o it = (
+    no_group_by page (record { node = tree m (new_children ss); parent = j; in_content = w }) (record { node = tree l (old_children ss); parent = i; in_content = v })
+        (found_sent page i v l m (old_children ss) h.0 it.0) o.0,
+    children_groups page (parent_below i l.id) (parent_below j m.id) (v || is_content l.mark) (w || is_content m.mark) ss h.1 o.1 it.1,
+  )
+
+  children_groups : (page : Page) (i j : ℕ) (v w : Bool) (ss : Sents) → AreSent ss → AreOutsideGroups ss → AllByRecursion (Itself page) (all_placed i v (old_children ss))
+      → AllByRecursion (GroupKept false page) (all_placed j w (new_children ss))
+  children_groups page i j v w none_sent h o it = tt
+  children_groups page i j v w (more_sent s ss) h o it =
+      let p = each_split (Itself page) (placed i v (old_child s)) (all_placed i v (old_children ss)) it in
+      each_join (GroupKept false page) (placed j w (new_child s)) (all_placed j w (new_children ss)) (child_groups page i j v w s h.0 o.0 p.0)
+      (children_groups page i j v w ss h.1 o.1 p.1)
+
+groups_stand : (l b : Label) (ss : Sents) → InPreorder (old_body l ss) → AreSent ss → AreOutsideGroups ss
+    → AllByRecursion (GroupKept false (page_of (old_body l ss))) (places (new_body l b ss))
+groups_stand l b ss pre h o = (λ k. absurd (cc), children_groups (page_of (old_body l ss)) 0 0 (is_content l.mark) false ss h o (found l ss pre))
+
 -- ---- marks
 
 mutual
-  marks_none : (page : Page) (j : ℕ) (w : Bool) (t u : Tree) → StandsAsIs t u → AllByRecursion (MarkKept page) (placed j w u)
-  marks_none page j w (tree l ts) (tree m us) h = (
-    λ e. let n : is_marked m.mark ≡ false = ap is_marked h.0.unmarked in absurd (cc),
-    all_marks_none page (parent_below j m.id) (w || is_content m.mark) ts us h.1,
-  )
+  marks_none : (page : Page) (j : ℕ) (w : Bool) (u : Tree) → has_mark u ≡ false → AllByRecursion (MarkKept page) (placed j w u)
+  marks_none page j w (tree m us) h =
+      let d = or_false (is_marked m.mark) (have_mark us) h in (
+        λ e. let n : is_marked m.mark ≡ false = d.0 in absurd (cc),
+        all_marks_none page (parent_below j m.id) (w || is_content m.mark) us d.1,
+      )
 
-  all_marks_none : (page : Page) (j : ℕ) (w : Bool) (ts us : Trees) → AllStandAsIs ts us → AllByRecursion (MarkKept page) (all_placed j w us)
-  all_marks_none page j w none none h = tt
-  all_marks_none page j w none (more u us) h = absurd h
-  all_marks_none page j w (more t ts) none h = absurd h
-  all_marks_none page j w (more t ts) (more u us) h =
-      each_join (MarkKept page) (placed j w u) (all_placed j w us) (marks_none page j w t u h.0) (all_marks_none page j w ts us h.1)
+  all_marks_none : (page : Page) (j : ℕ) (w : Bool) (us : Trees) → have_mark us ≡ false → AllByRecursion (MarkKept page) (all_placed j w us)
+  all_marks_none page j w none h = tt
+  all_marks_none page j w (more u us) h =
+      let d = or_false (has_mark u) (have_mark us) h in
+      each_join (MarkKept page) (placed j w u) (all_placed j w us) (marks_none page j w u d.0) (all_marks_none page j w us d.1)
 
 text_unmarked : (page : Page) (j : ℕ) (w : Bool) (x : Label) (text : List ℕ) → AllByRecursion (MarkKept page) (all_placed j w (text_in x text))
 text_unmarked page j w x [] = tt
@@ -303,7 +381,7 @@ allowed_in (heading n) o = refl
 
 mutual
   child_marked : (page : Page) (j : ℕ) (s : Sent) → IsSent s → AllByRecursion (MarkKept page) (placed j false (new_child s))
-  child_marked page j (stands t u) h = marks_none page j false t u h
+  child_marked page j (stands t u) h = marks_none page j false u (no_mark t u h)
   child_marked page j (typed k l ts m x text) h = (
     λ e. record {
       outside = refl;
@@ -325,14 +403,14 @@ mutual
 
 -- ---- all of it
 
-pub passes : (l b : Label) (ss : Sents) → InPreorder (old_body l ss) → NoneIsGroup (old_children ss) → have_frame (old_children ss) ≡ false → AreSent ss
+pub passes : (l b : Label) (ss : Sents) → InPreorder (old_body l ss) → have_frame (old_children ss) ≡ false → AreSent ss → AreOutsideGroups ss
     → checked false (old_body l ss) (new_body l b ss) ≡ None
-passes l b ss pre g f h =
+passes l b ss pre f h o =
     let t : Tree = old_body l ss in
     let u : Tree = new_body l b ss in
     let all : Kept false t u = record {
       order = ordered l b ss h;
-      groups = groups_stand l b ss g;
+      groups = groups_stand l b ss pre h o;
       nodes = nodes_stand l b ss pre f h;
       marks = (λ e. absurd (cc), children_marked (page_of t) 0 ss h);
     } in

@@ -4,7 +4,7 @@ use Rattle.std.specs.Prelude.{Ok, ◌||◌}
 use Rattle.wt_span.specs.Origins.{Expanded}
 use Rattle.wt_tree.specs.Opened.{without_sections}
 use Rattle.wt_tree.specs.Source.{flat_of_all}
-use Rattle.wt_tree.specs.Tiling.{NoneIsGroup, InPreorder}
+use Rattle.wt_tree.specs.Tiling.{InPreorder}
 use Rattle.wt_tree.specs.declared.kind.Kind.{Kind}
 use Rattle.wt_tree.specs.Tree.{Label, Tree}
 use Rattle.wt_checks.specs.BareSections.{HasBareSections}
@@ -12,7 +12,7 @@ use Rattle.wt_checks.specs.PutBack.{is_frame, has_frame, have_frame, IsOneBody}
 use Rattle.wt_checks.proofs.Repeated.{or_false}
 use Rattle.wt_selser.specs.Edits.{most_bytes, edit_answer}
 use Rattle.wt_selser.proofs.Sections.{answers_same}
-use Rattle.wt_typed_blocks.specs.Sent.{paragraph, heading, Sent, stands, typed, holds, Sents, none_sent, more_sent, old_child, new_child, old_children, new_children, IsSent, AreSent, old_body, new_body}
+use Rattle.wt_typed_blocks.specs.Sent.{paragraph, heading, Sent, stands, typed, holds, Sents, none_sent, more_sent, old_child, new_child, old_children, new_children, IsSent, AreSent, old_body, new_body, AreOutsideGroups}
 use Rattle.wt_typed_blocks.specs.Typed.{new_sources, TakeTexts, StandAt, AreUntangled}
 use Rattle.wt_typed_blocks.proofs.SentSlices.{Same}
 use Rattle.wt_typed_blocks.proofs.SentAnswer.{answer_is}
@@ -39,10 +39,10 @@ pub one_body : (l b : Label) (ss : Sents) → AreSent ss → have_frame (old_chi
 one_body l b ss h f = record { root = refl; alone = frameless ss h f }
 
 pub answer_in_sections : (same : Same) (items : Expanded) (page : List ℕ) (t : Tree) (l b : Label) (ss : Sents) → HasBareSections t
-    → without_sections t ≡ old_body l ss → InPreorder (old_body l ss) → NoneIsGroup (old_children ss)
-    → have_frame (old_children ss) ≡ false → AreSent ss → TakeTexts ss → AreUntangled items page ss → page ≡ flat_of_all (old_children ss) → StandAt 0 ss
+    → without_sections t ≡ old_body l ss → InPreorder (old_body l ss)
+    → have_frame (old_children ss) ≡ false → AreSent ss → AreOutsideGroups ss → TakeTexts ss → AreUntangled items page ss → page ≡ flat_of_all (old_children ss) → StandAt 0 ss
     → length (new_sources ss) ≤ most_bytes → edit_answer same items page t (new_body l b ss) ≡ Ok (new_sources ss)
-answer_in_sections same items page t l b ss bare w pre g f h x a is at le =
+answer_in_sections same items page t l b ss bare w pre f h g x a is at le =
     answers_same same items page t (new_body l b ss) bare (one_body l b ss h f)
     ∙ ap (λ (o : Tree). edit_answer same items page o (new_body l b ss)) w
-    ∙ answer_is same items page l b ss pre g f h x a is at le
+    ∙ answer_is same items page l b ss pre f h g x a is at le

@@ -11,12 +11,14 @@ use Rattle.wt_tree.specs.Tree.{Label, Tree, tree, Trees, none, more, label}
 use Rattle.wt_guards.specs.Content.{letters}
 use Rattle.wt_guards.specs.Guards.{spelled}
 use Rattle.wt_original.specs.Kept.{kept_with}
-use Rattle.wt_escape.specs.Spelling.{inline_spelling}
+use Rattle.wt_link_spelling.specs.Spelling.{inline_spelling}
+use Rattle.wt_checks.specs.Groups.{is_marked, has_mark, have_mark}
 use Rattle.wt_checks.specs.Marks.{is_children}
 use Rattle.wt_checks.specs.Places.{Place, placed, all_placed, Page, page_of, is_content, parent_below}
 use Rattle.wt_checks.proofs.Found.{Itself}
 use Rattle.wt_checks.proofs.InOrder.{not_zero_kept}
 use Rattle.wt_checks.proofs.Lookups.{each_split}
+use Rattle.wt_checks.proofs.Repeated.{or_false}
 use Rattle.wt_content.specs.declared.reason.ContentWhy.{ContentWhy}
 use Rattle.wt_content.specs.declared.reason.ContentWhy.TheVariants as why
 use Rattle.wt_content.specs.Content.{bad_content, has_break, first_why, break_fault}
@@ -26,8 +28,9 @@ use Rattle.wt_selser.specs.declared.refusal.EditRefusal.{EditRefusal}
 use Rattle.wt_selser.specs.declared.refusal.EditRefusal.TheVariants as refusal
 use Rattle.wt_selser.specs.Edits.{first_with, first_of, bad_pair, tangled_pair, refused_pairs}
 use Rattle.wt_splice.specs.Splice.{Change}
-use Rattle.wt_typed_blocks.specs.Sent.{StandsAsIs, AllStandAsIs, Block, paragraph, heading, text_in, Sent, stands, typed, holds, Sents, none_sent, more_sent, old_child, new_child, old_children, new_children, IsSent, AreSent, old_body, new_body}
+use Rattle.wt_typed_blocks.specs.Sent.{Block, paragraph, heading, text_in, Sent, stands, typed, holds, Sents, none_sent, more_sent, old_child, new_child, old_children, new_children, IsSent, AreSent, old_body, new_body}
 use Rattle.wt_typed_blocks.specs.Typed.{place_of, block_source, Takes, TakesText, TakeTexts, IsUntangled, AreUntangled}
+use Rattle.wt_typed_blocks.proofs.SentGroups.{no_mark, mark_none}
 
 abbrev pub Same : Type 0
 Same = Tree → Tree → Bool
@@ -46,19 +49,19 @@ abbrev mutual
   pairs_of (more_sent s ss) = pairs_in s ++ pairs_of ss
 
 mutual
-  no_pairs : (page : Page) (j : ℕ) (w : Bool) (t u : Tree) → StandsAsIs t u → flat_map (pair_at page) (placed j w u) ≡ []
-  no_pairs page j w (tree l ts) (tree m us) h =
+  no_pairs : (page : Page) (j : ℕ) (w : Bool) (u : Tree) → has_mark u ≡ false → flat_map (pair_at page) (placed j w u) ≡ []
+  no_pairs page j w (tree m us) h =
+      let d = or_false (is_marked m.mark) (have_mark us) h in
       ap (λ (c : Mark). (if is_edited c then pair_with (page m.id) (tree m us) else [])
-      ++ flat_map (pair_at page) (all_placed (parent_below j m.id) (w || is_content m.mark) us)) h.0.unmarked
-      ∙ all_no_pairs page (parent_below j m.id) (w || is_content m.mark) ts us h.1
+      ++ flat_map (pair_at page) (all_placed (parent_below j m.id) (w || is_content m.mark) us)) (mark_none m.mark d.0)
+      ∙ all_no_pairs page (parent_below j m.id) (w || is_content m.mark) us d.1
 
-  all_no_pairs : (page : Page) (j : ℕ) (w : Bool) (ts us : Trees) → AllStandAsIs ts us → flat_map (pair_at page) (all_placed j w us) ≡ []
-  all_no_pairs page j w none none h = refl
-  all_no_pairs page j w none (more u us) h = absurd h
-  all_no_pairs page j w (more t ts) none h = absurd h
-  all_no_pairs page j w (more t ts) (more u us) h =
+  all_no_pairs : (page : Page) (j : ℕ) (w : Bool) (us : Trees) → have_mark us ≡ false → flat_map (pair_at page) (all_placed j w us) ≡ []
+  all_no_pairs page j w none h = refl
+  all_no_pairs page j w (more u us) h =
+      let d = or_false (has_mark u) (have_mark us) h in
       flat_map-append (pair_at page) (placed j w u) (all_placed j w us)
-      ∙ ap (λ (ps : List Pair). ps ++ flat_map (pair_at page) (all_placed j w us)) (no_pairs page j w t u h.0) ∙ all_no_pairs page j w ts us h.1
+      ∙ ap (λ (ps : List Pair). ps ++ flat_map (pair_at page) (all_placed j w us)) (no_pairs page j w u d.0) ∙ all_no_pairs page j w us d.1
 
 text_pairs : (page : Page) (j : ℕ) (w : Bool) (x : Label) (text : List ℕ) → flat_map (pair_at page) (all_placed j w (text_in x text)) ≡ []
 text_pairs page j w x [] = refl
@@ -67,7 +70,7 @@ text_pairs page j w x (c ∷ cs) = refl
 mutual
   found_in : (page : Page) (i j : ℕ) (v w : Bool) (s : Sent) → IsSent s → AllByRecursion (Itself page) (placed i v (old_child s))
       → flat_map (pair_at page) (placed j w (new_child s)) ≡ pairs_in s
-  found_in page i j v w (stands t u) h it = no_pairs page j w t u h
+  found_in page i j v w (stands t u) h it = no_pairs page j w u (no_mark t u h)
   found_in page i j v w (typed k l ts m x text) h it =
       let s : Sent = typed k l ts m x text in
       let inside : List Pair = flat_map (pair_at page) (all_placed (parent_below j l.id) (w || true) (text_in x text)) in
@@ -109,22 +112,22 @@ abbrev mutual
   changes_of same (more_sent s ss) = change_of same s ++ changes_of same ss
 
 mutual
-  no_insides : (same : Same) (page : Page) (t u : Tree) → StandsAsIs t u → insides same page u ≡ []
-  no_insides same page (tree l ts) (tree m us) h =
-      ap (λ (c : Mark). if is_content c then inside_of same (page m.id) (tree m us) else all_insides same page us) h.0.unmarked
-      ∙ all_no_insides same page ts us h.1
+  no_insides : (same : Same) (page : Page) (u : Tree) → has_mark u ≡ false → insides same page u ≡ []
+  no_insides same page (tree m us) h =
+      let d = or_false (is_marked m.mark) (have_mark us) h in
+      ap (λ (c : Mark). if is_content c then inside_of same (page m.id) (tree m us) else all_insides same page us) (mark_none m.mark d.0)
+      ∙ all_no_insides same page us d.1
 
-  all_no_insides : (same : Same) (page : Page) (ts us : Trees) → AllStandAsIs ts us → all_insides same page us ≡ []
-  all_no_insides same page none none h = refl
-  all_no_insides same page none (more u us) h = absurd h
-  all_no_insides same page (more t ts) none h = absurd h
-  all_no_insides same page (more t ts) (more u us) h =
-      ap (λ (cs : List Change). cs ++ all_insides same page us) (no_insides same page t u h.0) ∙ all_no_insides same page ts us h.1
+  all_no_insides : (same : Same) (page : Page) (us : Trees) → have_mark us ≡ false → all_insides same page us ≡ []
+  all_no_insides same page none h = refl
+  all_no_insides same page (more u us) h =
+      let d = or_false (has_mark u) (have_mark us) h in
+      ap (λ (cs : List Change). cs ++ all_insides same page us) (no_insides same page u d.0) ∙ all_no_insides same page us d.1
 
 mutual
   inside_is : (same : Same) (page : Page) (i : ℕ) (v : Bool) (s : Sent) → IsSent s → AllByRecursion (Itself page) (placed i v (old_child s))
       → insides same page (new_child s) ≡ change_of same s
-  inside_is same page i v (stands t u) h it = no_insides same page t u h
+  inside_is same page i v (stands t u) h it = no_insides same page u (no_mark t u h)
   inside_is same page i v (typed k l ts m x text) h it =
       ap (λ (o : Option Place). inside_of same o (new_child (typed k l ts m x text))) (it.0 (not_zero_kept l.id h))
   inside_is same page i v (holds l m ss) h it =

@@ -10,11 +10,11 @@ use Rattle.wt_tree.specs.declared.kind.Mark.TheVariants as marks
 use Rattle.wt_tree.specs.Kinds.{showing, is_block}
 use Rattle.wt_tree.specs.Opened.{opened, without_sections}
 use Rattle.wt_recut.specs.Recut.{any_shows_block}
-use Rattle.wt_tree.specs.Tiling.{is_group, HasNoGroup, NoneIsGroup, InPreorder}
+use Rattle.wt_tree.specs.Tiling.{is_group, InPreorder}
 use Rattle.wt_tree.specs.Tree.{Label, Tree, tree, Trees, none, more, label}
 use Rattle.wt_checks.specs.Alike.{same_kind, same_attrs}
 use Rattle.wt_checks.specs.BareSections.{HasBareSections}
-use Rattle.wt_checks.specs.Groups.{is_marked, has_mark, have_mark}
+use Rattle.wt_checks.specs.Groups.{has_mark}
 use Rattle.wt_checks.specs.Kept.{children}
 use Rattle.wt_checks.specs.Places.{Place, all_placed, placed, Page, page_of, is_content, parent_below}
 use Rattle.wt_checks.specs.PutBack.{is_frame, has_frame, have_frame, IsOneBody}
@@ -31,12 +31,13 @@ use Rattle.wt_difference.specs.Difference.{is_partner, stays_in, is_stable, numb
 use Rattle.wt_difference.specs.Insides.{is_block_part, has_inside, is_separator, ends_inside, before_blocks, from_blocks, inside, held}
 use Rattle.wt_difference.specs.Remarked.{mark_of, remarked_in, all_remarked, remarked}
 use Rattle.wt_difference.specs.Tokens.{all_tokens, same_tokens}
-use Rattle.wt_difference.specs.Unedited.{GroupOr, IsUnedited, AreUnedited}
+use Rattle.wt_difference.specs.Unedited.{IsUnedited, AreUnedited}
 use Rattle.wt_difference.proofs.Remarks.{bare_stays, marks_alone, none_marked, block_no_group}
 use Rattle.wt_difference.proofs.UneditedLaws.{nothing_differs}
-use Rattle.wt_typed_blocks.specs.Sent.{StandsAsIs, AllStandAsIs, Block, paragraph, heading, kind_of, text_in, Sent, stands, typed, holds, Sents, none_sent, more_sent, old_child, new_child, old_children, new_children, IsSent, AreSent, old_body, new_body}
+use Rattle.wt_typed_blocks.specs.Sent.{Block, paragraph, heading, kind_of, text_in, Sent, stands, typed, holds, Sents, none_sent, more_sent, old_child, new_child, old_children, new_children, IsSent, AreSent, old_body, new_body}
 use Rattle.wt_typed_blocks.specs.Unmarked.{free_child, free_children, free_body, HoldInBlocks, IsOwnHolder, IsToldApart, AreToldApart}
 use Rattle.wt_typed_blocks.proofs.SentFrames.{no_frame_sent}
+use Rattle.wt_typed_blocks.proofs.SentGroups.{both_ways, no_group, no_mark}
 use Rattle.wt_typed_blocks.proofs.SentKept.{found}
 
 -- ---- the page's own body, with what is sent for the children that stand
@@ -55,29 +56,29 @@ abbrev kept_body : Label → Sents → Tree
 kept_body l ss = tree (record l { kind = kind.Body; id = 0 }) (kept_children ss)
 
 mutual
-  unedited_itself : (t : Tree) → HasNoGroup t → IsUnedited t t
-  unedited_itself (tree l ts) h = (
+  unedited_itself : (t : Tree) → IsUnedited t t
+  unedited_itself (tree l ts) = (
     record { id = refl; kind = refl; attrs = refl; mw = refl; shown = refl },
-    subst (λ (g : Bool). GroupOr g (any_shows_block ts ≡ any_shows_block ts) (AreUnedited ts ts)) (sym h.0) (all_unedited_themselves ts h.1),
+    both_ways (is_group l.kind) refl (all_unedited_themselves ts),
   )
 
-  all_unedited_themselves : (ts : Trees) → NoneIsGroup ts → AreUnedited ts ts
-  all_unedited_themselves none h = tt
-  all_unedited_themselves (more t ts) h = (unedited_itself t h.0, all_unedited_themselves ts h.1)
+  all_unedited_themselves : (ts : Trees) → AreUnedited ts ts
+  all_unedited_themselves none = tt
+  all_unedited_themselves (more t ts) = (unedited_itself t, all_unedited_themselves ts)
 
 mutual
-  unedited_kept : (s : Sent) → HasNoGroup (old_child s) → IsToldApart s → IsUnedited (old_child s) (kept_child s)
-  unedited_kept (stands t u) g a = a
-  unedited_kept (typed k l ts m x text) g a = unedited_itself (old_child (typed k l ts m x text)) g
-  unedited_kept (holds l m ss) g a = (
+  unedited_kept : (s : Sent) → IsToldApart s → IsUnedited (old_child s) (kept_child s)
+  unedited_kept (stands t u) a = a
+  unedited_kept (typed k l ts m x text) a = unedited_itself (old_child (typed k l ts m x text))
+  unedited_kept (holds l m ss) a = (
     a.0.own,
-    subst (λ (b : Bool). GroupOr b (any_shows_block (old_children ss) ≡ any_shows_block (kept_children ss)) (AreUnedited (old_children ss) (kept_children ss)))
-        (sym g.0) (all_unedited_kept ss g.1 a.1),
+    no_group (any_shows_block (old_children ss) ≡ any_shows_block (kept_children ss)) (is_group l.kind) (block_no_group l.kind a.0.part)
+        (all_unedited_kept ss a.1),
   )
 
-  all_unedited_kept : (ss : Sents) → NoneIsGroup (old_children ss) → AreToldApart ss → AreUnedited (old_children ss) (kept_children ss)
-  all_unedited_kept none_sent g a = tt
-  all_unedited_kept (more_sent s ss) g a = (unedited_kept s g.0 a.0, all_unedited_kept ss g.1 a.1)
+  all_unedited_kept : (ss : Sents) → AreToldApart ss → AreUnedited (old_children ss) (kept_children ss)
+  all_unedited_kept none_sent a = tt
+  all_unedited_kept (more_sent s ss) a = (unedited_kept s a.0, all_unedited_kept ss a.1)
 
 -- ---- no frame in it
 
@@ -116,26 +117,16 @@ mutual
 
 -- ---- it has no marks
 
-mutual
-  no_mark : (t u : Tree) → StandsAsIs t u → has_mark u ≡ false
-  no_mark (tree l ts) (tree m us) h = ap (λ (k : Mark). is_marked k || have_mark us) h.0.unmarked ∙ all_no_mark ts us h.1
-
-  all_no_mark : (ts us : Trees) → AllStandAsIs ts us → have_mark us ≡ false
-  all_no_mark none none h = refl
-  all_no_mark none (more u us) h = absurd h
-  all_no_mark (more t ts) none h = absurd h
-  all_no_mark (more t ts) (more u us) h = ap (λ (b : Bool). b || have_mark us) (no_mark t u h.0) ∙ all_no_mark ts us h.1
-
 not_true : (b : Bool) → true ≡ not b → b ≡ false
 not_true true e = absurd (cc)
 not_true false e = refl
 
 own_remarked : (t : Tree) (l : Label) (ss : Sents) → (label t).kind ≡ kind.Body → InPreorder t → HasBareSections t → without_sections t ≡ old_body l ss
-    → NoneIsGroup (old_children ss) → have_frame (old_children ss) ≡ false → AreSent ss → AreToldApart ss
+    → have_frame (old_children ss) ≡ false → AreSent ss → AreToldApart ss
     → remarked t (kept_body l ss) ≡ unmarked (kept_body l ss)
-own_remarked t l ss k pre bare w g f h a =
+own_remarked t l ss k pre bare w f h a =
     let u : Tree = kept_body l ss in
-    let own : IsUnedited (old_body l ss) u = (record { id = refl; kind = refl; attrs = refl; mw = refl; shown = refl }, all_unedited_kept ss g a) in
+    let own : IsUnedited (old_body l ss) u = (record { id = refl; kind = refl; attrs = refl; mw = refl; shown = refl }, all_unedited_kept ss a) in
     let one : IsOneBody u = record { root = refl; alone = kept_frameless ss h f } in
     let none_differs : difference t u ≡ [] = nothing_differs t u k pre bare one (subst (λ (o : Tree). IsUnedited o u) (sym w) own) in
     let bare_so : has_mark (remarked t u) ≡ false = not_true (has_mark (remarked t u)) (sym (ap are_none none_differs) ∙ none_marked t u) in
@@ -266,14 +257,14 @@ typed_ends : (k : Block) (l : Label) (ts : Trees) (m x : Label) (text : List ℕ
 typed_ends paragraph l ts m x text = refl
 typed_ends (heading n) l ts m x text = refl
 
-no_group : (l m : Label) (ss : Sents) → IsOwnHolder l m ss → is_group m.kind ≡ false
-no_group l m ss a = ap is_group (sym a.own.kind) ∙ block_no_group l.kind a.part
+holder_no_group : (l m : Label) (ss : Sents) → IsOwnHolder l m ss → is_group m.kind ≡ false
+holder_no_group l m ss a = ap is_group (sym a.own.kind) ∙ block_no_group l.kind a.part
 
 ends_alike : (s : Sent) → IsToldApart s → ends_inside (free_child s) ≡ ends_inside (kept_child s)
 ends_alike (stands t u) a = refl
 ends_alike (typed k l ts m x text) a = typed_ends k l ts m x text
 ends_alike (holds l m ss) a =
-    let g : is_group m.kind ≡ false = no_group l m ss a.0 in
+    let g : is_group m.kind ≡ false = holder_no_group l m ss a.0 in
     ap (λ (b : Bool). is_separator m.kind || (if b then any_shows_block (free_children ss) else is_block m.kind)) g
     ∙ sym (ap (λ (b : Bool). is_separator m.kind || (if b then any_shows_block (kept_children ss) else is_block m.kind)) g)
 
@@ -286,7 +277,7 @@ or_true false b e = e
 holder_ends : (l m : Label) (ss : Sents) (us : Trees) → IsOwnHolder l m ss → is_block l.kind ≡ true → ends_inside (tree m us) ≡ true
 holder_ends l m ss us a e =
     or_true (is_separator m.kind) (if is_group m.kind then any_shows_block us else is_block m.kind)
-    (ap (λ (b : Bool). if b then any_shows_block us else is_block m.kind) (no_group l m ss a) ∙ ap is_block (sym a.own.kind) ∙ e)
+    (ap (λ (b : Bool). if b then any_shows_block us else is_block m.kind) (holder_no_group l m ss a) ∙ ap is_block (sym a.own.kind) ∙ e)
 
 before_alike : (ss : Sents) → AreToldApart ss → HoldInBlocks ss → before_blocks (free_children ss) ≡ before_blocks (kept_children ss)
 before_alike none_sent a h = refl
@@ -402,12 +393,12 @@ body_mark t l b ss bare f h e =
 -- ---- the body
 
 pub told_by_difference : (t : Tree) (l b : Label) (ss : Sents) → (label t).kind ≡ kind.Body → InPreorder t → HasBareSections t
-    → without_sections t ≡ old_body l ss → InPreorder (old_body l ss) → NoneIsGroup (old_children ss) → have_frame (old_children ss) ≡ false
+    → without_sections t ≡ old_body l ss → InPreorder (old_body l ss) → have_frame (old_children ss) ≡ false
     → AreSent ss → AreToldApart ss → remarked t (free_body l b ss) ≡ new_body l b ss
 unfolding remarked
-told_by_difference t l b ss k pre bare w pre_opened g f h a =
+told_by_difference t l b ss k pre bare w pre_opened f h a =
     let page : Page = page_of t in
-    let own = own_remarked t l ss k pre bare w g f h a in
+    let own = own_remarked t l ss k pre bare w f h a in
     let q : Finds page 0 ss =
     finds page (page_of (old_body l ss)) 0 (is_content l.mark) ss (subst (λ (o : Tree). AreAlike page (page_of o)) w (are_alike t bare)) h a (found l ss pre_opened) in
     let T : Mark → Trees → Tree = λ c us. tree (record b { kind = kind.Body; id = 0; attrs = l.attrs; mark = c; mw = l.mw }) us in

@@ -1,12 +1,18 @@
 -- What an editor sends for the nodes of a page: each as it is, or a paragraph or heading in which a text was typed, wherever it is.
-use Rattle.std.specs.Prelude.{◌≡◌, ◌≢◌, ℕ, List, [], ◌∷◌}
+use Rattle.std.specs.Prelude.{◌≡◌, ◌≢◌, ℕ, false, List, [], ◌∷◌}
+use Rattle.std.specs.List.{AllByRecursion}
 use Rattle.wt_tree.specs.declared.kind.Kind.{Kind}
 use Rattle.wt_tree.specs.declared.kind.Kind.TheVariants as kind
 use Rattle.wt_tree.specs.declared.kind.Mark.TheVariants as marks
 use Rattle.wt_tree.specs.declared.kind.Showing.TheVariants.{Characters}
 use Rattle.wt_tree.specs.Kinds.{showing}
 use Rattle.wt_tree.specs.Plain.{Plains, ended, along, element, face, text_before, shown_before, plain_before}
+use Rattle.wt_tree.specs.Tiling.{is_group, ids_of_all}
 use Rattle.wt_tree.specs.Tree.{Label, Tree, tree, Trees, none, more}
+use Rattle.wt_checks.specs.Elements.{written_for, all_read, signs_in}
+use Rattle.wt_checks.specs.Groups.{have_mark}
+use Rattle.wt_checks.specs.PutBack.{have_frame}
+use Rattle.wt_difference.specs.Unedited.{GroupOr}
 
 -- ---- a node that is sent as it is
 
@@ -20,10 +26,19 @@ pub record IsSentAsIs (l m : Label) : Type 0 where
   pub shown : showing l.kind ≡ Characters → m.shown ≡ l.shown
   pub unmarked : m.mark ≡ marks.Nothing
 
--- and so is all that it holds
+-- What is sent for the nodes in a group, which has a number: the elements that are written for them, without numbers, marks, bodies and
+-- sections.
+pub record GroupIsSent (l : Label) (ts us : Trees) : Type 0 where
+  pub numbered : l.id ≢ 0
+  pub elements : signs_in (written_for ts) ≡ signs_in (all_read us)
+  pub unnumbered : AllByRecursion (λ n. n ≡ 0) (ids_of_all us)
+  pub unmarked : have_mark us ≡ false
+  pub unframed : have_frame us ≡ false
+
+-- and so is all that it holds, or it is a group
 abbrev mutual
   pub StandsAsIs : Tree → Tree → Type 0
-  StandsAsIs (tree l ts) (tree m us) = IsSentAsIs l m × AllStandAsIs ts us
+  StandsAsIs (tree l ts) (tree m us) = IsSentAsIs l m × GroupOr (is_group l.kind) (GroupIsSent l ts us) (AllStandAsIs ts us)
 
   pub AllStandAsIs : Trees → Trees → Type 0
   AllStandAsIs none none = Unit {0}
@@ -96,6 +111,17 @@ abbrev mutual
   pub AreSent : Sents → Type 0
   AreSent none_sent = Unit {0}
   AreSent (more_sent s ss) = IsSent s × AreSent ss
+
+-- No block in which a text was typed is in a group.
+abbrev mutual
+  pub IsOutsideGroups : Sent → Type 0
+  IsOutsideGroups (stands t u) = Unit {0}
+  IsOutsideGroups (typed k l ts m x text) = Unit {0}
+  IsOutsideGroups (holds l m ss) = (is_group l.kind ≡ false) × AreOutsideGroups ss
+
+  pub AreOutsideGroups : Sents → Type 0
+  AreOutsideGroups none_sent = Unit {0}
+  AreOutsideGroups (more_sent s ss) = IsOutsideGroups s × AreOutsideGroups ss
 
 -- ---- the body
 

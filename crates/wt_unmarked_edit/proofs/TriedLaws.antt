@@ -35,8 +35,8 @@ use Rattle.wt_unmarked_edit.specs.declared.reading_back.Fault.{Fault}
 use Rattle.wt_unmarked_edit.specs.declared.reading_back.Fault.TheVariants as fault
 use Rattle.wt_unmarked_edit.specs.declared.reading_back.ReadBack.{ReadBack}
 use Rattle.wt_unmarked_edit.specs.declared.reading_back.ReadBack.TheVariants as back
-use Rattle.wt_unmarked_edit.specs.declared.refusal.SelserRefusal.{SelserRefusal}
-use Rattle.wt_unmarked_edit.specs.declared.refusal.SelserRefusal.TheVariants as refusal
+use Rattle.wt_selser_refusal.specs.declared.refusal.SelserRefusal.{SelserRefusal}
+use Rattle.wt_selser_refusal.specs.declared.refusal.SelserRefusal.TheVariants as refusal
 use Rattle.wt_unmarked_edit.specs.declared.unmarked.Beside.{Beside}
 use Rattle.wt_unmarked_edit.specs.Counts.{IsCounted, IsCountedErr, IsCountedRead, IsOfFolder}
 use Rattle.wt_unmarked_edit.specs.Found.{AnswersUnmarked, FailsAs, FindsNew, FindsNone, FirstFails, IsFaultOf, IsFirst, IsNewPage, IsNoNewPage, IsOfNewPage, PageMustDo, ReadsBack, UnlessChecked, late_refusal, refusal_of_fault}

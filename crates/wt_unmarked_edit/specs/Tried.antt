@@ -24,8 +24,8 @@ use Rattle.wt_unmarked_edit.specs.declared.reading_back.Fault.TheVariants as fau
 use Rattle.wt_unmarked_edit.specs.declared.proposing.Tried.{Tried}
 use Rattle.wt_unmarked_edit.specs.declared.proposing.Tried.TheVariants as tried
 use Rattle.wt_unmarked_edit.specs.declared.unmarked.Beside.{Beside}
-use Rattle.wt_unmarked_edit.specs.declared.refusal.SelserRefusal.{SelserRefusal}
-use Rattle.wt_unmarked_edit.specs.declared.refusal.SelserRefusal.TheVariants.{FolderFault, NoMemory}
+use Rattle.wt_selser_refusal.specs.declared.refusal.SelserRefusal.{SelserRefusal}
+use Rattle.wt_selser_refusal.specs.declared.refusal.SelserRefusal.TheVariants.{FolderFault, NoMemory}
 use Rattle.wt_unmarked_edit.specs.Found.{FailsAs, FirstFails, IsFaultOf, IsNewPage, IsProposed, PageMustDo, ReadsBack}
 
 -- ---- an expansion

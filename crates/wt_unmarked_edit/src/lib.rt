@@ -3,13 +3,10 @@
 
 mod proposing;
 mod reading_back;
-mod readings;
-mod refusal;
 mod unmarked;
 
 pub use reading_back::Memory;
-pub use readings::{MOST_READINGS, Readings};
-pub use refusal::SelserRefusal;
 pub use unmarked::selser;
 pub use wt_checks::TreeRefusal;
 pub use wt_content::ContentWhy;
+pub use wt_selser_refusal::{MOST_READINGS, Readings, SelserRefusal};

@@ -19,12 +19,11 @@ ghost use Rattle.wt_unmarked_edit.specs.Found.{FindsNew, late_refusal, refusal_o
 ghost use Rattle.wt_unmarked_edit.specs.Tried.{FirstFailed, HoldsTried, KnowsOf, MarkedAs, TriedFirst, TriedMarks, TriedPage, TriedProposal};
 
 use crate::reading_back::{EditedPage, Fault, ReadBack, read_back};
-use crate::readings::{MOST_READINGS, Readings};
-use crate::refusal::SelserRefusal;
 use wt_devices::Folder;
 use wt_edit::KnownPage;
 use wt_proposal::{Keeping, proposal};
 use wt_selser::{EditRefusal, edit as edit_by_marks};
+use wt_selser_refusal::{MOST_READINGS, Readings, SelserRefusal};
 use wt_span::{NoMemory, Str};
 use wt_template_stack::Expansion;
 use wt_visible::keeps_marks;

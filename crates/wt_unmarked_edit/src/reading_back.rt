@@ -14,14 +14,13 @@ ghost use Rattle.wt_tree.specs.declared.kind.Kind.TheVariants as kind;
 ghost use Rattle.wt_unmarked_edit.specs.Counts.{IsCountedRead};
 ghost use Rattle.wt_unmarked_edit.specs.Tried.{device_fault, ComparedAs, HoldsRead, KnowsOf, ReadAs};
 
-use crate::readings::{MOST_READINGS, Readings};
-use crate::refusal::SelserRefusal;
 use bumpalo::Bump;
 use std::alloc::Global;
 use wt_checks::Visit;
 use wt_devices::Folder;
 use wt_edit::{KnownPage, known_page};
 use wt_selser::first_differing;
+use wt_selser_refusal::{MOST_READINGS, Readings, SelserRefusal};
 use wt_span::{Items, NoMemory, PAGE_BYTES};
 use wt_template_stack::Expansion;
 use wt_transclusion::ExpandRefusal;

@@ -18,13 +18,12 @@ ghost use Rattle.wt_unmarked_edit.specs.Tried.{IsBeside, KnowsOf};
 
 use crate::proposing::new_page;
 use crate::reading_back::{EditedPage, Memory};
-use crate::readings::{MOST_READINGS, Readings};
-use crate::refusal::SelserRefusal;
 use std::alloc::Global;
 use wt_checks::{TreeRefusal, Visit, check_nodes, has_mark, numbered_nodes};
 use wt_devices::Folder;
 use wt_difference::remark;
 use wt_edit::KnownPage;
+use wt_selser_refusal::{MOST_READINGS, Readings, SelserRefusal};
 use wt_span::{NoMemory, Str};
 use wt_tree::Node;
 

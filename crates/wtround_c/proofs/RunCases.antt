@@ -1,10 +1,10 @@
 -- Worked cases of words, and of what the clauses of `run` exclude.
 use Rattle.std.proofs.Common.{arith, ◌≡◌, ℕ, ◌≤◌, List, [], ◌∷◌, Some, None, refl, sym, ◌∙◌}
 use Rattle.std.specs.Prelude.{codes, Option, ◌≢◌}
-use Rattle.wt_pagetool.specs.Calls.{Call}
-use Rattle.wt_pagetool.specs.Statuses.{code}
-use Rattle.wt_pagetool.specs.declared.status.Status.{Status}
-use Rattle.wt_pagetool.specs.declared.status.Status.TheVariants.{Done, Usage, PageRefused, HtmlRefused, EditRefused, ReadFault, FolderFault, WriteFault, NoMemory}
+use Rattle.wt_commands.specs.Calls.{Call}
+use Rattle.wt_commands.specs.Statuses.{code}
+use Rattle.wt_commands.specs.declared.status.Status.{Status}
+use Rattle.wt_commands.specs.declared.status.Status.TheVariants.{Done, Usage, PageRefused, HtmlRefused, EditRefused, ReadFault, FolderFault, WriteFault, NoMemory}
 use Rattle.wtround_c.specs.Runs.{Ran}
 use Rattle.wtround_c.specs.Words.{word_by}
 

@@ -3,11 +3,11 @@ use Rattle.std.proofs.Common.{◌≡◌, ℕ, List, [], ap, subst}
 use Rattle.std.specs.Prelude.{Option, Some, None, IfSome}
 use Rattle.wtround_c.specs.declared.source.BufferSource.{BufferSource}
 use Rattle.wt_devices.specs.Device.{Pages}
-use Rattle.wt_pagetool.specs.declared.command.Command.{Command}
-use Rattle.wt_pagetool.specs.declared.command.Command.TheVariants.{Page, Expand, Edit, Selser, Gen, Wikitext}
-use Rattle.wt_pagetool.specs.Answers.{IsNoText}
-use Rattle.wt_pagetool.specs.Calls.{call}
-use Rattle.wt_pagetool.specs.Devices.{SourceUse, FolderUse, SinkUse}
+use Rattle.wt_commands.specs.declared.command.Command.{Command}
+use Rattle.wt_commands.specs.declared.command.Command.TheVariants.{Page, Expand, Edit, Selser, Gen, Wikitext}
+use Rattle.wt_commands.specs.Answers.{IsNoText}
+use Rattle.wt_commands.specs.Calls.{call}
+use Rattle.wt_commands.specs.Devices.{SourceUse, FolderUse, SinkUse}
 use Rattle.wt_pagetool.specs.Promises.{Waits}
 use Rattle.wtround_c.specs.Runs.{Ran, Answers, from_buffer, from_table, to_memory}
 

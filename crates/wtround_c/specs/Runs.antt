@@ -1,11 +1,11 @@
 -- What `run` of `wt_pagetool` promises, as one record about what a call did to its devices; and the devices of the library.
 use Rattle.std.specs.Prelude.{◌≡◌, ℕ, List, [], Option, Some}
 use Rattle.wt_devices.specs.Device.{Pages}
-use Rattle.wt_pagetool.specs.Asked.{names_told}
-use Rattle.wt_pagetool.specs.Calls.{Call, call}
-use Rattle.wt_pagetool.specs.Devices.{SourceUse, FolderUse, SinkUse}
+use Rattle.wt_commands.specs.Asked.{names_told}
+use Rattle.wt_commands.specs.Calls.{Call, call}
+use Rattle.wt_commands.specs.Devices.{SourceUse, FolderUse, SinkUse}
 use Rattle.wt_pagetool.specs.Promises.{AsksFor, Ends, EndsAsEdit, GivesBack, ReadsAtMost, Waits, Wrote}
-use Rattle.wt_pagetool.specs.Words.{command_of, Fetches, Reads}
+use Rattle.wt_commands.specs.Words.{command_of, Fetches, Reads}
 
 -- ---- the clauses of `run`, under its names, for a call that ended with this status; the folder had answered the first names
 -- before it and the second ones after it

@@ -2,8 +2,8 @@
 #![tactic(auto)]
 
 ghost use Rattle.std.specs.Prelude.{◌≡◌, ◌⊎◌};
-ghost use Rattle.wt_pagetool.specs.Statuses.{code};
-ghost use Rattle.wt_pagetool.specs.declared.status.Status.TheVariants.{NoMemory as no_memory};
+ghost use Rattle.wt_commands.specs.Statuses.{code};
+ghost use Rattle.wt_commands.specs.declared.status.Status.TheVariants.{NoMemory as no_memory};
 ghost use Rattle.wtround_c.specs.Replies.{room, Told, IsTold, IsHandedBack, IsLeftAlone};
 
 mod folder;

@@ -2,15 +2,15 @@
 use Rattle.std.proofs.Common.{◌≡◌, ℕ, Option, Some, List, sym, ap, ◌∙◌, subst, inl, inr}
 use Rattle.std.specs.Prelude.{◌⊎◌, IfSome}
 use Rattle.wt_devices.specs.Device.{Pages}
-use Rattle.wt_pagetool.specs.declared.status.Status.TheVariants as status
-use Rattle.wt_pagetool.specs.declared.command.Command.TheVariants.{Edit, Selser}
-use Rattle.wt_pagetool.specs.Answers.{Answer, done, status_of_answer, answer_told}
-use Rattle.wt_pagetool.specs.Calls.{Call, known_answer, NothingFailed}
-use Rattle.wt_pagetool.specs.Devices.{Took}
+use Rattle.wt_commands.specs.declared.status.Status.TheVariants as status
+use Rattle.wt_commands.specs.declared.command.Command.TheVariants.{Edit, Selser}
+use Rattle.wt_commands.specs.Answers.{Answer, done, status_of_answer, answer_told}
+use Rattle.wt_commands.specs.Calls.{Call, known_answer, NothingFailed}
+use Rattle.wt_commands.specs.Devices.{Took}
 use Rattle.wt_pagetool.specs.Promises.{Ends, EndsAsEdit}
-use Rattle.wt_pagetool.specs.Reports.{WasDone}
+use Rattle.wt_commands.specs.Reports.{WasDone}
 use Rattle.wt_pagetool.specs.Selser.{DoneByEdit}
-use Rattle.wt_pagetool.specs.Statuses.{code, IsFaultOrNoMemory}
+use Rattle.wt_commands.specs.Statuses.{code, IsFaultOrNoMemory}
 use Rattle.wt_text_edit_laws.specs.BlockEdits.{BlockEdit, new_page, sent_page, IsBlockEdit}
 use Rattle.wt_text_edit_laws.specs.UnmarkedBlocks.{unmarked_page, IsUnmarkedBlockEdit}
 use Rattle.wt_text_edit_laws.specs.Calls.{Sends, WroteNewPage, TakesTexts}

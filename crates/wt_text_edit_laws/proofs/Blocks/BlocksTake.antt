@@ -26,16 +26,17 @@ use Rattle.wt_visible.specs.Restored.{restored_from}
 use Rattle.wt_visible.specs.SameNodes.{same_node}
 use Rattle.wt_visible.proofs.DifferingLaws.{same_none}
 use Rattle.wt_selser.specs.Edits.{most_bytes, edit_answer}
-use Rattle.wt_pagetool.specs.declared.refusal.Refusal.TheVariants.{TooLong, InputTooLong}
-use Rattle.wt_pagetool.specs.declared.command.Command.TheVariants.{Edit}
-use Rattle.wt_pagetool.specs.Words.{command_of}
-use Rattle.wt_pagetool.specs.Answers.{Answer, done, refused, text_answer, title_answer, expanded_by, unspelled_by, unspelled_answer, new_by, new_expanded, new_answer, edit_by, edit_from, edit_to, edited_answer, input_answer, edit_of, answer_to, answer_told}
-use Rattle.wt_pagetool.proofs.SectionEdits.{page_bare}
+use Rattle.wt_commands.specs.declared.refusal.Refusal.TheVariants.{TooLong, InputTooLong}
+use Rattle.wt_commands.specs.declared.command.Command.TheVariants.{Edit}
+use Rattle.wt_commands.specs.Words.{command_of}
+use Rattle.wt_commands.specs.Answers.{Answer, done, refused, text_answer, title_answer, expanded_by, unspelled_by, unspelled_answer, new_by, new_expanded, new_answer, edit_by, edit_from, edit_to, edited_answer, input_answer, edit_of, answer_to, answer_told}
+use Rattle.wt_commands.proofs.SectionEdits.{page_bare}
 use Rattle.wt_text_edit_laws.specs.LonePages.{of_items}
 use Rattle.wt_text_edit_laws.proofs.Texts.LoneTrees.{sized}
 use Rattle.wt_text_edit_laws.proofs.Texts.TypedShown.{gathered_shows}
 use Rattle.wt_typed_blocks.specs.Sent.{Sents, old_body, new_body}
 use Rattle.wt_typed_blocks.specs.Typed.{new_sources}
+use Rattle.wt_typed_blocks.proofs.SentGroups.{outside}
 use Rattle.wt_typed_blocks.proofs.SentSections.{answer_in_sections}
 use Rattle.wt_typed_blocks.proofs.SentShows.{body_shows}
 use Rattle.wt_text_edit_laws.proofs.Prose.ProseTrees.{blocks_of}
@@ -129,9 +130,8 @@ answer_so pages e b h le =
     (page_bare pages page u free)
     (page_opened pages page u free ∙ is)
     (subst InPreorder is (ungathered_numbered (expanded_page pages page).outer (expanded_page pages page).items))
-    (subst NoneIsGroup (sym f.old) f.ungrouped)
     (ap have_frame f.old ∙ f.unframed)
-    (f.sent (kept_so e h)) f.takes (f.untangled page refl)
+    (f.sent (kept_so e h)) (outside ss (subst NoneIsGroup (sym f.old) f.ungrouped)) f.takes (f.untangled page refl)
     (sym (ap flat_of_all f.old ∙ f.flat)) f.stand short
     ∙ ap Ok f.new
 

@@ -17,10 +17,10 @@ use Rattle.wt_page_round_trip.specs.PageTree.{page_tree}
 use Rattle.wt_page_round_trip.proofs.Pages.{page_opened}
 use Rattle.wt_page_round_trip.proofs.PageTrees.{ungathered_numbered, page_numbered}
 use Rattle.wt_difference.specs.Remarked.{remarked}
-use Rattle.wt_pagetool.specs.declared.refusal.Refusal.TheVariants.{TooLong}
-use Rattle.wt_pagetool.specs.Answers.{refused, text_answer, title_answer, edit_to, IsText}
+use Rattle.wt_commands.specs.declared.refusal.Refusal.TheVariants.{TooLong}
+use Rattle.wt_commands.specs.Answers.{refused, text_answer, title_answer, edit_to, IsText}
 use Rattle.wt_pagetool.specs.Selser.{EditIsDone, DoneByEdit}
-use Rattle.wt_pagetool.proofs.SectionEdits.{page_bare}
+use Rattle.wt_commands.proofs.SectionEdits.{page_bare}
 use Rattle.wt_typed_blocks.specs.Sent.{Sents, old_body}
 use Rattle.wt_typed_blocks.specs.Unmarked.{free_body, AreToldApart}
 use Rattle.wt_typed_blocks.proofs.SentUnmarked.{told_by_difference}
@@ -56,7 +56,7 @@ marks_are pages e b h =
     ∙ told_by_difference t (label_of e) b ss (kind_opened t ∙ ap (λ (o : Tree). (label o).kind) opened)
     (page_numbered pages page) (page_bare pages page u free) opened
     (subst InPreorder is (ungathered_numbered (expanded_page pages page).outer (expanded_page pages page).items))
-    (subst NoneIsGroup (sym f.old) f.ungrouped) (ap have_frame f.old ∙ f.unframed) (f.sent (kept_so e h.edit)) (apart_so e h)
+    (ap have_frame f.old ∙ f.unframed) (f.sent (kept_so e h.edit)) (apart_so e h)
     ∙ sym (sent_is b e h.edit)
 
 -- ---- `edit` of the difference

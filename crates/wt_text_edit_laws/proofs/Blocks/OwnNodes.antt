@@ -1,5 +1,6 @@
 -- Each page of the class has an edit with any texts: the one that sends every other node as it is.
 use Rattle.std.proofs.Common.{◌≡◌, ℕ, zero, suc, Option, Some, None, List, [], ◌∷◌, ◌++◌, length, refl, sym, ap, ◌∙◌, subst, append-nil}
+use Rattle.wt_tree.specs.Tiling.{is_group, HasNoGroup, NoneIsGroup}
 use Rattle.wt_tree.specs.Tree.{Label, Tree, tree, Trees, none, more}
 use Rattle.wt_span.specs.Items.{Item}
 use Rattle.wt_inline.specs.ItemTree.{ItemTree}
@@ -7,7 +8,8 @@ use Rattle.wt_checks.specs.Kept.{children}
 use Rattle.wt_checks.specs.WithoutMarks.{unmarked, all_unmarked}
 use Rattle.wt_expand.specs.PageItems.{page_items}
 use Rattle.wt_text_edit_laws.proofs.Texts.TypedLeaves.{leaves}
-use Rattle.wt_typed_blocks.specs.Sent.{StandsAsIs, AllStandAsIs}
+use Rattle.wt_typed_blocks.specs.Sent.{GroupIsSent, StandsAsIs, AllStandAsIs}
+use Rattle.wt_typed_blocks.proofs.SentGroups.{no_group}
 use Rattle.wt_text_edit_laws.proofs.Prose.ProseTrees.{blocks_of, number_behind, items_behind}
 use Rattle.wt_text_edit_laws.specs.ParagraphBetween.{blocks_in}
 use Rattle.wt_text_edit_laws.specs.Parts.{part_tree}
@@ -16,41 +18,58 @@ use Rattle.wt_text_edit_laws.specs.BlockSpots.{BlockSpot, spots_source, AreBlock
 use Rattle.wt_text_edit_laws.specs.BlockEdits.{Sending, old_spots, all_kept, sending_for, spot_sendings, AreKept, IsSentFor, AreSentFor, IsText, AreTexts, IsBlockEdit}
 use Rattle.wt_text_edit_laws.specs.OwnNodes.{TypedSpot, spots_of, IsTypedSpot, AreTypedSpots, first_nodes, nodes_behind, past_one, block_count, typing_by, own_spots, last_nodes, own_edit}
 use Rattle.wt_text_edit_laws.proofs.Blocks.BlockTrees.{leaf_block, leafy_blocks, spots_tree}
+use Rattle.wt_text_edit_laws.proofs.Blocks.BlocksUngrouped.{spots_ungrouped}
 
 -- ---- a node without marks stands as it is
 
 mutual
-  pub stands_unmarked : (t : Tree) → StandsAsIs t (unmarked t)
-  stands_unmarked (tree l ts) =
-      (record { kind = refl; id = refl; attrs = refl; mw = refl; shown = λ e. refl; unmarked = refl }, all_stand_unmarked ts)
+  pub stands_unmarked : (t : Tree) → HasNoGroup t → StandsAsIs t (unmarked t)
+  stands_unmarked (tree l ts) g = (
+    record { kind = refl; id = refl; attrs = refl; mw = refl; shown = λ e. refl; unmarked = refl },
+    no_group (GroupIsSent l ts (all_unmarked ts)) (is_group l.kind) g.0 (all_stand_unmarked ts g.1),
+  )
 
-  all_stand_unmarked : (ts : Trees) → AllStandAsIs ts (all_unmarked ts)
-  all_stand_unmarked none = tt
-  all_stand_unmarked (more t ts) = (stands_unmarked t, all_stand_unmarked ts)
+  all_stand_unmarked : (ts : Trees) → NoneIsGroup ts → AllStandAsIs ts (all_unmarked ts)
+  all_stand_unmarked none g = tt
+  all_stand_unmarked (more t ts) g = (stands_unmarked t g.0, all_stand_unmarked ts g.1)
+
+none_behind : (n : ℕ) (ts : Trees) → NoneIsGroup ts → NoneIsGroup (nodes_behind n ts)
+none_behind zero ts g = g
+none_behind (suc n) none g = g
+none_behind (suc n) (more t ts) g = none_behind n ts g.1
+
+none_past : (ts : Trees) → NoneIsGroup ts → NoneIsGroup (past_one ts)
+none_past none g = g
+none_past (more t ts) g = g.1
+
+pub none_inside : (t : Tree) → HasNoGroup t → NoneIsGroup (children t)
+none_inside (tree l ts) g = g.1
 
 -- ---- what is kept
 
-kept_front : (n : ℕ) (ts : Trees) (ds : List Sending) → AreKept ds (nodes_behind n ts) → AreKept (all_kept (first_nodes n ts) ++ ds) ts
-kept_front zero ts ds h = h
-kept_front (suc n) none ds h = h
-kept_front (suc n) (more t ts) ds h = (stands_unmarked t, kept_front n ts ds h)
+kept_front : (n : ℕ) (ts : Trees) (ds : List Sending) → NoneIsGroup ts → AreKept ds (nodes_behind n ts) → AreKept (all_kept (first_nodes n ts) ++ ds) ts
+kept_front zero ts ds g h = h
+kept_front (suc n) none ds g h = h
+kept_front (suc n) (more t ts) ds g h = (stands_unmarked t g.0, kept_front n ts ds g.1 h)
 
-kept_all : (n : ℕ) (ts : Trees) → AreKept (all_kept (first_nodes n ts)) ts
-kept_all n ts = subst (λ ds. AreKept ds ts) (append-nil (all_kept (first_nodes n ts))) (kept_front n ts [] tt)
+kept_all : (n : ℕ) (ts : Trees) → NoneIsGroup ts → AreKept (all_kept (first_nodes n ts)) ts
+kept_all n ts g = subst (λ ds. AreKept ds ts) (append-nil (all_kept (first_nodes n ts))) (kept_front n ts [] g tt)
 
-kept_one : (k : TextBlock) (l : Label) (text : Option (List ℕ)) (rest : Trees) (ds : List Sending) → AreKept ds (past_one rest)
+kept_one : (k : TextBlock) (l : Label) (text : Option (List ℕ)) (rest : Trees) (ds : List Sending) → NoneIsGroup rest → AreKept ds (past_one rest)
     → AreKept (sending_for k (typing_by l text rest) ∷ ds) rest
-kept_one k l text none ds h = tt
-kept_one k l (Some text) (more t ts) ds h = h
-kept_one k l None (more t ts) ds h = (stands_unmarked t, h)
+kept_one k l text none ds g h = tt
+kept_one k l (Some text) (more t ts) ds g h = h
+kept_one k l None (more t ts) ds g h = (stands_unmarked t g.0, h)
 
-kept_own : (l : Label) (rs : List TypedSpot) (n : ℕ) (ts : Trees) → AreKept (spot_sendings (own_spots l rs ts) (first_nodes n (last_nodes rs ts))) ts
-kept_own l [] n ts = kept_all n ts
-kept_own l (r ∷ rs) n ts =
+kept_own : (l : Label) (rs : List TypedSpot) (n : ℕ) (ts : Trees) → NoneIsGroup ts
+    → AreKept (spot_sendings (own_spots l rs ts) (first_nodes n (last_nodes rs ts))) ts
+kept_own l [] n ts g = kept_all n ts g
+kept_own l (r ∷ rs) n ts g =
     let rest : Trees = nodes_behind (block_count r.spot.before) ts in
+    let free : NoneIsGroup rest = none_behind (block_count r.spot.before) ts g in
     let ds : List Sending = spot_sendings (own_spots l rs (past_one rest)) (first_nodes n (last_nodes rs (past_one rest))) in
-    kept_front (block_count r.spot.before) ts (sending_for r.spot.block (typing_by l r.text rest) ∷ ds)
-    (kept_one r.spot.block l r.text rest ds (kept_own l rs n (past_one rest)))
+    kept_front (block_count r.spot.before) ts (sending_for r.spot.block (typing_by l r.text rest) ∷ ds) g
+    (kept_one r.spot.block l r.text rest ds free (kept_own l rs n (past_one rest) (none_past rest free)))
 
 -- ---- how many are sent
 
@@ -123,5 +142,6 @@ is_edit l rs behind h texts =
       are_texts = texts_own l rs ts texts;
       before = subst (λ us. AreSentFor (own_spots l rs us)) (sym nodes) (sent_own l rs behind 1 []);
       behind = subst (λ us. IsSentFor (first_nodes (block_count behind) (last_nodes rs us)) behind) (sym nodes) (sent_last rs behind 1 []);
-      are_kept = subst (λ us. AreKept sent (children (part_tree (spots_source us behind)))) (sym same) (kept_own l rs (block_count behind) ts);
+      are_kept = subst (λ us. AreKept sent (children (part_tree (spots_source us behind)))) (sym same)
+          (kept_own l rs (block_count behind) ts (none_inside (part_tree (spots_source ss behind)) (spots_ungrouped ss behind h)));
     }

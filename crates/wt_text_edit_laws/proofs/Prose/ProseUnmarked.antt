@@ -18,10 +18,10 @@ use Rattle.wt_page_round_trip.specs.PageTree.{page_tree}
 use Rattle.wt_page_round_trip.proofs.Pages.{page_opened}
 use Rattle.wt_page_round_trip.proofs.PageTrees.{ungathered_numbered, page_numbered}
 use Rattle.wt_difference.specs.Remarked.{remarked}
-use Rattle.wt_pagetool.specs.declared.refusal.Refusal.TheVariants.{TooLong}
-use Rattle.wt_pagetool.specs.Answers.{refused, text_answer, title_answer, edit_to, IsText}
+use Rattle.wt_commands.specs.declared.refusal.Refusal.TheVariants.{TooLong}
+use Rattle.wt_commands.specs.Answers.{refused, text_answer, title_answer, edit_to, IsText}
 use Rattle.wt_pagetool.specs.Selser.{EditIsDone, DoneByEdit}
-use Rattle.wt_pagetool.proofs.SectionEdits.{page_bare}
+use Rattle.wt_commands.proofs.SectionEdits.{page_bare}
 use Rattle.wt_typed_blocks.specs.Sent.{Sents, old_body}
 use Rattle.wt_typed_blocks.specs.Unmarked.{free_body, AreToldApart}
 use Rattle.wt_typed_blocks.proofs.SentUnmarked.{told_by_difference}
@@ -65,7 +65,7 @@ marks_are pages es b h =
     ∙ told_by_difference t (body_label ps) b ss (kind_opened t ∙ ap (λ (o : Tree). (label o).kind) opened)
     (page_numbered pages page) (page_bare pages page u free) opened
     (subst InPreorder is (ungathered_numbered (expanded_page pages page).outer (expanded_page pages page).items))
-    (subst NoneIsGroup (sym f.old) f.ungrouped) (ap have_frame f.old ∙ f.unframed) (f.sent (kept_so es h.edit)) (apart_so es h)
+    (ap have_frame f.old ∙ f.unframed) (f.sent (kept_so es h.edit)) (apart_so es h)
     ∙ sym (sent_is b es h.edit.are_prose)
 
 -- ---- `edit` of the difference

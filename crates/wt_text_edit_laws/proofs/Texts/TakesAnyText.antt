@@ -21,10 +21,10 @@ use Rattle.wt_visible.specs.Restored.{restored_from}
 use Rattle.wt_visible.specs.SameNodes.{same_node}
 use Rattle.wt_visible.proofs.DifferingLaws.{same_none}
 use Rattle.wt_selser.specs.Edits.{most_bytes, edit_answer}
-use Rattle.wt_pagetool.specs.declared.refusal.Refusal.TheVariants.{TooLong, InputTooLong}
-use Rattle.wt_pagetool.specs.declared.command.Command.TheVariants.{Edit}
-use Rattle.wt_pagetool.specs.Words.{command_of}
-use Rattle.wt_pagetool.specs.Answers.{Answer, done, refused, text_answer, title_answer, expanded_by, unspelled_by, unspelled_answer, new_by, new_expanded, new_answer, edit_by, edit_from, edit_to, edited_answer, input_answer, edit_of, answer_to, answer_told}
+use Rattle.wt_commands.specs.declared.refusal.Refusal.TheVariants.{TooLong, InputTooLong}
+use Rattle.wt_commands.specs.declared.command.Command.TheVariants.{Edit}
+use Rattle.wt_commands.specs.Words.{command_of}
+use Rattle.wt_commands.specs.Answers.{Answer, done, refused, text_answer, title_answer, expanded_by, unspelled_by, unspelled_answer, new_by, new_expanded, new_answer, edit_by, edit_from, edit_to, edited_answer, input_answer, edit_of, answer_to, answer_told}
 use Rattle.wt_text_edit_laws.specs.PlainTexts.{IsPlainText}
 use Rattle.wt_text_edit_laws.specs.TypedPages.{IsTypedPage}
 use Rattle.wt_text_edit_laws.specs.LonePages.{of_items, one_shown}

@@ -10,9 +10,9 @@ use Rattle.wt_sections.specs.Sections.{with_sections}
 use Rattle.wt_schema.specs.Read.{page as as_page, read}
 use Rattle.wt_page_round_trip.specs.PageTree.{expanded_tree, page_tree}
 use Rattle.wt_edit.specs.Edits.{refusal_of_page}
-use Rattle.wt_pagetool.specs.declared.command.Command.TheVariants.{Edit}
-use Rattle.wt_pagetool.specs.Words.{command_of}
-use Rattle.wt_pagetool.specs.Answers.{done, edit_to, edit_of, answer_told}
+use Rattle.wt_commands.specs.declared.command.Command.TheVariants.{Edit}
+use Rattle.wt_commands.specs.Words.{command_of}
+use Rattle.wt_commands.specs.Answers.{done, edit_to, edit_of, answer_told}
 use Rattle.wt_text_edit_laws.specs.PlainTexts.{are_text_lines, IsPlainText}
 use Rattle.wt_text_edit_laws.specs.LonePages.{lone_page}
 use Rattle.wt_text_edit_laws.specs.LoneEdits.{sent, typed_in}

@@ -9,7 +9,7 @@ use Rattle.wt_tree.specs.declared.edit_shape.EditShape.{EditShape}
 use Rattle.wt_tree.specs.EditShapes.{edit_shape}
 use Rattle.wt_guards.specs.declared.role.Role.TheVariants as role
 use Rattle.wt_original.specs.Gathered.{kept_view}
-use Rattle.wt_escape.specs.Spelling.{unless_kept, new_thing, style, anew_by, signs_of_all}
+use Rattle.wt_link_spelling.specs.Spelling.{unless_kept, new_thing, style, anew_by, signs_of_all}
 use Rattle.wt_original.specs.PageViews.{page_view}
 use Rattle.wt_guards.specs.Views.{all_signs}
 use Rattle.wt_guards.specs.Content.{letters}

@@ -3,7 +3,7 @@ use Rattle.std.specs.List.{flat_map}
 use Rattle.wt_tree.specs.Tree.{Tree}
 use Rattle.wt_tree.specs.View.{view}
 use Rattle.wt_original.specs.Page.{TellsSame}
-use Rattle.wt_escape.specs.Spelling.{signs_of}
+use Rattle.wt_link_spelling.specs.Spelling.{signs_of}
 use Rattle.wt_original.specs.PageViews.{page_view}
 use Rattle.wt_guards.specs.Views.{all_signs}
 use Rattle.wt_escape.proofs.units.+signs.Given as goal

@@ -1,7 +1,7 @@
 use Rattle.std.proofs.Common.{◌≡◌, Err, rules}
 use Rattle.wt_pagetool.proofs.SelserFound.{input_refused_found, whole_found}
 use Rattle.wt_devices.specs.Device.{Rose}
-use Rattle.wt_pagetool.proofs.FaultLaws.{edit_alone, edit_stops, passed_alone, passed_stops}
+use Rattle.wt_commands.proofs.FaultLaws.{edit_alone, edit_stops, passed_alone, passed_stops}
 use Rattle.wt_pagetool.proofs.selser_command.page_of_text.Goals as goal
 
 pub returns-in_err-reader-clause-answered : goal.returns-in_err-reader-clause-answered

@@ -7,7 +7,7 @@ use Rattle.wt_tree.specs.Tree.{label}
 use Rattle.wt_tree.specs.View.{view}
 use Rattle.wt_expansion.proofs.KnownLaws.{free_at_first, holds_at_first}
 use Rattle.wt_pagetool.proofs.SelserFound.{expanded_found, unexpanded_found}
-use Rattle.wt_pagetool.proofs.ShownLaws.{page_body}
+use Rattle.wt_commands.proofs.ShownLaws.{page_body}
 use Rattle.wt_pagetool.proofs.selser_command.page_to.Goals as goal
 
 pub known_page-requires-clause-known : goal.known_page-requires-clause-known

@@ -1,9 +1,9 @@
 use Rattle.std.proofs.Common.{◌≡◌, ◌∙◌, Err, refl, rules, subst}
-use Rattle.wt_pagetool.specs.Answers.{IsText}
+use Rattle.wt_commands.specs.Answers.{IsText}
 use Rattle.wt_transclusion.proofs.AskedLaws.{asks_then}
-use Rattle.wt_pagetool.proofs.AskedLaws.{reads_text, waits}
+use Rattle.wt_commands.proofs.AskedLaws.{reads_text, waits}
 use Rattle.wt_pagetool.proofs.SelserFound.{title_found, told_found, unfetched_found, untexted_title}
-use Rattle.wt_pagetool.proofs.FaultLaws.{fetched_alone, kept_alone, unfetched_alone, unread_stops}
+use Rattle.wt_commands.proofs.FaultLaws.{fetched_alone, kept_alone, unfetched_alone, unread_stops}
 use Rattle.wt_pagetool.proofs.selser_command.selser_page.Goals as goal
 
 pub returns-clause-found : goal.returns-clause-found

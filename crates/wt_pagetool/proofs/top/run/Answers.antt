@@ -1,7 +1,7 @@
 use Rattle.std.proofs.Common.{ap}
 use Rattle.wt_pagetool.proofs.PromiseLaws.{run_wrote, run_given_back, run_ends_as_edit, run_alone, run_ends, run_asks_for, run_reads}
-use Rattle.wt_pagetool.specs.Asked.{names_told}
-use Rattle.wt_pagetool.specs.Devices.{read_from, fetched_from, written_to}
+use Rattle.wt_commands.specs.Asked.{names_told}
+use Rattle.wt_commands.specs.Devices.{read_from, fetched_from, written_to}
 use Rattle.wt_pagetool.proofs.top.run.Goals as goal
 
 pub returns-clause-wrote : goal.returns-clause-wrote

@@ -1,6 +1,6 @@
 use Rattle.std.proofs.Common.{ap}
 use Rattle.std.specs.Prelude.{Some}
-use Rattle.wt_pagetool.specs.Words.{command_of}
+use Rattle.wt_commands.specs.Words.{command_of}
 use Rattle.wtround_c.specs.Indexes.{entries_of}
 use Rattle.wtround_c.specs.Tables.{pages_of}
 use Rattle.wtround_c.proofs.RunLaws.{of_library, waits_left}

@@ -1,7 +1,9 @@
-use Rattle.std.proofs.Common.{◌≡◌, ◌+◌, ◌<◌, ◌||◌, [], ℕ, false, Err, None, Option, Some, ap, arith, drop, length, refl, rules, subst, sym, ◌∙◌}
+use Rattle.std.proofs.Common.{◌≡◌, ◌+◌, ◌<◌, ◌||◌, [], ℕ, false, Err, List, None, Option, Some, ap, arith, drop, length, refl, rules, subst, sym, ◌∙◌}
 use Rattle.std.specs.Prelude.{Result, is_some, slice_range}
+use Rattle.wt_span.specs.declared.form.ItemForm.TheVariants as form
 use Rattle.wt_span.specs.declared.form.Mode.TheVariants as mode
 use Rattle.wt_span.specs.Functions.{function_of}
+use Rattle.wt_span.specs.Slice.{bytes_of, end_of, start_of}
 use Rattle.wt_names.specs.declared.title.Title.{Title}
 use Rattle.wt_braces.specs.PartMembers.{part_members}
 use Rattle.wt_expand.specs.Targets.{is_function, title_of_target}
@@ -14,8 +16,9 @@ use Rattle.wt_transclusion.proofs.AskedLaws.{asks_none, asks_then}
 use Rattle.wt_transclusion.proofs.GrowthLaws.{agrees_before, agrees_known, grows_none, grows_then}
 use Rattle.wt_template_stack.specs.Calls.{first_end, members_behind}
 use Rattle.wt_template_stack.specs.Ledgers.{Refuses, ledger}
-use Rattle.wt_template_stack.proofs.Cuts.{back_cut, call_cut, chunk_cut, front_cut}
+use Rattle.wt_template_stack.proofs.Cuts.{back_cut, chunk_cut, front_cut}
 use Rattle.wt_expansion.specs.Walks.{AnswersStep, AnswersTarget, AnswersWalk, TargetRead, at_page, behind_stretches, behind_work, call_stretches_at, call_work, target_members, target_output}
+use Rattle.wt_expansion.proofs.FoundLaws.{adds_there, some_bytes}
 use Rattle.wt_expansion.proofs.Refusals.{none_stepped, none_targeted, none_walked, some_left}
 use Rattle.wt_expansion.proofs.WalkCalls.{function_walked, source_same, source_there, target_first}
 use Rattle.wt_expansion.proofs.WalkLaws.{strs}
@@ -125,29 +128,39 @@ walk_call-returns-then-call-clause-given g t c = λ pages page met s n concerns 
     c.without_target.ensures.given pages page met s n concerns free
     (ap (λ a. a || is_some (function_of (drop 2 source))) c.if-call.true)
 
-pub walk_call-returns-then-choice-clause-given : goal.walk_call-returns-then-choice-clause-given
-walk_call-returns-then-choice-clause-given g t c = λ pages page met s n concerns free.
+pub walk_call-returns-then-is_some-clause-given : goal.walk_call-returns-then-is_some-clause-given
+walk_call-returns-then-is_some-clause-given g t c = λ pages page met s n concerns free.
     let source = slice_range c.args.reader.text.text.now c.args.call.at.start c.args.call.at.end in
-    c.without_target-then-choice.ensures.given pages page met s n concerns free
-    (ap (λ a. a || is_some (function_of (drop 2 source))) c.if-call.false ∙ (sym (c.begins_choice-choice.ensures (source_there page c.args.call c.args.reader s n)) ∙ c.if-choice.true))
+    let bytes = c.as_bytes-bytes.ensures.value ∙ c.as_str.ensures ∙ c.slice-source.ensures.bytes (source_there page c.args.call c.args.reader s n) in
+    c.without_target-then-is_some.ensures.given pages page met s n concerns free
+    (ap (λ a. a || is_some (function_of (drop 2 source))) c.if-call.false ∙ ap (λ bs. is_some (function_of (drop 2 bs))) (sym bytes)
+    ∙ ap is_some (sym c.function_named.ensures) ∙ sym c.is_some.ensures ∙ c.if-is_some.true)
 
-pub walk_call-returns-then-function-clause-given : goal.walk_call-returns-then-function-clause-given
-walk_call-returns-then-function-clause-given g t c = λ pages page met s n concerns free.
+pub walk_call-returns-then-is_function-clause-given : goal.walk_call-returns-then-is_function-clause-given
+walk_call-returns-then-is_function-clause-given g t c = λ pages page met s n concerns free.
     let self = c.args.self.now in
-    let cut = source_there page c.args.call c.args.reader s n in
+    let b = c.args.call in
+    let text = c.slice-source.result in
+    let cut = source_there page b c.args.reader s n in
+    let found = c.slice-source.ensures.bytes cut in
+    let bytes = c.as_bytes-bytes.ensures.value ∙ c.as_str.ensures ∙ found in
     let start = n.is.start_is in
     let closes = n.is.end_is in
     let two = n.is.two in
-    function_walked pages page met self.expansion.spent (g.F.Folder.answered c.args.folder.now) c.args.call c.args.reader s n self.found c.push_slice.new.found
-    self.expansion.store c.if-call.false (sym (c.begins_function-function.ensures cut) ∙ c.if-function.true)
-    (sym (c.begins_choice-choice.ensures cut) ∙ c.if-choice.false) free.stored
-    (c.in_ok-push_slice.ensures page n.is.at s n.reading (call_cut mode.Page page c.args.call n.reading.read.characters n.is)
-    (omega (arith, start, closes, two)))
+    function_walked pages page met self.expansion.spent (g.F.Folder.answered c.args.folder.now) b c.args.reader s n self.found c.push_own.new.self
+    self.expansion.store c.if-call.false (ap is_function (sym bytes) ∙ sym c.is_function.ensures ∙ c.if-is_function.true)
+    (ap (λ bs. is_some (function_of (drop 2 bs))) (sym bytes) ∙ ap is_some (sym c.function_named.ensures) ∙ sym c.is_some.ensures ∙ c.if-is_some.false)
+    free.stored
+    (adds_there self.found c.push_own.new.self form.Function b.at.start b.at.end (start_of text) (end_of text) (bytes_of text)
+    (slice_range page b.at.start b.at.end) (c.slice-source.ensures.start cut) (c.slice-source.ensures.end cut)
+    (found ∙ ap (λ (xs : List ℕ). slice_range xs b.at.start b.at.end) n.reading.read.text_is)
+    (some_bytes page b.at.start b.at.end (omega (arith, start, closes, two)) n.is.fits) c.in_ok-push_own.ensures)
 
 pub walk_call-returns-clause-given : goal.walk_call-returns-clause-given
 walk_call-returns-clause-given g t c = λ pages page met s n concerns free.
+    let bytes = c.as_bytes-bytes.ensures.value ∙ c.as_str.ensures ∙ c.slice-source.ensures.bytes (source_there page c.args.call c.args.reader s n) in
     c.with_target.ensures.given pages page met s n concerns free c.if-call.false
-    (sym (c.begins_function-function.ensures (source_there page c.args.call c.args.reader s n)) ∙ c.if-function.false)
+    (ap is_function (sym bytes) ∙ sym c.is_function.ensures ∙ c.if-is_function.false)
 
 pub with_target-returns-in_err-title-clause-given : goal.with_target-returns-in_err-title-clause-given
 with_target-returns-in_err-title-clause-given g t c = λ pages page met s n concerns free is fn.
@@ -437,18 +450,18 @@ pub step-returns-in_err-push_chunk-in-Chunk-clause-asks :
 step-returns-in_err-push_chunk-in-Chunk-clause-asks g t c = asks_none (g.F.Folder.answered c.args.folder.now)
     (g.F.Folder.most_asked c.args.folder.now)
 
-pub walk_call-returns-in_err-push_slice-clause-given : goal.walk_call-returns-in_err-push_slice-clause-given
-walk_call-returns-in_err-push_slice-clause-given g t c = λ pages page met s n concerns free.
+pub walk_call-returns-in_err-push_own-clause-given : goal.walk_call-returns-in_err-push_own-clause-given
+walk_call-returns-in_err-push_own-clause-given g t c = λ pages page met s n concerns free.
     let x = c.args.self.now in
     let e : c.from_residual.result ≡ Err answer.NoMemory = search rules in
     none_walked pages page x.expansion.spent met (g.F.Folder.answered c.args.folder.now)
     (call_stretches_at pages page c.args.call n.is s)
     (call_work pages page c.args.call n.is s) n.is.at c.args.call.at.end
-    x.found c.push_slice.new.found x.expansion.store x.expansion.spent
+    x.found c.push_own.new.self x.expansion.store x.expansion.spent
     c.from_residual.result e
 
-pub walk_call-returns-in_err-push_slice-clause-asks : goal.walk_call-returns-in_err-push_slice-clause-asks
-walk_call-returns-in_err-push_slice-clause-asks g t c = asks_none (g.F.Folder.answered c.args.folder.now)
+pub walk_call-returns-in_err-push_own-clause-asks : goal.walk_call-returns-in_err-push_own-clause-asks
+walk_call-returns-in_err-push_own-clause-asks g t c = asks_none (g.F.Folder.answered c.args.folder.now)
     (g.F.Folder.most_asked c.args.folder.now)
 
 pub target-returns-in_err-push_text_call-clause-given : goal.target-returns-in_err-push_text_call-clause-given

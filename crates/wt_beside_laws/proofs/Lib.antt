@@ -1,0 +1,15 @@
+mod Cases
+mod NodeCases
+pub mod Firm
+pub mod ContentGlyphs
+pub mod ContentTiles
+pub mod Contents
+pub mod LinkTiles
+pub mod MediaTiles
+pub mod NodesBegin
+pub mod NodesMeet
+pub mod NodesStand
+pub mod TagTiles
+pub mod TypedForms
+pub mod TypedTiles
+pub mod UrlTiles

@@ -1,0 +1,327 @@
+-- Nodes that stay are the same tiles beside text that is typed and beside each other.
+use Rattle.std.proofs.Common.{arith, ◌≡◌, ℕ, ◌+◌, ◌≤◌, ◌==◌, Bool, true, false, Some, None, List, [], ◌∷◌, ◌++◌, length, refl, sym, ap, ◌∙◌, subst, inl, inr, ◌⊎◌, All}
+use Rattle.std.proofs.lemmas.List.Elements.{All-nil, All-cons, All-contains}
+use Rattle.wt_guards.specs.declared.role.Role.{Role}
+use Rattle.wt_guards.specs.declared.role.Role.TheVariants.{Link, External, Bare, Switch, Toggle, Mark, Group, Function, Node}
+use Rattle.wt_tiles.specs.declared.glyph.Glyph.{Glyph}
+use Rattle.wt_tiles.specs.declared.glyph.Glyph.TheVariants as glyph
+use Rattle.wt_tiles.specs.declared.glyph.GlyphClass.TheVariants as class
+use Rattle.wt_tiles.specs.declared.shape.Shape.{Shape}
+use Rattle.wt_tiles.specs.declared.shape.TileKind.TheVariants as kind
+use Rattle.wt_tiles.specs.declared.tag.Name.{Name}
+use Rattle.wt_tiles.specs.declared.tag.Name.TheVariants.{Paired, Break, Island}
+use Rattle.wt_tiles.specs.declared.tag.TagShape.{TagShape}
+use Rattle.wt_tiles.specs.declared.tag.TagShape.TheVariants.{Opening, Alone, Closing}
+use Rattle.wt_tiles.specs.declared.tag.Tag.{Tag}
+use Rattle.wt_tiles.specs.Contexts.{in_line}
+use Rattle.wt_tiles.specs.Glyphs.{first_is, byte_glyphs}
+use Rattle.wt_tiles.specs.Links.{leaf, link_at}
+use Rattle.wt_tiles.specs.Tags.{opening_tag, closing_tag, tag_at}
+use Rattle.wt_tiles.specs.Tiles.{size, shape_of_tag, link_or_url, tag_tile, switch_names, switch_at, form_at}
+use Rattle.wt_tiles.specs.Urls.{scheme_len, ext_link_at, bare_url_at}
+use Rattle.wt_beside_laws.specs.Cuts.{own_form, form_before, StandsAs, Stands}
+use Rattle.wt_beside_laws.specs.Nodes.{IsLinkNode, IsExternalNode, IsBareNode, IsSwitchNode, IsDelimiter, IsOneLexeme, IsNode, MayFollow, MayLead, IsLone, IsTagNode, IsCategoryNode, IsMediaNode}
+use Rattle.wt_beside_laws.specs.Tiles.{IsPastUrl}
+use Rattle.wt_beside_laws.proofs.LinkTiles.{link_stays, category_stays}
+use Rattle.wt_beside_laws.proofs.MediaTiles.{media_stays}
+use Rattle.wt_beside_laws.proofs.TagTiles.{tag_stays}
+use Rattle.wt_beside_laws.proofs.UrlTiles.{ext_stays, bare_stays}
+use Rattle.wt_tiles.proofs.TagInsides.{no_form}
+
+-- ---- the form that is first of several
+
+as_link : (a : Bool) (gs : List Glyph) (w : Shape) → link_at gs ≡ Some w → form_at in_line a gs ≡ Some w
+unfolding form_at link_or_url
+as_link a gs w e = rw e refl
+
+as_external : (a : Bool) (gs : List Glyph) (w : Shape) → link_at gs ≡ None → ext_link_at gs ≡ Some w → form_at in_line a gs ≡ Some w
+unfolding form_at link_or_url
+as_external a gs w l e = rw (l, e) refl
+
+as_bare : (a : Bool) (gs : List Glyph) (w : Shape) → link_at gs ≡ None → ext_link_at gs ≡ None → bare_url_at a gs ≡ Some w → form_at in_line a gs ≡ Some w
+unfolding form_at link_or_url
+as_bare a gs w l x e = rw (l, x, e) refl
+
+as_switch : (a : Bool) (gs : List Glyph) (w : Shape) → link_at gs ≡ None → ext_link_at gs ≡ None → bare_url_at a gs ≡ None → tag_at gs ≡ None
+    → switch_at gs ≡ Some w → form_at in_line a gs ≡ Some w
+unfolding form_at link_or_url tag_tile
+as_switch a gs w l x b t e = rw (l, x, b, t, e) refl
+
+-- ---- each kind of node, before what follows it
+
+-- its form, by itself and before these items
+record Holds (word : Bool) (own behind : List Glyph) : Type 0 where
+  shape : Shape
+  alone : own_form in_line own ≡ Some shape
+  whole : size shape ≡ length own
+  before : (a : Bool) → (a ≡ true → word ≡ true) → form_before in_line a own behind ≡ Some shape
+
+holding : (word : Bool) (own behind : List Glyph) → Holds word own behind → Stands in_line word own behind
+holding word own behind h = subst (λ o. StandsAs o in_line word own behind) (sym h.alone) (h.whole, h.before)
+
+past_trail : (gs : List Glyph) → MayFollow Link gs → first_is class.Trail gs ≡ false
+past_trail [] h = refl
+past_trail (g ∷ gs) h = h
+
+past_url : (ends : Bool) (gs : List Glyph) → MayFollow (Bare ends) gs → IsPastUrl gs
+past_url ends [] h = tt
+past_url ends (g ∷ gs) h = h
+
+two_fit : (w : Shape) (own inside : List Glyph) → own ≡ glyph.Byte 91 ∷ glyph.Byte 91 ∷ inside → size w ≡ length own → size w ≤ 2 + length inside
+two_fit w own inside i e = let l : length own ≡ length (glyph.Byte 91 ∷ glyph.Byte 91 ∷ inside) = ap length i in omega (arith, l, e)
+
+one_fits : (w : Shape) (own inside : List Glyph) → own ≡ glyph.Byte 91 ∷ inside → size w ≡ length own → size w ≤ 1 + length inside
+one_fits w own inside i e = let l : length own ≡ length (glyph.Byte 91 ∷ inside) = ap length i in omega (arith, l, e)
+
+link_stands : (word : Bool) (own behind : List Glyph) → IsLinkNode own → MayFollow Link behind → Holds word own behind
+link_stands word own behind n f =
+    let two : List Glyph = glyph.Byte 91 ∷ glyph.Byte 91 ∷ n.inside in
+    subst (λ gs. Holds word gs behind) (sym n.is)
+    (record {
+      shape = n.shape;
+      alone = as_link false two n.shape n.link;
+      whole = n.whole ∙ ap length n.is;
+      before = λ a h.
+          as_link a (two ++ behind) n.shape
+          (link_stays (glyph.Byte 91) (glyph.Byte 91) n.inside behind n.shape n.plain (past_trail behind f) (two_fit n.shape own n.inside n.is n.whole) n.link);
+    })
+
+-- a single `[` is no link to a page
+single_none : (gs : List Glyph) → first_is (class.Only 91) gs ≡ false → link_at (glyph.Byte 91 ∷ gs) ≡ None
+unfolding link_at
+single_none [] e = refl
+single_none (g ∷ gs) e = rw e refl
+
+lone_bracket : (w : Shape) → ext_link_at (glyph.Byte 91 ∷ []) ≡ Some w → (gs : List Glyph) → first_is (class.Only 91) gs ≡ false
+unfolding ext_link_at scheme_len
+lone_bracket w e gs = cc
+
+single_behind : (inside behind : List Glyph) (w : Shape) → ext_link_at (glyph.Byte 91 ∷ inside) ≡ Some w → first_is (class.Only 91) inside ≡ false
+    → first_is (class.Only 91) (inside ++ behind) ≡ false
+single_behind [] behind w e s = lone_bracket w e behind
+single_behind (g ∷ gs) behind w e s = s
+
+external_stands : (word : Bool) (own behind : List Glyph) → IsExternalNode own → Holds word own behind
+external_stands word own behind n =
+    let one : List Glyph = glyph.Byte 91 ∷ n.inside in
+    subst (λ gs. Holds word gs behind) (sym n.is)
+    (record {
+      shape = n.shape;
+      alone = as_external false one n.shape (single_none n.inside n.single) n.link;
+      whole = n.whole ∙ ap length n.is;
+      before = λ a h.
+          as_external a (one ++ behind) n.shape (single_none (n.inside ++ behind) (single_behind n.inside behind n.shape n.link n.single))
+          (ext_stays (glyph.Byte 91) n.inside behind n.shape (one_fits n.shape own n.inside n.is n.whole) n.link);
+    })
+
+no_link : (b : ℕ) (gs : List Glyph) → (b == 91) ≡ false → link_at (glyph.Byte b ∷ gs) ≡ None
+unfolding link_at
+no_link b gs e = rw e refl
+
+no_external : (b : ℕ) (gs : List Glyph) → (b == 91) ≡ false → ext_link_at (glyph.Byte b ∷ gs) ≡ None
+unfolding ext_link_at
+no_external b gs e = rw e refl
+
+bare_by : (a word : Bool) (gs : List Glyph) (w : Shape) → word ≡ false → (a ≡ true → word ≡ true) → bare_url_at false gs ≡ Some w → bare_url_at a gs ≡ Some w
+bare_by true word gs w e h is = let no : false ≡ true = sym e ∙ h refl in cc
+bare_by false word gs w e h is = is
+
+bare_stands : (ends word : Bool) (own behind : List Glyph) → IsBareNode own → MayFollow (Bare ends) behind → word ≡ false → Holds word own behind
+bare_stands ends word own behind n f e =
+    let us : List Glyph = glyph.Byte n.first ∷ n.others in
+    subst (λ gs. Holds word gs behind) (sym n.is)
+    (record {
+      shape = n.shape;
+      alone = as_bare false us n.shape (no_link n.first n.others n.unbracketed) (no_external n.first n.others n.unbracketed) n.url;
+      whole = n.whole ∙ ap length n.is;
+      before = λ a h.
+          as_bare a (us ++ behind) n.shape (no_link n.first (n.others ++ behind) n.unbracketed) (no_external n.first (n.others ++ behind) n.unbracketed)
+          (bare_by a word (us ++ behind) n.shape e h (bare_stays us behind n.shape (past_url ends behind f) n.url));
+    })
+
+-- ---- switches
+
+record IsReadAsSwitch (word : List ℕ) : Type 0 where
+  behind : (rest : List Glyph) → switch_at (byte_glyphs (95 ∷ 95 ∷ word) ++ rest) ≡ Some (leaf kind.Switch (2 + length word))
+  alone : switch_at (byte_glyphs (95 ∷ 95 ∷ word)) ≡ Some (leaf kind.Switch (2 + length word))
+  whole : size (leaf kind.Switch (2 + length word)) ≡ length (byte_glyphs (95 ∷ 95 ∷ word))
+
+abbrev EachIs : (List ℕ → Type 0) → List (List ℕ) → Type 0
+EachIs P [] = Unit {0}
+EachIs P (x ∷ xs) = P x × EachIs P xs
+
+all_by : (P : List ℕ → Type 0) (xs : List (List ℕ)) → EachIs P xs → All P xs
+all_by P [] h = All-nil P
+all_by P (x ∷ xs) h = All-cons P x xs h.0 (all_by P xs h.1)
+
+each_switch : EachIs IsReadAsSwitch switch_names
+unfolding switch_at switch_names
+each_switch = (
+  record { behind = λ rest. refl; alone = refl; whole = refl },
+  (
+    record { behind = λ rest. refl; alone = refl; whole = refl },
+    (
+      record { behind = λ rest. refl; alone = refl; whole = refl },
+      (
+        record { behind = λ rest. refl; alone = refl; whole = refl },
+        (
+          record { behind = λ rest. refl; alone = refl; whole = refl },
+          (
+            record { behind = λ rest. refl; alone = refl; whole = refl },
+            (
+              record { behind = λ rest. refl; alone = refl; whole = refl },
+              (
+                record { behind = λ rest. refl; alone = refl; whole = refl },
+                (
+                  record { behind = λ rest. refl; alone = refl; whole = refl },
+                  tt,
+                ),
+              ),
+            ),
+          ),
+        ),
+      ),
+    ),
+  ),
+)
+
+switches_read : All IsReadAsSwitch switch_names
+switches_read = all_by IsReadAsSwitch switch_names each_switch
+
+no_tag : (gs : List Glyph) → tag_at (glyph.Byte 95 ∷ gs) ≡ None
+unfolding tag_at opening_tag closing_tag
+no_tag gs = refl
+
+no_bare : (a : Bool) (gs : List Glyph) → bare_url_at a (glyph.Byte 95 ∷ gs) ≡ None
+unfolding bare_url_at scheme_len
+no_bare true gs = refl
+no_bare false gs = refl
+
+by_underscore : (a : Bool) (gs : List Glyph) (w : Shape) → switch_at (glyph.Byte 95 ∷ gs) ≡ Some w → form_at in_line a (glyph.Byte 95 ∷ gs) ≡ Some w
+by_underscore a gs w e = as_switch a (glyph.Byte 95 ∷ gs) w (no_link 95 gs refl) (no_external 95 gs refl) (no_bare a gs) (no_tag gs) e
+
+switch_stands : (word : Bool) (own behind : List Glyph) → IsSwitchNode own → Holds word own behind
+switch_stands word own behind n =
+    let r : IsReadAsSwitch n.word = All-contains IsReadAsSwitch switch_names n.word switches_read n.named in
+    let w : Shape = leaf kind.Switch (2 + length n.word) in
+    subst (λ gs. Holds word gs behind) (sym n.is)
+    (record {
+      shape = w;
+      alone = by_underscore false (byte_glyphs (95 ∷ n.word)) w r.alone;
+      whole = r.whole;
+      before = λ a h. by_underscore a (byte_glyphs (95 ∷ n.word) ++ behind) w (r.behind behind);
+    })
+
+one_stands : (word : Bool) (own behind : List Glyph) → IsOneLexeme own → Holds word own behind
+one_stands word own behind n = elim n [
+  | inl i ↦ subst (λ gs. Holds word gs behind) (sym i) (record { shape = leaf kind.Atom 1; alone = refl; whole = refl; before = λ a h. refl })
+  | inr i ↦ subst (λ gs. Holds word gs behind) (sym i.1) (record { shape = leaf kind.Atom 1; alone = refl; whole = refl; before = λ a h. refl })
+]
+
+-- ---- tags
+
+as_tag : (a : Bool) (gs : List Glyph) (t : Tag) → link_at gs ≡ None → ext_link_at gs ≡ None → bare_url_at a gs ≡ None → tag_at gs ≡ Some t
+    → form_at in_line a gs ≡ Some (shape_of_tag 0 t.name t.shape t.len gs)
+unfolding form_at link_or_url tag_tile
+as_tag a gs t l x b e = rw (l, x, b, e) refl
+
+lone_shape : (m : Name) (h : TagShape) (n : ℕ) (gs us : List Glyph) → IsLone m h → shape_of_tag 0 m h n gs ≡ shape_of_tag 0 m h n us
+lone_shape (Paired m) Opening n gs us l = absurd l
+lone_shape (Paired m) Alone n gs us l = refl
+lone_shape (Paired m) Closing n gs us l = refl
+lone_shape Break Opening n gs us l = refl
+lone_shape Break Alone n gs us l = refl
+lone_shape Break Closing n gs us l = refl
+lone_shape Island h n gs us l = refl
+
+lone_size : (m : Name) (h : TagShape) (n : ℕ) (gs : List Glyph) → IsLone m h → size (shape_of_tag 0 m h n gs) ≡ n
+lone_size (Paired m) Opening n gs l = absurd l
+lone_size (Paired m) Alone n gs l = omega arith
+lone_size (Paired m) Closing n gs l = omega arith
+lone_size Break Opening n gs l = omega arith
+lone_size Break Alone n gs l = omega arith
+lone_size Break Closing n gs l = omega arith
+lone_size Island h n gs l = omega arith
+
+no_bare_tag : (a : Bool) (gs : List Glyph) → bare_url_at a (glyph.Byte 60 ∷ gs) ≡ None
+unfolding bare_url_at scheme_len
+no_bare_tag true gs = refl
+no_bare_tag false gs = refl
+
+by_less : (a : Bool) (gs : List Glyph) (t : Tag) → tag_at (glyph.Byte 60 ∷ gs) ≡ Some t
+    → form_at in_line a (glyph.Byte 60 ∷ gs) ≡ Some (shape_of_tag 0 t.name t.shape t.len (glyph.Byte 60 ∷ gs))
+by_less a gs t e = as_tag a (glyph.Byte 60 ∷ gs) t (no_link 60 gs refl) (no_external 60 gs refl) (no_bare_tag a gs) e
+
+tag_stands : (word : Bool) (own behind : List Glyph) → IsTagNode own → Holds word own behind
+tag_stands word own behind n =
+    let t : Tag = n.named in
+    let less : List Glyph = glyph.Byte 60 ∷ n.others in
+    subst (λ gs. Holds word gs behind) (sym n.is)
+    (record {
+      shape = shape_of_tag 0 t.name t.shape t.len less;
+      alone = by_less false n.others t n.tagged;
+      whole = lone_size t.name t.shape t.len less n.lone ∙ n.whole ∙ ap length n.is;
+      before = λ a h.
+          by_less a (n.others ++ behind) t (tag_stays less behind t n.tagged)
+          ∙ ap (λ (w : Shape). Some w) (lone_shape t.name t.shape t.len (less ++ behind) less n.lone);
+    })
+
+category_stands : (word : Bool) (own behind : List Glyph) → IsCategoryNode own → Holds word own behind
+category_stands word own behind n =
+    let two : List Glyph = glyph.Byte 91 ∷ glyph.Byte 91 ∷ n.inside in
+    subst (λ gs. Holds word gs behind) (sym n.is)
+    (record {
+      shape = n.shape;
+      alone = as_link false two n.shape n.link;
+      whole = n.whole ∙ ap length n.is;
+      before = λ a h.
+          as_link a (two ++ behind) n.shape
+          (category_stays (glyph.Byte 91) (glyph.Byte 91) n.inside behind n.shape n.category (two_fit n.shape own n.inside n.is n.whole) n.link);
+    })
+
+media_stands : (word : Bool) (own behind : List Glyph) → IsMediaNode own → Holds word own behind
+media_stands word own behind n =
+    let two : List Glyph = glyph.Byte 91 ∷ glyph.Byte 91 ∷ n.inside in
+    subst (λ gs. Holds word gs behind) (sym n.is)
+    (record {
+      shape = n.shape;
+      alone = as_link false two n.shape n.link;
+      whole = n.whole ∙ ap length n.is;
+      before = λ a h.
+          as_link a (two ++ behind) n.shape
+          (media_stays (glyph.Byte 91) (glyph.Byte 91) n.name_len n.inside behind n.shape n.media (two_fit n.shape own n.inside n.is n.whole) n.link);
+    })
+
+other_stands : (word : Bool) (own behind : List Glyph) → IsOneLexeme own ⊎ (IsTagNode own ⊎ (IsCategoryNode own ⊎ IsMediaNode own)) → Holds word own behind
+other_stands word own behind n = elim n [
+  | inl one ↦ one_stands word own behind one
+  | inr other ↦ elim other [
+    | inl tag ↦ tag_stands word own behind tag
+    | inr link ↦ elim link [
+      | inl category ↦ category_stands word own behind category
+      | inr media ↦ media_stands word own behind media
+    ]
+  ]
+]
+
+-- ---- style delimiters
+
+apostrophe : (gs : List Glyph) → form_at in_line false (glyph.Byte 39 ∷ gs) ≡ None
+apostrophe gs = no_form in_line false 39 gs refl
+
+delimiter_stands : (word : Bool) (own behind : List Glyph) → IsDelimiter own → Stands in_line word own behind
+delimiter_stands word own behind n = elim n [
+  | inl i ↦ subst (λ o. StandsAs o in_line word own behind) (sym (ap (own_form in_line) i ∙ apostrophe (glyph.Byte 39 ∷ []))) (inl i)
+  | inr i ↦ subst (λ o. StandsAs o in_line word own behind) (sym (ap (own_form in_line) i ∙ apostrophe (glyph.Byte 39 ∷ glyph.Byte 39 ∷ []))) (inr i)
+]
+
+pub node_stands : (r : Role) (word : Bool) (own behind : List Glyph) → IsNode r own → MayFollow r behind → MayLead r word → Stands in_line word own behind
+node_stands Link word own behind n f l = holding word own behind (link_stands word own behind n f)
+node_stands External word own behind n f l = holding word own behind (external_stands word own behind n)
+node_stands (Bare ends) word own behind n f l = holding word own behind (bare_stands ends word own behind n f l)
+node_stands Switch word own behind n f l = holding word own behind (switch_stands word own behind n)
+node_stands Toggle word own behind n f l = delimiter_stands word own behind n
+node_stands (Mark ends began) word own behind n f l = absurd n
+node_stands (Group g) word own behind n f l = absurd n
+node_stands Function word own behind n f l = holding word own behind (one_stands word own behind n)
+node_stands Node word own behind n f l = holding word own behind (other_stands word own behind n)

@@ -1,0 +1,7 @@
+pub mod Kept
+pub mod Nodes
+pub mod Content
+pub mod Cuts
+pub mod Tiles
+pub mod Glyphs
+pub mod Beginnings

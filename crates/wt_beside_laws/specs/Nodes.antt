@@ -1,0 +1,163 @@
+-- Nodes that stay, by what their neighbours see of them: what each is by itself, and what may stand beside it.
+use Rattle.std.specs.Prelude.{◌≡◌, ◌⊎◌, ℕ, ◌==◌, Bool, true, false, Some, List, [], ◌∷◌, length, codes}
+use Rattle.std.specs.List.{Contains}
+use Rattle.wt_span.specs.Characters as byte
+use Rattle.wt_guards.specs.declared.role.Role.{Role}
+use Rattle.wt_guards.specs.declared.role.Role.TheVariants.{Link, External, Bare, Switch, Toggle, Mark, Group, Function, Node}
+use Rattle.wt_guards.specs.Content.{ContentSign, letter, thing}
+use Rattle.wt_guards.specs.Guards.{Setting, is_guarded}
+use Rattle.wt_tiles.specs.declared.glyph.Glyph.{Glyph}
+use Rattle.wt_tiles.specs.declared.glyph.Glyph.TheVariants as glyph
+use Rattle.wt_tiles.specs.declared.glyph.GlyphClass.TheVariants as class
+use Rattle.wt_tiles.specs.declared.shape.Shape.{Shape}
+use Rattle.wt_tiles.specs.Glyphs.{in_class, first_is, byte_glyphs}
+use Rattle.wt_tiles.specs.declared.tag.Name.{Name}
+use Rattle.wt_tiles.specs.declared.tag.Name.TheVariants.{Paired, Break, Island}
+use Rattle.wt_tiles.specs.declared.tag.TagShape.{TagShape}
+use Rattle.wt_tiles.specs.declared.tag.TagShape.TheVariants.{Opening, Alone, Closing}
+use Rattle.wt_tiles.specs.declared.tag.Tag.{Tag}
+use Rattle.wt_tiles.specs.Links.{link_at}
+use Rattle.wt_tiles.specs.Tags.{tag_at}
+use Rattle.wt_tiles.specs.Tiles.{size, switch_names}
+use Rattle.wt_tiles.specs.Urls.{is_url_glyph, ext_link_at, bare_url_at}
+use Rattle.wt_beside_laws.specs.Cuts.{own_glyphs, ends_word}
+use Rattle.wt_beside_laws.specs.Tiles.{IsPlainLink, IsCategoryLink, IsMediaLink}
+
+-- ---- what each is
+
+-- a link to a page
+pub record IsLinkNode (own : List Glyph) : Type 0 where
+  pub shape : Shape
+  pub inside : List Glyph
+  pub is : own ≡ glyph.Byte byte.opening_bracket ∷ glyph.Byte byte.opening_bracket ∷ inside
+  pub plain : IsPlainLink inside
+  pub link : link_at (glyph.Byte byte.opening_bracket ∷ glyph.Byte byte.opening_bracket ∷ inside) ≡ Some shape
+  pub whole : size shape ≡ length own
+
+-- a link to a category
+pub record IsCategoryNode (own : List Glyph) : Type 0 where
+  pub shape : Shape
+  pub inside : List Glyph
+  pub is : own ≡ glyph.Byte byte.opening_bracket ∷ glyph.Byte byte.opening_bracket ∷ inside
+  pub category : IsCategoryLink inside
+  pub link : link_at (glyph.Byte byte.opening_bracket ∷ glyph.Byte byte.opening_bracket ∷ inside) ≡ Some shape
+  pub whole : size shape ≡ length own
+
+-- a link to media
+pub record IsMediaNode (own : List Glyph) : Type 0 where
+  pub shape : Shape
+  pub inside : List Glyph
+  pub is : own ≡ glyph.Byte byte.opening_bracket ∷ glyph.Byte byte.opening_bracket ∷ inside
+  pub name_len : ℕ
+  pub media : IsMediaLink inside name_len
+  pub link : link_at (glyph.Byte byte.opening_bracket ∷ glyph.Byte byte.opening_bracket ∷ inside) ≡ Some shape
+  pub whole : size shape ≡ length own
+
+-- an external link
+pub record IsExternalNode (own : List Glyph) : Type 0 where
+  pub shape : Shape
+  pub inside : List Glyph
+  pub is : own ≡ glyph.Byte byte.opening_bracket ∷ inside
+  pub single : first_is (class.Only byte.opening_bracket) inside ≡ false
+  pub link : ext_link_at (glyph.Byte byte.opening_bracket ∷ inside) ≡ Some shape
+  pub whole : size shape ≡ length own
+
+-- a bare URL
+pub record IsBareNode (own : List Glyph) : Type 0 where
+  pub shape : Shape
+  pub first : ℕ
+  pub others : List Glyph
+  pub is : own ≡ glyph.Byte first ∷ others
+  pub unbracketed : (first == byte.opening_bracket) ≡ false
+  pub url : bare_url_at false (glyph.Byte first ∷ others) ≡ Some shape
+  pub whole : size shape ≡ length own
+
+-- a switch
+pub record IsSwitchNode (own : List Glyph) : Type 0 where
+  pub word : List ℕ
+  pub named : Contains switch_names word
+  pub is : own ≡ byte_glyphs (byte.underscore ∷ byte.underscore ∷ word)
+
+-- a style delimiter
+abbrev pub IsDelimiter : List Glyph → Type 0
+IsDelimiter own = (own ≡ byte_glyphs (codes "''")) ⊎ (own ≡ byte_glyphs (codes "'''"))
+
+-- a reference, a nowiki, an extension, or another lexeme
+abbrev pub IsOneLexeme : List Glyph → Type 0
+IsOneLexeme own = (own ≡ glyph.Atom ∷ []) ⊎ ((c : ℕ) × (own ≡ glyph.Entity c ∷ []))
+
+-- it isn't the opening tag of a pair
+abbrev pub IsLone : Name → TagShape → Type 0
+IsLone (Paired m) Opening = ⊥
+IsLone (Paired m) Alone = Unit {0}
+IsLone (Paired m) Closing = Unit {0}
+IsLone Break shape = Unit {0}
+IsLone Island shape = Unit {0}
+
+-- a tag of a line break, one that is kept as an island, or a closing tag without an opening one
+pub record IsTagNode (own : List Glyph) : Type 0 where
+  pub named : Tag
+  pub others : List Glyph
+  pub is : own ≡ glyph.Byte byte.less_than ∷ others
+  pub tagged : tag_at (glyph.Byte byte.less_than ∷ others) ≡ Some named
+  pub lone : IsLone named.name named.shape
+  pub whole : named.len ≡ length own
+
+abbrev pub IsNode : Role → List Glyph → Type 0
+IsNode Link own = IsLinkNode own
+IsNode External own = IsExternalNode own
+IsNode (Bare ends) own = IsBareNode own
+IsNode Switch own = IsSwitchNode own
+IsNode Toggle own = IsDelimiter own
+IsNode (Mark ends began) own = ⊥
+IsNode (Group g) own = ⊥
+IsNode Function own = IsOneLexeme own
+IsNode Node own = IsOneLexeme own ⊎ (IsTagNode own ⊎ (IsCategoryNode own ⊎ IsMediaNode own))
+
+abbrev pub AreNodes : List ContentSign → Type 0
+AreNodes [] = Unit {0}
+AreNodes (letter c ∷ after) = AreNodes after
+AreNodes (thing t ∷ after) = IsNode t.role (own_glyphs t) × AreNodes after
+
+-- ---- what may be beside it
+
+-- the first item that follows a node: no letter that joins a link, and none of a URL behind a URL
+abbrev pub MayBeBehind : Role → Glyph → Type 0
+MayBeBehind Link g = in_class class.Trail g ≡ false
+MayBeBehind External g = Unit {0}
+MayBeBehind (Bare ends) g = is_url_glyph g ≡ false
+MayBeBehind Switch g = Unit {0}
+MayBeBehind Toggle g = Unit {0}
+MayBeBehind (Mark ends began) g = Unit {0}
+MayBeBehind (Group h) g = Unit {0}
+MayBeBehind Function g = Unit {0}
+MayBeBehind Node g = Unit {0}
+
+abbrev pub MayFollow : Role → List Glyph → Type 0
+MayFollow r [] = Unit {0}
+MayFollow r (g ∷ gs) = MayBeBehind r g
+
+-- before a bare URL is no letter, digit or `_`
+abbrev pub MayLead : Role → Bool → Type 0
+MayLead Link word = Unit {0}
+MayLead External word = Unit {0}
+MayLead (Bare ends) word = word ≡ false
+MayLead Switch word = Unit {0}
+MayLead Toggle word = Unit {0}
+MayLead (Mark ends began) word = Unit {0}
+MayLead (Group h) word = Unit {0}
+MayLead Function word = Unit {0}
+MayLead Node word = Unit {0}
+
+-- Two nodes between which nothing is put, as they may stand in the page; and a node before what is behind the content.
+abbrev pub MeetAt : Bool → List ContentSign → List ContentSign → List Glyph → Type 0
+MeetAt true before after rest = Unit {0}
+MeetAt false [] after rest = Unit {0}
+MeetAt false (letter c ∷ before) after rest = Unit {0}
+MeetAt false (thing t ∷ before) [] rest = MayFollow t.role rest
+MeetAt false (thing t ∷ before) (letter c ∷ after) rest = Unit {0}
+MeetAt false (thing t ∷ before) (thing n ∷ after) rest = MayFollow t.role (own_glyphs n) × MayLead n.role (ends_word false (own_glyphs t))
+
+abbrev pub AllMeet : Setting → List ContentSign → List ContentSign → List Glyph → Type 0
+AllMeet s before [] rest = MeetAt (is_guarded s before []) before [] rest
+AllMeet s before (sign ∷ after) rest = MeetAt (is_guarded s before (sign ∷ after)) before (sign ∷ after) rest × AllMeet s (sign ∷ before) after rest

@@ -1,0 +1,63 @@
+//! Laws of texts that are typed beside nodes that stay.
+#![tactic(auto)]
+
+ghost use Rattle.std.specs.Prelude.{◌≡◌, ◌≤◌, ℕ, ◌+◌, false, Some, List, [], ◌∷◌, ◌++◌, length, map};
+ghost use Rattle.wt_guards.specs.Content.{ContentSign};
+ghost use Rattle.wt_guards.specs.Guards.{Setting, spelled};
+ghost use Rattle.wt_expand.specs.PageItems.{page_items};
+ghost use Rattle.wt_text_edit_laws.specs.TextBetween.{StandsBehind};
+ghost use Rattle.wt_tiles.specs.declared.glyph.Glyph.{Glyph as Sign};
+ghost use Rattle.wt_tiles.specs.declared.glyph.GlyphClass.TheVariants as class;
+ghost use Rattle.wt_tiles.specs.declared.shape.Shape.{Shape as Tile};
+ghost use Rattle.wt_tiles.specs.Contexts.{in_line};
+ghost use Rattle.wt_tiles.specs.Glyphs.{glyph_of, first_is};
+ghost use Rattle.wt_tiles.specs.Links.{link_at};
+ghost use Rattle.wt_tiles.specs.Tiles.{size, cuts};
+ghost use Rattle.wt_tiles.specs.Urls.{scheme_len, ext_link_at, bare_url_at};
+ghost use Rattle.wt_beside_laws.specs.Beginnings.{IsApart};
+ghost use Rattle.wt_beside_laws.specs.Content.{AreKept, content_items};
+ghost use Rattle.wt_beside_laws.specs.Cuts.{IsFree, content_cut};
+ghost use Rattle.wt_beside_laws.specs.Glyphs.{content_glyphs, IsPast, AllAvoid};
+ghost use Rattle.wt_beside_laws.specs.Nodes.{AreNodes, AllMeet};
+ghost use Rattle.wt_beside_laws.specs.Tiles.{IsPlainLink, IsPastUrl};
+
+/// A content of text that is typed and of nodes that stay, as it is spelled, makes no lexeme over the border of a text and
+/// a node: its items are those of each node by itself, the characters and references of the text, and the nowikis that
+/// are put between. So they are before whatever stands behind the content.
+#[tactic(auto, using(crate::proofs::Contents::content_alone, crate::proofs::Contents::content_before))]
+pub fn texts_beside_nodes_make_no_lexeme()
+    ensures alone { (s : Setting) (signs : List ContentSign) → AreKept signs → page_items (spelled s signs) ≡ content_items s [] signs }
+    ensures before { (s : Setting) (signs : List ContentSign) (rest : List ℕ) → AreKept signs → StandsBehind rest
+        → page_items (spelled s signs ++ rest) ≡ content_items s [] signs ++ page_items rest }
+{}
+
+/// A link to a page or a category that ends where some items end is the same tile whatever is read behind them, unless
+/// that begins with a letter that joins it; an external link in any case; and a bare URL unless an item of a URL is
+/// first behind it.
+#[tactic(auto, using(crate::proofs::LinkTiles::link_stays, crate::proofs::UrlTiles::ext_stays, crate::proofs::UrlTiles::bare_stays))]
+pub fn links_and_urls_stay()
+    ensures link { (a b : Sign) (gs rest : List Sign) (w : Tile) → IsPlainLink gs → first_is class.Trail rest ≡ false → size w ≤ 2 + length gs
+        → link_at (a ∷ b ∷ gs) ≡ Some w → link_at (a ∷ b ∷ (gs ++ rest)) ≡ Some w }
+    ensures external { (a : Sign) (gs rest : List Sign) (w : Tile) → size w ≤ 1 + length gs → ext_link_at (a ∷ gs) ≡ Some w → ext_link_at (a ∷ (gs ++ rest)) ≡ Some w }
+    ensures bare { (gs rest : List Sign) (w : Tile) → IsPastUrl rest → bare_url_at false gs ≡ Some w → bare_url_at false (gs ++ rest) ≡ Some w }
+{}
+
+/// At no character that is typed does a URL begin, whatever nodes stay beside the text, where none of these begins with a
+/// character with which the beginning of a URL goes on, and none of these is behind the content.
+#[tactic(auto, using(crate::proofs::TypedTiles::scheme_none))]
+pub fn no_url_begins_in_typed_text()
+    ensures { (s : Setting) (before after : List ContentSign) (rest : List Sign) (g : Sign) → AllAvoid after → IsPast rest
+        → scheme_len (g ∷ content_glyphs s before after rest) ≡ 0 }
+{}
+
+/// The tiles of such a content in a line are those of its signs, one after the other: each node that stays is its own tile,
+/// each reference and each nowiki that is put is one, and the characters between them are runs. So they are before what is
+/// behind the content, if that joins no node, begins neither what goes on with a URL nor a switch, and is read so whatever
+/// comes before it. Nodes between which nothing is put are to stand as they may stand in a page.
+#[tactic(auto, using(crate::proofs::NodesBegin::tiles_alone, crate::proofs::NodesBegin::tiles_before))]
+pub fn texts_beside_nodes_make_no_tile()
+    ensures alone { (s : Setting) (signs : List ContentSign) → AreKept signs → AreNodes signs → AllMeet s [] signs []
+        → cuts in_line false 0 (map glyph_of (page_items (spelled s signs))) ≡ content_cut in_line s [] signs (0, []) }
+    ensures before { (s : Setting) (signs : List ContentSign) (rest : List Sign) → AreNodes signs → AllMeet s [] signs rest → IsApart rest → IsFree in_line rest
+        → cuts in_line false 0 (content_glyphs s [] signs rest) ≡ content_cut in_line s [] signs (cuts in_line false 0 rest) }
+{}

@@ -1,0 +1,16 @@
+//! The signs of blocks, items, rows and cells of an edited page: those that they had, and of new ones those of what is
+//! beside them.
+#![tactic(auto)]
+
+mod delimiters;
+mod items;
+mod kinds;
+mod style;
+
+pub use delimiters::{
+    begins_line, goes_on_behind, push_begun, push_closing, push_heading_end, push_heading_start,
+    push_opening, push_signs, shared_line, shares_line,
+};
+pub use items::{sign_of, signs_of};
+pub use kinds::{is_cell, is_item, is_lined, is_list, is_part, is_row_without_sign};
+pub use style::{Style, USUAL, has_signed_text, is_bare_sign, joins_sign, style_of, style_within};

@@ -1,0 +1,14 @@
+pub mod Answers
+pub mod Asked
+pub mod Calls
+pub mod Causes
+pub mod Devices
+pub mod Gen
+pub mod GivenBack
+pub mod Inputs
+pub mod Outputs
+pub mod Refusals
+pub mod Reports
+pub mod Statuses
+pub mod Unchanged
+pub mod Words

@@ -1,0 +1,65 @@
+//! How many line breaks neighbours ask for, by their kinds.
+
+use std::alloc::Global;
+use wt_block_signs::{is_cell, is_lined, is_list, is_part};
+use wt_span::{NoMemory, Str};
+use wt_tree::{Kind, Node};
+
+/// Whether a block of this kind, which isn't a part of another, is recognized by its line's signs.
+fn is_lined_block(kind: Kind) -> bool {
+    is_lined(kind) && !is_part(kind)
+}
+
+/// The kind of what a node shows last, as its neighbour after it sees it: of a group that ends with a list, a heading
+/// or the like this one's.
+pub fn kind_at_end(node: &Node<'_>) -> Kind {
+    match node.children.as_slice().last() {
+        Some(last) if matches!(node.kind, Kind::Group) && is_lined_block(last.kind) => last.kind,
+        _ => node.kind,
+    }
+}
+
+/// The same of what it shows first.
+pub fn kind_at_start(node: &Node<'_>) -> Kind {
+    match node.children.as_slice().first() {
+        Some(first) if matches!(node.kind, Kind::Group) && is_lined_block(first.kind) => first.kind,
+        _ => node.kind,
+    }
+}
+
+/// How many line breaks two neighbours ask for at least. No empty line is in an item, a list or a table.
+pub fn least_between(is_tight: bool, left: Kind, right: Kind) -> usize {
+    if is_cell(left) && !matches!(right, Kind::Group) {
+        return 0;
+    }
+    if is_tight {
+        return 1;
+    }
+    if (is_lined(left) || is_lined(right)) && !(is_list(left) && is_list(right)) {
+        1
+    } else {
+        2
+    }
+}
+
+/// How many line breaks are written between two neighbours one of which is new.
+pub fn between(is_tight: bool, left: Kind, right: Kind) -> usize {
+    if is_tight || is_part(left) || is_part(right) {
+        1
+    } else {
+        2
+    }
+}
+
+pub fn push_breaks(out: &mut Str, count: usize) -> Result<(), NoMemory> {
+    for _at in 0..count {
+        out.push_str("\n")?;
+    }
+    Ok(())
+}
+
+pub fn breaks(alloc: Global, wanted: usize, standing: usize) -> Result<Str, NoMemory> {
+    let mut out = Str::new(alloc);
+    push_breaks(&mut out, wanted.saturating_sub(standing))?;
+    Ok(out)
+}

@@ -1,5 +1,0 @@
-use Rattle.wt_pagetool.proofs.RefusalLines.{unfit_parts}
-use Rattle.wt_pagetool.proofs.refusal.unfit_line.Goals as goal
-
-pub returns : goal.returns
-returns c = rw (unfit_parts c.args.element c.args.why, ← c.fit_why.ensures) c.format.ensures.ok
