@@ -1,0 +1,8 @@
+pub mod Uncrossed
+pub mod LeftBraces
+pub mod Seams
+pub mod CalmBraces
+pub mod Depths
+pub mod PartByPart
+pub mod CalledAgain
+pub mod NoCallsCalled
