@@ -95,7 +95,7 @@ work_same pages (s ∷ ss) [] behind e = absurd e
 work_same pages (s ∷ ss) (r ∷ rs) behind e =
     ap₂ (λ (bs : List ℕ) (es : List Entry). (text_given (page_reading pages) bs).work ++ es) e.0 (work_same pages ss rs behind e.2)
 
-work_of : (pages : Pages) (ss : List BlockSpot) (behind : List ℕ) → AreCalled ss behind → page_work pages (spots_source ss behind) ≡ entered None ∷ called_work pages ss behind
+pub work_of : (pages : Pages) (ss : List BlockSpot) (behind : List ℕ) → AreCalled ss behind → page_work pages (spots_source ss behind) ≡ entered None ∷ called_work pages ss behind
 unfolding page_work
 work_of pages ss behind h = let f = page_from pages ss behind h in ap (λ (es : List Entry). entered None ∷ es) f.gives.work_is
 

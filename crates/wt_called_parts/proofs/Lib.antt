@@ -5,4 +5,6 @@ pub mod CalmBraces
 pub mod Depths
 pub mod PartByPart
 pub mod CalledAgain
+pub mod Retyped
 pub mod NoCallsCalled
+mod Cases

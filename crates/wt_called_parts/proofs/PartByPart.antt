@@ -43,7 +43,7 @@ outers_of : (pages : Pages) (bs : List ℕ) → length (outer_calls (page_stretc
 unfolding expanded_page
 outers_of pages bs = refl
 
-items_of : (pages : Pages) (bs : List ℕ) → numbered 0 (page_stretches pages bs) ≡ (expanded_page pages bs).items
+pub items_of : (pages : Pages) (bs : List ℕ) → numbered 0 (page_stretches pages bs) ≡ (expanded_page pages bs).items
 unfolding expanded_page
 items_of pages bs = refl
 

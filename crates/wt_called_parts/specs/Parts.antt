@@ -1,18 +1,18 @@
 -- Pages with calls in which paragraphs and headings stand: what each part gives, and what is asked of the page as a whole.
-use Rattle.std.specs.Prelude.{ℕ, ◌+◌, Bool, List, [], ◌∷◌, ◌++◌, Some, nat_le, length, map, if◌then◌else◌}
+use Rattle.std.specs.Prelude.{◌≡◌, ℕ, ◌+◌, Bool, List, [], ◌∷◌, ◌++◌, Some, None, nat_le, length, map, if◌then◌else◌}
 use Rattle.wt_span.specs.declared.form.Mode.TheVariants.{Page}
 use Rattle.wt_span.specs.Items.{Item}
 use Rattle.wt_span.specs.Lexemes.{words}
 use Rattle.wt_span.specs.Braces.{Member, open_left, reduced}
 use Rattle.wt_span.specs.Origins.{OuterCall, Span}
-use Rattle.wt_expand.specs.Work.{Pages, Entry}
-use Rattle.wt_expand.specs.Expansion.{page_reading, text_given}
+use Rattle.wt_expand.specs.Work.{Pages, Entry, entered}
+use Rattle.wt_expand.specs.Expansion.{page_reading, text_given, page_work}
 use Rattle.wt_expand.specs.PageCalls.{numbered, page_stretches, expanded_page}
 use Rattle.wt_joined_calls.specs.Apart.{close_left}
 use Rattle.wt_joined_calls.specs.Expanded.{moved_call, moved_span}
 use Rattle.wt_text_edit_laws.specs.NoCalls.{Brace, opening, closing, NonePairs, CallsNothing}
 use Rattle.wt_text_edit_laws.specs.TextBlocks.{source_of, block_items}
-use Rattle.wt_text_edit_laws.specs.BlockSpots.{BlockSpot, EndBeforeBlocks, IsRead, AreReadAfter}
+use Rattle.wt_text_edit_laws.specs.BlockSpots.{BlockSpot, spots_source, EndBeforeBlocks, IsRead, AreReadAfter}
 
 -- ---- braces that are left
 
@@ -83,3 +83,10 @@ called_texts pages (s ∷ ss) behind =
 abbrev pub called_work : Pages → List BlockSpot → List ℕ → List Entry
 called_work pages [] behind = (text_given (page_reading pages) behind).work
 called_work pages (s ∷ ss) behind = (text_given (page_reading pages) s.before).work ++ called_work pages ss behind
+
+-- A page is expanded so: its items, calls and work are those of its parts, in order.
+pub record IsByParts (pages : Pages) (ss : List BlockSpot) (behind : List ℕ) : Type 0 where
+  pub items : (expanded_page pages (spots_source ss behind)).items ≡ called_items pages 0 ss behind
+  pub outers : (expanded_page pages (spots_source ss behind)).outer ≡ called_outers pages ss behind
+  pub texts : (expanded_page pages (spots_source ss behind)).text_calls ≡ called_texts pages ss behind
+  pub work : page_work pages (spots_source ss behind) ≡ entered None ∷ called_work pages ss behind
