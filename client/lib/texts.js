@@ -3,7 +3,7 @@
 
 import { Part } from "./markup.js";
 import { Kept, Original, PUT_SIGNS } from "./original.js";
-import { ITEMS, isBlank, isBlock, isHiddenName, isIsland } from "./kinds.js";
+import { CELLS, ITEMS, isBlank, isBlock, isHiddenName, isIsland, isMark } from "./kinds.js";
 
 /**
  * Puts a piece at the end; texts that meet become one.
@@ -52,7 +52,8 @@ function isLeaf(part) {
 
 /**
  * Mends a block with text whose inside isn't that of the page: the line break at its end, which shows
- * nothing; blanks at its ends, no-break spaces, carriage returns and line breaks that the page hadn't there.
+ * nothing; blanks at its ends, no-break spaces, carriage returns and line breaks that the page hadn't there;
+ * and line breaks that it had before comments and include tags.
  * @param {Part} block
  * @param {Original | undefined} original
  * @returns {Part} the block
@@ -68,7 +69,51 @@ export function tidy(block, original) {
   new Texts(was, block.text, original).mend(block, lead);
   trimEdges(block, lead, kept, was);
   block.children = [...lead.filter((piece) => piece !== ""), ...(end < 0 ? [] : block.children.slice(end))];
+  const holdsBlocks = ITEMS.has(block.name) || CELLS.has(block.name);
+  if (kept !== undefined && holdsBlocks) block.children = withLines(block.children, kept.part.children);
   return block;
+}
+
+/**
+ * What an item or a cell holds, each comment and include tag of it on a line of its own if it was on one:
+ * with the text before it a browser takes away the line break, which nobody sees.
+ * @param {(Part | string)[]} now
+ * @param {(Part | string)[]} was
+ */
+function withLines(now, was) {
+  const numbers = onLines(was);
+  /** @type {(Part | string)[]} */
+  const out = [];
+  for (const piece of now) {
+    if (typeof piece !== "string" && numbers.has(piece.number) && !endsLine(out.at(-1))) append(out, "\n");
+    append(out, piece);
+  }
+  return out;
+}
+
+/**
+ * @param {(Part | string)[]} pieces
+ * @returns {Set<number>} the numbers of the comments and include tags that come directly after a line break
+ */
+function onLines(pieces) {
+  const numbers = new Set();
+  let isOnLine = false;
+  for (const piece of pieces) {
+    if (typeof piece === "string") isOnLine = endsLine(piece);
+    else if (!isMark(piece)) isOnLine = false;
+    else if (isOnLine && piece.number !== 0) numbers.add(piece.number);
+  }
+  return numbers;
+}
+
+/**
+ * Whether a comment or an include tag that comes after this piece is on a line of its own still, or after
+ * another one.
+ * @param {Part | string | undefined} piece
+ */
+function endsLine(piece) {
+  if (piece === undefined) return false;
+  return typeof piece === "string" ? withoutEnd(piece, " \t").endsWith("\n") : isMark(piece);
 }
 
 /**

@@ -1007,6 +1007,23 @@ function nameOfComment(source) {
   return describe(comment)?.name;
 }
 
+test("a comment in an item or a cell stays on its line when the text before it is replaced", () => {
+  const mark = (/** @type {number} */ number, kind = "Comment") => `<meta typeof="mw:${kind}" id="mw${number}"/>`;
+  const inner = '<ul id="mw9"><li id="mw10">r</li></ul>';
+  const table = (/** @type {string} */ cell) =>
+    `<table id="mw1"><tbody id="mw2"><tr id="mw3"><td id="mw4">${cell}</td></tr></tbody></table>`;
+  for (const marks of [mark(5), mark(5) + mark(6), mark(5, "Includes/NoInclude")]) {
+    const list = (/** @type {string} */ text) => `<ul id="mw1"><li id="mw2">${text}${marks}${inner}</li></ul>`;
+    for (const block of [list, (/** @type {string} */ text) => table(`${text}${marks}${inner}`)]) {
+      for (const text of ["x", "<b>x</b>", "x ", ""]) {
+        assert.equal(saved(block("q\n"), block(text)), block(`${text.trim()}\n`), text);
+      }
+      assert.equal(saved(block("q\n"), block("x\n")), block("x\n"));
+      assert.equal(saved(block("q "), block("x")), block("x"));
+    }
+  }
+});
+
 test("the name of a comment is what stands between its signs", () => {
   for (const source of ["<!-- a  b -->", "<!--a  b-->\n", "\n <!--\ta  b\n-->", "<!--a  b"]) {
     assert.equal(nameOfComment(source), "a  b");

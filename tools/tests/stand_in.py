@@ -3,7 +3,8 @@
 
 - `lint` finds the bold text that nothing closes, and headings of unequal signs;
 - a case that has the page `Dies` ends this program, and one that has `Hangs` is never answered;
-- one that has `Dies once` ends it where it has answered before, so that a fresh program answers it.
+- one that has `Dies once` ends it where it has answered before, so that a fresh program answers it;
+- before each answer it rests for the seconds in PAUSE, so that a run can be met in its middle on any machine.
 """
 import os
 import re
@@ -12,6 +13,7 @@ import subprocess
 import sys
 import time
 
+PAUSE = float(os.environ.get("PAUSE", 0))
 real = subprocess.Popen([os.environ["REAL_CASES"]], stdin=subprocess.PIPE, stdout=subprocess.PIPE)
 
 
@@ -33,6 +35,7 @@ def main() -> None:
         fields = line.rstrip(b"\n").split(b"\t")
         words = [bytes.fromhex(word.decode()).decode() for word in fields[0].split(b",")]
         title = words[-1]
+        time.sleep(PAUSE)
         if title == "Dies" or title == "Dies once" and count:
             os.kill(os.getpid(), signal.SIGABRT)
         if title == "Hangs":

@@ -28,6 +28,8 @@ except ImportError:
 
 PROGRAM = REPOSITORY / "crates/wtround_cases/out/wtround_cases"
 STAND_IN = Path(__file__).resolve().parent / "stand_in.py"
+# Two thousand pages then take ten seconds at least with one worker: a run is met in its middle on any machine.
+PAUSE = 0.005
 PAGE_LIMIT = 2_097_152
 
 
@@ -80,10 +82,12 @@ class BatchCase(unittest.TestCase):
     def environment(self) -> "dict[str, str]":
         return {**os.environ, "REAL_CASES": str(PROGRAM)}
 
-    def start(self, *words: str) -> "subprocess.Popen[bytes]":
+    def start(self, *words: str, pause: float = 0) -> "subprocess.Popen[bytes]":
+        """Begins a run. The stand-in rests for `pause` seconds before each answer."""
         streams = {"stdin": subprocess.DEVNULL, "stdout": subprocess.PIPE, "stderr": subprocess.PIPE}
+        environment = {**self.environment(), "PAUSE": str(pause)}
         return subprocess.Popen(
-            self.command(*words), cwd=self.root, env=self.environment(), start_new_session=True, **streams
+            self.command(*words), cwd=self.root, env=environment, start_new_session=True, **streams
         )
 
     def run_tool(self, *words: str, status: int = 0, stdin: bytes = b"") -> "tuple[bytes, str]":
@@ -185,7 +189,8 @@ class TwoThousandPages(BatchCase):
 
     def test_killed_in_the_middle_and_gone_on(self) -> None:
         self.make()
-        running = self.start("wikitext", "--json", "lines", "-j", "1")
+        self.program = STAND_IN
+        running = self.start("wikitext", "--json", "lines", "-j", "1", pause=PAUSE)
         state = self.root / "wtround-batch.sqlite"
         self.wait_for(lambda: state.exists() and self.stored(state) >= 50)
         running.kill()
@@ -229,7 +234,8 @@ class TwoThousandPages(BatchCase):
         """A run is stopped as a terminal stops it, or the system: all processes of its group are told."""
         state = self.root / "wtround-batch.sqlite"
         earlier = self.stored(state, what="max(run)") or 0
-        running = self.start("wikitext", "--again", "--report", "report.html", "-j", "1")
+        words = ["wikitext", "--again", "--report", "report.html", "-j", "1"]
+        running = self.start(*words, pause=PAUSE)
         self.wait_for(lambda: self.stored(state, f"WHERE run > {earlier}") >= 50)
         os.killpg(running.pid, number)
         told = running.communicate()[1].decode()
@@ -239,6 +245,7 @@ class TwoThousandPages(BatchCase):
 
     def test_interrupted_and_gone_on(self) -> None:
         self.make()
+        self.program = STAND_IN
         for number in (signal.SIGTERM, signal.SIGINT):
             self.interrupted(number)
         report = json.loads((self.root / "report.json").read_text())
@@ -250,7 +257,8 @@ class TwoThousandPages(BatchCase):
 
     def test_two_runs_at_once(self) -> None:
         self.make()
-        first = self.start("wikitext", "-j", "1")
+        self.program = STAND_IN
+        first = self.start("wikitext", "-j", "1", pause=PAUSE)
         self.wait_for(lambda: self.stored(self.root / "wtround-batch.sqlite") >= 1)
         _, told = self.run_tool("wikitext", status=1)
         self.assertIn(f"another run (process {first.pid}) is at work with this file of results", told)
@@ -603,10 +611,9 @@ class Limits(BatchCase):
 
     def test_a_worker_that_is_ended(self) -> None:
         """All pages are answered, though workers are ended again and again."""
-        self.program = PROGRAM
         for k in range(2000):
-            self.write(f"P{k}", "some words\n" * 500)
-        running = self.start("wikitext", "--report", "report.html", "-j", "2")
+            self.write(f"P{k}", "some words\n")
+        running = self.start("wikitext", "--report", "report.html", "-j", "2", pause=PAUSE)
         ended = 0
         while ended < 3 and running.poll() is None:
             workers = workers_of(running.pid)
@@ -630,10 +637,9 @@ class Limits(BatchCase):
 
     def test_the_nursery_is_ended(self) -> None:
         """Then no worker can be started any more: the run says so, ends, and can be gone on with."""
-        self.program = PROGRAM
         for k in range(2000):
-            self.write(f"P{k}", "some words\n" * 500)
-        running = self.start("wikitext", "-j", "2")
+            self.write(f"P{k}", "some words\n")
+        running = self.start("wikitext", "-j", "2", pause=PAUSE)
         self.wait_for(lambda: len(workers_of(running.pid)) == 2 or running.poll() is not None)
         self.assertIsNone(running.poll(), "it was too fast to be disturbed")
         os.kill(nursery_of(running.pid)[0], signal.SIGKILL)

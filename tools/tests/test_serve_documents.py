@@ -243,6 +243,25 @@ class Mending(unittest.TestCase):
             with self.subTest(text=text):
                 self.assertIn("<ul><li>a</li></ul>", mended(text))
 
+    def test_a_comment_stays_on_its_line(self) -> None:
+        """In an item or a cell, when a browser took away the line break with the text before it."""
+        mark = '<meta typeof="mw:Comment" id="mw{}"/>'
+        for block in (
+            '<ul id="mw1"><li id="mw2">{}{}<ul id="mw9"><li id="mw10">r</li></ul></li></ul>',
+            '<table id="mw1"><tbody id="mw2"><tr id="mw3"><td id="mw4">{}{}<p id="mw9">r</p></td></tr></tbody>'
+            "</table>",
+        ):
+            for marks in (mark.format(5), mark.format(5) + mark.format(6)):
+                page = written(read_body(block.format("q\n", marks)))
+                for text in ("x", "<b>x</b>", "x ", "", "x\n"):
+                    with self.subTest(block=block, text=text):
+                        wanted = written(read_body(block.format(text.strip() + "\n", marks)))
+                        self.assertEqual(mended(block.format(text, marks), page), wanted)
+                unbroken = written(read_body(block.format("q ", marks)))
+                self.assertEqual(
+                    mended(block.format("x", marks), unbroken), written(read_body(block.format("x", marks)))
+                )
+
     def test_what_is_cut_off_is_refused(self) -> None:
         for text in ("<p>x<!-- c", "<p", '<p a="x>', "<script>x", "<![CDATA[x", "</p", "<b>" * 1000):
             with self.subTest(text=text[:20]), self.assertRaises(Refusal) as raised:

@@ -2,7 +2,7 @@
 use Rattle.std.proofs.Common.{◌≡◌, ℕ, ◌+◌, Bool, true, false, List, [], refl, ap}
 use Rattle.wt_tree.specs.declared.kind.Kind.{Kind}
 use Rattle.wt_tree.specs.Kinds.{writing, is_leaf}
-use Rattle.wt_tree.specs.Recut.{is_as_text}
+use Rattle.wt_recut.specs.Recut.{is_as_text}
 use Rattle.wt_tree.specs.Tiling.{is_group}
 use Rattle.wt_tree.specs.Tree.{Trees}
 use Rattle.wt_span.specs.Cuts.{text_between}

@@ -8,11 +8,12 @@ use Rattle.wt_tree.specs.declared.row.Texts.TheVariants.{Separators, Page, Borde
 use Rattle.wt_tree.specs.declared.kind.Kind.{Kind}
 use Rattle.wt_tree.specs.declared.kind.Kind.TheVariants as kind
 use Rattle.wt_tree.specs.Kinds.{texts_of_kind}
-use Rattle.wt_tree.specs.Recut.{is_blank, is_text, is_border, leads_to_block, front_ranges, rest_ranges, joined_ranges, text_leaf, sep_leaf, text_onto, joined_texts, from_start, front_of, rest_of, parts_before, text_before, cut_from, recut}
+use Rattle.wt_tree.specs.Leaves.{text_leaf, sep_leaf}
+use Rattle.wt_recut.specs.Recut.{is_blank, is_text, is_border, leads_to_block, front_ranges, rest_ranges, joined_ranges, text_onto, joined_texts, from_start, front_of, rest_of, parts_before, text_before, cut_from, recut}
 use Rattle.wt_tree.specs.Tiling.{is_group}
 use Rattle.wt_tree.specs.Tree.{Tree, tree, Trees, none, more, label}
-use Rattle.wt_tree.proofs.CutIs.{recut_is}
-use Rattle.wt_tree.proofs.CutOnly.{cut_alone}
+use Rattle.wt_recut.proofs.CutIs.{recut_is}
+use Rattle.wt_recut.proofs.CutOnly.{cut_alone}
 use Rattle.wt_annotated.specs.CutTexts.{cut_as, cut_texts, all_cut_texts, AreCutAs, HasCutTexts}
 use Rattle.wt_annotated.specs.Reached.{reached, reached_in_all}
 

@@ -9,11 +9,12 @@ use Rattle.wt_tree.specs.declared.kind.Ranges.{Ranges}
 use Rattle.wt_tree.specs.declared.row.Texts.{Texts}
 use Rattle.wt_tree.specs.declared.row.Texts.TheVariants.{Separators, Page, Bordered, OwnCharacter}
 use Rattle.wt_tree.specs.Kinds.{writing, is_leaf, texts_of_kind}
-use Rattle.wt_tree.specs.Recut.{is_blank, is_as_text, is_text, is_border, leads_to_block, place_in, front_ranges, rest_ranges, joined_ranges, text_leaf, sep_leaf, text_onto, joined_texts, from_start, front_of, rest_of, parts_before, text_before, cut_from}
+use Rattle.wt_tree.specs.Leaves.{text_leaf, sep_leaf}
+use Rattle.wt_recut.specs.Recut.{is_blank, is_as_text, is_text, is_border, leads_to_block, place_in, front_ranges, rest_ranges, joined_ranges, text_onto, joined_texts, from_start, front_of, rest_of, parts_before, text_before, cut_from}
 use Rattle.wt_tree.specs.Source.{flat, flat_of_all}
 use Rattle.wt_tree.specs.Tiling.{BeginsAt, end_of, TiledBy, Tiled, TiledFrom, is_group}
 use Rattle.wt_tree.specs.Tree.{Label, Tree, tree, Trees, none, more, label}
-use Rattle.wt_tree.proofs.Cut.{all_parts, recut_source}
+use Rattle.wt_recut.proofs.Cut.{all_parts, recut_source}
 use Rattle.wt_annotated.specs.Labels.{leaf_open}
 use Rattle.wt_annotated.specs.Slices.{slice, opening_by, opening_of, StandsIn, IsSlice}
 use Rattle.wt_annotated.specs.CutTexts.{cut_as, cut_texts, all_cut_texts}

@@ -202,6 +202,15 @@ room_place done place number at next m n ns rs ys bs s r e h =
     ap (λ xs. width (held_by_all (forest (item_trees xs)))) e in
     omega (arith, s.place_is, f, g, h)
 
+pub room_number : (done : List Tree) (place number at next m : ℕ) (n : PieceTree) (ns rs ys bs : List PieceTree)
+    → MadeSoFar done place number (item_trees rs) at next (item_trees ys) → rs ≡ n ∷ ns → ys ≡ bs
+    → next + numbered_in_all (forest (item_trees bs)) < m → number + numbered (item_tree n) < m
+room_number done place number at next m n ns rs ys bs s r e h =
+    let f : numbered_in_all (forest (item_trees rs)) ≡ numbered (item_tree n) + numbered_in_all (forest (item_trees ns)) =
+    ap (λ xs. numbered_in_all (forest (item_trees xs))) r in
+    let g : numbered_in_all (forest (item_trees ys)) ≡ numbered_in_all (forest (item_trees bs)) = ap (λ xs. numbered_in_all (forest (item_trees xs))) e in
+    omega (arith, s.number_is, f, g, h)
+
 pub smaller_child : (done : List Tree) (place number at next : ℕ) (n : PieceTree) (ns rs ys bs : List PieceTree)
     → MadeSoFar done place number (item_trees rs) at next (item_trees ys) → rs ≡ n ∷ ns → ys ≡ bs
     → nodes_in (item_tree n) < 1 + nodes_in_all (forest (item_trees bs))
@@ -243,6 +252,29 @@ room_inside n at inside w m qs i v e h =
     ∙ width_three o (held_by_all ts) c in
     let g : width (items qs) ≡ width o = ap (λ xs. width (items xs)) e in
     omega (arith, i, v, f, g, h)
+
+-- the number after a node itself is at most the one after all that is in it
+after_by : (n is : Bool) (next m : ℕ) → (if n then next + 1 else next) ≤ next + ((if n then 1 else 0) + count_by is m)
+after_by true is next m = omega arith
+after_by false is next m = omega arith
+
+pub number_after : (n : PieceTree) (next m : ℕ) → next + numbered (item_tree n) < m → next_after (out-PieceTree n).head.kind next < m
+number_after n next m h =
+    let k = head_of (out-PieceTree n).head in
+    let ts = forest (item_trees (out-PieceTree n).children) in
+    let e : numbered (item_tree n) ≡ (if is_numbered k.kind then 1 else 0) + count_by (is_leaf k.kind) (numbered_in_all ts) =
+    ap numbered (item_tree_out n) in
+    omega (arith, after_by (is_numbered k.kind) (is_leaf k.kind) next (numbered_in_all ts), e, h)
+
+pub number_inside : (n : PieceTree) (next inside m : ℕ) → is_leaf (out-PieceTree n).head.kind ≡ false → inside ≡ next_after (out-PieceTree n).head.kind next
+    → next + numbered (item_tree n) < m → inside + numbered_in_all (forest (item_trees (out-PieceTree n).children)) < m
+number_inside n next inside m l i h =
+    let k = head_of (out-PieceTree n).head in
+    let o = items (out-PieceTree n).opening in
+    let c = items (out-PieceTree n).closing in
+    let ts = forest (item_trees (out-PieceTree n).children) in
+    let e : numbered (item_tree n) ≡ numbered (inner k o ts c) = ap numbered (item_tree_out n) in
+    omega (arith, number_inner k o c ts next l, i, e, h)
 
 pub room_closing : (n : PieceTree) (at place inside w next mid after m : ℕ) (qs : List Piece) (us : Trees)
     → AreMade inside next (forest (item_trees (out-PieceTree n).children)) us mid after → inside ≡ at + w → w ≡ width (items qs)

@@ -4,12 +4,13 @@ use Rattle.std.specs.Prelude.{◌&&◌, ◌||◌}
 use Rattle.wt_span.specs.declared.text.Text.{Text}
 use Rattle.wt_span.specs.Slice.{bytes_of}
 use Rattle.wt_tree.specs.declared.node.Node.{Node}
-use Rattle.wt_tree.specs.Cutting.{begins_with_break, is_sep_at, IsWholeBy, IsWhole, IsFront, StandsBy, AreCut}
-use Rattle.wt_tree.specs.Recut.{is_blank, is_break, are_spaces, has_break, from_break, front_ranges, rest_ranges, joined_ranges, is_border, is_text, leads_to_block, sep_leaf, text_leaf, recut}
-use Rattle.wt_tree.specs.Recutting.{is_empty}
+use Rattle.wt_recut.specs.Cutting.{begins_with_break, is_sep_at, IsWholeBy, IsWhole, IsFront, StandsBy, AreCut}
+use Rattle.wt_tree.specs.Leaves.{sep_leaf, text_leaf}
+use Rattle.wt_recut.specs.Recut.{is_blank, is_break, are_spaces, has_break, from_break, front_ranges, rest_ranges, joined_ranges, is_border, is_text, leads_to_block, recut}
+use Rattle.wt_recut.specs.Recutting.{is_empty}
 use Rattle.wt_tree.specs.Tree.{Tree, Trees, none, more, label}
 use Rattle.wt_tree.specs.View.{texts_of, view, views}
-use Rattle.wt_tree.proofs.CutOnly.{and_none, begun, cut_alone, or_true, text_border}
+use Rattle.wt_recut.proofs.CutOnly.{and_none, begun, cut_alone, or_true, text_border}
 use Rattle.wt_annotated.specs.StandsCut.{IsGap, IsWords, WholeStands, FrontStands, AloneStands, BeforeStands, FirstStands}
 
 -- the only one of these texts

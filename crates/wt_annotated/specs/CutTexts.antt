@@ -4,8 +4,8 @@ use Rattle.std.specs.Prelude.{false, if◌then◌else◌}
 use Rattle.wt_tree.specs.declared.row.Texts.{Texts}
 use Rattle.wt_tree.specs.declared.row.Texts.TheVariants.{Separators, Page, Bordered, OwnCharacter}
 use Rattle.wt_tree.specs.Kinds.{texts_of_kind}
-use Rattle.wt_tree.specs.Cutting.{AreCut}
-use Rattle.wt_tree.specs.Recut.{recut}
+use Rattle.wt_recut.specs.Cutting.{AreCut}
+use Rattle.wt_recut.specs.Recut.{recut}
 use Rattle.wt_tree.specs.Tiling.{is_group}
 use Rattle.wt_tree.specs.Tree.{Tree, tree, Trees, none, more}
 

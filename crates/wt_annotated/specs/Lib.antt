@@ -11,6 +11,7 @@ pub mod Labels
 pub mod Made
 pub mod Nodes
 pub mod Numbering
+pub mod NumbersNeeded
 pub mod PassNodes
 pub mod Pieces
 pub mod Progress

@@ -1,8 +1,9 @@
 -- Children that are known to be cut, so that cutting them anew leaves them as they are: what is found of each by looking at
 -- it and at the one after it. Of None nothing is said.
 use Rattle.std.specs.Prelude.{◌≡◌, Bool, true, false, ◌||◌, Option, Some, None}
-use Rattle.wt_tree.specs.Cutting.{begins_with_break, begins_with_text, IsWhole, IsFront, StandsBy}
-use Rattle.wt_tree.specs.Recut.{are_spaces, has_break, is_blank, is_border, is_text, leads_to_block, sep_leaf, text_leaf}
+use Rattle.wt_recut.specs.Cutting.{begins_with_break, begins_with_text, IsWhole, IsFront, StandsBy}
+use Rattle.wt_tree.specs.Leaves.{sep_leaf, text_leaf}
+use Rattle.wt_recut.specs.Recut.{are_spaces, has_break, is_blank, is_border, is_text, leads_to_block}
 use Rattle.wt_tree.specs.Tree.{Tree, Trees, none, more, label}
 
 -- a separator that begins with a line break

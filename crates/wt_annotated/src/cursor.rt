@@ -1,8 +1,7 @@
-ghost use Rattle.std.specs.Prelude.{◌≡◌, ◌+◌, ◌^◌, ◌<◌, IfOk};
+ghost use Rattle.std.specs.Prelude.{◌≡◌, ◌+◌, ◌^◌, ◌<◌};
 ghost use Rattle.wt_annotated.specs.Numbering.{number_of, next_after};
 
 use crate::number::{next_after, number_of};
-use wt_span::NoMemory;
 use wt_tree::Kind;
 
 /// Where a pass over a tree is: the place of the next byte, and the number of the next node that
@@ -22,15 +21,15 @@ impl Cursor {
     }
 
     /// After so many bytes that a node of this kind begins with.
-    pub fn after(self, kind: Kind, width: u32) -> Result<Cursor, NoMemory>
-        requires { self.place + width < 2 ^ 32 }
-        ensures place { IfOk result (λ c. c.place ≡ self.place + width) }
-        ensures number { IfOk result (λ c. c.next ≡ next_after kind self.next) }
+    pub fn after(self, kind: Kind, width: u32) -> Cursor
+        requires place { self.place + width < 2 ^ 32 }
+        requires number { next_after kind self.next < 2 ^ 32 }
+        ensures place { result.place ≡ self.place + width }
+        ensures number { result.next ≡ next_after kind self.next }
     {
-        let next = next_after(kind, self.next)?;
-        Ok(Cursor {
+        Cursor {
             place: self.place + width,
-            next,
-        })
+            next: next_after(kind, self.next),
+        }
     }
 }

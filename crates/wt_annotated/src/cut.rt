@@ -2,14 +2,15 @@
 
 ghost use Rattle.std.specs.Prelude.{◌≡◌, IfOk};
 ghost use Rattle.wt_tree.specs.Kinds.{texts_of_kind};
-ghost use Rattle.wt_tree.specs.Recut.{recut};
+ghost use Rattle.wt_recut.specs.Recut.{recut};
 ghost use Rattle.wt_tree.specs.View.{views};
 ghost use Rattle.wt_annotated.specs.CutTexts.{cut_as};
 
 use crate::stands_cut::stand_cut;
 use std::alloc::Global;
+use wt_recut::recut_texts;
 use wt_span::{List, NoMemory};
-use wt_tree::{Kind, Node, Texts, recut_texts};
+use wt_tree::{Kind, Node, Texts};
 
 /// What is in an item, a cell or a caption, cut anew; where it is known to be cut, as it is.
 #[tactic(auto, using(crate::proofs::StandsCut::stay))]

@@ -1,9 +1,8 @@
 //! Numbers, as they are given in preorder.
 
-ghost use Rattle.std.specs.Prelude.{◌≡◌, IfOk};
+ghost use Rattle.std.specs.Prelude.{◌≡◌, ◌^◌, ◌<◌};
 ghost use Rattle.wt_annotated.specs.Numbering.{next_after, number_of};
 
-use wt_span::NoMemory;
 use wt_tree::Kind;
 
 /// The number of a node of this kind, where the next one is this; 0 where it has none.
@@ -13,16 +12,10 @@ pub fn number_of(kind: Kind, next: u32) -> u32
     if kind.is_numbered() { next } else { 0 }
 }
 
-/// The next number after a node of this kind itself. Nodes that would take the last of 2^32 numbers
-/// don't fit into memory.
-pub fn next_after(kind: Kind, next: u32) -> Result<u32, NoMemory>
-    ensures { IfOk result (λ n. n ≡ next_after kind next) }
+/// The next number after a node of this kind itself.
+pub fn next_after(kind: Kind, next: u32) -> u32
+    requires { next_after kind next < 2 ^ 32 }
+    ensures { result ≡ next_after kind next }
 {
-    if !kind.is_numbered() {
-        return Ok(next);
-    }
-    if next == u32::MAX {
-        return Err(NoMemory);
-    }
-    Ok(next + 1)
+    if kind.is_numbered() { next + 1 } else { next }
 }

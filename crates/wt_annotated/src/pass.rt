@@ -9,6 +9,7 @@ ghost use Rattle.wt_tree.specs.View.{view, views};
 ghost use Rattle.wt_inline.specs.ItemTree.{inner, forest, tree_items, held_by_all};
 ghost use Rattle.wt_inline.specs.View.{head_of, item_tree, item_trees};
 ghost use Rattle.wt_inline.specs.declared.tree.PieceTree.{out-PieceTree};
+ghost use Rattle.wt_annotated.specs.Counted.{numbered, numbered_in_all};
 ghost use Rattle.wt_annotated.specs.Labels.{width};
 ghost use Rattle.wt_annotated.specs.Made.{IsMade, AreMade};
 ghost use Rattle.wt_annotated.specs.CutTexts.{cut_as};
@@ -41,6 +42,7 @@ struct PassedNodes<'a> {
 fn leaf<'a>(alloc: Global, tree: PieceTree<'a>, at: Cursor) -> Result<PassedNode<'a>, NoMemory>
     requires leaf { is_leaf (out-PieceTree tree).head.kind ≡ true }
     requires place { at.place + width (tree_items (item_tree tree)) < 2 ^ 32 }
+    requires number { at.next + numbered (item_tree tree) < 2 ^ 32 }
     ensures { IfOk result (λ m. IsMade at.place at.next (item_tree tree.entry) (view m.node) m.behind.place m.behind.next) }
 {
     let PieceTree {
@@ -50,7 +52,7 @@ fn leaf<'a>(alloc: Global, tree: PieceTree<'a>, at: Cursor) -> Result<PassedNode
         closing,
     } = tree;
     let own = own_pieces(opening, children, closing)?;
-    let behind = at.after(head.kind, width(own.as_slice()))?;
+    let behind = at.after(head.kind, width(own.as_slice()));
     let node = leaf_node(alloc, head, at, own.as_slice())?;
     Ok(PassedNode { node, behind })
 }
@@ -96,7 +98,8 @@ fn annotated_all<'a>(
     trees: List<PieceTree<'a>>,
     at: Cursor,
 ) -> Result<PassedNodes<'a>, NoMemory>
-    requires { at.place + width (held_by_all (forest (item_trees trees))) < 2 ^ 32 }
+    requires place { at.place + width (held_by_all (forest (item_trees trees))) < 2 ^ 32 }
+    requires number { at.next + numbered_in_all (forest (item_trees trees)) < 2 ^ 32 }
     ensures { IfOk result (λ m. AreMade at.place at.next (forest (item_trees trees.entry)) (views m.nodes) m.behind.place m.behind.next) }
 {
     let mut nodes = with_room(alloc, trees.len())?;
@@ -116,13 +119,14 @@ pub fn annotated_node<'a>(
     tree: PieceTree<'a>,
     at: Cursor,
 ) -> Result<PassedNode<'a>, NoMemory>
-    requires { at.place + width (tree_items (item_tree tree)) < 2 ^ 32 }
+    requires place { at.place + width (tree_items (item_tree tree)) < 2 ^ 32 }
+    requires number { at.next + numbered (item_tree tree) < 2 ^ 32 }
     ensures { IfOk result (λ m. IsMade at.place at.next (item_tree tree.entry) (view m.node) m.behind.place m.behind.next) }
 {
     if tree.head.kind.is_leaf() {
         return leaf(alloc, tree, at);
     }
-    let inside = at.after(tree.head.kind, width(tree.opening.as_slice()))?;
+    let inside = at.after(tree.head.kind, width(tree.opening.as_slice()));
     let PieceTree {
         head,
         opening,

@@ -1,17 +1,9 @@
 //! Children that are known to be cut, as nearly all are: those needn't be cut anew.
 
 ghost use Rattle.std.specs.Prelude.{◌≡◌, ◌||◌, [], true, false};
-ghost use Rattle.wt_tree.specs.Cutting.{begins_with_break, AreCut};
-ghost use Rattle.wt_tree.specs.Recut.{
-  front_ranges,
-  is_border,
-  is_text,
-  joined_ranges,
-  leaf_label,
-  rest_ranges,
-  sep_leaf,
-  text_leaf,
-};
+ghost use Rattle.wt_recut.specs.Cutting.{begins_with_break, AreCut};
+ghost use Rattle.wt_tree.specs.Leaves.{leaf_label, sep_leaf, text_leaf};
+ghost use Rattle.wt_recut.specs.Recut.{front_ranges, is_border, is_text, joined_ranges, rest_ranges};
 ghost use Rattle.wt_tree.specs.Tree.{none, tree};
 ghost use Rattle.wt_tree.specs.View.{texts_of, view, views};
 ghost use Rattle.wt_tree.specs.declared.node.Node.{out-Node};
@@ -25,8 +17,9 @@ ghost use Rattle.wt_annotated.specs.StandsCut.{
   WholeStands,
 };
 
+use wt_recut::{are_spaces, has_break, is_blank, shows_block};
 use wt_span::{Text, rest_of};
-use wt_tree::{Kind, Node, Ranges, Writing, are_spaces, has_break, is_blank, shows_block};
+use wt_tree::{Kind, Node, Ranges, Writing};
 
 /// Whether the first of these texts begins with a line break.
 fn begins_with_break(texts: &[Text<'_>]) -> bool

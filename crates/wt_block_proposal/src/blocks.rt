@@ -1,17 +1,16 @@
 //! Blocks, items and rows as wikitext, where they are new, come from elsewhere or are of another kind now.
 
 use crate::delimiters::{
-    goes_on_behind, push_begun, push_closing, push_heading_end, push_heading_start, push_opening,
-    push_signs, shares_line,
+    begins_line, goes_on_behind, push_begun, push_closing, push_heading_end, push_heading_start,
+    push_opening, push_signs, shared_line, shares_line,
 };
 use crate::items::sign_of;
 use crate::kinds::{is_cell, is_item, is_lined, is_list, is_row_without_sign};
-use crate::style::{Style, USUAL, style_of};
+use crate::style::{Style, USUAL, has_signed_text, style_of};
 use std::alloc::Global;
 use wt_checks::original;
 use wt_content_proposal::{Block, Edges, Known, Writing, block_of, edges_of, spelled};
 use wt_difference::{are_same, ends_inside, has_inside, inside, is_block_part};
-use wt_selser::place_in;
 use wt_span::{NoMemory, Str};
 use wt_tree::{Kind, Node, flat, same_attrs, same_kind};
 
@@ -30,7 +29,7 @@ pub struct Surroundings<'w, 't, 'a> {
 impl<'w, 't, 'a> Surroundings<'w, 't, 'a> {
     /// How the inside of a block of this kind is written; `block` is the one that was in the page.
     fn writing(self, block: Option<&'w Block<'t, 'a>>, kind: Kind) -> Writing<'w, 't, 'a> {
-        Writing::of(self.known, block, self.keeps, place_in(kind))
+        Writing::of(self.known, block, self.keeps, kind.edit_shape().place)
     }
 
     /// The same for what is in the block.
@@ -200,7 +199,7 @@ fn are_joined(left: Kind, right: Kind) -> bool {
 }
 
 /// Whether a new cell goes on in the line of the one before it, as those of the row beside do, in what is written so
-/// far: that one holds no blocks, and shows the blank before the signs where there is to be one.
+/// far: that one holds no blocks, and its text ends with the blank before the signs where there is to be one.
 fn goes_on(
     out: &Str,
     around: Surroundings<'_, '_, '_>,
@@ -215,7 +214,50 @@ fn goes_on(
         && is_cell(cell.kind)
         && same_kind(before.kind, cell.kind)
         && !have_block_part(before.children.as_slice())
-        && (around.style.is_tight || out.as_str().ends_with(" "))
+        && !ends_with_sign(out, before)
+        && (around.style.is_tight || ends_with_blank(out, before))
+}
+
+/// The first of the two signs of a cell that goes on in a line.
+fn first_sign(cell: &Node<'_>) -> &'static str {
+    if matches!(cell.kind, Kind::Th) {
+        "!"
+    } else {
+        "|"
+    }
+}
+
+/// Whether a cell has text that ends with the sign of a heading cell, in what is written so far: it would be read with the
+/// signs of the next one.
+fn ends_with_sign(out: &Str, cell: &Node<'_>) -> bool {
+    matches!(cell.kind, Kind::Th) && !inside(cell).is_empty() && out.as_str().ends_with("!")
+}
+
+/// Appends the first sign of a cell that goes on in the line of the one before it, as both did with another kind; it
+/// says whether it does.
+pub fn push_if_in_line(
+    alloc: Global,
+    out: &mut Str,
+    around: Surroundings<'_, '_, '_>,
+    before: Option<&Node<'_>>,
+    cell: &Node<'_>,
+) -> Result<bool, NoMemory> {
+    let Some(before) = before else {
+        return Ok(false);
+    };
+    let is_in_line = around.keeps
+        && shared_line(alloc, around.known, before, cell)?
+        && !have_block_part(before.children.as_slice())
+        && !ends_with_sign(out, before);
+    if is_in_line {
+        out.push_str(first_sign(cell))?;
+    }
+    Ok(is_in_line)
+}
+
+/// Whether a cell has text that ends with a blank, in what is written so far.
+fn ends_with_blank(out: &Str, cell: &Node<'_>) -> bool {
+    !inside(cell).is_empty() && out.as_str().ends_with(" ")
 }
 
 /// Appends what comes before a block that a node holds: a line break, or of a cell that goes on in a line the first of
@@ -229,11 +271,10 @@ fn push_start(
     child: &Node<'_>,
 ) -> Result<(), NoMemory> {
     if goes_on(out, around, before, child) {
-        return out.push_str(if matches!(child.kind, Kind::Th) {
-            "!"
-        } else {
-            "|"
-        });
+        return out.push_str(first_sign(child));
+    }
+    if push_if_in_line(alloc, out, around, before, child)? {
+        return Ok(());
     }
     if shares_line(alloc, around.known, before, child)? {
         return Ok(());
@@ -446,11 +487,14 @@ fn push_line(out: &mut Str, is_begun: bool) -> Result<(), NoMemory> {
     out.push_str("\n")
 }
 
-/// How an item is written after this one: as it is where the page has it, else as this one was.
-fn style_behind(known: &Known<'_, '_>, item: &Node<'_>, style: Style) -> Style {
-    match original(known.index, item.id) {
-        Some(visit) if item.id != 0 => style_of(Some(visit.node)),
-        _ => style,
+/// How an item or a cell is written: as it was where the page has it with text after its sign, also with another kind;
+/// else as the one beside it.
+fn own_style(around: Surroundings<'_, '_, '_>, part: &Node<'_>) -> Style {
+    match original(around.known.index, part.id) {
+        Some(visit) if part.id != 0 && around.keeps && has_signed_text(visit.node) => {
+            style_of(Some(visit.node))
+        }
+        _ => around.style,
     }
 }
 
@@ -480,10 +524,10 @@ fn push_items(
             if !matches!(beginning, Beginning::InLine) {
                 push_line(out, is_begun)?;
             }
+            style = own_style(around.styled(style), item);
             push_item_of(alloc, out, around.styled(style), list.kind, item, beginning)?;
             before = Some(item);
             is_begun = false;
-            style = style_behind(around.known, item, style);
         } else if is_coming_mark(around.known, item) {
             push_line(out, is_begun)?;
             push_mark(alloc, out, around.known, item)?;
@@ -535,7 +579,7 @@ fn push_cell(
 ) -> Result<(), NoMemory> {
     let inside = inside_of(alloc, around.in_table(), node)?;
     let mut opening = Str::copy_of(alloc, sign)?;
-    opening.push_str(blank_in(around.style, node, inside.as_str()))?;
+    opening.push_str(blank_in(own_style(around, node), node, inside.as_str()))?;
     push_opening(alloc, out, around.known, node, opening.as_str())?;
     out.push_str(inside.as_str())?;
     push_held(alloc, out, around.in_table(), node, false)
@@ -606,7 +650,7 @@ pub fn push_block(
         Kind::Li | Kind::Dt | Kind::Dd => push_item(alloc, out, around, node),
         Kind::Table => {
             push_lines(alloc, out, around, "{|", node)?;
-            out.push_str("\n")?;
+            push_line(out, begins_line(out))?;
             push_closing(alloc, out, around.known, node, "|}")
         }
         Kind::Tbody => push_rows(alloc, out, around, node),

@@ -1,5 +1,6 @@
 //! The delimiters of blocks that are written anew: those that they had, where the page has them with the same number.
 
+use crate::kinds::is_cell;
 use std::alloc::Global;
 use wt_checks::original;
 use wt_content_proposal::{Known, joined};
@@ -68,7 +69,7 @@ fn is_doubled(source: &str) -> bool {
     bytes.starts_with(b"||") || bytes.starts_with(b"!!")
 }
 
-fn begins_line(out: &Str) -> bool {
+pub fn begins_line(out: &Str) -> bool {
     match out.as_str().as_bytes().last() {
         Some(byte) => *byte == b'\n',
         None => true,
@@ -122,6 +123,34 @@ pub fn shares_line(
     }
     let opening = joined(alloc, old.opening())?;
     Ok(is_doubled(opening.as_str()))
+}
+
+/// Whether a node of the page is a cell that goes on in the line of this one.
+fn is_next_in_line(alloc: Global, left: &Node<'_>, cell: &Node<'_>) -> Result<bool, NoMemory> {
+    if !is_cell(left.kind) || !is_cell(cell.kind) || !is_behind(left, cell) {
+        return Ok(false);
+    }
+    let opening = joined(alloc, cell.opening())?;
+    Ok(is_doubled(opening.as_str()))
+}
+
+/// Whether a cell goes on in the line of the one before it, as it did in the page, where both had another kind.
+pub fn shared_line(
+    alloc: Global,
+    known: &Known<'_, '_>,
+    before: &Node<'_>,
+    node: &Node<'_>,
+) -> Result<bool, NoMemory> {
+    let (Some(left), Some(old)) = (of_number(known, before.id), of_number(known, node.id)) else {
+        return Ok(false);
+    };
+    if same_kind(left.kind, before.kind) || same_kind(old.kind, node.kind) {
+        return Ok(false);
+    }
+    if !same_kind(before.kind, node.kind) || !is_cell(node.kind) {
+        return Ok(false);
+    }
+    is_next_in_line(alloc, left, old)
 }
 
 // ---- items

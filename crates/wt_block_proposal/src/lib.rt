@@ -8,7 +8,7 @@ mod items;
 mod kinds;
 mod style;
 
-pub use blocks::{Surroundings, push_block};
+pub use blocks::{Surroundings, push_block, push_if_in_line};
 pub use items::signs_of;
 pub use kinds::{is_cell, is_item, is_lined, is_list, is_part, is_row_without_sign};
-pub use style::{Style, USUAL, is_bare_sign, style_of};
+pub use style::{Style, USUAL, is_bare_sign, joins_sign, style_of, style_within};

@@ -36,6 +36,12 @@ pub fn is_bare_sign(part: &Node<'_>) -> bool {
     has_sign && inside(part).is_empty() && ends_with_sign(part)
 }
 
+/// Whether a part of the page is an item or a cell with a sign and text after it.
+pub fn has_signed_text(part: &Node<'_>) -> bool {
+    let has_sign = (is_item(part.kind) || is_cell(part.kind)) && !part.opening().is_empty();
+    has_sign && !inside(part).is_empty()
+}
+
 /// Whether an item or a cell of the page has text, and no blank before it.
 fn is_tight(part: &Node<'_>) -> bool {
     ends_with_sign(part) && !inside(part).is_empty()
@@ -70,6 +76,26 @@ fn style_of_row(row: &Node<'_>) -> Style {
     }
 }
 
+/// Whether a row of the page has a cell with text.
+fn has_text(row: &Node<'_>) -> bool {
+    for cell in row.children.as_slice() {
+        if is_cell(cell.kind) && !inside(cell).is_empty() {
+            return true;
+        }
+    }
+    false
+}
+
+/// How the cells of a row of the page are written: as those that it has, or, where none has text, as those of the row
+/// beside it.
+pub fn style_within(row: &Node<'_>, beside: Option<&Node<'_>>) -> Style {
+    if has_text(row) {
+        style_of_row(row)
+    } else {
+        style_of(beside)
+    }
+}
+
 /// How a new item, cell or row is written beside this one of the page.
 pub fn style_of(part: Option<&Node<'_>>) -> Style {
     match part {
@@ -90,6 +116,20 @@ fn may_follow_sign(inside: &str) -> bool {
             b' ' | b'\t' | b'*' | b'#' | b':' | b';' | b'-' | b'+' | b'|' | b'!' | b'{' | b'}'
         ),
         None => true,
+    }
+}
+
+fn is_list_sign(byte: u8) -> bool {
+    matches!(byte, b'*' | b'#' | b':' | b';')
+}
+
+/// Whether a text that begins with this byte would be read with the byte of the delimiter directly before it.
+pub fn joins_sign(kind: Kind, before: u8, first: u8) -> bool {
+    match kind {
+        Kind::Td => before == b'|' && (first == b'-' || first == b'+'),
+        Kind::Th => before == b'!' && first == b'!',
+        Kind::Li | Kind::Dt | Kind::Dd => is_list_sign(before) && is_list_sign(first),
+        _ => false,
     }
 }
 

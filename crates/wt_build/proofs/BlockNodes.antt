@@ -1,11 +1,9 @@
 -- What blocks give.
-use Rattle.std.proofs.Common.{◌≡◌, ◌<◌, ◌≤◌, ◌⊎◌, inl, inr, ℕ, zero, suc, ◌+◌, ◌-◌, true, List, [], ◌∷◌, ◌++◌, length, take, drop, get_or, refl, sym, ap, ◌∙◌, subst, arith, append_assoc, append-nil, length-append, length-drop}
+use Rattle.std.proofs.Common.{◌≡◌, ◌<◌, ◌≤◌, ◌⊎◌, inl, inr, ℕ, zero, suc, ◌+◌, ◌-◌, ◌^◌, true, List, [], ◌∷◌, ◌++◌, length, take, drop, get_or, refl, sym, ap, ◌∙◌, subst, arith, append_assoc, append-nil, length-append, length-drop}
 use Rattle.std.proofs.lemmas.List.{drop-drop, map-append, take_more}
 use Rattle.std.proofs.lemmas.Grind.{flat_map-append}
 use Rattle.wt_span.specs.declared.form.Piece.{Piece}
-use Rattle.wt_span.specs.Items.{Item, items, items_of, source, sources, call_of_origin}
-use Rattle.wt_span.specs.Slice.{bytes_of}
-use Rattle.wt_context.proofs.Texts.{source_by}
+use Rattle.wt_span.specs.Items.{Item, items, sources}
 use Rattle.wt_lines.specs.declared.kind.LineKind.{LineKind}
 use Rattle.wt_lines.specs.declared.kind.LineKind.TheVariants as line
 use Rattle.wt_tables.specs.Parts.{unit_kind}
@@ -18,9 +16,10 @@ use Rattle.wt_page.specs.Lists.{lists}
 use Rattle.wt_page.specs.Texts.{with_separators}
 use Rattle.wt_page.specs.Tables.{Reading, gaps, table}
 use Rattle.wt_page.specs.Body.{block_stretches, blocks_by, within}
-use Rattle.wt_rows.specs.Views.{row_view, rows_view, stretch_view, stretches_view, IsBetween}
+use Rattle.wt_rows.specs.Views.{slice, row_view, rows_view, stretch_view, stretches_view, IsBetween}
 use Rattle.wt_rows.specs.Units.{kind_at}
 use Rattle.wt_rows.specs.Ready.{AreInOrder, AreReadyRows}
+use Rattle.wt_rows.proofs.FewRows.{few_first, few_front, few_rest}
 use Rattle.wt_build.specs.Blocks.{reading_at, run_of, IsBlockLen, is_lone, AreOneBlock, block_node, IsNodeKind}
 
 -- ---- a node between separators
@@ -108,10 +107,10 @@ order_take ps (suc (suc n)) (r ∷ []) h = h
 order_take ps (suc (suc n)) (r ∷ s ∷ rs) h = (h.0, h.1, order_take ps (suc n) (s ∷ rs) h.2)
 
 pub ready_drop : (ps : List Piece) (rs qs : List RowAt) (n : ℕ) → AreReadyRows ps rs → qs ≡ drop n rs → AreReadyRows ps qs
-ready_drop ps rs qs n h e = subst (AreReadyRows ps) (sym e) (record { sound = h.sound; parted = h.parted; rows = order_drop ps n rs h.rows })
+ready_drop ps rs qs n h e = subst (AreReadyRows ps) (sym e) (record { sound = h.sound; parted = h.parted; rows = order_drop ps n rs h.rows; few = few_rest ps rs n h.few })
 
 pub ready_take : (ps : List Piece) (rs qs : List RowAt) (n : ℕ) → AreReadyRows ps rs → qs ≡ take n rs → AreReadyRows ps qs
-ready_take ps rs qs n h e = subst (AreReadyRows ps) (sym e) (record { sound = h.sound; parted = h.parted; rows = order_take ps n rs h.rows })
+ready_take ps rs qs n h e = subst (AreReadyRows ps) (sym e) (record { sound = h.sound; parted = h.parted; rows = order_take ps n rs h.rows; few = few_front ps rs n h.few })
 
 pub block_front : (rest front : List RowAt) (r : RowAt) (n : ℕ) → 0 < length rest → r ≡ get_or rest 0 r → front ≡ take n rest
     → AreOneBlock (unit_kind kind_at rest) (take n rest) → AreOneBlock r.kind front
@@ -180,20 +179,13 @@ blocks_done depth ps rs left out e h =
 
 -- ---- bytes
 
--- what is left of a number of bytes, behind one more piece
-pub bytes_left : (ps : List Piece) (i : ℕ) (p : Piece) (left m most : ℕ) → i < length ps → p ≡ get_or ps i p
-    → left + length (sources (items (take i ps))) ≡ most → m ≡ length (bytes_of p.text) → m ≤ left
-    → (left - m) + length (sources (items (take (i + 1) ps))) ≡ most
-bytes_left ps i p left m most l e en em few =
-    let front = take i ps in
-    let own : length (sources (items (p ∷ []))) ≡ length (bytes_of p.text) =
-    ap (λ xs. length (sources xs)) (append-nil (items_of p)) ∙ ap length (source_by p.form (call_of_origin p.origin) (bytes_of p.text)) in
-    let all : length (sources (items (take (i + 1) ps))) ≡ length (sources (items front)) + length (sources (items (p ∷ []))) =
-    ap (λ qs. length (sources (items qs))) (take_more ps i p l ∙ ap (λ (q : Piece). front ++ q ∷ []) (sym e))
-    ∙ ap (λ xs. length (sources xs)) (flat_map-append items_of front (p ∷ []))
-    ∙ ap length (flat_map-append source (items front) (items (p ∷ [])))
-    ∙ length-append (sources (items front)) (sources (items (p ∷ []))) in
-    omega (arith, en, em, few, own, all)
+-- a line that is the first row's
+pub few_line : (ps line : List Piece) (rs : List RowAt) (d : RowAt) → 0 < length rs → AreReadyRows ps rs
+    → line ≡ slice (get_or rs 0 d).from (get_or rs 0 d).to ps → length (sources (items line)) < 2 ^ 32
+few_line ps line [] d s h e = absurd (omega arith)
+few_line ps line (r ∷ rs) d s h e =
+    let same : length (sources (items line)) ≡ length (sources (row_view ps r).items) = ap (λ qs. length (sources (items qs))) e in
+    omega (arith, few_first (row_view ps r) (rows_view ps rs) h.few, same)
 
 -- ---- kinds
 

@@ -4,6 +4,7 @@ pub mod Carrying
 pub mod Colons
 pub mod GrowingBlocks
 pub mod Items
+pub mod Kept
 pub mod LaterLines
 pub mod ListNodes
 pub mod Slices

@@ -105,29 +105,13 @@ fn gap_of<'a>(
     Ok(out)
 }
 
-/// Pieces of fewer than 2^32 bytes; more are answered as want of memory.
-#[tactic(auto, using(crate::proofs::BlockNodes::bytes_left))]
-fn check_len(pieces: &[Piece<'_>]) -> Result<(), NoMemory>
-    ensures { IfOk result (λ done. length (sources (items pieces.now)) < 2 ^ 32) }
-{
-    let mut left = u32::MAX as usize;
-    for piece in pieces {
-        let len = piece.text.as_str().len();
-        if len > left {
-            return Err(NoMemory);
-        }
-        left -= len;
-    }
-    Ok(())
-}
-
 /// A heading, of its line from the first `=` on.
 fn heading_tree<'a>(alloc: Global, line: &[Piece<'a>]) -> Result<PieceTree<'a>, NoMemory>
     requires sound { All IsSoundPiece line.now }
     requires parted { AllParted line.now }
+    requires few { length (sources (items line.now)) < 2 ^ 32 }
     ensures { IfOk result (λ t. item_tree t ≡ heading (items line.now)) }
 {
-    check_len(line)?;
     heading(alloc, line)
 }
 

@@ -1,7 +1,7 @@
 //! The tree of a page.
 
-ghost use Rattle.std.specs.Prelude.{◌≡◌, ◌<◌, All, length, IfOk};
-ghost use Rattle.wt_span.specs.Items.{items};
+ghost use Rattle.std.specs.Prelude.{◌≡◌, ◌<◌, ◌≤◌, ◌^◌, All, length, IfOk};
+ghost use Rattle.wt_span.specs.Items.{items, sources};
 ghost use Rattle.wt_span.specs.Origins.{IsSoundPiece};
 ghost use Rattle.wt_inline.specs.Grown.{growth};
 ghost use Rattle.wt_inline.specs.View.{item_tree};
@@ -47,9 +47,11 @@ fn with_portion<'p, 'a>(
     rest: Unread<'p, 'a>,
 ) -> Result<(Children<'a>, Unread<'p, 'a>), NoMemory>
     requires sound { All IsSoundPiece (left rest) }
+    requires few { length (sources (items (left rest))) < 2 ^ 32 }
     requires some { 0 < length (left rest) }
     ensures grown { IfOk result (λ r. Carries (growth children.entry) (items (left rest.entry)) (growth r.0) (items (left r.1))) }
     ensures sound_after { IfOk result (λ r. All IsSoundPiece (left r.1)) }
+    ensures few_after { IfOk result (λ r. length (sources (items (left r.1))) ≤ length (sources (items (left rest.entry)))) }
     ensures fewer { IfOk result (λ r. length (items (left r.1)) < length (items (left rest.entry))) }
 {
     let (page, after) = next_portion(alloc, rest)?;
@@ -67,9 +69,11 @@ fn with_next<'p, 'a>(
     rest: Unread<'p, 'a>,
 ) -> Result<(Children<'a>, Unread<'p, 'a>), NoMemory>
     requires sound { All IsSoundPiece (left rest) }
+    requires few { length (sources (items (left rest))) < 2 ^ 32 }
     requires some { 0 < length (left rest) }
     ensures grown { IfOk result (λ r. Carries (growth children.entry) (items (left rest.entry)) (growth r.0) (items (left r.1))) }
     ensures sound_after { IfOk result (λ r. All IsSoundPiece (left r.1)) }
+    ensures few_after { IfOk result (λ r. length (sources (items (left r.1))) ≤ length (sources (items (left rest.entry)))) }
     ensures fewer { IfOk result (λ r. length (items (left r.1)) < length (items (left rest.entry))) }
 {
     match rest.split_breaks() {
@@ -85,7 +89,8 @@ fn with_next<'p, 'a>(
 /// MediaWiki's block pass in the profile's form. Joined, the sources of the tree are the texts of
 /// the pieces.
 pub fn build_pieces<'a>(alloc: Global, pieces: &[Piece<'a>]) -> Result<Tree<'a>, NoMemory>
-    requires { All IsSoundPiece pieces.now }
+    requires sound { All IsSoundPiece pieces.now }
+    requires few { length (sources (items pieces.now)) < 2 ^ 32 }
     ensures { IfOk result (λ t. item_tree t.body ≡ meaning (items pieces.now)) }
 {
     let mut children = Children::new(alloc);

@@ -1,6 +1,6 @@
 //! The innermost item that a line of a list begins.
 
-ghost use Rattle.std.specs.Prelude.{◌≡◌, ◌==◌, [], true, false, Some, All, IfOk, drop, take};
+ghost use Rattle.std.specs.Prelude.{◌≡◌, ◌<◌, ◌==◌, ◌^◌, [], true, false, Some, All, length, IfOk, drop, take};
 ghost use Rattle.wt_span.specs.Items.{items};
 ghost use Rattle.wt_span.specs.Origins.{IsSoundPiece};
 ghost use Rattle.wt_span.specs.Characters as byte;
@@ -56,7 +56,8 @@ fn term<'a>(
     opening: List<Piece<'a>>,
     line: &[Piece<'a>],
 ) -> Result<PieceTree<'a>, NoMemory>
-    requires { All IsSoundPiece line.now }
+    requires sound { All IsSoundPiece line.now }
+    requires few { length (items line.now) < 2 ^ 32 }
     ensures { IfOk result (λ t. item_tree t ≡ term (items opening.entry) (items line.now)) }
 {
     let children = line_children(alloc, line)?;
@@ -78,6 +79,7 @@ fn term_and_definition<'a>(
     after: List<StretchAt<'a>>,
 ) -> Result<List<StretchAt<'a>>, NoMemory>
     requires sound { All IsSoundPiece line.now }
+    requires few { length (items line.now) < 2 ^ 32 }
     requires colon { term_len 59 (items line.now) ≡ Some n }
     ensures { IfOk result (λ l. stretches_view pieces.now l
         ≡ item_by 59 (Some n) (items opening.entry) (items line.now) (stretches_view pieces.now after.entry)) }
@@ -100,7 +102,8 @@ fn item_by<'a>(
     pieces: &[Piece<'a>],
     after: List<StretchAt<'a>>,
 ) -> Result<List<StretchAt<'a>>, NoMemory>
-    requires { All IsSoundPiece line.now }
+    requires sound { All IsSoundPiece line.now }
+    requires few { length (items line.now) < 2 ^ 32 }
     ensures { IfOk result (λ l. stretches_view pieces.now l
         ≡ item_by sign (term_len sign (items line.now)) (items opening.entry) (items line.now) (stretches_view pieces.now after.entry)) }
 {
@@ -129,7 +132,8 @@ fn plain_item<'a>(
     opening: List<Piece<'a>>,
     line: &[Piece<'a>],
 ) -> Result<List<StretchAt<'a>>, NoMemory>
-    requires { All IsSoundPiece line.now }
+    requires sound { All IsSoundPiece line.now }
+    requires few { length (items line.now) < 2 ^ 32 }
     ensures { IfOk result (λ l. IsBetween (inner (plain (item_kind sign)) (items opening.entry) (forest (children (line_parts (items line.now)))) []) row row l) }
 {
     let children = with_line(alloc, Children::new(alloc), line)?;
@@ -147,7 +151,8 @@ pub fn line_item<'a>(
     sign: char,
     inside: List<StretchAt<'a>>,
 ) -> Result<List<StretchAt<'a>>, NoMemory>
-    requires { All IsSoundPiece pieces.now }
+    requires sound { All IsSoundPiece pieces.now }
+    requires few { length (row_view pieces.now row).items < 2 ^ 32 }
     ensures { IfOk result (λ l. stretches_view pieces.now l ≡ line_item sign (row_view pieces.now row) (stretches_view pieces.now inside.entry)) }
 {
     let line = between(pieces, row.from, row.to);

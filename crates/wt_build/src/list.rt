@@ -1,8 +1,7 @@
 //! Lists, by the nest of their lines' prefixes.
 
-ghost use Rattle.std.specs.Prelude.{◌≡◌, true, All, List as ListOf, IfOk};
+ghost use Rattle.std.specs.Prelude.{◌≡◌, true, List as ListOf, IfOk};
 ghost use Rattle.wt_span.specs.declared.form.Piece.{Piece as PieceOf};
-ghost use Rattle.wt_span.specs.Origins.{IsSoundPiece};
 ghost use Rattle.wt_blocks.specs.View.{list_tree, list_trees};
 ghost use Rattle.wt_blocks.specs.ListTree.{forest};
 ghost use Rattle.wt_page.specs.Lists.{list_kind, begins_at, row_at, list_stretches, all_lists, prefixes, lists};
@@ -78,7 +77,7 @@ fn item_stretches<'a>(
     list: ListHead,
     inside: List<StretchAt<'a>>,
 ) -> Result<List<StretchAt<'a>>, NoMemory>
-    requires { All IsSoundPiece pieces.now }
+    requires { AreReadyRows pieces.now rows.now }
     ensures { IfOk result (λ l. stretches_view pieces.now l
         ≡ node_by (rows_view pieces.now rows.now) true list.sign list.line list.inner (stretches_view pieces.now inside.entry)) }
 {
@@ -97,7 +96,7 @@ fn node_stretches<'a>(
     list: ListHead,
     inside: List<StretchAt<'a>>,
 ) -> Result<List<StretchAt<'a>>, NoMemory>
-    requires { All IsSoundPiece pieces.now }
+    requires { AreReadyRows pieces.now rows.now }
     ensures { IfOk result (λ l. stretches_view pieces.now l
         ≡ node_by (rows_view pieces.now rows.now) list.item list.sign list.line list.inner (stretches_view pieces.now inside.entry)) }
 {
@@ -116,7 +115,7 @@ fn all_lists<'a>(
     rows: &[RowAt],
     nodes: List<ListNode>,
 ) -> Result<List<StretchAt<'a>>, NoMemory>
-    requires { All IsSoundPiece pieces.now }
+    requires { AreReadyRows pieces.now rows.now }
     ensures { IfOk result (λ l. stretches_view pieces.now l ≡ all_lists (rows_view pieces.now rows.now) (forest (list_trees nodes))) }
 {
     let mut out = Vec::new(alloc);
@@ -136,7 +135,7 @@ fn list_stretches<'a>(
     rows: &[RowAt],
     node: ListNode,
 ) -> Result<List<StretchAt<'a>>, NoMemory>
-    requires { All IsSoundPiece pieces.now }
+    requires { AreReadyRows pieces.now rows.now }
     ensures { IfOk result (λ l. stretches_view pieces.now l ≡ list_stretches (rows_view pieces.now rows.now) (list_tree node)) }
 {
     let ListNode {

@@ -1,6 +1,6 @@
 //! Paragraphs, preformatted text and rules.
 
-ghost use Rattle.std.specs.Prelude.{◌≡◌, ◌<◌, [], ◌++◌, All, length, take, drop, IfOk};
+ghost use Rattle.std.specs.Prelude.{◌≡◌, ◌<◌, ◌^◌, [], ◌++◌, All, length, take, drop, IfOk};
 ghost use Rattle.wt_span.specs.Items.{items};
 ghost use Rattle.wt_span.specs.Origins.{IsSoundPiece};
 ghost use Rattle.wt_inline.specs.ItemTree.{plain, leaf, inner, forest};
@@ -9,6 +9,7 @@ ghost use Rattle.wt_inline.specs.Grown.{growth, Grows};
 ghost use Rattle.wt_inline.specs.declared.loose.Loose.TheVariants.{Text};
 ghost use Rattle.wt_inline.specs.Parts.{parts, children};
 ghost use Rattle.wt_context.specs.Line.{line_parts};
+ghost use Rattle.wt_page.specs.Rows.{row_items};
 ghost use Rattle.wt_page.specs.Texts.{later_line, later_pre, para, pre, rule};
 ghost use Rattle.wt_rows.specs.Views.{row_view, rows_view};
 ghost use Rattle.wt_build.specs.Blocks.{IsOrdered, IsSpaced, later_of, IsOf, AreOf, later_from};
@@ -68,6 +69,7 @@ fn with_later_line<'a>(
     row: &RowAt,
 ) -> Result<Children<'a>, NoMemory>
     requires sound { All IsSoundPiece pieces.now }
+    requires few { length (row_items (row_view pieces.now row.now)) < 2 ^ 32 }
     requires order { IsOrdered row.now }
     ensures { IfOk result (λ c. Grows (growth children.entry) (later_line (row_view pieces.now row.now)) (growth c)) }
 {
@@ -82,6 +84,7 @@ fn with_later_pre<'a>(
     row: &RowAt,
 ) -> Result<Children<'a>, NoMemory>
     requires sound { All IsSoundPiece pieces.now }
+    requires few { length (row_items (row_view pieces.now row.now)) < 2 ^ 32 }
     requires spaced { IsSpaced (row_view pieces.now row.now) }
     ensures { IfOk result (λ c. Grows (growth children.entry) (later_pre (row_view pieces.now row.now)) (growth c)) }
 {
@@ -110,6 +113,7 @@ fn with_next<'a>(
     row: &RowAt,
 ) -> Result<Children<'a>, NoMemory>
     requires sound { All IsSoundPiece pieces.now }
+    requires few { length (row_items (row_view pieces.now row.now)) < 2 ^ 32 }
     requires ready { IsReadyRow pieces.now row.now }
     requires kind { IsOf kind row.now }
     ensures { IfOk result (λ c. Grows (growth children.entry)
@@ -153,6 +157,7 @@ fn text_children<'a>(
     rows: &[RowAt],
 ) -> Result<List<PieceTree<'a>>, NoMemory>
     requires sound { All IsSoundPiece content.now }
+    requires few { length (items content.now) < 2 ^ 32 }
     requires some { 0 < length rows.now }
     requires ready { AreReadyRows pieces.now rows.now }
     requires kind { AreOf kind rows.now }

@@ -3,7 +3,7 @@ ghost use Rattle.std.specs.Prelude.{◌≡◌, ◌++◌, ℕ, List, Option, Some
 ghost use Rattle.wt_devices.specs.Device.{Pages};
 ghost use Rattle.wt_pagetool.specs.Reports.{WroteEdit, WrotePage, WroteSource, new_page};
 ghost use Rattle.wt_pagetool.specs.declared.command.PageCommand.{PageCommand};
-ghost use Rattle.wt_selser.specs.Splice.{spliced, OutsideStands};
+ghost use Rattle.wt_splice.specs.Splice.{spliced, OutsideStands};
 ghost use Rattle.wt_tree.specs.Tree.{Tree};
 
 /// What a call writes of a page, of an input, or of both, after what a sink had, is determined by them.

@@ -86,7 +86,7 @@ ended_lines own ys b =
     let are : AreRuns goes_on (b.first ∷ b.others) own = subst (λ ms. AreRuns goes_on ms own) b.are_lines (runs_are goes_on own) in
     sym (runs_only goes_on (ended b.first b.others ++ full_lines ys) (own ++ break ∷ ys) (ended_runs b.first b.others own ys are b.are_unended))
 
-text_rows : (n : ℕ) (own tail : List Item) (b : IsTextBlock own) (rs : List Row) → AreTextLines n own → AreTexts (ended b.first b.others)
+pub text_rows : (n : ℕ) (own tail : List Item) (b : IsTextBlock own) (rs : List Row) → AreTextLines n own → AreTexts (ended b.first b.others)
     → AreBehind n tail rs → rows_from n (full_lines (own ++ tail)) ≡ own_rows own b tail ++ rs
 text_rows n own [] b rs a w e =
     ap (λ zs. rows_from n (full_lines zs)) (append-nil own)

@@ -35,11 +35,11 @@ all_text : (ls : List (List Item)) → AllAre line.Text (map text_row ls)
 all_text [] = tt
 all_text (l ∷ ls) = (refl, all_text ls)
 
-own_are : (own tail : List Item) (b : IsTextBlock own) → AreTextRows [] (end_of tail) (own_rows own b tail)
+pub own_are : (own tail : List Item) (b : IsTextBlock own) → AreTextRows [] (end_of tail) (own_rows own b tail)
 own_are own [] b = (all_text (b.first ∷ b.others), refl, last_unended b.first b.others ∙ b.are_unended)
 own_are own (y ∷ ys) b = (all_text (ended b.first b.others), refl, last_ended b.first b.others)
 
-own_para : (own tail : List Item) (b : IsTextBlock own) → para (own_rows own b tail) ≡ para_of own
+pub own_para : (own tail : List Item) (b : IsTextBlock own) → para (own_rows own b tail) ≡ para_of own
 own_para own [] b = block_para own b
 own_para own (y ∷ ys) b = block_ended own b
 

@@ -22,13 +22,14 @@ use Rattle.wt_text_edit_laws.proofs.Blocks.BlocksCalls.{page_ends, page_complete
 use Rattle.wt_cell_edit_laws.specs.CellEdits.{CellPage, page_with, IsCellPage, new_page, IsCellEdit}
 use Rattle.wt_cell_edit_laws.specs.CellCalls.{sent_page, SendsInCell, TakesTextsInCells}
 use Rattle.wt_cell_edit_laws.specs.UnmarkedCells.{unmarked_page, IsUnmarkedCellEdit}
-use Rattle.wt_cell_edit_laws.proofs.Pages.{page_utf8}
-use Rattle.wt_cell_edit_laws.proofs.Takes.{takes_any}
+use Rattle.wt_cell_edit_laws.proofs.CellSpots.{cell_spots}
+use Rattle.wt_cell_edit_laws.proofs.SpotTrees.{same_self, over_self, over_utf8}
+use Rattle.wt_cell_edit_laws.proofs.Takes.{one_spot, path_of, path_leads, takes_text}
 use Rattle.wt_cell_edit_laws.proofs.CellsUnmarked.{unmarked_done}
 
 -- of what is under a title, to an input
 edit_is : (pages : Pages) (p : CellPage) (h : IsCellPage p) (text input : List ℕ) (ss : Sents) (b : Label) (unsourced : Option ℕ)
-    → IsCellEdit p (takes_any p h).path text ss → length (page_with p p.text) ≤ PAGE_BYTES → length (new_page p text) ≤ PAGE_BYTES → length input ≤ HTML_BYTES
+    → IsCellEdit p (path_of p h) text ss → length (page_with p p.text) ≤ PAGE_BYTES → length (new_page p text) ≤ PAGE_BYTES → length input ≤ HTML_BYTES
     → read input ≡ as_page (new_body (label (part_tree (page_with p p.text))) b ss) unsourced
     → edit_of pages (Some (page_with p p.text)) input ≡ done (new_page p text)
 unfolding title_answer input_answer edited_answer
@@ -36,12 +37,12 @@ edit_is pages p h text input ss b unsourced e short le small is =
     let page : List ℕ = page_with p p.text in
     let made : List ℕ → Answer = λ page. input_answer (edited_answer pages page) input in
     ap (λ (v : Bool). if v then refused TooLong else text_answer page made (not_utf8_place page)) (not_longer (length page) PAGE_BYTES short)
-    ∙ ap (text_answer page made) (no_place page (page_utf8 p h p.text h.is_typed))
+    ∙ ap (text_answer page made) (no_place page (over_utf8 (one_spot p) (one_spot p) p.behind (cell_spots p h) (same_self (one_spot p)) (over_self (one_spot p))))
     ∙ ap (λ (v : Bool). if v then refused InputTooLong else edited_answer pages page (read input)) (not_longer (length input) HTML_BYTES small)
     ∙ ap (edited_answer pages page) is
-    ∙ (takes_any p h).takes pages b text ss e le
+    ∙ takes_text p h pages b text ss e le
 
-answer_is : (c : Call) (p : CellPage) (h : IsCellPage p) (text : List ℕ) (ss : Sents) → IsCellEdit p (takes_any p h).path text ss → (s : SendsInCell c Edit p text (sent_page p ss))
+answer_is : (c : Call) (p : CellPage) (h : IsCellPage p) (text : List ℕ) (ss : Sents) → IsCellEdit p (path_of p h) text ss → (s : SendsInCell c Edit p text (sent_page p ss))
     → known_answer c ≡ Some (done (new_page p text))
 unfolding answer_told
 answer_is c p h text ss e s =
@@ -51,7 +52,7 @@ answer_is c p h text ss e s =
     ∙ ap (λ (stands : Option (List ℕ)). Some (edit_of s.pages stands s.input)) s.found
     ∙ ap (λ (a : Answer). Some a) (edit_is s.pages p h text s.input ss s.body s.unsourced e s.old_within s.new_within s.within s.reads)
 
-selser_ends : (c : Call) (ended : ℕ) (p : CellPage) (h : IsCellPage p) (text : List ℕ) (ss : Sents) → IsUnmarkedCellEdit p (takes_any p h).path text ss
+selser_ends : (c : Call) (ended : ℕ) (p : CellPage) (h : IsCellPage p) (text : List ℕ) (ss : Sents) → IsUnmarkedCellEdit p (path_of p h) text ss
     → SendsInCell c Selser p text (unmarked_page p ss) → EndsAsEdit c ended → (ended ≡ code status.Done) ⊎ IsFaultOrNoMemory ended
 selser_ends c ended p h text ss e s ends =
     let P : Pages → List ℕ → Type 0 = λ pages bytes. DoneByEdit pages (pages s.title) bytes → (ended ≡ code status.Done) ⊎ IsFaultOrNoMemory ended in
@@ -62,8 +63,8 @@ selser_ends c ended p h text ss e s ends =
 
 pub takes_in_cells : (c : Call) (ended : ℕ) → Ends c ended → EndsAsEdit c ended → TakesTextsInCells c ended
 takes_in_cells c ended ends as_edit = λ p h. record {
-  path = (takes_any p h).path;
-  leads = (takes_any p h).leads;
+  path = path_of p h;
+  leads = path_leads p h;
   edit = λ text ss e s. page_ends c ended (new_page p text) (answer_is c p h text ss e s) ends;
   selser = λ text ss e s. selser_ends c ended p h text ss e s as_edit;
   complete = λ text ss e s sound. page_completes c ended (new_page p text) (answer_is c p h text ss e s) ends sound;

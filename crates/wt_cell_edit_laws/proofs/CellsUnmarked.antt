@@ -1,85 +1,34 @@
 -- Without marks a typed paragraph in a cell takes any other text, too: `edit` of the difference is done.
-use Rattle.std.proofs.Common.{◌≡◌, ℕ, ◌≤◌, Bool, Option, Some, List, [], length, sym, ap, ◌∙◌, refl, subst}
-use Rattle.std.specs.Prelude.{if◌then◌else◌}
-use Rattle.std.specs.Str.{IsUtf8}
+use Rattle.std.proofs.Common.{◌≡◌, ℕ, ◌≤◌, Option, Some, List, length, sym, subst}
 use Rattle.wt_span.specs.declared.limits.TheConstants.{HTML_BYTES, PAGE_BYTES}
 use Rattle.wt_devices.specs.Device.{Pages}
-use Rattle.wt_tree.specs.Opened.{without_sections}
-use Rattle.wt_tree.specs.Tiling.{InPreorder, NoneIsGroup}
-use Rattle.wt_tree.specs.Tree.{Label, Tree, tree, label}
-use Rattle.wt_utf8.specs.Places.{not_utf8_place}
-use Rattle.wt_utf8.proofs.PlaceLaws.{no_place}
-use Rattle.wt_checks.specs.PutBack.{have_frame}
-use Rattle.wt_expand.specs.PageCalls.{expanded_page}
+use Rattle.wt_tree.specs.Tree.{Label}
 use Rattle.wt_schema.specs.Read.{page as as_page, read}
-use Rattle.wt_page_round_trip.specs.PageTree.{page_tree}
-use Rattle.wt_page_round_trip.proofs.Pages.{page_opened}
-use Rattle.wt_page_round_trip.proofs.PageTrees.{ungathered_numbered, page_numbered}
-use Rattle.wt_difference.specs.Remarked.{remarked}
-use Rattle.wt_pagetool.specs.declared.refusal.Refusal.TheVariants.{TooLong}
-use Rattle.wt_pagetool.specs.Answers.{refused, text_answer, title_answer, edit_to, IsText}
-use Rattle.wt_pagetool.specs.Selser.{EditIsDone, DoneByEdit}
-use Rattle.wt_pagetool.proofs.SectionEdits.{page_bare}
-use Rattle.wt_typed_blocks.specs.Sent.{Sents, old_body, new_body}
-use Rattle.wt_typed_blocks.specs.Unmarked.{free_body}
-use Rattle.wt_typed_blocks.proofs.SentUnmarked.{told_by_difference}
-use Rattle.wt_text_edit_laws.specs.Parts.{part_tree}
-use Rattle.wt_text_edit_laws.proofs.Prose.ProseTakes.{not_longer}
+use Rattle.wt_pagetool.specs.Selser.{DoneByEdit}
+use Rattle.wt_typed_blocks.specs.Sent.{Sent, stands, typed, holds, Sents, none_sent, more_sent}
+use Rattle.wt_typed_blocks.specs.Unmarked.{IsToldApart, AreToldApart}
+use Rattle.wt_cell_edit_laws.specs.AnyTexts.{IsOwn, AreOwn}
 use Rattle.wt_cell_edit_laws.specs.CellEdits.{CellPage, page_with, IsCellPage, new_page}
 use Rattle.wt_cell_edit_laws.specs.UnmarkedCells.{unmarked_page, IsUnmarkedCellEdit, TakesUnmarked}
-use Rattle.wt_cell_edit_laws.proofs.Pages.{body_label, body_nodes, tree_is, page_utf8, page_unrefused, ordinary}
-use Rattle.wt_cell_edit_laws.proofs.Takes.{old_is, opened_is, blocks_ungrouped, blocks_unframed, takes_any}
+use Rattle.wt_cell_edit_laws.proofs.Takes.{taken, path_of, path_leads, at_path, page_new}
 
--- ---- the marks of the difference
+mutual
+  told_own : (s : Sent) → IsToldApart s → IsOwn s
+  told_own (stands t u) h = h
+  told_own (typed k l ts m x text) h = h
+  told_own (holds l m ss) h = (h.0.own, all_own ss h.1)
 
-kind_opened : (t : Tree) → (label t).kind ≡ (label (without_sections t)).kind
-kind_opened (tree l ts) = refl
+  all_own : (ss : Sents) → AreToldApart ss → AreOwn ss
+  all_own none_sent h = tt
+  all_own (more_sent s ss) h = (told_own s h.0, all_own ss h.1)
 
-marks_are : (pages : Pages) (c : CellPage) (h : IsCellPage c) (path : List ℕ) (b : Label) (text : List ℕ) (ss : Sents) → IsUnmarkedCellEdit c path text ss
-    → remarked (page_tree pages (page_with c c.text)) (unmarked_page c ss b) ≡ new_body (label (part_tree (page_with c c.text))) b ss
-marks_are pages c h path b text ss e =
-    let page : List ℕ = page_with c c.text in
-    let t : Tree = page_tree pages page in
-    let L : Label = body_label c h c.text in
-    let u : IsUtf8 page = page_utf8 c h c.text h.is_typed in
-    let free = page_unrefused pages c h c.text h.is_typed in
-    let is = opened_is pages c h ss e.edit.old in
-    let old = old_is c h ss e.edit.old in
-    let o = ordinary pages c h c.text h.is_typed in
-    let opened : without_sections t ≡ old_body L ss = page_opened pages page u free ∙ is in
-    ap (λ (p : Tree). remarked t (free_body (label p) b ss)) (tree_is c h c.text h.is_typed)
-    ∙ told_by_difference t L b ss (kind_opened t ∙ ap (λ (p : Tree). (label p).kind) opened)
-    (page_numbered pages page) (page_bare pages page u free) opened
-    (subst InPreorder is (ungathered_numbered (expanded_page pages page).outer (expanded_page pages page).items))
-    (subst NoneIsGroup (sym old) (blocks_ungrouped 1 [] (body_nodes c h c.text) o))
-    (ap have_frame old ∙ blocks_unframed 1 [] (body_nodes c h c.text) o)
-    e.edit.sent e.apart
-    ∙ sym (ap (λ (p : Tree). new_body (label p) b ss) (tree_is c h c.text h.is_typed))
-
--- ---- `edit` of the difference
-
-page_text : (c : CellPage) (h : IsCellPage c) → length (page_with c c.text) ≤ PAGE_BYTES → IsText (page_with c c.text)
-unfolding title_answer
-page_text c h le = λ made.
-    let page : List ℕ = page_with c c.text in
-    ap (λ (v : Bool). if v then refused TooLong else text_answer page made (not_utf8_place page)) (not_longer (length page) PAGE_BYTES le)
-    ∙ ap (text_answer page made) (no_place page (page_utf8 c h c.text h.is_typed))
-
-pub unmarked_done : (c : CellPage) (h : IsCellPage c) (pages : Pages) (stands : Option (List ℕ)) (input : List ℕ) (b : Label) (unsourced : Option ℕ)
-    (text : List ℕ) (ss : Sents) → IsUnmarkedCellEdit c (takes_any c h).path text ss → stands ≡ Some (page_with c c.text)
+pub unmarked_done : (c : CellPage) (h : IsCellPage c) (pages : Pages) (was : Option (List ℕ)) (input : List ℕ) (b : Label) (unsourced : Option ℕ)
+    (text : List ℕ) (ss : Sents) → IsUnmarkedCellEdit c (path_of c h) text ss → was ≡ Some (page_with c c.text)
     → length (page_with c c.text) ≤ PAGE_BYTES → length (new_page c text) ≤ PAGE_BYTES → length input ≤ HTML_BYTES
-    → read input ≡ as_page (unmarked_page c ss b) unsourced → DoneByEdit pages stands input
-unmarked_done c h pages stands input b unsourced text ss e found short le small is =
-    let page : List ℕ = page_with c c.text in
-    let made : EditIsDone pages page (as_page (unmarked_page c ss b) unsourced) =
-    (new_page c text, ap (edit_to pages page) (marks_are pages c h (takes_any c h).path b text ss e) ∙ (takes_any c h).takes pages b text ss e.edit le) in
-    record {
-      page = page;
-      found = found;
-      text = page_text c h short;
-      within = small;
-      done = subst (EditIsDone pages page) (sym is) made;
-    }
+    → read input ≡ as_page (unmarked_page c ss b) unsourced → DoneByEdit pages was input
+unmarked_done c h pages was input b unsourced text ss e found short le small is =
+    (taken c h).unmarked pages was input b unsourced ss (record { edit = at_path c h text ss e.edit; own = all_own ss e.apart }) found short
+    (subst (λ page. length page ≤ PAGE_BYTES) (sym (page_new c h text ss e.edit)) le) small is
 
 pub takes_unmarked : (c : CellPage) → IsCellPage c → TakesUnmarked c
-takes_unmarked c h = record { path = (takes_any c h).path; leads = (takes_any c h).leads; takes = unmarked_done c h }
+takes_unmarked c h = record { path = path_of c h; leads = path_leads c h; takes = unmarked_done c h }

@@ -4,10 +4,11 @@ use Rattle.std.specs.Prelude.{◌&&◌, ◌||◌, if◌then◌else◌}
 use Rattle.wt_tree.specs.declared.kind.Kind.TheVariants as kind
 use Rattle.wt_tree.specs.declared.kind.Ranges.{Ranges}
 use Rattle.wt_tree.specs.Plain.{Plains, plain_before, plains_before}
-use Rattle.wt_tree.specs.Recut.{is_blank, has_break, leaf_label, text_leaf, sep_leaf, is_text, shows_block, is_border, is_passed, leads_to_block, front_ranges, rest_ranges, joined_ranges, text_onto, onto, joined_texts, from_start, front_of, rest_of, parts_before, text_before, cut_before, cut_from, recut}
+use Rattle.wt_tree.specs.Leaves.{leaf_label, text_leaf, sep_leaf}
+use Rattle.wt_recut.specs.Recut.{is_blank, has_break, is_text, shows_block, is_border, is_passed, leads_to_block, front_ranges, rest_ranges, joined_ranges, text_onto, onto, joined_texts, from_start, front_of, rest_of, parts_before, text_before, cut_before, cut_from, recut}
 use Rattle.wt_tree.specs.Source.{flat, flat_of_all}
 use Rattle.wt_tree.specs.Tree.{Tree, tree, Trees, none, more, label}
-use Rattle.wt_tree.proofs.Cut.{recut_source}
+use Rattle.wt_recut.proofs.Cut.{recut_source}
 use Rattle.wt_moved_laws.specs.Placeless.{placeless, all_placeless}
 use Rattle.wt_moved_laws.proofs.Recuts.{recut_same, joined_same, cut_same}
 
@@ -25,7 +26,7 @@ pub shown_beside : (ts us : Trees) (rest : Plains) → plains_before (beside ts 
 shown_beside none us rest = refl
 shown_beside (more t ts) us rest = ap (plain_before t) (shown_beside ts us rest)
 
-placeless_beside : (ts us : Trees) → all_placeless (beside ts us) ≡ beside (all_placeless ts) (all_placeless us)
+pub placeless_beside : (ts us : Trees) → all_placeless (beside ts us) ≡ beside (all_placeless ts) (all_placeless us)
 placeless_beside none us = refl
 placeless_beside (more t ts) us = ap (more (placeless t)) (placeless_beside ts us)
 
@@ -53,17 +54,17 @@ onto_beside t xs p ds e = by_test (is_text t)
     by_test true = text_beside (label t).ranges (label t).own xs p ds e
     by_test false = refl
 
-joined_beside : (xs : Trees) (p : Tree) (ds : Trees) → is_text p ≡ false → joined_texts (beside xs (more p ds)) ≡ beside (joined_texts xs) (more p (joined_texts ds))
+pub joined_beside : (xs : Trees) (p : Tree) (ds : Trees) → is_text p ≡ false → joined_texts (beside xs (more p ds)) ≡ beside (joined_texts xs) (more p (joined_texts ds))
 joined_beside none p ds e = ap (λ (v : Bool). if v then text_onto (label p).ranges (label p).own (joined_texts ds) else more p (joined_texts ds)) e
 joined_beside (more t xs) p ds e = ap (onto t) (joined_beside xs p ds e) ∙ onto_beside t (joined_texts xs) p (joined_texts ds) e
 
 -- ---- cutting, before a block
 
-abbrev lead_in : Trees → Bool
+abbrev pub lead_in : Trees → Bool
 lead_in none = true
 lead_in (more t ts) = shows_block t || (is_passed t && lead_in ts)
 
-abbrev front : Bool → Trees → Trees
+abbrev pub front : Bool → Trees → Trees
 front behind none = none
 front behind (more t ts) = cut_before behind (lead_in ts) t (front (behind || is_border t) ts)
 
@@ -97,7 +98,7 @@ or_true : (b : Bool) → (b || true) ≡ true
 or_true true = refl
 or_true false = refl
 
-cut_beside : (behind : Bool) (xs : Trees) (p : Tree) (ds : Trees) → is_text p ≡ false → shows_block p ≡ true
+pub cut_beside : (behind : Bool) (xs : Trees) (p : Tree) (ds : Trees) → is_text p ≡ false → shows_block p ≡ true
     → cut_from behind (beside xs (more p ds)) ≡ beside (front behind xs) (more p (cut_from true ds))
 cut_beside behind none p ds e f =
     let leads : Bool = leads_to_block ds in
@@ -126,7 +127,7 @@ recut_round xs p ds e f = ap (cut_from false) (joined_beside xs p ds e) ∙ cut_
 -- ---- the source, and what is shown, hang on neither numbers nor places
 
 -- a block that is nowhere
-abbrev a_block : Tree
+abbrev pub a_block : Tree
 a_block = tree (leaf_label kind.Para None [] []) none
 
 pub front_source : (xs : Trees) → flat_of_all (cut_front xs) ≡ flat_of_all xs
@@ -141,12 +142,12 @@ front_source xs =
 pub back_source : (ds : Trees) → flat_of_all (cut_back ds) ≡ flat_of_all ds
 back_source ds = ap flat_of_all (sym (recut_round none a_block ds refl refl)) ∙ recut_source (more a_block ds)
 
-without_last : Trees → Trees
+pub without_last : Trees → Trees
 without_last none = none
 without_last (more t none) = none
 without_last (more t (more u us)) = more t (without_last (more u us))
 
-last_gone : (xs : Trees) (t : Tree) → without_last (beside xs (more t none)) ≡ xs
+pub last_gone : (xs : Trees) (t : Tree) → without_last (beside xs (more t none)) ≡ xs
 unfolding without_last
 last_gone none t = refl
 last_gone (more x none) t = refl

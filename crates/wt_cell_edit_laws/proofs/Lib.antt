@@ -1,15 +1,38 @@
+pub mod AnyCalls
+mod AnyCases
+pub mod AnyPages
+pub mod AnyTakes
+pub mod BodyPages
 mod Cases
 pub mod CellRows
+pub mod CellSpots
 pub mod Cells
 pub mod CellsCalls
 pub mod CellsUnmarked
-pub mod Chains
+pub mod HolderKinds
 pub mod Cuts
-pub mod Fills
+pub mod TwoTexts
+pub mod FramesBorders
+pub mod FramesPlain
 pub mod HeadingCells
-pub mod Leading
+pub mod OwnEdits
+pub mod ManyFacts
+pub mod ManyNodes
+pub mod ManyPaths
 pub mod Nodes
+pub mod OwnTexts
 mod PageCases
-pub mod Pages
+pub mod PageSlots
 pub mod Paths
+pub mod PlaceFacts
+pub mod PlaceGaps
+pub mod PlacePaths
+pub mod PlaceTrees
+pub mod SpotFrames
+pub mod SpotRows
+pub mod SpotSlots
+pub mod SpotTrees
+pub mod SpotsRead
 pub mod Takes
+pub mod Ungrouped
+pub mod ToldApart

@@ -40,11 +40,11 @@ use Rattle.wt_text_edit_laws.specs.TypedPages.{IsTypedPage}
 use Rattle.wt_cell_edit_laws.specs.CellEdits.{CellPage, page_with, IsCellPage}
 use Rattle.wt_cell_edit_laws.proofs.Cases.{in_a_cell}
 
-mutual
-  is_free : Tree → Bool
+unfoldable mutual
+  pub is_free : Tree → Bool
   is_free (tree l ts) = not (is_group l.kind) && are_free ts
 
-  are_free : Trees → Bool
+  pub are_free : Trees → Bool
   are_free none = true
   are_free (more t ts) = is_free t && are_free ts
 
@@ -60,7 +60,7 @@ not_true false e = refl
 mutual
   unfolding is_free are_free
 
-  free_node : (t : Tree) → is_free t ≡ true → HasNoGroup t
+  pub free_node : (t : Tree) → is_free t ≡ true → HasNoGroup t
   free_node (tree l ts) e = let r = both_true (not (is_group l.kind)) (are_free ts) e in (not_true (is_group l.kind) r.0, free_nodes ts r.1)
 
   free_nodes : (ts : Trees) → are_free ts ≡ true → NoneIsGroup ts

@@ -1,5 +1,9 @@
-pub mod InCells
-pub mod CellEdits
+pub mod AnyBlocks
+pub mod AnyCalls
+pub mod AnyTexts
 pub mod CellCalls
+pub mod CellEdits
 pub mod HeadingsInCells
+pub mod InCells
 pub mod UnmarkedCells
+pub mod OwnTexts

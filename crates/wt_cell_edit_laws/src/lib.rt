@@ -1,7 +1,7 @@
-//! Laws of texts that are typed in paragraphs in cells of tables.
+//! Laws of texts that are typed in paragraphs and headings anywhere in a page, in cells and captions of tables, too.
 #![tactic(auto)]
 
-ghost use Rattle.std.specs.Prelude.{ℕ, List};
+ghost use Rattle.std.specs.Prelude.{ℕ, List, [], ◌∷◌};
 ghost use Rattle.std.specs.Str.{IsUtf8};
 ghost use Rattle.wt_span.specs.Items.{Item};
 ghost use Rattle.wt_tree.specs.Tree.{Label};
@@ -11,8 +11,13 @@ ghost use Rattle.wt_pagetool.specs.Calls.{Call};
 ghost use Rattle.wt_pagetool.specs.Promises.{Ends, EndsAsEdit};
 ghost use Rattle.wt_typed_blocks.specs.Sent.{paragraph};
 ghost use Rattle.wt_text_edit_laws.specs.BlockEdits.{typed_as};
+ghost use Rattle.wt_text_edit_laws.specs.BlockSpots.{BlockSpot, AreBlockSpots};
 ghost use Rattle.wt_text_edit_laws.specs.Parts.{part_tree};
+ghost use Rattle.wt_text_edit_laws.specs.TextBlocks.{a_paragraph};
 ghost use Rattle.wt_text_edit_laws.specs.TypedPages.{IsTypedPage};
+ghost use Rattle.wt_cell_edit_laws.specs.AnyBlocks.{AreSpots};
+ghost use Rattle.wt_cell_edit_laws.specs.AnyCalls.{TakesTextsAnywhere};
+ghost use Rattle.wt_cell_edit_laws.specs.AnyTexts.{TakesAnyTexts};
 ghost use Rattle.wt_cell_edit_laws.specs.CellCalls.{TakesTextsInCells};
 ghost use Rattle.wt_cell_edit_laws.specs.CellEdits.{CellPage, page_with, IsCellPage, IsCellEdit, LeadsFrom, TakesText, own_sents};
 ghost use Rattle.wt_cell_edit_laws.specs.HeadingsInCells.{IsHeadingInCell, HeadingStandsInCell};
@@ -62,4 +67,33 @@ pub fn typed_paragraph_in_a_cell_takes_any_text_without_marks()
 #[tactic(auto, using(crate::proofs::CellsCalls::takes_in_cells))]
 pub fn calls_take_texts_in_cells()
     ensures { (c : Call) (ended : ℕ) → Ends c ended → EndsAsEdit c ended → TakesTextsInCells c ended }
+{}
+
+/// Any number of texts at once, in paragraphs and headings anywhere: in the body, in cells and in captions, typed or
+/// written by hand. Each is at a path of the page's tree, and an edit that sends texts typed in any of them, and all else
+/// as it is in the page, is done: the new page has these texts, as they are spelled, and every other byte is what it was;
+/// unless it is longer than a page may be. Without marks, too. For any texts there is such an edit. The new page is such
+/// a page again.
+#[tactic(auto, using(crate::proofs::AnyPages::any_take))]
+pub fn blocks_anywhere_take_any_texts()
+    ensures { (ss : List BlockSpot) (behind : List ℕ) → AreSpots ss behind → TakesAnyTexts ss behind }
+{}
+
+/// Such a page is each page of the class of `wt_text_edit_laws`, in which the paragraphs and headings are in the body.
+#[tactic(auto, using(crate::proofs::BodyPages::body_spots))]
+pub fn pages_with_blocks_in_the_body_are_such()
+    ensures { (ss : List BlockSpot) (behind : List ℕ) → AreBlockSpots ss behind → AreSpots ss behind }
+{}
+
+/// And so is each page with one typed paragraph in a cell (`IsCellPage`).
+pub fn pages_with_a_paragraph_in_a_cell_are_such()
+    ensures { (c : CellPage) → IsCellPage c → AreSpots (record { before = c.before; block = a_paragraph; text = c.text } ∷ []) c.behind }
+{}
+
+/// So every call that keeps what `run` of `wt_pagetool` promises takes such texts: `edit` has written the new page and
+/// no line, and `selser` is done; or a device failed, or memory ran out. Where no device failed, only want of memory may
+/// come in the place of the new page.
+#[tactic(auto, using(crate::proofs::AnyPages::any_calls))]
+pub fn calls_take_texts_anywhere()
+    ensures { (c : Call) (ended : ℕ) → Ends c ended → EndsAsEdit c ended → TakesTextsAnywhere c ended }
 {}

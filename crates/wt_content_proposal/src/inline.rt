@@ -1,17 +1,17 @@
 //! Inline content as wikitext: what was in the page as it was, texts too, and what is new as `edit` spells it.
 
-use crate::groups::role_in_line;
-use crate::joints::{InsidePlace, NOWHERE, place_of_new, source_of, with_joints};
 use crate::known::{Block, Known, first_text, last_text};
-use crate::links::{is_bare_url, shortened, with_colons, with_fragment};
 use crate::nowiki::nowiki_round;
-use crate::plain::with_plain;
-use crate::texts::{ends_with_apostrophe, push_letters, push_nowiki, push_text};
 use std::alloc::Global;
 use wt_escape::{external_link_of, href_of, page_link_of};
 use wt_guards::{Role, Setting, Stretch, Thing, Unit, spelling_of};
 use wt_original::{Kept, is_unchanged, shown_text};
 use wt_span::{NoMemory, Str, Text};
+use wt_text_proposal::{
+    InsidePlace, NOWHERE, ends_with_apostrophe, is_bare_url, place_of_new, push_letters,
+    push_nowiki, push_text, role_in_line, shortened, source_of, with_colons, with_fragment,
+    with_joints, with_plain,
+};
 use wt_tree::{InlineForm, Kind, Node, Place, flat, same_attrs, same_kind};
 
 /// How an inside is written: what is known of the page, the block in which it is, whether texts keep their

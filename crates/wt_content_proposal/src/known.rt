@@ -89,21 +89,18 @@ fn length_of(texts: &[Text<'_>]) -> usize {
     length
 }
 
-/// The last byte of a delimiter; a space where there is none, and of `||`, after which any text may be.
+/// The last byte of a delimiter; a space where there is none, and of a bar that isn't the one at its line's start (that
+/// of `||`, and the one after attributes), after which any text may be.
 fn last_byte(texts: &[Text<'_>]) -> u8 {
-    let mut before = b' ';
+    let mut has_bar = false;
     let mut last = b' ';
     for text in texts {
         for byte in text.as_str().as_bytes() {
-            before = last;
+            has_bar = has_bar || last == b'|';
             last = *byte;
         }
     }
-    if before == b'|' && last == b'|' {
-        b' '
-    } else {
-        last
-    }
+    if has_bar && last == b'|' { b' ' } else { last }
 }
 
 /// The sides of a node, which aren't asked for, and of all that it holds.

@@ -2,15 +2,9 @@
 //! too. What it shows isn't said here: who asks for it reads it back.
 #![tactic(auto)]
 
-mod common;
-mod groups;
 mod inline;
-mod joints;
 mod known;
-mod links;
 mod nowiki;
-mod plain;
-mod texts;
 
 pub use inline::{Edges, Writing, edges_of, joined, spelled};
 pub use known::{Block, Known, Sides, block_of, last_text};

@@ -5,6 +5,7 @@ pub mod ChunkLaws
 pub mod ChunkSteps
 pub mod ContextReads
 pub mod ContextStyles
+pub mod FewSegments
 pub mod ForestPlaces
 pub mod Forests
 pub mod InertItems

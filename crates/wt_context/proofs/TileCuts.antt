@@ -1,10 +1,10 @@
 -- The parts of each tile can be cut.
-use Rattle.std.proofs.Common.{◌≡◌, ℕ, zero, suc, ◌+◌, ◌-◌, ◌<◌, ◌≤◌, ◌⊎◌, Bool, true, false, Some, List, [], ◌∷◌, length, map, take, drop, refl, sym, ap, ◌∙◌, subst, arith, inl, inr, length-drop}
+use Rattle.std.proofs.Common.{◌≡◌, ℕ, zero, suc, ◌+◌, ◌-◌, ◌^◌, ◌<◌, ◌≤◌, ◌⊎◌, Bool, true, false, Some, List, [], ◌∷◌, length, map, take, drop, refl, sym, ap, ◌∙◌, subst, arith, inl, inr, length-append, length-drop}
 use Rattle.std.specs.Prelude.{All}
 use Rattle.std.specs.List.{AllByRecursion}
 use Rattle.std.proofs.lemmas.List.{length-map, length-take-le, take-map, drop-map}
 use Rattle.std.proofs.lemmas.List.Elements.{All-head, All-tail, All-nil, All-cons}
-use Rattle.wt_span.specs.Items.{Item}
+use Rattle.wt_span.specs.Items.{Item, items}
 use Rattle.wt_span.specs.Origins.{IsSoundPiece}
 use Rattle.wt_tiles.specs.declared.context.Context.{Context}
 use Rattle.wt_tiles.specs.declared.glyph.Glyph.{Glyph}
@@ -16,7 +16,7 @@ use Rattle.wt_tiles.specs.Glyphs.{glyph_of}
 use Rattle.wt_tiles.specs.Tiles.{size, shapes, parts, tiles}
 use Rattle.wt_tiles.specs.Edges.{low_at, low_before, IsEdge}
 use Rattle.wt_tiles.specs.Reading.{tile_at, IsForm, StandsBy, is_word_at, AreTiles}
-use Rattle.wt_tiles.specs.Cutting.{tile_of, AreSoundTiles}
+use Rattle.wt_tiles.specs.Cutting.{tile_of, tile_items, AreSoundTiles}
 use Rattle.wt_tiles.proofs.Words.{low_drop}
 use Rattle.wt_tiles.proofs.LinkFits.{Fits}
 use Rattle.wt_tiles.proofs.Fits.{tile_fits}
@@ -114,12 +114,17 @@ parts_cut cx after (w ∷ ws) xs gs e (pos, le, stands, apart, rest) = (
 
 -- ---- all tiles
 
-all_cut : (ts : List Tile) → AllByRecursion IsCutPart (map tile_of ts) → AreSoundTiles ts → All IsCutTile ts
-all_cut [] h s = All-nil IsCutTile
-all_cut (t ∷ ts) h s = All-cons IsCutTile t ts (All-head (λ u. All IsSoundPiece u.pieces) t ts s, h.0)
-    (all_cut ts h.1 (All-tail (λ u. All IsSoundPiece u.pieces) t ts s))
+all_cut : (ts : List Tile) → AllByRecursion IsCutPart (map tile_of ts) → AreSoundTiles ts → length (tile_items ts) < 2 ^ 32 → All IsCutTile ts
+all_cut [] h s few = All-nil IsCutTile
+all_cut (t ∷ ts) h s few =
+    let joined = length-append (items t.pieces) (tile_items ts) in
+    All-cons IsCutTile t ts
+    (record { sound = All-head (λ u. All IsSoundPiece u.pieces) t ts s; few = omega (arith, joined, few); cuts = h.0 })
+    (all_cut ts h.1 (All-tail (λ u. All IsSoundPiece u.pieces) t ts s) (omega (arith, joined, few)))
 
-pub tiles_cut : (cx : Context) (xs : List Item) (ts : List Tile) → map tile_of ts ≡ tiles cx xs → AreSoundTiles ts → All IsCutTile ts
-tiles_cut cx xs ts e s =
+pub tiles_cut : (cx : Context) (xs : List Item) (ts : List Tile) → map tile_of ts ≡ tiles cx xs → tile_items ts ≡ xs → AreSoundTiles ts
+    → length xs < 2 ^ 32 → All IsCutTile ts
+tiles_cut cx xs ts e joined s few =
     all_cut ts (subst (AllByRecursion IsCutPart) (sym (e ∙ tiles_are cx xs))
     (parts_cut cx false (shapes cx (map glyph_of xs)) xs (map glyph_of xs) refl (shapes_are cx (map glyph_of xs)))) s
+    (omega (arith, ap length joined, few))

@@ -43,6 +43,13 @@ front_short ts n =
     let both = ap length (flat_map-append token_segments (take n ts) (drop n ts)) in
     omega (arith, all, both, length-append (segments_of (take n ts)) (segments_of (drop n ts)))
 
+-- the segments so far and those of one more token are as few as all
+pub count_room : (ts : List Token) (at count m n : ℕ) (t : Token) → at < length ts → t ≡ get_or ts at t → length (segments_of ts) < n
+    → count ≡ length (segments_of (take at ts)) → m ≡ length (token_segments t) → count + m < n
+count_room ts at count m n t l e h c k =
+    let more = ap length (tokens_more ts at t l e) in
+    omega (arith, more, length-append (segments_of (take at ts)) (token_segments t), front_short ts (at + 1), h, c, k)
+
 abbrev pub AreChunked : Chunking → List Token → ℕ → Type 0
 AreChunked c ts at = ((us : List Segment) → chunked c us ≡ chunks_after nothing_seen 0 (segments_of (take at ts) ++ us))
     × (c.quotes ≤ length (segments_of (take at ts)))

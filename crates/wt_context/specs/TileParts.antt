@@ -1,5 +1,5 @@
 -- A tile whose parts can be cut.
-use Rattle.std.specs.Prelude.{◌≡◌, ◌<◌, ◌+◌, List, length, drop, All}
+use Rattle.std.specs.Prelude.{◌≡◌, ◌<◌, ◌+◌, ◌^◌, List, length, drop, All}
 use Rattle.wt_span.specs.Items.{Item, items}
 use Rattle.wt_span.specs.Origins.{IsSoundPiece}
 use Rattle.wt_tiles.specs.declared.shape.Shape.{Shape}
@@ -18,6 +18,8 @@ pub record HasCuts (w : Shape) (xs : List Item) : Type 0 where
   pub inside : 0 < w.inside → IsEdgeIn (drop w.opening xs) w.inside
   pub closing : 0 < w.closing → IsEdgeIn (drop (w.opening + w.inside) xs) w.closing
 
--- a tile with sound pieces, whose parts can be cut where it has some
-abbrev pub IsCutTile : Tile → Type 0
-IsCutTile t = All IsSoundPiece t.pieces × (IsForm t.kind → HasCuts (shape_of t) (items t.pieces))
+-- a tile with sound pieces of fewer than 2^32 items, whose parts can be cut where it has some
+pub record IsCutTile (t : Tile) : Type 0 where
+  pub sound : All IsSoundPiece t.pieces
+  pub few : length (items t.pieces) < 2 ^ 32
+  pub cuts : IsForm t.kind → HasCuts (shape_of t) (items t.pieces)

@@ -1,6 +1,6 @@
 //! The chunks of a context, by its tokens.
 
-ghost use Rattle.std.specs.Prelude.{◌≡◌, ◌<◌, ◌≤◌, ◌+◌, ◌^◌, ◌++◌, ◌∷◌, [], length, false, IfOk, IfSome};
+ghost use Rattle.std.specs.Prelude.{◌≡◌, ◌<◌, ◌≤◌, ◌+◌, ◌^◌, ◌++◌, ◌∷◌, [], length, false, IfOk};
 ghost use Rattle.wt_span.specs.Items.{items};
 ghost use Rattle.wt_context.specs.Chunks.{chunks};
 ghost use Rattle.wt_context.specs.Tokens.{token_segments, segments_of};
@@ -110,16 +110,16 @@ impl Chunking {
     }
 }
 
-/// How many segments tokens are, if that is below 2^32.
-pub fn segment_count(tokens: &[Token<'_>]) -> Option<u32>
-    ensures { IfSome result (λ n. n ≡ length (segments_of tokens.now)) }
+/// How many segments tokens are.
+pub fn segment_count(tokens: &[Token<'_>]) -> u32
+    requires { length (segments_of tokens.now) < 2 ^ 32 }
+    ensures { result ≡ length (segments_of tokens.now) }
 {
     let mut count = 0_u32;
     for token in tokens {
-        let n = u32::try_from(token.len()).ok()?;
-        count = count.checked_add(n)?;
+        count += token.len() as u32;
     }
-    Some(count)
+    count
 }
 
 /// The chunks of a context.

@@ -1,6 +1,6 @@
 //! Lines, read.
 
-ghost use Rattle.std.specs.Prelude.{◌≡◌, All, IfOk};
+ghost use Rattle.std.specs.Prelude.{◌≡◌, ◌<◌, ◌^◌, length, All, IfOk};
 ghost use Rattle.wt_span.specs.Items.{items};
 ghost use Rattle.wt_span.specs.Origins.{IsSoundPiece};
 ghost use Rattle.wt_inline.specs.View.{item_trees};
@@ -23,7 +23,8 @@ pub fn with_line<'a>(
     children: Children<'a>,
     pieces: &[Piece<'a>],
 ) -> Result<Children<'a>, NoMemory>
-    requires { All IsSoundPiece pieces.now }
+    requires sound { All IsSoundPiece pieces.now }
+    requires few { length (items pieces.now) < 2 ^ 32 }
     ensures { IfOk result (λ c. Grows (growth children.entry) (line_parts (items pieces.now)) (growth c)) }
 {
     with_context(alloc, children, MOST_CONTEXTS, Context::line(), pieces)
@@ -35,7 +36,8 @@ pub fn line_children<'a>(
     alloc: Global,
     pieces: &[Piece<'a>],
 ) -> Result<List<PieceTree<'a>>, NoMemory>
-    requires { All IsSoundPiece pieces.now }
+    requires sound { All IsSoundPiece pieces.now }
+    requires few { length (items pieces.now) < 2 ^ 32 }
     ensures { IfOk result (λ l. item_trees l ≡ line_trees (items pieces.now)) }
 {
     let children = with_line(alloc, Children::new(alloc), pieces)?;

@@ -1,6 +1,6 @@
 //! Contexts, each read with what is in its tiles.
 
-ghost use Rattle.std.specs.Prelude.{◌≡◌, ◌<◌, ◌+◌, ◌^◌, ◌++◌, map, option_map, All, IfOk};
+ghost use Rattle.std.specs.Prelude.{◌≡◌, ◌<◌, ◌+◌, ◌^◌, ◌++◌, length, map, option_map, All, IfOk};
 ghost use Rattle.std.specs.List.{flat_map};
 ghost use Rattle.wt_span.specs.Items.{items};
 ghost use Rattle.wt_span.specs.Origins.{IsSoundPiece};
@@ -34,6 +34,7 @@ fn nested<'a>(
     tile: &Tile<'a>,
 ) -> Result<PieceTree<'a>, NoMemory>
     requires sound { All IsSoundPiece tile.now.pieces }
+    requires few { length (items tile.now.pieces) < 2 ^ 32 }
     requires cuts { HasCuts (shape_of tile.now) (items tile.now.pieces) }
     requires room { context.pairs + levels < 2 ^ 32 }
     ensures { IfOk result (λ t. item_tree t ≡ nested_tree kind (shape_of tile.now) (items tile.now.pieces)
@@ -163,6 +164,7 @@ pub fn with_context<'a>(
     pieces: &[Piece<'a>],
 ) -> Result<Children<'a>, NoMemory>
     requires sound { All IsSoundPiece pieces.now }
+    requires few { length (items pieces.now) < 2 ^ 32 }
     requires room { context.pairs + levels < 2 ^ 32 }
     ensures { IfOk result (λ c. Grows (growth children.entry) (within levels context (items pieces.now)) (growth c)) }
 {

@@ -142,11 +142,10 @@ pub fn with_styles<'a>(
     children: Children<'a>,
     tokens: List<Token<'a>>,
 ) -> Result<Children<'a>, NoMemory>
+    requires { length (segments_of tokens) < 2 ^ 32 }
     ensures { IfOk result (λ c. Grows (growth children.entry) (with_styles (segments_of tokens.entry)) (growth c)) }
 {
-    let Some(count) = segment_count(tokens.as_slice()) else {
-        return Err(NoMemory);
-    };
+    let count = segment_count(tokens.as_slice());
     let chunks = chunks(alloc, tokens.as_slice())?;
     let styles = style_tree(alloc, chunks.as_slice())?;
     let now = Styling {

@@ -8,7 +8,7 @@ use Rattle.wt_tree.specs.declared.kind.Kind.{Kind}
 use Rattle.wt_tree.specs.declared.kind.Kind.TheVariants as kind
 use Rattle.wt_tree.specs.Kinds.{showing, writing, is_section, is_block}
 use Rattle.wt_tree.specs.Opened.{opened_before, all_opened_before, opened, without_sections}
-use Rattle.wt_tree.specs.Recut.{shows_block, any_shows_block}
+use Rattle.wt_recut.specs.Recut.{shows_block, any_shows_block}
 use Rattle.wt_tree.specs.Tiling.{is_group, InPreorder}
 use Rattle.wt_tree.specs.Tree.{Label, Tree, tree, Trees, none, more, label}
 use Rattle.wt_checks.specs.Alike.{same_kind, same_attrs, same_data}

@@ -8,7 +8,7 @@ use Rattle.wt_tree.specs.declared.row.Holding.{Holding}
 use Rattle.wt_tree.specs.declared.row.Holding.TheVariants.{NoElements, Blocks, Inlines, Entities, Items, Terms, TableParts, TableRows, Cells, InlinesThenLists, InlinesThenBlocks}
 use Rattle.wt_tree.specs.Kinds.{shape}
 use Rattle.wt_tree.specs.Opened.{opened}
-use Rattle.wt_tree.specs.Recut.{shows_block}
+use Rattle.wt_recut.specs.Recut.{shows_block}
 use Rattle.wt_tree.specs.Tree.{Tree, tree, Trees, none, more, label}
 
 -- the kinds that pages are built of: blocks, lists, items, terms and the parts of tables, and what holds them

@@ -1,6 +1,6 @@
 -- An edited tree that is the page's own, in all that the difference looks at.
 use Rattle.std.specs.Prelude.{◌≡◌, Bool, true, false}
-use Rattle.wt_tree.specs.Recut.{any_shows_block}
+use Rattle.wt_recut.specs.Recut.{any_shows_block}
 use Rattle.wt_tree.specs.Tiling.{is_group}
 use Rattle.wt_tree.specs.Tree.{Label, Tree, tree, Trees, none, more}
 

@@ -2,7 +2,7 @@
 
 ghost use Rattle.std.specs.Prelude.{◌≡◌, ◌≤◌, IfOk, OnOk, drop, length, take};
 ghost use Rattle.wt_tree.specs.Opened.{opened, opened_before};
-ghost use Rattle.wt_tree.specs.Recutting.{appended};
+ghost use Rattle.wt_recut.specs.Recutting.{appended};
 ghost use Rattle.wt_tree.specs.Tree.{none};
 ghost use Rattle.wt_tree.specs.View.{view, views};
 ghost use Rattle.wt_difference.specs.Insides.{
@@ -18,8 +18,9 @@ ghost use Rattle.wt_difference.specs.Insides.{
 ghost use Rattle.wt_difference.specs.Views.{child_views};
 
 use std::alloc::Global;
+use wt_recut::shows_block;
 use wt_span::NoMemory;
-use wt_tree::{Holding, Kind, Node, Placement, shows_block};
+use wt_tree::{Holding, Kind, Node, Placement};
 
 /// A child of a node.
 #[derive(Clone, Copy)]

@@ -18,10 +18,10 @@ use Rattle.wt_visible.specs.SameNodes.{same_node}
 use Rattle.wt_visible.proofs.DifferingLaws.{differing_is}
 use Rattle.wt_selser.specs.declared.refusal.EditRefusal.{EditRefusal as SpliceRefusal}
 use Rattle.wt_selser.specs.declared.refusal.EditRefusal.TheVariants as of_splice
-use Rattle.wt_selser.specs.BodySlices.{slices}
-use Rattle.wt_selser.specs.Changes.{marked}
+use Rattle.wt_slices.specs.BodySlices.{slices}
+use Rattle.wt_slices.specs.Changes.{marked}
 use Rattle.wt_selser.specs.Edits.{AnswersEdit, edit_answer, if_short, most_bytes, refused_pairs, unless_refused}
-use Rattle.wt_selser.specs.Splice.{spliced}
+use Rattle.wt_splice.specs.Splice.{spliced}
 use Rattle.wt_edit.specs.declared.refusal.EditRefusal.{EditRefusal}
 use Rattle.wt_edit.specs.declared.refusal.EditRefusal.TheVariants as refusal
 use Rattle.wt_edit.specs.Asked.{RanOutFirst}

@@ -7,7 +7,9 @@ ghost use Rattle.wt_expansion.specs.Walks.{IsFree};
 ghost use Rattle.wt_visible.specs.Children.{IsFirstDiffering, shown_children};
 ghost use Rattle.wt_visible.specs.Restored.{restored_from};
 ghost use Rattle.wt_visible.specs.SameNodes.{same_node};
+ghost use Rattle.wt_selser.specs.Borders.{page_text};
 ghost use Rattle.wt_selser.specs.Edits.{edit_answer};
+ghost use Rattle.wt_slices.specs.Borders.{HasBorders};
 ghost use Rattle.wt_transclusion.specs.Asked.{Asks};
 ghost use Rattle.wt_tree.specs.Tree.{label};
 ghost use Rattle.wt_tree.specs.View.{view};
@@ -123,6 +125,8 @@ fn edit_of_known<'a, F: Folder>(
     folder: &mut F,
 ) -> Result<Str, EditRefusal>
     requires body { (label (view revision.annotated.now.tree.body)).kind ≡ kind.Body }
+    requires places { HasBorders revision.page.now (view revision.annotated.now.tree.body) }
+    requires text { page_text revision.annotated.now.items ≡ revision.page.now }
     requires known { HoldsPages expansion }
     ensures answered { (pages : Pages) (met : List (List ℕ)) → F.pages folder.old ≡ Some pages
         → IsFree pages met expansion.entry
@@ -172,6 +176,8 @@ pub fn edit<'a, F: Folder>(
     folder: &mut F,
 ) -> Result<Str, EditRefusal>
     requires body { (label (view known.annotated.tree.body)).kind ≡ kind.Body }
+    requires places { HasBorders page.now (view known.annotated.tree.body) }
+    requires text { page_text known.annotated.items ≡ page.now }
     requires known { HoldsPages known.expansion }
     ensures answered { (pages : Pages) (met : List (List ℕ)) → F.pages folder.old ≡ Some pages
         → IsFree pages met known.entry.expansion

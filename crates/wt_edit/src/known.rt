@@ -1,6 +1,7 @@
 //! The tree of a page some of whose templates are known already.
 
-ghost use Rattle.std.specs.Prelude.{◌≡◌, ◌≤◌, ◌<◌, ◌^◌, ℕ, List, length, OnOk, IfOk, IfErr, Some, None};
+ghost use Rattle.std.specs.Prelude.{◌≡◌, ◌+◌, ◌≤◌, ◌<◌, ◌^◌, ℕ, List, length, OnOk, IfOk, IfErr, Some, None};
+ghost use Rattle.wt_annotated.specs.NumbersNeeded.{numbers_needed};
 ghost use Rattle.wt_expand.specs.Expansion.{page_work};
 ghost use Rattle.wt_expand.specs.PageCalls.{expanded_page};
 ghost use Rattle.wt_expand.specs.Work.{Pages};
@@ -14,6 +15,8 @@ ghost use Rattle.wt_tree.specs.View.{view};
 ghost use Rattle.wt_transclusion.specs.Answers.{IsCounted, IsRefused};
 ghost use Rattle.wt_transclusion.specs.Asked.{Asks};
 ghost use Rattle.wt_transclusion.specs.Stops.{Stops};
+ghost use Rattle.wt_selser.specs.Borders.{page_text};
+ghost use Rattle.wt_slices.specs.Borders.{HasBorders};
 ghost use Rattle.wt_edit.specs.Edits.{refusal_of_page};
 
 use bumpalo::Bump;
@@ -37,7 +40,8 @@ pub struct KnownPage<'a> {
 
 /// The tree of an expanded page, with its items.
 pub fn annotated_of_items<'a>(alloc: Global, items: Items<'a>) -> Result<Annotated<'a>, NoMemory>
-    requires { length (page_of items.outer (tree_items (meaning items.items))) < 2 ^ 32 }
+    requires bytes { length (page_of items.outer (tree_items (meaning items.items))) < 2 ^ 32 }
+    requires numbers { 1 + numbers_needed items.outer (meaning items.items) < 2 ^ 32 }
     ensures tree { IfOk result (λ a. view a.tree.body ≡ expanded_tree items.entry) }
     ensures items { IfOk result (λ a. a.items ≡ items.entry) }
 {
@@ -81,6 +85,8 @@ pub fn known_page<'a, F: Folder>(
     ensures known { IfOk result (λ found. HoldsPages found.expansion) }
     ensures some { IfOk result
         (λ found. (pages : Pages) × (view found.annotated.tree.body ≡ page_tree pages page.entry.now)) }
+    ensures places { IfOk result (λ found. HasBorders page.entry.now (view found.annotated.tree.body)) }
+    ensures text { IfOk result (λ found. page_text found.annotated.items ≡ page.entry.now) }
     ensures count { IsCounted (F.fault_count folder.old) (F.fault_count folder.new) result }
     ensures kept { F.pages folder.new ≡ F.pages folder.old }
 {

@@ -73,7 +73,7 @@ mutual
 
 -- ---- what stands on the page for items that follow others
 
-between_append : (calls : List OuterCall) (all : List Item) (j k n : ℕ) → text_between calls all n (j + k)
+pub between_append : (calls : List OuterCall) (all : List Item) (j k n : ℕ) → text_between calls all n (j + k)
     ≡ text_between calls all n j ++ text_between calls all (n + j) k
 between_append calls all zero k n =
     let e : 0 + k ≡ k = omega arith in
@@ -98,7 +98,7 @@ between_more calls front z zs back =
     ∙ ap (λ i. text_behind calls (last_call front) z ++ text_between calls all i (length zs)) (sym (length_push front z))
     ∙ ap (λ xs. text_behind calls (last_call front) z ++ text_between calls xs (length (front ++ z ∷ [])) (length zs)) m
 
-between_own : (calls : List OuterCall) (front zs back : List Item) → AllFrom None zs
+pub between_own : (calls : List OuterCall) (front zs back : List Item) → AllFrom None zs
     → text_between calls (front ++ (zs ++ back)) (length front) (length zs) ≡ sources zs
 between_own calls front [] back h = refl
 between_own calls front (z ∷ zs) back h =

@@ -15,3 +15,4 @@ pub mod Names
 pub mod ShownPieces
 pub mod TextLaws
 pub mod Turns
+pub mod ExpandedWidth

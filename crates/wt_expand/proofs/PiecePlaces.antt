@@ -350,7 +350,7 @@ stand calls (p ∷ ps) front at sound f had =
 
 -- ---- the page
 
-text_place : (calls : List OuterCall) (all : List Item) (k n : ℕ) → place calls all (n + k) ≡ place calls all n + length (text_between calls all n k)
+pub text_place : (calls : List OuterCall) (all : List Item) (k n : ℕ) → place calls all (n + k) ≡ place calls all n + length (text_between calls all n k)
 text_place calls all zero n = let e : n + 0 ≡ n = omega arith in ap (place calls all) e ∙ omega arith
 text_place calls all (suc k) n =
     let e : n + suc k ≡ suc n + k = omega arith in

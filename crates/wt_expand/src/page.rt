@@ -29,7 +29,7 @@ fn pieces_of<'a>(
 /// The items of a page, read as one that has no calls: runs of braces, pipes and the like are
 /// characters. Comments, raw tags, include tags, hidden parts and entities are one item each.
 pub fn page_items<'a>(alloc: Global, page: &'a str) -> Result<Items<'a>, NoMemory>
-    requires { length page.now < 2 ^ 32 }
+    requires { length page.now < 2 ^ 31 }
     ensures items { IfOk result (λ it. it.items ≡ page_items page.entry.now) }
     ensures outer { IfOk result (λ it. it.outer ≡ []) }
     ensures text_calls { IfOk result (λ it. it.text_calls ≡ []) }

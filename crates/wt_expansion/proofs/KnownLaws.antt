@@ -1,13 +1,15 @@
 -- A walk over the whole page, where some pages are known already.
-use Rattle.std.proofs.Common.{◌≡◌, ◌<◌, ℕ, Bool, true, false, Option, Some, None, option_map, List, [], ◌∷◌, ◌++◌, drop, refl, sym, ap, ◌∙◌, subst, append-nil}
+use Rattle.std.proofs.Common.{◌≡◌, ◌^◌, ◌<◌, ℕ, Bool, true, false, Option, Some, None, option_map, List, [], ◌∷◌, ◌++◌, drop, length, refl, sym, ap, ◌∙◌, subst, append-nil, arith}
 use Rattle.std.specs.Str.{IsUtf8}
 use Rattle.wt_span.specs.declared.form.Mode.TheVariants as mode
 use Rattle.wt_span.specs.declared.form.Piece.{Piece}
 use Rattle.wt_span.specs.declared.form.Outer.{Outer}
 use Rattle.wt_span.specs.declared.range.Range.{Range}
 use Rattle.wt_span.specs.Braces.{members}
+use Rattle.wt_span.specs.Items.{AreFew, items, sources}
+use Rattle.wt_span.specs.Origins.{Expanded}
 use Rattle.wt_expand.specs.Expansion.{Reading, page_reading, page_work, text_given}
-use Rattle.wt_expand.specs.PageCalls.{all_stretches}
+use Rattle.wt_expand.specs.PageCalls.{all_stretches, expanded_page}
 use Rattle.wt_expand.specs.Work.{Entry, Pages, deep_place, entered, fetches, first_refusal, firsts_after, is_among, names_asked, refusal_from}
 use Rattle.wt_transclusion.specs.declared.refusal.ExpandRefusal.{ExpandRefusal}
 use Rattle.std.specs.HashMap.{get_by_text}
@@ -18,6 +20,7 @@ use Rattle.wt_expand.specs.Fronts.{known_after}
 use Rattle.wt_transclusion.specs.Stops.{Stops, told_with}
 use Rattle.wt_transclusion.specs.Steps.{given_from}
 use Rattle.wt_transclusion.specs.Stores.{Agrees, IsKept, IsKnown, IsStore}
+use Rattle.wt_expand.proofs.ExpandedWidth.{expanded_short}
 use Rattle.wt_transclusion.proofs.GrowthLaws.{agrees_before}
 use Rattle.wt_transclusion.proofs.StopLaws.{stops_page}
 use Rattle.wt_template_stack.specs.declared.expansion.Expansion.{Expansion}
@@ -84,6 +87,14 @@ page_is_found pages page met spent answered told to old new x ps cs ts utf8 shor
         told_is = whole.told_is ∙ ap (λ (es : List Entry). told_with met es answered) (sym (page_work_is pages page));
       };
     }
+
+-- the items have at most as many bytes as the page and what an expansion may cost
+pub few_found : (pages : Pages) (page : List ℕ) (met : List (List ℕ)) (x : Expansion) (answered told : Option (List (List ℕ))) (ps : List Piece)
+    (cs : List Outer) (ts : List Range) → length page < 2 ^ 30 → IsFound pages page met x answered told ps cs ts → AreFew (items ps)
+few_found pages page met x answered told ps cs ts short f =
+    let same : length (sources (items ps)) ≡ length (sources (expanded_page pages page).items) =
+    ap (λ (e : Expanded). length (sources e.items)) f.found.same in
+    omega (arith, expanded_short pages page f.allowed, same, short)
 
 -- what a walk over the whole page refuses
 abbrev pub RefusesFrom : Pages → List ℕ → List (List ℕ) → ℕ → Option (List (List ℕ)) → Option (List (List ℕ))

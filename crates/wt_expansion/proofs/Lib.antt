@@ -1,11 +1,9 @@
 pub mod FoundLaws
 pub mod FunctionSigns
 pub mod KnownLaws
-pub mod MarkBytes
 pub mod PageWalk
 pub mod PieceLaws
 pub mod Refusals
-pub mod SignBytes
 pub mod SoundCalls
 pub mod SoundItems
 pub mod SoundMembers

@@ -251,6 +251,7 @@ sound_outer t at k ms c u w h f l =
     subst (IsCharBoundary t) z (border_at t (at + (k + width_of_all ms)) 125 closing (omega arith) (omega (arith, two, w))) in
     let some : 0 < length (spans (placed p ps)) = let y = placed_len p ps in let x = some_split false 0 [] (listed ms) in omega (arith, y, x) in
     record {
+      some = let y = in_page.wide in omega (arith, y, two);
       some_part = subst (λ qs. 0 < length (spans qs)) (sym places) some;
       in_order = subst (λ qs. LieFrom o at (spans qs)) (sym places)
           (lie_parts t o n in_page ps at p e (omega arith) (omega arith) begin end (omega arith) wide sound);

@@ -16,7 +16,7 @@ use Rattle.wt_transclusion.proofs.MarkLaws.{text_marks}
 use Rattle.wt_transclusion.proofs.StretchCuts.{marks_len}
 use Rattle.wt_transclusion.proofs.StretchLaws.{full_members}
 use Rattle.wt_expand.specs.Expansion.{text_members}
-use Rattle.wt_expansion.proofs.MarkBytes.{IsWordHere, text_says}
+use Rattle.wt_transclusion.proofs.MarkBytes.{IsWordHere, text_says}
 
 -- of what is left of a run of braces nothing is said but that something is left
 abbrev pub IsSoundLexeme : Mode → LexKind → ℕ → List ℕ → Type 0

@@ -1,5 +1,5 @@
 -- Calls of the page: what is found of each, and its work.
-use Rattle.std.proofs.Common.{◌≡◌, ℕ, ◌+◌, ◌-◌, ◌<◌, ◌≤◌, Bool, true, false, Option, Some, None, List, [], ◌∷◌, Ok, length, map, take, drop, refl, sym, ap, ◌∙◌, subst, arith, append-nil}
+use Rattle.std.proofs.Common.{◌≡◌, ℕ, ◌+◌, ◌-◌, ◌<◌, Bool, true, false, Option, Some, None, List, [], ◌∷◌, Ok, length, map, take, drop, refl, sym, ap, ◌∙◌, subst, arith, append-nil}
 use Rattle.std.specs.Prelude.{◌==◌, ◌||◌, is_some, slice_range, if◌then◌else◌}
 use Rattle.wt_span.specs.declared.form.Mode.TheVariants as mode
 use Rattle.wt_span.specs.declared.form.ItemForm.TheVariants as form
@@ -28,6 +28,8 @@ use Rattle.wt_template_stack.specs.declared.reader.Reader.{Reader}
 use Rattle.wt_template_stack.specs.Calls.{IsCallOf, source_of, first_end}
 use Rattle.wt_template_stack.specs.Ledgers.{Ledger, AnswersOutput, Refuses, ledger}
 use Rattle.wt_template_stack.specs.Runs.{page_called}
+use Rattle.wt_template_stack.specs.Readers.{CanBeCut}
+use Rattle.wt_template_stack.proofs.Cuts.{call_cut, cut_there}
 use Rattle.wt_template_stack.proofs.LedgerLaws.{comes_none}
 use Rattle.wt_expansion.specs.declared.found.Collected.{Collected}
 use Rattle.wt_expansion.specs.Calls.{outer_of}
@@ -235,6 +237,11 @@ pub refused_one : (pages : Pages) (t : List ℕ) (l : Ledger) (b : Braces) (c : 
 refused_one pages t l b c s told e h = subst (λ es. Refuses pages t l es told e)
     (append-nil (output_of (at_page pages) s (drop c.at t) (call c.braces c.inside)).work) h
 
+-- the source of a call that is next can be cut out of the page
+pub source_there : (t : List ℕ) (b : Braces) (reader : Reader) (s : Bool) → IsCallNext t b reader s → CanBeCut reader.text.text.now b.at.start b.at.end
+source_there t b reader s n =
+    cut_there mode.Page t reader n.is.at s b.at.start b.at.end n.reading (call_cut mode.Page t b n.reading.read.characters n.is)
+
 -- ---- a function that is kept as it stands
 
 pub function_walked : (pages : Pages) (t : List ℕ) (met : List (List ℕ)) (spent : ℕ) (answered : Option (List (List ℕ))) (b : Braces) (reader : Reader)
@@ -276,9 +283,9 @@ page_walked pages t l b reader s n title href source old new store spent answere
     c.at b.at.end old new store spent answered refl refl found (works_of pages t l _ store spent answered ps h)
 
 -- the target ends behind the call's first brace
-pub target_first : (t : List ℕ) (b : Braces) (c : IsCallOf mode.Page t b) → c.at ≤ first_end (c.at + c.braces) (part_members 0 c.inside)
+pub target_first : (t : List ℕ) (b : Braces) (c : IsCallOf mode.Page t b) → c.at < first_end (c.at + c.braces) (part_members 0 c.inside)
 target_first t b c = by_parts (part_members 0 c.inside)
   where
-    by_parts : (ps : List PartMembers) → c.at ≤ first_end (c.at + c.braces) ps
-    by_parts [] = omega arith
-    by_parts (p ∷ ps) = omega arith
+    by_parts : (ps : List PartMembers) → c.at < first_end (c.at + c.braces) ps
+    by_parts [] = let two = c.two in omega (arith, two)
+    by_parts (p ∷ ps) = let two = c.two in omega (arith, two)

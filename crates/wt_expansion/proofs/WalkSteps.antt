@@ -1,6 +1,6 @@
 -- A walk over a stretch of the page, step by step.
-use Rattle.std.proofs.Common.{◌≡◌, ℕ, ◌+◌, ◌-◌, ◌≤◌, Bool, Option, Some, List, [], ◌∷◌, ◌++◌, Ok, drop, refl, sym, ap, ◌∙◌, subst, arith, append_assoc, append-nil}
-use Rattle.std.specs.Prelude.{slice_get, slice_range, slice_index}
+use Rattle.std.proofs.Common.{◌≡◌, ℕ, ◌+◌, ◌-◌, ◌<◌, ◌≤◌, Bool, Option, List, [], ◌∷◌, ◌++◌, Ok, drop, refl, sym, ap, ◌∙◌, subst, arith, append_assoc, append-nil}
+use Rattle.std.specs.Prelude.{slice_range, slice_index}
 use Rattle.std.proofs.lemmas.List.{drop-drop, get_or-drop}
 use Rattle.wt_span.specs.declared.form.Mode.TheVariants as mode
 use Rattle.wt_span.specs.declared.form.LexKind.{LexKind}
@@ -20,14 +20,15 @@ use Rattle.wt_transclusion.specs.Stores.{IsStore}
 use Rattle.wt_transclusion.proofs.StretchCuts.{stretch_front, stretch_back}
 use Rattle.wt_template_stack.specs.declared.reader.Reader.{Reader}
 use Rattle.wt_template_stack.specs.Ledgers.{Ledger, Comes, Refuses, ledger}
+use Rattle.wt_template_stack.specs.Measures.{bytes_left}
 use Rattle.wt_template_stack.specs.Readers.{IsReading}
 use Rattle.wt_template_stack.proofs.CallLaws.{call_is}
 use Rattle.wt_template_stack.proofs.LedgerLaws.{comes_none, comes_then, comes_before, comes_refused, refused_before}
+use Rattle.wt_template_stack.proofs.StepLaws.{stretch_read}
 use Rattle.wt_expansion.specs.declared.found.Collected.{Collected}
 use Rattle.wt_expansion.specs.Made.{AreAlike}
 use Rattle.wt_expansion.specs.Walks.{at_page, Adds, Works, Walked, Going, AnswersStep, IsCallNext, call_stretches_at, call_work}
 use Rattle.wt_expansion.proofs.FoundLaws.{adds_none, adds_then}
-use Rattle.wt_expansion.proofs.Refusals.{some_left}
 use Rattle.wt_expansion.proofs.WalkLaws.{alike_same, alike_then, alike_append, strs, strs_cons, leads_alike}
 
 pub works_none : (pages : Pages) (t : List ℕ) (met : List (List ℕ)) (spent : ℕ) (answered : Option (List (List ℕ))) (store : Store) (w v : List Entry)
@@ -141,8 +142,9 @@ call_step pages t l p end s xs b reader h old new store spent answered w =
     let rest = strs r (starts t b.at.end) t b.at.end h.after in
     let more = (given_from r (starts t b.at.end) t b.at.end h.after).work in
     let z = h.here.is.end_is in
+    let two = h.here.is.two in
     let y = h.at_is in (
-      omega (arith, z, y),
+      omega (arith, z, y, two),
       record {
         left = h.after;
         stretch = h.stretch;
@@ -233,16 +235,6 @@ going_refused pages t l ss work p end old mid reader store spent answered told x
     let left = (given_from (at_page pages) g.at_start t g.place g.rest.left).work in
     comes_refused pages t l (ledger spent g.rest.works.met answered) work left told x g.rest.works.comes h
 
--- memory runs out behind a step
-pub step_stops : (pages : Pages) (t : List ℕ) (l : Ledger) (ss : List Stretch) (work : List Entry)
-    (at end to : ℕ) (old new : Collected)
-    (store : Store) (spent : ℕ) (answered : Option (List (List ℕ)))
-    → AnswersStep pages t l ss work at end old new store spent answered (Ok to)
-    → Refuses pages t l work answered answer.NoMemory
-step_stops pages t l ss work at end to old new store spent answered (low, f) =
-    some_left pages t l (ledger spent f.works.met answered) work
-    (given_from (at_page pages) (starts t to) t to f.left).work f.works.comes
-
 -- nothing is left where a stretch ends
 none_left : (t : List ℕ) (p end : ℕ) (xs : List Member) → IsStretchOf mode.Page t p end xs → end ≤ p → xs ≡ []
 none_left t p end [] s l = refl
@@ -251,11 +243,12 @@ none_left t p end (call k ms ∷ xs) s l = absurd (let z = s.width in let f = s.
 
 pub going_ends : (pages : Pages) (t : List ℕ) (l : Ledger) (ss : List Stretch) (work : List Entry) (p end : ℕ) (old new : Collected) (reader : Reader)
     (store : Store) (spent : ℕ) (answered : Option (List (List ℕ))) → (g : Going pages t l ss work p end old new reader store spent answered)
-    → end ≤ reader.cursor.at
+    → (reader.cursor.at < end → bytes_left reader ≡ 0)
     → Walked pages t l ss work p end old new store spent answered
-going_ends pages t l ss work p end old new reader store spent answered g le =
+going_ends pages t l ss work p end old new reader store spent answered g gone =
     let r = at_page pages in
     let at = g.reading.at.at_is in
+    let le = stretch_read mode.Page t reader g.place g.at_start end g.rest.left g.reading g.rest.stretch gone in
     let none = none_left t g.place end g.rest.left g.rest.stretch (omega (arith, le, at)) in
     let empty = subst (λ xs. IsStretchOf mode.Page t g.place end xs) none g.rest.stretch in
     let z : g.place ≡ end = let y = empty.width in omega (arith, y) in

@@ -1,5 +1,5 @@
 -- What a walk over the page finds.
-use Rattle.std.specs.Prelude.{◌≡◌, ◌≤◌, ℕ, ◌+◌, ◌||◌, Bool, false, is_some, Option, List, [], ◌∷◌, ◌++◌, Result, Ok, Err, length, map, drop}
+use Rattle.std.specs.Prelude.{◌≡◌, ◌<◌, ℕ, ◌+◌, ◌||◌, Bool, false, is_some, Option, List, [], ◌∷◌, ◌++◌, Result, Ok, Err, length, map, drop}
 use Rattle.wt_span.specs.declared.form.Mode.TheVariants as mode
 use Rattle.wt_span.specs.declared.form.Piece.{Piece}
 use Rattle.wt_span.specs.Functions.{function_of}
@@ -81,7 +81,7 @@ pub record Left (pages : Pages) (page : List ℕ) (before : Ledger) (ss : List S
 abbrev pub AnswersStep : Pages → List ℕ → Ledger → List Stretch → List Entry → ℕ → ℕ → Collected → Collected → Store → ℕ → Option (List (List ℕ))
     → Result ℕ ExpandRefusal → Type 0
 AnswersStep pages page before ss work at end old new store spent answered (Ok to) =
-    (at ≤ to) × Left pages page before ss work at to end (starts page to) old new store spent answered
+    (at < to) × Left pages page before ss work at to end (starts page to) old new store spent answered
 AnswersStep pages page before ss work at end old new store spent answered (Err e) = Refuses pages page before work answered e
 
 -- where the reader of a walk is

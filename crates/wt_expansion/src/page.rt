@@ -45,7 +45,7 @@ pub fn expand_knowing<'a, F: Folder>(
     folder: &mut F,
     expansion: Expansion<'a>,
 ) -> Result<ExpandedPage<'a>, ExpandRefusal>
-    requires short { length page.now < 2 ^ 32 }
+    requires short { length page.now < 2 ^ 30 }
     requires known { HoldsPages expansion }
     ensures items { (pages : Pages) (met : List (List ℕ)) → F.pages folder.old ≡ Some pages → IsFree pages met expansion.entry
         → IfOk result (λ found. found.items ≡ expanded_page pages page.entry.now) }
@@ -97,7 +97,7 @@ pub fn expand<'a, F: Folder>(
     arena: &'a Bump<Global>,
     folder: &mut F,
 ) -> Result<Items<'a>, ExpandRefusal>
-    requires { length page.now < 2 ^ 32 }
+    requires { length page.now < 2 ^ 30 }
     ensures items { (pages : Pages) → F.pages folder.old ≡ Some pages → IfOk result (λ items. items ≡ expanded_page pages page.entry.now) }
     ensures some { IfOk result (λ items. (pages : Pages) × (items ≡ expanded_page pages page.entry.now)
         × (first_refusal pages page.entry.now (page_work pages page.entry.now) ≡ None)) }

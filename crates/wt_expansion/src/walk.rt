@@ -1,5 +1,5 @@
 //! The walk over the page: its own pieces, its outermost calls and its text calls.
-ghost use Rattle.std.specs.Prelude.{◌≡◌, ◌+◌, ◌≤◌, ◌<◌, ◌∷◌, [], ℕ, List, Bool, None, Some, false, true, IfOk, OnOk, drop, length, is_some, slice_get, slice_range};
+ghost use Rattle.std.specs.Prelude.{◌≡◌, ◌+◌, ◌<◌, ◌∷◌, [], ℕ, List, Bool, None, Some, false, true, OnOk, drop, is_some, slice_get, slice_range};
 ghost use Rattle.wt_span.specs.declared.form.Mode.TheVariants as text_mode;
 ghost use Rattle.wt_span.specs.Braces.{Member as TextMember, members};
 ghost use Rattle.wt_span.specs.Items.{items_by};
@@ -15,7 +15,8 @@ ghost use Rattle.wt_transclusion.specs.Stores.{Concerns, Grows};
 ghost use Rattle.wt_span.specs.Functions.{function_of};
 ghost use Rattle.wt_template_stack.specs.Calls.{first_end};
 ghost use Rattle.wt_template_stack.specs.Ledgers.{ledger};
-ghost use Rattle.wt_template_stack.specs.Readers.{IsReading};
+ghost use Rattle.wt_template_stack.specs.Measures.{bytes_left};
+ghost use Rattle.wt_template_stack.specs.Readers.{CanBeCut, IsReading};
 ghost use Rattle.wt_expansion.specs.Walks.{Adds, AnswersStep, AnswersTarget, AnswersWalk, IsCallNext, IsFree, at_page, behind_stretches, behind_work, call_stretches_at, call_work, is_by_source, page_stretch, page_work_at};
 
 use crate::found::Collected;
@@ -45,11 +46,10 @@ fn push_slice<'a>(
     to: u32,
     form: ItemForm,
 ) -> Result<(), NoMemory>
-    ensures adds { OnOk result ((page : List ℕ) (p : ℕ) (s : Bool) → IsReading text_mode.Page page reader.entry p s → from < to
+    ensures { OnOk result ((page : List ℕ) (p : ℕ) (s : Bool) → IsReading text_mode.Page page reader.entry p s → CanBeCut page from to → from < to
         → Adds found.old found.new from (own (items_by form None (slice_range page from to)) ∷ []) to) }
-    ensures within { OnOk result (to ≤ length reader.entry.text.text.now) }
 {
-    let text = reader.slice(from, to)?;
+    let text = reader.slice(from, to);
     found.push_own(text, form)
 }
 
@@ -60,10 +60,10 @@ fn push_chunk<'a>(
     kind: LexKind,
     to: u32,
 ) -> Result<(), NoMemory>
-    ensures { OnOk result ((page : List ℕ) (p : ℕ) (s : Bool) → IsReading text_mode.Page page reader.entry p s → p < to
+    ensures { OnOk result ((page : List ℕ) (p : ℕ) (s : Bool) → IsReading text_mode.Page page reader.entry p s → CanBeCut page p to → p < to
         → Adds found.old found.new p (own (lexeme_items text_mode.Page kind (slice_range page p to)) ∷ []) to) }
 {
-    let text = reader.slice(reader.cursor.at, to)?;
+    let text = reader.slice(reader.cursor.at, to);
     push_slice(
         found,
         reader,
@@ -74,19 +74,21 @@ fn push_chunk<'a>(
 }
 
 /// Whether a call is a function.
-fn begins_function(reader: Reader<'_>, call: Braces<'_>) -> Result<bool, NoMemory>
-    ensures { IfOk result (λ b. b ≡ is_function (slice_range reader.entry.text.text.now call.entry.at.start call.entry.at.end)) }
+fn begins_function(reader: Reader<'_>, call: Braces<'_>) -> bool
+    ensures { CanBeCut reader.entry.text.text.now call.entry.at.start call.entry.at.end
+        → result ≡ is_function (slice_range reader.entry.text.text.now call.entry.at.start call.entry.at.end) }
 {
-    let source = reader.slice(call.at.start, call.at.end)?;
-    Ok(is_function(source.as_str().as_bytes()))
+    let source = reader.slice(call.at.start, call.at.end);
+    is_function(source.as_str().as_bytes())
 }
 
 /// Whether a call is a function by text.
-fn begins_choice(reader: Reader<'_>, call: Braces<'_>) -> Result<bool, NoMemory>
-    ensures { IfOk result (λ b. b ≡ is_some (function_of (drop 2 (slice_range reader.entry.text.text.now call.entry.at.start call.entry.at.end)))) }
+fn begins_choice(reader: Reader<'_>, call: Braces<'_>) -> bool
+    ensures { CanBeCut reader.entry.text.text.now call.entry.at.start call.entry.at.end
+        → result ≡ is_some (function_of (drop 2 (slice_range reader.entry.text.text.now call.entry.at.start call.entry.at.end))) }
 {
-    let source = reader.slice(call.at.start, call.at.end)?;
-    Ok(function_named(source.as_str().as_bytes()).is_some())
+    let source = reader.slice(call.at.start, call.at.end);
+    function_named(source.as_str().as_bytes()).is_some()
 }
 
 impl<'a> PageWalk<'a> {
@@ -129,9 +131,9 @@ impl<'a> PageWalk<'a> {
         ensures names { OnOk result (self.new.expansion.names ≡ self.old.expansion.names) }
     {
         let mut reader = reader;
-        'steps: while reader.cursor.at < end {
+        'steps: while reader.is_before(end) {
             let to = self.step(folder, reader, end)?;
-            reader = reader.seek(to)?;
+            reader = reader.seek(to);
         }
         Ok(())
     }
@@ -144,7 +146,8 @@ impl<'a> PageWalk<'a> {
         reader: Reader<'a>,
         end: u32,
     ) -> Result<u32, ExpandRefusal>
-        requires { reader.cursor.at < end }
+        requires before { reader.cursor.at < end }
+        requires some { 0 < bytes_left reader }
         ensures given { (pages : Pages) (page : List ℕ) (met : List (List ℕ)) (p : ℕ) (s : Bool) (xs : List TextMember)
             → Concerns (F.pages folder.old) pages self.new.expansion.store result → IsFree pages met self.old.expansion
             → IsReading text_mode.Page page reader.entry p s → IsStretchOf text_mode.Page page p end xs
@@ -177,6 +180,7 @@ impl<'a> PageWalk<'a> {
         reader: Reader<'a>,
         call: Braces<'a>,
     ) -> Result<(), ExpandRefusal>
+        requires { 0 < bytes_left reader }
         ensures given { (pages : Pages) (page : List ℕ) (met : List (List ℕ)) (s : Bool) (n : IsCallNext page call.entry reader.entry s)
             → Concerns (F.pages folder.old) pages self.new.expansion.store result → IsFree pages met self.old.expansion
             → AnswersWalk pages page (ledger self.old.expansion.spent met (F.answered folder.old))
@@ -191,11 +195,11 @@ impl<'a> PageWalk<'a> {
         if call.argument {
             return self.without_target(folder, reader, call);
         }
-        let choice = begins_choice(reader, call)?;
+        let choice = begins_choice(reader, call);
         if choice {
             return self.without_target(folder, reader, call);
         }
-        let function = begins_function(reader, call)?;
+        let function = begins_function(reader, call);
         if function {
             push_slice(
                 &mut self.found,
@@ -228,7 +232,7 @@ impl<'a> PageWalk<'a> {
         ensures count { IsCounted (F.fault_count folder.old) (F.fault_count folder.new) result }
         ensures names { OnOk result (self.new.expansion.names ≡ self.old.expansion.names) }
     {
-        let source = reader.slice(call.at.start, call.at.end)?;
+        let source = reader.slice(call.at.start, call.at.end);
         let values = Values::new(self.alloc);
         let scope = Scope {
             mode: Mode::Page,
@@ -249,6 +253,7 @@ impl<'a> PageWalk<'a> {
         reader: Reader<'a>,
         call: Braces<'a>,
     ) -> Result<(), ExpandRefusal>
+        requires { 0 < bytes_left reader }
         ensures given { (pages : Pages) (page : List ℕ) (met : List (List ℕ)) (s : Bool) (n : IsCallNext page call.entry reader.entry s)
             → Concerns (F.pages folder.old) pages self.new.expansion.store result → IsFree pages met self.old.expansion
             → call.entry.argument ≡ false
@@ -284,6 +289,7 @@ impl<'a> PageWalk<'a> {
         call: Braces<'a>,
         part: PartAt,
     ) -> Result<Option<Title>, ExpandRefusal>
+        requires { 0 < bytes_left reader }
         ensures given { (pages : Pages) (page : List ℕ) (met : List (List ℕ)) (s : Bool) (n : IsCallNext page call.entry reader.entry s)
             → Concerns (F.pages folder.old) pages self.new.expansion.store result → IsFree pages met self.old.expansion
             → slice_get call.entry.parts.now 0 ≡ Some part
@@ -304,7 +310,7 @@ impl<'a> PageWalk<'a> {
             ItemForm::Chars,
         )?;
         let begun = self.found.pieces.len();
-        self.stretch(folder, reader.within(part.at.start)?, part.at.end)?;
+        self.stretch(folder, reader.within(part.at.start), part.at.end)?;
         let title = title_of_target(self.alloc, self.found.pieces_from(begun))?;
         Ok(title)
     }
@@ -318,6 +324,7 @@ impl<'a> PageWalk<'a> {
         call: Braces<'a>,
         part: PartAt,
     ) -> Result<(), ExpandRefusal>
+        requires { 0 < bytes_left reader }
         ensures given { (pages : Pages) (page : List ℕ) (met : List (List ℕ)) (s : Bool) (n : IsCallNext page call.entry reader.entry s)
             → Concerns (F.pages folder.old) pages self.new.expansion.store result → IsFree pages met self.old.expansion
             → slice_get call.entry.parts.now 0 ≡ Some part
@@ -333,7 +340,7 @@ impl<'a> PageWalk<'a> {
     {
         let braces = part.at.start.saturating_sub(call.at.start);
         let end = call.at.end.saturating_sub(braces);
-        self.stretch(folder, reader.seek(part.at.end)?, end)?;
+        self.stretch(folder, reader.seek(part.at.end), end)?;
         push_slice(&mut self.found, reader, end, call.at.end, ItemForm::Chars)?;
         Ok(())
     }
@@ -358,7 +365,7 @@ impl<'a> PageWalk<'a> {
         ensures count { IsCounted (F.fault_count folder.old) (F.fault_count folder.new) result }
         ensures names { OnOk result (self.new.expansion.names ≡ self.old.expansion.names) }
     {
-        let source = reader.slice(call.at.start, call.at.end)?;
+        let source = reader.slice(call.at.start, call.at.end);
         let href = href_of(self.alloc, &title)?;
         let values = Values::new(self.alloc);
         let called = PageCall {

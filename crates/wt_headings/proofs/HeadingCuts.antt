@@ -1,9 +1,9 @@
 -- A heading's line can be cut behind its open delimiter and before its close delimiter: signs stand there, or its end.
-use Rattle.std.proofs.Common.{◌≡◌, ℕ, zero, suc, ◌+◌, ◌-◌, ◌/◌, ◌<◌, ◌≤◌, Bool, true, false, List, [], ◌∷◌, length, take, drop, map, get_or, refl, sym, ap, ◌∙◌, subst, arith, inl, ⊎_elim, length-drop}
+use Rattle.std.proofs.Common.{◌≡◌, ℕ, zero, suc, ◌+◌, ◌-◌, ◌/◌, ◌<◌, ◌≤◌, Bool, true, false, List, [], ◌∷◌, length, take, drop, map, get_or, refl, sym, ap, ◌∙◌, subst, arith, inl, inr, ⊎_elim, length-drop}
 use Rattle.std.specs.Prelude.{◌⊎◌, ◌==◌, min, reverse, slice_get, if◌then◌else◌}
 use Rattle.std.specs.List.{prefix_len}
 use Rattle.std.proofs.lemmas.Bool.Decides.{nat_tests}
-use Rattle.std.proofs.lemmas.List.{get_or-take, get_or-drop, get_or-reverse, length-take-le, length-reverse, length-map, drop-map, drop-drop}
+use Rattle.std.proofs.lemmas.List.{get_or-take, get_or-drop, get_or-reverse, length-take-le, length-reverse, length-map, drop-drop}
 use Rattle.std.proofs.lemmas.List.Sums.{prefix_len-le-length, prefix_len_passes}
 use Rattle.wt_span.specs.Bytes.{is_blank, blank_len}
 use Rattle.wt_span.specs.Items.{Item, char, whole, sign}
@@ -13,8 +13,10 @@ use Rattle.wt_blocks.specs.Headings.{equals, core, level_of, open_len, trimmed_l
 use Rattle.wt_tree.specs.declared.kind.Kind.TheVariants as kind
 use Rattle.wt_inline.specs.ItemTree.{plain, inner, forest}
 use Rattle.wt_context.specs.Line.{line_trees}
+use Rattle.wt_tiles.specs.Cutting.{IsEdgeIn}
 use Rattle.wt_headings.specs.Headings.{heading}
 use Rattle.wt_headings.specs.Cuts.{IsOpenCut, IsInsideCut, heading_by}
+use Rattle.wt_headings.proofs.LowSigns.{low_sign}
 
 -- ---- signs by place
 
@@ -158,11 +160,18 @@ inside_sign ss s =
 
 -- ---- on items
 
+edge_before : (xs : List Item) (n : ℕ) → 0 < n → n - 1 < length xs → get_or (map sign xs) (n - 1) 0 < 128 → IsEdgeIn xs n
+edge_before xs zero s w l = absurd (omega arith)
+edge_before xs (suc k) s w l =
+    let z : suc k - 1 ≡ k = omega arith in
+    inr (inr (low_sign xs k (omega (arith, w, z)) (subst (λ (i : ℕ). get_or (map sign xs) i 0 < 128) z l)))
+
 pub open_cut : (xs : List Item) (n : ℕ) → n ≡ open_len (core (map sign xs)) → IsOpenCut n xs
 open_cut xs n e s =
     let o : 0 < open_len (core (map sign xs)) = subst (λ (k : ℕ). 0 < k) e s in
     let is = open_sign (map sign xs) o in
-    subst (λ (k : ℕ). (k - 1 < length xs) × (get_or (map sign xs) (k - 1) 0 < 128)) (sym e) (omega (arith, is.0, length-map xs sign), is.1)
+    subst (λ (k : ℕ). 0 < k → IsEdgeIn xs k) (sym e)
+    (λ pos. edge_before xs (open_len (core (map sign xs))) pos (omega (arith, is.0, length-map xs sign)) is.1) s
 
 pub inside_cut : (xs : List Item) (n m : ℕ) → n ≡ open_len (core (map sign xs)) → m ≡ inside_len (core (map sign xs)) → IsInsideCut n m xs
 inside_cut xs n m en em s =
@@ -186,22 +195,3 @@ pub heading_is : (xs : List Item) (l o i : ℕ) → l ≡ level_of (core (map si
 heading_is xs l o i el eo ei =
     ap (λ n. heading_by n o i xs) el ∙ ap (λ n. heading_by (level_of (core (map sign xs))) n i xs) eo
     ∙ ap (λ n. heading_by (level_of (core (map sign xs))) (open_len (core (map sign xs))) n xs) ei ∙ heading_cut xs
-
-get_past : (n m : ℕ) (xs : List Item) → slice_get (drop n xs) m ≡ slice_get xs (n + m)
-get_past zero m xs = let z : 0 + m ≡ m = omega arith in ap (slice_get xs) (sym z)
-get_past (suc n) m [] = refl
-get_past (suc n) m (x ∷ xs) = let z : suc n + m ≡ suc (n + m) = omega arith in get_past n m xs ∙ ap (slice_get (x ∷ xs)) (sym z)
-
-pub inside_border : (xs ys : List Item) (n m : ℕ) → ys ≡ drop n xs → IsInsideCut n m xs → 0 < m → begins_char (slice_get ys m) ≡ true
-inside_border xs ys n m e h s = ap begins_char (ap (λ zs. slice_get zs m) e ∙ get_past n m xs) ∙ h s
-
--- an ASCII character begins there
-pub low_border : (xs : List Item) (i : ℕ) → get_or (map sign xs) i 0 < 128 → begins_char (slice_get xs i) ≡ true
-low_border xs i h = low_is xs i (λ l. inl h)
-
-pub low_past : (xs ys : List Item) (i : ℕ) → ys ≡ drop i xs → get_or (map sign xs) i 0 < 128 → get_or (map sign ys) 0 0 < 128
-low_past xs ys i e h =
-    let z : i + 0 ≡ i = omega arith in
-    let is : get_or (map sign ys) 0 0 ≡ get_or (map sign xs) i 0 = ap (λ zs. get_or (map sign zs) 0 0) e
-    ∙ ap (λ ss. get_or ss 0 0) (sym (drop-map sign i xs)) ∙ get_or-drop i (map sign xs) 0 0 ∙ ap (λ k. get_or (map sign xs) k 0) z in
-    subst (λ (b : ℕ). b < 128) (sym is) h

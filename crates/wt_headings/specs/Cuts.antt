@@ -1,9 +1,10 @@
 -- How the pieces of a heading are cut.
-use Rattle.std.specs.Prelude.{◌≡◌, ◌<◌, ◌+◌, ◌-◌, ◌^◌, ℕ, true, All, List, length, map, take, drop, slice_get, slice_index}
+use Rattle.std.specs.Prelude.{◌≡◌, ◌<◌, ◌+◌, ◌^◌, ℕ, true, All, List, length, take, drop, slice_get}
 use Rattle.wt_span.specs.declared.form.Piece.{Piece}
-use Rattle.wt_span.specs.Items.{Item, sign, items, sources}
+use Rattle.wt_span.specs.Items.{Item, items, sources}
 use Rattle.wt_span.specs.Origins.{IsSoundPiece}
 use Rattle.wt_lines.specs.Pieces.{AllParted, begins_char}
+use Rattle.wt_tiles.specs.Cutting.{IsEdgeIn}
 use Rattle.wt_tree.specs.declared.kind.Kind.TheVariants as kind
 use Rattle.wt_inline.specs.ItemTree.{plain, ItemTree, inner, forest}
 use Rattle.wt_context.specs.Line.{line_trees}
@@ -20,9 +21,9 @@ heading_by level open_len inside_len line =
     let rest = drop open_len line in
     inner (plain (kind.Heading level)) (take open_len line) (forest (line_trees (take inside_len rest))) (drop inside_len rest)
 
--- an ASCII character, if anything, comes before a cut
+-- no character lies on both sides of a cut
 abbrev pub IsOpenCut : ℕ → List Item → Type 0
-IsOpenCut n xs = 0 < n → (n - 1 < length xs) × (slice_index (map sign xs) (n - 1) < 128)
+IsOpenCut n xs = 0 < n → IsEdgeIn xs n
 
 -- after the first so many items and so many more a character begins
 abbrev pub IsInsideCut : ℕ → ℕ → List Item → Type 0

@@ -6,12 +6,13 @@ ghost use Rattle.wt_inline.specs.View.{item_tree};
 ghost use Rattle.wt_headings.specs.Headings.{heading};
 ghost use Rattle.wt_headings.specs.Cuts.{AreReady, IsOpenCut, IsInsideCut, heading_by};
 
-use crate::split::{split_before, split_behind};
+use crate::split::split_before;
 use std::alloc::Global;
 use wt_blocks::{HeadingCuts, heading_cuts};
-use wt_context::line_children;
+use wt_context::{line_children, take_some};
 use wt_inline::{NodeHead, PieceTree};
 use wt_span::{NoMemory, Piece};
+use wt_tiles::Rest;
 use wt_tree::Kind;
 
 /// A heading that is cut here, of its line from the first `=` on.
@@ -25,7 +26,8 @@ fn heading_by<'a>(
     requires inside { IsInsideCut cuts.open_len cuts.inside_len (items line.now) }
     ensures { IfOk result (λ t. item_tree t ≡ heading_by cuts.level cuts.open_len cuts.inside_len (items line.now)) }
 {
-    let (opening, rest) = split_behind(alloc, line, cuts.open_len)?;
+    let (opening, behind) = take_some(alloc, Rest::of(line), cuts.open_len)?;
+    let rest = behind.all(alloc)?;
     let (inside, closing) = split_before(alloc, rest.as_slice(), cuts.inside_len)?;
     let children = line_children(alloc, inside.as_slice())?;
     Ok(PieceTree {

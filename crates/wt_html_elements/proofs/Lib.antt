@@ -8,5 +8,6 @@ pub mod Standing
 pub mod Reasons
 pub mod Going
 pub mod Runs
+pub mod Lanes
 pub mod Feeding
 pub mod Answering

@@ -11,6 +11,7 @@ mod laws;
 mod machine;
 mod reader;
 mod reading;
+mod run;
 mod signs;
 mod tag;
 mod whole;

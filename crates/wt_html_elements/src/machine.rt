@@ -14,6 +14,7 @@ ghost use Rattle.wt_html_elements.specs.Built.{building};
 use crate::builder::Builder;
 use crate::escape::{EscapeAt, TurnTo, turn};
 use crate::fault::mended;
+use crate::run::{text_run_len, value_run_len};
 use crate::signs::{
     is_attribute_byte, is_lower, is_name_byte, is_plain_text, is_plain_value, is_quote, is_space,
     is_void,
@@ -63,32 +64,6 @@ fn doctype() -> &'static [u8]
     ensures { result.now ≡ codes "doctype html>" }
 {
     b"doctype html>"
-}
-
-/// How many bytes at the front stand for themselves in a text.
-fn text_run_len(bytes: &[u8]) -> usize
-    ensures run { list_all (is_plain in_text) (take result bytes.now) ≡ true }
-    ensures within { result ≤ length bytes.now }
-{
-    for (i, byte) in bytes.iter().enumerate() {
-        if !is_plain_text(*byte) {
-            return i;
-        }
-    }
-    bytes.len()
-}
-
-/// How many bytes at the front stand for themselves in a value in this quote.
-fn value_run_len(quote: u8, bytes: &[u8]) -> usize
-    ensures run { list_all (is_plain (in_value quote)) (take result bytes.now) ≡ true }
-    ensures within { result ≤ length bytes.now }
-{
-    for (i, byte) in bytes.iter().enumerate() {
-        if !is_plain_value(quote, *byte) {
-            return i;
-        }
-    }
-    bytes.len()
 }
 
 impl Machine {

@@ -6,7 +6,7 @@ use Rattle.std.specs.Option.{option_map}
 use Rattle.wt_tree.specs.declared.kind.Kind.{Kind}
 use Rattle.wt_tree.specs.Kinds.{is_block}
 use Rattle.wt_tree.specs.Tree.{Label, Tree, label}
-use Rattle.wt_tree.specs.Recut.{text_leaf, sep_leaf}
+use Rattle.wt_tree.specs.Leaves.{text_leaf, sep_leaf}
 use Rattle.wt_datamw.specs.declared.sync.Sync.{Sync}
 use Rattle.wt_html_grammar.specs.Markup.{Pair, Markup, Markups, text, node}
 use Rattle.wt_schema.specs.declared.why.FitWhy.TheVariants as why

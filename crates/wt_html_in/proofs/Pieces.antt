@@ -5,7 +5,7 @@ use Rattle.wt_tree.specs.Tree.{Label, Tree, tree, Trees, none, more}
 use Rattle.wt_tree.specs.View.{label_of, view, views}
 use Rattle.wt_tree.specs.declared.node.Node.{Node, Node-F, out-Node, roll-Node, out-roll-Node}
 use Rattle.wt_tree.proofs.Views.{view_out}
-use Rattle.wt_tree.specs.Recutting.{appended}
+use Rattle.wt_recut.specs.Recutting.{appended}
 use Rattle.wt_schema.specs.Groups.{Piece, single, begun, further, furthers, gathered}
 use Rattle.wt_html_in.specs.Gathering.{with_child, into_last, gathered_with}
 use Rattle.wt_html_in.proofs.Blocks.{Moves}

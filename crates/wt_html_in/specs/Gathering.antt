@@ -2,7 +2,7 @@
 -- the group before it.
 use Rattle.std.specs.Prelude.{Option, Some, None}
 use Rattle.wt_tree.specs.Tree.{Tree, tree, Trees, none, more}
-use Rattle.wt_tree.specs.Recutting.{appended}
+use Rattle.wt_recut.specs.Recutting.{appended}
 use Rattle.wt_schema.specs.Groups.{Piece, single, begun, further}
 
 abbrev pub with_child : Tree → Tree → Tree

@@ -2,7 +2,7 @@ ghost use Rattle.std.specs.Prelude.{◌≡◌, true, Some, None, option_map, IfO
 ghost use Rattle.std.specs.Str.{is_utf8};
 ghost use Rattle.wt_tree.specs.Tree.{tree, none as no_trees};
 ghost use Rattle.wt_tree.specs.View.{view, views, texts_of};
-ghost use Rattle.wt_tree.specs.Recut.{text_leaf, sep_leaf};
+ghost use Rattle.wt_tree.specs.Leaves.{text_leaf, sep_leaf};
 ghost use Rattle.wt_schema.specs.Fit.{leaf_in, source_of};
 ghost use Rattle.wt_html_nodes.specs.Heads.{label_of_head};
 ghost use Rattle.wt_html_in.specs.Fits.{held_in};
@@ -13,8 +13,9 @@ use bumpalo::Bump;
 use std::alloc::Global;
 use wt_datamw::Sync;
 use wt_html_nodes::{Head, holds_text, shows_text, text_of};
+use wt_recut::recut_texts;
 use wt_span::{List, NoMemory, Str};
-use wt_tree::{Kind, More, Node, Ranges, Shown, Slices, Source, Texts, recut_texts};
+use wt_tree::{Kind, More, Node, Ranges, Shown, Slices, Source, Texts};
 
 fn text_leaf<'a>(alloc: Global, arena: &'a Bump<Global>, text: &str) -> Result<Node<'a>, NoMemory>
     ensures { IfOk result (λ n. view n ≡ text_leaf None text.now) }

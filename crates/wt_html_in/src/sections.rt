@@ -3,7 +3,7 @@
 
 ghost use Rattle.std.specs.Prelude.{◌≡◌, true, false, filter, IfOk, OnOk};
 ghost use Rattle.wt_tree.specs.Opened.{opened, opened_before, without_sections};
-ghost use Rattle.wt_tree.specs.Recutting.{appended};
+ghost use Rattle.wt_recut.specs.Recutting.{appended};
 ghost use Rattle.wt_tree.specs.Tree.{none as no_trees};
 ghost use Rattle.wt_tree.specs.View.{view, views as trees};
 ghost use Rattle.wt_html_elements.specs.Built.{pair, pairs, view_content, views};

@@ -2,7 +2,7 @@ ghost use Rattle.std.specs.Prelude.{◌≡◌, ◌+◌, ◌<◌, ◌^◌, ◌&&�
 ghost use Rattle.std.specs.Str.{is_utf8};
 ghost use Rattle.wt_tree.specs.Tree.{tree, none as no_trees, more as one_more};
 ghost use Rattle.wt_tree.specs.View.{view, views as trees};
-ghost use Rattle.wt_tree.specs.Recutting.{appended};
+ghost use Rattle.wt_recut.specs.Recutting.{appended};
 ghost use Rattle.wt_html_elements.specs.Built.{view_content, pairs, views};
 ghost use Rattle.wt_schema.specs.Groups.{is_grouped, single};
 ghost use Rattle.wt_schema.specs.Fit.{leaf_in, row_as, fit_row, elements, elements_of_all};

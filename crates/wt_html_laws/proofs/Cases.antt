@@ -7,7 +7,7 @@ use Rattle.wt_tree.specs.declared.kind.Kind.{Kind}
 use Rattle.wt_tree.specs.declared.kind.Kind.TheVariants as kind
 use Rattle.wt_tree.specs.declared.node.DataMw.TheVariants as mw
 use Rattle.wt_tree.specs.Kinds.{spelling, tag_name, attribute_name}
-use Rattle.wt_tree.specs.Recut.{leaf_label}
+use Rattle.wt_tree.specs.Leaves.{leaf_label}
 use Rattle.wt_tree.specs.Tree.{Tree, tree, Trees, none, more}
 use Rattle.wt_tree.specs.Values.{placeholder, switch_prefix, is_switch}
 use Rattle.wt_datamw.specs.MwRead.{is_mw_shape, has_small_numbers, mw_of_data, mw_told}

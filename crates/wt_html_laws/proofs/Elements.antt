@@ -8,7 +8,7 @@ use Rattle.wt_tree.specs.declared.kind.Kind.TheVariants as kind
 use Rattle.wt_tree.specs.declared.node.DataMw.{DataMw}
 use Rattle.wt_tree.specs.Kinds.{may_follow}
 use Rattle.wt_tree.specs.Tree.{Label, Tree, tree}
-use Rattle.wt_tree.specs.Recut.{text_leaf, sep_leaf}
+use Rattle.wt_tree.specs.Leaves.{text_leaf, sep_leaf}
 use Rattle.wt_datamw.specs.declared.sync.Sync.{Sync}
 use Rattle.wt_html_grammar.specs.Markup.{Pair, Markup, Markups, text, node, empty, more}
 use Rattle.wt_schema.specs.declared.why.FitWhy.TheVariants as why

@@ -7,7 +7,7 @@ use Rattle.wt_tree.specs.declared.row.Placement.{Placement}
 use Rattle.wt_tree.specs.declared.row.Placement.TheVariants as class
 use Rattle.wt_tree.specs.declared.row.Holding.TheVariants.{Blocks}
 use Rattle.wt_tree.specs.Kinds.{shape, is_class, is_anywhere, admits, may_hold, is_inline}
-use Rattle.wt_tree.specs.Recut.{sep_leaf}
+use Rattle.wt_tree.specs.Leaves.{sep_leaf}
 use Rattle.wt_html_grammar.specs.Markup.{Markups}
 use Rattle.wt_schema.specs.declared.standing.Standing.{Standing}
 use Rattle.wt_schema.specs.Fit.{leaf_in, fits_place}

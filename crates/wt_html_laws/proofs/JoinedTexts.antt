@@ -9,7 +9,8 @@ use Rattle.wt_tree.specs.declared.kind.Kind.TheVariants as kind
 use Rattle.wt_tree.specs.Kinds.{is_section}
 use Rattle.wt_tree.specs.Opened.{opened_before, all_opened_before, opened}
 use Rattle.wt_tree.specs.Plain.{Plains, plain_before, plains_before}
-use Rattle.wt_tree.specs.Recut.{is_white, is_blank, sep_leaf}
+use Rattle.wt_tree.specs.Leaves.{sep_leaf}
+use Rattle.wt_recut.specs.Recut.{is_white, is_blank}
 use Rattle.wt_tree.specs.Source.{flat, flat_of_all}
 use Rattle.wt_tree.specs.Tree.{Tree, tree, Trees, none as no_trees, more as one_more}
 use Rattle.wt_html_grammar.specs.Markup.{Markups, text, node, empty, more}

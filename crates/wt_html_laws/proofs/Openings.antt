@@ -7,7 +7,8 @@ use Rattle.wt_tree.specs.declared.kind.Kind.{Kind}
 use Rattle.wt_tree.specs.declared.kind.Kind.TheVariants as kind
 use Rattle.wt_tree.specs.Kinds.{is_section}
 use Rattle.wt_tree.specs.Opened.{opened_before as tree_opened_before, all_opened_before as trees_opened_before}
-use Rattle.wt_tree.specs.Recut.{is_blank, sep_leaf}
+use Rattle.wt_tree.specs.Leaves.{sep_leaf}
+use Rattle.wt_recut.specs.Recut.{is_blank}
 use Rattle.wt_tree.specs.Tree.{Label, Tree, tree, Trees, none as no_trees, more as one_more}
 use Rattle.wt_html_grammar.specs.Markup.{Pair, Markups, text, node, empty, more}
 use Rattle.wt_schema.specs.declared.why.FitWhy.TheVariants as why

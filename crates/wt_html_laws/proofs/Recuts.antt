@@ -3,7 +3,8 @@ use Rattle.std.proofs.Common.{◌≡◌, ℕ, Bool, true, false, Option, List, [
 use Rattle.std.specs.Prelude.{◌||◌, ◌++◌, if◌then◌else◌, length}
 use Rattle.std.proofs.lemmas.Bool.{or_parts, or_from}
 use Rattle.wt_tree.specs.declared.kind.Ranges.{Ranges}
-use Rattle.wt_tree.specs.Recut.{is_blank, text_leaf, sep_leaf, is_text, is_border, leads_to_block, front_ranges, rest_ranges, joined_ranges, text_onto, joined_texts, from_start, front_of, rest_of, parts_before, text_before, cut_from, recut}
+use Rattle.wt_tree.specs.Leaves.{text_leaf, sep_leaf}
+use Rattle.wt_recut.specs.Recut.{is_blank, is_text, is_border, leads_to_block, front_ranges, rest_ranges, joined_ranges, text_onto, joined_texts, from_start, front_of, rest_of, parts_before, text_before, cut_from, recut}
 use Rattle.wt_tree.specs.Tree.{Tree, Trees, none, more, label}
 use Rattle.wt_checks.specs.PutBack.{has_frame, have_frame}
 

@@ -4,7 +4,7 @@ use Rattle.wt_tree.specs.declared.node.DataMw.{DataMw}
 use Rattle.wt_datamw.specs.declared.sync.Sync.{Sync}
 use Rattle.wt_html_grammar.specs.Markup.{Markup, text, node}
 use Rattle.wt_schema.specs.Data.{Data as NodeData}
-use Rattle.wt_tree.specs.Recut.{is_blank}
+use Rattle.wt_recut.specs.Recut.{is_blank}
 use Rattle.wt_html_nodes.specs.declared.data.SyncData.{SyncData}
 use Rattle.wt_html_nodes.specs.declared.data.SyncData.TheVariants as syncs
 use Rattle.wt_html_nodes.specs.declared.data.MwData.{MwData}

@@ -1,10 +1,11 @@
-ghost use Rattle.std.specs.Prelude.{◌≡◌, option_map};
+ghost use Rattle.std.specs.Prelude.{◌≡◌, ℕ, ◌&&◌, List, ◌∷◌, Option, find, length, drop, option_map};
 ghost use Rattle.std.specs.Str.{bytes_eq};
 ghost use Rattle.wt_html_elements.specs.Built.{pairs, view_content, views};
-ghost use Rattle.wt_tree.specs.Kinds.{fixed_of, level_digits};
-ghost use Rattle.wt_schema.specs.Rows.{values_at, agrees, is_value, agrees_by, tells, is_named, is_row, row_by, row, holds_text, shows_text};
+ghost use Rattle.wt_span.specs.Bytes.{begins};
+ghost use Rattle.wt_tree.specs.Kinds.{fixed_of, level_digits, order, spelling_of};
+ghost use Rattle.wt_schema.specs.Rows.{values_at, agrees, is_value, agrees_by, is_row, row_by, row, holds_text, shows_text};
 ghost use Rattle.wt_schema.specs.Sections.{is_section_name};
-ghost use Rattle.wt_tree.specs.Recut.{is_blank};
+ghost use Rattle.wt_recut.specs.Recut.{is_blank};
 ghost use Rattle.wt_schema.specs.Fit.{are_blank, text_fits};
 ghost use Rattle.wt_html_nodes.specs.Told.{is_blank_or_element};
 
@@ -12,52 +13,47 @@ use crate::attributes::value_of;
 use crate::typed::{is_needed, is_word, passes};
 use wt_html_elements::{Attribute, Content};
 use wt_span::rest_of;
-use wt_tree::{AttrName, Fixed, Kind, Own, TagName, Texts, Values};
+use wt_tree::{AttrName, Fixed, Kind, Own, Spelling, TagName, Texts, Values};
 
-/// The kinds whose elements are read by their rows.
-const READ_KINDS: [Kind; 41] = [
-    Kind::Para,
-    Kind::WikiLink,
-    Kind::ExtLink,
-    Kind::Bold,
-    Kind::Italic,
-    Kind::Entity,
-    Kind::Nowiki,
-    Kind::Island,
-    Kind::Tag(TagName::Span),
-    Kind::Comment,
-    Kind::Include,
-    Kind::Switch,
-    Kind::Skip,
-    Kind::Category,
-    Kind::Br,
-    Kind::Li,
-    Kind::Ul,
-    Kind::Ol,
-    Kind::Dl,
-    Kind::Dt,
-    Kind::Dd,
-    Kind::Td,
-    Kind::Th,
-    Kind::Tr,
-    Kind::Tbody,
-    Kind::Caption,
-    Kind::Table,
-    Kind::Tag(TagName::Sup),
-    Kind::Tag(TagName::Sub),
-    Kind::Tag(TagName::Small),
-    Kind::Tag(TagName::S),
-    Kind::Tag(TagName::U),
-    Kind::Tag(TagName::Code),
-    Kind::Heading(1),
-    Kind::Heading(2),
-    Kind::Heading(3),
-    Kind::Heading(4),
-    Kind::Heading(5),
-    Kind::Heading(6),
-    Kind::Rule,
-    Kind::Pre,
-];
+/// The kinds whose elements are read by their rows, of those the ones whose names begin with this letter.
+fn kinds_from(letter: u8) -> &'static [Kind]
+    ensures { (rest : List ℕ) (type property rel : Option (List ℕ))
+        → find (is_row (letter ∷ rest) type property rel) result.now ≡ row_by (letter ∷ rest) type property rel }
+{
+    match letter {
+        b'a' => &[Kind::WikiLink, Kind::ExtLink],
+        b'b' => &[Kind::Bold, Kind::Br],
+        b'c' => &[Kind::Caption, Kind::Tag(TagName::Code)],
+        b'd' => &[Kind::Dl, Kind::Dt, Kind::Dd],
+        b'h' => &[
+            Kind::Heading(1),
+            Kind::Heading(2),
+            Kind::Heading(3),
+            Kind::Heading(4),
+            Kind::Heading(5),
+            Kind::Heading(6),
+            Kind::Rule,
+        ],
+        b'i' => &[Kind::Italic],
+        b'l' => &[Kind::Category, Kind::Li],
+        b'm' => &[Kind::Comment, Kind::Include, Kind::Switch, Kind::Skip],
+        b'o' => &[Kind::Ol],
+        b'p' => &[Kind::Para, Kind::Pre],
+        b's' => &[
+            Kind::Entity,
+            Kind::Nowiki,
+            Kind::Island,
+            Kind::Tag(TagName::Span),
+            Kind::Tag(TagName::Sup),
+            Kind::Tag(TagName::Sub),
+            Kind::Tag(TagName::Small),
+            Kind::Tag(TagName::S),
+        ],
+        b't' => &[Kind::Td, Kind::Th, Kind::Tr, Kind::Tbody, Kind::Table],
+        b'u' => &[Kind::Ul, Kind::Tag(TagName::U)],
+        _ => &[],
+    }
+}
 
 /// What a row says of the attribute at this place of the order, where a node may have it.
 fn values_at(order: u8, own: &[Own]) -> Option<Values>
@@ -112,11 +108,11 @@ fn agrees_by(order: u8, fixed: Option<Fixed>, own: &[Own], value: Option<&[u8]>)
     }
 }
 
-/// Whether the row of this kind agrees with what the element has under this name.
-fn tells(name: AttrName, value: Option<&[u8]>, kind: Kind) -> bool
-    ensures { result ≡ tells name (option_map (λ v. v.now) value.entry) kind }
+/// Whether a row agrees with what the element has under this name.
+fn tells(name: AttrName, value: Option<&[u8]>, spelling: &Spelling) -> bool
+    ensures { result ≡ agrees_by (order name) (spelling_of spelling.now).fixed (spelling_of spelling.now).own (option_map (λ v. v.now) value.entry) }
 {
-    agrees_by(name.order(), kind.fixed(), kind.own(), value)
+    agrees_by(name.order(), spelling.fixed, spelling.own, value)
 }
 
 fn is_level(digits: &[u8], level: Option<u8>) -> bool
@@ -131,14 +127,14 @@ fn is_level(digits: &[u8], level: Option<u8>) -> bool
     }
 }
 
-fn is_named(name: &[u8], kind: Kind) -> bool
-    ensures { result ≡ is_named name.now kind }
+/// Whether an element of this name is one by this row: its name, and after it the digits of its level.
+fn names(spelling: &Spelling, name: &[u8]) -> bool
+    ensures { result ≡ begins (spelling_of spelling.now).name name.now && bytes_eq (drop (length (spelling_of spelling.now).name) name.now) (level_digits (spelling_of spelling.now).level) }
 {
-    let word = kind.name();
-    if !name.starts_with(word) {
+    if !name.starts_with(spelling.name) {
         return false;
     }
-    is_level(rest_of(name, word.len()), kind.level())
+    is_level(rest_of(name, spelling.name.len()), spelling.level)
 }
 
 fn is_row(
@@ -151,9 +147,28 @@ fn is_row(
     ensures { result ≡ is_row name.now (option_map (λ v. v.now) type_name.entry) (option_map (λ v. v.now) property.entry)
         (option_map (λ v. v.now) rel.entry) kind }
 {
-    is_named(name, kind)
-        && (tells(AttrName::Typeof, type_name, kind)
-            && (tells(AttrName::Property, property, kind) && tells(AttrName::Rel, rel, kind)))
+    let spelling = kind.spelling();
+    names(&spelling, name)
+        && (tells(AttrName::Typeof, type_name, &spelling)
+            && (tells(AttrName::Property, property, &spelling)
+                && tells(AttrName::Rel, rel, &spelling)))
+}
+
+/// The first of these kinds whose row agrees with an element that has this name and these attributes.
+fn first_row(
+    kinds: &[Kind],
+    name: &[u8],
+    type_name: Option<&[u8]>,
+    property: Option<&[u8]>,
+    rel: Option<&[u8]>,
+) -> Option<Kind>
+    ensures { result ≡ find (is_row name.now (option_map (λ v. v.now) type_name.entry) (option_map (λ v. v.now) property.entry)
+        (option_map (λ v. v.now) rel.entry)) kinds.now }
+{
+    kinds
+        .iter()
+        .copied()
+        .find(|kind| is_row(name, type_name, property, rel, *kind))
 }
 
 fn row_by(
@@ -164,10 +179,10 @@ fn row_by(
 ) -> Option<Kind>
     ensures { result ≡ row_by name.now (option_map (λ v. v.now) type_name.entry) (option_map (λ v. v.now) property.entry) (option_map (λ v. v.now) rel.entry) }
 {
-    READ_KINDS
-        .iter()
-        .copied()
-        .find(|kind| is_row(name, type_name, property, rel, *kind))
+    match name.first() {
+        None => None,
+        Some(letter) => first_row(kinds_from(*letter), name, type_name, property, rel),
+    }
 }
 
 /// Whether an element of this name is a section.

@@ -12,11 +12,11 @@ use Rattle.wt_text_edit_laws.proofs.Blocks.BlockSpotFacts.{new_round, typed_over
 use Rattle.wt_inside_laws.specs.TextsReplaced.{Place, replaced_by, replaced_behind, all_replaced}
 use Rattle.wt_inside_laws.proofs.OneText.{typed_front, typed_rest, tree_replaced}
 
-round_front : (ss : List BlockSpot) (xs ys : List BlockSpot) → SameRound xs ys → SameRound (ss ++ xs) (ss ++ ys)
+pub round_front : (ss : List BlockSpot) (xs ys : List BlockSpot) → SameRound xs ys → SameRound (ss ++ xs) (ss ++ ys)
 round_front [] xs ys h = h
 round_front (s ∷ ss) xs ys h = (refl, refl, round_front ss xs ys h)
 
-over_front : (ss : List BlockSpot) (xs ys : List BlockSpot) → AreTypedOver xs ys → AreTypedOver (ss ++ xs) (ss ++ ys)
+pub over_front : (ss : List BlockSpot) (xs ys : List BlockSpot) → AreTypedOver xs ys → AreTypedOver (ss ++ xs) (ss ++ ys)
 over_front [] xs ys h = h
 over_front (s ∷ ss) xs ys h = (inl refl, over_front ss xs ys h)
 
@@ -24,7 +24,7 @@ typed_both : (ss rs : List BlockSpot) → AreBlocks ss → AreBlocks rs → AreB
 typed_both [] rs h k = k
 typed_both (s ∷ ss) rs h k = (h.0, typed_both ss rs h.1 k)
 
-one_more : (front : List BlockSpot) (s : BlockSpot) (rs : List BlockSpot) → (front ++ s ∷ []) ++ rs ≡ front ++ s ∷ rs
+pub one_more : (front : List BlockSpot) (s : BlockSpot) (rs : List BlockSpot) → (front ++ s ∷ []) ++ rs ≡ front ++ s ∷ rs
 one_more front s rs = append_assoc front (s ∷ []) rs
 
 all_behind : (pages : Pages) (front : List BlockSpot) (es : List SpotEdit) (behind : List ℕ) → AreBlockSpots (front ++ old_spots es) behind → AreBlocks (new_spots es)

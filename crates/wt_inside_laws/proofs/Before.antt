@@ -6,7 +6,8 @@ use Rattle.wt_tree.specs.declared.kind.Ranges.{Ranges}
 use Rattle.wt_tree.specs.declared.row.Texts.{Texts}
 use Rattle.wt_tree.specs.declared.row.Texts.TheVariants.{Separators, Page, Bordered, OwnCharacter}
 use Rattle.wt_tree.specs.Kinds.{is_leaf, is_numbered, texts_of_kind}
-use Rattle.wt_tree.specs.Recut.{is_blank, text_leaf, sep_leaf, is_text, is_border, leads_to_block, front_ranges, rest_ranges, joined_ranges, text_onto, joined_texts, from_start, front_of, rest_of, parts_before, text_before, cut_from}
+use Rattle.wt_tree.specs.Leaves.{text_leaf, sep_leaf}
+use Rattle.wt_recut.specs.Recut.{is_blank, is_text, is_border, leads_to_block, front_ranges, rest_ranges, joined_ranges, text_onto, joined_texts, from_start, front_of, rest_of, parts_before, text_before, cut_from}
 use Rattle.wt_tree.specs.Tiling.{is_group}
 use Rattle.wt_tree.specs.Tree.{Tree, tree, Trees, none, more}
 use Rattle.wt_span.specs.Items.{Item}
@@ -35,7 +36,7 @@ abbrev mutual
   AllBelow n b none = Unit {0}
   AllBelow n b (more t ts) = Below n b t × AllBelow n b ts
 
-either : (n b : ℕ) (v : Bool) (us vs : Trees) → AllBelow n b us → AllBelow n b vs → AllBelow n b (cond v us vs)
+pub either : (n b : ℕ) (v : Bool) (us vs : Trees) → AllBelow n b us → AllBelow n b vs → AllBelow n b (cond v us vs)
 either n b true us vs h k = h
 either n b false us vs h k = k
 
@@ -76,7 +77,7 @@ mutual
             (λ all. all_placed_below n b (next_after h.kind m) (before ++ o) ts first (omega (arith, all, next_is v m)) (omega (arith, fits, w, three))),
       )
 
-  all_placed_below : (n b m : ℕ) (before : List Item) (ts : ItemTrees) → 1 ≤ n → m + count_all (all_placed before ts) ≤ n
+  pub all_placed_below : (n b m : ℕ) (before : List Item) (ts : ItemTrees) → 1 ≤ n → m + count_all (all_placed before ts) ≤ n
       → width before + width (held_by_all ts) ≤ b → AllBelow n b (all_with_numbers m (all_placed before ts))
   all_placed_below n b m before nothing first le fits = tt
   all_placed_below n b m before (further t ts) first le fits =
@@ -112,7 +113,7 @@ text_onto_below n b r (c ∷ cs) (more (tree l us) ts) p q h =
     either n b (is_text (tree l us)) (more (sep_leaf (joined_ranges r l.ranges) ((c ∷ cs) ++ l.own)) ts) (more (sep_leaf r (c ∷ cs)) (more (tree l us) ts))
     ((p, joined_ends b r l.ranges q h.0.1, tt), h.1) ((p, q, tt), h)
 
-joined_below : (n b : ℕ) (ts : Trees) → 0 < n → AllBelow n b ts → AllBelow n b (joined_texts ts)
+pub joined_below : (n b : ℕ) (ts : Trees) → 0 < n → AllBelow n b ts → AllBelow n b (joined_texts ts)
 joined_below n b none p h = tt
 joined_below n b (more (tree l vs) ts) p h =
     let us : Trees = joined_texts ts in
@@ -123,7 +124,7 @@ one_leaf : (n b : ℕ) (v : Bool) (r : Option Ranges) (bs : List ℕ) → 0 < n 
 one_leaf n b true r bs p q = (p, q, tt)
 one_leaf n b false r bs p q = (p, q, tt)
 
-parts_below : (n b : ℕ) (r : Option Ranges) (front rest : List ℕ) (ts : Trees) → 0 < n → EndsBy b r → AllBelow n b ts → AllBelow n b (parts_before r front rest ts)
+pub parts_below : (n b : ℕ) (r : Option Ranges) (front rest : List ℕ) (ts : Trees) → 0 < n → EndsBy b r → AllBelow n b ts → AllBelow n b (parts_before r front rest ts)
 parts_below n b r front [] ts p q h = ((p, q, tt), h)
 parts_below n b r [] (c ∷ cs) ts p q h = (one_leaf n b (is_blank (c ∷ cs)) r (c ∷ cs) p q, h)
 parts_below n b r (d ∷ ds) (c ∷ cs) ts p q h =
@@ -157,7 +158,7 @@ mutual
         (as_below n b (texts_of_kind l.kind) (all_cut_texts ts) p (all_texts_below n b ts p h.2)),
   )
 
-  all_texts_below : (n b : ℕ) (ts : Trees) → 0 < n → AllBelow n b ts → AllBelow n b (all_cut_texts ts)
+  pub all_texts_below : (n b : ℕ) (ts : Trees) → 0 < n → AllBelow n b ts → AllBelow n b (all_cut_texts ts)
   all_texts_below n b none p h = tt
   all_texts_below n b (more t ts) p h = (texts_below n b t p h.0, all_texts_below n b ts p h.1)
 
@@ -186,7 +187,7 @@ mutual
       (ap₂ (λ (i : ℕ) (r : Option Ranges). record l { id = i; ranges = r }) (number_not e l.id o h.0) (range_not e b l.ranges p h.1))
       (inside_not (l.id == e.number) (is_group l.kind) e.inside ts (all_with_inside e ts) (test_below l.id e.number h.0) (all_stay e b ts o p h.2))
 
-  all_stay : (e : Edit) (b : ℕ) (ts : Trees) → e.number ≤ e.old_last → b < e.old_end → AllBelow e.number b ts → all_with_inside e ts ≡ ts
+  pub all_stay : (e : Edit) (b : ℕ) (ts : Trees) → e.number ≤ e.old_last → b < e.old_end → AllBelow e.number b ts → all_with_inside e ts ≡ ts
   all_stay e b none o p h = refl
   all_stay e b (more t ts) o p h = ap₂ more (stays e b t o p h.0) (all_stay e b ts o p h.1)
 

@@ -84,7 +84,7 @@ mutual
       (ap₂ (λ (i : ℕ) (r : Option Ranges). record l { id = i; ranges = r }) (number_so e n at m to v l.id h) (range_so e n at m to l.ranges h))
       (inside_so e n at m to (cond v (n + l.id) 0 == e.number) (is_group l.kind) ts (other_so e n at m to v l.id h) (all_shift_moved e n at m to ts h))
 
-  all_shift_moved : (e : Edit) (n at m to : ℕ) (ts : Trees) → IsBehind e n at m to → all_with_inside e (all_shifted n at ts) ≡ all_shifted m to ts
+  pub all_shift_moved : (e : Edit) (n at m to : ℕ) (ts : Trees) → IsBehind e n at m to → all_with_inside e (all_shifted n at ts) ≡ all_shifted m to ts
   all_shift_moved e n at m to none h = refl
   all_shift_moved e n at m to (more t ts) h = ap₂ more (shift_moved e n at m to t h) (all_shift_moved e n at m to ts h)
 

@@ -51,7 +51,7 @@ abbrev items_after : List Item → List ItemTree → List Item
 items_after before [] = before
 items_after before (t ∷ ts) = items_after (items_behind before t) ts
 
-number_up : (n : ℕ) (before : List Item) (ts : List ItemTree) → number_after n before ts ≡ n + count_all (all_placed before (forest ts))
+pub number_up : (n : ℕ) (before : List Item) (ts : List ItemTree) → number_after n before ts ≡ n + count_all (all_placed before (forest ts))
 number_up n before [] = omega arith
 number_up n before (t ∷ ts) =
     let h = number_up (number_behind n before t) (items_behind before t) ts in
@@ -67,7 +67,7 @@ source_after before (t ∷ ts) =
 width_after : (before : List Item) (ts : List ItemTree) → width (items_after before ts) ≡ width before + length (blocks_source ts)
 width_after before ts = ap length (source_after before ts) ∙ length-append (sources before) (blocks_source ts)
 
-blocks_joined : (us vs : List ItemTree) → blocks_source (us ++ vs) ≡ blocks_source us ++ blocks_source vs
+pub blocks_joined : (us vs : List ItemTree) → blocks_source (us ++ vs) ≡ blocks_source us ++ blocks_source vs
 blocks_joined [] vs = refl
 blocks_joined (u ∷ us) vs = ap (λ bs. sources (tree_items u) ++ bs) (blocks_joined us vs) ∙ sym (append_assoc (sources (tree_items u)) (blocks_source us) (blocks_source vs))
 
@@ -103,7 +103,7 @@ none_any : HasAny (leaves (page_items [])) → ⊥
 unfolding page_items words closed
 none_any h = h
 
-filled : (k : TextBlock) (q : List ℕ) → IsBlock k q → 1 ≤ length (source_of k q)
+pub filled : (k : TextBlock) (q : List ℕ) → IsBlock k q → 1 ≤ length (source_of k q)
 filled a_paragraph [] h = absurd (none_any (paragraph_written [] h).2)
 filled a_paragraph (b ∷ bs) h = omega arith
 filled (a_heading s) q h =
@@ -142,31 +142,31 @@ typed_rest (s ∷ ss) rs h = typed_rest ss rs h.1
 
 -- ---- the paragraph, anywhere
 
-anywhere : (n m : ℕ) (before after : List Item) (t : ItemTree) → n ≡ m → width before ≡ width after → standing n before t ≡ standing m after t
+pub anywhere : (n m : ℕ) (before after : List Item) (t : ItemTree) → n ≡ m → width before ≡ width after → standing n before t ≡ standing m after t
 anywhere n m before after t e w =
     standing_shifted n before t
     ∙ ap₂ (λ (k at : ℕ). shifted k at (standing 0 [] t)) e w
     ∙ sym (standing_shifted m after t)
 
-block_count : (after : List Item) (k : TextBlock) (q : List ℕ) → count (placed after (block_tree k q)) ≡ 1 + numbered_inside k q
+pub block_count : (after : List Item) (k : TextBlock) (q : List ℕ) → count (placed after (block_tree k q)) ≡ 1 + numbered_inside k q
 unfolding label_at
 block_count after a_paragraph q = placed_count after [] (block_tree a_paragraph q)
 block_count after (a_heading s) q = placed_count after [] (block_tree (a_heading s) q)
 
-block_width : (k : TextBlock) (q : List ℕ) → IsBlock k q → width (tree_items (block_tree k q)) ≡ length (source_of k q)
+pub block_width : (k : TextBlock) (q : List ℕ) → IsBlock k q → width (tree_items (block_tree k q)) ≡ length (source_of k q)
 block_width k q h = ap length (block_source k q h)
 
-same_number : (n : ℕ) → (n == n) ≡ true
+pub same_number : (n : ℕ) → (n == n) ≡ true
 same_number n = grind (arith, nat_tests)
 
-is_number : (here : Bool) (is ts : Trees) → here ≡ true → cond here is ts ≡ is
+pub is_number : (here : Bool) (is ts : Trees) → here ≡ true → cond here is ts ≡ is
 is_number true is ts h = refl
 is_number false is ts h = absurd (true≢false (sym h))
 
-moved_before : (e : Edit) (at : ℕ) → at < e.old_end → moved e at ≡ at
+pub moved_before : (e : Edit) (at : ℕ) → at < e.old_end → moved e at ≡ at
 moved_before e at h = ap (λ (v : Bool). cond v (e.new_end + (at - e.old_end)) at) (test_not_up e.old_end at h)
 
-moved_behind : (e : Edit) (at to : ℕ) → e.old_end ≤ at → to + e.old_end ≡ e.new_end + at → moved e at ≡ to
+pub moved_behind : (e : Edit) (at to : ℕ) → e.old_end ≤ at → to + e.old_end ≡ e.new_end + at → moved e at ≡ to
 moved_behind e at to h k =
     ap (λ (v : Bool). cond v (e.new_end + (at - e.old_end)) at) (test_up e.old_end at h) ∙ omega (arith, h, k)
 
@@ -227,10 +227,10 @@ block_so p (a_heading s) old new h k = heading_so p s old new h k
 abbrev blocks_with : Place → List ItemTree → TextBlock → List ℕ → List ItemTree
 blocks_with p vs b q = page_blocks p.spots p.before ++ block_tree b q ∷ vs
 
-abbrev body_label : List ItemTree → Label
+abbrev pub body_label : List ItemTree → Label
 body_label ts = sized kind.Body 0 (held_by_all (forest ts) ++ []) [] []
 
-abbrev body_of : List ItemTree → Tree
+abbrev pub body_of : List ItemTree → Tree
 body_of ts = tree (body_label ts) (blocks_of 1 [] ts)
 
 tree_so : (p : Place) (b : TextBlock) (rs : List BlockSpot) (behind q : List ℕ) → AreBlockSpots (spots_with p b q rs) behind
@@ -240,7 +240,7 @@ tree_so p b rs behind q h =
     spots_tree ss behind h
     ∙ ap body_of (sym (as_leaves ss behind (are_typed ss behind h)) ∙ split p.spots rs (record { before = p.before; block = b; text = q }) behind)
 
-body_width : (ts : List ItemTree) → width (held_by_all (forest ts) ++ []) ≡ length (blocks_source ts)
+pub body_width : (ts : List ItemTree) → width (held_by_all (forest ts) ++ []) ≡ length (blocks_source ts)
 body_width ts = ap width (append-nil (held_by_all (forest ts))) ∙ ap length (held_blocks ts)
 
 front_width : (p : Place) → AreBlocks p.spots → length (blocks_source (page_blocks p.spots p.before)) ≡ length (source_before p)

@@ -5,7 +5,8 @@ use Rattle.wt_tree.specs.declared.kind.Ranges.{Ranges}
 use Rattle.wt_tree.specs.declared.row.Texts.{Texts}
 use Rattle.wt_tree.specs.declared.row.Texts.TheVariants.{Separators, Page, Bordered, OwnCharacter}
 use Rattle.wt_tree.specs.Kinds.{is_block, is_leaf, is_numbered, texts_of_kind}
-use Rattle.wt_tree.specs.Recut.{is_blank, has_break, text_leaf, sep_leaf, is_text, shows_block, any_shows_block, is_border, is_passed, leads_to_block, place_in, front_ranges, rest_ranges, joined_ranges, text_onto, onto, joined_texts, from_start, front_of, rest_of, parts_before, text_before, cut_before, cut_from, recut}
+use Rattle.wt_tree.specs.Leaves.{text_leaf, sep_leaf}
+use Rattle.wt_recut.specs.Recut.{is_blank, has_break, is_text, shows_block, any_shows_block, is_border, is_passed, leads_to_block, place_in, front_ranges, rest_ranges, joined_ranges, text_onto, onto, joined_texts, from_start, front_of, rest_of, parts_before, text_before, cut_before, cut_from, recut}
 use Rattle.wt_tree.specs.Tiling.{is_group}
 use Rattle.wt_tree.specs.Tree.{Label, Tree, tree, Trees, none, more}
 use Rattle.wt_span.specs.Items.{Item}
@@ -67,7 +68,7 @@ mutual
       (inside_shifted (width before) (is_group h.kind) (is_leaf h.kind) (all_placed ((before ++ xs) ++ o) ts) (all_placed (xs ++ o) ts) (group_leaf h.kind)
       (ap (λ ys. all_placed ys ts) (append_assoc before xs o) ∙ all_placed_shifted before (xs ++ o) ts))
 
-  all_placed_shifted : (before xs : List Item) (ts : ItemTrees) → all_placed (before ++ xs) ts ≡ all_shifted 0 (width before) (all_placed xs ts)
+  pub all_placed_shifted : (before xs : List Item) (ts : ItemTrees) → all_placed (before ++ xs) ts ≡ all_shifted 0 (width before) (all_placed xs ts)
   all_placed_shifted before xs nothing = refl
   all_placed_shifted before xs (further t ts) =
       ap₂ more (placed_shifted before xs t)
@@ -109,7 +110,7 @@ mutual
       (numbered_by (is_group l.kind) k d (next_after l.kind (k + n)) (next_after l.kind n) ts (next_shifted (is_numbered l.kind) k n)
       (all_numbered_shifted k d (next_after l.kind n) ts))
 
-  all_numbered_shifted : (k d n : ℕ) (ts : Trees) → all_with_numbers (k + n) (all_shifted 0 d ts) ≡ all_shifted k d (all_with_numbers n ts)
+  pub all_numbered_shifted : (k d n : ℕ) (ts : Trees) → all_with_numbers (k + n) (all_shifted 0 d ts) ≡ all_shifted k d (all_with_numbers n ts)
   all_numbered_shifted k d n none = refl
   all_numbered_shifted k d n (more t ts) =
       let c : count (shifted 0 d t) ≡ count t = count_shifted 0 d t in
@@ -167,7 +168,7 @@ onto_same k d (tree l us) ts =
     either k d (is_text (tree l us)) (text_onto l.ranges l.own ts) (more (tree l us) ts) (text_onto (shift_range d l.ranges) l.own (all_shifted k d ts))
     (more (shifted k d (tree l us)) (all_shifted k d ts)) (text_onto_same k d l.ranges l.own ts) refl
 
-joined_same : (k d : ℕ) (ts : Trees) → all_shifted k d (joined_texts ts) ≡ joined_texts (all_shifted k d ts)
+pub joined_same : (k d : ℕ) (ts : Trees) → all_shifted k d (joined_texts ts) ≡ joined_texts (all_shifted k d ts)
 joined_same k d none = refl
 joined_same k d (more t ts) = onto_same k d t (joined_texts ts) ∙ ap (onto (shifted k d t)) (joined_same k d ts)
 
@@ -219,7 +220,7 @@ cut_one k d behind leads (tree l us) ts =
     either k d (is_text (tree l us)) (text_before all l.ranges l.own ts) (more (tree l us) ts) (text_before all (shift_range d l.ranges) l.own (all_shifted k d ts))
     (more (shifted k d (tree l us)) (all_shifted k d ts)) (parts_same k d l.ranges (front_of all l.own) (rest_of all l.own) ts) refl
 
-cut_same : (k d : ℕ) (behind : Bool) (ts : Trees) → all_shifted k d (cut_from behind ts) ≡ cut_from behind (all_shifted k d ts)
+pub cut_same : (k d : ℕ) (behind : Bool) (ts : Trees) → all_shifted k d (cut_from behind ts) ≡ cut_from behind (all_shifted k d ts)
 cut_same k d behind none = refl
 cut_same k d behind (more t ts) =
     cut_one k d behind (leads_to_block ts) t (cut_from (behind || is_border t) ts)
@@ -229,7 +230,7 @@ cut_same k d behind (more t ts) =
 
 -- ---- all texts of a tree
 
-as_same : (k d : ℕ) (x : Texts) (us vs : Trees) → all_shifted k d us ≡ vs → all_shifted k d (cut_as x us) ≡ cut_as x vs
+pub as_same : (k d : ℕ) (x : Texts) (us vs : Trees) → all_shifted k d us ≡ vs → all_shifted k d (cut_as x us) ≡ cut_as x vs
 as_same k d Separators us vs e = e
 as_same k d Page us vs e = e
 as_same k d Bordered us vs e = cut_same k d false (joined_texts us) ∙ ap (cut_from false) (joined_same k d us) ∙ ap recut e
@@ -246,7 +247,7 @@ mutual
   texts_same k d (tree l ts) =
       ap (tree (shift_label k d l)) (texts_by k d (is_group l.kind) (texts_of_kind l.kind) ts (all_cut_texts ts) (all_texts_same k d ts))
 
-  all_texts_same : (k d : ℕ) (ts : Trees) → all_shifted k d (all_cut_texts ts) ≡ all_cut_texts (all_shifted k d ts)
+  pub all_texts_same : (k d : ℕ) (ts : Trees) → all_shifted k d (all_cut_texts ts) ≡ all_cut_texts (all_shifted k d ts)
   all_texts_same k d none = refl
   all_texts_same k d (more t ts) = ap₂ more (texts_same k d t) (all_texts_same k d ts)
 

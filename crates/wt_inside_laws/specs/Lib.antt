@@ -1,1 +1,2 @@
 pub mod TextsReplaced
+pub mod AnyReplaced

@@ -8,6 +8,8 @@ ghost use Rattle.wt_local.specs.Replaced.{with_inside, with_insides};
 ghost use Rattle.wt_text_edit_laws.specs.TextBlocks.{TextBlock};
 ghost use Rattle.wt_text_edit_laws.specs.BlockSpots.{BlockSpot, AreBlockSpots};
 ghost use Rattle.wt_text_edit_laws.specs.BlockEdits.{BlockEdit, old_page, new_page, IsBlockEdit};
+ghost use Rattle.wt_cell_edit_laws.specs.AnyBlocks.{AreSpots};
+ghost use Rattle.wt_inside_laws.specs.AnyReplaced.{ReplacesTexts};
 ghost use Rattle.wt_inside_laws.specs.TextsReplaced.{Place, spots_with, page_with, replaced_by, all_replaced};
 
 /// Where the text of one paragraph or heading of a page with such blocks among any others becomes another text, and
@@ -28,4 +30,13 @@ pub fn only_that_text_is_another()
 pub fn only_these_texts_are_others()
     ensures { (pages : Pages) (e : BlockEdit) → IsBlockEdit e
         → page_tree pages (new_page e) ≡ with_insides (all_replaced e) (page_tree pages (old_page e)) }
+{}
+
+/// And so where they are in cells and captions, too: of an edit that types texts in any paragraphs and headings of a
+/// page, wherever they are, the tree of the new page is that of the old one in which one block's inside after the other
+/// is replaced, the last one first. Each is found by its number, that of the node at its path. What is round it, such as
+/// cells, rows and tables, ends later or earlier, and what comes after it is moved, and nothing else is another one.
+#[tactic(auto, using(crate::proofs::AnyInsides::replaces_any))]
+pub fn only_these_texts_are_others_anywhere()
+    ensures { (ss : List BlockSpot) (behind : List ℕ) → AreSpots ss behind → ReplacesTexts ss behind }
 {}

@@ -11,5 +11,7 @@ pub mod LinesJoined
 pub mod RunsJoined
 pub mod StandingOpen
 pub mod SliceItems
+pub mod SlicedBytes
 pub mod SlicedPieces
 pub mod SlicedBreaks
+pub mod PieceTexts

@@ -172,7 +172,7 @@ outside_by cs r (origin.Page q) a n t h (inl l) = let to : q.end ≡ a + n = ap 
 outside_by cs r (origin.Page q) a n t h (inr l) = let from : q.start ≡ a = ap (λ (s : Span). s.0) h in inr (omega (arith, from, l))
 outside_by cs r (origin.Call k) a n t h l = false_true t
 
-and_second : (u v : Bool) → (u && v) ≡ true → v ≡ true
+pub and_second : (u v : Bool) → (u && v) ≡ true → v ≡ true
 and_second true v e = e
 and_second false v e = false_true e
 

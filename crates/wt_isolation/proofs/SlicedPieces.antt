@@ -136,7 +136,7 @@ rise cs at (p ∷ ps) h f = rise_by cs at p ps (origin_before (origins ps) p.ori
 
 -- ---- before and after the slice
 
-member : (P : Piece → Type 0) (ps : List Piece) (k : ℕ) (d : Piece) → k < length ps → AllByRecursion P ps → P (get_or ps k d)
+pub member : (P : Piece → Type 0) (ps : List Piece) (k : ℕ) (d : Piece) → k < length ps → AllByRecursion P ps → P (get_or ps k d)
 member P [] k d l h = absurd (omega (arith, l))
 member P (p ∷ ps) zero d l h = h.0
 member P (p ∷ ps) (suc k) d l h = let m : length (p ∷ ps) ≡ suc (length ps) = refl in member P ps k d (omega (arith, l, m)) h.1

@@ -1,9 +1,9 @@
 -- What is of the page's pieces in a slice of it.
-use Rattle.std.specs.Prelude.{◌≡◌, ◌-◌, ℕ, ◌&&◌, ◌||◌, ◌==◌, Bool, false, All, Option, List, [], ◌∷◌, map, take, drop, is_none, MatchOption}
+use Rattle.std.specs.Prelude.{◌≡◌, ◌-◌, ◌≤◌, ℕ, ◌&&◌, ◌||◌, ◌==◌, Bool, true, false, All, IsCharBoundary, Option, List, [], ◌∷◌, map, take, drop, is_none, MatchOption}
 use Rattle.std.specs.List.{flat_map}
 use Rattle.wt_span.specs.declared.form.Piece.{Piece}
 use Rattle.wt_span.specs.declared.text.Text.{Text}
-use Rattle.wt_span.specs.Slice.{bytes_of, start_of}
+use Rattle.wt_span.specs.Slice.{bytes_of, end_of, start_of}
 use Rattle.wt_span.specs.Items.{Item, call_of_origin, items_of}
 use Rattle.wt_span.specs.Origins.{OuterCall, Span, IsSoundPiece, IsAmong, FollowFrom, once, span_of_origin}
 use Rattle.wt_span.specs.Characters as byte
@@ -36,6 +36,18 @@ is_page_chars p = is_chars p.form && is_none (call_of_origin p.origin)
 -- the bytes of a text that are in the slice
 abbrev pub bytes_in : Ranges → Text → List ℕ
 bytes_in r t = drop (r.start - start_of t) (take (r.end - start_of t) (bytes_of t))
+
+-- a place that lies in a text lies between its characters
+abbrev pub IsBetweenCharacters : Text → ℕ → Type 0
+IsBetweenCharacters t place = start_of t ≤ place → place ≤ end_of t → IsCharBoundary (bytes_of t) (place - start_of t)
+
+-- so do both ends of a slice, where they lie in it
+abbrev pub IsCutWhole : Ranges → Text → Type 0
+IsCutWhole r t = IsBetweenCharacters t r.start × IsBetweenCharacters t r.end
+
+-- and in a piece of characters of the page
+abbrev pub IsPieceCutWhole : Ranges → Piece → Type 0
+IsPieceCutWhole r p = is_page_chars p ≡ true → IsCutWhole r p.text
 
 -- a sound piece of these items, or none where there are none
 abbrev pub IsPieceOf : List Item → Option Piece → Type 0

@@ -1,15 +1,16 @@
 //! The pieces of the page that are in a slice of it, and the slice as it is read by itself.
 
-ghost use Rattle.std.specs.Prelude.{◌≡◌, ◌<◌, ◌≤◌, ◌++◌, ◌∷◌, [], true, false, All, IfOk, OnOk, MatchOption, Some, None, length, map, drop, slice_get};
+ghost use Rattle.std.specs.Prelude.{◌≡◌, ◌<◌, ◌≤◌, ◌^◌, ◌++◌, ◌∷◌, [], true, false, All, IfOk, OnOk, MatchOption, Some, None, length, map, drop, slice_get, IsCharBoundary};
 ghost use Rattle.std.specs.List.{prefix_len};
+ghost use Rattle.wt_span.specs.Cuts.{page_of};
 ghost use Rattle.wt_span.specs.Slice.{bytes_of};
-ghost use Rattle.wt_span.specs.Items.{char, call_of_origin, items, items_of};
+ghost use Rattle.wt_span.specs.Items.{char, call_of_origin, items, items_of, sources};
 ghost use Rattle.wt_span.specs.Origins.{IsAmong, IsSoundPiece, outer_call, same_call, span_of};
 ghost use Rattle.wt_span.specs.Characters as byte;
 ghost use Rattle.wt_lines.specs.Signs.{left, number};
 ghost use Rattle.wt_expand.specs.Expansion.{is_block_sign, opens_block};
 ghost use Rattle.wt_isolation.specs.GroupItems.{break_before, empty_nowiki, is_template, items_alone, lies_in, needs_break, with_break_anew};
-ghost use Rattle.wt_isolation.specs.PieceParts.{AreOrderly, IsPieceOf, bytes_in, begins_with_bar, is_page_chars, part_of, parts_of, span_of_piece};
+ghost use Rattle.wt_isolation.specs.PieceParts.{AreOrderly, IsCutWhole, IsPieceCutWhole, IsPieceOf, bytes_in, begins_with_bar, is_page_chars, part_of, parts_of, span_of_piece};
 
 use std::alloc::Global;
 use wt_lines::{LineSign, Signs, chars_piece, is_chars};
@@ -33,24 +34,21 @@ fn lies_in(span: Range, ranges: Ranges) -> bool
     ranges.start <= span.start && span.end <= ranges.end
 }
 
-/// What is of a text in a slice of the page, where anything does.
-fn text_in<'a>(text: Text<'a>, ranges: Ranges) -> Result<Option<Text<'a>>, NoMemory>
-    ensures { IfOk result (λ found. MatchOption found (bytes_in ranges text.entry ≡ [])
-        (λ part. (0 < length (bytes_of part)) × (bytes_of part ≡ bytes_in ranges text.entry))) }
+/// What is of a text in a slice of the page, where anything is. The slice's ends lie between its characters.
+fn text_in<'a>(text: Text<'a>, ranges: Ranges) -> Option<Text<'a>>
+    requires { IsCutWhole ranges text }
+    ensures { MatchOption result (bytes_in ranges text.entry ≡ [])
+        (λ part. (0 < length (bytes_of part)) × (bytes_of part ≡ bytes_in ranges text.entry)) }
 {
     let range = text.range();
     let start = range.start.max(ranges.start);
     let end = range.end.min(ranges.end);
     if start >= end {
-        return Ok(None);
+        return None;
     }
     let all = text.as_str();
-    if !all.is_char_boundary((start - range.start) as usize)
-        || !all.is_char_boundary((end - range.start) as usize)
-    {
-        return Err(NoMemory);
-    }
-    Ok(Some(text.slice(Range { start, end })))
+    let part = &all[(start - range.start) as usize..(end - range.start) as usize];
+    Some(Text::new(part, start))
 }
 
 fn is_page_chars(piece: &Piece<'_>) -> bool
@@ -63,14 +61,13 @@ fn is_page_chars(piece: &Piece<'_>) -> bool
 }
 
 /// What is of the page's characters in a slice.
-fn chars_part<'a>(piece: &Piece<'a>, ranges: Ranges) -> Result<Option<Piece<'a>>, NoMemory>
-    requires { is_page_chars piece.now ≡ true }
-    ensures { IfOk result (λ found. IsPieceOf (map (char None) (bytes_in ranges piece.now.text)) found) }
+fn chars_part<'a>(piece: &Piece<'a>, ranges: Ranges) -> Option<Piece<'a>>
+    requires chars { is_page_chars piece.now ≡ true }
+    requires whole { IsCutWhole ranges piece.now.text }
+    ensures { IsPieceOf (map (char None) (bytes_in ranges piece.now.text)) result }
 {
-    match text_in(piece.text, ranges)? {
-        Some(text) => Ok(Some(chars_piece(text, piece.origin))),
-        None => Ok(None),
-    }
+    let text = text_in(piece.text, ranges)?;
+    Some(chars_piece(text, piece.origin))
 }
 
 /// A piece that can't be cut, where it lies in a slice.
@@ -87,19 +84,16 @@ fn whole_part<'a>(piece: &Piece<'a>, outer: &[Outer<'a>], ranges: Ranges) -> Opt
 }
 
 /// What lies of a piece in a slice.
-fn part_of<'a>(
-    piece: &Piece<'a>,
-    outer: &[Outer<'a>],
-    ranges: Ranges,
-) -> Result<Option<Piece<'a>>, NoMemory>
+fn part_of<'a>(piece: &Piece<'a>, outer: &[Outer<'a>], ranges: Ranges) -> Option<Piece<'a>>
     requires sound { IsSoundPiece piece.now }
     requires named { IsAmong (map outer_call outer.now) piece.now.origin }
-    ensures { IfOk result (λ found. IsPieceOf (part_of (map outer_call outer.now) ranges piece.now) found) }
+    requires whole { IsPieceCutWhole ranges piece.now }
+    ensures { IsPieceOf (part_of (map outer_call outer.now) ranges piece.now) result }
 {
     if is_page_chars(piece) {
         return chars_part(piece, ranges);
     }
-    Ok(whole_part(piece, outer, ranges))
+    whole_part(piece, outer, ranges)
 }
 
 fn push_part<'a>(
@@ -110,11 +104,12 @@ fn push_part<'a>(
 ) -> Result<(), NoMemory>
     requires sound { IsSoundPiece piece.now }
     requires named { IsAmong (map outer_call outer.now) piece.now.origin }
+    requires whole { IsPieceCutWhole ranges piece.now }
     requires sound_before { All IsSoundPiece found.old }
     ensures items { OnOk result (items found.new ≡ items found.old ++ part_of (map outer_call outer.now) ranges piece.now) }
     ensures sound_after { OnOk result (All IsSoundPiece found.new) }
 {
-    if let Some(part) = part_of(piece, outer, ranges)? {
+    if let Some(part) = part_of(piece, outer, ranges) {
         found.push(part)?;
     }
     Ok(())
@@ -148,7 +143,8 @@ fn pieces_in<'a>(
     outer: &[Outer<'a>],
     ranges: Ranges,
 ) -> Result<List<Piece<'a>>, NoMemory>
-    requires { AreOrderly (map outer_call outer.now) pieces.now }
+    requires orderly { AreOrderly (map outer_call outer.now) pieces.now }
+    requires whole { All (IsPieceCutWhole ranges) pieces.now }
     ensures items { IfOk result (λ ps. items ps ≡ parts_of (map outer_call outer.now) ranges pieces.now) }
     ensures sound { IfOk result (λ ps. All IsSoundPiece ps) }
 {
@@ -300,19 +296,17 @@ fn behind_nowiki<'a>(
 }
 
 /// The pieces of a slice of the page on a line of its own, directly after `<nowiki/>`. The line break
-/// before a call at its beginning is taken anew.
-///
-/// # Errors
-///
-/// Want of memory is also answered where an end of the slice lies within a character, as that of no node of
-/// a page does.
+/// before a call at its beginning is taken anew. The slice's ends lie between the page's characters.
 #[tactic(auto, using(crate::proofs::SlicedPieces::orderly))]
 pub fn pieces_alone<'a>(
     alloc: Global,
     page: &Items<'a>,
     ranges: Ranges,
 ) -> Result<List<Piece<'a>>, NoMemory>
+    requires start { IsCharBoundary (page_of page.now.outer page.now.items) ranges.start }
+    requires end { IsCharBoundary (page_of page.now.outer page.now.items) ranges.end }
     ensures items { IfOk result (λ ps. items ps ≡ items_alone page.now.outer page.now.items ranges) }
+    ensures few { IfOk result (λ ps. length (sources (items ps)) < 2 ^ 32) }
     ensures sound { IfOk result (λ ps. All IsSoundPiece ps) }
 {
     let outer = page.outer();

@@ -8,7 +8,7 @@ use Rattle.wt_tree.specs.declared.kind.Kind.TheVariants as kind
 use Rattle.wt_tree.specs.Tree.{Tree}
 use Rattle.wt_tree.specs.EditShapes.{edit_shape}
 use Rattle.wt_original.specs.Kept.{kept_with}
-use Rattle.wt_selser.specs.Changes.{Pair}
+use Rattle.wt_slices.specs.Changes.{Pair}
 use Rattle.wt_local.specs.TextEdits.{IsRetyped, holds_unclosed}
 use Rattle.wt_local.proofs.Sources.{untrue}
 use Rattle.wt_local.proofs.Cases.{text, leaf, inner, para}

@@ -31,7 +31,7 @@ use Rattle.wt_expand.specs.PageItems.{page_items}
 use Rattle.wt_isolation.specs.GroupItems.{items_in}
 use Rattle.wt_isolation.specs.OpenTags.{before, touches_open_tag}
 use Rattle.wt_isolation.specs.TextCalls.{touches_text_call}
-use Rattle.wt_selser.specs.Splice.{between}
+use Rattle.wt_splice.specs.Splice.{between}
 
 -- ---- kept slices
 

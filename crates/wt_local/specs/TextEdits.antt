@@ -23,10 +23,10 @@ use Rattle.wt_original.specs.Page.{Page, page_of, is_unchanged}
 use Rattle.wt_escape.specs.Spelling.{children_of}
 use Rattle.wt_checks.specs.Checked.{checked}
 use Rattle.wt_content.specs.Content.{has_break}
-use Rattle.wt_selser.specs.Changes.{Pair, marked, AllStay}
-use Rattle.wt_selser.specs.BodySlices.{slices}
+use Rattle.wt_slices.specs.Changes.{Pair, marked, AllStay}
+use Rattle.wt_slices.specs.BodySlices.{slices}
 use Rattle.wt_selser.specs.Edits.{is_tangled, most_bytes}
-use Rattle.wt_selser.specs.Splice.{spliced}
+use Rattle.wt_splice.specs.Splice.{spliced}
 use Rattle.wt_local.specs.Contents.{Border, element, bold, italic, end, borders, elements, Slot, slots}
 
 -- ---- a text

@@ -48,11 +48,11 @@ of_line line.List l = of_whole line.List (marks_len l) l
 of_line line.Pre l = of_whole line.Pre (marks_len l) l
 of_line line.Text l = of_whole line.Text (marks_len l) l
 
-unwritten : (n : ℕ) → all_items (replicate n unwritten_end) ≡ []
+pub unwritten : (n : ℕ) → all_items (replicate n unwritten_end) ≡ []
 unwritten zero = refl
 unwritten (suc n) = unwritten n
 
-from_lines : (tables : ℕ) (ls : List (List Item)) → all_items (rows_from tables ls) ≡ flat_map (λ l. l) ls
+pub from_lines : (tables : ℕ) (ls : List (List Item)) → all_items (rows_from tables ls) ≡ flat_map (λ l. l) ls
 from_lines tables [] = unwritten tables
 from_lines tables (l ∷ ls) =
     flat_map-append row_items (line_rows (kind_at tables l) l) (rows_from (behind tables (kind_at tables l)) ls)

@@ -9,8 +9,8 @@ use Rattle.wt_span.proofs.RunLaws.{runs_are}
 use Rattle.wt_tree.specs.declared.kind.Kind.{Kind}
 use Rattle.wt_tree.specs.Tiling.{is_group}
 use Rattle.wt_tree.specs.Kinds.{is_block}
-use Rattle.wt_tree.specs.Recut.{shows_block}
-use Rattle.wt_tree.proofs.CutOnly.{and_none}
+use Rattle.wt_recut.specs.Recut.{shows_block}
+use Rattle.wt_recut.proofs.CutOnly.{and_none}
 use Rattle.wt_inline.specs.declared.loose.Loose.{Loose}
 use Rattle.wt_inline.specs.declared.loose.Loose.TheVariants.{Text, Sep}
 use Rattle.wt_inline.specs.ItemTree.{ItemTree, inner, forest}

@@ -14,8 +14,9 @@ use Rattle.wt_bounds.specs.Numbers.{makes_all}
 use Rattle.wt_bounds.proofs.BodyCounts.{meaning_count}
 use Rattle.wt_bounds.proofs.NumberLaws.{nowiki_inside}
 use Rattle.wt_page.specs.Body.{meaning}
+use Rattle.wt_headings.proofs.FormLengths.{IsFormOf, form_long}
 use Rattle.wt_page_round_trip.proofs.OfPage.{AreOfPage}
-use Rattle.wt_page_round_trip.proofs.FormLengths.{IsFormOf, form_long, AreForms, forms_of_page}
+use Rattle.wt_page_round_trip.proofs.FormLengths.{AreForms, forms_of_page}
 
 -- ---- forms
 

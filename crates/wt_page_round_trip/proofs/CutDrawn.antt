@@ -13,13 +13,14 @@ use Rattle.wt_tree.specs.declared.row.Texts.{Texts}
 use Rattle.wt_tree.specs.declared.row.Texts.TheVariants.{Separators, Page, Bordered, OwnCharacter}
 use Rattle.wt_tree.specs.declared.row.Writing.{Writing}
 use Rattle.wt_tree.specs.declared.row.Writing.TheVariants.{AsText, AsVoid, RoundCharacter, RoundChildren, AsSection, Unwritten}
-use Rattle.wt_tree.specs.Cutting.{begins_with_text}
+use Rattle.wt_recut.specs.Cutting.{begins_with_text}
 use Rattle.wt_tree.specs.Kinds.{writing, is_leaf, texts_of_kind, is_block, may_follow}
-use Rattle.wt_tree.specs.Recut.{is_break, is_blank, before_break, from_break, text_leaf, sep_leaf, is_as_text, is_text, shows_block, is_border, leads_to_block, front_ranges, rest_ranges, joined_ranges, text_onto, joined_texts, from_start, front_of, rest_of, parts_before, text_before, cut_from, recut}
-use Rattle.wt_tree.specs.Recutting.{is_empty}
+use Rattle.wt_tree.specs.Leaves.{text_leaf, sep_leaf}
+use Rattle.wt_recut.specs.Recut.{is_break, is_blank, before_break, from_break, is_as_text, is_text, shows_block, is_border, leads_to_block, front_ranges, rest_ranges, joined_ranges, text_onto, joined_texts, from_start, front_of, rest_of, parts_before, text_before, cut_from, recut}
+use Rattle.wt_recut.specs.Recutting.{is_empty}
 use Rattle.wt_tree.specs.Tiling.{is_group}
 use Rattle.wt_tree.specs.Tree.{Label, Tree, tree, Trees, none, more, label}
-use Rattle.wt_tree.proofs.Cut.{all_parts, recut_again}
+use Rattle.wt_recut.proofs.Cut.{all_parts, recut_again}
 use Rattle.wt_schema.specs.Rows.{holds_page_text, holds_text}
 use Rattle.wt_round_trip.specs.Written.{leaf_kind, HasLeafKind, may_stand, IsTextIn, IsWrittenGroup, NodeIsWritten, is_childless, joins, goes_behind, are_ordered, IsCutIn, WrittenIn, AllWrittenIn}
 use Rattle.wt_annotated.specs.CutTexts.{cut_as, cut_texts, all_cut_texts}

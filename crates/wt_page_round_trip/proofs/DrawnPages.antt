@@ -10,7 +10,7 @@ use Rattle.wt_tree.specs.declared.row.Writing.{Writing}
 use Rattle.wt_tree.specs.Kinds.{writing, is_leaf, is_section, may_hold, texts_of_kind, spelling}
 use Rattle.wt_tree.specs.Opened.{without_sections}
 use Rattle.wt_tree.specs.Elements.{span}
-use Rattle.wt_tree.specs.Recut.{is_as_text}
+use Rattle.wt_recut.specs.Recut.{is_as_text}
 use Rattle.wt_tree.specs.Tiling.{is_group}
 use Rattle.wt_tree.specs.Tree.{Label, Tree, tree, Trees, none, more, label, trees}
 use Rattle.wt_schema.specs.Rows.{holds_text}
@@ -32,6 +32,7 @@ use Rattle.wt_annotated.specs.Labels.{width, if_leaf, if_inner, label_at}
 use Rattle.wt_annotated.specs.Numbering.{count, count_all, with_numbers, all_with_numbers}
 use Rattle.wt_annotated.specs.Reached.{AreReachedSlices, start_of, size_of}
 use Rattle.wt_annotated.specs.Seams.{last_of, first_of, text_from}
+use Rattle.wt_annotated.specs.NumbersNeeded.{numbers_needed}
 use Rattle.wt_annotated.specs.Walked.{clean_at, Near, near_tied, near_nodes, near_runs, walked, near}
 use Rattle.wt_annotated.specs.WithoutCalls.{inside_by}
 use Rattle.wt_annotated.proofs.CutNumbered.{cut_numbered}
@@ -268,6 +269,11 @@ whole_body page calls ts room s almost few shown n =
         → HasPlaces (label (walked_body calls ts)).ranges
     body_places page calls ts room s = (omega arith, omega (arith, room, s.0.within), omega arith, omega arith)
 
+-- at most one number for each node that has one without groups, and one for each byte
+pub body_light : (calls : List OuterCall) (ts : ItemTrees) → AreShownIn 9 kind.Body (all_unplaced ts)
+    → numbers_needed calls (body_of ts) ≤ numbered_in_all ts + width (held_by_all ts)
+body_light calls ts shown = omega (arith, children_light calls None 0 None ts, nodes_light 9 kind.Body ts shown)
+
 -- the annotated tree, from the tree in one pass
 annotated_body : (calls : List OuterCall) (ts : ItemTrees)
     → cut_texts (with_numbers 1 (walked_body calls ts)) ≡ annotated calls (group_data calls) (body_of ts)
@@ -289,7 +295,7 @@ grouped_body calls ts c shown n holds room small =
     let same : walked_body calls ts ≡ placed calls (group_data calls) (tree_items t) (grouped (tree_items t) 0 t) = walk_all calls (group_data calls) t in
     let clean : is_clean (tree_items t) 0 t ≡ true = body_clean ts in
     let few : 1 + count (walked_body calls ts) ≤ 2 ^ 32 =
-    omega (arith, children_light calls None 0 None ts, nodes_light 9 kind.Body ts shown, small) in
+    omega (arith, body_light calls ts shown, small) in
     subst IsWrittenBody (annotated_body calls ts)
     (whole_body page calls ts room (subst (AreReachedSlices page) (sym same) (placed_slices calls t clean))
     (subst (OfGroups IsAlmost) (sym same) (annotated_almost calls t c (refl, IsUtf8-nil, holds, IsUtf8-nil))) few shown n)

@@ -11,10 +11,10 @@ use Rattle.wt_tree.specs.declared.row.Texts.{Texts}
 use Rattle.wt_tree.specs.declared.row.Texts.TheVariants.{Separators, Page, Bordered, OwnCharacter}
 use Rattle.wt_tree.specs.declared.row.Writing.{Writing}
 use Rattle.wt_tree.specs.declared.row.Writing.TheVariants.{AsText, AsVoid, RoundCharacter, RoundChildren, AsSection, Unwritten}
-use Rattle.wt_tree.specs.Cutting.{begins_with_text}
+use Rattle.wt_recut.specs.Cutting.{begins_with_text}
 use Rattle.wt_tree.specs.Elements.{span}
 use Rattle.wt_tree.specs.Kinds.{writing, may_hold, texts_of_kind, is_block, is_inline, may_follow}
-use Rattle.wt_tree.specs.Recut.{is_as_text, is_text, shows_block, any_shows_block}
+use Rattle.wt_recut.specs.Recut.{is_as_text, is_text, shows_block, any_shows_block}
 use Rattle.wt_tree.specs.Tiling.{is_group}
 use Rattle.wt_tree.specs.Tree.{Label, Tree, tree, Trees, none, more, label, trees}
 use Rattle.wt_schema.specs.Rows.{holds_text}

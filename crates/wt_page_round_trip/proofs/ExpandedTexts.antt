@@ -21,7 +21,7 @@ use Rattle.wt_expand.specs.Targets.{Called, argument, choice, function, page, te
 use Rattle.wt_expand.specs.Work.{Pages}
 use Rattle.wt_expand.specs.Expansion.{Output, called_output, front_braces, back_braces, target_part, part_outputs, outputs_of, text_members, page_reading}
 use Rattle.wt_expand.specs.PageCalls.{Stretch, own, outer, text_call, outer_at, call_stretches, stretches_of, all_stretches, from_call, outer_items, numbered, page_stretches, expanded_page}
-use Rattle.wt_expansion.proofs.MarkBytes.{IsWordHere}
+use Rattle.wt_transclusion.proofs.MarkBytes.{IsWordHere}
 use Rattle.wt_expansion.proofs.SoundMembers.{IsSoundLexeme, IsCallHere, IsSoundMember, AreSoundMembers, text_sound, text_width}
 use Rattle.wt_page_round_trip.specs.GroupTexts.{AreOwnTexts}
 use Rattle.wt_page_round_trip.proofs.TextItems.{before_low}

@@ -69,7 +69,6 @@ pub mod GivenItems
 pub mod TemplateTexts
 pub mod TextOutputs
 pub mod ExpandedItems
-pub mod ExpandedWidth
 pub mod ExpandedPages
 pub mod OpenedPages
 pub mod PageTrees

@@ -11,8 +11,8 @@ use Rattle.wt_tree.specs.declared.row.Holding.TheVariants as holding
 use Rattle.wt_tree.specs.declared.row.Writing.{Writing}
 use Rattle.wt_tree.specs.declared.row.Writing.TheVariants.{AsText, AsVoid, RoundCharacter, RoundChildren, AsSection, Unwritten}
 use Rattle.wt_tree.specs.Kinds.{shape, writing, is_leaf, is_numbered, is_section, may_hold, admits, is_anywhere}
-use Rattle.wt_tree.specs.Recut.{is_as_text}
-use Rattle.wt_tree.specs.Recutting.{is_empty}
+use Rattle.wt_recut.specs.Recut.{is_as_text}
+use Rattle.wt_recut.specs.Recutting.{is_empty}
 use Rattle.wt_tree.specs.Tiling.{is_group}
 use Rattle.wt_tree.specs.Tree.{Label, Trees, trees, label}
 use Rattle.wt_span.specs.Items.{Item, sources}

@@ -4,7 +4,7 @@ use Rattle.std.specs.Prelude.{◌==◌, not, if◌then◌else◌}
 use Rattle.std.specs.List.{AllByRecursion, prefix_len}
 use Rattle.std.proofs.lemmas.Bool.{eqb-true}
 use Rattle.std.proofs.lemmas.List.{take-append-drop}
-use Rattle.wt_tree.specs.Recut.{is_blank as is_white}
+use Rattle.wt_recut.specs.Recut.{is_blank as is_white}
 use Rattle.wt_span.specs.Items.{Item, char, whole, is_mark, is_mark_form}
 use Rattle.wt_span.specs.Runs.{IsRun, AreRuns}
 use Rattle.wt_lines.specs.Lines.{is_break_item, goes_on, content}

@@ -14,6 +14,7 @@ use Rattle.wt_round_trip.proofs.Whole.{written_read}
 use Rattle.wt_expand.specs.Expansion.{page_work}
 use Rattle.wt_expand.specs.PageCalls.{expanded_page}
 use Rattle.wt_expand.specs.Work.{Pages, first_refusal}
+use Rattle.wt_expand.proofs.ExpandedWidth.{expanded_short}
 use Rattle.wt_inline.specs.ItemTree.{ItemTrees, tree_items, held_by_all}
 use Rattle.wt_page.specs.Body.{meaning}
 use Rattle.wt_page.proofs.HeldBody.{sources_meaning}
@@ -21,14 +22,14 @@ use Rattle.wt_annotated.specs.Annotated.{annotated}
 use Rattle.wt_annotated.specs.Counted.{numbered_in_all}
 use Rattle.wt_annotated.specs.GroupData.{group_data}
 use Rattle.wt_annotated.specs.Labels.{width}
+use Rattle.wt_annotated.specs.NumbersNeeded.{numbers_needed}
 use Rattle.wt_sections.specs.Sections.{with_sections}
 use Rattle.wt_sections.proofs.Kept.{source}
 use Rattle.wt_page_round_trip.specs.GroupTexts.{ArePageCalls}
 use Rattle.wt_page_round_trip.specs.PageTree.{page_tree}
 use Rattle.wt_page_round_trip.proofs.Counts.{page_few}
-use Rattle.wt_page_round_trip.proofs.DrawnPages.{HoldsNoSection, opened_again, grouped_body, grouped_none, few_groups_in}
+use Rattle.wt_page_round_trip.proofs.DrawnPages.{HoldsNoSection, body_light, opened_again, grouped_body, grouped_none, few_groups_in}
 use Rattle.wt_page_round_trip.proofs.ExpandedItems.{expanded_items}
-use Rattle.wt_page_round_trip.proofs.ExpandedWidth.{expanded_short}
 use Rattle.wt_page_round_trip.proofs.HeldPages.{its_page}
 use Rattle.wt_page_round_trip.proofs.OfPage.{ArePageItems}
 use Rattle.wt_page_round_trip.proofs.OwnItems.{nodes_hold, nodes_parted}
@@ -40,14 +41,17 @@ use Rattle.wt_page_round_trip.proofs.Sectioned.{IsWrittenBody, sections_written}
 -- ---- numbers
 
 -- at most two numbers and a group for each byte of the items
-body_few : (xs : List Item) → ArePageItems xs → 3 * width xs < 2 ^ 32 → numbered_in_all (body_nodes xs) + width (held_by_all (body_nodes xs)) < 2 ^ 32
+body_sum : (xs : List Item) → ArePageItems xs → numbered_in_all (body_nodes xs) + width (held_by_all (body_nodes xs)) ≤ 3 * width xs
 unfolding meaning
-body_few xs h room =
+body_sum xs h =
     let ts : ItemTrees = body_nodes xs in
     let few : 0 + numbered_in_all ts ≤ 2 * width xs = page_few xs h.page in
     let same : width (held_by_all ts ++ []) ≡ width xs = ap length (sources_meaning xs) in
     let wide : width (held_by_all ts ++ []) ≡ width (held_by_all ts) = ap width (append-nil (held_by_all ts)) in
-    omega (arith, few, same, wide, room)
+    omega (arith, few, same, wide)
+
+body_few : (xs : List Item) → ArePageItems xs → 3 * width xs < 2 ^ 32 → numbered_in_all (body_nodes xs) + width (held_by_all (body_nodes xs)) < 2 ^ 32
+body_few xs h room = omega (arith, body_sum xs h, room)
 
 -- ---- any items
 
@@ -71,6 +75,17 @@ items_groups calls xs h wide = few_groups_in calls (body_nodes xs) (page_shown x
 page_width : (pages : Pages) (page : List ℕ) → length page < 2 ^ 30 → first_refusal pages page (page_work pages page) ≡ None
     → 3 * width (expanded_page pages page).items < 2 ^ 32
 page_width pages page room e = let short = expanded_short pages page e in omega (arith, short, room)
+
+-- fewer numbers than a `u32` has
+pub page_numbers : (pages : Pages) (page : List ℕ) → IsUtf8 page → length page < 2 ^ 30 → first_refusal pages page (page_work pages page) ≡ None
+    → 1 + numbers_needed (expanded_page pages page).outer (meaning (expanded_page pages page).items) < 2 ^ 32
+unfolding meaning
+page_numbers pages page u room e =
+    let xs : List Item = (expanded_page pages page).items in
+    let h : ArePageItems xs = expanded_items pages page u e in
+    let light = body_light (expanded_page pages page).outer (body_nodes xs) (page_shown xs h).0 in
+    let short = expanded_short pages page e in
+    omega (arith, light, body_sum xs h, short, room)
 
 -- the tree before its body's children are gathered
 pub body_written : (pages : Pages) (page : List ℕ) → IsUtf8 page → length page < 2 ^ 30 → first_refusal pages page (page_work pages page) ≡ None

@@ -6,8 +6,8 @@ use Rattle.std.specs.Prelude.{◌&&◌, nat_le, if◌then◌else◌}
 use Rattle.wt_tree.specs.declared.kind.Kind.{Kind}
 use Rattle.wt_tree.specs.declared.kind.Kind.TheVariants as kind
 use Rattle.wt_tree.specs.Kinds.{is_numbered, spelling, texts_of_kind, writing}
-use Rattle.wt_tree.specs.Cutting.{begins_with_text}
-use Rattle.wt_tree.specs.Recut.{is_text}
+use Rattle.wt_recut.specs.Cutting.{begins_with_text}
+use Rattle.wt_recut.specs.Recut.{is_text}
 use Rattle.wt_tree.specs.Tree.{Label, Tree, tree, Trees, none, more}
 use Rattle.wt_annotated.specs.Numbering.{count, count_all, all_with_numbers}
 use Rattle.wt_sections.specs.Gathering.{heading_count}

@@ -19,7 +19,7 @@ use Rattle.wt_html_grammar.proofs.Steps.{if_false}
 use Rattle.wt_tree.specs.Elements.{span, as_elements, or_empty_span}
 use Rattle.wt_tree.specs.Kinds.{shape, writing, is_leaf, is_section, showing, texts_of_kind, admits, is_anywhere, may_hold, is_block, is_inline, may_follow}
 use Rattle.wt_tree.specs.Plain.{Plain, text, element, face, Plains, ended, along, text_before, shown_before, plain_before, plains_before}
-use Rattle.wt_tree.specs.Recut.{shows_block, any_shows_block}
+use Rattle.wt_recut.specs.Recut.{shows_block, any_shows_block}
 use Rattle.wt_tree.specs.Tiling.{is_group}
 use Rattle.wt_tree.specs.Tree.{Label, Tree, tree, Trees, none, more}
 use Rattle.wt_schema.specs.Rows.{holds_page_text, holds_text, shows_text}

@@ -12,7 +12,7 @@ use Rattle.wt_tree.specs.Kinds.{writing, is_leaf, is_section, may_hold, texts_of
 use Rattle.wt_tree.specs.Tree.{Label, Tree, tree, Trees, none, more}
 use Rattle.wt_schema.specs.Rows.{shows_text}
 use Rattle.wt_round_trip.specs.Written.{IsTextIn, has_level, HasSource, IsShown, HasAttributes, is_extension_label, HasData, is_childless}
-use Rattle.wt_tree.specs.Recut.{shows_block}
+use Rattle.wt_recut.specs.Recut.{shows_block}
 
 -- an element, by the tables of kinds, but for its number and its places; a section is none
 pub record IsShownLabel (l : Label) : Type 0 where

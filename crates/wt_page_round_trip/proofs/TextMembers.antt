@@ -23,7 +23,7 @@ use Rattle.wt_transclusion.proofs.MarkLaws.{text_marks}
 use Rattle.wt_transclusion.proofs.StretchCuts.{marks_len, word_len}
 use Rattle.wt_transclusion.proofs.StretchLaws.{full_members}
 use Rattle.wt_expand.specs.Expansion.{text_members}
-use Rattle.wt_expansion.proofs.SignBytes.{form_sign}
+use Rattle.wt_transclusion.proofs.SignBytes.{form_sign}
 
 -- The bytes of each member are UTF-8, and so are those of the members in each call.
 abbrev mutual

@@ -20,13 +20,13 @@ use Rattle.wt_checks.specs.Checked.{checked}
 use Rattle.wt_page_round_trip.specs.PageTree.{page_tree}
 use Rattle.wt_selser.specs.declared.refusal.EditRefusal.{EditRefusal}
 use Rattle.wt_selser.specs.declared.refusal.EditRefusal.TheVariants as of_edit
-use Rattle.wt_selser.specs.BodySlices.{slices}
-use Rattle.wt_selser.specs.Changes.{marked}
+use Rattle.wt_slices.specs.BodySlices.{slices}
+use Rattle.wt_slices.specs.Changes.{marked}
 use Rattle.wt_visible.specs.Children.{IsFirstDiffering, shown_children, differing}
 use Rattle.wt_selser.specs.Edits.{edit_answer, unless_refused, if_short, most_bytes, refused_pairs}
 use Rattle.wt_visible.specs.Restored.{restored_from}
 use Rattle.wt_visible.specs.SameNodes.{same_node}
-use Rattle.wt_selser.specs.Splice.{spliced}
+use Rattle.wt_splice.specs.Splice.{spliced}
 use Rattle.wt_visible.proofs.DifferingLaws.{differing_is, none_same}
 use Rattle.wt_pagetool.specs.declared.output.Output.{Output}
 use Rattle.wt_pagetool.specs.declared.refusal.Refusal.{Refusal}

@@ -7,7 +7,7 @@ use Rattle.wt_span.specs.Origins.{Expanded}
 use Rattle.wt_tree.specs.Tree.{Tree}
 use Rattle.wt_annotated.specs.Reached.{AreReachedSlices}
 use Rattle.wt_page_round_trip.specs.PageTree.{expanded_tree}
-pub use Rattle.wt_edit.proofs.Meanings.{page_small, tree_expanded}
+pub use Rattle.wt_edit.proofs.Meanings.{page_few, page_small, tree_expanded}
 use Rattle.wt_page_round_trip.proofs.HeldPages.{its_page}
 use Rattle.wt_page_round_trip.proofs.PageTrees.{page_reached}
 use Rattle.wt_expand.specs.Texts.{shown_text}

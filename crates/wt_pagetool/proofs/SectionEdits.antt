@@ -16,8 +16,8 @@ use Rattle.wt_page_round_trip.proofs.Pages.{page_none, page_opened}
 use Rattle.wt_page_round_trip.proofs.PageTrees.{IsItsPage, ungathered, ungathered_tiled, ungathered_numbered, covers_width}
 use Rattle.wt_checks.specs.BareSections.{HasBareSections}
 use Rattle.wt_checks.specs.PutBack.{IsOneBody}
-use Rattle.wt_selser.specs.BodySlices.{slices}
-use Rattle.wt_selser.specs.Splice.{OutsideStands}
+use Rattle.wt_slices.specs.BodySlices.{slices}
+use Rattle.wt_splice.specs.Splice.{OutsideStands}
 use Rattle.wt_selser.proofs.EditChains.{edit_stands, new_page}
 use Rattle.wt_selser.proofs.Sections.{answers_same, slices_same}
 use Rattle.wt_visible.specs.SameNodes.{same_node}

@@ -5,7 +5,7 @@ use Rattle.wt_tree.specs.declared.kind.Kind.TheVariants as kind
 use Rattle.wt_tree.specs.declared.row.Writing.{Writing}
 use Rattle.wt_tree.specs.declared.row.Writing.TheVariants.{AsText, AsVoid, RoundCharacter, RoundChildren, AsSection, Unwritten}
 use Rattle.wt_tree.specs.Kinds.{writing}
-use Rattle.wt_tree.specs.Recut.{any_shows_block}
+use Rattle.wt_recut.specs.Recut.{any_shows_block}
 use Rattle.wt_tree.specs.Tiling.{is_group}
 use Rattle.wt_tree.specs.Tree.{Label, Tree, tree, Trees, none, more}
 use Rattle.wt_round_trip.specs.GroupNodes.{group_nodes}

@@ -14,10 +14,10 @@ use Rattle.wt_markup.specs.Html.{html_text}
 use Rattle.wt_page_round_trip.specs.PageTree.{page_tree}
 use Rattle.wt_checks.specs.Checked.{nodes_checked}
 use Rattle.wt_difference.specs.Difference.{are_none, difference}
-use Rattle.wt_selser.specs.BodySlices.{slices}
+use Rattle.wt_slices.specs.BodySlices.{slices}
 use Rattle.wt_visible.specs.Restored.{restored_from}
 use Rattle.wt_visible.specs.SameNodes.{same_node}
-use Rattle.wt_selser.specs.Splice.{spliced, OutsideStands}
+use Rattle.wt_splice.specs.Splice.{spliced, OutsideStands}
 use Rattle.wt_span.specs.declared.limits.TheConstants.{HTML_BYTES}
 use Rattle.wt_pagetool.specs.declared.status.Status.{Status}
 use Rattle.wt_pagetool.specs.declared.status.Status.TheVariants as status

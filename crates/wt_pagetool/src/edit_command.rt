@@ -14,6 +14,8 @@ ghost use Rattle.wt_transclusion.specs.Asked.{Asks};
 ghost use Rattle.wt_tree.specs.Tree.{label};
 ghost use Rattle.wt_tree.specs.View.{view};
 ghost use Rattle.wt_tree.specs.declared.kind.Kind.TheVariants as kind;
+ghost use Rattle.wt_selser.specs.Borders.{page_text};
+ghost use Rattle.wt_slices.specs.Borders.{HasBorders};
 ghost use Rattle.wt_pagetool.specs.Answers.{answer_of_edit, input_answer, edit_by, edit_to, edited_answer, edit_told, refusal_of_page, IsNoText};
 ghost use Rattle.wt_pagetool.specs.Asked.{AsksNames, edit_names, edited_work, input_work, new_work, work_behind, work_done};
 ghost use Rattle.wt_pagetool.specs.Causes.{found_status, Answered, FailsAlone, IsOfEdit, IsKept};
@@ -43,6 +45,8 @@ fn new_page<'a, F: Folder>(
     folder: &mut F,
 ) -> Result<Output, Refusal>
     requires body { (label (view known.annotated.tree.body)).kind ≡ kind.Body }
+    requires places { HasBorders page.now (view known.annotated.tree.body) }
+    requires text { page_text known.annotated.items ≡ page.now }
     requires known { HoldsPages known.expansion }
     ensures answered { (pages : Pages) (met : List (List ℕ)) → F.pages folder.old ≡ Some pages
         → IsFree pages met known.entry.expansion

@@ -14,6 +14,8 @@ ghost use Rattle.wt_transclusion.specs.Asked.{Asks};
 ghost use Rattle.wt_tree.specs.Tree.{label};
 ghost use Rattle.wt_tree.specs.View.{view};
 ghost use Rattle.wt_tree.specs.declared.kind.Kind.TheVariants as kind;
+ghost use Rattle.wt_selser.specs.Borders.{page_text};
+ghost use Rattle.wt_slices.specs.Borders.{HasBorders};
 ghost use Rattle.wt_pagetool.specs.Answers.{input_answer, nodes_answer, selser_told, taken_answer, taken_to, IsNoText};
 ghost use Rattle.wt_pagetool.specs.Causes.{found_status, Answered, FailsAlone, IsKept, IsOfEdit};
 ghost use Rattle.wt_pagetool.specs.Inputs.{GivesAtMost, StopsWithin};
@@ -45,6 +47,8 @@ fn page_of_known<'a, F: Folder>(
     readings: &mut Readings,
 ) -> Result<Output, Refusal>
     requires body { (label (view known.annotated.tree.body)).kind ≡ kind.Body }
+    requires places { HasBorders page.now (view known.annotated.tree.body) }
+    requires text { page_text known.annotated.items ≡ page.now }
     requires known { HoldsPages known.expansion }
     requires unread { readings.old ≡ 0 }
     ensures answered { (pages : Pages) → F.pages folder.old ≡ Some pages → KnowsOf pages known.entry.expansion

@@ -1,4 +1,0 @@
-mod Cases
-pub mod Passing
-pub mod Walking
-pub mod Tested

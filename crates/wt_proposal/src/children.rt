@@ -1,29 +1,31 @@
 //! A list of children that is written anew: what goes, what comes, and the line breaks between.
 
-use crate::blanks::{
-    back_over_blanks, byte_at, is_at_line_start, most_breaks, past_blanks, past_spaces,
-};
+use crate::blanks::{back_over_blanks, is_at_line_start, most_breaks, past_blanks, past_spaces};
 use crate::breaks::{between, breaks, kind_at_end, kind_at_start, least_between, push_breaks};
+use crate::lines::{
+    is_doubled, is_doubled_at, leaves_line_start, push_in_line, range_of, shares_line,
+    sign_at_line_start,
+};
 use crate::proposing::{Numbering, Plan, children_between, nodes_between};
-use crate::slot::Slot;
 use std::alloc::Global;
 use wt_block_proposal::{
     Style, Surroundings, USUAL, is_cell, is_item, is_lined, is_row_without_sign, push_block,
-    signs_of, style_of,
+    push_if_in_line, signs_of, style_of,
 };
 use wt_checks::is_compared;
 use wt_content_proposal::{Known, joined as texts_joined, last_text};
 use wt_difference::{Child, inside};
-use wt_selser::Change;
+use wt_places::Slot;
 use wt_span::{NoMemory, Str};
+use wt_splice::Change;
 use wt_tree::{Kind, Node, same_kind};
 
 /// A gap between two children that stay in their turn, or the part of it between two comments or include tags: where
-/// it is, from where on blanks before it count, these two as the page has them, whether the one before is text alone as
-/// it was edited, the page's children between them, and
+/// it is, from where on blanks before it count, these two as the page has them, the text at the end of the one before,
+/// where that was looked for, whether that one is text alone as it was edited, the page's children between them, and
 /// the edited ones, with the number of the block of the first, whether they are lines of an item, a list or a table,
-/// with no empty line between them, whether a cell holds them, or a row without a sign of its own, and how a list in an
-/// item is written that holds them.
+/// with no empty line between them, whether a cell holds them, or a row without a sign of its own, how a list in an
+/// item is written that holds them, and whether the one after it is an item that gets a line of its own by itself.
 #[derive(Clone, Copy)]
 pub struct Gap<'w, 't, 'a> {
     pub place: Slot,
@@ -33,8 +35,10 @@ pub struct Gap<'w, 't, 'a> {
     pub in_row_without_sign: bool,
     pub style: Style,
     pub before: Option<&'t Node<'a>>,
+    pub text_before: Option<&'t Node<'a>>,
     pub is_behind_text: bool,
     pub behind: Option<&'t Node<'a>>,
+    pub gets_line: bool,
     pub gone: &'w [Child<'t, 'a>],
     pub new: &'w [Node<'a>],
     pub first: Numbering,
@@ -50,16 +54,6 @@ pub fn push_change(out: &mut Vec<Change>, place: Slot, by: Str) -> Result<(), No
         by,
     })?;
     Ok(())
-}
-
-fn range_of(node: &Node<'_>) -> Slot {
-    match node.ranges {
-        Some(ranges) => Slot {
-            start: ranges.start as usize,
-            end: ranges.end as usize,
-        },
-        None => Slot { start: 0, end: 0 },
-    }
 }
 
 /// A slice that goes on to the end of the next child.
@@ -100,56 +94,19 @@ fn slices_of(alloc: Global, gone: &[Child<'_, '_>]) -> Result<Vec<Slot>, NoMemor
 
 // ---- what goes
 
-/// Where the last comment or include tag before a place ends, which may end with a line break of its own; the start
-/// of the gap, where there is none.
-fn behind_marks(gap: Gap<'_, '_, '_>, at: usize) -> usize {
-    let mut end = gap.place.start;
-    for child in gap.gone {
-        let mark = range_of(child.node);
-        if child.node.kind.is_mark() && mark.end <= at {
-            end = mark.end.max(end);
-        }
-    }
-    end
-}
-
-/// A slice that goes, with the blanks after it; at the end of its holder with those before it.
+/// A slice that goes, with the blanks after it; at the end of its holder with those before it, also with the line break
+/// that ends the line of a comment or an include tag: the one after the slice ends this line then.
 fn with_blanks(page: &str, gap: Gap<'_, '_, '_>, slice: Slot) -> Slot {
     let end = past_blanks(page, slice.end, gap.place.end);
     if gap.behind.is_none() && end == gap.place.end {
         return Slot {
-            start: back_over_blanks(page, behind_marks(gap, slice.start), slice.start),
+            start: back_over_blanks(page, gap.place.start, slice.start),
             end: slice.end,
         };
     }
     Slot {
         start: slice.start,
         end,
-    }
-}
-
-// ---- cells that go on in a line
-
-/// Whether what begins at a place of the page is a cell that goes on in a line, by its two signs.
-fn is_doubled_at(page: &str, at: usize) -> bool {
-    let sign = byte_at(page, at);
-    (sign == b'|' || sign == b'!') && sign == byte_at(page, at.saturating_add(1))
-}
-
-/// Whether a node is such a cell. One with a single sign may hold nothing before the two of the next.
-fn is_doubled(page: &str, node: &Node<'_>) -> bool {
-    let width = match node.ranges {
-        Some(ranges) => ranges.open_w,
-        None => 0,
-    };
-    is_cell(node.kind) && width > 1 && is_doubled_at(page, range_of(node).start)
-}
-
-/// Whether a line begins after what is written at a place of the page.
-fn leaves_line_start(page: &str, at: usize, by: &str) -> bool {
-    match by.as_bytes().last() {
-        Some(byte) => *byte == b'\n',
-        None => is_at_line_start(page, at),
     }
 }
 
@@ -195,12 +152,8 @@ fn push_part_of(
         && leaves_line_start(page, place.start, by.as_str())
     {
         if is_doubled(page, node) {
-            by.push_str(if matches!(node.kind, Kind::Th) {
-                "!"
-            } else {
-                "|"
-            })?;
             end = end.saturating_add(2);
+            by.push_str(sign_at_line_start(page, node, end))?;
         } else if is_item(node.kind) {
             push_missing_signs(alloc, &mut by, known, node)?;
         }
@@ -334,7 +287,8 @@ fn signs_in(
     }
 }
 
-/// What comes: the kinds of the first and the last, whether the last is of one line, and how it is written.
+/// What comes: the kinds of the first and the last, whether the last is of one line, in which a cell may follow, and how
+/// it is written.
 #[derive(Drop)]
 struct Coming {
     first: Kind,
@@ -356,10 +310,12 @@ fn count_of(nodes: &[Node<'_>]) -> usize {
 
 /// The text at the end of the block before, where the last of those that come may be its second half.
 fn tail_of<'t, 'a>(gap: Gap<'_, 't, 'a>, left: usize) -> Option<&'t Node<'a>> {
-    match gap.before {
-        Some(before) if left == 0 => last_text(inside(before)),
-        _ => None,
-    }
+    if left == 0 { gap.text_before } else { None }
+}
+
+/// The text at the end of a block.
+fn text_at_end<'t, 'a>(block: Option<&'t Node<'a>>) -> Option<&'t Node<'a>> {
+    last_text(inside(block?))
 }
 
 /// How what comes is written: as the item, cell or row beside it, or, where lists come in an item, as this one.
@@ -382,7 +338,7 @@ fn coming_of<'t, 'a>(
     let mut coming: Option<Coming> = None;
     let mut left = count_of(gap.new);
     let mut block = gap.first;
-    let beside = style_beside(gap);
+    let mut before = None;
     for node in gap.new {
         if is_compared(node.kind) {
             left = left.saturating_sub(1);
@@ -393,9 +349,13 @@ fn coming_of<'t, 'a>(
                 keeps,
                 signs: signs.as_str(),
                 tail: tail_of(gap, left),
-                style: if keeps { beside } else { USUAL },
+                style: if keeps { gap.style } else { USUAL },
             };
-            coming = Some(followed(alloc, gap.is_tight, coming, around, node)?);
+            coming = Some(match coming {
+                None => begun_with(alloc, around, node)?,
+                Some(coming) => followed(alloc, gap.is_tight, coming, around, before, node)?,
+            });
+            before = Some(node);
             block = block.next();
         }
     }
@@ -409,41 +369,56 @@ fn has_break_from(source: &str, start: usize) -> bool {
     }
 }
 
-/// What came so far, and this one after it.
-fn followed(
+/// Whether a node, whose source is the end of this one, is of one line, in which a cell may follow: a text that ends with
+/// the sign of a heading cell would be read with the signs of the next.
+fn may_go_on(source: &str, start: usize, node: &Node<'_>) -> bool {
+    let is_heading_text = matches!(node.kind, Kind::Th) && !inside(node).is_empty();
+    let joins = is_heading_text && source.ends_with("!");
+    !joins && !has_break_from(source, start)
+}
+
+/// The first that comes.
+fn begun_with(
     alloc: Global,
-    is_tight: bool,
-    coming: Option<Coming>,
     around: Surroundings<'_, '_, '_>,
     node: &Node<'_>,
 ) -> Result<Coming, NoMemory> {
-    let mut all = match coming {
-        None => Coming {
-            first: node.kind,
-            last: node.kind,
-            is_of_line: true,
-            source: Str::new(alloc),
-        },
-        Some(before) => {
-            let Coming {
-                first,
-                last,
-                is_of_line: _,
-                mut source,
-            } = before;
-            push_breaks(&mut source, between(is_tight, last, node.kind))?;
-            Coming {
-                first,
-                last: node.kind,
-                is_of_line: true,
-                source,
-            }
-        }
-    };
-    let start = all.source.as_str().len();
-    push_block(alloc, &mut all.source, around, node)?;
-    all.is_of_line = !has_break_from(all.source.as_str(), start);
-    Ok(all)
+    let mut source = Str::new(alloc);
+    push_block(alloc, &mut source, around, node)?;
+    Ok(Coming {
+        first: node.kind,
+        last: node.kind,
+        is_of_line: may_go_on(source.as_str(), 0, node),
+        source,
+    })
+}
+
+/// What came so far, and this one after it, which comes after that one.
+fn followed(
+    alloc: Global,
+    is_tight: bool,
+    coming: Coming,
+    around: Surroundings<'_, '_, '_>,
+    before: Option<&Node<'_>>,
+    node: &Node<'_>,
+) -> Result<Coming, NoMemory> {
+    let Coming {
+        first,
+        last,
+        is_of_line: _,
+        mut source,
+    } = coming;
+    if !push_if_in_line(alloc, &mut source, around, before, node)? {
+        push_breaks(&mut source, between(is_tight, last, node.kind))?;
+    }
+    let start = source.as_str().len();
+    push_block(alloc, &mut source, around, node)?;
+    Ok(Coming {
+        first,
+        last: node.kind,
+        is_of_line: may_go_on(source.as_str(), start, node),
+        source,
+    })
 }
 
 /// Where those come that take no other's place: after the child before, or before the one after.
@@ -478,11 +453,6 @@ fn breaks_before(
     } else {
         missing
     }
-}
-
-/// Whether a cell of the page goes on in the line of the one before it, and may do so after one of this kind.
-fn shares_line(page: &str, last: Kind, cell: &Node<'_>) -> bool {
-    is_cell(last) && same_kind(last, cell.kind) && is_doubled(page, cell)
 }
 
 /// The line breaks after it, up to what comes after or to the next slice that goes. After all that a cell holds
@@ -530,7 +500,7 @@ fn push_line_of_item(
     gap: Gap<'_, '_, '_>,
 ) -> Result<(), NoMemory> {
     match gap.behind {
-        Some(item) if is_item(item.kind) && item.opening().is_empty() => {
+        Some(item) if is_item(item.kind) && item.opening().is_empty() && !gap.gets_line => {
             let signs = signs_of(alloc, known, item)?;
             out.push_str("\n")?;
             out.push_str(signs.as_str())?;
@@ -578,12 +548,6 @@ fn takes_place_in_line(page: &str, gap: Gap<'_, '_, '_>, coming: &Coming, at: us
         && coming.is_of_line
         && is_doubled_at(page, at)
         && !is_at_line_start(page, at)
-}
-
-/// Appends a cell that goes on in a line, given as it begins one.
-fn push_in_line(out: &mut Str, cell: &str) -> Result<(), NoMemory> {
-    out.push_str(if cell.starts_with("!") { "!" } else { "|" })?;
-    out.push_str(cell)
 }
 
 /// Appends what comes, in the place of the first slice that goes.
@@ -694,8 +658,10 @@ impl Passed {
             in_row_without_sign: gap.in_row_without_sign,
             style: gap.style,
             before: gap.before,
+            text_before: gap.text_before,
             is_behind_text: gap.is_behind_text,
             behind: gap.behind,
+            gets_line: gap.gets_line,
             gone: children_between(gap.gone, self.gone, gone),
             new: nodes_between(gap.new, self.new, new),
             first: self.first,
@@ -737,6 +703,11 @@ pub fn push_gap<'t, 'a>(
     if count_of(gap.new) == 0 {
         return push_part(alloc, out, plan, outer, gap);
     }
+    let gap = Gap {
+        style: style_beside(gap),
+        text_before: text_at_end(gap.before),
+        ..gap
+    };
     let mut passed = Passed::of(gap);
     let mut from = 0;
     let last = last_number(gap.gone);

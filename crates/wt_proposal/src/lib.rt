@@ -5,12 +5,7 @@
 mod blanks;
 mod breaks;
 mod children;
+mod lines;
 mod proposing;
-mod reached;
-mod slot;
-mod slots;
-mod testing;
 
 pub use proposing::{Keeping, proposal};
-pub use slot::Slot;
-pub use slots::places;

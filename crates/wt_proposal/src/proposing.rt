@@ -4,24 +4,24 @@ ghost use Rattle.std.specs.Prelude.{◌≡◌, IfOk, IfSome};
 ghost use Rattle.wt_checks.specs.Places.{page_of};
 ghost use Rattle.wt_checks.specs.View.{indexed};
 ghost use Rattle.wt_tree.specs.View.{view};
-ghost use Rattle.wt_proposal.specs.Rewritten.{IsRewritten};
+ghost use Rattle.wt_places.specs.Rewritten.{IsRewritten};
 
+use crate::blanks::byte_at;
 use crate::children::{Gap, push_change, push_gap};
-use crate::reached::Reached;
-use crate::slot::Slot;
-use crate::slots::{
-    Beside, begun, counts, inside_end, inside_start, inside_stop, next_turn, places, start_of,
-};
-use crate::testing::tested;
 use std::alloc::Global;
 use wt_block_proposal::{
-    Style, USUAL, is_bare_sign, is_cell, is_item, is_list, is_row_without_sign, signs_of, style_of,
+    Style, USUAL, is_bare_sign, is_cell, is_item, is_list, is_row_without_sign, joins_sign,
+    signs_of, style_of, style_within,
 };
 use wt_checks::{Visit, is_compared};
 use wt_content_proposal::{Known, Writing, block_of, edges_of, spelled};
 use wt_difference::{Child, held, inside, same_inside};
-use wt_selser::{Change, place_in};
+use wt_places::{
+    Beside, Reached, Slot, begun, counts, inside_end, inside_start, inside_stop, next_turn, places,
+    start_of, tested,
+};
 use wt_span::{NoMemory, Str};
+use wt_splice::Change;
 use wt_tree::{Kind, Node};
 
 /// Where texts keep their bytes: everywhere, everywhere but in the block with this number (from 1, among what
@@ -95,6 +95,44 @@ fn is_behind_blank(changes: &[Change], at: usize) -> bool {
     }
 }
 
+/// The first byte of the text with which an inside begins; a space where it begins with none.
+fn first_byte(inside: &[Node<'_>]) -> u8 {
+    match inside.first() {
+        Some(node) if matches!(node.kind, Kind::Text) => {
+            node.shown().as_bytes().first().copied().unwrap_or(b' ')
+        }
+        _ => b' ',
+    }
+}
+
+/// Whether an inside begins with a text now that would be read with the sign before it: a blank comes between them.
+fn begins_with_sign(before: u8, new: &Node<'_>, old: &Node<'_>) -> bool {
+    let first = first_byte(inside(new));
+    first != first_byte(inside(old)) && joins_sign(old.kind, before, first)
+}
+
+/// Whether the bar after the attributes of a cell would join the signs of the next one, if the cell holds nothing.
+fn meets_next_sign(page: &str, old: &Node<'_>, place: Slot) -> bool {
+    let width = match old.ranges {
+        Some(ranges) => ranges.open_w,
+        None => 0,
+    };
+    is_cell(old.kind)
+        && width > 2
+        && byte_at(page, place.start.saturating_sub(1)) == b'|'
+        && byte_at(page, place.end) == b'|'
+}
+
+/// The inside of a heading cell before the signs of the next one: its last character isn't read with these.
+fn apart_from_sign(alloc: Global, inside: Str) -> Result<Str, NoMemory> {
+    let Some(front) = inside.as_str().strip_suffix("!") else {
+        return Ok(inside);
+    };
+    let mut out = Str::copy_of(alloc, front)?;
+    out.push_str("&#33;")?;
+    Ok(out)
+}
+
 /// Appends the inside of a node of the page, spelled as it was edited.
 fn push_inside<'t, 'a>(
     alloc: Global,
@@ -109,23 +147,123 @@ fn push_inside<'t, 'a>(
     }
     let start = inside_start(old.ranges);
     let mut standing = block_of(alloc, old)?;
+    let keeps = plan.keeps(number);
+    let mut by = Str::new(alloc);
     if is_behind_blank(out.as_slice(), start) {
         standing.before = b' ';
+    } else if keeps && begins_with_sign(standing.before, new, old) {
+        by.push_str(" ")?;
+        standing.before = b' ';
     }
-    let keeps = plan.keeps(number);
-    let writing = Writing::of(plan.known, Some(&standing), keeps, place_in(old.kind));
-    let by = spelled(alloc, writing, inside(new), edges_of(inside(old)))?;
+    let writing = Writing::of(
+        plan.known,
+        Some(&standing),
+        keeps,
+        old.kind.edit_shape().place,
+    );
+    let source = spelled(alloc, writing, inside(new), edges_of(inside(old)))?;
+    by.push_str(source.as_str())?;
     let place = Slot {
         start,
         end: inside_end(old),
     };
+    if keeps && by.as_str().is_empty() && meets_next_sign(plan.known.page, old, place) {
+        by.push_str(" ")?;
+    }
+    if matches!(old.kind, Kind::Th) && byte_at(plan.known.page, place.end) == b'!' {
+        by = apart_from_sign(alloc, by)?;
+    }
     push_change(out, place, by)
+}
+
+// ---- items without a line
+
+/// Whether the first of these nodes that counts is a list or a group; not where none counts.
+fn begin_with_list(nodes: &[Node<'_>]) -> bool {
+    for node in nodes {
+        if is_compared(node.kind) {
+            return is_list(node.kind) || matches!(node.kind, Kind::Group);
+        }
+    }
+    false
+}
+
+/// Whether an item of the page that had no line of its own gets one: it has text now, or no list begins on its line.
+fn gets_line(new: &Node<'_>, old: &Node<'_>) -> bool {
+    is_item(old.kind) && old.opening().is_empty() && !begin_with_list(new.children.as_slice())
+}
+
+/// Past the signs of an item, which may begin at this place of the page.
+fn past_signs(page: &str, from: usize) -> usize {
+    for at in from..page.len() {
+        if !matches!(byte_at(page, at), b'*' | b'#' | b':' | b';') {
+            return at;
+        }
+    }
+    from.max(page.len())
+}
+
+/// How an item is written that gets a line before the line of its first inner item, which is at this place.
+fn style_at(page: &str, at: usize) -> Style {
+    let first = byte_at(page, past_signs(page, at));
+    Style {
+        is_tight: !matches!(first, b' ' | b'\t' | b'\n'),
+        is_one_line: false,
+    }
+}
+
+/// Appends the line of an item that had none: its signs, its inside, and a line break where it holds lists.
+fn push_own_line<'t, 'a>(
+    alloc: Global,
+    out: &mut Vec<Change>,
+    plan: Plan<'_, 't, 'a>,
+    number: usize,
+    new: &'t Node<'a>,
+    old: &'t Node<'a>,
+) -> Result<(), NoMemory> {
+    let start = inside_start(old.ranges);
+    let block = block_of(alloc, old)?;
+    let writing = Writing::of(
+        plan.known,
+        Some(&block),
+        plan.keeps(number),
+        old.kind.edit_shape().place,
+    );
+    let source = spelled(alloc, writing, inside(new), edges_of(inside(old)))?;
+    let mut by = signs_of(alloc, plan.known, old)?;
+    if !source.as_str().is_empty() {
+        by.push_str(style_at(plan.known.page, start).blank_before(source.as_str()))?;
+        by.push_str(source.as_str())?;
+    }
+    if holds_blocks(new) {
+        by.push_str("\n")?;
+    }
+    push_change(out, Slot { start, end: start }, by)
+}
+
+/// Whether something that counts comes after the inside of a node.
+fn holds_blocks(node: &Node<'_>) -> bool {
+    let nodes = node.children.as_slice();
+    for block in nodes_between(nodes, inside(node).len(), nodes.len()) {
+        if is_compared(block.kind) {
+            return true;
+        }
+    }
+    false
 }
 
 // ---- children
 
+/// A node of the page that stays, and the part of its list or table that is beside it in the page.
+#[derive(Clone, Copy)]
+struct Part<'t, 'a> {
+    old: &'t Node<'a>,
+    beside: Option<&'t Node<'a>>,
+}
+
 /// The children that a node of the page holds, the signs with which it begins where it is an item, its kind, whether it
-/// is a row without a sign of its own, how lists are written in it, its number, and where its children begin and end.
+/// is a row without a sign of its own, how new lists or cells are written in it, its number, and where its children
+/// begin and end.
 #[derive(Clone, Copy)]
 struct Held<'w, 't, 'a> {
     children: &'w [Child<'t, 'a>],
@@ -150,7 +288,7 @@ struct Line {
 }
 
 /// A gap, by how many of the page's children come before it, whether the last of them is text alone as it was edited,
-/// and by how many come before what comes after it.
+/// by how many come before what comes after it, and whether this is an item that gets a line of its own.
 #[derive(Clone, Copy)]
 struct Span {
     place: Slot,
@@ -158,6 +296,7 @@ struct Span {
     is_behind_text: bool,
     to: usize,
     is_last: bool,
+    gets_line: bool,
     first: Numbering,
 }
 
@@ -227,6 +366,7 @@ impl Line {
             is_behind_text: self.is_behind_text(nodes),
             to: self.from.saturating_add(passed).saturating_sub(1),
             is_last: false,
+            gets_line: false,
             first: self.first,
         }
     }
@@ -242,6 +382,7 @@ impl Line {
             is_behind_text: self.is_behind_text(nodes),
             to: held.children.len(),
             is_last: true,
+            gets_line: false,
             first: self.first,
         }
     }
@@ -309,8 +450,10 @@ fn push_span<'t, 'a>(
         in_row_without_sign: held.is_without_sign,
         style: held.style,
         before: node_at(held.children, span.from.checked_sub(1)),
+        text_before: None,
         is_behind_text: span.is_behind_text,
         behind,
+        gets_line: span.gets_line,
         gone: children_between(held.children, span.from, span.to),
         new,
         first: span.first,
@@ -338,15 +481,21 @@ fn part_at<'t, 'a>(children: &[Child<'t, 'a>], at: usize) -> Option<&'t Node<'a>
     }
 }
 
-/// Appends the blank after the sign of an empty part that is filled, unless the one beside it has text and none.
+/// Appends the blank after the sign of an empty part that is filled, unless those of its row, or the one beside it,
+/// have text and none.
 fn push_blank(
     alloc: Global,
     out: &mut Vec<Change>,
     new: &Node<'_>,
-    old: &Node<'_>,
-    beside: Option<&Node<'_>>,
+    part: Part<'_, '_>,
+    is_tight: bool,
 ) -> Result<(), NoMemory> {
-    if !is_bare_sign(old) || style_of(beside).is_tight || same_inside(alloc, old, new)? {
+    let Part { old, beside } = part;
+    if !is_bare_sign(old)
+        || is_tight
+        || style_of(beside).is_tight
+        || same_inside(alloc, old, new)?
+    {
         return Ok(());
     }
     let start = inside_start(old.ranges);
@@ -376,21 +525,28 @@ fn push_children<'t, 'a>(
         let turn = next_turn(plan.known.index, beside, child);
         if let Some(place) = turn.gap {
             let new = nodes_between(nodes, line.came_from, at);
-            push_span(
-                alloc,
-                out,
-                plan,
-                held,
-                new,
-                line.span(nodes, place, turn.passed),
-            )?;
+            let mut span = line.span(nodes, place, turn.passed);
+            span.gets_line = match turn.within {
+                Some(within) => gets_line(child, within),
+                None => false,
+            };
+            push_span(alloc, out, plan, held, new, span)?;
         }
         if let Some(within) = turn.within {
+            let part = Part {
+                old: within,
+                beside: part_beside(held, line.from, turn.passed),
+            };
             if plan.keeps(line.block.number) {
-                let beside = part_beside(held, line.from, turn.passed);
-                push_blank(alloc, out, child, within, beside)?;
+                push_blank(
+                    alloc,
+                    out,
+                    child,
+                    part,
+                    held.style.is_tight && is_cell(within.kind),
+                )?;
             }
-            push_node(alloc, out, plan, child, within, line.block.inside())?;
+            push_node(alloc, out, plan, child, part, line.block.inside())?;
         }
         line = line.behind(turn.passed, turn.reached, at);
     }
@@ -398,12 +554,12 @@ fn push_children<'t, 'a>(
     push_span(alloc, out, plan, held, new, line.last_span(nodes, held))
 }
 
-/// How new lists are written in a node of the page: in an item as this one is.
-fn style_in(node: &Node<'_>) -> Style {
-    if is_item(node.kind) {
-        style_of(Some(node))
-    } else {
-        USUAL
+/// How new parts are written in a node of the page: lists in an item as this one is, cells in a row as those of it.
+fn style_in(part: Part<'_, '_>) -> Style {
+    match part.old.kind {
+        Kind::Tr => style_within(part.old, part.beside),
+        kind if is_item(kind) => style_of(Some(part.old)),
+        _ => USUAL,
     }
 }
 
@@ -414,10 +570,15 @@ fn push_node<'t, 'a>(
     out: &mut Vec<Change>,
     plan: Plan<'_, 't, 'a>,
     new: &'t Node<'a>,
-    old: &'t Node<'a>,
+    part: Part<'t, 'a>,
     block: Numbering,
 ) -> Result<(), NoMemory> {
-    push_inside(alloc, out, plan, block.number, new, old)?;
+    let old = part.old;
+    if gets_line(new, old) {
+        push_own_line(alloc, out, plan, block.number, new, old)?;
+    } else {
+        push_inside(alloc, out, plan, block.number, new, old)?;
+    }
     let children = held(alloc, old)?;
     let signs = signs_of(alloc, plan.known, old)?;
     let begun = begun(old);
@@ -426,7 +587,7 @@ fn push_node<'t, 'a>(
         signs: signs.as_str(),
         kind: old.kind,
         is_without_sign: is_row_without_sign(old),
-        style: style_in(old),
+        style: style_in(part),
         number: old.id,
         begun,
         stop: inside_stop(old.ranges),
@@ -455,7 +616,11 @@ fn changes_of<'t, 'a>(
         grows: true,
     };
     let mut out = Vec::new(alloc);
-    push_node(alloc, &mut out, plan, edited, tree, body)?;
+    let whole = Part {
+        old: tree,
+        beside: None,
+    };
+    push_node(alloc, &mut out, plan, edited, whole, body)?;
     Ok(out)
 }
 

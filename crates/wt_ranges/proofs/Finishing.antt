@@ -1,5 +1,5 @@
 -- Nodes that get their numbers and whose texts are cut anew, one after another.
-use Rattle.std.proofs.Common.{◌≡◌, ℕ, ◌+◌, ◌≤◌, Bool, true, false, Some, List, [], ◌∷◌, ◌++◌, length, map, refl, sym, ap, ◌∙◌, subst, cond, arith, append_assoc, append-nil}
+use Rattle.std.proofs.Common.{◌≡◌, ℕ, ◌+◌, ◌^◌, ◌<◌, ◌≤◌, Bool, true, false, Some, List, [], ◌∷◌, ◌++◌, length, map, refl, sym, ap, ◌∙◌, subst, cond, arith, append_assoc, append-nil}
 use Rattle.std.specs.List.{AllByRecursion}
 use Rattle.std.proofs.lemmas.List.{map-append}
 use Rattle.wt_tree.specs.declared.node.Node.{Node}
@@ -147,6 +147,46 @@ node_finished calls c f h rs cs us u next first behind after e g i a n j s v b =
     (is_no_group (is_group k.kind) (is_leaf k.kind) (group_leaf k.kind) e) (sym whole) (j ∙ ap (λ (m : NodeHead). next_after m.kind next) i) s
     (v ∙ ap (λ (m : NodeHead). with_number next (tree (framed f m) (cut_as (texts_of_kind m.kind) us))) i) b
 
+-- ---- numbers below 2^32
+
+own_at_most : (n : Bool) (next k : ℕ) → cond n (next + 1) next ≤ next + (cond n 1 0 + k)
+own_at_most true next k = omega arith
+own_at_most false next k = omega arith
+
+own_room : (t : Tree) (next : ℕ) → next + count t < 2 ^ 32 → next_after (label t).kind next < 2 ^ 32
+own_room (tree l ts) next h =
+    let k : ℕ = cond (is_group l.kind) 0 (count_all ts) in
+    omega (arith, own_at_most (is_numbered l.kind) next k, h)
+
+pub alone_room : (t u : Tree) (next : ℕ) → t ≡ u → next + count u < 2 ^ 32 → next_after (label t).kind next < 2 ^ 32
+alone_room t u next e h = let f : count t ≡ count u = ap count e in own_room t next (omega (arith, f, h))
+
+-- a node by its head
+pub head_room : (calls : List OuterCall) (c : Child) (h : NodeHead) (next : ℕ) → h ≡ (out-PieceTree c.tree).head
+    → next + count (near_of calls c).whole < 2 ^ 32 → next_after h.kind next < 2 ^ 32
+head_room calls c h next e room =
+    let whole : Tree = (near_of calls c).whole in
+    let same : (label whole).kind ≡ h.kind =
+    ap (λ t. (label (walked calls (group_data calls) c.before c.byte c.after t)).kind) (item_tree_out c.tree)
+    ∙ ap (λ (k : NodeHead). k.kind) (sym e) in
+    subst (λ k. next_after k next < 2 ^ 32) same (own_room whole next room)
+
+-- and what is in it
+pub inner_room : (calls : List OuterCall) (c : Child) (f : Frame) (rs : List Run) (cs : List Child) (next first : ℕ)
+    → is_leaf (out-PieceTree c.tree).head.kind ≡ false → IsFrame calls c f → AreRunsOf rs cs
+    → nears_of calls cs ≡ children_at calls f.before f.byte f.after (item_trees (out-PieceTree c.tree).children)
+    → first ≡ next_after (out-PieceTree c.tree).head.kind next → next + count (near_of calls c).whole < 2 ^ 32
+    → first + count_all (trees (map (run_tree calls) rs)) < 2 ^ 32
+inner_room calls c f rs cs next first e g a n i room =
+    let k : NodeHead = (out-PieceTree c.tree).head in
+    let ts : Trees = trees (map (run_tree calls) rs) in
+    let whole : tree (framed f k) ts ≡ (near_of calls c).whole =
+    inner_kept calls c f ts (tree (framed f k) ts) e g refl (ap trees (a.become calls ∙ ap (near_runs calls (group_data calls)) n)) in
+    let same : count (tree (framed f k) ts) ≡ count (near_of calls c).whole = ap count whole in
+    let sum = own_and_inside (is_numbered k.kind) (is_group k.kind) next (count_all ts)
+    (is_no_group (is_group k.kind) (is_leaf k.kind) (group_leaf k.kind) e) in
+    omega (arith, i, same, sum, room)
+
 -- ---- runs, one after another
 
 abbrev pub finished_list : ℕ → List Tree → List Tree
@@ -181,6 +221,13 @@ runs_next calls done behind next rs ss all r s e =
     let f : AllByRecursion (RunFits calls) (r ∷ ss) = subst (AllByRecursion (RunFits calls)) e s.fit in
     let w : runs_size rs ≡ run_size r + runs_size ss = ap runs_size e in
     (f.0, omega (arith, w, s.size))
+
+pub runs_room : (calls : List OuterCall) (done : List Node) (behind next : ℕ) (rs ss all : List Run) (r : Run) → RunsSoFar calls done behind rs next all
+    → rs ≡ r ∷ ss → next + count_all (trees (map (run_tree calls) all)) < 2 ^ 32 → behind + count (run_tree calls r) < 2 ^ 32
+runs_room calls done behind next rs ss all r s e h =
+    let f : count_all (trees (map (run_tree calls) rs)) ≡ count (run_tree calls r) + count_all (trees (map (run_tree calls) ss)) =
+    ap (λ (qs : List Run). count_all (trees (map (run_tree calls) qs))) e in
+    omega (arith, s.next_is, f, h)
 
 pub runs_step : (calls : List OuterCall) (ms us : List Node) (u : Node) (behind after next : ℕ) (rs ss all : List Run) (r : Run)
     → RunsSoFar calls ms behind rs next all → rs ≡ r ∷ ss → IsFinished behind (run_tree calls r) (view u) after → us ≡ ms ++ u ∷ []

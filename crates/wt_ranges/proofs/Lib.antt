@@ -1,8 +1,10 @@
+pub mod CarriedNumbers
 pub mod CarriedParts
 pub mod ChildWalks
 pub mod Finishing
 pub mod GroupNodes
 pub mod Groupings
+pub mod Headings
 pub mod KeptNodes
 pub mod RunCuts
 pub mod TreeSeams

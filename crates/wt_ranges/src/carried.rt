@@ -1,12 +1,13 @@
 //! What the element of a group carries: its calls, and the slices of the page between them.
 
-ghost use Rattle.std.specs.Prelude.{◌≡◌, ◌++◌, All, IfOk, MatchOption, None, OnOk, Some, slice_get};
+ghost use Rattle.std.specs.Prelude.{◌≡◌, ◌+◌, ◌^◌, ◌<◌, ◌≤◌, ◌++◌, All, IfOk, MatchOption, None, OnOk, Some, length, slice_get};
 ghost use Rattle.wt_span.specs.Items.{items, items_of};
 ghost use Rattle.wt_span.specs.Origins.{IsSoundCall, outer_call};
 ghost use Rattle.wt_span.specs.Slice.{bytes_of};
 ghost use Rattle.wt_ranges.specs.DataSoFar.{CallFound, Continues, TextFound, begins_at};
 ghost use Rattle.wt_annotated.specs.GroupData.{call_parts, group_data, literal_if_any, next_number};
 ghost use Rattle.wt_annotated.specs.Pieces.{outer_calls};
+ghost use Rattle.wt_annotated.specs.Seams.{text_from};
 ghost use Rattle.wt_annotated.specs.Walked.{parts_from};
 
 use std::alloc::Global;
@@ -24,17 +25,12 @@ pub struct PartsSoFar {
     pub since: Option<Str>,
 }
 
-/// The number of the call after this one; more calls than there are numbers don't fit into memory.
-fn next_number(outer: &Outer<'_>, number: u32) -> Result<u32, NoMemory>
-    ensures { IfOk result (λ n. n ≡ next_number (Some (outer_call outer.now)) number) }
+/// The number of the call after this one.
+fn next_number(outer: &Outer<'_>, number: u32) -> u32
+    requires { next_number (Some (outer_call outer.now)) number < 2 ^ 32 }
+    ensures { result ≡ next_number (Some (outer_call outer.now)) number }
 {
-    if outer.argument {
-        return Ok(number);
-    }
-    if number == u32::MAX {
-        return Err(NoMemory);
-    }
-    Ok(number + 1)
+    if outer.argument { number } else { number + 1 }
 }
 
 /// Appends the slice since the last call, if there is one and it isn't empty.
@@ -64,14 +60,15 @@ fn push_call<'a>(
     call: u32,
     number: u32,
 ) -> Result<u32, NoMemory>
-    requires { All IsSoundCall (outer_calls calls.now) }
+    requires sound { All IsSoundCall (outer_calls calls.now) }
+    requires room { next_number (slice_get (outer_calls calls.now) call) number < 2 ^ 32 }
     ensures parts { OnOk result (parts.new ≡ parts.old ++ call_parts (slice_get (outer_calls calls.now) call) number) }
     ensures number { IfOk result (λ n. n ≡ next_number (slice_get (outer_calls calls.now) call) number) }
 {
     match call_at(calls, call) {
         None => Ok(number),
         Some(outer) => {
-            let next = next_number(outer, number)?;
+            let next = next_number(outer, number);
             parts.push(call_part(alloc, outer, number)?)?;
             Ok(next)
         }
@@ -108,7 +105,8 @@ fn with_call<'a>(
     found: PartsSoFar,
     call: u32,
 ) -> Result<PartsSoFar, NoMemory>
-    requires { All IsSoundCall (outer_calls calls.now) }
+    requires sound { All IsSoundCall (outer_calls calls.now) }
+    requires room { next_number (slice_get (outer_calls calls.now) call) found.number < 2 ^ 32 }
     ensures { IfOk result (λ f. CallFound (outer_calls calls.now) found call f) }
 {
     let PartsSoFar {
@@ -140,8 +138,10 @@ fn with_piece<'a>(
     before: Option<u32>,
     piece: Piece<'a>,
 ) -> Result<PartsSoFar, NoMemory>
-    requires { All IsSoundCall (outer_calls calls.now) }
-    ensures { IfOk result (λ f. Continues (outer_calls calls.now) before found (items_of piece.entry) f) }
+    requires sound { All IsSoundCall (outer_calls calls.now) }
+    requires room { found.number + length (text_from (outer_calls calls.now) before (items_of piece)) < 2 ^ 32 }
+    ensures parts { IfOk result (λ f. Continues (outer_calls calls.now) before found (items_of piece.entry) f) }
+    ensures number { IfOk result (λ f. f.number ≤ found.number + length (text_from (outer_calls calls.now) before (items_of piece.entry))) }
 {
     if !begins(before, piece) {
         return Ok(found);
@@ -160,7 +160,8 @@ pub fn group_data<'a>(
     before: Option<u32>,
     pieces: &[Piece<'a>],
 ) -> Result<Option<DataMw>, NoMemory>
-    requires { All IsSoundCall (outer_calls calls.now) }
+    requires sound { All IsSoundCall (outer_calls calls.now) }
+    requires few { length (text_from (outer_calls calls.now) before (items pieces.now)) < 2 ^ 32 }
     ensures { IfOk result (λ d. d ≡ group_data (outer_calls calls.now) (parts_from before None (items pieces.now))) }
 {
     let mut found = PartsSoFar {

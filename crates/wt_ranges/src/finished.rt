@@ -1,6 +1,6 @@
 //! Nodes with their numbers and their texts cut anew, once what they hold has these.
 
-ghost use Rattle.std.specs.Prelude.{◌≡◌, All, IfOk, Some, true};
+ghost use Rattle.std.specs.Prelude.{◌≡◌, ◌+◌, ◌^◌, ◌<◌, All, IfOk, Some, true};
 ghost use Rattle.wt_span.specs.Origins.{IsSoundCall};
 ghost use Rattle.wt_tree.specs.Kinds.{is_leaf, texts_of_kind};
 ghost use Rattle.wt_tree.specs.Tree.{label, tree};
@@ -10,7 +10,7 @@ ghost use Rattle.wt_inline.specs.declared.tree.PieceTree.{out-PieceTree};
 ghost use Rattle.wt_annotated.specs.CutTexts.{cut_as};
 ghost use Rattle.wt_annotated.specs.GroupData.{group_data};
 ghost use Rattle.wt_annotated.specs.Nodes.{node_label};
-ghost use Rattle.wt_annotated.specs.Numbering.{next_after};
+ghost use Rattle.wt_annotated.specs.Numbering.{count, next_after};
 ghost use Rattle.wt_annotated.specs.Pieces.{outer_calls};
 ghost use Rattle.wt_annotated.specs.Walked.{near_group};
 ghost use Rattle.wt_ranges.specs.Children.{near_of, nears_of};
@@ -51,15 +51,16 @@ fn with_number<'a>(node: Node<'a>, next: u32) -> Node<'a>
 
 /// A node without children that are numbered, with its number.
 #[tactic(auto, using(wt_tree::proofs::Views::view_out))]
-fn alone<'a>(node: Node<'a>, next: u32) -> Result<Finished<'a>, NoMemory>
-    ensures tree { IfOk result (λ m. view m.node ≡ with_number next (view node.entry)) }
-    ensures number { IfOk result (λ m. m.next ≡ next_after (label (view node.entry)).kind next) }
+fn alone<'a>(node: Node<'a>, next: u32) -> Finished<'a>
+    requires { next_after (label (view node)).kind next < 2 ^ 32 }
+    ensures tree { view result.node ≡ with_number next (view node.entry) }
+    ensures number { result.next ≡ next_after (label (view node.entry)).kind next }
 {
-    let behind = next_after(node.kind, next)?;
-    Ok(Finished {
+    let behind = next_after(node.kind, next);
+    Finished {
         node: with_number(node, next),
         next: behind,
-    })
+    }
 }
 
 /// A leaf that is kept.
@@ -71,11 +72,11 @@ pub fn finished_leaf<'a>(
 ) -> Result<Finished<'a>, NoMemory>
     requires leaf { is_leaf (out-PieceTree child.tree).head.kind ≡ true }
     requires fits { Fits (outer_calls calls.now) child }
+    requires number { next + count (near_of (outer_calls calls.now) child).whole < 2 ^ 32 }
     ensures { IfOk result (λ m. IsFinished next (near_of (outer_calls calls.now) child.entry).whole (view m.node) m.next) }
 {
     let leaf = kept_leaf(alloc, calls, child)?;
-    let finished = alone(leaf, next)?;
-    Ok(finished)
+    Ok(alone(leaf, next))
 }
 
 /// The group of these children.
@@ -87,12 +88,13 @@ pub fn finished_group<'a>(
 ) -> Result<Finished<'a>, NoMemory>
     requires sound { All IsSoundCall (outer_calls calls.now) }
     requires fit { NearsFit (outer_calls calls.now) (nears_of (outer_calls calls.now) children) }
+    requires number { next + count (near_group (outer_calls calls.now) (group_data (outer_calls calls.now))
+        (nears_of (outer_calls calls.now) children)) < 2 ^ 32 }
     ensures { IfOk result (λ m. IsFinished next (near_group (outer_calls calls.now) (group_data (outer_calls calls.now))
         (nears_of (outer_calls calls.now) children.entry)) (view m.node) m.next) }
 {
     let group = group_node(alloc, calls, children)?;
-    let finished = alone(group, next)?;
-    Ok(finished)
+    Ok(alone(group, next))
 }
 
 /// A node that is kept, round children that are finished, in its frame.

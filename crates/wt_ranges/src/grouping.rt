@@ -1,6 +1,6 @@
 //! Grouping: from a tree over items to its tree with groups, places and numbers, its texts cut anew.
 
-ghost use Rattle.std.specs.Prelude.{◌≡◌, ◌^◌, ◌<◌, length, map, All, IfOk};
+ghost use Rattle.std.specs.Prelude.{◌≡◌, ◌+◌, ◌^◌, ◌<◌, length, map, All, IfOk};
 ghost use Rattle.std.specs.List.{AllByRecursion};
 ghost use Rattle.wt_span.specs.Cuts.{page_of};
 ghost use Rattle.wt_span.specs.Origins.{IsSoundCall};
@@ -12,6 +12,7 @@ ghost use Rattle.wt_inline.specs.View.{item_tree};
 ghost use Rattle.wt_inline.specs.declared.tree.PieceTree.{out-PieceTree};
 ghost use Rattle.wt_annotated.specs.Annotated.{annotated};
 ghost use Rattle.wt_ranges.specs.Children.{near_of};
+ghost use Rattle.wt_annotated.specs.Counted.{numbered};
 ghost use Rattle.wt_annotated.specs.CutTexts.{cut_texts};
 ghost use Rattle.wt_annotated.specs.GroupData.{group_data};
 ghost use Rattle.wt_ranges.specs.Finished.{AreFinished, IsFinished};
@@ -19,6 +20,8 @@ ghost use Rattle.wt_ranges.specs.Kept.{Fits, RunFits};
 ghost use Rattle.wt_annotated.specs.Labels.{width};
 ghost use Rattle.wt_annotated.specs.Made.{annotated_at};
 ghost use Rattle.wt_ranges.specs.OpenedChild.{IsOpened};
+ghost use Rattle.wt_annotated.specs.Numbering.{count, count_all};
+ghost use Rattle.wt_annotated.specs.NumbersNeeded.{numbers_needed};
 ghost use Rattle.wt_annotated.specs.Pieces.{outer_calls};
 ghost use Rattle.wt_ranges.specs.RunTrees.{run_tree};
 
@@ -90,6 +93,7 @@ fn run_nodes<'a>(
 ) -> Result<AllFinished<'a>, NoMemory>
     requires sound { All IsSoundCall (outer_calls calls.now) }
     requires fit { AllByRecursion (RunFits (outer_calls calls.now)) runs }
+    requires number { next + count_all (trees (map (run_tree (outer_calls calls.now)) runs)) < 2 ^ 32 }
     ensures { IfOk result (λ m. AreFinished next (trees (map (run_tree (outer_calls calls.now)) runs.entry)) (views m.nodes) m.next) }
 {
     let mut nodes = with_room(alloc, runs.len())?;
@@ -115,6 +119,7 @@ fn run_node<'a>(
 ) -> Result<Finished<'a>, NoMemory>
     requires sound { All IsSoundCall (outer_calls calls.now) }
     requires fits { RunFits (outer_calls calls.now) run }
+    requires number { next + count (run_tree (outer_calls calls.now) run) < 2 ^ 32 }
     ensures { IfOk result (λ m. IsFinished next (run_tree (outer_calls calls.now) run.entry) (view m.node) m.next) }
 {
     match run {
@@ -133,13 +138,14 @@ fn kept_node<'a>(
 ) -> Result<Finished<'a>, NoMemory>
     requires sound { All IsSoundCall (outer_calls calls.now) }
     requires fits { Fits (outer_calls calls.now) child }
+    requires number { next + count (near_of (outer_calls calls.now) child).whole < 2 ^ 32 }
     ensures { IfOk result (λ m. IsFinished next (near_of (outer_calls calls.now) child.entry).whole (view m.node) m.next) }
 {
     if is_leaf(&child) {
         return finished_leaf(alloc, calls, child, next);
     }
     let Opened { frame, head, runs } = open_child(alloc, calls, child)?;
-    let first = next_after(head.kind, next)?;
+    let first = next_after(head.kind, next);
     let inside = run_nodes(alloc, calls, runs, first)?;
     finished_inner(alloc, frame, head, inside, next)
 }
@@ -152,6 +158,7 @@ fn with_groups<'a>(
 ) -> Result<Node<'a>, NoMemory>
     requires sound { All IsSoundCall (outer_calls calls.now) }
     requires bytes { length (page_of (outer_calls calls.now) (tree_items (item_tree tree))) < 2 ^ 32 }
+    requires numbers { 1 + numbers_needed (outer_calls calls.now) (item_tree tree) < 2 ^ 32 }
     ensures { IfOk result (λ n. view n ≡ annotated (outer_calls calls.now) (group_data (outer_calls calls.now)) (item_tree tree.entry)) }
 {
     let body = Child {
@@ -168,7 +175,8 @@ fn with_groups<'a>(
 
 /// The annotated tree where no node is a group, in one pass.
 fn without_groups<'a>(alloc: Global, tree: PieceTree<'a>) -> Result<Node<'a>, NoMemory>
-    requires { width (tree_items (item_tree tree)) < 2 ^ 32 }
+    requires bytes { width (tree_items (item_tree tree)) < 2 ^ 32 }
+    requires numbers { 1 + numbered (item_tree tree) < 2 ^ 32 }
     ensures { IfOk result (λ n. view n ≡ cut_texts (annotated_at 0 1 (item_tree tree.entry))) }
 {
     let start = Cursor { place: 0, next: 1 };
@@ -184,6 +192,7 @@ pub fn group_tree<'a>(
 ) -> Result<Node<'a>, NoMemory>
     requires sound { All IsSoundCall (outer_calls calls.now) }
     requires bytes { length (page_of (outer_calls calls.now) (tree_items (item_tree tree))) < 2 ^ 32 }
+    requires numbers { 1 + numbers_needed (outer_calls calls.now) (item_tree tree) < 2 ^ 32 }
     ensures { IfOk result (λ n. view n ≡ annotated (outer_calls calls.now) (group_data (outer_calls calls.now)) (item_tree tree.entry)) }
 {
     if is_filled(&tree) {

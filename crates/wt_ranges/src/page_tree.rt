@@ -1,6 +1,6 @@
 //! The annotated tree of a page, with the items that it comes from.
 
-ghost use Rattle.std.specs.Prelude.{◌≡◌, ◌^◌, ◌<◌, All, IfOk, length, map};
+ghost use Rattle.std.specs.Prelude.{◌≡◌, ◌+◌, ◌^◌, ◌<◌, All, IfOk, length, map};
 ghost use Rattle.wt_span.specs.Cuts.{page_of};
 ghost use Rattle.wt_span.specs.Origins.{IsSoundCall, span_of};
 ghost use Rattle.wt_tree.specs.Tiling.{InPreorder, Tiled};
@@ -10,7 +10,9 @@ ghost use Rattle.wt_inline.specs.View.{item_tree};
 ghost use Rattle.wt_page.specs.Body.{meaning};
 ghost use Rattle.wt_annotated.specs.Annotated.{annotated};
 ghost use Rattle.wt_annotated.specs.GroupData.{group_data};
+ghost use Rattle.wt_annotated.specs.NumbersNeeded.{numbers_needed};
 ghost use Rattle.wt_annotated.specs.Pieces.{outer_calls};
+ghost use Rattle.wt_sections.specs.Gathering.{headings_in};
 ghost use Rattle.wt_sections.specs.Sections.{with_sections};
 ghost use Rattle.wt_ranges.specs.Preorder.{InPreorder-prop};
 
@@ -99,6 +101,7 @@ fn in_sections<'a>(
 ) -> Result<Annotated<'a>, NoMemory>
     requires tiled { Tiled (view body) }
     requires numbered { InPreorder (view body) }
+    requires few { headings_in (view body) < 2 ^ 32 }
     requires meant { view body ≡ annotated items.outer (group_data items.outer) (meaning items.items) }
     ensures tree { IfOk result (λ a. view a.tree.body ≡ with_sections (view body.entry)) }
     ensures items { IfOk result (λ a. a.items ≡ items.entry) }
@@ -118,6 +121,7 @@ pub fn group<'a>(
 ) -> Result<Annotated<'a>, NoMemory>
     requires meant { item_tree tree ≡ meaning items.items }
     requires bytes { length (page_of items.outer (tree_items (meaning items.items))) < 2 ^ 32 }
+    requires numbers { 1 + numbers_needed items.outer (meaning items.items) < 2 ^ 32 }
     ensures tree { IfOk result (λ a. view a.tree.body ≡ with_sections (annotated items.entry.outer (group_data items.entry.outer) (meaning items.entry.items))) }
     ensures items { IfOk result (λ a. a.items ≡ items.entry) }
 {

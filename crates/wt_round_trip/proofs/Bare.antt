@@ -7,7 +7,8 @@ use Rattle.wt_tree.specs.declared.row.Writing.TheVariants.{AsText, AsVoid, Round
 use Rattle.wt_tree.specs.Kinds.{writing, is_block}
 use Rattle.wt_tree.specs.Tiling.{is_group}
 use Rattle.wt_tree.specs.Tree.{Label, Tree, tree, Trees, none, more, label}
-use Rattle.wt_tree.specs.Recut.{is_blank, has_break, is_as_text, is_text, shows_block, any_shows_block, is_border, is_passed, leads_to_block, front_ranges, rest_ranges, joined_ranges, text_leaf, sep_leaf, text_onto, onto, joined_texts, from_start, front_of, rest_of, parts_before, text_before, cut_before, cut_from, recut}
+use Rattle.wt_tree.specs.Leaves.{text_leaf, sep_leaf}
+use Rattle.wt_recut.specs.Recut.{is_blank, has_break, is_as_text, is_text, shows_block, any_shows_block, is_border, is_passed, leads_to_block, front_ranges, rest_ranges, joined_ranges, text_onto, onto, joined_texts, from_start, front_of, rest_of, parts_before, text_before, cut_before, cut_from, recut}
 use Rattle.wt_round_trip.specs.GroupNodes.{group_nodes}
 use Rattle.wt_round_trip.specs.Written.{ranges_read, label_read, unranged, unranged_all}
 

@@ -10,7 +10,7 @@ use Rattle.wt_tree.specs.declared.kind.TagName.TheVariants as tag
 use Rattle.wt_tree.specs.declared.node.DataMw.TheVariants as mw
 use Rattle.wt_tree.specs.declared.node.Part.{Part}
 use Rattle.wt_tree.specs.declared.node.Part.TheVariants as part
-use Rattle.wt_tree.specs.Recut.{leaf_label, text_leaf as bare_text}
+use Rattle.wt_tree.specs.Leaves.{leaf_label, text_leaf as bare_text}
 use Rattle.wt_tree.specs.Tree.{Label, Tree, tree, Trees, none, more}
 use Rattle.std.specs.Fmt.{digits}
 use Rattle.serde_json.proofs.OnLiterals.{serde_json_on_literals}

@@ -8,7 +8,7 @@ use Rattle.wt_tree.specs.Kinds.{is_leaf, is_section, may_follow, may_hold, texts
 use Rattle.wt_tree.specs.Plain.{Plains}
 use Rattle.wt_tree.specs.Tree.{Label, Tree, tree, Trees, none as no_trees, more as one_more}
 use Rattle.wt_tree.specs.Tiling.{is_group}
-use Rattle.wt_tree.specs.Recut.{is_as_text, shows_block}
+use Rattle.wt_recut.specs.Recut.{is_as_text, shows_block}
 use Rattle.wt_tree.specs.declared.row.Texts.{Texts}
 use Rattle.wt_tree.specs.declared.row.Texts.TheVariants.{Separators, Page, Bordered, OwnCharacter}
 use Rattle.wt_tree.specs.declared.row.Writing.{Writing}

@@ -8,7 +8,8 @@ use Rattle.wt_tree.specs.declared.kind.Kind.{Kind}
 use Rattle.wt_tree.specs.declared.kind.Kind.TheVariants as kind
 use Rattle.wt_tree.specs.Kinds.{is_block, may_hold, may_follow, element_name}
 use Rattle.wt_tree.specs.Plain.{Face, text as characters, element as face_of, Plains, ended, along}
-use Rattle.wt_tree.specs.Recut.{leaf_label, any_shows_block}
+use Rattle.wt_tree.specs.Leaves.{leaf_label}
+use Rattle.wt_recut.specs.Recut.{any_shows_block}
 use Rattle.wt_tree.specs.Tiling.{is_group}
 use Rattle.wt_tree.specs.Tree.{Label, tree, none as no_trees}
 use Rattle.wt_markup.specs.Html.{face_attributes}

@@ -5,8 +5,9 @@ use Rattle.std.proofs.lemmas.Bool.{true≢false}
 use Rattle.wt_tree.specs.declared.kind.Kind.{Kind}
 use Rattle.wt_tree.specs.Kinds.{texts_of_kind, writing}
 use Rattle.wt_tree.specs.Tree.{Label, Tree, tree, Trees, none as no_trees, more as one_more, label}
-use Rattle.wt_tree.specs.Recut.{leaf_label, sep_leaf, is_as_text, is_text, text_onto, onto, joined_texts, cut_from, recut}
-use Rattle.wt_tree.specs.Cutting.{begins_with_text}
+use Rattle.wt_tree.specs.Leaves.{leaf_label, sep_leaf}
+use Rattle.wt_recut.specs.Recut.{is_as_text, is_text, text_onto, onto, joined_texts, cut_from, recut}
+use Rattle.wt_recut.specs.Cutting.{begins_with_text}
 use Rattle.wt_tree.specs.declared.row.Texts.{Texts}
 use Rattle.wt_tree.specs.declared.row.Texts.TheVariants.{Separators, Page, Bordered, OwnCharacter}
 use Rattle.wt_tree.specs.declared.row.Writing.{Writing}

@@ -7,7 +7,7 @@ use Rattle.wt_tree.specs.Kinds.{shape, is_class, is_anywhere, admits, is_block, 
 use Rattle.wt_tree.specs.Plain.{text as characters, element as face_of, Plains, ended, along}
 use Rattle.wt_tree.specs.Tree.{Label, Tree, tree, Trees, none as no_trees, more as one_more}
 use Rattle.wt_tree.specs.Tiling.{is_group}
-use Rattle.wt_tree.specs.Recut.{is_white, is_blank, is_as_text, shows_block, any_shows_block}
+use Rattle.wt_recut.specs.Recut.{is_white, is_blank, is_as_text, shows_block, any_shows_block}
 use Rattle.wt_tree.specs.declared.row.Placement.{Placement}
 use Rattle.wt_tree.specs.declared.row.Placement.TheVariants.{Block, List as ListClass, Inline, Character}
 use Rattle.wt_tree.specs.declared.row.Holding.{Holding}

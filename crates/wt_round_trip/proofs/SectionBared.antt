@@ -8,7 +8,7 @@ use Rattle.wt_tree.specs.declared.row.Writing.{Writing}
 use Rattle.wt_tree.specs.declared.row.Writing.TheVariants.{AsText, AsVoid, RoundCharacter, RoundChildren, AsSection, Unwritten}
 use Rattle.wt_tree.specs.Kinds.{writing, may_hold, fixed_attributes, element_name}
 use Rattle.wt_tree.specs.Plain.{Face, text as characters, element as face_of, Plains, ended, along}
-use Rattle.wt_tree.specs.Cutting.{begins_with_text}
+use Rattle.wt_recut.specs.Cutting.{begins_with_text}
 use Rattle.wt_tree.specs.Tree.{Label, Tree, tree, Trees, none as no_trees, more as one_more}
 use Rattle.wt_markup.specs.Html.{groups, groups_of_all}
 use Rattle.wt_html_grammar.specs.Markup.{Pair, Markup, Markups, text, node, empty, more, flush}

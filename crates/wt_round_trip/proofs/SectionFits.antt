@@ -10,8 +10,8 @@ use Rattle.wt_tree.specs.declared.row.Writing.{Writing}
 use Rattle.wt_tree.specs.declared.row.Writing.TheVariants.{AsText, AsVoid, RoundCharacter, RoundChildren, AsSection, Unwritten}
 use Rattle.wt_tree.specs.Kinds.{shape, writing, is_section, is_anywhere, admits, may_hold, texts_of_kind}
 use Rattle.wt_tree.specs.Opened.{opened_before, all_opened_before, opened}
-use Rattle.wt_tree.specs.Recut.{is_as_text, is_text, shows_block}
-use Rattle.wt_tree.specs.Cutting.{begins_with_text}
+use Rattle.wt_recut.specs.Recut.{is_as_text, is_text, shows_block}
+use Rattle.wt_recut.specs.Cutting.{begins_with_text}
 use Rattle.wt_tree.specs.Tiling.{is_group}
 use Rattle.wt_tree.specs.Tree.{Label, Tree, tree, Trees, none as no_trees, more as one_more}
 use Rattle.wt_markup.specs.Html.{groups, groups_of_all}

@@ -6,7 +6,8 @@ use Rattle.wt_tree.specs.declared.kind.Kind.{Kind}
 use Rattle.wt_tree.specs.declared.kind.Kind.TheVariants as kind
 use Rattle.wt_tree.specs.declared.row.Writing.TheVariants.{AsText}
 use Rattle.wt_tree.specs.Kinds.{writing, is_block}
-use Rattle.wt_tree.specs.Recut.{leaf_label, text_leaf, sep_leaf, is_as_text, is_text}
+use Rattle.wt_tree.specs.Leaves.{leaf_label, text_leaf, sep_leaf}
+use Rattle.wt_recut.specs.Recut.{is_as_text, is_text}
 use Rattle.wt_tree.specs.Tiling.{is_group}
 use Rattle.wt_tree.specs.Tree.{Label, Tree, tree, Trees, none as no_trees, more as one_more}
 use Rattle.wt_html_grammar.specs.Markup.{Pair, Markups, text, node, empty, more}

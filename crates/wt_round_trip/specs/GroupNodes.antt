@@ -3,7 +3,7 @@ use Rattle.std.specs.Prelude.{◌||◌, ◌&&◌, Bool, true, false, None, []}
 use Rattle.wt_tree.specs.Elements.{as_elements, or_empty_span}
 use Rattle.wt_tree.specs.Kinds.{may_follow, is_block}
 use Rattle.wt_tree.specs.Plain.{Face, Plain, text, element, Plains, ended, along, plains_before}
-use Rattle.wt_tree.specs.Recut.{leaf_label, text_leaf}
+use Rattle.wt_tree.specs.Leaves.{leaf_label, text_leaf}
 use Rattle.wt_tree.specs.Tree.{Label, Tree, tree, Trees, none, more}
 use Rattle.wt_schema.specs.Groups.{is_span}
 

@@ -19,12 +19,12 @@ use Rattle.wt_tree.specs.declared.row.Writing.TheVariants.{AsText, AsVoid, Round
 use Rattle.wt_schema.specs.Data.{is_empty, is_extension_of}
 use Rattle.wt_tree.specs.Plain.{Face, Plain, text, element, Plains, ended, along}
 use Rattle.wt_tree.specs.Tiling.{is_group}
-use Rattle.wt_tree.specs.Recut.{is_blank, is_text, shows_block, any_shows_block, recut}
+use Rattle.wt_recut.specs.Recut.{is_blank, is_text, shows_block, any_shows_block, recut}
 use Rattle.wt_datamw.specs.Mw.{mw_text}
 use Rattle.wt_datamw.specs.MwRead.{mw_told}
 use Rattle.wt_schema.specs.Groups.{transclusion, param}
 use Rattle.wt_round_trip.specs.GroupNodes.{elements_for, group_nodes, is_ended, is_empty_span, in_order, all_follow}
-use Rattle.wt_tree.specs.Cutting.{begins_with_text}
+use Rattle.wt_recut.specs.Cutting.{begins_with_text}
 use Rattle.wt_schema.specs.Rows.{holds_text, shows_text, read_as}
 use Rattle.wt_html_grammar.specs.declared.limits.TheConstants.{NESTED_ELEMENTS}
 

@@ -66,10 +66,10 @@ last_block us ps vs =
     let size : length all ≡ length us + length (block ps ∷ vs) = length-append us (block ps ∷ vs) in
     omega (arith, n, le, same, size)
 
-before_last : (us : List Stretch) (ps : List Part) (vs : List Stretch) → before_end (us ++ block ps ∷ vs) ≡ us ++ block ps ∷ before_end vs
+pub before_last : (us : List Stretch) (ps : List Part) (vs : List Stretch) → before_end (us ++ block ps ∷ vs) ≡ us ++ block ps ∷ before_end vs
 before_last us ps vs = take_past us (block ps ∷ vs) (suc (block_len vs)) (block_len (us ++ block ps ∷ vs)) (last_block us ps vs)
 
-behind_last : (us : List Stretch) (ps : List Part) (vs : List Stretch) → end_gaps (us ++ block ps ∷ vs) ≡ end_gaps vs
+pub behind_last : (us : List Stretch) (ps : List Part) (vs : List Stretch) → end_gaps (us ++ block ps ∷ vs) ≡ end_gaps vs
 behind_last us ps vs = drop_past us (block ps ∷ vs) (suc (block_len vs)) (block_len (us ++ block ps ∷ vs)) (last_block us ps vs)
 
 first_block : (us : List Stretch) (ps : List Part) (vs : List Stretch) → front_len (us ++ block ps ∷ vs) ≡ front_len us

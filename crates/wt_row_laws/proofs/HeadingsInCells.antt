@@ -34,7 +34,7 @@ heading_other r e =
 heading_plain : (r : Row) → r.kind ≡ line.Heading → begins_part r.kind ≡ false
 heading_plain r e = ap begins_part e
 
-heading_content : (r : Row) → r.kind ≡ line.Heading → AreContent (r ∷ [])
+pub heading_content : (r : Row) → r.kind ≡ line.Heading → AreContent (r ∷ [])
 heading_content r e =
     let o : IsOther r.kind = heading_other r e in
     record {
@@ -72,7 +72,7 @@ heading_blocks read lead ending r h =
     ∙ ap (λ xs. gap xs ∷ tree_block (heading r.items) ∷ gap r.ending ∷ []) h.led
     ∙ ap (λ xs. gap lead ∷ tree_block (heading r.items) ∷ gap xs ∷ []) h.ended
 
-heading_round : (read : Reading) (lead ending : List Item) (xs ys : List Row) (r : Row) → AreContent xs → AreContent ys → IsHeading lead ending r
+pub heading_round : (read : Reading) (lead ending : List Item) (xs ys : List Row) (r : Row) → AreContent xs → AreContent ys → IsHeading lead ending r
     → blocks_by read (xs ++ r ∷ ys) ≡ blocks_by read xs ++ ((gap lead ∷ tree_block (heading r.items) ∷ gap ending ∷ []) ++ blocks_by read ys)
 heading_round read lead ending xs ys r h g i =
     let o : IsOther r.kind = heading_other r i.is in

@@ -26,7 +26,7 @@ use Rattle.wt_row_laws.proofs.TableCells.{FirstBegins, table_fits}
 
 -- ---- level rows
 
-level_join : (d : ℕ) (rs ss : List Row) → Level d rs → Level 0 ss → Level d (rs ++ ss)
+pub level_join : (d : ℕ) (rs ss : List Row) → Level d rs → Level 0 ss → Level d (rs ++ ss)
 level_join zero [] ss h g = g
 level_join (suc d) [] ss h g = absurd h
 level_join d (r ∷ rs) ss h g = level_put d r (rs ++ ss) (level_ends d r rs h) (level_join (behind d r.kind) rs ss (level_rest d r rs h) g)
@@ -42,7 +42,7 @@ falls_ended (suc d) r rs ss z h k =
     let n : suc (suc d) - 1 ≡ suc d = omega arith in
     subst (λ (m : ℕ). Falls m ss) (sym (ap (behind (suc (suc d))) z ∙ n)) (k d (level_end d r rs z h))
 
-level_falls : (d : ℕ) (rs : List Row) (last : Row) → last.kind ≡ line.TableEnd → Level d rs → Falls (suc d) (rs ++ last ∷ [])
+pub level_falls : (d : ℕ) (rs : List Row) (last : Row) → last.kind ≡ line.TableEnd → Level d rs → Falls (suc d) (rs ++ last ∷ [])
 level_falls zero [] last e h = subst (λ (n : ℕ). Falls n []) (sym (ap (behind 1) e)) tt
 level_falls (suc d) [] last e h = absurd h
 level_falls d (r ∷ rs) last e h =
@@ -59,7 +59,7 @@ level_ended (suc d) r rs ss z h k =
     let n : suc (suc d) - 1 ≡ suc d = omega arith in
     level_put (suc (suc d)) r ss (λ e. omega arith) (subst (λ (m : ℕ). Level m ss) (sym (ap (behind (suc (suc d))) z ∙ n)) (k d (level_end d r rs z h)))
 
-level_raised : (d : ℕ) (rs : List Row) (last : Row) → last.kind ≡ line.TableEnd → Level d rs → Level (suc d) (rs ++ last ∷ [])
+pub level_raised : (d : ℕ) (rs : List Row) (last : Row) → last.kind ≡ line.TableEnd → Level d rs → Level (suc d) (rs ++ last ∷ [])
 level_raised zero [] last e h = level_put 1 last [] (λ z. omega arith) (subst (λ (n : ℕ). Level n []) (sym (ap (behind 1) e)) tt)
 level_raised (suc d) [] last e h = absurd h
 level_raised d (r ∷ rs) last e h =
@@ -76,7 +76,7 @@ level_raised d (r ∷ rs) last e h =
 pub rows_units : (rs : List Row) → Level 0 rs → AreUnits (units kind_of rs) rs
 rows_units rs h = level_units rs h
 
-part_other : (k : LineKind) → begins_part k ≡ true → IsOther k
+pub part_other : (k : LineKind) → begins_part k ≡ true → IsOther k
 part_other k e =
     elim (sort k) [
       | inl o ↦ let f : begins_part k ≡ false = ap begins_part o in absurd (cc)
@@ -116,7 +116,7 @@ content_join rs ss h g = record {
 text_plain : (r : Row) → r.kind ≡ line.Text → begins_part r.kind ≡ false
 text_plain r e = ap begins_part e
 
-texts_content : (rs : List Row) → AllAre line.Text rs → AreContent rs
+pub texts_content : (rs : List Row) → AllAre line.Text rs → AreContent rs
 texts_content [] h = record { level = tt; plain = tt }
 texts_content (r ∷ rs) (h, hs) =
     let o : IsOther r.kind = text_other r h in
@@ -157,7 +157,7 @@ table_apart : (u : List Row) (vs : List (List Row)) → unit_kind kind_of u ≡ 
 table_apart u [] e = tt
 table_apart u (v ∷ vs) e = ap (λ k. one_block k (unit_kind kind_of v)) e
 
-round_blocks : (read : Reading) (before own after : List Row) → AreContent before → AreContent after → IsPart own → unit_kind kind_of own ≡ line.TableOpen
+pub round_blocks : (read : Reading) (before own after : List Row) → AreContent before → AreContent after → IsPart own → unit_kind kind_of own ≡ line.TableOpen
     → blocks_by read (before ++ (own ++ after)) ≡ blocks_by read before ++ (blocks_by read own ++ blocks_by read after)
 round_blocks read before own after h g p e =
     let one : units kind_of own ≡ own ∷ [] = ap (units kind_of) (sym (append-nil own)) ∙ first_unit own [] p in
@@ -256,7 +256,7 @@ cells_fit_within I p g c f (suc n) (t ∷ ts) le (h, hs) =
 abbrev IsText : List Item → List Item → Type 0
 IsText lead ending = (rs : List Row) × AreTexts lead ending rs
 
-all_texts : (lead ending : List Item) (rs : List Row) → AreTexts lead ending rs → AllAre line.Text rs
+pub all_texts : (lead ending : List Item) (rs : List Row) → AreTexts lead ending rs → AllAre line.Text rs
 all_texts lead ending [] h = absurd h
 all_texts lead ending (r ∷ rs) h = h.0
 
@@ -297,7 +297,7 @@ first_otherwise : (ys : List Row) → BeginOtherwise line.Text ys → (r : Row) 
 first_otherwise [] b r e = tt
 first_otherwise (y ∷ ys) b r e = put_apart r y (units_from kind_of (taken_len y.kind (inner_len (map kind_of ys))) ys) e b
 
-text_round : (read : Reading) (lead ending : List Item) (xs rs ys : List Row) → AreContent xs → AreContent ys → EndOtherwise line.Text xs
+pub text_round : (read : Reading) (lead ending : List Item) (xs rs ys : List Row) → AreContent xs → AreContent ys → EndOtherwise line.Text xs
     → BeginOtherwise line.Text ys → AreTexts lead ending rs
     → blocks_by read (xs ++ (rs ++ ys)) ≡ blocks_by read xs ++ ((gap lead ∷ tree_block (para rs) ∷ gap ending ∷ []) ++ blocks_by read ys)
 text_round read lead ending xs rs ys h g e b t =

@@ -25,7 +25,7 @@ use Rattle.wt_row_laws.specs.Rounds.{IsCellKind, Holder, AreCellHolders, is_cell
 use Rattle.wt_row_laws.proofs.Apart.{runs_apart, all_apart}
 use Rattle.wt_row_laws.proofs.Fitting.{Fits, first_taken, rest_dropped, fits_same, fits_behind, fits_before, Raises, fits_node, fits_opened, fits_enclosed}
 
-abbrev Group : Type 0
+abbrev pub Group : Type 0
 Group = List (List Row)
 
 -- ---- the rows round one group
@@ -176,7 +176,7 @@ cell_no_caption line.Text e = refl
 abbrev goes_on : List Row → List Row → Bool
 goes_on u v = not (begins_group kind_of v)
 
-abbrev IsPlain : List Row → Type 0
+abbrev pub IsPlain : List Row → Type 0
 IsPlain u = begins_group kind_of u ≡ false
 
 abbrev pub FirstBegins : List (List Row) → Type 0
@@ -188,7 +188,7 @@ group_run u [] [] h b = tt
 group_run u [] (w ∷ ws) h b = ap not b
 group_run u (v ∷ vs) ws h b = (ap not h.0, group_run v vs ws h.1 b)
 
-groups_round : (us vs ws : List (List Row)) (u : List Row) → begins_group kind_of u ≡ true → AllByRecursion IsPlain vs → FirstBegins ws
+pub groups_round : (us vs ws : List (List Row)) (u : List Row) → begins_group kind_of u ≡ true → AllByRecursion IsPlain vs → FirstBegins ws
     → groups kind_of (us ++ u ∷ (vs ++ ws)) ≡ groups kind_of us ++ (u ∷ vs) ∷ groups kind_of ws
 groups_round us vs ws u e h b =
     runs_apart goes_on us (u ∷ (vs ++ ws)) (all_apart goes_on us u (vs ++ ws) (λ x. ap not e))
@@ -232,7 +232,7 @@ cell_of_kind : (header : Bool) → IsCellKind (cell_kind false header)
 cell_of_kind true = inr refl
 cell_of_kind false = inl refl
 
-abbrev HasAny : {A : Type 0} → List A → Type 0
+abbrev pub HasAny : {A : Type 0} → List A → Type 0
 HasAny [] = ⊥
 HasAny (x ∷ xs) = Unit {0}
 
@@ -244,13 +244,13 @@ some_by : (v : Bool) (x : Item) (ps qs : List (List Item)) → HasAny (if v then
 some_by true x ps qs = tt
 some_by false x ps qs = some_onto x qs
 
-some_parts : (by : Splits) (n : ℕ) (xs : List Item) → HasAny (cell_parts by n xs)
+pub some_parts : (by : Splits) (n : ℕ) (xs : List Item) → HasAny (cell_parts by n xs)
 some_parts by zero [] = tt
 some_parts by (suc n) [] = tt
 some_parts by (suc n) (x ∷ xs) = some_onto x (cell_parts by n xs)
 some_parts by zero (x ∷ xs) = some_by (splits_at by (x ∷ xs)) x (onto x (cell_parts by 1 xs)) (cell_parts by zero xs)
 
-some_in : (header : Bool) (n : ℕ) (ps : List (List Item)) → HasAny ps → HasAny (cells_in header n ps)
+pub some_in : (header : Bool) (n : ℕ) (ps : List (List Item)) → HasAny ps → HasAny (cells_in header n ps)
 some_in header n [] h = absurd h
 some_in header n (p ∷ ps) h = tt
 

@@ -2,7 +2,7 @@
 //! counts, blocks by cases.
 #![tactic(auto)]
 
-ghost use Rattle.std.specs.Prelude.{◌≡◌, ◌≤◌, List, ◌∷◌, length};
+ghost use Rattle.std.specs.Prelude.{◌≡◌, ◌≤◌, List, [], ◌∷◌, length};
 ghost use Rattle.std.specs.List.{AllByRecursion, flat_map};
 ghost use Rattle.wt_span.specs.Items.{Item};
 ghost use Rattle.wt_lines.specs.declared.kind.LineKind.TheVariants as kind;
@@ -16,6 +16,7 @@ ghost use Rattle.wt_row_laws.specs.Counts.{KindIsCounted};
 ghost use Rattle.wt_row_laws.specs.Units.{IsUnit, AreUnits, HoldsUnits};
 ghost use Rattle.wt_row_laws.specs.Cells.{CellsHoldBlocks};
 ghost use Rattle.wt_row_laws.specs.Blocks.{Block, AreBlocks, BeginOtherwise, block_parts, IsMeaningByCases};
+ghost use Rattle.wt_row_laws.specs.Slots.{Slot, AreInCells, AreApart, AreFew, PlacesStand};
 ghost use Rattle.wt_row_laws.specs.Rounds.{TableRound, AreContent, IsTableRound, EndOtherwise, ParagraphStands, HeadingStands};
 
 /// The kind of a line is that at which so many tables are open as the rows before it have opened, less
@@ -71,4 +72,10 @@ pub fn paragraphs_stand_in_cells()
 pub fn headings_stand_in_cells()
     ensures { (ts : List TableRound) (xs ys : List Row) (lead ending : List Item) → AllByRecursion IsTableRound ts → length ts ≤ MOST_TABLES
         → AreContent xs → AreContent ys → HeadingStands ts xs ys lead ending }
+{}
+
+/// The same of any number of paragraphs and headings at once, in the body and in cells and captions of tables.
+#[tactic(auto, using(crate::proofs::Places::places_stand))]
+pub fn blocks_stand_at_their_places()
+    ensures { (ss : List Slot) → AreInCells [] ss → AreApart ss → AreFew MOST_TABLES [] ss → PlacesStand ss }
 {}

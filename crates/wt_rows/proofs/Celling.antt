@@ -1,22 +1,23 @@
 -- Cells of a line, and stretches that are made one after the other.
-use Rattle.std.proofs.Common.{◌≡◌, ℕ, ◌+◌, Bool, true, false, List, [], ◌∷◌, ◌++◌, drop, map, refl, sym, ap, ◌∙◌, cond, arith, append_assoc, append-nil}
+use Rattle.std.proofs.Common.{◌≡◌, ◌<◌, ℕ, ◌+◌, ◌^◌, Bool, true, false, List, [], ◌∷◌, ◌++◌, length, drop, map, refl, sym, ap, ◌∙◌, cond, arith, append_assoc, append-nil, length-append}
 use Rattle.std.specs.Prelude.{◌||◌, All, codes}
 use Rattle.std.specs.List.{flat_map, prefix_len}
 use Rattle.std.proofs.lemmas.Bool.Decides.{nat_tests}
 use Rattle.std.proofs.lemmas.List.{map-append}
 use Rattle.wt_span.specs.Bytes.{begins}
 use Rattle.wt_span.specs.declared.form.Piece.{Piece}
-use Rattle.wt_span.specs.Items.{Item, sign}
+use Rattle.wt_span.specs.Items.{Item, items, sign}
 use Rattle.wt_lines.specs.Kinds.{is_idle}
-use Rattle.std.proofs.lemmas.List.Elements.{All-head, All-tail}
+use Rattle.wt_lines.specs.Pieces.{line_items}
+use Rattle.std.proofs.lemmas.List.Elements.{All-head, All-tail, All-nil, All-cons}
 use Rattle.wt_tables.specs.declared.cell.CellAt.{CellAt}
-use Rattle.wt_tables.specs.CellViews.{cell_view, IsSoundCell}
+use Rattle.wt_tables.specs.CellViews.{cell_view, whole_cell, IsSoundCell}
 use Rattle.wt_tables.specs.Cells.{Cell, cells, cells_from, begins_cell, from_sign, lead_len}
 use Rattle.wt_rows.specs.declared.stretch.StretchAt.{StretchAt}
 use Rattle.wt_page.specs.Rows.{signs}
 use Rattle.wt_page.specs.Stretches.{Stretch}
 use Rattle.wt_page.specs.Tables.{cell_by, cells_by}
-use Rattle.wt_rows.specs.Ready.{BeginsCell}
+use Rattle.wt_rows.specs.Ready.{BeginsCell, IsReadyCell}
 use Rattle.wt_rows.specs.Views.{stretch_view, stretches_view}
 
 pub made_added : {A : Type 0} (ps : List Piece) (f : A → List Stretch) (out made all : List StretchAt) (x : A) (before rest : List A) (whole : List Stretch)
@@ -37,9 +38,18 @@ last_cell caption (d ∷ e ∷ cs) c ss =
     ap (λ us. cell_by caption d [] ++ us) (last_cell caption (e ∷ cs) c ss)
     ∙ sym (append_assoc (cell_by caption d []) (flat_map (λ f. cell_by caption f []) (e ∷ cs)) (cell_by caption c ss))
 
-pub last_sound : (cs : List CellAt) (c : CellAt) → All IsSoundCell (cs ++ c ∷ []) → IsSoundCell c
-last_sound [] c h = All-head IsSoundCell c [] h
-last_sound (d ∷ cs) c h = last_sound cs c (All-tail IsSoundCell d (cs ++ c ∷ []) h)
+pub last_ready : (cs : List CellAt) (c : CellAt) → All IsReadyCell (cs ++ c ∷ []) → IsReadyCell c
+last_ready [] c h = All-head IsReadyCell c [] h
+last_ready (d ∷ cs) c h = last_ready cs c (All-tail IsReadyCell d (cs ++ c ∷ []) h)
+
+-- cells of a line that has few items
+pub cells_ready : (cs : List CellAt) → All IsSoundCell cs → length (flat_map whole_cell cs) < 2 ^ 32 → All IsReadyCell cs
+cells_ready [] sound few = All-nil IsReadyCell
+cells_ready (c ∷ cs) sound few =
+    let joined = length-append (whole_cell c) (flat_map whole_cell cs) in
+    let own = length-append (items c.opening) (line_items c.rest) in
+    All-cons IsReadyCell c cs (record { sound = All-head IsSoundCell c cs sound; few = omega (arith, joined, own, few) })
+    (cells_ready cs (All-tail IsSoundCell c cs sound) (omega (arith, joined, few)))
 
 viewed_flat : (caption : Bool) (cs : List CellAt)
     → flat_map (λ d. cell_by caption d []) (map cell_view cs) ≡ flat_map (λ d. cell_by caption (cell_view d) []) cs

@@ -1,21 +1,27 @@
--- What is taken from the front of pieces by its signs, piece by piece.
-use Rattle.std.proofs.Common.{◌≡◌, ◌<◌, ◌≤◌, ℕ, suc, ◌+◌, Bool, true, false, List, [], ◌∷◌, ◌++◌, length, get_or, map, take, drop, refl, sym, ap, ◌∙◌, subst, cond, arith, length-append, append-nil, append_assoc}
+-- What is taken from the front of pieces: so many items, and those behind them by their signs, piece by piece.
+use Rattle.std.proofs.Common.{◌≡◌, ◌<◌, ◌≤◌, ℕ, zero, suc, ◌+◌, ◌-◌, Bool, true, false, List, [], ◌∷◌, ◌++◌, length, map, take, drop, min, refl, sym, ap, ◌∙◌, subst, cond, arith, inl, inr, length-append, length-drop, append-nil}
 use Rattle.std.specs.List.{prefix_len}
-use Rattle.std.proofs.Math.Seq.{take-append-add, drop-append-add}
-use Rattle.std.proofs.lemmas.List.{drop_all, drop_more, drop-drop, drop-map, length-map, length-take-le, map-append, take_all, take_more, take-append-drop}
+use Rattle.std.proofs.lemmas.List.{drop_all, drop-map, length-map, map-append, take_all, take-append-le, drop-append-le}
 use Rattle.std.proofs.lemmas.List.Sums.{prefix_len-le-length}
+use Rattle.wt_span.proofs.Lists.{drop_append}
 use Rattle.wt_span.specs.declared.form.Piece.{Piece}
 use Rattle.wt_span.specs.Items.{Item, sign, items, items_of, call_of_origin}
+use Rattle.wt_span.specs.Origins.{IsSoundPiece}
 use Rattle.wt_span.specs.Slice.{bytes_of}
-use Rattle.wt_lines.specs.Pieces.{item_count}
-use Rattle.wt_lines.proofs.Splits.{count_is, whole_back}
+use Rattle.wt_lines.specs.Pieces.{is_chars, item_count}
+use Rattle.wt_lines.proofs.PieceSigns.{false_true, signs_of_chars}
+use Rattle.wt_lines.proofs.Splits.{count_is, whole_front, whole_back}
+use Rattle.wt_tiles.specs.declared.glyph.Glyph.{Glyph}
+use Rattle.wt_tiles.specs.Glyphs.{glyph_of}
+use Rattle.wt_tiles.specs.Edges.{IsEdge}
 use Rattle.wt_tiles.specs.Cutting.{IsEdgeIn}
-use Rattle.wt_tiles.proofs.Taking.{next_edge}
+use Rattle.wt_tiles.proofs.Taking.{front_edge, next_edge, next_front, next_back}
 use Rattle.wt_page.specs.Rows.{signs}
 use Rattle.wt_rows.specs.declared.front.Front.{Front}
-use Rattle.wt_rows.specs.Fronts.{in_front, front_len, with_front, IsFrontCut}
+use Rattle.wt_rows.specs.Fronts.{in_front, front_len, with_front, IsFrontCut, IsWithCut}
+use Rattle.wt_rows.proofs.Unreading.{sound_some}
 
--- ---- the front of two lists
+-- ---- the signs at the front of two lists
 
 all_by : (v : Bool) (n m len k : ℕ) → cond v (1 + n) 0 ≡ suc len → (n ≡ len → m ≡ len + k) → cond v (1 + m) 0 ≡ suc len + k
 all_by true n m len k e next = let h = next (omega (arith, e)) in omega (arith, h)
@@ -35,128 +41,183 @@ prefix_stops p [] ys l = absurd (omega (arith, l))
 prefix_stops p (x ∷ xs) ys l =
     stops_by (p x) (prefix_len p xs) (prefix_len p (xs ++ ys)) (length xs) l (prefix_stops p xs ys)
 
-front_all : (f : Front) (xs ys : List Item) → length xs ≤ front_len f xs → front_len f (xs ++ ys) ≡ length xs + front_len f ys
-front_all f xs ys h =
+-- behind the first n
+behind_stops : (p : ℕ → Bool) (n : ℕ) (xs ys : List ℕ) → n + prefix_len p (drop n xs) < length xs
+    → prefix_len p (drop n (xs ++ ys)) ≡ prefix_len p (drop n xs)
+behind_stops p n xs ys l =
+    ap (prefix_len p) (drop_append n xs ys)
+    ∙ prefix_stops p (drop n xs) (drop (n - length xs) ys) (omega (arith, l, length-drop n xs))
+
+behind_goes : (p : ℕ → Bool) (n : ℕ) (xs ys : List ℕ) → length xs ≤ n + prefix_len p (drop n xs)
+    → n + prefix_len p (drop n (xs ++ ys)) ≡ length xs + ((n - length xs) + prefix_len p (drop (n - length xs) ys))
+behind_goes p n xs ys h =
+    let len = length-drop n xs in
+    let le = prefix_len-le-length p (drop n xs) in
+    let all = prefix_all p (drop n xs) (drop (n - length xs) ys) (omega (arith, h, len, le)) in
+    let is = ap (prefix_len p) (drop_append n xs ys) in
+    omega (arith, is, all, len)
+
+-- ---- the items at the front of two lists
+
+with_stops : (f : Front) (n : ℕ) (xs ys : List Item) → with_front f n xs < length xs → with_front f n (xs ++ ys) ≡ with_front f n xs
+with_stops f n xs ys l =
     let len : length (signs xs) ≡ length xs = length-map xs sign in
-    let le = prefix_len-le-length (in_front f) (signs xs) in
-    ap (prefix_len (in_front f)) (map-append sign xs ys) ∙ prefix_all (in_front f) (signs xs) (signs ys) (omega (arith, h, len, le))
-    ∙ ap (λ n. n + front_len f ys) len
+    ap (λ ss. n + prefix_len (in_front f) (drop n ss)) (map-append sign xs ys)
+    ∙ ap (λ k. n + k) (behind_stops (in_front f) n (signs xs) (signs ys) (omega (arith, l, len)))
 
-front_stops : (f : Front) (xs ys : List Item) → front_len f xs < length xs → front_len f (xs ++ ys) ≡ front_len f xs
-front_stops f xs ys l =
+with_goes : (f : Front) (n : ℕ) (xs ys : List Item) → length xs ≤ with_front f n xs
+    → with_front f n (xs ++ ys) ≡ length xs + with_front f (n - length xs) ys
+with_goes f n xs ys h =
     let len : length (signs xs) ≡ length xs = length-map xs sign in
-    ap (prefix_len (in_front f)) (map-append sign xs ys) ∙ prefix_stops (in_front f) (signs xs) (signs ys) (omega (arith, l, len))
+    ap (λ ss. n + prefix_len (in_front f) (drop n ss)) (map-append sign xs ys)
+    ∙ behind_goes (in_front f) n (signs xs) (signs ys) (omega (arith, h, len))
+    ∙ ap (λ k. k + with_front f (n - k) ys) len
 
--- ---- pieces
+with_within : (f : Front) (n : ℕ) (xs : List Item) → n ≤ length xs → with_front f n xs ≤ length xs
+with_within f n xs h =
+    let le = prefix_len-le-length (in_front f) (drop n (signs xs)) in
+    let len : length (signs xs) ≡ length xs = length-map xs sign in
+    omega (arith, le, length-drop n (signs xs), len, h)
 
-pub items_joined : (ps qs : List Piece) → items (ps ++ qs) ≡ items ps ++ items qs
-items_joined [] qs = refl
-items_joined (p ∷ ps) qs = ap (λ xs. items_of p ++ xs) (items_joined ps qs) ∙ sym (append_assoc (items_of p) (items ps) (items qs))
+-- ---- how many are in one piece
 
 count_of : (p : Piece) → length (items_of p) ≡ item_count p
 count_of p = count_is p.form (call_of_origin p.origin) (bytes_of p.text)
 
-items_cut : (ps : List Piece) (i : ℕ) → items ps ≡ items (take i ps) ++ items (drop i ps)
-items_cut ps i = ap items (sym (take-append-drop i ps)) ∙ items_joined (take i ps) (drop i ps)
-
-taken_more : (ps : List Piece) (i : ℕ) (p : Piece) → i < length ps → p ≡ get_or ps i p
-    → length (items (take (i + 1) ps)) ≡ length (items (take i ps)) + length (items_of p)
-taken_more ps i p l is =
-    ap (λ qs. length (items qs)) (take_more ps i p l) ∙ ap (λ q. length (items (take i ps ++ q ∷ []))) (sym is)
-    ∙ ap length (items_joined (take i ps) (p ∷ [])) ∙ length-append (items (take i ps)) (items_of p ++ [])
-    ∙ ap (λ xs. length (items (take i ps)) + length xs) (append-nil (items_of p))
-
-row : (ps : List Piece) (i : ℕ) (p : Piece) → i < length ps → p ≡ get_or ps i p → drop i ps ≡ p ∷ drop (i + 1) ps
-row ps i p l is = drop_more ps i p l ∙ ap (λ q. q ∷ drop (i + 1) ps) (sym is)
-
--- what a loop over pieces knows that has taken so many of them
-pub record IsTaken (f : Front) (ps : List Piece) (i : ℕ) : Type 0 where
-  pub count : front_len f (items ps) ≡ length (items (take i ps)) + front_len f (items (drop i ps))
-  pub edge : IsFrontCut f (items (drop i ps))
-
--- at first, of pieces that may be cut after their front
-pub none_taken : (f : Front) (ps : List Piece) → IsFrontCut f (items ps) → IsTaken f ps 0
-none_taken f ps e =
-    let a : length (items (take 0 ps)) ≡ 0 = refl in
-    let b : front_len f (items (drop 0 ps)) ≡ front_len f (items ps) = refl in
-    record { count = omega (arith, a, b); edge = e }
-
--- a piece of which all is taken
-pub one_taken : (f : Front) (ps : List Piece) (i n m : ℕ) (p : Piece) → i < length ps → p ≡ get_or ps i p → n ≡ front_len f (items_of p)
-    → m ≡ item_count p → m ≤ n → IsTaken f ps i → IsTaken f ps (i + 1)
-one_taken f ps i n m p l is en em whole h =
-    let qs = drop (i + 1) ps in
+pub len_chars : (f : Front) (p : Piece) (n k : ℕ) → is_chars p.form ≡ true → n < item_count p
+    → k ≡ prefix_len (in_front f) (drop n (bytes_of p.text)) → n + k ≡ min (with_front f n (items_of p)) (item_count p)
+len_chars f p n k e l ek =
+    let is : with_front f n (items_of p) ≡ n + k =
+    ap (λ ss. n + prefix_len (in_front f) (drop n ss)) (signs_of_chars p e) ∙ ap (λ m. n + m) (sym ek) in
     let len = count_of p in
-    let there : drop i ps ≡ p ∷ qs = row ps i p l is in
-    let front : front_len f (items (drop i ps)) ≡ length (items_of p) + front_len f (items qs) =
-    ap (λ rs. front_len f (items rs)) there ∙ front_all f (items_of p) (items qs) (omega (arith, whole, en, em, len)) in
-    let c = h.count in
-    let more = taken_more ps i p l is in
-    record {
-      count = omega (arith, c, front, more);
-      edge = λ s. next_edge (drop i ps) qs qs p (front_len f (items (drop i ps))) (front_len f (items qs)) there (omega (arith, front, len))
-          (ap (λ xs. xs ++ items qs) (sym (whole_back p (front_len f (items (drop i ps))) (omega (arith, front, len))))) s
-          (h.edge (omega (arith, front, s)));
-    }
+    let within = with_within f n (items_of p) (omega (arith, l, len)) in
+    omega (arith, is, within, len)
 
--- the piece within which it ends
-pub record EndsIn (f : Front) (ps : List Piece) (i n : ℕ) : Type 0 where
-  pub within : n ≤ length (items (drop i ps))
-  pub edge : 0 < n → IsEdgeIn (items (drop i ps)) n
-  pub front : items (take i ps) ++ take n (items (drop i ps)) ≡ take (front_len f (items ps)) (items ps)
-  pub back : drop n (items (drop i ps)) ≡ drop (front_len f (items ps)) (items ps)
+-- ---- and of pieces that begin with it
 
-pub ends_in : (f : Front) (ps : List Piece) (i n m : ℕ) (p : Piece) → i < length ps → p ≡ get_or ps i p → n ≡ front_len f (items_of p)
-    → m ≡ item_count p → n < m → IsTaken f ps i → EndsIn f ps i n
-ends_in f ps i n m p l is en em less h =
-    let qs = drop (i + 1) ps in
+piece_stops : (f : Front) (n own : ℕ) (rs qs : List Piece) (p : Piece) → rs ≡ p ∷ qs → own ≡ min (with_front f n (items_of p)) (item_count p)
+    → own < item_count p → with_front f n (items rs) ≡ own
+piece_stops f n own rs qs p e is l =
+    let here : with_front f n (items_of p) ≡ own = omega (arith, is, l) in
+    ap (λ ps. with_front f n (items ps)) e ∙ with_stops f n (items_of p) (items qs) (omega (arith, here, l, count_of p)) ∙ here
+
+piece_goes : (f : Front) (n own : ℕ) (rs qs : List Piece) (p : Piece) → rs ≡ p ∷ qs → own ≡ min (with_front f n (items_of p)) (item_count p)
+    → item_count p ≤ own → with_front f n (items rs) ≡ item_count p + with_front f (n - item_count p) (items qs)
+piece_goes f n own rs qs p e is h =
     let len = count_of p in
-    let there : drop i ps ≡ p ∷ qs = row ps i p l is in
-    let here : n ≡ front_len f (items (drop i ps)) =
-    en ∙ sym (ap (λ rs. front_len f (items rs)) there ∙ front_stops f (items_of p) (items qs) (omega (arith, less, en, em, len))) in
-    let all : front_len f (items ps) ≡ length (items (take i ps)) + n = let c = h.count in omega (arith, c, here) in
-    let wide : length (items (drop i ps)) ≡ length (items_of p) + length (items qs) =
-    ap (λ rs. length (items rs)) there ∙ length-append (items_of p) (items qs) in
-    record {
-      within = omega (arith, wide, len, less, em);
-      edge = subst (λ k. 0 < k → IsEdgeIn (items (drop i ps)) k) (sym here) h.edge;
-      front = sym (ap (λ k. take k (items ps)) all ∙ ap (take (length (items (take i ps)) + n)) (items_cut ps i)
-          ∙ take-append-add (items (take i ps)) (items (drop i ps)) n);
-      back = sym (ap (λ k. drop k (items ps)) all ∙ ap (drop (length (items (take i ps)) + n)) (items_cut ps i)
-          ∙ drop-append-add (items (take i ps)) (items (drop i ps)) n);
-    }
+    ap (λ ps. with_front f n (items ps)) e ∙ with_goes f n (items_of p) (items qs) (omega (arith, is, h, len))
+    ∙ ap (λ k. k + with_front f (n - k) (items qs)) len
 
--- where all pieces are taken
-pub all_taken : (f : Front) (ps : List Piece) (i : ℕ) → length ps ≤ i → IsTaken f ps i
-    → (items ps ≡ take (front_len f (items ps)) (items ps)) × (items [] ≡ drop (front_len f (items ps)) (items ps))
-all_taken f ps i l h =
-    let c = h.count in
-    let a = ap (λ qs. length (items qs)) (take_all i ps l) in
-    let b = ap (λ qs. front_len f (items qs)) (drop_all i ps l) in
-    let n : length (items ps) ≤ front_len f (items ps) = omega (arith, c, a, b) in
-    (sym (take_all (front_len f (items ps)) (items ps) n), sym (drop_all (front_len f (items ps)) (items ps) n))
+-- ---- pieces that are taken one at a time
 
--- ---- two cuts
+-- with what is to be taken of these pieces, what was taken is this, and that is what stays
+pub record Takes (f : Front) (n : ℕ) (taken rs : List Piece) (fs bs : List Item) : Type 0 where
+  pub front : items taken ++ take (with_front f n (items rs)) (items rs) ≡ fs
+  pub back : drop (with_front f n (items rs)) (items rs) ≡ bs
+  pub edge : IsWithCut f n (items rs)
 
-joined_take : (xs front back : List Item) (n m : ℕ) → front ++ back ≡ xs → length front ≡ n → front ++ take m back ≡ take (n + m) xs
-joined_take xs front back n m whole len =
-    sym (ap (λ k. take (k + m) xs) (sym len) ∙ ap (take (length front + m)) (sym whole) ∙ take-append-add front back m)
-
-taken_twice : (xs ys : List Item) (n m : ℕ) → ys ≡ drop n xs → n ≤ length xs → take n xs ++ take m ys ≡ take (n + m) xs
-taken_twice xs ys n m e l =
-    ap (λ zs. take n xs ++ take m zs) e ∙ joined_take xs (take n xs) (drop n xs) n m (take-append-drop n xs) (length-take-le n xs l)
-
--- so many items, and then those after them by their signs
-pub cut_twice : (f : Front) (ps first behind more rest all : List Piece) (n : ℕ) → n ≤ length (items ps) → items first ≡ take n (items ps)
-    → items behind ≡ drop n (items ps) → items more ≡ take (front_len f (items behind)) (items behind)
-    → items rest ≡ drop (front_len f (items behind)) (items behind) → all ≡ first ++ more
-    → (items all ≡ take (with_front f n (items ps)) (items ps)) × (items rest ≡ drop (with_front f n (items ps)) (items ps))
-cut_twice f ps first behind more rest all n l ef eb em er ea =
-    let xs = items ps in
-    let ys = items behind in
-    let m = front_len f ys in
-    let len : n + m ≡ with_front f n xs = ap (λ ss. n + prefix_len (in_front f) ss) (ap signs eb ∙ sym (drop-map sign n xs)) in (
-      ap items ea ∙ items_joined first more ∙ ap (λ zs. zs ++ items more) ef ∙ ap (λ zs. take n xs ++ zs) em ∙ taken_twice xs ys n m eb l
-          ∙ ap (λ k. take k xs) len,
-      er ∙ ap (drop m) eb ∙ drop-drop m n xs ∙ ap (λ k. drop k xs) len,
+pub takes_none : (f : Front) (n : ℕ) (taken rs : List Piece) (fs bs : List Item) → rs ≡ [] → Takes f n taken rs fs bs
+    → (items taken ≡ fs) × (items rs ≡ bs)
+takes_none f n taken rs fs bs e h =
+    let w = with_front f n (items rs) in
+    let none : items rs ≡ [] = ap items e in
+    let len : length (items rs) ≡ 0 = ap length none in (
+      sym (append-nil (items taken)) ∙ ap (λ xs. items taken ++ xs) (sym (take_all w (items rs) (omega (arith, len)) ∙ none)) ∙ h.front,
+      none ∙ sym (drop_all w (items rs) (omega (arith, len))) ∙ h.back,
     )
+
+-- nothing of a piece is taken
+pub takes_no_more : (f : Front) (n own : ℕ) (taken rs qs : List Piece) (p : Piece) (fs bs : List Item) → rs ≡ p ∷ qs → IsSoundPiece p
+    → own ≡ min (with_front f n (items_of p)) (item_count p) → own ≡ 0 → Takes f n taken rs fs bs → (items taken ≡ fs) × (items rs ≡ bs)
+takes_no_more f n own taken rs qs p fs bs e s is zer h =
+    let some = sound_some p s in
+    let none : with_front f n (items rs) ≡ 0 = piece_stops f n own rs qs p e is (omega (arith, zer, some, count_of p)) ∙ zer in (
+      sym (append-nil (items taken)) ∙ sym (ap (λ k. items taken ++ take k (items rs)) none) ∙ h.front,
+      sym (ap (λ k. drop k (items rs)) none) ∙ h.back,
+    )
+
+-- a piece may be cut where it is not taken whole
+pub takes_edge : (f : Front) (n own : ℕ) (rs qs : List Piece) (p : Piece) → rs ≡ p ∷ qs
+    → own ≡ min (with_front f n (items_of p)) (item_count p) → 0 < own → IsWithCut f n (items rs) → own < item_count p → IsEdgeIn (items_of p) own
+takes_edge f n own rs qs p e is pos edge l =
+    let here = piece_stops f n own rs qs p e is l in
+    front_edge rs qs p own e pos (subst (λ (k : ℕ). IsEdgeIn (items rs) k) here (edge (omega (arith, here, pos)))) l
+
+-- a part of a piece is taken
+pub takes_part : (f : Front) (n own : ℕ) (taken more rs qs rest : List Piece) (p : Piece) (fs bs : List Item) → rs ≡ p ∷ qs
+    → own ≡ min (with_front f n (items_of p)) (item_count p) → own < item_count p → items more ≡ items taken ++ take own (items_of p)
+    → items rest ≡ drop own (items_of p) ++ items qs → Takes f n taken rs fs bs → (items more ≡ fs) × (items rest ≡ bs)
+takes_part f n own taken more rs qs rest p fs bs e is l em er h =
+    let here = piece_stops f n own rs qs p e is l in
+    let le : own ≤ length (items_of p) = omega (arith, l, count_of p) in (
+      em ∙ ap (λ xs. items taken ++ xs) (sym (take-append-le own (items_of p) (items qs) le) ∙ ap (λ ps. take own (items ps)) (sym e))
+          ∙ ap (λ k. items taken ++ take k (items rs)) (sym here) ∙ h.front,
+      er ∙ sym (drop-append-le own (items_of p) (items qs) le) ∙ ap (λ ps. drop own (items ps)) (sym e)
+          ∙ ap (λ k. drop k (items rs)) (sym here) ∙ h.back,
+    )
+
+-- a piece is taken whole
+past : (p : Piece) (qs rest : List Piece) (own : ℕ) → item_count p ≤ own → items rest ≡ drop own (items_of p) ++ items qs → items rest ≡ items qs
+past p qs rest own h er = er ∙ ap (λ xs. xs ++ items qs) (whole_back p own h)
+
+pub takes_whole : (f : Front) (n own k : ℕ) (taken more rs qs rest : List Piece) (p : Piece) (fs bs : List Item) → rs ≡ p ∷ qs
+    → own ≡ min (with_front f n (items_of p)) (item_count p) → item_count p ≤ own → k ≡ n - item_count p
+    → items more ≡ items taken ++ take own (items_of p) → items rest ≡ drop own (items_of p) ++ items qs
+    → Takes f n taken rs fs bs → Takes f k more rest fs bs
+takes_whole f n own k taken more rs qs rest p fs bs e is whole ek em er h =
+    let w = with_front f n (items rs) in
+    let v = with_front f k (items rest) in
+    let goes = piece_goes f n own rs qs p e is whole in
+    let le : item_count p ≤ w = omega (arith, goes) in
+    let at = past p qs rest own whole er in
+    let same : v ≡ with_front f (n - item_count p) (items qs) =
+    ap (λ m. with_front f m (items rest)) ek ∙ ap (with_front f (n - item_count p)) at in
+    let less : v ≡ w - item_count p = omega (arith, goes, same) in
+    let all : items more ≡ items taken ++ take w (items_of p) =
+    em ∙ ap (λ xs. items taken ++ xs) (whole_front p own whole ∙ sym (whole_front p w le)) in
+    let left : items rest ≡ drop w (items_of p) ++ items qs = at ∙ ap (λ xs. xs ++ items qs) (sym (whole_back p w le)) in
+    record {
+      front = next_front taken more rs qs rest p w v fs e less left all h.front;
+      back = next_back rs qs rest p w v bs e less left h.back;
+      edge = λ s. next_edge rs qs rest p w v e less left s (h.edge (omega (arith, less, s)));
+    }
+
+-- and fewer items are left
+pub fewer : (own : ℕ) (rs qs rest : List Piece) (p : Piece) → rs ≡ p ∷ qs → IsSoundPiece p → item_count p ≤ own
+    → items rest ≡ drop own (items_of p) ++ items qs → length (items rest) < length (items rs)
+fewer own rs qs rest p e s whole er =
+    let at = ap length (past p qs rest own whole er) in
+    let had = ap (λ ps. length (items ps)) e in
+    let len = length-append (items_of p) (items qs) in
+    omega (arith, at, had, len, sound_some p s)
+
+-- ---- where the cut is
+
+edge_more : (g : Glyph) (gs : List Glyph) (k : ℕ) → IsEdge gs (suc k) → IsEdge (g ∷ gs) (suc (suc k))
+edge_more g gs k (inl end) = inl (ap suc end)
+edge_more g gs k (inr (inl low)) = inr (inl low)
+edge_more g gs k (inr (inr low)) = inr (inr low)
+
+no_edge : (m k : ℕ) → IsEdge [] (suc m) → IsEdge [] k
+no_edge m k (inl end) = absurd (omega (arith, end))
+no_edge m k (inr (inl low)) = false_true low
+no_edge m k (inr (inr low)) = false_true low
+
+edge_drop : (gs : List Glyph) (n m k : ℕ) → k ≡ n + suc m → IsEdge (drop n gs) (suc m) → IsEdge gs k
+edge_drop gs zero m k e h = let z : k ≡ suc m = omega (arith, e) in subst (λ (i : ℕ). IsEdge gs i) (sym z) h
+edge_drop [] (suc n) m k e h = no_edge m k h
+edge_drop (g ∷ gs) (suc n) m zero e h = absurd (omega (arith, e))
+edge_drop (g ∷ gs) (suc n) m (suc zero) e h = absurd (omega (arith, e))
+edge_drop (g ∷ gs) (suc n) m (suc (suc k)) e h = edge_more g gs k (edge_drop gs n m (suc k) (omega (arith, e)) h)
+
+edge_behind : (xs : List Item) (n m k : ℕ) → k ≡ n + m → (0 < n → IsEdgeIn xs n) → (0 < m → IsEdgeIn (drop n xs) m) → 0 < k → IsEdgeIn xs k
+edge_behind xs n zero k e here behind s =
+    let z : k ≡ n = omega (arith, e) in subst (λ (i : ℕ). IsEdgeIn xs i) (sym z) (here (omega (arith, z, s)))
+edge_behind xs n (suc m) k e here behind s =
+    edge_drop (map glyph_of xs) n m k e
+    (subst (λ (gs : List Glyph). IsEdge gs (suc m)) (sym (drop-map glyph_of n xs)) (behind (omega arith)))
+
+pub with_cut : (f : Front) (n : ℕ) (xs : List Item) → (0 < n → IsEdgeIn xs n) → IsFrontCut f (drop n xs) → IsWithCut f n xs
+with_cut f n xs here behind s =
+    edge_behind xs n (front_len f (drop n xs)) (with_front f n xs)
+    (ap (λ ss. n + prefix_len (in_front f) ss) (drop-map sign n xs)) here behind s

@@ -1,6 +1,8 @@
 pub mod Attributing
 pub mod Cases
 pub mod Celling
+pub mod FewItems
+pub mod FewRows
 pub mod FirstUnits
 pub mod FrontCuts
 pub mod Grouping
@@ -12,7 +14,6 @@ pub mod LineCuts
 pub mod LineKinds
 pub mod LineRows
 pub mod LinesBehind
-pub mod LowSigns
 pub mod Making
 pub mod OpenedLines
 pub mod OpenedParts

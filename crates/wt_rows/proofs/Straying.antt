@@ -13,6 +13,7 @@ use Rattle.wt_page.specs.Rows.{Row, row_items}
 use Rattle.wt_page.specs.Stretches.{Stretch, gap}
 use Rattle.wt_page.specs.Tables.{is_blank_row, stray_len, gaps}
 use Rattle.wt_rows.specs.Ready.{IsReadyRow, BeginAt, AreInOrder, AreReadyRows}
+use Rattle.wt_rows.proofs.FewRows.{few_front, few_rest}
 use Rattle.wt_rows.proofs.Grouping.{take_join}
 use Rattle.wt_rows.specs.Views.{slice, row_view, rows_view, stretch_view, stretches_view}
 
@@ -115,8 +116,8 @@ order_take ps (suc n) (r ∷ rs) h = (h.0, begin_take n r.end rs h.1, order_take
 
 pub ready_rest : (ps : List Piece) (rs qs : List RowAt) (n : ℕ) → AreReadyRows ps rs → qs ≡ drop n rs → AreReadyRows ps qs
 ready_rest ps rs qs n h e =
-    subst (λ (ss : List RowAt). AreReadyRows ps ss) (sym e) (record { sound = h.sound; parted = h.parted; rows = order_drop ps n rs h.rows })
+    subst (λ (ss : List RowAt). AreReadyRows ps ss) (sym e) (record { sound = h.sound; parted = h.parted; rows = order_drop ps n rs h.rows; few = few_rest ps rs n h.few })
 
 pub ready_front : (ps : List Piece) (rs qs : List RowAt) (n : ℕ) → AreReadyRows ps rs → qs ≡ take n rs → AreReadyRows ps qs
 ready_front ps rs qs n h e =
-    subst (λ (ss : List RowAt). AreReadyRows ps ss) (sym e) (record { sound = h.sound; parted = h.parted; rows = order_take ps n rs h.rows })
+    subst (λ (ss : List RowAt). AreReadyRows ps ss) (sym e) (record { sound = h.sound; parted = h.parted; rows = order_take ps n rs h.rows; few = few_front ps rs n h.few })

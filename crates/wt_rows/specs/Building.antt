@@ -14,7 +14,7 @@ use Rattle.wt_rows.specs.declared.row.RowAt.{RowAt}
 use Rattle.wt_rows.specs.declared.rows.PageRows.{PageRows}
 use Rattle.wt_page.specs.Rows.{Row, signs, marks_len, idle_len, dashes, rows_from}
 use Rattle.wt_rows.specs.Views.{rows_view}
-use Rattle.wt_rows.specs.Ready.{Begins, AreReadyRows}
+use Rattle.wt_rows.specs.Ready.{Begins, AreOrderedRows}
 
 -- sound pieces that are parted at line breaks
 pub record AreWhole (ps : List Piece) : Type 0 where
@@ -39,9 +39,9 @@ rows_end [] = 0
 rows_end (r ∷ []) = r.end
 rows_end (r ∷ s ∷ rs) = rows_end (s ∷ rs)
 
--- rows that are ready to be read, of which the last ends with the pieces
+-- rows in order, of which the last ends with the pieces
 pub record AreMade (ps : List Piece) (rs : List RowAt) : Type 0 where
-  pub ready : AreReadyRows ps rs
+  pub ready : AreOrderedRows ps rs
   pub end : rows_end rs ≡ length ps
 
 abbrev pub ArePageRows : PageRows → Type 0

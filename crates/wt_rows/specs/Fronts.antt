@@ -26,3 +26,7 @@ with_front f n xs = n + prefix_len (in_front f) (drop n (signs xs))
 -- no character lies on both sides of a cut after them
 abbrev pub IsFrontCut : Front → List Item → Type 0
 IsFrontCut f xs = 0 < front_len f xs → IsEdgeIn xs (front_len f xs)
+
+-- no character lies on both sides of a cut after so many items and those after them
+abbrev pub IsWithCut : Front → ℕ → List Item → Type 0
+IsWithCut f n xs = 0 < with_front f n xs → IsEdgeIn xs (with_front f n xs)

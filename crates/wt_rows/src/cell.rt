@@ -1,13 +1,13 @@
 //! Cells and captions, with what is on their line and what follows in them.
 
-ghost use Rattle.std.specs.Prelude.{◌≡◌, [], ◌∷◌, All, map, IfOk};
+ghost use Rattle.std.specs.Prelude.{◌≡◌, ◌<◌, ◌^◌, [], ◌∷◌, length, All, map, IfOk};
 ghost use Rattle.std.specs.List.{flat_map};
 ghost use Rattle.wt_span.specs.Items.{items};
 ghost use Rattle.wt_span.specs.Origins.{IsSoundPiece};
 ghost use Rattle.wt_tables.specs.Cells.{cells_from};
-ghost use Rattle.wt_tables.specs.CellViews.{cell_view, IsSoundCell};
+ghost use Rattle.wt_tables.specs.CellViews.{cell_view};
 ghost use Rattle.wt_page.specs.Tables.{cell_kind, cell_by, cells_by};
-ghost use Rattle.wt_rows.specs.Ready.{BeginsCell};
+ghost use Rattle.wt_rows.specs.Ready.{BeginsCell, IsReadyCell};
 ghost use Rattle.wt_page.specs.Rows.{signs};
 ghost use Rattle.wt_page.specs.Stretches.{gap};
 ghost use Rattle.wt_rows.specs.Views.{row_view, stretches_view};
@@ -42,7 +42,7 @@ fn cell_by<'a>(
     pieces: &[Piece<'a>],
     after: List<StretchAt<'a>>,
 ) -> Result<List<StretchAt<'a>>, NoMemory>
-    requires { IsSoundCell cell }
+    requires { IsReadyCell cell }
     ensures { IfOk result (λ l. stretches_view pieces.now l ≡ cell_by caption (cell_view cell.entry) (stretches_view pieces.now after.entry)) }
 {
     let CellAt {
@@ -62,7 +62,7 @@ fn first_cells<'a>(
     cells: Vec<CellAt<'a>>,
     pieces: &[Piece<'a>],
 ) -> Result<Vec<StretchAt<'a>>, NoMemory>
-    requires { All IsSoundCell cells.items }
+    requires { All IsReadyCell cells.items }
     ensures { IfOk result (λ l. stretches_view pieces.now l.items ≡ flat_map (λ c. cell_by caption (cell_view c) []) cells.entry.items) }
 {
     let mut out = Vec::new(alloc);
@@ -82,7 +82,7 @@ pub fn cells_by<'a>(
     pieces: &[Piece<'a>],
     after: List<StretchAt<'a>>,
 ) -> Result<List<StretchAt<'a>>, NoMemory>
-    requires { All IsSoundCell cells }
+    requires { All IsReadyCell cells }
     ensures { IfOk result (λ l. stretches_view pieces.now l ≡ cells_by caption (map cell_view cells.entry) (stretches_view pieces.now after.entry)) }
 {
     let mut others = cells.into_vec();
@@ -105,6 +105,7 @@ pub fn line_cells<'a>(
     after: List<StretchAt<'a>>,
 ) -> Result<List<StretchAt<'a>>, NoMemory>
     requires sound { All IsSoundPiece line.now }
+    requires few { length (items line.now) < 2 ^ 32 }
     requires sign { BeginsCell caption (signs (items line.now)) }
     ensures { IfOk result (λ l. stretches_view pieces.now l ≡ cells_by caption (cells_from caption (items line.now)) (stretches_view pieces.now after.entry)) }
 {
@@ -126,6 +127,7 @@ pub fn row_cells<'a>(
     inside: List<StretchAt<'a>>,
 ) -> Result<List<StretchAt<'a>>, NoMemory>
     requires sound { All IsSoundPiece pieces.now }
+    requires few { length (row_view pieces.now row).items < 2 ^ 32 }
     requires sign { BeginsCell caption (signs (row_view pieces.now row).items) }
     ensures { IfOk result (λ l. stretches_view pieces.now l
         ≡ gap (row_view pieces.now row).lead ∷ cells_by caption (cells_from caption (row_view pieces.now row).items)

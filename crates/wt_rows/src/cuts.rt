@@ -1,17 +1,17 @@
 //! Pieces, cut after a number of items.
 
-ghost use Rattle.std.specs.Prelude.{◌≡◌, ◌<◌, ◌≤◌, [], ◌++◌, All, take, drop, length, IfOk};
+ghost use Rattle.std.specs.Prelude.{◌≡◌, ◌<◌, ◌≤◌, ◌++◌, All, take, drop, length, IfOk, OnOk};
 ghost use Rattle.wt_span.specs.Items.{items};
 ghost use Rattle.wt_span.specs.Origins.{IsSoundPiece};
-ghost use Rattle.wt_tiles.specs.Cutting.{IsEdgeIn};
-ghost use Rattle.wt_rows.specs.Fronts.{front_len, with_front, IsFrontCut};
+ghost use Rattle.wt_tiles.specs.Cutting.{IsEdgeIn, rest_pieces};
+ghost use Rattle.wt_rows.specs.Fronts.{front_len, with_front, IsFrontCut, IsWithCut};
 
 use crate::front::Front;
 use std::alloc::Global;
 use wt_context::take_some;
 use wt_lines::item_count;
-use wt_span::{List, NoMemory, Piece, front_of, rest_of};
-use wt_tiles::Rest;
+use wt_span::{List, NoMemory, Piece};
+use wt_tiles::{Rest, take_piece};
 
 /// The first n items of pieces, and those after them. No character may lie on both sides of the
 /// cut.
@@ -33,52 +33,38 @@ pub fn cut<'a>(
     Ok((front, back))
 }
 
-/// Pieces, and others after them.
-fn joined<'a>(
-    alloc: Global,
-    pieces: &[Piece<'a>],
-    others: &[Piece<'a>],
-) -> Result<List<Piece<'a>>, NoMemory>
-    ensures { IfOk result (λ all. all ≡ pieces.now ++ others.now) }
-{
-    let mut all = List::new(alloc);
-    all.extend_from_slice(pieces)?;
-    all.extend_from_slice(others)?;
-    Ok(all)
-}
-
-/// All pieces, and none after them.
-fn all_and_none<'a>(
-    alloc: Global,
-    pieces: &[Piece<'a>],
-) -> Result<(List<Piece<'a>>, List<Piece<'a>>), NoMemory>
-    ensures front { IfOk result (λ r. r.0 ≡ pieces.now) }
-    ensures back { IfOk result (λ r. r.1 ≡ []) }
-{
-    let mut all = List::new(alloc);
-    all.extend_from_slice(pieces)?;
-    Ok((all, List::new(alloc)))
-}
-
-/// The first pieces with n items of those after them, and what is left.
-fn cut_behind<'a>(
-    alloc: Global,
-    pieces: &[Piece<'a>],
-    first: usize,
+/// Takes the first n items, after others, and those behind them that have such signs: what is left. No
+/// character may lie on both sides of the cut.
+fn take_with<'p, 'a>(
+    taken: &mut List<Piece<'a>>,
+    pieces: Rest<'p, 'a>,
     n: usize,
-) -> Result<(List<Piece<'a>>, List<Piece<'a>>), NoMemory>
-    requires sound { All IsSoundPiece pieces.now }
-    requires first { first ≤ length pieces.now }
-    requires within { n ≤ length (items (drop first pieces.now)) }
-    requires edge { 0 < n → IsEdgeIn (items (drop first pieces.now)) n }
-    ensures front { IfOk result (λ r. items r.0 ≡ items (take first pieces.now) ++ take n (items (drop first pieces.now))) }
-    ensures back { IfOk result (λ r. items r.1 ≡ drop n (items (drop first pieces.now))) }
-    ensures sound_front { IfOk result (λ r. All IsSoundPiece r.0) }
-    ensures sound_back { IfOk result (λ r. All IsSoundPiece r.1) }
+    front: Front,
+) -> Result<Rest<'p, 'a>, NoMemory>
+    requires sound { All IsSoundPiece (rest_pieces pieces) }
+    requires sound_taken { All IsSoundPiece taken.old }
+    requires edge { IsWithCut front n (items (rest_pieces pieces)) }
+    ensures front { OnOk result (items taken.new ≡ items taken.old ++ take (with_front front n (items (rest_pieces pieces.entry))) (items (rest_pieces pieces.entry))) }
+    ensures back { IfOk result (λ r. items (rest_pieces r) ≡ drop (with_front front n (items (rest_pieces pieces.entry))) (items (rest_pieces pieces.entry))) }
+    ensures sound_front { OnOk result (All IsSoundPiece taken.new) }
+    ensures sound_back { IfOk result (λ r. All IsSoundPiece (rest_pieces r)) }
 {
-    let (own, rest) = cut(alloc, rest_of(pieces, first), n)?;
-    let taken = joined(alloc, front_of(pieces, first), own.as_slice())?;
-    Ok((taken, rest))
+    let mut rest = pieces;
+    let mut left = n;
+    while let Some((piece, after)) = rest.split_first() {
+        let count = item_count(&piece);
+        let own = front.len_with(&piece, left);
+        if own == 0 {
+            return Ok(rest);
+        }
+        let next = take_piece(taken, piece, after, own)?;
+        rest = next.1;
+        if own < count {
+            return Ok(rest);
+        }
+        left = left.saturating_sub(count);
+    }
+    Ok(rest)
 }
 
 /// The items at the front that have such signs, and those after them. No character may lie on both
@@ -95,14 +81,7 @@ pub fn cut_front<'a>(
     ensures sound_front { IfOk result (λ r. All IsSoundPiece r.0) }
     ensures sound_back { IfOk result (λ r. All IsSoundPiece r.1) }
 {
-    for (i, piece) in pieces.iter().enumerate() {
-        let n = front.len_of(piece);
-        let count = item_count(piece);
-        if n < count {
-            return cut_behind(alloc, pieces, i, n);
-        }
-    }
-    all_and_none(alloc, pieces)
+    cut_with(alloc, pieces, 0, front)
 }
 
 /// The first n items with those after them that have such signs, and what is left. No character may
@@ -122,8 +101,8 @@ pub fn cut_with<'a>(
     ensures sound_front { IfOk result (λ r. All IsSoundPiece r.0) }
     ensures sound_back { IfOk result (λ r. All IsSoundPiece r.1) }
 {
-    let (first, behind) = cut(alloc, pieces, n)?;
-    let (more, rest) = cut_front(alloc, behind.as_slice(), front)?;
-    let all = joined(alloc, first.as_slice(), more.as_slice())?;
-    Ok((all, rest))
+    let mut taken = List::new(alloc);
+    let rest = take_with(&mut taken, Rest::of(pieces), n, front)?;
+    let back = rest.all(alloc)?;
+    Ok((taken, back))
 }

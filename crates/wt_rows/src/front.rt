@@ -1,13 +1,14 @@
 //! The signs that are taken from the front of a line.
 
-ghost use Rattle.std.specs.Prelude.{◌≡◌, ◌∷◌, []};
+ghost use Rattle.std.specs.Prelude.{◌≡◌, ◌∷◌, [], min};
 ghost use Rattle.std.specs.List.{prefix_len};
 ghost use Rattle.wt_span.specs.Items.{items_of};
+ghost use Rattle.wt_lines.specs.Pieces.{item_count};
 ghost use Rattle.wt_lines.specs.Signs.{number};
-ghost use Rattle.wt_rows.specs.Fronts.{front_len, in_front};
+ghost use Rattle.wt_rows.specs.Fronts.{with_front, in_front};
 
-use wt_lines::LineSign;
-use wt_span::Piece;
+use wt_lines::{LineSign, item_count};
+use wt_span::{Piece, rest_of};
 
 /// Which signs are taken.
 #[derive(Clone, Copy, Debug)]
@@ -50,12 +51,16 @@ impl Front {
         if self.has(sign) { 1 } else { 0 }
     }
 
-    /// How many such items are at the front of a piece.
-    pub fn len_of(self, piece: &Piece<'_>) -> usize
-        ensures { result ≡ front_len self (items_of piece.now) }
+    /// How many items of a piece are among the first n and those behind them that are such.
+    pub fn len_with(self, piece: &Piece<'_>, n: usize) -> usize
+        ensures { result ≡ min (with_front self n (items_of piece.now)) (item_count piece.now) }
     {
+        let count = item_count(piece);
+        if count <= n {
+            return count;
+        }
         match LineSign::of_form(piece.form) {
-            None => self.len_in(piece.text.as_str().as_bytes()),
+            None => n + self.len_in(rest_of(piece.text.as_str().as_bytes(), n)),
             Some(sign) => self.len_at(sign),
         }
     }

@@ -1,10 +1,10 @@
 //! Portions of a page: lines up to an empty one that is in no table. No block reaches over such
 //! a line, so each portion is made to blocks by itself.
 
-ghost use Rattle.std.specs.Prelude.{◌≡◌, ◌<◌, All, List, true, false, length, IfOk};
+ghost use Rattle.std.specs.Prelude.{◌≡◌, ◌<◌, ◌++◌, All, List, true, false, length, IfOk};
 ghost use Rattle.wt_span.specs.Items.{items};
 ghost use Rattle.wt_span.specs.Origins.{IsSoundPiece};
-ghost use Rattle.wt_page.specs.Rows.{Row, rows};
+ghost use Rattle.wt_page.specs.Rows.{Row, all_items, rows};
 ghost use Rattle.wt_rows.specs.Building.{ArePageRows, made_rows};
 ghost use Rattle.wt_rows.specs.Unread.{left};
 ghost use Rattle.wt_rows.specs.Portions.{IsPortion, IsPortionOf, IsEnd, AreFirst};
@@ -83,6 +83,7 @@ pub fn next_portion<'p, 'a>(
     requires sound { All IsSoundPiece (left rest) }
     requires some { 0 < length (left rest) }
     ensures first { IfOk result (λ r. AreFirst (made_rows r.0) (items (left rest.entry)) (items (left r.1))) }
+    ensures kept { IfOk result (λ r. all_items (made_rows r.0) ++ items (left r.1) ≡ items (left rest.entry)) }
     ensures made { IfOk result (λ r. ArePageRows r.0) }
     ensures sound_after { IfOk result (λ r. All IsSoundPiece (left r.1)) }
     ensures fewer { IfOk result (λ r. length (items (left r.1)) < length (items (left rest.entry))) }

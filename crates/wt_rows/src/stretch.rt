@@ -1,6 +1,6 @@
 //! Stretches in code, and the nodes that are made round them.
 
-ghost use Rattle.std.specs.Prelude.{◌≡◌, ◌≤◌, ◌-◌, [], ◌∷◌, ◌++◌, All, IfOk, length, take, drop, reverse};
+ghost use Rattle.std.specs.Prelude.{◌≡◌, ◌<◌, ◌≤◌, ◌-◌, ◌^◌, [], ◌∷◌, ◌++◌, All, IfOk, length, take, drop, reverse};
 ghost use Rattle.std.specs.List.{prefix_len};
 ghost use Rattle.wt_span.specs.Items.{items};
 ghost use Rattle.wt_span.specs.Origins.{IsSoundPiece};
@@ -239,7 +239,8 @@ pub fn opened_line<'a>(
     pieces: &[Piece<'a>],
     after: List<StretchAt<'a>>,
 ) -> Result<List<StretchAt<'a>>, NoMemory>
-    requires { All IsSoundPiece line.now }
+    requires sound { All IsSoundPiece line.now }
+    requires few { length (items line.now) < 2 ^ 32 }
     ensures { IfOk result (λ l. stretches_view pieces.now l
         ≡ opened_by (head_of head.entry) (items opening.entry) (block (line_parts (items line.now)) ∷ stretches_view pieces.now after.entry)) }
 {

@@ -18,7 +18,7 @@ use Rattle.serde_json.proofs.OnLiterals.{serde_json_on_literals}
 use Rattle.wt_datamw.specs.MwRead.{is_mw_shape, has_small_numbers, mw_of_data, mw_told}
 use Rattle.wt_schema.specs.Groups.{transclusion, param}
 use Rattle.wt_schema.specs.Rows.{link_read}
-use Rattle.wt_tree.specs.Recut.{leaf_label, text_leaf, sep_leaf}
+use Rattle.wt_tree.specs.Leaves.{leaf_label, text_leaf, sep_leaf}
 use Rattle.wt_schema.specs.Read.{page, ill, misfit, read_tree, read}
 
 -- a node without data

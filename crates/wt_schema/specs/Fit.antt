@@ -17,7 +17,8 @@ use Rattle.wt_schema.specs.Attributes.{has, is_typed, id_of, mark_of}
 use Rattle.wt_tree.specs.declared.row.Texts.{Texts}
 use Rattle.wt_tree.specs.declared.row.Texts.TheVariants.{Separators, Page, Bordered, OwnCharacter}
 use Rattle.wt_tree.specs.Kinds.{may_hold, may_follow, is_block, texts_of_kind}
-use Rattle.wt_tree.specs.Recut.{is_blank, text_leaf, sep_leaf, recut}
+use Rattle.wt_tree.specs.Leaves.{text_leaf, sep_leaf}
+use Rattle.wt_recut.specs.Recut.{is_blank, recut}
 use Rattle.wt_schema.specs.Rows.{row, holds_text, shows_text, attrs_for}
 use Rattle.wt_schema.specs.Data.{Data, no_data, data_of, data_for, id_for}
 use Rattle.wt_schema.specs.Sections.{all_bared, opened_if_fit}

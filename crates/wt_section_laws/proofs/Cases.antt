@@ -3,7 +3,7 @@ use Rattle.std.proofs.Common.{◌≡◌, ℕ, List, [], ◌∷◌, None, inl, in
 use Rattle.wt_tree.specs.declared.kind.Kind.{Kind}
 use Rattle.wt_tree.specs.declared.kind.Kind.TheVariants as kind
 use Rattle.wt_tree.specs.Kinds.{spelling}
-use Rattle.wt_tree.specs.Recut.{leaf_label}
+use Rattle.wt_tree.specs.Leaves.{leaf_label}
 use Rattle.wt_tree.specs.Tree.{Tree, tree, none, trees}
 use Rattle.wt_sections.specs.Sections.{section_label, gathered}
 use Rattle.wt_section_laws.specs.Levels.{IsOfLevel, IsHeaded, AllReachUp, HoldsDeeper}

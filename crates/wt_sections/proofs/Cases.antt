@@ -6,7 +6,7 @@ use Rattle.wt_tree.specs.declared.kind.Kind.TheVariants as kind
 use Rattle.wt_tree.specs.declared.kind.Ranges.{Ranges}
 use Rattle.wt_tree.specs.Kinds.{spelling}
 use Rattle.wt_tree.specs.Opened.{opened}
-use Rattle.wt_tree.specs.Recut.{leaf_label}
+use Rattle.wt_tree.specs.Leaves.{leaf_label}
 use Rattle.wt_tree.specs.Tree.{Tree, tree, Trees, none, trees}
 use Rattle.wt_sections.specs.Sections.{section_label, gathered}
 

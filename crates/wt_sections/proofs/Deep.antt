@@ -6,7 +6,7 @@ use Rattle.std.specs.List.{AllByRecursion}
 use Rattle.wt_tree.specs.Kinds.{is_section}
 use Rattle.wt_tree.specs.Opened.{opened_before, all_opened_before, opened}
 use Rattle.wt_tree.specs.Tree.{Tree, tree, Trees, none, more, label, listed}
-use Rattle.wt_tree.proofs.Openings.{listed_opened}
+use Rattle.wt_recut.proofs.Openings.{listed_opened}
 use Rattle.wt_sections.specs.Sections.{Part, level_of, ends, opens, before, from, put, parts, part_trees, section, lead_if_any, gathered}
 use Rattle.wt_sections.specs.SectionLaws.{NoneIsSection, IsDeeper, IsDeep, sections_in, sections_in_all, up_to_heading}
 use Rattle.wt_sections.proofs.Opened.{cut_sections, no_sections, before_heading, none_before}

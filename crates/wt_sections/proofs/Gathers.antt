@@ -1,11 +1,11 @@
 -- What the loops of the code go by.
 use Rattle.std.proofs.Common.{◌≡◌, ℕ, ◌+◌, ◌<◌, length, Bool, true, false, Option, Some, None, List, [], ◌∷◌, ◌++◌, refl, sym, ap, ap₂, ◌∙◌, subst, cond, arith, map, reverse}
 use Rattle.std.proofs.lemmas.List.{map-append, reverse-append}
-use Rattle.wt_tree.specs.Recutting.{appended}
+use Rattle.wt_recut.specs.Recutting.{appended}
 use Rattle.wt_tree.specs.Tree.{Tree, Trees, none, more}
 use Rattle.wt_tree.specs.View.{view, views}
 use Rattle.wt_tree.specs.declared.node.Node.{Node}
-use Rattle.wt_tree.proofs.Recuts.{appended_none, appended_assoc, views_append}
+use Rattle.wt_recut.proofs.Recuts.{appended_none, appended_assoc, views_append}
 use Rattle.wt_sections.specs.declared.gather.Part.{Part as Found}
 use Rattle.wt_sections.specs.Gathering.{part_view, parts_view, heading_count, section_of, section_if_any}
 use Rattle.wt_sections.specs.Sections.{Part, before, ends, from, lead_if_any, level_of, opens, part_trees, parts, put, with_lead}

@@ -17,6 +17,10 @@ abbrev pub heading_count : Trees → ℕ
 heading_count none = 0
 heading_count (more t ts) = opens (level_of t) + heading_count ts
 
+-- the headings among the children of a tree
+abbrev pub headings_in : Tree → ℕ
+headings_in (tree l ts) = heading_count ts
+
 -- a section, whatever it holds
 abbrev pub span_of : Trees → Option Ranges
 span_of none = None

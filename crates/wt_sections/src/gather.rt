@@ -1,9 +1,9 @@
 //! A body's children, gathered into sections from the last one on.
 
-ghost use Rattle.std.specs.Prelude.{◌≡◌, ◌∷◌, [], IfOk, OnOk};
-ghost use Rattle.wt_tree.specs.Recutting.{appended};
+ghost use Rattle.std.specs.Prelude.{◌≡◌, ◌<◌, ◌^◌, ◌∷◌, [], IfOk, OnOk};
+ghost use Rattle.wt_recut.specs.Recutting.{appended};
 ghost use Rattle.wt_tree.specs.View.{view, views};
-ghost use Rattle.wt_sections.specs.Gathering.{heading_count, parts_view, section_if_any};
+ghost use Rattle.wt_sections.specs.Gathering.{heading_count, headings_in, parts_view, section_if_any};
 ghost use Rattle.wt_sections.specs.Sections.{before, ends, from, gathered, level_of, opens, part_trees, parts, put, with_lead, with_sections};
 
 use crate::section::section_of;
@@ -99,26 +99,24 @@ fn opens(node: &Node<'_>) -> u32
     }
 }
 
-/// How many of these nodes are headings. More than there are numbers don't fit into memory.
-fn heading_count(nodes: &[Node<'_>]) -> Result<u32, NoMemory>
-    ensures { IfOk result (λ n. n ≡ heading_count (views nodes.now)) }
+/// How many of these nodes are headings.
+fn heading_count(nodes: &[Node<'_>]) -> u32
+    requires { heading_count (views nodes.now) < 2 ^ 32 }
+    ensures { result ≡ heading_count (views nodes.now) }
 {
     let mut count = 0;
     for node in nodes {
-        let opens = opens(node);
-        if count > u32::MAX - opens {
-            return Err(NoMemory);
-        }
-        count += opens;
+        count += opens(node);
     }
-    Ok(count)
+    count
 }
 
 /// The parts of a body with these children, of which the last is first.
 fn parts_of<'a>(alloc: Global, nodes: Vec<Node<'a>>) -> Result<Vec<Part<'a>>, NoMemory>
+    requires { heading_count (views nodes.items) < 2 ^ 32 }
     ensures { IfOk result (λ ps. parts_view ps.items ≡ parts 1 (views nodes.entry.items)) }
 {
-    let mut number = heading_count(nodes.as_slice())?;
+    let mut number = heading_count(nodes.as_slice());
     let mut left = nodes;
     let mut parts = Vec::new(alloc);
     while let Some(node) = left.pop() {
@@ -152,6 +150,7 @@ fn push_parts<'a>(out: &mut Vec<Node<'a>>, parts: Vec<Part<'a>>) -> Result<(), N
 }
 
 fn gather<'a>(alloc: Global, nodes: List<Node<'a>>) -> Result<List<Node<'a>>, NoMemory>
+    requires { heading_count (views nodes) < 2 ^ 32 }
     ensures { IfOk result (λ l. views l ≡ gathered (views nodes.entry)) }
 {
     let mut parts = parts_of(alloc, nodes.into_vec())?;
@@ -167,6 +166,7 @@ fn gather<'a>(alloc: Global, nodes: List<Node<'a>>) -> Result<List<Node<'a>>, No
 /// which goes up to the next such heading of the same or a smaller level; what comes before the first,
 /// if anything does, is section 0.
 pub fn gather_sections<'a>(alloc: Global, body: Node<'a>) -> Result<Node<'a>, NoMemory>
+    requires { headings_in (view body) < 2 ^ 32 }
     ensures { IfOk result (λ n. view n ≡ with_sections (view body.entry)) }
 {
     let children = gather(alloc, body.children)?;

@@ -19,12 +19,12 @@ use Rattle.wt_checks.specs.Groups.{is_marked, has_mark, have_mark}
 use Rattle.wt_checks.specs.Kept.{children}
 use Rattle.wt_checks.specs.Marks.{is_children}
 use Rattle.wt_checks.specs.Places.{Place, placed, all_placed, parent_below, places, number, Page, page_of, is_content}
-use Rattle.wt_selser.specs.declared.change.Pair.{Pair as Found}
+use Rattle.wt_slices.specs.declared.change.Pair.{Pair as Found}
 use Rattle.wt_content.specs.declared.reason.ContentWhy.{ContentWhy}
 use Rattle.wt_selser.specs.declared.refusal.EditRefusal.{EditRefusal}
 use Rattle.wt_selser.specs.declared.refusal.EditRefusal.TheVariants as refusal
-use Rattle.wt_selser.specs.BodySlices.{all_child_slices, body_slices, child_slices, list_at, slices, start}
-use Rattle.wt_selser.specs.Changes.{Pair, all_insides, inside_of, insides, marked, pair_at, pair_with}
+use Rattle.wt_slices.specs.BodySlices.{all_child_slices, body_slices, child_slices, list_at, slices, start}
+use Rattle.wt_slices.specs.Changes.{Pair, all_insides, inside_of, insides, marked, pair_at, pair_with}
 use Rattle.wt_content.specs.declared.children.Holder.TheVariants as holder
 use Rattle.wt_content.specs.Children.{bad_children}
 use Rattle.wt_content.specs.Content.{bad_content}
@@ -32,8 +32,8 @@ use Rattle.wt_selser.specs.Edits.{first_with, first_of, bad_pair, is_tangled, ta
 use Rattle.wt_selser.specs.GroupFaults.{has_faulty_group}
 use Rattle.wt_isolation.specs.OpenTags.{before, touches_open_tag}
 use Rattle.wt_isolation.specs.TextCalls.{touches_text_call}
-use Rattle.wt_selser.specs.Steps.{steps}
-use Rattle.wt_selser.specs.Views.{pair_of, pairs_of}
+use Rattle.wt_slices.specs.Steps.{steps}
+use Rattle.wt_slices.specs.Views.{pair_of, pairs_of}
 use Rattle.wt_selser.proofs.Outside.{nothing_changes}
 
 id_seen : (n : Node) → (label (view n)).id ≡ (out-Node n).id

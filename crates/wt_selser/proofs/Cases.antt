@@ -1,7 +1,7 @@
 -- Worked cases: a word typed into a paragraph, and two slices of one page.
 use Rattle.std.proofs.Common.{◌≡◌, [], ◌∷◌, refl}
 use Rattle.std.specs.Prelude.{codes}
-use Rattle.wt_selser.specs.Splice.{spliced}
+use Rattle.wt_splice.specs.Splice.{spliced}
 
 one_word : spliced (codes "a river.") (record { start = 2; end = 2; by = codes "long " } ∷ []) ≡ codes "a long river."
 unfolding spliced

@@ -2,7 +2,7 @@
 use Rattle.std.proofs.Common.{arith, ◌≡◌, ℕ, ◌≤◌, List, [], ◌∷◌, ◌++◌, refl, sym, subst, inl, inr}
 use Rattle.std.specs.List.{AllByRecursion}
 use Rattle.wt_checks.specs.Kept.{IsSublist}
-use Rattle.wt_selser.specs.Splice.{Change, AreApart}
+use Rattle.wt_splice.specs.Splice.{Change, AreApart}
 
 -- from a place on these follow one another, where number k begins at `s k` and ends at `e k`
 abbrev pub Chain : (ℕ → ℕ) → (ℕ → ℕ) → ℕ → List ℕ → Type 0

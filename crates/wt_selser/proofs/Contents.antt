@@ -18,11 +18,11 @@ use Rattle.wt_checks.specs.Places.{Place, placed, all_placed, places, is_body, i
 use Rattle.wt_checks.proofs.Lookups.{each_split}
 use Rattle.wt_checks.proofs.WhatIsKept.{kept}
 use Rattle.wt_content.specs.declared.children.Holder.TheVariants as holder
-use Rattle.wt_selser.specs.BodySlices.{all_child_slices, body_slices, list_at, slices, start}
-use Rattle.wt_selser.specs.Changes.{all_insides, inside_at, inside_of, insides, AllStay}
-use Rattle.wt_selser.specs.Splice.{Change}
-use Rattle.wt_selser.specs.Steps.{steps}
-use Rattle.wt_selser.proofs.BodyWalk.{nothing_pushed}
+use Rattle.wt_slices.specs.BodySlices.{all_child_slices, body_slices, list_at, slices, start}
+use Rattle.wt_slices.specs.Changes.{all_insides, inside_at, inside_of, insides, AllStay}
+use Rattle.wt_splice.specs.Splice.{Change}
+use Rattle.wt_slices.specs.Steps.{steps}
+use Rattle.wt_slices.proofs.BodyWalk.{nothing_pushed}
 
 abbrev IsOutside : Place → Type 0
 IsOutside p = is_content (label p.node).mark ≡ true → p.in_content ≡ false

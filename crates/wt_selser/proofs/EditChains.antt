@@ -33,16 +33,16 @@ use Rattle.wt_checks.proofs.Lookups.{each_split, each_join, all_page_numbers}
 use Rattle.wt_checks.proofs.PutBack.{at_some, numbered_kind}
 use Rattle.wt_checks.proofs.WhatIsKept.{increasing, kept}
 use Rattle.wt_content.specs.declared.children.Holder.TheVariants as holder
-use Rattle.wt_selser.specs.BodySlices.{all_child_slices, body_slices, child_slices, list_at, slices, slices_of, start}
-use Rattle.wt_selser.specs.Changes.{all_insides, change_with, inside_of, insides, marked, place_in}
-use Rattle.wt_selser.specs.ListSlices.{list_slices, sign_of}
+use Rattle.wt_slices.specs.BodySlices.{all_child_slices, body_slices, child_slices, list_at, slices, slices_of, start}
+use Rattle.wt_slices.specs.Changes.{all_insides, change_with, inside_of, insides, marked, place_in}
+use Rattle.wt_slices.specs.ListSlices.{list_slices, sign_of}
 use Rattle.wt_escape.specs.Spelling.{inline_spelling}
 use Rattle.wt_selser.specs.declared.refusal.EditRefusal.{EditRefusal}
 use Rattle.wt_selser.specs.declared.refusal.EditRefusal.TheVariants as refusal
 use Rattle.wt_selser.specs.Edits.{unless_refused, if_short, refused_pairs, most_bytes, edit_answer}
 use Rattle.wt_selser.specs.Leaves.{LeavesHoldNoNumber, AllLeavesHoldNoNumber, HoldsNoFrame, NoneIsFrame}
-use Rattle.wt_selser.specs.Splice.{Change, AreApart, OutsideStands, spliced}
-use Rattle.wt_selser.specs.Steps.{steps}
+use Rattle.wt_splice.specs.Splice.{Change, AreApart, OutsideStands, spliced}
+use Rattle.wt_slices.specs.Steps.{steps}
 use Rattle.wt_selser.proofs.Bodies.{free_root, known_top, root_zero}
 use Rattle.wt_selser.proofs.Chains.{Chain, end_after, chain_grows, chain_lower, end_lower, chain_split, end_join, chain_sublist, AreWithin, chain_within, apart_lower, apart_raise, apart_join}
 use Rattle.wt_selser.proofs.Outside.{outside_stands}

@@ -1,7 +1,7 @@
 -- What stands outside the slices stands in the new page.
 use Rattle.std.proofs.Common.{arith, ◌≡◌, ℕ, suc, ◌+◌, ◌-◌, ◌≤◌, List, [], ◌∷◌, ◌++◌, length, take, drop, map, refl, sym, ap, ◌∙◌, drop-drop, take-append-drop}
 use Rattle.std.specs.Prelude.{zip}
-use Rattle.wt_selser.specs.Splice.{Change, between, spliced_from, spliced, AreApart, woven, OutsideStands}
+use Rattle.wt_splice.specs.Splice.{Change, between, spliced_from, spliced, AreApart, woven, OutsideStands}
 
 cut_at : (n : ℕ) (bytes : List ℕ) → take n bytes ++ drop n bytes ≡ bytes
 cut_at n bytes = take-append-drop n bytes

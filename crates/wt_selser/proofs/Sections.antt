@@ -28,15 +28,15 @@ use Rattle.wt_content.specs.declared.children.Holder.TheVariants as holder
 use Rattle.wt_content.specs.Children.{is_child, bad_children}
 use Rattle.wt_content.specs.Content.{bad_content}
 use Rattle.wt_escape.specs.Spelling.{block_spelling}
-use Rattle.wt_selser.specs.declared.body.Front.{Front}
-use Rattle.wt_selser.specs.BodySlices.{past, start, step_slices, body_slices, list_at, child_slices, all_child_slices, slices_of, slices}
+use Rattle.wt_slices.specs.declared.body.Front.{Front}
+use Rattle.wt_slices.specs.BodySlices.{past, start, step_slices, body_slices, list_at, child_slices, all_child_slices, slices_of, slices}
 use Rattle.wt_selser.specs.declared.refusal.EditRefusal.{EditRefusal}
 use Rattle.wt_selser.specs.declared.refusal.EditRefusal.TheVariants as refusal
-use Rattle.wt_selser.specs.Changes.{Pair, pair_with, pair_at, marked, inside_of, insides, all_insides}
+use Rattle.wt_slices.specs.Changes.{Pair, pair_with, pair_at, marked, inside_of, insides, all_insides}
 use Rattle.wt_selser.specs.Edits.{first_with, first_of, bad_pair, is_tangled, tangled_pair, refused_pairs, if_short, unless_refused, pairs_answer, edit_answer}
-use Rattle.wt_selser.specs.ListSlices.{at_place, sign_of, is_kept_item, from_kept, removed_before, first_removed, first_start, new_before, item_slices, list_from, list_slices}
-use Rattle.wt_selser.specs.Splice.{spliced}
-use Rattle.wt_selser.specs.Steps.{Step, stays, goes, kept, comes, passed_one, passed, passed_up_to, from_number, kept_first, behind_first, steps}
+use Rattle.wt_slices.specs.ListSlices.{at_place, sign_of, is_kept_item, from_kept, removed_before, first_removed, first_start, new_before, item_slices, list_from, list_slices}
+use Rattle.wt_splice.specs.Splice.{spliced}
+use Rattle.wt_slices.specs.Steps.{Step, stays, goes, kept, comes, passed_one, passed, passed_up_to, from_number, kept_first, behind_first, steps}
 use Rattle.wt_checks.specs.declared.refusal.TreeRefusal.{TreeRefusal}
 use Rattle.wt_checks.specs.declared.refusal.TreeRefusal.TheVariants.{UnknownId, RepeatedId, Moved, InTemplate, NotEditable, UnmarkedChange}
 use Rattle.wt_checks.specs.Ids.{is_there, is_unknown, is_repeated, is_moved}

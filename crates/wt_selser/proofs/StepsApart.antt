@@ -12,13 +12,13 @@ use Rattle.wt_checks.proofs.InOrder.{same_by, test_equal}
 use Rattle.wt_content.specs.declared.children.Holder.{Holder}
 use Rattle.wt_content.specs.declared.children.Holder.TheVariants as holder
 use Rattle.wt_content.specs.Children.{is_child}
-use Rattle.wt_selser.specs.declared.body.Front.{Front}
-use Rattle.wt_selser.specs.BodySlices.{body_slices, child_slices, is_parted, past, removed_with}
-use Rattle.wt_selser.specs.Changes.{insides}
-use Rattle.wt_selser.specs.ListSlices.{first_removed, first_start, from_kept, is_item, is_kept_item, item_slices, list_from, list_slices, new_before, removed_before}
-use Rattle.wt_selser.specs.ListSlices as items
-use Rattle.wt_selser.specs.Splice.{Change, AreApart}
-use Rattle.wt_selser.specs.Steps.{Step, stays, goes, kept, comes, passed, passed_one, passed_up_to, from_number, kept_first, behind_first, steps}
+use Rattle.wt_slices.specs.declared.body.Front.{Front}
+use Rattle.wt_slices.specs.BodySlices.{body_slices, child_slices, is_parted, past, removed_with}
+use Rattle.wt_slices.specs.Changes.{insides}
+use Rattle.wt_slices.specs.ListSlices.{first_removed, first_start, from_kept, is_item, is_kept_item, item_slices, list_from, list_slices, new_before, removed_before}
+use Rattle.wt_slices.specs.ListSlices as items
+use Rattle.wt_splice.specs.Splice.{Change, AreApart}
+use Rattle.wt_slices.specs.Steps.{Step, stays, goes, kept, comes, passed, passed_one, passed_up_to, from_number, kept_first, behind_first, steps}
 use Rattle.wt_selser.proofs.Chains.{apart_lower, apart_join}
 use Rattle.wt_selser.proofs.PageChains.{begins, tree_grows, trees_grow, ranges_at, start_of, starts, ends}
 

@@ -8,14 +8,14 @@ use Rattle.wt_checks.specs.Marks.{is_children}
 use Rattle.wt_checks.specs.Places.{is_content}
 use Rattle.wt_selser.specs.declared.refusal.EditRefusal.{EditRefusal}
 use Rattle.wt_selser.specs.declared.refusal.EditRefusal.TheVariants as refusal
-use Rattle.wt_selser.specs.Changes.{Pair, marked}
+use Rattle.wt_slices.specs.Changes.{Pair, marked}
 use Rattle.wt_content.specs.declared.reason.ContentWhy.{ContentWhy}
 use Rattle.wt_content.specs.Children.{bad_children}
 use Rattle.wt_content.specs.Content.{bad_content}
-use Rattle.wt_selser.specs.BodySlices.{slices}
+use Rattle.wt_slices.specs.BodySlices.{slices}
 use Rattle.wt_selser.specs.GroupFaults.{has_faulty_group}
 use Rattle.wt_isolation.specs.OpenTags.{before, touches_open_tag}
-use Rattle.wt_selser.specs.Splice.{Change, spliced}
+use Rattle.wt_splice.specs.Splice.{Change, spliced}
 use Rattle.wt_isolation.specs.TextCalls.{touches_text_call}
 
 abbrev pub first_with : {B : Type 0} → Option B → Option B → Option B

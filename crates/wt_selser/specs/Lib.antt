@@ -1,9 +1,4 @@
-pub mod Splice
 pub mod GroupFaults
-pub mod Changes
-pub mod Steps
-pub mod ListSlices
-pub mod BodySlices
 pub mod Edits
-pub mod Views
 pub mod Leaves
+pub mod Borders

@@ -9,21 +9,24 @@ ghost use Rattle.wt_original.specs.Page.{TellsSame};
 ghost use Rattle.wt_checks.specs.Places.{page_of};
 ghost use Rattle.wt_checks.specs.View.{indexed};
 ghost use Rattle.wt_isolation.specs.Passes.{AreOf};
-ghost use Rattle.wt_selser.specs.BodySlices.{slices};
-ghost use Rattle.wt_selser.specs.Changes.{marked};
-ghost use Rattle.wt_selser.specs.Splice.{spliced};
+ghost use Rattle.wt_slices.specs.BodySlices.{slices};
+ghost use Rattle.wt_slices.specs.Borders.{HasBorders};
+ghost use Rattle.wt_selser.specs.Borders.{HaveOldBorders, page_text};
+ghost use Rattle.wt_slices.specs.Changes.{marked};
+ghost use Rattle.wt_splice.specs.Splice.{AreAtBorders, spliced};
 ghost use Rattle.wt_selser.specs.Edits.{AnswersEdit, bad_pair, refused_pairs, edit_answer, if_short, pairs_answer, first_of, most_bytes, tangled_pair, why_bad};
-ghost use Rattle.wt_selser.specs.Views.{changes_view, pair_of, pairs_of};
+ghost use Rattle.wt_splice.specs.Views.{changes_view};
+ghost use Rattle.wt_slices.specs.Views.{pair_of, pairs_of};
 
-use crate::change::{Change, Pair, marked_pairs, spliced};
 use crate::refusal::EditRefusal;
-use crate::slices::slices;
 use crate::tangled_block::is_tangled;
 use std::alloc::Global;
 use wt_checks::{NodeNumber, Visit, check, is_children, is_content, numbered_nodes};
 use wt_content::{ContentWhy, bad_children, bad_content};
 use wt_isolation::Passes;
+use wt_slices::{Pair, marked_pairs, slices};
 use wt_span::{Items, NoMemory, PAGE_BYTES, Str};
+use wt_splice::{Change, spliced};
 use wt_tree::Node;
 
 /// Why what is in a marked node can't be written.
@@ -66,7 +69,8 @@ fn tangled_pair(
     passes: &mut Passes,
     pair: Pair<'_, '_>,
 ) -> Result<Option<EditRefusal>, NoMemory>
-    requires { AreOf items.now page.now passes.old }
+    requires passes { AreOf items.now page.now passes.old }
+    requires borders { HasBorders (page_text items.now) (view pair.old.now) }
     ensures value { IfOk result (λ r. r ≡ tangled_pair items.now page.now (pair_of pair.entry)) }
     ensures passes { AreOf items.now page.now passes.new }
 {
@@ -87,6 +91,7 @@ fn first_tangled(
     page: &[u8],
     pairs: &[Pair<'_, '_>],
 ) -> Result<Option<EditRefusal>, NoMemory>
+    requires { HaveOldBorders (page_text items.now) (pairs_of pairs.now) }
     ensures { IfOk result (λ r. r ≡ first_of (tangled_pair items.now page.now) (pairs_of pairs.now)) }
 {
     let mut passes = Passes::start();
@@ -105,6 +110,7 @@ fn refused_pairs(
     page: &[u8],
     pairs: &[Pair<'_, '_>],
 ) -> Result<Option<EditRefusal>, NoMemory>
+    requires { HaveOldBorders (page_text items.now) (pairs_of pairs.now) }
     ensures { (same : Tree → Tree → Bool) → TellsSame same
         → IfOk result (λ r. r ≡ refused_pairs same items.now page.now (pairs_of pairs.now)) }
 {
@@ -126,6 +132,7 @@ fn is_too_long(page: &str) -> bool
 
 /// The page with these slices replaced, where it isn't too long.
 fn new_page(alloc: Global, page: &str, changes: &[Change]) -> Result<Str, EditRefusal>
+    requires { AreAtBorders page.now (changes_view changes.now) }
     ensures { AnswersEdit (if_short (spliced page.now (changes_view changes.now))) result }
 {
     let new = spliced(alloc, page, changes)?;
@@ -146,7 +153,9 @@ fn checked_edit<'t, 'a>(
     tree: &'t Node<'a>,
     edited: &'t Node<'a>,
 ) -> Result<Str, EditRefusal>
-    requires { indexed index.now ≡ page_of (view tree.now) }
+    requires index { indexed index.now ≡ page_of (view tree.now) }
+    requires places { HasBorders page.now (view tree.now) }
+    requires text { page_text items.now ≡ page.now }
     ensures { (same : Tree → Tree → Bool) → TellsSame same
         → AnswersEdit (pairs_answer same items.now page.now (marked (view tree.now) (view edited.now))
         (slices same (view tree.now) (view edited.now))) result }
@@ -162,8 +171,8 @@ fn checked_edit<'t, 'a>(
 
 /// The new page of an edited page: the page with the insides of nodes marked `content` spelled anew, and
 /// with the blocks and items that come and go where a node is marked `children`. `items` are
-/// the page's items with its templates expanded, `tree` is its tree with its numbers from 1 in preorder,
-/// `edited` the tree that was read.
+/// the page's items with its templates expanded, `tree` is its tree with its numbers from 1 in preorder and its
+/// places between characters, `edited` the tree that was read.
 ///
 /// # Errors
 ///
@@ -177,6 +186,8 @@ pub fn edit<'t, 'a>(
 ) -> Result<Str, EditRefusal>
     requires body { (label (view tree.now)).kind ≡ kind.Body }
     requires numbered { ∥ InPreorder (view tree.now) ∥₁ }
+    requires places { HasBorders page.now (view tree.now) }
+    requires text { page_text items.now ≡ page.now }
     ensures { (same : Tree → Tree → Bool) → TellsSame same
         → AnswersEdit (edit_answer same items.now page.now (view tree.now) (view edited.now)) result }
 {

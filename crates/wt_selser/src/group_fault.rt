@@ -1,8 +1,8 @@
 //! What makes a group no part of a block that is read by itself.
 
-ghost use Rattle.std.specs.Prelude.{◌≡◌, All, IfOk, Ok, false};
+ghost use Rattle.std.specs.Prelude.{◌≡◌, ◌^◌, ◌<◌, All, IfOk, Ok, false, length};
 ghost use Rattle.std.specs.Bool.{Decides};
-ghost use Rattle.wt_span.specs.Items.{items};
+ghost use Rattle.wt_span.specs.Items.{items, sources};
 ghost use Rattle.wt_span.specs.Origins.{IsSoundPiece};
 ghost use Rattle.wt_tree.specs.declared.node.Node.{out-Node};
 ghost use Rattle.wt_tree.specs.Plain.{face};
@@ -10,6 +10,8 @@ ghost use Rattle.wt_tree.specs.Tiling.{HasNoGroup, NoneIsGroup};
 ghost use Rattle.wt_tree.specs.View.{label_of, view, views};
 ghost use Rattle.wt_page.specs.Body.{meaning};
 ghost use Rattle.wt_annotated.specs.Annotated.{all_unplaced};
+ghost use Rattle.wt_slices.specs.Borders.{HasBorders};
+ghost use Rattle.wt_selser.specs.Borders.{AllHaveBorders, IsAtBorders, page_text};
 ghost use Rattle.wt_selser.specs.GroupFaults.{faulty_at, has_faulty_group, is_faulty, is_faulty_node, one_paragraph, paragraph_face, shows_other, trees_in};
 ghost use Rattle.wt_visible.specs.Views.{children_view};
 
@@ -25,7 +27,8 @@ use wt_visible::{Child, shown_nodes, shows_same};
 
 /// What pieces mean as a page, without places.
 fn nodes_of<'a>(alloc: Global, pieces: &[Piece<'a>]) -> Result<List<Node<'a>>, NoMemory>
-    requires { All IsSoundPiece pieces.now }
+    requires sound { All IsSoundPiece pieces.now }
+    requires few { length (sources (items pieces.now)) < 2 ^ 32 }
     ensures { IfOk result (λ ns. views ns ≡ all_unplaced (trees_in (meaning (items pieces.now)))) }
 {
     let tree = build_pieces(alloc, pieces)?;
@@ -76,7 +79,8 @@ fn is_one_paragraph(
 
 /// Whether pieces show something else than one paragraph of what a group shows.
 fn shows_other(alloc: Global, pieces: &[Piece<'_>], group: &Node<'_>) -> Result<bool, NoMemory>
-    requires { All IsSoundPiece pieces.now }
+    requires sound { All IsSoundPiece pieces.now }
+    requires few { length (sources (items pieces.now)) < 2 ^ 32 }
     ensures { IfOk result (λ b. b ≡ shows_other (items pieces.now) (views (out-Node group.now).children)) }
 {
     let nodes = nodes_of(alloc, pieces)?;
@@ -87,7 +91,8 @@ fn shows_other(alloc: Global, pieces: &[Piece<'_>], group: &Node<'_>) -> Result<
 
 /// Whether a group has a fault, whose pieces alone are these.
 fn is_faulty(alloc: Global, pieces: &[Piece<'_>], group: &Node<'_>) -> Result<bool, NoMemory>
-    requires { All IsSoundPiece pieces.now }
+    requires sound { All IsSoundPiece pieces.now }
+    requires few { length (sources (items pieces.now)) < 2 ^ 32 }
     ensures { IfOk result (λ b. b ≡ is_faulty (items pieces.now) (views (out-Node group.now).children)) }
 {
     let other = shows_other(alloc, pieces, group)?;
@@ -110,6 +115,7 @@ fn is_faulty_at(
     ranges: Option<Ranges>,
     group: &Node<'_>,
 ) -> Result<bool, NoMemory>
+    requires { IsAtBorders (page_text page.now) ranges }
     ensures { IfOk result (λ b. b ≡ faulty_at page.now ranges (views (out-Node group.now).children)) }
 {
     match ranges {
@@ -125,6 +131,7 @@ fn is_faulty_at(
 /// Whether a group has a fault, or one in a bold or an italic node.
 #[cycle(faults)]
 fn is_faulty_node(alloc: Global, page: &Items<'_>, node: &Node<'_>) -> Result<bool, NoMemory>
+    requires { HasBorders (page_text page.now) (view node.now) }
     ensures value { IfOk result (λ b. b ≡ is_faulty_node page.now (view node.now)) }
     ensures alone { HasNoGroup (view node.now) → result ≡ Ok false }
 {
@@ -144,13 +151,15 @@ fn is_faulty_node(alloc: Global, page: &Items<'_>, node: &Node<'_>) -> Result<bo
     }
 }
 
-/// Whether one of the groups among these nodes, or in their bold and italic nodes, has a fault.
+/// Whether one of the groups among these nodes, or in their bold and italic nodes, has a fault. The places of the
+/// nodes are between the page's characters.
 #[cycle(faults)]
 pub fn has_faulty_group(
     alloc: Global,
     page: &Items<'_>,
     nodes: &[Node<'_>],
 ) -> Result<bool, NoMemory>
+    requires { AllHaveBorders (page_text page.now) (views nodes.now) }
     ensures value { IfOk result (λ b. b ≡ has_faulty_group page.now (views nodes.now)) }
     ensures alone { NoneIsGroup (views nodes.now) → result ≡ Ok false }
 {

@@ -12,12 +12,12 @@ ghost use Rattle.wt_tree.specs.declared.kind.Kind.TheVariants as kind;
 ghost use Rattle.wt_checks.specs.Groups.{has_mark};
 ghost use Rattle.std.specs.List.{flat_map};
 ghost use Rattle.wt_checks.specs.Places.{is_body, page_of, places};
-ghost use Rattle.wt_selser.specs.BodySlices.{slices};
-ghost use Rattle.wt_selser.specs.Changes.{inside_at, AllStay};
+ghost use Rattle.wt_slices.specs.BodySlices.{slices};
+ghost use Rattle.wt_slices.specs.Changes.{inside_at, AllStay};
 ghost use Rattle.wt_selser.specs.Edits.{edit_answer, is_tangled, most_bytes};
 ghost use Rattle.wt_selser.specs.Leaves.{LeavesHoldNoNumber, HoldsNoFrame};
 ghost use Rattle.wt_isolation.specs.OpenTags.{before, touches_open_tag};
-ghost use Rattle.wt_selser.specs.Splice.{Change, spliced, AreApart, OutsideStands};
+ghost use Rattle.wt_splice.specs.Splice.{Change, spliced, AreApart, OutsideStands};
 ghost use Rattle.wt_isolation.specs.TextCalls.{touches_text_call};
 
 /// Where the slices lie in the page one after the other, what is outside them is in the

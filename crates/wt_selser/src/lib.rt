@@ -2,20 +2,13 @@
 //! spelled anew, and every other byte stays as it was.
 #![tactic(auto)]
 
-mod body;
-mod change;
-mod child;
 mod differing;
 mod editing;
 mod group_fault;
 mod laws;
-mod list;
 mod refusal;
-mod slices;
-mod steps;
 mod tangled_block;
 
-pub use change::{Change, place_in, spliced};
 pub use differing::{first_differing, first_differing_indexed};
 pub use editing::edit;
 pub use laws::{

@@ -7,6 +7,8 @@ ghost use Rattle.wt_tree.specs.declared.node.Node.{out-Node};
 ghost use Rattle.wt_isolation.specs.OpenTags.{before, touches_open_tag};
 ghost use Rattle.wt_isolation.specs.Passes.{AreOf};
 ghost use Rattle.wt_isolation.specs.TextCalls.{touches_text_call};
+ghost use Rattle.wt_slices.specs.Borders.{HasBorders};
+ghost use Rattle.wt_selser.specs.Borders.{page_text};
 ghost use Rattle.wt_selser.specs.Edits.{is_tangled};
 
 use crate::group_fault::has_faulty_group;
@@ -23,7 +25,8 @@ pub fn is_tangled(
     passes: &mut Passes,
     block: &Node<'_>,
 ) -> Result<bool, NoMemory>
-    requires { AreOf items.now page.now passes.old }
+    requires passes { AreOf items.now page.now passes.old }
+    requires borders { HasBorders (page_text items.now) (view block.now) }
     ensures value { IfOk result (λ b. b ≡ is_tangled items.now page.now (view block.now)) }
     ensures passes { AreOf items.now page.now passes.new }
     ensures alone { NoneIsGroup (views (out-Node block.now).children) → touches_text_call items.now.text_calls (out-Node block.now).ranges ≡ false
@@ -36,7 +39,8 @@ pub fn is_tangled(
 }
 
 /// Whether a block of a page can't be read by itself: it touches a text call or an open tag, or a group in it
-/// has a fault. `items` are the page's items with its templates expanded.
+/// has a fault. `items` are the page's items with its templates expanded; the places of the block and of its nodes
+/// are between the page's characters.
 ///
 /// # Errors
 ///
@@ -48,6 +52,7 @@ pub fn tangled(
     page: &str,
     block: &Node<'_>,
 ) -> Result<bool, NoMemory>
+    requires { HasBorders (page_text items.now) (view block.now) }
     ensures value { IfOk result (λ b. b ≡ is_tangled items.now page.now (view block.now)) }
     ensures alone { NoneIsGroup (views (out-Node block.now).children) → touches_text_call items.now.text_calls (out-Node block.now).ranges ≡ false
         → touches_open_tag (before page.now (out-Node block.now).ranges) (view block.now) ≡ false → result ≡ Ok false }

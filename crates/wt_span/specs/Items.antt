@@ -1,5 +1,5 @@
 -- The items of an expanded page: bytes of characters, atoms and invisible marks, each with where it comes from.
-use Rattle.std.specs.Prelude.{ℕ, Bool, true, false, Option, Some, None, List, [], ◌∷◌, map, if◌then◌else◌}
+use Rattle.std.specs.Prelude.{◌<◌, ◌^◌, ℕ, Bool, true, false, Option, Some, None, List, [], ◌∷◌, length, map, if◌then◌else◌}
 use Rattle.std.specs.List.{flat_map}
 use Rattle.wt_span.specs.declared.form.ItemForm.{ItemForm}
 use Rattle.wt_span.specs.declared.form.ItemForm.TheVariants as form
@@ -25,6 +25,10 @@ call_of (whole f o bs) = o
 
 abbrev pub sources : List Item → List ℕ
 sources items = flat_map source items
+
+-- so few bytes that a `u32` counts twice as many
+abbrev pub AreFew : List Item → Type 0
+AreFew xs = length (sources xs) < 2 ^ 31
 
 -- invisible marks
 abbrev pub is_mark_form : ItemForm → Bool

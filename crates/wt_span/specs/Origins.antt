@@ -67,8 +67,9 @@ AreNameEnds c [] (e ∷ es) = ⊥
 AreNameEnds c (p ∷ ps) [] = ⊥
 AreNameEnds c (p ∷ ps) (e ∷ es) = IsNameEnd c p e × AreNameEnds c ps es
 
--- a call to a page has a link to it: no argument has one, and no call of a parser function
+-- a call has a source; one to a page has a link to it: no argument has one, and no call of a parser function
 pub record IsSoundCall (c : OuterCall) : Type 0 where
+  pub some : 0 < length c.source
   pub some_part : 0 < length c.parts
   pub in_order : LieFrom c c.start c.parts
   pub name_ends : AreNameEnds c c.parts c.equals

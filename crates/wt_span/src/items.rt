@@ -23,12 +23,12 @@ impl<'a> Model for Items<'a> {
 
     ghost Value = { Expanded };
 
-    ghost use Rattle.wt_span.specs.Items.{items};
+    ghost use Rattle.wt_span.specs.Items.{items, AreFew};
     ghost use Rattle.wt_span.specs.Origins.{outer_call, span_of, AreItems};
 
     ghost view = { λ it. record { items = items it.pieces; outer = map outer_call it.outer; text_calls = map span_of it.text_calls } };
 
-    ghost invariant = { λ it. AreItems it.pieces (map outer_call it.outer) (map span_of it.text_calls) };
+    ghost invariant = { λ it. AreItems it.pieces (map outer_call it.outer) (map span_of it.text_calls) × AreFew (items it.pieces) };
 }
 
 // One call wherever items are let go.
@@ -43,7 +43,7 @@ impl Drop for Items<'_> {
 }
 
 impl<'a> Items<'a> {
-    ghost use Rattle.wt_span.specs.Items.{items};
+    ghost use Rattle.wt_span.specs.Items.{items, AreFew};
     ghost use Rattle.wt_span.specs.Origins.{outer_call, span_of, AreItems};
 
     /// The items of pieces, which takes no memory.
@@ -52,7 +52,8 @@ impl<'a> Items<'a> {
         outer: List<Outer<'a>>,
         text_calls: List<Range>,
     ) -> Items<'a>
-        requires { AreItems pieces (map outer_call outer) (map span_of text_calls) }
+        requires sound { AreItems pieces (map outer_call outer) (map span_of text_calls) }
+        requires few { AreFew (items pieces) }
         ensures items { result.items ≡ items pieces.entry }
         ensures outer { result.outer ≡ map outer_call outer.entry }
         ensures text_calls { result.text_calls ≡ map span_of text_calls }
@@ -68,6 +69,7 @@ impl<'a> Items<'a> {
     pub fn pieces(&self) -> &[Piece<'a>]
         ensures items { items result.now ≡ self.now.items }
         ensures sound { AreItems result.now self.now.outer self.now.text_calls }
+        ensures few { AreFew (items result.now) }
     {
         self.pieces.as_slice()
     }

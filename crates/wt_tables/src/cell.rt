@@ -163,7 +163,7 @@ fn read_cells<'a>(
             part.as_slice(),
             front_of(rest, len),
         )?;
-        cells.push_tight(cell)?;
+        cells.push(cell)?;
         left = after;
         at += len;
         sign_len = 2;

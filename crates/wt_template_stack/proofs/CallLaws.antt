@@ -1,9 +1,8 @@
 -- A call of a text with its parts, by where they stand.
-use Rattle.std.proofs.Common.{◌≡◌, ℕ, zero, suc, ◌+◌, ◌≤◌, Bool, true, false, cond, Option, Some, None, option_map, List, [], ◌∷◌, ◌++◌, map, take, drop, refl, sym, ap, ◌∙◌, subst, arith, append_assoc, append-nil}
+use Rattle.std.proofs.Common.{◌≡◌, ℕ, zero, suc, ◌+◌, ◌<◌, ◌≤◌, Bool, true, false, cond, Option, Some, None, List, [], ◌∷◌, ◌++◌, take, drop, refl, sym, ap, ◌∙◌, subst, arith, append_assoc, append-nil}
 use Rattle.std.specs.Prelude.{slice_get, replicate, nat_lt}
 use Rattle.std.specs.List.{All}
 use Rattle.std.proofs.lemmas.Bool.Decides.{nat_tests}
-use Rattle.std.proofs.lemmas.Option.{slice_get-map}
 use Rattle.wt_span.specs.declared.form.Mode.{Mode}
 use Rattle.wt_span.specs.declared.form.LexKind.{LexKind}
 use Rattle.wt_span.specs.declared.form.LexKind.TheVariants as lex
@@ -20,11 +19,13 @@ use Rattle.wt_transclusion.specs.Marks.{Mark, opens, closes, of, marks_from, wor
 use Rattle.wt_transclusion.specs.Parts.{part_given, parts_given}
 use Rattle.wt_transclusion.specs.Reads.{braces_of}
 use Rattle.wt_transclusion.specs.Steps.{IsStretchOf, given_from}
-use Rattle.wt_transclusion.specs.Stretch.{calls_before, BeginBehind}
+use Rattle.wt_transclusion.specs.Stretch.{calls_before, AllFull, BeginBehind}
 use Rattle.wt_transclusion.proofs.PartLaws.{call_places}
+use Rattle.wt_transclusion.proofs.CursorLaws.{stretch_within, text_len}
+use Rattle.wt_transclusion.proofs.FunctionWords.{closing_there, opening_there}
 use Rattle.wt_transclusion.proofs.StretchCuts.{call_at, stretch_front, stretch_back, stretch_call, stretch_inside}
-use Rattle.wt_transclusion.proofs.StretchLaws.{width_append}
-use Rattle.wt_template_stack.specs.Calls.{IsCut, next_place, ArePartsAt, IsCallOf, members_behind, first_end}
+use Rattle.wt_transclusion.proofs.StretchLaws.{full_back, width_append}
+use Rattle.wt_template_stack.specs.Calls.{IsCut, next_place, ArePartsAt, HaveBars, IsBefore, IsCallOf, members_behind, first_end}
 
 -- ---- a `=` has one byte
 
@@ -146,7 +147,7 @@ cut_stands m t at e (Some (xs, n)) value s =
       subst (λ k. IsStretchOf m t q k value) (sym behind.width) behind,
     )
 
-pub parts_stand : (m : Mode) (t : List ℕ) (at e most : ℕ) (ps : List PartMembers) → e ≤ most → IsStretchOf m t at e (rejoined ps) → ArePartsAt m t most at ps
+pub parts_stand : (m : Mode) (t : List ℕ) (at e most : ℕ) (ps : List PartMembers) → e < most → IsStretchOf m t at e (rejoined ps) → ArePartsAt m t most at ps
 parts_stand m t at e most [] l s = tt
 parts_stand m t at e most (p ∷ []) l s =
     let xs = joined p.name p.value in (
@@ -179,7 +180,7 @@ pub record First (r : Reading) (t : List ℕ) (most at : ℕ) (s : Bool) (ps : L
   pub left : List Member
   pub from_is : part.from ≡ at
   pub to_is : part.to ≡ first_end at ps
-  pub within : first_end at ps ≤ most
+  pub within : first_end at ps < most
   pub stretch : IsStretchOf r.mode t at (first_end at ps) left
   pub gives : target_part (parts_given r s t at ps) ≡ given_from r s t at left
 
@@ -216,16 +217,16 @@ pub record Second (r : Reading) (t : List ℕ) (most at : ℕ) (s : Bool) (ps : 
   pub first : PartOutput
   pub others : List PartOutput
   pub later_is : later_parts (parts_given r s t at ps) ≡ first ∷ others
-  pub behind : first_end at ps ≤ part.from
-  pub within : part.to ≤ most
+  pub behind : first_end at ps < part.from
+  pub within : part.to < most
   pub stretch : IsStretchOf r.mode t part.from part.to left
   pub gives : first.all ≡ given_from r (starts t part.from) t part.from left
 
 pub second_of : (r : Reading) (t : List ℕ) (most at : ℕ) (s : Bool) (ps : List PartMembers) (part : PartAt) → slice_get (placed at ps) 1 ≡ Some part
-    → ArePartsAt r.mode t most at ps → Second r t most at s ps part
-second_of r t most at s [] part e h = absurd (let z : None ≡ Some part = e in cc)
-second_of r t most at s (p ∷ []) part e h = absurd (let z : None ≡ Some part = e in cc)
-second_of r t most at s (p ∷ q ∷ ps) part e h =
+    → ArePartsAt r.mode t most at ps → HaveBars ps → Second r t most at s ps part
+second_of r t most at s [] part e h bars = absurd (let z : None ≡ Some part = e in cc)
+second_of r t most at s (p ∷ []) part e h bars = absurd (let z : None ≡ Some part = e in cc)
+second_of r t most at s (p ∷ q ∷ ps) part e h bars =
     let is = some_is _ part e in
     let w = joined_width at p.name p.value in
     let from : next_place at p ≡ part.from = ap (λ k. k + p.bar) (sym w) ∙ ap (λ x. x.from) is in
@@ -237,7 +238,7 @@ second_of r t most at s (p ∷ q ∷ ps) part e h =
       first = part_given r (starts t (next_place at p)) t (next_place at p) q.name q.value;
       others = parts_given r (starts t (next_place (next_place at p) q)) t (next_place (next_place at p) q) ps;
       later_is = refl;
-      behind = let z = from in omega (arith, z);
+      behind = let z = from in let one = bars.0 in omega (arith, z, one);
       within = let z = to in let y = h.1.0.ends in omega (arith, z, y);
       stretch = subst (λ k. IsStretchOf r.mode t k part.to (joined q.name q.value)) from
           (subst (λ k. IsStretchOf r.mode t (next_place at p) k (joined q.name q.value)) to h.1.0.all);
@@ -250,6 +251,33 @@ pub no_second : (r : Reading) (t : List ℕ) (at : ℕ) (s : Bool) (ps : List Pa
 no_second r t at s [] e = refl
 no_second r t at s (p ∷ []) e = refl
 no_second r t at s (p ∷ q ∷ ps) e = absurd (let z : Some _ ≡ None = e in cc)
+
+-- ---- bars
+
+bars_wide : (ps : List PartMembers) → AllFull (rejoined ps) → HaveBars ps
+bars_wide [] f = tt
+bars_wide (p ∷ []) f = tt
+bars_wide (p ∷ q ∷ ps) f =
+    let back = full_back (joined p.name p.value) (lexeme (lex.Pipe, p.bar) ∷ rejoined (q ∷ ps)) f in
+    (back.0, bars_wide (q ∷ ps) back.1)
+
+pub call_bars : (m : Mode) (t : List ℕ) (b : Braces) → (c : IsCallOf m t b) → HaveBars (part_members 0 c.inside)
+call_bars m t b c = bars_wide (part_members 0 c.inside) (subst AllFull (sym (parts_join 0 c.inside)) c.stretch.full)
+
+pub later_bars : (p : PartMembers) (ps : List PartMembers) → HaveBars (p ∷ ps) → HaveBars ps
+later_bars p [] h = tt
+later_bars p (q ∷ ps) h = h.1
+
+-- a part ends before the next one begins
+pub ends_before : (at : ℕ) (p : PartMembers) (ps : List PartMembers) → HaveBars (p ∷ ps)
+    → IsBefore (at + width_of (joined p.name p.value)) (next_place at p) ps
+ends_before at p [] h = tt
+ends_before at p (q ∷ ps) h = let one = h.0 in omega (arith, one)
+
+-- and so does what comes before its end
+pub earlier : (p q at : ℕ) (ps : List PartMembers) → p ≤ q → IsBefore q at ps → IsBefore p at ps
+earlier p q at [] l h = tt
+earlier p q at (x ∷ ps) l h = omega (arith, l, h)
 
 -- ---- behind the first part
 
@@ -286,7 +314,11 @@ call_is m t b p e k ms ys f s =
       kind_is = ap (λ x. x.argument) same;
       parts_are = ap (λ x. x.parts) same ∙ call_places (p + k) ms;
       two = s.full.0.0;
+      opening = opening_there m t p e k ms ys s;
+      closing = closing_there m t p e k ms ys s;
+      fits = let z = s.width in let y = stretch_within _ _ p e (call k ms ∷ ys) s (omega (arith, z, s.full.0.0)) in let x = text_len m t in
+          omega (arith, z, y, x, end);
       stretch = inside;
-      parts_stand = parts_stand m t (p + k) (p + k + width_of_all ms) b.at.end (part_members 0 ms) (omega (arith, end))
+      parts_stand = parts_stand m t (p + k) (p + k + width_of_all ms) b.at.end (part_members 0 ms) (omega (arith, end, s.full.0.0))
           (subst (IsStretchOf m t (p + k) (p + k + width_of_all ms)) (sym (parts_join 0 ms)) inside);
     }

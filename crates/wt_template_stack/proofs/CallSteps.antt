@@ -1,5 +1,5 @@
 -- What is done where the name of an argument or the target of a call ends.
-use Rattle.std.proofs.Common.{◌≡◌, ℕ, ◌+◌, ◌-◌, ◌≤◌, Bool, false, Option, Some, None, option_map, List, [], ◌∷◌, ◌++◌, length, map, take, drop, refl, sym, ap, ◌∙◌, subst, arith, append_assoc}
+use Rattle.std.proofs.Common.{◌≡◌, ℕ, ◌+◌, ◌-◌, ◌<◌, ◌≤◌, Bool, false, Option, Some, None, option_map, List, [], ◌∷◌, ◌++◌, length, map, take, drop, refl, sym, ap, ◌∙◌, subst, arith, append_assoc}
 use Rattle.std.specs.Prelude.{codes, slice_get, slice_range}
 use Rattle.std.proofs.lemmas.List.{drop-drop, take-take, drop-take, length-take-le, length-drop}
 use Rattle.std.proofs.lemmas.Option.{slice_get-map}
@@ -24,13 +24,14 @@ use Rattle.wt_template_stack.specs.declared.level.PendingCall.{PendingCall}
 use Rattle.wt_template_stack.specs.declared.level.Task.TheVariants as task
 use Rattle.wt_template_stack.specs.declared.run.TextRun.{TextRun}
 use Rattle.wt_template_stack.specs.Accounts.{Account, Does}
-use Rattle.wt_template_stack.specs.Calls.{next_place, ArePartsAt, IsCallOf, source_of, parts_of_call, members_behind, first_end, behind_given}
+use Rattle.wt_template_stack.specs.Calls.{next_place, ArePartsAt, HaveBars, IsBefore, IsCallOf, source_of, parts_of_call, members_behind, first_end, behind_given}
 use Rattle.wt_template_stack.specs.Levels.{Resumes}
-use Rattle.wt_template_stack.specs.Readers.{IsReading}
+use Rattle.wt_template_stack.specs.Readers.{CanBeCut, IsReading}
 use Rattle.wt_template_stack.specs.Rests.{with_work, ended_with, after_argument, after_page, after_values, after_target_by}
 use Rattle.wt_template_stack.specs.Stacks.{stack, whole_level}
 use Rattle.wt_template_stack.specs.Runs.{IsRunning, HasEnded, Returns, BeginsLevel, HandsParts}
-use Rattle.wt_template_stack.proofs.CallLaws.{empty_stretch, joined_width, second_of, no_second, behind_stands, behind_same}
+use Rattle.wt_template_stack.proofs.CallLaws.{behind_same, behind_stands, call_bars, earlier, empty_stretch, ends_before, joined_width, later_bars, no_second, second_of}
+use Rattle.wt_template_stack.proofs.Cuts.{back_cut, cut_here, cut_there, front_cut}
 use Rattle.wt_template_stack.proofs.LevelLaws.{strip}
 use Rattle.wt_template_stack.proofs.StepLaws.{out, first_part, nothing_behind}
 
@@ -40,11 +41,11 @@ argument_with : (frame : Frame) (later : List PartOutput) (xs : List Item) (v : 
     → after_argument frame later (just xs) ≡ ended_with (if_value v (default_output (just xs) later))
 argument_with frame later xs v e = ap (λ o. ended_with (if_value o (default_output (just xs) later))) e
 
-first_before : (r : Reading) (t : List ℕ) (b : Braces) → (c : IsCallOf r.mode t b) → first_end (c.at + c.braces) (part_members 0 c.inside) ≤ b.at.end
+first_before : (r : Reading) (t : List ℕ) (b : Braces) → (c : IsCallOf r.mode t b) → first_end (c.at + c.braces) (part_members 0 c.inside) < b.at.end
 first_before r t b c = before (part_members 0 c.inside) c.parts_stand
   where
-    before : (ps : List PartMembers) → ArePartsAt r.mode t b.at.end (c.at + c.braces) ps → first_end (c.at + c.braces) ps ≤ b.at.end
-    before [] h = let z = c.end_is in omega (arith, z)
+    before : (ps : List PartMembers) → ArePartsAt r.mode t b.at.end (c.at + c.braces) ps → first_end (c.at + c.braces) ps < b.at.end
+    before [] h = let z = c.end_is in let two = c.two in omega (arith, z, two)
     before (p ∷ ps) h = h.0.ends
 
 -- what the call of an argument gives
@@ -84,7 +85,8 @@ pub default_begins : (r : Reading) (t : List ℕ) (run : TextRun) (b : Braces) (
     → BeginsLevel r t run part.at.start (starts t part.at.start) part.at.end (task.Default b) total
 default_begins r t run b out_ps part total h e f =
     let c = h.ends.call in
-    let x = second_of r t b.at.end (c.at + c.braces) false (part_members 0 c.inside) (part_of part) (part_get r t b c 1 (Some part) f) c.parts_stand in
+    let x = second_of r t b.at.end (c.at + c.braces) false (part_members 0 c.inside) (part_of part) (part_get r t b c 1 (Some part) f) c.parts_stand
+    (call_bars r.mode t b c) in
     let later = later_parts (parts_of_call r t b c) in
     let same : after_argument r.frame later (just (items out_ps)) ≡ ended_with (given_from r (starts t part.at.start) t part.at.start x.left) =
     argument_with r.frame later (items out_ps) None e ∙ ap (λ ps. ended_with (default_output (just (items out_ps)) ps)) x.later_is ∙ ap ended_with x.gives in
@@ -93,6 +95,7 @@ default_begins r t run b out_ps part total h e f =
       at_start = h.at_start;
       running = h.running;
       before = let z = h.ends.end_is in let y = x.behind in omega (arith, z, y);
+      some = let z = h.ends.end_is in let y = first_before r t b c in let fits = c.fits in omega (arith, z, y, fits);
       left = x.left;
       stretch = x.stretch;
       ends = (x.within, subst (λ o. Resumes r t b.at.end (starts t b.at.end) o (stack run.levels) total) same h.ends.gives);
@@ -177,11 +180,27 @@ text_begins r t run b s out_ps ps part front end total h none e front_is is end_
       },
     )
 
-pub text_returns : (r : Reading) (t : List ℕ) (run : TextRun) (b : Braces) (out_ps ps : List Piece) (back : List ℕ) (total : Account)
-    → (h : HasEnded r t run (task.Text b) out_ps total) → b.at.end ≤ length t → back ≡ slice_range t h.place b.at.end → items ps ≡ items out_ps ++ chars back
-    → Returns r t run b.at.end (just (items ps)) total
-text_returns r t run b out_ps ps back total h fits e is =
+-- its braces can be cut out of the text
+pub front_there : (r : Reading) (t : List ℕ) (run : TextRun) (b : Braces) (s : Bool) (out_ps : List Piece) (part : PartOf) (total : Account)
+    → HasEnded r t run (task.Target b s) out_ps total → slice_get b.parts.now 0 ≡ Some part → CanBeCut run.reader.text.text.now b.at.start part.at.start
+front_there r t run b s out_ps part total h e =
     let c = h.ends.call in
+    let reading = h.running.reading in
+    cut_there r.mode t run.reader h.place h.at_start b.at.start part.at.start reading
+    (front_cut r.mode t b part.at.start reading.read.characters c (first_part r t b c part e).from_is)
+
+pub back_there : (r : Reading) (t : List ℕ) (run : TextRun) (b : Braces) (out_ps : List Piece) (total : Account)
+    → HasEnded r t run (task.Text b) out_ps total → CanBeCut run.reader.text.text.now run.reader.cursor.at b.at.end
+back_there r t run b out_ps total h =
+    let reading = h.running.reading in
+    cut_here r.mode t run.reader h.place h.at_start b.at.end reading (back_cut r.mode t b h.place reading.read.characters h.ends.call h.ends.end_is)
+
+pub text_returns : (r : Reading) (t : List ℕ) (run : TextRun) (b : Braces) (out_ps ps : List Piece) (back : List ℕ) (total : Account)
+    → (h : HasEnded r t run (task.Text b) out_ps total) → back ≡ slice_range t h.place b.at.end → items ps ≡ items out_ps ++ chars back
+    → Returns r t run b.at.end (just (items ps)) total
+text_returns r t run b out_ps ps back total h e is =
+    let c = h.ends.call in
+    let fits = c.fits in
     let k = c.braces in
     let w = width_of_all c.inside in
     let src = source_of r.mode t b c in
@@ -195,7 +214,7 @@ text_returns r t run b out_ps ps back total h fits e is =
       place = h.place;
       at_start = h.at_start;
       running = h.running;
-      before = omega (arith, en);
+      before = let two = c.two in omega (arith, en, two);
       resumes = subst (λ o. Resumes r t b.at.end (starts t b.at.end) o (stack run.levels) total)
           (ap (λ bs. then_output (just (items out_ps)) (just (chars bs))) (sym backs) ∙ ap just (sym is)) h.ends.gives;
     }
@@ -210,13 +229,12 @@ text_returns r t run b out_ps ps back total h fits e is =
         ap (take k) (sym (drop-drop n at t)) ∙ sym (drop-take n k xs) ∙ ap (λ j. drop j (take (n + k) xs)) z
 
 pub text_back : (r : Reading) (t : List ℕ) (run : TextRun) (b : Braces) (out_ps ps given : List Piece) (back : List ℕ) (total : Account)
-    → HasEnded r t run (task.Text b) out_ps total → b.at.end ≤ length run.reader.text.text.now
-    → back ≡ slice_range run.reader.text.text.now run.reader.cursor.at b.at.end
+    → HasEnded r t run (task.Text b) out_ps total → back ≡ slice_range run.reader.text.text.now run.reader.cursor.at b.at.end
     → items ps ≡ items out_ps ++ chars back → given ≡ ps → Returns r t run b.at.end (just (items given)) total
-text_back r t run b out_ps ps given back total h fits e is same =
+text_back r t run b out_ps ps given back total h e is same =
     let reading = h.running.reading in
     subst (λ (qs : List Piece). Returns r t run b.at.end (just (items qs)) total) (sym same)
-    (text_returns r t run b out_ps ps back total h (subst (λ (xs : List ℕ). b.at.end ≤ length xs) reading.read.text_is fits)
+    (text_returns r t run b out_ps ps back total h
     (e ∙ ap (λ xs. slice_range xs run.reader.cursor.at b.at.end) reading.read.text_is ∙ ap (λ q. slice_range t q b.at.end) reading.at.at_is) is)
 
 -- ---- a page is called
@@ -229,19 +247,21 @@ next_values o title r s k source later behind xs e = ap (λ p. after_target_by p
 record Later (r : Reading) (t : List ℕ) (most at : ℕ) (ps : List PartMembers) (e : ℕ) : Type 0 where
   next : ℕ
   parts : List PartMembers
-  before : e ≤ next
+  before : IsBefore e next parts
   places : drop 1 (placed at ps) ≡ placed next parts
   stand : ArePartsAt r.mode t most next parts
+  bars : HaveBars parts
   gives : later_parts (parts_given r false t at ps) ≡ parts_given r (starts t next) t next parts
 
-later_of : (r : Reading) (t : List ℕ) (most at : ℕ) (ps : List PartMembers) → ArePartsAt r.mode t most at ps → Later r t most at ps (first_end at ps)
-later_of r t most at [] h = record { next = at; parts = []; before = omega arith; places = refl; stand = tt; gives = refl }
-later_of r t most at (p ∷ ps) h = record {
+later_of : (r : Reading) (t : List ℕ) (most at : ℕ) (ps : List PartMembers) → ArePartsAt r.mode t most at ps → HaveBars ps → Later r t most at ps (first_end at ps)
+later_of r t most at [] h bars = record { next = at; parts = []; before = tt; places = refl; stand = tt; bars = tt; gives = refl }
+later_of r t most at (p ∷ ps) h bars = record {
   next = next_place at p;
   parts = ps;
-  before = omega arith;
+  before = ends_before at p ps bars;
   places = ap (λ q. placed q ps) (ap (λ q. q + p.bar) (joined_width at p.name p.value));
   stand = h.1;
+  bars = later_bars p ps bars;
   gives = refl;
 }
 
@@ -261,7 +281,7 @@ pub first_hands : (r : Reading) (t : List ℕ) (run : TextRun) (b : Braces) (s :
     → HandsParts r t run h total
 first_hands r t run b s title h total c p at_start running low f back =
     let at = c.at + c.braces in
-    let x = later_of r t b.at.end at (part_members 0 c.inside) c.parts_stand in
+    let x = later_of r t b.at.end at (part_members 0 c.inside) c.parts_stand (call_bars r.mode t b c) in
     let there = subst (λ ps. Resumes r t b.at.end (starts t b.at.end) (after_values r s title [] 1 ps) (stack run.levels) total) x.gives back in
     let parts = parts_given r (starts t x.next) t x.next x.parts in
     let named = subst (λ (n : Title). Resumes r t b.at.end (starts t b.at.end) (after_values r s n [] 1 parts) (stack run.levels) total)
@@ -277,13 +297,15 @@ first_hands r t run b s title h total c p at_start running low f back =
       frame = [];
       at = x.next;
       ps = x.parts;
-      before = let y = x.before in omega (arith, y, low);
-      within = subst (λ (k : Braces). p ≤ k.at.end) (sym f.call) (let y = first_before r t b c in omega (arith, y, low));
+      before = earlier p (first_end at (part_members 0 c.inside)) x.next x.parts low x.before;
+      within = subst (λ (k : Braces). p < k.at.end) (sym f.call) (let y = first_before r t b c in omega (arith, y, low));
       pending = record {
         values = f.values;
         parts = ap (λ n. drop n (map part_of h.call.parts.now)) f.part ∙ ap (λ (k : Braces). drop 1 (map part_of k.parts.now)) f.call
             ∙ ap (drop 1) c.parts_are ∙ x.places;
         stand = subst (λ (k : Braces). ArePartsAt r.mode t k.at.end x.next x.parts) (sym f.call) x.stand;
+        bars = x.bars;
+        fits = subst (λ (k : Braces). k.at.end ≤ length t) (sym f.call) c.fits;
       };
       numbered = let n = f.number in let k = f.part in omega (arith, n, k);
       resumes = subst (λ (k : Braces). Resumes r t k.at.end (starts t k.at.end) (after_values r h.at_start h.title [] h.handed.number parts)

@@ -1,8 +1,11 @@
 -- What is done where a function by text begins, where a part of it is told, and where it has given one.
-use Rattle.std.proofs.Common.{◌≡◌, ℕ, zero, suc, ◌+◌, ◌<◌, ◌≤◌, Bool, true, false, Some, None, List, [], ◌∷◌, ◌++◌, length, drop, refl, sym, ap, ◌∙◌, subst, arith, append-nil}
+use Rattle.std.proofs.Common.{◌≡◌, ℕ, zero, suc, ◌+◌, ◌<◌, ◌≤◌, Bool, true, false, Some, None, List, [], ◌∷◌, ◌++◌, ◌-◌, length, take, drop, refl, sym, ap, ◌∙◌, subst, arith, append-nil}
 use Rattle.std.specs.Prelude.{◌^◌}
-use Rattle.std.specs.Prelude.{Option, is_some, not, slice_get, slice_range}
-use Rattle.std.proofs.lemmas.List.{length-append}
+use Rattle.std.specs.Prelude.{Option, is_some, nat_lt, not, slice_get, slice_index, slice_range}
+use Rattle.std.proofs.lemmas.Bool.Decides.{nat_tests}
+use Rattle.std.proofs.lemmas.List.{drop-drop, get_or-drop, length-append}
+use Rattle.wt_span.specs.declared.form.Mode.{Mode}
+use Rattle.wt_span.specs.Braces.{width_of_all}
 use Rattle.wt_span.specs.declared.function.Function.{Function}
 use Rattle.wt_span.specs.declared.form.Piece.{Piece}
 use Rattle.wt_span.specs.Functions.{function_of}
@@ -21,6 +24,7 @@ use Rattle.wt_expand.specs.Expansion.{Output, Reading, PartOutput, just, with_br
 use Rattle.wt_expand.proofs.Turns.{asks_in_turn}
 use Rattle.wt_transclusion.specs.declared.read.Braces.{Braces}
 use Rattle.wt_transclusion.specs.Cursors.{starts}
+use Rattle.wt_transclusion.specs.Ends.{BeginsAscii}
 use Rattle.wt_transclusion.specs.Steps.{IsStretchOf, given_from}
 use Rattle.wt_template_stack.specs.declared.choosing.Choosing.{Choosing}
 use Rattle.wt_template_stack.specs.declared.level.Level.{Level}
@@ -36,13 +40,15 @@ use Rattle.wt_template_stack.specs.Rests.{with_work, ended_with, after_given, be
 use Rattle.wt_template_stack.specs.Runs.{HasEnded, GivesAgain, Returns, BeginsLevel, BeginsCall}
 use Rattle.wt_template_stack.specs.Stacks.{stack}
 use Rattle.wt_template_stack.specs.ToldParts.{name_end, told_end, given_start, with_text}
-use Rattle.wt_template_stack.proofs.CallLaws.{second_of}
+use Rattle.wt_transclusion.proofs.FunctionWords.{IsPlain, plain_front, no_brace, given_ascii, named_plain}
+use Rattle.wt_transclusion.proofs.StretchCuts.{take_behind}
+use Rattle.wt_template_stack.proofs.CallLaws.{call_bars, second_of}
 use Rattle.wt_template_stack.proofs.CallSteps.{part_get}
 use Rattle.wt_template_stack.proofs.FirstAsked.{first_asked}
 use Rattle.wt_template_stack.proofs.LevelLaws.{strip}
 use Rattle.wt_template_stack.proofs.NumberedParts.{StretchGives, drop_more, part_told, part_of_value, have_names_is}
 use Rattle.wt_template_stack.proofs.RestLaws.{given_work}
-use Rattle.wt_template_stack.proofs.StepLaws.{drop_none, called_choice, source_is, first_part}
+use Rattle.wt_template_stack.proofs.StepLaws.{call_some, called_choice, drop_none, first_part, source_is}
 
 -- ---- what a function gives, part after part
 
@@ -81,8 +87,8 @@ record Waits (r : Reading) (t : List ℕ) (e : ℕ) (b : Braces) (s : Bool) (f :
   begun_is : IsReading r.mode t start call.at s
   function_is : told.function ≡ f
   equals_are : told.equals ≡ have_names (parts_of_call r t b call)
-  before : (next : PartOf) → slice_get b.parts.now (suc (length told.texts)) ≡ Some next → e ≤ next.at.start
-  within : e ≤ b.at.end
+  before : (next : PartOf) → slice_get b.parts.now (suc (length told.texts)) ≡ Some next → e < next.at.start
+  within : e < b.at.end
   since : 0 < number → IsToldSince total b f number spent (parts_of_call r t b call) o
   gives : back b.at.end (after_told s told (parts_of_call r t b call) o)
 
@@ -151,6 +157,30 @@ pub choice_work_left : (r : Reading) (t : List ℕ) (run : TextRun) (ls : List L
 choice_work_left r t run ls b total source f n h k e i w =
     let z = choice_begun r t run ls b total source f n h k e i w in (z.left, z.does)
 
+-- the blanks and the word of a function come after two braces, and so begin its target
+word_there : (m : Mode) (t : List ℕ) (b : Braces) (c : IsCallOf m t b) (source : List ℕ) (f : Function) (n : ℕ) → b.argument ≡ false
+    → source ≡ slice_range t b.at.start b.at.end → function_of (drop 2 source) ≡ Some (f, n) → IsPlain n (drop (c.at + c.braces) t)
+word_there m t b c source f n k e w =
+    let wide = c.braces + width_of_all c.inside + c.braces in
+    let long : 2 + (wide - 2) ≡ wide = (let two = c.two in omega (arith, two)) in
+    let front : drop 2 source ≡ take (wide - 2) (drop 2 (drop c.at t)) =
+    ap (drop 2) (e ∙ source_is m t b c) ∙ ap (λ i. drop 2 (take i (drop c.at t))) (sym long) ∙ sym (take_behind 2 (wide - 2) (drop c.at t)) in
+    let plain : IsPlain n (drop (c.at + 2) t) = subst (IsPlain n) (drop-drop 2 c.at t)
+    (plain_front n (wide - 2) (drop 2 (drop c.at t)) (subst (IsPlain n) front (named_plain (drop 2 source) f n w))) in
+    by_braces n (nat_lt 2 c.braces) refl plain
+  where
+    by_braces : (n : ℕ) (more : Bool) → nat_lt 2 c.braces ≡ more → IsPlain n (drop (c.at + 2) t) → IsPlain n (drop (c.at + c.braces) t)
+    by_braces zero more is h = tt
+    by_braces (suc n) true is h =
+        let l : 2 < c.braces = grind (arith, nat_tests) in
+        let z : c.at + 2 ≡ c.at + 2 + 0 = omega arith in
+        let here : slice_index (drop (c.at + 2) t) 0 ≡ 123 = get_or-drop (c.at + 2) t 0 0 ∙ ap (slice_index t) (sym z) ∙ c.opening 2 l in
+        absurd (no_brace n 123 (drop (c.at + 2) t) here refl h)
+    by_braces (suc n) false is h =
+        let l : c.braces ≤ 2 = grind (arith, nat_tests) in
+        let z : c.at + 2 ≡ c.at + c.braces = (let two = c.two in omega (arith, l, two)) in
+        subst (λ q. IsPlain (suc n) (drop q t)) z h
+
 -- its target is read
 pub choice_begins : (r : Reading) (t : List ℕ) (run : TextRun) (ls : List Level) (b : Braces) (total : Account) (source : List ℕ) (f : Function) (n : ℕ)
     (part : PartOf) → BeginsCall r t run ls b total → b.argument ≡ false → source ≡ slice_range t b.at.start b.at.end → is_function source ≡ true
@@ -166,32 +196,40 @@ choice_begins r t run ls b total source f n part h k e i w there =
     let from = x.from_is in
     let to = x.to_is in
     let low = x.within in
-    let target = given_from r false t part.at.start x.left in (
+    let target = given_from r false t part.at.start x.left in
+    let stretch = subst (λ q. IsStretchOf r.mode t part.at.start q x.left) (sym to)
+    (subst (λ q. IsStretchOf r.mode t q (first_end (c.at + c.braces) (part_members 0 c.inside)) x.left) (sym from) x.stretch) in
+    let plain = subst (λ q. IsPlain n (drop q t)) (sym from) (word_there r.mode t b c source f n k e w) in
+    let target_ascii = given_ascii r t part.at.start part.at.end n false x.left stretch plain in (
       z.left,
       z.does,
       λ next choosing started rd md lv. record {
         place = c.at;
         at_start = h.at_start;
         running = record { reading = subst (λ y. IsReading r.mode t y c.at h.at_start) (sym rd) h.running.reading; mode_is = md ∙ h.running.mode_is };
-        before = omega (arith, from);
+        before = let two = c.two in omega (arith, from, two);
+        some = call_some r.mode t b c;
         left = x.left;
-        stretch = subst (λ q. IsStretchOf r.mode t part.at.start q x.left) (sym to)
-            (subst (λ q. IsStretchOf r.mode t q (first_end (c.at + c.braces) (part_members 0 c.inside)) x.left) (sym from) x.stretch);
-        ends = moved r t part.at.end b h.at_start f (untold f ps) run.reader 0 choosing.spent z.left (λ q y. Resumes r t q (starts t q) y (stack next.levels) z.left)
-            (behind_word n target) choosing started.call_is (started.at_start_is ∙ h.running.reading.starts) started.function_is
-            (started.chooser_is ∙ ap (λ es. record { function = f; equals = es; texts = [] }) (have_names_is r t b c)) started.begun_is started.number_is refl (record {
-              call = c;
-              begun_is = h.running.reading;
-              function_is = refl;
-              equals_are = refl;
-              before = λ y g. let q = (second_of r t b.at.end (c.at + c.braces) false (part_members 0 c.inside) (part_of y) (part_get r t b c 1 (Some y) g) c.parts_stand).behind in
-                  omega (arith, to, q);
-              within = omega (arith, to, low);
-              since = λ y. absurd (omega (arith, y));
-              gives = subst (λ ks. Resumes r t b.at.end (starts t b.at.end) (after_told h.at_start (untold f ps) ps (behind_word n target)) ks z.left) (sym lv)
-                  (subst (λ o. Resumes r t b.at.end (starts t b.at.end) (after_told h.at_start (untold f ps) ps (behind_word n o)) ls z.left)
-                  (x.gives ∙ ap (λ q. given_from r false t q x.left) (sym from)) z.resumes);
-            });
+        stretch = stretch;
+        ends = (
+          target_ascii,
+          moved r t part.at.end b h.at_start f (untold f ps) run.reader 0 choosing.spent z.left (λ q y. Resumes r t q (starts t q) y (stack next.levels) z.left)
+              (behind_word n target) choosing started.call_is (started.at_start_is ∙ h.running.reading.starts) started.function_is
+              (started.chooser_is ∙ ap (λ es. record { function = f; equals = es; texts = [] }) (have_names_is r t b c)) started.begun_is started.number_is refl (record {
+                call = c;
+                begun_is = h.running.reading;
+                function_is = refl;
+                equals_are = refl;
+                before = λ y g. let q = (second_of r t b.at.end (c.at + c.braces) false (part_members 0 c.inside) (part_of y) (part_get r t b c 1 (Some y) g) c.parts_stand
+                    (call_bars r.mode t b c)).behind in
+                    omega (arith, to, q);
+                within = omega (arith, to, low);
+                since = λ y. absurd (omega (arith, y));
+                gives = subst (λ ks. Resumes r t b.at.end (starts t b.at.end) (after_told h.at_start (untold f ps) ps (behind_word n target)) ks z.left) (sym lv)
+                    (subst (λ o. Resumes r t b.at.end (starts t b.at.end) (after_told h.at_start (untold f ps) ps (behind_word n o)) ls z.left)
+                    (x.gives ∙ ap (λ q. given_from r false t q x.left) (sym from)) z.resumes);
+              }),
+        );
       },
     )
 
@@ -199,12 +237,12 @@ choice_begins r t run ls b total source f n part h k e i w there =
 
 -- its target is a part without the bytes before part 0
 pub first_ends : (r : Reading) (t : List ℕ) (run : TextRun) (c : Choosing) (n : ℕ) (ps qs : List Piece) (total : Account)
-    → HasEnded r t run (task.First c n) ps total → items qs ≡ drop n (items ps) → HasEnded r t run (task.Told c) qs total
+    → HasEnded r t run (task.First c n) ps total → (BeginsAscii n (items ps) → items qs ≡ drop n (items ps)) → HasEnded r t run (task.Told c) qs total
 first_ends r t run c n ps qs total h e = record {
   place = h.place;
   at_start = h.at_start;
   running = h.running;
-  ends = subst (λ xs. ToldWaits r t h.place c total (λ q x. Resumes r t q (starts t q) x (stack run.levels) total) (just xs)) (sym e) h.ends;
+  ends = subst (λ xs. ToldWaits r t h.place c total (λ q x. Resumes r t q (starts t q) x (stack run.levels) total) (just xs)) (sym (e h.ends.0)) h.ends.1;
 }
 
 -- the text of the next part
@@ -259,6 +297,7 @@ told_begins r t run c next ps text k part end spent total costs h is more e ther
       at_start = h.at_start;
       running = h.running;
       before = low;
+      some = let z = w.within in let fits = call.fits in omega (arith, z, fits);
       left = left.left;
       stretch = left.stretch;
       ends = moved r t end b s c.function after c.begun k spent total (λ q y. Resumes r t q (starts t q) y (stack run.levels) total)
@@ -320,6 +359,7 @@ given_begins r t run next c ps text k part start total h is e there few start_is
           at_start = s;
           running = record { reading = subst (λ y. IsReading r.mode t y call.at s) (sym rd) w.choosing.begun; mode_is = md ∙ h.running.mode_is };
           before = omega (arith, low, begins);
+          some = call_some r.mode t b call;
           left = left.left;
           stretch = left.stretch;
           ends = (

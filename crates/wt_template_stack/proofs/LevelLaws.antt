@@ -80,7 +80,7 @@ strip_end r t e (task.Target b s) w ls o total on h =
     let x = after_target r s c.braces (source_of r.mode t b c) (later_parts (parts_of_call r t b c)) (behind_given r t b c) o in
     let z = on b.at.end x (subst (λ y. Resumes r t b.at.end (starts t b.at.end) y ls total) same h.gives) in
     (z.0, z.1, record { call = c; end_is = h.end_is; gives = z.2 })
-strip_end r t e (task.First c n) w ls o total on h = strip_told r t e c w ls (behind_word n o) total on h
+strip_end r t e (task.First c n) w ls o total on h = let z = strip_told r t e c w ls (behind_word n o) total on h.1 in (z.0, z.1, (h.0, z.2))
 strip_end r t e (task.Told c) w ls o total on h = strip_told r t e c w ls o total on h
 strip_end r t e (task.Given b s) w ls o total on h =
     let z = on b.at.end (after_given s o) (subst (λ x. Resumes r t b.at.end (starts t b.at.end) x ls total) (given_work s w o) h.1) in (z.0, z.1, (h.0, z.2))

@@ -3,6 +3,7 @@ pub mod AskedParts
 pub mod CallLaws
 pub mod CallSteps
 pub mod ChoiceSteps
+pub mod Cuts
 pub mod FirstAsked
 pub mod LedgerLaws
 pub mod LevelLaws

@@ -7,7 +7,7 @@ use Rattle.wt_template_stack.specs.declared.reader.Reader.{Reader}
 use Rattle.wt_template_stack.specs.declared.run.StepOutcome.{StepOutcome}
 use Rattle.wt_template_stack.specs.declared.run.StepOutcome.TheVariants as turn
 use Rattle.wt_template_stack.specs.declared.run.TextRun.{TextRun}
-use Rattle.wt_template_stack.specs.Measures.{GetsOn, HaveFewerEach, bytes_left, most_steps, steps_behind_all, steps_left}
+use Rattle.wt_template_stack.specs.Measures.{GetsOn, HaveFewerEach, brought, bytes_left, most_steps, steps_behind_all, steps_left}
 use Rattle.wt_template_stack.specs.Stacks.{with_given}
 
 -- where fewer bytes are left, they may be read twice and three steps be taken
@@ -27,20 +27,42 @@ most_rise n m h = by_case (eq-or-lt_of_le {n = n} {m = m} h)
     by_case (inr l) = omega (arith, fewer_twice n m l)
 
 -- bytes are read
-pub read_on : (n' n b : ℕ) → n' < n → most_steps n' + b < most_steps n + b
-read_on n' n b h = omega (arith, fewer_twice n' n h)
+pub read_on : (n' n b : ℕ) → n' ≤ n - 1 → 0 < n → most_steps n' + b < most_steps n + b
+read_on n' n b h some = omega (arith, fewer_twice n' n (omega (arith, h, some)))
+
+-- or the text is at its end
+pub not_behind : (n' n b : ℕ) → n' ≤ n - 1 → most_steps n' + b ≤ most_steps n + b
+not_behind n' n b h = omega (arith, most_rise n' n (omega (arith, h)))
+
+-- a level brings all of its own where bytes are left, and nothing at the text's end
+pub all_brought : (n k : ℕ) → 0 < n → brought n k ≡ k
+all_brought zero k some = absurd (omega (arith, some))
+all_brought (suc n) k some = refl
+
+pub none_brought : (n k : ℕ) → n ≡ 0 → brought n k ≡ 0
+none_brought zero k none = refl
+none_brought (suc n) k none = absurd (omega (arith, none))
 
 -- a level begins at a later place
-pub level_begun : (n' n k b b' : ℕ) → n' < n → b' ≡ k + b → k ≤ most_steps (n - 1) + 2 → most_steps n' + b' < most_steps n + b
-level_begun n' n k b b' h e few = omega (arith, fewer_twice (n - 1) n (omega (arith, h)), most_rise n' (n - 1) (omega (arith, h)), e, few)
+pub level_begun : (n' n k b b' : ℕ) → n' ≤ n - 1 → b' ≡ brought n k + b → 0 < n → k ≤ most_steps (n - 1) + 2 → most_steps n' + b' < most_steps n + b
+level_begun n' n k b b' h e some few =
+    omega (arith, fewer_twice (n - 1) n (omega (arith, some)), most_rise n' (n - 1) h, e, all_brought n k some, few)
 
--- a level gives way to another one at a later place, whose end may bring as much
-pub level_follows : (n' n k b b' : ℕ) → n' < n → b' ≡ k + b → most_steps n' + b' < k + (most_steps n + b)
-level_follows n' n k b b' h e = omega (arith, fewer_twice n' n h, e)
+-- a part begins, unless the text is at its end
+pub part_begun : (n' n b b' : ℕ) → n' ≤ n - 1 → b' ≡ brought n 1 + b → most_steps n' + b' ≤ most_steps n + b
+part_begun n' zero b b' h e = omega (arith, most_rise n' 0 (omega (arith, h)), e)
+part_begun n' (suc n) b b' h e =
+    let less = level_begun n' (suc n) 1 b b' h e (omega arith) (omega arith) in omega (arith, less)
+
+-- a level gives way to another one at a later place, whose end may bring as much; or to none at the text's end
+pub level_follows : (n' n k b b' : ℕ) → n' ≤ n - 1 → b' ≡ brought n k + b → 0 < k → most_steps n' + b' < k + (most_steps n + b)
+level_follows n' zero k b b' h e some = omega (arith, most_rise n' 0 (omega (arith, h)), e, some)
+level_follows n' (suc n) k b b' h e some = omega (arith, fewer_twice n' (suc n) (omega (arith, h)), e)
 
 -- a part that was told is given, and read from behind the first brace of its function on
-pub part_given : (n' m n b b' : ℕ) → n' < m → b' ≡ 1 + b → most_steps n' + b' < most_steps (m - 1) + 2 + (most_steps n + b)
-part_given n' m n b b' h e = omega (arith, most_rise n' (m - 1) (omega (arith, h)), e)
+pub part_given : (n' m n b b' : ℕ) → n' ≤ m - 1 → b' ≡ brought m 1 + b → most_steps n' + b' < most_steps (m - 1) + 2 + (most_steps n + b)
+part_given n' zero n b b' h e = omega (arith, most_rise n' (0 - 1) h, e)
+part_given n' (suc m) n b b' h e = omega (arith, most_rise n' (suc m - 1) h, e)
 
 -- what a function may bring that begins where the reader stands
 pub choice_few : (a b : Reader) → a ≡ b → most_steps (bytes_left a - 1) + 2 ≤ most_steps (bytes_left b - 1) + 2

@@ -1,5 +1,5 @@
 -- The part of a number, with what is told and what is given of it.
-use Rattle.std.proofs.Common.{◌≡◌, ℕ, zero, suc, ◌+◌, ◌≤◌, Bool, false, Option, Some, None, List, [], ◌∷◌, map, drop, refl, sym, ap, ◌∙◌, subst, arith}
+use Rattle.std.proofs.Common.{◌≡◌, ℕ, zero, suc, ◌+◌, ◌<◌, ◌≤◌, Bool, false, Option, Some, None, List, [], ◌∷◌, map, drop, refl, sym, ap, ◌∙◌, subst, arith}
 use Rattle.std.specs.Prelude.{slice_get, is_some}
 use Rattle.std.proofs.lemmas.List.{drop-map}
 use Rattle.wt_span.specs.declared.function.Function.{Function}
@@ -16,10 +16,10 @@ use Rattle.wt_transclusion.specs.Cursors.{starts}
 use Rattle.wt_transclusion.specs.Parts.{part_given, parts_given}
 use Rattle.wt_transclusion.specs.Steps.{IsStretchOf, given_from}
 use Rattle.wt_transclusion.proofs.StretchLaws.{width_append}
-use Rattle.wt_template_stack.specs.Calls.{IsPartAt, next_place, ArePartsAt, IsCallOf, parts_of_call}
+use Rattle.wt_template_stack.specs.Calls.{HaveBars, IsPartAt, next_place, ArePartsAt, IsCallOf, parts_of_call}
 use Rattle.wt_template_stack.specs.Rests.{later_told}
 use Rattle.wt_template_stack.specs.ToldParts.{end_by, start_by, name_end, told_end, given_start, have_equals}
-use Rattle.wt_template_stack.proofs.CallLaws.{some_is, joined_width}
+use Rattle.wt_template_stack.proofs.CallLaws.{call_bars, some_is, joined_width, later_bars}
 use Rattle.wt_template_stack.proofs.CallSteps.{part_get}
 use Rattle.wt_template_stack.proofs.StepLaws.{drop_none}
 
@@ -61,14 +61,15 @@ record PartOfNumber (r : Reading) (t : List ℕ) (most at : ℕ) (ps : List Part
   given : drop n (parts_given r (starts t at) t at ps)
       ≡ part_given r (starts t place) t place p.name p.value ∷ parts_given r (starts t (next_place place p)) t (next_place place p) rest
   others : drop (suc n) (placed at ps) ≡ placed (next_place place p) rest
+  bars : HaveBars (p ∷ rest)
 
 places_behind : (at : ℕ) (p : PartMembers) (ps : List PartMembers) → drop 1 (placed at (p ∷ ps)) ≡ placed (next_place at p) ps
 places_behind at p ps = drop_none _ ∙ ap (λ q. placed (q + p.bar) ps) (joined_width at p.name p.value)
 
 part_of_number : (r : Reading) (t : List ℕ) (most at : ℕ) (ps : List PartMembers) (n : ℕ) (part : PartAt) → slice_get (placed at ps) n ≡ Some part
-    → ArePartsAt r.mode t most at ps → PartOfNumber r t most at ps n part
-part_of_number r t most at [] n part e h = absurd (let z : None ≡ Some part = e in cc)
-part_of_number r t most at (p ∷ ps) zero part e h =
+    → ArePartsAt r.mode t most at ps → HaveBars ps → PartOfNumber r t most at ps n part
+part_of_number r t most at [] n part e h bars = absurd (let z : None ≡ Some part = e in cc)
+part_of_number r t most at (p ∷ ps) zero part e h bars =
     let is = some_is _ part e in
     record {
       place = at;
@@ -81,12 +82,13 @@ part_of_number r t most at (p ∷ ps) zero part e h =
       equals_is = ap (λ x. x.equals_at) (sym is);
       given = refl;
       others = places_behind at p ps;
+      bars = bars;
     }
-part_of_number r t most at (p ∷ ps) (suc n) part e h =
+part_of_number r t most at (p ∷ ps) (suc n) part e h bars =
     let next = next_place at p in
     let same : placed (at + width_of (joined p.name p.value) + p.bar) ps ≡ drop 1 (placed at (p ∷ ps)) = sym (places_behind at p ps) in
     let there : slice_get (placed next ps) n ≡ Some part = ap (λ xs. slice_get xs n) (same ∙ drop_none _) ∙ e in
-    let z = part_of_number r t most next ps n part there h.1 in
+    let z = part_of_number r t most next ps n part there h.1 (later_bars p ps bars) in
     record {
       place = z.place;
       p = z.p;
@@ -98,6 +100,7 @@ part_of_number r t most at (p ∷ ps) (suc n) part e h =
       equals_is = z.equals_is;
       given = z.given;
       others = ap (drop (suc n)) (sym (drop_none _) ∙ places_behind at p ps) ∙ z.others;
+      bars = z.bars;
     }
 
 -- a part of a call behind its target
@@ -105,13 +108,18 @@ pub record LaterPart (r : Reading) (t : List ℕ) (b : Braces) (c : IsCallOf r.m
   pub place : ℕ
   pub p : PartMembers
   pub others : List PartOutput
-  pub behind : c.at ≤ place
+  pub behind : c.at < place
   pub stands : IsPartAt r.mode t b.at.end place p
   pub from_is : part.at.start ≡ place
   pub to_is : part.at.end ≡ place + width_of (joined p.name p.value)
   pub equals_is : part.equals ≡ end_of_name place p.name
   pub given : drop (suc n) (parts_of_call r t b c) ≡ part_given r (starts t place) t place p.name p.value ∷ others
-  pub next : (x : PartOf) → slice_get b.parts.now (suc (suc n)) ≡ Some x → part.at.end ≤ x.at.start
+  pub next : (x : PartOf) → slice_get b.parts.now (suc (suc n)) ≡ Some x → part.at.end < x.at.start
+
+-- a part before another one has a `|` behind it
+bar_there : (q : ℕ) (p : PartMembers) (ps : List PartMembers) (x : PartAt) (xs : List PartAt) → placed q ps ≡ x ∷ xs → HaveBars (p ∷ ps) → 1 ≤ p.bar
+bar_there q p [] x xs e bars = no_first x xs (sym e)
+bar_there q p (r ∷ ps) x xs e bars = bars.0
 
 -- places that begin behind one
 first_place : (q : ℕ) (ps : List PartMembers) (x : PartAt) (xs : List PartAt) → placed q ps ≡ x ∷ xs → x.from ≡ q
@@ -120,23 +128,26 @@ first_place q (p ∷ ps) x xs e = ap (λ y. y.from) (sym (first_is _ x _ xs e))
 
 pub later_part : (r : Reading) (t : List ℕ) (b : Braces) (c : IsCallOf r.mode t b) (n : ℕ) (part : PartOf) → slice_get b.parts.now (suc n) ≡ Some part
     → LaterPart r t b c n part
-later_part r t b c n part e = by_parts (part_members 0 c.inside) (part_get r t b c (suc n) (Some part) e) (λ x. part_get r t b c (suc (suc n)) (Some x)) c.parts_stand refl
+later_part r t b c n part e = by_parts (part_members 0 c.inside) (part_get r t b c (suc n) (Some part) e) (λ x. part_get r t b c (suc (suc n)) (Some x)) c.parts_stand
+    (call_bars r.mode t b c) refl
   where
     by_parts : (pm : List PartMembers) → slice_get (placed (c.at + c.braces) pm) (suc n) ≡ Some (part_of part)
         → ((x : PartOf) → slice_get b.parts.now (suc (suc n)) ≡ Some x → slice_get (placed (c.at + c.braces) pm) (suc (suc n)) ≡ Some (part_of x))
-        → ArePartsAt r.mode t b.at.end (c.at + c.braces) pm → parts_given r false t (c.at + c.braces) pm ≡ parts_of_call r t b c → LaterPart r t b c n part
-    by_parts [] there more stand gives = absurd (let z : None ≡ Some (part_of part) = there in cc)
-    by_parts (p ∷ ps) there more stand gives =
+        → ArePartsAt r.mode t b.at.end (c.at + c.braces) pm → HaveBars pm → parts_given r false t (c.at + c.braces) pm ≡ parts_of_call r t b c → LaterPart r t b c n part
+    by_parts [] there more stand bars gives = absurd (let z : None ≡ Some (part_of part) = there in cc)
+    by_parts (p ∷ ps) there more stand bars gives =
         let at = c.at + c.braces in
         let next = next_place at p in
-        let z = part_of_number r t b.at.end next ps n (part_of part) (ap (λ xs. slice_get xs n) (sym (places_behind at p ps) ∙ drop_none _) ∙ there) stand.1 in
+        let z = part_of_number r t b.at.end next ps n (part_of part) (ap (λ xs. slice_get xs n) (sym (places_behind at p ps) ∙ drop_none _) ∙ there) stand.1
+        (later_bars p ps bars) in
         let behind = z.behind in
+        let two = c.two in
         let to = z.to_is in
         record {
           place = z.place;
           p = z.p;
           others = parts_given r (starts t (next_place z.place z.p)) t (next_place z.place z.p) z.rest;
-          behind = omega (arith, behind);
+          behind = omega (arith, behind, two);
           stands = z.stands;
           from_is = z.from_is;
           to_is = to;
@@ -146,7 +157,8 @@ later_part r t b c n part e = by_parts (part_members 0 c.inside) (part_get r t b
               let d : drop (suc n) (placed next ps) ≡ part_of x ∷ drop (suc (suc n)) (placed next ps) =
               drop_get (placed next ps) (suc n) (part_of x) (ap (λ xs. slice_get xs (suc n)) (sym (places_behind at p ps) ∙ drop_none _) ∙ more x f) in
               let q = first_place (next_place z.place z.p) z.rest (part_of x) (drop (suc (suc n)) (placed next ps)) (sym z.others ∙ d) in
-              omega (arith, to, q);
+              let one = bar_there (next_place z.place z.p) z.p z.rest (part_of x) (drop (suc (suc n)) (placed next ps)) (sym z.others ∙ d) z.bars in
+              omega (arith, to, q, one);
         }
 
 -- ---- what is told and given of it
@@ -251,8 +263,8 @@ pub record Told (f : Function) (r : Reading) (t : List ℕ) (b : Braces) (c : Is
   pub stretch : StretchGives r t part.at.start (told_end f part) output
   pub outputs_are : drop n (later_told f (parts_of_call r t b c)) ≡ output ∷ others
   pub whole : name_end f part.equals ≡ None → first_given f (drop (suc n) (parts_of_call r t b c)) ≡ output
-  pub within : told_end f part ≤ b.at.end
-  pub next : (x : PartOf) → slice_get b.parts.now (suc (suc n)) ≡ Some x → told_end f part ≤ x.at.start
+  pub within : told_end f part < b.at.end
+  pub next : (x : PartOf) → slice_get b.parts.now (suc (suc n)) ≡ Some x → told_end f part < x.at.start
 
 drop_later : (n : ℕ) (ps : List PartOutput) → drop n (later_parts ps) ≡ drop (suc n) ps
 drop_later n [] = drop_nil n
@@ -282,8 +294,8 @@ pub record Given (f : Function) (r : Reading) (t : List ℕ) (b : Braces) (c : I
   pub output : Output
   pub stretch : StretchGives r t (given_start f part) part.at.end output
   pub output_is : first_given f (drop (suc n) (parts_of_call r t b c)) ≡ output
-  pub behind : c.at ≤ given_start f part
-  pub within : part.at.end ≤ b.at.end
+  pub behind : c.at < given_start f part
+  pub within : part.at.end < b.at.end
 
 pub part_of_value : (f : Function) (r : Reading) (t : List ℕ) (b : Braces) (c : IsCallOf r.mode t b) (n : ℕ) (part : PartOf)
     → slice_get b.parts.now (suc n) ≡ Some part → Given f r t b c n part

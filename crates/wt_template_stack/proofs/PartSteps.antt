@@ -32,13 +32,13 @@ use Rattle.wt_template_stack.specs.declared.run.TextRun.{TextRun}
 use Rattle.wt_template_stack.specs.declared.run.StepOutcome.{StepOutcome}
 use Rattle.wt_template_stack.specs.declared.run.StepOutcome.TheVariants as turn
 use Rattle.wt_template_stack.specs.Accounts.{Account}
-use Rattle.wt_template_stack.specs.Calls.{IsPartAt, next_place, ArePartsAt}
+use Rattle.wt_template_stack.specs.Calls.{IsPartAt, next_place, ArePartsAt, HaveBars, IsBefore}
 use Rattle.wt_template_stack.specs.Levels.{IsNamedBy, Resumes, Ends}
 use Rattle.wt_template_stack.specs.Rests.{with_work, after_page, after_values, next_number, after_name}
 use Rattle.wt_template_stack.specs.Stacks.{stack}
 use Rattle.std.specs.declared.alloc.Global.{Global}
 use Rattle.wt_template_stack.specs.Runs.{HasEnded, BeginsLevel, HandsParts, Calls, Spends, TakesPart, TakesTurn}
-use Rattle.wt_template_stack.proofs.CallLaws.{some_is, joined_width}
+use Rattle.wt_template_stack.proofs.CallLaws.{ends_before, joined_width, later_bars, some_is}
 use Rattle.wt_template_stack.proofs.RestLaws.{spends_none, values_first}
 use Rattle.wt_template_stack.proofs.StepLaws.{out, drop_none, joined_append}
 
@@ -101,6 +101,8 @@ record PartThere (r : Reading) (t : List ℕ) (h : PendingCall) (ls : List Level
   places : drop (h.part + 1) (map part_of h.call.parts.now) ≡ placed (next_place at p) rest
   first : IsPartAt r.mode t h.call.at.end at p
   others : ArePartsAt r.mode t h.call.at.end (next_place at p) rest
+  bars : HaveBars (p ∷ rest)
+  fits : h.call.at.end ≤ length t
   from_is : part.at.start ≡ at
   to_is : part.at.end ≡ at + width_of (joined p.name p.value)
   equals_is : part.equals ≡ name_end at p.name
@@ -145,11 +147,11 @@ named_there r t h ls frame at total (Some (xs, n)) value bar rest part equals w 
         value = value;
         at = next;
         ps = rest;
-        pending = record { values = w.values; parts = w.places; stand = w.others };
+        pending = record { values = w.values; parts = w.places; stand = w.others; bars = later_bars p rest w.bars; fits = w.fits };
         value_ends = sym to ∙ ap (λ k. k + width_of value) behind;
         numbered = let y = w.numbered in omega (arith, y);
         stretch = subst (λ k. IsStretchOf r.mode t k part.at.end value) behind (subst (λ k. IsStretchOf r.mode t q k value) to cut.2);
-        before = omega (arith, ti);
+        before = subst (λ e. IsBefore e next rest) (sym ti) (ends_before at p rest w.bars);
         within = omega (arith, ti, en);
         gives = subst (λ o. Resumes r t h.call.at.end (starts t h.call.at.end) o ls total) gives w.resumes;
       };
@@ -175,10 +177,10 @@ unnamed_there r t h ls frame at total None value bar rest part w e =
         given = None;
         at = next;
         ps = rest;
-        pending = record { values = w.values; parts = w.places; stand = w.others };
+        pending = record { values = w.values; parts = w.places; stand = w.others; bars = later_bars p rest w.bars; fits = w.fits };
         named = tt;
         numbered = let y = w.numbered in omega (arith, y);
-        before = omega (arith, ti);
+        before = subst (λ e. IsBefore e next rest) (sym ti) (ends_before at p rest w.bars);
         within = omega (arith, ti, en);
         gives = subst (λ x. Resumes r t h.call.at.end (starts t h.call.at.end) x ls total)
             (values_first r h.at_start h.title frame h.handed.number (record { name = None; value = o; all = o }) later) w.resumes;
@@ -196,31 +198,35 @@ place_is a b xs ys e = (cc, cc)
 pub record HasPart (r : Reading) (t : List ℕ) (run : TextRun) (h : PendingCall) (total : Account) (w : HandsParts r t run h total) (part : PartOf) : Type 0 where
   p : PartMembers
   rest : List PartMembers
+  behind : w.place < w.at
   there : PartThere r t h (stack run.levels) w.frame w.at total p rest part
 
 has_part : (r : Reading) (t : List ℕ) (run : TextRun) (h : PendingCall) (total : Account) (w : HandsParts r t run h total) (part : PartOf)
     → slice_get h.call.parts.now h.part ≡ Some part → HasPart r t run h total w part
-has_part r t run h total w part e = by_parts w.ps w.pending.parts w.pending.stand w.resumes
+has_part r t run h total w part e = by_parts w.ps w.pending.parts w.pending.stand w.pending.bars w.before w.resumes
   where
     listed_parts : drop h.part (map part_of h.call.parts.now) ≡ part_of part ∷ drop (h.part + 1) (map part_of h.call.parts.now)
     listed_parts = drop_get (map part_of h.call.parts.now) h.part (part_of part) (slice_get-map part_of h.call.parts.now h.part ∙ ap (option_map part_of) e)
 
     by_parts : (ps : List PartMembers) → drop h.part (map part_of h.call.parts.now) ≡ placed w.at ps → ArePartsAt r.mode t h.call.at.end w.at ps
-        → Resumes r t h.call.at.end (starts t h.call.at.end)
+        → HaveBars ps → IsBefore w.place w.at ps → Resumes r t h.call.at.end (starts t h.call.at.end)
         (after_values r h.at_start h.title w.frame h.handed.number (parts_given r (starts t w.at) t w.at ps)) (stack run.levels) total
         → HasPart r t run h total w part
-    by_parts [] places stand resumes = absurd (let z : part_of part ∷ drop (h.part + 1) (map part_of h.call.parts.now) ≡ [] = sym listed_parts ∙ places in cc)
-    by_parts (p ∷ rest) places stand resumes =
+    by_parts [] places stand bars behind resumes = absurd (let z : part_of part ∷ drop (h.part + 1) (map part_of h.call.parts.now) ≡ [] = sym listed_parts ∙ places in cc)
+    by_parts (p ∷ rest) places stand bars behind resumes =
         let same = place_is (part_of part) _ (drop (h.part + 1) (map part_of h.call.parts.now)) _ (sym listed_parts ∙ places) in
         let wide = joined_width w.at p.name p.value in
         record {
           p = p;
           rest = rest;
+          behind = behind;
           there = record {
             values = w.pending.values;
             places = same.1 ∙ ap (λ q. placed (q + p.bar) rest) wide;
             first = stand.0;
             others = stand.1;
+            bars = bars;
+            fits = w.pending.fits;
             from_is = ap (λ x. x.from) same.0;
             to_is = ap (λ x. x.to) same.0 ∙ wide;
             equals_is = ap (λ x. x.equals_at) same.0;
@@ -230,13 +236,14 @@ has_part r t run h total w part e = by_parts w.ps w.pending.parts w.pending.stan
         }
 
 begins_there : (r : Reading) (t : List ℕ) (run : TextRun) (h : PendingCall) (total : Account) (w : HandsParts r t run h total) (start to : ℕ) (k : Task)
-    → start ≡ w.at
+    → start ≡ w.at → w.place < w.at
     → LevelThere r t w.at to k (stack run.levels) total → BeginsLevel r t run start (starts t start) to k total
-begins_there r t run h total w start to k e l = record {
+begins_there r t run h total w start to k e low l = record {
   place = w.place;
   at_start = w.at_start;
   running = w.running;
-  before = let y = w.before in omega (arith, y, e);
+  before = omega (arith, low, e);
+  some = let y = w.within in let z = w.pending.fits in omega (arith, y, z);
   left = l.left;
   stretch = subst (λ q. IsStretchOf r.mode t q to l.left) (sym e) l.stretch;
   ends = subst (λ q. Ends r t to k (stack run.levels) (given_from r (starts t q) t q l.left) total) (sym e) l.ends;
@@ -248,7 +255,7 @@ pub name_begins : (r : Reading) (t : List ℕ) (run : TextRun) (h : PendingCall)
     → BeginsLevel r t run part.at.start (starts t part.at.start) equals (task.Name (next_handing h) part.at.end) total
 name_begins r t run h part equals total w e q =
     let x = has_part r t run h total w part e in
-    begins_there r t run h total w part.at.start equals (task.Name (next_handing h) part.at.end) x.there.from_is
+    begins_there r t run h total w part.at.start equals (task.Name (next_handing h) part.at.end) x.there.from_is x.behind
     (named_there r t h (stack run.levels) w.frame w.at total x.p.name x.p.value x.p.bar x.rest part equals x.there q)
 
 -- a part without a name
@@ -257,7 +264,7 @@ pub value_begins : (r : Reading) (t : List ℕ) (run : TextRun) (h : PendingCall
     → BeginsLevel r t run part.at.start (starts t part.at.start) part.at.end (task.Value (next_handing h) None) total
 value_begins r t run h part total w e q =
     let x = has_part r t run h total w part e in
-    begins_there r t run h total w part.at.start part.at.end (task.Value (next_handing h) None) x.there.from_is
+    begins_there r t run h total w part.at.start part.at.end (task.Value (next_handing h) None) x.there.from_is x.behind
     (unnamed_there r t h (stack run.levels) w.frame w.at total x.p.name x.p.value x.p.bar x.rest part x.there q)
 
 -- ---- a name or a value ends
@@ -270,6 +277,7 @@ name_ends r t run h to out_ps name total w e = record {
   at_start = w.at_start;
   running = w.running;
   before = omega arith;
+  some = let z = w.ends.value_ends in let y = w.ends.within in let x = w.ends.pending.fits in omega (arith, z, y, x);
   left = w.ends.value;
   stretch = w.ends.stretch;
   ends = record {
@@ -326,7 +334,7 @@ value_ends r t run h handed name out_ps total w put counted few =
       ps = v.ps;
       before = v.before;
       within = v.within;
-      pending = record { values = put v.frame v.given o v.pending.values v.named refl; parts = v.pending.parts; stand = v.pending.stand };
+      pending = record { values = put v.frame v.given o v.pending.values v.named refl; parts = v.pending.parts; stand = v.pending.stand; bars = v.pending.bars; fits = v.pending.fits };
       numbered = subst (λ n. n ≤ h.part) (sym number_is) (next_within h.handed.number h.part v.given low);
       resumes = subst (λ n. Resumes r t h.call.at.end (starts t h.call.at.end)
           (after_values r h.at_start h.title frame n (parts_given r (starts t v.at) t v.at v.ps)) (stack run.levels) total)

@@ -1,5 +1,5 @@
 -- What reading on, a call that begins and a level that ends do to the levels.
-use Rattle.std.proofs.Common.{◌≡◌, ℕ, ◌+◌, ◌-◌, ◌≤◌, Bool, true, false, Option, Some, None, option_map, List, [], ◌∷◌, ◌++◌, length, take, drop, refl, sym, ap, ◌∙◌, subst, arith, append_assoc, append-nil}
+use Rattle.std.proofs.Common.{◌≡◌, ◌⊎◌, inl, inr, ℕ, ◌+◌, ◌-◌, ◌<◌, ◌≤◌, Bool, true, false, Option, Some, None, option_map, List, [], ◌∷◌, ◌++◌, length, take, drop, refl, sym, ap, ◌∙◌, subst, arith, append_assoc, append-nil}
 use Rattle.std.specs.Prelude.{slice_get, slice_range, ◌==◌, if◌then◌else◌}
 use Rattle.std.proofs.lemmas.List.{drop-drop}
 use Rattle.std.proofs.lemmas.List.Concat.{flat_map-append}
@@ -29,21 +29,25 @@ use Rattle.wt_transclusion.specs.Given.{option_items}
 use Rattle.wt_transclusion.specs.Parts.{part_given, parts_given, start_after}
 use Rattle.wt_transclusion.specs.Steps.{IsStretchOf, AnswersNext, given_from}
 use Rattle.wt_transclusion.specs.Stretch.{AllFull}
+use Rattle.wt_transclusion.proofs.CursorLaws.{stretch_within, text_len}
 use Rattle.wt_transclusion.proofs.PartLaws.{call_parts, outs, outs_append}
 use Rattle.wt_transclusion.proofs.StretchCuts.{stretch_back, whole_stretch}
 use Rattle.wt_transclusion.proofs.StretchLaws.{full_front, members_listed}
 use Rattle.wt_template_stack.specs.declared.level.Level.{Level}
 use Rattle.wt_template_stack.specs.declared.level.Task.{Task}
 use Rattle.wt_template_stack.specs.declared.level.Task.TheVariants as task
+use Rattle.wt_template_stack.specs.declared.reader.Reader.{Reader}
 use Rattle.wt_template_stack.specs.declared.run.TextRun.{TextRun}
 use Rattle.wt_template_stack.specs.Accounts.{Account, Does, undone}
 use Rattle.wt_template_stack.specs.Calls.{IsCallOf, source_of, parts_of_call, outs_of_call, members_behind, first_end, behind_given}
 use Rattle.wt_template_stack.specs.Levels.{Resumes, Ends}
-use Rattle.wt_template_stack.specs.Readers.{IsReading}
+use Rattle.wt_template_stack.specs.Measures.{bytes_left}
+use Rattle.wt_template_stack.specs.Readers.{CanBeCut, IsReading}
 use Rattle.wt_template_stack.specs.Rests.{after_argument, after_target, after_target_by}
 use Rattle.wt_template_stack.specs.Stacks.{stack, whole_level, innermost_end, with_given, one_or_none}
 use Rattle.wt_template_stack.specs.Runs.{Holds, HasEnded, TakesChunk, BeginsLevel, BeginsCall}
 use Rattle.wt_template_stack.proofs.CallLaws.{First, first_of, behind_same, call_is}
+use Rattle.wt_template_stack.proofs.Cuts.{before_or_at, call_cut, chunk_cut, cut_there}
 use Rattle.wt_template_stack.proofs.LevelLaws.{strip}
 
 abbrev pub out : List Item → List Entry → Output
@@ -110,7 +114,8 @@ chunk_next r t run (l ∷ ls) end kind to total h e a =
       place = h.place;
       at_start = h.at_start;
       running = h.running;
-      before = let z = n.0 in omega (arith, z);
+      before = n.0;
+      cut = chunk_cut r.mode t run.reader.text h.place l.end h.resumes.0 kind to h.running.reading.read h.resumes.1 n;
       resumes = (
         n.2.left,
         n.2.stretch,
@@ -234,6 +239,13 @@ function_begins r t run ls b total source h k e f w =
     (called_kept c.braces src (target_part ps0).items (sym c.kind_is ∙ k) fn (ap (λ bs. function_of (drop 2 bs)) (sym same) ∙ w)) in
     subst (λ o. Resumes r t b.at.end (starts t b.at.end) o ls total) (gives ∙ ap (λ bs. just (whole form.Function None bs ∷ [])) (sym same)) h.resumes
 
+pub call_before : (m : Mode) (t : List ℕ) (b : Braces) → (c : IsCallOf m t b) → c.at < b.at.end
+call_before m t b c = let z = c.end_is in let two = c.two in omega (arith, z, two)
+
+-- a call stands before the text's end
+pub call_some : (m : Mode) (t : List ℕ) (b : Braces) → (c : IsCallOf m t b) → c.at < length t
+call_some m t b c = let z = call_before m t b c in let y = c.fits in omega (arith, z, y)
+
 -- ---- the first part of a call
 
 pub first_part : (r : Reading) (t : List ℕ) (b : Braces) (c : IsCallOf r.mode t b) (part : PartOf) → slice_get b.parts.now 0 ≡ Some part
@@ -262,7 +274,8 @@ argument_begins r t run ls b total part h k e =
         place = c.at;
         at_start = h.at_start;
         running = record { reading = subst (λ x. IsReading r.mode t x c.at h.at_start) (sym rd) h.running.reading; mode_is = md ∙ h.running.mode_is };
-        before = let y = f.from_is in omega (arith, y);
+        before = let y = f.from_is in let two = c.two in omega (arith, y, two);
+        some = call_some r.mode t b c;
         left = f.left;
         stretch = subst (λ q. IsStretchOf r.mode t part.at.start q f.left) (sym f.to_is)
             (subst (λ q. IsStretchOf r.mode t q (first_end (c.at + c.braces) (part_members 0 c.inside)) f.left) (sym f.from_is) f.stretch);
@@ -371,7 +384,8 @@ target_begins r t run next ls b total part h k nf e rd md lv =
       place = c.at;
       at_start = h.at_start;
       running = record { reading = subst (λ x. IsReading r.mode t x c.at h.at_start) (sym rd) h.running.reading; mode_is = md ∙ h.running.mode_is };
-      before = let y = f.from_is in omega (arith, y);
+      before = let y = f.from_is in let two = c.two in omega (arith, y, two);
+      some = call_some r.mode t b c;
       left = f.left;
       stretch = subst (λ q. IsStretchOf r.mode t part.at.start q f.left) (sym f.to_is)
           (subst (λ q. IsStretchOf r.mode t q (first_end (c.at + c.braces) (part_members 0 c.inside)) f.left) (sym f.from_is) f.stretch);
@@ -417,6 +431,13 @@ level_ends r t run l total h low =
 
 -- ---- what the code knows
 
+-- the source of a call that is next can be cut out of the text
+pub source_cut : (r : Reading) (t : List ℕ) (run : TextRun) (ls : List Level) (b : Braces) (total : Account) → BeginsCall r t run ls b total
+    → CanBeCut run.reader.text.text.now b.at.start b.at.end
+source_cut r t run ls b total h =
+    cut_there r.mode t run.reader h.call.at h.at_start b.at.start b.at.end h.running.reading
+    (call_cut r.mode t b h.running.reading.read.characters h.call)
+
 pub chunk_read : (r : Reading) (t : List ℕ) (run : TextRun) (ls : List Level) (kind : LexKind) (to : ℕ) (total : Account) (o : Option Piece)
     (bytes : List ℕ)
     → TakesChunk r t run ls kind to total → option_items o ≡ lexeme_items run.mode kind bytes
@@ -429,9 +450,6 @@ chunk_read r t run ls kind to total o bytes h is bytes_are =
     ∙ ap (lexeme_items r.mode kind) (bytes_are ∙ ap (λ xs. slice_range xs run.reader.cursor.at to) reading.read.text_is
     ∙ ap (λ q. take (to - q) (drop q t)) reading.at.at_is))
 
-pub call_before : (m : Mode) (t : List ℕ) (b : Braces) → (c : IsCallOf m t b) → c.at ≤ b.at.end
-call_before m t b c = let z = c.end_is in omega (arith, z)
-
 -- with the innermost level taken
 pub popped : (r : Reading) (t : List ℕ) (run next : TextRun) (ls : List Level) (total : Account) → Holds r t run (stack run.levels) total
     → next.reader ≡ run.reader
@@ -442,6 +460,32 @@ popped r t run next ls total h rd md e = record {
   running = record { reading = subst (λ x. IsReading r.mode t x h.place h.at_start) (sym rd) h.running.reading; mode_is = md ∙ h.running.mode_is };
   resumes = subst (λ ks. Resumes r t h.place h.at_start (just []) ks total) e h.resumes;
 }
+
+-- where no bytes are left a stretch is read to its end
+pub stretch_read : (m : Mode) (t : List ℕ) (reader : Reader) (p : ℕ) (s : Bool) (end : ℕ) (xs : List Member) → IsReading m t reader p s
+    → IsStretchOf m t p end xs → (reader.cursor.at < end → bytes_left reader ≡ 0) → end ≤ reader.cursor.at
+stretch_read m t reader p s end xs reading st gone = by_order (before_or_at reader.cursor.at end)
+  where
+    by_order : (reader.cursor.at < end) ⊎ (end ≤ reader.cursor.at) → end ≤ reader.cursor.at
+    by_order (inr late) = late
+    by_order (inl low) =
+        let here = reading.at.at_is in
+        let inside = stretch_within _ _ p end xs st (omega (arith, here, low)) in
+        let len = text_len m t in
+        let long = ap length reading.read.text_is in
+        let none = gone low in
+        absurd (omega (arith, none, inside, len, long, low))
+
+pub at_end : (r : Reading) (t : List ℕ) (run : TextRun) (end : ℕ) (total : Account) → Holds r t run (stack run.levels) total
+    → innermost_end (stack run.levels) ≡ Some end → (run.reader.cursor.at < end → bytes_left run.reader ≡ 0) → end ≤ run.reader.cursor.at
+at_end r t run end total h e gone = by_levels (stack run.levels) h.resumes e
+  where
+    by_levels : (ls : List Level) → Resumes r t h.place h.at_start (just []) ls total → innermost_end ls ≡ Some end → end ≤ run.reader.cursor.at
+    by_levels [] resumes is = absurd resumes
+    by_levels (l ∷ ls) resumes is =
+        let same : l.end ≡ end = (let z : Some l.end ≡ Some end = is in cc) in
+        stretch_read r.mode t run.reader h.place h.at_start end resumes.0 h.running.reading
+        (subst (λ q. IsStretchOf r.mode t h.place q resumes.0) same resumes.1) gone
 
 -- the innermost level is read to its end and taken
 pub read_to_end : (r : Reading) (t : List ℕ) (run next : TextRun) (l : Level) (end : ℕ) (total : Account) → Holds r t run (stack run.levels) total
@@ -460,7 +504,7 @@ ends_alone r t e task.Whole o total h = h.1
 ends_alone r t e (task.Argument b) o total h = absurd h.gives
 ends_alone r t e (task.Default b) o total h = absurd h.1
 ends_alone r t e (task.Target b s) o total h = absurd h.gives
-ends_alone r t e (task.First c n) o total h = absurd h.gives
+ends_alone r t e (task.First c n) o total h = absurd h.1.gives
 ends_alone r t e (task.Told c) o total h = absurd h.gives
 ends_alone r t e (task.Given b s) o total h = absurd h.1
 ends_alone r t e (task.Name a to) o total h = absurd h.gives

@@ -1,6 +1,7 @@
 -- Calls of a text and their parts, where they are in it.
-use Rattle.std.specs.Prelude.{◌≡◌, ◌≤◌, ℕ, ◌+◌, ◌==◌, false, Option, Some, None, List, [], ◌∷◌, map, take, drop}
+use Rattle.std.specs.Prelude.{◌≡◌, ◌<◌, ◌≤◌, ℕ, ◌+◌, ◌==◌, false, Option, Some, None, List, [], ◌∷◌, map, length, take, drop, slice_index}
 use Rattle.wt_span.specs.declared.form.Mode.{Mode}
+use Rattle.wt_span.specs.Characters as byte
 use Rattle.wt_span.specs.Braces.{Member, Members, lexeme, listed, members, width_of_all}
 use Rattle.wt_span.specs.declared.form.LexKind.TheVariants as lex
 use Rattle.wt_braces.specs.PartMembers.{PartMembers, joined, rejoined, part_members, placed, width_of}
@@ -19,11 +20,11 @@ IsCut m t at None value = Unit {0}
 IsCut m t at (Some (xs, n)) value = (n ≡ 1) × IsStretchOf m t at (at + width_of xs) xs
     × IsStretchOf m t (at + width_of xs + n) (at + width_of xs + n + width_of value) value
 
--- a part that begins at a place is in a stretch, which ends at `most` or before
+-- a part that begins at a place is in a stretch, which ends before `most`
 pub record IsPartAt (m : Mode) (t : List ℕ) (most at : ℕ) (p : PartMembers) : Type 0 where
   pub all : IsStretchOf m t at (at + width_of (joined p.name p.value)) (joined p.name p.value)
   pub cut : IsCut m t at p.name p.value
-  pub ends : at + width_of (joined p.name p.value) ≤ most
+  pub ends : at + width_of (joined p.name p.value) < most
 
 -- where the part after one that begins at a place begins
 abbrev pub next_place : ℕ → PartMembers → ℕ
@@ -33,6 +34,17 @@ next_place at p = at + width_of (joined p.name p.value) + p.bar
 abbrev pub ArePartsAt : Mode → List ℕ → ℕ → ℕ → List PartMembers → Type 0
 ArePartsAt m t most at [] = Unit {0}
 ArePartsAt m t most at (p ∷ ps) = IsPartAt m t most at p × ArePartsAt m t most (next_place at p) ps
+
+-- a `|` comes behind each part but the last one
+abbrev pub HaveBars : List PartMembers → Type 0
+HaveBars [] = Unit {0}
+HaveBars (p ∷ []) = Unit {0}
+HaveBars (p ∷ q ∷ ps) = (1 ≤ p.bar) × HaveBars (q ∷ ps)
+
+-- a place comes before parts that begin at another one, if there are any
+abbrev pub IsBefore : ℕ → ℕ → List PartMembers → Type 0
+IsBefore place at [] = Unit {0}
+IsBefore place at (p ∷ ps) = place < at
 
 -- ---- calls
 
@@ -46,6 +58,9 @@ pub record IsCallOf (m : Mode) (t : List ℕ) (b : Braces) : Type 0 where
   pub kind_is : b.argument ≡ (braces == 3)
   pub parts_are : map part_of b.parts.now ≡ placed (at + braces) (part_members 0 inside)
   pub two : 2 ≤ braces
+  pub opening : (i : ℕ) → i < braces → slice_index t (at + i) ≡ byte.opening_brace
+  pub closing : (i : ℕ) → i < braces → slice_index t (at + (braces + width_of_all inside) + i) ≡ byte.closing_brace
+  pub fits : b.at.end ≤ length t
   pub stretch : IsStretchOf m t (at + braces) (at + braces + width_of_all inside) (listed inside)
   pub parts_stand : ArePartsAt m t b.at.end (at + braces) (part_members 0 inside)
 

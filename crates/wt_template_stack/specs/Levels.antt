@@ -14,6 +14,7 @@ use Rattle.wt_expand.specs.Work.{Entry}
 use Rattle.wt_expand.specs.Expansion.{Output, Reading, PartOutput, Frame, just, then_output, later_parts, chosen_output}
 use Rattle.wt_transclusion.specs.declared.read.Braces.{Braces}
 use Rattle.wt_transclusion.specs.Cursors.{starts}
+use Rattle.wt_transclusion.specs.Ends.{BeginsAscii}
 use Rattle.wt_transclusion.specs.Frames.{AreValues}
 use Rattle.wt_transclusion.specs.Parts.{parts_given}
 use Rattle.wt_transclusion.specs.Steps.{IsStretchOf, given_from}
@@ -23,7 +24,7 @@ use Rattle.wt_template_stack.specs.declared.level.PendingCall.{PendingCall}
 use Rattle.wt_template_stack.specs.declared.level.Task.{Task}
 use Rattle.wt_template_stack.specs.declared.level.Task.TheVariants as task
 use Rattle.wt_template_stack.specs.Accounts.{Account, IsLast}
-use Rattle.wt_template_stack.specs.Calls.{ArePartsAt, IsCallOf, source_of, parts_of_call, first_end, behind_given}
+use Rattle.wt_template_stack.specs.Calls.{ArePartsAt, HaveBars, IsBefore, IsCallOf, source_of, parts_of_call, first_end, behind_given}
 use Rattle.wt_template_stack.specs.Readers.{IsReading}
 use Rattle.wt_template_stack.specs.Rests.{with_work, ended_with, after_argument, after_value, after_name, after_text, after_target, after_given, behind_word, after_told}
 use Rattle.wt_template_stack.specs.ToldParts.{name_end}
@@ -35,6 +36,8 @@ pub record IsHanding (m : Mode) (t : List ℕ) (h : PendingCall) (frame : Frame)
   pub values : AreValues h.handed.values frame
   pub parts : drop h.part (map part_of h.call.parts.now) ≡ placed at ps
   pub stand : ArePartsAt m t h.call.at.end at ps
+  pub bars : HaveBars ps
+  pub fits : h.call.at.end ≤ length t
 
 -- the text of a name that was read is that of what it gives
 abbrev pub IsNamedBy : Option (String Global) → Option Output → Type 0
@@ -76,8 +79,8 @@ pub record NameWaits (r : Reading) (t : List ℕ) (e : ℕ) (h : PendingCall) (t
   pub value_ends : to ≡ e + 1 + width_of value
   pub stretch : IsStretchOf r.mode t (e + 1) to value
   pub numbered : h.handed.number < h.part
-  pub before : to ≤ at
-  pub within : to ≤ h.call.at.end
+  pub before : IsBefore to at ps
+  pub within : to < h.call.at.end
   pub gives : back h.call.at.end
       (after_name r h.at_start h.title frame h.handed.number (given_from r (starts t (e + 1)) t (e + 1) value) (parts_given r (starts t at) t at ps) o)
 
@@ -90,8 +93,8 @@ pub record ValueWaits (r : Reading) (t : List ℕ) (e : ℕ) (h : PendingCall) (
   pub pending : IsHanding r.mode t h frame at ps
   pub named : IsNamedBy name given
   pub numbered : h.handed.number < h.part
-  pub before : e ≤ at
-  pub within : e ≤ h.call.at.end
+  pub before : IsBefore e at ps
+  pub within : e < h.call.at.end
   pub gives : back h.call.at.end (after_value r h.at_start h.title frame h.handed.number given (parts_given r (starts t at) t at ps) o)
 
 -- the target of a call that is no function is read up to `e`
@@ -113,11 +116,11 @@ pub record TextWaits (r : Reading) (t : List ℕ) (e : ℕ) (b : Braces) (back :
   pub end_is : e + call.braces ≡ b.at.end
   pub gives : back b.at.end (after_text call.braces (source_of r.mode t b call) o)
 
--- a part that is told to a function is read up to `e`, and the next one begins there or after it
+-- a part that is told to a function is read up to `e`, and the next one begins after it
 pub record ToldWaits (r : Reading) (t : List ℕ) (e : ℕ) (c : Choosing) (total : Account) (back : Back) (o : Output) : Type 0 where
   pub choosing : IsChoosing r t c
-  pub before : (next : PartAt) → slice_get c.call.parts.now (suc (length c.chooser.texts)) ≡ Some next → e ≤ next.at.start
-  pub within : e ≤ c.call.at.end
+  pub before : (next : PartAt) → slice_get c.call.parts.now (suc (length c.chooser.texts)) ≡ Some next → e < next.at.start
+  pub within : e < c.call.at.end
   pub since : 0 < c.number → IsToldSince total c.call c.function c.number c.spent (parts_of_call r t c.call choosing.call) o
   pub gives : back c.call.at.end (after_told c.at_start c.chooser (parts_of_call r t c.call choosing.call) o)
 
@@ -126,11 +129,11 @@ pub record ToldWaits (r : Reading) (t : List ℕ) (e : ℕ) (c : Choosing) (tota
 abbrev pub After : Reading → List ℕ → ℕ → Task → Account → (Output → Type 0) → Back → Output → Type 0
 After r t e task.Whole total whole back o = whole o
 After r t e (task.Argument b) total whole back o = ArgumentWaits r t e b back o
-After r t e (task.Default b) total whole back o = (e ≤ b.at.end) × back b.at.end (ended_with o)
+After r t e (task.Default b) total whole back o = (e < b.at.end) × back b.at.end (ended_with o)
 After r t e (task.Target b at_start) total whole back o = TargetWaits r t e b at_start back o
-After r t e (task.First c n) total whole back o = ToldWaits r t e c total back (behind_word n o)
+After r t e (task.First c n) total whole back o = BeginsAscii n o.items × ToldWaits r t e c total back (behind_word n o)
 After r t e (task.Told c) total whole back o = ToldWaits r t e c total back o
-After r t e (task.Given b at_start) total whole back o = (e ≤ b.at.end) × back b.at.end (after_given at_start o)
+After r t e (task.Given b at_start) total whole back o = (e < b.at.end) × back b.at.end (after_given at_start o)
 After r t e (task.Name h to) total whole back o = NameWaits r t e h to back o
 After r t e (task.Value h name) total whole back o = ValueWaits r t e h name back o
 After r t e (task.Text b) total whole back o = TextWaits r t e b back o

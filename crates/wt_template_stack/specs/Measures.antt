@@ -1,5 +1,5 @@
 -- What is still to be done of a text that is expanded: a number that every step makes smaller.
-use Rattle.std.specs.Prelude.{◌≡◌, ◌<◌, ℕ, zero, suc, ◌+◌, ◌-◌, List, [], ◌∷◌, length}
+use Rattle.std.specs.Prelude.{◌≡◌, ◌<◌, ◌≤◌, ℕ, zero, suc, ◌+◌, ◌-◌, List, [], ◌∷◌, length}
 use Rattle.wt_template_stack.specs.declared.level.Level.{Level}
 use Rattle.wt_template_stack.specs.declared.level.Task.{Task}
 use Rattle.wt_template_stack.specs.declared.level.Task.TheVariants as task
@@ -47,10 +47,15 @@ GetsOn before now turn.Went = now < before
 GetsOn before now (turn.Done ps) = Unit {0}
 GetsOn before now (turn.Called h) = now < before
 
--- a level with this task begins at a later place
+-- what a level brings that begins where so many bytes are left: at the text's end none begins
+abbrev pub brought : ℕ → ℕ → ℕ
+brought zero k = 0
+brought (suc n) k = k
+
+-- a level with this task begins at a later place, if there is one
 abbrev pub BeginsLater : TextRun → TextRun → Task → Type 0
-BeginsLater old new k = (bytes_left new.reader < bytes_left old.reader)
-    × (steps_behind_all (stack new.levels) ≡ steps_behind k + steps_behind_all (stack old.levels))
+BeginsLater old new k = (bytes_left new.reader ≤ bytes_left old.reader - 1)
+    × (steps_behind_all (stack new.levels) ≡ brought (bytes_left old.reader) (steps_behind k) + steps_behind_all (stack old.levels))
 
 -- a text as it comes after one step after the other: after each fewer steps are left than before
 abbrev pub HaveFewerEach : TextRun → List TextRun → Type 0

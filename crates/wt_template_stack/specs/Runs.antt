@@ -1,5 +1,5 @@
 -- What the steps of a text that is expanded answer.
-use Rattle.std.specs.Prelude.{◌≡◌, ◌≤◌, ℕ, ◌+◌, Bool, None, List, [], ◌∷◌, Result, Ok, Err, take, drop, ◌-◌}
+use Rattle.std.specs.Prelude.{◌≡◌, ◌<◌, ◌≤◌, ℕ, ◌+◌, Bool, None, List, [], ◌∷◌, Result, Ok, Err, length, take, drop, ◌-◌}
 use Rattle.wt_span.specs.declared.form.LexKind.{LexKind}
 use Rattle.wt_span.specs.declared.form.Piece.{Piece}
 use Rattle.wt_span.specs.Items.{items}
@@ -24,9 +24,9 @@ use Rattle.wt_template_stack.specs.declared.run.TextRun.{TextRun}
 use Rattle.wt_template_stack.specs.declared.run.StepOutcome.{StepOutcome}
 use Rattle.wt_template_stack.specs.declared.run.StepOutcome.TheVariants as turn
 use Rattle.wt_template_stack.specs.Accounts.{Account, AreFetched, Does, IsAllowed, IsLast}
-use Rattle.wt_template_stack.specs.Calls.{IsCallOf, source_of, parts_of_call, outs_of_call}
+use Rattle.wt_template_stack.specs.Calls.{IsBefore, IsCallOf, source_of, parts_of_call, outs_of_call}
 use Rattle.wt_template_stack.specs.Levels.{Resumes, Ends, IsHanding}
-use Rattle.wt_template_stack.specs.Readers.{IsReading}
+use Rattle.wt_template_stack.specs.Readers.{CanBeCut, IsReading}
 use Rattle.wt_template_stack.specs.Stacks.{stack}
 use Rattle.wt_template_stack.specs.Rests.{after_given, after_page, after_values, with_work}
 
@@ -56,7 +56,7 @@ pub record Returns (r : Reading) (t : List ℕ) (run : TextRun) (to : ℕ) (g : 
   pub place : ℕ
   pub at_start : Bool
   pub running : IsRunning r t run place at_start
-  pub before : place ≤ to
+  pub before : place < to
   pub resumes : Resumes r t to (starts t to) g (stack run.levels) total
 
 -- bytes of a lexeme are next, and then others, in the innermost of these levels
@@ -64,15 +64,17 @@ pub record TakesChunk (r : Reading) (t : List ℕ) (run : TextRun) (ls : List Le
   pub place : ℕ
   pub at_start : Bool
   pub running : IsRunning r t run place at_start
-  pub before : place ≤ to
+  pub before : place < to
+  pub cut : CanBeCut t place to
   pub resumes : Resumes r t to (starts t to) (just (lexeme_items r.mode kind (take (to - place) (drop place t)))) ls total
 
--- a level with this task begins at a place, after what is read
+-- a level with this task begins at a place, after what is read, which isn't the whole text
 pub record BeginsLevel (r : Reading) (t : List ℕ) (run : TextRun) (at : ℕ) (s : Bool) (to : ℕ) (k : Task) (total : Account) : Type 0 where
   pub place : ℕ
   pub at_start : Bool
   pub running : IsRunning r t run place at_start
-  pub before : place ≤ at
+  pub before : place < at
+  pub some : place < length t
   pub left : List Member
   pub stretch : IsStretchOf r.mode t at to left
   pub ends : Ends r t to k (stack run.levels) (given_from r s t at left) total
@@ -94,8 +96,8 @@ pub record HandsParts (r : Reading) (t : List ℕ) (run : TextRun) (h : PendingC
   pub frame : Frame
   pub at : ℕ
   pub ps : List PartMembers
-  pub before : place ≤ at
-  pub within : place ≤ h.call.at.end
+  pub before : IsBefore place at ps
+  pub within : place < h.call.at.end
   pub pending : IsHanding r.mode t h frame at ps
   pub numbered : h.handed.number ≤ h.part
   pub resumes : Resumes r t h.call.at.end (starts t h.call.at.end)
@@ -106,7 +108,7 @@ pub record Calls (r : Reading) (t : List ℕ) (run : TextRun) (h : PendingCall) 
   pub place : ℕ
   pub at_start : Bool
   pub running : IsRunning r t run place at_start
-  pub before : place ≤ h.call.at.end
+  pub before : place < h.call.at.end
   pub frame : Frame
   pub values : AreValues h.handed.values frame
   pub resumes : Resumes r t h.call.at.end (starts t h.call.at.end) (after_page h.at_start (r.template h.title frame)) (stack run.levels) total
@@ -117,7 +119,7 @@ pub record GivesAgain (r : Reading) (t : List ℕ) (run : TextRun) (b : Braces) 
   pub place : ℕ
   pub at_start : Bool
   pub running : IsRunning r t run place at_start
-  pub before : place ≤ b.at.end
+  pub before : place < b.at.end
   pub done : List Entry
   pub last : IsLast total spent done
   pub resumes : Resumes r t b.at.end (starts t b.at.end) (after_given s (with_work done (just (items out)))) (stack run.levels) total

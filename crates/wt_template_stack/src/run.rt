@@ -13,7 +13,7 @@ ghost use Rattle.wt_template_stack.specs.Accounts.{Account, spent_of, undone};
 ghost use Rattle.wt_template_stack.specs.Levels.{IsNamedBy, Resumes};
 ghost use Rattle.wt_template_stack.specs.Stacks.{innermost_end, stack, whole_level};
 ghost use Rattle.wt_template_stack.specs.Rests.{after_page, ended_with, next_number};
-ghost use Rattle.wt_template_stack.specs.Measures.{BeginsLater, GetsOn, steps_behind, steps_left};
+ghost use Rattle.wt_template_stack.specs.Measures.{BeginsLater, GetsOn, bytes_left, steps_behind, steps_left};
 ghost use Rattle.wt_template_stack.specs.Runs.{AnswersGoing, AnswersTurn, BeginsCall, BeginsLevel, GivesAgain, HandsParts, HasEnded, Holds, IsRunning, Returns, TakesChunk, TakesPart};
 ghost use Rattle.wt_template_stack.specs.declared.level.Task.TheVariants as tasks;
 
@@ -118,7 +118,7 @@ impl<'a> TextRun<'a> {
         ensures gets_on { IfOk result (GetsOn (steps_left self.old) (steps_left self.new)) }
     {
         let end = self.levels.end();
-        if self.reader.cursor.at < end {
+        if self.reader.is_before(end) {
             self.read(end, spent)?;
             return Ok(StepOutcome::Went);
         }
@@ -131,7 +131,8 @@ impl<'a> TextRun<'a> {
 
     /// What is next in the innermost level, which ends at a place.
     fn read(&mut self, end: u32, spent: &mut u64) -> Result<(), ExpandRefusal>
-        requires { self.old.reader.cursor.at < end }
+        requires before { self.old.reader.cursor.at < end }
+        requires some { 0 < bytes_left self.old.reader }
         ensures answer { (r : Reading) (t : List ℕ) (total : Account) → Holds r t self.old (stack self.old.levels) total
             → innermost_end (stack self.old.levels) ≡ Some end → AnswersGoing r t spent.old total self.new spent.new result }
         ensures fault { IfErr result IsNoFault }
@@ -148,28 +149,30 @@ impl<'a> TextRun<'a> {
 
     /// Bytes of a lexeme, up to a place.
     fn read_chunk(&mut self, kind: LexKind, to: u32) -> Result<(), NoMemory>
+        requires { 0 < bytes_left self.old.reader }
         ensures answer { OnOk result ((r : Reading) (t : List ℕ) (total : Account) → TakesChunk r t self.old (stack self.old.levels) kind to total
             → Holds r t self.new (stack self.new.levels) total) }
         ensures gets_on { OnOk result (steps_left self.new < steps_left self.old) }
     {
-        let text = self.reader.slice(self.reader.cursor.at, to)?;
+        let text = self.reader.slice(self.reader.cursor.at, to);
         self.levels.give_some(lexeme_piece(self.mode, kind, text))?;
-        self.resume(to)?;
+        self.resume(to);
         Ok(())
     }
 
     /// The innermost level is read on from a place.
-    fn resume(&mut self, to: u32) -> Result<(), NoMemory>
-        ensures answer { OnOk result ((r : Reading) (t : List ℕ) (total : Account) (p : ℕ) (s : Bool) → IsRunning r t self.old p s → p ≤ to
-            → Resumes r t to (starts t to) (just []) (stack self.old.levels) total → Holds r t self.new (stack self.new.levels) total) }
-        ensures gets_on { OnOk result (steps_left self.new < steps_left self.old) }
+    fn resume(&mut self, to: u32)
+        ensures answer { (r : Reading) (t : List ℕ) (total : Account) (p : ℕ) (s : Bool) → IsRunning r t self.old p s → p < to
+            → Resumes r t to (starts t to) (just []) (stack self.old.levels) total → Holds r t self.new (stack self.new.levels) total }
+        ensures gets_on { steps_left self.new ≤ steps_left self.old }
+        ensures later { 0 < bytes_left self.old.reader → steps_left self.new < steps_left self.old }
     {
-        self.reader = self.reader.seek(to)?;
-        Ok(())
+        self.reader = self.reader.seek(to);
     }
 
     /// A call that is next in a level.
     fn begin(&mut self, call: Braces<'a>, spent: &mut u64) -> Result<(), ExpandRefusal>
+        requires { 0 < bytes_left self.old.reader }
         ensures answer { (r : Reading) (t : List ℕ) (total : Account) → BeginsCall r t self.old (stack self.old.levels) call.entry total
             → AnswersGoing r t spent.old total self.new spent.new result }
         ensures fault { IfErr result IsNoFault }
@@ -178,7 +181,7 @@ impl<'a> TextRun<'a> {
         if call.argument {
             return self.begin_argument(call, spent);
         }
-        let source = self.reader.slice(call.at.start, call.at.end)?;
+        let source = self.reader.slice(call.at.start, call.at.end);
         if is_function(source.as_str().as_bytes()) {
             return self.begin_function(call, source, spent);
         }
@@ -193,6 +196,7 @@ impl<'a> TextRun<'a> {
         source: Text<'a>,
         spent: &mut u64,
     ) -> Result<(), ExpandRefusal>
+        requires { 0 < bytes_left self.old.reader }
         ensures answer { (r : Reading) (t : List ℕ) (total : Account) → BeginsCall r t self.old (stack self.old.levels) call.entry total
             → call.entry.argument ≡ false → bytes_of source.entry ≡ slice_range t call.entry.at.start call.entry.at.end
             → is_function (bytes_of source.entry) ≡ true → AnswersGoing r t spent.old total self.new spent.new result }
@@ -212,6 +216,7 @@ impl<'a> TextRun<'a> {
 
     /// A function stands for itself.
     fn push_function(&mut self, call: Braces<'a>, source: Text<'a>) -> Result<(), NoMemory>
+        requires { 0 < bytes_left self.old.reader }
         ensures answer { OnOk result ((r : Reading) (t : List ℕ) (total : Account) → BeginsCall r t self.old (stack self.old.levels) call.entry total
             → call.entry.argument ≡ false → bytes_of source.entry ≡ slice_range t call.entry.at.start call.entry.at.end
             → is_function (bytes_of source.entry) ≡ true → function_of (drop 2 (bytes_of source.entry)) ≡ None
@@ -219,12 +224,13 @@ impl<'a> TextRun<'a> {
         ensures gets_on { OnOk result (steps_left self.new < steps_left self.old) }
     {
         self.levels.give_one(piece_of(source, ItemForm::Function))?;
-        self.resume(call.at.end)?;
+        self.resume(call.at.end);
         Ok(())
     }
 
     /// An argument begins, and its name is read.
     fn begin_argument(&mut self, call: Braces<'a>, spent: &mut u64) -> Result<(), ExpandRefusal>
+        requires { 0 < bytes_left self.old.reader }
         ensures answer { (r : Reading) (t : List ℕ) (total : Account) → BeginsCall r t self.old (stack self.old.levels) call.entry total
             → call.entry.argument ≡ true → AnswersGoing r t spent.old total self.new spent.new result }
         ensures fault { IfErr result IsNoFault }
@@ -238,6 +244,7 @@ impl<'a> TextRun<'a> {
 
     /// The target of a call of two braces is read.
     fn begin_target(&mut self, call: Braces<'a>) -> Result<(), NoMemory>
+        requires { 0 < bytes_left self.old.reader }
         ensures answer { OnOk result ((r : Reading) (t : List ℕ) (total : Account) → BeginsCall r t self.old (stack self.old.levels) call.entry total
             → call.entry.argument ≡ false → is_function (slice_range t call.entry.at.start call.entry.at.end) ≡ false
             → Holds r t self.new (stack self.new.levels) total) }
@@ -251,11 +258,12 @@ impl<'a> TextRun<'a> {
 
     /// A part is read that begins after braces.
     fn begin_within(&mut self, part: PartAt, task: Task<'a>) -> Result<(), NoMemory>
+        requires { 0 < bytes_left self.old.reader }
         ensures answer { OnOk result ((r : Reading) (t : List ℕ) (total : Account) → BeginsLevel r t self.old part.at.start false part.at.end task.entry total
             → Holds r t self.new (stack self.new.levels) total) }
         ensures gets_on { OnOk result (BeginsLater self.old self.new task.entry) }
     {
-        self.reader = self.reader.within(part.at.start)?;
+        self.reader = self.reader.within(part.at.start);
         self.levels.push(Level {
             end: part.at.end,
             out: List::new(self.alloc),
@@ -264,13 +272,16 @@ impl<'a> TextRun<'a> {
         Ok(())
     }
 
-    /// What is between two places is read.
+    /// What is between two places is read. Where the text is at its end there is nothing.
     fn begin_level(&mut self, at: u32, end: u32, task: Task<'a>) -> Result<(), NoMemory>
         ensures answer { OnOk result ((r : Reading) (t : List ℕ) (total : Account) → BeginsLevel r t self.old at (starts t at) end task.entry total
             → Holds r t self.new (stack self.new.levels) total) }
         ensures gets_on { OnOk result (BeginsLater self.old self.new task.entry) }
     {
-        self.reader = self.reader.seek(at)?;
+        if self.reader.is_done() {
+            return Ok(());
+        }
+        self.reader = self.reader.seek(at);
         self.levels.push(Level {
             end,
             out: List::new(self.alloc),
@@ -335,10 +346,10 @@ impl<'a> TextRun<'a> {
     fn give_free(&mut self, to: u32, out: &[Piece<'a>]) -> Result<(), NoMemory>
         ensures answer { OnOk result ((r : Reading) (t : List ℕ) (total : Account) → Returns r t self.old to (just (items out.now)) total
             → Holds r t self.new (stack self.new.levels) total) }
-        ensures gets_on { OnOk result (steps_left self.new < steps_left self.old) }
+        ensures gets_on { OnOk result (steps_left self.new ≤ steps_left self.old) }
     {
         self.levels.give(out)?;
-        self.resume(to)?;
+        self.resume(to);
         Ok(())
     }
 
@@ -347,7 +358,7 @@ impl<'a> TextRun<'a> {
         ensures answer { (r : Reading) (t : List ℕ) (total : Account) → Returns r t self.old to (ended_with (just (items out.now))) total
             → AnswersGoing r t spent.old total self.new spent.new result }
         ensures fault { IfErr result IsNoFault }
-        ensures gets_on { OnOk result (steps_left self.new < steps_left self.old) }
+        ensures gets_on { OnOk result (steps_left self.new ≤ steps_left self.old) }
     {
         charge(spent, byte_count(out))?;
         self.give_free(to, out)?;
@@ -445,7 +456,7 @@ impl<'a> TextRun<'a> {
         ensures answer { (r : Reading) (t : List ℕ) (total : Account) → GivesAgain r t self.old call.entry at_start before out.entry total
             → spent.old ≡ spent_of total → AnswersGoing r t spent.old total self.new spent.new result }
         ensures fault { IfErr result IsNoFault }
-        ensures gets_on { OnOk result (steps_left self.new < steps_left self.old) }
+        ensures gets_on { OnOk result (steps_left self.new ≤ steps_left self.old) }
     {
         charge(spent, spent.saturating_sub(before))?;
         self.end_given(call, at_start, out, spent)
@@ -462,7 +473,7 @@ impl<'a> TextRun<'a> {
         ensures answer { (r : Reading) (t : List ℕ) (total : Account) → HasEnded r t self.old (tasks.Given call.entry at_start) out.entry total
             → AnswersGoing r t spent.old total self.new spent.new result }
         ensures fault { IfErr result IsNoFault }
-        ensures gets_on { OnOk result (steps_left self.new < steps_left self.old) }
+        ensures gets_on { OnOk result (steps_left self.new ≤ steps_left self.old) }
     {
         let out = trimmed_items(self.alloc, out.as_slice())?;
         let out = with_break(self.alloc, at_start, out)?;
@@ -500,7 +511,7 @@ impl<'a> TextRun<'a> {
         ensures gets_on { OnOk result (steps_left self.new ≡ 1 + steps_left self.old) }
     {
         let target = call.first_part();
-        let front = self.reader.slice(call.at.start, target.at.start)?;
+        let front = self.reader.slice(call.at.start, target.at.start);
         let braces = target.at.start.saturating_sub(call.at.start);
         let mut all = List::new(self.alloc);
         push_piece(&mut all, piece_of(front, ItemForm::Chars))?;
@@ -518,9 +529,9 @@ impl<'a> TextRun<'a> {
     fn end_text(&mut self, call: Braces<'a>, out: List<Piece<'a>>) -> Result<(), NoMemory>
         ensures answer { OnOk result ((r : Reading) (t : List ℕ) (total : Account) → HasEnded r t self.old (tasks.Text call.entry) out.entry total
             → Holds r t self.new (stack self.new.levels) total) }
-        ensures gets_on { OnOk result (steps_left self.new < steps_left self.old) }
+        ensures gets_on { OnOk result (steps_left self.new ≤ steps_left self.old) }
     {
-        let back = self.reader.slice(self.reader.cursor.at, call.at.end)?;
+        let back = self.reader.slice(self.reader.cursor.at, call.at.end);
         let mut out = out;
         push_piece(&mut out, piece_of(back, ItemForm::Chars))?;
         self.give_free(call.at.end, out.as_slice())?;
@@ -605,7 +616,7 @@ impl<'a> TextRun<'a> {
             → Returns r t self.old call.entry.at.end (after_page at_start (just (items given.entry))) total
             → AnswersGoing r t spent.old total self.new spent.new result }
         ensures fault { IfErr result IsNoFault }
-        ensures gets_on { OnOk result (steps_left self.new < steps_left self.old) }
+        ensures gets_on { OnOk result (steps_left self.new ≤ steps_left self.old) }
     {
         let out = with_break(self.alloc, at_start, given)?;
         self.give(call.at.end, out.as_slice(), spent)

@@ -7,7 +7,8 @@ use Rattle.wt_text_edit_laws.specs.NoCalls.{CallsNothing}
 use Rattle.wt_text_edit_laws.specs.TextBetween.{AreEnded, HasEndsBefore, StandsBehind}
 use Rattle.wt_text_edit_laws.specs.ParagraphBetween.{blocks_in}
 use Rattle.wt_text_edit_laws.specs.Parts.{HasNoGroups}
-use Rattle.wt_text_edit_laws.specs.TextBlocks.{TextBlock, source_of, block_tree, IsBlock, TextEnds, LeadsTo, EndsBlock, BeginsBetween}
+use Rattle.wt_text_edit_laws.specs.TextBlocks.{TextBlock, source_of, block_tree, IsBlock, TextEnds, LeadsTo, EndsBlock, BeginsLine, BeginsBetween}
+use Rattle.wt_text_edit_laws.specs.TypedHeadings.{EndsLine}
 
 -- ---- the page's source
 
@@ -67,6 +68,24 @@ pub record AsAWhole (ss : List BlockSpot) (behind : List ℕ) : Type 0 where
 abbrev pub AreBlockSpots : List BlockSpot → List ℕ → Type 0
 AreBlockSpots [] behind = ⊥
 AreBlockSpots (s ∷ ss) behind = IsBlockSpot s × AreFurtherBlocks s.block ss behind × AsAWhole (s ∷ ss) behind
+
+-- ---- what their reading hangs on
+
+-- whatever stands before it
+pub record IsRead (s : BlockSpot) : Type 0 where
+  pub ended : AreEnded s.before
+  pub before_utf8 : IsUtf8 s.before
+  pub block : IsBlock s.block s.text
+
+-- behind such a block, which the page's end or a line break ends
+abbrev pub AreReadAfter : List BlockSpot → List ℕ → Type 0
+AreReadAfter [] behind = StandsBehind behind × IsUtf8 behind × EndsLine (page_items behind)
+AreReadAfter (s ∷ ss) behind = IsRead s × BeginsLine (page_items s.before) × AreReadAfter ss behind
+
+-- there is one at least
+abbrev pub AreRead : List BlockSpot → List ℕ → Type 0
+AreRead [] behind = ⊥
+AreRead (s ∷ ss) behind = IsRead s × AreReadAfter ss behind × AsAWhole (s ∷ ss) behind
 
 -- ---- pages that are the same but for the texts of these
 

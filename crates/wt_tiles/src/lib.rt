@@ -25,4 +25,4 @@ pub use read::{MOST_PAIRS, shapes};
 pub use shape::{Shape, TileKind};
 pub use tag::{Name, Tag, TagShape, tag_at};
 pub use target::{LinkKind, Target, target_of};
-pub use tile::{Rest, Tile, glyphs_of, take_items, tiles, tiles_in};
+pub use tile::{Rest, Tile, glyphs_of, take_items, take_piece, tiles, tiles_in};

@@ -98,7 +98,7 @@ impl<'p, 'a> Rest<'p, 'a> {
     }
 
     /// The next piece, and those after it.
-    fn split_first(self) -> Option<(Piece<'a>, &'p [Piece<'a>])>
+    pub fn split_first(self) -> Option<(Piece<'a>, &'p [Piece<'a>])>
         requires { All IsSoundPiece (rest_pieces self) }
         ensures value { MatchOption result (rest_pieces self.entry ≡ []) (λ r. rest_pieces self.entry ≡ r.0 ∷ r.1.now) }
         ensures sound { IfSome result (λ r. IsSoundPiece r.0 × All IsSoundPiece r.1.now) }
@@ -144,7 +144,7 @@ fn cut_piece<'a>(piece: Piece<'a>, n: usize) -> (Piece<'a>, Piece<'a>)
 
 /// Takes the first n items of a piece and those after it, as far as the piece goes: how many are
 /// still to be taken, and what is left.
-fn take_piece<'p, 'a>(
+pub fn take_piece<'p, 'a>(
     taken: &mut List<Piece<'a>>,
     piece: Piece<'a>,
     pieces: &'p [Piece<'a>],

@@ -39,7 +39,7 @@ pub record IsLexemeThere (w : List Mark) (p from len : ℕ) (kind : LexKind) : T
   pub is : drop p w ≡ drop (p - from) (word_marks kind len) ++ after
 
 -- of a form, the byte behind so many
-from_drop : (kind : LexKind) (n i j k : ℕ) → j < k → (rest : List Mark) × (drop j (marks_from kind n i k) ≡ of kind n (i + j) ∷ rest)
+pub from_drop : (kind : LexKind) (n i j k : ℕ) → j < k → (rest : List Mark) × (drop j (marks_from kind n i k) ≡ of kind n (i + j) ∷ rest)
 from_drop kind n i zero zero l = absurd (omega (arith, l))
 from_drop kind n i zero (suc k) l = (marks_from kind n (suc i) k, ap (λ x. of kind n x ∷ marks_from kind n (suc i) k) (omega arith))
 from_drop kind n i (suc j) zero l = absurd (omega (arith, l))
@@ -50,7 +50,7 @@ from_drop kind n i (suc j) (suc k) l =
 pub data IsForm (kind : LexKind) : Type 0 where
   form_of : ((n : ℕ) → word_marks kind n ≡ marks_from kind n 0 n) → IsForm kind
 
-run_or_form : (kind : LexKind) → ((m : Mark) × IsRun kind m) ⊎ IsForm kind
+pub run_or_form : (kind : LexKind) → ((m : Mark) × IsRun kind m) ⊎ IsForm kind
 run_or_form lex.Chars = inr (form_of (λ n. refl))
 run_or_form lex.CommentLine = inr (form_of (λ n. refl))
 run_or_form lex.Comment = inr (form_of (λ n. refl))
@@ -65,11 +65,11 @@ run_or_form lex.LinkClose = inr (form_of (λ n. refl))
 run_or_form lex.Pipe = inr (form_of (λ n. refl))
 run_or_form lex.Equals = inr (form_of (λ n. refl))
 
-run_marks : (kind : LexKind) (m : Mark) (n : ℕ) → IsRun kind m → word_marks kind n ≡ replicate n m
+pub run_marks : (kind : LexKind) (m : Mark) (n : ℕ) → IsRun kind m → word_marks kind n ≡ replicate n m
 run_marks kind m n opening = refl
 run_marks kind m n closing = refl
 
-drop_run : (m : Mark) (n j : ℕ) → j ≤ n → drop j (replicate n m) ≡ replicate (n - j) m
+pub drop_run : (m : Mark) (n j : ℕ) → j ≤ n → drop j (replicate n m) ≡ replicate (n - j) m
 drop_run m n j l =
     let z : j + (n - j) ≡ n = omega (arith, l) in
     ap (λ k. drop j (replicate k m)) (sym z) ∙ ap (drop j) (sym (replicate-append-replicate j (n - j) m))
@@ -82,7 +82,7 @@ take_run m n k rest l =
     ∙ ap (take k) (append_assoc (replicate k m) (replicate (n - k) m) rest) ∙ take_at (replicate k m) (replicate (n - k) m ++ rest) k (length-replicate k m)
 
 -- the first byte of members
-first_of : (a : ℕ) (l : List Mark) (y : Mark) (ms ys : List Mark) → 1 ≤ a → take a l ≡ ms → l ≡ y ∷ ys → (rest : List Mark) × (ms ≡ y ∷ rest)
+pub first_of : (a : ℕ) (l : List Mark) (y : Mark) (ms ys : List Mark) → 1 ≤ a → take a l ≡ ms → l ≡ y ∷ ys → (rest : List Mark) × (ms ≡ y ∷ rest)
 first_of zero l y ms ys le e f = absurd (omega (arith, le))
 first_of (suc a) [] y ms ys le e f = absurd (let z : [] ≡ y ∷ ys = f in cc)
 first_of (suc a) (x ∷ l) y ms ys le e f = (take a l, sym e ∙ (let z : x ≡ y = cc in ap (λ m. m ∷ take a l) z))
@@ -93,7 +93,7 @@ pub record IsMember (kind c : LexKind) (len k j : ℕ) : Type 0 where
   pub lengths : k ≡ len
   pub begins : j ≡ 0
 
-member_by : (c kind : LexKind) (len j k : ℕ) (after rest : List Mark) → 1 ≤ k → ((m : Mark) × IsRun c m) ⊎ IsForm c
+pub member_by : (c kind : LexKind) (len j k : ℕ) (after rest : List Mark) → 1 ≤ k → ((m : Mark) × IsRun c m) ⊎ IsForm c
     → word_marks c k ++ after ≡ of kind len j ∷ rest → IsMember kind c len k j
 member_by c kind len j zero after rest l run e = absurd (omega (arith, l))
 member_by c kind len j (suc k) after rest l (inl (m, opening)) e = absurd cc
@@ -106,7 +106,7 @@ member_by c kind len j (suc k) after rest l (inr (form_of is)) e =
     let d : 0 ≡ j = cc in
     record { kinds = a; lengths = b; begins = sym d }
 
-not_call : (k : ℕ) (ms : Members) (ys : List Member) (kind : LexKind) (len j : ℕ) (rest : List Mark) → 2 ≤ k
+pub not_call : (k : ℕ) (ms : Members) (ys : List Member) (kind : LexKind) (len j : ℕ) (rest : List Mark) → 2 ≤ k
     → marks_of_all (members (call k ms ∷ ys)) ≡ of kind len j ∷ rest → ⊥
 not_call zero ms ys kind len j rest l e = omega (arith, l)
 not_call (suc k) ms ys kind len j rest l e = cc

@@ -20,7 +20,7 @@ use Rattle.wt_transclusion.proofs.StretchCuts.{stretch_back}
 
 -- ---- one lexeme
 
-first_gives : (t : List ℕ) (p n : ℕ) (kind : LexKind) (ys : List Member) (r : Reading) (s : Bool) → 1 ≤ n
+pub first_gives : (t : List ℕ) (p n : ℕ) (kind : LexKind) (ys : List Member) (r : Reading) (s : Bool) → 1 ≤ n
     → given_from r s t p (lexeme (kind, n) ∷ ys)
     ≡ then_output (just (lexeme_items r.mode kind (take n (drop p t)))) (given_from r (starts t (p + n)) t (p + n) ys)
 first_gives t p n kind ys r s l =

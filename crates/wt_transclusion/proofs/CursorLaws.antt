@@ -213,7 +213,7 @@ limit_end cs n e l = limit_none (drop n (map braces_of cs)) e (sym (drop_map bra
 -- ---- what stands there
 
 -- a stretch lies within its text
-stretch_within : (w : List Mark) (cs : List CallAt) (p e : ℕ) (xs : List Member) → IsStretch w cs p e xs → p < e → e ≤ length w
+pub stretch_within : (w : List Mark) (cs : List CallAt) (p e : ℕ) (xs : List Member) → IsStretch w cs p e xs → p < e → e ≤ length w
 stretch_within w cs p e xs s low =
     let a = ap length s.bytes ∙ marks_len (members xs) in
     let b = length-take (width_of_all (members xs)) (drop p w) in
@@ -226,7 +226,7 @@ words_len [] = refl
 words_len ((kind, n) ∷ ws) = let a = length-append (word_marks kind n) (words_marks ws) in let b = word_len kind n in let c = words_len ws in omega
     (arith, a, b, c)
 
-text_len : (m : Mode) (t : List ℕ) → length (words_marks (words m t)) ≡ length t
+pub text_len : (m : Mode) (t : List ℕ) → length (words_marks (words m t)) ≡ length t
 text_len m t = words_len (words m t) ∙ wide_lexemes m false (words m t) t (words_are m t)
 
 pub next_call : (m : Mode) (t : List ℕ) (r : ReadText) (b : Braces) (p e n : ℕ) (xs : List Member) → IsRead m t r → n ≡ prefix_len (λ x. nat_lt x.at.start p) r.calls.now
@@ -241,7 +241,7 @@ next_call m t r b p e n xs h k s low l there =
           ∙ ap (option_map braces_of) there,
     )
 
-lexeme_at : (m : Mode) (t : List ℕ) (r : ReadText) (p n : ℕ) → IsRead m t r → n ≡ prefix_len (λ x. nat_le x.at.end p) r.lexemes.now → p < length t
+pub lexeme_at : (m : Mode) (t : List ℕ) (r : ReadText) (p n : ℕ) → IsRead m t r → n ≡ prefix_len (λ x. nat_le x.at.end p) r.lexemes.now → p < length t
     → HasLexeme r.lexemes.now (words_marks (words m t)) 0 p n
 lexeme_at m t r p n h k low =
     subst (HasLexeme r.lexemes.now (words_marks (words m t)) 0 p) (sym k)

@@ -9,11 +9,15 @@ pub mod CutTexts
 pub mod FirstParts
 pub mod Firsts
 pub mod Full
+pub mod FunctionWords
 pub mod GrowthLaws
 pub mod Insides
+pub mod MarkBytes
 pub mod MarkLaws
 pub mod Openings
 pub mod PartLaws
+pub mod PlaceBorders
+pub mod SignBytes
 pub mod StopLaws
 pub mod StoreLaws
 pub mod StretchCuts

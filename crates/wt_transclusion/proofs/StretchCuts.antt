@@ -19,14 +19,14 @@ take_none : {A : Type 0} → (k : ℕ) → take {A = A} k [] ≡ []
 take_none zero = refl
 take_none (suc k) = refl
 
-take_behind : {A : Type 0} → (a b : ℕ) (xs : List A) → take b (drop a xs) ≡ drop a (take (a + b) xs)
+pub take_behind : {A : Type 0} → (a b : ℕ) (xs : List A) → take b (drop a xs) ≡ drop a (take (a + b) xs)
 take_behind zero b xs = let e : b ≡ 0 + b = omega arith in ap (λ k. take k xs) e
 take_behind (suc a) b [] = take_none b ∙ sym (ap (drop (suc a)) (take_none (suc a + b)))
 take_behind (suc a) b (x ∷ xs) = let e : suc (a + b) ≡ suc a + b = omega arith in take_behind a b xs ∙ ap (λ k. drop (suc a) (take k (x ∷ xs))) e
 
 -- ---- as many bytes as marks
 
-from_len : (kind : LexKind) (n j k : ℕ) → length (marks_from kind n j k) ≡ k
+pub from_len : (kind : LexKind) (n j k : ℕ) → length (marks_from kind n j k) ≡ k
 from_len kind n j zero = refl
 from_len kind n j (suc k) = let e = from_len kind n (suc j) k in omega (arith, e)
 

@@ -3,6 +3,7 @@ use Rattle.std.proofs.Common.{◌≡◌, ℕ, ◌<◌, ◌≤◌, Bool, true, fa
 use Rattle.std.specs.Prelude.{nat_lt}
 use Rattle.std.specs.List.{All}
 use Rattle.std.specs.Option.{option_or}
+use Rattle.std.specs.Str.{IsUtf8}
 use Rattle.std.proofs.lemmas.Bool.Decides.{nat_tests}
 use Rattle.wt_span.specs.declared.form.Mode.{Mode}
 use Rattle.wt_span.specs.declared.form.Mode.TheVariants as mode
@@ -35,16 +36,17 @@ deep_is : (m : Mode) (text : List ℕ) → deep_place m text ≡ too_deep (calls
 unfolding deep_place
 deep_is m text = refl
 
-pub text_read : (m : Mode) (text : List ℕ) (xs : List Lexeme) (cs : List CallAt) (r : ReadText) → map word_of xs ≡ words m text → Follow 0 xs (length text)
+pub text_read : (m : Mode) (text : List ℕ) (xs : List Lexeme) (cs : List CallAt) (r : ReadText) → IsUtf8 text → map word_of xs ≡ words m text → Follow 0 xs (length text)
     → All (AtBorders text) xs
     → cs ≡ calls (first_place xs) (map word_of xs) → too_deep (calls (first_place xs) (map word_of xs)) ≡ None → r.text.now ≡ text → r.lexemes.now ≡ xs
     → map braces_of r.calls.now ≡ cs
     → AnswersText m text (Ok r)
-text_read m text xs cs r w f b c d t l k =
+text_read m text xs cs r u w f b c d t l k =
     let same = same_calls m text xs (length text) w f in
     let P : List Lexeme → Type 0 = λ ys. Follow 0 ys (length text) in (
       record {
         text_is = t;
+        characters = u;
         words_are = ap (map word_of) l ∙ w;
         follow = subst P (sym l) f;
         borders = subst (All (AtBorders text)) (sym l) b;

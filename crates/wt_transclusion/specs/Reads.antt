@@ -1,6 +1,7 @@
 -- Texts as they are read.
 use Rattle.std.specs.Prelude.{◌≡◌, ℕ, Some, None, List, Result, Ok, Err, length, map}
 use Rattle.std.specs.List.{All}
+use Rattle.std.specs.Str.{IsUtf8}
 use Rattle.wt_span.specs.declared.form.Mode.{Mode}
 use Rattle.wt_span.specs.Lexemes.{words}
 use Rattle.wt_span.specs.Braces.{CallAt, calls}
@@ -18,6 +19,7 @@ braces_of b = record { argument = b.argument; from = b.at.start; to = b.at.end; 
 -- a text, read in this mode, with its lexemes and calls
 pub record IsRead (mode : Mode) (text : List ℕ) (r : ReadText) : Type 0 where
   pub text_is : r.text.now ≡ text
+  pub characters : IsUtf8 text
   pub words_are : map word_of r.lexemes.now ≡ words mode text
   pub follow : Follow 0 r.lexemes.now (length text)
   pub borders : All (AtBorders text) r.lexemes.now

@@ -11,6 +11,7 @@ ghost use Rattle.wt_transclusion.specs.Steps.{IsCharacters, MayFollow, IsStretch
 ghost use Rattle.wt_transclusion.specs.Cursors.{IsAt, IsOn, starts};
 
 use crate::read::{Braces, ReadText};
+use crate::target::byte_at;
 use wt_lex::Lexeme;
 use wt_span::{LexKind, rest_of};
 
@@ -62,11 +63,9 @@ fn calls_before(calls: &[Braces<'_>], to: u32) -> usize
 
 /// Whether a line break comes before a place after the first byte.
 fn starts_line(text: &str, at: u32) -> bool
-    requires some { 0 < at }
-    requires within { at ≤ length text.now }
     ensures { result ≡ starts text.now at }
 {
-    text.as_bytes()[at as usize - 1] == b'\n'
+    byte_at(text.as_bytes(), (at as usize).saturating_sub(1)) == b'\n'
 }
 
 /// The place where the call of a number begins, or `end` where none begins in front of that.
@@ -135,12 +134,11 @@ impl Cursor {
         }
     }
 
-    /// A later place, after the first byte.
+    /// A later place.
     pub fn seek(self, text: ReadText<'_>, to: u32) -> Cursor
-        requires some { 0 < to }
-        requires within { to ≤ length text.text.now }
-        requires on { IsOn text self }
+        requires { IsOn text self }
         ensures at { (p : ℕ) → IsAt text.entry p self → p ≤ to → IsAt text.entry to result }
+        ensures place { result.at ≡ to }
         ensures at_start { result.at_start ≡ starts text.entry.text.now to }
         ensures on { IsOn text.entry result }
     {

@@ -2,7 +2,7 @@
 ghost use Rattle.std.specs.Prelude.{◌≡◌, ◌<◌, ◌++◌, ◌∷◌, [], IfOk, drop, length};
 ghost use Rattle.wt_span.specs.Items.{is_char_in, items, items_of};
 ghost use Rattle.wt_expand.specs.Texts.{is_space, without_front, trimmed_items};
-ghost use Rattle.wt_transclusion.specs.Ends.{without_back, is_chars, IsLeft};
+ghost use Rattle.wt_transclusion.specs.Ends.{without_back, is_chars, BeginsAscii, IsLeft};
 
 use crate::blanks::{back_end, front_len};
 use std::alloc::Global;
@@ -129,40 +129,40 @@ fn item_count(piece: Piece<'_>) -> usize
     }
 }
 
-/// A piece after its first items, of which it has more. Characters that would be cut are answered as
-/// want of memory.
-fn behind_bytes(piece: Piece<'_>, count: usize) -> Result<Piece<'_>, NoMemory>
+/// A piece after its first items, of which it has more. It stays whole where that would cut a character,
+/// and so never behind ASCII.
+fn behind_bytes(piece: Piece<'_>, count: usize) -> Piece<'_>
     requires { count < length (items_of piece) }
-    ensures { IfOk result (λ rest. items_of rest ≡ drop count (items_of piece.entry)) }
+    ensures { BeginsAscii count (items_of piece.entry) → items_of result ≡ drop count (items_of piece.entry) }
 {
     if count == 0 {
-        return Ok(piece);
+        return piece;
     }
     let text = piece.text.as_str();
     if !text.is_char_boundary(count) {
-        return Err(NoMemory);
+        return piece;
     }
     let (_, rest) = piece.text.split_at(piece.text.range().start + count as u32);
-    Ok(Piece {
+    Piece {
         text: rest,
         form: piece.form,
         origin: piece.origin,
-    })
+    }
 }
 
-/// Pieces after their first items.
+/// Pieces after their first items, which are ASCII characters.
 pub fn behind_items<'a>(
     alloc: Global,
     pieces: &[Piece<'a>],
     count: u32,
 ) -> Result<List<Piece<'a>>, NoMemory>
-    ensures { IfOk result (λ ps. items ps ≡ drop count (items pieces.now)) }
+    ensures { IfOk result (λ ps. BeginsAscii count (items pieces.now) → items ps ≡ drop count (items pieces.now)) }
 {
     let mut left = count as usize;
     for (i, piece) in pieces.iter().enumerate() {
         let len = item_count(*piece);
         if left < len {
-            let first = behind_bytes(*piece, left)?;
+            let first = behind_bytes(*piece, left);
             return with_first(alloc, first, rest_of(pieces, i + 1));
         }
         left -= len;

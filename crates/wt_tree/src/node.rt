@@ -1,5 +1,5 @@
 ghost use Rattle.std.specs.Prelude.{◌≡◌, option_copied};
-ghost use Rattle.wt_tree.specs.Recut.{leaf_label};
+ghost use Rattle.wt_tree.specs.Leaves.{leaf_label};
 ghost use Rattle.wt_tree.specs.Tree.{tree, none};
 ghost use Rattle.wt_tree.specs.View.{texts_of, view};
 ghost use Rattle.wt_tree.specs.declared.node.Node.{out-Node};

@@ -6,6 +6,7 @@ use crate::node::Node;
 use std::alloc::Global;
 use wt_span::{NoMemory, Str, Text};
 
+/// Appends texts.
 pub fn push_texts(out: &mut Str, texts: &[Text<'_>]) -> Result<(), NoMemory>
     ensures { OnOk result (out.new ≡ out.old ++ texts_of texts.now) }
 {

@@ -9,12 +9,12 @@ use Rattle.wt_tree.specs.Tree.{Label, Tree}
 use Rattle.wt_checks.specs.declared.refusal.TreeRefusal.{TreeRefusal}
 use Rattle.wt_checks.specs.Places.{is_content, page_of}
 use Rattle.wt_checks.specs.PutBack.{have_frame}
-use Rattle.wt_selser.specs.BodySlices.{slices}
-use Rattle.wt_selser.specs.Changes.{Pair, marked}
+use Rattle.wt_slices.specs.BodySlices.{slices}
+use Rattle.wt_slices.specs.Changes.{Pair, marked}
 use Rattle.wt_selser.specs.declared.refusal.EditRefusal.{EditRefusal}
 use Rattle.wt_selser.specs.declared.refusal.EditRefusal.TheVariants as refusal
 use Rattle.wt_selser.specs.Edits.{most_bytes, if_short, unless_refused, pairs_answer, edit_answer}
-use Rattle.wt_selser.specs.Splice.{spliced}
+use Rattle.wt_splice.specs.Splice.{spliced}
 use Rattle.wt_typed_blocks.specs.Sent.{Sents, old_children, AreSent, old_body, new_body}
 use Rattle.wt_typed_blocks.specs.Typed.{new_sources, TakeTexts, StandAt, AreUntangled}
 use Rattle.wt_typed_blocks.proofs.SentKept.{found, passes}

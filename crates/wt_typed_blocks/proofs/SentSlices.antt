@@ -20,12 +20,12 @@ use Rattle.wt_checks.proofs.Lookups.{each_split}
 use Rattle.wt_content.specs.declared.reason.ContentWhy.{ContentWhy}
 use Rattle.wt_content.specs.declared.reason.ContentWhy.TheVariants as why
 use Rattle.wt_content.specs.Content.{bad_content, has_break, first_why, break_fault}
-use Rattle.wt_selser.specs.BodySlices.{list_at, child_slices, all_child_slices}
-use Rattle.wt_selser.specs.Changes.{Pair, pair_with, is_edited, pair_at, marked, place_in, change_with, inside_of, insides, all_insides}
+use Rattle.wt_slices.specs.BodySlices.{list_at, child_slices, all_child_slices}
+use Rattle.wt_slices.specs.Changes.{Pair, pair_with, is_edited, pair_at, marked, place_in, change_with, inside_of, insides, all_insides}
 use Rattle.wt_selser.specs.declared.refusal.EditRefusal.{EditRefusal}
 use Rattle.wt_selser.specs.declared.refusal.EditRefusal.TheVariants as refusal
 use Rattle.wt_selser.specs.Edits.{first_with, first_of, bad_pair, tangled_pair, refused_pairs}
-use Rattle.wt_selser.specs.Splice.{Change}
+use Rattle.wt_splice.specs.Splice.{Change}
 use Rattle.wt_typed_blocks.specs.Sent.{StandsAsIs, AllStandAsIs, Block, paragraph, heading, text_in, Sent, stands, typed, holds, Sents, none_sent, more_sent, old_child, new_child, old_children, new_children, IsSent, AreSent, old_body, new_body}
 use Rattle.wt_typed_blocks.specs.Typed.{place_of, block_source, Takes, TakesText, TakeTexts, IsUntangled, AreUntangled}
 

@@ -8,8 +8,8 @@ use Rattle.wt_tree.specs.Source.{flat, flat_of_all}
 use Rattle.wt_tree.specs.Tree.{Label, Trees}
 use Rattle.wt_guards.specs.Content.{letters}
 use Rattle.wt_guards.specs.Guards.{spelled}
-use Rattle.wt_selser.specs.Changes.{change_with}
-use Rattle.wt_selser.specs.Splice.{Change, between, spliced_from, spliced}
+use Rattle.wt_slices.specs.Changes.{change_with}
+use Rattle.wt_splice.specs.Splice.{Change, between, spliced_from, spliced}
 use Rattle.wt_typed_blocks.specs.Sent.{Block, paragraph, heading, Sent, stands, typed, holds, Sents, none_sent, more_sent, old_child, old_children}
 use Rattle.wt_typed_blocks.specs.Typed.{place_of, block_source, old_source, new_source, new_sources, StandsAt, StandAt}
 use Rattle.wt_typed_blocks.proofs.SentSlices.{Same, written, change_of, changes_of, written_is}

@@ -9,7 +9,7 @@ use Rattle.wt_tree.specs.declared.kind.Mark.{Mark}
 use Rattle.wt_tree.specs.declared.kind.Mark.TheVariants as marks
 use Rattle.wt_tree.specs.Kinds.{showing, is_block}
 use Rattle.wt_tree.specs.Opened.{opened, without_sections}
-use Rattle.wt_tree.specs.Recut.{any_shows_block}
+use Rattle.wt_recut.specs.Recut.{any_shows_block}
 use Rattle.wt_tree.specs.Tiling.{is_group, HasNoGroup, NoneIsGroup, InPreorder}
 use Rattle.wt_tree.specs.Tree.{Label, Tree, tree, Trees, none, more, label}
 use Rattle.wt_checks.specs.Alike.{same_kind, same_attrs}

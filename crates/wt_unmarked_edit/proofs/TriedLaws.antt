@@ -9,7 +9,7 @@ use Rattle.wt_expand.specs.Work.{Pages}
 use Rattle.wt_expansion.specs.Known.{HoldsPages}
 use Rattle.wt_template_stack.specs.declared.expansion.Expansion.{Expansion}
 use Rattle.wt_page_round_trip.specs.PageTree.{page_tree}
-use Rattle.wt_proposal.specs.Rewritten.{IsRewritten}
+use Rattle.wt_places.specs.Rewritten.{IsRewritten}
 use Rattle.wt_selser.specs.declared.refusal.EditRefusal.{EditRefusal as SpliceRefusal}
 use Rattle.wt_selser.specs.declared.refusal.EditRefusal.TheVariants as of_splice
 use Rattle.wt_selser.specs.Edits.{edit_answer, AnswersEdit}

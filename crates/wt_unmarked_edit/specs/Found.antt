@@ -7,7 +7,7 @@ use Rattle.wt_checks.specs.Checked.{nodes_checked}
 use Rattle.wt_checks.specs.declared.refusal.TreeRefusal.{TreeRefusal}
 use Rattle.wt_difference.specs.Difference.{are_none, difference}
 use Rattle.wt_difference.specs.Remarked.{remarked}
-use Rattle.wt_proposal.specs.Rewritten.{IsRewritten}
+use Rattle.wt_places.specs.Rewritten.{IsRewritten}
 use Rattle.wt_selser.specs.Edits.{edit_answer}
 use Rattle.wt_selser.specs.declared.refusal.EditRefusal.{EditRefusal as SpliceRefusal}
 use Rattle.wt_selser.specs.declared.refusal.EditRefusal.TheVariants as of_splice

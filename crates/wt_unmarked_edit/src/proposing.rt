@@ -11,6 +11,8 @@ ghost use Rattle.wt_tree.specs.Tree.{label};
 ghost use Rattle.wt_tree.specs.View.{view};
 ghost use Rattle.wt_tree.specs.declared.kind.Kind.TheVariants as kind;
 ghost use Rattle.wt_selser.specs.Edits.{edit_answer, AnswersEdit};
+ghost use Rattle.wt_selser.specs.Borders.{page_text};
+ghost use Rattle.wt_slices.specs.Borders.{HasBorders};
 ghost use Rattle.wt_visible.specs.SameNodes.{same_node};
 ghost use Rattle.wt_unmarked_edit.specs.Counts.{IsCounted, IsCountedRead};
 ghost use Rattle.wt_unmarked_edit.specs.Found.{FindsNew, late_refusal, refusal_of_fault};
@@ -287,6 +289,8 @@ fn last_page<'a, F: Folder>(
     requires body { (label (view edit.now.tree.now)).kind ≡ kind.Body }
     requires numbered { ∥ InPreorder (view edit.now.tree.now) ∥₁ }
     requires index { indexed edit.now.index.now ≡ page_of (view edit.now.tree.now) }
+    requires places { HasBorders edit.now.page.now (view edit.now.tree.now) }
+    requires text { page_text edit.now.items.now ≡ edit.now.page.now }
     requires known { HoldsPages expansion }
     requires left { readings.old < MOST_READINGS }
     ensures found { (pages : Pages) → F.pages folder.old ≡ Some pages → KnowsOf pages expansion.entry
@@ -325,6 +329,8 @@ fn page_but_in<'a, F: Folder>(
     requires body { (label (view edit.now.tree.now)).kind ≡ kind.Body }
     requires numbered { ∥ InPreorder (view edit.now.tree.now) ∥₁ }
     requires index { indexed edit.now.index.now ≡ page_of (view edit.now.tree.now) }
+    requires places { HasBorders edit.now.page.now (view edit.now.tree.now) }
+    requires text { page_text edit.now.items.now ≡ edit.now.page.now }
     requires known { HoldsPages expansion }
     requires left { readings.old + 2 ≤ MOST_READINGS }
     ensures found { (pages : Pages) → F.pages folder.old ≡ Some pages → KnowsOf pages expansion.entry
@@ -357,6 +363,8 @@ fn other_page<'a, F: Folder>(
     requires body { (label (view edit.now.tree.now)).kind ≡ kind.Body }
     requires numbered { ∥ InPreorder (view edit.now.tree.now) ∥₁ }
     requires index { indexed edit.now.index.now ≡ page_of (view edit.now.tree.now) }
+    requires places { HasBorders edit.now.page.now (view edit.now.tree.now) }
+    requires text { page_text edit.now.items.now ≡ edit.now.page.now }
     requires known { HoldsPages expansion }
     requires left { readings.old + 2 ≤ MOST_READINGS }
     ensures found { (pages : Pages) → F.pages folder.old ≡ Some pages → KnowsOf pages expansion.entry
@@ -387,6 +395,8 @@ pub fn new_page<'a, F: Folder>(
     requires body { (label (view edit.now.tree.now)).kind ≡ kind.Body }
     requires numbered { ∥ InPreorder (view edit.now.tree.now) ∥₁ }
     requires index { indexed edit.now.index.now ≡ page_of (view edit.now.tree.now) }
+    requires places { HasBorders edit.now.page.now (view edit.now.tree.now) }
+    requires text { page_text edit.now.items.now ≡ edit.now.page.now }
     requires known { HoldsPages expansion }
     requires unread { readings.old ≡ 0 }
     ensures found { (pages : Pages) → F.pages folder.old ≡ Some pages → KnowsOf pages expansion.entry

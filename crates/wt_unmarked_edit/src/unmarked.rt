@@ -12,6 +12,8 @@ ghost use Rattle.wt_tree.specs.View.{view};
 ghost use Rattle.wt_tree.specs.declared.kind.Kind.TheVariants as kind;
 ghost use Rattle.wt_unmarked_edit.specs.Counts.{IsCounted};
 ghost use Rattle.wt_unmarked_edit.specs.Found.{AnswersUnmarked};
+ghost use Rattle.wt_selser.specs.Borders.{page_text};
+ghost use Rattle.wt_slices.specs.Borders.{HasBorders};
 ghost use Rattle.wt_unmarked_edit.specs.Tried.{IsBeside, KnowsOf};
 
 use crate::proposing::new_page;
@@ -79,6 +81,8 @@ pub fn selser<'a, F: Folder>(
     readings: &mut Readings,
 ) -> Result<Str, SelserRefusal>
     requires body { (label (view known.annotated.tree.body)).kind ≡ kind.Body }
+    requires places { HasBorders page.now (view known.annotated.tree.body) }
+    requires text { page_text known.annotated.items ≡ page.now }
     requires known { HoldsPages known.expansion }
     requires unread { readings.old ≡ 0 }
     ensures answered { (pages : Pages) → F.pages folder.old ≡ Some pages → KnowsOf pages known.entry.expansion

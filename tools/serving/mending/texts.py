@@ -3,9 +3,9 @@ from __future__ import annotations
 
 import re
 from itertools import islice
-from typing import Iterable, Iterator, List, Optional, Tuple
+from typing import Iterable, Iterator, List, Optional, Set, Tuple
 
-from .kinds import ITEMS, is_blank, is_block, is_hidden_name, is_island
+from .kinds import CELLS, ITEMS, is_blank, is_block, is_hidden_name, is_island, is_mark
 from .markup import Child, Element
 from .original import PUT_SIGNS, Kept, Original
 
@@ -57,7 +57,7 @@ def is_same(now: Element, was: Element) -> bool:
 def tidy(block: Element, original: Optional[Original]) -> Element:
     """Mends a block with text whose inside isn't that of the page: the line break at its end, which shows
     nothing; blanks at its ends, no-break spaces, carriage returns and line breaks that the page hadn't
-    there."""
+    there; and line breaks that it had before comments and include tags."""
     kept = original.nodes.get(block.number) if original is not None else None
     if kept is None and block.number != 0:
         return block
@@ -70,7 +70,41 @@ def tidy(block: Element, original: Optional[Original]) -> Element:
     Texts(was, block.text(), original).mend(block, lead)
     trim_edges(block, lead, kept, was)
     block.children = [piece for piece in lead if piece != ""] + (block.children[end:] if end >= 0 else [])
+    if kept is not None and (block.name in ITEMS or block.name in CELLS):
+        block.children = with_lines(block.children, kept.part.children)
     return block
+
+
+def with_lines(now: List[Child], was: List[Child]) -> List[Child]:
+    """What an item or a cell holds, each comment and include tag of it on a line of its own if it was on one:
+    with the text before it a browser takes away the line break, which nobody sees."""
+    numbers = on_lines(was)
+    out: List[Child] = []
+    for piece in now:
+        if not isinstance(piece, str) and piece.number in numbers and not (out and ends_line(out[-1])):
+            append(out, "\n")
+        append(out, piece)
+    return out
+
+
+def on_lines(pieces: List[Child]) -> Set[int]:
+    """The numbers of the comments and include tags that come directly after a line break."""
+    numbers: Set[int] = set()
+    is_on_line = False
+    for piece in pieces:
+        if isinstance(piece, str):
+            is_on_line = ends_line(piece)
+        elif not is_mark(piece):
+            is_on_line = False
+        elif is_on_line and piece.number != 0:
+            numbers.add(piece.number)
+    return numbers
+
+
+def ends_line(piece: Child) -> bool:
+    """Whether a comment or an include tag that comes after this piece is on a line of its own still, or after
+    another one."""
+    return piece.rstrip(" \t").endswith("\n") if isinstance(piece, str) else is_mark(piece)
 
 
 def drop_last_break(lead: List[Child], is_before_block: bool) -> None:

@@ -1,9 +1,9 @@
-use Rattle.std.proofs.Common.{ap, arith, length, length-drop, ◌++◌, ◌+◌, ◌<◌, ◌∙◌, ◌≡◌, ◌≤◌}
+use Rattle.std.proofs.Common.{ap, arith, get_or, length, length-drop, ◌++◌, ◌+◌, ◌<◌, ◌∙◌, ◌≡◌, ◌≤◌}
 use Rattle.std.proofs.lemmas.Bool.Decides.{nat_tests}
 use Rattle.std.proofs.lemmas.List.{length-take}
 use Rattle.std.proofs.lemmas.Result.{IfOk-weaker}
 use Rattle.wt_build.specs.Blocks.{reading_at}
-use Rattle.wt_rows.specs.Views.{stretches_view}
+use Rattle.wt_rows.specs.Views.{row_view, stretches_view}
 use Rattle.wt_build.proofs.TableSteps.{cells_read, no_cells}
 use Rattle.std.specs.List.{prefix_len}
 use Rattle.wt_rows.specs.Units.{kind_at}
@@ -11,6 +11,9 @@ use Rattle.wt_rows.specs.Groups.{goes_on}
 use Rattle.wt_rows.specs.GroupViews.{groups_view}
 use Rattle.wt_build.proofs.TableRows.{next_parts, row_added, row_first, row_others}
 use Rattle.wt_build.proofs.TableInside.{front_begins, inside_read, parts_are, rest_parts, rest_starts}
+use Rattle.wt_lines.specs.declared.kind.LineKind.TheVariants as line
+use Rattle.wt_rows.specs.declared.row.RowAt.{RowAt}
+use Rattle.wt_rows.proofs.FewItems.{few_between, few_at}
 use Rattle.wt_rows.proofs.Straying.{ready_front, ready_rest}
 use Rattle.wt_build.proofs.TableWhole.{table_whole}
 use Rattle.wt_build.proofs.+tabling.Goals as goal
@@ -19,11 +22,21 @@ use Rattle.std.proofs.lemmas.List.{drop_all}
 use Rattle.wt_build.proofs.BlockNodes.{some_left, within_left, ready_drop, ready_take, front_block, blocks_step, blocks_done}
 use Rattle.wt_build.specs.Blocks.{reading_at}
 
+abbrev none : RowAt
+none = record { kind = line.Blank; start = 0; from = 0; to = 0; end = 0 }
+
 pub table::cell_stretches-returns-then-is_empty : goal.table::cell_stretches-returns-then-is_empty
 table::cell_stretches-returns-then-is_empty t c =
     let rows = c.args.rows.now in
     let none : length rows ≡ 0 = grind (arith, nat_tests, c.is_empty.ensures, c.if-is_empty.true) in
     no_cells (reading_at c.args.depth) c.args.caption c.args.pieces.now rows c.new.result none c.new.ensures
+
+pub table::cell_stretches-row_cells-requires-clause-few : goal.table::cell_stretches-row_cells-requires-clause-few
+table::cell_stretches-row_cells-requires-clause-few t c =
+    let ps = c.args.pieces.now in
+    let rows = c.args.rows.now in
+    let some : 0 < length rows = grind (arith, nat_tests, c.is_empty.ensures, c.if-is_empty.false) in
+    few_between (row_view ps (get_or rows 0 none)) (few_at ps rows 0 none c.requires.ready some)
 
 pub table::cell_stretches-returns : goal.table::cell_stretches-returns
 table::cell_stretches-returns t c =

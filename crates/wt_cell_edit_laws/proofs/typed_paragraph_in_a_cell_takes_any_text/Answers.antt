@@ -1,4 +1,4 @@
-use Rattle.wt_cell_edit_laws.proofs.Leading.{own_edit}
+use Rattle.wt_cell_edit_laws.proofs.OwnEdits.{own_edit}
 use Rattle.wt_cell_edit_laws.proofs.Takes.{again}
 use Rattle.wt_cell_edit_laws.proofs.typed_paragraph_in_a_cell_takes_any_text.Goals as goal
 

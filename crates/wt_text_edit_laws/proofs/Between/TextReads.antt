@@ -43,7 +43,7 @@ pub items_between : (bs q cs : List ℕ) → StandsBefore bs → IsTypedPage q �
 items_between bs q cs b h c = page_read (bs ++ (q ++ cs)) (page_items bs ++ (page_items q ++ page_items cs)) (between_reads bs q cs b h c)
 
 -- typed text adds no braces
-calm_between : (bs q cs : List ℕ) → StandsBefore bs → IsTypedPage q → StandsBehind cs → CallsNothing (page_items bs ++ page_items cs)
+pub calm_between : (bs q cs : List ℕ) → StandsBefore bs → IsTypedPage q → StandsBehind cs → CallsNothing (page_items bs ++ page_items cs)
     → CallsNothing (page_items (bs ++ (q ++ cs)))
 calm_between bs q cs b h c n =
     let front : List Item = page_items bs in

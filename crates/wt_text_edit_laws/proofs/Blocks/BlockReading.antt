@@ -26,11 +26,10 @@ use Rattle.wt_text_edit_laws.proofs.Between.LineForms.{ends_before_any}
 use Rattle.wt_text_edit_laws.proofs.Between.Fronts.{ReadsAfter, reads_after, reads_either, first_from, form_from, page_read, alone_reads, before_reads, behind_reads}
 use Rattle.wt_text_edit_laws.proofs.Between.Shown.{begins_shown, shown_before, shown_reads}
 use Rattle.wt_text_edit_laws.proofs.Between.NoCalls.{calm_expanded, calm_unrefused}
-use Rattle.wt_text_edit_laws.specs.ParagraphBetween.{EndsParagraph}
 use Rattle.wt_text_edit_laws.proofs.Paragraphs.Texts.{EndsHere, here_begins, nothing_is, line_reads, paragraph_front, paragraph_shown}
 use Rattle.wt_text_edit_laws.specs.TypedHeadings.{Sides, AreBlanks, AreSides, equals, opening, closing, closing_items, heading_line, EndsLine}
-use Rattle.wt_text_edit_laws.specs.TextBlocks.{TextBlock, a_paragraph, a_heading, source_of, block_items, IsFrame, IsTypedHeading, IsWrittenHeading, IsBlock, TextEnds, EndsBlock, BeginsApart, BeginsLine, BeginsBetween}
-use Rattle.wt_text_edit_laws.specs.BlockSpots.{BlockSpot, spots_source, IsBlockSpot, AreFurtherBlocks, EndBeforeBlocks, AreBlockSpots}
+use Rattle.wt_text_edit_laws.specs.TextBlocks.{TextBlock, a_paragraph, a_heading, source_of, block_items, IsFrame, IsTypedHeading, IsWrittenHeading, IsBlock, TextEnds, EndsBlock, BeginsLine, BeginsBetween}
+use Rattle.wt_text_edit_laws.specs.BlockSpots.{BlockSpot, spots_source, IsBlockSpot, AreFurtherBlocks, EndBeforeBlocks, AreBlockSpots, IsRead, AreReadAfter, AreRead}
 
 -- ---- a heading's delimiters
 
@@ -215,78 +214,97 @@ in_front : (bs rest : List ℕ) (xs : List Item) → AreEnded bs → HasEndsBefo
     → ReadsAfter false (bs ++ rest) (page_items bs ++ xs)
 in_front bs rest xs l h r s = before_reads bs rest xs l h (shown_reads rest xs r s) (reads_after (after_all (lexer Page) false bs) rest xs r)
 
-spot_reads : (s : BlockSpot) (rest : List ℕ) (xs : List Item) → IsBlockSpot s → HasEndsBefore (source_of s.block s.text ++ rest) s.before → TextEnds s.block s.text rest → EndsHere rest → Reads rest xs
+spot_reads : (s : BlockSpot) (rest : List ℕ) (xs : List Item) → IsRead s → HasEndsBefore (source_of s.block s.text ++ rest) s.before → TextEnds s.block s.text rest → EndsHere rest → Reads rest xs
     → ReadsAfter false (s.before ++ (source_of s.block s.text ++ rest)) (page_items s.before ++ (block_items s.block s.text ++ xs))
 spot_reads s rest xs h b l e r =
     in_front s.before (source_of s.block s.text ++ rest) (block_items s.block s.text ++ xs) h.ended b (block_front s.block s.text rest xs h.block l e r)
     (shown_before (block_items s.block s.text) xs (block_shown s.block s.text h.block))
 
 -- behind a paragraph or a heading the page ends, or a line break stands
-paragraph_ends : (xs : List Item) → EndsParagraph xs → EndsHere (sources xs)
-paragraph_ends [] e = tt
-paragraph_ends (y ∷ ys) e = subst (λ z. EndsHere (sources (z ∷ ys))) (sym e.0) refl
+block_line : (k : TextBlock) (xs : List Item) → EndsBlock k xs → EndsLine xs
+block_line a_paragraph [] e = tt
+block_line a_paragraph (y ∷ ys) e = e.0
+block_line (a_heading s) xs e = e
+
+next_line : (last next : TextBlock) (xs : List Item) → BeginsBetween last next xs → BeginsLine xs
+next_line a_paragraph next [] e = absurd e
+next_line a_paragraph next (y ∷ ys) e = e.0
+next_line (a_heading s) next xs e = e
+
+is_read : (s : BlockSpot) → IsBlockSpot s → IsRead s
+is_read s h = record { ended = h.ended; before_utf8 = h.before_utf8; block = h.block }
+
+pub further_read : (last : TextBlock) (ss : List BlockSpot) (behind : List ℕ) → AreFurtherBlocks last ss behind → AreReadAfter ss behind
+further_read last [] behind h = (h.stands, h.utf8, block_line last (page_items behind) h.ends)
+further_read last (s ∷ ss) behind h = (is_read s h.0, next_line last s.block (page_items s.before) h.1, further_read s.block ss behind h.2)
+
+pub spots_read : (ss : List BlockSpot) (behind : List ℕ) → AreBlockSpots ss behind → AreRead ss behind
+spots_read [] behind h = absurd h
+spots_read (s ∷ ss) behind h = (is_read s h.0, further_read s.block ss behind h.1, h.2)
 
 line_ends : (xs : List Item) → EndsLine xs → EndsHere (sources xs)
 line_ends [] e = tt
 line_ends (y ∷ ys) e = subst (λ z. EndsHere (sources (z ∷ ys))) (sym e) refl
 
-source_ends : (k : TextBlock) (xs : List Item) → EndsBlock k xs → EndsHere (sources xs)
-source_ends a_paragraph xs e = paragraph_ends xs e
-source_ends (a_heading s) xs e = line_ends xs e
-
 abbrev pub BeginsHere : List ℕ → Type 0
 BeginsHere [] = ⊥
 BeginsHere (b ∷ bs) = b ≡ 10
-
-apart_begins : (next : TextBlock) (xs : List Item) → BeginsApart next xs → BeginsHere (sources xs)
-apart_begins next [] e = absurd e
-apart_begins next (y ∷ ys) e = subst (λ z. BeginsHere (sources (z ∷ ys))) (sym e.0) refl
 
 line_begins : (xs : List Item) → BeginsLine xs → BeginsHere (sources xs)
 line_begins [] e = absurd e
 line_begins (y ∷ ys) e = subst (λ z. BeginsHere (sources (z ∷ ys))) (sym e) refl
 
-pub source_begins : (last next : TextBlock) (xs : List Item) → BeginsBetween last next xs → BeginsHere (sources xs)
-source_begins a_paragraph next xs e = apart_begins next xs e
-source_begins (a_heading s) next xs e = line_begins xs e
+pub begins_here : (bs : List ℕ) → BeginsLine (page_items bs) → BeginsHere bs
+begins_here bs e = subst BeginsHere (page_sources bs) (line_begins (page_items bs) e)
 
 ends_before : (bs rest : List ℕ) → BeginsHere bs → EndsHere (bs ++ rest)
 ends_before [] rest h = absurd h
 ends_before (b ∷ bs) rest h = h
 
-pub further_ends : (last : TextBlock) (ss : List BlockSpot) (behind : List ℕ) → AreFurtherBlocks last ss behind → EndsHere (spots_source ss behind)
-further_ends last [] behind h = subst EndsHere (page_sources behind) (source_ends last (page_items behind) h.ends)
-further_ends last (s ∷ ss) behind h =
-    ends_before s.before (source_of s.block s.text ++ spots_source ss behind)
-    (subst BeginsHere (page_sources s.before) (source_begins last s.block (page_items s.before) h.1))
+pub further_ends : (ss : List BlockSpot) (behind : List ℕ) → AreReadAfter ss behind → EndsHere (spots_source ss behind)
+further_ends [] behind h = subst EndsHere (page_sources behind) (line_ends (page_items behind) h.2)
+further_ends (s ∷ ss) behind h = ends_before s.before (source_of s.block s.text ++ spots_source ss behind) (begins_here s.before h.1)
 
-further_reads : (last : TextBlock) (ss : List BlockSpot) (behind : List ℕ) → AreFurtherBlocks last ss behind → EndBeforeBlocks ss behind
+further_reads : (ss : List BlockSpot) (behind : List ℕ) → AreReadAfter ss behind → EndBeforeBlocks ss behind
     → Reads (spots_source ss behind) (spots_items ss behind)
-further_reads last [] behind h b = behind_reads behind h.stands
-further_reads last (s ∷ ss) behind h b =
+further_reads [] behind h b = behind_reads behind h.0
+further_reads (s ∷ ss) behind h b =
     reads_either (spots_source (s ∷ ss) behind) (spots_items (s ∷ ss) behind)
-    (here_begins (spots_source (s ∷ ss) behind) (further_ends last (s ∷ ss) behind h))
-    (spot_reads s (spots_source ss behind) (spots_items ss behind) h.0 b.0 b.1 (further_ends s.block ss behind h.2) (further_reads s.block ss behind h.2 b.2))
+    (here_begins (spots_source (s ∷ ss) behind) (further_ends (s ∷ ss) behind h))
+    (spot_reads s (spots_source ss behind) (spots_items ss behind) h.0 b.0 b.1 (further_ends ss behind h.2) (further_reads ss behind h.2 b.2))
 
 -- whatever the braces among them are
-pub items_of_parts : (s : BlockSpot) (ss : List BlockSpot) (behind : List ℕ) → IsBlockSpot s → AreFurtherBlocks s.block ss behind
+pub items_of_parts : (s : BlockSpot) (ss : List BlockSpot) (behind : List ℕ) → IsRead s → AreReadAfter ss behind
     → EndBeforeBlocks (s ∷ ss) behind → page_items (spots_source (s ∷ ss) behind) ≡ spots_items (s ∷ ss) behind
 items_of_parts s ss behind h f b =
     page_read (spots_source (s ∷ ss) behind) (spots_items (s ∷ ss) behind)
-    (spot_reads s (spots_source ss behind) (spots_items ss behind) h b.0 b.1 (further_ends s.block ss behind f) (further_reads s.block ss behind f b.2))
+    (spot_reads s (spots_source ss behind) (spots_items ss behind) h b.0 b.1 (further_ends ss behind f) (further_reads ss behind f b.2))
+
+pub read_items_of : (ss : List BlockSpot) (behind : List ℕ) → AreRead ss behind → page_items (spots_source ss behind) ≡ spots_items ss behind
+read_items_of [] behind h = absurd h
+read_items_of (s ∷ ss) behind h = items_of_parts s ss behind h.0 h.1 h.2.end_before
+
+read_calm : (ss : List BlockSpot) (behind : List ℕ) → AreRead ss behind → CallsNothing (page_items (spots_source ss behind))
+read_calm [] behind h = absurd h
+read_calm (s ∷ ss) behind h = h.2.calls_nothing
+
+pub read_expanded : (pages : Pages) (ss : List BlockSpot) (behind : List ℕ) → AreRead ss behind
+    → expanded_page pages (spots_source ss behind) ≡ of_items (page_items (spots_source ss behind))
+read_expanded pages ss behind h = calm_expanded pages (spots_source ss behind) (read_calm ss behind h)
+
+pub read_unrefused : (pages : Pages) (ss : List BlockSpot) (behind : List ℕ) → AreRead ss behind
+    → first_refusal pages (spots_source ss behind) (page_work pages (spots_source ss behind)) ≡ None
+read_unrefused pages ss behind h = calm_unrefused pages (spots_source ss behind) (read_calm ss behind h)
+
+-- ---- pages whose parts stand by themselves
 
 pub items_of_spots : (ss : List BlockSpot) (behind : List ℕ) → AreBlockSpots ss behind → page_items (spots_source ss behind) ≡ spots_items ss behind
-items_of_spots [] behind h = absurd h
-items_of_spots (s ∷ ss) behind h = items_of_parts s ss behind h.0 h.1 h.2.end_before
-
-spots_calm : (ss : List BlockSpot) (behind : List ℕ) → AreBlockSpots ss behind → CallsNothing (page_items (spots_source ss behind))
-spots_calm [] behind h = absurd h
-spots_calm (s ∷ ss) behind h = h.2.calls_nothing
+items_of_spots ss behind h = read_items_of ss behind (spots_read ss behind h)
 
 pub spots_expanded : (pages : Pages) (ss : List BlockSpot) (behind : List ℕ) → AreBlockSpots ss behind
     → expanded_page pages (spots_source ss behind) ≡ of_items (page_items (spots_source ss behind))
-spots_expanded pages ss behind h = calm_expanded pages (spots_source ss behind) (spots_calm ss behind h)
+spots_expanded pages ss behind h = read_expanded pages ss behind (spots_read ss behind h)
 
 pub spots_unrefused : (pages : Pages) (ss : List BlockSpot) (behind : List ℕ) → AreBlockSpots ss behind
     → first_refusal pages (spots_source ss behind) (page_work pages (spots_source ss behind)) ≡ None
-spots_unrefused pages ss behind h = calm_unrefused pages (spots_source ss behind) (spots_calm ss behind h)
+spots_unrefused pages ss behind h = read_unrefused pages ss behind (spots_read ss behind h)

@@ -173,7 +173,7 @@ pub new_round : (es : List SpotEdit) → SameRound (old_spots es) (new_spots es)
 new_round [] = tt
 new_round (e ∷ es) = (refl, refl, new_round es)
 
-typed_paragraph : (source text : List ℕ) → IsUtf8 text → IsTypedPage (typed_as paragraph source text)
+pub typed_paragraph : (source text : List ℕ) → IsUtf8 text → IsTypedPage (typed_as paragraph source text)
 typed_paragraph source text u = record {
   setting = record { within = false; place = place.Paragraph; source = source };
   text = text;
@@ -182,7 +182,7 @@ typed_paragraph source text u = record {
   is = refl;
 }
 
-typed_heading : (s : Sides) (source text : List ℕ) → IsUtf8 text → has_break text ≡ false → IsFrame s → IsTypedHeading s (typed_as (heading s.level) source text)
+pub typed_heading : (s : Sides) (source text : List ℕ) → IsUtf8 text → has_break text ≡ false → IsFrame s → IsTypedHeading s (typed_as (heading s.level) source text)
 typed_heading s source text u line f = record {
   frame = f;
   setting = record { within = false; place = place.Heading; source = source };

@@ -89,7 +89,7 @@ all_of_page (char (Some k) b ∷ xs) h = let e : Some k ≡ None = All-head (λ 
 all_of_page (whole f None bs ∷ xs) h = all_of_page xs (All-tail (λ x. call_of x ≡ None) (whole f None bs) xs h)
 all_of_page (whole f (Some k) bs ∷ xs) h = let e : Some k ≡ None = All-head (λ x. call_of x ≡ None) (whole f (Some k) bs) xs h in cc
 
-items_of_page : (bs : List ℕ) → AllOfPage (page_items bs)
+pub items_of_page : (bs : List ℕ) → AllOfPage (page_items bs)
 items_of_page bs = all_of_page (page_items bs) (page_has_no_calls bs)
 
 heading_plain : (s : Sides) (ls : List Leaf) → AreSides s → ArePlain (leaf_block (a_heading s) ls ∷ [])
@@ -106,7 +106,7 @@ heading_plain s ls a =
       none_empty = (heading_holds s.level s.lead s.trail s.rest ls a.some, none_empty ls, tt);
     }
 
-block_plain : (k : TextBlock) (q : List ℕ) → IsBlock k q → ArePlain (leaf_block k (leaves (page_items q)) ∷ [])
+pub block_plain : (k : TextBlock) (q : List ℕ) → IsBlock k q → ArePlain (leaf_block k (leaves (page_items q)) ∷ [])
 block_plain a_paragraph q h = is_plain_page (leaves (page_items q)) (paragraph_written q h).2
 block_plain (a_heading s) q h = heading_plain s (leaves (page_items q)) (heading_sides s q h)
 

@@ -10,9 +10,9 @@ use Rattle.wt_text_edit_laws.proofs.Prose.InFront.{reads_nothing, read_items}
 use Rattle.wt_text_edit_laws.proofs.Paragraphs.Texts.{paragraph_utf8}
 use Rattle.wt_text_edit_laws.proofs.Paragraphs.ClearLines.{clear_first, clear_line}
 use Rattle.wt_text_edit_laws.specs.TypedHeadings.{Sides, equals, opening, closing}
-use Rattle.wt_text_edit_laws.specs.TextBlocks.{TextBlock, a_paragraph, a_heading, source_of, IsFrame, IsBlock, BeginsBetween}
-use Rattle.wt_text_edit_laws.specs.BlockSpots.{BlockSpot, spots_source, IsBlockSpot, AreFurtherBlocks, AsAWhole, AreBlockSpots, SameRound, AreBlocks}
-use Rattle.wt_text_edit_laws.proofs.Blocks.BlockReading.{AreQuiet, run_quiet, blanks_quiet, opening_quiet, each_quiet, typed_text}
+use Rattle.wt_text_edit_laws.specs.TextBlocks.{TextBlock, a_paragraph, a_heading, source_of, IsFrame, IsBlock, BeginsLine, BeginsBetween}
+use Rattle.wt_text_edit_laws.specs.BlockSpots.{BlockSpot, spots_source, IsBlockSpot, AreFurtherBlocks, AsAWhole, AreBlockSpots, IsRead, AreReadAfter, AreRead, SameRound, AreBlocks}
+use Rattle.wt_text_edit_laws.proofs.Blocks.BlockReading.{AreQuiet, run_quiet, blanks_quiet, opening_quiet, each_quiet, typed_text, spots_read}
 use Rattle.wt_text_edit_laws.proofs.Blocks.BlockMeaning.{heading_frame}
 
 -- ---- UTF-8
@@ -47,47 +47,66 @@ block_utf8 (a_heading s) q h =
     (IsUtf8-append q (closing s) (text_utf8 s q h)
     (IsUtf8-append s.trail (equals s.level ++ s.rest) (quiet_utf8 s.trail (blanks_quiet s.trail f.sides.trail)) end))
 
-spot_utf8 : (s : BlockSpot) (rest : List ℕ) → IsBlockSpot s → IsUtf8 rest → IsUtf8 (s.before ++ (source_of s.block s.text ++ rest))
+spot_utf8 : (s : BlockSpot) (rest : List ℕ) → IsRead s → IsUtf8 rest → IsUtf8 (s.before ++ (source_of s.block s.text ++ rest))
 spot_utf8 s rest h u =
     IsUtf8-append s.before (source_of s.block s.text ++ rest) h.before_utf8
     (IsUtf8-append (source_of s.block s.text) rest (block_utf8 s.block s.text h.block) u)
 
-further_utf8 : (last : TextBlock) (ss : List BlockSpot) (behind : List ℕ) → AreFurtherBlocks last ss behind → IsUtf8 (spots_source ss behind)
-further_utf8 last [] behind h = h.utf8
-further_utf8 last (s ∷ ss) behind h = spot_utf8 s (spots_source ss behind) h.0 (further_utf8 s.block ss behind h.2)
+further_utf8 : (ss : List BlockSpot) (behind : List ℕ) → AreReadAfter ss behind → IsUtf8 (spots_source ss behind)
+further_utf8 [] behind h = h.1
+further_utf8 (s ∷ ss) behind h = spot_utf8 s (spots_source ss behind) h.0 (further_utf8 ss behind h.2)
+
+pub read_utf8 : (ss : List BlockSpot) (behind : List ℕ) → AreRead ss behind → IsUtf8 (spots_source ss behind)
+read_utf8 [] behind h = absurd h
+read_utf8 (s ∷ ss) behind h = spot_utf8 s (spots_source ss behind) h.0 (further_utf8 ss behind h.1)
 
 pub spots_utf8 : (ss : List BlockSpot) (behind : List ℕ) → AreBlockSpots ss behind → IsUtf8 (spots_source ss behind)
-spots_utf8 [] behind h = absurd h
-spots_utf8 (s ∷ ss) behind h = spot_utf8 s (spots_source ss behind) h.0 (further_utf8 s.block ss behind h.1)
+spots_utf8 ss behind h = read_utf8 ss behind (spots_read ss behind h)
 
 -- ---- no tag is open before a block
 
-nothing_between : (last next : TextBlock) → BeginsBetween last next (page_items []) → ⊥
-nothing_between a_paragraph next h = absurd (subst (BeginsBetween a_paragraph next) (read_items [] [] reads_nothing) h)
-nothing_between (a_heading s) next h = absurd (subst (BeginsBetween (a_heading s) next) (read_items [] [] reads_nothing) h)
+nothing_between : BeginsLine (page_items []) → ⊥
+nothing_between h = absurd (subst BeginsLine (read_items [] [] reads_nothing) h)
 
-clear_between : (front bs : List ℕ) (last next : TextBlock) → AreEnded bs → BeginsBetween last next (page_items bs) → ends_open (front ++ bs) ≡ false
-clear_between front [] last next e h = absurd (nothing_between last next h)
-clear_between front (b ∷ bs) last next e h = clear_line front b bs e
+clear_between : (front bs : List ℕ) → AreEnded bs → BeginsLine (page_items bs) → ends_open (front ++ bs) ≡ false
+clear_between front [] e h = absurd (nothing_between h)
+clear_between front (b ∷ bs) e h = clear_line front b bs e
 
 -- behind this front
 abbrev pub AreClear : List ℕ → List BlockSpot → Type 0
 AreClear front [] = Unit {0}
 AreClear front (s ∷ ss) = (ends_open (front ++ s.before) ≡ false) × AreClear ((front ++ s.before) ++ source_of s.block s.text) ss
 
-further_clear : (front : List ℕ) (last : TextBlock) (ss : List BlockSpot) (behind : List ℕ) → AreFurtherBlocks last ss behind → AreClear front ss
-further_clear front last [] behind h = tt
-further_clear front last (s ∷ ss) behind h = (
-  clear_between front s.before last s.block h.0.ended h.1,
-  further_clear ((front ++ s.before) ++ source_of s.block s.text) s.block ss behind h.2,
-)
+further_clear : (front : List ℕ) (ss : List BlockSpot) (behind : List ℕ) → AreReadAfter ss behind → AreClear front ss
+further_clear front [] behind h = tt
+further_clear front (s ∷ ss) behind h =
+    (clear_between front s.before h.0.ended h.1, further_clear ((front ++ s.before) ++ source_of s.block s.text) ss behind h.2)
+
+pub read_clear : (ss : List BlockSpot) (behind : List ℕ) → AreRead ss behind → AreClear [] ss
+read_clear [] behind h = absurd h
+read_clear (s ∷ ss) behind h = (clear_first s.before h.0.ended, further_clear (s.before ++ source_of s.block s.text) ss behind h.1)
 
 pub spots_clear : (ss : List BlockSpot) (behind : List ℕ) → AreBlockSpots ss behind → AreClear [] ss
-spots_clear [] behind h = absurd h
-spots_clear (s ∷ ss) behind h =
-    (clear_first s.before h.0.ended, further_clear (s.before ++ source_of s.block s.text) s.block ss behind h.1)
+spots_clear ss behind h = read_clear ss behind (spots_read ss behind h)
 
 -- ---- with other texts
+
+spot_read_again : (s r : BlockSpot) → IsRead s → r.before ≡ s.before → IsBlock r.block r.text → IsRead r
+spot_read_again s r h e t = record { ended = subst AreEnded (sym e) h.ended; before_utf8 = subst IsUtf8 (sym e) h.before_utf8; block = t }
+
+after_read_again : (ss rs : List BlockSpot) (behind : List ℕ) → AreReadAfter ss behind → SameRound ss rs → AreBlocks rs → AreReadAfter rs behind
+after_read_again [] [] behind h e t = h
+after_read_again [] (r ∷ rs) behind h e t = absurd e
+after_read_again (s ∷ ss) [] behind h e t = absurd e
+after_read_again (s ∷ ss) (r ∷ rs) behind h e t = (
+  spot_read_again s r h.0 e.0 t.0,
+  subst (λ bs. BeginsLine (page_items bs)) (sym e.0) h.1,
+  after_read_again ss rs behind h.2 e.2 t.1,
+)
+
+pub parts_read_again : (s r : BlockSpot) (ss rs : List BlockSpot) (behind : List ℕ) → AreRead (s ∷ ss) behind → SameRound (s ∷ ss) (r ∷ rs) → AreBlocks (r ∷ rs)
+    → IsRead r × AreReadAfter rs behind
+parts_read_again s r ss rs behind h e t = (spot_read_again s r h.0 e.0 t.0, after_read_again ss rs behind h.1 e.2 t.1)
 
 abbrev same_spot : List ℕ → TextBlock → List ℕ → BlockSpot
 same_spot bs k q = record { before = bs; block = k; text = q }

@@ -1,6 +1,5 @@
 -- A text that is typed closes no tag, so where texts are typed a tag that nothing closes stays characters, and the page is of the class again.
 use Rattle.std.proofs.Common.{arith, ◌≡◌, ◌⊎◌, inl, inr, ℕ, false, List, [], ◌∷◌, ◌++◌, refl, sym, ap, ◌∙◌, subst, append_assoc}
-use Rattle.wt_expand.specs.PageItems.{page_items}
 use Rattle.wt_text_edit_laws.specs.TypedPages.{IsTypedPage}
 use Rattle.wt_text_edit_laws.specs.TextBetween.{AreEnded, HasEndsBefore, LineEnds}
 use Rattle.wt_text_edit_laws.proofs.Prose.InFront.{spelled_unclosed}
@@ -8,10 +7,9 @@ use Rattle.wt_text_edit_laws.proofs.Between.ClosingTags.{Unclosed, ClosesNothing
 use Rattle.wt_text_edit_laws.proofs.Paragraphs.Texts.{EndsHere}
 use Rattle.wt_text_edit_laws.specs.TypedHeadings.{Sides, opening, closing}
 use Rattle.wt_text_edit_laws.specs.TextBlocks.{TextBlock, a_paragraph, a_heading, source_of, IsTypedHeading, IsTypedIn, TextEnds}
-use Rattle.wt_text_edit_laws.specs.BlockSpots.{BlockSpot, spots_source, IsBlockSpot, AreFurtherBlocks, EndBeforeBlocks, AreBlockSpots, SameRound, AreBlocks}
-use Rattle.wt_text_edit_laws.proofs.Blocks.BlockReading.{AreQuiet, opening_quiet, each_quiet, typed_text, BeginsHere, source_begins, further_ends}
-use Rattle.wt_expand.proofs.PageLaws.{page_sources}
-use Rattle.wt_text_edit_laws.proofs.Blocks.BlocksAgain.{parts_again}
+use Rattle.wt_text_edit_laws.specs.BlockSpots.{BlockSpot, spots_source, EndBeforeBlocks, AreBlockSpots, IsRead, AreReadAfter, AreRead, SameRound, AreBlocks}
+use Rattle.wt_text_edit_laws.proofs.Blocks.BlockReading.{AreQuiet, opening_quiet, each_quiet, typed_text, BeginsHere, spots_read, begins_here, further_ends}
+use Rattle.wt_text_edit_laws.proofs.Blocks.BlocksAgain.{parts_read_again, parts_again}
 use Rattle.wt_text_edit_laws.proofs.Blocks.TypedBraces.{AreTypedOver, still_calm}
 
 -- ---- what follows a block, in the old page and in the new one
@@ -32,17 +30,14 @@ both_begin [] cs us vs h g = absurd h
 both_begin (b ∷ bs) [] us vs h g = absurd g
 both_begin (b ∷ bs) (c ∷ cs) us vs h g = (h, g)
 
-begins_here : (last : TextBlock) (s : BlockSpot) (ss : List BlockSpot) (behind : List ℕ) → AreFurtherBlocks last (s ∷ ss) behind → BeginsHere s.before
-begins_here last s ss behind h = subst BeginsHere (page_sources s.before) (source_begins last s.block (page_items s.before) h.1)
-
-both_end : (last next : TextBlock) (ss rs : List BlockSpot) (behind : List ℕ) → AreFurtherBlocks last ss behind → AreFurtherBlocks next rs behind → SameRound ss rs
+both_end : (ss rs : List BlockSpot) (behind : List ℕ) → AreReadAfter ss behind → AreReadAfter rs behind → SameRound ss rs
     → BothEnd (spots_source ss behind) (spots_source rs behind)
-both_end last next [] [] behind h g e = same_end behind (further_ends last [] behind h)
-both_end last next [] (r ∷ rs) behind h g e = absurd e
-both_end last next (s ∷ ss) [] behind h g e = absurd e
-both_end last next (s ∷ ss) (r ∷ rs) behind h g e =
+both_end [] [] behind h g e = same_end behind (further_ends [] behind h)
+both_end [] (r ∷ rs) behind h g e = absurd e
+both_end (s ∷ ss) [] behind h g e = absurd e
+both_end (s ∷ ss) (r ∷ rs) behind h g e =
     both_begin s.before r.before (source_of s.block s.text ++ spots_source ss behind) (source_of r.block r.text ++ spots_source rs behind)
-    (begins_here last s ss behind h) (begins_here next r rs behind g)
+    (begins_here s.before h.1) (begins_here r.before g.1)
 
 -- ---- a text that stays
 
@@ -104,28 +99,28 @@ text_unclosed (a_heading s) name was now us vs (inr t) e f h = heading_unclosed 
 abbrev from_block : BlockSpot → List BlockSpot → List ℕ → List ℕ
 from_block s ss behind = source_of s.block s.text ++ spots_source ss behind
 
-block_no_more : (s r : BlockSpot) (ss rs : List BlockSpot) (behind : List ℕ) → AreFurtherBlocks s.block ss behind → AreFurtherBlocks r.block rs behind
+block_no_more : (s r : BlockSpot) (ss rs : List BlockSpot) (behind : List ℕ) → AreReadAfter ss behind → AreReadAfter rs behind
     → SameRound (s ∷ ss) (r ∷ rs) → (r.text ≡ s.text) ⊎ IsTypedIn r.block r.text → ClosesNoMore (spots_source ss behind) (spots_source rs behind)
     → ClosesNoMore (from_block s ss behind) (from_block r rs behind)
 block_no_more s r ss rs behind f k e o c = λ name u.
-    text_unclosed r.block name s.text r.text (spots_source ss behind) (spots_source rs behind) o (both_end s.block r.block ss rs behind f k e.2) (c name)
+    text_unclosed r.block name s.text r.text (spots_source ss behind) (spots_source rs behind) o (both_end ss rs behind f k e.2) (c name)
     (subst (λ b. Unclosed name (source_of b s.text ++ spots_source ss behind)) (sym e.1) u)
 
-spot_no_more : (s r : BlockSpot) (ss rs : List BlockSpot) (behind : List ℕ) → IsBlockSpot s → r.before ≡ s.before
+spot_no_more : (s r : BlockSpot) (ss rs : List BlockSpot) (behind : List ℕ) → IsRead s → r.before ≡ s.before
     → ClosesNoMore (from_block s ss behind) (from_block r rs behind) → ClosesNoMore (spots_source (s ∷ ss) behind) (spots_source (r ∷ rs) behind)
 spot_no_more s r ss rs behind h e c = λ name u.
     let block : Unclosed name (from_block r rs behind) = c name (unclosed_behind name s.before (from_block s ss behind) u) in
     subst (λ bs. Unclosed name (bs ++ from_block r rs behind)) (sym e)
     (unclosed_other name s.before (from_block s ss behind) (from_block r rs behind) h.ended u block)
 
-further_no_more : (last next : TextBlock) (ss rs : List BlockSpot) (behind : List ℕ) → AreFurtherBlocks last ss behind → AreFurtherBlocks next rs behind
+further_no_more : (ss rs : List BlockSpot) (behind : List ℕ) → AreReadAfter ss behind → AreReadAfter rs behind
     → SameRound ss rs → AreTypedOver ss rs → ClosesNoMore (spots_source ss behind) (spots_source rs behind)
-further_no_more last next [] [] behind f k e o = λ name u. u
-further_no_more last next [] (r ∷ rs) behind f k e o = absurd e
-further_no_more last next (s ∷ ss) [] behind f k e o = absurd e
-further_no_more last next (s ∷ ss) (r ∷ rs) behind f k e o =
+further_no_more [] [] behind f k e o = λ name u. u
+further_no_more [] (r ∷ rs) behind f k e o = absurd e
+further_no_more (s ∷ ss) [] behind f k e o = absurd e
+further_no_more (s ∷ ss) (r ∷ rs) behind f k e o =
     spot_no_more s r ss rs behind f.0 e.0
-    (block_no_more s r ss rs behind f.2 k.2 e o.0 (further_no_more s.block r.block ss rs behind f.2 k.2 e.2 o.1))
+    (block_no_more s r ss rs behind f.2 k.2 e o.0 (further_no_more ss rs behind f.2 k.2 e.2 o.1))
 
 -- ---- what begins in a text
 
@@ -149,25 +144,34 @@ text_still_ends k was now us vs (inr t) e c l = inl t
 
 -- ---- the page
 
-spot_still_ends : (s r : BlockSpot) (ss rs : List BlockSpot) (behind : List ℕ) → IsBlockSpot s → AreFurtherBlocks s.block ss behind
-    → AreFurtherBlocks r.block rs behind → SameRound (s ∷ ss) (r ∷ rs) → AreTypedOver (s ∷ ss) (r ∷ rs) → EndBeforeBlocks (s ∷ ss) behind
+spot_still_ends : (s r : BlockSpot) (ss rs : List BlockSpot) (behind : List ℕ) → IsRead s → AreReadAfter ss behind
+    → AreReadAfter rs behind → SameRound (s ∷ ss) (r ∷ rs) → AreTypedOver (s ∷ ss) (r ∷ rs) → EndBeforeBlocks (s ∷ ss) behind
     → EndBeforeBlocks rs behind → EndBeforeBlocks (r ∷ rs) behind
 spot_still_ends s r ss rs behind h f k e o b rest =
-    let c : ClosesNoMore (spots_source ss behind) (spots_source rs behind) = further_no_more s.block r.block ss rs behind f k e.2 o.1 in (
+    let c : ClosesNoMore (spots_source ss behind) (spots_source rs behind) = further_no_more ss rs behind f k e.2 o.1 in (
       subst (λ bs. HasEndsBefore (from_block r rs behind) bs) (sym e.0)
           (ends_other (from_block s ss behind) (from_block r rs behind) false 0 s.before h.ended (block_no_more s r ss rs behind f k e o.0 c) b.0),
-      text_still_ends r.block s.text r.text (spots_source ss behind) (spots_source rs behind) o.0 (both_end s.block r.block ss rs behind f k e.2) c
+      text_still_ends r.block s.text r.text (spots_source ss behind) (spots_source rs behind) o.0 (both_end ss rs behind f k e.2) c
           (subst (λ b. TextEnds b s.text (spots_source ss behind)) (sym e.1) b.1),
       rest,
     )
 
-further_still_end : (last next : TextBlock) (ss rs : List BlockSpot) (behind : List ℕ) → AreFurtherBlocks last ss behind → AreFurtherBlocks next rs behind
+further_still_end : (ss rs : List BlockSpot) (behind : List ℕ) → AreReadAfter ss behind → AreReadAfter rs behind
     → SameRound ss rs → AreTypedOver ss rs → EndBeforeBlocks ss behind → EndBeforeBlocks rs behind
-further_still_end last next [] [] behind f k e o b = tt
-further_still_end last next [] (r ∷ rs) behind f k e o b = absurd e
-further_still_end last next (s ∷ ss) [] behind f k e o b = absurd e
-further_still_end last next (s ∷ ss) (r ∷ rs) behind f k e o b =
-    spot_still_ends s r ss rs behind f.0 f.2 k.2 e o b (further_still_end s.block r.block ss rs behind f.2 k.2 e.2 o.1 b.2)
+further_still_end [] [] behind f k e o b = tt
+further_still_end [] (r ∷ rs) behind f k e o b = absurd e
+further_still_end (s ∷ ss) [] behind f k e o b = absurd e
+further_still_end (s ∷ ss) (r ∷ rs) behind f k e o b =
+    spot_still_ends s r ss rs behind f.0 f.2 k.2 e o b (further_still_end ss rs behind f.2 k.2 e.2 o.1 b.2)
+
+pub read_again : (ss rs : List BlockSpot) (behind : List ℕ) → AreRead ss behind → SameRound ss rs → AreBlocks rs → AreTypedOver ss rs → AreRead rs behind
+read_again [] rs behind h e t o = absurd h
+read_again (s ∷ ss) [] behind h e t o = absurd e
+read_again (s ∷ ss) (r ∷ rs) behind h e t o =
+    let p = parts_read_again s r ss rs behind h e t in
+    let b : EndBeforeBlocks (r ∷ rs) behind =
+    spot_still_ends s r ss rs behind h.0 h.1 p.1 e o h.2.end_before (further_still_end ss rs behind h.1 p.1 e.2 o.1 h.2.end_before.2) in
+    (p.0, p.1, record { calls_nothing = still_calm s r ss rs behind h p.0 p.1 b e o; end_before = b })
 
 pub typed_again : (ss rs : List BlockSpot) (behind : List ℕ) → AreBlockSpots ss behind → SameRound ss rs → AreBlocks rs → AreTypedOver ss rs
     → AreBlockSpots rs behind
@@ -175,6 +179,5 @@ typed_again [] rs behind h e t o = absurd h
 typed_again (s ∷ ss) [] behind h e t o = absurd e
 typed_again (s ∷ ss) (r ∷ rs) behind h e t o =
     let p = parts_again s r ss rs behind h e t in
-    let b : EndBeforeBlocks (r ∷ rs) behind =
-    spot_still_ends s r ss rs behind h.0 h.1 p.1 e o h.2.end_before (further_still_end s.block r.block ss rs behind h.1 p.1 e.2 o.1 h.2.end_before.2) in
-    (p.0, p.1, record { calls_nothing = still_calm s r ss rs behind h p.0 p.1 b e o; end_before = b })
+    let whole = read_again (s ∷ ss) (r ∷ rs) behind (spots_read (s ∷ ss) behind h) e t o in
+    (p.0, p.1, whole.2)

@@ -9,12 +9,10 @@ use Rattle.wt_text_edit_laws.specs.NoCalls.{Brace, CallsNothing}
 use Rattle.wt_text_edit_laws.proofs.Prose.InFront.{is_brace, AreUnbraced}
 use Rattle.wt_text_edit_laws.proofs.Between.LineWords.{either}
 use Rattle.wt_text_edit_laws.proofs.Between.LessBraces.{IsSome, all_some, some_both, pairs_some, BeginsUnbraced, braces_of, items_behind_end, items_before_start, none_unbraced, unbraced_joined, page_unbraced, ended_unbraced}
-use Rattle.wt_text_edit_laws.specs.ParagraphBetween.{EndsParagraph}
 use Rattle.wt_text_edit_laws.specs.TypedHeadings.{Sides, AreIdle, equals, opening, closing_items, EndsLine}
-use Rattle.wt_text_edit_laws.specs.TextBlocks.{TextBlock, a_paragraph, a_heading, block_items, IsFrame, IsTypedIn, EndsBlock}
-use Rattle.wt_text_edit_laws.specs.BlockSpots.{BlockSpot, spots_source, IsBlockSpot, AreFurtherBlocks, EndBeforeBlocks, AreBlockSpots, SameRound}
+use Rattle.wt_text_edit_laws.specs.TextBlocks.{TextBlock, a_paragraph, a_heading, block_items, IsFrame, IsTypedIn, BeginsLine}
+use Rattle.wt_text_edit_laws.specs.BlockSpots.{BlockSpot, spots_source, EndBeforeBlocks, IsRead, AreReadAfter, AreRead, SameRound}
 use Rattle.wt_text_edit_laws.proofs.Blocks.BlockReading.{AreQuiet, run_quiet, blanks_quiet, opening_quiet, quiet_joined, each_quiet, typed_text, spots_items, items_of_parts}
-use Rattle.wt_text_edit_laws.proofs.Blocks.BlockMeaning.{further_end}
 
 -- ---- a block in which a text was typed
 
@@ -61,29 +59,29 @@ block_fewer k was now (inr h) =
     subst (λ (bs : List Brace). IsSome bs (braces_of (block_items k was))) (sym (none_unbraced (block_items k now) (typed_unbraced k now h))) tt
 
 -- behind a block the page ends, or a line break stands
-paragraph_apart : (xs : List Item) → EndsParagraph xs → BeginsUnbraced (map sign xs)
-paragraph_apart [] e = tt
-paragraph_apart (y ∷ ys) e = subst (λ z. is_brace (sign z) ≡ false) (sym e.0) refl
+longer_line : (xs ys : List Item) → BeginsLine xs → EndsLine (xs ++ ys)
+longer_line [] ys h = absurd h
+longer_line (x ∷ xs) ys h = h
+
+further_line : (ss : List BlockSpot) (behind : List ℕ) → AreReadAfter ss behind → EndsLine (spots_items ss behind)
+further_line [] behind h = h.2
+further_line (s ∷ ss) behind h = longer_line (page_items s.before) (block_items s.block s.text ++ spots_items ss behind) h.1
 
 line_apart : (xs : List Item) → EndsLine xs → BeginsUnbraced (map sign xs)
 line_apart [] e = tt
 line_apart (y ∷ ys) e = subst (λ z. is_brace (sign z) ≡ false) (sym e) refl
 
-behind_apart : (k : TextBlock) (xs : List Item) → EndsBlock k xs → BeginsUnbraced (map sign xs)
-behind_apart a_paragraph xs e = paragraph_apart xs e
-behind_apart (a_heading s) xs e = line_apart xs e
-
-braces_split : (s : BlockSpot) (ss : List BlockSpot) (behind : List ℕ) → IsBlockSpot s → AreFurtherBlocks s.block ss behind
+braces_split : (s : BlockSpot) (ss : List BlockSpot) (behind : List ℕ) → IsRead s → AreReadAfter ss behind
     → braces_of (spots_items (s ∷ ss) behind) ≡ braces_of (page_items s.before) ++ (braces_of (block_items s.block s.text) ++ braces_of (spots_items ss behind))
 braces_split s ss behind h f =
     let own : List Item = block_items s.block s.text in
     let rest : List Item = spots_items ss behind in
     items_behind_end (page_items s.before) (own ++ rest) (ended_unbraced s.before h.ended)
-    ∙ ap (λ (bs : List Brace). braces_of (page_items s.before) ++ bs) (items_before_start own rest (behind_apart s.block rest (further_end s.block ss behind f)))
+    ∙ ap (λ (bs : List Brace). braces_of (page_items s.before) ++ bs) (items_before_start own rest (line_apart rest (further_line ss behind f)))
 
 -- one block more
-spot_fewer : (s r : BlockSpot) (ss rs : List BlockSpot) (behind : List ℕ) → IsBlockSpot s → AreFurtherBlocks s.block ss behind
-    → IsBlockSpot r → AreFurtherBlocks r.block rs behind → SameRound (s ∷ ss) (r ∷ rs) → (r.text ≡ s.text) ⊎ IsTypedIn r.block r.text
+spot_fewer : (s r : BlockSpot) (ss rs : List BlockSpot) (behind : List ℕ) → IsRead s → AreReadAfter ss behind
+    → IsRead r → AreReadAfter rs behind → SameRound (s ∷ ss) (r ∷ rs) → (r.text ≡ s.text) ⊎ IsTypedIn r.block r.text
     → IsSome (braces_of (spots_items rs behind)) (braces_of (spots_items ss behind))
     → IsSome (braces_of (spots_items (r ∷ rs) behind)) (braces_of (spots_items (s ∷ ss) behind))
 spot_fewer s r ss rs behind h f g k e o rest =
@@ -99,21 +97,21 @@ spot_fewer s r ss rs behind h f g k e o rest =
     (some_both (braces_of (block_items r.block r.text)) (braces_of (block_items s.block s.text)) (braces_of (spots_items rs behind)) (braces_of (spots_items ss behind)) own rest)))
 
 -- the new page, whose parts stand by themselves, too, has fewer braces
-further_fewer : (last next : TextBlock) (ss rs : List BlockSpot) (behind : List ℕ) → AreFurtherBlocks last ss behind → AreFurtherBlocks next rs behind
+further_fewer : (ss rs : List BlockSpot) (behind : List ℕ) → AreReadAfter ss behind → AreReadAfter rs behind
     → SameRound ss rs → AreTypedOver ss rs → IsSome (braces_of (spots_items rs behind)) (braces_of (spots_items ss behind))
-further_fewer last next [] [] behind f k e t = all_some (braces_of (page_items behind))
-further_fewer last next [] (r ∷ rs) behind f k e t = absurd e
-further_fewer last next (s ∷ ss) [] behind f k e t = absurd e
-further_fewer last next (s ∷ ss) (r ∷ rs) behind f k e t =
-    spot_fewer s r ss rs behind f.0 f.2 k.0 k.2 e t.0 (further_fewer s.block r.block ss rs behind f.2 k.2 e.2 t.1)
+further_fewer [] [] behind f k e t = all_some (braces_of (page_items behind))
+further_fewer [] (r ∷ rs) behind f k e t = absurd e
+further_fewer (s ∷ ss) [] behind f k e t = absurd e
+further_fewer (s ∷ ss) (r ∷ rs) behind f k e t =
+    spot_fewer s r ss rs behind f.0 f.2 k.0 k.2 e t.0 (further_fewer ss rs behind f.2 k.2 e.2 t.1)
 
-spots_fewer : (s r : BlockSpot) (ss rs : List BlockSpot) (behind : List ℕ) → IsBlockSpot s → AreFurtherBlocks s.block ss behind
-    → IsBlockSpot r → AreFurtherBlocks r.block rs behind → SameRound (s ∷ ss) (r ∷ rs) → AreTypedOver (s ∷ ss) (r ∷ rs)
+spots_fewer : (s r : BlockSpot) (ss rs : List BlockSpot) (behind : List ℕ) → IsRead s → AreReadAfter ss behind
+    → IsRead r → AreReadAfter rs behind → SameRound (s ∷ ss) (r ∷ rs) → AreTypedOver (s ∷ ss) (r ∷ rs)
     → IsSome (braces_of (spots_items (r ∷ rs) behind)) (braces_of (spots_items (s ∷ ss) behind))
-spots_fewer s r ss rs behind h f g k e t = spot_fewer s r ss rs behind h f g k e t.0 (further_fewer s.block r.block ss rs behind f k e.2 t.1)
+spots_fewer s r ss rs behind h f g k e t = spot_fewer s r ss rs behind h f g k e t.0 (further_fewer ss rs behind f k e.2 t.1)
 
 -- so it calls nothing
-pub still_calm : (s r : BlockSpot) (ss rs : List BlockSpot) (behind : List ℕ) → AreBlockSpots (s ∷ ss) behind → IsBlockSpot r → AreFurtherBlocks r.block rs behind
+pub still_calm : (s r : BlockSpot) (ss rs : List BlockSpot) (behind : List ℕ) → AreRead (s ∷ ss) behind → IsRead r → AreReadAfter rs behind
     → EndBeforeBlocks (r ∷ rs) behind → SameRound (s ∷ ss) (r ∷ rs) → AreTypedOver (s ∷ ss) (r ∷ rs) → CallsNothing (page_items (spots_source (r ∷ rs) behind))
 still_calm s r ss rs behind h g k b e o =
     let was : List Item = spots_items (s ∷ ss) behind in

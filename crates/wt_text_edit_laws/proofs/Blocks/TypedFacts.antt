@@ -105,11 +105,11 @@ closing_is s =
     ∙ ap₂ (λ (bs cs : List ℕ). bs ++ cs) (chars_are signs) (page_sources s.rest)
     ∙ append_assoc s.trail (equals s.level) s.rest
 
-framed : (k : TextBlock) (q : List ℕ) → sources (open_items k) ++ (q ++ sources (close_items k)) ≡ source_of k q
+pub framed : (k : TextBlock) (q : List ℕ) → sources (open_items k) ++ (q ++ sources (close_items k)) ≡ source_of k q
 framed a_paragraph q = append-nil q
 framed (a_heading s) q = ap₂ (λ (bs cs : List ℕ). bs ++ (q ++ cs)) (chars_are (opening s)) (closing_is s)
 
-leaves_are : (q : List ℕ) → AreOwn (page_items q) → flat_map leaf_source (leaves (page_items q)) ≡ q
+pub leaves_are : (q : List ℕ) → AreOwn (page_items q) → flat_map leaf_source (leaves (page_items q)) ≡ q
 leaves_are q h = leaves_source (page_items q) h ∙ page_sources q
 
 abbrev held : List Leaf → List Item
@@ -125,7 +125,7 @@ items_source k q h =
 
 -- ---- its node
 
-abbrev text_label : TextBlock → ℕ → List Item → List Leaf → Label
+abbrev pub text_label : TextBlock → ℕ → List Item → List Leaf → Label
 text_label k n before ls = record {
   kind = kind_of (block_of k);
   id = n;
@@ -145,10 +145,10 @@ text_label k n before ls = record {
   mw = None;
 }
 
-abbrev text_nodes : TextBlock → ℕ → List Item → List Leaf → Trees
+abbrev pub text_nodes : TextBlock → ℕ → List Item → List Leaf → Trees
 text_nodes k n before ls = nodes (n + 1) (before ++ open_items k) ls
 
-its_node : (k : TextBlock) (n : ℕ) (before : List Item) (ls : List Leaf)
+pub its_node : (k : TextBlock) (n : ℕ) (before : List Item) (ls : List Leaf)
     → standing n before (leaf_block k ls) ≡ tree (text_label k n before ls) (text_nodes k n before ls)
 unfolding label_at
 its_node a_paragraph n before ls = refl
@@ -156,7 +156,7 @@ its_node (a_heading s) n before ls = refl
 
 -- ---- what it shows
 
-abbrev text_shown : TextBlock → List ℕ → Plains → Plains
+abbrev pub text_shown : TextBlock → List ℕ → Plains → Plains
 text_shown k text rest = along (element (record { kind = kind_of (block_of k); attrs = []; mw = None }) (text_before text ended)) rest
 
 leaves_shown_in : (k : TextBlock) (ls : List Leaf) (rest : Plains) → block_shown (leaf_block k ls) rest ≡ text_shown k (flat_map leaf_shown ls) rest
@@ -167,7 +167,7 @@ leaves_shown_in (a_heading s) ls rest =
     ap (λ ps. along (element (record { kind = kind_of (block_of (a_heading s)); attrs = []; mw = None }) ps) rest) (leaves_show 1 (open_items (a_heading s)) ls ended)
 
 -- a text that was typed is shown, however it is spelled
-typed_shown : (k : TextBlock) (q text : List ℕ) (rest : Plains) → IsUtf8 text → AreOwn (page_items (typed_as (block_of k) q text))
+pub typed_shown : (k : TextBlock) (q text : List ℕ) (rest : Plains) → IsUtf8 text → AreOwn (page_items (typed_as (block_of k) q text))
     → text_shown k text rest ≡ block_shown (leaf_block k (leaves (page_items (typed_as (block_of k) q text)))) rest
 typed_shown k q text rest u own =
     let s : Setting = record { within = false; place = place_of (block_of k); source = q } in

@@ -1,6 +1,6 @@
 -- Marks directly above a block, such as lines of comments: they stand outside it, as they do by themselves.
-use Rattle.std.proofs.Common.{arith, drop, ◌≡◌, ℕ, suc, Bool, true, false, List, [], ◌∷◌, ◌++◌, length, map, refl, sym, ap, ◌∙◌, subst, append-nil, append_assoc}
-use Rattle.std.specs.Prelude.{◌==◌, ◌&&◌, ◌||◌, not, reverse, codes}
+use Rattle.std.proofs.Common.{arith, drop, ◌≡◌, ℕ, zero, suc, Bool, true, false, List, [], ◌∷◌, ◌++◌, length, map, refl, sym, ap, ◌∙◌, subst, append-nil, append_assoc}
+use Rattle.std.specs.Prelude.{◌==◌, ◌&&◌, ◌||◌, not, reverse, codes, nat_lt, if◌then◌else◌}
 use Rattle.std.specs.List.{flat_map, list_all}
 use Rattle.std.specs.Option.{unwrap_or}
 use Rattle.std.proofs.lemmas.Grind.{flat_map-append}
@@ -11,7 +11,7 @@ use Rattle.wt_span.specs.Runs.{put, runs, IsRun}
 use Rattle.wt_span.proofs.RunLaws.{runs_cut}
 use Rattle.wt_lines.specs.declared.kind.LineKind.{LineKind}
 use Rattle.wt_lines.specs.declared.kind.LineKind.TheVariants as line
-use Rattle.wt_lines.specs.Kinds.{is_mark_sign, is_idle, past, is_alone, is_list, first_of, open_kind, kind_of_signs}
+use Rattle.wt_lines.specs.Kinds.{is_mark_sign, is_idle, past, is_alone, is_list, first_of, open_kind, table_rows, kind_of_signs}
 use Rattle.wt_lines.specs.Lines.{goes_on, full_lines, content}
 use Rattle.wt_tables.specs.Extents.{behind, is_open}
 use Rattle.wt_tables.specs.Parts.{joined, units}
@@ -139,30 +139,32 @@ ends_marks : (ss ts : List ℕ) → AreMarkSigns ts → ends_equal (ss ++ ts) �
 ends_marks [] ts h = ap ends_equal (sym (append-nil ts)) ∙ ap (begins (codes "=")) (past_idle ts [] h)
 ends_marks (s ∷ ss) ts h = ends_by (is_idle s) s ss ts refl (ends_marks ss ts h)
 
--- the kind by the line from its first visible sign on, with and without the blanks before it, and by its last sign
-abbrev kind_by : List ℕ → List ℕ → Bool → LineKind
-kind_by signs first last =
+-- the kind by the line from its first visible sign on, with and without the blanks before it, and by its last sign, where so many tables are
+-- open
+abbrev kind_by : ℕ → List ℕ → List ℕ → Bool → LineKind
+kind_by tables signs first last =
     let heading : Bool = begins (codes "=") first && (last && not (is_alone (codes "=") first || is_alone (codes "==") first)) in
-    unwrap_or (first_of ((length signs == 0, line.Blank) ∷ (begins (codes "{|") signs, open_kind 0) ∷ (heading, line.Heading) ∷ (begins (codes "----") first, line.Rule)
-    ∷ (is_list first, line.List) ∷ (begins (codes " ") first, line.Pre) ∷ [])) line.Text
+    let texts : List (Bool × LineKind) = (heading, line.Heading) ∷ (begins (codes "----") first, line.Rule) ∷ (is_list first, line.List) ∷ (begins (codes " ") first, line.Pre) ∷ [] in
+    unwrap_or (first_of ((length signs == 0, line.Blank) ∷ (begins (codes "{|") signs, open_kind tables)
+    ∷ ((if nat_lt 0 tables then table_rows signs else []) ++ texts))) line.Text
 
-kind_is : (ss : List ℕ) → kind_of_signs 0 ss ≡ kind_by (past is_idle ss) (past is_mark_sign ss) (ends_equal (reverse ss))
+kind_is : (tables : ℕ) (ss : List ℕ) → kind_of_signs tables ss ≡ kind_by tables (past is_idle ss) (past is_mark_sign ss) (ends_equal (reverse ss))
 unfolding kind_of_signs
-kind_is ss = refl
+kind_is tables ss = refl
 
-kind_marks : (ss ts : List ℕ) → AreMarkSigns ss → kind_of_signs 0 (ss ++ ts) ≡ kind_of_signs 0 ts
-kind_marks ss ts h =
-    kind_is (ss ++ ts)
-    ∙ ap (λ (us : List ℕ). kind_by us (past is_mark_sign (ss ++ ts)) (ends_equal (reverse (ss ++ ts)))) (past_idle ss ts h)
-    ∙ ap (λ (us : List ℕ). kind_by (past is_idle ts) us (ends_equal (reverse (ss ++ ts)))) (past_marks ss ts h)
-    ∙ ap (kind_by (past is_idle ts) (past is_mark_sign ts)) (ap ends_equal (reverse-append ss ts) ∙ ends_marks (reverse ts) (reverse ss) (marks_back ss h))
-    ∙ sym (kind_is ts)
+kind_marks : (tables : ℕ) (ss ts : List ℕ) → AreMarkSigns ss → kind_of_signs tables (ss ++ ts) ≡ kind_of_signs tables ts
+kind_marks tables ss ts h =
+    kind_is tables (ss ++ ts)
+    ∙ ap (λ (us : List ℕ). kind_by tables us (past is_mark_sign (ss ++ ts)) (ends_equal (reverse (ss ++ ts)))) (past_idle ss ts h)
+    ∙ ap (λ (us : List ℕ). kind_by tables (past is_idle ts) us (ends_equal (reverse (ss ++ ts)))) (past_marks ss ts h)
+    ∙ ap (kind_by tables (past is_idle ts) (past is_mark_sign ts)) (ap ends_equal (reverse-append ss ts) ∙ ends_marks (reverse ts) (reverse ss) (marks_back ss h))
+    ∙ sym (kind_is tables ts)
 
-line_marks : (ms : List Item) (y : Item) (ys : List Item) → AreMarks ms → kind_at 0 (ms ++ y ∷ ys) ≡ kind_at 0 (y ∷ ys)
-line_marks ms y ys h =
-    ap (λ (xs : List Item). kind_of_signs 0 (map sign xs)) (content_marks ms y ys)
-    ∙ ap (kind_of_signs 0) (map-append sign ms (content (y ∷ ys)))
-    ∙ kind_marks (map sign ms) (map sign (content (y ∷ ys))) (signs_of_marks ms h)
+line_marks : (tables : ℕ) (ms : List Item) (y : Item) (ys : List Item) → AreMarks ms → kind_at tables (ms ++ y ∷ ys) ≡ kind_at tables (y ∷ ys)
+line_marks tables ms y ys h =
+    ap (λ (xs : List Item). kind_of_signs tables (map sign xs)) (content_marks ms y ys)
+    ∙ ap (kind_of_signs tables) (map-append sign ms (content (y ∷ ys)))
+    ∙ kind_marks tables (map sign ms) (map sign (content (y ∷ ys))) (signs_of_marks ms h)
 
 -- ---- they come before the row
 
@@ -192,7 +194,7 @@ IsLed line.List = ⊥
 IsLed line.Pre = ⊥
 IsLed line.Text = Unit {0}
 
-abbrev led : List Item → List Row → List Row
+abbrev pub led : List Item → List Row → List Row
 led ms [] = []
 led ms (r ∷ rs) = with_lead ms r ∷ rs
 
@@ -236,33 +238,34 @@ row_kind line.List l rs = refl
 row_kind line.Pre l rs = refl
 row_kind line.Text l rs = refl
 
-no_rows : rows [] ≡ []
-unfolding rows
-no_rows = refl
-
-led_by : (ms zs : List Item) (y : Item) (ys : List Item) (ls : List (List Item)) (k : LineKind) → AreMarks ms → full_lines zs ≡ (y ∷ ys) ∷ ls
-    → kind_at 0 (y ∷ ys) ≡ k → IsLed k → rows (ms ++ zs) ≡ led ms (rows zs)
-unfolding rows
-led_by ms zs y ys ls k h e f i =
+led_by : (tables : ℕ) (ms zs : List Item) (y : Item) (ys : List Item) (ls : List (List Item)) (k : LineKind) → AreMarks ms → full_lines zs ≡ (y ∷ ys) ∷ ls
+    → kind_at tables (y ∷ ys) ≡ k → IsLed k → rows_from tables (full_lines (ms ++ zs)) ≡ led ms (rows_from tables (full_lines zs))
+led_by tables ms zs y ys ls k h e f i =
     let l : List Item = y ∷ ys in
-    ap (rows_from 0) (marks_line ms zs y ys ls h e)
-    ∙ ap (λ (j : LineKind). line_rows j (ms ++ l) ++ rows_from (behind 0 j) ls) (line_marks ms y ys h ∙ f)
-    ∙ led_rows k i ms l (rows_from (behind 0 k) ls) h
-    ∙ ap (λ (j : LineKind). led ms (line_rows j l ++ rows_from (behind 0 j) ls)) (sym f)
-    ∙ ap (λ (ns : List (List Item)). led ms (rows_from 0 ns)) (sym e)
+    ap (rows_from tables) (marks_line ms zs y ys ls h e)
+    ∙ ap (λ (j : LineKind). line_rows j (ms ++ l) ++ rows_from (behind tables j) ls) (line_marks tables ms y ys h ∙ f)
+    ∙ led_rows k i ms l (rows_from (behind tables k) ls) h
+    ∙ ap (λ (j : LineKind). led ms (line_rows j l ++ rows_from (behind tables j) ls)) (sym f)
+    ∙ ap (λ (ns : List (List Item)). led ms (rows_from tables ns)) (sym e)
 
-kind_from : (zs : List Item) (y : Item) (ys : List Item) (ls : List (List Item)) (r : Row) (rs : List Row) → full_lines zs ≡ (y ∷ ys) ∷ ls
-    → rows zs ≡ r ∷ rs → kind_at 0 (y ∷ ys) ≡ r.kind
-unfolding rows
-kind_from zs y ys ls r rs e f =
-    let k : LineKind = kind_at 0 (y ∷ ys) in
-    sym (row_kind k (y ∷ ys) (rows_from (behind 0 k) ls)) ∙ ap first_kind (ap (rows_from 0) (sym e) ∙ f)
+kind_from : (tables : ℕ) (zs : List Item) (y : Item) (ys : List Item) (ls : List (List Item)) (r : Row) (rs : List Row) → full_lines zs ≡ (y ∷ ys) ∷ ls
+    → rows_from tables (full_lines zs) ≡ r ∷ rs → kind_at tables (y ∷ ys) ≡ r.kind
+kind_from tables zs y ys ls r rs e f =
+    let k : LineKind = kind_at tables (y ∷ ys) in
+    sym (row_kind k (y ∷ ys) (rows_from (behind tables k) ls)) ∙ ap first_kind (ap (rows_from tables) (sym e) ∙ f)
+
+-- where so many tables are open
+pub rows_led : (tables : ℕ) (ms zs : List Item) (r : Row) (rs : List Row) → AreMarks ms → rows_from tables (full_lines zs) ≡ r ∷ rs → IsLed r.kind
+    → rows_from tables (full_lines (ms ++ zs)) ≡ with_lead ms r ∷ rs
+rows_led zero ms [] r rs h e i = let n : [] ≡ r ∷ rs = e in cc
+rows_led (suc n) ms [] r rs h e i = absurd (subst IsLed (sym (ap first_kind e)) i)
+rows_led tables ms (z ∷ zs) r rs h e i =
+    let f = first_line z zs in
+    led_by tables ms (z ∷ zs) f.0 f.1 f.2 r.kind h f.3 (kind_from tables (z ∷ zs) f.0 f.1 f.2 r rs f.3 e) i ∙ ap (led ms) e
 
 pub rows_marks : (ms zs : List Item) (r : Row) (rs : List Row) → AreMarks ms → rows zs ≡ r ∷ rs → IsLed r.kind → rows (ms ++ zs) ≡ with_lead ms r ∷ rs
-rows_marks ms [] r rs h e i = let n : [] ≡ r ∷ rs = sym no_rows ∙ e in cc
-rows_marks ms (z ∷ zs) r rs h e i =
-    let f = first_line z zs in
-    led_by ms (z ∷ zs) f.0 f.1 f.2 r.kind h f.3 (kind_from (z ∷ zs) f.0 f.1 f.2 r rs f.3 e) i ∙ ap (led ms) e
+unfolding rows
+rows_marks ms zs r rs h e i = rows_led 0 ms zs r rs h e i
 
 -- ---- so they are outside the block
 
@@ -378,7 +381,7 @@ marks_kind : (m : Item) (ms : List Item) → AreMarks (m ∷ ms) → kind_at 0 (
 marks_kind m ms h =
     ap (λ (xs : List Item). kind_of_signs 0 (map sign xs)) (marks_content m ms h)
     ∙ ap (kind_of_signs 0) (sym (append-nil (map sign (m ∷ ms))))
-    ∙ kind_marks (map sign (m ∷ ms)) [] (signs_of_marks (m ∷ ms) h)
+    ∙ kind_marks 0 (map sign (m ∷ ms)) [] (signs_of_marks (m ∷ ms) h)
     ∙ nothing_blank
 
 pub marks_alone : (m : Item) (ms : List Item) → AreMarks (m ∷ ms) → rows (m ∷ ms) ≡ blank_row (m ∷ ms) ∷ []

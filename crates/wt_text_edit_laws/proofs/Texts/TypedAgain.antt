@@ -17,13 +17,13 @@ use Rattle.wt_escape.specs.Spelling.{inline_spelling}
 use Rattle.wt_checks.specs.Alike.{same_kind, same_data}
 use Rattle.wt_checks.specs.Checked.{checked}
 use Rattle.wt_content.specs.Content.{bad_content}
-use Rattle.wt_selser.specs.Changes.{marked}
-use Rattle.wt_selser.specs.BodySlices.{slices}
+use Rattle.wt_slices.specs.Changes.{marked}
+use Rattle.wt_slices.specs.BodySlices.{slices}
 use Rattle.wt_selser.specs.declared.refusal.EditRefusal.{EditRefusal}
 use Rattle.wt_selser.specs.declared.refusal.EditRefusal.TheVariants as refusal
 use Rattle.wt_selser.specs.Edits.{first_with, is_tangled, refused_pairs, most_bytes, if_short, unless_refused, pairs_answer, edit_answer}
 use Rattle.wt_selser.specs.GroupFaults.{has_faulty_group}
-use Rattle.wt_selser.specs.Splice.{Change, spliced}
+use Rattle.wt_splice.specs.Splice.{Change, spliced}
 use Rattle.wt_isolation.specs.OpenTags.{any_ends_open}
 use Rattle.wt_checks.specs.declared.refusal.TreeRefusal.{TreeRefusal}
 use Rattle.wt_span.specs.Origins.{Expanded}

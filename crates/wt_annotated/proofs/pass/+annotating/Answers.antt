@@ -4,7 +4,7 @@ use Rattle.wt_tree.specs.View.{view, views}
 use Rattle.wt_inline.specs.ItemTree.{forest}
 use Rattle.wt_inline.specs.View.{head_of, item_trees}
 use Rattle.wt_inline.specs.declared.tree.PieceTree.{out-PieceTree}
-use Rattle.wt_annotated.proofs.Passes.{so_far_init, room_place, smaller_child, smaller_children, room_inside, so_far_step, all_done, room_closing, inside_from, inner_done, three_ok}
+use Rattle.wt_annotated.proofs.Passes.{so_far_init, room_place, room_number, smaller_child, smaller_children, room_inside, number_after, number_inside, so_far_step, all_done, room_closing, inside_from, inner_done, three_ok}
 use Rattle.wt_annotated.proofs.pass.+annotating.Goals as goal
 
 pub annotated_all-loop-tree-init : goal.annotated_all-loop-tree-init
@@ -22,8 +22,12 @@ annotated_all-annotated_node-requires t c =
         smaller_child _ c.loop-tree.behind.place c.loop-tree.behind.next c.args.at.place c.args.at.next c.in-Some.tree
             (into_iter_items c.next.new.self) rs ys c.args.trees c.loop-tree.invariant c.in-Some.ensures.steps.0 e,
       ),
-      room_place _ c.loop-tree.behind.place c.loop-tree.behind.next c.args.at.place c.args.at.next 4294967296 c.in-Some.tree
-          (into_iter_items c.next.new.self) rs ys c.args.trees c.loop-tree.invariant c.in-Some.ensures.steps.0 e c.requires,
+      (
+        room_place _ c.loop-tree.behind.place c.loop-tree.behind.next c.args.at.place c.args.at.next 4294967296 c.in-Some.tree
+            (into_iter_items c.next.new.self) rs ys c.args.trees c.loop-tree.invariant c.in-Some.ensures.steps.0 e c.requires.place,
+        room_number _ c.loop-tree.behind.place c.loop-tree.behind.next c.args.at.place c.args.at.next 4294967296 c.in-Some.tree
+            (into_iter_items c.next.new.self) rs ys c.args.trees c.loop-tree.invariant c.in-Some.ensures.steps.0 e c.requires.number,
+      ),
     )
 
 pub annotated_all-loop-tree-preserved : goal.annotated_all-loop-tree-preserved
@@ -45,25 +49,32 @@ annotated_all-returns t c =
 pub annotated_node-annotated_all-requires : goal.annotated_node-annotated_all-requires
 annotated_node-annotated_all-requires t c = (
   omega (arith, smaller_children c.args.tree),
-  room_inside c.args.tree c.args.at.place c.in_ok-inside.inside.place c.width.result 4294967296 c.as_slice.result.now
-      c.in_ok-inside.ensures.place c.width.ensures c.as_slice.ensures c.requires,
+  (
+    room_inside c.args.tree c.args.at.place c.after-inside.result.place c.width.result 4294967296 c.as_slice.result.now
+        c.after-inside.ensures.place c.width.ensures c.as_slice.ensures c.requires.place,
+    number_inside c.args.tree c.args.at.next c.after-inside.result.next 4294967296 (sym c.is_leaf.ensures ∙ c.if-is_leaf.false)
+        c.after-inside.ensures.number c.requires.number,
+  ),
 )
+
+pub annotated_node-after-inside-requires-clause-number : goal.annotated_node-after-inside-requires-clause-number
+annotated_node-after-inside-requires-clause-number t c = number_after c.args.tree c.args.at.next 4294967296 c.requires.number
 
 pub annotated_node-node_round-requires-clause-closing : goal.annotated_node-node_round-requires-clause-closing
 annotated_node-node_round-requires-clause-closing t c =
     let made = c.in_ok-children.children in
-    room_closing c.args.tree c.args.at.place 0 c.in_ok-inside.inside.place c.width.result c.in_ok-inside.inside.next
+    room_closing c.args.tree c.args.at.place 0 c.after-inside.result.place c.width.result c.after-inside.result.next
     made.behind.place made.behind.next 4294967296 c.as_slice.result.now
-    (views made.nodes) c.in_ok-children.ensures c.in_ok-inside.ensures.place c.width.ensures c.as_slice.ensures c.requires
+    (views made.nodes) c.in_ok-children.ensures c.after-inside.ensures.place c.width.ensures c.as_slice.ensures c.requires.place
 
 pub annotated_node-returns : goal.annotated_node-returns
 annotated_node-returns t c =
     let made = c.in_ok-children.children in
     let n = out-PieceTree c.args.tree in
-    let inside = inside_from c.in_ok-inside.inside.place c.in_ok-inside.inside.next c.args.at.place c.width.result 0
+    let inside = inside_from c.after-inside.result.place c.after-inside.result.next c.args.at.place c.width.result 0
     c.as_slice.result.now n.opening (head_of n.head) c.args.at.next (forest (item_trees n.children))
     (views made.nodes) made.behind.place made.behind.next
-    c.in_ok-children.ensures c.in_ok-inside.ensures.place c.width.ensures c.as_slice.ensures c.in_ok-inside.ensures.number in
+    c.in_ok-children.ensures c.after-inside.ensures.place c.width.ensures c.as_slice.ensures c.after-inside.ensures.number in
     three_ok c.node_round.result _ _ _ _
     (λ m e f g. inner_done c.args.tree c.args.at.place c.args.at.next m.behind.place m.behind.next made.behind.place
     made.behind.next (views made.nodes) (view m.node) (sym c.is_leaf.ensures ∙ c.if-is_leaf.false) inside e f g)

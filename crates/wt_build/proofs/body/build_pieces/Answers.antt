@@ -1,7 +1,7 @@
-use Rattle.std.proofs.Common.{[], List, sym, ap, ◌∙◌, subst}
+use Rattle.std.proofs.Common.{[], List, ◌<◌, ◌^◌, length, sym, ap, ◌∙◌, subst, arith}
 use Rattle.std.specs.Prelude.{All}
 use Rattle.wt_span.specs.declared.form.Piece.{Piece}
-use Rattle.wt_span.specs.Items.{items}
+use Rattle.wt_span.specs.Items.{items, sources}
 use Rattle.wt_span.specs.Origins.{IsSoundPiece}
 use Rattle.wt_tree.specs.declared.kind.Kind.TheVariants as kind
 use Rattle.wt_inline.specs.Grown.{growth}
@@ -16,7 +16,8 @@ with_next-requires-clause-sound c = c.loop-rest.invariant.sound
 
 pub loop-rest-init : goal.loop-rest-init
 loop-rest-init c = record {
-  sound = subst (λ (ps : List Piece). All IsSoundPiece ps) (sym c.of-rest.ensures) c.requires;
+  sound = subst (λ (ps : List Piece). All IsSoundPiece ps) (sym c.of-rest.ensures) c.requires.sound;
+  few = subst (λ (ps : List Piece). length (sources (items ps)) < 2 ^ 32) (sym c.of-rest.ensures) c.requires.few;
   carries = carries_none (growth c.new-children.result) (items c.args.pieces.now) (items (left c.of-rest.result))
       (ap items c.of-rest.ensures);
 }
@@ -24,6 +25,7 @@ loop-rest-init c = record {
 pub loop-rest-preserved : goal.loop-rest-preserved
 loop-rest-preserved c = record {
   sound = c.in_ok-grown.ensures.sound_after;
+  few = omega (arith, c.loop-rest.invariant.few, c.in_ok-grown.ensures.few_after);
   carries = carries_on (growth c.new-children.result) (growth c.loop-rest.children) (growth c.in_ok-grown.grown) (items c.args.pieces.now)
       (items (left c.loop-rest.rest)) (items (left c.in_ok-grown.after)) c.loop-rest.invariant.carries c.in_ok-grown.ensures.grown;
 }

@@ -1,4 +1,4 @@
-use Rattle.std.proofs.Common.{List, take, drop, sym, ap, refl, ◌∙◌, subst}
+use Rattle.std.proofs.Common.{List, length, take, drop, sym, ap, refl, ◌∙◌, subst, arith}
 use Rattle.std.specs.Prelude.{All}
 use Rattle.std.proofs.lemmas.List.Elements.{All-drop, All-take}
 use Rattle.wt_span.specs.declared.form.Piece.{Piece}
@@ -7,12 +7,27 @@ use Rattle.wt_span.specs.Origins.{IsSoundPiece}
 use Rattle.std.proofs.lemmas.Result.{IfOk-weaker}
 use Rattle.wt_page.specs.Lists.{item_opening_len, line_item}
 use Rattle.wt_rows.specs.Views.{row_view, stretches_view}
+use Rattle.wt_rows.proofs.FewItems.{few_rest_items}
 use Rattle.wt_build.proofs.Items.{plain_line}
 use Rattle.wt_build.proofs.item.line_item.Goals as goal
 
 pub cut_opening-requires : goal.cut_opening-requires
 cut_opening-requires c =
-    subst (λ (qs : List Piece). All IsSoundPiece qs) (sym c.between-line.ensures) (All-take IsSoundPiece _ _ (All-drop IsSoundPiece _ _ c.requires))
+    subst (λ (qs : List Piece). All IsSoundPiece qs) (sym c.between-line.ensures) (All-take IsSoundPiece _ _ (All-drop IsSoundPiece _ _ c.requires.sound))
+
+pub plain_item-requires-clause-few : goal.plain_item-requires-clause-few
+plain_item-requires-clause-few c =
+    let xs = items c.between-line.result.now in
+    let ys = items c.as_slice-then-is_plain.result.now in
+    few_rest_items (item_opening_len xs) xs ys (ap items c.as_slice-then-is_plain.ensures ∙ c.in_ok-opening.ensures.back)
+    (omega (arith, ap (λ qs. length (items qs)) c.between-line.ensures, c.requires.few))
+
+pub item_by-requires-clause-few : goal.item_by-requires-clause-few
+item_by-requires-clause-few c =
+    let xs = items c.between-line.result.now in
+    let ys = items c.as_slice-2.result.now in
+    few_rest_items (item_opening_len xs) xs ys (ap items c.as_slice-2.ensures ∙ c.in_ok-opening.ensures.back)
+    (omega (arith, ap (λ qs. length (items qs)) c.between-line.ensures, c.requires.few))
 
 pub returns-then-is_plain : goal.returns-then-is_plain
 returns-then-is_plain c =

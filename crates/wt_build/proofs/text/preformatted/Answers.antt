@@ -1,4 +1,4 @@
-use Rattle.std.proofs.Common.{get_or, ap, ◌∙◌}
+use Rattle.std.proofs.Common.{length, get_or, ap, ◌∙◌, arith}
 use Rattle.std.specs.Prelude.{codes}
 use Rattle.std.proofs.lemmas.List.Elements.{All-get_or}
 use Rattle.wt_span.specs.Bytes.{begins}
@@ -9,6 +9,8 @@ use Rattle.wt_rows.specs.declared.row.RowAt.{RowAt}
 use Rattle.wt_build.specs.declared.text.TextKind.TheVariants as text
 use Rattle.wt_page.specs.Rows.{signs}
 use Rattle.wt_build.specs.Blocks.{IsOf}
+use Rattle.wt_rows.specs.Views.{row_view}
+use Rattle.wt_rows.proofs.FewItems.{few_rest_items, few_between, few_at}
 use Rattle.wt_build.proofs.LaterLines.{space_edge}
 use Rattle.wt_build.proofs.Slices.{sound_slice}
 use Rattle.wt_build.proofs.TextRuns.{ready_at, same_at, pre_begins, pre_is}
@@ -27,6 +29,14 @@ cut-requires-clause-edge c some =
     (ap (λ qs. begins (codes " ") (signs (items qs))) c.between-content.ensures
     ∙ pre_begins c.args.pieces.now (get_or rs 0 none) (ready_at c.args.pieces.now rs 0 none c.requires.ready.rows c.requires.some)
     (All-get_or (IsOf text.Pre) rs 0 none c.requires.some c.requires.kind))
+
+pub text_children-requires-clause-few : goal.text_children-requires-clause-few
+text_children-requires-clause-few c =
+    let ps = c.args.pieces.now in
+    let rs = c.args.rows.now in
+    let few = few_between (row_view ps (get_or rs 0 none)) (few_at ps rs 0 none c.requires.ready c.requires.some) in
+    few_rest_items 1 (items c.between-content.result.now) (items c.as_slice.result.now) (ap items c.as_slice.ensures ∙ c.in_ok-opening.ensures.back)
+    (omega (arith, ap (λ qs. length (items qs)) c.between-content.ensures, few))
 
 pub returns : goal.returns
 returns c =

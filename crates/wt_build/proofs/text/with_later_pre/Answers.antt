@@ -9,12 +9,19 @@ use Rattle.wt_inline.specs.View.{item_tree}
 use Rattle.wt_inline.specs.Grown.{growth}
 use Rattle.wt_page.specs.Rows.{signs}
 use Rattle.wt_rows.specs.Views.{row_view}
+use Rattle.wt_rows.proofs.FewItems.{few_rest_items, few_between}
 use Rattle.wt_build.proofs.LaterLines.{space_edge, grows_pre}
 use Rattle.wt_build.proofs.text.with_later_pre.Goals as goal
 
 pub cut-requires-clause-edge : goal.cut-requires-clause-edge
 cut-requires-clause-edge c some =
     space_edge (items c.between-line.result.now) (ap (λ qs. begins (codes " ") (signs (items qs))) c.between-line.ensures ∙ c.requires.spaced)
+
+pub with_line-requires-clause-few : goal.with_line-requires-clause-few
+with_line-requires-clause-few c =
+    let r = row_view c.args.pieces.now c.args.row.now in
+    let rest = ap items c.as_slice.ensures ∙ c.in_ok-space.ensures.back ∙ ap (λ qs. drop 1 (items qs)) c.between-line.ensures in
+    few_rest_items 1 r.items (items c.as_slice.result.now) rest (few_between r c.requires.few)
 
 pub returns : goal.returns
 returns c =

@@ -4,6 +4,7 @@ use Rattle.wt_inline.specs.Grown.{growth}
 use Rattle.wt_rows.specs.declared.row.RowAt.{RowAt}
 use Rattle.wt_rows.specs.Views.{rows_view}
 use Rattle.wt_build.specs.Blocks.{later_from}
+use Rattle.wt_rows.proofs.FewItems.{few_at}
 use Rattle.wt_build.proofs.TextRuns.{ready_at, same_at, later_step, later_done}
 use Rattle.wt_build.proofs.text.with_later_rows.Goals as goal
 
@@ -12,6 +13,9 @@ none = record { kind = line.Blank; start = 0; from = 0; to = 0; end = 0 }
 
 pub with_next-requires-clause-ready : goal.with_next-requires-clause-ready
 with_next-requires-clause-ready c = ready_at c.args.pieces.now c.args.rows.now c.loop-at.at none c.requires.ready.rows c.loop-at-test.true
+
+pub with_next-requires-clause-few : goal.with_next-requires-clause-few
+with_next-requires-clause-few c = few_at c.args.pieces.now c.args.rows.now c.loop-at.at none c.requires.ready c.loop-at-test.true
 
 pub loop-at-preserved : goal.loop-at-preserved
 loop-at-preserved c =

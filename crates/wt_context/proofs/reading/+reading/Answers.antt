@@ -1,9 +1,10 @@
-use Rattle.std.proofs.Common.{◌≡◌, List, ap, sym, subst, arith}
+use Rattle.std.proofs.Common.{◌≡◌, ◌-◌, List, length, map, ap, sym, subst, arith}
 use Rattle.std.specs.Prelude.{All}
 use Rattle.std.specs.Vec.Iter.{into_iter_items}
 use Rattle.std.proofs.lemmas.Result.{IfOk-weaker}
 use Rattle.std.proofs.lemmas.List.Elements.{All-tail}
 use Rattle.wt_tiles.specs.declared.tile.Tile.{Tile}
+use Rattle.wt_tiles.specs.Cutting.{tile_of}
 use Rattle.wt_span.specs.Items.{items}
 use Rattle.wt_inline.specs.declared.loose.Loose.TheVariants.{Text}
 use Rattle.wt_inline.specs.Parts.{Part, parts}
@@ -15,6 +16,7 @@ use Rattle.wt_context.specs.Tokens.{segments_of}
 use Rattle.wt_context.proofs.NestedTrees.{nested_made}
 use Rattle.wt_context.proofs.TileCuts.{tiles_cut}
 use Rattle.wt_context.proofs.ContextReads.{context_read, tiles_step}
+use Rattle.wt_context.proofs.FewSegments.{few_segments}
 use Rattle.wt_context.proofs.InertItems.{none_within, inert_within}
 use Rattle.wt_context.proofs.reading.+reading.Goals as goal
 use Rattle.wt_context.proofs.reading.+reading.Goals.{with_context-then-levels-eq0-via-then-levels-eq0, with_context-then-levels-eq0-via-else-levels-eq0+then-are_inert}
@@ -46,11 +48,18 @@ with_context-tokens_of-requires t c =
     let some = c.if-levels-eq0.false in (
       omega (arith, some),
       (
-        tiles_cut c.args.context (items c.args.pieces.now) c.in_ok-tiles.tiles c.in_ok-tiles.ensures.value c.in_ok-tiles.ensures.sound,
+        tiles_cut c.args.context (items c.args.pieces.now) c.in_ok-tiles.tiles c.in_ok-tiles.ensures.value c.in_ok-tiles.ensures.joined
+            c.in_ok-tiles.ensures.sound c.requires.few,
         omega
             (arith, some, c.requires.room),
       ),
     )
+
+pub with_context-with_styles-requires : goal.with_context-with_styles-requires
+with_context-with_styles-requires t c =
+    let few = few_segments (within (c.args.levels - 1)) c.args.context (items c.args.pieces.now) (map tile_of c.in_ok-tiles.tiles)
+    c.in_ok-tiles.ensures.value in
+    omega (arith, ap length c.in_ok-tokens.ensures, few, c.requires.few)
 
 pub with_context-returns-then-levels-eq0 : goal.with_context-returns-then-levels-eq0
 with_context-returns-then-levels-eq0 t c =

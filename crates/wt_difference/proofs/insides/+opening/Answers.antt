@@ -1,5 +1,5 @@
 use Rattle.wt_tree.specs.Opened.{opened}
-use Rattle.wt_tree.specs.Recutting.{appended}
+use Rattle.wt_recut.specs.Recutting.{appended}
 use Rattle.wt_tree.specs.View.{views}
 use Rattle.wt_difference.specs.Views.{child_views}
 use Rattle.wt_difference.proofs.HeldChildren.{opened_turn, opened_end, opened_node}

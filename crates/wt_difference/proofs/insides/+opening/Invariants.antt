@@ -1,6 +1,6 @@
 use Rattle.std.proofs.Common.{◌≡◌, drop}
 use Rattle.wt_tree.specs.Opened.{opened}
-use Rattle.wt_tree.specs.Recutting.{appended}
+use Rattle.wt_recut.specs.Recutting.{appended}
 use Rattle.wt_tree.specs.View.{views}
 use Rattle.wt_difference.specs.Views.{child_views}
 use Rattle.wt_difference.proofs.insides.+opening.Given as goal

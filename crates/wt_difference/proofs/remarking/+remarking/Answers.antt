@@ -1,7 +1,7 @@
 use Rattle.std.proofs.Common.{◌≡◌, rules, List, [], ◌∷◌, refl, sym, ap, ◌∙◌}
 use Rattle.std.specs.Vec.Iter.{into_iter_items}
 use Rattle.wt_tree.specs.View.{views}
-use Rattle.wt_tree.proofs.Recuts.{no_items}
+use Rattle.wt_recut.proofs.Recuts.{no_items}
 use Rattle.wt_checks.specs.View.{indexed}
 use Rattle.wt_tree.specs.declared.node.Node.{Node}
 use Rattle.wt_difference.specs.Remarked.{are_left, remarked_child, all_remarked}

@@ -1,6 +1,6 @@
 use Rattle.std.proofs.Common.{◌≡◌}
 use Rattle.std.specs.Vec.Iter.{into_iter_items}
-use Rattle.wt_tree.specs.Recutting.{appended}
+use Rattle.wt_recut.specs.Recutting.{appended}
 use Rattle.wt_tree.specs.View.{views}
 use Rattle.wt_checks.specs.View.{indexed}
 use Rattle.wt_difference.specs.Remarked.{all_remarked}

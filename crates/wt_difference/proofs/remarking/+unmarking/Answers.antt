@@ -1,7 +1,7 @@
 use Rattle.std.proofs.Common.{◌≡◌, rules, [], ◌∷◌, refl, sym, ap, ◌∙◌}
 use Rattle.std.specs.Vec.Iter.{into_iter_items}
 use Rattle.wt_tree.specs.View.{views}
-use Rattle.wt_tree.proofs.Recuts.{no_items}
+use Rattle.wt_recut.proofs.Recuts.{no_items}
 use Rattle.wt_checks.specs.WithoutMarks.{unmarked, all_unmarked}
 use Rattle.wt_difference.proofs.Remarks.{made_on, made_end}
 use Rattle.wt_difference.proofs.remarking.+unmarking.Goals as goal

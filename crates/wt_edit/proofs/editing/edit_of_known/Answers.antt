@@ -4,7 +4,9 @@ use Rattle.wt_tree.specs.Tree.{label}
 use Rattle.wt_tree.specs.View.{view}
 use Rattle.wt_span.specs.declared.limits.TheConstants.{PAGE_BYTES}
 use Rattle.wt_expand.specs.Work.{Entry, fetches, firsts_after}
+use Rattle.wt_selser.specs.Borders.{page_text}
 use Rattle.wt_selser.specs.Edits.{edit_answer, AnswersEdit}
+use Rattle.wt_slices.specs.Borders.{HasBorders}
 use Rattle.wt_visible.specs.SameNodes.{same_node}
 use Rattle.wt_visible.proofs.SameTells.{tells_same}
 use Rattle.wt_transclusion.proofs.AskedLaws.{first_some}
@@ -17,6 +19,15 @@ use Rattle.wt_edit.proofs.editing.edit_of_known.Goals as goal
 pub edit-requires-clause-body : goal.edit-requires-clause-body
 edit-requires-clause-body g c =
     ap (λ t. (label t).kind) (ap view c.body-tree.ensures.body) ∙ c.requires.body
+
+pub edit-requires-clause-places : goal.edit-requires-clause-places
+edit-requires-clause-places g c =
+    let t = view c.args.revision.annotated.now.tree.body in
+    let is_tree : view c.body-tree.result.now ≡ t = ap view c.body-tree.ensures.body in
+    subst (HasBorders c.args.revision.page.now) (sym is_tree) c.requires.places
+
+pub edit-requires-clause-text : goal.edit-requires-clause-text
+edit-requires-clause-text g c = ap page_text c.items-items.ensures ∙ c.requires.text
 
 pub check_meaning-requires-clause-room : goal.check_meaning-requires-clause-room
 check_meaning-requires-clause-room g c =

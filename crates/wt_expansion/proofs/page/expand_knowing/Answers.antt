@@ -1,4 +1,4 @@
-use Rattle.std.proofs.Common.{◌≡◌, Err, ap, length, map, rules, subst, sym, true, ◌∙◌}
+use Rattle.std.proofs.Common.{◌≡◌, Err, ap, arith, length, map, rules, subst, sym, true, ◌∙◌}
 use Rattle.std.specs.Prelude.{IfErr}
 use Rattle.wt_span.specs.declared.form.Mode.TheVariants as mode
 use Rattle.wt_span.specs.Items.{items}
@@ -11,7 +11,7 @@ use Rattle.wt_transclusion.specs.Stops.{Stops}
 use Rattle.wt_transclusion.proofs.GrowthLaws.{agrees_known, has_known}
 use Rattle.wt_template_stack.specs.declared.expansion.Expansion.{Expansion}
 use Rattle.wt_expansion.proofs.PageWalk.{page_members, page_stands}
-use Rattle.wt_expansion.proofs.KnownLaws.{found_refused, found_stops, free_by_agreeing, free_still, page_is_found}
+use Rattle.wt_expansion.proofs.KnownLaws.{few_found, found_refused, found_stops, free_by_agreeing, free_still, page_is_found}
 use Rattle.wt_expansion.proofs.page.expand_knowing.Goals as goal
 
 pub returns-in_err-text-clause-refused : goal.returns-in_err-text-clause-refused
@@ -83,10 +83,14 @@ new-items-requires g c =
     let walked = c.in_ok-stretch.ensures.given pages bytes met 0 true (page_members bytes) agrees free
     (c.start.ensures mode.Page bytes c.in_ok-text.ensures.read) (page_stands bytes) in
     let found = page_is_found pages bytes met walk.expansion.spent answered told_now (length bytes) walk.found next.found next.expansion
-    c.from_vec-pieces.result c.from_vec-outer.result c.from_vec-text_calls.result c.utf8.page c.requires.short c.in_ok-text.ensures.fits spent
+    c.from_vec-pieces.result c.from_vec-outer.result c.from_vec-text_calls.result c.utf8.page (omega (arith, c.requires.short)) c.in_ok-text.ensures.fits spent
     c.new-walk.ensures.pieces c.new-walk.ensures.outer c.new-walk.ensures.text_calls (c.in_ok-stretch.ensures.names ∙ free.names) walked
     c.from_vec-pieces.ensures c.from_vec-outer.ensures c.from_vec-text_calls.ensures in
-    found.found.owed
+    record {
+      sound = found.found.owed;
+      few = few_found pages bytes met next.expansion answered told_now c.from_vec-pieces.result c.from_vec-outer.result c.from_vec-text_calls.result
+          c.requires.short found;
+    }
 
 pub returns-clause-items : goal.returns-clause-items
 returns-clause-items g c = λ pages met told h.
@@ -103,7 +107,7 @@ returns-clause-items g c = λ pages met told h.
     let walked = c.in_ok-stretch.ensures.given pages bytes met 0 true (page_members bytes) agrees free
     (c.start.ensures mode.Page bytes c.in_ok-text.ensures.read) (page_stands bytes) in
     let found = page_is_found pages bytes met walk.expansion.spent answered told_now (length bytes) walk.found next.found next.expansion
-    c.from_vec-pieces.result c.from_vec-outer.result c.from_vec-text_calls.result c.utf8.page c.requires.short c.in_ok-text.ensures.fits spent
+    c.from_vec-pieces.result c.from_vec-outer.result c.from_vec-text_calls.result c.utf8.page (omega (arith, c.requires.short)) c.in_ok-text.ensures.fits spent
     c.new-walk.ensures.pieces c.new-walk.ensures.outer c.new-walk.ensures.text_calls (c.in_ok-stretch.ensures.names ∙ free.names) walked
     c.from_vec-pieces.ensures c.from_vec-outer.ensures c.from_vec-text_calls.ensures in
     let given : c.new-items.result ≡ record {
@@ -142,7 +146,7 @@ returns-clause-some g c =
     let walked = c.in_ok-stretch.ensures.given pages bytes met 0 true (page_members bytes) agrees free
     (c.start.ensures mode.Page bytes c.in_ok-text.ensures.read) (page_stands bytes) in
     let found = page_is_found pages bytes met walk.expansion.spent answered told_now (length bytes) walk.found next.found next.expansion
-    c.from_vec-pieces.result c.from_vec-outer.result c.from_vec-text_calls.result c.utf8.page c.requires.short c.in_ok-text.ensures.fits spent
+    c.from_vec-pieces.result c.from_vec-outer.result c.from_vec-text_calls.result c.utf8.page (omega (arith, c.requires.short)) c.in_ok-text.ensures.fits spent
     c.new-walk.ensures.pieces c.new-walk.ensures.outer c.new-walk.ensures.text_calls (c.in_ok-stretch.ensures.names ∙ free.names) walked
     c.from_vec-pieces.ensures c.from_vec-outer.ensures c.from_vec-text_calls.ensures in
     let given : c.new-items.result ≡ record {
@@ -175,7 +179,7 @@ returns-clause-whole g c = λ pages met told h.
     let walked = c.in_ok-stretch.ensures.given pages bytes met 0 true (page_members bytes) agrees free
     (c.start.ensures mode.Page bytes c.in_ok-text.ensures.read) (page_stands bytes) in
     let found = page_is_found pages bytes met walk.expansion.spent answered told_now (length bytes) walk.found next.found next.expansion
-    c.from_vec-pieces.result c.from_vec-outer.result c.from_vec-text_calls.result c.utf8.page c.requires.short c.in_ok-text.ensures.fits spent
+    c.from_vec-pieces.result c.from_vec-outer.result c.from_vec-text_calls.result c.utf8.page (omega (arith, c.requires.short)) c.in_ok-text.ensures.fits spent
     c.new-walk.ensures.pieces c.new-walk.ensures.outer c.new-walk.ensures.text_calls (c.in_ok-stretch.ensures.names ∙ free.names) walked
     c.from_vec-pieces.ensures c.from_vec-outer.ensures c.from_vec-text_calls.ensures in
     found.allowed
@@ -195,7 +199,7 @@ returns-clause-named g c = λ pages met told h.
     let walked = c.in_ok-stretch.ensures.given pages bytes met 0 true (page_members bytes) agrees free
     (c.start.ensures mode.Page bytes c.in_ok-text.ensures.read) (page_stands bytes) in
     let found = page_is_found pages bytes met walk.expansion.spent answered told_now (length bytes) walk.found next.found next.expansion
-    c.from_vec-pieces.result c.from_vec-outer.result c.from_vec-text_calls.result c.utf8.page c.requires.short c.in_ok-text.ensures.fits spent
+    c.from_vec-pieces.result c.from_vec-outer.result c.from_vec-text_calls.result c.utf8.page (omega (arith, c.requires.short)) c.in_ok-text.ensures.fits spent
     c.new-walk.ensures.pieces c.new-walk.ensures.outer c.new-walk.ensures.text_calls (c.in_ok-stretch.ensures.names ∙ free.names) walked
     c.from_vec-pieces.ensures c.from_vec-outer.ensures c.from_vec-text_calls.ensures in
     found.more
@@ -221,7 +225,7 @@ returns-clause-known g c =
     let walked = c.in_ok-stretch.ensures.given pages bytes met 0 true (page_members bytes) agrees free
     (c.start.ensures mode.Page bytes c.in_ok-text.ensures.read) (page_stands bytes) in
     let found = page_is_found pages bytes met walk.expansion.spent answered told_now (length bytes) walk.found next.found next.expansion
-    c.from_vec-pieces.result c.from_vec-outer.result c.from_vec-text_calls.result c.utf8.page c.requires.short c.in_ok-text.ensures.fits spent
+    c.from_vec-pieces.result c.from_vec-outer.result c.from_vec-text_calls.result c.utf8.page (omega (arith, c.requires.short)) c.in_ok-text.ensures.fits spent
     c.new-walk.ensures.pieces c.new-walk.ensures.outer c.new-walk.ensures.text_calls (c.in_ok-stretch.ensures.names ∙ free.names) walked
     c.from_vec-pieces.ensures c.from_vec-outer.ensures c.from_vec-text_calls.ensures in
     (pages, known_after met (fetches (page_work pages bytes)), found.more.free)

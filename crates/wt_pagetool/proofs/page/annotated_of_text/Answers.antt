@@ -2,11 +2,16 @@ use Rattle.wt_tree.specs.View.{view}
 use Rattle.wt_pagetool.specs.Asked.{work_done}
 use Rattle.wt_expand.specs.Work.{names_asked}
 use Rattle.wt_pagetool.proofs.AskedLaws.{all_first, named_expanded, named_memory, names_done}
-use Rattle.wt_pagetool.proofs.ExpandLaws.{page_small, tree_expanded, tree_sliced}
+use Rattle.wt_pagetool.proofs.ExpandLaws.{page_few, page_small, tree_expanded, tree_sliced}
 use Rattle.wt_pagetool.proofs.page.annotated_of_text.Goals as goal
 
-pub annotated_of_items-requires : goal.annotated_of_items-requires
-annotated_of_items-requires g c =
+pub annotated_of_items-requires-clause-numbers : goal.annotated_of_items-requires-clause-numbers
+annotated_of_items-requires-clause-numbers g c =
+    let s = c.in_ok-items.ensures.some in
+    page_few s.0 c.args.page.now c.in_ok-items.items c.utf8.page c.requires.room s.2 s.1
+
+pub annotated_of_items-requires-clause-bytes : goal.annotated_of_items-requires-clause-bytes
+annotated_of_items-requires-clause-bytes g c =
     let s = c.in_ok-items.ensures.some in
     page_small s.0 c.args.page.now c.in_ok-items.items c.utf8.page c.requires.room s.2 s.1
 

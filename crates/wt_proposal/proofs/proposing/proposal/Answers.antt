@@ -1,5 +1,5 @@
 use Rattle.std.proofs.Common.{◌∙◌, subst, IfOk, IfSome}
-use Rattle.wt_proposal.specs.Rewritten.{IsRewrittenIn}
+use Rattle.wt_places.specs.Rewritten.{IsRewrittenIn}
 use Rattle.wt_proposal.proofs.proposing.proposal.Goals as goal
 
 pub returns : goal.returns

@@ -5,6 +5,5 @@ use Rattle.wt_ranges.proofs.finished.finished_leaf.Goals as goal
 
 pub returns : goal.returns
 returns c =
-    let m = c.in_ok-finished.finished in
-    leaf_finished (outer_calls c.args.calls.now) c.args.child (view c.in_ok-leaf.leaf) (view m.node) c.args.next m.next c.requires.leaf
-    c.in_ok-leaf.ensures c.in_ok-finished.ensures.tree c.in_ok-finished.ensures.number
+    leaf_finished (outer_calls c.args.calls.now) c.args.child (view c.in_ok-leaf.leaf) (view c.alone.result.node) c.args.next c.alone.result.next c.requires.leaf
+    c.in_ok-leaf.ensures c.alone.ensures.tree c.alone.ensures.number

@@ -1,9 +1,10 @@
-use Rattle.std.proofs.Common.{◌≡◌, sym, ◌∙◌, length, arith}
+use Rattle.std.proofs.Common.{◌≡◌, sym, ap, ◌∙◌, length, arith}
 use Rattle.std.specs.Vec.Iter.{into_iter_items}
 use Rattle.wt_inline.specs.View.{item_trees}
 use Rattle.wt_inline.specs.declared.tree.PieceTree.{out-PieceTree}
+use Rattle.wt_annotated.specs.Numbering.{next_after}
 use Rattle.wt_annotated.specs.Pieces.{outer_calls}
-use Rattle.wt_ranges.proofs.Finishing.{runs_end}
+use Rattle.wt_ranges.proofs.Finishing.{head_room, inner_room, runs_end}
 use Rattle.wt_ranges.proofs.Groupings.{fewer, all_fit, inside_fits}
 use Rattle.wt_ranges.proofs.grouping.+grouping.Goals as goal
 
@@ -17,10 +18,18 @@ kept_node-run_nodes-requires t c =
       omega (arith, fewer calls n f.before f.byte f.after opened.children runs opened.nears opened.runs),
       (
         c.requires.sound,
-        all_fit calls f.before f.byte f.after (item_trees (out-PieceTree n).children) opened.children runs opened.nears
-            (inside_fits calls c.args.child f c.requires.fits opened.frame) opened.runs,
+        (
+          all_fit calls f.before f.byte f.after (item_trees (out-PieceTree n).children) opened.children runs opened.nears
+              (inside_fits calls c.args.child f c.requires.fits opened.frame) opened.runs,
+          inner_room calls c.args.child f runs opened.children c.args.next c.next_after-first.result (sym c.is_leaf.ensures ∙ c.if-is_leaf.false)
+              opened.frame opened.runs opened.nears (c.next_after-first.ensures ∙ ap (λ h. next_after h.kind c.args.next) opened.head) c.requires.number,
+        ),
       ),
     )
+
+pub kept_node-next_after-first-requires : goal.kept_node-next_after-first-requires
+kept_node-next_after-first-requires t c =
+    head_room (outer_calls c.args.calls.now) c.args.child c.in_ok-frame.field-0.head c.args.next c.in_ok-frame.ensures.head c.requires.number
 
 pub run_nodes-returns : goal.run_nodes-returns
 run_nodes-returns t c =

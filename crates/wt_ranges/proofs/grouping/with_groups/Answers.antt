@@ -11,8 +11,8 @@ use Rattle.wt_annotated.proofs.Seams.{page_is}
 use Rattle.wt_annotated.proofs.Walks.{walk_all}
 use Rattle.wt_ranges.proofs.grouping.with_groups.Goals as goal
 
-pub kept_node-requires : goal.kept_node-requires
-kept_node-requires c =
+pub kept_node-requires-clause-fits : goal.kept_node-requires-clause-fits
+kept_node-requires-clause-fits c =
     let calls = outer_calls c.args.calls.now in
     omega (arith, ap length (page_is calls (tree_items (item_tree c.args.tree))), c.requires.bytes)
 

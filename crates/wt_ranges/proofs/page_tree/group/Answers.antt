@@ -1,4 +1,4 @@
-use Rattle.std.proofs.Common.{◌≡◌, List, true, length, ◌<◌, ◌^◌, sym, ap, ◌∙◌, subst}
+use Rattle.std.proofs.Common.{◌≡◌, List, true, length, ◌+◌, ◌<◌, ◌^◌, sym, ap, ◌∙◌, subst}
 use Rattle.wt_span.specs.Cuts.{page_of}
 use Rattle.wt_span.specs.Items.{Item}
 use Rattle.wt_span.specs.Origins.{OuterCall}
@@ -12,8 +12,11 @@ use Rattle.wt_page.specs.Body.{body_parts, meaning}
 use Rattle.wt_annotated.specs.Annotated.{annotated}
 use Rattle.wt_annotated.specs.Clean.{is_clean}
 use Rattle.wt_annotated.specs.GroupData.{group_data}
+use Rattle.wt_annotated.specs.NumbersNeeded.{numbers_needed}
+use Rattle.wt_sections.specs.Gathering.{headings_in}
 use Rattle.wt_annotated.proofs.AnnotatedTree.{annotated_tiles, annotated_numbered}
 use Rattle.wt_annotated.proofs.Ends.{body_clean}
+use Rattle.wt_ranges.proofs.Headings.{headings_below}
 use Rattle.wt_ranges.proofs.page_tree.group.Goals as goal
 
 -- a meaning is a body, and each body is clean
@@ -29,6 +32,20 @@ tree_bytes calls cs t u same is small = subst (λ ds. length (page_of ds (tree_i
 meant_tree : (b : Tree) (calls cs : List OuterCall) (t u : ItemTree) → b ≡ annotated cs (group_data cs) t → cs ≡ calls → t ≡ u
     → b ≡ annotated calls (group_data calls) u
 meant_tree b calls cs t u made same is = made ∙ ap (λ ds. annotated ds (group_data ds) t) same ∙ ap (λ v. annotated calls (group_data calls) v) is
+
+tree_numbers : (calls cs : List OuterCall) (t u : ItemTree) → cs ≡ calls → t ≡ u → 1 + numbers_needed calls u < 2 ^ 32
+    → 1 + numbers_needed cs t < 2 ^ 32
+tree_numbers calls cs t u same is few = subst (λ ds. 1 + numbers_needed ds t < 2 ^ 32) (sym same)
+    (subst (λ v. 1 + numbers_needed calls v < 2 ^ 32) (sym is) few)
+
+pub group_tree-requires-clause-numbers : goal.group_tree-requires-clause-numbers
+group_tree-requires-clause-numbers c =
+    tree_numbers c.args.items.outer _ (item_tree c.args.tree) (meaning c.args.items.items) c.sound_calls.ensures.calls c.requires.meant c.requires.numbers
+
+pub in_sections-requires-clause-few : goal.in_sections-requires-clause-few
+in_sections-requires-clause-few c =
+    subst (λ (u : Tree). headings_in u < 2 ^ 32) (sym (meant_tree _ c.args.items.outer _ (item_tree c.args.tree) (meaning c.args.items.items) c.in_ok-body.ensures c.sound_calls.ensures.calls c.requires.meant))
+    (headings_below c.args.items.outer c.args.items.items c.requires.numbers)
 
 pub group_tree-requires-clause-bytes : goal.group_tree-requires-clause-bytes
 group_tree-requires-clause-bytes c =

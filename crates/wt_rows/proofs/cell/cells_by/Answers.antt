@@ -1,15 +1,15 @@
 use Rattle.std.proofs.Common.{List, sym, ap, ◌∙◌, subst}
 use Rattle.std.specs.Prelude.{All}
 use Rattle.wt_tables.specs.declared.cell.CellAt.{CellAt}
-use Rattle.wt_tables.specs.CellViews.{IsSoundCell}
+use Rattle.wt_rows.specs.Ready.{IsReadyCell}
 use Rattle.wt_rows.specs.Views.{stretches_view}
-use Rattle.wt_rows.proofs.Celling.{last_sound, cells_end}
+use Rattle.wt_rows.proofs.Celling.{last_ready, cells_end}
 use Rattle.wt_rows.proofs.cell.cells_by.Goals as goal
 
 pub cell_by-requires : goal.cell_by-requires
 cell_by-requires c =
-    last_sound c.pop.new.self.items c.in-Some.last
-    (subst (λ (cs : List CellAt). All IsSoundCell cs) (sym c.into_vec-others.ensures ∙ c.in-Some.ensures.items) c.requires)
+    last_ready c.pop.new.self.items c.in-Some.last
+    (subst (λ (cs : List CellAt). All IsReadyCell cs) (sym c.into_vec-others.ensures ∙ c.in-Some.ensures.items) c.requires)
 
 pub returns : goal.returns
 returns c =

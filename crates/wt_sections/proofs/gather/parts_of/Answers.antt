@@ -7,9 +7,9 @@ use Rattle.wt_sections.proofs.gather.parts_of.Goals as goal
 
 pub loop-node-init : goal.loop-node-init
 loop-node-init c =
-    let counted : c.in_ok-number.number ≡ heading_count (views c.args.nodes.items) = search rules in
-    subst (λ xs. IsGathered (views c.args.nodes.items) c.in_ok-number.number (parts_view xs) (views c.args.nodes.items))
-    (sym c.new-parts.ensures.items) (gathered_first c.in_ok-number.number (views c.args.nodes.items) counted)
+    let counted : c.heading_count-number.result ≡ heading_count (views c.args.nodes.items) = search rules in
+    subst (λ xs. IsGathered (views c.args.nodes.items) c.heading_count-number.result (parts_view xs) (views c.args.nodes.items))
+    (sym c.new-parts.ensures.items) (gathered_first c.heading_count-number.result (views c.args.nodes.items) counted)
 
 pub overflow_sub-number : goal.overflow_sub-number
 overflow_sub-number c =

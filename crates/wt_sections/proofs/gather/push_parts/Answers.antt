@@ -1,7 +1,7 @@
 use Rattle.std.proofs.Common.{◌≡◌, [], ◌∷◌, ◌++◌, rules, sym, ap, ◌∙◌}
-use Rattle.wt_tree.specs.Recutting.{appended}
+use Rattle.wt_recut.specs.Recutting.{appended}
 use Rattle.wt_tree.specs.View.{views}
-use Rattle.wt_tree.proofs.Recuts.{appended_none}
+use Rattle.wt_recut.proofs.Recuts.{appended_none}
 use Rattle.wt_sections.specs.Gathering.{parts_view}
 use Rattle.wt_sections.specs.Sections.{part_trees}
 use Rattle.wt_sections.proofs.Gathers.{parts_step}

@@ -1,5 +1,5 @@
 use Rattle.std.proofs.Common.{◌≡◌, length}
-use Rattle.wt_tree.specs.Recutting.{appended}
+use Rattle.wt_recut.specs.Recutting.{appended}
 use Rattle.wt_tree.specs.View.{views}
 use Rattle.wt_sections.specs.Gathering.{parts_view}
 use Rattle.wt_sections.specs.Sections.{part_trees}

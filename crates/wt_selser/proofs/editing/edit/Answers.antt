@@ -12,8 +12,8 @@ returns-in-Some c = λ same tells.
     checked_answer same c.args.items.now c.args.page.now (view c.args.tree.now) (view c.args.edited.now) c.in_ok-refused.refused c.in-Some.refusal c.in_ok-refused.ensures
     c.in-Some.is
 
-pub checked_edit-requires : goal.checked_edit-requires
-checked_edit-requires c = ap indexed c.as_slice.ensures.value ∙ c.in_ok-index.ensures.same
+pub checked_edit-requires-clause-index : goal.checked_edit-requires-clause-index
+checked_edit-requires-clause-index c = ap indexed c.as_slice.ensures.value ∙ c.in_ok-index.ensures.same
 
 pub returns : goal.returns
 returns c = λ same tells.

@@ -1,7 +1,7 @@
 use Rattle.std.proofs.Common.{ap, sym, ◌∙◌}
 use Rattle.std.proofs.lemmas.List.{drop_all}
 use Rattle.wt_selser.specs.Edits.{first_of, bad_pair}
-use Rattle.wt_selser.specs.Views.{pairs_of}
+use Rattle.wt_slices.specs.Views.{pairs_of}
 use Rattle.wt_selser.proofs.Answering.{found_here, found_later}
 use Rattle.wt_selser.proofs.editing.first_bad.Goals as goal
 

@@ -1,7 +1,9 @@
 use Rattle.std.proofs.Common.{ap, refl, sym, ◌∙◌}
 use Rattle.std.proofs.lemmas.List.{drop_all}
 use Rattle.wt_selser.specs.Edits.{first_of, tangled_pair}
-use Rattle.wt_selser.specs.Views.{pairs_of}
+use Rattle.wt_slices.specs.Views.{pairs_of}
+use Rattle.wt_selser.specs.Borders.{page_text}
+use Rattle.wt_selser.proofs.GroupBorders.{pair_borders}
 use Rattle.wt_selser.proofs.Answering.{found_here, found_later}
 use Rattle.wt_selser.proofs.editing.first_tangled.Goals as goal
 
@@ -24,3 +26,7 @@ pub returns : goal.returns
 returns c =
     sym (c.loop-pair.invariant.0
     ∙ ap (λ ps. first_of (tangled_pair c.args.items.now c.args.page.now) (pairs_of ps)) (drop_all c.loop-pair.pair-index c.args.pairs.now c.loop-pair-test.false))
+
+pub tangled_pair-requires-clause-borders : goal.tangled_pair-requires-clause-borders
+tangled_pair-requires-clause-borders c =
+    pair_borders (page_text c.args.items.now) c.args.pairs.now c.loop-pair.pair-index c.pair-item.result c.requires c.loop-pair-test.true c.pair-item.is

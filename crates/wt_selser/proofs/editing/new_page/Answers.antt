@@ -1,8 +1,8 @@
 use Rattle.std.proofs.Common.{ap, sym, ◌∙◌, length, List, ℕ, Ok}
 use Rattle.std.specs.Prelude.{nat_lt}
 use Rattle.wt_selser.specs.Edits.{most_bytes}
-use Rattle.wt_selser.specs.Splice.{spliced}
-use Rattle.wt_selser.specs.Views.{changes_view}
+use Rattle.wt_splice.specs.Splice.{spliced}
+use Rattle.wt_splice.specs.Views.{changes_view}
 use Rattle.wt_selser.proofs.Answering.{new_too_long, new_stands}
 use Rattle.wt_selser.proofs.editing.new_page.Goals as goal
 

@@ -1,5 +1,5 @@
 use Rattle.wt_selser.specs.Edits.{first_of, bad_pair, tangled_pair}
-use Rattle.wt_selser.specs.Views.{pairs_of}
+use Rattle.wt_slices.specs.Views.{pairs_of}
 use Rattle.wt_selser.proofs.Answering.{first_some, first_none}
 use Rattle.wt_selser.proofs.editing.refused_pairs.Goals as goal
 

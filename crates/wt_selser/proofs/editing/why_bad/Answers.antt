@@ -3,9 +3,9 @@ use Rattle.wt_tree.specs.View.{view}
 use Rattle.wt_content.specs.Children.{bad_children}
 use Rattle.wt_content.specs.Content.{bad_content}
 use Rattle.wt_selser.specs.Edits.{why_bad}
-use Rattle.wt_selser.specs.Views.{pair_of}
+use Rattle.wt_slices.specs.Views.{pair_of}
 use Rattle.wt_selser.proofs.Answering.{why_children, why_content}
-use Rattle.wt_selser.proofs.BodyWalk.{if_ok}
+use Rattle.wt_slices.proofs.BodyWalk.{if_ok}
 use Rattle.wt_checks.specs.Marks.{is_children}
 use Rattle.wt_selser.proofs.editing.why_bad.Goals as goal
 

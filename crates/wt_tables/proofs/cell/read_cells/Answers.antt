@@ -47,15 +47,15 @@ loop-at-preserved c =
       has_sign = λ less. subst (HasSign 2) (ap (drop len) (numbers_from l.at _ _ c.rest_of-rest.ensures) ∙ joined)
           (next_sign c.args.by l.sign_len len (numbers c.rest_of-rest.result.now) c.first_len-len.ensures.value
           (omega (arith, less, ap length c.rest_of-rest.ensures, length-drop l.at c.args.signs.now, numbers_len c.rest_of-rest.result.now)));
-      cells_are = step_cells l.cells c.push_tight.new.self c.in_ok-cell.cell
+      cells_are = step_cells l.cells c.push.new.self c.in_ok-cell.cell
           (cell_of c.args.header l.sign_len (take len (waiting l.left))) _
-          (cells_left c.args.header c.args.by 2 (waiting c.in_ok-part.after)) _ c.in_ok-push_tight.ensures.ok
+          (cells_left c.args.header c.args.by 2 (waiting c.in_ok-part.after)) _ c.in_ok-push.ensures.ok
           (c.in_ok-cell.ensures.value ∙ ap (cell_of c.args.header l.sign_len) (ap items c.as_slice.ensures ∙ c.in_ok-part.ensures.front))
           (cells_first c.args.header c.args.by l.sign_len len (waiting l.left)
           (some_items (waiting l.left) (drop l.at (numbers c.args.signs.now)) l.sign_len l.invariant.signs_are sign_here) k
           ∙ ap (λ ys. cell_of c.args.header l.sign_len (take len (waiting l.left)) ∷ cells_left c.args.header c.args.by 2 ys) (sym c.in_ok-part.ensures.back))
           l.invariant.cells_are;
-      sound_cells = subst (All IsSoundCell) (sym c.in_ok-push_tight.ensures.ok)
+      sound_cells = subst (All IsSoundCell) (sym c.in_ok-push.ensures.ok)
           (All-push IsSoundCell l.cells c.in_ok-cell.cell l.invariant.sound_cells c.in_ok-cell.ensures.sound_cell);
     }
 

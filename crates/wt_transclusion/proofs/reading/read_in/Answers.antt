@@ -18,7 +18,7 @@ in_arena-requires-clause-targets c =
 pub returns-in-Ok-in_arena : goal.returns-in-Ok-in_arena
 returns-in-Ok-in_arena c =
     text_read c.args.mode c.args.text.now c.in-Ok.lexemes
-    (map call_of c.in-Ok-match_braces.calls) c.in-Ok-in_arena.read c.in-Ok.ensures.words c.in-Ok.ensures.follow c.in-Ok.ensures.borders
+    (map call_of c.in-Ok-match_braces.calls) c.in-Ok-in_arena.read c.utf8.text c.in-Ok.ensures.words c.in-Ok.ensures.follow c.in-Ok.ensures.borders
     c.in-Ok-match_braces.ensures.0 c.in-Ok-match_braces.ensures.1 c.in-Ok-in_arena.ensures.text (c.in-Ok-in_arena.ensures.lexemes ∙ c.as_slice.ensures)
     (c.in-Ok-in_arena.ensures.calls ∙ ap (map call_of) c.as_slice-in-Ok-match_braces.ensures)
 

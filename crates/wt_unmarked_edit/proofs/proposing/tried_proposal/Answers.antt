@@ -1,6 +1,6 @@
 use Rattle.std.proofs.Common.{None, refl, subst}
 use Rattle.std.specs.Prelude.{IfSome}
-use Rattle.wt_proposal.specs.Rewritten.{IsRewritten}
+use Rattle.wt_places.specs.Rewritten.{IsRewritten}
 use Rattle.wt_tree.specs.View.{view}
 use Rattle.wt_unmarked_edit.proofs.TriedLaws.{proposal_tried}
 use Rattle.wt_unmarked_edit.proofs.proposing.tried_proposal.Goals as goal

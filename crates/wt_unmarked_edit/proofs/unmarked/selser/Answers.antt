@@ -1,7 +1,9 @@
-use Rattle.std.proofs.Common.{ap, ◌∙◌, subst}
+use Rattle.std.proofs.Common.{ap, sym, ◌∙◌, subst}
 use Rattle.wt_span.specs.Origins.{Expanded}
 use Rattle.wt_tree.specs.Tree.{label}
 use Rattle.wt_tree.specs.View.{view}
+use Rattle.wt_selser.specs.Borders.{page_text}
+use Rattle.wt_slices.specs.Borders.{HasBorders}
 use Rattle.wt_unmarked_edit.specs.Found.{FindsNew}
 use Rattle.wt_unmarked_edit.proofs.TriedLaws.{beside_answers, beside_refused, memory_answers}
 use Rattle.wt_unmarked_edit.proofs.unmarked.selser.Goals as goal
@@ -11,6 +13,12 @@ set_beside-requires-clause-body g c = ap (λ t. (label t).kind) (ap view c.body-
 
 pub new_page-requires-clause-body : goal.new_page-requires-clause-body
 new_page-requires-clause-body g c = ap (λ t. (label t).kind) (ap view c.body-tree.ensures.body) ∙ c.requires.body
+
+pub new_page-requires-clause-places : goal.new_page-requires-clause-places
+new_page-requires-clause-places g c = subst (HasBorders c.args.page.now) (sym (ap view c.body-tree.ensures.body)) c.requires.places
+
+pub new_page-requires-clause-text : goal.new_page-requires-clause-text
+new_page-requires-clause-text g c = ap page_text c.items.ensures ∙ c.requires.text
 
 pub numbered_nodes-requires-clause-body : goal.numbered_nodes-requires-clause-body
 numbered_nodes-requires-clause-body g c = ap (λ t. (label t).kind) (ap view c.body-tree.ensures.body) ∙ c.requires.body

@@ -1,4 +1,4 @@
-use Rattle.std.proofs.Common.{◌≡◌, ◌+◌, ◌≤◌, ◌||◌, [], ℕ, false, Err, List, None, Option, Some, ap, arith, drop, length, refl, rules, subst, sym, ◌∙◌}
+use Rattle.std.proofs.Common.{◌≡◌, ◌+◌, ◌<◌, ◌||◌, [], ℕ, false, Err, None, Option, Some, ap, arith, drop, length, refl, rules, subst, sym, ◌∙◌}
 use Rattle.std.specs.Prelude.{Result, is_some, slice_range}
 use Rattle.wt_span.specs.declared.form.Mode.TheVariants as mode
 use Rattle.wt_span.specs.Functions.{function_of}
@@ -14,12 +14,13 @@ use Rattle.wt_transclusion.proofs.AskedLaws.{asks_none, asks_then}
 use Rattle.wt_transclusion.proofs.GrowthLaws.{agrees_before, agrees_known, grows_none, grows_then}
 use Rattle.wt_template_stack.specs.Calls.{first_end, members_behind}
 use Rattle.wt_template_stack.specs.Ledgers.{Refuses, ledger}
+use Rattle.wt_template_stack.proofs.Cuts.{back_cut, call_cut, chunk_cut, front_cut}
 use Rattle.wt_expansion.specs.Walks.{AnswersStep, AnswersTarget, AnswersWalk, TargetRead, at_page, behind_stretches, behind_work, call_stretches_at, call_work, target_members, target_output}
 use Rattle.wt_expansion.proofs.Refusals.{none_stepped, none_targeted, none_walked, some_left}
-use Rattle.wt_expansion.proofs.WalkCalls.{function_walked, source_same, target_first}
+use Rattle.wt_expansion.proofs.WalkCalls.{function_walked, source_same, source_there, target_first}
 use Rattle.wt_expansion.proofs.WalkLaws.{strs}
 use Rattle.wt_expansion.proofs.WalkPages.{agrees_first, grown_then, still_concerns}
-use Rattle.wt_expansion.proofs.WalkSteps.{call_step, call_step_refused, call_there, chunk_step, going_ends, going_on, going_refused, going_starts, step_stops}
+use Rattle.wt_expansion.proofs.WalkSteps.{call_step, call_step_refused, call_there, chunk_step, going_ends, going_on, going_refused, going_starts}
 use Rattle.wt_expansion.proofs.WalkTargets.{is_called, target_stands}
 use Rattle.wt_expansion.proofs.WalkTexts.{back_place, behind_refused, behind_stretch, behind_walked, page_walked_on, target_done, target_refused, text_walked}
 use Rattle.wt_expansion.proofs.walk.PageWalk.+walking.Goals as goal
@@ -37,7 +38,7 @@ target-returns-in_err-stretch-clause-given g t c = λ pages page met s n concern
     let x = c.in_err-stretch.field-0.0 in
     let e : c.from_residual-in_err-stretch.result ≡ Err x = search rules in
     let told = subst (λ (y : Result (Option Title) ExpandRefusal). Concerns (g.F.Folder.pages c.args.folder.now) pages now.expansion.store y) e concerns in
-    let reading = c.in_ok-within.ensures.reading mode.Page page n.is.at s n.reading (omega (arith, from)) in
+    let reading = c.within.ensures.reading mode.Page page n.is.at s n.reading (let two = n.is.two in omega (arith, from, two)) in
     let r = c.in_err-stretch.ensures.given pages page met part.at.start false xs told free reading h.stretch in
     subst (λ (y : Result (Option Title) ExpandRefusal). AnswersTarget pages page l b n.is self.found now.found now.expansion.store now.expansion.spent
     (g.F.Folder.answered c.stretch.new.folder) y) (sym e)
@@ -57,14 +58,15 @@ target-returns-clause-given g t c = λ pages page met s n concerns free first.
     let l = ledger self.expansion.spent met (g.F.Folder.answered c.args.folder.now) in
     let now = c.stretch.new.self in
     let before = c.push_slice.new.found in
-    let reading = c.in_ok-within.ensures.reading mode.Page page n.is.at s n.reading (omega (arith, from)) in
+    let reading = c.within.ensures.reading mode.Page page n.is.at s n.reading (let two = n.is.two in omega (arith, from, two)) in
     let walked = c.in_ok-stretch.ensures.given pages page met part.at.start false xs concerns free reading h.stretch in
     let fits = before.pieces.ok in
     let counted = c.len-begun.ensures in
     let begun : c.len-begun.result ≡ length before.pieces.items = omega (arith, fits, counted) in
     target_done pages page l b n.is part h self.found c.push_text_call.new.self before now.found now.expansion.store now.expansion.spent
     (g.F.Folder.answered c.stretch.new.folder) c.pieces_from.result.now c.in_ok-title.title (c.in_ok-push_text_call.ensures n.is.at)
-    (c.in_ok-push_slice.ensures.adds page n.is.at s n.reading (omega (arith, from, start, two))) walked
+    (c.in_ok-push_slice.ensures page n.is.at s n.reading (front_cut mode.Page page b part.at.start n.reading.read.characters n.is from)
+    (omega (arith, from, start, two))) walked
     (c.pieces_from.ensures ∙ ap (λ k. drop k now.found.pieces.items) begun) c.in_ok-title.ensures
 
 pub behind_target-returns-in_err-stretch-clause-given : goal.behind_target-returns-in_err-stretch-clause-given
@@ -77,10 +79,10 @@ behind_target-returns-in_err-stretch-clause-given g t c = λ pages page met s n 
     let l = ledger self.expansion.spent met (g.F.Folder.answered c.args.folder.now) in
     let now = c.stretch.new.self in
     let x = c.in_err-stretch.field-0.0 in
-    let e : c.from_residual-in_err-stretch.result ≡ Err x = search rules in
+    let e : c.from_residual.result ≡ Err x = search rules in
     let told = subst (λ (y : Result Unit ExpandRefusal). Concerns (g.F.Folder.pages c.args.folder.now) pages now.expansion.store y) e concerns in
-    let low : n.is.at ≤ part.at.end = subst (λ q. n.is.at ≤ q) (sym h.to_is) (target_first page b n.is) in
-    let reading = c.in_ok-seek.ensures.reading mode.Page page n.is.at s n.reading low in
+    let low : n.is.at < part.at.end = subst (λ q. n.is.at < q) (sym h.to_is) (target_first page b n.is) in
+    let reading = c.seek.ensures.reading mode.Page page n.is.at s n.reading low in
     let less = c.saturating_sub-braces.ensures in
     let last = c.saturating_sub-end.ensures in
     let end = c.saturating_sub-end.result in
@@ -101,8 +103,8 @@ behind_target-returns-clause-given g t c = λ pages page met s n concerns free f
     let ps = part_members 0 n.is.inside in
     let l = ledger self.expansion.spent met (g.F.Folder.answered c.args.folder.now) in
     let now = c.stretch.new.self in
-    let low : n.is.at ≤ part.at.end = subst (λ q. n.is.at ≤ q) (sym h.to_is) (target_first page b n.is) in
-    let reading = c.in_ok-seek.ensures.reading mode.Page page n.is.at s n.reading low in
+    let low : n.is.at < part.at.end = subst (λ q. n.is.at < q) (sym h.to_is) (target_first page b n.is) in
+    let reading = c.seek.ensures.reading mode.Page page n.is.at s n.reading low in
     let less = c.saturating_sub-braces.ensures in
     let last = c.saturating_sub-end.ensures in
     let end = c.saturating_sub-end.result in
@@ -112,9 +114,10 @@ behind_target-returns-clause-given g t c = λ pages page met s n concerns free f
     let closes = n.is.end_is in
     let two = n.is.two in
     behind_walked pages page l b n.is part end h place
-    (subst (λ (bs : List ℕ). b.at.end ≤ length bs) n.reading.read.text_is c.in_ok-push_slice.ensures.within) self.found now.found c.push_slice.new.found
+    n.is.fits self.found now.found c.push_slice.new.found
     now.expansion.store now.expansion.spent (g.F.Folder.answered c.stretch.new.folder) walked
-    (c.in_ok-push_slice.ensures.adds page n.is.at s n.reading (omega (arith, place, closes, two)))
+    (c.in_ok-push_slice.ensures page n.is.at s n.reading
+    (back_cut mode.Page page b end n.reading.read.characters n.is (omega (arith, place, closes))) (omega (arith, place, closes, two)))
 
 pub walk_call-returns-then-call-clause-given : goal.walk_call-returns-then-call-clause-given
 walk_call-returns-then-call-clause-given g t c = λ pages page met s n concerns free.
@@ -126,21 +129,25 @@ pub walk_call-returns-then-choice-clause-given : goal.walk_call-returns-then-cho
 walk_call-returns-then-choice-clause-given g t c = λ pages page met s n concerns free.
     let source = slice_range c.args.reader.text.text.now c.args.call.at.start c.args.call.at.end in
     c.without_target-then-choice.ensures.given pages page met s n concerns free
-    (ap (λ a. a || is_some (function_of (drop 2 source))) c.if-call.false ∙ (sym c.in_ok-choice.ensures ∙ c.if-choice.true))
+    (ap (λ a. a || is_some (function_of (drop 2 source))) c.if-call.false ∙ (sym (c.begins_choice-choice.ensures (source_there page c.args.call c.args.reader s n)) ∙ c.if-choice.true))
 
 pub walk_call-returns-then-function-clause-given : goal.walk_call-returns-then-function-clause-given
 walk_call-returns-then-function-clause-given g t c = λ pages page met s n concerns free.
     let self = c.args.self.now in
+    let cut = source_there page c.args.call c.args.reader s n in
     let start = n.is.start_is in
     let closes = n.is.end_is in
     let two = n.is.two in
     function_walked pages page met self.expansion.spent (g.F.Folder.answered c.args.folder.now) c.args.call c.args.reader s n self.found c.push_slice.new.found
-    self.expansion.store c.if-call.false (sym c.in_ok-function.ensures ∙ c.if-function.true) (sym c.in_ok-choice.ensures ∙ c.if-choice.false) free.stored
-    (c.in_ok-push_slice.ensures.adds page n.is.at s n.reading (omega (arith, start, closes, two)))
+    self.expansion.store c.if-call.false (sym (c.begins_function-function.ensures cut) ∙ c.if-function.true)
+    (sym (c.begins_choice-choice.ensures cut) ∙ c.if-choice.false) free.stored
+    (c.in_ok-push_slice.ensures page n.is.at s n.reading (call_cut mode.Page page c.args.call n.reading.read.characters n.is)
+    (omega (arith, start, closes, two)))
 
 pub walk_call-returns-clause-given : goal.walk_call-returns-clause-given
 walk_call-returns-clause-given g t c = λ pages page met s n concerns free.
-    c.with_target.ensures.given pages page met s n concerns free c.if-call.false (sym c.in_ok-function.ensures ∙ c.if-function.false)
+    c.with_target.ensures.given pages page met s n concerns free c.if-call.false
+    (sym (c.begins_function-function.ensures (source_there page c.args.call c.args.reader s n)) ∙ c.if-function.false)
 
 pub with_target-returns-in_err-title-clause-given : goal.with_target-returns-in_err-title-clause-given
 with_target-returns-in_err-title-clause-given g t c = λ pages page met s n concerns free is fn.
@@ -210,7 +217,8 @@ step-returns-in_ok-push_chunk-in-Chunk-clause-given g t c = λ pages page met p 
     let self = c.args.self.now in
     let a = c.in-Chunk.ensures mode.Page page p s xs reading st in
     chunk_step pages page met self.expansion.spent (g.F.Folder.answered c.args.folder.now) p s c.args.end xs c.in-Chunk.kind c.in-Chunk.to self.found
-    c.push_chunk.new.found self.expansion.store st a free.stored (c.in_ok-push_chunk-in-Chunk.ensures page p s reading a.0)
+    c.push_chunk.new.found self.expansion.store st a free.stored (c.in_ok-push_chunk-in-Chunk.ensures page p s reading
+    (chunk_cut mode.Page page c.args.reader.text p c.args.end xs c.in-Chunk.kind c.in-Chunk.to reading.read st a) a.0)
 
 pub step-returns-in_err-walk_call-in-Call-clause-given : goal.step-returns-in_err-walk_call-in-Call-clause-given
 step-returns-in_err-walk_call-in-Call-clause-given g t c = λ pages page met p s xs concerns free reading st.
@@ -261,7 +269,7 @@ stretch-returns-clause-given g t c = λ pages page met p s xs agreed free readin
     let l = ledger self.expansion.spent met (g.F.Folder.answered c.args.folder.now) in
     going_ends pages page l (strs (at_page pages) s page p xs) (given_from (at_page pages) s page p xs).work p c.args.end self.found now.found c.steps.reader
     now.expansion.store now.expansion.spent (g.F.Folder.answered c.steps.folder) (c.steps.invariant.given pages page met p s xs agreed free reading st)
-    c.steps-test.false
+    (c.is_before.ensures.none c.steps-test.false)
 
 pub stretch-returns-in_err-to-clause-given : goal.stretch-returns-in_err-to-clause-given
 stretch-returns-in_err-to-clause-given g t c = λ pages page met p s xs concerns free reading st.
@@ -291,7 +299,7 @@ stretch-steps-preserved g t c =
     let told = g.F.Folder.pages c.args.folder.now in
     let step_grown = c.in_ok-to.ensures.grown in
     record {
-      later = omega (arith, c.steps.invariant.later, c.in_ok-reader.ensures.later);
+      later = omega (arith, c.steps.invariant.later, c.seek-reader.ensures.later);
       kept = c.in_ok-to.ensures.kept ∙ c.steps.invariant.kept;
       count = c.in_ok-to.ensures.count ∙ c.steps.invariant.count;
       names = c.in_ok-to.ensures.names ∙ c.steps.invariant.names;
@@ -309,9 +317,9 @@ stretch-steps-preserved g t c =
           let w = c.in_ok-to.ensures.given pages page h.rest.works.met h.place h.at_start h.rest.left agreed
           (record { stored = h.rest.works.stored; names = c.steps.invariant.names ∙ free.names }) h.reading h.rest.stretch in
           going_on pages page l (strs (at_page pages) s page p xs) (given_from (at_page pages) s page p xs).work p c.args.end self.found mid.found now.found
-          c.steps.reader c.in_ok-reader.reader mid.expansion.store now.expansion.store mid.expansion.spent now.expansion.spent
+          c.steps.reader c.seek-reader.result mid.expansion.store now.expansion.store mid.expansion.spent now.expansion.spent
           (g.F.Folder.answered c.steps.folder) (g.F.Folder.answered c.step.new.folder) c.in_ok-to.to h w
-          (c.in_ok-reader.ensures.reading mode.Page page h.place h.at_start h.reading w.0);
+          (c.seek-reader.ensures.reading mode.Page page h.place h.at_start h.reading w.0);
     }
 
 pub with_target-returns-in-Some-clause-grown : goal.with_target-returns-in-Some-clause-grown
@@ -342,7 +350,7 @@ target-returns-in_err-title-clause-given g t c = λ pages page met s n concerns 
     (g.F.Folder.pages c.args.folder.now) pages now.expansion.store y) e concerns in
     let agrees = c.in_ok-stretch.ensures.grown.agrees pages told
     (agrees_known pages met self.expansion.store free.stored) in
-    let reading = c.in_ok-within.ensures.reading mode.Page page n.is.at s n.reading (omega (arith, from)) in
+    let reading = c.within.ensures.reading mode.Page page n.is.at s n.reading (let two = n.is.two in omega (arith, from, two)) in
     let walked = c.in_ok-stretch.ensures.given pages page met part.at.start false xs agrees free reading
     h.stretch in
     let stops = some_left pages page l (ledger now.expansion.spent walked.works.met answered)
@@ -368,8 +376,8 @@ behind_target-returns-in_err-push_slice-clause-given g t c = λ pages page met s
     (g.F.Folder.pages c.args.folder.now) pages now.expansion.store y) e concerns in
     let agrees = c.in_ok-stretch.ensures.grown.agrees pages told
     (agrees_known pages met self.expansion.store free.stored) in
-    let low : n.is.at ≤ part.at.end = subst (λ q. n.is.at ≤ q) (sym h.to_is) (target_first page b n.is) in
-    let reading = c.in_ok-seek.ensures.reading mode.Page page n.is.at s n.reading low in
+    let low : n.is.at < part.at.end = subst (λ q. n.is.at < q) (sym h.to_is) (target_first page b n.is) in
+    let reading = c.seek.ensures.reading mode.Page page n.is.at s n.reading low in
     let less = c.saturating_sub-braces.ensures in
     let last = c.saturating_sub-end.ensures in
     let end = c.saturating_sub-end.result in
@@ -385,37 +393,6 @@ behind_target-returns-in_err-push_slice-clause-given g t c = λ pages page met s
     (first_end (n.is.at + n.is.braces) ps) b.at.end self.found c.push_slice.new.found now.expansion.store
     now.expansion.spent answered y) (sym e)
     (behind_refused pages page l b n.is part answered answer.NoMemory h stops)
-
-pub stretch-returns-in_err-reader-clause-given : goal.stretch-returns-in_err-reader-clause-given
-stretch-returns-in_err-reader-clause-given g t c = λ pages page met p s xs concerns free reading st.
-    let self = c.args.self.now in
-    let mid = c.steps.self in
-    let now = c.step.new.self in
-    let l = ledger self.expansion.spent met (g.F.Folder.answered c.args.folder.now) in
-    let ss = strs (at_page pages) s page p xs in
-    let work = (given_from (at_page pages) s page p xs).work in
-    let answered = g.F.Folder.answered c.step.new.folder in
-    let e : c.from_residual-in_err-reader.result ≡ Err answer.NoMemory = search rules in
-    let told = subst (λ (y : Result Unit ExpandRefusal). Concerns
-    (g.F.Folder.pages c.args.folder.now) pages now.expansion.store y) e concerns in
-    let before = c.steps.invariant.grown.agrees pages told
-    (agrees_known pages met self.expansion.store free.stored) in
-    let h = c.steps.invariant.given pages page met p s xs before free reading st in
-    let agreed = c.in_ok-to.ensures.grown.agrees pages (c.steps.invariant.kept ∙ told) before in
-    let w = c.in_ok-to.ensures.given pages page h.rest.works.met h.place h.at_start h.rest.left agreed
-    (record { stored = h.rest.works.stored; names = c.steps.invariant.names ∙ free.names }) h.reading
-    h.rest.stretch in
-    let stops = step_stops pages page
-    (ledger mid.expansion.spent h.rest.works.met (g.F.Folder.answered c.steps.folder))
-    (strs (at_page pages) h.at_start page h.place h.rest.left)
-    (given_from (at_page pages) h.at_start page h.place h.rest.left).work h.place c.args.end
-    c.in_ok-to.to mid.found now.found now.expansion.store now.expansion.spent answered w in
-    subst (λ (y : Result Unit ExpandRefusal). AnswersWalk pages page l ss work p c.args.end self.found
-    now.found now.expansion.store now.expansion.spent
-    answered y) (sym e)
-    (going_refused pages page l ss work p c.args.end self.found mid.found c.steps.reader mid.expansion.store
-    mid.expansion.spent
-    (g.F.Folder.answered c.steps.folder) answered answer.NoMemory h stops)
 
 -- ---- what the folder is asked for by two calls
 
@@ -443,14 +420,6 @@ stretch-returns-in_err-to-clause-asks g t c =
     (g.F.Folder.most_asked c.step.new.folder)
     c.steps.invariant.asks c.in_err-to.ensures.asks
 
-pub stretch-returns-in_err-reader-clause-asks : goal.stretch-returns-in_err-reader-clause-asks
-stretch-returns-in_err-reader-clause-asks g t c =
-    asks_then (g.F.Folder.answered c.args.folder.now) (g.F.Folder.answered c.steps.folder)
-    (g.F.Folder.answered c.step.new.folder)
-    (g.F.Folder.most_asked c.args.folder.now) (g.F.Folder.most_asked c.steps.folder)
-    (g.F.Folder.most_asked c.step.new.folder)
-    c.steps.invariant.asks c.in_ok-to.ensures.asks
-
 -- ---- memory runs out before anything is asked for
 
 pub step-returns-in_err-push_chunk-in-Chunk-clause-given :
@@ -468,41 +437,15 @@ pub step-returns-in_err-push_chunk-in-Chunk-clause-asks :
 step-returns-in_err-push_chunk-in-Chunk-clause-asks g t c = asks_none (g.F.Folder.answered c.args.folder.now)
     (g.F.Folder.most_asked c.args.folder.now)
 
-pub walk_call-returns-in_err-choice-clause-given : goal.walk_call-returns-in_err-choice-clause-given
-walk_call-returns-in_err-choice-clause-given g t c = λ pages page met s n concerns free.
+pub walk_call-returns-in_err-push_slice-clause-given : goal.walk_call-returns-in_err-push_slice-clause-given
+walk_call-returns-in_err-push_slice-clause-given g t c = λ pages page met s n concerns free.
     let x = c.args.self.now in
     let e : c.from_residual.result ≡ Err answer.NoMemory = search rules in
     none_walked pages page x.expansion.spent met (g.F.Folder.answered c.args.folder.now)
     (call_stretches_at pages page c.args.call n.is s)
     (call_work pages page c.args.call n.is s) n.is.at c.args.call.at.end
-    x.found x.found x.expansion.store x.expansion.spent c.from_residual.result e
-
-pub walk_call-returns-in_err-choice-clause-asks : goal.walk_call-returns-in_err-choice-clause-asks
-walk_call-returns-in_err-choice-clause-asks g t c = asks_none (g.F.Folder.answered c.args.folder.now)
-    (g.F.Folder.most_asked c.args.folder.now)
-
-pub walk_call-returns-in_err-function-clause-given : goal.walk_call-returns-in_err-function-clause-given
-walk_call-returns-in_err-function-clause-given g t c = λ pages page met s n concerns free.
-    let x = c.args.self.now in
-    let e : c.from_residual-in_err-function.result ≡ Err answer.NoMemory = search rules in
-    none_walked pages page x.expansion.spent met (g.F.Folder.answered c.args.folder.now)
-    (call_stretches_at pages page c.args.call n.is s)
-    (call_work pages page c.args.call n.is s) n.is.at c.args.call.at.end
-    x.found x.found x.expansion.store x.expansion.spent c.from_residual-in_err-function.result e
-
-pub walk_call-returns-in_err-function-clause-asks : goal.walk_call-returns-in_err-function-clause-asks
-walk_call-returns-in_err-function-clause-asks g t c = asks_none (g.F.Folder.answered c.args.folder.now)
-    (g.F.Folder.most_asked c.args.folder.now)
-
-pub walk_call-returns-in_err-push_slice-clause-given : goal.walk_call-returns-in_err-push_slice-clause-given
-walk_call-returns-in_err-push_slice-clause-given g t c = λ pages page met s n concerns free.
-    let x = c.args.self.now in
-    let e : c.from_residual-in_err-push_slice.result ≡ Err answer.NoMemory = search rules in
-    none_walked pages page x.expansion.spent met (g.F.Folder.answered c.args.folder.now)
-    (call_stretches_at pages page c.args.call n.is s)
-    (call_work pages page c.args.call n.is s) n.is.at c.args.call.at.end
     x.found c.push_slice.new.found x.expansion.store x.expansion.spent
-    c.from_residual-in_err-push_slice.result e
+    c.from_residual.result e
 
 pub walk_call-returns-in_err-push_slice-clause-asks : goal.walk_call-returns-in_err-push_slice-clause-asks
 walk_call-returns-in_err-push_slice-clause-asks g t c = asks_none (g.F.Folder.answered c.args.folder.now)
@@ -531,30 +474,5 @@ pub target-returns-in_err-push_slice-clause-asks : goal.target-returns-in_err-pu
 target-returns-in_err-push_slice-clause-asks g t c = asks_none (g.F.Folder.answered c.args.folder.now)
     (g.F.Folder.most_asked c.args.folder.now)
 
-pub target-returns-in_err-within-clause-given : goal.target-returns-in_err-within-clause-given
-target-returns-in_err-within-clause-given g t c = λ pages page met s n concerns free first.
-    let x = c.args.self.now in
-    let e : c.from_residual-in_err-within.result ≡ Err answer.NoMemory = search rules in
-    none_targeted pages page x.expansion.spent met (g.F.Folder.answered c.args.folder.now) c.args.call n.is
-    x.found c.push_slice.new.found x.expansion.store x.expansion.spent c.from_residual-in_err-within.result e
-
-pub target-returns-in_err-within-clause-asks : goal.target-returns-in_err-within-clause-asks
-target-returns-in_err-within-clause-asks g t c = asks_none (g.F.Folder.answered c.args.folder.now)
-    (g.F.Folder.most_asked c.args.folder.now)
-
-pub behind_target-returns-in_err-seek-clause-given : goal.behind_target-returns-in_err-seek-clause-given
-behind_target-returns-in_err-seek-clause-given g t c = λ pages page met s n concerns free first.
-    let x = c.args.self.now in
-    let e : c.from_residual.result ≡ Err answer.NoMemory = search rules in
-    none_walked pages page x.expansion.spent met (g.F.Folder.answered c.args.folder.now)
-    (behind_stretches pages page c.args.call n.is)
-    (behind_work pages page c.args.call n.is)
-    (first_end (n.is.at + n.is.braces) (part_members 0 n.is.inside)) c.args.call.at.end
-    x.found x.found x.expansion.store x.expansion.spent c.from_residual.result e
-
-pub behind_target-returns-in_err-seek-clause-asks : goal.behind_target-returns-in_err-seek-clause-asks
-behind_target-returns-in_err-seek-clause-asks g t c = asks_none (g.F.Folder.answered c.args.folder.now)
-    (g.F.Folder.most_asked c.args.folder.now)
-
 pub stretch-steps-smaller : goal.stretch-steps-smaller
-stretch-steps-smaller g t c = c.in_ok-reader.ensures.later
+stretch-steps-smaller g t c = omega (arith, c.seek-reader.ensures.later, c.is_before.ensures.some c.steps-test.true)

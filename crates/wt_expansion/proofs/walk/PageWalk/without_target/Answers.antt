@@ -9,13 +9,12 @@ use Rattle.wt_transclusion.specs.declared.refusal.ExpandRefusal.{ExpandRefusal}
 use Rattle.wt_transclusion.specs.declared.refusal.ExpandRefusal.TheVariants as answer
 use Rattle.wt_transclusion.specs.Steps.{given_from}
 use Rattle.wt_transclusion.specs.Stores.{Concerns}
-use Rattle.wt_transclusion.proofs.AskedLaws.{asks_none}
 use Rattle.wt_transclusion.proofs.GrowthLaws.{agrees_known}
 use Rattle.wt_template_stack.specs.Ledgers.{AnswersOutput, Refuses, ledger, reading_of}
 use Rattle.wt_expansion.specs.Calls.{outer_of}
 use Rattle.wt_expansion.specs.Walks.{Adds, AnswersWalk, call_stretches_at, call_work}
-use Rattle.wt_expansion.proofs.Refusals.{given_stops, none_walked}
-use Rattle.wt_expansion.proofs.WalkCalls.{unlinked_walked, refused_one}
+use Rattle.wt_expansion.proofs.Refusals.{given_stops}
+use Rattle.wt_expansion.proofs.WalkCalls.{refused_one, source_there, unlinked_walked}
 use Rattle.wt_expansion.proofs.walk.PageWalk.without_target.Goals as goal
 
 pub returns-in_err-given-clause-given : goal.returns-in_err-given-clause-given
@@ -23,7 +22,7 @@ returns-in_err-given-clause-given g c = λ pages page met s n concerns free is.
     let self = c.args.self.now in
     let b = c.args.call in
     let l = ledger self.expansion.spent met (g.F.Folder.answered c.args.folder.now) in
-    let e : c.from_residual-in_err-given.result ≡ Err c.in_err-given.field-0.0 = search rules in
+    let e : c.from_residual.result ≡ Err c.in_err-given.field-0.0 = search rules in
     let told = subst (λ (x : Result Unit ExpandRefusal). Concerns (g.F.Folder.pages c.args.folder.now) pages c.stretch.new.self.store x) e concerns in
     let h = c.in_err-given.ensures.given pages page page [] met n.is.at s (call n.is.braces n.is.inside ∷ []) told free.stored c.new-values.ensures n.reading
     n.alone in
@@ -39,7 +38,8 @@ pub returns-clause-given : goal.returns-clause-given
 returns-clause-given g c = λ pages page met s n concerns free is.
     let self = c.args.self.now in
     let b = c.args.call in
-    let source = c.in_ok-source.source in
+    let source = c.slice-source.result in
+    let cut = source_there page b c.args.reader s n in
     let given = c.in_ok-given.given in
     let l = ledger self.expansion.spent met (g.F.Folder.answered c.args.folder.now) in
     let now = c.stretch.new.self in
@@ -50,7 +50,7 @@ returns-clause-given g c = λ pages page met s n concerns free is.
     (given_from (reading_of pages mode.Page [] 40 ns) s page n.is.at (call n.is.braces n.is.inside ∷ [])) now.store now.spent answered (Ok given))
     free.names h in
     unlinked_walked pages page l b c.args.reader s n source self.found c.push_outer.new.self now.store now.spent answered given is own
-    c.in_ok-source.ensures.start c.in_ok-source.ensures.end c.in_ok-source.ensures.bytes
+    (c.slice-source.ensures.start cut) (c.slice-source.ensures.end cut) (c.slice-source.ensures.bytes cut)
     (λ some. subst (λ qs. Adds self.found c.push_outer.new.self (start_of source) (outer (outer_of source b None) (items qs) ∷ []) (end_of source))
     c.as_slice.ensures (c.in_ok-push_outer.ensures some))
 
@@ -78,16 +78,3 @@ returns-in_err-push_outer-clause-given g c = λ pages page met s n concerns free
     c.push_outer.new.self now.store now.spent answered x) (sym e)
     (refused_one pages page l b n.is s answered answer.NoMemory
     (given_stops pages page l _ now.store now.spent answered c.in_ok-given.given own))
-
-pub returns-in_err-source-clause-given : goal.returns-in_err-source-clause-given
-returns-in_err-source-clause-given g c = λ pages page met s n concerns free is.
-    let x = c.args.self.now in
-    let e : c.from_residual.result ≡ Err answer.NoMemory = search rules in
-    none_walked pages page x.expansion.spent met (g.F.Folder.answered c.args.folder.now)
-    (call_stretches_at pages page c.args.call n.is s)
-    (call_work pages page c.args.call n.is s) n.is.at c.args.call.at.end
-    x.found x.found x.expansion.store x.expansion.spent c.from_residual.result e
-
-pub returns-in_err-source-clause-asks : goal.returns-in_err-source-clause-asks
-returns-in_err-source-clause-asks g c = asks_none (g.F.Folder.answered c.args.folder.now)
-    (g.F.Folder.most_asked c.args.folder.now)

@@ -24,4 +24,4 @@ returns-in_err-charge-clause-answer c = λ r t total h k.
 pub returns-clause-gets_on : goal.returns-clause-gets_on
 returns-clause-gets_on c =
     let z = c.in_ok-begin_within.ensures.gets_on in
-    level_begun _ _ _ _ _ z.0 z.1 (omega arith)
+    level_begun _ _ _ _ _ z.0 z.1 c.requires (omega arith)

@@ -40,4 +40,4 @@ returns-clause-answer c = λ r t total h k e f.
 pub returns-clause-gets_on : goal.returns-clause-gets_on
 returns-clause-gets_on c =
     let z = c.in_ok-begin_within.ensures.gets_on in
-    level_begun _ _ _ _ _ z.0 z.1 (choice_few _ _ c.in_ok-choosing.ensures.begun_is)
+    level_begun _ _ _ _ _ z.0 z.1 c.requires (choice_few _ _ c.in_ok-choosing.ensures.begun_is)

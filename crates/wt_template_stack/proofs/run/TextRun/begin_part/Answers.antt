@@ -1,6 +1,5 @@
 use Rattle.wt_template_stack.proofs.PartSteps.{name_begins, value_begins}
-use Rattle.wt_template_stack.proofs.MeasureLaws.{level_begun}
-use Rattle.std.proofs.Common.{arith}
+use Rattle.wt_template_stack.proofs.MeasureLaws.{part_begun}
 use Rattle.wt_template_stack.proofs.run.TextRun.begin_part.Goals as goal
 
 pub returns-in-Some-clause-answer : goal.returns-in-Some-clause-answer
@@ -14,11 +13,9 @@ returns-clause-answer c = λ r t total h e.
 pub returns-in-Some-clause-gets_on : goal.returns-in-Some-clause-gets_on
 returns-in-Some-clause-gets_on c =
     let z = c.in_ok-begin_level.ensures.gets_on in
-    let less = level_begun _ _ _ _ _ z.0 z.1 (omega arith) in
-    omega (arith, less)
+    part_begun _ _ _ _ z.0 z.1
 
 pub returns-clause-gets_on : goal.returns-clause-gets_on
 returns-clause-gets_on c =
     let z = c.in_ok-begin_level-2.ensures.gets_on in
-    let less = level_begun _ _ _ _ _ z.0 z.1 (omega arith) in
-    omega (arith, less)
+    part_begun _ _ _ _ z.0 z.1

@@ -4,6 +4,7 @@ use Rattle.wt_span.specs.declared.form.Piece.{Piece}
 use Rattle.wt_span.specs.Items.{items}
 use Rattle.wt_expand.specs.Expansion.{just}
 use Rattle.std.specs.Prelude.{List}
+use Rattle.wt_transclusion.specs.Ends.{BeginsAscii}
 use Rattle.wt_template_stack.specs.Rests.{ended_with}
 use Rattle.wt_template_stack.specs.Runs.{HasEnded, Returns}
 use Rattle.wt_template_stack.specs.declared.level.Task.{Task}
@@ -71,7 +72,8 @@ returns-in-First-clause-answer c = λ r t total h v s.
     let w = subst (λ (k : Task). HasEnded r t c.args.self.now k c.args.out total) c.in-First.is h in
     c.in_ok-end_told-in-First.ensures.answer r t total
     (first_ends r t c.args.self.now c.in-First.choosing c.in-First.part_0 c.args.out c.in_ok-out-in-First.out total w
-    (c.in_ok-out-in-First.ensures ∙ ap (λ ps. drop c.in-First.part_0 (items ps)) c.as_slice-in-First.ensures)) s
+    (λ ascii. c.in_ok-out-in-First.ensures (subst (λ (ps : List Piece). BeginsAscii c.in-First.part_0 (items ps)) (sym c.as_slice-in-First.ensures) ascii)
+    ∙ ap (λ ps. drop c.in-First.part_0 (items ps)) c.as_slice-in-First.ensures)) s
 
 pub returns-in_err-end_told-in-First-clause-answer : goal.returns-in_err-end_told-in-First-clause-answer
 returns-in_err-end_told-in-First-clause-answer c = λ r t total h v s.
@@ -80,7 +82,8 @@ returns-in_err-end_told-in-First-clause-answer c = λ r t total h v s.
     subst (λ x. AnswersTurn r t c.args.spent.now total c.end_told.new.self c.end_told.new.spent x) (sym e)
     (c.in_err-end_told-in-First.ensures.answer r t total
     (first_ends r t c.args.self.now c.in-First.choosing c.in-First.part_0 c.args.out c.in_ok-out-in-First.out total w
-    (c.in_ok-out-in-First.ensures ∙ ap (λ ps. drop c.in-First.part_0 (items ps)) c.as_slice-in-First.ensures)) s)
+    (λ ascii. c.in_ok-out-in-First.ensures (subst (λ (ps : List Piece). BeginsAscii c.in-First.part_0 (items ps)) (sym c.as_slice-in-First.ensures) ascii)
+    ∙ ap (λ ps. drop c.in-First.part_0 (items ps)) c.as_slice-in-First.ensures)) s)
 
 pub returns-in-Told-clause-answer : goal.returns-in-Told-clause-answer
 returns-in-Told-clause-answer c = λ r t total h v s.

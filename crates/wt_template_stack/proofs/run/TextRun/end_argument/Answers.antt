@@ -46,7 +46,7 @@ returns-in-Some-clause-gets_on c = on_ok_weaker c.give.result (λ h. omega (arit
 pub returns-in-Some-get-clause-gets_on : goal.returns-in-Some-get-clause-gets_on
 returns-in-Some-get-clause-gets_on c =
     let z = c.in_ok-begin_level.ensures.gets_on in
-    level_follows _ _ _ _ _ z.0 z.1
+    level_follows _ _ _ _ _ z.0 z.1 (omega arith)
 
 pub returns-clause-gets_on : goal.returns-clause-gets_on
 returns-clause-gets_on c = on_ok_weaker c.give-2.result (λ h. omega (arith, h)) c.give-2.ensures.gets_on

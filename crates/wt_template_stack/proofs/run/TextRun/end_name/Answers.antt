@@ -14,4 +14,4 @@ returns-clause-answer c = λ r t total h.
 pub returns-clause-gets_on : goal.returns-clause-gets_on
 returns-clause-gets_on c =
     let z = c.in_ok-begin_level.ensures.gets_on in
-    level_follows _ _ _ _ _ z.0 z.1
+    level_follows _ _ _ _ _ z.0 z.1 (omega arith)

@@ -66,7 +66,7 @@ returns-then-is_whole-clause-answer c = λ r t total h s.
 pub returns-in-Tell-clause-gets_on : goal.returns-in-Tell-clause-gets_on
 returns-in-Tell-clause-gets_on c =
     let z = c.in_ok-begin_level-in-Tell.ensures.gets_on in
-    level_follows _ _ _ _ _ z.0 z.1
+    level_follows _ _ _ _ _ z.0 z.1 (omega arith)
 
 pub returns-in-Give-clause-gets_on : goal.returns-in-Give-clause-gets_on
 returns-in-Give-clause-gets_on c =

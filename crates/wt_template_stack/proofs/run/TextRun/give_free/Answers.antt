@@ -11,9 +11,9 @@ use Rattle.wt_template_stack.proofs.run.TextRun.give_free.Goals as goal
 pub returns-clause-answer : goal.returns-clause-answer
 returns-clause-answer c = λ r t total h.
     let to = c.args.to in
-    c.in_ok-resume.ensures.answer r t total h.place h.at_start (record { reading = h.running.reading; mode_is = h.running.mode_is }) h.before
+    c.resume.ensures.answer r t total h.place h.at_start (record { reading = h.running.reading; mode_is = h.running.mode_is }) h.before
     (subst (λ ls. Resumes r t to (starts t to) (just []) ls total) (sym c.in_ok-give.ensures)
     (pieces_given r t to (starts t to) (stack c.args.self.now.levels) total (items c.args.out.now) c.args.out.now h.resumes refl))
 
 pub returns-clause-gets_on : goal.returns-clause-gets_on
-returns-clause-gets_on c = omega (arith, c.in_ok-resume.ensures.gets_on, same_behind _ _ _ c.in_ok-give.ensures)
+returns-clause-gets_on c = omega (arith, c.resume.ensures.gets_on, same_behind _ _ _ c.in_ok-give.ensures)

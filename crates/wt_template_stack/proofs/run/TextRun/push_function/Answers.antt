@@ -13,7 +13,7 @@ use Rattle.wt_template_stack.proofs.run.TextRun.push_function.Goals as goal
 pub returns-clause-answer : goal.returns-clause-answer
 returns-clause-answer c = λ r t total h k e f none.
     let to = c.args.call.at.end in
-    c.in_ok-resume.ensures.answer r t total h.call.at h.at_start (record { reading = h.running.reading; mode_is = h.running.mode_is })
+    c.resume.ensures.answer r t total h.call.at h.at_start (record { reading = h.running.reading; mode_is = h.running.mode_is })
     (call_before r.mode t c.args.call h.call)
     (subst (λ ls. Resumes r t to (starts t to) (just []) ls total) (sym c.in_ok-give_one.ensures)
     (pieces_given r t to (starts t to) (stack c.args.self.now.levels) total (whole form.Function None (bytes_of c.args.source) ∷ [])
@@ -21,4 +21,4 @@ returns-clause-answer c = λ r t total h k e f none.
     (append-nil (items_of c.piece_of.result) ∙ c.piece_of.ensures.items)))
 
 pub returns-clause-gets_on : goal.returns-clause-gets_on
-returns-clause-gets_on c = omega (arith, c.in_ok-resume.ensures.gets_on, same_behind _ _ _ c.in_ok-give_one.ensures)
+returns-clause-gets_on c = omega (arith, c.resume.ensures.later c.requires, same_behind _ _ _ c.in_ok-give_one.ensures)

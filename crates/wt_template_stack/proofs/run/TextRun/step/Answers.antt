@@ -5,13 +5,12 @@ use Rattle.wt_span.specs.Items.{items}
 use Rattle.wt_expand.specs.Expansion.{just}
 use Rattle.wt_template_stack.specs.Measures.{GetsOn, bytes_left, most_steps, steps_behind_all, steps_left}
 use Rattle.wt_template_stack.specs.Runs.{AnswersTurn}
-use Rattle.wt_template_stack.specs.Stacks.{innermost_end}
 use Rattle.wt_template_stack.proofs.MeasureLaws.{got_on}
-use Rattle.wt_template_stack.proofs.StepLaws.{read_to_end, text_ends}
+use Rattle.wt_template_stack.proofs.StepLaws.{at_end, read_to_end, text_ends}
 use Rattle.wt_template_stack.proofs.run.TextRun.step.Goals as goal
 
-pub returns-then-self-end-clause-answer : goal.returns-then-self-end-clause-answer
-returns-then-self-end-clause-answer c = λ r t total h v s. c.in_ok-read.ensures.answer r t total h c.end-end.ensures
+pub returns-then-is_before-clause-answer : goal.returns-then-is_before-clause-answer
+returns-then-is_before-clause-answer c = λ r t total h v s. c.in_ok-read.ensures.answer r t total h c.end-end.ensures
 
 pub returns-in_err-read-clause-answer : goal.returns-in_err-read-clause-answer
 returns-in_err-read-clause-answer c = λ r t total h v s.
@@ -23,13 +22,15 @@ pub returns-in_default-clause-answer : goal.returns-in_default-clause-answer
 returns-in_default-clause-answer c = λ r t total h v s.
     let q = c.in_default.ensures in
     let l = q.0 in
-    let given = text_ends r t c.args.self.now l c.end-end.result total h q.1 c.end-end.ensures c.if-self-end.false in
+    let late = at_end r t c.args.self.now c.end-end.result total h c.end-end.ensures (c.is_before.ensures.none c.if-is_before.false) in
+    let given = text_ends r t c.args.self.now l c.end-end.result total h q.1 c.end-end.ensures late in
     (refl, given ∙ ap (λ ps. just (items ps)) (sym (c.finish.ensures l (q.2 ∙ q.1))))
 
 pub returns-clause-answer : goal.returns-clause-answer
 returns-clause-answer c = λ r t total h v s.
     c.end.ensures.answer r t total
-    (read_to_end r t c.args.self.now _ c.in-Some.level c.end-end.result total h c.end-end.ensures c.if-self-end.false c.in-Some.ensures refl refl) v s
+    (read_to_end r t c.args.self.now _ c.in-Some.level c.end-end.result total h c.end-end.ensures
+    (at_end r t c.args.self.now c.end-end.result total h c.end-end.ensures (c.is_before.ensures.none c.if-is_before.false)) c.in-Some.ensures refl refl) v s
 
 pub returns-clause-gets_on : goal.returns-clause-gets_on
 returns-clause-gets_on c =

@@ -1,0 +1,4 @@
+mod Cases
+pub mod Passing
+pub mod Rewriting
+pub mod Walking

@@ -1,5 +1,0 @@
-use Rattle.wt_proposal.proofs.Tested.{HasTested}
-use Rattle.wt_proposal.proofs.testing.are_within.Given as goal
-
-abbrev pub invariant-loop-change : goal.invariant-loop-change
-invariant-loop-change l = HasTested l.places l.changes l.at l.change-index l.size

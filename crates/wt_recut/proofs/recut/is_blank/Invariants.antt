@@ -1,0 +1,7 @@
+use Rattle.std.proofs.Common.{◌≡◌, drop}
+use Rattle.wt_tree.specs.View.{texts_of}
+use Rattle.wt_recut.specs.Recut.{is_blank}
+use Rattle.wt_recut.proofs.recut.is_blank.Given as goal
+
+abbrev pub invariant-loop-text : goal.invariant-loop-text
+invariant-loop-text l = is_blank (texts_of (drop l.text-index l.texts)) ≡ is_blank (texts_of l.texts)

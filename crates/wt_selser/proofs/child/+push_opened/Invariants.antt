@@ -1,7 +1,0 @@
-use Rattle.std.proofs.Common.{◌≡◌, ◌++◌, take}
-use Rattle.wt_selser.specs.Views.{child_trees}
-use Rattle.wt_selser.proofs.Opening.{opened_list}
-use Rattle.wt_selser.proofs.child.+push_opened.Given as goal
-
-abbrev pub invariant-loop-child : goal.invariant-loop-child
-invariant-loop-child l = child_trees l.out.items ≡ child_trees l.fn.out.items ++ opened_list (take l.child-index l.child-items)

@@ -1,7 +1,0 @@
-use Rattle.std.proofs.Common.{◌≡◌, map, take}
-use Rattle.wt_tree.specs.View.{view}
-use Rattle.wt_selser.specs.Views.{child_trees}
-use Rattle.wt_selser.proofs.child.children_of.Given as goal
-
-abbrev pub invariant-loop-child : goal.invariant-loop-child
-invariant-loop-child l = child_trees l.out.items ≡ map view (take l.child-index l.child-items)

@@ -1,5 +1,0 @@
-use Rattle.wt_selser.proofs.StepWalk.{NoneBefore}
-use Rattle.wt_selser.proofs.steps.place_of.Given as goal
-
-abbrev pub invariant-loop-at : goal.invariant-loop-at
-invariant-loop-at l = NoneBefore l.number l.nodes l.at

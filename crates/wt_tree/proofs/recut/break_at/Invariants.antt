@@ -1,5 +1,0 @@
-use Rattle.wt_tree.specs.Recutting.{NoBreakBefore}
-use Rattle.wt_tree.proofs.recut.break_at.Given as goal
-
-abbrev pub invariant-loop-at : goal.invariant-loop-at
-invariant-loop-at l = NoBreakBefore l.bytes l.at
