@@ -28,6 +28,8 @@ pub mod PlaceFacts
 pub mod PlaceGaps
 pub mod PlacePaths
 pub mod PlaceTrees
+pub mod ItemFrames
+pub mod CalledFrames
 pub mod SpotFrames
 pub mod SpotRows
 pub mod SpotSlots

@@ -5,6 +5,7 @@ use Rattle.wt_lines.specs.Lines.{empty_end, full_lines}
 use Rattle.wt_inline.specs.ItemTree.{ItemTree}
 use Rattle.wt_page.specs.Rows.{Row, rows_from}
 use Rattle.wt_page.specs.Texts.{para}
+use Rattle.wt_expand.specs.PageItems.{page_items}
 use Rattle.wt_row_laws.specs.Rounds.{AreTexts as AreTextRows, IsHeading}
 use Rattle.wt_row_laws.specs.Slots.{Slot, rows_at, AreAt}
 use Rattle.wt_row_laws.proofs.Parsed.{rows_slots}
