@@ -1,20 +1,25 @@
 -- Blocks among calls are at places of the page's tree, which are the same whatever the texts are; and a page that calls nothing is such a page.
 use Rattle.std.proofs.Common.{◌≡◌, ℕ, zero, suc, ◌+◌, List, [], ◌∷◌, ◌++◌, map, refl, sym, ap, ap₂, ◌∙◌, subst}
 use Rattle.wt_span.specs.Items.{Item}
+use Rattle.wt_expand.specs.PageItems.{page_items}
 use Rattle.wt_expand.specs.Work.{Pages}
 use Rattle.wt_expand.specs.PageCalls.{expanded_page}
 use Rattle.wt_inline.specs.ItemTree.{ItemTree}
 use Rattle.wt_page.specs.Body.{meaning}
-use Rattle.wt_text_edit_laws.specs.BlockSpots.{BlockSpot, spots_source, SameRound}
+use Rattle.wt_text_edit_laws.specs.BlockSpots.{BlockSpot, spots_source, AreRead, SameRound}
 use Rattle.wt_text_edit_laws.specs.TextBlocks.{block_items}
 use Rattle.wt_text_edit_laws.proofs.Blocks.TypedBraces.{AreTypedOver}
 use Rattle.wt_called_parts.specs.Parts.{AreCalled, part_items, calls_in, called_items}
 use Rattle.wt_called_parts.specs.Retyped.{AreRetyped}
+use Rattle.wt_called_parts.proofs.NoCallsCalled.{PartsCalm, parts_calm, read_called, calm_items, calm_count}
 use Rattle.wt_called_parts.proofs.Retyped.{is_by_parts, same_round, typed_over, expanded_again}
-use Rattle.wt_cell_edit_laws.specs.ItemSpots.{ItemSpot, placed_items, ArePlaced, SameItems, AreTypedIn}
+use Rattle.wt_cell_edit_laws.specs.AnyBlocks.{AreSpots}
+use Rattle.wt_cell_edit_laws.specs.ItemSpots.{ItemSpot, items_of_spots, placed_items, ArePlaced, SameItems, AreTypedIn}
 use Rattle.wt_cell_edit_laws.specs.CalledBlocks.{spots_among, items_behind, AreAmongCalls, tree_by, counted, StandAmongCalls}
 use Rattle.wt_cell_edit_laws.proofs.ItemFrames.{counted_in, items_over, items_framed}
+use Rattle.wt_cell_edit_laws.proofs.SpotFrames.{parts_placed}
 use Rattle.wt_cell_edit_laws.proofs.SpotRows.{trees_by}
+use Rattle.wt_cell_edit_laws.proofs.SpotsRead.{parts_read}
 
 called_are : (pages : Pages) (k : ℕ) (ss : List BlockSpot) (behind : List ℕ)
     → called_items pages k ss behind ≡ placed_items (spots_among pages k ss) (items_behind pages k ss behind)
@@ -80,4 +85,29 @@ again_among pages ss rs behind h t =
       placed = subst (ArePlaced (spots_among pages 0 rs)) (sym (same_behind pages 0 ss rs behind e))
           (items_over (spots_among pages 0 ss) (spots_among pages 0 rs) (items_behind pages 0 ss behind) h.placed (same_among pages 0 ss rs e)
           (typed_among pages 0 0 ss rs (typed_over ss rs t)));
+    }
+
+-- ---- a page that calls nothing is such a page
+
+pub calm_among : (pages : Pages) (k : ℕ) (ss : List BlockSpot) (behind : List ℕ) → PartsCalm ss behind → spots_among pages k ss ≡ items_of_spots ss
+calm_among pages k [] behind h = refl
+calm_among pages k (s ∷ ss) behind h =
+    let own : ItemSpot = record { before = part_items pages k s.before; block = s.block; text = s.text } in
+    ap (λ (n : ℕ). own ∷ spots_among pages n ss) (calm_count pages k s.before h.0)
+    ∙ ap₂ (λ (xs : List Item) (rs : List ItemSpot). record { before = xs; block = s.block; text = s.text } ∷ rs) (calm_items pages k s.before h.0)
+    (calm_among pages k ss behind h.1)
+
+calm_behind : (pages : Pages) (k : ℕ) (ss : List BlockSpot) (behind : List ℕ) → PartsCalm ss behind → items_behind pages k ss behind ≡ page_items behind
+calm_behind pages k [] behind h = calm_items pages k behind h
+calm_behind pages k (s ∷ ss) behind h =
+    ap (λ (n : ℕ). items_behind pages n ss behind) (calm_count pages k s.before h.0) ∙ calm_behind pages k ss behind h.1
+
+pub spots_among_calls : (pages : Pages) (ss : List BlockSpot) (behind : List ℕ) → AreSpots ss behind → AreAmongCalls pages ss behind
+spots_among_calls pages ss behind h =
+    let r : AreRead ss behind = parts_read ss behind h.parts h.whole in
+    let c : PartsCalm ss behind = parts_calm ss behind r in
+    record {
+      called = read_called ss behind r;
+      placed = subst (λ rs. ArePlaced rs (items_behind pages 0 ss behind)) (sym (calm_among pages 0 ss behind c))
+          (subst (ArePlaced (items_of_spots ss)) (sym (calm_behind pages 0 ss behind c)) (parts_placed ss behind h.parts));
     }

@@ -27,7 +27,7 @@ placed_after last bs (s ∷ ss) behind h = (
   placed_after s.block (open_behind_part bs (past_break (page_items s.before))) ss behind h.2,
 )
 
-parts_placed : (ss : List BlockSpot) (behind : List ℕ) → AreParts ss behind → ArePlaced (items_of_spots ss) (page_items behind)
+pub parts_placed : (ss : List BlockSpot) (behind : List ℕ) → AreParts ss behind → ArePlaced (items_of_spots ss) (page_items behind)
 parts_placed [] behind h = absurd h
 parts_placed (s ∷ ss) behind h =
     (placed_at [] (page_items s.before) s h.0, placed_after s.block (open_behind_part [] (page_items s.before)) ss behind h.1)

@@ -110,3 +110,9 @@ pub fn blocks_among_calls_stand_at_their_places()
     ensures again { (pages : Pages) (ss rs : List BlockSpot) (behind : List ℕ) → AreAmongCalls pages ss behind → AreRetyped ss rs
         → AreAmongCalls pages rs behind }
 {}
+
+/// A page that calls nothing (`AreSpots`) is such a page, too.
+#[tactic(auto, using(crate::proofs::CalledFrames::spots_among_calls))]
+pub fn pages_without_calls_are_among_these()
+    ensures { (pages : Pages) (ss : List BlockSpot) (behind : List ℕ) → AreSpots ss behind → AreAmongCalls pages ss behind }
+{}
