@@ -1,0 +1,6 @@
+pub mod SameWalks
+pub mod RunCuts
+pub mod OwnWalks
+pub mod FrameEnds
+pub mod FramesWalked
+pub mod GroupsStay

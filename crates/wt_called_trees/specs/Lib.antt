@@ -1,0 +1,2 @@
+pub mod TreeFrames
+pub mod Rounded
