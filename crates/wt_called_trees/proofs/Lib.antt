@@ -4,3 +4,4 @@ pub mod OwnWalks
 pub mod FrameEnds
 pub mod FramesWalked
 pub mod GroupsStay
+pub mod MovedData
