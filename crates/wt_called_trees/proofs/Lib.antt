@@ -5,3 +5,4 @@ pub mod FrameEnds
 pub mod FramesWalked
 pub mod GroupsStay
 pub mod MovedData
+pub mod Cases
