@@ -45,7 +45,7 @@ blocks_after : (ss : List BlockSpot) (behind : List ℕ) → AreReadAfter ss beh
 blocks_after [] behind h = tt
 blocks_after (s ∷ ss) behind h = let r : IsRead s = h.0 in (r.block, blocks_after ss behind h.2)
 
-called_blocks : (ss : List BlockSpot) (behind : List ℕ) → AreCalled ss behind → AreBlocks ss
+pub called_blocks : (ss : List BlockSpot) (behind : List ℕ) → AreCalled ss behind → AreBlocks ss
 called_blocks [] behind h = absurd h
 called_blocks (s ∷ ss) behind h = let r : IsRead s = h.0 in (r.block, blocks_after ss behind h.1)
 
