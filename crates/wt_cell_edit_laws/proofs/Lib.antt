@@ -1,5 +1,6 @@
 pub mod AnyCalls
 mod AnyCases
+mod CalledCases
 pub mod AnyPages
 pub mod AnyTakes
 pub mod BodyPages
