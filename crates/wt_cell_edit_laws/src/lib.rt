@@ -12,7 +12,7 @@ ghost use Rattle.wt_pagetool.specs.Promises.{Ends, EndsAsEdit};
 ghost use Rattle.wt_typed_blocks.specs.Sent.{paragraph};
 ghost use Rattle.wt_text_edit_laws.specs.BlockEdits.{typed_as};
 ghost use Rattle.wt_text_edit_laws.specs.BlockSpots.{BlockSpot, AreBlockSpots};
-ghost use Rattle.wt_text_edit_laws.specs.Parts.{part_tree, HasNoGroups};
+ghost use Rattle.wt_text_edit_laws.specs.Parts.{part_tree};
 ghost use Rattle.wt_text_edit_laws.specs.TextBlocks.{a_paragraph};
 ghost use Rattle.wt_text_edit_laws.specs.TypedPages.{IsTypedPage};
 ghost use Rattle.wt_cell_edit_laws.specs.AnyBlocks.{AreSpots};
@@ -43,13 +43,13 @@ pub fn heading_stands_in_its_cell()
 /// Such a paragraph takes any text: there is a path at which it is in the page's tree, and an edit that sends it marked
 /// `content`, with any text typed in it, and all else as it is in the page, is done; in the new page the paragraph is
 /// its text as it is spelled, and every other byte is what it was; unless the new page is longer than a page may be.
-/// There is such an edit with each text: the one that sends every other node without marks, where the page has no
-/// groups. The new page is such a page again.
+/// There is such an edit with each text: the one that sends every other node without marks. The new page is such a page
+/// again.
 #[tactic(auto, using(crate::proofs::Takes::takes_any))]
 pub fn typed_paragraph_in_a_cell_takes_any_text()
     ensures takes { (c : CellPage) → IsCellPage c → TakesText c }
-    ensures edit { (c : CellPage) (path : List ℕ) (m : Label) (text : List ℕ) → HasNoGroups (page_with c c.text)
-        → LeadsFrom path (children (part_tree (page_with c c.text))) → IsUtf8 text → IsCellEdit c path text (own_sents path m text (children (part_tree (page_with c c.text)))) }
+    ensures edit { (c : CellPage) (path : List ℕ) (m : Label) (text : List ℕ) → IsCellPage c → LeadsFrom path (children (part_tree (page_with c c.text))) → IsUtf8 text
+        → IsCellEdit c path text (own_sents path m text (children (part_tree (page_with c c.text)))) }
     ensures again { (c : CellPage) (text : List ℕ) → IsCellPage c → IsUtf8 text
         → IsCellPage (record { before = c.before; text = typed_as paragraph c.text text; behind = c.behind }) }
 {}
