@@ -234,6 +234,9 @@ fn push_style<'n, 't, 'a>(
     if let Some(old) = with_delimiters(writing, kept, node.kind) {
         push_opening(alloc, out, old)?;
         push_units(alloc, out, writing, nodes, edges_in(kept))?;
+        if matches!(node.kind, Kind::Bold) && is_new_italic_alone(nodes) {
+            push_nowiki(alloc, out)?;
+        }
         return push_closing(alloc, out, old);
     }
     push_toggle(alloc, out, sign)?;
@@ -251,6 +254,14 @@ fn push_style<'n, 't, 'a>(
 fn is_italic_alone(nodes: &[Node<'_>]) -> bool {
     match nodes.first() {
         Some(node) => nodes.len() == 1 && matches!(node.kind, Kind::Italic),
+        None => false,
+    }
+}
+
+/// The same of italic text that is new.
+fn is_new_italic_alone(nodes: &[Node<'_>]) -> bool {
+    match nodes.first() {
+        Some(node) => node.id == 0 && is_italic_alone(nodes),
         None => false,
     }
 }
