@@ -70,9 +70,10 @@ fn first_past(source: &[u8], passed: Passed) -> Option<u8> {
 
 fn last_past(source: &[u8], passed: Passed) -> Option<u8> {
     for count in 0..source.len() {
-        let byte = source[source.len() - 1 - count];
-        if !passed.has(byte) {
-            return Some(byte);
+        let place = source.len().saturating_sub(count).saturating_sub(1);
+        match source.get(place) {
+            Some(byte) if !passed.has(*byte) => return Some(*byte),
+            _ => {}
         }
     }
     None
