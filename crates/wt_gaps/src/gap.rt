@@ -499,7 +499,7 @@ pub fn push_new(
     known: &Known<'_, '_>,
     gap: &Gap<'_, '_, '_>,
     slices: &[Slot],
-    coming: Coming,
+    coming: &Coming,
 ) -> Result<(), NoMemory> {
     let page = known.page;
     let place = slices.first().copied().unwrap_or(place_between(gap));
@@ -509,14 +509,14 @@ pub fn push_new(
     };
     let end = past_spaces(page, place.end, to);
     let before = breaks_before(page, gap, !slices.is_empty(), coming.first, place.start);
-    let behind = breaks_behind(page, gap, &coming, end, to);
+    let behind = breaks_behind(page, gap, coming, end, to);
     let mut by = Str::new(alloc);
-    let is_in_line = joins_line(page, gap, &coming) || comes_last_in_line(page, gap, &coming);
+    let is_in_line = joins_line(page, gap, coming) || comes_last_in_line(page, gap, coming);
     if slices.is_empty() && is_in_line {
         push_in_line(&mut by, coming.source.as_str())?;
         return push_change(out, place, by);
     }
-    if !slices.is_empty() && takes_place_in_line(page, gap, &coming, place.start) {
+    if !slices.is_empty() && takes_place_in_line(page, gap, coming, place.start) {
         push_in_line(&mut by, coming.source.as_str())?;
     } else {
         push_breaks(&mut by, before)?;
