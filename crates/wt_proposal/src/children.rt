@@ -50,8 +50,8 @@ fn coming_of<'t, 'a>(
                 style: if keeps { gap.style } else { USUAL },
             };
             coming = Some(match coming {
-                None => begun_with(alloc, around, node)?,
-                Some(coming) => followed(alloc, gap.is_tight, coming, around, before, node)?,
+                None => begun_with(alloc, &around, node)?,
+                Some(coming) => followed(alloc, gap.is_tight, coming, &around, before, node)?,
             });
             before = Some(node);
             block = block.next();
@@ -78,7 +78,7 @@ fn may_go_on(source: &str, start: usize, node: &Node<'_>) -> bool {
 /// The first that comes.
 fn begun_with(
     alloc: Global,
-    around: Surroundings<'_, '_, '_>,
+    around: &Surroundings<'_, '_, '_>,
     node: &Node<'_>,
 ) -> Result<Coming, NoMemory> {
     let mut source = Str::new(alloc);
@@ -109,7 +109,7 @@ fn followed(
     alloc: Global,
     is_tight: bool,
     coming: Coming,
-    around: Surroundings<'_, '_, '_>,
+    around: &Surroundings<'_, '_, '_>,
     before: Option<&Node<'_>>,
     node: &Node<'_>,
 ) -> Result<Coming, NoMemory> {
