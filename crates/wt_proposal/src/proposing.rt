@@ -416,7 +416,11 @@ fn push_span<'t, 'a>(
 
 /// The part of a list or a table that is beside one in its turn, which passes so many of the page's: the one before it,
 /// or the one after it.
-fn part_beside<'t, 'a>(held: &Held<'_, 't, 'a>, from: usize, passed: usize) -> Option<&'t Node<'a>> {
+fn part_beside<'t, 'a>(
+    held: &Held<'_, 't, 'a>,
+    from: usize,
+    passed: usize,
+) -> Option<&'t Node<'a>> {
     let next = from.saturating_add(passed);
     let before = node_at(held.children, from.checked_sub(1));
     before
@@ -466,7 +470,7 @@ fn push_children<'t, 'a>(
     held: &Held<'_, 't, 'a>,
     block: Numbering,
 ) -> Result<(), NoMemory>
-    requires { held.from ≤ length nodes.now }
+    requires { held.now.from ≤ length nodes.now }
 {
     let turns = turns(alloc, plan.known.index, held.number, &nodes[held.from..])?;
     let mut line = Line::of(held, block);
