@@ -26,11 +26,6 @@ pub struct Surroundings<'w, 't, 'a> {
 }
 
 impl<'w, 't, 'a> Surroundings<'w, 't, 'a> {
-    /// How the inside of a block of this kind is written; `block` is the one that was in the page.
-    fn writing(&self, block: Option<&'w Block<'t, 'a>>, kind: Kind) -> Writing<'w, 't, 'a> {
-        Writing::of(self.known, block, self.keeps, kind.edit_shape().place)
-    }
-
     /// The same for what is in the block.
     fn within(&self) -> Surroundings<'w, 't, 'a> {
         Surroundings {
@@ -117,7 +112,8 @@ fn kept_inside<'t, 'a>(
     node: &Node<'_>,
 ) -> Result<Str, NoMemory> {
     let block = block_of(alloc, old)?;
-    let writing = around.writing(Some(&block), node.kind);
+    let place = node.kind.edit_shape().place;
+    let writing = Writing::of(around.known, Some(&block), around.keeps, place);
     spelled(alloc, &writing, inside(node), edges_of(inside(old)))
 }
 
@@ -127,7 +123,8 @@ fn new_inside(
     around: &Surroundings<'_, '_, '_>,
     node: &Node<'_>,
 ) -> Result<Str, NoMemory> {
-    let writing = around.writing(None, node.kind);
+    let place = node.kind.edit_shape().place;
+    let writing = Writing::of(around.known, None, around.keeps, place);
     let edges = Edges {
         first: None,
         last: around.tail,

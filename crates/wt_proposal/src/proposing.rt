@@ -470,7 +470,7 @@ fn push_children<'t, 'a>(
     held: &Held<'_, 't, 'a>,
     block: Numbering,
 ) -> Result<(), NoMemory>
-    requires { held.from ≤ length nodes.now }
+    requires { held.now.from ≤ length nodes.now }
 {
     let turns = turns(alloc, plan.known.index, held.number, &nodes[held.from..])?;
     let mut line = Line::of(held, block);
