@@ -10,7 +10,6 @@ ghost use Rattle.wt_called_edit_laws.specs.Groups.{AreOutsideGroups, GroupsStayA
 /// Where texts are typed in paragraphs and headings among calls, and no node round one of them is in a group, the page's
 /// tree has the same groups and the same other nodes, whatever the texts are: but for numbers and places it is one tree
 /// with these blocks at places in it. With such texts it is such a page again.
-#[tactic(auto, using(crate::proofs::GroupsAmong::groups_among, crate::proofs::CleanAgain::outside_again))]
 pub fn groups_stay_round_typed_texts()
     ensures again { (pages : Pages) (ss rs : List BlockSpot) (behind : List ℕ) → AreOutsideGroups pages ss behind → AreRetyped ss rs
         → AreOutsideGroups pages rs behind }
