@@ -1,7 +1,5 @@
 -- With other texts the nodes round the blocks are as clean, so the page is of the class again.
 use Rattle.std.proofs.Common.{◌≡◌, ◌⊎◌, inl, inr, ℕ, Option, None, List, [], ◌∷◌, sym, ◌∙◌, subst}
-use Rattle.wt_tree.specs.Kinds.{is_leaf}
-use Rattle.wt_span.specs.Items.{Item}
 use Rattle.wt_expand.specs.Work.{Pages}
 use Rattle.wt_inline.specs.ItemTree.{ItemTree, tree_items}
 use Rattle.wt_annotated.specs.Seams.{last_of, first_of}

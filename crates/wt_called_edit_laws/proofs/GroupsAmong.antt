@@ -1,5 +1,5 @@
 -- Where texts are typed in blocks among calls that are in no group, the groups of the page and its other nodes stay.
-use Rattle.std.proofs.Common.{◌≡◌, ℕ, List, sym, ap, ◌∙◌, subst}
+use Rattle.std.proofs.Common.{ℕ, List, sym, ap, ◌∙◌, subst}
 use Rattle.wt_span.specs.Origins.{OuterCall}
 use Rattle.wt_expand.specs.Work.{Pages}
 use Rattle.wt_expand.specs.PageCalls.{expanded_page}
@@ -9,13 +9,12 @@ use Rattle.wt_moved_laws.specs.Placeless.{placeless}
 use Rattle.wt_row_laws.specs.Frames.{Frames, all_places}
 use Rattle.wt_text_edit_laws.specs.BlockSpots.{BlockSpot, spots_source, SameRound, AreBlocks}
 use Rattle.wt_called_parts.specs.Parts.{called_outers}
-use Rattle.wt_called_parts.specs.Retyped.{AreRetyped}
 use Rattle.wt_called_parts.proofs.Retyped.{is_by_parts, same_round, blocks_over, called_blocks, expanded_again}
 use Rattle.wt_called_trees.specs.MovedCalls.{AreMoved}
 use Rattle.wt_called_trees.specs.Rounded.{HaveSameData, AreOwn, GroupsStay}
 use Rattle.wt_called_trees.proofs.GroupsStay.{groups_stay}
 use Rattle.wt_called_trees.proofs.MovedData.{moved_data}
-use Rattle.wt_cell_edit_laws.specs.CalledBlocks.{tree_by, counted}
+use Rattle.wt_cell_edit_laws.specs.CalledBlocks.{tree_by}
 use Rattle.wt_cell_edit_laws.proofs.SpotTrees.{counted_same}
 use Rattle.wt_called_edit_laws.specs.Groups.{AreOutsideGroups, GroupsStayAmong}
 use Rattle.wt_called_edit_laws.proofs.MovedOuters.{outers_moved}

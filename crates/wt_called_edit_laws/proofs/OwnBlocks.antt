@@ -1,7 +1,7 @@
 -- A paragraph or a heading that holds only text has items of the page alone, and so has each node in it.
-use Rattle.std.proofs.Common.{◌≡◌, ℕ, suc, List, [], ◌∷◌, map, refl, sym, subst}
+use Rattle.std.proofs.Common.{ℕ, suc, List, [], ◌∷◌, map, refl, sym, subst}
 use Rattle.wt_guards.specs.Guards.{nowiki}
-use Rattle.wt_inline.specs.ItemTree.{ItemTree, forest}
+use Rattle.wt_inline.specs.ItemTree.{forest}
 use Rattle.wt_expand.specs.PageItems.{page_items}
 use Rattle.wt_text_edit_laws.specs.BlockSpots.{BlockSpot, AreBlocks}
 use Rattle.wt_text_edit_laws.specs.TextBlocks.{TextBlock, a_paragraph, a_heading, block_tree, IsBlock}

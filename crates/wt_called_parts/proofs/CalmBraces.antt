@@ -15,7 +15,7 @@ use Rattle.wt_text_edit_laws.specs.NoCalls.{Brace, opening, closing, braces, Cal
 use Rattle.wt_text_edit_laws.proofs.Texts.TypedText.{HaveNoClosers}
 use Rattle.wt_text_edit_laws.proofs.Between.Fronts.{first_items, items_from, first_from, byte_from, words_by, words_from}
 use Rattle.wt_text_edit_laws.proofs.Between.BraceWords.{AreBraces, two_braces, signs_of, run_here, signs_split, CallNothing}
-use Rattle.wt_text_edit_laws.proofs.Between.LessBraces.{IsSome, all_some, some_more, some_both, braces_of}
+use Rattle.wt_text_edit_laws.proofs.Between.LessBraces.{IsSome, some_more, some_both, braces_of}
 use Rattle.wt_text_edit_laws.proofs.Between.NoCalls.{AreUnopened, closes_nothing, left_unopened, calm_words}
 use Rattle.wt_called_parts.specs.Parts.{left_in, left_of}
 use Rattle.wt_called_parts.proofs.LeftBraces.{left_append}

@@ -4,12 +4,12 @@ use Rattle.wt_expand.specs.PageItems.{page_items}
 use Rattle.wt_expand.specs.Work.{Pages}
 use Rattle.wt_text_edit_laws.specs.NoCalls.{Brace, opening, closing, NoneClose, NonePairs, CallsNothing}
 use Rattle.wt_text_edit_laws.specs.TextBlocks.{source_of, block_items}
-use Rattle.wt_text_edit_laws.specs.BlockSpots.{BlockSpot, spots_source, EndBeforeBlocks, AsAWhole, IsRead, AreReadAfter, AreRead}
+use Rattle.wt_text_edit_laws.specs.BlockSpots.{BlockSpot, AsAWhole, IsRead, AreReadAfter, AreRead}
 use Rattle.wt_text_edit_laws.proofs.Between.LessBraces.{IsSome, some_both, pairs_some, braces_of}
 use Rattle.wt_text_edit_laws.proofs.Between.NoCalls.{calm_reduced}
 use Rattle.wt_text_edit_laws.proofs.Blocks.BlockReading.{spots_items, items_of_parts}
 use Rattle.wt_text_edit_laws.proofs.Blocks.TypedBraces.{braces_split}
-use Rattle.wt_called_parts.specs.Parts.{left_of, all_left, CallNothing, AreParted, AreCalled, part_items, calls_in}
+use Rattle.wt_called_parts.specs.Parts.{left_of, all_left, CallNothing, AreCalled, part_items, calls_in}
 use Rattle.wt_called_parts.proofs.LeftBraces.{pairs_rest}
 use Rattle.wt_called_parts.proofs.CalmBraces.{calm_left}
 use Rattle.wt_called_parts.proofs.PartByPart.{calm_gives}

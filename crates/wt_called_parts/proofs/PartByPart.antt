@@ -1,5 +1,5 @@
 -- A page with blocks of text among calls is expanded part by part.
-use Rattle.std.proofs.Common.{arith, ◌≡◌, inl, inr, ℕ, ◌+◌, List, [], ◌∷◌, ◌++◌, None, length, map, refl, sym, ap, ap₂, ◌∙◌, subst, append-nil, append_assoc}
+use Rattle.std.proofs.Common.{arith, ◌≡◌, inl, inr, ℕ, ◌+◌, List, [], ◌∷◌, ◌++◌, None, length, map, refl, sym, ap, ap₂, ◌∙◌, subst}
 use Rattle.wt_span.specs.declared.form.Mode.TheVariants.{Page}
 use Rattle.wt_span.specs.declared.form.LexKind.TheVariants.{Chars}
 use Rattle.wt_span.specs.Items.{Item}
@@ -9,13 +9,13 @@ use Rattle.wt_span.specs.Braces.{Member, lexeme, call, reduced}
 use Rattle.wt_expand.specs.Work.{Pages, Entry, entered}
 use Rattle.wt_expand.specs.Expansion.{page_reading, text_given, page_work}
 use Rattle.wt_expand.specs.PageItems.{page_items}
-use Rattle.wt_expand.specs.PageCalls.{Stretch, own, outer, text_call, outer_items, numbered, outer_calls, page_stretches, expanded_page}
-use Rattle.wt_joined_calls.specs.Apart.{NoneOpens, AreMet, AreApart, AreReadApart}
+use Rattle.wt_expand.specs.PageCalls.{Stretch, own, outer, text_call, numbered, outer_calls, page_stretches, expanded_page}
+use Rattle.wt_joined_calls.specs.Apart.{NoneOpens, AreMet, AreApart}
 use Rattle.wt_joined_calls.specs.Expanded.{moved_call, moved_span, BeginsPlain, AreParts}
 use Rattle.wt_joined_calls.proofs.ApartCalls.{reduced_apart, run_cut}
 use Rattle.wt_joined_calls.proofs.ExpandedBoth.{items_both, expands_both}
 use Rattle.wt_text_edit_laws.specs.LonePages.{of_items}
-use Rattle.wt_text_edit_laws.specs.NoCalls.{Brace, NonePairs, CallsNothing}
+use Rattle.wt_text_edit_laws.specs.NoCalls.{NonePairs, CallsNothing}
 use Rattle.wt_text_edit_laws.specs.TextBlocks.{source_of, block_items}
 use Rattle.wt_text_edit_laws.specs.BlockSpots.{BlockSpot, spots_source, EndBeforeBlocks, IsRead, AreReadAfter}
 use Rattle.wt_text_edit_laws.proofs.Texts.TypedText.{AreLexemes, lexemes_expanded, lexemes_work}

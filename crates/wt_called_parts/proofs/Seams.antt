@@ -13,7 +13,7 @@ use Rattle.wt_scans.specs.Lexer.{lexer}
 use Rattle.wt_scans.specs.Scans.{after_all}
 use Rattle.wt_joined_calls.specs.Apart.{AreMet}
 use Rattle.wt_joined_calls.proofs.MetWords.{words_meet}
-use Rattle.wt_text_edit_laws.specs.TextBetween.{AreEnded, HasEndsBefore, BeginsShown}
+use Rattle.wt_text_edit_laws.specs.TextBetween.{BeginsShown}
 use Rattle.wt_text_edit_laws.specs.TextBlocks.{TextBlock, source_of, block_items, IsBlock}
 use Rattle.wt_text_edit_laws.specs.BlockSpots.{BlockSpot, spots_source, EndBeforeBlocks, IsRead, AreReadAfter}
 use Rattle.wt_text_edit_laws.proofs.Prose.Uncommented.{BeginsUncommented, either_flag}

@@ -3,13 +3,11 @@ use Rattle.std.proofs.Common.{◌≡◌, ℕ, zero, suc, ◌+◌, List, [], ◌�
 use Rattle.wt_span.specs.Items.{Item}
 use Rattle.wt_expand.specs.PageItems.{page_items}
 use Rattle.wt_expand.specs.Work.{Pages}
-use Rattle.wt_expand.specs.PageCalls.{expanded_page}
-use Rattle.wt_inline.specs.ItemTree.{ItemTree}
 use Rattle.wt_page.specs.Body.{meaning}
-use Rattle.wt_text_edit_laws.specs.BlockSpots.{BlockSpot, spots_source, AreRead, SameRound}
+use Rattle.wt_text_edit_laws.specs.BlockSpots.{BlockSpot, AreRead, SameRound}
 use Rattle.wt_text_edit_laws.specs.TextBlocks.{block_items}
 use Rattle.wt_text_edit_laws.proofs.Blocks.TypedBraces.{AreTypedOver}
-use Rattle.wt_called_parts.specs.Parts.{AreCalled, part_items, calls_in, called_items}
+use Rattle.wt_called_parts.specs.Parts.{part_items, calls_in, called_items}
 use Rattle.wt_called_parts.specs.Retyped.{AreRetyped}
 use Rattle.wt_called_parts.proofs.NoCallsCalled.{PartsCalm, parts_calm, read_called, calm_items, calm_count}
 use Rattle.wt_called_parts.proofs.Retyped.{is_by_parts, same_round, typed_over, expanded_again}

@@ -1,5 +1,5 @@
 -- Blocks among items mean a tree with these blocks at places, which are the same whatever the texts are.
-use Rattle.std.proofs.Common.{◌≡◌, ◌⊎◌, inl, inr, ℕ, suc, Bool, List, [], ◌∷◌, ◌++◌, length, map, refl, sym, ap, ◌∙◌, subst}
+use Rattle.std.proofs.Common.{◌≡◌, ◌⊎◌, ℕ, suc, Bool, List, [], ◌∷◌, length, map, refl, sym, ap, ◌∙◌, subst}
 use Rattle.wt_span.specs.Items.{Item}
 use Rattle.wt_lines.specs.Lines.{full_lines}
 use Rattle.wt_inline.specs.ItemTree.{ItemTree}
@@ -8,7 +8,7 @@ use Rattle.wt_page.specs.Body.{body_parts, meaning}
 use Rattle.wt_row_laws.specs.Frames.{Frames, trees_at, all_places, content, AreFrames}
 use Rattle.wt_row_laws.specs.Slots.{Slot, rows_at, AreAt, PlacesStand}
 use Rattle.wt_row_laws.proofs.Places.{places_stand}
-use Rattle.wt_text_edit_laws.specs.TextBlocks.{TextBlock, a_paragraph, a_heading, IsBlock, IsTypedIn}
+use Rattle.wt_text_edit_laws.specs.TextBlocks.{TextBlock, IsBlock, IsTypedIn}
 use Rattle.wt_text_edit_laws.specs.ParagraphBetween.{body_with}
 use Rattle.wt_text_edit_laws.proofs.Paragraphs.Standing.{body_is}
 use Rattle.wt_cell_edit_laws.specs.AnyBlocks.{open_behind_part, StaysText, LeadsInto, past_break, BeginsAfter}

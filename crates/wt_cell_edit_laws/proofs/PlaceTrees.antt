@@ -1,6 +1,5 @@
 -- The blocks of a page by their numbers, and the page's tree with a place for each.
-use Rattle.std.proofs.Common.{◌≡◌, ℕ, zero, suc, Option, Some, None, List, [], ◌∷◌, map, refl}
-use Rattle.wt_inline.specs.ItemTree.{ItemTree}
+use Rattle.std.proofs.Common.{◌≡◌, ℕ, zero, suc, Option, Some, None, List, [], ◌∷◌, refl}
 use Rattle.wt_page.specs.Body.{meaning}
 use Rattle.wt_row_laws.specs.Frames.{Frames, trees_at, all_places, content, AreFrames}
 use Rattle.wt_text_edit_laws.specs.BlockSpots.{BlockSpot, SameRound, AreBlocks}

@@ -1,5 +1,5 @@
 -- A page with blocks anywhere means a tree with its blocks at places, which are the same whatever the texts are.
-use Rattle.std.proofs.Common.{◌≡◌, ℕ, zero, suc, Bool, List, [], ◌∷◌, ◌++◌, map, refl, sym, ap, ◌∙◌}
+use Rattle.std.proofs.Common.{◌≡◌, ℕ, zero, suc, Bool, List, [], ◌∷◌, ◌++◌, map, refl, ap, ◌∙◌}
 use Rattle.wt_span.specs.Items.{Item}
 use Rattle.wt_page.specs.Body.{meaning}
 use Rattle.wt_expand.specs.PageItems.{page_items}

@@ -8,7 +8,7 @@ use Rattle.wt_page.specs.Body.{meaning}
 use Rattle.wt_row_laws.specs.Frames.{Frames, trees_at, all_places, content, AreFrames}
 use Rattle.wt_text_edit_laws.specs.BlockSpots.{BlockSpot, spots_source}
 use Rattle.wt_text_edit_laws.specs.ParagraphBetween.{body_with}
-use Rattle.wt_text_edit_laws.specs.TextBlocks.{TextBlock, a_paragraph, block_tree}
+use Rattle.wt_text_edit_laws.specs.TextBlocks.{a_paragraph, block_tree}
 use Rattle.wt_called_parts.specs.Parts.{AreCalled, part_items, calls_in}
 use Rattle.wt_called_parts.specs.Retyped.{AreRetyped}
 use Rattle.wt_cell_edit_laws.specs.ItemSpots.{ItemSpot, ArePlaced}
