@@ -32,7 +32,7 @@ no_scheme : (b : ℕ) (gs : List Glyph) → (to_ascii_lowercase b == 104) ≡ fa
 unfolding scheme_len
 no_scheme b gs e f = rw (e, f) refl
 
-no_url : (b : ℕ) (gs : List Glyph) (w : Shape) → (to_ascii_lowercase b == 104) ≡ false → (to_ascii_lowercase b == 102) ≡ false
+pub no_url : (b : ℕ) (gs : List Glyph) (w : Shape) → (to_ascii_lowercase b == 104) ≡ false → (to_ascii_lowercase b == 102) ≡ false
     → bare_url_at false (glyph.Byte b ∷ gs) ≡ Some w → true ≡ false
 no_url b gs w e f is =
     let no : None ≡ Some w = sym (bare_none false (glyph.Byte b ∷ gs) (no_scheme b gs e f)) ∙ is in cc

@@ -234,7 +234,7 @@ lone_shape Break Alone n gs us l = refl
 lone_shape Break Closing n gs us l = refl
 lone_shape Island h n gs us l = refl
 
-lone_size : (m : Name) (h : TagShape) (n : ℕ) (gs : List Glyph) → IsLone m h → size (shape_of_tag 0 m h n gs) ≡ n
+pub lone_size : (m : Name) (h : TagShape) (n : ℕ) (gs : List Glyph) → IsLone m h → size (shape_of_tag 0 m h n gs) ≡ n
 lone_size (Paired m) Opening n gs l = absurd l
 lone_size (Paired m) Alone n gs l = omega arith
 lone_size (Paired m) Closing n gs l = omega arith

@@ -19,6 +19,7 @@ ghost use Rattle.wt_beside_laws.specs.Content.{AreKept, content_items};
 ghost use Rattle.wt_beside_laws.specs.Cuts.{IsFree, content_cut};
 ghost use Rattle.wt_beside_laws.specs.Glyphs.{content_glyphs, IsPast, AllAvoid};
 ghost use Rattle.wt_beside_laws.specs.Nodes.{AreNodes, AllMeet};
+ghost use Rattle.wt_beside_laws.specs.Stood.{AreStood, AreAt, things};
 ghost use Rattle.wt_beside_laws.specs.Tiles.{IsPlainLink, IsPastUrl};
 
 /// A content of text that is typed and of nodes that stay, as it is spelled, makes no lexeme over the border of a text and
@@ -60,4 +61,15 @@ pub fn texts_beside_nodes_make_no_tile()
         → cuts in_line false 0 (map glyph_of (page_items (spelled s signs))) ≡ content_cut in_line s [] signs (0, []) }
     ensures before { (s : Setting) (signs : List ContentSign) (rest : List Sign) → AreNodes signs → AllMeet s [] signs rest → IsApart rest → IsFree in_line rest
         → cuts in_line false 0 (content_glyphs s [] signs rest) ≡ content_cut in_line s [] signs (cuts in_line false 0 rest) }
+{}
+
+/// The nodes that a content has of a page stay, and meet as they may: where each is read in the page as a form that takes all
+/// of its items (`AreStood`) and has its place there (`AreAt`), whatever is typed between them, each is what its role says
+/// (`AreNodes`), and between two of which one is not parted from the other nothing joins them (`AllMeet`): they stood so in
+/// the page, or the table of signs that may not be next to each other has no pair for them.
+#[tactic(auto, using(crate::proofs::PageNodes::nodes_stay, crate::proofs::PageNodes::nodes_meet))]
+pub fn nodes_of_the_page_stay()
+    ensures nodes { (olds signs : List ContentSign) → AreStood false olds → things signs ≡ things olds → AreNodes signs }
+    ensures meet { (s : Setting) (olds signs : List ContentSign) (at : ℕ) → AreStood false olds → AreAt at olds → things signs ≡ things olds
+        → AllMeet s [] signs [] }
 {}
