@@ -13,6 +13,7 @@ pub mod NodesEnd
 pub mod NodesMeet
 pub mod NodesStand
 pub mod PageNodes
+pub mod PageSigns
 pub mod Stood
 pub mod TagFronts
 pub mod TagTiles

@@ -1,5 +1,5 @@
 -- A link that is all of some items, whatever is read behind them, is the same tile of these items alone.
-use Rattle.std.proofs.Common.{arith, ◌≡◌, ℕ, zero, suc, ◌+◌, ◌-◌, ◌<◌, ◌≤◌, ◌==◌, Bool, true, false, Option, Some, None, List, [], ◌∷◌, ◌++◌, length, take, drop, refl, sym, ap, ap₂, ◌∙◌, subst}
+use Rattle.std.proofs.Common.{arith, ◌≡◌, ℕ, zero, suc, ◌+◌, ◌-◌, ◌<◌, ◌≤◌, ◌==◌, Bool, true, false, Option, Some, None, List, [], ◌∷◌, ◌++◌, length, take, drop, refl, sym, ap, ◌∙◌, subst}
 use Rattle.std.specs.Prelude.{◌&&◌, ◌||◌, codes, option_map, if◌then◌else◌}
 use Rattle.std.proofs.lemmas.List.{drop-append-le, take-append-le, length-drop, length-append}
 use Rattle.wt_tiles.specs.declared.glyph.Glyph.{Glyph}
@@ -12,12 +12,12 @@ use Rattle.wt_tiles.specs.declared.target.LinkKind.{LinkKind}
 use Rattle.wt_tiles.specs.declared.target.LinkKind.TheVariants.{Page, Category, Media}
 use Rattle.wt_tiles.specs.declared.target.Target.{Target}
 use Rattle.wt_tiles.specs.Glyphs.{in_class, first_is, run_len, begins}
-use Rattle.wt_tiles.specs.Links.{place, target_of, kind_of, target_len, to_close, inner_len, has_pipe, head_len, link_shape, link_with, link_to, link_by, link_in, link_at}
+use Rattle.wt_tiles.specs.Links.{place, target_of, kind_of, target_len, to_close, inner_len, has_pipe, head_len, link_shape, link_with, link_to, link_by, link_in}
 use Rattle.wt_tiles.specs.Partners.{DepthChange, Up, Down, Level, bracket_turn, by_bracket, balanced}
 use Rattle.wt_tiles.specs.Searches.{IsHead}
 use Rattle.wt_tiles.specs.Tiles.{size}
 use Rattle.wt_tiles.proofs.LinkFits.{head_within, OptRest, balanced_fits}
-use Rattle.wt_beside_laws.proofs.LinkTiles.{IsNear, near_two, near_target, place_by, some_same, some_suc, pipe_stays, head_stays, with_made, if_some}
+use Rattle.wt_beside_laws.proofs.LinkTiles.{IsNear, near_two, near_target, place_by, some_same, some_suc, pipe_stays, head_stays, with_made}
 use Rattle.wt_beside_laws.proofs.MediaTiles.{turn_stays, same_list}
 
 -- ---- places

@@ -1,13 +1,12 @@
 -- With what nodes that stay end: no letter, digit or `_`, but for links to pages, bare URLs and switches.
-use Rattle.std.proofs.Common.{arith, ◌≡◌, ℕ, zero, suc, ◌+◌, ◌-◌, ◌<◌, ◌≤◌, ◌==◌, Bool, true, false, Option, Some, None, List, [], ◌∷◌, ◌++◌, length, take, drop, refl, sym, ap, ◌∙◌, subst, inl, inr, ◌⊎◌, nat_lt}
+use Rattle.std.proofs.Common.{arith, ◌≡◌, ℕ, zero, suc, ◌+◌, ◌-◌, ◌<◌, ◌==◌, Bool, true, false, Option, Some, None, List, [], ◌∷◌, length, take, drop, refl, sym, ap, ◌∙◌, subst, inl, inr, ◌⊎◌, nat_lt}
 use Rattle.std.specs.Prelude.{◌&&◌, codes, option_map, if◌then◌else◌}
 use Rattle.std.specs.Option.{option_or}
-use Rattle.std.proofs.lemmas.List.{append-nil, length-drop, length-take, drop-drop}
+use Rattle.std.proofs.lemmas.List.{length-drop, drop-drop}
 use Rattle.wt_tiles.specs.declared.glyph.Glyph.{Glyph}
 use Rattle.wt_tiles.specs.declared.glyph.Glyph.TheVariants as glyph
 use Rattle.wt_tiles.specs.declared.glyph.GlyphClass.TheVariants as class
 use Rattle.wt_tiles.specs.declared.shape.Shape.{Shape}
-use Rattle.wt_tiles.specs.declared.tag.Name.{Name}
 use Rattle.wt_tiles.specs.declared.tag.TagShape.TheVariants.{Closing}
 use Rattle.wt_tiles.specs.declared.tag.Tag.{Tag}
 use Rattle.wt_tiles.specs.declared.target.LinkKind.{LinkKind}
@@ -15,12 +14,12 @@ use Rattle.wt_tiles.specs.declared.target.LinkKind.TheVariants.{Page, Category, 
 use Rattle.wt_tiles.specs.declared.target.Target.{Target}
 use Rattle.wt_tiles.specs.Glyphs.{in_class, is_in, first_is, run_len, begins}
 use Rattle.wt_tiles.specs.Links.{target_of, kind_of, target_len, to_close, inner_len, has_pipe, head_len, link_shape, link_with, link_to, link_by, link_in, link_at}
-use Rattle.wt_tiles.specs.Partners.{Down, bracket_turn, balanced}
+use Rattle.wt_tiles.specs.Partners.{balanced}
 use Rattle.wt_tiles.specs.Tags.{name_len, name_of, tag_of, is_inside, shape_of, tag_after, opening_tag, closing_tag, tag_at}
 use Rattle.wt_tiles.specs.Tiles.{size}
-use Rattle.wt_tiles.specs.Urls.{scheme_len, url_items, text_len, ext_shape, ext_link_after, ext_link_of, ext_link_at, is_word}
+use Rattle.wt_tiles.specs.Urls.{scheme_len, url_items, ext_shape, ext_link_after, ext_link_of, ext_link_at, is_word}
 use Rattle.wt_tiles.proofs.LinkFits.{OptPlace, place_fits, OptRest, balanced_fits}
-use Rattle.wt_tiles.proofs.TagFits.{run_le, name_le}
+use Rattle.wt_tiles.proofs.TagFits.{name_le}
 use Rattle.wt_beside_laws.specs.Cuts.{ends_word}
 use Rattle.wt_beside_laws.specs.Nodes.{IsExternalNode, IsCategoryNode, IsMediaNode, IsTagNode, IsOneLexeme}
 use Rattle.wt_beside_laws.specs.Tiles.{IsCategoryKind, IsMediaKind, LeadsBy, AimsBy}

@@ -1,5 +1,5 @@
 -- The nodes that a content has of the page stay, and meet as they may.
-use Rattle.std.proofs.Common.{arith, ◌≡◌, ℕ, ◌+◌, ◌<◌, ◌≤◌, ◌==◌, Bool, true, false, Option, Some, None, List, [], ◌∷◌, ◌++◌, length, refl, sym, ap, ◌∙◌, subst, inl, inr, ◌⊎◌}
+use Rattle.std.proofs.Common.{arith, ◌≡◌, ℕ, ◌+◌, ◌<◌, ◌==◌, Bool, true, false, Option, Some, List, [], ◌∷◌, ◌++◌, length, refl, sym, ap, ◌∙◌, subst, inl, inr, ◌⊎◌}
 use Rattle.std.specs.Prelude.{◌&&◌, ◌||◌, not, encode_utf8, if◌then◌else◌}
 use Rattle.std.specs.Char.{to_ascii_lowercase}
 use Rattle.std.proofs.lemmas.Bool.Decides.{nat_tests}
@@ -8,7 +8,7 @@ use Rattle.wt_guards.specs.declared.role.Role.{Role}
 use Rattle.wt_guards.specs.declared.role.Role.TheVariants.{Link, External, Bare, Switch, Toggle, Mark, Group, Function, Node}
 use Rattle.wt_guards.specs.declared.role.Stretch.{Stretch}
 use Rattle.wt_guards.specs.Content.{ContentSign, Thing, letter, thing, side_of, ends_line, is_function}
-use Rattle.wt_guards.specs.Guards.{Setting, end_of, start_of, is_this, is_reached, has_brace_last, is_mark, is_always_parted, is_adjacent, left_side, is_parted, is_between_guard, is_guarded}
+use Rattle.wt_guards.specs.Guards.{Setting, end_of, start_of, is_reached, has_brace_last, is_mark, is_always_parted, is_adjacent, left_side, is_parted, is_between_guard, is_guarded}
 use Rattle.wt_guards.specs.Table.{hazard}
 use Rattle.wt_spelling_laws.proofs.TextReads.{or_parts}
 use Rattle.wt_tiles.specs.declared.glyph.Glyph.{Glyph}
@@ -152,9 +152,9 @@ unfolding is_parted
 meet_apart t n own other e z =
     let both : (is_mark t.role && is_mark n.role) ≡ false = ap (λ (v : Bool). v && is_mark n.role) (no_mark t.role (own_glyphs t) own) in
     let at : (if is_function n.role && has_brace_last t.source then true else if is_mark t.role && is_mark n.role then not (ends_line t.role) && not (is_adjacent t n)
-        else hazard (left_side t.role) (side_of n.role) && (is_always_parted t.role n.role || not false)) ≡ false =
+    else hazard (left_side t.role) (side_of n.role) && (is_always_parted t.role n.role || not false)) ≡ false =
     ap (λ (v : Bool). if is_function n.role && has_brace_last t.source then true else if is_mark t.role && is_mark n.role then not (ends_line t.role) && not (is_adjacent t n)
-        else hazard (left_side t.role) (side_of n.role) && (is_always_parted t.role n.role || not v)) (sym e) ∙ z in
+    else hazard (left_side t.role) (side_of n.role) && (is_always_parted t.role n.role || not v)) (sym e) ∙ z in
     let none : hazard (left_side t.role) (side_of n.role) ≡ false =
     by_table (is_function n.role && has_brace_last t.source) (is_mark t.role && is_mark n.role) (hazard (left_side t.role) (side_of n.role)) (is_always_parted t.role n.role) _ both at in
     (table_follows t.role n.role (own_glyphs t) (own_glyphs n) own other none, table_leads t.role n.role (own_glyphs t) own none)
@@ -249,6 +249,7 @@ lexeme_none own n = elim n [
 ]
 
 other_none : (own : List Glyph) → IsOneLexeme own ⊎ (IsTagNode own ⊎ (IsCategoryNode own ⊎ IsMediaNode own)) → EndsNone own
+unfolding is_dropped
 other_none own n = elim n [
   | inl one ↦ lexeme_none own one
   | inr other ↦ elim other [
@@ -337,7 +338,7 @@ at_same : (t n : Thing) (end start stop : ℕ) (p : Stretch) → t.place ≡ Som
 at_same t n end start stop p e i f h =
     let left : end_of t.place ≡ Some end = ap end_of e ∙ ap (λ (m : ℕ). Some m) i in
     let right : start_of n.place ≡ Some start = ap start_of f in
-    reached_is end start (ap (λ (o : Option ℕ). is_reached o (start_of n.place)) (sym left) ∙ ap (λ (o : Option ℕ). is_reached (Some end) o) (sym right) ∙ h)
+    reached_is end start (ap (λ (o : Option ℕ). is_reached (Some end) o) (sym right) ∙ ap (λ (o : Option ℕ). is_reached o (start_of n.place)) (sym left) ∙ h)
 
 -- letters between them part them
 abbrev MeetsFirst : Thing → List Thing → Type 0

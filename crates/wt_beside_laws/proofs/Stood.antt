@@ -1,6 +1,6 @@
 -- A node that is read in the page as a form which takes all of its items is a node that stays.
-use Rattle.std.proofs.Common.{arith, ◌≡◌, ℕ, suc, ◌+◌, ◌-◌, ◌<◌, ◌≤◌, ◌==◌, Bool, true, false, Option, Some, None, List, [], ◌∷◌, ◌++◌, length, take, drop, refl, sym, ap, ◌∙◌, subst, inl, inr, ◌⊎◌}
-use Rattle.std.specs.Prelude.{◌&&◌, codes, option_map, if◌then◌else◌}
+use Rattle.std.proofs.Common.{arith, ◌≡◌, ℕ, suc, ◌+◌, ◌≤◌, ◌==◌, Bool, true, false, Option, Some, None, List, [], ◌∷◌, ◌++◌, length, take, drop, refl, sym, ap, ◌∙◌, subst, inl, inr, ◌⊎◌}
+use Rattle.std.specs.Prelude.{◌&&◌, codes, option_map}
 use Rattle.std.specs.Option.{option_or}
 use Rattle.std.proofs.lemmas.Bool.Decides.{nat_tests}
 use Rattle.wt_guards.specs.declared.role.Role.{Role}
@@ -29,13 +29,13 @@ use Rattle.wt_tiles.proofs.TagInsides.{no_tag}
 use Rattle.wt_beside_laws.specs.Cuts.{form_before}
 use Rattle.wt_beside_laws.specs.Nodes.{IsLinkNode, IsCategoryNode, IsMediaNode, IsExternalNode, IsBareNode, IsSwitchNode, IsOneLexeme, IsTagNode, IsLone, IsNode, MayLead}
 use Rattle.wt_beside_laws.specs.Stood.{EndsUrl, IsTileOf, OpensNone, IsRead, HasBehind}
-use Rattle.wt_beside_laws.specs.Tiles.{IsPlainKind, IsCategoryKind, IsMediaKind, LeadsBy, AimsBy, IsPlainLink, IsCategoryLink, IsMediaLink}
+use Rattle.wt_beside_laws.specs.Tiles.{IsPlainKind, IsCategoryKind, IsMediaKind, LeadsBy, AimsBy, IsPlainLink, IsCategoryLink}
 use Rattle.wt_beside_laws.proofs.LinkFronts.{link_tile, JoinsNone, LinkFront, in_front}
 use Rattle.wt_beside_laws.proofs.LinkTiles.{if_some, with_made, same_shape}
 use Rattle.wt_beside_laws.proofs.NodesStand.{lone_size}
 use Rattle.wt_beside_laws.proofs.TagFronts.{byte_is, tag_front, switch_front}
 use Rattle.wt_beside_laws.proofs.TagTiles.{both_true}
-use Rattle.wt_beside_laws.proofs.UrlFronts.{ExtFront, ext_front, external_tile, BareFront, bare_front, bare_tile}
+use Rattle.wt_beside_laws.proofs.UrlFronts.{ExtFront, ext_front, external_tile, bare_front, bare_tile}
 
 -- ---- the form that is the first of several
 
@@ -405,21 +405,21 @@ tag_stays a r b gs behind t w e is whole tile lone =
     let own : List Glyph = glyph.Byte b ∷ gs in
     let all : List Glyph = glyph.Byte b ∷ (gs ++ behind) in
     elim (lone_or_opens t.name t.shape) [
-  | inl l ↦ (
-      let len : t.len ≡ suc (length gs) = sym (lone_size t.name t.shape t.len all l) ∙ ap size is ∙ whole in
-      tag_kinds a r own behind w.kind (tag_node b gs t (tag_front own behind t len e) l len)
-      (subst (λ (u : Shape). IsTagTile u.kind) is (lone_tile t.name t.shape t.len all l)) tile
-    )
-  | inr o ↦ (
-      elim (opened t.name t.shape t.len all o) [
-        | inl pair ↦ absurd (no_pair r w.kind (sym (ap (λ (u : Shape). u.kind) is) ∙ pair) tile)
-        | inr alone ↦ (
-            let len : t.len ≡ suc (length gs) = sym alone ∙ ap size is ∙ whole in
-            absurd (both_opens t.name t.shape (lone_is (tag_at own) t lone (tag_front own behind t len e)) o)
+      | inl l ↦ (
+          let len : t.len ≡ suc (length gs) = sym (lone_size t.name t.shape t.len all l) ∙ ap size is ∙ whole in
+          tag_kinds a r own behind w.kind (tag_node b gs t (tag_front own behind t len e) l len)
+          (subst (λ (u : Shape). IsTagTile u.kind) is (lone_tile t.name t.shape t.len all l)) tile
           )
-      ]
-    )
-]
+      | inr o ↦ (
+          elim (opened t.name t.shape t.len all o) [
+            | inl pair ↦ absurd (no_pair r w.kind (sym (ap (λ (u : Shape). u.kind) is) ∙ pair) tile)
+            | inr alone ↦ (
+                let len : t.len ≡ suc (length gs) = sym alone ∙ ap size is ∙ whole in
+                absurd (both_opens t.name t.shape (lone_is (tag_at own) t lone (tag_front own behind t len e)) o)
+                )
+          ]
+          )
+    ]
 
 -- ---- switches
 

@@ -1,5 +1,5 @@
 -- Worked cases: nodes as a page has them, and what may be behind them there.
-use Rattle.std.proofs.Common.{arith, ◌≡◌, true, false, Some, None, List, [], ◌∷◌, refl, inl, inr}
+use Rattle.std.proofs.Common.{◌≡◌, true, false, Some, None, refl, inr}
 use Rattle.std.specs.Prelude.{codes}
 use Rattle.wt_guards.specs.declared.role.Role.TheVariants.{Bare, Switch, Node}
 use Rattle.wt_tiles.specs.declared.shape.TileKind.TheVariants as kind

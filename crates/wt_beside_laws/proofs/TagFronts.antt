@@ -1,5 +1,5 @@
 -- A tag or a switch that is all of some items, whatever is read behind them, is the same of these items alone.
-use Rattle.std.proofs.Common.{arith, ◌≡◌, ℕ, zero, suc, ◌+◌, ◌-◌, ◌<◌, ◌≤◌, ◌==◌, Bool, true, false, Option, Some, None, List, [], ◌∷◌, ◌++◌, length, take, drop, refl, sym, ap, ap₂, ◌∙◌, subst, nat_lt}
+use Rattle.std.proofs.Common.{arith, ◌≡◌, ℕ, suc, ◌+◌, ◌-◌, ◌<◌, ◌≤◌, ◌==◌, Bool, true, false, Option, Some, None, List, [], ◌∷◌, ◌++◌, length, take, drop, refl, sym, ap, ap₂, ◌∙◌, subst, nat_lt}
 use Rattle.std.specs.Prelude.{◌&&◌, codes, option_map, if◌then◌else◌}
 use Rattle.std.specs.List.{Contains}
 use Rattle.std.specs.Option.{option_or}
@@ -8,7 +8,6 @@ use Rattle.std.proofs.lemmas.List.{drop-append-le, take-append-le, length-drop, 
 use Rattle.std.proofs.lemmas.List.Elements.{Contains-append_right}
 use Rattle.wt_tiles.specs.declared.glyph.Glyph.{Glyph}
 use Rattle.wt_tiles.specs.declared.glyph.Glyph.TheVariants as glyph
-use Rattle.wt_tiles.specs.declared.glyph.GlyphClass.{GlyphClass}
 use Rattle.wt_tiles.specs.declared.glyph.GlyphClass.TheVariants as class
 use Rattle.wt_tiles.specs.declared.shape.Shape.{Shape}
 use Rattle.wt_tiles.specs.declared.shape.TileKind.TheVariants as kind
@@ -216,6 +215,7 @@ switch_front gs rest w whole e =
     take_whole : (xs ys : List Glyph) → take (length xs) (xs ++ ys) ≡ xs
     take_whole [] ys = refl
     take_whole (x ∷ xs) ys = ap (λ (hs : List Glyph). x ∷ hs) (take_whole xs ys)
+
     two_parts : (n : ℕ) (xs : List Glyph) → 2 + n ≤ length xs → take (2 + n) xs ≡ take 2 xs ++ take n (drop 2 xs)
     two_parts n [] le = absurd (omega (arith, le))
     two_parts n (x ∷ []) le = absurd (omega (arith, le))

@@ -2,9 +2,8 @@
 use Rattle.std.proofs.Common.{arith, ◌≡◌, ℕ, zero, suc, ◌+◌, ◌-◌, ◌<◌, ◌≤◌, ◌==◌, Bool, true, false, Option, Some, None, List, [], ◌∷◌, ◌++◌, length, take, drop, refl, sym, ap, ap₂, ◌∙◌, subst, nat_lt, inl, inr, ◌⊎◌}
 use Rattle.std.specs.Prelude.{◌&&◌, ◌||◌, not, codes, option_map, reverse, if◌then◌else◌}
 use Rattle.std.specs.List.{list_any, list_all, prefix_len}
-use Rattle.std.proofs.lemmas.Bool.{cases_lt}
 use Rattle.std.proofs.lemmas.Bool.Decides.{nat_tests}
-use Rattle.std.proofs.lemmas.List.{drop-append-le, take-append-le, length-drop, length-take, length-append, length-reverse, drop-drop, reverse-append}
+use Rattle.std.proofs.lemmas.List.{drop-append-le, length-drop, length-take, length-append, length-reverse, drop-drop, reverse-append}
 use Rattle.std.proofs.lemmas.List.Folds.{list_any-append}
 use Rattle.std.proofs.lemmas.List.Sums.{prefix_len-le-length}
 use Rattle.wt_tiles.specs.declared.glyph.Glyph.{Glyph}
@@ -20,8 +19,8 @@ use Rattle.wt_tiles.specs.Urls.{scheme_len, is_url_char, is_url_glyph, url_run, 
 use Rattle.wt_tiles.proofs.LinkFits.{OptPlace, place_fits}
 use Rattle.wt_tiles.proofs.UrlFits.{url_run_le, kept_le}
 use Rattle.wt_beside_laws.specs.Stood.{EndsUrl, is_url_end}
-use Rattle.wt_beside_laws.proofs.LinkTiles.{place_by, same_shape, if_some, run_stays, first_stays}
-use Rattle.wt_beside_laws.proofs.UrlTiles.{IsOfFirst, IsAfter, is_after, both_some, scheme_stays, scheme_some, like_stays, like_first_of, like_first}
+use Rattle.wt_beside_laws.proofs.LinkTiles.{place_by, same_shape, if_some, first_stays}
+use Rattle.wt_beside_laws.proofs.UrlTiles.{IsOfFirst, is_after, both_some, scheme_stays, scheme_some, like_stays}
 
 -- ---- places and runs that are decided by the first item
 
@@ -387,11 +386,13 @@ none_run (g ∷ gs) e = none_by (is_url_glyph g) (begins (codes "''") (g ∷ gs)
     left_true : (u v : Bool) → (u && v) ≡ true → u ≡ true
     left_true true v z = refl
     left_true false v z = cc
+
     quote : (h : Glyph) → is_in (λ (b : ℕ). b == 39) h ≡ true → is_in is_url_end h ≡ true
     quote (glyph.Byte b) z = ap (λ (v : Bool). v || is_dropped false b) z
     quote (glyph.Entity c) z = cc
     quote glyph.Atom z = cc
     quote glyph.Mark z = cc
+
     none_by : (v q : Bool) → is_url_glyph g ≡ v → begins (codes "''") (g ∷ gs) ≡ q → (if v && not q then suc (url_run gs) else 0) ≡ 0 → EndsUrl (g ∷ gs)
     none_by false q i z f = inl i
     none_by true true i z f = inr (quote g (left_true (is_in (λ (b : ℕ). b == 39) g) (begins (codes "'") gs) z))
@@ -440,10 +441,12 @@ bare_parts gs rest w s scheme some one whole is =
   where
     taken_all : (i : ℕ) (xs : List Glyph) → i ≤ length xs → length (take i xs) ≡ i
     taken_all i xs le = let cut = length-take i xs in omega (arith, cut, le)
+
     take_parts : (xs ys : List Glyph) (i : ℕ) → take (length xs + i) (xs ++ ys) ≡ xs ++ take i ys
     take_parts [] ys i = let z : 0 + i ≡ i = omega arith in ap (λ (j : ℕ). take j ys) z
     take_parts (x ∷ xs) ys i = let z : suc (length xs) + i ≡ suc (length xs + i) = omega arith in
         ap (λ (j : ℕ). take j (x ∷ (xs ++ ys))) z ∙ ap (λ (hs : List Glyph). x ∷ hs) (take_parts xs ys i)
+
     take_whole : (xs : List Glyph) → take (length xs) xs ≡ xs
     take_whole [] = refl
     take_whole (x ∷ xs) = ap (λ (hs : List Glyph). x ∷ hs) (take_whole xs)

@@ -4,7 +4,6 @@ use Rattle.wt_span.specs.Characters as byte
 use Rattle.wt_guards.specs.declared.role.Role.{Role}
 use Rattle.wt_guards.specs.declared.role.Role.TheVariants.{Link, External, Bare, Switch, Toggle, Mark, Group, Function, Node}
 use Rattle.wt_guards.specs.Content.{ContentSign, Thing, letter, thing}
-use Rattle.wt_tiles.specs.declared.context.Context.{Context}
 use Rattle.wt_tiles.specs.declared.glyph.Glyph.{Glyph}
 use Rattle.wt_tiles.specs.declared.shape.Shape.{Shape}
 use Rattle.wt_tiles.specs.declared.shape.TileKind.{TileKind}
