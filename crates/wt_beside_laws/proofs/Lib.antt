@@ -14,6 +14,8 @@ pub mod NodesMeet
 pub mod NodesStand
 pub mod PageNodes
 pub mod PageSigns
+pub mod PairTiles
+pub mod SentNodes
 pub mod Stood
 pub mod TagFronts
 pub mod TagTiles

@@ -1,8 +1,8 @@
 -- With what nodes that stay end: no letter, digit or `_`, but for links to pages, bare URLs and switches.
-use Rattle.std.proofs.Common.{arith, ◌≡◌, ℕ, zero, suc, ◌+◌, ◌-◌, ◌<◌, ◌==◌, Bool, true, false, Option, Some, None, List, [], ◌∷◌, length, take, drop, refl, sym, ap, ◌∙◌, subst, inl, inr, ◌⊎◌, nat_lt}
+use Rattle.std.proofs.Common.{arith, ◌≡◌, ℕ, zero, suc, ◌+◌, ◌-◌, ◌<◌, ◌==◌, Bool, true, false, Option, Some, None, List, [], ◌∷◌, ◌++◌, length, take, drop, refl, sym, ap, ◌∙◌, subst, inl, inr, ◌⊎◌, nat_lt}
 use Rattle.std.specs.Prelude.{◌&&◌, codes, option_map, if◌then◌else◌}
 use Rattle.std.specs.Option.{option_or}
-use Rattle.std.proofs.lemmas.List.{length-drop, drop-drop}
+use Rattle.std.proofs.lemmas.List.{length-drop, drop-drop, take-append-drop}
 use Rattle.wt_tiles.specs.declared.glyph.Glyph.{Glyph}
 use Rattle.wt_tiles.specs.declared.glyph.Glyph.TheVariants as glyph
 use Rattle.wt_tiles.specs.declared.glyph.GlyphClass.TheVariants as class
@@ -14,17 +14,18 @@ use Rattle.wt_tiles.specs.declared.target.LinkKind.TheVariants.{Page, Category, 
 use Rattle.wt_tiles.specs.declared.target.Target.{Target}
 use Rattle.wt_tiles.specs.Glyphs.{in_class, is_in, first_is, run_len, begins}
 use Rattle.wt_tiles.specs.Links.{target_of, kind_of, target_len, to_close, inner_len, has_pipe, head_len, link_shape, link_with, link_to, link_by, link_in, link_at}
-use Rattle.wt_tiles.specs.Partners.{balanced}
+use Rattle.wt_tiles.specs.Partners.{DepthChange, Up, Down, Level, number, tag_turn, by_tag, partner, balanced}
 use Rattle.wt_tiles.specs.Tags.{name_len, name_of, tag_of, is_inside, shape_of, tag_after, opening_tag, closing_tag, tag_at}
-use Rattle.wt_tiles.specs.Tiles.{size}
+use Rattle.wt_tiles.specs.Tiles.{size, len_of}
 use Rattle.wt_tiles.specs.Urls.{scheme_len, url_items, ext_shape, ext_link_after, ext_link_of, ext_link_at, is_word}
 use Rattle.wt_tiles.proofs.LinkFits.{OptPlace, place_fits, OptRest, balanced_fits}
 use Rattle.wt_tiles.proofs.TagFits.{name_le}
 use Rattle.wt_beside_laws.specs.Cuts.{ends_word}
-use Rattle.wt_beside_laws.specs.Nodes.{IsExternalNode, IsCategoryNode, IsMediaNode, IsTagNode, IsOneLexeme}
+use Rattle.wt_beside_laws.specs.Nodes.{IsExternalNode, IsCategoryNode, IsMediaNode, IsPair, IsTagNode, IsOneLexeme}
 use Rattle.wt_beside_laws.specs.Tiles.{IsCategoryKind, IsMediaKind, LeadsBy, AimsBy}
 use Rattle.wt_beside_laws.proofs.LinkFronts.{ends_at}
 use Rattle.wt_beside_laws.proofs.LinkTiles.{if_some, with_made, some_same}
+use Rattle.wt_beside_laws.proofs.PairTiles.{HasTag, partner_tag, same_list}
 use Rattle.wt_beside_laws.proofs.TagFronts.{byte_is, made_len, taken, after_len}
 use Rattle.wt_beside_laws.proofs.TagTiles.{if_tag, both_true}
 use Rattle.wt_beside_laws.proofs.UrlFronts.{text_closes}
@@ -246,10 +247,43 @@ tag_ends : (g : Glyph) (hs : List Glyph) (t : Tag) → tag_at (g ∷ hs) ≡ Som
 unfolding tag_at
 tag_ends g hs t e whole = tag_by (opening_tag (g ∷ hs)) g hs t refl e whole
 
+-- a pair of tags ends as its closing tag does
+ends_append : (a : Bool) (xs ys : List Glyph) → ends_word a (xs ++ ys) ≡ ends_word (ends_word a xs) ys
+ends_append a [] ys = refl
+ends_append a (x ∷ xs) ys = ends_append (is_in is_word x) xs ys
+
+found_last : (k : ℕ) (t : DepthChange) (d : ℕ) (a : Bool) (g : Glyph) (gs ys : List Glyph)
+    → ((e : ℕ) (b : Bool) → partner k e gs ≡ Some ys → ends_word b gs ≡ ends_word false ys)
+    → by_tag t d (g ∷ gs) (λ e. partner k e gs) ≡ Some ys → ends_word a (g ∷ gs) ≡ ends_word false ys
+found_last k Up d a g gs ys f e = f (suc d) (is_in is_word g) e
+found_last k Level d a g gs ys f e = f d (is_in is_word g) e
+found_last k Down zero a g gs ys f e = ap (ends_word false) (same_list (g ∷ gs) ys e)
+found_last k Down (suc d) a g gs ys f e = f d (is_in is_word g) e
+
+partner_last : (k d : ℕ) (a : Bool) (gs ys : List Glyph) → partner k d gs ≡ Some ys → ends_word a gs ≡ ends_word false ys
+partner_last k d a [] ys e = cc
+partner_last k d a (g ∷ gs) ys e = found_last k (tag_turn k (g ∷ gs)) d a g gs ys (λ c b z. partner_last k c b gs ys z) e
+
+whole_tag : (gs : List Glyph) → HasTag (tag_at gs) → len_of (tag_at gs) ≡ length gs → ends_word false gs ≡ false
+whole_tag gs h e = tag_by_last (tag_at gs) gs refl h e
+  where
+    tag_by_last : (o : Option Tag) (us : List Glyph) → tag_at us ≡ o → HasTag o → len_of o ≡ length us → ends_word false us ≡ false
+    tag_by_last None us i y z = absurd y
+    tag_by_last (Some t) [] i y z = refl
+    tag_by_last (Some t) (u ∷ us) i y z = ends_so 62 false (u ∷ us) refl (tag_ends u us t i z)
+
+pair_last : (a : Bool) (t : Tag) (own : List Glyph) → IsPair t own → ends_word a own ≡ false
+pair_last a t own p =
+    ap (ends_word a) (sym (take-append-drop t.len own))
+    ∙ ends_append a (take t.len own) (drop t.len own)
+    ∙ partner_last (number p.name) 0 (ends_word a (take t.len own)) (drop t.len own) p.last p.closing
+    ∙ whole_tag p.last (partner_tag (number p.name) 0 (drop t.len own) p.last p.closing) p.ends
+
 tag_last : (a : Bool) (own : List Glyph) → IsTagNode own → ends_word a own ≡ false
-tag_last a own n =
-    subst (λ gs. ends_word a gs ≡ false) (sym n.is)
-    (ends_so 62 a (glyph.Byte 60 ∷ n.others) refl (tag_ends (glyph.Byte 60) n.others n.named n.tagged (n.whole ∙ ap length n.is)))
+tag_last a own n = subst (λ gs. ends_word a gs ≡ false) (sym n.is) (elim n.ends [
+  | inl lone ↦ ends_so 62 a (glyph.Byte 60 ∷ n.others) refl (tag_ends (glyph.Byte 60) n.others n.named n.tagged lone.1)
+  | inr pair ↦ pair_last a n.named (glyph.Byte 60 ∷ n.others) pair
+])
 
 -- ---- other nodes
 

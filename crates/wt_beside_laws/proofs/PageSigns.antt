@@ -29,7 +29,7 @@ use Rattle.wt_tiles.proofs.Readings.{shapes_are}
 use Rattle.wt_beside_laws.specs.Cuts.{own_glyphs, ends_word, form_before}
 use Rattle.wt_beside_laws.specs.Nodes.{AreNodes, AllMeet}
 use Rattle.wt_beside_laws.specs.PageSigns.{atom_role, tile_role, form_sign, tile_signs, signs_of_tiles, line_signs, signs_of_lines, IsFlatForm, IsFlatTile, AreFlatTiles, HasNoBreak, AreFlatLines}
-use Rattle.wt_beside_laws.specs.Stood.{IsTileOf, IsRead, line_glyphs, AreStood, AreAt, things}
+use Rattle.wt_beside_laws.specs.Stood.{IsTileOf, OpensNoPair, IsRead, line_glyphs, AreStood, AreAt, things}
 use Rattle.wt_beside_laws.proofs.PageNodes.{nodes_stay, nodes_meet}
 
 -- ---- letters
@@ -236,7 +236,7 @@ IsFlatKind kind.Media = Unit {0}
 IsFlatKind kind.ExtLink = Unit {0}
 IsFlatKind kind.BareUrl = Unit {0}
 IsFlatKind kind.Br = Unit {0}
-IsFlatKind kind.Pair = ⊥
+IsFlatKind kind.Pair = Unit {0}
 IsFlatKind kind.TagIsland = Unit {0}
 IsFlatKind kind.Switch = Unit {0}
 IsFlatKind kind.Atom = Unit {0}
@@ -250,7 +250,7 @@ role_fits kind.Media xs h = tt
 role_fits kind.ExtLink xs h = refl
 role_fits kind.BareUrl xs h = refl
 role_fits kind.Br xs h = tt
-role_fits kind.Pair xs h = absurd h
+role_fits kind.Pair xs h = tt
 role_fits kind.TagIsland xs h = tt
 role_fits kind.Switch xs h = refl
 role_fits kind.Atom xs h = atom_tile xs
@@ -261,7 +261,7 @@ before_is : (a : Bool) (own behind : List Glyph) → 0 < length own → form_bef
 before_is a [] behind some = absurd (omega (arith, some))
 before_is a (g ∷ gs) behind some = refl
 
-form_read : (a : Bool) (at : ℕ) (w : Shape) (k : TileKind) (ys zs : List Item) (more : List ContentSign) → w.kind ≡ k → IsFlatKind k → IsFlatForm ys → size w ≡ length ys
+form_read : (a : Bool) (at : ℕ) (w : Shape) (k : TileKind) (ys zs : List Item) (more : List ContentSign) → w.kind ≡ k → IsFlatKind k → IsFlatForm k ys → size w ≡ length ys
     → 0 < length ys → tile_at in_line a (map glyph_of (ys ++ zs)) ≡ Some w → Read (ends_word a (map glyph_of ys)) (at + length (sources ys)) zs more
     → Read a at (ys ++ zs) (form_sign k at ys ++ more)
 form_read a at w k ys zs more kind_is flat f fits some e r =
@@ -273,7 +273,7 @@ form_read a at w k ys zs more kind_is flat f fits some e r =
     ∙ before_is a (map glyph_of ys) (map glyph_of zs) (omega (arith, some, long))
     ∙ ap (tile_at in_line a) (sym (map-append glyph_of ys zs)) ∙ e in
     let read : IsRead a t.role (map glyph_of ys) (line_glyphs more) =
-    record { shape = w; form = form; whole = fits ∙ sym long; tile = subst (IsTileOf (tile_role k ys)) (sym kind_is) (role_fits k ys flat); lone = f.lone } in
+    record { shape = w; form = form; whole = fits ∙ sym long; tile = subst (IsTileOf (tile_role k ys)) (sym kind_is) (role_fits k ys flat); lone = subst (λ (j : TileKind). OpensNoPair j (map glyph_of ys)) (sym kind_is) f.lone } in
     record {
       stood = (
         subst (λ (gs : List Glyph). IsRead a t.role gs (line_glyphs more)) (sym own) read,
@@ -286,7 +286,7 @@ form_read a at w k ys zs more kind_is flat f fits some e r =
           ∙ sym (map-append glyph_of ys zs);
     }
 
-form_tile : (k : TileKind) (a : Bool) (at : ℕ) (w : Shape) (xs : List Item) (more : List ContentSign) → w.kind ≡ k → IsFlatKind k → IsFlatForm (take (size w) xs)
+form_tile : (k : TileKind) (a : Bool) (at : ℕ) (w : Shape) (xs : List Item) (more : List ContentSign) → w.kind ≡ k → IsFlatKind k → IsFlatForm k (take (size w) xs)
     → tile_at in_line a (map glyph_of xs) ≡ Some w → 0 < size w → size w ≤ length xs
     → Read (ends_word a (map glyph_of (take (size w) xs))) (at + length (sources (take (size w) xs))) (drop (size w) xs) more
     → Read a at (take (size w) xs ++ drop (size w) xs) (form_sign k at (take (size w) xs) ++ more)
@@ -306,7 +306,7 @@ by_kind kind.Media a at w xs more e f s some le n r = form_tile kind.Media a at 
 by_kind kind.ExtLink a at w xs more e f s some le n r = form_tile kind.ExtLink a at w xs more e tt f s some le r
 by_kind kind.BareUrl a at w xs more e f s some le n r = form_tile kind.BareUrl a at w xs more e tt f s some le r
 by_kind kind.Br a at w xs more e f s some le n r = form_tile kind.Br a at w xs more e tt f s some le r
-by_kind kind.Pair a at w xs more e f s some le n r = absurd f
+by_kind kind.Pair a at w xs more e f s some le n r = form_tile kind.Pair a at w xs more e tt f s some le r
 by_kind kind.TagIsland a at w xs more e f s some le n r = form_tile kind.TagIsland a at w xs more e tt f s some le r
 by_kind kind.Switch a at w xs more e f s some le n r = form_tile kind.Switch a at w xs more e tt f s some le r
 by_kind kind.Atom a at w xs more e f s some le n r = form_tile kind.Atom a at w xs more e tt f s some le r
@@ -379,8 +379,9 @@ lines_read at (xs ∷ ys ∷ ls) h =
     line_read false at xs (letter 10 ∷ signs_of_lines (at + length (sources xs) + 1) (ys ∷ ls)) refl h.1 h.0 (next_line (at + length (sources xs)) (ys ∷ ls) more) in
     record { stood = r.stood; places = r.places }
 
-pub flat_lines : (s : Setting) (ls : List (List Item)) (at : ℕ) (signs : List ContentSign) → AreFlatLines ls → things signs ≡ things (signs_of_lines at ls)
-    → AreNodes signs × AllMeet s [] signs []
-flat_lines s ls at signs h same =
-    let r = lines_read at ls h in
-    (nodes_stay (signs_of_lines at ls) signs r.stood same, nodes_meet s (signs_of_lines at ls) signs at r.stood r.places same)
+pub flat_nodes : (ls : List (List Item)) (at : ℕ) (signs : List ContentSign) → AreFlatLines ls → things signs ≡ things (signs_of_lines at ls) → AreNodes signs
+flat_nodes ls at signs h same = nodes_stay (signs_of_lines at ls) signs (lines_read at ls h).stood same
+
+pub flat_meet : (s : Setting) (ls : List (List Item)) (at : ℕ) (signs : List ContentSign) → AreFlatLines ls → things signs ≡ things (signs_of_lines at ls)
+    → AllMeet s [] signs []
+flat_meet s ls at signs h same = let r = lines_read at ls h in nodes_meet s (signs_of_lines at ls) signs at r.stood r.places same

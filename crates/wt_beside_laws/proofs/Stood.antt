@@ -1,8 +1,10 @@
 -- A node that is read in the page as a form which takes all of its items is a node that stays.
-use Rattle.std.proofs.Common.{arith, ◌≡◌, ℕ, suc, ◌+◌, ◌≤◌, ◌==◌, Bool, true, false, Option, Some, None, List, [], ◌∷◌, ◌++◌, length, take, drop, refl, sym, ap, ◌∙◌, subst, inl, inr, ◌⊎◌}
+use Rattle.std.proofs.Common.{arith, ◌≡◌, ℕ, suc, ◌+◌, ◌<◌, ◌-◌, ◌≤◌, ◌==◌, Bool, true, false, Option, Some, None, List, [], ◌∷◌, ◌++◌, length, take, drop, refl, sym, ap, ◌∙◌, subst, inl, inr, ◌⊎◌}
 use Rattle.std.specs.Prelude.{◌&&◌, codes, option_map}
 use Rattle.std.specs.Option.{option_or}
 use Rattle.std.proofs.lemmas.Bool.Decides.{nat_tests}
+use Rattle.std.proofs.lemmas.List.{append_assoc, drop-append-le, length-append, length-drop, length-take, take-append-drop}
+use Rattle.wt_span.specs.declared.tag_name.TagName.{TagName}
 use Rattle.wt_guards.specs.declared.role.Role.{Role}
 use Rattle.wt_guards.specs.declared.role.Role.TheVariants.{Link, External, Bare, Switch, Toggle, Mark, Group, Function, Node}
 use Rattle.wt_tiles.specs.declared.glyph.Glyph.{Glyph}
@@ -23,18 +25,20 @@ use Rattle.wt_tiles.specs.Contexts.{in_line}
 use Rattle.wt_tiles.specs.Glyphs.{in_class, is_in, first_is, begins}
 use Rattle.wt_tiles.specs.Links.{leaf, target_of, kind_of, target_len, inner_len, has_pipe, head_len, link_shape, link_with, link_to, link_by, link_in, link_at}
 use Rattle.wt_tiles.specs.Tags.{tag_at}
-use Rattle.wt_tiles.specs.Tiles.{size, closing_for, pair_or_island, shape_of_tag, tag_tile, switch_at, link_or_url, form_at}
+use Rattle.wt_tiles.specs.Partners.{number, partner}
+use Rattle.wt_tiles.specs.Tiles.{size, len_of, closing_for, pair_or_island, shape_of_tag, tag_tile, switch_at, link_or_url, form_at}
 use Rattle.wt_tiles.specs.Urls.{scheme_len, ext_link_at, bare_url_at}
 use Rattle.wt_tiles.proofs.TagInsides.{no_tag}
 use Rattle.wt_beside_laws.specs.Cuts.{form_before}
-use Rattle.wt_beside_laws.specs.Nodes.{IsLinkNode, IsCategoryNode, IsMediaNode, IsExternalNode, IsBareNode, IsSwitchNode, IsOneLexeme, IsTagNode, IsLone, IsNode, MayLead}
-use Rattle.wt_beside_laws.specs.Stood.{EndsUrl, IsTileOf, OpensNone, IsRead, HasBehind}
+use Rattle.wt_beside_laws.specs.Nodes.{IsLinkNode, IsCategoryNode, IsMediaNode, IsExternalNode, IsBareNode, IsSwitchNode, IsOneLexeme, IsTagNode, IsAllOf, IsLone, IsNode, MayLead}
+use Rattle.wt_beside_laws.specs.Stood.{EndsUrl, IsTileOf, OpensNone, OpensNoPair, IsRead, HasBehind}
 use Rattle.wt_beside_laws.specs.Tiles.{IsPlainKind, IsCategoryKind, IsMediaKind, LeadsBy, AimsBy, IsPlainLink, IsCategoryLink}
 use Rattle.wt_beside_laws.proofs.LinkFronts.{link_tile, JoinsNone, LinkFront, in_front}
 use Rattle.wt_beside_laws.proofs.LinkTiles.{if_some, with_made, same_shape}
 use Rattle.wt_beside_laws.proofs.NodesStand.{lone_size}
-use Rattle.wt_beside_laws.proofs.TagFronts.{byte_is, tag_front, switch_front}
-use Rattle.wt_beside_laws.proofs.TagTiles.{both_true}
+use Rattle.wt_beside_laws.proofs.PairTiles.{HasTag, partner_short, partner_front, partner_tag}
+use Rattle.wt_beside_laws.proofs.TagFronts.{byte_is, tag_front, tag_some, switch_front}
+use Rattle.wt_beside_laws.proofs.TagTiles.{both_true, tag_stays}
 use Rattle.wt_beside_laws.proofs.UrlFronts.{ExtFront, ext_front, external_tile, bare_front, bare_tile}
 
 -- ---- the form that is the first of several
@@ -293,42 +297,38 @@ bare_stays a r b gs behind w e whole tile =
 
 -- of the tiles that tags make
 abbrev IsTagTile : TileKind → Type 0
-IsTagTile k = (k ≡ kind.Br) ⊎ (k ≡ kind.TagIsland)
+IsTagTile kind.Chars = ⊥
+IsTagTile kind.Mark = ⊥
+IsTagTile kind.Atom = ⊥
+IsTagTile kind.Link = ⊥
+IsTagTile kind.Category = ⊥
+IsTagTile kind.Media = ⊥
+IsTagTile kind.ExtLink = ⊥
+IsTagTile kind.BareUrl = ⊥
+IsTagTile kind.Br = Unit {0}
+IsTagTile kind.Pair = Unit {0}
+IsTagTile kind.TagIsland = Unit {0}
+IsTagTile kind.Switch = ⊥
 
 tag_kinds : (a : Bool) (r : Role) (own behind : List Glyph) (k : TileKind) → IsTagNode own → IsTagTile k → IsTileOf r k → Stays a r own behind
-tag_kinds a Link own behind k n is tile = elim is [
-  | inl e ↦ (let z : kind.Br ≡ kind.Link = sym e ∙ tile in cc)
-  | inr e ↦ (let z : kind.TagIsland ≡ kind.Link = sym e ∙ tile in cc)
-]
-tag_kinds a External own behind k n is tile = elim is [
-  | inl e ↦ (let z : kind.Br ≡ kind.ExtLink = sym e ∙ tile in cc)
-  | inr e ↦ (let z : kind.TagIsland ≡ kind.ExtLink = sym e ∙ tile in cc)
-]
-tag_kinds a (Bare ends) own behind k n is tile = elim is [
-  | inl e ↦ (let z : kind.Br ≡ kind.BareUrl = sym e ∙ tile in cc)
-  | inr e ↦ (let z : kind.TagIsland ≡ kind.BareUrl = sym e ∙ tile in cc)
-]
-tag_kinds a Switch own behind k n is tile = elim is [
-  | inl e ↦ (let z : kind.Br ≡ kind.Switch = sym e ∙ tile in cc)
-  | inr e ↦ (let z : kind.TagIsland ≡ kind.Switch = sym e ∙ tile in cc)
-]
+tag_kinds a Link own behind k n is tile = absurd (subst IsTagTile tile is)
+tag_kinds a External own behind k n is tile = absurd (subst IsTagTile tile is)
+tag_kinds a (Bare ends) own behind k n is tile = absurd (subst IsTagTile tile is)
+tag_kinds a Switch own behind k n is tile = absurd (subst IsTagTile tile is)
 tag_kinds a Toggle own behind k n is tile = absurd tile
 tag_kinds a (Mark ends began) own behind k n is tile = absurd tile
 tag_kinds a (Group g) own behind k n is tile = absurd tile
-tag_kinds a Function own behind k n is tile = elim is [
-  | inl e ↦ (let z : kind.Br ≡ kind.Atom = sym e ∙ tile in cc)
-  | inr e ↦ (let z : kind.TagIsland ≡ kind.Atom = sym e ∙ tile in cc)
-]
+tag_kinds a Function own behind k n is tile = absurd (subst IsTagTile tile is)
 tag_kinds a Node own behind k n is tile = record { node = inr (inl n); lead = tt; has = tt }
 
 lone_tile : (m : Name) (h : TagShape) (n : ℕ) (gs : List Glyph) → IsLone m h → IsTagTile ((shape_of_tag 0 m h n gs).kind)
 lone_tile (Paired m) Opening n gs l = absurd l
-lone_tile (Paired m) Alone n gs l = inr refl
-lone_tile (Paired m) Closing n gs l = inr refl
-lone_tile Break Opening n gs l = inl refl
-lone_tile Break Alone n gs l = inl refl
-lone_tile Break Closing n gs l = inr refl
-lone_tile Island h n gs l = inr refl
+lone_tile (Paired m) Alone n gs l = tt
+lone_tile (Paired m) Closing n gs l = tt
+lone_tile Break Opening n gs l = tt
+lone_tile Break Alone n gs l = tt
+lone_tile Break Closing n gs l = tt
+lone_tile Island h n gs l = tt
 
 -- a lone tag, or what begins a pair, or would
 abbrev Opens : Name → TagShape → Type 0
@@ -345,29 +345,27 @@ lone_or_opens (Paired m) Closing = inl tt
 lone_or_opens Break h = inl tt
 lone_or_opens Island h = inl tt
 
--- of a tag that opens a pair: the pair, or the tag
-pair_or_tag : (n : ℕ) (o : Option (List Glyph)) (gs : List Glyph) → ((pair_or_island n o gs).kind ≡ kind.Pair) ⊎ (size (pair_or_island n o gs) ≡ n)
-pair_or_tag n None gs = inr (omega arith)
-pair_or_tag n (Some rest) gs = inl refl
+-- of a tag that opens a pair: the pair, or the tag as an island
+record IsOpened (t : Tag) (gs : List Glyph) : Type 0 where
+  name : TagName
+  paired : t.name ≡ Paired name
+  opens : t.shape ≡ Opening
+  shape : (o : Option (List Glyph)) → closing_for 0 name t.len gs ≡ o → shape_of_tag 0 t.name t.shape t.len gs ≡ pair_or_island t.len o gs
 
-opened : (m : Name) (h : TagShape) (n : ℕ) (gs : List Glyph) → Opens m h
-    → ((shape_of_tag 0 m h n gs).kind ≡ kind.Pair) ⊎ (size (shape_of_tag 0 m h n gs) ≡ n)
-opened (Paired m) Opening n gs o = pair_or_tag n (closing_for 0 m n gs) gs
-opened (Paired m) Alone n gs o = absurd o
-opened (Paired m) Closing n gs o = absurd o
-opened Break h n gs o = absurd o
-opened Island h n gs o = absurd o
-
-no_pair : (r : Role) (k : TileKind) → k ≡ kind.Pair → IsTileOf r k → ⊥
-no_pair Link k e tile = let z : kind.Pair ≡ kind.Link = sym e ∙ tile in cc
-no_pair External k e tile = let z : kind.Pair ≡ kind.ExtLink = sym e ∙ tile in cc
-no_pair (Bare ends) k e tile = let z : kind.Pair ≡ kind.BareUrl = sym e ∙ tile in cc
-no_pair Switch k e tile = let z : kind.Pair ≡ kind.Switch = sym e ∙ tile in cc
-no_pair Toggle k e tile = tile
-no_pair (Mark ends began) k e tile = tile
-no_pair (Group g) k e tile = tile
-no_pair Function k e tile = let z : kind.Pair ≡ kind.Atom = sym e ∙ tile in cc
-no_pair Node k e tile = subst (IsTileOf Node) e tile
+opened_by : (t : Tag) (m : Name) (h : TagShape) (gs : List Glyph) → t.name ≡ m → t.shape ≡ h → Opens m h → IsOpened t gs
+opened_by t (Paired k) Opening gs e f o = record {
+  name = k;
+  paired = e;
+  opens = f;
+  shape = λ c i.
+      ap (λ (m : Name). shape_of_tag 0 m t.shape t.len gs) e
+      ∙ ap (λ (h : TagShape). shape_of_tag 0 (Paired k) h t.len gs) f
+      ∙ ap (λ (c : Option (List Glyph)). pair_or_island t.len c gs) i;
+}
+opened_by t (Paired k) Alone gs e f o = absurd o
+opened_by t (Paired k) Closing gs e f o = absurd o
+opened_by t Break h gs e f o = absurd o
+opened_by t Island h gs e f o = absurd o
 
 both_opens : (m : Name) (h : TagShape) → IsLone m h → Opens m h → ⊥
 both_opens (Paired m) Opening l o = l
@@ -383,42 +381,102 @@ less_first b gs t e = by (b == 60) refl
     by true i = grind (arith, nat_tests, i)
     by false i = let none : None ≡ Some t = sym (no_tag (glyph.Byte b ∷ gs) i) ∙ e in cc
 
-tag_node : (b : ℕ) (gs : List Glyph) (t : Tag) → tag_at (glyph.Byte b ∷ gs) ≡ Some t → IsLone t.name t.shape → t.len ≡ suc (length gs) → IsTagNode (glyph.Byte b ∷ gs)
-tag_node b gs t e l whole =
+tag_node : (b : ℕ) (gs : List Glyph) (t : Tag) → tag_at (glyph.Byte b ∷ gs) ≡ Some t → IsAllOf t (glyph.Byte b ∷ gs) → IsTagNode (glyph.Byte b ∷ gs)
+tag_node b gs t e all =
     let is : b ≡ 60 = less_first b gs t e in
     record {
       named = t;
       others = gs;
       is = ap (λ (c : ℕ). glyph.Byte c ∷ gs) is;
       tagged = ap (λ (c : ℕ). tag_at (glyph.Byte c ∷ gs)) (sym is) ∙ e;
-      lone = l;
-      whole = whole;
+      ends = subst (λ (c : ℕ). IsAllOf t (glyph.Byte c ∷ gs)) is all;
     }
 
 lone_is : (o : Option Tag) (t : Tag) → OpensNone o → o ≡ Some t → IsLone t.name t.shape
 lone_is o t l e = subst OpensNone e l
 
-tag_stays : (a : Bool) (r : Role) (b : ℕ) (gs behind : List Glyph) (t : Tag) (w : Shape) → tag_at (glyph.Byte b ∷ (gs ++ behind)) ≡ Some t
-    → shape_of_tag 0 t.name t.shape t.len (glyph.Byte b ∷ (gs ++ behind)) ≡ w → size w ≡ suc (length gs) → IsTileOf r w.kind → OpensNone (tag_at (glyph.Byte b ∷ gs))
+-- a tag that ends in the front is one of the front
+tag_within : (own behind : List Glyph) (t : Tag) → tag_at (own ++ behind) ≡ Some t → t.len ≤ length own → tag_at own ≡ Some t
+tag_within own behind t e le =
+    let front : List Glyph = take t.len own in
+    let back : List Glyph = drop t.len own in
+    let all : front ++ back ≡ own = take-append-drop t.len own in
+    let split : front ++ (back ++ behind) ≡ own ++ behind = sym (append_assoc front back behind) ∙ ap (λ (gs : List Glyph). gs ++ behind) all in
+    let cut = length-take t.len own in
+    let long : t.len ≡ length front = omega (arith, cut, le) in
+    sym (ap tag_at all) ∙ tag_stays front back t (tag_front front (back ++ behind) t long (ap tag_at split ∙ e))
+
+-- a pair that takes all of them, by the closing tag that is found
+record PairFront (t : Tag) (m : TagName) (own : List Glyph) : Type 0 where
+  last : List Glyph
+  closing : partner (number m) 0 (drop t.len own) ≡ Some last
+  ends : len_of (tag_at last) ≡ length last
+
+found_tag : (o : Option Tag) → HasTag o → (c : Tag) × (o ≡ Some c)
+found_tag None h = absurd h
+found_tag (Some c) h = (c, refl)
+
+pair_front : (t : Tag) (m : TagName) (own behind us : List Glyph) → t.len ≤ length own → partner (number m) 0 (drop t.len (own ++ behind)) ≡ Some us
+    → t.len + (length (drop t.len (own ++ behind)) - length us) + len_of (tag_at us) ≡ length own → PairFront t m own
+pair_front t m own behind us le e whole =
+    let cut : drop t.len (own ++ behind) ≡ drop t.len own ++ behind = drop-append-le t.len own behind le in
+    let found : partner (number m) 0 (drop t.len own ++ behind) ≡ Some us = ap (partner (number m) 0) (sym cut) ∙ e in
+    let c = found_tag (tag_at us) (partner_tag (number m) 0 (drop t.len own ++ behind) us found) in
+    let size_of : len_of (tag_at us) ≡ c.0.len = ap len_of c.1 in
+    let short : length us ≤ length (drop t.len own ++ behind) = partner_short (number m) 0 (drop t.len own ++ behind) us found in
+    let sum : length (drop t.len own ++ behind) ≡ length (drop t.len own) + length behind = length-append (drop t.len own) behind in
+    let left : length (drop t.len own) ≡ length own - t.len = length-drop t.len own in
+    let same : length (drop t.len (own ++ behind)) ≡ length (drop t.len own ++ behind) = ap length cut in
+    let fits : c.0.len + length behind ≡ length us = omega (arith, whole, size_of, short, sum, left, same, le) in
+    let some : 0 < c.0.len = tag_some us c.0 c.1 in
+    let f = partner_front (number m) 0 (drop t.len own) behind us c.0 c.1 some fits found in
+    let last : length us ≡ length f.0 + length behind = ap length f.2 ∙ length-append f.0 behind in
+    let own_tag : tag_at f.0 ≡ Some c.0 = tag_front f.0 behind c.0 (omega (arith, fits, last)) (ap tag_at (sym f.2) ∙ c.1) in
+    record { last = f.0; closing = f.1; ends = ap len_of own_tag ∙ omega (arith, fits, last) }
+
+-- where the pair is looked for
+for_partner : (m : TagName) (n : ℕ) (gs us : List Glyph) → closing_for 0 m n gs ≡ Some us → partner (number m) 0 (drop n gs) ≡ Some us
+for_partner m n gs us e = e
+
+-- the tag that opens a pair takes all of the items, or is an island
+opened_stays : (a : Bool) (r : Role) (b : ℕ) (gs behind : List Glyph) (t : Tag) (w : Shape) (o : Option (List Glyph)) → tag_at (glyph.Byte b ∷ (gs ++ behind)) ≡ Some t
+    → (p : IsOpened t (glyph.Byte b ∷ (gs ++ behind))) → Opens t.name t.shape → closing_for 0 p.name t.len (glyph.Byte b ∷ (gs ++ behind)) ≡ o
+    → pair_or_island t.len o (glyph.Byte b ∷ (gs ++ behind)) ≡ w → size w ≡ suc (length gs) → IsTileOf r w.kind → OpensNoPair w.kind (glyph.Byte b ∷ gs)
     → Stays a r (glyph.Byte b ∷ gs) behind
-tag_stays a r b gs behind t w e is whole tile lone =
+opened_stays a r b gs behind t w None e p opens c is whole tile lone =
+    let own : List Glyph = glyph.Byte b ∷ gs in
+    let large : size (leaf kind.TagIsland t.len) ≡ size w = ap size is in
+    let len : t.len ≡ length own = omega (arith, large, whole) in
+    let kept : OpensNone (tag_at own) = subst (λ (u : Shape). OpensNoPair u.kind own) (sym is) lone in
+    absurd (both_opens t.name t.shape (lone_is (tag_at own) t kept (tag_front own behind t len e)) opens)
+opened_stays a r b gs behind t w (Some us) e p opens c is whole tile lone =
+    let own : List Glyph = glyph.Byte b ∷ gs in
+    let all : List Glyph = glyph.Byte b ∷ (gs ++ behind) in
+    let large : size (pair_or_island t.len (Some us) all) ≡ size w = ap size is in
+    let sum : t.len + (length (drop t.len all) - length us) + len_of (tag_at us) ≡ length own = omega (arith, large, whole) in
+    let le : t.len ≤ length own = omega (arith, sum) in
+    let f = pair_front t p.name own behind us le (for_partner p.name t.len all us c) sum in
+    tag_kinds a r own behind w.kind
+    (tag_node b gs t (tag_within own behind t e le)
+    (inr (record { name = p.name; paired = p.paired; opens = p.opens; last = f.last; closing = f.closing; ends = f.ends; within = le })))
+    (subst (λ (u : Shape). IsTagTile u.kind) is tt) tile
+
+tag_stays_so : (a : Bool) (r : Role) (b : ℕ) (gs behind : List Glyph) (t : Tag) (w : Shape) → tag_at (glyph.Byte b ∷ (gs ++ behind)) ≡ Some t
+    → shape_of_tag 0 t.name t.shape t.len (glyph.Byte b ∷ (gs ++ behind)) ≡ w → size w ≡ suc (length gs) → IsTileOf r w.kind → OpensNoPair w.kind (glyph.Byte b ∷ gs)
+    → Stays a r (glyph.Byte b ∷ gs) behind
+tag_stays_so a r b gs behind t w e is whole tile lone =
     let own : List Glyph = glyph.Byte b ∷ gs in
     let all : List Glyph = glyph.Byte b ∷ (gs ++ behind) in
     elim (lone_or_opens t.name t.shape) [
       | inl l ↦ (
-          let len : t.len ≡ suc (length gs) = sym (lone_size t.name t.shape t.len all l) ∙ ap size is ∙ whole in
-          tag_kinds a r own behind w.kind (tag_node b gs t (tag_front own behind t len e) l len)
+          let len : t.len ≡ length own = sym (lone_size t.name t.shape t.len all l) ∙ ap size is ∙ whole in
+          tag_kinds a r own behind w.kind (tag_node b gs t (tag_front own behind t len e) (inl (l, len)))
           (subst (λ (u : Shape). IsTagTile u.kind) is (lone_tile t.name t.shape t.len all l)) tile
-          )
+        )
       | inr o ↦ (
-          elim (opened t.name t.shape t.len all o) [
-            | inl pair ↦ absurd (no_pair r w.kind (sym (ap (λ (u : Shape). u.kind) is) ∙ pair) tile)
-            | inr alone ↦ (
-                let len : t.len ≡ suc (length gs) = sym alone ∙ ap size is ∙ whole in
-                absurd (both_opens t.name t.shape (lone_is (tag_at own) t lone (tag_front own behind t len e)) o)
-                )
-          ]
-          )
+          let p : IsOpened t all = opened_by t t.name t.shape all refl refl o in
+          opened_stays a r b gs behind t w (closing_for 0 p.name t.len all) e p o refl (sym (p.shape (closing_for 0 p.name t.len all) refl) ∙ is) whole tile lone
+        )
     ]
 
 -- ---- switches
@@ -471,15 +529,15 @@ one_item k g (h ∷ gs) w e whole = let one : size (leaf k 1) ≡ size w = ap si
 -- ---- all of them
 
 by_form : (a : Bool) (r : Role) (b : ℕ) (gs behind : List Glyph) (w : Shape) → FormOf a (glyph.Byte b ∷ (gs ++ behind)) w → size w ≡ suc (length gs) → IsTileOf r w.kind
-    → OpensNone (tag_at (glyph.Byte b ∷ gs)) → Stays a r (glyph.Byte b ∷ gs) behind
+    → OpensNoPair w.kind (glyph.Byte b ∷ gs) → Stays a r (glyph.Byte b ∷ gs) behind
 by_form a r b gs behind w (of_link e) whole tile lone = link_stays a r (glyph.Byte b ∷ gs) behind w e whole (omega arith) tile
 by_form a r b gs behind w (of_external e) whole tile lone = external_stays a r (glyph.Byte b ∷ gs) behind w e whole (omega arith) tile
 by_form a r b gs behind w (of_bare e) whole tile lone = bare_stays a r b gs behind w e whole tile
-by_form a r b gs behind w (of_tag t e is) whole tile lone = tag_stays a r b gs behind t w e is whole tile lone
+by_form a r b gs behind w (of_tag t e is) whole tile lone = tag_stays_so a r b gs behind t w e is whole tile lone
 by_form a r b gs behind w (of_switch e) whole tile lone = switch_stays a r (glyph.Byte b ∷ gs) behind w e whole tile
 
 read_so : (a : Bool) (r : Role) (own behind : List Glyph) (w : Shape) → form_before in_line a own behind ≡ Some w → size w ≡ length own → IsTileOf r w.kind
-    → OpensNone (tag_at own) → Stays a r own behind
+    → OpensNoPair w.kind own → Stays a r own behind
 read_so a r [] behind w e whole tile lone = cc
 read_so a r (glyph.Byte b ∷ gs) behind w e whole tile lone = by_form a r b gs behind w (form_of a (glyph.Byte b ∷ (gs ++ behind)) w e) whole tile lone
 read_so a r (glyph.Entity c ∷ gs) behind w e whole tile lone =

@@ -134,6 +134,9 @@ closing_front a b hs rest t whole e =
 tag_long : (gs : List Glyph) (o : Option Tag) (t : Tag) → OptTag gs o → o ≡ Some t → 2 < t.len
 tag_long gs o t f e = let r : OptTag gs (Some t) = subst (λ (p : Option Tag). OptTag gs p) e f in r.some
 
+pub tag_some : (gs : List Glyph) (t : Tag) → tag_at gs ≡ Some t → 0 < t.len
+tag_some gs t e = let long = tag_long gs (tag_at gs) t (tag_fits gs) e in omega (arith, long)
+
 front_of : (o : Option Tag) (g h : Glyph) (gs rest : List Glyph) (t : Tag) → opening_tag (g ∷ h ∷ (gs ++ rest)) ≡ o
     → option_or o (closing_tag (g ∷ h ∷ (gs ++ rest))) ≡ Some t → t.len ≡ 2 + length gs → tag_at (g ∷ h ∷ gs) ≡ Some t
 unfolding tag_at

@@ -34,7 +34,7 @@ is_within k n gs e =
     let left : length (drop n gs) ≡ length gs - n = length-drop n gs in
     omega (arith, some, left)
 
-name_stays : (gs rest : List Glyph) → name_len gs < length gs → name_len (gs ++ rest) ≡ name_len gs
+pub name_stays : (gs rest : List Glyph) → name_len gs < length gs → name_len (gs ++ rest) ≡ name_len gs
 name_stays gs rest lt =
     ap (λ (v : Bool). if v then run_len class.Name (gs ++ rest) else 0) (first_stays class.Letter gs rest (omega (arith, lt)))
     ∙ by (first_is class.Letter gs) lt

@@ -40,7 +40,7 @@ IsOtherTile kind.Media = Unit {0}
 IsOtherTile kind.ExtLink = ⊥
 IsOtherTile kind.BareUrl = ⊥
 IsOtherTile kind.Br = Unit {0}
-IsOtherTile kind.Pair = ⊥
+IsOtherTile kind.Pair = Unit {0}
 IsOtherTile kind.TagIsland = Unit {0}
 IsOtherTile kind.Switch = ⊥
 
@@ -61,6 +61,21 @@ abbrev pub OpensNone : Option Tag → Type 0
 OpensNone None = Unit {0}
 OpensNone (Some t) = IsLone t.name t.shape
 
+-- of a tag that is kept as an island: it opens no pair
+abbrev pub OpensNoPair : TileKind → List Glyph → Type 0
+OpensNoPair kind.Chars own = Unit {0}
+OpensNoPair kind.Mark own = Unit {0}
+OpensNoPair kind.Atom own = Unit {0}
+OpensNoPair kind.Link own = Unit {0}
+OpensNoPair kind.Category own = Unit {0}
+OpensNoPair kind.Media own = Unit {0}
+OpensNoPair kind.ExtLink own = Unit {0}
+OpensNoPair kind.BareUrl own = Unit {0}
+OpensNoPair kind.Br own = Unit {0}
+OpensNoPair kind.Pair own = Unit {0}
+OpensNoPair kind.TagIsland own = OpensNone (tag_at own)
+OpensNoPair kind.Switch own = Unit {0}
+
 -- It is read before what its line has behind it, as a form of its kind, and takes all of its items; `after` says whether a letter,
 -- digit or `_` comes before it.
 pub record IsRead (after : Bool) (r : Role) (own behind : List Glyph) : Type 0 where
@@ -68,7 +83,7 @@ pub record IsRead (after : Bool) (r : Role) (own behind : List Glyph) : Type 0 w
   pub form : form_before in_line after own behind ≡ Some shape
   pub whole : size shape ≡ length own
   pub tile : IsTileOf r shape.kind
-  pub lone : OpensNone (tag_at own)
+  pub lone : OpensNoPair shape.kind own
 
 -- what such a node has behind it
 abbrev pub HasBehind : Role → List Glyph → Type 0

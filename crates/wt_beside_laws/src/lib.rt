@@ -77,10 +77,12 @@ pub fn nodes_of_the_page_stay()
 {}
 
 /// So the nodes of lines of a page stay, by the tiles of these lines (`signs_of_lines`), whatever is typed between them: no tile is
-/// a mark, a pair of tags or a tag that opens one, and the source of each form is read by itself as the items that it has there
-/// (`AreFlatLines`).
-#[tactic(auto, using(crate::proofs::PageSigns::flat_lines))]
+/// a mark or a tag that opens a pair without a closing tag, and the source of each form is read by itself as the items that it has
+/// there (`AreFlatLines`).
+#[tactic(auto, using(crate::proofs::PageSigns::flat_nodes, crate::proofs::PageSigns::flat_meet))]
 pub fn nodes_of_flat_lines_stay()
-    ensures { (s : Setting) (ls : List (List Item)) (at : ℕ) (signs : List ContentSign) → AreFlatLines ls → things signs ≡ things (signs_of_lines at ls)
-        → AreNodes signs × AllMeet s [] signs [] }
+    ensures nodes { (ls : List (List Item)) (at : ℕ) (signs : List ContentSign) → AreFlatLines ls → things signs ≡ things (signs_of_lines at ls)
+        → AreNodes signs }
+    ensures meet { (s : Setting) (ls : List (List Item)) (at : ℕ) (signs : List ContentSign) → AreFlatLines ls
+        → things signs ≡ things (signs_of_lines at ls) → AllMeet s [] signs [] }
 {}
