@@ -13,3 +13,5 @@ pub mod TagTiles
 pub mod TypedForms
 pub mod TypedTiles
 pub mod UrlTiles
+pub mod LineItems
+pub mod LineKinds
