@@ -111,7 +111,7 @@ delimiter_follows cx a own behind c is f = elim is [
   | inr i ↦ delimiter_cuts cx a (39 ∷ 39 ∷ 39 ∷ []) own behind c i (All-cons IsQuiet 39 (39 ∷ 39 ∷ []) quiet_apostrophe two_quiet) (omega arith) refl f
 ]
 
-form_follows : (cx : Context) (a : Bool) (w : Shape) (own behind : List Glyph) (c : Cut) → size w ≡ length own → form_before cx a own behind ≡ Some w
+pub form_follows : (cx : Context) (a : Bool) (w : Shape) (own behind : List Glyph) (c : Cut) → size w ≡ length own → form_before cx a own behind ≡ Some w
     → Follows cx (ends_word false own) behind c → cuts cx a 0 (own ++ behind) ≡ add_tile w c
 form_follows cx a w [] behind c e k f = cc
 form_follows cx a w (g ∷ gs) behind c e k f =

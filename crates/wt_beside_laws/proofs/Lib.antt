@@ -15,3 +15,7 @@ pub mod TypedTiles
 pub mod UrlTiles
 pub mod LineItems
 pub mod LineKinds
+pub mod LineTiles
+pub mod FormKinds
+pub mod LineSegments
+pub mod LineParts

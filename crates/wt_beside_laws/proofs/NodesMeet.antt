@@ -108,7 +108,7 @@ atom_may (Group g) = tt
 atom_may Function = tt
 atom_may Node = tt
 
-none_before : (r : Role) → MayLead r false
+pub none_before : (r : Role) → MayLead r false
 none_before Link = tt
 none_before External = tt
 none_before (Bare ends) = refl

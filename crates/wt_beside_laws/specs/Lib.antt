@@ -3,6 +3,7 @@ pub mod Nodes
 pub mod Content
 pub mod Cuts
 pub mod Lines
+pub mod Flat
 pub mod Tiles
 pub mod Glyphs
 pub mod Beginnings
