@@ -1,5 +1,6 @@
 mod Cases
 mod NodeCases
+mod LineCases
 pub mod Firm
 pub mod ContentGlyphs
 pub mod ContentTiles
@@ -19,3 +20,4 @@ pub mod LineTiles
 pub mod FormKinds
 pub mod LineSegments
 pub mod LineParts
+pub mod LineRows
