@@ -21,3 +21,4 @@ pub mod FormKinds
 pub mod LineSegments
 pub mod LineParts
 pub mod LineRows
+pub mod LineParagraphs

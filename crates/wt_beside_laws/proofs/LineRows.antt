@@ -41,7 +41,7 @@ joined_parts [] = []
 joined_parts (l ∷ ls) = line_parts l ++ after_breaks ls
 
 -- the line breaks are characters of the page
-abbrev OwnBreaks : List Item → Type 0
+abbrev pub OwnBreaks : List Item → Type 0
 OwnBreaks xs = AllByRecursion (λ x. is_break_item x ≡ true → x ≡ break) xs
 
 own_first : (xs ys : List Item) → OwnBreaks (xs ++ ys) → OwnBreaks xs
@@ -105,7 +105,7 @@ letter_own : (e : Bool) (c : ℕ) → OwnBreaks (letter_items e c)
 letter_own true c = ((λ e. cc), tt)
 letter_own false c = chars_own (encode_utf8 c)
 
-content_own : (s : Setting) (before signs : List ContentSign) → AreUnbroken signs → OwnBreaks (content_items s before signs)
+pub content_own : (s : Setting) (before signs : List ContentSign) → AreUnbroken signs → OwnBreaks (content_items s before signs)
 content_own s before [] u = guard_own (is_guarded s before [])
 content_own s before (letter c ∷ after) u =
     let e = is_escaped s.within s.place before c after in
