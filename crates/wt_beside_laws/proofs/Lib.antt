@@ -1,6 +1,7 @@
 mod Cases
 mod NodeCases
 mod StoodCases
+mod LineCases
 pub mod Firm
 pub mod ContentGlyphs
 pub mod ContentTiles
@@ -23,3 +24,11 @@ pub mod TypedForms
 pub mod TypedTiles
 pub mod UrlFronts
 pub mod UrlTiles
+pub mod LineItems
+pub mod LineKinds
+pub mod LineTiles
+pub mod FormKinds
+pub mod LineSegments
+pub mod LineParts
+pub mod LineRows
+pub mod LineParagraphs

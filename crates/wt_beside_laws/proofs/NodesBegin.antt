@@ -136,12 +136,12 @@ node_switches (Group g) own n = absurd n
 node_switches Function own n = lexeme_switches own n
 node_switches Node own n = other_switches own n
 
-all_urls : (signs : List ContentSign) → AreNodes signs → AllAvoid signs
+pub all_urls : (signs : List ContentSign) → AreNodes signs → AllAvoid signs
 all_urls [] n = tt
 all_urls (letter c ∷ after) n = all_urls after n
 all_urls (thing t ∷ after) n = (node_urls t.role (own_glyphs t) n.0, all_urls after n.1)
 
-all_switches : (signs : List ContentSign) → AreNodes signs → AllAvoidSwitches signs
+pub all_switches : (signs : List ContentSign) → AreNodes signs → AllAvoidSwitches signs
 all_switches [] n = tt
 all_switches (letter c ∷ after) n = all_switches after n
 all_switches (thing t ∷ after) n = (node_switches t.role (own_glyphs t) n.0, all_switches after n.1)

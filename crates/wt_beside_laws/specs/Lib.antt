@@ -5,6 +5,8 @@ pub mod Cuts
 pub mod PageSigns
 pub mod SentNodes
 pub mod Stood
+pub mod Lines
+pub mod Flat
 pub mod Tiles
 pub mod Glyphs
 pub mod Beginnings

@@ -21,6 +21,11 @@ ghost use Rattle.wt_beside_laws.specs.Cuts.{IsFree, content_cut};
 ghost use Rattle.wt_beside_laws.specs.Glyphs.{content_glyphs, IsPast, AllAvoid};
 ghost use Rattle.wt_beside_laws.specs.Nodes.{AreNodes, AllMeet};
 ghost use Rattle.wt_beside_laws.specs.PageSigns.{signs_of_lines, AreFlatLines};
+ghost use Rattle.wt_tree.specs.Tree.{Trees};
+ghost use Rattle.wt_tree.specs.declared.edit_shape.Place.{Place as Where};
+ghost use Rattle.wt_original.specs.Page.{Page as Known};
+ghost use Rattle.wt_link_spelling.specs.Spelling.{signs_of_all};
+ghost use Rattle.wt_beside_laws.specs.SentNodes.{AreSent, numbers};
 ghost use Rattle.wt_beside_laws.specs.Stood.{AreStood, AreAt, things};
 ghost use Rattle.wt_beside_laws.specs.Tiles.{IsPlainLink, IsPastUrl};
 
@@ -85,4 +90,13 @@ pub fn nodes_of_flat_lines_stay()
         → AreNodes signs }
     ensures meet { (s : Setting) (ls : List (List Item)) (at : ℕ) (signs : List ContentSign) → AreFlatLines ls
         → things signs ≡ things (signs_of_lines at ls) → AllMeet s [] signs [] }
+{}
+
+/// The nodes of a content that is sent with texts between them are those of the page: where each node has the number of one of the
+/// page, of the same kind and with the same plain view (`AreSent`), and the numbers are those of the page's content in their order,
+/// the signs of both contents have the same nodes.
+#[tactic(auto, using(crate::proofs::SentNodes::same_nodes))]
+pub fn nodes_sent_are_those_of_the_page()
+    ensures { (p : Known) (pl : Where) (olds news : Trees) → AreSent p olds → AreSent p news → numbers news ≡ numbers olds
+        → things (signs_of_all p pl news) ≡ things (signs_of_all p pl olds) }
 {}
