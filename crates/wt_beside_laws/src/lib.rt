@@ -18,7 +18,9 @@ ghost use Rattle.wt_tiles.specs.Urls.{scheme_len, ext_link_at, bare_url_at};
 ghost use Rattle.wt_beside_laws.specs.Beginnings.{IsApart};
 ghost use Rattle.wt_beside_laws.specs.Content.{AreKept, content_items};
 ghost use Rattle.wt_beside_laws.specs.Cuts.{IsFree, content_cut};
+ghost use Rattle.wt_beside_laws.specs.Flat.{IsFlatContent};
 ghost use Rattle.wt_beside_laws.specs.Glyphs.{content_glyphs, IsPast, AllAvoid};
+ghost use Rattle.wt_beside_laws.specs.Lines.{AreCharacters};
 ghost use Rattle.wt_beside_laws.specs.Nodes.{AreNodes, AllMeet};
 ghost use Rattle.wt_beside_laws.specs.PageSigns.{signs_of_lines, AreFlatLines};
 ghost use Rattle.wt_tree.specs.Tree.{Trees};
@@ -99,4 +101,12 @@ pub fn nodes_of_flat_lines_stay()
 pub fn nodes_sent_are_those_of_the_page()
     ensures { (p : Known) (pl : Where) (olds news : Trees) → AreSent p olds → AreSent p news → numbers news ≡ numbers olds
         → things (signs_of_all p pl news) ≡ things (signs_of_all p pl olds) }
+{}
+
+/// A content of the nodes of such lines of a page, with any texts between them, is one that is read sign by sign
+/// (`IsFlatContent`), if the source of each node stands whatever is written behind it.
+#[tactic(auto, using(crate::proofs::FlatContents::flat_content))]
+pub fn texts_beside_nodes_of_the_page_are_flat()
+    ensures { (s : Setting) (ls : List (List Item)) (at : ℕ) (signs : List ContentSign) → s.within ≡ false → AreFlatLines ls
+        → AreKept (signs_of_lines at ls) → AreCharacters signs → things signs ≡ things (signs_of_lines at ls) → IsFlatContent s signs }
 {}
