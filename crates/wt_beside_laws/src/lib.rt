@@ -2,6 +2,7 @@
 #![tactic(auto)]
 
 ghost use Rattle.std.specs.Prelude.{◌≡◌, ◌≤◌, ℕ, ◌+◌, false, Some, List, [], ◌∷◌, ◌++◌, length, map};
+ghost use Rattle.wt_span.specs.Items.{Item};
 ghost use Rattle.wt_guards.specs.Content.{ContentSign};
 ghost use Rattle.wt_guards.specs.Guards.{Setting, spelled};
 ghost use Rattle.wt_expand.specs.PageItems.{page_items};
@@ -27,6 +28,13 @@ ghost use Rattle.wt_beside_laws.specs.Flat.{AreFlat, IsFlatContent, content_part
 ghost use Rattle.wt_beside_laws.specs.Glyphs.{content_glyphs, IsPast, AllAvoid};
 ghost use Rattle.wt_beside_laws.specs.Lines.{AreCharacters, AreUnbroken, line_items, content_lines, AreLinesOfText};
 ghost use Rattle.wt_beside_laws.specs.Nodes.{AreNodes, AllMeet};
+ghost use Rattle.wt_beside_laws.specs.PageSigns.{signs_of_lines, AreFlatLines};
+ghost use Rattle.wt_tree.specs.Tree.{Trees};
+ghost use Rattle.wt_tree.specs.declared.edit_shape.Place.{Place as Where};
+ghost use Rattle.wt_original.specs.Page.{Page as Known};
+ghost use Rattle.wt_link_spelling.specs.Spelling.{signs_of_all};
+ghost use Rattle.wt_beside_laws.specs.SentNodes.{AreSent, numbers};
+ghost use Rattle.wt_beside_laws.specs.Stood.{AreStood, AreAt, things};
 ghost use Rattle.wt_beside_laws.specs.Tiles.{IsPlainLink, IsPastUrl};
 
 /// A content of text that is typed and of nodes that stay, as it is spelled, makes no lexeme over the border of a text and
@@ -68,6 +76,37 @@ pub fn texts_beside_nodes_make_no_tile()
         → cuts in_line false 0 (map glyph_of (page_items (spelled s signs))) ≡ content_cut in_line s [] signs (0, []) }
     ensures before { (s : Setting) (signs : List ContentSign) (rest : List Sign) → AreNodes signs → AllMeet s [] signs rest → IsApart rest → IsFree in_line rest
         → cuts in_line false 0 (content_glyphs s [] signs rest) ≡ content_cut in_line s [] signs (cuts in_line false 0 rest) }
+{}
+
+/// The nodes that a content has of a page stay, and meet as they may: where each is read in the page as a form that takes all
+/// of its items (`AreStood`) and has its place there (`AreAt`), whatever is typed between them, each is what its role says
+/// (`AreNodes`), and between two of which one is not parted from the other nothing joins them (`AllMeet`): they stood so in
+/// the page, or the table of signs that may not be next to each other has no pair for them.
+#[tactic(auto, using(crate::proofs::PageNodes::nodes_stay, crate::proofs::PageNodes::nodes_meet))]
+pub fn nodes_of_the_page_stay()
+    ensures nodes { (olds signs : List ContentSign) → AreStood false olds → things signs ≡ things olds → AreNodes signs }
+    ensures meet { (s : Setting) (olds signs : List ContentSign) (at : ℕ) → AreStood false olds → AreAt at olds → things signs ≡ things olds
+        → AllMeet s [] signs [] }
+{}
+
+/// So the nodes of lines of a page stay, by the tiles of these lines (`signs_of_lines`), whatever is typed between them: no tile is
+/// a mark or a tag that opens a pair without a closing tag, and the source of each form is read by itself as the items that it has
+/// there (`AreFlatLines`).
+#[tactic(auto, using(crate::proofs::PageSigns::flat_nodes, crate::proofs::PageSigns::flat_meet))]
+pub fn nodes_of_flat_lines_stay()
+    ensures nodes { (ls : List (List Item)) (at : ℕ) (signs : List ContentSign) → AreFlatLines ls → things signs ≡ things (signs_of_lines at ls)
+        → AreNodes signs }
+    ensures meet { (s : Setting) (ls : List (List Item)) (at : ℕ) (signs : List ContentSign) → AreFlatLines ls
+        → things signs ≡ things (signs_of_lines at ls) → AllMeet s [] signs [] }
+{}
+
+/// The nodes of a content that is sent with texts between them are those of the page: where each node has the number of one of the
+/// page, of the same kind and with the same plain view (`AreSent`), and the numbers are those of the page's content in their order,
+/// the signs of both contents have the same nodes.
+#[tactic(auto, using(crate::proofs::SentNodes::same_nodes))]
+pub fn nodes_sent_are_those_of_the_page()
+    ensures { (p : Known) (pl : Where) (olds news : Trees) → AreSent p olds → AreSent p news → numbers news ≡ numbers olds
+        → things (signs_of_all p pl news) ≡ things (signs_of_all p pl olds) }
 {}
 
 /// The lines of such a content are cut where a line break is typed, and each is a line of text, in a table too: nothing that
