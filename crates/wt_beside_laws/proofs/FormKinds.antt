@@ -172,6 +172,5 @@ form_node cx after gs =
     (outside_node cx.in_link (link_or_url after gs) (links_node after gs))
     (or_node (tag_tile cx.pairs gs) (switch_at gs) (tag_node cx.pairs gs) (switch_node gs))
 
-
 pub form_is_node : (cx : Context) (after : Bool) (gs : List Glyph) (w : Shape) → form_at cx after gs ≡ Some w → IsNodeKind w.kind
 form_is_node cx after gs w e = subst OptNode e (form_node cx after gs)
