@@ -1,5 +1,5 @@
 -- The lines of a content are cut where a line break is typed.
-use Rattle.std.proofs.Common.{arith, ◌≡◌, ℕ, ◌<◌, ◌≤◌, ◌==◌, Bool, true, false, None, List, [], ◌∷◌, ◌++◌, refl, sym, ap, ◌∙◌, subst, inl, inr, All}
+use Rattle.std.proofs.Common.{arith, ◌≡◌, ℕ, ◌≤◌, ◌==◌, Bool, true, false, None, List, [], ◌∷◌, ◌++◌, refl, sym, ap, ◌∙◌, subst, inl, inr, All}
 use Rattle.std.specs.Prelude.{if◌then◌else◌, encode_utf8}
 use Rattle.std.proofs.lemmas.Bool.{cases_lt}
 use Rattle.std.proofs.lemmas.Bool.Decides.{nat_tests}
@@ -11,9 +11,8 @@ use Rattle.wt_tree.specs.declared.edit_shape.Place.{Place}
 use Rattle.wt_guards.specs.Content.{ContentSign, letter, thing}
 use Rattle.wt_guards.specs.Guards.{Setting, is_guarded, spelled}
 use Rattle.wt_guards.specs.Letters.{is_escaped}
-use Rattle.wt_spelling_laws.proofs.TextReads.{equal_or}
 use Rattle.wt_expand.specs.PageItems.{page_items}
-use Rattle.wt_lines.specs.Lines.{lines, onto, is_break_item, IsUnbroken}
+use Rattle.wt_lines.specs.Lines.{lines, onto, IsUnbroken}
 use Rattle.wt_text_edit_laws.specs.LonePages.{page_chars}
 use Rattle.wt_beside_laws.specs.Content.{AreKept, guard_items, letter_items, content_items}
 use Rattle.wt_beside_laws.specs.Lines.{AreUnbroken, line_items, later_lines, content_lines}

@@ -1,11 +1,11 @@
 -- Each line of a content is text: it begins with an atom, or with a character that begins no other block.
-use Rattle.std.proofs.Common.{arith, ◌≡◌, ℕ, ◌+◌, ◌<◌, ◌≤◌, ◌==◌, Bool, true, false, Option, Some, None, List, [], ◌∷◌, ◌++◌, length, map, refl, sym, ap, ◌∙◌, subst, inl, inr, ◌⊎◌, All}
+use Rattle.std.proofs.Common.{arith, ◌≡◌, ℕ, ◌+◌, ◌<◌, ◌≤◌, ◌==◌, Bool, true, false, Option, Some, List, [], ◌∷◌, ◌++◌, length, map, refl, sym, ap, ◌∙◌, subst, inl, inr, ◌⊎◌, All}
 use Rattle.std.specs.Prelude.{if◌then◌else◌, encode_utf8, not, ◌&&◌}
 use Rattle.std.specs.Char.{IsScalar, to_ascii_lowercase}
 use Rattle.std.specs.List.{prefix_len}
 use Rattle.std.proofs.lemmas.Bool.{cases_lt}
 use Rattle.std.proofs.lemmas.Bool.Decides.{nat_tests}
-use Rattle.std.proofs.lemmas.List.Elements.{All-nil, All-cons, All-head}
+use Rattle.std.proofs.lemmas.List.Elements.{All-nil, All-cons, All-head, All-tail}
 use Rattle.std.proofs.lemmas.Str.{encode_ascii, IsUtf8-encode}
 use Rattle.percent_encoding.proofs.PercentLemmas.{IsByte}
 use Rattle.wt_span.specs.declared.form.ItemForm.{ItemForm}
@@ -16,7 +16,7 @@ use Rattle.wt_names.proofs.Utf8.{utf8_bytes}
 use Rattle.wt_guards.specs.declared.role.Role.{Role}
 use Rattle.wt_guards.specs.declared.role.Role.TheVariants.{Link, External, Bare, Switch, Toggle, Mark, Group, Function, Node}
 use Rattle.wt_guards.specs.Content.{ContentSign, letter, thing, nearest}
-use Rattle.wt_guards.specs.Guards.{Setting, is_guarded, is_line_start, is_line_begun, is_start_guard, is_between_guard}
+use Rattle.wt_guards.specs.Guards.{Setting, is_guarded, is_line_start, is_line_begun}
 use Rattle.wt_guards.specs.Table.{line_start_hazard}
 use Rattle.wt_guards.specs.Letters.{is_bracket, is_escaped}
 use Rattle.wt_spelling_laws.proofs.TextReads.{bracket_escaped, not_bracket}
@@ -26,12 +26,12 @@ use Rattle.wt_expand.specs.PageItems.{page_items}
 use Rattle.wt_tiles.specs.declared.glyph.Glyph.{Glyph}
 use Rattle.wt_tiles.specs.declared.glyph.Glyph.TheVariants as glyph
 use Rattle.wt_tiles.specs.declared.shape.Shape.{Shape}
-use Rattle.wt_tiles.specs.Glyphs.{glyph_of, byte_glyphs}
+use Rattle.wt_tiles.specs.Glyphs.{glyph_of}
 use Rattle.wt_tiles.specs.Urls.{bare_url_at}
 use Rattle.wt_text_edit_laws.specs.LonePages.{page_chars}
 use Rattle.wt_beside_laws.specs.Content.{guard_items, letter_items}
 use Rattle.wt_beside_laws.specs.Cuts.{own_glyphs}
-use Rattle.wt_beside_laws.specs.Lines.{AreCharacters, line_items, later_lines, content_lines, IsLineOfText}
+use Rattle.wt_beside_laws.specs.Lines.{AreCharacters, line_items, later_lines, content_lines, IsLineOfText, AreLinesOfText}
 use Rattle.wt_beside_laws.specs.Nodes.{IsDelimiter, IsOneLexeme, IsTagNode, IsCategoryNode, IsMediaNode, IsNode, AreNodes}
 use Rattle.wt_beside_laws.proofs.NodesBegin.{no_url}
 
@@ -253,3 +253,11 @@ pub lines_are_text : (tables : ℕ) (s : Setting) (signs : List ContentSign) →
 lines_are_text tables s signs w v n =
     All-cons (IsLineOfText tables) (line_items s [] signs) (later_lines s [] signs) (opens_line tables (line_items s [] signs) (line_opens s [] signs w refl refl v n))
     (later_are tables s [] signs w v n)
+
+one_by_one : (tables : ℕ) (ls : List (List Item)) → All (IsLineOfText tables) ls → AreLinesOfText tables ls
+one_by_one tables [] h = tt
+one_by_one tables (l ∷ ls) h = (All-head (IsLineOfText tables) l ls h, one_by_one tables ls (All-tail (IsLineOfText tables) l ls h))
+
+pub are_lines_of_text : (tables : ℕ) (s : Setting) (signs : List ContentSign) → s.within ≡ false → AreCharacters signs → AreNodes signs
+    → AreLinesOfText tables (content_lines s signs)
+are_lines_of_text tables s signs w v n = one_by_one tables (content_lines s signs) (lines_are_text tables s signs w v n)

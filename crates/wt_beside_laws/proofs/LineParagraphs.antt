@@ -1,11 +1,10 @@
 -- A content without styles is one paragraph.
 use Rattle.std.proofs.Common.{arith, ◌≡◌, ℕ, ◌+◌, Bool, true, false, List, [], ◌∷◌, ◌++◌, map, refl, sym, ap, ◌∙◌, subst, append-nil, All}
 use Rattle.std.specs.Prelude.{if◌then◌else◌}
-use Rattle.std.specs.List.{prefix_len}
 use Rattle.std.proofs.lemmas.List.Elements.{All-nil, All-cons, All-head, All-tail}
 use Rattle.wt_tree.specs.declared.kind.Kind.TheVariants as kind
 use Rattle.wt_span.specs.Items.{Item, is_mark}
-use Rattle.wt_span.specs.Runs.{IsRun, AreRuns}
+use Rattle.wt_span.specs.Runs.{AreRuns}
 use Rattle.wt_span.proofs.RunLaws.{runs_are}
 use Rattle.wt_guards.specs.Content.{ContentSign}
 use Rattle.wt_guards.specs.Guards.{Setting, spelled}
@@ -13,7 +12,7 @@ use Rattle.wt_expand.specs.PageItems.{page_items}
 use Rattle.wt_lines.specs.declared.kind.LineKind.{LineKind}
 use Rattle.wt_lines.specs.declared.kind.LineKind.TheVariants as line
 use Rattle.wt_lines.specs.declared.kind.TheConstants.{MOST_TABLES}
-use Rattle.wt_lines.specs.Lines.{lines, full_lines, content, empty_end, is_break_item, goes_on}
+use Rattle.wt_lines.specs.Lines.{full_lines, content, empty_end, is_break_item, goes_on}
 use Rattle.wt_lines.proofs.FullLines.{same_lines}
 use Rattle.wt_tables.specs.Extents.{behind}
 use Rattle.wt_headings.specs.Lines.{ending}
@@ -25,9 +24,8 @@ use Rattle.wt_page.specs.Texts.{para_parts, para}
 use Rattle.wt_page.specs.Body.{within, blocks, meaning}
 use Rattle.wt_text_edit_laws.specs.ParagraphBetween.{body_with}
 use Rattle.wt_text_edit_laws.proofs.Texts.PlainRows.{no_text, text_row, within_are}
-use Rattle.wt_beside_laws.specs.Content.{content_items}
 use Rattle.wt_beside_laws.specs.Flat.{IsFlatContent, content_parts, para_with}
-use Rattle.wt_beside_laws.specs.Lines.{IsLineOfText, line_items, later_lines, content_lines}
+use Rattle.wt_beside_laws.specs.Lines.{IsLineOfText, line_items, later_lines}
 use Rattle.wt_beside_laws.proofs.Contents.{content_alone}
 use Rattle.wt_beside_laws.proofs.LineItems.{content_lines_are}
 use Rattle.wt_beside_laws.proofs.LineKinds.{lines_are_text}

@@ -1,7 +1,6 @@
 -- A line of a content without styles, as the parts of a paragraph or a heading, sign by sign.
-use Rattle.std.proofs.Common.{arith, ◌≡◌, ℕ, suc, ◌+◌, ◌<◌, ◌≤◌, ◌==◌, Bool, true, false, Option, Some, None, List, [], ◌∷◌, ◌++◌, length, take, drop, map, refl, sym, ap, ◌∙◌, subst, append-nil, append_assoc, inl, inr, ◌⊎◌, All}
-use Rattle.std.specs.Prelude.{◌&&◌, not, if◌then◌else◌, encode_utf8, codes}
-use Rattle.std.specs.Char.{to_ascii_lowercase}
+use Rattle.std.proofs.Common.{arith, ◌≡◌, ℕ, suc, ◌+◌, ◌<◌, ◌≤◌, ◌==◌, Bool, true, false, Option, Some, None, List, [], ◌∷◌, ◌++◌, length, map, refl, sym, ap, ◌∙◌, subst, append-nil, inl, inr, ◌⊎◌, All}
+use Rattle.std.specs.Prelude.{◌&&◌, if◌then◌else◌, encode_utf8}
 use Rattle.std.proofs.lemmas.Bool.{cases_lt}
 use Rattle.std.proofs.lemmas.Bool.Decides.{nat_tests}
 use Rattle.std.proofs.lemmas.List.{map-append}
@@ -15,22 +14,18 @@ use Rattle.wt_guards.specs.declared.role.Role.TheVariants.{Link, External, Bare,
 use Rattle.wt_guards.specs.Content.{ContentSign, Thing, letter, thing, nearest}
 use Rattle.wt_guards.specs.Guards.{Setting, nowiki, is_guarded}
 use Rattle.wt_guards.specs.Letters.{is_escaped, is_next, is_apostrophe_or_end, reference}
-use Rattle.wt_spelling_laws.proofs.TextReads.{equal_or, or_parts}
+use Rattle.wt_spelling_laws.proofs.TextReads.{or_parts}
 use Rattle.wt_expand.specs.PageItems.{page_items}
 use Rattle.wt_inline.specs.declared.loose.Loose.TheVariants.{Text}
 use Rattle.wt_inline.specs.Parts.{Part, part, parts}
 use Rattle.wt_tiles.specs.declared.glyph.Glyph.{Glyph}
 use Rattle.wt_tiles.specs.declared.glyph.Glyph.TheVariants as glyph
 use Rattle.wt_tiles.specs.declared.shape.Shape.{Shape}
-use Rattle.wt_tiles.specs.declared.shape.TileKind.TheVariants as kind
 use Rattle.wt_tiles.specs.Contexts.{in_line}
 use Rattle.wt_tiles.specs.Glyphs.{glyph_of, byte_glyphs}
-use Rattle.wt_tiles.specs.Links.{leaf}
 use Rattle.wt_tiles.specs.Tiles.{size, Cut, cuts}
 use Rattle.wt_tiles.specs.Urls.{bare_url_at}
-use Rattle.wt_context.specs.Segments.{Segment, is_quote, loose_segments, segment_parts}
 use Rattle.wt_context.specs.Chunks.{begins_with_quote}
-use Rattle.wt_context.specs.RunCuts.{has_run}
 use Rattle.wt_context.specs.Line.{context_parts, line_parts}
 use Rattle.wt_text_edit_laws.specs.LonePages.{page_chars}
 use Rattle.wt_beside_laws.specs.Content.{guard_items, letter_items}
@@ -38,8 +33,8 @@ use Rattle.wt_beside_laws.specs.Cuts.{add_chars, add_tile, own_glyphs, own_form,
 use Rattle.wt_beside_laws.specs.Flat.{IsFlat, AreFlat, line_content}
 use Rattle.wt_beside_laws.specs.Glyphs.{guard_glyphs, letter_glyphs}
 use Rattle.wt_beside_laws.specs.Lines.{line_items}
-use Rattle.wt_beside_laws.specs.Nodes.{IsDelimiter, IsOneLexeme, IsTagNode, IsCategoryNode, IsMediaNode, IsNode, AreNodes, MayLead, AllMeet}
-use Rattle.wt_beside_laws.proofs.ContentTiles.{Follows, form_follows}
+use Rattle.wt_beside_laws.specs.Nodes.{IsDelimiter, IsOneLexeme, IsTagNode, IsCategoryNode, IsMediaNode, IsNode, AreNodes, AllMeet}
+use Rattle.wt_beside_laws.proofs.ContentTiles.{form_follows}
 use Rattle.wt_beside_laws.proofs.LineSegments.{cut_segments, read_line, IsOneSegment, one_segment, IsRead, tile_read, atom_read, none_read, char_read}
 use Rattle.wt_beside_laws.proofs.LineTiles.{line_glyphs, line_cut, line_follows}
 use Rattle.wt_beside_laws.proofs.NodesBegin.{no_url, all_urls, all_switches}

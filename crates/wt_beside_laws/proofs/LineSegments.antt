@@ -1,5 +1,5 @@
 -- The segments of a line, from one tile and one character to the next.
-use Rattle.std.proofs.Common.{arith, ◌≡◌, ℕ, zero, suc, ◌+◌, ◌-◌, ◌≤◌, ◌==◌, Bool, true, false, Option, Some, None, List, [], ◌∷◌, ◌++◌, length, take, drop, map, refl, sym, ap, ◌∙◌, subst, append-nil, append_assoc, take_all}
+use Rattle.std.proofs.Common.{arith, ◌≡◌, ℕ, suc, ◌+◌, ◌-◌, ◌==◌, Bool, true, false, Option, Some, None, List, [], ◌∷◌, ◌++◌, length, take, drop, map, refl, sym, ap, ◌∙◌, subst, take_all}
 use Rattle.std.specs.Prelude.{◌&&◌, ◌||◌, not, if◌then◌else◌}
 use Rattle.std.specs.List.{flat_map}
 use Rattle.std.proofs.lemmas.Bool.Decides.{nat_tests}
@@ -8,7 +8,7 @@ use Rattle.wt_span.specs.declared.form.ItemForm.TheVariants as form
 use Rattle.wt_span.specs.Items.{Item, char, whole}
 use Rattle.wt_span.specs.Runs.{put, runs}
 use Rattle.wt_inline.specs.declared.loose.Loose.TheVariants.{Text}
-use Rattle.wt_inline.specs.Parts.{Part, part, parts}
+use Rattle.wt_inline.specs.Parts.{Part, part}
 use Rattle.wt_tiles.specs.declared.context.Context.{Context}
 use Rattle.wt_tiles.specs.declared.glyph.Glyph.{Glyph}
 use Rattle.wt_tiles.specs.declared.glyph.Glyph.TheVariants as glyph
@@ -18,11 +18,10 @@ use Rattle.wt_tiles.specs.declared.shape.TileKind.TheVariants as kind
 use Rattle.wt_tiles.specs.Contexts.{in_line}
 use Rattle.wt_tiles.specs.Glyphs.{glyph_of, glyph_of_form}
 use Rattle.wt_tiles.specs.Links.{leaf}
-use Rattle.wt_tiles.specs.Tiles.{size, Cut, chars, closed, shapes, tile_with, cuts, tiles, parts as tile_parts}
+use Rattle.wt_tiles.specs.Tiles.{size, Cut, chars, closed, shapes, tile_with, cuts, parts as tile_parts}
 use Rattle.wt_tiles.proofs.Joining.{tiles_are}
-use Rattle.wt_quotes.specs.Styles.{style_tree_of}
 use Rattle.wt_quotes.specs.Forest.{forest_of}
-use Rattle.wt_context.specs.Segments.{Segment, is_quote, one_stretch, is_first_quote, loose_segment, loose_segments, segment_parts, tree_segment}
+use Rattle.wt_context.specs.Segments.{Segment, is_quote, one_stretch, loose_segment, loose_segments, segment_parts, tree_segment}
 use Rattle.wt_context.specs.Chunks.{both_quotes, begins_with_quote, chunks_since, chunks}
 use Rattle.wt_context.specs.RunCuts.{has_run}
 use Rattle.wt_context.specs.Styled.{styled, with_styles}

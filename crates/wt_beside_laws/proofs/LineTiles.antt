@@ -15,7 +15,7 @@ use Rattle.wt_tiles.specs.Contexts.{in_line}
 use Rattle.wt_tiles.specs.Glyphs.{is_in, begins, like_byte, begins_like}
 use Rattle.wt_tiles.specs.Links.{leaf}
 use Rattle.wt_tiles.specs.Tags.{tag_at}
-use Rattle.wt_tiles.specs.Tiles.{Cut, cuts, form_at, switch_names, switch_len, switch_at}
+use Rattle.wt_tiles.specs.Tiles.{Cut, form_at, switch_names, switch_len, switch_at}
 use Rattle.wt_tiles.specs.Urls.{scheme_len}
 use Rattle.wt_beside_laws.specs.Beginnings.{AllAvoidSwitches}
 use Rattle.wt_beside_laws.specs.Cuts.{own_glyphs, own_form, add_node, guard_cut, letter_cut, is_word_last}

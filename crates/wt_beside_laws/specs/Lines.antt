@@ -1,5 +1,5 @@
 -- The lines of a content of text that is typed and nodes that stay: of each sign by itself, cut where a line break is typed.
-use Rattle.std.specs.Prelude.{◌≡◌, ℕ, ◌==◌, Bool, true, false, List, [], ◌∷◌, ◌++◌, if◌then◌else◌}
+use Rattle.std.specs.Prelude.{◌≡◌, ℕ, ◌==◌, List, [], ◌∷◌, ◌++◌, if◌then◌else◌}
 use Rattle.std.specs.Char.{IsScalar}
 use Rattle.wt_span.specs.Characters as byte
 use Rattle.wt_span.specs.Items.{Item}
@@ -48,3 +48,7 @@ content_lines s signs = line_items s [] signs ∷ later_lines s [] signs
 pub record IsLineOfText (tables : ℕ) (line : List Item) : Type 0 where
   pub text : line_kind tables line ≡ kind.Text
   pub unmarked : marks_len line ≡ 0
+
+abbrev pub AreLinesOfText : ℕ → List (List Item) → Type 0
+AreLinesOfText tables [] = Unit {0}
+AreLinesOfText tables (l ∷ ls) = IsLineOfText tables l × AreLinesOfText tables ls

@@ -6,6 +6,12 @@ ghost use Rattle.wt_span.specs.Items.{Item};
 ghost use Rattle.wt_guards.specs.Content.{ContentSign};
 ghost use Rattle.wt_guards.specs.Guards.{Setting, spelled};
 ghost use Rattle.wt_expand.specs.PageItems.{page_items};
+ghost use Rattle.wt_lines.specs.Lines.{lines};
+ghost use Rattle.wt_context.specs.Line.{line_parts};
+ghost use Rattle.wt_page.specs.Body.{meaning};
+ghost use Rattle.wt_page.specs.Rows.{rows};
+ghost use Rattle.wt_page.specs.Texts.{para};
+ghost use Rattle.wt_text_edit_laws.specs.ParagraphBetween.{body_with};
 ghost use Rattle.wt_text_edit_laws.specs.TextBetween.{StandsBehind};
 ghost use Rattle.wt_tiles.specs.declared.glyph.Glyph.{Glyph as Sign};
 ghost use Rattle.wt_tiles.specs.declared.glyph.GlyphClass.TheVariants as class;
@@ -18,7 +24,9 @@ ghost use Rattle.wt_tiles.specs.Urls.{scheme_len, ext_link_at, bare_url_at};
 ghost use Rattle.wt_beside_laws.specs.Beginnings.{IsApart};
 ghost use Rattle.wt_beside_laws.specs.Content.{AreKept, content_items};
 ghost use Rattle.wt_beside_laws.specs.Cuts.{IsFree, content_cut};
+ghost use Rattle.wt_beside_laws.specs.Flat.{AreFlat, IsFlatContent, content_parts, line_content, para_with};
 ghost use Rattle.wt_beside_laws.specs.Glyphs.{content_glyphs, IsPast, AllAvoid};
+ghost use Rattle.wt_beside_laws.specs.Lines.{AreCharacters, AreUnbroken, line_items, content_lines, AreLinesOfText};
 ghost use Rattle.wt_beside_laws.specs.Nodes.{AreNodes, AllMeet};
 ghost use Rattle.wt_beside_laws.specs.PageSigns.{signs_of_lines, AreFlatLines};
 ghost use Rattle.wt_tree.specs.Tree.{Trees};
@@ -99,4 +107,34 @@ pub fn nodes_of_flat_lines_stay()
 pub fn nodes_sent_are_those_of_the_page()
     ensures { (p : Known) (pl : Where) (olds news : Trees) → AreSent p olds → AreSent p news → numbers news ≡ numbers olds
         → things (signs_of_all p pl news) ≡ things (signs_of_all p pl olds) }
+{}
+
+/// A content of the nodes of flat lines of a page (`AreFlatLines`), with any texts between them, is one that is read sign by sign
+/// (`IsFlatContent`), if the source of each node stands whatever is written behind it.
+#[tactic(auto, using(crate::proofs::FlatContents::flat_content))]
+pub fn texts_beside_nodes_of_the_page_are_flat()
+    ensures { (s : Setting) (ls : List (List Item)) (at : ℕ) (signs : List ContentSign) → s.within ≡ false → AreFlatLines ls
+        → AreKept (signs_of_lines at ls) → AreCharacters signs → things signs ≡ things (signs_of_lines at ls) → IsFlatContent s signs }
+{}
+
+/// The lines of such a content are cut where a line break is typed, and each is a line of text, in a table too: nothing that
+/// is typed, and no node, makes it a heading, a list, a rule, preformatted text or a part of a table, and none is blank.
+#[tactic(auto, using(crate::proofs::LineItems::content_lines_are, crate::proofs::LineKinds::are_lines_of_text))]
+pub fn texts_beside_nodes_are_lines_of_text()
+    ensures lines { (s : Setting) (signs : List ContentSign) → AreKept signs → AreUnbroken signs → lines (page_items (spelled s signs)) ≡ content_lines s signs }
+    ensures text { (tables : ℕ) (s : Setting) (signs : List ContentSign) → s.within ≡ false → AreCharacters signs → AreNodes signs
+        → AreLinesOfText tables (content_lines s signs) }
+{}
+
+/// A content without styles is one paragraph. On each of its lines, and in the paragraph, characters, references and the
+/// nowikis that are put are what they are anywhere, and each node is what its source is on a line by itself. So it is for the
+/// rows that its lines make, and as a page of its own.
+#[tactic(auto, using(crate::proofs::LineParts::line_parts_are, crate::proofs::LineParagraphs::para_is, crate::proofs::LineParagraphs::meaning_is))]
+pub fn texts_beside_nodes_are_one_paragraph()
+    ensures line { (s : Setting) (before signs : List ContentSign) → AreNodes signs → AreFlat signs → AllMeet s before signs []
+        → line_parts (line_items s before signs) ≡ line_content s before signs }
+    ensures paragraph { (s : Setting) (signs : List ContentSign) → IsFlatContent s signs
+        → para (rows (page_items (spelled s signs))) ≡ para_with (content_parts s [] signs) }
+    ensures page { (s : Setting) (signs : List ContentSign) → IsFlatContent s signs
+        → meaning (page_items (spelled s signs)) ≡ body_with (para_with (content_parts s [] signs) ∷ []) }
 {}
