@@ -41,7 +41,7 @@ was = refl
 
 -- ---- its items
 
-first_items : part_items opens_table 0 (codes "{{t}}\n|\n") ≡ map (char (Some 0)) (codes "{|") ++ map (char None) (codes "\n|\n")
+pub first_items : part_items opens_table 0 (codes "{{t}}\n|\n") ≡ map (char (Some 0)) (codes "{|") ++ map (char None) (codes "\n|\n")
 unfolding words closed form_at comment_len comment_line_len raw_len opening_tag tag_after closing_tag with_inside is_extension
     include_at entity_at named_entity decimal_entity hex_entity entity_names sign_word reduced rewritten parts_of text_members trimmed
     trimmed_items name_text called most_templates is_function title_of_target title_in_target read_text is_allowed is_forbidden
@@ -67,7 +67,7 @@ called_here = (
   record { ended = refl; before_utf8 = utf8_before; block = inl typed_a },
   (record { uncommented = refl }, utf8_behind, refl),
   record {
-    end_before = ((refl, (refl, (refl, (refl, (refl, (refl, (refl, (refl, refl)))))))), inl typed_a, tt);
+    end_before = ((refl, (refl, (refl, (refl, (refl, (refl, refl)))))), inl typed_a, tt);
     calm = (tt, tt);
     apart = tt;
   },
