@@ -41,7 +41,7 @@ was = refl
 
 -- ---- its items
 
-pub first_items : part_items opens_table 0 (codes "{{t}}\n|\n") ≡ map (char (Some 0)) (codes "{|") ++ map (char None) (codes "\n|\n")
+first_items : part_items opens_table 0 (codes "{{t}}\n|\n") ≡ map (char (Some 0)) (codes "{|") ++ map (char None) (codes "\n|\n")
 unfolding words closed form_at comment_len comment_line_len raw_len opening_tag tag_after closing_tag with_inside is_extension
     include_at entity_at named_entity decimal_entity hex_entity entity_names sign_word reduced rewritten parts_of text_members trimmed
     trimmed_items name_text called most_templates is_function title_of_target title_in_target read_text is_allowed is_forbidden
@@ -86,5 +86,5 @@ placed_here = (
 )
 
 -- So texts may be typed in it.
-pub in_class : AreAmongCalls opens_table blocks_here (codes "\n|}")
+in_class : AreAmongCalls opens_table blocks_here (codes "\n|}")
 in_class = record { called = called_here; placed = placed_here }

@@ -104,7 +104,6 @@ pub fn calls_take_texts_anywhere()
 /// Such blocks may be among calls, too, where no call goes over the end of a part, and each block is a block of its own
 /// by what the calls give: each is at a place of the page's tree that texts typed in them don't move, and all else is
 /// the same. With such texts it is such a page again.
-#[tactic(auto, using(crate::proofs::CalledFrames::stand_among, crate::proofs::CalledFrames::again_among))]
 pub fn blocks_among_calls_stand_at_their_places()
     ensures stand { (pages : Pages) (ss : List BlockSpot) (behind : List ℕ) → AreAmongCalls pages ss behind → StandAmongCalls pages ss behind }
     ensures again { (pages : Pages) (ss rs : List BlockSpot) (behind : List ℕ) → AreAmongCalls pages ss behind → AreRetyped ss rs
@@ -112,7 +111,6 @@ pub fn blocks_among_calls_stand_at_their_places()
 {}
 
 /// A page that calls nothing (`AreSpots`) is such a page, too.
-#[tactic(auto, using(crate::proofs::CalledFrames::spots_among_calls))]
 pub fn pages_without_calls_are_among_these()
     ensures { (pages : Pages) (ss : List BlockSpot) (behind : List ℕ) → AreSpots ss behind → AreAmongCalls pages ss behind }
 {}
