@@ -32,3 +32,4 @@ pub mod LineSegments
 pub mod LineParts
 pub mod LineRows
 pub mod LineParagraphs
+pub mod LineShown
