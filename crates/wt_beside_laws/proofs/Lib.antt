@@ -33,3 +33,4 @@ pub mod LineParts
 pub mod LineRows
 pub mod LineParagraphs
 pub mod LineShown
+pub mod FlatContents

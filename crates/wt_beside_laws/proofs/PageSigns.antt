@@ -174,12 +174,12 @@ map_drop zero xs = refl
 map_drop (suc n) [] = refl
 map_drop (suc n) (x ∷ xs) = map_drop n xs
 
-none_take : (n : ℕ) (xs : List Item) → HasNoBreak xs → HasNoBreak (take n xs)
+pub none_take : (n : ℕ) (xs : List Item) → HasNoBreak xs → HasNoBreak (take n xs)
 none_take zero xs h = tt
 none_take (suc n) [] h = tt
 none_take (suc n) (x ∷ xs) h = (h.0, none_take n xs h.1)
 
-none_drop : (n : ℕ) (xs : List Item) → HasNoBreak xs → HasNoBreak (drop n xs)
+pub none_drop : (n : ℕ) (xs : List Item) → HasNoBreak xs → HasNoBreak (drop n xs)
 none_drop zero xs h = h
 none_drop (suc n) [] h = tt
 none_drop (suc n) (x ∷ xs) h = none_drop n xs h.1
@@ -378,6 +378,9 @@ lines_read at (xs ∷ ys ∷ ls) h =
     let r : Read false at xs (line_signs at xs ++ (letter 10 ∷ signs_of_lines (at + length (sources xs) + 1) (ys ∷ ls))) =
     line_read false at xs (letter 10 ∷ signs_of_lines (at + length (sources xs) + 1) (ys ∷ ls)) refl h.1 h.0 (next_line (at + length (sources xs)) (ys ∷ ls) more) in
     record { stood = r.stood; places = r.places }
+
+pub lines_stood : (at : ℕ) (ls : List (List Item)) → AreFlatLines ls → AreStood false (signs_of_lines at ls)
+lines_stood at ls h = (lines_read at ls h).stood
 
 pub flat_nodes : (ls : List (List Item)) (at : ℕ) (signs : List ContentSign) → AreFlatLines ls → things signs ≡ things (signs_of_lines at ls) → AreNodes signs
 flat_nodes ls at signs h same = nodes_stay (signs_of_lines at ls) signs (lines_read at ls h).stood same

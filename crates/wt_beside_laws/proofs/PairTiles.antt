@@ -54,6 +54,7 @@ run_ends k (g ∷ gs) f e = ends_by (in_class k g) refl (λ z. run_ends k gs f z
   where
     tail_less : in_class k g ≡ true → has_less gs ≡ true
     tail_less i = ap (λ (v : Bool). v || has_less gs) (sym (f g i)) ∙ e
+
     ends_by : (v : Bool) → in_class k g ≡ v → (has_less gs ≡ true → (run_len k gs < length gs) × (has_less (drop (run_len k gs) gs) ≡ true))
         → (run_len k (g ∷ gs) < length (g ∷ gs)) × (has_less (drop (run_len k (g ∷ gs)) (g ∷ gs)) ≡ true)
     ends_by true i h =
@@ -71,6 +72,7 @@ name_ends gs e = ends_by (first_is class.Letter gs)
     some : (hs : List Glyph) → has_less hs ≡ true → 0 < length hs
     some [] z = cc
     some (h ∷ hs) z = omega arith
+
     ends_by : (v : Bool) → ((if v then run_len class.Name gs else 0) < length gs) × (has_less (drop (if v then run_len class.Name gs else 0) gs) ≡ true)
     ends_by true = run_ends class.Name gs name_no_less e
     ends_by false = (some gs e, e)
@@ -144,6 +146,7 @@ no_slash a b hs e = none_by (is_in (λ (c : ℕ). c == 60) a) (is_in (λ (c : �
     other (glyph.Entity c) i j = cc
     other glyph.Atom i j = cc
     other glyph.Mark i j = cc
+
     none_by : (u v : Bool) → is_in (λ (c : ℕ). c == 47) b ≡ v
         → (if (u && (v && true)) && (nat_lt 0 (name_len hs) && first_is (class.Only 62) (drop (2 + name_len hs + run_len class.Blank (drop (2 + name_len hs) (a ∷ b ∷ hs))) (a ∷ b ∷ hs)))
         then tag_of Closing (3 + name_len hs + run_len class.Blank (drop (2 + name_len hs) (a ∷ b ∷ hs))) (name_of (take (name_len hs) hs)) else None) ≡ None

@@ -28,12 +28,12 @@ all_found : Page → List ℕ → List Thing
 all_found p [] = []
 all_found p (n ∷ ns) = found_as (kept_with n p.kept) ++ all_found p ns
 
-things_append : (xs ys : List ContentSign) → things (xs ++ ys) ≡ things xs ++ things ys
+pub things_append : (xs ys : List ContentSign) → things (xs ++ ys) ≡ things xs ++ things ys
 things_append [] ys = refl
 things_append (letter c ∷ xs) ys = things_append xs ys
 things_append (thing t ∷ xs) ys = ap (λ ts. t ∷ ts) (things_append xs ys)
 
-no_things : (cs : List ℕ) → things (map letter cs) ≡ []
+pub no_things : (cs : List ℕ) → things (map letter cs) ≡ []
 no_things [] = refl
 no_things (c ∷ cs) = no_things cs
 

@@ -472,11 +472,11 @@ tag_stays_so a r b gs behind t w e is whole tile lone =
           let len : t.len ≡ length own = sym (lone_size t.name t.shape t.len all l) ∙ ap size is ∙ whole in
           tag_kinds a r own behind w.kind (tag_node b gs t (tag_front own behind t len e) (inl (l, len)))
           (subst (λ (u : Shape). IsTagTile u.kind) is (lone_tile t.name t.shape t.len all l)) tile
-        )
+          )
       | inr o ↦ (
           let p : IsOpened t all = opened_by t t.name t.shape all refl refl o in
           opened_stays a r b gs behind t w (closing_for 0 p.name t.len all) e p o refl (sym (p.shape (closing_for 0 p.name t.len all) refl) ∙ is) whole tile lone
-        )
+          )
     ]
 
 -- ---- switches

@@ -111,6 +111,14 @@ pub fn nodes_sent_are_those_of_the_page()
         → things (signs_of_all p pl news) ≡ things (signs_of_all p pl olds) }
 {}
 
+/// A content of the nodes of flat lines of a page (`AreFlatLines`), with any texts between them, is one that is read sign by sign
+/// (`IsFlatContent`), if the source of each node stands whatever is written behind it.
+#[tactic(auto, using(crate::proofs::FlatContents::flat_content))]
+pub fn texts_beside_nodes_of_the_page_are_flat()
+    ensures { (s : Setting) (ls : List (List Item)) (at : ℕ) (signs : List ContentSign) → s.within ≡ false → AreFlatLines ls
+        → AreKept (signs_of_lines at ls) → AreCharacters signs → things signs ≡ things (signs_of_lines at ls) → IsFlatContent s signs }
+{}
+
 /// The lines of such a content are cut where a line break is typed, and each is a line of text, in a table too: nothing that
 /// is typed, and no node, makes it a heading, a list, a rule, preformatted text or a part of a table, and none is blank.
 pub fn texts_beside_nodes_are_lines_of_text()
