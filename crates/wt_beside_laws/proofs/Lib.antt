@@ -33,4 +33,5 @@ pub mod LineSegments
 pub mod LineParts
 pub mod LineRows
 pub mod LineParagraphs
+pub mod LineShown
 pub mod FlatContents

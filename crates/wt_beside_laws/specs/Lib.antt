@@ -8,6 +8,7 @@ pub mod SentNodes
 pub mod Stood
 pub mod Lines
 pub mod Flat
+pub mod Shown
 pub mod Tiles
 pub mod Glyphs
 pub mod Beginnings

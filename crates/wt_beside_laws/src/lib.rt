@@ -28,6 +28,8 @@ ghost use Rattle.wt_beside_laws.specs.Flat.{AreFlat, IsFlatContent, content_part
 ghost use Rattle.wt_beside_laws.specs.Glyphs.{content_glyphs, IsPast, AllAvoid};
 ghost use Rattle.wt_beside_laws.specs.Lines.{AreCharacters, AreUnbroken, line_items, content_lines, AreLinesOfText};
 ghost use Rattle.wt_beside_laws.specs.Nodes.{AreNodes, AllMeet};
+ghost use Rattle.wt_beside_laws.specs.Shown.{parts_shown_at, content_shown};
+ghost use Rattle.wt_tree.specs.Plain.{Plains};
 ghost use Rattle.wt_beside_laws.specs.PageSigns.{signs_of_lines, AreFlatLines};
 ghost use Rattle.wt_tree.specs.Tree.{Tree as Block, Trees, label};
 ghost use Rattle.wt_tree.specs.declared.edit_shape.Place.{Place as Where};
@@ -130,7 +132,6 @@ pub fn texts_beside_nodes_of_the_page_are_flat()
 
 /// The lines of such a content are cut where a line break is typed, and each is a line of text, in a table too: nothing that
 /// is typed, and no node, makes it a heading, a list, a rule, preformatted text or a part of a table, and none is blank.
-#[tactic(auto, using(crate::proofs::LineItems::content_lines_are, crate::proofs::LineKinds::are_lines_of_text))]
 pub fn texts_beside_nodes_are_lines_of_text()
     ensures lines { (s : Setting) (signs : List ContentSign) → AreKept signs → AreUnbroken signs → lines (page_items (spelled s signs)) ≡ content_lines s signs }
     ensures text { (tables : ℕ) (s : Setting) (signs : List ContentSign) → s.within ≡ false → AreCharacters signs → AreNodes signs
@@ -148,4 +149,12 @@ pub fn texts_beside_nodes_are_one_paragraph()
         → para (rows (page_items (spelled s signs))) ≡ para_with (content_parts s [] signs) }
     ensures page { (s : Setting) (signs : List ContentSign) → IsFlatContent s signs
         → meaning (page_items (spelled s signs)) ≡ body_with (para_with (content_parts s [] signs) ∷ []) }
+{}
+
+/// Wherever such a paragraph is, and whatever the numbers of its nodes, its inside shows the texts that were typed, as they were
+/// typed, and between them each node as its source shows by itself: the references and the nowikis that are put leave no trace.
+#[tactic(auto, using(crate::proofs::LineShown::content_is_shown))]
+pub fn texts_beside_nodes_are_shown()
+    ensures { (n : ℕ) (before : List Item) (s : Setting) (signs : List ContentSign) (rest : Plains) → IsFlatContent s signs
+        → parts_shown_at n before (content_parts s [] signs) rest ≡ content_shown signs rest }
 {}
