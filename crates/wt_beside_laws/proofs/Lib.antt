@@ -16,6 +16,7 @@ pub mod NodesStand
 pub mod PageNodes
 pub mod PageSigns
 pub mod PairTiles
+pub mod OwnSigns
 pub mod SentNodes
 pub mod Stood
 pub mod TagFronts
@@ -32,4 +33,5 @@ pub mod LineSegments
 pub mod LineParts
 pub mod LineRows
 pub mod LineParagraphs
+pub mod LineShown
 pub mod FlatContents

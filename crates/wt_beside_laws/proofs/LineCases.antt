@@ -2,6 +2,7 @@
 use Rattle.std.proofs.Common.{◌≡◌, false, None, [], ◌∷◌, ◌++◌, refl}
 use Rattle.std.specs.Prelude.{codes}
 use Rattle.std.proofs.Math.Utf8.{encode}
+use Rattle.wt_tree.specs.Plain.{text, ended, along}
 use Rattle.wt_span.specs.declared.form.ItemForm.TheVariants as form
 use Rattle.wt_span.specs.Items.{char, whole}
 use Rattle.wt_tree.specs.declared.edit_shape.Place.TheVariants.{Paragraph}
@@ -16,6 +17,7 @@ use Rattle.wt_inline.specs.Parts.{loose}
 use Rattle.wt_context.specs.Line.{line_parts}
 use Rattle.wt_beside_laws.specs.Flat.{content_parts, line_content}
 use Rattle.wt_beside_laws.specs.Lines.{content_lines}
+use Rattle.wt_beside_laws.specs.Shown.{content_shown}
 
 abbrev in_paragraph : Setting
 in_paragraph = record { within = false; place = Paragraph; source = [] }
@@ -45,3 +47,8 @@ url_last : line_content in_paragraph (letter 120 ∷ []) (letter 32 ∷ thing ur
     ≡ loose Text None 32 ∷ (line_parts (page_items (codes "http://k")) ++ [])
 unfolding is_guarded is_between_guard is_start_guard is_end_guard is_blank_guard hazard line_start_hazard is_escaped encode
 url_last = refl
+
+-- `x`, `<` at the content's end and `=` at a line's start show as they were typed
+typed_shown : content_shown (letter 120 ∷ letter 10 ∷ letter 61 ∷ letter 60 ∷ []) ended ≡ along (text (120 ∷ 10 ∷ 61 ∷ 60 ∷ [])) ended
+unfolding encode
+typed_shown = refl

@@ -27,6 +27,7 @@ use Rattle.wt_tiles.specs.Tiles.{size, Cut, cuts}
 use Rattle.wt_tiles.specs.Urls.{bare_url_at}
 use Rattle.wt_context.specs.Chunks.{begins_with_quote}
 use Rattle.wt_context.specs.Line.{context_parts, line_parts}
+use Rattle.wt_context.proofs.PlainNodes.{AreTexts}
 use Rattle.wt_text_edit_laws.specs.LonePages.{page_chars}
 use Rattle.wt_beside_laws.specs.Content.{guard_items, letter_items}
 use Rattle.wt_beside_laws.specs.Cuts.{add_chars, add_tile, own_glyphs, own_form, add_node, guard_cut, letter_cut, form_before, StandsAs}
@@ -159,6 +160,13 @@ node_alone own w s e k =
     subst (λ xs. IsRead (cut_segments context_parts in_line c xs) true (s.segment.parts ++ [])) (append-nil own)
     (tile_read w (0, []) own [] true true [] s (e ∙ glyphs_long own) (none_read true)) in
     read_line c own (cut_segments context_parts in_line c own) all refl r.apart ∙ r.shows ∙ append-nil s.segment.parts
+
+pub node_texts : (t : Thing) → IsFlat t.role → IsNode t.role (own_glyphs t) → AreTexts (line_parts (page_items t.source))
+node_texts t f n =
+    let own : List Item = page_items t.source in
+    let h = has_form t.role (own_glyphs t) f n in
+    let s = one_segment own h.shape h.alone (h.whole ∙ glyphs_long own) in
+    subst AreTexts (sym (node_alone own h.shape s h.whole h.before)) s.texts
 
 -- ---- step by step
 

@@ -28,6 +28,7 @@ use Rattle.wt_context.specs.Styled.{styled, with_styles}
 use Rattle.wt_context.specs.Nodes.{Reading, tile_tree, segments_by, tile_segments, segments}
 use Rattle.wt_context.specs.Line.{context_parts, line_parts}
 use Rattle.wt_context.proofs.NestedContexts.{contexts_are}
+use Rattle.wt_context.proofs.PlainNodes.{AreTexts, text_parts}
 use Rattle.wt_text_edit_laws.proofs.Texts.StillLines.{HasNoRun, alone, apart_put, no_runs, no_styles}
 use Rattle.wt_beside_laws.specs.Cuts.{add_tile, own_form}
 use Rattle.wt_beside_laws.proofs.FormKinds.{HasTree, has_tree, form_is_node}
@@ -125,9 +126,10 @@ pub record IsOneSegment (own : List Item) (w : Shape) : Type 0 where
   pub segment : Segment
   pub is : tile_segments context_parts in_line (w, own) ≡ segment ∷ []
   pub other : segment.quote ≡ false
+  pub texts : AreTexts segment.parts
 
 by_tree : (w : Shape) (own : List Item) → HasTree (tile_tree context_parts in_line w.kind w own) → IsOneSegment own w
-by_tree w own h = record { segment = tree_segment own h.node; is = ap (λ o. segments_by o own) h.is; other = refl }
+by_tree w own h = record { segment = tree_segment own h.node; is = ap (λ o. segments_by o own) h.is; other = refl; texts = (tt, tt) }
 
 -- what is read by one item that is no character
 record IsItself (f : ItemForm) : Type 0 where
@@ -162,7 +164,7 @@ whole_segment f o bs [] w e l =
     let it = itself f in
     let is : leaf it.kind_is 1 ≡ w = same_shape (leaf it.kind_is 1) w (sym (it.is (glyph_of_form f ∷ [])) ∙ e) in
     subst (IsOneSegment (whole f o bs ∷ [])) is
-    (record { segment = loose_segment (whole f o bs ∷ []); is = ap (λ t. segments_by t (whole f o bs ∷ [])) (it.bare (whole f o bs ∷ [])); other = refl })
+    (record { segment = loose_segment (whole f o bs ∷ []); is = ap (λ t. segments_by t (whole f o bs ∷ [])) (it.bare (whole f o bs ∷ [])); other = refl; texts = text_parts (whole f o bs ∷ []) })
 whole_segment f o bs (x ∷ own) w e l =
     let it = itself f in
     let is : leaf it.kind_is 1 ≡ w = same_shape (leaf it.kind_is 1) w (sym (it.is (glyph_of_form f ∷ glyph_of x ∷ map glyph_of own)) ∙ e) in
@@ -205,7 +207,7 @@ pub atom_read : (x : Item) (c : Cut) (xs : List Item) (next any : Bool) (ps : Li
     → IsRead (cut_segments context_parts in_line (add_tile (leaf kind.Atom 1) c) (x ∷ xs)) any (part Text x ∷ ps)
 unfolding loose_segments
 atom_read x c xs next any ps q r =
-    tile_read (leaf kind.Atom 1) c (x ∷ []) xs next any ps (record { segment = loose_segment (x ∷ []); is = refl; other = q }) refl r
+    tile_read (leaf kind.Atom 1) c (x ∷ []) xs next any ps (record { segment = loose_segment (x ∷ []); is = refl; other = q; texts = text_parts (x ∷ []) }) refl r
 
 pub none_read : (any : Bool) → IsRead (cut_segments context_parts in_line (0, []) []) any []
 unfolding loose_segments

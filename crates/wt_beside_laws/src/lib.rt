@@ -1,7 +1,7 @@
 //! Laws of texts that are typed beside nodes that stay.
 #![tactic(auto)]
 
-ghost use Rattle.std.specs.Prelude.{◌≡◌, ◌≤◌, ℕ, ◌+◌, false, Some, List, [], ◌∷◌, ◌++◌, length, map};
+ghost use Rattle.std.specs.Prelude.{◌≡◌, ◌≤◌, ℕ, ◌+◌, Bool, false, Some, List, [], ◌∷◌, ◌++◌, length, map};
 ghost use Rattle.wt_span.specs.Items.{Item};
 ghost use Rattle.wt_guards.specs.Content.{ContentSign};
 ghost use Rattle.wt_guards.specs.Guards.{Setting, spelled};
@@ -28,11 +28,14 @@ ghost use Rattle.wt_beside_laws.specs.Flat.{AreFlat, IsFlatContent, content_part
 ghost use Rattle.wt_beside_laws.specs.Glyphs.{content_glyphs, IsPast, AllAvoid};
 ghost use Rattle.wt_beside_laws.specs.Lines.{AreCharacters, AreUnbroken, line_items, content_lines, AreLinesOfText};
 ghost use Rattle.wt_beside_laws.specs.Nodes.{AreNodes, AllMeet};
+ghost use Rattle.wt_beside_laws.specs.Shown.{parts_shown_at, content_shown};
+ghost use Rattle.wt_tree.specs.Plain.{Plains};
 ghost use Rattle.wt_beside_laws.specs.PageSigns.{signs_of_lines, AreFlatLines};
-ghost use Rattle.wt_tree.specs.Tree.{Trees};
+ghost use Rattle.wt_tree.specs.Tree.{Tree as Block, Trees, label};
 ghost use Rattle.wt_tree.specs.declared.edit_shape.Place.{Place as Where};
-ghost use Rattle.wt_original.specs.Page.{Page as Known};
-ghost use Rattle.wt_link_spelling.specs.Spelling.{signs_of_all};
+ghost use Rattle.wt_original.specs.Page.{Page as Known, page_of, TellsSame};
+ghost use Rattle.wt_link_spelling.specs.Spelling.{signs_of_all, children_of};
+ghost use Rattle.wt_beside_laws.specs.OwnSigns.{own_signs, IsFlatBlock};
 ghost use Rattle.wt_beside_laws.specs.SentNodes.{AreSent, numbers};
 ghost use Rattle.wt_beside_laws.specs.Stood.{AreStood, AreAt, things};
 ghost use Rattle.wt_beside_laws.specs.Tiles.{IsPlainLink, IsPastUrl};
@@ -100,6 +103,16 @@ pub fn nodes_of_flat_lines_stay()
         → things signs ≡ things (signs_of_lines at ls) → AllMeet s [] signs [] }
 {}
 
+/// A block of the page without groups and styles (`IsFlatBlock`) has, as it is sent back, the signs that it has there: the characters
+/// of its texts, and its nodes, each with its source, its place and what it is to its neighbours (`own_signs`). Each of its nodes
+/// is one that is sent as it is.
+#[tactic(auto, using(crate::proofs::OwnSigns::own_content, crate::proofs::OwnSigns::own_sent))]
+pub fn blocks_of_the_page_have_their_signs()
+    ensures signs { (same : Block → Block → Bool) (block : Block) (pl : Where) → TellsSame same → IsFlatBlock block
+        → signs_of_all (page_of same block) pl (children_of block) ≡ own_signs block (length (label block).opening) (length (label block).opening) (children_of block) }
+    ensures sent { (same : Block → Block → Bool) (block : Block) → TellsSame same → IsFlatBlock block → AreSent (page_of same block) (children_of block) }
+{}
+
 /// The nodes of a content that is sent with texts between them are those of the page: where each node has the number of one of the
 /// page, of the same kind and with the same plain view (`AreSent`), and the numbers are those of the page's content in their order,
 /// the signs of both contents have the same nodes.
@@ -119,7 +132,6 @@ pub fn texts_beside_nodes_of_the_page_are_flat()
 
 /// The lines of such a content are cut where a line break is typed, and each is a line of text, in a table too: nothing that
 /// is typed, and no node, makes it a heading, a list, a rule, preformatted text or a part of a table, and none is blank.
-#[tactic(auto, using(crate::proofs::LineItems::content_lines_are, crate::proofs::LineKinds::are_lines_of_text))]
 pub fn texts_beside_nodes_are_lines_of_text()
     ensures lines { (s : Setting) (signs : List ContentSign) → AreKept signs → AreUnbroken signs → lines (page_items (spelled s signs)) ≡ content_lines s signs }
     ensures text { (tables : ℕ) (s : Setting) (signs : List ContentSign) → s.within ≡ false → AreCharacters signs → AreNodes signs
@@ -137,4 +149,12 @@ pub fn texts_beside_nodes_are_one_paragraph()
         → para (rows (page_items (spelled s signs))) ≡ para_with (content_parts s [] signs) }
     ensures page { (s : Setting) (signs : List ContentSign) → IsFlatContent s signs
         → meaning (page_items (spelled s signs)) ≡ body_with (para_with (content_parts s [] signs) ∷ []) }
+{}
+
+/// Wherever such a paragraph is, and whatever the numbers of its nodes, its inside shows the texts that were typed, as they were
+/// typed, and between them each node as its source shows by itself: the references and the nowikis that are put leave no trace.
+#[tactic(auto, using(crate::proofs::LineShown::content_is_shown))]
+pub fn texts_beside_nodes_are_shown()
+    ensures { (n : ℕ) (before : List Item) (s : Setting) (signs : List ContentSign) (rest : Plains) → IsFlatContent s signs
+        → parts_shown_at n before (content_parts s [] signs) rest ≡ content_shown signs rest }
 {}
