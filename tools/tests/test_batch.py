@@ -571,12 +571,12 @@ class Limits(BatchCase):
         for title in ("Dies", "Hangs", "Dies once", *(f"P{k}" for k in range(50))):
             self.write(title, "text")
         # Within these seconds the stand-in begins anew and answers, whatever else the machine does.
-        limit = ("--time-limit", "12")
+        limit = ("--time-limit", "20")
         report = self.report("wikitext", *limit, "--json", "lines")
         self.assertEqual(report["outcomes"]["wikitext"], {"came back": 51, "died": 1, "too slow": 1})
         failures = [
             ("Dies", "wikitext", "the program died: it was ended by SIGABRT"),
-            ("Hangs", "wikitext", "no answer within 12 seconds"),
+            ("Hangs", "wikitext", "no answer within 20 seconds"),
         ]
         self.assertEqual(self.failures(report), failures)
         # These results hold as long as the limits do.
