@@ -3,3 +3,4 @@ pub mod OwnBlocks
 pub mod GroupsAmong
 pub mod CleanAgain
 pub mod FreeBlocks
+pub mod Untangled

@@ -9,6 +9,7 @@ ghost use Rattle.wt_called_parts.specs.Parts.{AreCalled};
 ghost use Rattle.wt_called_parts.specs.Retyped.{AreRetyped};
 ghost use Rattle.wt_called_edit_laws.specs.FreeBlocks.{AreFreeFrom};
 ghost use Rattle.wt_called_edit_laws.specs.Groups.{AreOutsideGroups, GroupsStayAmong};
+ghost use Rattle.wt_called_edit_laws.specs.Untangled.{AreUntangledFrom};
 
 /// Where texts are typed in paragraphs and headings among calls, and no node round one of them is in a group, the page's
 /// tree has the same groups and the same other nodes, whatever the texts are: but for numbers and places it is one tree
@@ -24,4 +25,11 @@ pub fn groups_stay_round_typed_texts()
 pub fn text_calls_touch_no_block()
     ensures { (pages : Pages) (ss : List BlockSpot) (behind : List ℕ) → AreCalled ss behind
         → AreFreeFrom (expanded_page pages (spots_source ss behind)).text_calls 0 ss }
+{}
+
+/// So none of these blocks is tangled, wherever it is in the page's tree: it can be read by itself.
+#[tactic(auto, using(crate::proofs::Untangled::blocks_untangled))]
+pub fn blocks_among_calls_are_untangled()
+    ensures { (pages : Pages) (ss : List BlockSpot) (behind : List ℕ) → AreCalled ss behind
+        → AreUntangledFrom (expanded_page pages (spots_source ss behind)) (spots_source ss behind) 0 ss }
 {}
