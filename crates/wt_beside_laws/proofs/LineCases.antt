@@ -63,7 +63,7 @@ typed_shown = refl
 -- ---- `x`, a blank, a URL, a line break and `=` are such a content
 
 scheme_firm : AreFirm (codes "http://k")
-scheme_firm = (refl, refl, refl, refl, refl, refl, refl, refl, tt)
+scheme_firm = (refl, (refl, (refl, (refl, (refl, (refl, (refl, (refl, tt))))))))
 
 url_items : page_items (codes "http://k") ≡ page_chars (codes "http://k")
 url_items = alone_as (codes "http://k") (page_chars (codes "http://k")) (firm_read (codes "http://k") scheme_firm)
@@ -76,10 +76,10 @@ flat_lines : IsFlatContent in_paragraph (letter 120 ∷ letter 32 ∷ thing url 
 unfolding is_guarded is_between_guard is_start_guard is_end_guard is_blank_guard hazard line_start_hazard
 flat_lines = record {
   of_block = refl;
-  characters = (refl, refl, refl, refl, tt);
+  characters = (refl, (refl, (refl, (refl, tt))));
   kept = (record { parts = characters (codes "http://k") ∷ []; are = (scheme_firm, tt); is = refl }, tt);
   nodes = (subst (λ xs. IsBareNode (map glyph_of xs)) (sym url_items) url_node, tt);
-  unbroken = (subst IsUnbroken (sym url_items) (refl, refl, refl, refl, refl, refl, refl, refl, tt), tt);
+  unbroken = (subst IsUnbroken (sym url_items) (refl, (refl, (refl, (refl, (refl, (refl, (refl, (refl, tt)))))))), tt);
   flat = (tt, tt);
-  meet = (tt, tt, tt, tt, tt, tt);
+  meet = (tt, (tt, (tt, (tt, (tt, tt)))));
 }
