@@ -16,6 +16,7 @@ pub mod NodesStand
 pub mod PageNodes
 pub mod PageSigns
 pub mod PairTiles
+pub mod OwnSigns
 pub mod SentNodes
 pub mod Stood
 pub mod TagFronts

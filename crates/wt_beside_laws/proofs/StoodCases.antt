@@ -1,16 +1,20 @@
 -- Worked cases: nodes as a page has them, and what may be behind them there.
-use Rattle.std.proofs.Common.{◌≡◌, true, false, Some, None, refl, inr}
+use Rattle.std.proofs.Common.{◌≡◌, true, false, Some, None, [], ◌∷◌, refl, inr}
 use Rattle.std.specs.Prelude.{codes}
+use Rattle.std.proofs.Math.Utf8.{encode}
 use Rattle.wt_guards.specs.declared.role.Role.TheVariants.{Bare, Switch, Node}
 use Rattle.wt_tiles.specs.declared.shape.TileKind.TheVariants as kind
 use Rattle.wt_tiles.specs.Contexts.{in_line}
 use Rattle.wt_tiles.specs.Glyphs.{byte_glyphs}
 use Rattle.wt_tiles.specs.Links.{leaf, link_at}
 use Rattle.wt_tiles.specs.Tags.{tag_at, opening_tag, closing_tag, tag_after, name_of, live_name}
-use Rattle.wt_tiles.specs.Tiles.{form_at, link_or_url, tag_tile, switch_at, switch_names}
+use Rattle.wt_tiles.specs.Tiles.{form_at, link_or_url, tag_tile, switch_at, switch_names, shapes, closed, tiles}
 use Rattle.wt_tiles.specs.Urls.{scheme_len, is_url_char, is_dropped, kept_len, bare_shape, ext_link_at, bare_url_at}
 use Rattle.wt_beside_laws.specs.Cuts.{form_before}
+use Rattle.wt_text_edit_laws.specs.LonePages.{page_chars}
+use Rattle.wt_beside_laws.specs.PageSigns.{AreFlatLines}
 use Rattle.wt_beside_laws.specs.Stood.{IsRead, EndsUrl}
+use Rattle.wt_beside_laws.proofs.Cases.{break_alone}
 
 -- `http://k` before a space
 before_space : IsRead false (Bare false) (byte_glyphs (codes "http://k")) (byte_glyphs (codes " y"))
@@ -49,3 +53,12 @@ break_before = record { shape = leaf kind.Br 4; form = refl; whole = refl; tile 
 switch_before : IsRead true Switch (byte_glyphs (codes "__TOC__")) (byte_glyphs (codes "x"))
 unfolding form_at link_or_url link_at ext_link_at bare_url_at scheme_len tag_tile tag_at opening_tag closing_tag switch_at switch_names
 switch_before = record { shape = leaf kind.Switch 7; form = refl; whole = refl; tile = refl; lone = tt }
+
+-- the line `x<br>y`
+flat_line : AreFlatLines (page_chars (codes "x<br>y") ∷ [])
+unfolding tiles shapes closed form_at link_or_url link_at ext_link_at bare_url_at scheme_len tag_tile tag_at opening_tag closing_tag tag_after name_of live_name switch_at encode
+flat_line = (
+  (refl, (refl, (refl, (refl, (refl, (refl, tt)))))),
+  ((120 ∷ [], (refl, refl)), (record { alone = break_alone; lone = tt }, ((121 ∷ [], (refl, refl)), tt))),
+  tt,
+)

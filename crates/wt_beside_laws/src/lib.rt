@@ -1,7 +1,7 @@
 //! Laws of texts that are typed beside nodes that stay.
 #![tactic(auto)]
 
-ghost use Rattle.std.specs.Prelude.{◌≡◌, ◌≤◌, ℕ, ◌+◌, false, Some, List, [], ◌∷◌, ◌++◌, length, map};
+ghost use Rattle.std.specs.Prelude.{◌≡◌, ◌≤◌, ℕ, ◌+◌, Bool, false, Some, List, [], ◌∷◌, ◌++◌, length, map};
 ghost use Rattle.wt_span.specs.Items.{Item};
 ghost use Rattle.wt_guards.specs.Content.{ContentSign};
 ghost use Rattle.wt_guards.specs.Guards.{Setting, spelled};
@@ -31,10 +31,11 @@ ghost use Rattle.wt_beside_laws.specs.Nodes.{AreNodes, AllMeet};
 ghost use Rattle.wt_beside_laws.specs.Shown.{parts_shown_at, content_shown};
 ghost use Rattle.wt_tree.specs.Plain.{Plains};
 ghost use Rattle.wt_beside_laws.specs.PageSigns.{signs_of_lines, AreFlatLines};
-ghost use Rattle.wt_tree.specs.Tree.{Trees};
+ghost use Rattle.wt_tree.specs.Tree.{Tree as Block, Trees, label};
 ghost use Rattle.wt_tree.specs.declared.edit_shape.Place.{Place as Where};
-ghost use Rattle.wt_original.specs.Page.{Page as Known};
-ghost use Rattle.wt_link_spelling.specs.Spelling.{signs_of_all};
+ghost use Rattle.wt_original.specs.Page.{Page as Known, page_of, TellsSame};
+ghost use Rattle.wt_link_spelling.specs.Spelling.{signs_of_all, children_of};
+ghost use Rattle.wt_beside_laws.specs.OwnSigns.{own_signs, IsFlatBlock};
 ghost use Rattle.wt_beside_laws.specs.SentNodes.{AreSent, numbers};
 ghost use Rattle.wt_beside_laws.specs.Stood.{AreStood, AreAt, things};
 ghost use Rattle.wt_beside_laws.specs.Tiles.{IsPlainLink, IsPastUrl};
@@ -100,6 +101,16 @@ pub fn nodes_of_flat_lines_stay()
         → AreNodes signs }
     ensures meet { (s : Setting) (ls : List (List Item)) (at : ℕ) (signs : List ContentSign) → AreFlatLines ls
         → things signs ≡ things (signs_of_lines at ls) → AllMeet s [] signs [] }
+{}
+
+/// A block of the page without groups and styles (`IsFlatBlock`) has, as it is sent back, the signs that it has there: the characters
+/// of its texts, and its nodes, each with its source, its place and what it is to its neighbours (`own_signs`). Each of its nodes
+/// is one that is sent as it is.
+#[tactic(auto, using(crate::proofs::OwnSigns::own_content, crate::proofs::OwnSigns::own_sent))]
+pub fn blocks_of_the_page_have_their_signs()
+    ensures signs { (same : Block → Block → Bool) (block : Block) (pl : Where) → TellsSame same → IsFlatBlock block
+        → signs_of_all (page_of same block) pl (children_of block) ≡ own_signs block (length (label block).opening) (length (label block).opening) (children_of block) }
+    ensures sent { (same : Block → Block → Bool) (block : Block) → TellsSame same → IsFlatBlock block → AreSent (page_of same block) (children_of block) }
 {}
 
 /// The nodes of a content that is sent with texts between them are those of the page: where each node has the number of one of the
