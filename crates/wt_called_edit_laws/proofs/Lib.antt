@@ -2,3 +2,4 @@ pub mod MovedOuters
 pub mod OwnBlocks
 pub mod GroupsAmong
 pub mod CleanAgain
+pub mod FreeBlocks
