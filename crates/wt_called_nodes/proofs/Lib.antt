@@ -1,0 +1,4 @@
+pub mod CutFrames
+pub mod TextsMake
+pub mod TilesStand
+pub mod Cases
