@@ -2,6 +2,11 @@ pub mod Kept
 pub mod Nodes
 pub mod Content
 pub mod Cuts
+pub mod PageSigns
+pub mod SentNodes
+pub mod Stood
+pub mod Lines
+pub mod Flat
 pub mod Tiles
 pub mod Glyphs
 pub mod Beginnings

@@ -7,6 +7,7 @@ ghost use Rattle.wt_span.specs.Items.{Item};
 ghost use Rattle.wt_tree.specs.Tree.{Label};
 ghost use Rattle.wt_checks.specs.Kept.{children};
 ghost use Rattle.wt_expand.specs.PageItems.{page_items};
+ghost use Rattle.wt_expand.specs.Work.{Pages};
 ghost use Rattle.wt_commands.specs.Calls.{Call};
 ghost use Rattle.wt_pagetool.specs.Promises.{Ends, EndsAsEdit};
 ghost use Rattle.wt_typed_blocks.specs.Sent.{paragraph};
@@ -15,9 +16,11 @@ ghost use Rattle.wt_text_edit_laws.specs.BlockSpots.{BlockSpot, AreBlockSpots};
 ghost use Rattle.wt_text_edit_laws.specs.Parts.{part_tree};
 ghost use Rattle.wt_text_edit_laws.specs.TextBlocks.{a_paragraph};
 ghost use Rattle.wt_text_edit_laws.specs.TypedPages.{IsTypedPage};
+ghost use Rattle.wt_called_parts.specs.Retyped.{AreRetyped};
 ghost use Rattle.wt_cell_edit_laws.specs.AnyBlocks.{AreSpots};
 ghost use Rattle.wt_cell_edit_laws.specs.AnyCalls.{TakesTextsAnywhere};
 ghost use Rattle.wt_cell_edit_laws.specs.AnyTexts.{TakesAnyTexts};
+ghost use Rattle.wt_cell_edit_laws.specs.CalledBlocks.{AreAmongCalls, StandAmongCalls};
 ghost use Rattle.wt_cell_edit_laws.specs.CellCalls.{TakesTextsInCells};
 ghost use Rattle.wt_cell_edit_laws.specs.CellEdits.{CellPage, page_with, IsCellPage, IsCellEdit, LeadsFrom, TakesText, own_sents};
 ghost use Rattle.wt_cell_edit_laws.specs.HeadingsInCells.{IsHeadingInCell, HeadingStandsInCell};
@@ -96,4 +99,20 @@ pub fn pages_with_a_paragraph_in_a_cell_are_such()
 #[tactic(auto, using(crate::proofs::AnyPages::any_calls))]
 pub fn calls_take_texts_anywhere()
     ensures { (c : Call) (ended : ℕ) → Ends c ended → EndsAsEdit c ended → TakesTextsAnywhere c ended }
+{}
+
+/// Such blocks may be among calls, too, where no call goes over the end of a part, and each block is a block of its own
+/// by what the calls give: each is at a place of the page's tree that texts typed in them don't move, and all else is
+/// the same. With such texts it is such a page again.
+#[tactic(auto, using(crate::proofs::CalledFrames::stand_among, crate::proofs::CalledFrames::again_among))]
+pub fn blocks_among_calls_stand_at_their_places()
+    ensures stand { (pages : Pages) (ss : List BlockSpot) (behind : List ℕ) → AreAmongCalls pages ss behind → StandAmongCalls pages ss behind }
+    ensures again { (pages : Pages) (ss rs : List BlockSpot) (behind : List ℕ) → AreAmongCalls pages ss behind → AreRetyped ss rs
+        → AreAmongCalls pages rs behind }
+{}
+
+/// A page that calls nothing (`AreSpots`) is such a page, too.
+#[tactic(auto, using(crate::proofs::CalledFrames::spots_among_calls))]
+pub fn pages_without_calls_are_among_these()
+    ensures { (pages : Pages) (ss : List BlockSpot) (behind : List ℕ) → AreSpots ss behind → AreAmongCalls pages ss behind }
 {}

@@ -1,10 +1,7 @@
+//! Trees made by hand are compared.
 use std::alloc::Global;
-use std::process::Abort;
-use wt_span::{List, NoMemory, Str, Text};
-use wt_tree::{
-    Attr, AttrName, DataMw, Kind, Mark, More, Node, Part, Ranges, Shown, Slices, Source, find,
-    flat, plain_eq, walk,
-};
+use wt_span::{List, NoMemory, Text};
+use wt_tree::{Kind, More, Node, Ranges, Shown, Slices, Source, plain_eq};
 
 /// A node of this kind and number that has nothing else.
 fn node<'a>(alloc: Global, kind: Kind, id: u32) -> Node<'a> {
@@ -67,36 +64,10 @@ fn heading<'a>(alloc: Global, text: &'a str) -> Result<Node<'a>, NoMemory> {
 }
 
 /// Such a heading after a separator, in a body.
-pub fn page<'a>(alloc: Global, text: &'a str) -> Result<Node<'a>, NoMemory> {
+fn page<'a>(alloc: Global, text: &'a str) -> Result<Node<'a>, NoMemory> {
     let heading = heading(alloc, text)?;
     let body = with_leaf(alloc, node(alloc, Kind::Body, 0), Kind::Sep, "\n")?;
     with_child(body, heading)
-}
-
-fn is_flat(alloc: Global, body: &Node<'_>, text: &str) -> Result<bool, NoMemory> {
-    Ok(flat(alloc, body)?.as_str() == text)
-}
-
-/// How many nodes are walked, and the kind of the third.
-fn walked(alloc: Global, body: &Node<'_>) -> Result<(usize, Option<Kind>), NoMemory> {
-    let rows = walk(alloc, body)?;
-    Ok((rows.len(), rows.as_slice().get(2).map(|row| row.1)))
-}
-
-fn check_page(rt: &(impl Abort + AllocGlobal), body: &Node<'_>) -> Result<(), NoMemory> {
-    assert!(rt; is_flat(rt.alloc(), body, "\n== A ==")?);
-    let (count, third) = walked(rt.alloc(), body)?;
-    assert!(rt; count == 4);
-    assert!(rt; matches!(third, Some(Kind::Heading(2))));
-    assert!(rt; find(body, 1).is_some());
-    assert!(rt; find(body, 2).is_none());
-    Ok(())
-}
-
-#[test]
-fn reads_a_tree_off(rt: HostRuntime) -> Result<(), NoMemory> {
-    let body = page(rt.alloc(), "A")?;
-    check_page(&rt, &body)
 }
 
 /// The same heading in two texts, with another number and without the separator.
@@ -104,40 +75,6 @@ fn plain_page<'a>(alloc: Global) -> Result<Node<'a>, NoMemory> {
     let heading = with_leaf(alloc, node(alloc, Kind::Heading(2), 7), Kind::Text, "A")?;
     let heading = with_leaf(alloc, heading, Kind::Text, "")?;
     with_child(node(alloc, Kind::Body, 0), heading)
-}
-
-fn link<'a>(alloc: Global, href: &str) -> Result<Node<'a>, NoMemory> {
-    let value = Str::copy_of(alloc, href)?;
-    let mut attrs = List::new(alloc);
-    attrs.push(Attr {
-        name: AttrName::Href,
-        value,
-    })?;
-    let more = More::with_attrs(alloc, attrs)?;
-    Ok(Node {
-        more,
-        ..node(alloc, Kind::WikiLink, 1)
-    })
-}
-
-fn island<'a>(alloc: Global, data: DataMw) -> Result<Node<'a>, NoMemory> {
-    let more = More::of(alloc, List::new(alloc), Mark::Nothing, Some(data))?;
-    Ok(Node {
-        more,
-        ..node(alloc, Kind::Island, 2)
-    })
-}
-
-fn extension<'a>(alloc: Global, name: &str) -> Result<Node<'a>, NoMemory> {
-    let name = Str::copy_of(alloc, name)?;
-    island(alloc, DataMw::Extension { name, body: None })
-}
-
-fn literal<'a>(alloc: Global, text: &str) -> Result<Node<'a>, NoMemory> {
-    let mut parts = List::new(alloc);
-    let text = Str::copy_of(alloc, text)?;
-    parts.push(Part::Literal(text))?;
-    island(alloc, DataMw::Parts(parts))
 }
 
 /// Whether pages of these headings show the same.
@@ -159,29 +96,5 @@ fn compares_what_is_shown(rt: HostRuntime) -> Result<(), NoMemory> {
     assert!(rt; show_the_same(rt.alloc(), "A", "A")?);
     assert!(rt; !show_the_same(rt.alloc(), "A", "B")?);
     assert!(rt; shows_no_separator(rt.alloc())?);
-    Ok(())
-}
-
-fn lead_to_the_same(alloc: Global, one: &str, other: &str) -> Result<bool, NoMemory> {
-    let one = link(alloc, one)?;
-    let other = link(alloc, other)?;
-    plain_eq(alloc, &one, &other)
-}
-
-fn is_literal(alloc: Global, island: &Node<'_>, text: &str) -> Result<bool, NoMemory> {
-    let other = literal(alloc, text)?;
-    plain_eq(alloc, island, &other)
-}
-
-fn have_the_same_data(alloc: Global, name: &str, text: &str) -> Result<bool, NoMemory> {
-    let island = extension(alloc, name)?;
-    is_literal(alloc, &island, text)
-}
-
-#[test]
-fn compares_attributes_and_extensions(rt: HostRuntime) -> Result<(), NoMemory> {
-    assert!(rt; lead_to_the_same(rt.alloc(), "./A", "./A")?);
-    assert!(rt; !lead_to_the_same(rt.alloc(), "./A", "./B")?);
-    assert!(rt; !have_the_same_data(rt.alloc(), "ref", "x")?);
     Ok(())
 }

@@ -1,0 +1,3 @@
+pub mod MovedOuters
+pub mod OwnBlocks
+pub mod GroupsAmong
