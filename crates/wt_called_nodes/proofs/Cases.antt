@@ -1,12 +1,13 @@
 -- Worked cases of the definitions, each computed.
-use Rattle.std.proofs.Common.{◌≡◌, true, Some, None, [], refl}
+use Rattle.std.proofs.Common.{◌≡◌, true, Some, None, [], ◌∷◌, refl}
 use Rattle.std.specs.Prelude.{codes}
 use Rattle.wt_tree.specs.declared.kind.Kind.TheVariants as kind
 use Rattle.wt_tree.specs.declared.row.Texts.TheVariants.{Bordered}
 use Rattle.wt_tree.specs.Leaves.{leaf_label, text_leaf, sep_leaf}
 use Rattle.wt_tree.specs.Tree.{Label, none}
 use Rattle.wt_typed_blocks.specs.Sent.{paragraph, stands, typed, Sents, none_sent, more_sent}
-use Rattle.wt_called_trees.specs.TreeFrames.{spot, kept, TreeFrames, no_nodes, more_nodes}
+use Rattle.wt_called_trees.specs.TreeFrames.{spot, kept, holder, TreeFrames, no_nodes, more_nodes}
+use Rattle.wt_called_nodes.specs.PathsTo.{paths_to}
 use Rattle.wt_called_nodes.specs.Sends.{AllSend}
 use Rattle.wt_called_nodes.proofs.CutFrames.{cut_nodes}
 
@@ -35,3 +36,10 @@ sends_a_text = (refl, (tt, tt))
 -- no text was typed there, or another one
 sends_no_text : AllSend (λ n. None) two_nodes one_typed → ⊥
 sends_no_text h = h.0
+
+-- ---- paths
+
+-- of a place behind a node, and of one in a node that holds others
+two_paths : paths_to (more_nodes (kept (sep_leaf None (codes "\n"))) (more_nodes (spot 0) (more_nodes (holder a_label (more_nodes (spot 1) no_nodes)) no_nodes)))
+    ≡ (1 ∷ []) ∷ (2 ∷ 0 ∷ []) ∷ []
+two_paths = refl

@@ -9,6 +9,7 @@ ghost use Rattle.wt_row_laws.specs.Frames.{Frames};
 ghost use Rattle.wt_typed_blocks.specs.Sent.{Sents};
 ghost use Rattle.wt_called_trees.specs.TreeFrames.{TreeFrames};
 ghost use Rattle.wt_called_nodes.specs.Nodes.{NodesStayIn};
+ghost use Rattle.wt_called_nodes.specs.PathsTo.{PathsSend};
 ghost use Rattle.wt_called_nodes.specs.Sends.{TextsMake};
 ghost use Rattle.wt_called_nodes.specs.Stand.{BlocksStand};
 
@@ -30,4 +31,10 @@ pub fn typed_texts_make_the_nodes()
 /// annotated tree), each block of them in which a text is typed says where it is.
 pub fn typed_blocks_say_where_they_are()
     ensures { (page : List ℕ) (from to : ℕ) (ss : Sents) → BlocksStand page from to ss }
+{}
+
+/// The paths of the places hang on no texts (`paths_to`). Where texts are typed at these paths, and all else stays, what
+/// is sent for the blocks at the places are these texts.
+pub fn texts_at_paths_are_sent_for_the_blocks()
+    ensures { (fs : TreeFrames) (o : ℕ → Option (List ℕ)) (b : ℕ → Tree) (es : Sents) → PathsSend fs o b es }
 {}
