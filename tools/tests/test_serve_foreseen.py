@@ -1,8 +1,10 @@
 """The page that an edit will probably make: its HTML is made while the program makes the page."""
 import json
+import threading
 import time
 import unittest
-from typing import Dict, List, Optional, Tuple
+from contextlib import contextmanager
+from typing import Dict, Iterator, List, Optional, Tuple
 from unittest import mock
 
 from serving_case import SECONDS, ServingCase
@@ -11,7 +13,7 @@ from serving.documents import with_sources_alone, without_places
 from serving.foreseen import foreseen, shared
 from serving.known import KnownStates
 from serving.pages import STEP
-from serving.prepared import State
+from serving.prepared import PreparedEdits, State
 from serving.program import Program
 from serving.refusals import Refusal
 from serving.site import TextRoom
@@ -103,13 +105,17 @@ class LongPages(ServingCase):
         status, _, answer = self.ask("POST", f"/save/Opava{query}", json.dumps(body).encode(), **headers)
         return status, json.loads(answer)
 
-    def store(self, tag: str, shown: Dict) -> str:
-        """The new page, after its HTML was fetched ahead."""
+    def store(self, tag: str, shown: Dict, begun: int = 1) -> str:
+        """The new page, after its HTML was fetched ahead: that is the last of so many that were begun. (What isn't
+        begun yet is made for whoever fetches it, and isn't kept for the save.)"""
+        end = time.monotonic() + SECONDS
+        while len(self.texts) < begun and time.monotonic() < end:
+            time.sleep(0.01)
         status, headers, body = self.ask("GET", f"/prepared/Opava/{shown['prepared']}{EDITORS}")
         self.assertEqual(status, 200)
         with mock.patch.object(Program, "_run", side_effect=AssertionError("the program was run")):
             status, told = self.post({"prepared": shown["prepared"]}, tag)
-        self.assertEqual((status, told["etag"]), (200, headers["etag"]))
+        self.assertEqual((status, told.get("etag")), (200, headers["etag"]), told)
         self.assertEqual(self.html("Opava", EDITORS), (body.decode(), told["etag"]))
         return self.page()
 
@@ -142,10 +148,31 @@ class LongPages(ServingCase):
         self.assertIn("seven hundred", self.store(tag, shown))
         self.assertEqual(self.texts, [self.page()])
 
+    @contextmanager
+    def foreseen_first(self) -> Iterator[None]:
+        """The program answers an edit only once the HTML of the page that was foreseen is made."""
+        made = threading.Event()
+
+        def state_for_editor(edits: PreparedEdits, name: str, page: bytes) -> State:
+            try:
+                return state(edits, name, page)
+            finally:
+                made.set()
+
+        def selser(program: Program, title: str, html: bytes) -> bytes:
+            self.assertTrue(made.wait(SECONDS))
+            return answered(program, title, html)
+
+        state, answered = PreparedEdits._state_for_editor, Program.selser
+        with mock.patch.object(PreparedEdits, "_state_for_editor", state_for_editor):
+            with mock.patch.object(Program, "selser", selser):
+                yield
+
     def test_what_is_foreseen_wrongly(self) -> None:
         before = self.page()
-        tag, shown = self.preview("is a town in", "is a ''town'' in")
-        page = self.store(tag, shown)
+        with self.foreseen_first():
+            tag, shown = self.preview("is a town in", "is a ''town'' in")
+        page = self.store(tag, shown, begun=2)
         self.assertNotEqual(page, before.replace("is a town in", "is a ''town'' in"))
         self.assertEqual(self.texts, [before.replace("is a town in", "is a ''town'' in"), page])
 
