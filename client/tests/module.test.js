@@ -920,7 +920,8 @@ test("many blocks of which others come and go are renewed in time in proportion"
   /** @type {(count: number, step: number) => string} */
   const blocks = (count, step) => page(Array.from({ length: count }, (_, at) => block(at * step)).join("\n"));
   const prepare = (/** @type {number} */ count) => ({ root: opened(blocks(count, 2)), html: blocks(count, 3) });
-  assert.equal(outOfProportion(5000, prepare, ({ root, html }) => renew(root, html)), "");
+  // (Few enough that it counts for little how the small DOM seeks a child among its siblings, from the first one on.)
+  assert.equal(outOfProportion(1000, prepare, ({ root, html }) => renew(root, html)), "");
   const { root, html } = prepare(1000);
   renew(root, html);
   assert.equal(save(root), html);
