@@ -7,9 +7,16 @@ use std::marker::Model;
 use std::mem;
 
 /// A vector that contracts see as the list of its members.
-#[derive(Debug, Drop)]
+#[derive(Debug)]
 pub struct List<T> {
     items: Vec<T>,
+}
+
+// One call wherever a list is let go.
+impl<T: Drop> Drop for List<T> {
+    fn drop(self) {
+        let List { items: _ } = self;
+    }
 }
 
 impl<T> Model for List<T> {

@@ -7,9 +7,16 @@ use std::alloc::Global;
 use std::marker::Model;
 
 /// A text that contracts see as the list of its UTF-8 bytes, as they see a `&str`.
-#[derive(Debug, Drop)]
+#[derive(Debug)]
 pub struct Str {
     text: String,
+}
+
+// One call wherever a text is let go.
+impl Drop for Str {
+    fn drop(self) {
+        let Str { text: _ } = self;
+    }
 }
 
 impl Model for Str {
