@@ -692,7 +692,10 @@ test("of a long page what would change is asked for behind the typing", { skip }
  */
 const MOST_SECONDS = 5;
 
-/** The same of processor time, of the page and the server together: other work makes it longer, too. */
+/**
+ * The same of processor time, of the page and the server together: other work makes it longer, too. On a slower
+ * machine than those all of these are as much longer as its loop is (clock.js).
+ */
 const MOST_WORK = 8;
 
 /**
@@ -707,11 +710,12 @@ const MOST_WORK = 8;
 async function takesSeconds(name, context, prepare, action, most = MOST_SECONDS) {
   for (let left = 3; ; left -= 1) {
     await prepare();
-    const { clock, stretch, page, server: programs } = await measured(tab, server, action);
+    const { clock, stretch, slowness, page, server: programs } = await measured(tab, server, action);
     const seconds = [clock, page, programs].map((time) => `${time.toFixed(2)} s`);
     const text = `${seconds[0]}, of work ${seconds[1]} here and ${seconds[2]} there`;
-    context.diagnostic(`${name}: ${text}; the machine stretches time by ${stretch.toFixed(1)}`);
-    if (clock <= most * stretch && page + programs <= MOST_WORK) return;
+    const slow = `the machine stretches time by ${stretch.toFixed(1)}, and work by ${slowness.toFixed(1)}`;
+    context.diagnostic(`${name}: ${text}; ${slow}`);
+    if (clock <= most * stretch * slowness && page + programs <= MOST_WORK * slowness) return;
     assert.ok(left > 1, `${name} takes too long: ${text}`);
   }
 }
@@ -758,7 +762,7 @@ test("a page of 1 MiB is opened, shows its changes, is stored", { skip }, async 
   const emptied = await measured(tab, server, () => tab.press("Control+a", "Backspace"));
   context.diagnostic(`deleting all: ${emptied.clock.toFixed(2)} s, of work ${emptied.page.toFixed(2)} s`);
   assert.equal(await shown(), "");
-  assert.ok(emptied.page < 2 * MOST_WORK);
+  assert.ok(emptied.page < 2 * MOST_WORK * emptied.slowness);
   await tab.press("Control+z");
   assert.equal(await save(), "Nothing was changed.");
 });

@@ -9,6 +9,7 @@ import { HtmlRefused, Offsets, describe, hrefOf, isChanged, open } from "../bugh
 import { prepareSave, rangeOf, renew, save } from "../bughtiso.js";
 import { Part, read } from "../lib/markup.js";
 import { Original } from "../lib/original.js";
+import { outOfProportion } from "./clock.js";
 import { randomFrom } from "./mutations.js";
 import { SmallDocument } from "./small_dom.js";
 import { Wiki, examplePages, findProgram, outsideDocuments } from "./pages.js";
@@ -916,12 +917,13 @@ test("outside documents are renewed, each in the place of another", (context) =>
 
 test("many blocks of which others come and go are renewed in time in proportion", () => {
   const block = (/** @type {number} */ at) => `<p id="mw${at + 1}">a <b>${at}</b></p>`;
-  const blocks = (/** @type {number} */ step) => Array.from({ length: 20000 }, (_, at) => block(at * step));
-  const root = opened(page(blocks(2).join("\n")));
-  const start = process.cpuUsage();
-  renew(root, page(blocks(3).join("\n")));
-  assert.ok(process.cpuUsage(start).user < 6e6); // microseconds
-  assert.equal(save(root), page(blocks(3).join("\n")));
+  /** @type {(count: number, step: number) => string} */
+  const blocks = (count, step) => page(Array.from({ length: count }, (_, at) => block(at * step)).join("\n"));
+  const prepare = (/** @type {number} */ count) => ({ root: opened(blocks(count, 2)), html: blocks(count, 3) });
+  assert.equal(outOfProportion(5000, prepare, ({ root, html }) => renew(root, html)), "");
+  const { root, html } = prepare(1000);
+  renew(root, html);
+  assert.equal(save(root), html);
 });
 
 test("new and removed blocks mark the body", () => {
@@ -940,13 +942,13 @@ test("saving leaves the DOM as it is", () => {
 
 test("many blocks in another order take time in proportion", () => {
   const block = (/** @type {number} */ at) => `<p id="mw${2 * at + 1}">a <b id="mw${2 * at + 2}">b</b></p>`;
-  const blocks = Array.from({ length: 20000 }, (_, at) => block(at));
-  const root = opened(page(blocks.join("\n")));
-  root.replaceChildren(...root.childNodes.reverse());
-  const start = process.cpuUsage();
-  const html = save(root, { marks: true });
-  assert.ok(process.cpuUsage(start).user < 3e6); // microseconds
-  assert.equal(html.match(/<p>/g)?.length, 19999);
+  const prepare = (/** @type {number} */ count) => {
+    const root = opened(page(Array.from({ length: count }, (_, at) => block(at)).join("\n")));
+    root.replaceChildren(...root.childNodes.reverse());
+    return root;
+  };
+  assert.equal(outOfProportion(5000, prepare, (root) => save(root, { marks: true })), "");
+  assert.equal(save(prepare(20000), { marks: true }).match(/<p>/g)?.length, 19999);
 });
 
 test("copies of a number beside a large block are looked into once each", () => {
@@ -1032,15 +1034,15 @@ test("the name of a comment is what stands between its signs", () => {
 });
 
 test("a run of blanks is looked through once", () => {
-  const blanks = " ".repeat(100_000);
-  const start = process.cpuUsage();
-  assert.equal(nameOfComment(`<!--a${blanks}b-->`), `a${blanks}b`);
-  assert.equal(saved("<p>x</p>", `<p>x</p><p><b>a${blanks}b</b></p>`), `<p>x</p><p><b>a${blanks}b</b></p>`);
   const list = '<ul id="mw1"><li id="mw2">a</li></ul>';
-  const item = `a${blanks}b`;
-  assert.ok(saved(list, list.replace("a</li>", `${item}</li>`), true).includes(`>${item}</li>`));
-  assert.ok(saved("<p>x</p>", `<p>x<a href="./A${blanks}B">y</a></p>`).includes('href="./A'));
-  assert.ok(process.cpuUsage(start).user < 2e6); // microseconds
+  const look = (/** @type {string} */ blanks) => {
+    assert.equal(nameOfComment(`<!--a${blanks}b-->`), `a${blanks}b`);
+    assert.equal(saved("<p>x</p>", `<p>x</p><p><b>a${blanks}b</b></p>`), `<p>x</p><p><b>a${blanks}b</b></p>`);
+    const item = `a${blanks}b`;
+    assert.ok(saved(list, list.replace("a</li>", `${item}</li>`), true).includes(`>${item}</li>`));
+    assert.ok(saved("<p>x</p>", `<p>x<a href="./A${blanks}B">y</a></p>`).includes('href="./A'));
+  };
+  assert.equal(outOfProportion(50_000, (count) => " ".repeat(count), look), "");
 });
 
 test("links to titles", () => {

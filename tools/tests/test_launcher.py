@@ -22,11 +22,10 @@ class Current(unittest.TestCase):
         self.source.write_text("fn main() {}\n")
         (self.clone / "crates.txt").write_text("wtround:\n")
         shutil.copy(TOOLS.parent / "wtround", self.clone / "wtround")
-        time.sleep(0.05)
-        program = self.clone / "crates/wtround/out/wtround"
-        program.parent.mkdir()
-        program.write_text(STAND_IN)
-        program.chmod(0o755)
+        self.program = self.clone / "crates/wtround/out/wtround"
+        self.program.parent.mkdir()
+        self.program.write_text(STAND_IN)
+        self.program.chmod(0o755)
 
     def run_it(self) -> subprocess.CompletedProcess[str]:
         environment = {"PATH": "/usr/bin:/bin", "XDG_CACHE_HOME": str(self.clone / "cache")}
@@ -36,9 +35,10 @@ class Current(unittest.TestCase):
         self.assertEqual(self.run_it().stdout, "this one\n")
 
     def test_other_sources_with_an_older_time_have_no_program(self) -> None:
-        time.sleep(0.05)
-        self.source.write_text("fn main() { other() }\n")
-        os.utime(self.source, (1, 1))
+        while self.source.stat().st_ctime_ns <= self.program.stat().st_mtime_ns:  # up to a step of the clock of files
+            time.sleep(0.01)
+            self.source.write_text("fn main() { other() }\n")
+            os.utime(self.source, (1, 1))
         done = self.run_it()
         self.assertEqual(done.returncode, 127)
         self.assertNotIn("this one", done.stdout)

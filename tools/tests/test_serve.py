@@ -7,7 +7,7 @@ import sys
 import unittest
 from html.parser import HTMLParser
 from urllib.parse import unquote, urlencode
-from urllib.request import urlopen
+from urllib.request import ProxyHandler, build_opener
 
 from loading import REPOSITORY, TOOLS
 from serving_case import PROGRAM, ServingCase, edited, run_program
@@ -421,7 +421,7 @@ class Command(unittest.TestCase):
             try:
                 if not address:
                     self.skipTest("this machine has no address of IPv6")
-                with urlopen(address + "titles", timeout=120) as answer:
+                with build_opener(ProxyHandler({})).open(address + "titles", timeout=120) as answer:
                     self.assertEqual(len(json.load(answer)["titles"]), len(EXAMPLES))
             finally:
                 process.terminate()

@@ -14,6 +14,11 @@ from serving.program import Program
 
 class Allocators(ServingCase):
     def setUp(self) -> None:
+        own = mock.patch.dict(os.environ)  # whoever runs the tests has set nothing
+        own.start()
+        self.addCleanup(own.stop)
+        for name in ("LD_PRELOAD", "GLIBC_TUNABLES", "MIMALLOC_LARGE_OS_PAGES"):
+            os.environ.pop(name, None)
         super().setUp()
         environment.cache_clear()
         self.addCleanup(environment.cache_clear)
@@ -26,7 +31,7 @@ class Allocators(ServingCase):
     def test_a_machine_without_the_library(self) -> None:
         found = self.found(None, GLIBC_TUNABLES="glibc.malloc.check=0")
         self.assertEqual(found["GLIBC_TUNABLES"], f"glibc.malloc.check=0:{TUNABLE}")
-        self.assertEqual(found.get("LD_PRELOAD"), os.environ.get("LD_PRELOAD"))
+        self.assertIsNone(found.get("LD_PRELOAD"))
 
     def test_a_library_that_cannot_be_loaded(self) -> None:
         self.assertEqual(self.found("libnothing-of-this-name.so.1").get("LD_PRELOAD"), None)
@@ -55,14 +60,12 @@ class Allocators(ServingCase):
         with tempfile.TemporaryDirectory() as folder:
             told = Path(folder) / "told"
             script = Path(folder) / "program"
-            script.write_text(f'#!/bin/sh\necho "$GLIBC_TUNABLES" >{told}\necho "bytes 1"\n')
+            script.write_text(f'#!/bin/sh\necho "$GLIBC_TUNABLES" >"{told}"\necho "bytes 1"\n')
             script.chmod(0o755)
             for is_quick, wanted in ((True, TUNABLE), (False, "")):
                 program = Program(str(script), str(self.pages), is_quick=is_quick)
                 self.addCleanup(program.close)
-                with mock.patch.dict(os.environ):
-                    os.environ.pop("GLIBC_TUNABLES", None)
-                    program.html("Opava")
+                program.html("Opava")
                 self.assertEqual(told.read_text().strip(), wanted)
         self.assertNotIn(TUNABLE, os.environ.get("GLIBC_TUNABLES", ""))
 

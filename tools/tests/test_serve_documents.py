@@ -5,7 +5,6 @@ import difflib
 import json
 import random
 import re
-import time
 import unittest
 from html.parser import HTMLParser
 from pathlib import Path
@@ -14,6 +13,7 @@ from unittest import mock
 
 from loading import REPOSITORY
 from serving_case import ServingCase
+from timing import TimedCase
 
 from serving import differences, documents, fingerprints
 from serving.mending import marked, mended
@@ -272,7 +272,7 @@ class Mending(unittest.TestCase):
 # ---------------------------------------------------------------- other parts
 
 
-class Diffs(unittest.TestCase):
+class Diffs(TimedCase):
     def patched(self, old: str, diff: str) -> str:
         """The new text, by the diff."""
         lines, out, at = differences.lines_of(old), [], 0
@@ -312,25 +312,33 @@ class Diffs(unittest.TestCase):
         self.assertEqual(differences.unified("", "b\n", "x"), "--- x\n+++ x\n@@ -0,0 +1 @@\n+b\n")
         self.assertEqual(differences.unified("a\n", "a\n", "x"), "")
 
-    def test_long_texts_take_little_time(self) -> None:
+    def test_long_texts_take_time_in_proportion(self) -> None:
         for line in ("same\n", "line {}\n"):
-            old = "".join(line.format(k) for k in range(100_000))
-            new = "first\n" + old.replace("line 500\n", "line x\n") + "last\n"
-            began = time.process_time()
-            differences.unified(old, new, "x")
-            self.assertLess(time.process_time() - began, 5)
 
-    def test_all_paragraphs_under_many_headings_take_little_time(self) -> None:
+            def two_texts(count: int) -> Tuple[str, str]:
+                old = "".join(line.format(k) for k in range(count))
+                return old, "first\n" + old.replace("line 500\n", "line x\n") + "last\n"
+
+            with self.subTest(line=line):
+                self.assert_time_in_proportion(
+                    lambda texts: differences.unified(*texts, "x"), two_texts, 25_000
+                )
+
+    def test_all_paragraphs_under_many_headings_take_time_in_proportion(self) -> None:
         def section(number: int, word: str) -> str:
             return f"== {number} ==\n" + "".join(f"{word} {k % 3}\n\n" for k in range(199))
 
-        old, new = ("".join(section(k, word) for k in range(50)) for word in ("was", "is"))
-        began = time.process_time()
-        self.assertEqual(self.patched(old, differences.unified(old, new, "x")), new)
-        self.assertLess(time.process_time() - began, 5)
+        def two_texts(count: int) -> List[str]:
+            return ["".join(section(k, word) for k in range(count)) for word in ("was", "is")]
+
+        def compare(texts: List[str]) -> None:
+            old, new = texts
+            self.assertEqual(self.patched(old, differences.unified(old, new, "x")), new)
+
+        self.assert_time_in_proportion(compare, two_texts, 25)
 
 
-class Tags(unittest.TestCase):
+class Tags(TimedCase):
     def test_marks(self) -> None:
         for text, is_marked in {
             '<p id="mw1" data-wt-edit="content">': True, "<p\ndata-wt-edit = ''/>": True, "<p data-wt-edit=x>": True,
@@ -354,14 +362,15 @@ class Tags(unittest.TestCase):
 
     def test_they_take_time_in_proportion(self) -> None:
         for piece in (b"<", b"<a ", b"<a '", b"<a \"'", b"<!--", b"<a x='", b"<aa", b"<a data-wt-edit", b"<a id=mw1"):
-            text = piece * (1_000_000 // len(piece)) + b"data-wt-edit"
-            began = time.process_time()
-            bears_mark(text)
-            list(numbers(text))
-            self.assertLess(time.process_time() - began, 5)
+            with self.subTest(piece=piece):
+                self.assert_time_in_proportion(
+                    lambda text: (bears_mark(text), list(numbers(text))),
+                    lambda length: piece * (length // len(piece)) + b"data-wt-edit",
+                    250_000,
+                )
 
 
-class Calls(unittest.TestCase):
+class Calls(TimedCase):
     def test_names(self) -> None:
         for text, names in {
             "{{a}} {{ A | b }} {{a_b\n|x}}": ("Template:A", "Template:A b"),
@@ -375,10 +384,13 @@ class Calls(unittest.TestCase):
                 self.assertEqual(fingerprints.names_in(text.encode()), names)
 
     def test_names_take_time_in_proportion(self) -> None:
-        for text in (b"{" * 500_000, b"a <no" + b"a" * 500_000, b"{{" + b" " * 500_000, b"<!--" * 100_000):
-            began = time.process_time()
-            self.assertEqual(fingerprints.names_in(text), ())
-            self.assertLess(time.process_time() - began, 5)
+        for front, piece in ((b"", b"{"), (b"a <no", b"a"), (b"{{", b" "), (b"", b"<!--")):
+            with self.subTest(front=front, piece=piece):
+                self.assert_time_in_proportion(
+                    lambda text: self.assertEqual(fingerprints.names_in(text), ()),
+                    lambda count: front + piece * count,
+                    125_000,
+                )
 
     def test_names_that_are_remembered(self) -> None:
         """The pages that were looked at last, up to a number of names in all."""

@@ -64,8 +64,9 @@ class KnownStates(ServingCase):
             self.settle()
 
     def test_directly_after_a_file_was_written_nothing_is_kept(self) -> None:
-        (self.pages / "New.wiki").write_text("x")
-        with mock.patch.object(time, "time_ns", return_value=time.time_ns()):
+        path = self.pages / "New.wiki"
+        path.write_text("x")
+        with mock.patch.object(time, "time_ns", return_value=path.stat().st_ctime_ns):
             self.assertEqual([self.runs()[2], self.runs()[2]], [1, 1])
 
     def test_files_that_were_written_unseen(self) -> None:

@@ -10,7 +10,7 @@ from hashlib import blake2b
 from typing import Callable, Iterable, Iterator
 
 from .results import Known, Result
-from .wiki import Entry, ExportedPage, ExportReader, Namespaces, Skipped, link_in_wiki, quoted
+from .wiki import Entry, ExportedPage, ExportReader, Namespaces, Skipped, link_in_wiki, quoted_path
 
 FORMAT = "1"
 LOG_PAGES = 10_000  # of SQLite, 41 MB: at so many what was committed is brought into the file, which is waited for
@@ -285,7 +285,7 @@ class Export:
     def __init__(self, store_path: str, export_path: str) -> None:
         self.path = export_path
         self._connection = sqlite3.connect(
-            f"file:{quoted(store_path)}?mode=ro", uri=True, isolation_level=None
+            f"file:{quoted_path(store_path)}?mode=ro", uri=True, isolation_level=None
         )
         self._base = (self._one("SELECT value FROM about WHERE name = 'base'") or ("",))[0]
 

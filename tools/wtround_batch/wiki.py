@@ -46,6 +46,13 @@ def quoted(text: str, safe: str = "/") -> str:
     return quote(text, safe)
 
 
+def quoted_path(path: str) -> str:
+    """The path of a file as a part of an address, whatever bytes it has."""
+    from urllib.parse import quote
+
+    return quote(os.fsencode(path))
+
+
 def full_name(text: str) -> str:
     """The full name of the page to which a title leads. Raises BadTitle where it leads to none."""
     title = importer.read_title(text)
@@ -193,7 +200,7 @@ class Folder:
             raise error
 
     def link(self, title: str, report_folder: str) -> str:
-        return quoted(os.path.relpath(self.file_of(title), report_folder))
+        return quoted_path(os.path.relpath(self.file_of(title), report_folder))
 
     def close(self) -> None:
         """Nothing is held open."""

@@ -62,10 +62,10 @@ all_quiet (b ∷ bs) h = All-cons IsQuiet b bs (wide_quiet b (All-head IsWide b 
 -- ---- what is put, and what is typed
 
 -- `word` says whether a letter, digit or `_` may come before it
-abbrev Follows : Context → Bool → List Glyph → Cut → Type 0
+abbrev pub Follows : Context → Bool → List Glyph → Cut → Type 0
 Follows cx word more c = (a : Bool) → (a ≡ true → word ≡ true) → cuts cx a 0 more ≡ c
 
-guard_follows : (cx : Context) (word u : Bool) (more : List Glyph) (c : Cut) → Follows cx (not u && word) more c
+pub guard_follows : (cx : Context) (word u : Bool) (more : List Glyph) (c : Cut) → Follows cx (not u && word) more c
     → Follows cx word (guard_glyphs u ++ more) (guard_cut u c)
 guard_follows cx word true more c f a h = ap (add_tile (leaf kind.Atom 1)) (f false (λ z. cc))
 guard_follows cx word false more c f a h = f a h
@@ -80,7 +80,7 @@ plain_follows cx a d more c e f = elim (cases_lt d 128) [
   | inr wide ↦ quiet_cuts cx a (encode_utf8 d) more c (all_quiet (encode_utf8 d) (encode_wide d wide)) (encode_some d) (f false (λ z. cc))
 ]
 
-letter_follows : (cx : Context) (word e : Bool) (d : ℕ) (more : List Glyph) (c : Cut)
+pub letter_follows : (cx : Context) (word e : Bool) (d : ℕ) (more : List Glyph) (c : Cut)
     → (e ≡ false → (a : Bool) → form_at cx a (glyph.Byte d ∷ more) ≡ None) → Follows cx (is_word d) more c
     → Follows cx word (letter_glyphs e d ++ more) (letter_cut e d c)
 letter_follows cx word true d more c n f a h = ap (add_tile (leaf kind.Atom 1)) (f false (λ z. cc))
@@ -111,7 +111,7 @@ delimiter_follows cx a own behind c is f = elim is [
   | inr i ↦ delimiter_cuts cx a (39 ∷ 39 ∷ 39 ∷ []) own behind c i (All-cons IsQuiet 39 (39 ∷ 39 ∷ []) quiet_apostrophe two_quiet) (omega arith) refl f
 ]
 
-form_follows : (cx : Context) (a : Bool) (w : Shape) (own behind : List Glyph) (c : Cut) → size w ≡ length own → form_before cx a own behind ≡ Some w
+pub form_follows : (cx : Context) (a : Bool) (w : Shape) (own behind : List Glyph) (c : Cut) → size w ≡ length own → form_before cx a own behind ≡ Some w
     → Follows cx (ends_word false own) behind c → cuts cx a 0 (own ++ behind) ≡ add_tile w c
 form_follows cx a w [] behind c e k f = cc
 form_follows cx a w (g ∷ gs) behind c e k f =
@@ -121,7 +121,7 @@ form_follows cx a w (g ∷ gs) behind c e k f =
     ∙ ap (λ (m : ℕ). add_tile w (again m)) left
     ∙ ap (add_tile w) (skipped cx (is_in is_word g) gs behind ∙ f (ends_word (is_in is_word g) gs) (λ z. z))
 
-node_follows : (cx : Context) (word : Bool) (o : Option Shape) (own behind : List Glyph) (c : Cut) → StandsAs o cx word own behind
+pub node_follows : (cx : Context) (word : Bool) (o : Option Shape) (own behind : List Glyph) (c : Cut) → StandsAs o cx word own behind
     → Follows cx (ends_word false own) behind c → Follows cx word (own ++ behind) (add_node o (length own) c)
 node_follows cx word None own behind c is f a h = delimiter_follows cx a own behind c is (f false (λ z. cc))
 node_follows cx word (Some w) own behind c is f a h = form_follows cx a w own behind c is.0 (is.1 a h) f

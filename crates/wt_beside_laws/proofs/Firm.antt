@@ -151,7 +151,7 @@ part_reads (sign b q) h = λ rest xs r. reads_byte b (q ++ rest) (page_chars q +
 part_reads (lexeme kind b q) h = λ rest xs r.
     reads_form kind b q rest xs (h.form rest) (uncommented_other b (q ++ rest) h.begins (h.uncommented rest)) r
 
-parts_read : (ps : List Part) → AreParts ps → ReadsAs (parts_source ps) (parts_items ps)
+pub parts_read : (ps : List Part) → AreParts ps → ReadsAs (parts_source ps) (parts_items ps)
 parts_read [] h = nothing_reads
 parts_read (p ∷ ps) h = both_read (part_source p) (parts_source ps) (part_items p) (parts_items ps) (part_reads p h.0) (parts_read ps h.1)
 

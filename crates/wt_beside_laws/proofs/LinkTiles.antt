@@ -78,7 +78,7 @@ pipe_stays n gs rest le =
     let size : length (drop n gs) ≡ length gs - n = length-drop n gs in
     ap (first_is (class.Only 124)) (drop-append-le n gs rest (omega (arith, le))) ∙ first_stays (class.Only 124) (drop n gs) rest (omega (arith, size, le))
 
-head_stays : (colon : Bool) (n : ℕ) (gs rest : List Glyph) → n + 1 ≤ length gs → head_len colon n (gs ++ rest) ≡ head_len colon n gs
+pub head_stays : (colon : Bool) (n : ℕ) (gs rest : List Glyph) → n + 1 ≤ length gs → head_len colon n (gs ++ rest) ≡ head_len colon n gs
 head_stays colon n gs rest le =
     ap₂ (λ (u v : Bool). if u then n + 1 else (if colon && v then 1 else 0)) (pipe_stays n gs rest le) (first_stays (class.Only 58) gs rest (omega (arith, le)))
 

@@ -16,7 +16,7 @@ use Rattle.wt_beside_laws.proofs.LinkTiles.{place_stays, near_two, near_target, 
 use Rattle.wt_tiles.specs.Partners.{DepthChange, Up, Down, Level, bracket_turn, by_bracket, balanced}
 
 -- of two items and more
-turn_stays : (g h : Glyph) (gs rest : List Glyph) → bracket_turn (g ∷ h ∷ (gs ++ rest)) ≡ bracket_turn (g ∷ h ∷ gs)
+pub turn_stays : (g h : Glyph) (gs rest : List Glyph) → bracket_turn (g ∷ h ∷ (gs ++ rest)) ≡ bracket_turn (g ∷ h ∷ gs)
 unfolding bracket_turn
 turn_stays g h gs rest = refl
 
@@ -24,7 +24,7 @@ or_empty : Option (List Glyph) → List Glyph
 or_empty None = []
 or_empty (Some gs) = gs
 
-same_list : (us vs : List Glyph) → Some us ≡ Some vs → us ≡ vs
+pub same_list : (us vs : List Glyph) → Some us ≡ Some vs → us ≡ vs
 unfolding or_empty
 same_list us vs e = ap or_empty e
 

@@ -1,12 +1,13 @@
 -- Worked cases: what nodes are to their neighbours, and a URL between two letters.
-use Rattle.std.proofs.Common.{arith, ◌≡◌, true, false, None, [], ◌∷◌, refl, inr}
+use Rattle.std.proofs.Common.{arith, ◌≡◌, true, false, None, [], ◌∷◌, refl, inl, inr}
 use Rattle.std.specs.Prelude.{codes}
 use Rattle.wt_tree.specs.declared.edit_shape.Place.TheVariants.{Paragraph}
+use Rattle.wt_span.specs.declared.tag_name.TagName.TheVariants as name
 use Rattle.wt_guards.specs.declared.role.Role.TheVariants.{Bare}
 use Rattle.wt_guards.specs.Content.{Thing, letter, thing}
 use Rattle.wt_guards.specs.Guards.{Setting, is_guarded, is_between_guard, is_start_guard, is_end_guard, is_blank_guard}
 use Rattle.wt_guards.specs.Table.{hazard, line_start_hazard}
-use Rattle.wt_tiles.specs.declared.tag.Name.TheVariants.{Break}
+use Rattle.wt_tiles.specs.declared.tag.Name.TheVariants.{Paired, Break}
 use Rattle.wt_tiles.specs.declared.tag.TagShape.TheVariants.{Opening}
 use Rattle.wt_tiles.specs.Glyphs.{byte_glyphs}
 use Rattle.wt_tiles.specs.Tags.{tag_at, opening_tag, closing_tag, tag_after, name_of, live_name}
@@ -31,7 +32,17 @@ bold_quotes = inr refl
 
 break_tag : IsTagNode (byte_glyphs (codes "<br>"))
 unfolding tag_at opening_tag closing_tag tag_after name_of live_name
-break_tag = record { named = record { name = Break; shape = Opening; len = 4 }; others = byte_glyphs (codes "br>"); is = refl; tagged = refl; lone = tt; whole = refl }
+break_tag = record { named = record { name = Break; shape = Opening; len = 4 }; others = byte_glyphs (codes "br>"); is = refl; tagged = refl; ends = inl (tt, refl) }
+
+small_pair : IsTagNode (byte_glyphs (codes "<sub>2</sub>"))
+unfolding tag_at opening_tag closing_tag tag_after name_of live_name
+small_pair = record {
+  named = record { name = Paired name.Sub; shape = Opening; len = 5 };
+  others = byte_glyphs (codes "sub>2</sub>");
+  is = refl;
+  tagged = refl;
+  ends = inr (record { name = name.Sub; paired = refl; opens = refl; last = byte_glyphs (codes "</sub>"); closing = refl; ends = refl; within = omega arith });
+}
 
 -- `x`, a URL and `y`: `<nowiki/>` is put on both sides
 abbrev in_paragraph : Setting

@@ -32,7 +32,7 @@ no_scheme : (b : ℕ) (gs : List Glyph) → (to_ascii_lowercase b == 104) ≡ fa
 unfolding scheme_len
 no_scheme b gs e f = rw (e, f) refl
 
-no_url : (b : ℕ) (gs : List Glyph) (w : Shape) → (to_ascii_lowercase b == 104) ≡ false → (to_ascii_lowercase b == 102) ≡ false
+pub no_url : (b : ℕ) (gs : List Glyph) (w : Shape) → (to_ascii_lowercase b == 104) ≡ false → (to_ascii_lowercase b == 102) ≡ false
     → bare_url_at false (glyph.Byte b ∷ gs) ≡ Some w → true ≡ false
 no_url b gs w e f is =
     let no : None ≡ Some w = sym (bare_none false (glyph.Byte b ∷ gs) (no_scheme b gs e f)) ∙ is in cc
@@ -136,12 +136,12 @@ node_switches (Group g) own n = absurd n
 node_switches Function own n = lexeme_switches own n
 node_switches Node own n = other_switches own n
 
-all_urls : (signs : List ContentSign) → AreNodes signs → AllAvoid signs
+pub all_urls : (signs : List ContentSign) → AreNodes signs → AllAvoid signs
 all_urls [] n = tt
 all_urls (letter c ∷ after) n = all_urls after n
 all_urls (thing t ∷ after) n = (node_urls t.role (own_glyphs t) n.0, all_urls after n.1)
 
-all_switches : (signs : List ContentSign) → AreNodes signs → AllAvoidSwitches signs
+pub all_switches : (signs : List ContentSign) → AreNodes signs → AllAvoidSwitches signs
 all_switches [] n = tt
 all_switches (letter c ∷ after) n = all_switches after n
 all_switches (thing t ∷ after) n = (node_switches t.role (own_glyphs t) n.0, all_switches after n.1)

@@ -108,7 +108,7 @@ atom_may (Group g) = tt
 atom_may Function = tt
 atom_may Node = tt
 
-none_before : (r : Role) → MayLead r false
+pub none_before : (r : Role) → MayLead r false
 none_before Link = tt
 none_before External = tt
 none_before (Bare ends) = refl
@@ -129,7 +129,7 @@ node_first r (g ∷ gs) more h f = f
 
 -- ---- all of them
 
-follows : (s : Setting) (t : Thing) (before after : List ContentSign) (rest : List Glyph) → AllAvoid after → AllMeet s (thing t ∷ before) after rest
+pub follows : (s : Setting) (t : Thing) (before after : List ContentSign) (rest : List Glyph) → AllAvoid after → AllMeet s (thing t ∷ before) after rest
     → MayFollow t.role (content_glyphs s (thing t ∷ before) after rest)
 follows s t before [] rest h m =
     guard_may t.role (is_guarded s (thing t ∷ before) []) rest (λ e. subst (λ u. MeetAt u (thing t ∷ before) [] rest) e m)
@@ -143,7 +143,7 @@ follows s t before (thing n ∷ after) rest h m =
     guard_may t.role (is_guarded s (thing t ∷ before) (thing n ∷ after)) (own_glyphs n ++ more)
     (λ z. node_first t.role (own_glyphs n) more h.0 (subst (λ u. MeetAt u (thing t ∷ before) (thing n ∷ after) rest) z m.0).0)
 
-leads_by : (s : Setting) (t : Thing) (before after : List ContentSign) (rest : List Glyph) (u : Bool) → is_guarded s before (thing t ∷ after) ≡ u
+pub leads_by : (s : Setting) (t : Thing) (before after : List ContentSign) (rest : List Glyph) (u : Bool) → is_guarded s before (thing t ∷ after) ≡ u
     → MeetAt u before (thing t ∷ after) rest → MayLead t.role (not u && is_word_last before)
 leads_by s t before after rest true e m = none_before t.role
 leads_by s t [] after rest false e m = none_before t.role

@@ -1,6 +1,8 @@
 -- Nodes that stay are the same tiles beside text that is typed and beside each other.
-use Rattle.std.proofs.Common.{arith, ◌≡◌, ℕ, ◌+◌, ◌≤◌, ◌==◌, Bool, true, false, Some, None, List, [], ◌∷◌, ◌++◌, length, refl, sym, ap, ◌∙◌, subst, inl, inr, ◌⊎◌, All}
+use Rattle.std.proofs.Common.{arith, ◌≡◌, ℕ, suc, ◌+◌, ◌-◌, ◌≤◌, ◌==◌, Bool, true, false, Option, Some, None, List, [], ◌∷◌, ◌++◌, length, drop, refl, sym, ap, ap₂, ◌∙◌, subst, inl, inr, ◌⊎◌, All}
+use Rattle.std.proofs.lemmas.List.{drop-append-le, length-append, length-drop}
 use Rattle.std.proofs.lemmas.List.Elements.{All-nil, All-cons, All-contains}
+use Rattle.wt_span.specs.declared.tag_name.TagName.{TagName}
 use Rattle.wt_guards.specs.declared.role.Role.{Role}
 use Rattle.wt_guards.specs.declared.role.Role.TheVariants.{Link, External, Bare, Switch, Toggle, Mark, Group, Function, Node}
 use Rattle.wt_tiles.specs.declared.glyph.Glyph.{Glyph}
@@ -17,13 +19,15 @@ use Rattle.wt_tiles.specs.Contexts.{in_line}
 use Rattle.wt_tiles.specs.Glyphs.{first_is, byte_glyphs}
 use Rattle.wt_tiles.specs.Links.{leaf, link_at}
 use Rattle.wt_tiles.specs.Tags.{opening_tag, closing_tag, tag_at}
-use Rattle.wt_tiles.specs.Tiles.{size, shape_of_tag, link_or_url, tag_tile, switch_names, switch_at, form_at}
+use Rattle.wt_tiles.specs.Partners.{number, partner}
+use Rattle.wt_tiles.specs.Tiles.{size, len_of, pair_or_island, shape_of_tag, link_or_url, tag_tile, switch_names, switch_at, form_at}
 use Rattle.wt_tiles.specs.Urls.{scheme_len, ext_link_at, bare_url_at}
 use Rattle.wt_beside_laws.specs.Cuts.{own_form, form_before, StandsAs, Stands}
-use Rattle.wt_beside_laws.specs.Nodes.{IsLinkNode, IsExternalNode, IsBareNode, IsSwitchNode, IsDelimiter, IsOneLexeme, IsNode, MayFollow, MayLead, IsLone, IsTagNode, IsCategoryNode, IsMediaNode}
+use Rattle.wt_beside_laws.specs.Nodes.{IsLinkNode, IsExternalNode, IsBareNode, IsSwitchNode, IsDelimiter, IsOneLexeme, IsNode, MayFollow, MayLead, IsLone, IsPair, IsTagNode, IsCategoryNode, IsMediaNode}
 use Rattle.wt_beside_laws.specs.Tiles.{IsPastUrl}
 use Rattle.wt_beside_laws.proofs.LinkTiles.{link_stays, category_stays}
 use Rattle.wt_beside_laws.proofs.MediaTiles.{media_stays}
+use Rattle.wt_beside_laws.proofs.PairTiles.{closing_stays, partner_short, partner_stays, partner_tag}
 use Rattle.wt_beside_laws.proofs.TagTiles.{tag_stays}
 use Rattle.wt_beside_laws.proofs.UrlTiles.{ext_stays, bare_stays}
 use Rattle.wt_tiles.proofs.TagInsides.{no_form}
@@ -234,7 +238,7 @@ lone_shape Break Alone n gs us l = refl
 lone_shape Break Closing n gs us l = refl
 lone_shape Island h n gs us l = refl
 
-lone_size : (m : Name) (h : TagShape) (n : ℕ) (gs : List Glyph) → IsLone m h → size (shape_of_tag 0 m h n gs) ≡ n
+pub lone_size : (m : Name) (h : TagShape) (n : ℕ) (gs : List Glyph) → IsLone m h → size (shape_of_tag 0 m h n gs) ≡ n
 lone_size (Paired m) Opening n gs l = absurd l
 lone_size (Paired m) Alone n gs l = omega arith
 lone_size (Paired m) Closing n gs l = omega arith
@@ -252,19 +256,59 @@ by_less : (a : Bool) (gs : List Glyph) (t : Tag) → tag_at (glyph.Byte 60 ∷ g
     → form_at in_line a (glyph.Byte 60 ∷ gs) ≡ Some (shape_of_tag 0 t.name t.shape t.len (glyph.Byte 60 ∷ gs))
 by_less a gs t e = as_tag a (glyph.Byte 60 ∷ gs) t (no_link 60 gs refl) (no_external 60 gs refl) (no_bare_tag a gs) e
 
-tag_stands : (word : Bool) (own behind : List Glyph) → IsTagNode own → Holds word own behind
-tag_stands word own behind n =
-    let t : Tag = n.named in
-    let less : List Glyph = glyph.Byte 60 ∷ n.others in
-    subst (λ gs. Holds word gs behind) (sym n.is)
-    (record {
+lone_stands : (word : Bool) (t : Tag) (others behind : List Glyph) → tag_at (glyph.Byte 60 ∷ others) ≡ Some t → IsLone t.name t.shape → t.len ≡ suc (length others)
+    → Holds word (glyph.Byte 60 ∷ others) behind
+lone_stands word t others behind tagged lone whole =
+    let less : List Glyph = glyph.Byte 60 ∷ others in
+    record {
       shape = shape_of_tag 0 t.name t.shape t.len less;
-      alone = by_less false n.others t n.tagged;
-      whole = lone_size t.name t.shape t.len less n.lone ∙ n.whole ∙ ap length n.is;
+      alone = by_less false others t tagged;
+      whole = lone_size t.name t.shape t.len less lone ∙ whole;
       before = λ a h.
-          by_less a (n.others ++ behind) t (tag_stays less behind t n.tagged)
-          ∙ ap (λ (w : Shape). Some w) (lone_shape t.name t.shape t.len (less ++ behind) less n.lone);
-    })
+          by_less a (others ++ behind) t (tag_stays less behind t tagged)
+          ∙ ap (λ (w : Shape). Some w) (lone_shape t.name t.shape t.len (less ++ behind) less lone);
+    }
+
+-- the shape of a pair, by what is found of its closing tag
+opened_shape : (t : Tag) (m : TagName) (gs us : List Glyph) → t.name ≡ Paired m → t.shape ≡ Opening → partner (number m) 0 (drop t.len gs) ≡ Some us
+    → shape_of_tag 0 t.name t.shape t.len gs ≡ pair_or_island t.len (Some us) gs
+opened_shape t m gs us name opens found =
+    ap (λ (k : Name). shape_of_tag 0 k t.shape t.len gs) name
+    ∙ ap (λ (h : TagShape). shape_of_tag 0 (Paired m) h t.len gs) opens
+    ∙ ap (λ (o : Option (List Glyph)). pair_or_island t.len o gs) found
+
+pair_stands : (word : Bool) (t : Tag) (others behind : List Glyph) → tag_at (glyph.Byte 60 ∷ others) ≡ Some t → IsPair t (glyph.Byte 60 ∷ others)
+    → Holds word (glyph.Byte 60 ∷ others) behind
+pair_stands word t others behind tagged p =
+    let less : List Glyph = glyph.Byte 60 ∷ others in
+    let all : List Glyph = less ++ behind in
+    let left : length (drop t.len less) ≡ length less - t.len = length-drop t.len less in
+    let cut : drop t.len all ≡ drop t.len less ++ behind = drop-append-le t.len less behind p.within in
+    let long : length (drop t.len less ++ behind) ≡ length (drop t.len less) + length behind = length-append (drop t.len less) behind in
+    let last : length (p.last ++ behind) ≡ length p.last + length behind = length-append p.last behind in
+    let short : length p.last ≤ length (drop t.len less) = partner_short (number p.name) 0 (drop t.len less) p.last p.closing in
+    let size_of : length (drop t.len less ++ behind) - length (p.last ++ behind) ≡ length (drop t.len less) - length p.last = omega (arith, long, last, short) in
+    let found : partner (number p.name) 0 (drop t.len all) ≡ Some (p.last ++ behind) =
+    ap (partner (number p.name) 0) cut ∙ partner_stays (number p.name) 0 (drop t.len less) behind p.last p.closing in
+    let tag : tag_at (p.last ++ behind) ≡ tag_at p.last = closing_stays (tag_at p.last) p.last behind refl (partner_tag (number p.name) 0 (drop t.len less) p.last p.closing) in
+    let fits : t.len ≤ length less = p.within in
+    let end : len_of (tag_at p.last) ≡ length p.last = p.ends in
+    record {
+      shape = pair_or_island t.len (Some p.last) less;
+      alone = by_less false others t tagged ∙ ap (λ (w : Shape). Some w) (opened_shape t p.name less p.last p.paired p.opens p.closing);
+      whole = omega (arith, left, short, fits, end);
+      before = λ a h.
+          by_less a (others ++ behind) t (tag_stays less behind t tagged)
+          ∙ ap (λ (w : Shape). Some w) (opened_shape t p.name all (p.last ++ behind) p.paired p.opens found)
+          ∙ ap (λ (gs : List Glyph). Some (record { kind = kind.Pair; opening = t.len; inside = length gs - length (p.last ++ behind); closing = len_of (tag_at (p.last ++ behind)); trail = 0 })) cut
+          ∙ ap₂ (λ (n m : ℕ). Some (record { kind = kind.Pair; opening = t.len; inside = n; closing = m; trail = 0 })) size_of (ap len_of tag);
+    }
+
+tag_stands : (word : Bool) (own behind : List Glyph) → IsTagNode own → Holds word own behind
+tag_stands word own behind n = subst (λ gs. Holds word gs behind) (sym n.is) (elim n.ends [
+  | inl lone ↦ lone_stands word n.named n.others behind n.tagged lone.0 (lone.1 ∙ omega arith)
+  | inr pair ↦ pair_stands word n.named n.others behind n.tagged pair
+])
 
 category_stands : (word : Bool) (own behind : List Glyph) → IsCategoryNode own → Holds word own behind
 category_stands word own behind n =

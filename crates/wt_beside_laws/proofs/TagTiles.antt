@@ -15,11 +15,11 @@ use Rattle.wt_tiles.specs.Tags.{name_len, name_of, tag_of, is_inside, shape_of, 
 use Rattle.wt_beside_laws.proofs.LinkTiles.{first_stays}
 use Rattle.wt_beside_laws.proofs.UrlTiles.{run_within}
 
-if_tag : (v : Bool) (o : Option Tag) (t : Tag) → (if v then o else None) ≡ Some t → (v ≡ true) × (o ≡ Some t)
+pub if_tag : (v : Bool) (o : Option Tag) (t : Tag) → (if v then o else None) ≡ Some t → (v ≡ true) × (o ≡ Some t)
 if_tag true o t e = (refl, e)
 if_tag false o t e = cc
 
-both_true : (u v : Bool) → (u && v) ≡ true → (u ≡ true) × (v ≡ true)
+pub both_true : (u v : Bool) → (u && v) ≡ true → (u ≡ true) × (v ≡ true)
 both_true true v e = (refl, e)
 both_true false v e = cc
 
@@ -34,7 +34,7 @@ is_within k n gs e =
     let left : length (drop n gs) ≡ length gs - n = length-drop n gs in
     omega (arith, some, left)
 
-name_stays : (gs rest : List Glyph) → name_len gs < length gs → name_len (gs ++ rest) ≡ name_len gs
+pub name_stays : (gs rest : List Glyph) → name_len gs < length gs → name_len (gs ++ rest) ≡ name_len gs
 name_stays gs rest lt =
     ap (λ (v : Bool). if v then run_len class.Name (gs ++ rest) else 0) (first_stays class.Letter gs rest (omega (arith, lt)))
     ∙ by (first_is class.Letter gs) lt
@@ -129,7 +129,7 @@ slash glyph.Atom e = refl
 slash glyph.Mark e = refl
 
 -- a closing tag is no opening one
-closing_alone : (a b : Glyph) (hs : List Glyph) (t : Tag) → closing_tag (a ∷ b ∷ hs) ≡ Some t → in_class class.Letter b ≡ false
+pub closing_alone : (a b : Glyph) (hs : List Glyph) (t : Tag) → closing_tag (a ∷ b ∷ hs) ≡ Some t → in_class class.Letter b ≡ false
 unfolding closing_tag
 closing_alone a b hs t e =
     let n : ℕ = name_len hs in
@@ -139,7 +139,7 @@ closing_alone a b hs t e =
     let d = both_true (is_in (λ (x : ℕ). x == 60) a) (is_in (λ (x : ℕ). x == 47) b && true) c.0 in
     slash b (both_true (is_in (λ (x : ℕ). x == 47) b) true d.1).0
 
-no_opening : (a b : Glyph) (hs : List Glyph) → in_class class.Letter b ≡ false → opening_tag (a ∷ b ∷ hs) ≡ None
+pub no_opening : (a b : Glyph) (hs : List Glyph) → in_class class.Letter b ≡ false → opening_tag (a ∷ b ∷ hs) ≡ None
 unfolding opening_tag
 no_opening a b hs e = rw (e, and_none (first_is (class.Only 60) (a ∷ b ∷ hs))) refl
 

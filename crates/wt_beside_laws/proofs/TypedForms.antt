@@ -82,7 +82,7 @@ tag_other : (b : ℕ) (gs : List Glyph) → (b == 60) ≡ false → tag_at (glyp
 unfolding tag_at opening_tag closing_tag
 tag_other b gs e = rw e refl
 
-tag_none : (s : Setting) (before : List ContentSign) (c : ℕ) (after : List ContentSign) (rest : List Glyph) → is_escaped s.within s.place before c after ≡ false
+pub tag_none : (s : Setting) (before : List ContentSign) (c : ℕ) (after : List ContentSign) (rest : List Glyph) → is_escaped s.within s.place before c after ≡ false
     → tag_at (glyph.Byte c ∷ content_glyphs s (letter c ∷ before) after rest) ≡ None
 tag_none s before c after rest e =
     let P : ℕ → Type 0 = λ (k : ℕ). is_escaped s.within s.place before k after ≡ false → tag_at (glyph.Byte k ∷ content_glyphs s (letter k ∷ before) after rest) ≡ None in
@@ -188,7 +188,7 @@ underscore_none (g ∷ h ∷ gs) e = by (is_in (λ (b : ℕ). b == 95) g) refl
         (subst (λ x. switch_at (glyph.Byte 95 ∷ glyph.Byte 95 ∷ x ∷ gs) ≡ None) (sym other) (three_underscores gs))
     by false f = one_underscore g (h ∷ gs) f
 
-switch_none : (s : Setting) (before : List ContentSign) (c : ℕ) (after : List ContentSign) (rest : List Glyph) → AllAvoidSwitches after
+pub switch_none : (s : Setting) (before : List ContentSign) (c : ℕ) (after : List ContentSign) (rest : List Glyph) → AllAvoidSwitches after
     → is_lone_underscore rest ≡ false → switch_at (glyph.Byte c ∷ content_glyphs s (letter c ∷ before) after rest) ≡ None
 switch_none s before c after rest h e =
     let P : ℕ → Type 0 = λ (k : ℕ). switch_at (glyph.Byte k ∷ content_glyphs s (letter k ∷ before) after rest) ≡ None in
@@ -199,11 +199,11 @@ switch_none s before c after rest h e =
 
 -- ---- links and URLs
 
-link_none : (b : ℕ) (gs : List Glyph) → (b == 91) ≡ false → link_at (glyph.Byte b ∷ gs) ≡ None
+pub link_none : (b : ℕ) (gs : List Glyph) → (b == 91) ≡ false → link_at (glyph.Byte b ∷ gs) ≡ None
 unfolding link_at
 link_none b gs e = rw e refl
 
-external_none : (b : ℕ) (gs : List Glyph) → (b == 91) ≡ false → ext_link_at (glyph.Byte b ∷ gs) ≡ None
+pub external_none : (b : ℕ) (gs : List Glyph) → (b == 91) ≡ false → ext_link_at (glyph.Byte b ∷ gs) ≡ None
 unfolding ext_link_at
 external_none b gs e = rw e refl
 
@@ -214,7 +214,7 @@ bare_none false gs e = ap (λ (n : ℕ). bare_url_of n (kept_len (url_items gs))
 
 -- ---- all forms
 
-all_none : (cx : Context) (a : Bool) (gs : List Glyph) → link_at gs ≡ None → ext_link_at gs ≡ None → bare_url_at a gs ≡ None → tag_at gs ≡ None
+pub all_none : (cx : Context) (a : Bool) (gs : List Glyph) → link_at gs ≡ None → ext_link_at gs ≡ None → bare_url_at a gs ≡ None → tag_at gs ≡ None
     → switch_at gs ≡ None → form_at cx a gs ≡ None
 unfolding form_at link_or_url tag_tile
 all_none cx a gs l x b t s = rw (l, x, b, t, s, either cx.in_link) refl

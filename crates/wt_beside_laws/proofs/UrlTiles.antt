@@ -18,7 +18,7 @@ use Rattle.wt_beside_laws.proofs.LinkTiles.{place_by, same_shape, if_some}
 
 -- ---- places and runs that are decided by the first item
 
-abbrev IsOfFirst : (List Glyph → Bool) → Type 0
+abbrev pub IsOfFirst : (List Glyph → Bool) → Type 0
 IsOfFirst p = (g : Glyph) (gs rest : List Glyph) → p (g ∷ (gs ++ rest)) ≡ p (g ∷ gs)
 
 place_first : (stop bar : List Glyph → Bool) → IsOfFirst stop → IsOfFirst bar → (gs rest : List Glyph) (n : ℕ) → place stop bar gs ≡ Some n
@@ -49,12 +49,12 @@ and_none false = refl
 
 -- ---- how a URL begins
 
-like_stays : (word : List ℕ) (gs rest : List Glyph) → length word ≤ length gs → begins_like word (gs ++ rest) ≡ begins_like word gs
+pub like_stays : (word : List ℕ) (gs rest : List Glyph) → length word ≤ length gs → begins_like word (gs ++ rest) ≡ begins_like word gs
 like_stays [] gs rest le = refl
 like_stays (b ∷ word) [] rest le = absurd (omega (arith, le))
 like_stays (b ∷ word) (g ∷ gs) rest le = ap (λ (v : Bool). like_byte b g && v) (like_stays word gs rest (omega (arith, le)))
 
-scheme_stays : (gs rest : List Glyph) → 8 ≤ length gs → scheme_len (gs ++ rest) ≡ scheme_len gs
+pub scheme_stays : (gs rest : List Glyph) → 8 ≤ length gs → scheme_len (gs ++ rest) ≡ scheme_len gs
 unfolding scheme_len
 scheme_stays gs rest le =
     ap (λ (v : Bool). if v then 7 else (if begins_like (codes "https://") (gs ++ rest) then 8 else (if begins_like (codes "ftp://") (gs ++ rest) then 6 else 0)))
@@ -128,16 +128,16 @@ items_stay n gs rest le lt =
     ∙ take-append-le r us rest (omega (arith, lt))
 
 -- what its `[` and URL leave, and where its text ends
-record IsAfter (n : ℕ) (gs : List Glyph) (w : Shape) : Type 0 where
-  k : ℕ
-  text : text_len (drop (n + run_len class.Blank (drop n gs)) gs) ≡ Some k
-  is : ext_shape (n + run_len class.Blank (drop n gs)) k ≡ w
+pub record IsAfter (n : ℕ) (gs : List Glyph) (w : Shape) : Type 0 where
+  pub k : ℕ
+  pub text : text_len (drop (n + run_len class.Blank (drop n gs)) gs) ≡ Some k
+  pub is : ext_shape (n + run_len class.Blank (drop n gs)) k ≡ w
 
 after_made : (m : ℕ) (o : Option ℕ) (w : Shape) → option_map (ext_shape m) o ≡ Some w → (k : ℕ) × (o ≡ Some k) × (ext_shape m k ≡ w)
 after_made m None w e = cc
 after_made m (Some k) w e = (k, refl, same_shape (ext_shape m k) w e)
 
-is_after : (n : ℕ) (gs : List Glyph) (w : Shape) → ext_link_after n gs ≡ Some w → IsAfter n gs w
+pub is_after : (n : ℕ) (gs : List Glyph) (w : Shape) → ext_link_after n gs ≡ Some w → IsAfter n gs w
 is_after n gs w e =
     let m : ℕ = n + run_len class.Blank (drop n gs) in
     let r = after_made m (text_len (drop m gs)) w e in
@@ -158,7 +158,7 @@ after_stays n gs rest w le e =
     ∙ ap (λ (v : Shape). Some v) a.is
 
 -- both numbers are some
-both_some : (a b : ℕ) (o : Option Shape) (w : Shape) → (if nat_lt 0 a && nat_lt 0 b then o else None) ≡ Some w → (o ≡ Some w) × (1 ≤ a) × (1 ≤ b)
+pub both_some : (a b : ℕ) (o : Option Shape) (w : Shape) → (if nat_lt 0 a && nat_lt 0 b then o else None) ≡ Some w → (o ≡ Some w) × (1 ≤ a) × (1 ≤ b)
 both_some a b o w e = some_by (nat_lt 0 a) (nat_lt 0 b) refl refl e
   where
     some_by : (u v : Bool) → nat_lt 0 a ≡ u → nat_lt 0 b ≡ v → (if u && v then o else None) ≡ Some w → (o ≡ Some w) × (1 ≤ a) × (1 ≤ b)
@@ -172,7 +172,7 @@ scheme_by false true c le = omega arith
 scheme_by false false true le = omega arith
 scheme_by false false false le = absurd (omega (arith, le))
 
-scheme_some : (gs : List Glyph) → 1 ≤ scheme_len gs → 6 ≤ scheme_len gs
+pub scheme_some : (gs : List Glyph) → 1 ≤ scheme_len gs → 6 ≤ scheme_len gs
 unfolding scheme_len
 scheme_some gs le = scheme_by (begins_like (codes "http://") gs) (begins_like (codes "https://") gs) (begins_like (codes "ftp://") gs) le
 
@@ -216,7 +216,7 @@ ext_stays a hs rest w le e =
 
 -- ---- a bare URL
 
-like_first : (b c : ℕ) (g : Glyph) → (b == c) ≡ false → like_byte b g ≡ true → like_byte c g ≡ false
+pub like_first : (b c : ℕ) (g : Glyph) → (b == c) ≡ false → like_byte b g ≡ true → like_byte c g ≡ false
 like_first b c (glyph.Byte d) n e = let z : to_ascii_lowercase d ≡ b = grind (arith, nat_tests, e) in subst (λ (i : ℕ). (i == c) ≡ false) (sym z) n
 like_first b c (glyph.Entity d) n e = cc
 like_first b c glyph.Atom n e = cc
@@ -231,7 +231,7 @@ like_long (b ∷ word) (g ∷ gs) e = let le = like_long word gs (right_true (li
     right_true true v f = f
     right_true false v f = cc
 
-like_first_of : (b : ℕ) (word : List ℕ) (g : Glyph) (gs : List Glyph) → begins_like (b ∷ word) (g ∷ gs) ≡ true → like_byte b g ≡ true
+pub like_first_of : (b : ℕ) (word : List ℕ) (g : Glyph) (gs : List Glyph) → begins_like (b ∷ word) (g ∷ gs) ≡ true → like_byte b g ≡ true
 like_first_of b word g gs e = left_true (like_byte b g) (begins_like word gs) e
   where
     left_true : (u v : Bool) → (u && v) ≡ true → u ≡ true

@@ -2,6 +2,13 @@ pub mod Kept
 pub mod Nodes
 pub mod Content
 pub mod Cuts
+pub mod PageSigns
+pub mod OwnSigns
+pub mod SentNodes
+pub mod Stood
+pub mod Lines
+pub mod Flat
+pub mod Shown
 pub mod Tiles
 pub mod Glyphs
 pub mod Beginnings

@@ -1,5 +1,5 @@
 -- Nodes that stay, by what their neighbours see of them: what each is by itself, and what may stand beside it.
-use Rattle.std.specs.Prelude.{◌≡◌, ◌⊎◌, ℕ, ◌==◌, Bool, true, false, Some, List, [], ◌∷◌, length, codes}
+use Rattle.std.specs.Prelude.{◌≡◌, ◌⊎◌, ◌≤◌, ℕ, ◌==◌, Bool, true, false, Some, List, [], ◌∷◌, length, drop, codes}
 use Rattle.std.specs.List.{Contains}
 use Rattle.wt_span.specs.Characters as byte
 use Rattle.wt_guards.specs.declared.role.Role.{Role}
@@ -16,9 +16,11 @@ use Rattle.wt_tiles.specs.declared.tag.Name.TheVariants.{Paired, Break, Island}
 use Rattle.wt_tiles.specs.declared.tag.TagShape.{TagShape}
 use Rattle.wt_tiles.specs.declared.tag.TagShape.TheVariants.{Opening, Alone, Closing}
 use Rattle.wt_tiles.specs.declared.tag.Tag.{Tag}
+use Rattle.wt_span.specs.declared.tag_name.TagName.{TagName}
 use Rattle.wt_tiles.specs.Links.{link_at}
+use Rattle.wt_tiles.specs.Partners.{number, partner}
 use Rattle.wt_tiles.specs.Tags.{tag_at}
-use Rattle.wt_tiles.specs.Tiles.{size, switch_names}
+use Rattle.wt_tiles.specs.Tiles.{size, len_of, switch_names}
 use Rattle.wt_tiles.specs.Urls.{is_url_glyph, ext_link_at, bare_url_at}
 use Rattle.wt_beside_laws.specs.Cuts.{own_glyphs, ends_word}
 use Rattle.wt_beside_laws.specs.Tiles.{IsPlainLink, IsCategoryLink, IsMediaLink}
@@ -94,14 +96,27 @@ IsLone (Paired m) Closing = Unit {0}
 IsLone Break shape = Unit {0}
 IsLone Island shape = Unit {0}
 
--- a tag of a line break, one that is kept as an island, or a closing tag without an opening one
+-- the opening tag of a pair, with what is in the pair and its closing tag
+pub record IsPair (t : Tag) (own : List Glyph) : Type 0 where
+  pub name : TagName
+  pub paired : t.name ≡ Paired name
+  pub opens : t.shape ≡ Opening
+  pub last : List Glyph
+  pub closing : partner (number name) 0 (drop t.len own) ≡ Some last
+  pub ends : len_of (tag_at last) ≡ length last
+  pub within : t.len ≤ length own
+
+-- it is all of the items, or all of them are the pair that it opens
+abbrev pub IsAllOf : Tag → List Glyph → Type 0
+IsAllOf t own = (IsLone t.name t.shape × (t.len ≡ length own)) ⊎ IsPair t own
+
+-- a tag of a line break, one that is kept as an island, a closing tag without an opening one, or a pair of tags with what is in it
 pub record IsTagNode (own : List Glyph) : Type 0 where
   pub named : Tag
   pub others : List Glyph
   pub is : own ≡ glyph.Byte byte.less_than ∷ others
   pub tagged : tag_at (glyph.Byte byte.less_than ∷ others) ≡ Some named
-  pub lone : IsLone named.name named.shape
-  pub whole : named.len ≡ length own
+  pub ends : IsAllOf named (glyph.Byte byte.less_than ∷ others)
 
 abbrev pub IsNode : Role → List Glyph → Type 0
 IsNode Link own = IsLinkNode own

@@ -1,10 +1,17 @@
 //! Laws of texts that are typed beside nodes that stay.
 #![tactic(auto)]
 
-ghost use Rattle.std.specs.Prelude.{◌≡◌, ◌≤◌, ℕ, ◌+◌, false, Some, List, [], ◌∷◌, ◌++◌, length, map};
+ghost use Rattle.std.specs.Prelude.{◌≡◌, ◌≤◌, ℕ, ◌+◌, Bool, false, Some, List, [], ◌∷◌, ◌++◌, length, map};
+ghost use Rattle.wt_span.specs.Items.{Item};
 ghost use Rattle.wt_guards.specs.Content.{ContentSign};
 ghost use Rattle.wt_guards.specs.Guards.{Setting, spelled};
 ghost use Rattle.wt_expand.specs.PageItems.{page_items};
+ghost use Rattle.wt_lines.specs.Lines.{lines};
+ghost use Rattle.wt_context.specs.Line.{line_parts};
+ghost use Rattle.wt_page.specs.Body.{meaning};
+ghost use Rattle.wt_page.specs.Rows.{rows};
+ghost use Rattle.wt_page.specs.Texts.{para};
+ghost use Rattle.wt_text_edit_laws.specs.ParagraphBetween.{body_with};
 ghost use Rattle.wt_text_edit_laws.specs.TextBetween.{StandsBehind};
 ghost use Rattle.wt_tiles.specs.declared.glyph.Glyph.{Glyph as Sign};
 ghost use Rattle.wt_tiles.specs.declared.glyph.GlyphClass.TheVariants as class;
@@ -17,8 +24,20 @@ ghost use Rattle.wt_tiles.specs.Urls.{scheme_len, ext_link_at, bare_url_at};
 ghost use Rattle.wt_beside_laws.specs.Beginnings.{IsApart};
 ghost use Rattle.wt_beside_laws.specs.Content.{AreKept, content_items};
 ghost use Rattle.wt_beside_laws.specs.Cuts.{IsFree, content_cut};
+ghost use Rattle.wt_beside_laws.specs.Flat.{AreFlat, IsFlatContent, content_parts, line_content, para_with};
 ghost use Rattle.wt_beside_laws.specs.Glyphs.{content_glyphs, IsPast, AllAvoid};
+ghost use Rattle.wt_beside_laws.specs.Lines.{AreCharacters, AreUnbroken, line_items, content_lines, AreLinesOfText};
 ghost use Rattle.wt_beside_laws.specs.Nodes.{AreNodes, AllMeet};
+ghost use Rattle.wt_beside_laws.specs.Shown.{parts_shown_at, content_shown};
+ghost use Rattle.wt_tree.specs.Plain.{Plains};
+ghost use Rattle.wt_beside_laws.specs.PageSigns.{signs_of_lines, AreFlatLines};
+ghost use Rattle.wt_tree.specs.Tree.{Tree as Block, Trees, label};
+ghost use Rattle.wt_tree.specs.declared.edit_shape.Place.{Place as Where};
+ghost use Rattle.wt_original.specs.Page.{Page as Known, page_of, TellsSame};
+ghost use Rattle.wt_link_spelling.specs.Spelling.{signs_of_all, children_of};
+ghost use Rattle.wt_beside_laws.specs.OwnSigns.{own_signs, IsFlatBlock};
+ghost use Rattle.wt_beside_laws.specs.SentNodes.{AreSent, numbers};
+ghost use Rattle.wt_beside_laws.specs.Stood.{AreStood, AreAt, things};
 ghost use Rattle.wt_beside_laws.specs.Tiles.{IsPlainLink, IsPastUrl};
 
 /// A content of text that is typed and of nodes that stay, as it is spelled, makes no lexeme over the border of a text and
@@ -60,4 +79,82 @@ pub fn texts_beside_nodes_make_no_tile()
         → cuts in_line false 0 (map glyph_of (page_items (spelled s signs))) ≡ content_cut in_line s [] signs (0, []) }
     ensures before { (s : Setting) (signs : List ContentSign) (rest : List Sign) → AreNodes signs → AllMeet s [] signs rest → IsApart rest → IsFree in_line rest
         → cuts in_line false 0 (content_glyphs s [] signs rest) ≡ content_cut in_line s [] signs (cuts in_line false 0 rest) }
+{}
+
+/// The nodes that a content has of a page stay, and meet as they may: where each is read in the page as a form that takes all
+/// of its items (`AreStood`) and has its place there (`AreAt`), whatever is typed between them, each is what its role says
+/// (`AreNodes`), and between two of which one is not parted from the other nothing joins them (`AllMeet`): they stood so in
+/// the page, or the table of signs that may not be next to each other has no pair for them.
+#[tactic(auto, using(crate::proofs::PageNodes::nodes_stay, crate::proofs::PageNodes::nodes_meet))]
+pub fn nodes_of_the_page_stay()
+    ensures nodes { (olds signs : List ContentSign) → AreStood false olds → things signs ≡ things olds → AreNodes signs }
+    ensures meet { (s : Setting) (olds signs : List ContentSign) (at : ℕ) → AreStood false olds → AreAt at olds → things signs ≡ things olds
+        → AllMeet s [] signs [] }
+{}
+
+/// So the nodes of lines of a page stay, by the tiles of these lines (`signs_of_lines`), whatever is typed between them: no tile is
+/// a mark or a tag that opens a pair without a closing tag, and the source of each form is read by itself as the items that it has
+/// there (`AreFlatLines`).
+#[tactic(auto, using(crate::proofs::PageSigns::flat_nodes, crate::proofs::PageSigns::flat_meet))]
+pub fn nodes_of_flat_lines_stay()
+    ensures nodes { (ls : List (List Item)) (at : ℕ) (signs : List ContentSign) → AreFlatLines ls → things signs ≡ things (signs_of_lines at ls)
+        → AreNodes signs }
+    ensures meet { (s : Setting) (ls : List (List Item)) (at : ℕ) (signs : List ContentSign) → AreFlatLines ls
+        → things signs ≡ things (signs_of_lines at ls) → AllMeet s [] signs [] }
+{}
+
+/// A block of the page without groups and styles (`IsFlatBlock`) has, as it is sent back, the signs that it has there: the characters
+/// of its texts, and its nodes, each with its source, its place and what it is to its neighbours (`own_signs`). Each of its nodes
+/// is one that is sent as it is.
+#[tactic(auto, using(crate::proofs::OwnSigns::own_content, crate::proofs::OwnSigns::own_sent))]
+pub fn blocks_of_the_page_have_their_signs()
+    ensures signs { (same : Block → Block → Bool) (block : Block) (pl : Where) → TellsSame same → IsFlatBlock block
+        → signs_of_all (page_of same block) pl (children_of block) ≡ own_signs block (length (label block).opening) (length (label block).opening) (children_of block) }
+    ensures sent { (same : Block → Block → Bool) (block : Block) → TellsSame same → IsFlatBlock block → AreSent (page_of same block) (children_of block) }
+{}
+
+/// The nodes of a content that is sent with texts between them are those of the page: where each node has the number of one of the
+/// page, of the same kind and with the same plain view (`AreSent`), and the numbers are those of the page's content in their order,
+/// the signs of both contents have the same nodes.
+#[tactic(auto, using(crate::proofs::SentNodes::same_nodes))]
+pub fn nodes_sent_are_those_of_the_page()
+    ensures { (p : Known) (pl : Where) (olds news : Trees) → AreSent p olds → AreSent p news → numbers news ≡ numbers olds
+        → things (signs_of_all p pl news) ≡ things (signs_of_all p pl olds) }
+{}
+
+/// A content of the nodes of flat lines of a page (`AreFlatLines`), with any texts between them, is one that is read sign by sign
+/// (`IsFlatContent`), if the source of each node stands whatever is written behind it.
+#[tactic(auto, using(crate::proofs::FlatContents::flat_content))]
+pub fn texts_beside_nodes_of_the_page_are_flat()
+    ensures { (s : Setting) (ls : List (List Item)) (at : ℕ) (signs : List ContentSign) → s.within ≡ false → AreFlatLines ls
+        → AreKept (signs_of_lines at ls) → AreCharacters signs → things signs ≡ things (signs_of_lines at ls) → IsFlatContent s signs }
+{}
+
+/// The lines of such a content are cut where a line break is typed, and each is a line of text, in a table too: nothing that
+/// is typed, and no node, makes it a heading, a list, a rule, preformatted text or a part of a table, and none is blank.
+pub fn texts_beside_nodes_are_lines_of_text()
+    ensures lines { (s : Setting) (signs : List ContentSign) → AreKept signs → AreUnbroken signs → lines (page_items (spelled s signs)) ≡ content_lines s signs }
+    ensures text { (tables : ℕ) (s : Setting) (signs : List ContentSign) → s.within ≡ false → AreCharacters signs → AreNodes signs
+        → AreLinesOfText tables (content_lines s signs) }
+{}
+
+/// A content without styles is one paragraph. On each of its lines, and in the paragraph, characters, references and the
+/// nowikis that are put are what they are anywhere, and each node is what its source is on a line by itself. So it is for the
+/// rows that its lines make, and as a page of its own.
+#[tactic(auto, using(crate::proofs::LineParts::line_parts_are, crate::proofs::LineParagraphs::para_is, crate::proofs::LineParagraphs::meaning_is))]
+pub fn texts_beside_nodes_are_one_paragraph()
+    ensures line { (s : Setting) (before signs : List ContentSign) → AreNodes signs → AreFlat signs → AllMeet s before signs []
+        → line_parts (line_items s before signs) ≡ line_content s before signs }
+    ensures paragraph { (s : Setting) (signs : List ContentSign) → IsFlatContent s signs
+        → para (rows (page_items (spelled s signs))) ≡ para_with (content_parts s [] signs) }
+    ensures page { (s : Setting) (signs : List ContentSign) → IsFlatContent s signs
+        → meaning (page_items (spelled s signs)) ≡ body_with (para_with (content_parts s [] signs) ∷ []) }
+{}
+
+/// Wherever such a paragraph is, and whatever the numbers of its nodes, its inside shows the texts that were typed, as they were
+/// typed, and between them each node as its source shows by itself: the references and the nowikis that are put leave no trace.
+#[tactic(auto, using(crate::proofs::LineShown::content_is_shown))]
+pub fn texts_beside_nodes_are_shown()
+    ensures { (n : ℕ) (before : List Item) (s : Setting) (signs : List ContentSign) (rest : Plains) → IsFlatContent s signs
+        → parts_shown_at n before (content_parts s [] signs) rest ≡ content_shown signs rest }
 {}

@@ -26,13 +26,8 @@ pub struct Surroundings<'w, 't, 'a> {
 }
 
 impl<'w, 't, 'a> Surroundings<'w, 't, 'a> {
-    /// How the inside of a block of this kind is written; `block` is the one that was in the page.
-    fn writing(self, block: Option<&'w Block<'t, 'a>>, kind: Kind) -> Writing<'w, 't, 'a> {
-        Writing::of(self.known, block, self.keeps, kind.edit_shape().place)
-    }
-
     /// The same for what is in the block.
-    fn within(self) -> Surroundings<'w, 't, 'a> {
+    fn within(&self) -> Surroundings<'w, 't, 'a> {
         Surroundings {
             known: self.known,
             keeps: self.keeps,
@@ -44,7 +39,7 @@ impl<'w, 't, 'a> Surroundings<'w, 't, 'a> {
 
     /// The same for what a block of this kind holds: the cells of a row are written as those beside them, and lists in
     /// an item as this one.
-    fn within_kind(self, kind: Kind) -> Surroundings<'w, 't, 'a> {
+    fn within_kind(&self, kind: Kind) -> Surroundings<'w, 't, 'a> {
         match kind {
             Kind::Tr => self.in_table(),
             Kind::Li | Kind::Dt | Kind::Dd => self.styled(self.style),
@@ -53,7 +48,7 @@ impl<'w, 't, 'a> Surroundings<'w, 't, 'a> {
     }
 
     /// The same for what is in a part of a table, where lists begin anew.
-    fn in_table(self) -> Surroundings<'w, 't, 'a> {
+    fn in_table(&self) -> Surroundings<'w, 't, 'a> {
         Surroundings {
             known: self.known,
             keeps: self.keeps,
@@ -64,7 +59,7 @@ impl<'w, 't, 'a> Surroundings<'w, 't, 'a> {
     }
 
     /// The same for an item that comes after one of this style.
-    fn styled(self, style: Style) -> Surroundings<'w, 't, 'a> {
+    fn styled(&self, style: Style) -> Surroundings<'w, 't, 'a> {
         Surroundings {
             known: self.known,
             keeps: self.keeps,
@@ -112,33 +107,35 @@ fn source_standing(
 /// The inside of a block that the page has.
 fn kept_inside<'t, 'a>(
     alloc: Global,
-    around: Surroundings<'_, 't, 'a>,
+    around: &Surroundings<'_, 't, 'a>,
     old: &'t Node<'a>,
     node: &Node<'_>,
 ) -> Result<Str, NoMemory> {
     let block = block_of(alloc, old)?;
-    let writing = around.writing(Some(&block), node.kind);
-    spelled(alloc, writing, inside(node), edges_of(inside(old)))
+    let place = node.kind.edit_shape().place;
+    let writing = Writing::of(around.known, Some(&block), around.keeps, place);
+    spelled(alloc, &writing, inside(node), edges_of(inside(old)))
 }
 
 /// The inside of a new block.
 fn new_inside(
     alloc: Global,
-    around: Surroundings<'_, '_, '_>,
+    around: &Surroundings<'_, '_, '_>,
     node: &Node<'_>,
 ) -> Result<Str, NoMemory> {
-    let writing = around.writing(None, node.kind);
+    let place = node.kind.edit_shape().place;
+    let writing = Writing::of(around.known, None, around.keeps, place);
     let edges = Edges {
         first: None,
         last: around.tail,
     };
-    spelled(alloc, writing, inside(node), edges)
+    spelled(alloc, &writing, inside(node), edges)
 }
 
 /// The inside of a block.
 fn inside_of(
     alloc: Global,
-    around: Surroundings<'_, '_, '_>,
+    around: &Surroundings<'_, '_, '_>,
     node: &Node<'_>,
 ) -> Result<Str, NoMemory> {
     match original(around.known.index, node.id) {
@@ -151,7 +148,7 @@ fn inside_of(
 fn push_inside(
     alloc: Global,
     out: &mut Str,
-    around: Surroundings<'_, '_, '_>,
+    around: &Surroundings<'_, '_, '_>,
     node: &Node<'_>,
 ) -> Result<(), NoMemory> {
     let source = inside_of(alloc, around, node)?;
@@ -201,7 +198,7 @@ fn are_joined(left: Kind, right: Kind) -> bool {
 /// far: that one holds no blocks, and its text ends with the blank before the signs where there is to be one.
 fn goes_on(
     out: &Str,
-    around: Surroundings<'_, '_, '_>,
+    around: &Surroundings<'_, '_, '_>,
     before: Option<&Node<'_>>,
     cell: &Node<'_>,
 ) -> bool {
@@ -237,7 +234,7 @@ fn ends_with_sign(out: &Str, cell: &Node<'_>) -> bool {
 pub fn push_if_in_line(
     alloc: Global,
     out: &mut Str,
-    around: Surroundings<'_, '_, '_>,
+    around: &Surroundings<'_, '_, '_>,
     before: Option<&Node<'_>>,
     cell: &Node<'_>,
 ) -> Result<bool, NoMemory> {
@@ -264,7 +261,7 @@ fn ends_with_blank(out: &Str, cell: &Node<'_>) -> bool {
 fn push_start(
     alloc: Global,
     out: &mut Str,
-    around: Surroundings<'_, '_, '_>,
+    around: &Surroundings<'_, '_, '_>,
     holder: Kind,
     before: Option<&Node<'_>>,
     child: &Node<'_>,
@@ -287,7 +284,7 @@ fn push_start(
 fn push_held(
     alloc: Global,
     out: &mut Str,
-    around: Surroundings<'_, '_, '_>,
+    around: &Surroundings<'_, '_, '_>,
     node: &Node<'_>,
     goes_on: bool,
 ) -> Result<(), NoMemory> {
@@ -300,7 +297,7 @@ fn push_held(
             if !is_begun {
                 push_start(alloc, out, around, node.kind, before, child)?;
             }
-            push_block(alloc, out, around.within_kind(node.kind), child)?;
+            push_block(alloc, out, &around.within_kind(node.kind), child)?;
             before = Some(child);
             is_begun = false;
         } else if !is_inside && is_coming_mark(around.known, child) {
@@ -344,7 +341,7 @@ fn begins_with(source: &[u8], signs: &[u8]) -> bool {
 
 /// The blank at each side of the text of a new heading: none in a page whose headings have none, unless the text would
 /// join the signs.
-fn blank_in_heading(around: Surroundings<'_, '_, '_>, inside: &str) -> &'static str {
+fn blank_in_heading(around: &Surroundings<'_, '_, '_>, inside: &str) -> &'static str {
     let joins = inside.is_empty() || inside.starts_with("=") || inside.ends_with("=");
     if around.keeps && around.known.has_tight_headings && !joins {
         ""
@@ -356,7 +353,7 @@ fn blank_in_heading(around: Surroundings<'_, '_, '_>, inside: &str) -> &'static 
 fn push_heading(
     alloc: Global,
     out: &mut Str,
-    around: Surroundings<'_, '_, '_>,
+    around: &Surroundings<'_, '_, '_>,
     level: u8,
     node: &Node<'_>,
 ) -> Result<(), NoMemory> {
@@ -372,7 +369,7 @@ fn push_heading(
 fn push_item(
     alloc: Global,
     out: &mut Str,
-    around: Surroundings<'_, '_, '_>,
+    around: &Surroundings<'_, '_, '_>,
     node: &Node<'_>,
 ) -> Result<(), NoMemory> {
     if let Some(source) = source_standing(alloc, around.known, node)? {
@@ -401,7 +398,7 @@ enum Beginning {
 fn push_item_in_line(
     alloc: Global,
     out: &mut Str,
-    around: Surroundings<'_, '_, '_>,
+    around: &Surroundings<'_, '_, '_>,
     item: &Node<'_>,
 ) -> Result<(), NoMemory> {
     push_opening(alloc, out, around.known, item, ":")?;
@@ -414,7 +411,7 @@ fn push_item_in_line(
 fn push_item_of(
     alloc: Global,
     out: &mut Str,
-    around: Surroundings<'_, '_, '_>,
+    around: &Surroundings<'_, '_, '_>,
     list: Kind,
     item: &Node<'_>,
     beginning: Beginning,
@@ -432,9 +429,9 @@ fn push_item_of(
         style: around.style,
     };
     match beginning {
-        Beginning::OfList => push_first_item(alloc, out, own, item),
-        Beginning::OfLine => push_item(alloc, out, own, item),
-        Beginning::InLine => push_item_in_line(alloc, out, own, item),
+        Beginning::OfList => push_first_item(alloc, out, &own, item),
+        Beginning::OfLine => push_item(alloc, out, &own, item),
+        Beginning::InLine => push_item_in_line(alloc, out, &own, item),
     }
 }
 
@@ -447,7 +444,7 @@ fn has_no_line(known: &Known<'_, '_>, item: &Node<'_>) -> bool {
 }
 
 /// Whether an item that has no line of its own holds lists alone: its line may be that of their first item, too.
-fn holds_lists_alone(around: Surroundings<'_, '_, '_>, item: &Node<'_>) -> bool {
+fn holds_lists_alone(around: &Surroundings<'_, '_, '_>, item: &Node<'_>) -> bool {
     match item.children.as_slice().first() {
         Some(first) => around.keeps && is_list(first.kind) && has_no_line(around.known, item),
         None => false,
@@ -459,7 +456,7 @@ fn holds_lists_alone(around: Surroundings<'_, '_, '_>, item: &Node<'_>) -> bool 
 fn push_first_item(
     alloc: Global,
     out: &mut Str,
-    around: Surroundings<'_, '_, '_>,
+    around: &Surroundings<'_, '_, '_>,
     item: &Node<'_>,
 ) -> Result<(), NoMemory> {
     if holds_lists_alone(around, item) {
@@ -488,7 +485,7 @@ fn push_line(out: &mut Str, is_begun: bool) -> Result<(), NoMemory> {
 
 /// How an item or a cell is written: as it was where the page has it with text after its sign, also with another kind;
 /// else as the one beside it.
-fn own_style(around: Surroundings<'_, '_, '_>, part: &Node<'_>) -> Style {
+fn own_style(around: &Surroundings<'_, '_, '_>, part: &Node<'_>) -> Style {
     match original(around.known.index, part.id) {
         Some(visit) if part.id != 0 && around.keeps && has_signed_text(visit.node) => {
             style_of(Some(visit.node))
@@ -498,7 +495,7 @@ fn own_style(around: Surroundings<'_, '_, '_>, part: &Node<'_>) -> Style {
 }
 
 /// How the first item of a list is written: in an item as this one is.
-fn style_of_first(around: Surroundings<'_, '_, '_>) -> Style {
+fn style_of_first(around: &Surroundings<'_, '_, '_>) -> Style {
     if around.signs.is_empty() {
         USUAL
     } else {
@@ -511,7 +508,7 @@ fn style_of_first(around: Surroundings<'_, '_, '_>) -> Style {
 fn push_items(
     alloc: Global,
     out: &mut Str,
-    around: Surroundings<'_, '_, '_>,
+    around: &Surroundings<'_, '_, '_>,
     list: &Node<'_>,
 ) -> Result<(), NoMemory> {
     let mut before = None;
@@ -523,8 +520,15 @@ fn push_items(
             if !matches!(beginning, Beginning::InLine) {
                 push_line(out, is_begun)?;
             }
-            style = own_style(around.styled(style), item);
-            push_item_of(alloc, out, around.styled(style), list.kind, item, beginning)?;
+            style = own_style(&around.styled(style), item);
+            push_item_of(
+                alloc,
+                out,
+                &around.styled(style),
+                list.kind,
+                item,
+                beginning,
+            )?;
             before = Some(item);
             is_begun = false;
         } else if is_coming_mark(around.known, item) {
@@ -541,14 +545,14 @@ fn push_items(
 fn push_rows(
     alloc: Global,
     out: &mut Str,
-    around: Surroundings<'_, '_, '_>,
+    around: &Surroundings<'_, '_, '_>,
     node: &Node<'_>,
 ) -> Result<(), NoMemory> {
     let mut is_begun = true;
     for child in node.children.as_slice() {
         if is_written(child) {
             push_line(out, is_begun)?;
-            push_block(alloc, out, around.in_table(), child)?;
+            push_block(alloc, out, &around.in_table(), child)?;
             is_begun = false;
         } else if is_coming_mark(around.known, child) {
             push_line(out, is_begun)?;
@@ -572,16 +576,16 @@ fn blank_in(style: Style, node: &Node<'_>, inside: &str) -> &'static str {
 fn push_cell(
     alloc: Global,
     out: &mut Str,
-    around: Surroundings<'_, '_, '_>,
+    around: &Surroundings<'_, '_, '_>,
     sign: &str,
     node: &Node<'_>,
 ) -> Result<(), NoMemory> {
-    let inside = inside_of(alloc, around.in_table(), node)?;
+    let inside = inside_of(alloc, &around.in_table(), node)?;
     let mut opening = Str::copy_of(alloc, sign)?;
     opening.push_str(blank_in(own_style(around, node), node, inside.as_str()))?;
     push_opening(alloc, out, around.known, node, opening.as_str())?;
     out.push_str(inside.as_str())?;
-    push_held(alloc, out, around.in_table(), node, false)
+    push_held(alloc, out, &around.in_table(), node, false)
 }
 
 /// Appends a table, or a row, with a line for each of its parts.
@@ -589,12 +593,12 @@ fn push_cell(
 fn push_lines(
     alloc: Global,
     out: &mut Str,
-    around: Surroundings<'_, '_, '_>,
+    around: &Surroundings<'_, '_, '_>,
     sign: &str,
     node: &Node<'_>,
 ) -> Result<(), NoMemory> {
     push_opening(alloc, out, around.known, node, sign)?;
-    push_held(alloc, out, around.in_table(), node, false)
+    push_held(alloc, out, &around.in_table(), node, false)
 }
 
 /// Whether a node is a group of the page that begins with a row without a sign.
@@ -610,7 +614,7 @@ fn is_group_without_sign(known: &Known<'_, '_>, node: &Node<'_>) -> bool {
 fn push_if_standing(
     alloc: Global,
     out: &mut Str,
-    around: Surroundings<'_, '_, '_>,
+    around: &Surroundings<'_, '_, '_>,
     node: &Node<'_>,
 ) -> Result<bool, NoMemory> {
     let is_of_list = is_list(node.kind) || is_item(node.kind);
@@ -635,7 +639,7 @@ fn push_if_standing(
 pub fn push_block(
     alloc: Global,
     out: &mut Str,
-    around: Surroundings<'_, '_, '_>,
+    around: &Surroundings<'_, '_, '_>,
     node: &Node<'_>,
 ) -> Result<(), NoMemory> {
     if push_if_standing(alloc, out, around, node)? {

@@ -47,7 +47,7 @@ use Rattle.wt_cell_edit_laws.proofs.PageCases.{is_free, are_free, free_node}
 
 -- ---- the page
 
-abbrev a_spot : List ℕ → List ℕ → BlockSpot
+abbrev pub a_spot : List ℕ → List ℕ → BlockSpot
 a_spot before text = record { before = before; block = a_paragraph; text = text }
 
 abbrev blocks_here : List BlockSpot
@@ -61,7 +61,7 @@ was = refl
 
 -- ---- its texts
 
-typed_a : IsTypedPage (codes "a")
+pub typed_a : IsTypedPage (codes "a")
 unfolding is_guarded is_between_guard is_start_guard is_end_guard is_blank_guard is_parted hazard line_start_hazard nowiki is_escaped chars lib.Utf8.encode
 typed_a = record {
   setting = record { within = false; place = place.Paragraph; source = [] };

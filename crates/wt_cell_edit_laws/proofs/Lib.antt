@@ -1,5 +1,6 @@
 pub mod AnyCalls
 mod AnyCases
+mod CalledCases
 pub mod AnyPages
 pub mod AnyTakes
 pub mod BodyPages
@@ -28,6 +29,8 @@ pub mod PlaceFacts
 pub mod PlaceGaps
 pub mod PlacePaths
 pub mod PlaceTrees
+pub mod ItemFrames
+pub mod CalledFrames
 pub mod SpotFrames
 pub mod SpotRows
 pub mod SpotSlots

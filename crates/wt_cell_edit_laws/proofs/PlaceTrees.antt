@@ -1,6 +1,5 @@
 -- The blocks of a page by their numbers, and the page's tree with a place for each.
-use Rattle.std.proofs.Common.{◌≡◌, ℕ, zero, suc, Option, Some, None, List, [], ◌∷◌, map, refl}
-use Rattle.wt_inline.specs.ItemTree.{ItemTree}
+use Rattle.std.proofs.Common.{◌≡◌, ℕ, zero, suc, Option, Some, None, List, [], ◌∷◌, refl}
 use Rattle.wt_page.specs.Body.{meaning}
 use Rattle.wt_row_laws.specs.Frames.{Frames, trees_at, all_places, content, AreFrames}
 use Rattle.wt_text_edit_laws.specs.BlockSpots.{BlockSpot, SameRound, AreBlocks}
@@ -9,22 +8,13 @@ use Rattle.wt_text_edit_laws.specs.TextBlocks.{TextBlock, a_paragraph, block_tre
 use Rattle.wt_text_edit_laws.proofs.Blocks.BlockReading.{spots_items}
 use Rattle.wt_text_edit_laws.proofs.Blocks.TypedBraces.{AreTypedOver}
 use Rattle.wt_cell_edit_laws.specs.AnyBlocks.{with_text, with_texts}
+pub use Rattle.wt_cell_edit_laws.specs.CalledBlocks.{tree_by, counted}
 
--- the block with this number
-abbrev pub tree_by : List BlockSpot → ℕ → ItemTree
-tree_by [] i = block_tree a_paragraph []
-tree_by (s ∷ ss) zero = block_tree s.block s.text
-tree_by (s ∷ ss) (suc i) = tree_by ss i
-
+-- the block with this number, as a block
 abbrev pub block_by : List BlockSpot → ℕ → TextBlock
 block_by [] i = a_paragraph
 block_by (s ∷ ss) zero = s.block
 block_by (s ∷ ss) (suc i) = block_by ss i
-
--- the numbers of all
-abbrev pub counted : List BlockSpot → List ℕ
-counted [] = []
-counted (s ∷ ss) = zero ∷ map suc (counted ss)
 
 -- Whatever their texts are, they are at the same places, in their order.
 pub record Framed (ss : List BlockSpot) (behind : List ℕ) : Type 0 where

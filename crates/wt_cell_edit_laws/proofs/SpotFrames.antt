@@ -1,54 +1,67 @@
 -- A page with blocks anywhere means a tree with its blocks at places, which are the same whatever the texts are.
-use Rattle.std.proofs.Common.{◌≡◌, ℕ, suc, List, [], ◌∷◌, map, refl, sym, ap, ◌∙◌, subst}
+use Rattle.std.proofs.Common.{◌≡◌, ℕ, zero, suc, Bool, List, [], ◌∷◌, ◌++◌, map, refl, ap, ◌∙◌}
 use Rattle.wt_span.specs.Items.{Item}
-use Rattle.wt_lines.specs.Lines.{full_lines}
-use Rattle.wt_page.specs.Rows.{Row, rows_from, rows}
-use Rattle.wt_page.specs.Body.{body_parts, meaning}
-use Rattle.wt_row_laws.specs.Frames.{trees_at}
-use Rattle.wt_row_laws.specs.Slots.{Slot, rows_at, AreAt, PlacesStand}
-use Rattle.wt_row_laws.proofs.Places.{places_stand}
-use Rattle.wt_text_edit_laws.specs.BlockSpots.{BlockSpot, AreBlocks}
-use Rattle.wt_text_edit_laws.specs.ParagraphBetween.{body_with}
+use Rattle.wt_page.specs.Body.{meaning}
+use Rattle.wt_expand.specs.PageItems.{page_items}
+use Rattle.wt_text_edit_laws.specs.BlockSpots.{BlockSpot, IsRead, SameRound}
+use Rattle.wt_text_edit_laws.specs.TextBlocks.{TextBlock, block_items}
 use Rattle.wt_text_edit_laws.proofs.Blocks.BlockReading.{spots_items}
-use Rattle.wt_text_edit_laws.proofs.Paragraphs.Standing.{body_is}
-use Rattle.wt_cell_edit_laws.specs.AnyBlocks.{AreParts}
+use Rattle.wt_text_edit_laws.proofs.Blocks.TypedBraces.{AreTypedOver}
+use Rattle.wt_cell_edit_laws.specs.AnyBlocks.{open_behind_part, IsSpotAt, past_break, AreSpotsAfter, AreParts}
+use Rattle.wt_cell_edit_laws.specs.ItemSpots.{items_of_spot, items_of_spots, placed_items, IsPlacedAt, ArePlacedAfter, ArePlaced, SameItems, AreTypedIn}
+use Rattle.wt_cell_edit_laws.proofs.ItemFrames.{counted_in, items_framed}
 use Rattle.wt_cell_edit_laws.proofs.PlaceTrees.{tree_by, counted, Framed}
-use Rattle.wt_cell_edit_laws.proofs.SpotsRead.{parts_over}
-use Rattle.wt_cell_edit_laws.proofs.SpotRows.{page_rows, slots_rows, slots_at}
-use Rattle.wt_cell_edit_laws.proofs.SpotSlots.{page_slots, numbered_from, same_slots, slots_numbers, slots_in_cells, slots_few, slots_apart}
+use Rattle.wt_cell_edit_laws.proofs.SpotRows.{trees_by}
 
--- ---- numbers
+-- ---- its blocks are placed among its items
 
-numbers_up : (i : ℕ) (ss : List BlockSpot) → numbered_from (suc i) ss ≡ map suc (numbered_from i ss)
-numbers_up i [] = refl
-numbers_up i (s ∷ ss) = ap (λ ns. suc i ∷ ns) (numbers_up (suc i) ss)
+placed_at : (bs : List Bool) (xs : List Item) (s : BlockSpot) → IsSpotAt bs xs s → IsPlacedAt bs xs (items_of_spot s)
+placed_at bs xs s h = let r : IsRead s = h.0 in (r.block, h.1, h.2)
 
-are_counted : (ss : List BlockSpot) → numbered_from 0 ss ≡ counted ss
-are_counted [] = refl
-are_counted (s ∷ ss) = ap (λ (ns : List ℕ). 0 ∷ ns) (numbers_up 0 ss ∙ ap (map suc) (are_counted ss))
+placed_after : (last : TextBlock) (bs : List Bool) (ss : List BlockSpot) (behind : List ℕ) → AreSpotsAfter last bs ss behind
+    → ArePlacedAfter last bs (items_of_spots ss) (page_items behind)
+placed_after last bs [] behind h = h.2
+placed_after last bs (s ∷ ss) behind h = (
+  h.0,
+  placed_at bs (past_break (page_items s.before)) s h.1,
+  placed_after s.block (open_behind_part bs (past_break (page_items s.before))) ss behind h.2,
+)
 
--- ---- the body
+pub parts_placed : (ss : List BlockSpot) (behind : List ℕ) → AreParts ss behind → ArePlaced (items_of_spots ss) (page_items behind)
+parts_placed [] behind h = absurd h
+parts_placed (s ∷ ss) behind h =
+    (placed_at [] (page_items s.before) s h.0, placed_after s.block (open_behind_part [] (page_items s.before)) ss behind h.1)
 
-rows_are : (xs : List Item) → rows xs ≡ rows_from 0 (full_lines xs)
-unfolding rows
-rows_are xs = refl
+items_are : (ss : List BlockSpot) (behind : List ℕ) → spots_items ss behind ≡ placed_items (items_of_spots ss) (page_items behind)
+items_are [] behind = refl
+items_are (s ∷ ss) behind = ap (λ xs. page_items s.before ++ (block_items s.block s.text ++ xs)) (items_are ss behind)
 
-parts_means : (rs : List BlockSpot) (behind : List ℕ) (ss : List Slot) (s : PlacesStand ss) → ss ≡ page_slots rs behind → AreBlocks rs → AreParts rs behind
-    → meaning (spots_items rs behind) ≡ body_with (trees_at (tree_by rs) s.frames)
-parts_means rs behind ss s e b h =
-    let xs : List Item = spots_items rs behind in
-    let p : ℕ → List Row = page_rows rs behind b in
-    let at : AreAt ss p (tree_by rs) = subst (λ zs. AreAt zs p (tree_by rs)) (sym e) (slots_at rs behind b h) in
-    let made : rows xs ≡ rows_at p ss = rows_are xs ∙ sym (slots_rows rs behind b h) ∙ ap (rows_at p) (sym e) in
-    body_is xs (body_parts (rows_at p ss)) (ap body_parts made) ∙ ap body_with (s.stands p (tree_by rs) at)
+same_items : (ss rs : List BlockSpot) → SameRound ss rs → SameItems (items_of_spots ss) (items_of_spots rs)
+same_items [] [] e = tt
+same_items [] (r ∷ rs) e = absurd e
+same_items (s ∷ ss) [] e = absurd e
+same_items (s ∷ ss) (r ∷ rs) e = (ap page_items e.0, e.1, same_items ss rs e.2)
+
+typed_in : (ss rs : List BlockSpot) → AreTypedOver ss rs → AreTypedIn (items_of_spots ss) (items_of_spots rs)
+typed_in [] rs o = tt
+typed_in (s ∷ ss) [] o = tt
+typed_in (s ∷ ss) (r ∷ rs) o = (o.0, typed_in ss rs o.1)
+
+counted_same : (ss : List BlockSpot) → counted_in (items_of_spots ss) ≡ counted ss
+counted_same [] = refl
+counted_same (s ∷ ss) = ap (λ (ns : List ℕ). 0 ∷ map suc ns) (counted_same ss)
+
+trees_same : (ss : List BlockSpot) (i : ℕ) → tree_by ss i ≡ trees_by (items_of_spots ss) i
+trees_same [] i = refl
+trees_same (s ∷ ss) zero = refl
+trees_same (s ∷ ss) (suc i) = trees_same ss i
 
 pub framed : (ss : List BlockSpot) (behind : List ℕ) → AreParts ss behind → Framed ss behind
 framed ss behind h =
-    let s : PlacesStand (page_slots ss behind) =
-    places_stand (page_slots ss behind) (slots_in_cells ss behind h) (slots_apart ss behind h) (slots_few ss behind) in
+    let f = items_framed (items_of_spots ss) (page_items behind) (parts_placed ss behind h) in
     record {
-      frames = s.frames;
-      of_cells = s.of_cells;
-      in_order = s.in_order ∙ slots_numbers ss behind ∙ are_counted ss;
-      means = λ rs e b o. parts_means rs behind (page_slots ss behind) s (same_slots ss rs behind e) b (parts_over ss rs behind h e o);
+      frames = f.frames;
+      of_cells = f.of_cells;
+      in_order = f.in_order ∙ counted_same ss;
+      means = λ rs e b o. ap meaning (items_are rs behind) ∙ f.means (items_of_spots rs) (tree_by rs) (same_items ss rs e) (typed_in ss rs o) (trees_same rs);
     }

@@ -13,21 +13,19 @@ use Rattle.wt_row_laws.proofs.Places.{rows_join as places_join, own_rows as plac
 use Rattle.wt_text_edit_laws.specs.ParagraphBetween.{before_marks}
 use Rattle.wt_text_edit_laws.specs.TextBlocks.{TextBlock, a_paragraph, a_heading, block_items, block_tree, IsBlock}
 use Rattle.wt_text_edit_laws.specs.TypedHeadings.{Sides, AreSides, heading_line, IsHeadingText, IsOfLevel, EndsLine}
-use Rattle.wt_text_edit_laws.specs.BlockSpots.{BlockSpot, AreBlocks}
 use Rattle.wt_text_edit_laws.proofs.Texts.PlainRows.{AreTexts, text_row}
 use Rattle.wt_text_edit_laws.proofs.Prose.ProseReading.{break}
 use Rattle.wt_text_edit_laws.proofs.Prose.ProseLines.{first_ended, rest_ended, ended, ended_texts, IsTextBlock}
 use Rattle.wt_text_edit_laws.proofs.Headings.HeadingRows.{heading_row, rows_then, rows_last, tree_is}
-use Rattle.wt_text_edit_laws.proofs.Blocks.BlockReading.{spots_items}
 use Rattle.wt_text_edit_laws.proofs.Blocks.BlockMeaning.{heading_sides, heading_text, heading_level}
 use Rattle.wt_text_edit_laws.proofs.Paragraphs.Joining.{lines_join, rows_join}
 use Rattle.wt_text_edit_laws.proofs.Paragraphs.Marks.{AreMarks, EndsInMarks, marks_end, with_lead, led, rows_led}
 use Rattle.wt_text_edit_laws.proofs.Paragraphs.Texts.{paragraph_written}
 use Rattle.wt_cell_edit_laws.specs.InCells.{AreBehind, AreTextLines}
-use Rattle.wt_cell_edit_laws.specs.AnyBlocks.{rows_of_part, open_behind_part, StaysText, IsSpotAt, past_break, BeginsAfter, EndsAfter, AreSpotsAfter, AreParts}
+use Rattle.wt_cell_edit_laws.specs.AnyBlocks.{rows_of_part, open_behind_part, StaysText, past_break, BeginsAfter, EndsAfter}
+use Rattle.wt_cell_edit_laws.specs.ItemSpots.{ItemSpot, placed_items, AreBlocksIn, IsPlacedAt, ArePlacedAfter, ArePlaced}
 use Rattle.wt_cell_edit_laws.proofs.CellRows.{own_rows, text_rows}
 use Rattle.wt_cell_edit_laws.proofs.Cells.{end_of, own_are, own_para}
-use Rattle.wt_cell_edit_laws.proofs.PlaceTrees.{tree_by}
 use Rattle.wt_cell_edit_laws.proofs.SpotSlots.{marks_of, slot_of, end_behind, spot_slots, slots_from, page_slots, open_size}
 
 -- ---- a block's own rows
@@ -109,20 +107,20 @@ begins_line : (last next : TextBlock) (bs : List Bool) (ys zs : List Item) → B
 begins_line last next bs [] zs h = absurd h
 begins_line last next bs (y ∷ ys) zs h = h.0
 
-pub line_behind : (last : TextBlock) (bs : List Bool) (ss : List BlockSpot) (behind : List ℕ) → AreSpotsAfter last bs ss behind → EndsLine (spots_items ss behind)
-line_behind last bs [] behind h = ends_line last (length bs) (page_items behind) h.2
+pub line_behind : (last : TextBlock) (bs : List Bool) (ss : List ItemSpot) (behind : List Item) → ArePlacedAfter last bs ss behind → EndsLine (placed_items ss behind)
+line_behind last bs [] behind h = ends_line last (length bs) behind h
 line_behind last bs (s ∷ ss) behind h =
-    begins_line last s.block bs (page_items s.before) (block_items s.block s.text ++ spots_items ss behind) h.0
+    begins_line last s.block bs s.before (block_items s.block s.text ++ placed_items ss behind) h.0
 
 some_end : (last next : TextBlock) (bs : List Bool) (ys zs : List Item) → BeginsAfter last next bs ys → end_of (ys ++ zs) ≡ break ∷ []
 some_end last next bs [] zs h = absurd h
 some_end last next bs (y ∷ ys) zs h = refl
 
-end_is : (last : TextBlock) (bs : List Bool) (ss : List BlockSpot) (behind : List ℕ) → AreSpotsAfter last bs ss behind
-    → end_of (spots_items ss behind) ≡ end_behind ss behind
+end_is : (last : TextBlock) (bs : List Bool) (ss : List ItemSpot) (behind : List Item) → ArePlacedAfter last bs ss behind
+    → end_of (placed_items ss behind) ≡ end_behind ss behind
 end_is last bs [] behind h = refl
 end_is last bs (s ∷ ss) behind h =
-    some_end last s.block bs (page_items s.before) (block_items s.block s.text ++ spots_items ss behind) h.0
+    some_end last s.block bs s.before (block_items s.block s.text ++ placed_items ss behind) h.0
 
 past_join : (last next : TextBlock) (bs : List Bool) (ys zs : List Item) → BeginsAfter last next bs ys → past_break (ys ++ zs) ≡ past_break ys ++ zs
 past_join last next bs [] zs h = absurd h
@@ -142,7 +140,7 @@ part_is bs xs zs whole =
     ∙ rows_join (length bs) (full_lines ls) (full_lines (marks_of xs ++ zs))
     ∙ ap (λ (n : ℕ). rows_of_part bs xs ++ rows_from n (full_lines (marks_of xs ++ zs))) (open_size bs (length bs) (full_lines ls) refl)
 
-spot_is : (bs : List Bool) (xs : List Item) (s : BlockSpot) (tail : List Item) (b : IsBlock s.block s.text) → IsSpotAt bs xs s → EndsLine tail
+spot_is : (bs : List Bool) (xs : List Item) (s : ItemSpot) (tail : List Item) (b : IsBlock s.block s.text) → IsPlacedAt bs xs s → EndsLine tail
     → rows_from (length bs) (full_lines (xs ++ (block_items s.block s.text ++ tail)))
     ≡ rows_of_part bs xs ++ (block_rows s.block s.text b (marks_of xs) tail ++ rows_from (length (open_behind_part bs xs)) (full_lines (past_break tail)))
 spot_is bs xs s tail b h e =
@@ -153,14 +151,14 @@ spot_is bs xs s tail b h e =
 -- ---- all of them
 
 -- by the numbers of the blocks, behind the first
-abbrev pub later_rows : (ss : List BlockSpot) → List ℕ → AreBlocks ss → ℕ → List Row
+abbrev pub later_rows : (ss : List ItemSpot) → List Item → AreBlocksIn ss → ℕ → List Row
 later_rows [] behind b j = []
-later_rows (s ∷ ss) behind b zero = block_rows s.block s.text b.0 (marks_of (past_break (page_items s.before))) (spots_items ss behind)
+later_rows (s ∷ ss) behind b zero = block_rows s.block s.text b.0 (marks_of (past_break s.before)) (placed_items ss behind)
 later_rows (s ∷ ss) behind b (suc j) = later_rows ss behind b.1 j
 
-abbrev pub page_rows : (ss : List BlockSpot) → List ℕ → AreBlocks ss → ℕ → List Row
+abbrev pub page_rows : (ss : List ItemSpot) → List Item → AreBlocksIn ss → ℕ → List Row
 page_rows [] behind b j = []
-page_rows (s ∷ ss) behind b zero = block_rows s.block s.text b.0 (marks_of (page_items s.before)) (spots_items ss behind)
+page_rows (s ∷ ss) behind b zero = block_rows s.block s.text b.0 (marks_of s.before) (placed_items ss behind)
 page_rows (s ∷ ss) behind b (suc j) = later_rows ss behind b.1 j
 
 slot_rows : (p : ℕ → List Row) (k : TextBlock) (i : ℕ) (a b : List Item) (rest : List Slot) → rows_at p (slot_of k i a b ∷ rest) ≡ p i ++ rows_at p rest
@@ -188,14 +186,14 @@ others_of i f g h = λ j. let z : suc i + j ≡ i + suc j = omega arith in ap f 
 from_none : {A : Type 0} (f : ℕ → A) → Shifted 0 f f
 from_none f = λ j. let z : 0 + j ≡ j = omega arith in ap f z
 
-from_rows : (last : TextBlock) (i : ℕ) (bs : List Bool) (ss : List BlockSpot) (behind : List ℕ) (b : AreBlocks ss) (p : ℕ → List Row) → AreSpotsAfter last bs ss behind
-    → Shifted i p (later_rows ss behind b) → rows_at p (slots_from i bs ss behind) ≡ rows_from (length bs) (full_lines (past_break (spots_items ss behind)))
-from_rows last i bs [] behind b p h e = placed_rows p (rows_from (length bs) (full_lines (past_break (page_items behind))))
+from_rows : (last : TextBlock) (i : ℕ) (bs : List Bool) (ss : List ItemSpot) (behind : List Item) (b : AreBlocksIn ss) (p : ℕ → List Row) → ArePlacedAfter last bs ss behind
+    → Shifted i p (later_rows ss behind b) → rows_at p (slots_from i bs ss behind) ≡ rows_from (length bs) (full_lines (past_break (placed_items ss behind)))
+from_rows last i bs [] behind b p h e = placed_rows p (rows_from (length bs) (full_lines (past_break behind)))
 from_rows last i bs (s ∷ ss) behind b p h e =
-    let ys : List Item = page_items s.before in
+    let ys : List Item = s.before in
     let xs : List Item = past_break ys in
     let cs : List Bool = open_behind_part bs xs in
-    let tail : List Item = spots_items ss behind in
+    let tail : List Item = placed_items ss behind in
     let rest : List Item = block_items s.block s.text ++ tail in
     spot_rows p i bs xs s.block (end_behind ss behind) (slots_from (suc i) cs ss behind) (block_rows s.block s.text b.0 (marks_of xs) tail)
     (rows_from (length cs) (full_lines (past_break tail))) (first_of i p (later_rows (s ∷ ss) behind b) e)
@@ -203,13 +201,13 @@ from_rows last i bs (s ∷ ss) behind b p h e =
     ∙ sym (spot_is bs xs s tail b.0 h.1 (line_behind s.block cs ss behind h.2))
     ∙ ap (λ (zs : List Item). rows_from (length bs) (full_lines zs)) (sym (past_join last s.block bs ys rest h.0))
 
-pub slots_rows : (ss : List BlockSpot) (behind : List ℕ) (b : AreBlocks ss) → AreParts ss behind
-    → rows_at (page_rows ss behind b) (page_slots ss behind) ≡ rows_from 0 (full_lines (spots_items ss behind))
+pub slots_rows : (ss : List ItemSpot) (behind : List Item) (b : AreBlocksIn ss) → ArePlaced ss behind
+    → rows_at (page_rows ss behind b) (page_slots ss behind) ≡ rows_from 0 (full_lines (placed_items ss behind))
 slots_rows [] behind b h = absurd h
 slots_rows (s ∷ ss) behind b h =
-    let xs : List Item = page_items s.before in
+    let xs : List Item = s.before in
     let cs : List Bool = open_behind_part [] xs in
-    let tail : List Item = spots_items ss behind in
+    let tail : List Item = placed_items ss behind in
     let p : ℕ → List Row = page_rows (s ∷ ss) behind b in
     spot_rows p 0 [] xs s.block (end_behind ss behind) (slots_from 1 cs ss behind) (block_rows s.block s.text b.0 (marks_of xs) tail)
     (rows_from (length cs) (full_lines (past_break tail))) refl
@@ -217,6 +215,12 @@ slots_rows (s ∷ ss) behind b h =
     ∙ sym (spot_is [] xs s tail b.0 h.0 (line_behind s.block cs ss behind h.1))
 
 -- ---- and each is at its place
+
+-- the block with this number
+abbrev pub trees_by : List ItemSpot → ℕ → ItemTree
+trees_by [] i = block_tree a_paragraph []
+trees_by (s ∷ ss) zero = block_tree s.block s.text
+trees_by (s ∷ ss) (suc i) = trees_by ss i
 
 rows_at_places : (rs : List Row) (ss : List Slot) (p : ℕ → List Row) (t : ℕ → ItemTree) → AreAt ss p t → AreAt (rows_slots rs ++ ss) p t
 rows_at_places [] ss p t h = h
@@ -226,30 +230,29 @@ rows_alone : (rs : List Row) (p : ℕ → List Row) (t : ℕ → ItemTree) → A
 rows_alone [] p t = tt
 rows_alone (r ∷ rs) p t = rows_alone rs p t
 
-spot_at : (s : BlockSpot) (b : IsBlock s.block s.text) (i : ℕ) (bs : List Bool) (xs tail end : List Item) (rest : List Slot) (p : ℕ → List Row) (t : ℕ → ItemTree)
+spot_at : (s : ItemSpot) (b : IsBlock s.block s.text) (i : ℕ) (bs : List Bool) (xs tail end : List Item) (rest : List Slot) (p : ℕ → List Row) (t : ℕ → ItemTree)
     → end_of tail ≡ end → p i ≡ block_rows s.block s.text b (marks_of xs) tail → t i ≡ block_tree s.block s.text → AreAt rest p t
     → AreAt (spot_slots i bs xs s.block end rest) p t
 spot_at s b i bs xs tail end rest p t is e f h =
     rows_at_places (rows_of_part bs xs) (slot_of s.block i (marks_of xs) end ∷ rest) p t
     (subst (λ end. AreAt (slot_of s.block i (marks_of xs) end ∷ rest) p t) is (block_at s.block s.text b i (marks_of xs) tail rest p t e f h))
 
-from_at : (last : TextBlock) (i : ℕ) (bs : List Bool) (ss : List BlockSpot) (behind : List ℕ) (b : AreBlocks ss) (p : ℕ → List Row) (t : ℕ → ItemTree)
-    → AreSpotsAfter last bs ss behind → Shifted i p (later_rows ss behind b) → Shifted i t (tree_by ss) → AreAt (slots_from i bs ss behind) p t
-from_at last i bs [] behind b p t h e f = rows_alone (rows_from (length bs) (full_lines (past_break (page_items behind)))) p t
+from_at : (last : TextBlock) (i : ℕ) (bs : List Bool) (ss : List ItemSpot) (behind : List Item) (b : AreBlocksIn ss) (p : ℕ → List Row) (t : ℕ → ItemTree)
+    → ArePlacedAfter last bs ss behind → Shifted i p (later_rows ss behind b) → Shifted i t (trees_by ss) → AreAt (slots_from i bs ss behind) p t
+from_at last i bs [] behind b p t h e f = rows_alone (rows_from (length bs) (full_lines (past_break behind))) p t
 from_at last i bs (s ∷ ss) behind b p t h e f =
-    let xs : List Item = past_break (page_items s.before) in
+    let xs : List Item = past_break s.before in
     let cs : List Bool = open_behind_part bs xs in
-    spot_at s b.0 i bs xs (spots_items ss behind) (end_behind ss behind) (slots_from (suc i) cs ss behind) p t (end_is s.block cs ss behind h.2)
-    (first_of i p (later_rows (s ∷ ss) behind b) e) (first_of i t (tree_by (s ∷ ss)) f)
-    (from_at s.block (suc i) cs ss behind b.1 p t h.2 (others_of i p (later_rows (s ∷ ss) behind b) e) (others_of i t (tree_by (s ∷ ss)) f))
+    spot_at s b.0 i bs xs (placed_items ss behind) (end_behind ss behind) (slots_from (suc i) cs ss behind) p t (end_is s.block cs ss behind h.2)
+    (first_of i p (later_rows (s ∷ ss) behind b) e) (first_of i t (trees_by (s ∷ ss)) f)
+    (from_at s.block (suc i) cs ss behind b.1 p t h.2 (others_of i p (later_rows (s ∷ ss) behind b) e) (others_of i t (trees_by (s ∷ ss)) f))
 
-pub slots_at : (ss : List BlockSpot) (behind : List ℕ) (b : AreBlocks ss) → AreParts ss behind
-    → AreAt (page_slots ss behind) (page_rows ss behind b) (tree_by ss)
-slots_at [] behind b h = absurd h
-slots_at (s ∷ ss) behind b h =
-    let xs : List Item = page_items s.before in
+pub slots_at : (ss : List ItemSpot) (behind : List Item) (b : AreBlocksIn ss) (t : ℕ → ItemTree) → ((i : ℕ) → t i ≡ trees_by ss i) → ArePlaced ss behind
+    → AreAt (page_slots ss behind) (page_rows ss behind b) t
+slots_at [] behind b t f h = absurd h
+slots_at (s ∷ ss) behind b t f h =
+    let xs : List Item = s.before in
     let cs : List Bool = open_behind_part [] xs in
     let p : ℕ → List Row = page_rows (s ∷ ss) behind b in
-    let t : ℕ → ItemTree = tree_by (s ∷ ss) in
-    spot_at s b.0 0 [] xs (spots_items ss behind) (end_behind ss behind) (slots_from 1 cs ss behind) p t (end_is s.block cs ss behind h.1) refl refl
-    (from_at s.block 1 cs ss behind b.1 p t h.1 (others_of 0 p p (from_none p)) (others_of 0 t t (from_none t)))
+    spot_at s b.0 0 [] xs (placed_items ss behind) (end_behind ss behind) (slots_from 1 cs ss behind) p t (end_is s.block cs ss behind h.1) refl (f 0)
+    (from_at s.block 1 cs ss behind b.1 p t h.1 (others_of 0 p p (from_none p)) (λ j. let z : 1 + j ≡ suc j = omega arith in ap t z ∙ f (suc j)))

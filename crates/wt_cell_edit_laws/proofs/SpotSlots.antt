@@ -10,18 +10,17 @@ use Rattle.wt_blocks.specs.Paragraphs.{is_text}
 use Rattle.wt_tables.specs.Extents.{behind}
 use Rattle.wt_headings.specs.Lines.{kind_at}
 use Rattle.wt_page.specs.Rows.{Row, line_rows, unwritten_end, rows_from}
-use Rattle.wt_expand.specs.PageItems.{page_items}
 use Rattle.wt_row_laws.specs.Slots.{open_behind, Slot, a_row, a_paragraph as text_place, a_heading as heading_place, numbers_of, AllTrue, AreInCells, BeginsApart, AreApart, AreFew}
 use Rattle.wt_row_laws.proofs.OpenKinds.{opens_few}
 use Rattle.wt_row_laws.proofs.Parsed.{rows_slots, rows_join as slots_join}
 use Rattle.wt_row_laws.proofs.Places.{no_numbers, row_numbers}
 use Rattle.wt_text_edit_laws.specs.ParagraphBetween.{written_rows, tables_behind, before_marks, BeginApart}
 use Rattle.wt_text_edit_laws.specs.TextBlocks.{TextBlock, a_paragraph, a_heading, FirstApart}
-use Rattle.wt_text_edit_laws.specs.BlockSpots.{BlockSpot, SameRound}
 use Rattle.wt_text_edit_laws.proofs.Prose.ProseReading.{break}
 use Rattle.wt_text_edit_laws.proofs.Paragraphs.Joining.{rows_join}
 use Rattle.wt_text_edit_laws.proofs.Paragraphs.Marks.{marks_end}
-use Rattle.wt_cell_edit_laws.specs.AnyBlocks.{open_after, rows_of_part, open_behind_part, EndsFor, NextApart, past_break, BeginsAfter, EndsAfter, AreSpotsAfter, AreParts}
+use Rattle.wt_cell_edit_laws.specs.AnyBlocks.{open_after, rows_of_part, open_behind_part, EndsFor, NextApart, past_break, BeginsAfter, EndsAfter}
+use Rattle.wt_cell_edit_laws.specs.ItemSpots.{ItemSpot, SameItems, ArePlacedAfter, ArePlaced}
 use Rattle.wt_cell_edit_laws.proofs.Cells.{end_of}
 use Rattle.wt_cell_edit_laws.proofs.PageSlots.{open_length, open_join, line_open, lines_in_cells}
 
@@ -36,58 +35,58 @@ slot_of a_paragraph n lead end = text_place n lead end
 slot_of (a_heading s) n lead end = heading_place n lead end
 
 -- the line break that ends a block, or nothing
-abbrev pub end_behind : List BlockSpot → List ℕ → List Item
-end_behind [] behind = end_of (page_items behind)
+abbrev pub end_behind : List ItemSpot → List Item → List Item
+end_behind [] behind = end_of behind
 end_behind (s ∷ ss) behind = break ∷ []
 
 abbrev pub spot_slots : ℕ → List Bool → List Item → TextBlock → List Item → List Slot → List Slot
 spot_slots i bs xs k end rest = rows_slots (rows_of_part bs xs) ++ slot_of k i (marks_of xs) end ∷ rest
 
 -- behind a block at which these tables are open, with numbers from this on
-abbrev pub slots_from : ℕ → List Bool → List BlockSpot → List ℕ → List Slot
-slots_from i bs [] behind = rows_slots (rows_from (length bs) (full_lines (past_break (page_items behind))))
+abbrev pub slots_from : ℕ → List Bool → List ItemSpot → List Item → List Slot
+slots_from i bs [] behind = rows_slots (rows_from (length bs) (full_lines (past_break behind)))
 slots_from i bs (s ∷ ss) behind =
-    spot_slots i bs (past_break (page_items s.before)) s.block (end_behind ss behind)
-    (slots_from (suc i) (open_behind_part bs (past_break (page_items s.before))) ss behind)
+    spot_slots i bs (past_break s.before) s.block (end_behind ss behind)
+    (slots_from (suc i) (open_behind_part bs (past_break s.before)) ss behind)
 
-abbrev pub page_slots : List BlockSpot → List ℕ → List Slot
+abbrev pub page_slots : List ItemSpot → List Item → List Slot
 page_slots [] behind = []
 page_slots (s ∷ ss) behind =
-    spot_slots 0 [] (page_items s.before) s.block (end_behind ss behind) (slots_from 1 (open_behind_part [] (page_items s.before)) ss behind)
+    spot_slots 0 [] s.before s.block (end_behind ss behind) (slots_from 1 (open_behind_part [] s.before) ss behind)
 
 -- ---- they hang on no text
 
-same_behind : (ss rs : List BlockSpot) (behind : List ℕ) → SameRound ss rs → end_behind ss behind ≡ end_behind rs behind
+same_behind : (ss rs : List ItemSpot) (behind : List Item) → SameItems ss rs → end_behind ss behind ≡ end_behind rs behind
 same_behind [] [] behind e = refl
 same_behind [] (r ∷ rs) behind e = absurd e
 same_behind (s ∷ ss) [] behind e = absurd e
 same_behind (s ∷ ss) (r ∷ rs) behind e = refl
 
-abbrev spot_from : ℕ → List Bool → (List Item → List Item) → List ℕ → TextBlock → List Item → (List Bool → List Slot) → List Slot
-spot_from i bs f before k end rest = spot_slots i bs (f (page_items before)) k end (rest (open_behind_part bs (f (page_items before))))
+abbrev spot_from : ℕ → List Bool → (List Item → List Item) → List Item → TextBlock → List Item → (List Bool → List Slot) → List Slot
+spot_from i bs f before k end rest = spot_slots i bs (f before) k end (rest (open_behind_part bs (f before)))
 
-same_from : (i : ℕ) (bs : List Bool) (ss rs : List BlockSpot) (behind : List ℕ) → SameRound ss rs → slots_from i bs ss behind ≡ slots_from i bs rs behind
+same_from : (i : ℕ) (bs : List Bool) (ss rs : List ItemSpot) (behind : List Item) → SameItems ss rs → slots_from i bs ss behind ≡ slots_from i bs rs behind
 same_from i bs [] [] behind e = refl
 same_from i bs [] (r ∷ rs) behind e = absurd e
 same_from i bs (s ∷ ss) [] behind e = absurd e
 same_from i bs (s ∷ ss) (r ∷ rs) behind e =
     ap (λ end. spot_from i bs past_break s.before s.block end (λ cs. slots_from (suc i) cs ss behind)) (same_behind ss rs behind e.2)
-    ∙ ap (spot_slots i bs (past_break (page_items s.before)) s.block (end_behind rs behind))
-    (same_from (suc i) (open_behind_part bs (past_break (page_items s.before))) ss rs behind e.2)
+    ∙ ap (spot_slots i bs (past_break s.before) s.block (end_behind rs behind))
+    (same_from (suc i) (open_behind_part bs (past_break s.before)) ss rs behind e.2)
     ∙ sym (ap₂ (λ b k. spot_from i bs past_break b k (end_behind rs behind) (λ cs. slots_from (suc i) cs rs behind)) e.0 e.1)
 
-pub same_slots : (ss rs : List BlockSpot) (behind : List ℕ) → SameRound ss rs → page_slots ss behind ≡ page_slots rs behind
+pub same_slots : (ss rs : List ItemSpot) (behind : List Item) → SameItems ss rs → page_slots ss behind ≡ page_slots rs behind
 same_slots [] [] behind e = refl
 same_slots [] (r ∷ rs) behind e = absurd e
 same_slots (s ∷ ss) [] behind e = absurd e
 same_slots (s ∷ ss) (r ∷ rs) behind e =
     ap (λ end. spot_from 0 [] (λ xs. xs) s.before s.block end (λ cs. slots_from 1 cs ss behind)) (same_behind ss rs behind e.2)
-    ∙ ap (spot_slots 0 [] (page_items s.before) s.block (end_behind rs behind)) (same_from 1 (open_behind_part [] (page_items s.before)) ss rs behind e.2)
+    ∙ ap (spot_slots 0 [] s.before s.block (end_behind rs behind)) (same_from 1 (open_behind_part [] s.before) ss rs behind e.2)
     ∙ sym (ap₂ (λ b k. spot_from 0 [] (λ xs. xs) b k (end_behind rs behind) (λ cs. slots_from 1 cs rs behind)) e.0 e.1)
 
 -- ---- their numbers
 
-abbrev pub numbered_from : ℕ → List BlockSpot → List ℕ
+abbrev pub numbered_from : ℕ → List ItemSpot → List ℕ
 numbered_from i [] = []
 numbered_from i (s ∷ ss) = i ∷ numbered_from (suc i) ss
 
@@ -100,17 +99,17 @@ spot_numbers : (i : ℕ) (bs : List Bool) (xs : List Item) (k : TextBlock) (end 
 spot_numbers i bs xs k end rest =
     no_numbers (rows_of_part bs xs) (slot_of k i (marks_of xs) end ∷ rest) ∙ slot_number k i (marks_of xs) end rest
 
-from_numbers : (i : ℕ) (bs : List Bool) (ss : List BlockSpot) (behind : List ℕ) → numbers_of (slots_from i bs ss behind) ≡ numbered_from i ss
-from_numbers i bs [] behind = row_numbers (rows_from (length bs) (full_lines (past_break (page_items behind))))
+from_numbers : (i : ℕ) (bs : List Bool) (ss : List ItemSpot) (behind : List Item) → numbers_of (slots_from i bs ss behind) ≡ numbered_from i ss
+from_numbers i bs [] behind = row_numbers (rows_from (length bs) (full_lines (past_break behind)))
 from_numbers i bs (s ∷ ss) behind =
-    let xs : List Item = past_break (page_items s.before) in
+    let xs : List Item = past_break s.before in
     let cs : List Bool = open_behind_part bs xs in
     spot_numbers i bs xs s.block (end_behind ss behind) (slots_from (suc i) cs ss behind) ∙ ap (λ ns. i ∷ ns) (from_numbers (suc i) cs ss behind)
 
-pub slots_numbers : (ss : List BlockSpot) (behind : List ℕ) → numbers_of (page_slots ss behind) ≡ numbered_from 0 ss
+pub slots_numbers : (ss : List ItemSpot) (behind : List Item) → numbers_of (page_slots ss behind) ≡ numbered_from 0 ss
 slots_numbers [] behind = refl
 slots_numbers (s ∷ ss) behind =
-    let xs : List Item = page_items s.before in
+    let xs : List Item = s.before in
     let cs : List Bool = open_behind_part [] xs in
     spot_numbers 0 [] xs s.block (end_behind ss behind) (slots_from 1 cs ss behind) ∙ ap (λ (ns : List ℕ). 0 ∷ ns) (from_numbers 1 cs ss behind)
 
@@ -155,18 +154,18 @@ spot_in_cells i bs xs k end rest t h =
     lines_in_cells bs (length bs) (full_lines (before_marks xs)) (slot_of k i (marks_of xs) end ∷ rest) refl
     (slot_in_cells k i (open_behind_part bs xs) (marks_of xs) end rest t h)
 
-from_in_cells : (last : TextBlock) (i : ℕ) (bs : List Bool) (ss : List BlockSpot) (behind : List ℕ) → AreSpotsAfter last bs ss behind
+from_in_cells : (last : TextBlock) (i : ℕ) (bs : List Bool) (ss : List ItemSpot) (behind : List Item) → ArePlacedAfter last bs ss behind
     → AreInCells bs (slots_from i bs ss behind)
-from_in_cells last i bs [] behind h = rest_in_cells bs (full_lines (past_break (page_items behind)))
+from_in_cells last i bs [] behind h = rest_in_cells bs (full_lines (past_break behind))
 from_in_cells last i bs (s ∷ ss) behind h =
-    let xs : List Item = past_break (page_items s.before) in
+    let xs : List Item = past_break s.before in
     let cs : List Bool = open_behind_part bs xs in
     spot_in_cells i bs xs s.block (end_behind ss behind) (slots_from (suc i) cs ss behind) h.1.1.in_cells (from_in_cells s.block (suc i) cs ss behind h.2)
 
-pub slots_in_cells : (ss : List BlockSpot) (behind : List ℕ) → AreParts ss behind → AreInCells [] (page_slots ss behind)
+pub slots_in_cells : (ss : List ItemSpot) (behind : List Item) → ArePlaced ss behind → AreInCells [] (page_slots ss behind)
 slots_in_cells [] behind h = absurd h
 slots_in_cells (s ∷ ss) behind h =
-    let xs : List Item = page_items s.before in
+    let xs : List Item = s.before in
     let cs : List Bool = open_behind_part [] xs in
     spot_in_cells 0 [] xs s.block (end_behind ss behind) (slots_from 1 cs ss behind) h.0.1.in_cells (from_in_cells s.block 1 cs ss behind h.1)
 
@@ -234,17 +233,17 @@ spot_few i bs xs k end rest h =
     lines_few bs (length bs) (full_lines (before_marks xs)) (slot_of k i (marks_of xs) end ∷ rest) refl
     (slot_few k i (open_behind_part bs xs) (marks_of xs) end rest h)
 
-from_few : (i : ℕ) (bs : List Bool) (ss : List BlockSpot) (behind : List ℕ) → AreFew MOST_TABLES bs (slots_from i bs ss behind)
-from_few i bs [] behind = rest_few bs (full_lines (past_break (page_items behind)))
+from_few : (i : ℕ) (bs : List Bool) (ss : List ItemSpot) (behind : List Item) → AreFew MOST_TABLES bs (slots_from i bs ss behind)
+from_few i bs [] behind = rest_few bs (full_lines (past_break behind))
 from_few i bs (s ∷ ss) behind =
-    let xs : List Item = past_break (page_items s.before) in
+    let xs : List Item = past_break s.before in
     let cs : List Bool = open_behind_part bs xs in
     spot_few i bs xs s.block (end_behind ss behind) (slots_from (suc i) cs ss behind) (from_few (suc i) cs ss behind)
 
-pub slots_few : (ss : List BlockSpot) (behind : List ℕ) → AreFew MOST_TABLES [] (page_slots ss behind)
+pub slots_few : (ss : List ItemSpot) (behind : List Item) → AreFew MOST_TABLES [] (page_slots ss behind)
 slots_few [] behind = tt
 slots_few (s ∷ ss) behind =
-    let xs : List Item = page_items s.before in
+    let xs : List Item = s.before in
     let cs : List Bool = open_behind_part [] xs in
     spot_few 0 [] xs s.block (end_behind ss behind) (slots_from 1 cs ss behind) (from_few 1 cs ss behind)
 
@@ -326,30 +325,30 @@ next_rows : (last next : TextBlock) (bs : List Bool) (ys : List Item) → Begins
 next_rows last next bs [] h = absurd h
 next_rows last next bs (y ∷ ys) h = h.1
 
-follows_from : (last : TextBlock) (i : ℕ) (bs : List Bool) (ss : List BlockSpot) (behind : List ℕ) → AreSpotsAfter last bs ss behind
+follows_from : (last : TextBlock) (i : ℕ) (bs : List Bool) (ss : List ItemSpot) (behind : List Item) → ArePlacedAfter last bs ss behind
     → FollowsBlock last (slots_from i bs ss behind)
 follows_from (a_heading j) i bs ss behind h = tt
-follows_from a_paragraph i bs [] behind h = begins_end (length bs) (page_items behind) h.2
+follows_from a_paragraph i bs [] behind h = begins_end (length bs) behind h
 follows_from a_paragraph i bs (s ∷ ss) behind h =
-    let xs : List Item = past_break (page_items s.before) in
+    let xs : List Item = past_break s.before in
     begins_by s.block (rows_of_part bs xs) i (marks_of xs) (end_behind ss behind) (slots_from (suc i) (open_behind_part bs xs) ss behind)
-    (next_rows a_paragraph s.block bs (page_items s.before) h.0)
+    (next_rows a_paragraph s.block bs s.before h.0)
 
-from_apart : (last : TextBlock) (i : ℕ) (bs : List Bool) (ss : List BlockSpot) (behind : List ℕ) → AreSpotsAfter last bs ss behind
+from_apart : (last : TextBlock) (i : ℕ) (bs : List Bool) (ss : List ItemSpot) (behind : List Item) → ArePlacedAfter last bs ss behind
     → AreApart (slots_from i bs ss behind)
 from_apart last i bs [] behind h =
-    let rs : List Row = rows_from (length bs) (full_lines (past_break (page_items behind))) in
+    let rs : List Row = rows_from (length bs) (full_lines (past_break behind)) in
     subst AreApart (append-nil (rows_slots rs)) (rows_apart rs [] (follow_none rs) tt)
 from_apart last i bs (s ∷ ss) behind h =
-    let xs : List Item = past_break (page_items s.before) in
+    let xs : List Item = past_break s.before in
     let cs : List Bool = open_behind_part bs xs in
     spot_apart i bs xs s.block (end_behind ss behind) (slots_from (suc i) cs ss behind) h.1.1.apart (follows_from s.block (suc i) cs ss behind h.2)
     (from_apart s.block (suc i) cs ss behind h.2)
 
-pub slots_apart : (ss : List BlockSpot) (behind : List ℕ) → AreParts ss behind → AreApart (page_slots ss behind)
+pub slots_apart : (ss : List ItemSpot) (behind : List Item) → ArePlaced ss behind → AreApart (page_slots ss behind)
 slots_apart [] behind h = absurd h
 slots_apart (s ∷ ss) behind h =
-    let xs : List Item = page_items s.before in
+    let xs : List Item = s.before in
     let cs : List Bool = open_behind_part [] xs in
     spot_apart 0 [] xs s.block (end_behind ss behind) (slots_from 1 cs ss behind) h.0.1.apart (follows_from s.block 1 cs ss behind h.1)
     (from_apart s.block 1 cs ss behind h.1)

@@ -73,7 +73,7 @@ counted_bordered (s ∷ ss) = (block_bordered s.block s.text, bordered_up s ss (
 pub tree_borders : (ss : List BlockSpot) (fs : Frames) → AreFrames fs content → all_places fs ≡ counted ss → AllBorders (tree_by ss) fs
 tree_borders ss fs h e = all_borders content (tree_by ss) fs (subst (AreBordered (tree_by ss)) (sym e) (counted_bordered ss)) h
 
-leaves_full : (k : TextBlock) (q : List ℕ) → ArePlain (leaf_block k (leaves (page_items q)) ∷ []) → IsFull (leaf_block k (leaves (page_items q)))
+pub leaves_full : (k : TextBlock) (q : List ℕ) → ArePlain (leaf_block k (leaves (page_items q)) ∷ []) → IsFull (leaf_block k (leaves (page_items q)))
 leaves_full a_paragraph q h =
     let xs : List Item = tree_items (leaf_block a_paragraph (leaves (page_items q))) in
     (h.none_empty.0, h.none_empty.1, (all_of xs [] (all_of (xs ++ []) [] h.of_page).0).0)

@@ -62,11 +62,11 @@ typed_is_block : (k : TextBlock) (q : List ℕ) → IsTypedIn k q → IsBlock k 
 typed_is_block a_paragraph q h = inl h
 typed_is_block (a_heading s) q h = inl h
 
-block_over : (k : TextBlock) (was now : List ℕ) → (now ≡ was) ⊎ IsTypedIn k now → IsBlock k was → IsBlock k now
+pub block_over : (k : TextBlock) (was now : List ℕ) → (now ≡ was) ⊎ IsTypedIn k now → IsBlock k was → IsBlock k now
 block_over k was now (inl e) h = subst (λ q. IsBlock k q) (sym e) h
 block_over k was now (inr t) h = typed_is_block k now t
 
-stays_over : (k : TextBlock) (n : ℕ) (was now : List ℕ) → (now ≡ was) ⊎ IsTypedIn k now → StaysText k n was → StaysText k n now
+pub stays_over : (k : TextBlock) (n : ℕ) (was now : List ℕ) → (now ≡ was) ⊎ IsTypedIn k now → StaysText k n was → StaysText k n now
 stays_over k n was now (inl e) h = subst (λ q. StaysText k n q) (sym e) h
 stays_over a_paragraph n was now (inr t) h = typed_stays_text n now t
 stays_over (a_heading s) n was now (inr t) h = tt

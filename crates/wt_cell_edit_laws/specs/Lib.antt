@@ -7,3 +7,5 @@ pub mod HeadingsInCells
 pub mod InCells
 pub mod UnmarkedCells
 pub mod OwnTexts
+pub mod ItemSpots
+pub mod CalledBlocks

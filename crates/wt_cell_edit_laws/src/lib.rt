@@ -7,17 +7,20 @@ ghost use Rattle.wt_span.specs.Items.{Item};
 ghost use Rattle.wt_tree.specs.Tree.{Label};
 ghost use Rattle.wt_checks.specs.Kept.{children};
 ghost use Rattle.wt_expand.specs.PageItems.{page_items};
+ghost use Rattle.wt_expand.specs.Work.{Pages};
 ghost use Rattle.wt_commands.specs.Calls.{Call};
 ghost use Rattle.wt_pagetool.specs.Promises.{Ends, EndsAsEdit};
 ghost use Rattle.wt_typed_blocks.specs.Sent.{paragraph};
 ghost use Rattle.wt_text_edit_laws.specs.BlockEdits.{typed_as};
 ghost use Rattle.wt_text_edit_laws.specs.BlockSpots.{BlockSpot, AreBlockSpots};
-ghost use Rattle.wt_text_edit_laws.specs.Parts.{part_tree, HasNoGroups};
+ghost use Rattle.wt_text_edit_laws.specs.Parts.{part_tree};
 ghost use Rattle.wt_text_edit_laws.specs.TextBlocks.{a_paragraph};
 ghost use Rattle.wt_text_edit_laws.specs.TypedPages.{IsTypedPage};
+ghost use Rattle.wt_called_parts.specs.Retyped.{AreRetyped};
 ghost use Rattle.wt_cell_edit_laws.specs.AnyBlocks.{AreSpots};
 ghost use Rattle.wt_cell_edit_laws.specs.AnyCalls.{TakesTextsAnywhere};
 ghost use Rattle.wt_cell_edit_laws.specs.AnyTexts.{TakesAnyTexts};
+ghost use Rattle.wt_cell_edit_laws.specs.CalledBlocks.{AreAmongCalls, StandAmongCalls};
 ghost use Rattle.wt_cell_edit_laws.specs.CellCalls.{TakesTextsInCells};
 ghost use Rattle.wt_cell_edit_laws.specs.CellEdits.{CellPage, page_with, IsCellPage, IsCellEdit, LeadsFrom, TakesText, own_sents};
 ghost use Rattle.wt_cell_edit_laws.specs.HeadingsInCells.{IsHeadingInCell, HeadingStandsInCell};
@@ -43,13 +46,13 @@ pub fn heading_stands_in_its_cell()
 /// Such a paragraph takes any text: there is a path at which it is in the page's tree, and an edit that sends it marked
 /// `content`, with any text typed in it, and all else as it is in the page, is done; in the new page the paragraph is
 /// its text as it is spelled, and every other byte is what it was; unless the new page is longer than a page may be.
-/// There is such an edit with each text: the one that sends every other node without marks, where the page has no
-/// groups. The new page is such a page again.
+/// There is such an edit with each text: the one that sends every other node without marks. The new page is such a page
+/// again.
 #[tactic(auto, using(crate::proofs::Takes::takes_any))]
 pub fn typed_paragraph_in_a_cell_takes_any_text()
     ensures takes { (c : CellPage) → IsCellPage c → TakesText c }
-    ensures edit { (c : CellPage) (path : List ℕ) (m : Label) (text : List ℕ) → HasNoGroups (page_with c c.text)
-        → LeadsFrom path (children (part_tree (page_with c c.text))) → IsUtf8 text → IsCellEdit c path text (own_sents path m text (children (part_tree (page_with c c.text)))) }
+    ensures edit { (c : CellPage) (path : List ℕ) (m : Label) (text : List ℕ) → IsCellPage c → LeadsFrom path (children (part_tree (page_with c c.text))) → IsUtf8 text
+        → IsCellEdit c path text (own_sents path m text (children (part_tree (page_with c c.text)))) }
     ensures again { (c : CellPage) (text : List ℕ) → IsCellPage c → IsUtf8 text
         → IsCellPage (record { before = c.before; text = typed_as paragraph c.text text; behind = c.behind }) }
 {}
@@ -96,4 +99,18 @@ pub fn pages_with_a_paragraph_in_a_cell_are_such()
 #[tactic(auto, using(crate::proofs::AnyPages::any_calls))]
 pub fn calls_take_texts_anywhere()
     ensures { (c : Call) (ended : ℕ) → Ends c ended → EndsAsEdit c ended → TakesTextsAnywhere c ended }
+{}
+
+/// Such blocks may be among calls, too, where no call goes over the end of a part, and each block is a block of its own
+/// by what the calls give: each is at a place of the page's tree that texts typed in them don't move, and all else is
+/// the same. With such texts it is such a page again.
+pub fn blocks_among_calls_stand_at_their_places()
+    ensures stand { (pages : Pages) (ss : List BlockSpot) (behind : List ℕ) → AreAmongCalls pages ss behind → StandAmongCalls pages ss behind }
+    ensures again { (pages : Pages) (ss rs : List BlockSpot) (behind : List ℕ) → AreAmongCalls pages ss behind → AreRetyped ss rs
+        → AreAmongCalls pages rs behind }
+{}
+
+/// A page that calls nothing (`AreSpots`) is such a page, too.
+pub fn pages_without_calls_are_among_these()
+    ensures { (pages : Pages) (ss : List BlockSpot) (behind : List ℕ) → AreSpots ss behind → AreAmongCalls pages ss behind }
 {}

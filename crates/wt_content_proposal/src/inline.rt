@@ -122,7 +122,7 @@ fn push_kept(
 fn push_if_unchanged(
     alloc: Global,
     out: &mut Vec<Unit<'_>>,
-    writing: Writing<'_, '_, '_>,
+    writing: &Writing<'_, '_, '_>,
     kept: Option<Kept<'_, '_>>,
     node: &Node<'_>,
 ) -> Result<bool, NoMemory> {
@@ -143,7 +143,7 @@ fn push_if_unchanged(
 fn push_shown<'t, 'a>(
     alloc: Global,
     out: &mut Vec<Unit<'_>>,
-    writing: Writing<'_, 't, 'a>,
+    writing: &Writing<'_, 't, 'a>,
     kept: Option<Kept<'t, 'a>>,
     node: &Node<'_>,
 ) -> Result<(), NoMemory> {
@@ -210,7 +210,7 @@ fn push_closing(alloc: Global, out: &mut Vec<Unit<'_>>, old: Kept<'_, '_>) -> Re
 
 /// The page's node, where it is of the same kind and its delimiters stay.
 fn with_delimiters<'t, 'a>(
-    writing: Writing<'_, '_, '_>,
+    writing: &Writing<'_, '_, '_>,
     kept: Option<Kept<'t, 'a>>,
     kind: Kind,
 ) -> Option<Kept<'t, 'a>> {
@@ -225,7 +225,7 @@ fn with_delimiters<'t, 'a>(
 fn push_style<'n, 't, 'a>(
     alloc: Global,
     out: &mut Vec<Unit<'n>>,
-    writing: Writing<'_, 't, 'a>,
+    writing: &Writing<'_, 't, 'a>,
     sign: &str,
     kept: Option<Kept<'t, 'a>>,
     node: &'n Node<'_>,
@@ -234,6 +234,9 @@ fn push_style<'n, 't, 'a>(
     if let Some(old) = with_delimiters(writing, kept, node.kind) {
         push_opening(alloc, out, old)?;
         push_units(alloc, out, writing, nodes, edges_in(kept))?;
+        if matches!(node.kind, Kind::Bold) && is_new_italic_alone(nodes) {
+            push_nowiki(alloc, out)?;
+        }
         return push_closing(alloc, out, old);
     }
     push_toggle(alloc, out, sign)?;
@@ -251,6 +254,14 @@ fn push_style<'n, 't, 'a>(
 fn is_italic_alone(nodes: &[Node<'_>]) -> bool {
     match nodes.first() {
         Some(node) => nodes.len() == 1 && matches!(node.kind, Kind::Italic),
+        None => false,
+    }
+}
+
+/// The same of italic text that is new.
+fn is_new_italic_alone(nodes: &[Node<'_>]) -> bool {
+    match nodes.first() {
+        Some(node) => node.id == 0 && is_italic_alone(nodes),
         None => false,
     }
 }
@@ -513,7 +524,7 @@ fn is_behind_word(out: &[Unit<'_>]) -> bool {
 fn push_element<'t, 'a>(
     alloc: Global,
     out: &mut Vec<Unit<'_>>,
-    writing: Writing<'_, 't, 'a>,
+    writing: &Writing<'_, 't, 'a>,
     kept: Option<Kept<'t, 'a>>,
     node: &Node<'_>,
 ) -> Result<(), NoMemory> {
@@ -555,7 +566,7 @@ fn is_bare_now(
 #[cycle(units)]
 fn within<'t, 'a>(
     alloc: Global,
-    writing: Writing<'_, 't, 'a>,
+    writing: &Writing<'_, 't, 'a>,
     nodes: &[Node<'_>],
     edges: Edges<'t, 'a>,
 ) -> Result<String, NoMemory> {
@@ -575,7 +586,7 @@ fn within<'t, 'a>(
 fn push_node<'n, 't, 'a>(
     alloc: Global,
     out: &mut Vec<Unit<'n>>,
-    writing: Writing<'_, 't, 'a>,
+    writing: &Writing<'_, 't, 'a>,
     node: &'n Node<'_>,
 ) -> Result<(), NoMemory> {
     let kept = writing.known.find(writing.block, node.id);
@@ -615,7 +626,7 @@ fn behind<'n, 'a>(nodes: &'n [Node<'a>], at: usize) -> Option<&'n Node<'a>> {
 
 /// The page's text after the node before a place, or at the edge.
 fn text_left<'t, 'a>(
-    writing: Writing<'_, 't, 'a>,
+    writing: &Writing<'_, 't, 'a>,
     nodes: &[Node<'_>],
     at: usize,
     edges: Edges<'t, 'a>,
@@ -628,7 +639,7 @@ fn text_left<'t, 'a>(
 
 /// The page's text before the node after a place, or at the edge.
 fn text_right<'t, 'a>(
-    writing: Writing<'_, 't, 'a>,
+    writing: &Writing<'_, 't, 'a>,
     nodes: &[Node<'_>],
     at: usize,
     edges: Edges<'t, 'a>,
@@ -644,7 +655,7 @@ fn text_right<'t, 'a>(
 fn push_units<'n, 't, 'a>(
     alloc: Global,
     out: &mut Vec<Unit<'n>>,
-    writing: Writing<'_, 't, 'a>,
+    writing: &Writing<'_, 't, 'a>,
     nodes: &'n [Node<'_>],
     edges: Edges<'t, 'a>,
 ) -> Result<(), NoMemory> {
@@ -665,7 +676,7 @@ fn push_units<'n, 't, 'a>(
 #[cycle(units)]
 fn units_of<'n, 't, 'a>(
     alloc: Global,
-    writing: Writing<'_, 't, 'a>,
+    writing: &Writing<'_, 't, 'a>,
     nodes: &'n [Node<'_>],
     edges: Edges<'t, 'a>,
     spot: Option<InsidePlace<'_>>,
@@ -683,7 +694,7 @@ fn units_of<'n, 't, 'a>(
     with_joints(alloc, spot, units.as_slice())
 }
 
-fn spot_of<'w>(writing: Writing<'w, '_, '_>) -> InsidePlace<'w> {
+fn spot_of<'w>(writing: &Writing<'w, '_, '_>) -> InsidePlace<'w> {
     let (before, start, is_delimited) = match writing.block {
         Some(block) => (block.before, block.inside, block.start < block.inside),
         None => (b' ', NOWHERE, false),
@@ -709,7 +720,7 @@ fn may_be_empty(place: Place) -> bool {
 /// Inline nodes as the inside of a block.
 pub fn spelled<'t, 'a>(
     alloc: Global,
-    writing: Writing<'_, 't, 'a>,
+    writing: &Writing<'_, 't, 'a>,
     nodes: &[Node<'_>],
     edges: Edges<'t, 'a>,
 ) -> Result<Str, NoMemory> {

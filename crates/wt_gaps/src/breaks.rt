@@ -2,11 +2,12 @@
 
 use std::alloc::Global;
 use wt_block_signs::{is_cell, is_lined, is_list, is_part};
+use wt_known::Closeness;
 use wt_span::{NoMemory, Str};
 use wt_tree::{Kind, Node};
 
 /// Whether a block of this kind, which isn't a part of another, is recognized by its line's signs.
-fn is_lined_block(kind: Kind) -> bool {
+pub fn is_lined_block(kind: Kind) -> bool {
     is_lined(kind) && !is_part(kind)
 }
 
@@ -42,9 +43,18 @@ pub fn least_between(is_tight: bool, left: Kind, right: Kind) -> usize {
     }
 }
 
-/// How many line breaks are written between two neighbours one of which is new.
-pub fn between(is_tight: bool, left: Kind, right: Kind) -> usize {
-    if is_tight || is_part(left) || is_part(right) {
+/// Whether a block comes directly below another in most of the page.
+fn is_close(closeness: Closeness, above: Kind, below: Kind) -> bool {
+    match above {
+        Kind::Heading(_) => closeness.below_headings,
+        Kind::Para => closeness.lists_below_text && is_list(below),
+        _ => false,
+    }
+}
+
+/// How many line breaks are written between two neighbours one of which is new: as between others in the page.
+pub fn between(closeness: Closeness, is_tight: bool, left: Kind, right: Kind) -> usize {
+    if is_tight || is_part(left) || is_part(right) || is_close(closeness, left, right) {
         1
     } else {
         2

@@ -1,7 +1,9 @@
 //! What goes of the children of the page in a gap, and what comes there.
 
 use crate::blanks::{back_over_blanks, is_at_line_start, most_breaks, past_blanks, past_spaces};
-use crate::breaks::{between, breaks, kind_at_end, kind_at_start, least_between, push_breaks};
+use crate::breaks::{
+    between, breaks, is_lined_block, kind_at_end, kind_at_start, least_between, push_breaks,
+};
 use crate::lines::{
     is_doubled, is_doubled_at, leaves_line_start, push_in_line, range_of, shares_line,
     sign_at_line_start,
@@ -10,7 +12,7 @@ use std::alloc::Global;
 use wt_block_signs::{Style, is_cell, is_item, is_lined, is_row_without_sign, signs_of, style_of};
 use wt_checks::is_compared;
 use wt_difference::{Child, inside};
-use wt_known::{Known, joined as texts_joined};
+use wt_known::{Known, breaks_between, joined as texts_joined};
 use wt_places::Slot;
 use wt_span::{NoMemory, Str};
 use wt_splice::Change;
@@ -373,18 +375,49 @@ fn place_between(gap: &Gap<'_, '_, '_>) -> Slot {
     Slot { start: at, end: at }
 }
 
+/// Whether the page has directly below the block before what comes here, too: something that is no heading, or
+/// anything below a heading.
+fn is_followed_closely(page: &str, gap: &Gap<'_, '_, '_>, before: &Node<'_>) -> bool {
+    let Some(below) = first_gone(gap.gone).or(gap.behind) else {
+        return false;
+    };
+    let is_alike = is_heading(kind_at_end(before)) || !is_heading(kind_at_start(below));
+    is_alike && breaks_between(page, range_of(before).end, range_of(below).start) == Some(1)
+}
+
+fn is_heading(kind: Kind) -> bool {
+    matches!(kind, Kind::Heading(_))
+}
+
+/// The line breaks between the child before and what comes after it: below a heading, a table or a list as many as the
+/// page has below this one.
+fn breaks_below(
+    known: &Known<'_, '_>,
+    gap: &Gap<'_, '_, '_>,
+    before: &Node<'_>,
+    first: Kind,
+) -> usize {
+    let last = kind_at_end(before);
+    let may_be_close = is_heading(last) || (is_lined_block(last) && !is_heading(first));
+    if may_be_close && is_followed_closely(known.page, gap, before) {
+        return least_between(gap.is_tight, last, first).max(1);
+    }
+    between(known.closeness, gap.is_tight, last, first)
+}
+
 /// The line breaks before what comes.
 fn breaks_before(
-    page: &str,
+    known: &Known<'_, '_>,
     gap: &Gap<'_, '_, '_>,
     takes_place: bool,
     first: Kind,
     at: usize,
 ) -> usize {
+    let page = known.page;
     let standing = most_breaks(page, gap.blanks, at);
     let wanted = match gap.before {
         Some(before) if takes_place => least_between(gap.is_tight, kind_at_end(before), first),
-        Some(before) => between(gap.is_tight, before.kind, first),
+        Some(before) => breaks_below(known, gap, before, first),
         None if takes_place || gap.behind.is_some() || gap.place.start == 0 => 0,
         None => 1,
     };
@@ -397,15 +430,60 @@ fn breaks_before(
     }
 }
 
-/// The line breaks after it, up to what comes after or to the next slice that goes. After all that a cell holds
-/// the next cell may go on in the line.
-fn breaks_behind(
-    page: &str,
+/// The last of the page's children before the one after the gap.
+fn last_before<'t, 'a>(gap: &Gap<'_, 't, 'a>) -> Option<&'t Node<'a>> {
+    let mut last = gap.before;
+    for child in gap.gone {
+        if is_compared(child.node.kind) {
+            last = Some(child.node);
+        }
+    }
+    last
+}
+
+/// Whether a heading comes after, was below another one, and is below something else now.
+fn is_parted_from_heading(gap: &Gap<'_, '_, '_>, last: Kind, behind: &Node<'_>) -> bool {
+    match last_before(gap) {
+        Some(before) if !gap.is_tight => {
+            is_heading(kind_at_start(behind))
+                && is_heading(kind_at_end(before))
+                && !is_heading(last)
+        }
+        _ => false,
+    }
+}
+
+/// Where the place of what comes ends: after the blanks of its line, or, where a new heading comes in a page that has
+/// what is below headings directly below them, after the empty lines, too.
+fn end_of_place(
+    known: &Known<'_, '_>,
     gap: &Gap<'_, '_, '_>,
     coming: &Coming,
     from: usize,
     to: usize,
 ) -> usize {
+    let is_new_heading = match last_before(gap) {
+        Some(before) if is_heading(kind_at_end(before)) => false,
+        _ => is_heading(coming.last) && gap.behind.is_some() && !gap.is_tight,
+    };
+    match breaks_between(known.page, from, to) {
+        Some(count) if count > 1 && is_new_heading && known.closeness.below_headings => from.max(
+            to,
+        ),
+        _ => past_spaces(known.page, from, to),
+    }
+}
+
+/// The line breaks after it, up to what comes after or to the next slice that goes. After all that a cell holds
+/// the next cell may go on in the line.
+fn breaks_behind(
+    known: &Known<'_, '_>,
+    gap: &Gap<'_, '_, '_>,
+    coming: &Coming,
+    from: usize,
+    to: usize,
+) -> usize {
+    let page = known.page;
     let last = coming.last;
     let Some(behind) = gap.behind else {
         return if gap.in_cell && is_doubled_at(page, gap.place.end) {
@@ -418,7 +496,9 @@ fn breaks_behind(
     let wanted = if standing == 0 && coming.is_of_line && shares_line(page, last, behind) {
         0
     } else if standing == 0 {
-        between(gap.is_tight, last, behind.kind)
+        between(known.closeness, gap.is_tight, last, behind.kind)
+    } else if is_parted_from_heading(gap, last, behind) {
+        2
     } else {
         least_between(gap.is_tight, last, kind_at_start(behind))
     };
@@ -499,7 +579,7 @@ pub fn push_new(
     known: &Known<'_, '_>,
     gap: &Gap<'_, '_, '_>,
     slices: &[Slot],
-    coming: Coming,
+    coming: &Coming,
 ) -> Result<(), NoMemory> {
     let page = known.page;
     let place = slices.first().copied().unwrap_or(place_between(gap));
@@ -507,16 +587,16 @@ pub fn push_new(
         Some(next) => next.start,
         None => gap.place.end,
     };
-    let end = past_spaces(page, place.end, to);
-    let before = breaks_before(page, gap, !slices.is_empty(), coming.first, place.start);
-    let behind = breaks_behind(page, gap, &coming, end, to);
+    let end = end_of_place(known, gap, coming, place.end, to);
+    let before = breaks_before(known, gap, !slices.is_empty(), coming.first, place.start);
+    let behind = breaks_behind(known, gap, coming, end, to);
     let mut by = Str::new(alloc);
-    let is_in_line = joins_line(page, gap, &coming) || comes_last_in_line(page, gap, &coming);
+    let is_in_line = joins_line(page, gap, coming) || comes_last_in_line(page, gap, coming);
     if slices.is_empty() && is_in_line {
         push_in_line(&mut by, coming.source.as_str())?;
         return push_change(out, place, by);
     }
-    if !slices.is_empty() && takes_place_in_line(page, gap, &coming, place.start) {
+    if !slices.is_empty() && takes_place_in_line(page, gap, coming, place.start) {
         push_in_line(&mut by, coming.source.as_str())?;
     } else {
         push_breaks(&mut by, before)?;

@@ -14,4 +14,4 @@ pub use gap::{
     last_number, mark_at, nodes_between, place_behind, push_change, push_emptied_row, push_gone,
     push_new, signs_in, slices_of, style_beside, wanted_between,
 };
-pub use lines::range_of;
+pub use lines::{push_between, range_of};

@@ -1,7 +1,10 @@
 //! Where nodes are in the page, and which cells go on in the line of the one before them.
 
 use crate::blanks::{byte_at, is_at_line_start};
-use wt_block_signs::is_cell;
+use crate::breaks::{kind_at_end, kind_at_start, least_between, push_breaks};
+use wt_block_signs::{is_cell, is_part};
+use wt_checks::original;
+use wt_known::{Known, breaks_between};
 use wt_places::Slot;
 use wt_span::{NoMemory, Str};
 use wt_tree::{Kind, Node, same_kind};
@@ -15,6 +18,47 @@ pub fn range_of(node: &Node<'_>) -> Slot {
         },
         None => Slot { start: 0, end: 0 },
     }
+}
+
+/// The page from one place up to another.
+fn slice_of<'p>(page: &'p str, place: Slot) -> &'p str {
+    let (front, _) = page.split_at_checked(place.end).unwrap_or((page, ""));
+    let (_, slice) = front.split_at_checked(place.start).unwrap_or((front, ""));
+    slice
+}
+
+/// The place in the page between two blocks that are neighbours there, with nothing but line breaks and blanks.
+fn place_between(known: &Known<'_, '_>, before: &Node<'_>, node: &Node<'_>) -> Option<Slot> {
+    if before.id == 0 || node.id == 0 {
+        return None;
+    }
+    let start = range_of(original(known.index, before.id)?.node).end;
+    let end = range_of(original(known.index, node.id)?.node).start;
+    if breaks_between(known.page, start, end)? == 0 {
+        return None;
+    }
+    Some(Slot { start, end })
+}
+
+/// Appends what the page has between two blocks, the second of which comes after the first one again, with as many
+/// line breaks as they ask for; it says whether they were neighbours there.
+pub fn push_between(
+    out: &mut Str,
+    known: &Known<'_, '_>,
+    before: &Node<'_>,
+    node: &Node<'_>,
+) -> Result<bool, NoMemory> {
+    if is_part(before.kind) || is_part(node.kind) {
+        return Ok(false);
+    }
+    let Some(place) = place_between(known, before, node) else {
+        return Ok(false);
+    };
+    let least = least_between(false, kind_at_end(before), kind_at_start(node));
+    let standing = breaks_between(known.page, place.start, place.end).unwrap_or(0);
+    out.push_str(slice_of(known.page, place))?;
+    push_breaks(out, least.saturating_sub(standing))?;
+    Ok(true)
 }
 
 /// Whether what begins at a place of the page is a cell that goes on in a line, by its two signs.

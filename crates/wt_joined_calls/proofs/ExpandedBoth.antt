@@ -59,6 +59,20 @@ work_so pages bs cs h =
     ap (λ (o : Output). entered None ∷ o.work) b.outputs
     ∙ ap (λ (o : Output). entered None ∷ ((given_from r true bs).work ++ o.work)) (given_plain r b.line true cs h.plain)
 
+-- its items, where so many calls come before it
+pub items_both : (pages : Pages) (bs cs : List ℕ) (k : ℕ) → AreParts bs cs
+    → numbered k (page_stretches pages (bs ++ cs))
+    ≡ numbered k (page_stretches pages bs) ++ numbered (k + length (outer_calls (page_stretches pages bs))) (page_stretches pages cs)
+items_both pages bs cs k h =
+    let r : Reading = page_reading pages in
+    let b = gives_both r 0 true bs cs h.read in
+    let ss : List Stretch = page_stretches pages bs in
+    let ts : List Stretch = page_stretches pages cs in
+    ap (numbered k) (stretches_are pages (bs ++ cs))
+    ∙ b.items k
+    ∙ ap₂ (λ (us vs : List Stretch). numbered k us ++ numbered (k + length (outer_calls us)) vs) (sym (stretches_are pages bs)) (later_so pages bs cs b.line h)
+    ∙ ap (λ ys. numbered k ss ++ ys) (numbered_moved (k + length (outer_calls ss)) (length bs) ts)
+
 pub expands_both : (pages : Pages) (bs cs : List ℕ) → AreParts bs cs → ExpandsBoth pages bs cs
 unfolding expanded_page
 expands_both pages bs cs h =
@@ -71,11 +85,7 @@ expands_both pages bs cs h =
     let later : stretches_from r (0 + length bs) b.line cs ≡ map (moved_stretch (length bs)) ts = later_so pages bs cs b.line h in
     let first : stretches_from r 0 true bs ≡ ss = sym (stretches_are pages bs) in
     record {
-      items =
-          ap (numbered 0) (stretches_are pages (bs ++ cs))
-          ∙ b.items 0
-          ∙ ap₂ (λ (us vs : List Stretch). numbered 0 us ++ numbered (0 + length (outer_calls us)) vs) first later
-          ∙ ap (λ ys. numbered 0 ss ++ ys) (numbered_moved (0 + k) (length bs) ts ∙ ap (λ (i : ℕ). numbered i ts) z);
+      items = items_both pages bs cs 0 h ∙ ap (λ (i : ℕ). numbered 0 ss ++ numbered i ts) z;
       outer_calls =
           ap outer_calls (stretches_are pages (bs ++ cs))
           ∙ b.outers

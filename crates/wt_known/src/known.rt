@@ -1,5 +1,6 @@
 //! What is known of the page: its nodes by their numbers, the texts next to each, and its source.
 
+use crate::closeness::{Closeness, closeness_of};
 use std::alloc::Global;
 use wt_checks::{Visit, is_content, original};
 use wt_difference::{is_block_part, stays_in};
@@ -185,7 +186,7 @@ fn at_end(role: Role) -> Role {
 
 /// The page: its source, and its nodes by their numbers. Only where nodes of the edited page come from other
 /// blocks, all of it as one block, and by their numbers which nodes stay without being written anew inside; whether
-/// it has a table; and whether it has headings, none of them with a blank before its text.
+/// it has a table; whether it has headings, none of them with a blank before its text; and how close its blocks are.
 #[derive(Drop)]
 pub struct Known<'t, 'a> {
     pub page: &'t str,
@@ -194,6 +195,7 @@ pub struct Known<'t, 'a> {
     pub staying: Vec<bool>,
     pub has_tables: bool,
     pub has_tight_headings: bool,
+    pub closeness: Closeness,
 }
 
 fn has_tables(index: &[Visit<'_, '_>]) -> bool {
@@ -335,6 +337,7 @@ impl<'t, 'a> Known<'t, 'a> {
             staying,
             has_tables: has_tables(index),
             has_tight_headings: has_tight_headings(index),
+            closeness: closeness_of(page, index),
         })
     }
 

@@ -8,10 +8,10 @@ use wt_checks::is_compared;
 use wt_difference::inside;
 use wt_gaps::{
     Coming, Gap, Passed, behind_first, between, count_of, empties_row, last_number, mark_at,
-    place_behind, push_breaks, push_emptied_row, push_gone, push_new, range_of, signs_in,
-    slices_of, style_beside, wanted_between,
+    place_behind, push_between, push_breaks, push_emptied_row, push_gone, push_new, range_of,
+    signs_in, slices_of, style_beside, wanted_between,
 };
-use wt_known::last_text;
+use wt_known::{Known, last_text};
 use wt_span::{NoMemory, Str};
 use wt_splice::Change;
 use wt_tree::{Kind, Node};
@@ -50,8 +50,8 @@ fn coming_of<'t, 'a>(
                 style: if keeps { gap.style } else { USUAL },
             };
             coming = Some(match coming {
-                None => begun_with(alloc, around, node)?,
-                Some(coming) => followed(alloc, gap.is_tight, coming, around, before, node)?,
+                None => begun_with(alloc, &around, node)?,
+                Some(coming) => followed(alloc, gap.is_tight, coming, &around, before, node)?,
             });
             before = Some(node);
             block = block.next();
@@ -78,7 +78,7 @@ fn may_go_on(source: &str, start: usize, node: &Node<'_>) -> bool {
 /// The first that comes.
 fn begun_with(
     alloc: Global,
-    around: Surroundings<'_, '_, '_>,
+    around: &Surroundings<'_, '_, '_>,
     node: &Node<'_>,
 ) -> Result<Coming, NoMemory> {
     let mut source = Str::new(alloc);
@@ -91,12 +91,25 @@ fn begun_with(
     })
 }
 
+/// Appends what the page has between the block before and this one, where it has them so; it says whether it does.
+fn push_as_between(
+    out: &mut Str,
+    known: &Known<'_, '_>,
+    before: Option<&Node<'_>>,
+    node: &Node<'_>,
+) -> Result<bool, NoMemory> {
+    match before {
+        Some(before) => push_between(out, known, before, node),
+        None => Ok(false),
+    }
+}
+
 /// What came so far, and this one after it, which comes after that one.
 fn followed(
     alloc: Global,
     is_tight: bool,
     coming: Coming,
-    around: Surroundings<'_, '_, '_>,
+    around: &Surroundings<'_, '_, '_>,
     before: Option<&Node<'_>>,
     node: &Node<'_>,
 ) -> Result<Coming, NoMemory> {
@@ -106,8 +119,11 @@ fn followed(
         is_of_line: _,
         mut source,
     } = coming;
-    if !push_if_in_line(alloc, &mut source, around, before, node)? {
-        push_breaks(&mut source, between(is_tight, last, node.kind))?;
+    let is_begun = push_if_in_line(alloc, &mut source, around, before, node)?
+        || push_as_between(&mut source, around.known, before, node)?;
+    if !is_begun {
+        let closeness = around.known.closeness;
+        push_breaks(&mut source, between(closeness, is_tight, last, node.kind))?;
     }
     let start = source.as_str().len();
     push_block(alloc, &mut source, around, node)?;
@@ -179,7 +195,7 @@ fn push_part<'t, 'a>(
             wanted_between(page, gap),
         ),
         Some(coming) => {
-            push_new(alloc, out, plan.known, gap, slices.as_slice(), coming)?;
+            push_new(alloc, out, plan.known, gap, slices.as_slice(), &coming)?;
             push_gone(
                 alloc,
                 out,

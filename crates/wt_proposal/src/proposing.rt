@@ -134,7 +134,7 @@ fn push_inside<'t, 'a>(
         keeps,
         old.kind.edit_shape().place,
     );
-    let source = spelled(alloc, writing, inside(new), edges_of(inside(old)))?;
+    let source = spelled(alloc, &writing, inside(new), edges_of(inside(old)))?;
     by.push_str(source.as_str())?;
     let place = Slot {
         start,
@@ -202,7 +202,7 @@ fn push_own_line<'t, 'a>(
         plan.keeps(number),
         old.kind.edit_shape().place,
     );
-    let source = spelled(alloc, writing, inside(new), edges_of(inside(old)))?;
+    let source = spelled(alloc, &writing, inside(new), edges_of(inside(old)))?;
     let mut by = signs_of(alloc, plan.known, old)?;
     if !source.as_str().is_empty() {
         by.push_str(style_at(plan.known.page, start).blank_before(source.as_str()))?;
@@ -275,7 +275,7 @@ struct Span {
 }
 
 impl Line {
-    fn of(held: Held<'_, '_, '_>, block: Numbering) -> Line {
+    fn of(held: &Held<'_, '_, '_>, block: Numbering) -> Line {
         Line {
             from: 0,
             came_from: held.from,
@@ -286,7 +286,7 @@ impl Line {
     }
 
     /// With the number of the child in hand.
-    fn at(self, child: &Node<'_>) -> Line {
+    fn at(&self, child: &Node<'_>) -> Line {
         let block = if is_compared(child.kind) {
             self.block.next()
         } else {
@@ -302,7 +302,7 @@ impl Line {
     }
 
     /// After the child with this index, which passes so many of the page's children.
-    fn behind(self, passed: usize, reached: Reached, at: usize) -> Line {
+    fn behind(&self, passed: usize, reached: Reached, at: usize) -> Line {
         let is_begun = passed > 0;
         Line {
             from: self.from.saturating_add(passed),
@@ -322,7 +322,7 @@ impl Line {
     }
 
     /// Whether the edited child before those that come, one of these, is text alone.
-    fn is_behind_text(self, nodes: &[Node<'_>]) -> bool {
+    fn is_behind_text(&self, nodes: &[Node<'_>]) -> bool {
         match self.came_from.checked_sub(1) {
             Some(at) => match nodes.get(at) {
                 Some(node) => inside(node).len() == node.children.as_slice().len(),
@@ -333,7 +333,7 @@ impl Line {
     }
 
     /// The gap before a child that passes so many of the page's children, itself the last of them.
-    fn span(self, nodes: &[Node<'_>], place: Slot, passed: usize) -> Span {
+    fn span(&self, nodes: &[Node<'_>], place: Slot, passed: usize) -> Span {
         Span {
             place,
             from: self.from,
@@ -346,7 +346,7 @@ impl Line {
     }
 
     /// The gap after the last child that stays in its turn.
-    fn last_span(self, nodes: &[Node<'_>], held: Held<'_, '_, '_>) -> Span {
+    fn last_span(&self, nodes: &[Node<'_>], held: &Held<'_, '_, '_>) -> Span {
         Span {
             place: Slot {
                 start: self.reached.end,
@@ -389,9 +389,9 @@ fn push_span<'t, 'a>(
     alloc: Global,
     out: &mut Vec<Change>,
     plan: Plan<'_, 't, 'a>,
-    held: Held<'_, 't, 'a>,
+    held: &Held<'_, 't, 'a>,
     new: &[Node<'a>],
-    span: Span,
+    span: &Span,
 ) -> Result<(), NoMemory> {
     let behind = if span.is_last { None } else { Some(span.to) };
     let behind = node_at(held.children, behind);
@@ -416,7 +416,11 @@ fn push_span<'t, 'a>(
 
 /// The part of a list or a table that is beside one in its turn, which passes so many of the page's: the one before it,
 /// or the one after it.
-fn part_beside<'t, 'a>(held: Held<'_, 't, 'a>, from: usize, passed: usize) -> Option<&'t Node<'a>> {
+fn part_beside<'t, 'a>(
+    held: &Held<'_, 't, 'a>,
+    from: usize,
+    passed: usize,
+) -> Option<&'t Node<'a>> {
     let next = from.saturating_add(passed);
     let before = node_at(held.children, from.checked_sub(1));
     before
@@ -463,10 +467,10 @@ fn push_children<'t, 'a>(
     out: &mut Vec<Change>,
     plan: Plan<'_, 't, 'a>,
     nodes: &'t [Node<'a>],
-    held: Held<'_, 't, 'a>,
+    held: &Held<'_, 't, 'a>,
     block: Numbering,
 ) -> Result<(), NoMemory>
-    requires { held.from ≤ length nodes.now }
+    requires { held.now.from ≤ length nodes.now }
 {
     let turns = turns(alloc, plan.known.index, held.number, &nodes[held.from..])?;
     let mut line = Line::of(held, block);
@@ -486,7 +490,7 @@ fn push_children<'t, 'a>(
                 Some(within) => gets_line(child, within),
                 None => false,
             };
-            push_span(alloc, out, plan, held, new, span)?;
+            push_span(alloc, out, plan, held, new, &span)?;
         }
         if let Some(within) = turn.within {
             let part = Part {
@@ -507,7 +511,7 @@ fn push_children<'t, 'a>(
         line = line.behind(turn.passed, turn.reached, at);
     }
     let new = nodes_between(nodes, line.came_from, nodes.len());
-    push_span(alloc, out, plan, held, new, line.last_span(nodes, held))
+    push_span(alloc, out, plan, held, new, &line.last_span(nodes, held))
 }
 
 /// How new parts are written in a node of the page: lists in an item as this one is, cells in a row as those of it.
@@ -549,7 +553,7 @@ fn push_node<'t, 'a>(
         stop: inside_stop(old.ranges),
         from: inside_count(new),
     };
-    push_children(alloc, out, plan, new.children.as_slice(), held, block)
+    push_children(alloc, out, plan, new.children.as_slice(), &held, block)
 }
 
 // ---- a proposal

@@ -16,7 +16,7 @@ use Rattle.wt_guards.proofs.Escapes.{is_escapable, escapable, each_escapable}
 use Rattle.wt_spelling_laws.proofs.TextReads.{or_parts, not_bracket, bracket_escaped}
 
 -- neither a sign that begins a block of another kind, nor a line break
-abbrev is_free : ℕ → Bool
+abbrev pub is_free : ℕ → Bool
 is_free b = not (line_start_hazard b) && not (b == 10)
 
 -- a character that begins a line of a paragraph, in a table too
@@ -95,7 +95,7 @@ within_first : (w x : Bool) → w ≡ false → (not w && x) ≡ false → x ≡
 within_first false x e f = f
 within_first true x e f = cc
 
-unguarded_begins : (s : Setting) (before : List ContentSign) (c : ℕ) (after : List ContentSign) → s.within ≡ false → is_line_start (nearest before) ≡ true
+pub unguarded_begins : (s : Setting) (before : List ContentSign) (c : ℕ) (after : List ContentSign) → s.within ≡ false → is_line_start (nearest before) ≡ true
     → is_line_begun before ≡ true → is_guarded s before (letter c ∷ after) ≡ false → is_free c ≡ true
 unfolding is_guarded is_start_guard
 unguarded_begins s before c after w l b g =
@@ -126,7 +126,7 @@ lines_guarded start true s before c after rest f r =
 lines_guarded start false s before c after rest f r =
     lines_letter start s before c after rest (is_escaped s.within s.place before c after) refl (λ i. f i refl) r
 
-end_guarded : (s : Setting) (before : List ContentSign) → s.within ≡ false → is_line_start (nearest before) ≡ true → is_guarded s before [] ≡ true
+pub end_guarded : (s : Setting) (before : List ContentSign) → s.within ≡ false → is_line_start (nearest before) ≡ true → is_guarded s before [] ≡ true
 unfolding is_guarded is_start_guard
 end_guarded s before w l = rw (w, l) (or_last (is_between_guard (nearest before) None) true refl)
 

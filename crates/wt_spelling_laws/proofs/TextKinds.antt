@@ -34,21 +34,21 @@ use Rattle.wt_spelling_laws.proofs.Lines.{may_begin, are_text_lines, text_lines}
 -- ---- a line by its first sign
 
 -- a sign with which no block but a paragraph begins
-record OpensText (b : ℕ) : Type 0 where
-  space : (b == 32) ≡ false
-  tab : (b == 9) ≡ false
-  break : (b == 10) ≡ false
-  mark : (b == 257) ≡ false
-  brace : b ≢ 123
-  bar : b ≢ 124
-  bang : b ≢ 33
-  equals : b ≢ 61
-  minus : b ≢ 45
-  star : b ≢ 42
-  hash : b ≢ 35
-  colon : b ≢ 58
-  semicolon : b ≢ 59
-  blank : b ≢ 32
+pub record OpensText (b : ℕ) : Type 0 where
+  pub space : (b == 32) ≡ false
+  pub tab : (b == 9) ≡ false
+  pub break : (b == 10) ≡ false
+  pub mark : (b == 257) ≡ false
+  pub brace : b ≢ 123
+  pub bar : b ≢ 124
+  pub bang : b ≢ 33
+  pub equals : b ≢ 61
+  pub minus : b ≢ 45
+  pub star : b ≢ 42
+  pub hash : b ≢ 35
+  pub colon : b ≢ 58
+  pub semicolon : b ≢ 59
+  pub blank : b ≢ 32
 
 first_not : (k : ℕ) (word ss : List ℕ) (b : ℕ) → b ≢ k → begins (k ∷ word) (b ∷ ss) ≡ false
 first_not k word ss b h = begins_not (k ∷ word) (b ∷ ss) 0 (omega arith) h
@@ -79,7 +79,7 @@ no_other b ss last o =
       first_not 32 [] ss b o.blank,
     ) refl
 
-opens_kind : (tables b : ℕ) (ss : List ℕ) → OpensText b → kind_of_signs tables (b ∷ ss) ≡ kind.Text
+pub opens_kind : (tables b : ℕ) (ss : List ℕ) → OpensText b → kind_of_signs tables (b ∷ ss) ≡ kind.Text
 opens_kind tables b ss o =
     let sign : b ∷ ss ≡ past is_idle (b ∷ ss) = rw (o.space, o.tab, o.mark) refl in
     let first : b ∷ ss ≡ past is_mark_sign (b ∷ ss) = rw (o.mark) refl in
@@ -89,7 +89,7 @@ opens_kind tables b ss o =
     (outside_rows (nat_lt 0 tables) (table_rows (b ∷ ss)) (no_table b ss o)) first refl
     ∙ ap (λ k. unwrap_or k kind.Text) (no_other b ss last o)
 
-opens_text : (b : ℕ) → b < 256 → may_begin b ≡ true → OpensText b
+pub opens_text : (b : ℕ) → b < 256 → may_begin b ≡ true → OpensText b
 unfolding line_start_hazard
 opens_text b small h = record {
   space = grind (arith, nat_tests);
@@ -108,7 +108,7 @@ opens_text b small h = record {
   blank = grind (arith, nat_tests);
 }
 
-atom_opens : OpensText 256
+pub atom_opens : OpensText 256
 atom_opens = record {
   space = refl;
   tab = refl;

@@ -176,6 +176,10 @@ pub fn role_in_line(role: Role, node: &Node<'_>, left: Option<&Unit<'_>>, place:
             Role::Node
         }
         Role::Group(group) if is_of_line(nodes, left) => role_of_line(group, nodes, left, place),
+        Role::Mark { ends_line, .. } => Role::Mark {
+            ends_line,
+            began_line: true,
+        },
         other => other,
     }
 }

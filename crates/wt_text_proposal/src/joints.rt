@@ -259,11 +259,28 @@ fn is_sign(byte: u8) -> bool {
     is_blank(byte) || is_list_sign(byte) || matches!(byte, b'=' | b'-' | b'!')
 }
 
+/// Whether a unit is a comment or an include tag after which the line goes on.
+fn is_mark_in_line(unit: &Unit<'_>) -> bool {
+    matches!(role_of(unit), Some(Role::Mark { .. })) && !ends_line(unit)
+}
+
+/// The unit before a place, past comments and include tags: a line that begins with them goes on as one without them.
+fn before_marks<'u, 'n>(units: &'u [Unit<'n>], at: usize) -> Option<&'u Unit<'n>> {
+    for count in 0..at {
+        let unit = before(units, at.saturating_sub(count))?;
+        if !is_mark_in_line(unit) {
+            return Some(unit);
+        }
+    }
+    None
+}
+
 /// Whether what is in the page would be read otherwise at the start of a line or of the inside, where it begins
-/// with a byte.
+/// with a byte. After a comment only a paragraph's start is one still.
 fn is_read_otherwise(spot: InsidePlace<'_>, first: u8, units: &[Unit<'_>], at: usize) -> bool {
     let rest = units_from(units, at);
-    match before(units, at) {
+    match before_marks(units, at) {
+        None if at > 0 && !matches!(spot.place, Place::Paragraph) => false,
         None => joins_delimiter(spot, first, rest),
         Some(unit) if ends_line(unit) => is_blank(first) || begins_block(spot, first, rest),
         Some(_) => false,
@@ -481,7 +498,52 @@ fn meeting(units: &[Unit<'_>], at: usize) -> Option<Stretch> {
     }
 }
 
+/// Where a group that begins or ends with an apostrophe meets a blank, which joins none: a place in the page.
+fn blank_beside(units: &[Unit<'_>], at: usize) -> Option<Stretch> {
+    let left = before(units, at)?;
+    let right = units.get(at)?;
+    if let Some((Role::Group(group), place)) = placed(Some(left))
+        && group.closes_with_apostrophe
+        && source_of(right)
+            .first()
+            .is_some_and(|first| is_blank(*first))
+    {
+        return Some(behind(place.end));
+    }
+    match placed(Some(right)) {
+        Some((Role::Group(group), place)) if group.opens_with_apostrophe && ends_with_blank(left) =>
+            {
+                Some(Stretch {
+                    start: 0,
+                    end: place.start,
+                })
+            }
+        _ => None,
+    }
+}
+
+fn ends_with_blank(unit: &Unit<'_>) -> bool {
+    source_of(unit).last().is_some_and(|last| is_blank(*last))
+}
+
 // ---- all
+
+/// Where a brace of the page ends that ends a paragraph, if a line break or the page's end is after it there, too: it
+/// joins nothing.
+fn ended_brace(spot: Option<InsidePlace<'_>>, units: &[Unit<'_>]) -> Option<usize> {
+    let spot = spot?;
+    let Unit::Thing(thing) = units.last()? else {
+        return None;
+    };
+    let end = thing.place?.end;
+    let is_brace = matches!(spot.place, Place::Paragraph) && thing.source.as_str().ends_with("{");
+    let is_line_end = end == spot.page.len() || spot.page.get(end) == Some(&b'\n');
+    if is_brace && is_line_end {
+        Some(end)
+    } else {
+        None
+    }
+}
 
 /// Where a joint comes before a unit, its place in the page.
 fn joint_before(spot: Option<InsidePlace<'_>>, units: &[Unit<'_>], at: usize) -> Option<Stretch> {
@@ -490,6 +552,9 @@ fn joint_before(spot: Option<InsidePlace<'_>>, units: &[Unit<'_>], at: usize) ->
     }
     if let Some(end) = ended_url(units, at) {
         return Some(behind(end));
+    }
+    if let Some(place) = blank_beside(units, at) {
+        return Some(place);
     }
     if are_five(units, at) || is_url_in_style(units, at) || may_begin(spot?, units, at) {
         Some(behind(0))
@@ -533,6 +598,9 @@ pub fn with_joints<'n>(
     for at in 0..units.len() {
         push_before(alloc, &mut out, spot, units, at)?;
         out.push(copy_of(alloc, &units[at])?)?;
+    }
+    if let Some(end) = ended_brace(spot, units) {
+        out.push(joint_at(alloc, behind(end)))?;
     }
     Ok(out)
 }

@@ -37,6 +37,7 @@ enum Passed {
     Nothing,
     Blanks,
     Letters,
+    Capitals,
 }
 
 impl Passed {
@@ -45,6 +46,7 @@ impl Passed {
             Passed::Nothing => false,
             Passed::Blanks => byte == b' ' || byte == b'\t',
             Passed::Letters => byte.is_ascii_alphanumeric(),
+            Passed::Capitals => byte.is_ascii_uppercase(),
         }
     }
 }
@@ -64,6 +66,32 @@ fn first_past(source: &[u8], passed: Passed) -> Option<u8> {
         }
     }
     None
+}
+
+fn last_past(source: &[u8], passed: Passed) -> Option<u8> {
+    for count in 0..source.len() {
+        let place = source.len().saturating_sub(count).saturating_sub(1);
+        match source.get(place) {
+            Some(byte) if !passed.has(*byte) => return Some(*byte),
+            _ => {}
+        }
+    }
+    None
+}
+
+/// What is before the end of a text after this unit, past some bytes.
+fn behind_past(front: &[u8], before: Option<&Unit<'_>>, passed: Passed) -> Beside {
+    if let Some(byte) = last_past(front, passed) {
+        return Beside::Byte(byte);
+    }
+    match before {
+        Some(unit) if is_unknown(unit) => Beside::Unknown,
+        Some(unit) => match last_past(source_of(unit), passed) {
+            Some(byte) => Beside::Byte(byte),
+            None => Beside::Unknown,
+        },
+        None => Beside::Edge,
+    }
 }
 
 fn ahead_in(units: &[Unit<'_>], passed: Passed) -> Beside {
@@ -210,6 +238,16 @@ fn is_plain_bracket(cut: Cut<'_, '_, '_>, byte: u8) -> bool {
         }
 }
 
+/// Whether `_` after another one begins and ends no switch: past capitals none is before them, and none after.
+fn is_plain_underscore(cut: Cut<'_, '_, '_>) -> bool {
+    let Some((last, front)) = cut.front.split_last() else {
+        return false;
+    };
+    let before = behind_past(front, cut.around.before, Passed::Capitals);
+    let next = cut.ahead(Passed::Capitals);
+    *last == b'_' && before.is_known() && !before.is(b'_') && next.is_known() && !next.is(b'_')
+}
+
 /// Whether a character means nothing where it is. In a link's text (without a place, as that of a tag) brackets may
 /// end the link.
 fn is_plain(place: Option<Place>, cut: Cut<'_, '_, '_>, byte: u8) -> bool {
@@ -220,6 +258,7 @@ fn is_plain(place: Option<Place>, cut: Cut<'_, '_, '_>, byte: u8) -> bool {
         b'=' => is_plain_equals(place, cut),
         b'>' => !cut.around.is_in_tag && !cut.is_behind_dashes(),
         b'[' | b']' | b'{' | b'}' => place.is_some() && is_plain_bracket(cut, byte),
+        b'_' => is_plain_underscore(cut),
         _ => false,
     }
 }

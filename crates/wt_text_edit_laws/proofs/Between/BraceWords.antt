@@ -34,7 +34,7 @@ shown_closed (n, ws) h = shown_if (n == 0) n ws h
 
 -- ---- the bytes of a run
 
-abbrev AreBraces : LexKind → List ℕ → Type 0
+abbrev pub AreBraces : LexKind → List ℕ → Type 0
 AreBraces Opens bs = begins (codes "{{") bs ≡ true
 AreBraces Closes bs = begins (codes "}}") bs ≡ true
 AreBraces kind bs = Unit {0}
@@ -165,10 +165,10 @@ pairs_behind (s ∷ ss) rs h =
 -- ---- the items of a run
 
 -- a run is two braces and more
-abbrev HasTwo : ℕ → List ℕ → Type 0
+abbrev pub HasTwo : ℕ → List ℕ → Type 0
 HasTwo byte bs = (cs : List ℕ) × (bs ≡ byte ∷ byte ∷ cs)
 
-two_braces : (byte : ℕ) (bs : List ℕ) → begins (byte ∷ byte ∷ []) bs ≡ true → HasTwo byte bs
+pub two_braces : (byte : ℕ) (bs : List ℕ) → begins (byte ∷ byte ∷ []) bs ≡ true → HasTwo byte bs
 two_braces byte [] e = let le = begins_len (byte ∷ byte ∷ []) [] e in absurd (omega (arith, le))
 two_braces byte (b ∷ []) e = let le = begins_len (byte ∷ byte ∷ []) (b ∷ []) e in absurd (omega (arith, le))
 two_braces byte (b ∷ c ∷ cs) e =
@@ -176,7 +176,7 @@ two_braces byte (b ∷ c ∷ cs) e =
     let g : c ≡ byte = begins_get (byte ∷ byte ∷ []) (b ∷ c ∷ cs) e 1 (omega arith) in
     (cs, ap (λ (x : ℕ). x ∷ c ∷ cs) f ∙ ap (λ (x : ℕ). byte ∷ x ∷ cs) g)
 
-abbrev signs_of : LexKind → List ℕ → List ℕ
+abbrev pub signs_of : LexKind → List ℕ → List ℕ
 signs_of kind bs = map sign (items_of_word kind bs)
 
 closes_none : (bs rs : List ℕ) → begins (codes "}}") bs ≡ true → NoneClose (braces (signs_of Closes bs ++ rs)) → ⊥
@@ -197,10 +197,10 @@ no_closer kind bs rs a h = tt
 
 -- ---- the words
 
-run_here : (a : Bool) (b : ℕ) (bs : List ℕ) (kind : LexKind) (j : ℕ) → form_at Page a (b ∷ bs) ≡ Some (kind, suc j) → AreBraces kind (b ∷ take j bs)
+pub run_here : (a : Bool) (b : ℕ) (bs : List ℕ) (kind : LexKind) (j : ℕ) → form_at Page a (b ∷ bs) ≡ Some (kind, suc j) → AreBraces kind (b ∷ take j bs)
 run_here a b bs kind j e = let P : Option Word → Type 0 = OptRun (b ∷ bs) in subst P e (form_run a (b ∷ bs))
 
-signs_split : (a : Bool) (b : ℕ) (bs : List ℕ) (kind : LexKind) (j : ℕ) → form_at Page a (b ∷ bs) ≡ Some (kind, suc j)
+pub signs_split : (a : Bool) (b : ℕ) (bs : List ℕ) (kind : LexKind) (j : ℕ) → form_at Page a (b ∷ bs) ≡ Some (kind, suc j)
     → map sign (items_from a 0 (b ∷ bs)) ≡ signs_of kind (b ∷ take j bs) ++ map sign (items_from (is_break b) j bs)
 signs_split a b bs kind j e = ap (map sign) (form_from a b bs kind j e) ∙ map-append sign (items_of_word kind (b ∷ take j bs)) (items_from (is_break b) j bs)
 

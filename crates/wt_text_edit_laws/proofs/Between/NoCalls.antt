@@ -18,7 +18,7 @@ use Rattle.wt_text_edit_laws.proofs.Between.BraceWords.{CallNothing, calm_closed
 
 -- ---- closing braces behind none that open
 
-abbrev AreUnopened : List Member → Type 0
+abbrev pub AreUnopened : List Member → Type 0
 AreUnopened [] = Unit {0}
 AreUnopened (lexeme w ∷ ms) = (has_two (lexeme w) ≡ false) × AreUnopened ms
 AreUnopened (call k inside ∷ ms) = ⊥
@@ -44,10 +44,10 @@ takes_never : (i n : ℕ) (ms : List Member) → AreUnopened ms → again i rewr
 takes_never zero n ms h = refl
 takes_never (suc i) n ms h = ap (again i rewritten) (takes_none n ms h) ∙ takes_never i n ms h
 
-closes_nothing : (n : ℕ) (ms : List Member) → AreUnopened ms → closed_by n ms ≡ left_over Closes n ++ ms
+pub closes_nothing : (n : ℕ) (ms : List Member) → AreUnopened ms → closed_by n ms ≡ left_over Closes n ++ ms
 closes_nothing n ms h = ap (λ (s : ℕ × List Member). left_over Closes s.0 ++ s.1) (takes_never n n ms h)
 
-left_unopened : (t : Bool) (n : ℕ) (ms : List Member) → AreUnopened ms → AreUnopened ((if t then [] else lexeme (Closes, n) ∷ []) ++ ms)
+pub left_unopened : (t : Bool) (n : ℕ) (ms : List Member) → AreUnopened ms → AreUnopened ((if t then [] else lexeme (Closes, n) ∷ []) ++ ms)
 left_unopened true n ms h = h
 left_unopened false n ms h = (refl, h)
 
@@ -71,12 +71,12 @@ onto_unopened ((Equals, n) ∷ ws) before h l = onto_unopened ws (lexeme (Equals
 
 -- ---- so the page calls nothing
 
-calm_words : (bs : List ℕ) → CallsNothing (page_items bs) → CallNothing (words Page bs)
+pub calm_words : (bs : List ℕ) → CallsNothing (page_items bs) → CallNothing (words Page bs)
 unfolding words
 calm_words bs h =
     calm_closed (cuts Page false 0 bs) (pairs_words false 0 bs (subst CallsNothing (first_items bs ∙ sym (first_from false bs)) h))
 
-calm_reduced : (bs : List ℕ) → CallsNothing (page_items bs) → AreLexemes (reduced (words Page bs))
+pub calm_reduced : (bs : List ℕ) → CallsNothing (page_items bs) → AreLexemes (reduced (words Page bs))
 unfolding reduced
 calm_reduced bs h = reverse_lexemes (reduced_onto [] (words Page bs)) (onto_unopened (words Page bs) [] (calm_words bs h) tt)
 

@@ -188,7 +188,7 @@ heading_front s q rest xs (inl t) l e r = typed_front s q rest xs t e r
 heading_front s q rest xs (inr w) (inl t) e r = typed_front s q rest xs t e r
 heading_front s q rest xs (inr w) (inr l) e r = written_front s q rest xs w l e r
 
-block_front : (k : TextBlock) (q rest : List ℕ) (xs : List Item) → IsBlock k q → TextEnds k q rest → EndsHere rest → Reads rest xs
+pub block_front : (k : TextBlock) (q rest : List ℕ) (xs : List Item) → IsBlock k q → TextEnds k q rest → EndsHere rest → Reads rest xs
     → Reads (source_of k q ++ rest) (block_items k q ++ xs)
 block_front a_paragraph q rest xs h l e r = paragraph_front q rest xs h l e r
 block_front (a_heading s) q rest xs h l e r = heading_front s q rest xs h l e r
@@ -199,7 +199,7 @@ run_shown : (n : ℕ) (bs : List ℕ) (ys : List Item) → 1 ≤ n → begins_sh
 run_shown zero bs ys some = absurd (omega (arith, some))
 run_shown (suc n) bs ys some = refl
 
-block_shown : (k : TextBlock) (q : List ℕ) → IsBlock k q → begins_shown (block_items k q) ≡ true
+pub block_shown : (k : TextBlock) (q : List ℕ) → IsBlock k q → begins_shown (block_items k q) ≡ true
 block_shown a_paragraph q h = paragraph_shown q h
 block_shown (a_heading s) q (inl t) = run_shown s.level s.lead (page_items q ++ closing_items s) t.frame.sides.some
 block_shown (a_heading s) q (inr w) = run_shown s.level s.lead (page_items q ++ closing_items s) w.frame.sides.some
@@ -265,7 +265,7 @@ pub further_ends : (ss : List BlockSpot) (behind : List ℕ) → AreReadAfter ss
 further_ends [] behind h = subst EndsHere (page_sources behind) (line_ends (page_items behind) h.2)
 further_ends (s ∷ ss) behind h = ends_before s.before (source_of s.block s.text ++ spots_source ss behind) (begins_here s.before h.1)
 
-further_reads : (ss : List BlockSpot) (behind : List ℕ) → AreReadAfter ss behind → EndBeforeBlocks ss behind
+pub further_reads : (ss : List BlockSpot) (behind : List ℕ) → AreReadAfter ss behind → EndBeforeBlocks ss behind
     → Reads (spots_source ss behind) (spots_items ss behind)
 further_reads [] behind h b = behind_reads behind h.0
 further_reads (s ∷ ss) behind h b =

@@ -91,10 +91,10 @@ spots_clear ss behind h = read_clear ss behind (spots_read ss behind h)
 
 -- ---- with other texts
 
-spot_read_again : (s r : BlockSpot) → IsRead s → r.before ≡ s.before → IsBlock r.block r.text → IsRead r
+pub spot_read_again : (s r : BlockSpot) → IsRead s → r.before ≡ s.before → IsBlock r.block r.text → IsRead r
 spot_read_again s r h e t = record { ended = subst AreEnded (sym e) h.ended; before_utf8 = subst IsUtf8 (sym e) h.before_utf8; block = t }
 
-after_read_again : (ss rs : List BlockSpot) (behind : List ℕ) → AreReadAfter ss behind → SameRound ss rs → AreBlocks rs → AreReadAfter rs behind
+pub after_read_again : (ss rs : List BlockSpot) (behind : List ℕ) → AreReadAfter ss behind → SameRound ss rs → AreBlocks rs → AreReadAfter rs behind
 after_read_again [] [] behind h e t = h
 after_read_again [] (r ∷ rs) behind h e t = absurd e
 after_read_again (s ∷ ss) [] behind h e t = absurd e

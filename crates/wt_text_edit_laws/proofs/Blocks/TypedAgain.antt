@@ -144,7 +144,7 @@ text_still_ends k was now us vs (inr t) e c l = inl t
 
 -- ---- the page
 
-spot_still_ends : (s r : BlockSpot) (ss rs : List BlockSpot) (behind : List ℕ) → IsRead s → AreReadAfter ss behind
+pub spot_still_ends : (s r : BlockSpot) (ss rs : List BlockSpot) (behind : List ℕ) → IsRead s → AreReadAfter ss behind
     → AreReadAfter rs behind → SameRound (s ∷ ss) (r ∷ rs) → AreTypedOver (s ∷ ss) (r ∷ rs) → EndBeforeBlocks (s ∷ ss) behind
     → EndBeforeBlocks rs behind → EndBeforeBlocks (r ∷ rs) behind
 spot_still_ends s r ss rs behind h f k e o b rest =
@@ -156,7 +156,7 @@ spot_still_ends s r ss rs behind h f k e o b rest =
       rest,
     )
 
-further_still_end : (ss rs : List BlockSpot) (behind : List ℕ) → AreReadAfter ss behind → AreReadAfter rs behind
+pub further_still_end : (ss rs : List BlockSpot) (behind : List ℕ) → AreReadAfter ss behind → AreReadAfter rs behind
     → SameRound ss rs → AreTypedOver ss rs → EndBeforeBlocks ss behind → EndBeforeBlocks rs behind
 further_still_end [] [] behind f k e o b = tt
 further_still_end [] (r ∷ rs) behind f k e o b = absurd e

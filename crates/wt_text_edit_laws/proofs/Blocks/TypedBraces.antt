@@ -41,7 +41,7 @@ line_unbraced s own f u =
     unbraced_joined (page_chars (opening s)) (own ++ closing_items s) (quiet_unbraced (opening s) (opening_quiet s f.sides))
     (unbraced_joined own (closing_items s) u ends)
 
-typed_unbraced : (k : TextBlock) (q : List ℕ) → IsTypedIn k q → AreUnbraced (block_items k q)
+pub typed_unbraced : (k : TextBlock) (q : List ℕ) → IsTypedIn k q → AreUnbraced (block_items k q)
 typed_unbraced a_paragraph q h = page_unbraced q h
 typed_unbraced (a_heading s) q h = line_unbraced s (page_items q) h.frame (page_unbraced q (typed_text s q h))
 
@@ -71,7 +71,7 @@ line_apart : (xs : List Item) → EndsLine xs → BeginsUnbraced (map sign xs)
 line_apart [] e = tt
 line_apart (y ∷ ys) e = subst (λ z. is_brace (sign z) ≡ false) (sym e) refl
 
-braces_split : (s : BlockSpot) (ss : List BlockSpot) (behind : List ℕ) → IsRead s → AreReadAfter ss behind
+pub braces_split : (s : BlockSpot) (ss : List BlockSpot) (behind : List ℕ) → IsRead s → AreReadAfter ss behind
     → braces_of (spots_items (s ∷ ss) behind) ≡ braces_of (page_items s.before) ++ (braces_of (block_items s.block s.text) ++ braces_of (spots_items ss behind))
 braces_split s ss behind h f =
     let own : List Item = block_items s.block s.text in

@@ -141,7 +141,7 @@ blocks_are read l ls =
     ∙ ap (λ rs. flat_map (run_stretches read) rs) (runs_are l ls)
     ∙ ap (λ rs. block_stretches read (unit_kind kind_of rs) rs ++ []) (joined_units (l ∷ ls))
 
-within_are : (n : ℕ) (l : List Item) (ls : List (List Item)) → within n (map text_row (l ∷ ls)) ≡ with_gaps (map text_row (l ∷ ls))
+pub within_are : (n : ℕ) (l : List Item) (ls : List (List Item)) → within n (map text_row (l ∷ ls)) ≡ with_gaps (map text_row (l ∷ ls))
 within_are zero l ls = blocks_are gaps l ls
 within_are (suc n) l ls = blocks_are (within n) l ls
 

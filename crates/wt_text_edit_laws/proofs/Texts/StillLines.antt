@@ -394,10 +394,10 @@ firsts_apart (x ∷ []) [] xs others ends is run e c = and_false (is_quote x) fa
 firsts_apart (x ∷ []) (y ∷ ys) xs others ends is run e c =
     two_apart x y (ys ++ ends) (subst StillItems (is ∙ ap (λ zs. x ∷ zs) e) c)
 
-abbrev alone : Segment → List Segment
+abbrev pub alone : Segment → List Segment
 alone u = u ∷ []
 
-apart_put : (u v : Segment) (rs : List (List Segment)) → both_quotes u v ≡ false → put both_quotes u ((v ∷ []) ∷ rs) ≡ (u ∷ []) ∷ (v ∷ []) ∷ rs
+pub apart_put : (u v : Segment) (rs : List (List Segment)) → both_quotes u v ≡ false → put both_quotes u ((v ∷ []) ∷ rs) ≡ (u ∷ []) ∷ (v ∷ []) ∷ rs
 apart_put u v rs e = rw e refl
 
 runs_alone : (rs : List (List Item)) (xs : List Item) → AreBits rs xs → StillItems xs
@@ -409,7 +409,7 @@ runs_alone (r ∷ s ∷ rs) xs h c =
     ap (put both_quotes (loose_segment r)) (runs_alone (s ∷ rs) h.0 h.3 rest)
     ∙ apart_put (loose_segment r) (loose_segment s) (map alone (map loose_segment rs)) (firsts_apart r s xs h.0 h.3.0 h.1 h.2 h.3.1 c)
 
-abbrev HasNoRun : List Chunk → Type 0
+abbrev pub HasNoRun : List Chunk → Type 0
 HasNoRun [] = Unit {0}
 HasNoRun (chunk.Run n ∷ cs) = ⊥
 HasNoRun (chunk.Text n l b ∷ cs) = HasNoRun cs
@@ -418,7 +418,7 @@ HasNoRun (chunk.Tile n l b ∷ cs) = HasNoRun cs
 one_is_none : (u : Segment) → is_run (u ∷ []) ≡ false
 one_is_none u = and_false u.quote _ refl
 
-no_runs : (xs : List Item) (us : List Segment) → HasNoRun (chunks_since xs (map alone us))
+pub no_runs : (xs : List Item) (us : List Segment) → HasNoRun (chunks_since xs (map alone us))
 no_runs xs [] = tt
 no_runs xs (u ∷ us) =
     let ys : List Item = xs ++ segment_items (u ∷ []) in
@@ -447,7 +447,7 @@ no_toggles cs h =
     ap (λ (ts : List Toggle). if is_due ts then exchange_at (exchange_place cs ts) ts else ts)
     (none_kept (toggle_at cs) (range_with_len 0 (length cs)) (λ k. no_toggle cs k h))
 
-no_styles : (cs : List Chunk) → HasNoRun cs → style_tree_of cs ≡ []
+pub no_styles : (cs : List Chunk) → HasNoRun cs → style_tree_of cs ≡ []
 unfolding style_tree_of
 no_styles cs h = ap (λ (ts : List Toggle). styles_by (bytes_of cs) (turns_of cs ts)) (no_toggles cs h)
 

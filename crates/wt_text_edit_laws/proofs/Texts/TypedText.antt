@@ -137,11 +137,11 @@ pub lexemes_expanded : (pages : Pages) (bs : List ℕ) → AreLexemes (reduced (
 unfolding text_members
 lexemes_expanded pages bs h = without_calls pages bs (no_calls (reduced (words Page bs)) h)
 
-lexemes_work : (pages : Pages) (bs : List ℕ) → AreLexemes (reduced (words Page bs)) → page_work pages bs ≡ entered None ∷ []
+pub lexemes_work : (pages : Pages) (bs : List ℕ) → AreLexemes (reduced (words Page bs)) → page_work pages bs ≡ entered None ∷ []
 unfolding page_work text_members
 lexemes_work pages bs h = ap (λ es. entered None ∷ es) (no_work (page_reading pages) true bs (reduced (words Page bs)) h)
 
-lexemes_flat : (bs : List ℕ) → AreLexemes (reduced (words Page bs)) → deep_place Page bs ≡ None
+pub lexemes_flat : (bs : List ℕ) → AreLexemes (reduced (words Page bs)) → deep_place Page bs ≡ None
 unfolding deep_place too_deep calls
 lexemes_flat bs h = ap too_deep (no_places 0 0 None (reduced (words Page bs)) h)
 

@@ -18,7 +18,7 @@ push_places-returns t c =
     c.in_ok-children.ensures c.in_ok-push_inside_place.ensures
     (c.in_ok-push_along.ensures
     ∙ ap (λ (x : List Child). pushed ++ along page old false (begun old) (child_views x) (views (drop c.inside_count.result c.as_slice-2.result.now)))
-        c.as_slice.ensures.value
+    c.as_slice.ensures.value
     ∙ ap (λ (ms : List Node). pushed ++ along page old false (begun old) (child_views c.in_ok-children.children.items) (views (drop c.inside_count.result ms)))
-        c.as_slice-2.ensures
+    c.as_slice-2.ensures
     ∙ ap (λ (x : Trees). pushed ++ along page old false (begun old) (child_views c.in_ok-children.children.items) x) c.inside_count.ensures.behind)

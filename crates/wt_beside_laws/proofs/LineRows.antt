@@ -1,0 +1,173 @@
+-- The lines of a content as the rows of a paragraph.
+use Rattle.std.proofs.Common.{arith, ◌≡◌, ℕ, ◌+◌, ◌==◌, Bool, true, false, None, List, [], ◌∷◌, ◌++◌, map, refl, sym, ap, ◌∙◌, subst, append-nil, append_assoc}
+use Rattle.std.specs.Prelude.{if◌then◌else◌, not, encode_utf8}
+use Rattle.std.specs.List.{AllByRecursion}
+use Rattle.std.proofs.lemmas.Bool.Decides.{nat_tests}
+use Rattle.wt_span.specs.Items.{Item, char}
+use Rattle.wt_span.specs.Runs.{IsRun, AreRuns}
+use Rattle.wt_span.proofs.RunLaws.{runs_are}
+use Rattle.wt_guards.specs.Content.{ContentSign, letter, thing}
+use Rattle.wt_guards.specs.Guards.{Setting, is_guarded}
+use Rattle.wt_guards.specs.Letters.{is_escaped}
+use Rattle.wt_expand.specs.PageItems.{page_items}
+use Rattle.wt_lines.specs.Lines.{lines, full_lines, content, empty_end, is_break_item, goes_on, IsUnbroken}
+use Rattle.wt_lines.proofs.FullLines.{same_lines}
+use Rattle.wt_headings.specs.Lines.{ending}
+use Rattle.wt_inline.specs.declared.loose.Loose.TheVariants.{Text}
+use Rattle.wt_inline.specs.Parts.{Part, parts}
+use Rattle.wt_context.specs.Line.{line_parts}
+use Rattle.wt_page.specs.Texts.{para_parts}
+use Rattle.wt_text_edit_laws.specs.LonePages.{page_chars}
+use Rattle.wt_text_edit_laws.proofs.Texts.PlainRows.{text_row}
+use Rattle.wt_beside_laws.specs.Content.{guard_items, letter_items, content_items}
+use Rattle.wt_beside_laws.specs.Flat.{AreFlat, content_parts, line_content}
+use Rattle.wt_beside_laws.specs.Lines.{AreUnbroken, line_items, later_lines}
+use Rattle.wt_beside_laws.specs.Nodes.{AreNodes, AllMeet}
+use Rattle.wt_beside_laws.proofs.LineItems.{break_items}
+use Rattle.wt_beside_laws.proofs.LineParts.{line_parts_are}
+
+abbrev break : Item
+break = char None 10
+
+-- ---- the parts of lines, with a line break between each two
+
+abbrev after_breaks : List (List Item) → List Part
+after_breaks [] = []
+after_breaks (l ∷ ls) = parts Text (break ∷ []) ++ (line_parts l ++ after_breaks ls)
+
+abbrev joined_parts : List (List Item) → List Part
+joined_parts [] = []
+joined_parts (l ∷ ls) = line_parts l ++ after_breaks ls
+
+-- the line breaks are characters of the page
+abbrev pub OwnBreaks : List Item → Type 0
+OwnBreaks xs = AllByRecursion (λ x. is_break_item x ≡ true → x ≡ break) xs
+
+own_first : (xs ys : List Item) → OwnBreaks (xs ++ ys) → OwnBreaks xs
+own_first [] ys h = tt
+own_first (x ∷ xs) ys h = (h.0, own_first xs ys h.1)
+
+own_rest : (xs ys : List Item) → OwnBreaks (xs ++ ys) → OwnBreaks ys
+own_rest [] ys h = h
+own_rest (x ∷ xs) ys h = own_rest xs ys h.1
+
+own_both : (xs ys : List Item) → OwnBreaks xs → OwnBreaks ys → OwnBreaks (xs ++ ys)
+own_both [] ys h k = k
+own_both (x ∷ xs) ys h k = (h.0, own_both xs ys h.1 k)
+
+not_true : (b : Bool) → not b ≡ false → b ≡ true
+not_true true e = refl
+not_true false e = cc
+
+-- a line before another one ends with its line break
+ends_line : (l : List Item) (y : Item) (others : List Item) → IsRun goes_on l (y ∷ others) → OwnBreaks l → ending l ≡ break ∷ []
+ends_line [] y others r o = absurd r
+ends_line (x ∷ []) y others r o =
+    let e : is_break_item x ≡ true = not_true (is_break_item x) r in
+    ap (λ (t : Bool). if t then x ∷ [] else []) e ∙ ap (λ z. z ∷ []) (o.0 e)
+ends_line (x ∷ z ∷ zs) y others r o = ends_line (z ∷ zs) y others r.1 o.1
+
+row_parts : (ls : List (List Item)) (xs : List Item) → AreRuns goes_on ls xs → OwnBreaks xs → para_parts (map text_row ls) ≡ joined_parts (map content ls)
+row_parts [] xs r o = refl
+row_parts (l ∷ []) xs r o = refl
+row_parts (l ∷ [] ∷ ls) xs r o = absurd r.3.2
+row_parts (l ∷ (y ∷ m) ∷ ls) xs r o =
+    let own : OwnBreaks (l ++ r.0) = subst OwnBreaks r.1 o in
+    let on : IsRun goes_on l (y ∷ (m ++ r.3.0)) = subst (IsRun goes_on l) r.3.1 r.2 in
+    ap (λ zs. line_parts (content l) ++ (parts Text zs ++ para_parts (map text_row ((y ∷ m) ∷ ls)))) (ends_line l y (m ++ r.3.0) on (own_first l r.0 own))
+    ∙ ap (λ ps. line_parts (content l) ++ (parts Text (break ∷ []) ++ ps)) (row_parts ((y ∷ m) ∷ ls) r.0 r.3 (own_rest l r.0 own))
+
+pub rows_parts : (xs l : List Item) (ls : List (List Item)) → OwnBreaks xs → empty_end xs ≡ [] → lines xs ≡ l ∷ ls
+    → para_parts (map text_row (full_lines xs)) ≡ joined_parts (l ∷ ls)
+rows_parts xs l ls o e i =
+    row_parts (full_lines xs) xs (runs_are goes_on xs) o
+    ∙ ap joined_parts (sym (append-nil (map content (full_lines xs))) ∙ sym (ap (λ ms. map content (full_lines xs) ++ ms) e) ∙ sym (same_lines xs) ∙ i)
+
+-- ---- those of a content
+
+unbroken_own : (xs : List Item) → IsUnbroken xs → OwnBreaks xs
+unbroken_own [] u = tt
+unbroken_own (x ∷ xs) u = ((λ e. let no : true ≡ false = sym e ∙ u.0 in cc), unbroken_own xs u.1)
+
+chars_own : (bs : List ℕ) → OwnBreaks (page_chars bs)
+chars_own [] = tt
+chars_own (b ∷ bs) = ((λ e. ap (char None) (is_ten b e)), chars_own bs)
+  where
+    is_ten : (b : ℕ) → (b == 10) ≡ true → b ≡ 10
+    is_ten b e = grind (arith, nat_tests, e)
+
+guard_own : (u : Bool) → OwnBreaks (guard_items u)
+guard_own true = ((λ e. cc), tt)
+guard_own false = tt
+
+letter_own : (e : Bool) (c : ℕ) → OwnBreaks (letter_items e c)
+letter_own true c = ((λ e. cc), tt)
+letter_own false c = chars_own (encode_utf8 c)
+
+pub content_own : (s : Setting) (before signs : List ContentSign) → AreUnbroken signs → OwnBreaks (content_items s before signs)
+content_own s before [] u = guard_own (is_guarded s before [])
+content_own s before (letter c ∷ after) u =
+    let e = is_escaped s.within s.place before c after in
+    own_both (guard_items (is_guarded s before (letter c ∷ after))) (letter_items e c ++ content_items s (letter c ∷ before) after)
+    (guard_own (is_guarded s before (letter c ∷ after)))
+    (own_both (letter_items e c) (content_items s (letter c ∷ before) after) (letter_own e c) (content_own s (letter c ∷ before) after u))
+content_own s before (thing t ∷ after) u =
+    own_both (guard_items (is_guarded s before (thing t ∷ after))) (page_items t.source ++ content_items s (thing t ∷ before) after)
+    (guard_own (is_guarded s before (thing t ∷ after)))
+    (own_both (page_items t.source) (content_items s (thing t ∷ before) after) (unbroken_own (page_items t.source) u.0) (content_own s (thing t ∷ before) after u.1))
+
+abbrev later_content : Setting → List ContentSign → List ContentSign → List Part
+later_content s before [] = []
+later_content s before (letter c ∷ after) =
+    if c == 10 then parts Text (break ∷ []) ++ (line_content s (letter c ∷ before) after ++ later_content s (letter c ∷ before) after)
+    else later_content s (letter c ∷ before) after
+later_content s before (thing t ∷ after) = later_content s (thing t ∷ before) after
+
+later_by : (t : Bool) (l : List Item) (ls : List (List Item)) (own more : List Part) → line_parts l ≡ own → after_breaks ls ≡ more
+    → after_breaks (if t then l ∷ ls else ls) ≡ (if t then parts Text (break ∷ []) ++ (own ++ more) else more)
+later_by true l ls own more e f = ap (λ ps. parts Text (break ∷ []) ++ (ps ++ after_breaks ls)) e ∙ ap (λ ps. parts Text (break ∷ []) ++ (own ++ ps)) f
+later_by false l ls own more e f = f
+
+later_are : (s : Setting) (before signs : List ContentSign) → AreNodes signs → AreFlat signs → AllMeet s before signs []
+    → after_breaks (later_lines s before signs) ≡ later_content s before signs
+later_are s before [] n f m = refl
+later_are s before (letter c ∷ after) n f m =
+    later_by (c == 10) (line_items s (letter c ∷ before) after) (later_lines s (letter c ∷ before) after) (line_content s (letter c ∷ before) after)
+    (later_content s (letter c ∷ before) after) (line_parts_are s (letter c ∷ before) after n f m.1) (later_are s (letter c ∷ before) after n f m.1)
+later_are s before (thing t ∷ after) n f m = later_are s (thing t ∷ before) after n.1 f.1 m.1
+
+-- a line and what follows it
+both_by : (t : Bool) (own line later all : List Part) → (t ≡ true → own ≡ parts Text (break ∷ [])) → line ++ later ≡ all
+    → (if t then [] else own ++ line) ++ (if t then parts Text (break ∷ []) ++ (line ++ later) else later) ≡ own ++ all
+both_by true own line later all i e = ap (λ ps. parts Text (break ∷ []) ++ ps) e ∙ ap (λ ps. ps ++ all) (sym (i refl))
+both_by false own line later all i e = append_assoc own line later ∙ ap (λ ps. own ++ ps) e
+
+break_parts : (s : Setting) (before : List ContentSign) (c : ℕ) (after : List ContentSign) → (c == 10) ≡ true
+    → parts Text (letter_items (is_escaped s.within s.place before c after) c) ≡ parts Text (break ∷ [])
+break_parts s before c after e =
+    let is : 10 ≡ c = grind (arith, nat_tests, e) in
+    subst (λ (k : ℕ). parts Text (letter_items (is_escaped s.within s.place before k after) k) ≡ parts Text (break ∷ [])) is
+    (ap (parts Text) (break_items s.within s.place before after))
+
+content_joined : (s : Setting) (before signs : List ContentSign) → line_content s before signs ++ later_content s before signs ≡ content_parts s before signs
+content_joined s before [] = append-nil (parts Text (guard_items (is_guarded s before [])))
+content_joined s before (letter c ∷ after) =
+    let own : List Part = parts Text (letter_items (is_escaped s.within s.place before c after) c) in
+    let line : List Part = line_content s (letter c ∷ before) after in
+    let later : List Part = later_content s (letter c ∷ before) after in
+    let guard : List Part = parts Text (guard_items (is_guarded s before (letter c ∷ after))) in
+    append_assoc guard (if c == 10 then [] else own ++ line) (if c == 10 then parts Text (break ∷ []) ++ (line ++ later) else later)
+    ∙ ap (λ ps. guard ++ ps)
+    (both_by (c == 10) own line later (content_parts s (letter c ∷ before) after) (break_parts s before c after) (content_joined s (letter c ∷ before) after))
+content_joined s before (thing t ∷ after) =
+    let own : List Part = line_parts (page_items t.source) in
+    let line : List Part = line_content s (thing t ∷ before) after in
+    let later : List Part = later_content s (thing t ∷ before) after in
+    let guard : List Part = parts Text (guard_items (is_guarded s before (thing t ∷ after))) in
+    append_assoc guard (own ++ line) later ∙ ap (λ ps. guard ++ ps) (append_assoc own line later ∙ ap (λ ps. own ++ ps) (content_joined s (thing t ∷ before) after))
+
+pub lines_joined : (s : Setting) (before signs : List ContentSign) → AreNodes signs → AreFlat signs → AllMeet s before signs []
+    → joined_parts (line_items s before signs ∷ later_lines s before signs) ≡ content_parts s before signs
+lines_joined s before signs n f m =
+    ap (λ ps. ps ++ after_breaks (later_lines s before signs)) (line_parts_are s before signs n f m)
+    ∙ ap (λ ps. line_content s before signs ++ ps) (later_are s before signs n f m) ∙ content_joined s before signs

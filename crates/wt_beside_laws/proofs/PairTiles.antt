@@ -1,0 +1,297 @@
+-- The closing tag that balances an opening one is the same whatever is read behind it.
+use Rattle.std.proofs.Common.{arith, ◌≡◌, ℕ, zero, suc, ◌+◌, ◌-◌, ◌<◌, ◌≤◌, ◌==◌, Bool, true, false, Option, Some, None, List, [], ◌∷◌, ◌++◌, length, take, drop, refl, sym, ap, ap₂, ◌∙◌, subst, nat_lt}
+use Rattle.std.specs.Prelude.{◌&&◌, ◌||◌, codes, if◌then◌else◌}
+use Rattle.std.specs.Option.{option_or}
+use Rattle.std.proofs.lemmas.Bool.Decides.{nat_tests}
+use Rattle.std.proofs.lemmas.List.{drop-append-le, take-append-le, length-drop, length-append}
+use Rattle.wt_tiles.specs.declared.glyph.Glyph.{Glyph}
+use Rattle.wt_tiles.specs.declared.glyph.Glyph.TheVariants as glyph
+use Rattle.wt_tiles.specs.declared.glyph.GlyphClass.{GlyphClass}
+use Rattle.wt_tiles.specs.declared.glyph.GlyphClass.TheVariants as class
+use Rattle.wt_tiles.specs.declared.tag.Tag.{Tag}
+use Rattle.wt_tiles.specs.declared.tag.TagShape.TheVariants.{Closing}
+use Rattle.wt_tiles.specs.Glyphs.{in_class, is_in, first_is, run_len, begins}
+use Rattle.wt_tiles.specs.Partners.{DepthChange, Up, Down, Level, turn_of_tag, tag_turn, by_tag, partner}
+use Rattle.wt_tiles.specs.Tags.{name_len, name_of, tag_of, is_inside, shape_of, tag_after, opening_tag, closing_tag, tag_at}
+use Rattle.wt_tiles.proofs.TagInsides.{no_tag}
+use Rattle.wt_beside_laws.proofs.LinkTiles.{first_stays}
+use Rattle.wt_beside_laws.proofs.TagFronts.{tag_front}
+use Rattle.wt_beside_laws.proofs.TagTiles.{tag_stays, name_stays}
+use Rattle.wt_beside_laws.proofs.UrlTiles.{run_within}
+
+-- ---- a `<` that is among some items
+
+abbrev pub has_less : List Glyph → Bool
+has_less [] = false
+has_less (g ∷ gs) = in_class (class.Only 60) g || has_less gs
+
+-- of a class in which it isn't
+abbrev HasNoLess : GlyphClass → Type 0
+HasNoLess k = (g : Glyph) → in_class k g ≡ true → in_class (class.Only 60) g ≡ false
+
+name_no_less : HasNoLess class.Name
+name_no_less (glyph.Byte b) e = grind (arith, nat_tests)
+name_no_less (glyph.Entity c) e = refl
+name_no_less glyph.Atom e = refl
+name_no_less glyph.Mark e = refl
+
+blank_no_less : HasNoLess class.Blank
+blank_no_less (glyph.Byte b) e = grind (arith, nat_tests)
+blank_no_less (glyph.Entity c) e = refl
+blank_no_less glyph.Atom e = refl
+blank_no_less glyph.Mark e = refl
+
+tag_no_less : HasNoLess class.Tag
+tag_no_less (glyph.Byte b) e = grind (arith, nat_tests)
+tag_no_less (glyph.Entity c) e = refl
+tag_no_less glyph.Atom e = refl
+tag_no_less glyph.Mark e = refl
+
+-- a run of such a class ends before it
+run_ends : (k : GlyphClass) (gs : List Glyph) → HasNoLess k → has_less gs ≡ true → (run_len k gs < length gs) × (has_less (drop (run_len k gs) gs) ≡ true)
+run_ends k [] f e = cc
+run_ends k (g ∷ gs) f e = ends_by (in_class k g) refl (λ z. run_ends k gs f z)
+  where
+    tail_less : in_class k g ≡ true → has_less gs ≡ true
+    tail_less i = ap (λ (v : Bool). v || has_less gs) (sym (f g i)) ∙ e
+
+    ends_by : (v : Bool) → in_class k g ≡ v → (has_less gs ≡ true → (run_len k gs < length gs) × (has_less (drop (run_len k gs) gs) ≡ true))
+        → (run_len k (g ∷ gs) < length (g ∷ gs)) × (has_less (drop (run_len k (g ∷ gs)) (g ∷ gs)) ≡ true)
+    ends_by true i h =
+        let r = h (tail_less i) in
+        let lt : run_len k gs < length gs = r.0 in
+        let is : run_len k (g ∷ gs) ≡ suc (run_len k gs) = ap (λ (v : Bool). if v then 1 + run_len k gs else 0) i ∙ omega arith in
+        (omega (arith, is, lt), ap (λ (n : ℕ). has_less (drop n (g ∷ gs))) is ∙ r.1)
+    ends_by false i h =
+        let is : run_len k (g ∷ gs) ≡ 0 = ap (λ (v : Bool). if v then 1 + run_len k gs else 0) i in
+        (omega (arith, is), ap (λ (n : ℕ). has_less (drop n (g ∷ gs))) is ∙ e)
+
+name_ends : (gs : List Glyph) → has_less gs ≡ true → (name_len gs < length gs) × (has_less (drop (name_len gs) gs) ≡ true)
+name_ends gs e = ends_by (first_is class.Letter gs)
+  where
+    some : (hs : List Glyph) → has_less hs ≡ true → 0 < length hs
+    some [] z = cc
+    some (h ∷ hs) z = omega arith
+
+    ends_by : (v : Bool) → ((if v then run_len class.Name gs else 0) < length gs) × (has_less (drop (if v then run_len class.Name gs else 0) gs) ≡ true)
+    ends_by true = run_ends class.Name gs name_no_less e
+    ends_by false = (some gs e, e)
+
+-- ---- a tag that begins before it is the same whatever is read behind
+
+abbrev tag_inside : List Glyph → Bool → List Glyph → Option Tag
+tag_inside name ends inside = if ends && is_inside inside then tag_of (shape_of inside) (2 + length name + length inside) (name_of name) else None
+
+after_same : (name us rest : List Glyph) → has_less us ≡ true → tag_after name (us ++ rest) ≡ tag_after name us
+unfolding tag_after
+after_same name us rest e =
+    let r : ℕ = run_len class.Tag us in
+    let lt : r < length us = (run_ends class.Tag us tag_no_less e).0 in
+    let left : length (drop r us) ≡ length us - r = length-drop r us in
+    ap (λ (i : ℕ). tag_inside name (first_is (class.Only 62) (drop i (us ++ rest))) (take i (us ++ rest))) (run_within class.Tag us rest lt)
+    ∙ ap₂ (λ (v : Bool) (xs : List Glyph). tag_inside name v xs)
+    (ap (first_is (class.Only 62)) (drop-append-le r us rest (omega (arith, lt))) ∙ first_stays (class.Only 62) (drop r us) rest (omega (arith, lt, left)))
+    (take-append-le r us rest (omega (arith, lt)))
+
+opening_same : (g : Glyph) (hs rest : List Glyph) → has_less hs ≡ true → opening_tag (g ∷ (hs ++ rest)) ≡ opening_tag (g ∷ hs)
+unfolding opening_tag
+opening_same g hs rest e =
+    let n : ℕ = name_len hs in
+    let m = name_ends hs e in
+    let lt : n < length hs = m.0 in
+    let us : List Glyph = drop (1 + n) (g ∷ hs) in
+    let z : 1 + n ≡ suc n = omega arith in
+    let less : has_less us ≡ true = ap (λ (i : ℕ). has_less (drop i (g ∷ hs))) z ∙ m.1 in
+    ap (λ (i : ℕ). if in_class (class.Only 60) g && nat_lt 0 i then tag_after (take i (hs ++ rest)) (drop (1 + i) (g ∷ (hs ++ rest))) else None) (name_stays hs rest lt)
+    ∙ ap (λ (o : Option Tag). if in_class (class.Only 60) g && nat_lt 0 n then o else None)
+    (ap₂ (λ (xs ys : List Glyph). tag_after xs ys) (take-append-le n hs rest (omega (arith, lt))) (drop-append-le (1 + n) (g ∷ hs) rest (omega (arith, lt)))
+    ∙ after_same (take n hs) us rest less)
+
+abbrev closing_by : Bool → ℕ → ℕ → List Glyph → Bool → Option Tag
+closing_by first n k name ends = if first && (nat_lt 0 n && ends) then tag_of Closing (3 + n + k) (name_of name) else None
+
+closing_same : (a b : Glyph) (hs rest : List Glyph) → has_less hs ≡ true → closing_tag (a ∷ b ∷ (hs ++ rest)) ≡ closing_tag (a ∷ b ∷ hs)
+unfolding closing_tag
+closing_same a b hs rest e =
+    let gs : List Glyph = a ∷ b ∷ hs in
+    let all : List Glyph = a ∷ b ∷ (hs ++ rest) in
+    let n : ℕ = name_len hs in
+    let m = name_ends hs e in
+    let lt : n < length hs = m.0 in
+    let z : 2 + n ≡ suc (suc n) = omega arith in
+    let us : List Glyph = drop (2 + n) gs in
+    let less : has_less us ≡ true = ap (λ (i : ℕ). has_less (drop i gs)) z ∙ m.1 in
+    let k : ℕ = run_len class.Blank us in
+    let r = run_ends class.Blank us blank_no_less less in
+    let short : k < length us = r.0 in
+    let left : length us ≡ length gs - (2 + n) = length-drop (2 + n) gs in
+    let end : length (drop (2 + n + k) gs) ≡ length gs - (2 + n + k) = length-drop (2 + n + k) gs in
+    let first : Bool = begins (codes "</") gs in
+    let blanks : run_len class.Blank (drop (2 + n) all) ≡ k =
+    ap (run_len class.Blank) (drop-append-le (2 + n) gs rest (omega (arith, lt))) ∙ run_within class.Blank us rest short in
+    ap (λ (i : ℕ). closing_by first i (run_len class.Blank (drop (2 + i) all)) (take i (hs ++ rest)) (first_is (class.Only 62) (drop (2 + i + run_len class.Blank (drop (2 + i) all)) all)))
+    (name_stays hs rest lt)
+    ∙ ap (λ (j : ℕ). closing_by first n j (take n (hs ++ rest)) (first_is (class.Only 62) (drop (2 + n + j) all))) blanks
+    ∙ ap₂ (λ (xs : List Glyph) (v : Bool). closing_by first n k xs v) (take-append-le n hs rest (omega (arith, lt)))
+    (ap (first_is (class.Only 62)) (drop-append-le (2 + n + k) gs rest (omega (arith, short, left, lt)))
+    ∙ first_stays (class.Only 62) (drop (2 + n + k) gs) rest (omega (arith, short, left, end, lt)))
+
+-- where the second item is `<`
+no_slash : (a b : Glyph) (hs : List Glyph) → in_class (class.Only 60) b ≡ true → closing_tag (a ∷ b ∷ hs) ≡ None
+unfolding closing_tag
+no_slash a b hs e = none_by (is_in (λ (c : ℕ). c == 60) a) (is_in (λ (c : ℕ). c == 47) b) refl
+  where
+    other : (g : Glyph) → in_class (class.Only 60) g ≡ true → is_in (λ (c : ℕ). c == 47) g ≡ true → true ≡ false
+    other (glyph.Byte c) i j = absurd (grind (arith, nat_tests, i, j))
+    other (glyph.Entity c) i j = cc
+    other glyph.Atom i j = cc
+    other glyph.Mark i j = cc
+
+    none_by : (u v : Bool) → is_in (λ (c : ℕ). c == 47) b ≡ v
+        → (if (u && (v && true)) && (nat_lt 0 (name_len hs) && first_is (class.Only 62) (drop (2 + name_len hs + run_len class.Blank (drop (2 + name_len hs) (a ∷ b ∷ hs))) (a ∷ b ∷ hs)))
+        then tag_of Closing (3 + name_len hs + run_len class.Blank (drop (2 + name_len hs) (a ∷ b ∷ hs))) (name_of (take (name_len hs) hs)) else None) ≡ None
+    none_by false v i = refl
+    none_by true false i = refl
+    none_by true true i = let no : true ≡ false = other b e i in cc
+
+closing_here : (a b : Glyph) (hs rest : List Glyph) → (in_class (class.Only 60) b || has_less hs) ≡ true → closing_tag (a ∷ b ∷ (hs ++ rest)) ≡ closing_tag (a ∷ b ∷ hs)
+closing_here a b hs rest e = here_by (in_class (class.Only 60) b) refl e
+  where
+    here_by : (v : Bool) → in_class (class.Only 60) b ≡ v → (v || has_less hs) ≡ true → closing_tag (a ∷ b ∷ (hs ++ rest)) ≡ closing_tag (a ∷ b ∷ hs)
+    here_by true i z = no_slash a b (hs ++ rest) i ∙ sym (no_slash a b hs i)
+    here_by false i z = closing_same a b hs rest z
+
+pub tag_same : (g : Glyph) (hs rest : List Glyph) → has_less hs ≡ true → tag_at (g ∷ (hs ++ rest)) ≡ tag_at (g ∷ hs)
+unfolding tag_at
+tag_same g [] rest e = cc
+tag_same g (h ∷ hs) rest e = ap₂ (λ (a b : Option Tag). option_or a b) (opening_same g (h ∷ hs) rest e) (closing_here g h hs rest e)
+
+-- ---- the closing tag that balances
+
+or_right : (a b : Bool) → b ≡ true → (a || b) ≡ true
+or_right true b e = refl
+or_right false b e = e
+
+or_left : (a b : Bool) → a ≡ true → (a || b) ≡ true
+or_left true b e = refl
+or_left false b e = cc
+
+-- a tag begins with `<`
+less_begins : (g : Glyph) (gs : List Glyph) (t : Tag) → tag_at (g ∷ gs) ≡ Some t → in_class (class.Only 60) g ≡ true
+less_begins g gs t e = begins_by (in_class (class.Only 60) g) refl
+  where
+    begins_by : (v : Bool) → in_class (class.Only 60) g ≡ v → in_class (class.Only 60) g ≡ true
+    begins_by true i = i
+    begins_by false i = let none : None ≡ Some t = sym (no_tag (g ∷ gs) i) ∙ e in cc
+
+-- what is found begins with one
+found_less : (k : ℕ) (o : Option Tag) (d : ℕ) (g : Glyph) (gs ys : List Glyph) → tag_at (g ∷ gs) ≡ o
+    → ((e : ℕ) → partner k e gs ≡ Some ys → has_less gs ≡ true) → by_tag (turn_of_tag k o) d (g ∷ gs) (λ e. partner k e gs) ≡ Some ys → has_less (g ∷ gs) ≡ true
+found_less k (Some t) d g gs ys i f e = or_left (in_class (class.Only 60) g) (has_less gs) (less_begins g gs t i)
+found_less k None d g gs ys i f e = or_right (in_class (class.Only 60) g) (has_less gs) (f d e)
+
+pub partner_less : (k d : ℕ) (gs ys : List Glyph) → partner k d gs ≡ Some ys → has_less gs ≡ true
+partner_less k d [] ys e = cc
+partner_less k d (g ∷ gs) ys e = found_less k (tag_at (g ∷ gs)) d g gs ys refl (λ c z. partner_less k c gs ys z) e
+
+or_empty : Option (List Glyph) → List Glyph
+or_empty None = []
+or_empty (Some gs) = gs
+
+pub same_list : (us vs : List Glyph) → Some us ≡ Some vs → us ≡ vs
+unfolding or_empty
+same_list us vs e = ap or_empty e
+
+by_turn : (k : ℕ) (t : DepthChange) (d : ℕ) (gs us rest ys : List Glyph)
+    → ((e : ℕ) → partner k e us ≡ Some ys → partner k e (us ++ rest) ≡ Some (ys ++ rest))
+    → by_tag t d gs (λ e. partner k e us) ≡ Some ys → by_tag t d (gs ++ rest) (λ e. partner k e (us ++ rest)) ≡ Some (ys ++ rest)
+by_turn k Up d gs us rest ys f e = f (suc d) e
+by_turn k Level d gs us rest ys f e = f d e
+by_turn k Down zero gs us rest ys f e = ap (λ vs. Some (vs ++ rest)) (same_list gs ys e)
+by_turn k Down (suc d) gs us rest ys f e = f d e
+
+tag_here : (k d : ℕ) (g : Glyph) (gs rest ys : List Glyph) (o : Option Tag) → tag_at (g ∷ gs) ≡ o → by_tag (turn_of_tag k o) d (g ∷ gs) (λ e. partner k e gs) ≡ Some ys
+    → tag_at (g ∷ (gs ++ rest)) ≡ o
+tag_here k d g gs rest ys (Some t) i e = tag_stays (g ∷ gs) rest t i
+tag_here k d g gs rest ys None i e = tag_same g gs rest (partner_less k d gs ys e) ∙ i
+
+pub partner_stays : (k d : ℕ) (gs rest ys : List Glyph) → partner k d gs ≡ Some ys → partner k d (gs ++ rest) ≡ Some (ys ++ rest)
+partner_stays k d [] rest ys e = cc
+partner_stays k d (g ∷ gs) rest ys e =
+    ap (λ (o : Option Tag). by_tag (turn_of_tag k o) d (g ∷ (gs ++ rest)) (λ c. partner k c (gs ++ rest))) (tag_here k d g gs rest ys (tag_at (g ∷ gs)) refl e)
+    ∙ by_turn k (tag_turn k (g ∷ gs)) d (g ∷ gs) gs rest ys (λ c z. partner_stays k c gs rest ys z) e
+
+-- ---- and the other way round
+
+short_by : (k : ℕ) (t : DepthChange) (d : ℕ) (g : Glyph) (gs ys : List Glyph) → ((e : ℕ) → partner k e gs ≡ Some ys → length ys ≤ length gs)
+    → by_tag t d (g ∷ gs) (λ e. partner k e gs) ≡ Some ys → length ys ≤ suc (length gs)
+short_by k Up d g gs ys f e = let le = f (suc d) e in omega (arith, le)
+short_by k Level d g gs ys f e = let le = f d e in omega (arith, le)
+short_by k Down zero g gs ys f e = let is : length (g ∷ gs) ≡ length ys = ap length (same_list (g ∷ gs) ys e) in omega (arith, is)
+short_by k Down (suc d) g gs ys f e = let le = f d e in omega (arith, le)
+
+pub partner_short : (k d : ℕ) (gs ys : List Glyph) → partner k d gs ≡ Some ys → length ys ≤ length gs
+partner_short k d [] ys e = cc
+partner_short k d (g ∷ gs) ys e = short_by k (tag_turn k (g ∷ gs)) d g gs ys (λ c z. partner_short k c gs ys z) e
+
+-- found in the front, before the rest
+abbrev pub EndsIn : ℕ → ℕ → List Glyph → List Glyph → List Glyph → Type 0
+EndsIn k d gs rest ys = (zs : List Glyph) × (partner k d gs ≡ Some zs) × (ys ≡ zs ++ rest)
+
+-- it goes on after the first item
+goes_on : (k d e : ℕ) (t : DepthChange) (g : Glyph) (gs rest ys : List Glyph) → tag_turn k (g ∷ (gs ++ rest)) ≡ t
+    → ((us : List Glyph) → by_tag t d us (λ c. partner k c gs) ≡ partner k e gs) → EndsIn k e gs rest ys → EndsIn k d (g ∷ gs) rest ys
+goes_on k d e t g gs rest ys i f r =
+    let same : tag_at (g ∷ (gs ++ rest)) ≡ tag_at (g ∷ gs) = tag_same g gs rest (partner_less k e gs r.0 r.1) in
+    let turn : tag_turn k (g ∷ gs) ≡ t = ap (turn_of_tag k) (sym same) ∙ i in
+    (r.0, ap (λ (u : DepthChange). by_tag u d (g ∷ gs) (λ c. partner k c gs)) turn ∙ f (g ∷ gs) ∙ r.1, r.2)
+
+found_here : (k : ℕ) (g : Glyph) (gs rest ys : List Glyph) (c : Tag) → tag_turn k (g ∷ (gs ++ rest)) ≡ Down → g ∷ (gs ++ rest) ≡ ys → tag_at ys ≡ Some c
+    → c.len + length rest ≡ length ys → EndsIn k 0 (g ∷ gs) rest ys
+found_here k g gs rest ys c i e tag fits =
+    let all : length (g ∷ gs ++ rest) ≡ length (g ∷ gs) + length rest = length-append (g ∷ gs) rest in
+    let is : length (g ∷ gs ++ rest) ≡ length ys = ap length e in
+    let own : tag_at (g ∷ gs) ≡ Some c = tag_front (g ∷ gs) rest c (omega (arith, all, is, fits)) (ap tag_at e ∙ tag) in
+    let turn : tag_turn k (g ∷ gs) ≡ Down = ap (turn_of_tag k) (own ∙ sym (ap tag_at e ∙ tag)) ∙ i in
+    (g ∷ gs, ap (λ (u : DepthChange). by_tag u 0 (g ∷ gs) (λ c. partner k c gs)) turn, sym e)
+
+front_turn : (k d : ℕ) (t : DepthChange) (g : Glyph) (gs rest ys : List Glyph) (c : Tag) → tag_turn k (g ∷ (gs ++ rest)) ≡ t → tag_at ys ≡ Some c
+    → c.len + length rest ≡ length ys → ((e : ℕ) → partner k e (gs ++ rest) ≡ Some ys → EndsIn k e gs rest ys)
+    → by_tag t d (g ∷ (gs ++ rest)) (λ e. partner k e (gs ++ rest)) ≡ Some ys → EndsIn k d (g ∷ gs) rest ys
+front_turn k d Up g gs rest ys c i tag fits f e = goes_on k d (suc d) Up g gs rest ys i (λ us. refl) (f (suc d) e)
+front_turn k d Level g gs rest ys c i tag fits f e = goes_on k d d Level g gs rest ys i (λ us. refl) (f d e)
+front_turn k zero Down g gs rest ys c i tag fits f e = found_here k g gs rest ys c i (same_list (g ∷ (gs ++ rest)) ys e) tag fits
+front_turn k (suc d) Down g gs rest ys c i tag fits f e = goes_on k (suc d) d Down g gs rest ys i (λ us. refl) (f d e)
+
+-- the closing tag ends where the front does
+pub partner_front : (k d : ℕ) (gs rest ys : List Glyph) (c : Tag) → tag_at ys ≡ Some c → 0 < c.len → c.len + length rest ≡ length ys
+    → partner k d (gs ++ rest) ≡ Some ys → EndsIn k d gs rest ys
+partner_front k d [] rest ys c tag some fits e = let le = partner_short k d rest ys e in absurd (omega (arith, le, some, fits))
+partner_front k d (g ∷ gs) rest ys c tag some fits e =
+    front_turn k d (tag_turn k (g ∷ (gs ++ rest))) g gs rest ys c refl tag fits (λ b z. partner_front k b gs rest ys c tag some fits z) e
+
+-- ---- the closing tag itself
+
+-- it is a tag
+abbrev pub HasTag : Option Tag → Type 0
+HasTag None = ⊥
+HasTag (Some t) = Unit {0}
+
+level_none : (k : ℕ) (o : Option Tag) → turn_of_tag k o ≡ Down → HasTag o
+level_none k None e = cc
+level_none k (Some t) e = tt
+
+tag_by : (k : ℕ) (t : DepthChange) (d : ℕ) (g : Glyph) (gs ys : List Glyph) → tag_turn k (g ∷ gs) ≡ t → ((e : ℕ) → partner k e gs ≡ Some ys → HasTag (tag_at ys))
+    → by_tag t d (g ∷ gs) (λ e. partner k e gs) ≡ Some ys → HasTag (tag_at ys)
+tag_by k Up d g gs ys i f e = f (suc d) e
+tag_by k Level d g gs ys i f e = f d e
+tag_by k Down zero g gs ys i f e = subst (λ us. HasTag (tag_at us)) (same_list (g ∷ gs) ys e) (level_none k (tag_at (g ∷ gs)) i)
+tag_by k Down (suc d) g gs ys i f e = f d e
+
+pub partner_tag : (k d : ℕ) (gs ys : List Glyph) → partner k d gs ≡ Some ys → HasTag (tag_at ys)
+partner_tag k d [] ys e = cc
+partner_tag k d (g ∷ gs) ys e = tag_by k (tag_turn k (g ∷ gs)) d g gs ys refl (λ c z. partner_tag k c gs ys z) e
+
+pub closing_stays : (o : Option Tag) (gs rest : List Glyph) → tag_at gs ≡ o → HasTag (tag_at gs) → tag_at (gs ++ rest) ≡ tag_at gs
+closing_stays None gs rest e h = absurd (subst HasTag e h)
+closing_stays (Some t) gs rest e h = tag_stays gs rest t e ∙ sym e

@@ -1,0 +1,125 @@
+-- The signs of a line of a page, by its tiles: the characters, and each form as a node.
+use Rattle.std.specs.Prelude.{◌≡◌, ℕ, ◌+◌, ◌==◌, false, nat_eq, Some, List, [], ◌∷◌, ◌++◌, length, map}
+use Rattle.std.specs.List.{ends_with, flat_map}
+use Rattle.std.specs.Str.{IsUtf8}
+use Rattle.wt_span.specs.declared.form.ItemForm.{ItemForm}
+use Rattle.wt_span.specs.declared.form.ItemForm.TheVariants as form
+use Rattle.wt_span.specs.Characters as byte
+use Rattle.wt_span.specs.Items.{Item, char, whole, sources}
+use Rattle.wt_guards.specs.declared.role.Role.{Role}
+use Rattle.wt_guards.specs.declared.role.Role.TheVariants.{Link, External, Bare, Switch, Function, Node}
+use Rattle.wt_guards.specs.Content.{ContentSign, letter, thing, letters}
+use Rattle.wt_expand.specs.PageItems.{page_items}
+use Rattle.wt_tiles.specs.declared.shape.Shape.{Shape}
+use Rattle.wt_tiles.specs.declared.shape.TileKind.{TileKind}
+use Rattle.wt_tiles.specs.declared.shape.TileKind.TheVariants as kind
+use Rattle.wt_tiles.specs.Contexts.{in_line}
+use Rattle.wt_tiles.specs.Glyphs.{glyph_of}
+use Rattle.wt_tiles.specs.Links.{text_of}
+use Rattle.wt_tiles.specs.Tiles.{tiles}
+use Rattle.wt_beside_laws.specs.Stood.{OpensNoPair}
+
+-- ---- what a form is to its neighbours
+
+abbrev pub form_role : ItemForm → Role
+form_role form.Chars = Node
+form_role (form.Entity c) = Node
+form_role form.Nowiki = Node
+form_role form.Extension = Node
+form_role form.Function = Function
+form_role form.Comment = Node
+form_role form.Include = Node
+form_role form.Hidden = Node
+form_role form.EmptyCall = Node
+
+abbrev pub atom_role : List Item → Role
+atom_role [] = Node
+atom_role (char o b ∷ xs) = Node
+atom_role (whole f o bs ∷ xs) = form_role f
+
+abbrev pub tile_role : TileKind → List Item → Role
+tile_role kind.Link xs = Link
+tile_role kind.Category xs = Node
+tile_role kind.Media xs = Node
+tile_role kind.ExtLink xs = External
+tile_role kind.BareUrl xs = Bare (ends_with nat_eq (flat_map text_of (map glyph_of xs)) (byte.equals_sign ∷ []))
+tile_role kind.Br xs = Node
+tile_role kind.Pair xs = Node
+tile_role kind.TagIsland xs = Node
+tile_role kind.Switch xs = Switch
+tile_role kind.Atom xs = atom_role xs
+tile_role kind.Mark xs = Node
+tile_role kind.Chars xs = Node
+
+-- ---- the signs
+
+-- a form, by its kind, place and items
+abbrev pub form_sign : TileKind → ℕ → List Item → List ContentSign
+form_sign k at xs = thing (record { role = tile_role k xs; source = sources xs; place = Some (record { start = at; end = at + length (sources xs) }) }) ∷ []
+
+abbrev pub tile_signs : TileKind → ℕ → List Item → List ContentSign
+tile_signs kind.Link at xs = form_sign kind.Link at xs
+tile_signs kind.Category at xs = form_sign kind.Category at xs
+tile_signs kind.Media at xs = form_sign kind.Media at xs
+tile_signs kind.ExtLink at xs = form_sign kind.ExtLink at xs
+tile_signs kind.BareUrl at xs = form_sign kind.BareUrl at xs
+tile_signs kind.Br at xs = form_sign kind.Br at xs
+tile_signs kind.Pair at xs = form_sign kind.Pair at xs
+tile_signs kind.TagIsland at xs = form_sign kind.TagIsland at xs
+tile_signs kind.Switch at xs = form_sign kind.Switch at xs
+tile_signs kind.Atom at xs = form_sign kind.Atom at xs
+tile_signs kind.Mark at xs = form_sign kind.Mark at xs
+tile_signs kind.Chars at xs = letters (sources xs)
+
+abbrev pub signs_of_tiles : ℕ → List (Shape × List Item) → List ContentSign
+signs_of_tiles at [] = []
+signs_of_tiles at ((w, xs) ∷ ps) = tile_signs w.kind at xs ++ signs_of_tiles (at + length (sources xs)) ps
+
+-- of a line with so many bytes before it
+abbrev pub line_signs : ℕ → List Item → List ContentSign
+line_signs at xs = signs_of_tiles at (tiles in_line xs)
+
+-- of lines with a line break between each two
+abbrev pub signs_of_lines : ℕ → List (List Item) → List ContentSign
+signs_of_lines at [] = []
+signs_of_lines at (xs ∷ []) = line_signs at xs
+signs_of_lines at (xs ∷ ys ∷ ls) = line_signs at xs ++ (letter byte.line_break ∷ signs_of_lines (at + length (sources xs) + 1) (ys ∷ ls))
+
+-- ---- lines in which each form is a node that stays
+
+-- its source by itself is read as its items, and it is no tag that opens a pair without a closing tag
+pub record IsFlatForm (k : TileKind) (xs : List Item) : Type 0 where
+  pub alone : page_items (sources xs) ≡ xs
+  pub lone : OpensNoPair k (map glyph_of xs)
+
+-- no mark is among them
+abbrev pub IsFlatTile : TileKind → List Item → Type 0
+IsFlatTile kind.Link xs = IsFlatForm kind.Link xs
+IsFlatTile kind.Category xs = IsFlatForm kind.Category xs
+IsFlatTile kind.Media xs = IsFlatForm kind.Media xs
+IsFlatTile kind.ExtLink xs = IsFlatForm kind.ExtLink xs
+IsFlatTile kind.BareUrl xs = IsFlatForm kind.BareUrl xs
+IsFlatTile kind.Br xs = IsFlatForm kind.Br xs
+IsFlatTile kind.Pair xs = IsFlatForm kind.Pair xs
+IsFlatTile kind.TagIsland xs = IsFlatForm kind.TagIsland xs
+IsFlatTile kind.Switch xs = IsFlatForm kind.Switch xs
+IsFlatTile kind.Atom xs = IsFlatForm kind.Atom xs
+IsFlatTile kind.Mark xs = ⊥
+IsFlatTile kind.Chars xs = IsUtf8 (sources xs)
+
+abbrev pub AreFlatTiles : List (Shape × List Item) → Type 0
+AreFlatTiles [] = Unit {0}
+AreFlatTiles ((w, xs) ∷ ps) = IsFlatTile w.kind xs × AreFlatTiles ps
+
+-- no item is a line break
+abbrev pub IsNoBreak : Item → Type 0
+IsNoBreak (char o b) = (b == byte.line_break) ≡ false
+IsNoBreak (whole f o bs) = Unit {0}
+
+abbrev pub HasNoBreak : List Item → Type 0
+HasNoBreak [] = Unit {0}
+HasNoBreak (x ∷ xs) = IsNoBreak x × HasNoBreak xs
+
+abbrev pub AreFlatLines : List (List Item) → Type 0
+AreFlatLines [] = Unit {0}
+AreFlatLines (xs ∷ ls) = HasNoBreak xs × AreFlatTiles (tiles in_line xs) × AreFlatLines ls

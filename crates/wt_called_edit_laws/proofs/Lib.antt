@@ -1,0 +1,4 @@
+pub mod MovedOuters
+pub mod OwnBlocks
+pub mod GroupsAmong
+pub mod CleanAgain

@@ -1,0 +1,61 @@
+-- Whatever blocks are at the places of a page with calls, the page's tree has the same groups and the same nodes round them.
+use Rattle.std.proofs.Common.{◌≡◌, ℕ, ◌+◌, Bool, true, false, Option, None, List, [], refl, sym, ap, ap₂, ◌∙◌, cond}
+use Rattle.wt_tree.specs.Tiling.{is_group}
+use Rattle.wt_tree.specs.Tree.{Tree, tree, Trees, none, more}
+use Rattle.wt_span.specs.Origins.{OuterCall}
+use Rattle.wt_inline.specs.ItemTree.{ItemTree, tree_items}
+use Rattle.wt_annotated.specs.Annotated.{annotated, placed}
+use Rattle.wt_annotated.specs.CutTexts.{cut_texts}
+use Rattle.wt_annotated.specs.GroupData.{group_data}
+use Rattle.wt_annotated.specs.Grouped.{grouped}
+use Rattle.wt_annotated.specs.Numbering.{next_after, count, with_numbers, all_with_numbers}
+use Rattle.wt_annotated.specs.Walked.{walked}
+use Rattle.wt_annotated.proofs.Walks.{walk_all}
+use Rattle.wt_row_laws.specs.Frames.{Frames, trees_at, all_places, content, AreFrames}
+use Rattle.wt_moved_laws.specs.Placeless.{placeless_label, placeless, all_placeless}
+use Rattle.wt_moved_laws.proofs.Recuts.{texts_same}
+use Rattle.wt_called_trees.specs.TreeFrames.{TreeFrames, all_filled}
+use Rattle.wt_called_trees.specs.Rounded.{AreOwn, AreClean, HaveSameData, body_of, body_label, block_alone, GroupsStay}
+use Rattle.wt_called_trees.proofs.FramesWalked.{nodes_of, nodes_are, spots_are}
+
+-- ---- numbers
+
+same_by : (v : Bool) (ts us : Trees) → all_placeless us ≡ all_placeless ts → all_placeless (cond v ts us) ≡ all_placeless ts
+same_by true ts us e = refl
+same_by false ts us e = e
+
+mutual
+  numbers_gone : (n : ℕ) (t : Tree) → placeless (with_numbers n t) ≡ placeless t
+  numbers_gone n (tree l ts) =
+      ap (tree (placeless_label l))
+      (same_by (is_group l.kind) ts (all_with_numbers (next_after l.kind n) ts) (all_numbers_gone (next_after l.kind n) ts))
+
+  all_numbers_gone : (n : ℕ) (ts : Trees) → all_placeless (all_with_numbers n ts) ≡ all_placeless ts
+  all_numbers_gone n none = refl
+  all_numbers_gone n (more t ts) = ap₂ more (numbers_gone n t) (all_numbers_gone (n + count t) ts)
+
+-- ---- the page
+
+page_walked : (calls : List OuterCall) (t : ItemTree) → placeless (annotated calls (group_data calls) t) ≡ cut_texts (placeless (walked calls (group_data calls) None 0 None t))
+unfolding annotated
+page_walked calls t =
+    let u : Tree = placed calls (group_data calls) (tree_items t) (grouped (tree_items t) 0 t) in
+    numbers_gone 1 (cut_texts u) ∙ texts_same u ∙ ap (λ v. cut_texts (placeless v)) (sym (walk_all calls (group_data calls) t))
+
+other_way : (calls cs : List OuterCall) → HaveSameData calls cs → HaveSameData cs calls
+other_way calls cs h = record { sources = λ k. sym (h.sources k); carried = λ ps. sym (h.carried ps) }
+
+stays : (calls cs : List OuterCall) (fs : Frames) (t w : ℕ → ItemTree) → HaveSameData calls cs → AreFrames fs content → AreOwn t (all_places fs)
+    → AreOwn w (all_places fs) → AreClean t None fs None
+    → placeless (annotated cs (group_data cs) (body_of (trees_at w fs))) ≡ cut_texts (tree body_label (all_filled (block_alone w) (nodes_of calls t None [] fs None)))
+stays calls cs fs t w h of_cells g k clean =
+    page_walked cs (body_of (trees_at w fs))
+    ∙ ap (λ ts. cut_texts (tree body_label ts)) (nodes_are cs calls (other_way calls cs h) t w None 0 [] fs None content of_cells g k clean)
+
+pub groups_stay : (calls : List OuterCall) (fs : Frames) (t : ℕ → ItemTree) → AreFrames fs content → AreOwn t (all_places fs) → AreClean t None fs None
+    → GroupsStay calls fs
+groups_stay calls fs t of_cells g clean = record {
+  nodes = nodes_of calls t None [] fs None;
+  in_order = spots_are calls t None [] fs None;
+  stay = λ cs w h k. stays calls cs fs t w h of_cells g k clean;
+}

@@ -1,0 +1,3 @@
+pub mod TreeFrames
+pub mod Rounded
+pub mod MovedCalls
