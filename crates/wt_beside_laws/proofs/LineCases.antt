@@ -1,5 +1,5 @@
 -- Worked cases: two lines, and a line with a URL in it.
-use Rattle.std.proofs.Common.{◌≡◌, false, None, [], ◌∷◌, ◌++◌, refl}
+use Rattle.std.proofs.Common.{◌≡◌, false, None, [], ◌∷◌, ◌++◌, map, refl, sym, subst}
 use Rattle.std.specs.Prelude.{codes}
 use Rattle.std.proofs.Math.Utf8.{encode}
 use Rattle.wt_tree.specs.Plain.{text, ended, along}
@@ -12,12 +12,19 @@ use Rattle.wt_guards.specs.Guards.{Setting, nowiki, is_guarded, is_between_guard
 use Rattle.wt_guards.specs.Letters.{is_escaped, reference}
 use Rattle.wt_guards.specs.Table.{hazard, line_start_hazard}
 use Rattle.wt_expand.specs.PageItems.{page_items}
+use Rattle.wt_lines.specs.Lines.{IsUnbroken}
+use Rattle.wt_tiles.specs.Glyphs.{glyph_of, byte_glyphs}
+use Rattle.wt_tiles.specs.Urls.{scheme_len, is_url_char, is_dropped, kept_len, bare_shape, bare_url_at}
+use Rattle.wt_text_edit_laws.specs.LonePages.{page_chars}
 use Rattle.wt_inline.specs.declared.loose.Loose.TheVariants.{Text}
 use Rattle.wt_inline.specs.Parts.{loose}
 use Rattle.wt_context.specs.Line.{line_parts}
-use Rattle.wt_beside_laws.specs.Flat.{content_parts, line_content}
+use Rattle.wt_beside_laws.specs.Flat.{IsFlatContent, content_parts, line_content}
+use Rattle.wt_beside_laws.specs.Kept.{AreFirm, characters}
 use Rattle.wt_beside_laws.specs.Lines.{content_lines}
+use Rattle.wt_beside_laws.specs.Nodes.{IsBareNode}
 use Rattle.wt_beside_laws.specs.Shown.{content_shown}
+use Rattle.wt_beside_laws.proofs.Firm.{alone_as, firm_read}
 
 abbrev in_paragraph : Setting
 in_paragraph = record { within = false; place = Paragraph; source = [] }
@@ -52,3 +59,27 @@ url_last = refl
 typed_shown : content_shown (letter 120 ∷ letter 10 ∷ letter 61 ∷ letter 60 ∷ []) ended ≡ along (text (120 ∷ 10 ∷ 61 ∷ 60 ∷ [])) ended
 unfolding encode
 typed_shown = refl
+
+-- ---- `x`, a blank, a URL, a line break and `=` are such a content
+
+scheme_firm : AreFirm (codes "http://k")
+scheme_firm = (refl, (refl, (refl, (refl, (refl, (refl, (refl, (refl, tt))))))))
+
+url_items : page_items (codes "http://k") ≡ page_chars (codes "http://k")
+url_items = alone_as (codes "http://k") (page_chars (codes "http://k")) (firm_read (codes "http://k") scheme_firm)
+
+url_node : IsBareNode (byte_glyphs (codes "http://k"))
+unfolding bare_url_at scheme_len is_url_char is_dropped kept_len
+url_node = record { shape = bare_shape 8; first = 104; others = byte_glyphs (codes "ttp://k"); is = refl; unbracketed = refl; url = refl; whole = refl }
+
+flat_lines : IsFlatContent in_paragraph (letter 120 ∷ letter 32 ∷ thing url ∷ letter 10 ∷ letter 61 ∷ [])
+unfolding is_guarded is_between_guard is_start_guard is_end_guard is_blank_guard hazard line_start_hazard
+flat_lines = record {
+  of_block = refl;
+  characters = (refl, (refl, (refl, (refl, tt))));
+  kept = (record { parts = characters (codes "http://k") ∷ []; are = (scheme_firm, tt); is = refl }, tt);
+  nodes = (subst (λ xs. IsBareNode (map glyph_of xs)) (sym url_items) url_node, tt);
+  unbroken = (subst IsUnbroken (sym url_items) (refl, (refl, (refl, (refl, (refl, (refl, (refl, (refl, tt)))))))), tt);
+  flat = (tt, tt);
+  meet = (tt, (tt, (tt, (tt, (tt, tt)))));
+}

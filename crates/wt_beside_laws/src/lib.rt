@@ -106,7 +106,6 @@ pub fn nodes_of_flat_lines_stay()
 /// A block of the page without groups and styles (`IsFlatBlock`) has, as it is sent back, the signs that it has there: the characters
 /// of its texts, and its nodes, each with its source, its place and what it is to its neighbours (`own_signs`). Each of its nodes
 /// is one that is sent as it is.
-#[tactic(auto, using(crate::proofs::OwnSigns::own_content, crate::proofs::OwnSigns::own_sent))]
 pub fn blocks_of_the_page_have_their_signs()
     ensures signs { (same : Block → Block → Bool) (block : Block) (pl : Where) → TellsSame same → IsFlatBlock block
         → signs_of_all (page_of same block) pl (children_of block) ≡ own_signs block (length (label block).opening) (length (label block).opening) (children_of block) }

@@ -2,3 +2,5 @@ pub mod MovedOuters
 pub mod OwnBlocks
 pub mod GroupsAmong
 pub mod CleanAgain
+pub mod FreeBlocks
+pub mod Untangled

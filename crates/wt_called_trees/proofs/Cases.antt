@@ -1,19 +1,17 @@
 -- Worked cases of the definitions, each computed: which nodes round a place are clean, and what stays of a page's tree.
-use Rattle.std.proofs.Common.{◌≡◌, ℕ, false, true, Option, Some, None, List, [], ◌∷◌, map, refl}
+use Rattle.std.proofs.Common.{◌≡◌, ℕ, false, Option, Some, None, List, [], ◌∷◌, map, refl}
 use Rattle.std.specs.Prelude.{codes}
 use Rattle.wt_tree.specs.declared.kind.Kind.{Kind}
 use Rattle.wt_tree.specs.declared.kind.Kind.TheVariants as kind
-use Rattle.wt_tree.specs.Tree.{Tree, tree, Trees, none, more, label}
+use Rattle.wt_tree.specs.Tree.{label}
 use Rattle.wt_span.specs.Items.{Item, char}
 use Rattle.wt_span.specs.Origins.{OuterCall}
 use Rattle.wt_inline.specs.ItemTree.{plain, ItemTree, inner, leaf, forest}
-use Rattle.wt_annotated.specs.GroupData.{group_data}
 use Rattle.wt_annotated.specs.Walked.{clean_at}
-use Rattle.wt_joined_calls.specs.Expanded.{moved_call}
-use Rattle.wt_row_laws.specs.Frames.{place, whole, around, Frames, no_frames, more_frames, tree_at, content, in_table, in_body, in_row, AreFrames}
-use Rattle.wt_called_trees.specs.TreeFrames.{TreeFrame, spot, kept, holder, TreeFrames, no_nodes, more_nodes, all_filled}
+use Rattle.wt_row_laws.specs.Frames.{place, whole, around, Frames, no_frames, more_frames}
+use Rattle.wt_called_trees.specs.TreeFrames.{spot, kept, holder, TreeFrames, no_nodes, more_nodes}
 use Rattle.wt_called_trees.specs.Rounded.{IsOwn, AreClean}
-use Rattle.wt_called_trees.specs.MovedCalls.{IsMoved, AreMoved}
+use Rattle.wt_called_trees.specs.MovedCalls.{AreMoved}
 use Rattle.wt_called_trees.proofs.FramesWalked.{nodes_of}
 
 abbrev page : List ℕ → List Item

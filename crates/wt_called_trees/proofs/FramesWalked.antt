@@ -14,15 +14,15 @@ use Rattle.wt_annotated.specs.Clean.{is_page, is_body, own_by}
 use Rattle.wt_annotated.specs.GroupData.{group_data}
 use Rattle.wt_annotated.specs.Seams.{last_of, first_of, parted, text_from}
 use Rattle.wt_annotated.specs.Walked.{clean_at, Near, near_runs, walked, near}
-use Rattle.wt_annotated.specs.WithoutCalls.{inside_by, placed}
+use Rattle.wt_annotated.specs.WithoutCalls.{inside_by}
 use Rattle.wt_annotated.proofs.Calls.{all_split}
 use Rattle.wt_annotated.proofs.Ends.{both}
 use Rattle.wt_annotated.proofs.Seams.{first_append, last_append}
 use Rattle.wt_row_laws.specs.Rounds.{IsCellKind}
-use Rattle.wt_row_laws.specs.Frames.{Frame, place, whole, around, Frames, no_frames, more_frames, tree_at, trees_at, places_in, all_places, Part, content, in_table, in_body, in_row, Holds, AreFrames}
+use Rattle.wt_row_laws.specs.Frames.{Frame, place, whole, around, Frames, no_frames, more_frames, tree_at, trees_at, all_places, Part, content, in_table, in_body, in_row, Holds, AreFrames}
 use Rattle.wt_moved_laws.specs.Placeless.{placeless_label, placeless, all_placeless}
-use Rattle.wt_called_trees.specs.TreeFrames.{TreeFrame, spot, kept, holder, TreeFrames, no_nodes, more_nodes, filled, all_filled, spots_in, spots}
-use Rattle.wt_called_trees.specs.Rounded.{IsOwn, AreOwn, AreClean, HaveSameData, block_alone}
+use Rattle.wt_called_trees.specs.TreeFrames.{TreeFrame, spot, kept, holder, TreeFrames, no_nodes, more_nodes, filled, all_filled, spots}
+use Rattle.wt_called_trees.specs.Rounded.{AreOwn, AreClean, HaveSameData, block_alone}
 use Rattle.wt_called_trees.proofs.SameWalks.{label_same, siblings_same}
 use Rattle.wt_called_trees.proofs.RunCuts.{FreeBefore, near_apart, near_alone}
 use Rattle.wt_called_trees.proofs.OwnWalks.{OfPage, behind_free, before_free, last_own, first_own, text_own, own_clean, walk_own, has_page}
@@ -34,7 +34,7 @@ forest_more : (us vs : List ItemTree) → held_by_all (forest (us ++ vs)) ≡ he
 forest_more [] vs = refl
 forest_more (u ∷ us) vs = ap (λ xs. tree_items u ++ xs) (forest_more us vs) ∙ sym (append_assoc (tree_items u) (held_by_all (forest us)) (held_by_all (forest vs)))
 
-abbrev siblings : List OuterCall → Option ℕ → ℕ → Option ℕ → List ItemTree → List Near
+abbrev pub siblings : List OuterCall → Option ℕ → ℕ → Option ℕ → List ItemTree → List Near
 siblings calls o at p us = near calls (group_data calls) o at p (forest us)
 
 -- the byte behind some
@@ -42,7 +42,7 @@ abbrev byte_after : List OuterCall → Option ℕ → ℕ → List ItemTree → 
 byte_after calls o at [] = at
 byte_after calls o at (u ∷ us) = byte_after calls (last_of o (tree_items u)) (at + length (text_from calls o (tree_items u))) us
 
-abbrev call_after : Option ℕ → List ItemTree → Option ℕ
+abbrev pub call_after : Option ℕ → List ItemTree → Option ℕ
 call_after o us = last_of o (held_by_all (forest us))
 
 siblings_more : (calls : List OuterCall) (o : Option ℕ) (at : ℕ) (p : Option ℕ) (us vs : List ItemTree)
@@ -79,7 +79,7 @@ abbrev pub holder_label : Head → List Item → List Item → Label
 holder_label k q c = placeless_label (kept_label false k 0 [] (sources q) (sources c))
 
 -- the nodes and groups of these trees, behind an item of this call and before one of that call
-abbrev stretch : List OuterCall → Option ℕ → Option ℕ → List ItemTree → Trees
+abbrev pub stretch : List OuterCall → Option ℕ → Option ℕ → List ItemTree → Trees
 stretch calls o p us = all_placeless (trees (near_runs calls (group_data calls) (siblings calls o 0 p us)))
 
 -- those of trees, and of trees with places behind them, where these blocks are at the places

@@ -1,5 +1,5 @@
 -- Whatever blocks are at the places of a page with calls, the page's tree has the same groups and the same nodes round them.
-use Rattle.std.proofs.Common.{◌≡◌, ℕ, ◌+◌, Bool, true, false, Option, None, List, [], refl, sym, ap, ap₂, ◌∙◌, cond}
+use Rattle.std.proofs.Common.{◌≡◌, ℕ, ◌+◌, Bool, true, false, None, List, [], refl, sym, ap, ap₂, ◌∙◌, cond}
 use Rattle.wt_tree.specs.Tiling.{is_group}
 use Rattle.wt_tree.specs.Tree.{Tree, tree, Trees, none, more}
 use Rattle.wt_span.specs.Origins.{OuterCall}
@@ -14,7 +14,7 @@ use Rattle.wt_annotated.proofs.Walks.{walk_all}
 use Rattle.wt_row_laws.specs.Frames.{Frames, trees_at, all_places, content, AreFrames}
 use Rattle.wt_moved_laws.specs.Placeless.{placeless_label, placeless, all_placeless}
 use Rattle.wt_moved_laws.proofs.Recuts.{texts_same}
-use Rattle.wt_called_trees.specs.TreeFrames.{TreeFrames, all_filled}
+use Rattle.wt_called_trees.specs.TreeFrames.{all_filled}
 use Rattle.wt_called_trees.specs.Rounded.{AreOwn, AreClean, HaveSameData, body_of, body_label, block_alone, GroupsStay}
 use Rattle.wt_called_trees.proofs.FramesWalked.{nodes_of, nodes_are, spots_are}
 
@@ -25,7 +25,7 @@ same_by true ts us e = refl
 same_by false ts us e = e
 
 mutual
-  numbers_gone : (n : ℕ) (t : Tree) → placeless (with_numbers n t) ≡ placeless t
+  pub numbers_gone : (n : ℕ) (t : Tree) → placeless (with_numbers n t) ≡ placeless t
   numbers_gone n (tree l ts) =
       ap (tree (placeless_label l))
       (same_by (is_group l.kind) ts (all_with_numbers (next_after l.kind n) ts) (all_numbers_gone (next_after l.kind n) ts))
@@ -45,7 +45,7 @@ page_walked calls t =
 other_way : (calls cs : List OuterCall) → HaveSameData calls cs → HaveSameData cs calls
 other_way calls cs h = record { sources = λ k. sym (h.sources k); carried = λ ps. sym (h.carried ps) }
 
-stays : (calls cs : List OuterCall) (fs : Frames) (t w : ℕ → ItemTree) → HaveSameData calls cs → AreFrames fs content → AreOwn t (all_places fs)
+pub stays : (calls cs : List OuterCall) (fs : Frames) (t w : ℕ → ItemTree) → HaveSameData calls cs → AreFrames fs content → AreOwn t (all_places fs)
     → AreOwn w (all_places fs) → AreClean t None fs None
     → placeless (annotated cs (group_data cs) (body_of (trees_at w fs))) ≡ cut_texts (tree body_label (all_filled (block_alone w) (nodes_of calls t None [] fs None)))
 stays calls cs fs t w h of_cells g k clean =

@@ -1,11 +1,11 @@
 -- A walk over a tree of the page makes the same nodes as on a page without calls, whatever is round it.
-use Rattle.std.proofs.Common.{◌≡◌, ℕ, ◌+◌, Bool, true, false, Option, None, Some, List, [], ◌∷◌, ◌++◌, length, refl, sym, ap, ap₂, ◌∙◌, subst, cond}
-use Rattle.std.specs.Prelude.{not, ◌&&◌, ◌||◌}
+use Rattle.std.proofs.Common.{◌≡◌, ℕ, ◌+◌, Bool, true, false, Option, None, Some, List, [], ◌∷◌, ◌++◌, length, refl, sym, ap, ap₂, ◌∙◌, cond}
+use Rattle.std.specs.Prelude.{◌&&◌, ◌||◌}
 use Rattle.std.specs.List.{list_all, list_any}
 use Rattle.wt_tree.specs.Kinds.{is_leaf}
-use Rattle.wt_tree.specs.Tree.{Tree, tree, Trees, none, more, trees}
+use Rattle.wt_tree.specs.Tree.{tree, Trees, more, trees}
 use Rattle.wt_span.specs.Items.{Item, source, sources, call_of}
-use Rattle.wt_span.specs.Origins.{OuterCall, same_call}
+use Rattle.wt_span.specs.Origins.{OuterCall}
 use Rattle.wt_span.specs.Cuts.{text_by}
 use Rattle.wt_inline.specs.ItemTree.{Head, ItemTree, inner, ItemTrees, nothing, further, tree_items, held_by_all}
 use Rattle.wt_annotated.specs.Annotated.{kept_label}
@@ -13,14 +13,14 @@ use Rattle.wt_annotated.specs.Clean.{is_no_call, is_page, is_body, own_by}
 use Rattle.wt_annotated.specs.GroupData.{group_data}
 use Rattle.wt_annotated.specs.Labels.{width, label_at}
 use Rattle.wt_annotated.specs.Seams.{last_of, first_of, parted, text_step, text_from}
-use Rattle.wt_annotated.specs.Walked.{free_places, clean_at, Near, near_runs, walked, near}
+use Rattle.wt_annotated.specs.Walked.{clean_at, Near, near_runs, walked, near}
 use Rattle.wt_annotated.specs.WithoutCalls.{inside_by, InsideOf, placed, all_placed}
 use Rattle.wt_annotated.proofs.Calls.{all_split}
 use Rattle.wt_annotated.proofs.Ends.{both, false_true}
 use Rattle.wt_annotated.proofs.Seams.{first_append, last_append}
 use Rattle.wt_moved_laws.specs.Placeless.{placeless_label, placeless, all_placeless}
-use Rattle.wt_called_trees.specs.Rounded.{HasItems, AllHaveItems, IsOwn}
-use Rattle.wt_called_trees.proofs.SameWalks.{label_same, inside_same}
+use Rattle.wt_called_trees.specs.Rounded.{HasItems, AllHaveItems}
+use Rattle.wt_called_trees.proofs.SameWalks.{label_same}
 use Rattle.wt_called_trees.proofs.RunCuts.{FreeBefore, near_alone}
 
 abbrev pub OfPage : List Item → Type 0

@@ -9,7 +9,7 @@ use Rattle.wt_span.specs.Runs.{put, runs}
 use Rattle.wt_inline.specs.ItemTree.{Head, ItemTree, inner, ItemTrees, nothing, further, tree_items, held_by_all}
 use Rattle.wt_annotated.specs.Annotated.{kept_label, group_label, all_unplaced}
 use Rattle.wt_annotated.specs.GroupData.{group_data}
-use Rattle.wt_annotated.specs.Seams.{last_of, first_of, parted, text_step, text_from}
+use Rattle.wt_annotated.specs.Seams.{last_of, first_of, parted, text_from}
 use Rattle.wt_annotated.specs.Walked.{clean_at, parts_from, Near, near_tied, near_nodes, group_at, near_run, near_runs, walked, near}
 use Rattle.wt_annotated.specs.WithoutCalls.{inside_by}
 use Rattle.wt_moved_laws.specs.Placeless.{placeless_label, placeless, all_placeless}

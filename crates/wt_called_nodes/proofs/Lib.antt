@@ -1,0 +1,5 @@
+pub mod CutFrames
+pub mod TextsMake
+pub mod TilesStand
+pub mod PathsSend
+pub mod Cases

@@ -1,0 +1,4 @@
+pub mod Nodes
+pub mod Sends
+pub mod Stand
+pub mod PathsTo

@@ -1,0 +1,25 @@
+-- Where the blocks are that an edit types texts in: the nodes of the page tile it, and so each of them says where it is.
+use Rattle.std.specs.Prelude.{◌≡◌, ℕ, false, List}
+use Rattle.std.specs.List.{AllByRecursion}
+use Rattle.wt_tree.specs.Kinds.{is_leaf}
+use Rattle.wt_tree.specs.Tiling.{is_group, TiledFrom}
+use Rattle.wt_annotated.specs.Reached.{reached_in_all}
+use Rattle.wt_annotated.specs.Slices.{IsSlice}
+use Rattle.wt_typed_blocks.specs.Sent.{Sent, stands, typed, holds, Sents, none_sent, more_sent, old_children}
+use Rattle.wt_typed_blocks.specs.Typed.{StandAt}
+
+-- what holds a block in which a text is typed is neither a leaf nor a group
+abbrev mutual
+  pub HasHolders : Sent → Type 0
+  HasHolders (stands t u) = Unit {0}
+  HasHolders (typed k l ts m x text) = Unit {0}
+  HasHolders (holds l m ss) = (is_leaf l.kind ≡ false) × (is_group l.kind ≡ false) × HaveHolders ss
+
+  pub HaveHolders : Sents → Type 0
+  HaveHolders none_sent = Unit {0}
+  HaveHolders (more_sent s ss) = HasHolders s × HaveHolders ss
+
+-- Nodes that tile a page from one place to another, and of which each range is a slice of it.
+abbrev pub BlocksStand : List ℕ → ℕ → ℕ → Sents → Type 0
+BlocksStand page from to ss =
+    HaveHolders ss → TiledFrom (old_children ss) from to → AllByRecursion (IsSlice page) (reached_in_all (old_children ss)) → StandAt from ss
