@@ -10,7 +10,7 @@ use std::str::FromStr;
 use wt_span::{List, NoMemory, Str};
 
 /// Why a line isn't answered.
-#[derive(Debug, Drop)]
+#[derive(Clone, Copy)]
 pub enum CaseRefusal {
     /// It isn't a case.
     Malformed,
@@ -43,7 +43,7 @@ fn has_name(entries: &[(Str, List<u8>)], name: &str) -> bool
 }
 
 /// Pages of different names.
-#[derive(Debug, Drop)]
+#[derive(Drop)]
 pub struct Pages {
     entries: List<(Str, List<u8>)>,
     ghost distinct: { AllPairs (λ a b. a.0 ≢ b.0) entries },
@@ -75,7 +75,7 @@ impl Pages {
 
 /// The words of a call, what its standard input holds, the pages of its folder, and how its devices
 /// behave.
-#[derive(Debug, Drop)]
+#[derive(Drop)]
 pub struct Case {
     pub words: List<Str>,
     pub input: List<u8>,
@@ -123,17 +123,46 @@ fn words_of(alloc: Global, field: &str) -> Result<List<Str>, CaseRefusal> {
     Ok(words)
 }
 
+/// A page `NAME=BYTES`.
+fn page_of(alloc: Global, entry: &str) -> Result<(Str, List<u8>), CaseRefusal> {
+    let (name, page) = entry.split_once('=').ok_or(CaseRefusal::Malformed)?;
+    let bytes = List::from_vec(repeated(alloc, page)?);
+    let name = text_of(alloc, name)?;
+    Ok((name, bytes))
+}
+
 fn pages_of(alloc: Global, field: &str) -> Result<Pages, CaseRefusal> {
     let mut pages = Pages::new(alloc);
     if field.is_empty() {
         return Ok(pages);
     }
     for entry in field.split(',') {
-        let (name, page) = entry.split_once('=').ok_or(CaseRefusal::Malformed)?;
-        let bytes = List::from_vec(repeated(alloc, page)?);
-        pages.add(text_of(alloc, name)?, bytes)?;
+        let (name, page) = page_of(alloc, entry)?;
+        pages.add(name, page)?;
     }
     Ok(pages)
+}
+
+/// The fields of a line.
+#[derive(Clone, Copy)]
+struct Fields<'a> {
+    words: &'a str,
+    input: &'a str,
+    pages: &'a str,
+    devices: &'a str,
+}
+
+/// The fields of a line, of which the last may be absent.
+fn fields_of(line: &str) -> Result<Fields<'_>, CaseRefusal> {
+    let (words, rest) = line.split_once('\t').ok_or(CaseRefusal::Malformed)?;
+    let (input, rest) = rest.split_once('\t').ok_or(CaseRefusal::Malformed)?;
+    let (pages, devices) = rest.split_once('\t').unwrap_or((rest, ""));
+    Ok(Fields {
+        words,
+        input,
+        pages,
+        devices,
+    })
 }
 
 impl Case {
@@ -142,14 +171,13 @@ impl Case {
         let Ok(line) = std::str::from_utf8(line) else {
             return Err(CaseRefusal::Malformed);
         };
-        let (words, rest) = line.split_once('\t').ok_or(CaseRefusal::Malformed)?;
-        let (input, rest) = rest.split_once('\t').ok_or(CaseRefusal::Malformed)?;
-        let (pages, devices) = rest.split_once('\t').unwrap_or((rest, ""));
+        let fields = fields_of(line)?;
+        let devices = Devices::read(fields.devices)?;
         Ok(Case {
-            words: words_of(alloc, words)?,
-            input: List::from_vec(repeated(alloc, input)?),
-            pages: pages_of(alloc, pages)?,
-            devices: Devices::read(alloc, devices)?,
+            words: words_of(alloc, fields.words)?,
+            input: List::from_vec(repeated(alloc, fields.input)?),
+            pages: pages_of(alloc, fields.pages)?,
+            devices,
         })
     }
 }
