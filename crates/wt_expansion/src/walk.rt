@@ -27,7 +27,8 @@ use wt_functions::function_named;
 use wt_names::{Title, href_of};
 use wt_span::{ItemForm, LexKind, Mode, NoMemory};
 use wt_template_stack::{Expansion, PageCall, Reader, Scope};
-use wt_transclusion::{Braces, ExpandRefusal, Next, Values, is_function, title_of_target};
+use wt_transclusion::{Braces, ExpandRefusal, Next, is_function, title_of_target};
+use wt_values::Values;
 
 /// A page that is walked over.
 #[derive(Drop)]

@@ -21,13 +21,13 @@ use Rattle.wt_annotated.specs.WithoutCalls.{inside_by}
 use Rattle.wt_annotated.proofs.HeldPieces.{item_tree_out}
 use Rattle.wt_annotated.proofs.CutNumbered.{nothing_cut}
 use Rattle.wt_annotated.proofs.Tiles.{group_leaf}
-use Rattle.wt_ranges.specs.declared.child.Child.{Child}
+use Rattle.wt_runs.specs.declared.child.Child.{Child}
 use Rattle.wt_ranges.specs.declared.kept.Frame.{Frame}
-use Rattle.wt_ranges.specs.declared.run.Run.{Run}
-use Rattle.wt_ranges.specs.Children.{near_of, nears_of, children_at}
+use Rattle.wt_runs.specs.declared.run.Run.{Run}
+use Rattle.wt_runs.specs.Children.{near_of, nears_of, children_at}
 use Rattle.wt_ranges.specs.Finished.{IsFinished, AreFinished, with_number}
 use Rattle.wt_ranges.specs.Kept.{RunFits, IsFrame}
-use Rattle.wt_ranges.specs.RunTrees.{run_tree, AreRunsOf}
+use Rattle.wt_runs.specs.RunTrees.{run_tree, AreRunsOf}
 use Rattle.wt_ranges.proofs.Groupings.{run_size, runs_size}
 use Rattle.wt_ranges.proofs.KeptNodes.{inner_kept}
 

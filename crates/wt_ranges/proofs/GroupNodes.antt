@@ -6,9 +6,9 @@ use Rattle.wt_span.specs.Origins.{OuterCall}
 use Rattle.wt_inline.specs.ItemTree.{further, forest, held_by_all}
 use Rattle.wt_inline.specs.View.{item_tree, item_trees}
 use Rattle.wt_inline.specs.declared.tree.PieceTree.{PieceTree}
-use Rattle.wt_ranges.specs.declared.child.Child.{Child}
+use Rattle.wt_runs.specs.declared.child.Child.{Child}
 use Rattle.wt_ranges.specs.declared.group_node.Start.{Start}
-use Rattle.wt_ranges.specs.Children.{nears_of}
+use Rattle.wt_runs.specs.Children.{nears_of}
 use Rattle.wt_annotated.specs.GroupData.{group_data}
 use Rattle.wt_ranges.specs.Kept.{NearsFit, group_start, trees_of}
 use Rattle.wt_annotated.specs.Seams.{text_from}

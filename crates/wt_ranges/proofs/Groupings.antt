@@ -10,13 +10,13 @@ use Rattle.wt_span.specs.Origins.{OuterCall}
 use Rattle.wt_inline.specs.ItemTree.{ItemTree, ItemTrees, nothing, further, forest, tree_items, held_by_all}
 use Rattle.wt_inline.specs.View.{item_tree, item_trees}
 use Rattle.wt_inline.specs.declared.tree.PieceTree.{PieceTree, out-PieceTree}
-use Rattle.wt_ranges.specs.declared.child.Child.{Child}
+use Rattle.wt_runs.specs.declared.child.Child.{Child}
 use Rattle.wt_ranges.specs.declared.kept.Frame.{Frame}
-use Rattle.wt_ranges.specs.declared.run.Run.{Run}
-use Rattle.wt_ranges.specs.Children.{near_of, nears_of, children_at}
+use Rattle.wt_runs.specs.declared.run.Run.{Run}
+use Rattle.wt_runs.specs.Children.{near_of, nears_of, children_at}
 use Rattle.wt_annotated.specs.GroupData.{group_data}
 use Rattle.wt_ranges.specs.Kept.{Fits, NearsFit, RunFits, IsFrame}
-use Rattle.wt_ranges.specs.RunTrees.{run_children, run_tree, AreRunsOf}
+use Rattle.wt_runs.specs.RunTrees.{run_children, run_tree, AreRunsOf}
 use Rattle.wt_annotated.specs.Seams.{last_of, text_from}
 use Rattle.wt_annotated.specs.TreeWalk.{opened}
 use Rattle.wt_annotated.specs.Walked.{Near, near_nodes, near_runs, near}

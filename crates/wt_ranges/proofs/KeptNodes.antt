@@ -14,12 +14,12 @@ use Rattle.wt_inline.specs.View.{head_of, item_tree, item_trees}
 use Rattle.wt_inline.specs.declared.tree.PieceTree.{PieceTree, out-PieceTree}
 use Rattle.wt_annotated.specs.Labels.{leaf_open}
 use Rattle.wt_annotated.specs.WithoutCalls.{inside_by}
-use Rattle.wt_ranges.specs.declared.child.Child.{Child}
+use Rattle.wt_runs.specs.declared.child.Child.{Child}
 use Rattle.wt_ranges.specs.declared.kept.Frame.{Frame}
 use Rattle.wt_annotated.specs.declared.node.Sources.{Sources}
 use Rattle.wt_annotated.specs.declared.tree_walk.TreeProgress.{TreeProgress}
 use Rattle.wt_annotated.specs.Annotated.{kept_label}
-use Rattle.wt_ranges.specs.Children.{near_of, children_at}
+use Rattle.wt_runs.specs.Children.{near_of, children_at}
 use Rattle.wt_annotated.specs.GroupData.{group_data}
 use Rattle.wt_ranges.specs.Kept.{frame_ranges, IsFrame}
 use Rattle.wt_annotated.specs.Nodes.{node_label}

@@ -1,10 +1,7 @@
 pub mod CarriedNumbers
 pub mod CarriedParts
-pub mod ChildWalks
 pub mod Finishing
 pub mod GroupNodes
 pub mod Groupings
 pub mod Headings
 pub mod KeptNodes
-pub mod RunCuts
-pub mod TreeSeams

@@ -7,12 +7,12 @@ use Rattle.wt_span.specs.Origins.{OuterCall}
 use Rattle.wt_inline.specs.ItemTree.{tree_items, held_by_all}
 use Rattle.wt_inline.specs.View.{item_tree}
 use Rattle.wt_inline.specs.declared.tree.PieceTree.{PieceTree, out-PieceTree}
-use Rattle.wt_ranges.specs.declared.child.Child.{Child}
+use Rattle.wt_runs.specs.declared.child.Child.{Child}
 use Rattle.wt_ranges.specs.declared.group_node.Start.{Start}
 use Rattle.wt_ranges.specs.declared.kept.Frame.{Frame}
-use Rattle.wt_ranges.specs.declared.run.Run.{Run}
-use Rattle.wt_ranges.specs.Children.{nears_of}
-use Rattle.wt_ranges.specs.RunTrees.{run_children}
+use Rattle.wt_runs.specs.declared.run.Run.{Run}
+use Rattle.wt_runs.specs.Children.{nears_of}
+use Rattle.wt_runs.specs.RunTrees.{run_children}
 use Rattle.wt_annotated.specs.Seams.{first_of, text_from}
 use Rattle.wt_annotated.specs.TreeWalk.{opened, filled}
 use Rattle.wt_annotated.specs.Walked.{Near, near_nodes}

@@ -1,7 +1,5 @@
-pub mod Children
 pub mod DataSoFar
 pub mod Finished
 pub mod Kept
 pub mod OpenedChild
 pub mod Preorder
-pub mod RunTrees

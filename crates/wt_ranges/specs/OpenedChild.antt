@@ -3,11 +3,11 @@ use Rattle.std.specs.Prelude.{◌≡◌, List}
 use Rattle.wt_span.specs.Origins.{OuterCall}
 use Rattle.wt_inline.specs.View.{item_trees}
 use Rattle.wt_inline.specs.declared.tree.PieceTree.{out-PieceTree}
-use Rattle.wt_ranges.specs.declared.child.Child.{Child}
+use Rattle.wt_runs.specs.declared.child.Child.{Child}
 use Rattle.wt_ranges.specs.declared.grouping.Opened.{Opened}
-use Rattle.wt_ranges.specs.Children.{nears_of, children_at}
+use Rattle.wt_runs.specs.Children.{nears_of, children_at}
 use Rattle.wt_ranges.specs.Kept.{IsFrame}
-use Rattle.wt_ranges.specs.RunTrees.{AreRunsOf}
+use Rattle.wt_runs.specs.RunTrees.{AreRunsOf}
 
 -- its frame and head, and the runs of its children
 pub record IsOpened (calls : List OuterCall) (c : Child) (o : Opened) : Type 0 where

@@ -13,16 +13,16 @@ ghost use Rattle.wt_annotated.specs.Nodes.{node_label};
 ghost use Rattle.wt_annotated.specs.Numbering.{count, next_after};
 ghost use Rattle.wt_annotated.specs.Pieces.{outer_calls};
 ghost use Rattle.wt_annotated.specs.Walked.{near_group};
-ghost use Rattle.wt_ranges.specs.Children.{near_of, nears_of};
+ghost use Rattle.wt_runs.specs.Children.{near_of, nears_of};
 ghost use Rattle.wt_ranges.specs.Finished.{IsFinished, with_number};
 ghost use Rattle.wt_ranges.specs.Kept.{Fits, NearsFit};
 
-use crate::child::Child;
 use crate::group_node::group_node;
 use crate::kept::{Frame, kept_inner, kept_leaf};
 use std::alloc::Global;
 use wt_annotated::{cut_as, next_after, number_of};
 use wt_inline::NodeHead;
+use wt_runs::Child;
 use wt_span::{List, NoMemory, Outer};
 use wt_tree::Node;
 

@@ -8,7 +8,7 @@ ghost use Rattle.wt_tree.specs.View.{texts_of, view, views};
 ghost use Rattle.wt_inline.specs.ItemTree.{forest, held_by_all};
 ghost use Rattle.wt_inline.specs.View.{item_trees};
 ghost use Rattle.wt_annotated.specs.Annotated.{group_label};
-ghost use Rattle.wt_ranges.specs.Children.{nears_of};
+ghost use Rattle.wt_runs.specs.Children.{nears_of};
 ghost use Rattle.wt_annotated.specs.GroupData.{group_data};
 ghost use Rattle.wt_ranges.specs.Kept.{NearsFit, group_start, trees_of};
 ghost use Rattle.wt_annotated.specs.Pieces.{outer_calls};
@@ -16,13 +16,13 @@ ghost use Rattle.wt_annotated.specs.Seams.{text_from};
 ghost use Rattle.wt_annotated.specs.Walked.{group_at, near_group};
 
 use crate::carried::group_data;
-use crate::child::Child;
 use crate::group_word::group_attrs;
 use std::alloc::Global;
 use wt_annotated::{
     leaf_sources, page_texts, page_width, pieces_of_all, unnumbered_node, unplaced_nodes,
 };
 use wt_inline::{NodeHead, PieceTree, with_room};
+use wt_runs::Child;
 use wt_span::{List, NoMemory, Outer, Piece};
 use wt_tree::{DataMw, Kind, Mark, More, Node, Ranges, Shown, Slices};
 

@@ -11,7 +11,7 @@ ghost use Rattle.wt_inline.specs.ItemTree.{tree_items};
 ghost use Rattle.wt_inline.specs.View.{item_tree};
 ghost use Rattle.wt_inline.specs.declared.tree.PieceTree.{out-PieceTree};
 ghost use Rattle.wt_annotated.specs.Annotated.{annotated};
-ghost use Rattle.wt_ranges.specs.Children.{near_of};
+ghost use Rattle.wt_runs.specs.Children.{near_of};
 ghost use Rattle.wt_annotated.specs.Counted.{numbered};
 ghost use Rattle.wt_annotated.specs.CutTexts.{cut_texts};
 ghost use Rattle.wt_annotated.specs.GroupData.{group_data};
@@ -23,15 +23,14 @@ ghost use Rattle.wt_ranges.specs.OpenedChild.{IsOpened};
 ghost use Rattle.wt_annotated.specs.Numbering.{count, count_all};
 ghost use Rattle.wt_annotated.specs.NumbersNeeded.{numbers_needed};
 ghost use Rattle.wt_annotated.specs.Pieces.{outer_calls};
-ghost use Rattle.wt_ranges.specs.RunTrees.{run_tree};
+ghost use Rattle.wt_runs.specs.RunTrees.{run_tree};
 
-use crate::child::{Child, children};
 use crate::finished::{AllFinished, Finished, finished_group, finished_inner, finished_leaf};
 use crate::kept::{Frame, inner_frame};
-use crate::run::{Run, cut_runs};
 use std::alloc::Global;
 use wt_annotated::{Cursor, annotated_node, is_filled, next_after};
 use wt_inline::{NodeHead, PieceTree, with_room};
+use wt_runs::{Child, Run, children, cut_runs};
 use wt_span::{List, NoMemory, Outer};
 use wt_tree::Node;
 

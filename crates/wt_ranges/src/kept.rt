@@ -7,19 +7,19 @@ ghost use Rattle.wt_tree.specs.Tree.{tree};
 ghost use Rattle.wt_tree.specs.View.{texts_of, view, views};
 ghost use Rattle.wt_inline.specs.View.{head_of};
 ghost use Rattle.wt_inline.specs.declared.tree.PieceTree.{out-PieceTree};
-ghost use Rattle.wt_ranges.specs.Children.{near_of};
+ghost use Rattle.wt_runs.specs.Children.{near_of};
 ghost use Rattle.wt_ranges.specs.Kept.{Fits, IsFrame};
 ghost use Rattle.wt_annotated.specs.Nodes.{node_label};
 ghost use Rattle.wt_annotated.specs.Pieces.{outer_calls};
 ghost use Rattle.wt_annotated.specs.Seams.{text_from};
 
-use crate::child::Child;
 use std::alloc::Global;
 use wt_annotated::{
     Sources, TreeProgress, first_call, leaf_ranges, leaf_sources, own_pieces, page_texts,
     page_width, unnumbered_node, walk_through,
 };
 use wt_inline::{NodeHead, PieceTree};
+use wt_runs::Child;
 use wt_span::{List, NoMemory, Outer};
 use wt_tree::{Kind, Node, Ranges, Slices};
 

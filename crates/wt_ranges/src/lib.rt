@@ -2,15 +2,12 @@
 #![tactic(auto)]
 
 mod carried;
-mod child;
 mod finished;
 mod group_node;
 mod group_word;
 mod grouping;
 mod kept;
 mod page_tree;
-mod run;
-mod tree_seam;
 
 pub use page_tree::{Annotated, group};
 pub use wt_annotated::{

@@ -17,7 +17,7 @@ use Rattle.wt_expand.specs.Work.{begun, ended}
 use Rattle.wt_expand.specs.Expansion.{Output, Reading, PartOutput, Frame, just, then_output, chars, value_of, default_output, if_value, with_break, later_parts, front_braces, back_braces}
 use Rattle.wt_transclusion.specs.declared.read.Braces.{Braces}
 use Rattle.wt_transclusion.specs.Cursors.{starts}
-use Rattle.wt_transclusion.specs.Frames.{AreValues}
+use Rattle.wt_values.specs.Frames.{AreValues}
 use Rattle.wt_transclusion.specs.Parts.{parts_given}
 use Rattle.wt_transclusion.specs.Steps.{IsStretchOf, given_from}
 use Rattle.wt_template_stack.specs.declared.level.PendingCall.{PendingCall}

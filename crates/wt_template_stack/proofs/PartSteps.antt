@@ -18,7 +18,7 @@ use Rattle.wt_expand.specs.Expansion.{Output, Reading, PartOutput, Frame, just, 
 use Rattle.wt_expand.specs.Expansion as outputs
 use Rattle.wt_transclusion.specs.declared.handing.Handed.{Handed}
 use Rattle.wt_transclusion.specs.Cursors.{starts}
-use Rattle.wt_transclusion.specs.Frames.{AreValues}
+use Rattle.wt_values.specs.Frames.{AreValues}
 use Rattle.wt_transclusion.specs.Parts.{part_given, parts_given, start_after}
 use Rattle.wt_transclusion.specs.Steps.{IsStretchOf, given_from}
 use Rattle.wt_transclusion.specs.Stretch.{AllFull}

@@ -15,7 +15,7 @@ use Rattle.wt_expand.specs.Expansion.{Output, Reading, PartOutput, Frame, just, 
 use Rattle.wt_transclusion.specs.declared.read.Braces.{Braces}
 use Rattle.wt_transclusion.specs.Cursors.{starts}
 use Rattle.wt_transclusion.specs.Ends.{BeginsAscii}
-use Rattle.wt_transclusion.specs.Frames.{AreValues}
+use Rattle.wt_values.specs.Frames.{AreValues}
 use Rattle.wt_transclusion.specs.Parts.{parts_given}
 use Rattle.wt_transclusion.specs.Steps.{IsStretchOf, given_from}
 use Rattle.wt_template_stack.specs.declared.choosing.Choosing.{Choosing}

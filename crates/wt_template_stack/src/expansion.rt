@@ -9,7 +9,7 @@ ghost use Rattle.wt_expand.specs.Expansion.{Frame, Output as Gives, Reading, tem
 ghost use Rattle.wt_expand.specs.Work.{Pages};
 ghost use Rattle.wt_transclusion.specs.Answers.{IsCounted};
 ghost use Rattle.wt_transclusion.specs.Asked.{Asks};
-ghost use Rattle.wt_transclusion.specs.Frames.{AreValues};
+ghost use Rattle.wt_values.specs.Frames.{AreValues};
 ghost use Rattle.wt_transclusion.specs.Reads.{IsRead};
 ghost use Rattle.wt_transclusion.specs.Steps.{IsStretchOf, given_from};
 ghost use Rattle.wt_transclusion.specs.Stores.{IsStore, Concerns, Grows};
@@ -31,9 +31,8 @@ use std::marker::Model;
 use wt_devices::Folder;
 use wt_names::{Title, full_name};
 use wt_span::{List, Mode, NoMemory, Piece, Str};
-use wt_transclusion::{
-    Braces, ExpandRefusal, Nesting, PageLookup, ReadText, Store, Values, charge, take,
-};
+use wt_transclusion::{Braces, ExpandRefusal, Nesting, PageLookup, ReadText, Store, charge, take};
+use wt_values::Values;
 
 /// The full names of the pages that are being expanded. Contracts see them from the innermost on.
 #[derive(Drop)]

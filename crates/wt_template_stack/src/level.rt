@@ -1,6 +1,6 @@
 //! What is being read of one text: its levels.
 ghost use Rattle.std.specs.Prelude.{◌≡◌, ◌∷◌, [], Some, OnOk};
-ghost use Rattle.wt_transclusion.specs.Frames.{AreValues};
+ghost use Rattle.wt_values.specs.Frames.{AreValues};
 ghost use Rattle.wt_template_stack.specs.Stacks.{TakesLevel, innermost_end, one_or_none, stack, whole_level, with_given};
 ghost use Rattle.wt_template_stack.specs.declared.level.Level.{Level as OfText};
 

@@ -18,7 +18,8 @@ use wt_braces::BraceRefusal;
 use wt_devices::Folder;
 use wt_expand::{MOST_TEMPLATES, text_shown};
 use wt_span::{Mode, Piece, Str};
-use wt_transclusion::{ExpandRefusal, ReadText, Values, read_in};
+use wt_transclusion::{ExpandRefusal, ReadText, read_in};
+use wt_values::Values;
 
 /// The page as it is read.
 ///

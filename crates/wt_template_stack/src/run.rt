@@ -7,7 +7,7 @@ ghost use Rattle.wt_expand.specs.Targets.{is_function, title_of_target};
 ghost use Rattle.wt_transclusion.specs.Cursors.{starts};
 ghost use Rattle.wt_expand.specs.Expansion.{Frame, Output as Gives, Reading, just, text_given, values_from};
 ghost use Rattle.wt_transclusion.specs.Answers.{IsNoFault};
-ghost use Rattle.wt_transclusion.specs.Frames.{AreValues};
+ghost use Rattle.wt_values.specs.Frames.{AreValues};
 ghost use Rattle.wt_transclusion.specs.Reads.{IsRead};
 ghost use Rattle.wt_template_stack.specs.Accounts.{Account, spent_of, undone};
 ghost use Rattle.wt_template_stack.specs.Levels.{IsNamedBy, Resumes};
@@ -25,10 +25,10 @@ use wt_braces::PartAt;
 use wt_functions::{Ask, function_named};
 use wt_span::{ItemForm, LexKind, List, Mode, NoMemory, Piece, Text};
 use wt_transclusion::{
-    Braces, ExpandRefusal, Handed, Next, ReadText, Values, behind_items, byte_count, charge,
-    is_function, lexeme_piece, name_text, piece_of, spelled, title_of_target, trimmed_items,
-    with_break,
+    Braces, ExpandRefusal, Handed, Next, ReadText, behind_items, byte_count, charge, is_function,
+    lexeme_piece, name_text, piece_of, spelled, title_of_target, trimmed_items, with_break,
 };
+use wt_values::Values;
 
 /// What came of a step.
 #[derive(Drop)]

@@ -28,4 +28,3 @@ pub mod TemplateReads
 pub mod Titles
 pub mod TrimmedPieces
 pub mod Trimming
-pub mod ValueFrames

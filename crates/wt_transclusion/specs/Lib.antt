@@ -2,7 +2,6 @@ pub mod Answers
 pub mod Asked
 pub mod Cursors
 pub mod Ends
-pub mod Frames
 pub mod Given
 pub mod Marks
 pub mod Only

@@ -3,12 +3,12 @@ ghost use Rattle.std.specs.Prelude.{◌≡◌, ◌<◌, ◌^◌, ◌+◌, ◌∷
 ghost use Rattle.wt_span.specs.Items.{items};
 ghost use Rattle.wt_expand.specs.Texts.{name_text};
 ghost use Rattle.wt_expand.specs.Expansion.{Frame, Output as Gives, values_from};
-ghost use Rattle.wt_transclusion.specs.Frames.{AreValues};
+ghost use Rattle.wt_values.specs.Frames.{AreValues};
 
 use crate::trim::trimmed_items;
-use crate::values::Values;
 use std::alloc::Global;
 use wt_span::{List, NoMemory, Piece};
+use wt_values::Values;
 
 /// Values so far, and the number of the next one without a name.
 #[derive(Drop)]

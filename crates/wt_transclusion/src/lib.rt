@@ -20,7 +20,6 @@ mod store;
 mod target;
 mod templates;
 mod trim;
-mod values;
 
 pub use cost::{byte_count, charge};
 pub use cursor::{Cursor, Next};
@@ -36,4 +35,3 @@ pub use store::Store;
 pub use target::{is_function, title_of_target};
 pub use templates::{Nesting, PageLookup, take};
 pub use trim::{behind_items, trimmed_items};
-pub use values::Values;

@@ -3,7 +3,7 @@ use Rattle.wt_span.specs.declared.form.Mode.{Mode}
 use Rattle.wt_expand.specs.Expansion.{Frame, Output}
 use Rattle.wt_expand.specs.Work.{Pages}
 use Rattle.wt_transclusion.specs.Asked.{Asks}
-use Rattle.wt_transclusion.specs.Frames.{AreValues}
+use Rattle.wt_values.specs.Frames.{AreValues}
 use Rattle.wt_transclusion.specs.Stores.{Agrees, Grows}
 use Rattle.wt_template_stack.specs.Ledgers.{Ledger, Progress, reading_of}
 use Rattle.wt_template_stack.specs.Measures.{steps_left}

@@ -1,0 +1,3 @@
+pub mod ChildWalks
+pub mod RunCuts
+pub mod TreeSeams
