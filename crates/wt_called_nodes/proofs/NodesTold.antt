@@ -34,7 +34,7 @@ block_told p (Some text) (typed k l ts m x cs) h own = (own, in_typed p k l ts m
 block_told p (Some text) (holds l m ss) h own = absurd h
 
 -- the numbers of what is in a node that is no group
-numbers_in : (l : Label) (ts : Trees) → is_group l.kind ≡ false → NoZero (numbers (tree l ts)) → NoZero (numbers_of_all ts)
+pub numbers_in : (l : Label) (ts : Trees) → is_group l.kind ≡ false → NoZero (numbers (tree l ts)) → NoZero (numbers_of_all ts)
 numbers_in l ts e z =
     let w = each_split (λ n. n ≢ 0) (if is_numbered l.kind then l.id ∷ [] else []) (if is_group l.kind then [] else numbers_of_all ts) z in
     subst (λ (v : Bool). NoZero (if v then [] else numbers_of_all ts)) e w.1
