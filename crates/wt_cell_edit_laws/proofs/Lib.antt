@@ -22,6 +22,7 @@ pub mod ManyNodes
 pub mod ManyPaths
 pub mod Nodes
 pub mod OwnTexts
+pub mod SentAsIs
 mod PageCases
 pub mod PageSlots
 pub mod Paths
