@@ -7,4 +7,5 @@ pub mod Untangled
 pub mod CalledUtf8
 pub mod EditFacts
 pub mod EditTaken
+pub mod AmongCalls
 pub mod CallsTake
