@@ -1,5 +1,5 @@
 -- A page with blocks among calls is UTF-8, and with texts typed in them it is such a page again.
-use Rattle.std.proofs.Common.{◌≡◌, inl, inr, ℕ, Option, List, [], ◌∷◌, ◌++◌, refl}
+use Rattle.std.proofs.Common.{inl, inr, ℕ, Option, List, [], ◌∷◌, ◌++◌, refl}
 use Rattle.std.specs.Str.{IsUtf8}
 use Rattle.std.proofs.lemmas.Str.{IsUtf8-append, IsUtf8-nil}
 use Rattle.wt_text_edit_laws.specs.BlockSpots.{BlockSpot, spots_source, IsRead, AreReadAfter, SameRound, AreBlocks}

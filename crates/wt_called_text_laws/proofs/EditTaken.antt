@@ -1,9 +1,7 @@
 -- `edit` of a page with calls, and the difference of what was sent without marks: by what holds of what is sent.
-use Rattle.std.proofs.Common.{◌≡◌, ℕ, ◌≤◌, Bool, false, Option, Some, List, length, map, refl, sym, ap, ◌∙◌, subst}
+use Rattle.std.proofs.Common.{◌≡◌, ℕ, ◌≤◌, Bool, false, Option, Some, List, length, refl, sym, ap, ◌∙◌, subst}
 use Rattle.std.specs.Prelude.{Ok, if◌then◌else◌}
-use Rattle.std.specs.Str.{IsUtf8}
 use Rattle.wt_span.specs.declared.limits.TheConstants.{HTML_BYTES, PAGE_BYTES}
-use Rattle.wt_span.specs.Origins.{Expanded}
 use Rattle.wt_devices.specs.Device.{Pages}
 use Rattle.wt_tree.specs.Opened.{without_sections}
 use Rattle.wt_tree.specs.Source.{flat_of_all}
@@ -27,9 +25,9 @@ use Rattle.wt_commands.specs.declared.refusal.Refusal.TheVariants.{TooLong}
 use Rattle.wt_commands.specs.Answers.{Answer, done, refused, text_answer, title_answer, expanded_by, unspelled_by, unspelled_answer, new_by, new_expanded, new_answer, edit_by, edit_from, edit_to, IsText}
 use Rattle.wt_commands.proofs.SectionEdits.{page_bare}
 use Rattle.wt_pagetool.specs.Selser.{EditIsDone, DoneByEdit}
-use Rattle.wt_typed_blocks.specs.Sent.{Sents, old_children, all_show, old_body, new_body}
+use Rattle.wt_typed_blocks.specs.Sent.{Sents, old_children, all_show, old_body}
 use Rattle.wt_typed_blocks.specs.Typed.{new_sources}
-use Rattle.wt_typed_blocks.specs.Unmarked.{free_body, AreToldApart}
+use Rattle.wt_typed_blocks.specs.Unmarked.{AreToldApart}
 use Rattle.wt_typed_blocks.proofs.SentSections.{answer_in_sections}
 use Rattle.wt_typed_blocks.proofs.SentShows.{page_shows}
 use Rattle.wt_typed_blocks.proofs.SentUnmarked.{told_by_difference}
@@ -40,7 +38,7 @@ use Rattle.wt_called_edit_laws.specs.CalledPages.{IsCalledPage}
 use Rattle.wt_called_nodes.specs.TreeEdits.{IsEditOf, sent_body, free_sent_body}
 use Rattle.wt_called_text_laws.specs.CalledTexts.{spots_tree}
 use Rattle.wt_called_text_laws.proofs.EditFacts.{IsFramedPage, paths_of, new_spots, IsMade, spots_utf8, spots_body}
-use Rattle.wt_called_text_laws.proofs.PageBody.{IsBodyOf, as_body}
+use Rattle.wt_called_text_laws.proofs.PageBody.{as_body}
 
 -- An edit of such a page, and what holds of it.
 pub record IsTextsEdit (pages : Pages) (ss : List BlockSpot) (behind : List ℕ) (f : IsFramedPage pages ss behind) (es : Sents) : Type 0 where

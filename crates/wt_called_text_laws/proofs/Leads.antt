@@ -14,14 +14,14 @@ use Rattle.wt_moved_laws.specs.Placeless.{placeless_label, placeless, all_placel
 use Rattle.wt_moved_laws.specs.Standing.{standing}
 use Rattle.wt_typed_blocks.specs.Sent.{Block, paragraph, heading, kind_of, Sents}
 use Rattle.wt_text_edit_laws.specs.BlockSpots.{BlockSpot}
-use Rattle.wt_text_edit_laws.specs.TextBlocks.{TextBlock, a_paragraph, a_heading, block_of, block_tree}
-use Rattle.wt_cell_edit_laws.specs.AnyBlocks.{typed_by, LeadsTo, LeadsAmong, AllLead}
+use Rattle.wt_text_edit_laws.specs.TextBlocks.{TextBlock, a_paragraph, a_heading, block_tree}
+use Rattle.wt_cell_edit_laws.specs.AnyBlocks.{typed_by, LeadsTo, AllLead}
 use Rattle.wt_cell_edit_laws.specs.CalledBlocks.{tree_by, counted}
 use Rattle.wt_cell_edit_laws.proofs.ManyPaths.{LeadsFrom, leads_inside}
 use Rattle.wt_cell_edit_laws.proofs.Nodes.{same_label, same_inside}
 use Rattle.wt_cell_edit_laws.proofs.Paths.{same_first, same_rest}
 use Rattle.wt_cell_edit_laws.proofs.PlaceTrees.{block_by, text_at}
-use Rattle.wt_called_trees.specs.TreeFrames.{TreeFrame, spot, kept, holder, TreeFrames, no_nodes, more_nodes, all_filled, spots}
+use Rattle.wt_called_trees.specs.TreeFrames.{spot, kept, holder, TreeFrames, no_nodes, more_nodes, all_filled, spots}
 use Rattle.wt_called_nodes.specs.Nodes.{AreHolders, block_at}
 use Rattle.wt_called_nodes.specs.PathsTo.{past_one, all_past, all_inside, paths_to, AreTypedThere}
 use Rattle.wt_called_nodes.proofs.CutFrames.{no_group_round}

@@ -1,8 +1,8 @@
 -- What a page has before each place of its nodes: its source before this block, which is the same whatever the texts are.
-use Rattle.std.proofs.Common.{◌≡◌, ℕ, List, [], ◌∷◌, ◌++◌, length, refl, sym, ap, ap₂, ◌∙◌, subst, append-nil, append_assoc}
+use Rattle.std.proofs.Common.{◌≡◌, ℕ, false, List, [], ◌++◌, length, refl, sym, ap, ap₂, ◌∙◌, subst, append-nil, append_assoc}
 use Rattle.wt_tree.specs.Kinds.{is_leaf}
 use Rattle.wt_tree.specs.Source.{flat, flat_of_all}
-use Rattle.wt_tree.specs.Tree.{Label, Tree, tree, Trees}
+use Rattle.wt_tree.specs.Tree.{Label, tree, Trees}
 use Rattle.wt_inline.specs.ItemTree.{ItemTree}
 use Rattle.wt_moved_laws.specs.Standing.{standing}
 use Rattle.wt_moved_laws.proofs.Sources.{standing_source}

@@ -1,5 +1,5 @@
 -- The body of a page with its calls: it covers the page, its nodes tile it, and in it is neither a body nor a section.
-use Rattle.std.proofs.Common.{◌≡◌, ℕ, ◌-◌, false, Some, None, List, [], length, refl, sym, ap, ap₂, ◌∙◌, subst, append-nil}
+use Rattle.std.proofs.Common.{◌≡◌, ℕ, ◌-◌, false, None, List, [], ◌++◌, length, refl, sym, ap, ap₂, ◌∙◌, subst, append-nil}
 use Rattle.std.specs.List.{AllByRecursion}
 use Rattle.std.specs.Str.{IsUtf8}
 use Rattle.wt_tree.specs.declared.kind.Kind.{Kind}
@@ -10,9 +10,7 @@ use Rattle.wt_tree.specs.Source.{flat, flat_of_all}
 use Rattle.wt_tree.specs.Tiling.{is_group, Tiled, TiledFrom, Covers, InPreorder}
 use Rattle.wt_tree.specs.Tree.{Label, Tree, tree, Trees, label}
 use Rattle.wt_span.specs.Items.{Item}
-use Rattle.wt_span.specs.Cuts.{page_of}
 use Rattle.wt_span.specs.Origins.{OuterCall}
-use Rattle.wt_inline.specs.ItemTree.{tree_items}
 use Rattle.wt_checks.specs.Kept.{children}
 use Rattle.wt_checks.specs.PutBack.{have_frame}
 use Rattle.wt_expand.specs.PageCalls.{expanded_page}

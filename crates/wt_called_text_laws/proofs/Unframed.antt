@@ -191,33 +191,36 @@ as_unframed Page us h = h
 as_unframed Bordered us h = cut_unframed false (joined_texts us) (joined_unframed us h)
 as_unframed OwnCharacter us h = h
 
-mutual
-  inside_cut : (l : Label) (ts : Trees) → AreUnframed ts → AreUnframed (cond (is_group l.kind) ts (cut_as (texts_of_kind l.kind) (all_cut_texts ts)))
-  inside_cut l ts h =
-      either (is_group l.kind) ts (cut_as (texts_of_kind l.kind) (all_cut_texts ts)) h (as_unframed (texts_of_kind l.kind) (all_cut_texts ts) (all_cut ts h))
-
-  all_cut : (ts : Trees) → AreUnframed ts → AreUnframed (all_cut_texts ts)
-  all_cut none h = tt
-  all_cut (more (tree l us) ts) h = ((h.0.0, inside_cut l us h.0.1), all_cut ts h.1)
+all_cut : (ts : Trees) → AreUnframed ts → AreUnframed (all_cut_texts ts)
+all_cut none h = tt
+all_cut (more (tree l us) ts) h = (
+  (
+    h.0.0,
+    either (is_group l.kind) us (cut_as (texts_of_kind l.kind) (all_cut_texts us)) h.0.1
+        (as_unframed (texts_of_kind l.kind) (all_cut_texts us) (all_cut us h.0.1)),
+  ),
+  all_cut ts h.1,
+)
 
 -- ---- numbers
 
-mutual
-  inside_numbered : (n : ℕ) (l : Label) (ts : Trees) → AreUnframed ts → AreUnframed (cond (is_group l.kind) ts (all_with_numbers (next_after l.kind n) ts))
-  inside_numbered n l ts h =
-      either (is_group l.kind) ts (all_with_numbers (next_after l.kind n) ts) h (all_numbered (next_after l.kind n) ts h)
-
-  all_numbered : (n : ℕ) (ts : Trees) → AreUnframed ts → AreUnframed (all_with_numbers n ts)
-  all_numbered n none h = tt
-  all_numbered n (more (tree l us) ts) h = ((h.0.0, inside_numbered n l us h.0.1), all_numbered (n + count (tree l us)) ts h.1)
+all_numbered : (n : ℕ) (ts : Trees) → AreUnframed ts → AreUnframed (all_with_numbers n ts)
+all_numbered n none h = tt
+all_numbered n (more (tree l us) ts) h = (
+  (h.0.0, either (is_group l.kind) us (all_with_numbers (next_after l.kind n) us) h.0.1 (all_numbered (next_after l.kind n) us h.0.1)),
+  all_numbered (n + count (tree l us)) ts h.1,
+)
 
 -- ---- the body
 
 body_cut : (t : Tree) → AreUnframed (children t) → AreUnframed (children (cut_texts t))
-body_cut (tree l ts) h = inside_cut l ts h
+body_cut (tree l ts) h =
+    either (is_group l.kind) ts (cut_as (texts_of_kind l.kind) (all_cut_texts ts)) h
+    (as_unframed (texts_of_kind l.kind) (all_cut_texts ts) (all_cut ts h))
 
 body_numbered : (n : ℕ) (t : Tree) → AreUnframed (children t) → AreUnframed (children (with_numbers n t))
-body_numbered n (tree l ts) h = inside_numbered n l ts h
+body_numbered n (tree l ts) h =
+    either (is_group l.kind) ts (all_with_numbers (next_after l.kind n) ts) h (all_numbered (next_after l.kind n) ts h)
 
 held_in : ItemTrees → ItemTrees
 held_in nothing = nothing

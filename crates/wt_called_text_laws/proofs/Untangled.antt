@@ -1,5 +1,5 @@
 -- No block in which a text is typed is tangled: each is at the place in the page that its nodes say.
-use Rattle.std.proofs.Common.{arith, ◌≡◌, ℕ, zero, suc, ◌+◌, false, Option, Some, None, List, [], ◌∷◌, ◌++◌, length, map, refl, sym, ap, ap₂, ◌∙◌, subst, append-nil, length-append}
+use Rattle.std.proofs.Common.{arith, ◌≡◌, ℕ, suc, ◌+◌, false, Option, Some, None, List, [], ◌∷◌, ◌++◌, length, map, refl, sym, ap, ap₂, ◌∙◌, subst, append-nil, length-append}
 use Rattle.wt_tree.specs.Source.{flat}
 use Rattle.wt_tree.specs.Tree.{Label, Tree, tree, Trees, label}
 use Rattle.wt_span.specs.Items.{sources}
@@ -128,9 +128,9 @@ free_places items page t front (then_gap xs n g) (s ∷ ss) at i m b a u =
     let start : at + length s.before ≡ length here = omega (arith, i, first, one) in
     let end : (at + length s.before) + length (source_of s.block s.text) ≡ length here + length own = omega (arith, start, size) in
     let behind : (at + length s.before) + length (source_of s.block s.text) ≡ length (here ++ own) = omega (arith, end, two) in (
-      λ x open close same ranges.
-          u.0 x open close (same ∙ ap (λ b. placeless (standing 0 [] b)) a.0)
-          (ranges ∙ ap₂ (λ (i j : ℕ). Some (record { start = i; end = j; open_w = open; close_w = close })) (sym start) (sym end)),
+      λ x first_w last_w same ranges.
+          u.0 x first_w last_w (same ∙ ap (λ b. placeless (standing 0 [] b)) a.0)
+          (ranges ∙ ap₂ (λ (i j : ℕ). Some (record { start = i; end = j; open_w = first_w; close_w = last_w })) (sym start) (sym end)),
       free_places items page t (here ++ own) g ss ((at + length s.before) + length (source_of s.block s.text)) behind m.1 b.1 a.1 u.1,
     )
 
