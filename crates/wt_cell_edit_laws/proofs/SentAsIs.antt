@@ -22,7 +22,7 @@ use Rattle.wt_checks.proofs.Repeated.{or_false}
 use Rattle.wt_difference.specs.Unedited.{GroupOr}
 use Rattle.wt_typed_blocks.specs.Sent.{IsSentAsIs, GroupIsSent, StandsAsIs, AllStandAsIs}
 use Rattle.wt_typed_blocks.proofs.SentGroups.{no_group, both_ways}
-use Rattle.wt_cell_edit_laws.specs.SentAsIs.{element_label, text_label, as_node, as_nodes, as_sent, all_as_sent, IsNumberedGroup, HasNumberedGroups, HaveNumberedGroups}
+use Rattle.wt_cell_edit_laws.specs.SentAsIs.{element_label, as_node, as_nodes, as_sent, all_as_sent, IsNumberedGroup, HasNumberedGroups, HaveNumberedGroups}
 
 -- ---- the elements of a plain view
 
