@@ -6,9 +6,7 @@ use Rattle.wt_tree.specs.Tree.{Tree}
 use Rattle.wt_annotated.specs.Annotated.{annotated}
 use Rattle.wt_annotated.specs.GroupData.{group_data}
 use Rattle.wt_checks.specs.Kept.{children}
-use Rattle.wt_expand.specs.PageCalls.{expanded_page}
 use Rattle.wt_page.specs.Body.{meaning}
-use Rattle.wt_commands.specs.declared.command.Command.{Command}
 use Rattle.wt_commands.specs.declared.command.Command.TheVariants.{Edit, Selser}
 use Rattle.wt_commands.specs.Calls.{Call}
 use Rattle.wt_typed_blocks.specs.Sent.{Sents}
@@ -16,12 +14,11 @@ use Rattle.wt_text_edit_laws.specs.BlockSpots.{BlockSpot, spots_source}
 use Rattle.wt_text_edit_laws.specs.Parts.{part_tree}
 use Rattle.wt_cell_edit_laws.specs.AnyBlocks.{AreSpots, IsTextEdit, new_page, AllLead}
 use Rattle.wt_cell_edit_laws.specs.AnyCalls.{SendsFor, TakesThem, TakesTextsAnywhere}
-use Rattle.wt_cell_edit_laws.specs.AnyTexts.{IsUnmarkedEdit, TakesAnyTexts}
+use Rattle.wt_cell_edit_laws.specs.AnyTexts.{TakesAnyTexts}
 use Rattle.wt_cell_edit_laws.proofs.AnyPages.{any_take}
 use Rattle.wt_cell_edit_laws.proofs.SpotTrees.{same_self, over_self, over_expanded}
-use Rattle.wt_called_edit_laws.specs.Groups.{called_tree}
 use Rattle.wt_called_edit_laws.proofs.CalmPages.{calm_pages}
-use Rattle.wt_called_nodes.specs.TreeEdits.{IsEditOf, IsUnmarkedEditOf, sent_body, free_sent_body}
+use Rattle.wt_called_nodes.specs.TreeEdits.{IsEditOf, sent_body, free_sent_body}
 use Rattle.wt_called_text_laws.specs.CalledCalls.{TakesThemAmong, TakesTextsAmongCalls}
 use Rattle.wt_called_text_laws.specs.CalledTexts.{spots_tree}
 

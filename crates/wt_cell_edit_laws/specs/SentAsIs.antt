@@ -1,5 +1,5 @@
 -- A node that is sent as it is in the page, without marks; and a group with it, of which the elements are sent that are written for it.
-use Rattle.std.specs.Prelude.{◌≢◌, ◌≡◌, ℕ, false, None, List, [], if◌then◌else◌}
+use Rattle.std.specs.Prelude.{◌≢◌, ◌≡◌, false, None, [], if◌then◌else◌}
 use Rattle.std.specs.List.{AllByRecursion}
 use Rattle.wt_tree.specs.declared.kind.Kind.TheVariants as kind
 use Rattle.wt_tree.specs.Leaves.{leaf_label}
