@@ -1,12 +1,12 @@
 -- A content of a heading is on one line, begins and ends with no blank, and is read there as its signs.
-use Rattle.std.proofs.Common.{arith, ◌≡◌, ℕ, ◌<◌, ◌≤◌, ◌==◌, Bool, true, false, None, List, [], ◌∷◌, ◌++◌, length, map, refl, sym, ap, ◌∙◌, subst, append-nil, inl, inr, All}
-use Rattle.std.specs.Prelude.{◌||◌, ◌&&◌, if◌then◌else◌, encode_utf8}
+use Rattle.std.proofs.Common.{arith, ◌≡◌, ℕ, ◌<◌, ◌≤◌, ◌==◌, Bool, true, false, List, [], ◌∷◌, ◌++◌, length, map, refl, sym, ap, ◌∙◌, subst, append-nil, inl, inr, All}
+use Rattle.std.specs.Prelude.{◌||◌, if◌then◌else◌, encode_utf8}
 use Rattle.std.proofs.lemmas.Bool.{cases_lt}
 use Rattle.std.proofs.lemmas.Bool.Decides.{nat_tests}
 use Rattle.std.proofs.lemmas.List.Elements.{All-head, All-tail}
 use Rattle.std.proofs.lemmas.Str.{encode_ascii}
 use Rattle.wt_span.specs.Bytes.{is_blank}
-use Rattle.wt_span.specs.Items.{Item, char, sign}
+use Rattle.wt_span.specs.Items.{Item, sign}
 use Rattle.wt_names.proofs.Ascii.{IsWide, encode_wide, encode_some}
 use Rattle.wt_tree.specs.declared.edit_shape.Place.TheVariants as place
 use Rattle.wt_guards.specs.Content.{ContentSign, letter, thing}
@@ -15,16 +15,18 @@ use Rattle.wt_guards.specs.Letters.{is_escaped}
 use Rattle.wt_spelling_laws.proofs.Lines.{end_guarded}
 use Rattle.wt_spelling_laws.proofs.TextKinds.{OpensText}
 use Rattle.wt_expand.specs.PageItems.{page_items}
-use Rattle.wt_lines.specs.Lines.{is_break_item, IsUnbroken}
+use Rattle.wt_lines.specs.Lines.{IsUnbroken}
 use Rattle.wt_inline.specs.declared.loose.Loose.TheVariants.{Text}
 use Rattle.wt_inline.specs.Parts.{Part, parts}
 use Rattle.wt_context.specs.Line.{line_parts}
+use Rattle.wt_headings.specs.Headings.{heading}
 use Rattle.wt_text_edit_laws.specs.LonePages.{page_chars}
-use Rattle.wt_text_edit_laws.specs.TypedHeadings.{NoBreaks, BeginsWithout, EndsWithout, IsHeadingInside}
+use Rattle.wt_text_edit_laws.specs.TypedHeadings.{Sides, AreSides, heading_line, IsOfLevel, NoBreaks, BeginsWithout, EndsWithout, IsHeadingInside}
+use Rattle.wt_text_edit_laws.proofs.Headings.HeadingRows.{round_is}
 use Rattle.wt_text_edit_laws.proofs.Headings.TypedTexts.{end_by}
 use Rattle.wt_beside_laws.specs.Content.{guard_items, letter_items, content_items}
-use Rattle.wt_beside_laws.specs.Flat.{AreFlat, content_parts, line_content}
-use Rattle.wt_beside_laws.specs.InHeadings.{AreOnOneLine, EndInSigns, IsHeadingContent}
+use Rattle.wt_beside_laws.specs.Flat.{content_parts, line_content}
+use Rattle.wt_beside_laws.specs.InHeadings.{AreOnOneLine, EndInSigns, IsHeadingContent, heading_of}
 use Rattle.wt_beside_laws.specs.Lines.{AreUnbroken, line_items}
 use Rattle.wt_beside_laws.proofs.Contents.{content_alone}
 use Rattle.wt_beside_laws.proofs.LineItems.{letter_unbroken}
@@ -152,3 +154,8 @@ heading_parts s signs h =
     ap line_parts (content_alone s signs h.flat.kept ∙ sym (same_items s [] signs h.one_line))
     ∙ line_parts_are s [] signs h.flat.nodes h.flat.flat h.flat.meet
     ∙ same_parts s [] signs h.one_line
+
+pub heading_tree : (s : Setting) (signs : List ContentSign) (sides : Sides) → IsHeadingContent s signs → AreSides sides → IsOfLevel sides (page_items (spelled s signs))
+    → heading (heading_line sides (page_items (spelled s signs))) ≡ heading_of sides (content_parts s [] signs)
+heading_tree s signs sides h a p =
+    round_is sides (page_items (spelled s signs)) a (heading_inside s signs h) p ∙ ap (heading_of sides) (heading_parts s signs h)

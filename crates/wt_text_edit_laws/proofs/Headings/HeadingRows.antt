@@ -17,7 +17,7 @@ use Rattle.wt_blocks.specs.Headings.{core, level_of, open_len, inside_len, level
 use Rattle.wt_lines.specs.Kinds.{is_idle, kind_of_signs}
 use Rattle.wt_tables.specs.Extents.{behind, is_open}
 use Rattle.wt_tables.specs.Parts.{units, unit_kind}
-use Rattle.wt_inline.specs.declared.loose.Loose.TheVariants.{Text, Sep}
+use Rattle.wt_inline.specs.declared.loose.Loose.TheVariants.{Sep}
 use Rattle.wt_inline.specs.ItemTree.{plain, ItemTree, inner, forest}
 use Rattle.wt_inline.specs.Parts.{Part, node, parts, children}
 use Rattle.wt_context.specs.Line.{line_trees}
