@@ -35,3 +35,4 @@ pub mod LineRows
 pub mod LineParagraphs
 pub mod LineShown
 pub mod FlatContents
+pub mod LineHeadings

@@ -260,7 +260,7 @@ spelled_line s before (c ∷ cs) h =
 
 -- ---- its end
 
-end_by : (s : Setting) (before : List ContentSign) (c : ℕ) → s.within ≡ false → s.place ≡ place.Heading → is_guarded s (letter c ∷ before) [] ≡ false
+pub end_by : (s : Setting) (before : List ContentSign) (c : ℕ) → s.within ≡ false → s.place ≡ place.Heading → is_guarded s (letter c ∷ before) [] ≡ false
     → is_blank c ≡ false
 unfolding is_guarded is_between_guard is_end_guard
 end_by s before c w p e =

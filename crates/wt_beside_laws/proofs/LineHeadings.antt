@@ -1,0 +1,161 @@
+-- A content of a heading is on one line, begins and ends with no blank, and is read there as its signs.
+use Rattle.std.proofs.Common.{arith, ◌≡◌, ℕ, ◌<◌, ◌≤◌, ◌==◌, Bool, true, false, List, [], ◌∷◌, ◌++◌, length, map, refl, sym, ap, ◌∙◌, subst, append-nil, inl, inr, All}
+use Rattle.std.specs.Prelude.{◌||◌, if◌then◌else◌, encode_utf8}
+use Rattle.std.proofs.lemmas.Bool.{cases_lt}
+use Rattle.std.proofs.lemmas.Bool.Decides.{nat_tests}
+use Rattle.std.proofs.lemmas.List.Elements.{All-head, All-tail}
+use Rattle.std.proofs.lemmas.Str.{encode_ascii}
+use Rattle.wt_span.specs.Bytes.{is_blank}
+use Rattle.wt_span.specs.Items.{Item, sign}
+use Rattle.wt_names.proofs.Ascii.{IsWide, encode_wide, encode_some}
+use Rattle.wt_tree.specs.declared.edit_shape.Place.TheVariants as place
+use Rattle.wt_guards.specs.Content.{ContentSign, letter, thing}
+use Rattle.wt_guards.specs.Guards.{Setting, is_guarded, spelled}
+use Rattle.wt_guards.specs.Letters.{is_escaped}
+use Rattle.wt_spelling_laws.proofs.Lines.{end_guarded}
+use Rattle.wt_spelling_laws.proofs.TextKinds.{OpensText}
+use Rattle.wt_expand.specs.PageItems.{page_items}
+use Rattle.wt_lines.specs.Lines.{IsUnbroken}
+use Rattle.wt_inline.specs.declared.loose.Loose.TheVariants.{Text}
+use Rattle.wt_inline.specs.Parts.{Part, parts}
+use Rattle.wt_context.specs.Line.{line_parts}
+use Rattle.wt_headings.specs.Headings.{heading}
+use Rattle.wt_text_edit_laws.specs.LonePages.{page_chars}
+use Rattle.wt_text_edit_laws.specs.TypedHeadings.{Sides, AreSides, heading_line, IsOfLevel, NoBreaks, BeginsWithout, EndsWithout, IsHeadingInside}
+use Rattle.wt_text_edit_laws.proofs.Headings.HeadingRows.{round_is}
+use Rattle.wt_text_edit_laws.proofs.Headings.TypedTexts.{end_by}
+use Rattle.wt_beside_laws.specs.Content.{guard_items, letter_items, content_items}
+use Rattle.wt_beside_laws.specs.Flat.{content_parts, line_content}
+use Rattle.wt_beside_laws.specs.InHeadings.{AreOnOneLine, EndInSigns, IsHeadingContent, heading_of}
+use Rattle.wt_beside_laws.specs.Lines.{AreUnbroken, line_items}
+use Rattle.wt_beside_laws.proofs.Contents.{content_alone}
+use Rattle.wt_beside_laws.proofs.LineItems.{letter_unbroken}
+use Rattle.wt_beside_laws.proofs.LineKinds.{Opens, line_opens}
+use Rattle.wt_beside_laws.proofs.LineParts.{line_parts_are}
+
+-- ---- one line
+
+unbroken_both : (xs ys : List Item) → NoBreaks xs → NoBreaks ys → NoBreaks (xs ++ ys)
+unbroken_both [] ys h k = k
+unbroken_both (x ∷ xs) ys h k = (h.0, unbroken_both xs ys h.1 k)
+
+none_by : (xs : List Item) → IsUnbroken xs → NoBreaks xs
+none_by [] h = tt
+none_by (x ∷ xs) h = (h.0, none_by xs h.1)
+
+guard_none : (u : Bool) → NoBreaks (guard_items u)
+guard_none true = (refl, tt)
+guard_none false = tt
+
+content_none : (s : Setting) (before signs : List ContentSign) → AreOnOneLine signs → AreUnbroken signs → NoBreaks (content_items s before signs)
+content_none s before [] o u = guard_none (is_guarded s before [])
+content_none s before (letter c ∷ after) o u =
+    let e = is_escaped s.within s.place before c after in
+    let more : List Item = content_items s (letter c ∷ before) after in
+    unbroken_both (guard_items (is_guarded s before (letter c ∷ after))) (letter_items e c ++ more) (guard_none (is_guarded s before (letter c ∷ after)))
+    (unbroken_both (letter_items e c) more (none_by (letter_items e c) (letter_unbroken e c o.0)) (content_none s (letter c ∷ before) after o.1 u))
+content_none s before (thing t ∷ after) o u =
+    let own : List Item = page_items t.source in
+    let more : List Item = content_items s (thing t ∷ before) after in
+    unbroken_both (guard_items (is_guarded s before (thing t ∷ after))) (own ++ more) (guard_none (is_guarded s before (thing t ∷ after)))
+    (unbroken_both own more (none_by own u.0) (content_none s (thing t ∷ before) after o u.1))
+
+same_items : (s : Setting) (before signs : List ContentSign) → AreOnOneLine signs → line_items s before signs ≡ content_items s before signs
+same_items s before [] o = refl
+same_items s before (letter c ∷ after) o =
+    let guard : List Item = guard_items (is_guarded s before (letter c ∷ after)) in
+    let own : List Item = letter_items (is_escaped s.within s.place before c after) c in
+    ap (λ (t : Bool). guard ++ (if t then [] else own ++ line_items s (letter c ∷ before) after)) o.0
+    ∙ ap (λ xs. guard ++ (own ++ xs)) (same_items s (letter c ∷ before) after o.1)
+same_items s before (thing t ∷ after) o =
+    ap (λ xs. guard_items (is_guarded s before (thing t ∷ after)) ++ (page_items t.source ++ xs)) (same_items s (thing t ∷ before) after o)
+
+same_parts : (s : Setting) (before signs : List ContentSign) → AreOnOneLine signs → line_content s before signs ≡ content_parts s before signs
+same_parts s before [] o = refl
+same_parts s before (letter c ∷ after) o =
+    let guard : List Part = parts Text (guard_items (is_guarded s before (letter c ∷ after))) in
+    let own : List Part = parts Text (letter_items (is_escaped s.within s.place before c after) c) in
+    ap (λ (t : Bool). guard ++ (if t then [] else own ++ line_content s (letter c ∷ before) after)) o.0
+    ∙ ap (λ ps. guard ++ (own ++ ps)) (same_parts s (letter c ∷ before) after o.1)
+same_parts s before (thing t ∷ after) o =
+    ap (λ ps. parts Text (guard_items (is_guarded s before (thing t ∷ after))) ++ (line_parts (page_items t.source) ++ ps)) (same_parts s (thing t ∷ before) after o)
+
+-- ---- what is first
+
+neither : (b : ℕ) → OpensText b → is_blank b ≡ false
+neither b o = ap (λ (t : Bool). t || (b == 9)) o.space ∙ o.tab
+
+begins_seen : (xs : List Item) → Opens xs → BeginsWithout is_blank (map sign xs)
+begins_seen [] h = h
+begins_seen (x ∷ xs) h = neither (sign x) h
+
+-- ---- what is last
+
+abbrev SeenLast : List Item → Type 0
+SeenLast xs = EndsWithout is_blank (map sign xs)
+
+last_behind : (xs ys : List Item) → SeenLast ys → SeenLast (xs ++ ys)
+last_behind [] ys h = h
+last_behind (x ∷ []) [] h = absurd h
+last_behind (x ∷ []) (y ∷ ys) h = h
+last_behind (x ∷ z ∷ xs) ys h = last_behind (z ∷ xs) ys h
+
+wide_last : (bs : List ℕ) → All IsWide bs → 0 < length bs → SeenLast (page_chars bs)
+wide_last [] h some = absurd (omega (arith, some))
+wide_last (b ∷ []) h some = not_blank b (All-head IsWide b [] h)
+  where
+    not_blank : (b : ℕ) → 128 ≤ b → is_blank b ≡ false
+    not_blank b le = grind (arith, nat_tests)
+wide_last (b ∷ c ∷ bs) h some = wide_last (c ∷ bs) (All-tail IsWide b (c ∷ bs) h) (omega arith)
+
+letter_last : (e : Bool) (c : ℕ) → (e ≡ false → is_blank c ≡ false) → SeenLast (letter_items e c)
+letter_last true c f = refl
+letter_last false c f = elim (cases_lt c 128) [
+  | inl small ↦ subst (λ bs. SeenLast (page_chars bs)) (sym (encode_ascii c small)) (f refl)
+  | inr wide ↦ wide_last (encode_utf8 c) (encode_wide c wide) (encode_some c)
+]
+
+end_last : (u : Bool) (own : List Item) → (u ≡ false → SeenLast own) → SeenLast (own ++ guard_items u)
+end_last true own f = last_behind own (guard_items true) refl
+end_last false own f = subst SeenLast (sym (append-nil own)) (f refl)
+
+content_last : (s : Setting) (before signs : List ContentSign) (own : List Item) → s.within ≡ false → s.place ≡ place.Heading → EndInSigns signs
+    → (is_guarded s before [] ≡ false → SeenLast own) → SeenLast (own ++ content_items s before signs)
+content_last s before [] own w p e f = end_last (is_guarded s before []) own f
+content_last s before (letter c ∷ after) own w p e f =
+    let t = is_escaped s.within s.place before c after in
+    let next : List Item = letter_items t c in
+    let more : List Item = content_items s (letter c ∷ before) after in
+    let guard : List Item = guard_items (is_guarded s before (letter c ∷ after)) in
+    last_behind own (guard ++ (next ++ more)) (last_behind guard (next ++ more)
+    (content_last s (letter c ∷ before) after next w p e (λ z. letter_last t c (λ y. end_by s before c w p z))))
+content_last s before (thing t ∷ after) own w p e f =
+    let next : List Item = page_items t.source in
+    let more : List Item = content_items s (thing t ∷ before) after in
+    let guard : List Item = guard_items (is_guarded s before (thing t ∷ after)) in
+    last_behind own (guard ++ (next ++ more)) (last_behind guard (next ++ more) (content_last s (thing t ∷ before) after next w p e.1 (λ z. e.0)))
+
+-- ---- the content
+
+pub heading_inside : (s : Setting) (signs : List ContentSign) → IsHeadingContent s signs → IsHeadingInside (page_items (spelled s signs))
+heading_inside s signs h =
+    let is = content_alone s signs h.flat.kept in
+    subst IsHeadingInside (sym is)
+    (record {
+      unbroken = content_none s [] signs h.one_line h.flat.unbroken;
+      begins = subst (λ xs. BeginsWithout is_blank (map sign xs)) (same_items s [] signs h.one_line)
+          (begins_seen (line_items s [] signs) (line_opens s [] signs h.flat.of_block refl refl h.flat.characters h.flat.nodes));
+      ends = content_last s [] signs [] h.flat.of_block h.of_heading h.ended
+          (λ z. let no : true ≡ false = sym (end_guarded s [] h.flat.of_block refl) ∙ z in cc);
+    })
+
+pub heading_parts : (s : Setting) (signs : List ContentSign) → IsHeadingContent s signs → line_parts (page_items (spelled s signs)) ≡ content_parts s [] signs
+heading_parts s signs h =
+    ap line_parts (content_alone s signs h.flat.kept ∙ sym (same_items s [] signs h.one_line))
+    ∙ line_parts_are s [] signs h.flat.nodes h.flat.flat h.flat.meet
+    ∙ same_parts s [] signs h.one_line
+
+pub heading_tree : (s : Setting) (signs : List ContentSign) (sides : Sides) → IsHeadingContent s signs → AreSides sides → IsOfLevel sides (page_items (spelled s signs))
+    → heading (heading_line sides (page_items (spelled s signs))) ≡ heading_of sides (content_parts s [] signs)
+heading_tree s signs sides h a p =
+    round_is sides (page_items (spelled s signs)) a (heading_inside s signs h) p ∙ ap (heading_of sides) (heading_parts s signs h)

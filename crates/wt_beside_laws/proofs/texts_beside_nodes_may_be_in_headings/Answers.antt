@@ -1,0 +1,8 @@
+use Rattle.wt_beside_laws.proofs.LineHeadings.{heading_inside, heading_tree}
+use Rattle.wt_beside_laws.proofs.texts_beside_nodes_may_be_in_headings.Goals as goal
+
+pub returns-clause-inside : goal.returns-clause-inside
+returns-clause-inside c = heading_inside
+
+pub returns-clause-heading : goal.returns-clause-heading
+returns-clause-heading c = heading_tree
