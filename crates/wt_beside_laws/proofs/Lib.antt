@@ -35,4 +35,5 @@ pub mod LineRows
 pub mod LineParagraphs
 pub mod LineShown
 pub mod FlatContents
+pub mod NodeEnds
 pub mod LineHeadings

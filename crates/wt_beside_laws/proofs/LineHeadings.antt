@@ -1,5 +1,5 @@
 -- A content of a heading is on one line, begins and ends with no blank, and is read there as its signs.
-use Rattle.std.proofs.Common.{arith, ◌≡◌, ℕ, ◌<◌, ◌≤◌, ◌==◌, Bool, true, false, List, [], ◌∷◌, ◌++◌, length, map, refl, sym, ap, ◌∙◌, subst, append-nil, inl, inr, All}
+use Rattle.std.proofs.Common.{arith, ◌≡◌, ℕ, ◌<◌, ◌≤◌, ◌==◌, Bool, true, false, List, [], ◌∷◌, ◌++◌, length, map, refl, sym, ap, ◌∙◌, subst, append-nil, inl, inr, ◌⊎◌, All}
 use Rattle.std.specs.Prelude.{◌||◌, if◌then◌else◌, encode_utf8}
 use Rattle.std.proofs.lemmas.Bool.{cases_lt}
 use Rattle.std.proofs.lemmas.Bool.Decides.{nat_tests}
@@ -21,17 +21,19 @@ use Rattle.wt_inline.specs.Parts.{Part, parts}
 use Rattle.wt_context.specs.Line.{line_parts}
 use Rattle.wt_headings.specs.Headings.{heading}
 use Rattle.wt_text_edit_laws.specs.LonePages.{page_chars}
-use Rattle.wt_text_edit_laws.specs.TypedHeadings.{Sides, AreSides, heading_line, IsOfLevel, NoBreaks, BeginsWithout, EndsWithout, IsHeadingInside}
-use Rattle.wt_text_edit_laws.proofs.Headings.HeadingRows.{round_is}
-use Rattle.wt_text_edit_laws.proofs.Headings.TypedTexts.{end_by}
+use Rattle.wt_text_edit_laws.specs.TypedHeadings.{Sides, AreBlanks, AreSides, heading_line, IsOfLevel, NoBreaks, BeginsWithout, EndsWithout, is_equals_sign, IsHeadingInside}
+use Rattle.wt_text_edit_laws.proofs.Headings.HeadingRows.{round_is, apart_level}
+use Rattle.wt_text_edit_laws.proofs.Headings.TypedTexts.{end_by, no_equals, begins_other, begins_still, ends_still, ends_blank, ends_other, ends_behind as behind_other}
 use Rattle.wt_beside_laws.specs.Content.{guard_items, letter_items, content_items}
 use Rattle.wt_beside_laws.specs.Flat.{content_parts, line_content}
-use Rattle.wt_beside_laws.specs.InHeadings.{AreOnOneLine, EndInSigns, IsHeadingContent, heading_of}
+use Rattle.wt_beside_laws.specs.InHeadings.{AreOnOneLine, IsHeadingContent, SignEndsUnequal, LastEndsUnequal, IsSome, KeepsLevel, heading_of}
 use Rattle.wt_beside_laws.specs.Lines.{AreUnbroken, line_items}
+use Rattle.wt_beside_laws.specs.Nodes.{AreNodes}
 use Rattle.wt_beside_laws.proofs.Contents.{content_alone}
 use Rattle.wt_beside_laws.proofs.LineItems.{letter_unbroken}
 use Rattle.wt_beside_laws.proofs.LineKinds.{Opens, line_opens}
 use Rattle.wt_beside_laws.proofs.LineParts.{line_parts_are}
+use Rattle.wt_beside_laws.proofs.NodeEnds.{EndInSigns, nodes_end, ends_unequal}
 
 -- ---- one line
 
@@ -94,11 +96,14 @@ begins_seen (x ∷ xs) h = neither (sign x) h
 abbrev SeenLast : List Item → Type 0
 SeenLast xs = EndsWithout is_blank (map sign xs)
 
+ends_behind : (q : ℕ → Bool) (xs ys : List Item) → EndsWithout q (map sign ys) → EndsWithout q (map sign (xs ++ ys))
+ends_behind q [] ys h = h
+ends_behind q (x ∷ []) [] h = absurd h
+ends_behind q (x ∷ []) (y ∷ ys) h = h
+ends_behind q (x ∷ z ∷ xs) ys h = ends_behind q (z ∷ xs) ys h
+
 last_behind : (xs ys : List Item) → SeenLast ys → SeenLast (xs ++ ys)
-last_behind [] ys h = h
-last_behind (x ∷ []) [] h = absurd h
-last_behind (x ∷ []) (y ∷ ys) h = h
-last_behind (x ∷ z ∷ xs) ys h = last_behind (z ∷ xs) ys h
+last_behind xs ys h = ends_behind is_blank xs ys h
 
 wide_last : (bs : List ℕ) → All IsWide bs → 0 < length bs → SeenLast (page_chars bs)
 wide_last [] h some = absurd (omega (arith, some))
@@ -145,9 +150,90 @@ heading_inside s signs h =
       unbroken = content_none s [] signs h.one_line h.flat.unbroken;
       begins = subst (λ xs. BeginsWithout is_blank (map sign xs)) (same_items s [] signs h.one_line)
           (begins_seen (line_items s [] signs) (line_opens s [] signs h.flat.of_block refl refl h.flat.characters h.flat.nodes));
-      ends = content_last s [] signs [] h.flat.of_block h.of_heading h.ended
+      ends = content_last s [] signs [] h.flat.of_block h.of_heading (nodes_end signs h.flat.nodes)
           (λ z. let no : true ≡ false = sym (end_guarded s [] h.flat.of_block refl) ∙ z in cc);
     })
+
+-- ---- its level
+
+abbrev UnequalLast : List Item → Type 0
+UnequalLast xs = EndsWithout is_equals_sign (map sign xs)
+
+wide_unequal : (bs : List ℕ) → All IsWide bs → 0 < length bs → UnequalLast (page_chars bs)
+wide_unequal [] h some = absurd (omega (arith, some))
+wide_unequal (b ∷ []) h some = not_equals b (All-head IsWide b [] h)
+  where
+    not_equals : (b : ℕ) → 128 ≤ b → is_equals_sign b ≡ false
+    not_equals b le = grind (arith, nat_tests)
+wide_unequal (b ∷ c ∷ bs) h some = wide_unequal (c ∷ bs) (All-tail IsWide b (c ∷ bs) h) (omega arith)
+
+letter_unequal : (e : Bool) (c : ℕ) → (e ≡ false → is_equals_sign c ≡ false) → UnequalLast (letter_items e c)
+letter_unequal true c f = refl
+letter_unequal false c f = elim (cases_lt c 128) [
+  | inl small ↦ subst (λ bs. UnequalLast (page_chars bs)) (sym (encode_ascii c small)) (f refl)
+  | inr wide ↦ wide_unequal (encode_utf8 c) (encode_wide c wide) (encode_some c)
+]
+
+end_unequal : (u : Bool) (own : List Item) → UnequalLast own → UnequalLast (own ++ guard_items u)
+end_unequal true own h = ends_behind is_equals_sign own (guard_items true) refl
+end_unequal false own h = subst UnequalLast (sym (append-nil own)) h
+
+content_unequal : (s : Setting) (before : List ContentSign) (next : ContentSign) (after : List ContentSign) → AreNodes (next ∷ after)
+    → LastEndsUnequal (next ∷ after) → UnequalLast (content_items s before (next ∷ after))
+content_unequal s before (letter c) [] n e =
+    let t = is_escaped s.within s.place before c [] in
+    let guard : List Item = guard_items (is_guarded s before (letter c ∷ [])) in
+    let end : Bool = is_guarded s (letter c ∷ before) [] in
+    ends_behind is_equals_sign guard (letter_items t c ++ guard_items end)
+    (end_unequal end (letter_items t c) (letter_unequal t c (λ z. no_equals s.within s.place before c (is_equals_sign c) refl z)))
+content_unequal s before (letter c) (d ∷ after) n e =
+    let own : List Item = letter_items (is_escaped s.within s.place before c (d ∷ after)) c in
+    let guard : List Item = guard_items (is_guarded s before (letter c ∷ d ∷ after)) in
+    let more : List Item = content_items s (letter c ∷ before) (d ∷ after) in
+    ends_behind is_equals_sign guard (own ++ more) (ends_behind is_equals_sign own more (content_unequal s (letter c ∷ before) d after n e))
+content_unequal s before (thing t) [] n e =
+    let guard : List Item = guard_items (is_guarded s before (thing t ∷ [])) in
+    let end : Bool = is_guarded s (thing t ∷ before) [] in
+    ends_behind is_equals_sign guard (page_items t.source ++ guard_items end) (end_unequal end (page_items t.source) (ends_unequal t n.0 e))
+content_unequal s before (thing t) (d ∷ after) n e =
+    let guard : List Item = guard_items (is_guarded s before (thing t ∷ d ∷ after)) in
+    let more : List Item = content_items s (thing t ∷ before) (d ∷ after) in
+    ends_behind is_equals_sign guard (page_items t.source ++ more)
+    (ends_behind is_equals_sign (page_items t.source) more (content_unequal s (thing t ∷ before) d after n.1 e))
+
+all_unequal : (s : Setting) (signs : List ContentSign) → s.within ≡ false → AreNodes signs → LastEndsUnequal signs → UnequalLast (content_items s [] signs)
+all_unequal s [] w n e = subst (λ (u : Bool). UnequalLast (guard_items u)) (sym (end_guarded s [] w refl)) refl
+all_unequal s (next ∷ after) w n e = content_unequal s [] next after n e
+
+begins_unequal : (xs : List Item) → Opens xs → BeginsWithout is_equals_sign (map sign xs)
+begins_unequal [] h = h
+begins_unequal (x ∷ xs) h = grind (arith, nat_tests, h.equals)
+
+-- a blank parts them, or the content ends so
+unequal_end : (ss trail : List ℕ) → AreBlanks trail → IsSome trail ⊎ EndsWithout is_equals_sign ss → EndsWithout is_equals_sign (ss ++ trail)
+unequal_end ss [] a (inl h) = absurd h
+unequal_end ss [] a (inr h) = ends_other ss [] a h
+unequal_end ss (b ∷ bs) a h = ends_still ss b bs (ends_blank b bs a)
+
+pub content_level : (s : Setting) (signs : List ContentSign) (sides : Sides) → IsHeadingContent s signs → AreSides sides → KeepsLevel sides signs
+    → IsOfLevel sides (page_items (spelled s signs))
+content_level s signs sides h a k =
+    let own : List Item = page_items (spelled s signs) in
+    let is : own ≡ content_items s [] signs = content_alone s signs h.flat.kept in
+    let ss : List ℕ = map sign own in
+    let begins : BeginsWithout is_equals_sign ss =
+    subst (λ xs. BeginsWithout is_equals_sign (map sign xs)) (sym (is ∙ sym (same_items s [] signs h.one_line)))
+    (begins_unequal (line_items s [] signs) (line_opens s [] signs h.flat.of_block refl refl h.flat.characters h.flat.nodes)) in
+    let last : IsSome sides.trail ⊎ EndsWithout is_equals_sign ss = elim k [
+      | inl some ↦ inl some
+      | inr ends ↦ inr (subst UnequalLast (sym is) (all_unequal s signs h.flat.of_block h.flat.nodes ends))
+    ] in
+    apart_level sides own a (record {
+      first = begins_other sides.lead (ss ++ sides.trail) a.lead (begins_still ss sides.trail begins);
+      last = behind_other sides.lead (ss ++ sides.trail) (unequal_end ss sides.trail a.trail last);
+    })
+
+-- ---- what it is
 
 pub heading_parts : (s : Setting) (signs : List ContentSign) → IsHeadingContent s signs → line_parts (page_items (spelled s signs)) ≡ content_parts s [] signs
 heading_parts s signs h =

@@ -26,7 +26,7 @@ ghost use Rattle.wt_beside_laws.specs.Content.{AreKept, content_items};
 ghost use Rattle.wt_beside_laws.specs.Cuts.{IsFree, content_cut};
 ghost use Rattle.wt_beside_laws.specs.Flat.{AreFlat, IsFlatContent, content_parts, line_content, para_with};
 ghost use Rattle.wt_beside_laws.specs.Glyphs.{content_glyphs, IsPast, AllAvoid};
-ghost use Rattle.wt_beside_laws.specs.InHeadings.{IsHeadingContent, heading_of};
+ghost use Rattle.wt_beside_laws.specs.InHeadings.{IsHeadingContent, KeepsLevel, heading_of};
 ghost use Rattle.wt_headings.specs.Headings.{heading};
 ghost use Rattle.wt_text_edit_laws.specs.TypedHeadings.{Sides, AreSides, heading_line, IsOfLevel, IsHeadingInside};
 ghost use Rattle.wt_beside_laws.specs.Lines.{AreCharacters, AreUnbroken, line_items, content_lines, AreLinesOfText};
@@ -162,9 +162,12 @@ pub fn texts_beside_nodes_are_shown()
 {}
 
 /// In a heading such a content, of which no line break is typed, is between the heading's delimiters as its signs, too: what is first
-/// and last in it is no blank, and where its level is that of its delimiters (`IsOfLevel`), these end where they should.
+/// and last in it is no blank, and where its level is that of its delimiters (`IsOfLevel`), these end where they should. The level
+/// stays whatever is typed, unless a bare URL that ends with a `=` is directly before the closing delimiter (`KeepsLevel`).
 pub fn texts_beside_nodes_may_be_in_headings()
     ensures inside { (s : Setting) (signs : List ContentSign) → IsHeadingContent s signs → IsHeadingInside (page_items (spelled s signs)) }
+    ensures level { (s : Setting) (signs : List ContentSign) (sides : Sides) → IsHeadingContent s signs → AreSides sides → KeepsLevel sides signs
+        → IsOfLevel sides (page_items (spelled s signs)) }
     ensures heading { (s : Setting) (signs : List ContentSign) (sides : Sides) → IsHeadingContent s signs → AreSides sides
         → IsOfLevel sides (page_items (spelled s signs))
         → heading (heading_line sides (page_items (spelled s signs))) ≡ heading_of sides (content_parts s [] signs) }
