@@ -37,3 +37,4 @@ pub mod LineShown
 pub mod FlatContents
 pub mod NodeEnds
 pub mod LineHeadings
+pub mod LineStands
