@@ -1,11 +1,11 @@
 -- An edit that types texts is one of contents: what each of these blocks held is gone, and the text is sent in its place.
-use Rattle.std.proofs.Common.{◌≡◌, ◌≢◌, ℕ, ◌+◌, Bool, true, false, List, [], ◌∷◌, ◌++◌, length, refl, sym, ap, ◌∙◌, subst, append-nil}
-use Rattle.std.specs.Prelude.{Option, Some, None}
+use Rattle.std.proofs.Common.{◌≡◌, ℕ, ◌+◌, Bool, false, List, [], ◌∷◌, ◌++◌, length, refl, sym, ap, ◌∙◌, subst, append-nil}
+use Rattle.std.specs.Prelude.{if◌then◌else◌, Some, None}
 use Rattle.std.specs.Str.{chars}
 use Rattle.wt_span.specs.Origins.{Expanded}
 use Rattle.wt_tree.specs.declared.kind.Kind.TheVariants as kind
 use Rattle.wt_tree.specs.declared.kind.Mark.TheVariants as marks
-use Rattle.wt_tree.specs.Kinds.{showing, is_block}
+use Rattle.wt_tree.specs.Kinds.{showing}
 use Rattle.wt_tree.specs.Plain.{Plains, ended, along, element, face, text_before}
 use Rattle.wt_tree.specs.Tree.{Label, Tree, tree, Trees, none, more}
 use Rattle.wt_guards.specs.Content.{letters}
@@ -18,10 +18,10 @@ use Rattle.wt_link_spelling.specs.Spelling.{inline_spelling}
 use Rattle.wt_selser.specs.Edits.{is_tangled}
 use Rattle.wt_typed_blocks.specs.Sent.{Block, paragraph, heading, kind_of, text_in, Sent, stands, typed, holds, Sents, none_sent, more_sent, old_child, new_child, old_children, new_children, IsSent, AreSent, IsOutsideGroups, AreOutsideGroups, old_body, new_body, shows_before, show_before}
 use Rattle.wt_typed_blocks.specs.Typed.{place_of, block_source, new_source, new_sources, Takes, TakesText, TakeTexts, old_source, StandsAt, StandAt, IsUntangled, AreUntangled}
-use Rattle.wt_typed_blocks.specs.Unmarked.{free_child, free_children, free_body, HoldInBlocks, IsOwnHolder, IsToldApart, AreToldApart}
-use Rattle.wt_typed_blocks.specs.Edited.{Piece, gone, written, page_pieces, text_node, sent_pieces, PiecesStay, pieces_before, Edited, stays, edited, round, Edits, no_edits, more_edits, page_node, page_nodes, sent_node, sent_nodes, IsEdited, AreEdited, IsOutside, AreOutside, page_body, sent_body, edited_before, edits_before}
+use Rattle.wt_typed_blocks.specs.Unmarked.{free_child, free_children, free_body, HoldInBlocks, IsToldApart, AreToldApart}
+use Rattle.wt_typed_blocks.specs.Edited.{Piece, gone, written, page_pieces, sent_pieces, PiecesStay, pieces_before, Edited, stays, edited, round, Edits, no_edits, more_edits, page_node, page_nodes, sent_node, sent_nodes, IsEdited, AreEdited, IsOutside, AreOutside, page_body, sent_body, edited_before, edits_before}
 use Rattle.wt_typed_blocks.specs.EditedPage.{edited_source, edited_sources, IsTaken, AreTaken, page_source, LiesAt, LieAt, IsApart, AreApart}
-use Rattle.wt_typed_blocks.specs.EditedUnmarked.{bare_node, bare_nodes, bare_body, AreRoundInBlocks, IsOwnRound, AreInline, IsTold, AreTold}
+use Rattle.wt_typed_blocks.specs.EditedUnmarked.{bare_node, bare_nodes, bare_body, AreRoundInBlocks, AreInline, IsTold, AreTold}
 use Rattle.wt_typed_blocks.proofs.EditedShows.{shown_same}
 
 -- ---- what is sent

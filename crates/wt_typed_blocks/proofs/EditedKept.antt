@@ -169,11 +169,11 @@ entries_same (more t ts) (more u us) h = entry_same t u (entries ts) (entries us
 
 as_it_was : (l m : Label) (ts us : Trees) → IsSentAsIs l m → entries ts ≡ entries us → have_frame ts ≡ false → NodeAsItWas (tree l ts) (tree m us)
 as_it_was l m ts us s e f =
-    let round : HoldsTheSame (tree l ts) (tree m us) = record {
+    let holds : HoldsTheSame (tree l ts) (tree m us) = record {
       character = own_same l.kind l.shown m.shown s.shown ∙ ap (λ (k : Kind). own_character (writing k) m.shown) (sym s.kind);
       held = ap entries (bare_root (tree l ts) f) ∙ e;
     } in
-    record { kind = sym s.kind; attrs = sym s.attrs; mw = inr (sym s.mw); round = inr round }
+    record { kind = sym s.kind; attrs = sym s.attrs; mw = inr (sym s.mw); holds = inr holds }
 
 kept_by : (page : Page) (p q : Place) → page (number p) ≡ Some q → NodeAsItWas q.node p.node → NodeKept page p
 kept_by page p q e h = λ a b. subst (λ (o : Option Place). MatchOption o (Unit {0}) (λ r. is_group (kind_at r) ≡ false → NodeAsItWas r.node p.node)) (sym e) (λ g. h)
@@ -299,8 +299,8 @@ nodes_stand : (l b : Label) (ss : Edits) → InPreorder (page_body l ss) → hav
 nodes_stand l b ss pre f h =
     let t : Tree = page_body l ss in
     let u : Tree = sent_body l b ss in
-    let round : HoldsTheSame t u = record { character = refl; held = ap entries (bare_root t f) ∙ child_entries ss h } in
-    let was : NodeAsItWas t u = record { kind = refl; attrs = refl; mw = inr refl; round = inr round } in (
+    let holds : HoldsTheSame t u = record { character = refl; held = ap entries (bare_root t f) ∙ child_entries ss h } in
+    let was : NodeAsItWas t u = record { kind = refl; attrs = refl; mw = inr refl; holds = inr holds } in (
       kept_by (page_of t) (record { node = u; parent = 0; in_content = false }) (record { node = t; parent = 0; in_content = false }) (found_root t refl) was,
       children_kept (page_of t) 0 0 (is_content l.mark) false ss h f (found l ss pre),
     )

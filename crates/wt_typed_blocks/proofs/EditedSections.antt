@@ -1,5 +1,5 @@
 -- The same of a page in sections.
-use Rattle.std.proofs.Common.{◌≡◌, ℕ, ◌≤◌, Bool, false, List, [], ◌∷◌, length, refl, ap, ◌∙◌}
+use Rattle.std.proofs.Common.{◌≡◌, ℕ, ◌≤◌, Bool, false, List, length, refl, ap, ◌∙◌}
 use Rattle.std.specs.Prelude.{Ok, ◌||◌}
 use Rattle.wt_span.specs.Origins.{Expanded}
 use Rattle.wt_tree.specs.Opened.{without_sections}
@@ -13,7 +13,7 @@ use Rattle.wt_checks.proofs.Repeated.{or_false}
 use Rattle.wt_selser.specs.Edits.{most_bytes, edit_answer}
 use Rattle.wt_selser.proofs.Sections.{answers_same}
 use Rattle.wt_typed_blocks.specs.Sent.{paragraph, heading}
-use Rattle.wt_typed_blocks.specs.Edited.{page_pieces, Edited, stays, edited, round, Edits, no_edits, more_edits, page_node, sent_node, page_nodes, sent_nodes, IsEdited, AreEdited, page_body, sent_body, AreOutside}
+use Rattle.wt_typed_blocks.specs.Edited.{Edited, stays, edited, round, Edits, no_edits, more_edits, page_node, sent_node, page_nodes, sent_nodes, IsEdited, AreEdited, page_body, sent_body, AreOutside}
 use Rattle.wt_typed_blocks.specs.EditedPage.{edited_sources, AreTaken, LieAt, AreApart}
 use Rattle.wt_typed_blocks.proofs.EditedSlices.{Same}
 use Rattle.wt_typed_blocks.proofs.EditedAnswer.{answer_is}

@@ -5,7 +5,7 @@ use Rattle.std.proofs.lemmas.List.{take-append-le, take_all, drop-append-le, dro
 use Rattle.wt_tree.specs.declared.kind.Ranges.{Ranges}
 use Rattle.wt_tree.specs.Kinds.{is_leaf}
 use Rattle.wt_tree.specs.Source.{flat, flat_of_all}
-use Rattle.wt_tree.specs.Tree.{Label, Trees}
+use Rattle.wt_tree.specs.Tree.{Label}
 use Rattle.wt_link_spelling.specs.Spelling.{inline_spelling}
 use Rattle.wt_slices.specs.Changes.{change_with}
 use Rattle.wt_splice.specs.Splice.{Change, between, spliced_from, spliced}

@@ -35,7 +35,7 @@ use Rattle.wt_difference.specs.Unedited.{IsUnedited, AreUnedited}
 use Rattle.wt_difference.proofs.Remarks.{bare_stays, marks_alone, none_marked, block_no_group, left_remarked}
 use Rattle.wt_difference.proofs.UneditedLaws.{nothing_differs}
 use Rattle.wt_typed_blocks.specs.Sent.{Block, paragraph, heading, kind_of}
-use Rattle.wt_typed_blocks.specs.Edited.{Piece, gone, written, kept, page_pieces, text_node, sent_pieces, PiecesStay, Edited, stays, edited, round, Edits, no_edits, more_edits, page_node, sent_node, page_nodes, sent_nodes, IsEdited, AreEdited, page_body, sent_body}
+use Rattle.wt_typed_blocks.specs.Edited.{Piece, gone, written, kept, text_node, sent_pieces, PiecesStay, Edited, stays, edited, round, Edits, no_edits, more_edits, page_node, sent_node, page_nodes, sent_nodes, IsEdited, AreEdited, page_body, sent_body}
 use Rattle.wt_typed_blocks.specs.EditedUnmarked.{bare_node, bare_nodes, bare_body, AreRoundInBlocks, IsOwnRound, AreInline, IsTold, AreTold}
 use Rattle.wt_typed_blocks.proofs.SentFrames.{no_frame_sent, pieces_frameless}
 use Rattle.wt_typed_blocks.proofs.SentGroups.{both_ways, no_group, no_mark}

@@ -5,14 +5,14 @@ use Rattle.wt_span.specs.Origins.{Expanded}
 use Rattle.wt_tree.specs.Opened.{without_sections}
 use Rattle.wt_tree.specs.Source.{flat_of_all}
 use Rattle.wt_tree.specs.Tiling.{InPreorder}
-use Rattle.wt_tree.specs.Tree.{Label, Tree, Trees}
+use Rattle.wt_tree.specs.Tree.{Label, Tree}
 use Rattle.wt_checks.specs.BareSections.{HasBareSections}
 use Rattle.wt_checks.specs.Checked.{checked}
 use Rattle.wt_checks.specs.PutBack.{have_frame}
 use Rattle.wt_selser.specs.Edits.{most_bytes, edit_answer}
 use Rattle.wt_typed_blocks.specs.Sent.{Sents, old_children, AreSent, old_body, new_body, AreOutsideGroups}
 use Rattle.wt_typed_blocks.specs.Typed.{new_sources, TakeTexts, StandAt, AreUntangled}
-use Rattle.wt_typed_blocks.specs.Edited.{page_nodes, page_body, sent_body}
+use Rattle.wt_typed_blocks.specs.Edited.{page_nodes, page_body}
 use Rattle.wt_typed_blocks.specs.EditedPage.{edited_sources}
 use Rattle.wt_typed_blocks.proofs.AsEdits.{as_edits, pages_are, page_body_is, sent_body_is, are_edited, all_outside, sources_are, are_taken, all_lie, all_apart}
 use Rattle.wt_typed_blocks.proofs.EditedAnswer as content
