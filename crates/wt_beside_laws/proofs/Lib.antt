@@ -35,3 +35,6 @@ pub mod LineRows
 pub mod LineParagraphs
 pub mod LineShown
 pub mod FlatContents
+pub mod NodeEnds
+pub mod LineHeadings
+pub mod LineStands

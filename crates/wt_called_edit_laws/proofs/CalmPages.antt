@@ -4,11 +4,10 @@ use Rattle.std.specs.Prelude.{◌||◌}
 use Rattle.std.specs.List.{list_any}
 use Rattle.wt_tree.specs.declared.kind.Kind.{Kind}
 use Rattle.wt_tree.specs.declared.kind.Kind.TheVariants as kind
-use Rattle.wt_tree.specs.Kinds.{is_leaf, is_numbered}
+use Rattle.wt_tree.specs.Kinds.{is_numbered}
 use Rattle.wt_tree.specs.Tiling.{HasNoGroup}
 use Rattle.wt_span.specs.Items.{Item}
 use Rattle.wt_span.specs.Origins.{Expanded}
-use Rattle.wt_expand.specs.PageCalls.{expanded_page}
 use Rattle.wt_expand.specs.PageItems.{page_items}
 use Rattle.wt_expand.specs.Work.{Pages}
 use Rattle.wt_inline.specs.ItemTree.{ItemTree, forest, tree_items}

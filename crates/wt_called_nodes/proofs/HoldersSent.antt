@@ -1,6 +1,5 @@
 -- What holds a block in which a text is typed is neither a leaf nor a group: it is a table's part.
 use Rattle.std.proofs.Common.{◌≡◌, ℕ, false, Option, Some, None, List, ap, ◌∙◌}
-use Rattle.wt_tree.specs.declared.kind.Kind.{Kind}
 use Rattle.wt_tree.specs.Kinds.{is_leaf}
 use Rattle.wt_tree.specs.Tiling.{is_group}
 use Rattle.wt_tree.specs.Tree.{Label, Tree, tree, Trees}

@@ -1,5 +1,5 @@
 -- No path of a place begins another one, so any texts may be typed at them, and every other node be sent as it is.
-use Rattle.std.proofs.Common.{◌≡◌, ℕ, zero, suc, false, Option, List, [], ◌∷◌, ◌++◌, map, refl, sym, ap, ap₂, subst}
+use Rattle.std.proofs.Common.{◌≡◌, ℕ, zero, false, Option, List, [], ◌∷◌, ◌++◌, map, refl, sym, ap, ap₂, subst}
 use Rattle.wt_tree.specs.declared.kind.Kind.TheVariants as kind
 use Rattle.wt_tree.specs.Tiling.{InPreorder}
 use Rattle.wt_tree.specs.Tree.{Label, Tree, label}

@@ -9,3 +9,4 @@ pub mod EditFacts
 pub mod EditTaken
 pub mod AmongCalls
 pub mod CallsTake
+pub mod CalmCalls

@@ -6,6 +6,7 @@ ghost use Rattle.wt_devices.specs.Device.{Pages};
 ghost use Rattle.wt_commands.specs.Calls.{Call};
 ghost use Rattle.wt_pagetool.specs.Promises.{Ends, EndsAsEdit};
 ghost use Rattle.wt_text_edit_laws.specs.BlockSpots.{BlockSpot};
+ghost use Rattle.wt_cell_edit_laws.specs.AnyCalls.{TakesTextsAnywhere};
 ghost use Rattle.wt_called_edit_laws.specs.CalledPages.{IsCalledPage};
 ghost use Rattle.wt_called_text_laws.specs.CalledCalls.{TakesTextsAmongCalls};
 ghost use Rattle.wt_called_text_laws.specs.CalledTexts.{TakesTextsAmong};
@@ -26,4 +27,10 @@ pub fn texts_among_calls_are_taken()
 #[tactic(auto, using(crate::proofs::CallsTake::calls_take))]
 pub fn calls_take_texts_among_calls()
     ensures { (c : Call) (ended : ℕ) → Ends c ended → EndsAsEdit c ended → TakesTextsAmongCalls c ended }
+{}
+
+/// Where a call takes texts on pages with calls, it takes those on pages without calls, too: these are such pages.
+#[tactic(auto, using(crate::proofs::CalmCalls::anywhere_so))]
+pub fn texts_on_pages_without_calls_are_taken_so()
+    ensures { (c : Call) (ended : ℕ) → TakesTextsAmongCalls c ended → TakesTextsAnywhere c ended }
 {}

@@ -23,6 +23,7 @@ pub mod ManyPaths
 pub mod Nodes
 pub mod OwnTexts
 pub mod SentAsIs
+mod SentCases
 mod PageCases
 pub mod PageSlots
 pub mod Paths

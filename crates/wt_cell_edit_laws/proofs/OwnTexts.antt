@@ -21,7 +21,7 @@ use Rattle.wt_text_edit_laws.specs.TextBlocks.{TextBlock, block_of}
 use Rattle.wt_text_edit_laws.proofs.Blocks.OwnNodes.{none_inside}
 use Rattle.wt_text_edit_laws.proofs.Prose.ProseTrees.{blocks_of, number_behind, items_behind}
 use Rattle.wt_cell_edit_laws.specs.AnyBlocks.{typed_at, typed_among, typed_by, first_paths, other_paths, EndHere, GoOn, TypesOnly, AllTypeOnly, IsTextEdit, LeadsTo, LeadsAmong, AllLead}
-use Rattle.wt_cell_edit_laws.specs.SentAsIs.{IsNumberedGroup, HasNumberedGroups, HaveNumberedGroups}
+use Rattle.wt_cell_edit_laws.specs.SentAsIs.{HasNumberedGroups, HaveNumberedGroups}
 use Rattle.wt_cell_edit_laws.specs.OwnTexts.{AreTypings, PathText, path_texts, in_first, in_others, first_texts, other_texts, here_or, text_here, sent_block, sent_node, own_text, own_texts, own_sent}
 use Rattle.wt_cell_edit_laws.proofs.ManyNodes.{fore_at}
 use Rattle.wt_cell_edit_laws.proofs.ManyPaths.{past, further, behind_all, deeper, paths_from, NoneEmpty, paths_full}

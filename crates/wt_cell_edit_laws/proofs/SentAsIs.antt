@@ -1,6 +1,5 @@
 -- What is sent for a node that stays is as the page has it: the elements that are sent for a group are those that are written for it.
-use Rattle.std.proofs.Common.{◌≡◌, ◌≢◌, ℕ, Bool, true, false, List, [], ◌∷◌, ◌++◌, map, refl, sym, ap, ap₂, ◌∙◌, subst}
-use Rattle.std.specs.List.{AllByRecursion}
+use Rattle.std.proofs.Common.{◌≡◌, ◌≢◌, ℕ, Bool, true, false, List, [], ◌∷◌, refl, sym, ap, ap₂, ◌∙◌}
 use Rattle.std.specs.Prelude.{◌||◌, if◌then◌else◌}
 use Rattle.wt_tree.specs.declared.kind.Kind.{Kind}
 use Rattle.wt_tree.specs.declared.kind.Kind.TheVariants as kind
@@ -8,21 +7,20 @@ use Rattle.wt_tree.specs.declared.kind.Showing.{Showing}
 use Rattle.wt_tree.specs.declared.kind.Showing.TheVariants.{Characters, Inside, Nothing, Element}
 use Rattle.wt_tree.specs.Elements.{as_elements, or_empty_span}
 use Rattle.wt_tree.specs.Kinds.{showing, writing, is_numbered}
-use Rattle.wt_tree.specs.Plain.{Face, face, Plain, text, element, Plains, ended, along, text_before, shown_before, plain_before, plains_before}
-use Rattle.wt_tree.specs.Stream.{opens, closes, StreamToken, byte, bracket}
-use Rattle.wt_tree.specs.Tiling.{is_group, HasNoGroup, NoneIsGroup, ids, ids_of_all, numbers, numbers_of_all, others, others_of_all, InPreorder}
+use Rattle.wt_tree.specs.Plain.{face, Plain, text, element, Plains, ended, along, text_before, shown_before, plain_before, plains_before}
+use Rattle.wt_tree.specs.Tiling.{is_group, HasNoGroup, NoneIsGroup, ids_of_all, numbers, numbers_of_all, others, others_of_all, InPreorder}
 use Rattle.wt_tree.specs.Tree.{Label, Tree, tree, Trees, none, more, label}
-use Rattle.wt_checks.specs.Elements.{all_bare, written_for, read_by, read_before, all_read, signs_in, signs_of}
-use Rattle.wt_checks.specs.Groups.{has_mark, have_mark}
+use Rattle.wt_checks.specs.Elements.{all_bare, written_for, read_by, all_read, signs_in}
+use Rattle.wt_checks.specs.Groups.{have_mark}
 use Rattle.wt_checks.specs.Kept.{children}
 use Rattle.wt_checks.specs.PutBack.{is_frame, has_frame, have_frame}
 use Rattle.wt_checks.proofs.Found.{inner_by, own_by}
 use Rattle.wt_checks.proofs.Lookups.{each_split, each_join, AllZero, NoZero, all_page_numbers}
 use Rattle.wt_checks.proofs.Repeated.{or_false}
 use Rattle.wt_difference.specs.Unedited.{GroupOr}
-use Rattle.wt_typed_blocks.specs.Sent.{IsSentAsIs, GroupIsSent, StandsAsIs, AllStandAsIs}
-use Rattle.wt_typed_blocks.proofs.SentGroups.{no_group, both_ways}
-use Rattle.wt_cell_edit_laws.specs.SentAsIs.{element_label, text_label, as_node, as_nodes, as_sent, all_as_sent, IsNumberedGroup, HasNumberedGroups, HaveNumberedGroups}
+use Rattle.wt_typed_blocks.specs.Sent.{GroupIsSent, StandsAsIs, AllStandAsIs}
+use Rattle.wt_typed_blocks.proofs.SentGroups.{no_group}
+use Rattle.wt_cell_edit_laws.specs.SentAsIs.{element_label, as_nodes, as_sent, all_as_sent, IsNumberedGroup, HasNumberedGroups, HaveNumberedGroups}
 
 -- ---- the elements of a plain view
 

@@ -1,8 +1,8 @@
 -- A node that is sent as it is in the page, without marks; and a group with it, of which the elements are sent that are written for it.
-use Rattle.std.specs.Prelude.{◌≢◌, ◌≡◌, ℕ, false, None, List, [], if◌then◌else◌}
+use Rattle.std.specs.Prelude.{◌≢◌, ◌≡◌, false, None, [], if◌then◌else◌}
 use Rattle.std.specs.List.{AllByRecursion}
 use Rattle.wt_tree.specs.declared.kind.Kind.TheVariants as kind
-use Rattle.wt_tree.specs.declared.kind.Mark.TheVariants as marks
+use Rattle.wt_tree.specs.Leaves.{leaf_label}
 use Rattle.wt_tree.specs.Plain.{Face, Plain, text, element, Plains, ended, along}
 use Rattle.wt_tree.specs.Tiling.{is_group, ids_of_all}
 use Rattle.wt_tree.specs.Tree.{Label, Tree, tree, Trees, none, more}
@@ -14,26 +14,11 @@ use Rattle.wt_difference.specs.Unedited.{GroupOr}
 -- ---- elements as nodes, without numbers, places and marks
 
 abbrev pub element_label : Face → Label
-element_label f = record {
-  kind = f.kind;
-  id = 0;
-  ranges = None;
-  opening = [];
-  closing = [];
-  own = [];
-  shown = [];
-  attrs = f.attrs;
-  origin = None;
-  mark = marks.Nothing;
-  mw = f.mw;
-}
-
-abbrev pub text_label : List ℕ → Label
-text_label bs = record (element_label (record { kind = kind.Text; attrs = []; mw = None })) { shown = bs }
+element_label f = record (leaf_label f.kind None [] []) { attrs = f.attrs; mw = f.mw }
 
 abbrev mutual
   pub as_node : Plain → Tree
-  as_node (text bs) = tree (text_label bs) none
+  as_node (text bs) = tree (leaf_label kind.Text None [] bs) none
   as_node (element f qs) = tree (element_label f) (as_nodes qs)
 
   pub as_nodes : Plains → Trees
