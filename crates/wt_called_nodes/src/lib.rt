@@ -43,14 +43,12 @@ pub fn texts_at_paths_are_sent_for_the_blocks()
 {}
 
 /// What holds blocks in which texts are typed is neither a leaf nor a group.
-#[tactic(auto, using(crate::proofs::HoldersSent::blocks_free))]
 pub fn typed_blocks_are_outside_groups()
     ensures { (fs : TreeFrames) (o : ℕ → Option (List ℕ)) (b : ℕ → Tree) (es : Sents) → BlocksAreFree fs o b es }
 {}
 
 /// Whatever texts are chosen for the blocks at the places, there is an edit that types them: the one that sends every
 /// other node as it is, without marks, and for a group the elements that are written for it.
-#[tactic(auto, using(crate::proofs::OwnEdits::own_edits))]
 pub fn any_texts_may_be_typed_at_paths()
     ensures { (t : Tree) (ss : List BlockSpot) (fs : TreeFrames) → IsNumberedBody t → AllLead ss (paths_to fs) t → HasOwnEdits t ss (paths_to fs) }
 {}
