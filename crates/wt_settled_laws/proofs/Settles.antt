@@ -81,6 +81,9 @@ children_settled : (page : List ℕ) (g : Bool) (l : Label) (ts us vs : Trees) �
 children_settled page true l ts us vs h t s f = sym h
 children_settled page false l ts us vs h t s f = f h.0 h.1 t s
 
+settled_end : (n at : ℕ) (t : Tree) → end_of (label (settled n at t)).ranges ≡ at + length (flat t)
+settled_end n at (tree l ts) = refl
+
 -- ---- all of it
 
 mutual
@@ -102,13 +105,12 @@ mutual
   all_settles : (page : List ℕ) (n at to : ℕ) (ts : Trees) → TiledFrom (all_with_numbers n ts) at to → AllSliced page (all_with_numbers n ts) → AreBare ts
       → all_with_numbers n ts ≡ all_settled n at (all_placeless ts)
   all_settles page n at to none t s h = refl
-  all_settles page n at to (more (tree l us) ts) t s h =
-      let u : Tree = tree l us in
+  all_settles page n at to (more u ts) t s h =
       let rest : Trees = all_with_numbers (n + count u) ts in
       let next : ℕ = at + length (flat (placeless u)) in
       let w = each_split (IsSlice page) (reached (with_numbers n u)) (reached_in_all rest) s in
       let one : with_numbers n u ≡ settled n at (placeless u) = settles page n at u t.0 t.1 w.0 h.0 in
-      let ends : end_of (label (with_numbers n u)).ranges ≡ next = ap (λ (x : Tree). end_of (label x).ranges) one in
+      let ends : end_of (label (with_numbers n u)).ranges ≡ next = ap (λ (x : Tree). end_of (label x).ranges) one ∙ settled_end n at (placeless u) in
       ap₂ more one
       (all_settles page (n + count u) next to ts (subst (λ (i : ℕ). TiledFrom rest i to) ends t.2) w.1 h.1
       ∙ ap (λ (k : ℕ). all_settled (n + k) next (all_placeless ts)) (sym (count_same u)))
