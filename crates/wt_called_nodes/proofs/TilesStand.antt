@@ -16,10 +16,10 @@ use Rattle.wt_called_nodes.specs.Stand.{HasHolders, HaveHolders, BlocksStand}
 
 -- ---- ranges
 
-abbrev ranges_at : ℕ → List ℕ → List ℕ → List ℕ → Ranges
+abbrev pub ranges_at : ℕ → List ℕ → List ℕ → List ℕ → Ranges
 ranges_at at source opening closing = record { start = at; end = at + length source; open_w = length opening; close_w = length closing }
 
-ranges_are : (page : List ℕ) (at : ℕ) (r : Option Ranges) (source opening closing : List ℕ) → BeginsAt at r → StandsIn page r source opening closing
+pub ranges_are : (page : List ℕ) (at : ℕ) (r : Option Ranges) (source opening closing : List ℕ) → BeginsAt at r → StandsIn page r source opening closing
     → r ≡ Some (ranges_at at source opening closing)
 ranges_are page at None source opening closing b h = absurd b
 ranges_are page at (Some r) source opening closing b h =
