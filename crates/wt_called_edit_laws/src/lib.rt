@@ -38,7 +38,6 @@ pub fn blocks_among_calls_are_untangled()
 
 /// A page that calls nothing, and of which no node can only be kept as a whole (`AreSpots` of `wt_cell_edit_laws`), is
 /// such a page, whatever pages the folder has.
-#[tactic(auto, using(crate::proofs::CalmPages::calm_pages))]
 pub fn pages_without_calls_are_called_pages()
     ensures { (pages : Pages) (ss : List BlockSpot) (behind : List ℕ) → AreSpots ss behind → IsCalledPage pages ss behind }
 {}
