@@ -38,3 +38,5 @@ pub mod FlatContents
 pub mod NodeEnds
 pub mod LineHeadings
 pub mod LineStands
+pub mod SentPieces
+pub mod NoFaults
