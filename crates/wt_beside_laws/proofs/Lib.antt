@@ -40,3 +40,4 @@ pub mod LineHeadings
 pub mod LineStands
 pub mod SentPieces
 pub mod NoFaults
+pub mod SentShown

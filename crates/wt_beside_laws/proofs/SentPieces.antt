@@ -2,7 +2,6 @@
 use Rattle.std.proofs.Common.{◌≡◌, ℕ, Bool, true, false, List, [], ◌∷◌, refl, sym, ap, ◌∙◌, subst}
 use Rattle.std.specs.Prelude.{◌||◌, if◌then◌else◌}
 use Rattle.wt_tree.specs.declared.kind.Kind.{Kind}
-use Rattle.wt_tree.specs.Kinds.{showing}
 use Rattle.wt_tree.specs.Plain.{Plains, ended, plain, plain_before, plains_before}
 use Rattle.wt_tree.specs.Tiling.{is_group, HasNoGroup, NoneIsGroup}
 use Rattle.wt_tree.specs.Tree.{Label, Tree, tree, Trees, none, more, label}
@@ -10,9 +9,9 @@ use Rattle.wt_tree.specs.EditShapes.{edit_shape}
 use Rattle.wt_tree.specs.declared.edit_shape.InlineForm.{InlineForm}
 use Rattle.wt_tree.specs.declared.edit_shape.InlineForm.TheVariants as inline
 use Rattle.wt_original.specs.Kept.{Kept, kept_with}
-use Rattle.wt_original.specs.Page.{Page, page_of, TellsSame, node_or, restored, restored_all, is_unchanged}
+use Rattle.wt_original.specs.Page.{Page, page_of, TellsSame, node_or, restored, restored_all}
 use Rattle.wt_link_spelling.specs.Spelling.{children_of}
-use Rattle.wt_typed_blocks.specs.Sent.{IsSentAsIs, StandsAsIs, AllStandAsIs}
+use Rattle.wt_typed_blocks.specs.Sent.{StandsAsIs, AllStandAsIs}
 use Rattle.wt_typed_blocks.specs.Edited.{Piece, gone, written, kept, page_pieces, text_node, sent_pieces, PiecesStay}
 use Rattle.wt_typed_blocks.proofs.SentGroups.{in_group}
 use Rattle.wt_typed_blocks.proofs.EditedShows.{node_shows}

@@ -37,13 +37,13 @@ ghost use Rattle.wt_beside_laws.specs.PageSigns.{signs_of_lines, AreFlatLines};
 ghost use Rattle.wt_tree.specs.EditShapes.{edit_shape};
 ghost use Rattle.wt_tree.specs.Tree.{Label, Tree as Block, tree, Trees, label};
 ghost use Rattle.wt_content.specs.Content.{is_paragraph, bad_content};
-ghost use Rattle.wt_typed_blocks.specs.Edited.{Piece, page_pieces, sent_pieces, PiecesStay};
+ghost use Rattle.wt_typed_blocks.specs.Edited.{Piece, page_pieces, sent_pieces, PiecesStay, pieces_before};
 ghost use Rattle.wt_tree.specs.declared.edit_shape.Place.{Place as Where};
 ghost use Rattle.wt_original.specs.Page.{Page as Known, page_of, TellsSame};
 ghost use Rattle.wt_link_spelling.specs.Spelling.{signs_of_all, children_of};
 ghost use Rattle.wt_beside_laws.specs.OwnSigns.{own_signs, IsFlatBlock};
 ghost use Rattle.wt_beside_laws.specs.SentNodes.{AreSent, numbers};
-ghost use Rattle.wt_beside_laws.specs.SentPieces.{OnlyTextsGo, TextsFit};
+ghost use Rattle.wt_beside_laws.specs.SentPieces.{OnlyTextsGo, TextsFit, PiecesShow};
 ghost use Rattle.wt_beside_laws.specs.Stood.{AreStood, AreAt, things};
 ghost use Rattle.wt_beside_laws.specs.Tiles.{IsPlainLink, IsPastUrl};
 
@@ -184,11 +184,11 @@ pub fn texts_beside_nodes_stand_between_lines()
     ensures paragraph { (before : List Item) (s : Setting) (signs : List ContentSign) (tail : List Item) → EndsApart before → IsFlatContent s signs
         → EndsParagraph tail
         → meaning (before ++ (page_items (spelled s signs) ++ tail))
-            ≡ body_with (blocks_in before ++ para_with (content_parts s [] signs) ∷ blocks_in tail) }
+        ≡ body_with (blocks_in before ++ para_with (content_parts s [] signs) ∷ blocks_in tail) }
     ensures heading { (before : List Item) (s : Setting) (signs : List ContentSign) (sides : Sides) (tail : List Item)
         → AreClosed (before_marks before) → AreSides sides → IsHeadingContent s signs → IsOfLevel sides (page_items (spelled s signs)) → EndsLine tail
         → meaning (before ++ (heading_line sides (page_items (spelled s signs)) ++ tail))
-            ≡ body_with (blocks_in before ++ heading_of sides (content_parts s [] signs) ∷ blocks_in tail) }
+        ≡ body_with (blocks_in before ++ heading_of sides (content_parts s [] signs) ∷ blocks_in tail) }
 {}
 
 /// Where all nodes of a flat block stay (`PiecesStay` of `wt_typed_blocks`) and only texts go and come (`OnlyTextsGo`), the nodes are
@@ -206,4 +206,12 @@ pub fn nodes_that_stay_are_sent()
 pub fn contents_of_such_nodes_have_no_fault()
     ensures { (same : Block → Block → Bool) (block : Block) (m : Label) (us : Trees) → AreSent (page_of same block) us
         → TextsFit (is_paragraph (edit_shape (label block).kind).form) us → bad_content same block (tree m us) ≡ None }
+{}
+
+/// What is written for such a content shows what was sent: the texts as they were typed, and between them what the page shows for
+/// each node that stays, if the page's node shows what its source shows by itself (`PiecesShow`).
+#[tactic(auto, using(crate::proofs::SentShown::pieces_shown))]
+pub fn what_is_sent_is_what_is_shown()
+    ensures { (p : Known) (pl : Where) (ps : List Piece) (rest : Plains) → PiecesStay ps → AreSent p (sent_pieces ps) → PiecesShow p ps
+        → content_shown (signs_of_all p pl (sent_pieces ps)) rest ≡ pieces_before ps rest }
 {}
