@@ -35,3 +35,12 @@ pub mod LineRows
 pub mod LineParagraphs
 pub mod LineShown
 pub mod FlatContents
+pub mod PartThings
+pub mod TileRoles
+pub mod UrlShown
+pub mod FormOpenings
+pub mod PageLexemes
+pub mod LineThings
+pub mod BareLeaves
+pub mod BlockNumbers
+pub mod BlockSigns

@@ -65,7 +65,7 @@ no_run_chunks : (us : List Segment) → has_run us ≡ false → HasNoRun (chunk
 unfolding chunks
 no_run_chunks us e = subst (λ rs. HasNoRun (chunks_since [] rs)) (sym (runs_alone us e)) (no_runs [] us)
 
-unstyled : (us : List Segment) → has_run us ≡ false → with_styles us ≡ segment_parts us
+pub unstyled : (us : List Segment) → has_run us ≡ false → with_styles us ≡ segment_parts us
 unfolding with_styles
 unstyled us e =
     ap (λ ss. styled 0 (length us) (forest_of ss) us) (no_styles (chunks us) (no_run_chunks us e)) ∙ ap segment_parts (take_all (length us - 0) us (omega arith))
