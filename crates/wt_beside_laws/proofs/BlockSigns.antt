@@ -1,11 +1,10 @@
 -- A block of the page by its lines has the nodes of these lines, and what is sent for it is a content that is read sign by sign.
-use Rattle.std.proofs.Common.{arith, ◌≡◌, ℕ, ◌+◌, ◌<◌, Bool, false, List, [], ◌∷◌, ◌++◌, length, refl, sym, ap, ◌∙◌, subst}
-use Rattle.wt_span.specs.Items.{Item, sources}
+use Rattle.std.proofs.Common.{arith, ◌≡◌, ℕ, ◌+◌, ◌<◌, Bool, false, List, ◌++◌, length, refl, sym, ap, ◌∙◌, subst}
+use Rattle.wt_span.specs.Items.{Item}
 use Rattle.wt_tree.specs.Kinds.{is_leaf}
 use Rattle.wt_tree.specs.Tiling.{HasNoGroup, NoneIsGroup}
 use Rattle.wt_tree.specs.Tree.{Tree, tree, Trees, label}
 use Rattle.wt_tree.specs.declared.edit_shape.Place.{Place}
-use Rattle.wt_guards.specs.Content.{ContentSign}
 use Rattle.wt_guards.specs.Guards.{Setting}
 use Rattle.wt_inline.specs.ItemTree.{plain, ItemTree, inner, forest}
 use Rattle.wt_inline.specs.Parts.{Part, children}
@@ -26,7 +25,7 @@ use Rattle.wt_beside_laws.proofs.BlockNumbers.{block_counts}
 use Rattle.wt_beside_laws.proofs.FlatContents.{flat_content}
 use Rattle.wt_beside_laws.proofs.LineThings.{lines_have}
 use Rattle.wt_beside_laws.proofs.OwnSigns.{own_content, own_sent}
-use Rattle.wt_beside_laws.proofs.PartThings.{HaveThings, nodes_of, own_things, have_own}
+use Rattle.wt_beside_laws.proofs.PartThings.{nodes_of, own_things, have_own}
 use Rattle.wt_beside_laws.proofs.SentNodes.{same_nodes}
 
 -- ---- the block

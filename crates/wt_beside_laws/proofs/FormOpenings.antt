@@ -1,5 +1,5 @@
 -- With what external links and bare URLs open.
-use Rattle.std.proofs.Common.{arith, ◌≡◌, ℕ, ◌+◌, ◌≤◌, Bool, true, false, Option, Some, None, List, length, take, drop, refl, ap, subst}
+use Rattle.std.proofs.Common.{arith, ◌≡◌, ℕ, ◌+◌, ◌≤◌, Bool, true, false, Option, Some, None, List, length, take, drop, ap, subst}
 use Rattle.std.specs.Prelude.{◌&&◌, ◌==◌, if◌then◌else◌, option_map, nat_lt, codes}
 use Rattle.std.specs.Option.{option_or}
 use Rattle.wt_tiles.specs.declared.context.Context.{Context}

@@ -2,6 +2,7 @@ mod Cases
 mod NodeCases
 mod StoodCases
 mod LineCases
+mod BlockCases
 pub mod Firm
 pub mod ContentGlyphs
 pub mod ContentTiles
@@ -44,3 +45,4 @@ pub mod LineThings
 pub mod BareLeaves
 pub mod BlockNumbers
 pub mod BlockSigns
+pub mod FlatAgain

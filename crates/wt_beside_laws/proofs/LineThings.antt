@@ -1,7 +1,7 @@
 -- The nodes of lines of the page, by their tiles.
 use Rattle.std.proofs.Common.{arith, ◌≡◌, ℕ, zero, suc, ◌+◌, ◌-◌, ◌<◌, ◌≤◌, ◌==◌, Bool, true, false, Option, Some, None, List, [], ◌∷◌, ◌++◌, length, map, take, drop, refl, sym, ap, ◌∙◌, subst, append-nil}
-use Rattle.std.specs.Prelude.{nat_eq, encode_utf8}
-use Rattle.std.specs.List.{starts_with, ends_with, flat_map, AllByRecursion}
+use Rattle.std.specs.Prelude.{nat_eq}
+use Rattle.std.specs.List.{ends_with, flat_map, AllByRecursion}
 use Rattle.std.specs.Str.{chars}
 use Rattle.std.proofs.lemmas.Bool.Decides.{nat_tests}
 use Rattle.std.proofs.lemmas.List.{length-append, take-append-drop, map-append}
@@ -19,7 +19,7 @@ use Rattle.wt_expand.specs.PageItems.{page_items}
 use Rattle.wt_inline.specs.declared.loose.Loose.TheVariants.{Text}
 use Rattle.wt_inline.specs.Inside.{opened_all}
 use Rattle.wt_inline.specs.ItemTree.{plain, ItemTree, tree_items}
-use Rattle.wt_inline.specs.Parts.{Part, loose, node, held_parts, whole_tree, part, parts}
+use Rattle.wt_inline.specs.Parts.{Part, loose, node, whole_tree, part, parts}
 use Rattle.wt_inline.proofs.HeldLaws.{held_of_parts, sources_opened}
 use Rattle.wt_tiles.specs.declared.glyph.Glyph.{Glyph}
 use Rattle.wt_tiles.specs.declared.glyph.Glyph.TheVariants as glyph
@@ -36,27 +36,25 @@ use Rattle.wt_tiles.specs.Urls.{bare_shape}
 use Rattle.wt_tiles.proofs.Readings.{shapes_are}
 use Rattle.wt_tiles.proofs.TagInsides.{no_form}
 use Rattle.wt_context.specs.Line.{context_parts, line_parts}
-use Rattle.wt_context.specs.Nodes.{opening_of, inside_of, leaf_tree, nested_tree, bare_url, tile_tree, segments_by, tile_segments, segments}
+use Rattle.wt_context.specs.Nodes.{inside_of, leaf_tree, nested_tree, bare_url, tile_tree, segments_by, tile_segments, segments}
 use Rattle.wt_context.specs.Segments.{Segment, one_stretch, loose_segment, loose_segments, segment_parts}
-use Rattle.wt_context.specs.Styled.{with_styles}
 use Rattle.wt_context.specs.declared.node.Leaf.TheVariants as as_leaf
 use Rattle.wt_context.specs.RunCuts.{has_run}
-use Rattle.wt_context.specs.Unstyled.{tile_parts as tile_parts_of, tile_part, plain_parts}
+use Rattle.wt_context.specs.Unstyled.{tile_parts as tile_parts_of, tile_part}
 use Rattle.wt_context.specs.declared.node.Nested.TheVariants as nested
 use Rattle.wt_context.proofs.LineHolding.{context_holds}
 use Rattle.wt_context.proofs.NestedContexts.{contexts_are}
 use Rattle.wt_context.proofs.TileHolding.{OptHolds, tile_holds}
 use Rattle.wt_context.proofs.TilePlaces.{MayStand, IsPlaced, tiles_placed}
-use Rattle.wt_beside_laws.specs.Cuts.{own_glyphs}
 use Rattle.wt_beside_laws.specs.Nodes.{IsBareNode, IsNode, AreNodes}
-use Rattle.wt_beside_laws.specs.PageBlocks.{break, after_breaks, joined_parts, AreUnstyled}
-use Rattle.wt_beside_laws.specs.PageSigns.{form_role, atom_role, tile_role, form_sign, tile_signs, signs_of_tiles, line_signs, signs_of_lines, IsFlatForm, IsFlatTile, AreFlatTiles, HasNoBreak, AreFlatLines}
+use Rattle.wt_beside_laws.specs.PageBlocks.{joined_parts, AreUnstyled}
+use Rattle.wt_beside_laws.specs.PageSigns.{form_role, tile_role, form_sign, tile_signs, signs_of_tiles, line_signs, signs_of_lines, IsFlatForm, IsFlatTile, AreFlatTiles, AreFlatLines}
 use Rattle.wt_beside_laws.specs.Stood.{things}
 use Rattle.wt_beside_laws.proofs.FormKinds.{IsNodeKind, form_is_node}
 use Rattle.wt_beside_laws.proofs.FormOpenings.{OpensAs, opens_so}
 use Rattle.wt_beside_laws.proofs.LineSegments.{unstyled}
 use Rattle.wt_beside_laws.proofs.PageLexemes.{IsPageForm, AreOfPage, are_of_page, no_brace}
-use Rattle.wt_beside_laws.proofs.PageSigns.{AreChars, are_chars, IsFlatKind, none_take, none_drop, flat_nodes}
+use Rattle.wt_beside_laws.proofs.PageSigns.{AreChars, are_chars, IsFlatKind, flat_nodes}
 use Rattle.wt_beside_laws.proofs.PartThings.{IsThing, thing_at, tree_source, HaveThings, parts_width, things_both}
 use Rattle.wt_beside_laws.proofs.SentNodes.{things_append, no_things}
 use Rattle.wt_beside_laws.proofs.TileRoles.{NoBraces, link_thing, category_thing, switch_thing, break_thing, placeholder_thing, pair_thing, external_thing, bare_thing, IsLexemeForm, lexeme_thing}
@@ -72,7 +70,7 @@ record Begins (w : Shape) (ys : List Item) : Type 0 where
   some : (m : ℕ) → 1 ≤ m → 0 < length (sources (take m ys))
 
 first_unbraced : (b : ℕ) (bs : List ℕ) → (b == 123) ≡ false → NoBraces (b ∷ bs)
-first_unbraced b bs e = rw e refl
+first_unbraced b bs e = let flip : (123 == b) ≡ false = grind (arith, nat_tests, e) in rw flip refl
 
 byte_unbraced : (a : Bool) (b : ℕ) (gs : List Glyph) (w : Shape) → tile_with in_line a (glyph_of (char None b)) (glyph_of (char None b) ∷ gs) ≡ Some w → (b == 123) ≡ false
 byte_unbraced a b gs w e = by (b == 123) refl
@@ -326,7 +324,7 @@ tile_told kind.Chars a at w xs i f s some p n =
     subst (λ (ts : List Thing). Told at (parts Text ys) ts (length (sources ys))) (sym (no_things (chars (sources ys)))) (chars_told at ys (are_chars (size w) a xs s.1))
 
 widths_append : (ps qs : List Part) → parts_width (ps ++ qs) ≡ parts_width ps + parts_width qs
-widths_append [] qs = refl
+widths_append [] qs = omega arith
 widths_append (loose k o b ∷ ps) qs = let more = widths_append ps qs in omega (arith, more)
 widths_append (node u ∷ ps) qs = let more = widths_append ps qs in omega (arith, more)
 

@@ -1,5 +1,5 @@
 -- The lexemes of a page without calls: none is a function, and none that is one item begins with a brace.
-use Rattle.std.proofs.Common.{arith, ◌≡◌, ℕ, zero, suc, Bool, true, false, Option, Some, None, List, [], ◌∷◌, ◌++◌, take, drop, refl, sym, ap, ◌∙◌, subst}
+use Rattle.std.proofs.Common.{arith, ◌≡◌, ℕ, zero, suc, ◌+◌, Bool, true, false, Option, Some, None, List, [], ◌∷◌, ◌++◌, take, drop, refl, sym, ◌∙◌, subst}
 use Rattle.std.specs.Prelude.{◌==◌, nat_lt, if◌then◌else◌}
 use Rattle.std.proofs.lemmas.Bool.Decides.{nat_tests}
 use Rattle.std.specs.List.{prefix_len}
@@ -13,9 +13,9 @@ use Rattle.wt_span.specs.Comments.{comment_len}
 use Rattle.wt_span.specs.Tags.{Tag, opening_tag, closing_tag, is_nowiki, raw_len, include_at}
 use Rattle.wt_span.specs.Entities.{entity_at, named_entity, entity_names, decimal_entity, hex_entity}
 use Rattle.wt_span.specs.Items.{Item, char, whole, items_by}
-use Rattle.wt_span.specs.Lexemes.{Word, words, cuts, sign_word, form_at}
+use Rattle.wt_span.specs.Lexemes.{Word, words, sign_word, form_at}
 use Rattle.wt_lex.proofs.AllForms.{form_fits}
-use Rattle.wt_expand.specs.PageItems.{raw_form_by, form_of, items_of_word, items_of_words, page_items}
+use Rattle.wt_expand.specs.PageItems.{raw_form_by, items_of_word, items_of_words, page_items}
 use Rattle.wt_text_edit_laws.proofs.Between.Fronts.{first_items, first_from, items_from, byte_from, form_from}
 
 -- ---- their forms

@@ -1,47 +1,36 @@
 -- What the node of a tile is to its neighbours, wherever it is.
-use Rattle.std.proofs.Common.{arith, ◌≡◌, ℕ, zero, suc, ◌+◌, ◌≤◌, ◌<◌, ◌==◌, Bool, true, false, Option, Some, None, List, [], ◌∷◌, ◌++◌, length, take, drop, refl, sym, ap, ap₂, ◌∙◌, subst, append-nil, take_all}
-use Rattle.std.specs.Prelude.{nat_eq, map}
-use Rattle.std.specs.List.{starts_with, ends_with, flat_map}
-use Rattle.std.proofs.lemmas.Bool.Decides.{nat_tests}
-use Rattle.wt_span.specs.Items.{Item, char, whole, sources}
+use Rattle.std.proofs.Common.{arith, ◌≡◌, ℕ, ◌<◌, ◌==◌, Bool, true, false, Option, Some, None, List, [], ◌∷◌, length, refl, sym, ap, ap₂, ◌∙◌, subst}
+use Rattle.std.specs.Prelude.{nat_eq}
+use Rattle.std.specs.List.{starts_with, ends_with}
+use Rattle.wt_span.specs.Items.{Item, sources}
 use Rattle.wt_span.specs.declared.form.ItemForm.{ItemForm}
 use Rattle.wt_span.specs.declared.form.ItemForm.TheVariants as form
 use Rattle.wt_tree.specs.declared.kind.Kind.{Kind}
 use Rattle.wt_tree.specs.declared.kind.Kind.TheVariants as node_kind
 use Rattle.wt_tree.specs.declared.edit_shape.Sort.{Sort}
 use Rattle.wt_tree.specs.declared.edit_shape.Sort.TheVariants as sort
-use Rattle.wt_tree.specs.declared.edit_shape.InlineForm.{InlineForm}
 use Rattle.wt_tree.specs.EditShapes.{edit_shape}
 use Rattle.wt_tree.specs.Kinds.{is_numbered}
-use Rattle.wt_tree.specs.Source.{flat}
 use Rattle.wt_tree.specs.Tree.{Tree, label}
 use Rattle.wt_guards.specs.declared.role.Role.{Role}
 use Rattle.wt_guards.specs.declared.role.Role.TheVariants as role
-use Rattle.wt_inline.specs.declared.loose.Loose.TheVariants.{Text}
-use Rattle.wt_inline.specs.ItemTree.{Head, ItemTree, inner, leaf, forest}
-use Rattle.wt_inline.specs.Parts.{Part, nowiki, whole_tree, parts, children}
+use Rattle.wt_inline.specs.ItemTree.{Head, ItemTree, leaf}
+use Rattle.wt_inline.specs.Parts.{Part, nowiki, whole_tree}
 use Rattle.wt_tiles.specs.declared.shape.Shape.{Shape}
-use Rattle.wt_tiles.specs.declared.shape.TileKind.{TileKind}
-use Rattle.wt_tiles.specs.declared.shape.TileKind.TheVariants as kind
 use Rattle.wt_tiles.specs.declared.tag.Name.{Name}
 use Rattle.wt_tiles.specs.declared.tag.Name.TheVariants.{Paired, Break, Island}
 use Rattle.wt_tiles.specs.declared.tag.Tag.{Tag}
 use Rattle.wt_tiles.specs.Tags.{tag_at}
-use Rattle.wt_tiles.specs.Contexts.{in_line, in_text, in_pair}
-use Rattle.wt_tiles.specs.Glyphs.{glyph_of}
-use Rattle.wt_tiles.specs.Links.{text_of}
-use Rattle.wt_tiles.specs.Tiles.{size}
 use Rattle.wt_tiles.specs.Urls.{bare_shape}
 use Rattle.wt_context.specs.Heads.{glyphs, placeholder, link_head, category_head, ext_link_head, bare_url_head, pair_by_name, pair_by, pair_head, switch_head}
-use Rattle.wt_context.specs.Line.{context_parts}
-use Rattle.wt_context.specs.Nodes.{opening_of, inside_of, bare_url, nested_tree, tile_tree}
+use Rattle.wt_context.specs.Nodes.{opening_of, bare_url, nested_tree}
 use Rattle.wt_context.specs.declared.node.Nested.TheVariants as nested
 use Rattle.wt_annotated.specs.Labels.{label_at}
 use Rattle.wt_moved_laws.specs.Standing.{standing}
 use Rattle.wt_moved_laws.proofs.Sources.{standing_source}
 use Rattle.wt_original.specs.Kept.{url, island, role_by, role_of, shown}
 use Rattle.wt_original.specs.declared.block.Extent.{Extent}
-use Rattle.wt_beside_laws.specs.PageSigns.{form_role, tile_role}
+use Rattle.wt_beside_laws.specs.PageSigns.{form_role}
 use Rattle.wt_beside_laws.proofs.PartThings.{head_of, IsThingForm, IsThing, tree_source, stands_kind}
 
 -- ---- by the kind of a node

@@ -1,28 +1,25 @@
 -- What a bare URL shows: the text of its items.
-use Rattle.std.proofs.Common.{arith, ◌≡◌, ℕ, zero, suc, ◌+◌, ◌-◌, ◌≤◌, ◌==◌, Bool, true, false, Option, Some, None, List, [], ◌∷◌, ◌++◌, length, map, take, drop, refl, sym, ap, ap₂, ◌∙◌, subst, take_all}
+use Rattle.std.proofs.Common.{arith, ◌≡◌, ℕ, suc, ◌+◌, ◌-◌, ◌≤◌, Bool, true, false, Option, Some, List, [], ◌∷◌, ◌++◌, length, map, take, drop, refl, sym, ap, ◌∙◌, subst, take_all}
 use Rattle.std.specs.Prelude.{◌&&◌, not, codes, encode_utf8, if◌then◌else◌}
 use Rattle.std.specs.List.{flat_map}
-use Rattle.std.proofs.lemmas.Bool.Decides.{nat_tests}
-use Rattle.std.proofs.lemmas.List.{length-drop, length-take, take-append-drop}
+use Rattle.std.proofs.lemmas.List.{length-drop, take-append-drop}
 use Rattle.wt_span.specs.Items.{Item, char, whole}
-use Rattle.wt_span.specs.declared.form.ItemForm.{ItemForm}
 use Rattle.wt_span.specs.declared.form.ItemForm.TheVariants as form
 use Rattle.wt_span.specs.Runs.{runs, IsRun, AreRuns}
 use Rattle.wt_span.proofs.RunLaws.{runs_are}
-use Rattle.wt_tree.specs.Tree.{Tree, tree, Trees, none, more, label}
-use Rattle.wt_inline.specs.declared.loose.Loose.{Loose}
+use Rattle.wt_tree.specs.Tree.{Trees}
 use Rattle.wt_inline.specs.declared.loose.Loose.TheVariants.{Text, Sep}
 use Rattle.wt_inline.specs.Carried.{shown_item}
-use Rattle.wt_inline.specs.ItemTree.{ItemTree, inner, forest, tree_items}
-use Rattle.wt_inline.specs.Parts.{Part, loose, node, held_parts, one_leaf, loose_leaf, child, children, form_leaf, whole_tree, part, parts}
+use Rattle.wt_inline.specs.ItemTree.{ItemTree, forest, tree_items}
+use Rattle.wt_inline.specs.Parts.{Part, loose, node, held_parts, one_leaf, loose_leaf, child, children, parts}
 use Rattle.wt_tiles.specs.declared.glyph.Glyph.{Glyph}
 use Rattle.wt_tiles.specs.declared.glyph.Glyph.TheVariants as glyph
 use Rattle.wt_tiles.specs.declared.shape.Shape.{Shape}
-use Rattle.wt_tiles.specs.Glyphs.{is_in, glyph_of, begins, like_byte, begins_like}
+use Rattle.wt_tiles.specs.Glyphs.{glyph_of, begins, like_byte, begins_like}
 use Rattle.wt_tiles.specs.Links.{text_of}
 use Rattle.wt_tiles.specs.Tiles.{size}
 use Rattle.wt_tiles.specs.Urls.{scheme_len, is_url_glyph, url_run, url_items, kept_len, bare_shape, bare_url_at}
-use Rattle.wt_tiles.proofs.UrlFits.{scheme_fits, url_run_le, url_items_len, kept_le}
+use Rattle.wt_tiles.proofs.UrlFits.{scheme_fits, url_items_len, kept_le}
 use Rattle.wt_context.specs.Heads.{bare_url_head}
 use Rattle.wt_context.specs.Nodes.{opening_of, inside_of, bare_url}
 use Rattle.wt_annotated.specs.Labels.{label_at}
@@ -93,7 +90,7 @@ scheme_textual gs = by (begins_like (codes "http://") gs) (begins_like (codes "h
 -- a URL that takes all of some items
 pub all_textual : (gs : List Glyph) (w : Shape) → bare_url_at false gs ≡ Some w → size w ≡ length gs → AreTextual gs
 unfolding bare_url_at
-all_textual gs w e whole =
+all_textual gs w e full =
     let s : ℕ = scheme_len gs in
     let us : List Glyph = drop s gs in
     let m : ℕ = kept_len (url_items gs) in
@@ -103,7 +100,7 @@ all_textual gs w e whole =
     let left : length us ≡ length gs - s = length-drop s gs in
     let kept : m ≤ length (url_items gs) = kept_le (url_items gs) in
     let items : length (url_items gs) ≡ url_run us = url_items_len gs in
-    let far : length us ≤ url_run us = omega (arith, is, whole, within, left, kept, items) in
+    let far : length us ≤ url_run us = omega (arith, is, full, within, left, kept, items) in
     subst AreTextual (take-append-drop s gs) (both_textual (take s gs) us (scheme_textual gs) (run_textual us far))
   where
     same_shape : (v u : Shape) → Some v ≡ Some u → v ≡ u

@@ -150,6 +150,14 @@ pub fn texts_sent_beside_nodes_are_flat()
         → IsFlatContent s (signs_of_all (page_of same block) pl news) }
 {}
 
+/// What is written for such a content is again lines of a page of which the content may be: its lines are flat (`AreFlatLines`), no
+/// style is in them, and the source of each of their nodes stands, where references and the nowikis that are put are nodes, too.
+pub fn contents_beside_nodes_are_flat_again()
+    ensures lines { (s : Setting) (signs : List ContentSign) → IsFlatContent s signs → AreFlatLines (content_lines s signs) }
+    ensures unstyled { (s : Setting) (signs : List ContentSign) → IsFlatContent s signs → AreUnstyled (content_lines s signs) }
+    ensures kept { (at : ℕ) (s : Setting) (signs : List ContentSign) → IsFlatContent s signs → AreKept (signs_of_lines at (content_lines s signs)) }
+{}
+
 /// The lines of such a content are cut where a line break is typed, and each is a line of text, in a table too: nothing that
 /// is typed, and no node, makes it a heading, a list, a rule, preformatted text or a part of a table, and none is blank.
 pub fn texts_beside_nodes_are_lines_of_text()
