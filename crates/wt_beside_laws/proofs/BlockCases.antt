@@ -17,6 +17,7 @@ use Rattle.wt_context.specs.Segments.{loose_segments}
 use Rattle.wt_context.specs.Styled.{with_styles}
 use Rattle.wt_annotated.specs.Labels.{label_at}
 use Rattle.wt_quotes.specs.Styles.{style_tree_of}
+use Rattle.wt_quotes.specs.Toggles.{toggle_at, toggles_of}
 use Rattle.wt_text_edit_laws.specs.LonePages.{page_chars, whole_label, whole_node}
 use Rattle.wt_typed_blocks.specs.Sent.{paragraph}
 use Rattle.wt_beside_laws.specs.PageBlocks.{AreUnstyled, IsBlockOfLines}
@@ -33,7 +34,7 @@ two_apostrophes = refl
 
 -- the paragraph of the page `ab`
 lone_block : IsBlockOfLines (page_chars (codes "ab") ∷ []) (whole_node kind.Para 1 2 (tree (whole_label kind.Text 0 2 (codes "ab")) none))
-unfolding label_at children context_parts with_styles style_tree_of chunks segments loose_segments tiles shapes closed form_at link_or_url link_at ext_link_at bare_url_at scheme_len tag_tile tag_at opening_tag closing_tag switch_at
+unfolding label_at children context_parts with_styles style_tree_of toggles_of toggle_at chunks segments loose_segments tiles shapes closed form_at link_or_url link_at ext_link_at bare_url_at scheme_len tag_tile tag_at opening_tag closing_tag switch_at
 lone_block = record {
   number = 1;
   before = [];
