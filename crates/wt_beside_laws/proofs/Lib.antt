@@ -36,6 +36,9 @@ pub mod LineRows
 pub mod LineParagraphs
 pub mod LineShown
 pub mod FlatContents
+pub mod NodeEnds
+pub mod LineHeadings
+pub mod LineStands
 pub mod PartThings
 pub mod TileRoles
 pub mod UrlShown

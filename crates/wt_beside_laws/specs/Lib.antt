@@ -10,6 +10,7 @@ pub mod Stood
 pub mod Lines
 pub mod Flat
 pub mod Shown
+pub mod InHeadings
 pub mod Tiles
 pub mod Glyphs
 pub mod Beginnings

@@ -11,7 +11,7 @@ ghost use Rattle.wt_context.specs.Line.{line_parts};
 ghost use Rattle.wt_page.specs.Body.{meaning};
 ghost use Rattle.wt_page.specs.Rows.{rows};
 ghost use Rattle.wt_page.specs.Texts.{para};
-ghost use Rattle.wt_text_edit_laws.specs.ParagraphBetween.{body_with};
+ghost use Rattle.wt_text_edit_laws.specs.ParagraphBetween.{AreClosed, before_marks, EndsApart, EndsParagraph, blocks_in, body_with};
 ghost use Rattle.wt_text_edit_laws.specs.TextBetween.{StandsBehind};
 ghost use Rattle.wt_tiles.specs.declared.glyph.Glyph.{Glyph as Sign};
 ghost use Rattle.wt_tiles.specs.declared.glyph.GlyphClass.TheVariants as class;
@@ -26,6 +26,9 @@ ghost use Rattle.wt_beside_laws.specs.Content.{AreKept, content_items};
 ghost use Rattle.wt_beside_laws.specs.Cuts.{IsFree, content_cut};
 ghost use Rattle.wt_beside_laws.specs.Flat.{AreFlat, IsFlatContent, content_parts, line_content, para_with};
 ghost use Rattle.wt_beside_laws.specs.Glyphs.{content_glyphs, IsPast, AllAvoid};
+ghost use Rattle.wt_beside_laws.specs.InHeadings.{IsHeadingContent, KeepsLevel, heading_of};
+ghost use Rattle.wt_headings.specs.Headings.{heading};
+ghost use Rattle.wt_text_edit_laws.specs.TypedHeadings.{Sides, AreSides, heading_line, IsOfLevel, IsHeadingInside, EndsLine};
 ghost use Rattle.wt_beside_laws.specs.Lines.{AreCharacters, AreUnbroken, line_items, content_lines, AreLinesOfText};
 ghost use Rattle.wt_beside_laws.specs.Nodes.{AreNodes, AllMeet};
 ghost use Rattle.wt_beside_laws.specs.Shown.{parts_shown_at, content_shown};
@@ -185,4 +188,30 @@ pub fn texts_beside_nodes_are_one_paragraph()
 pub fn texts_beside_nodes_are_shown()
     ensures { (n : ℕ) (before : List Item) (s : Setting) (signs : List ContentSign) (rest : Plains) → IsFlatContent s signs
         → parts_shown_at n before (content_parts s [] signs) rest ≡ content_shown signs rest }
+{}
+
+/// In a heading such a content, of which no line break is typed, is between the heading's delimiters as its signs, too: what is first
+/// and last in it is no blank, and where its level is that of its delimiters (`IsOfLevel`), these end where they should. The level
+/// stays whatever is typed, unless a bare URL that ends with a `=` is directly before the closing delimiter (`KeepsLevel`).
+pub fn texts_beside_nodes_may_be_in_headings()
+    ensures inside { (s : Setting) (signs : List ContentSign) → IsHeadingContent s signs → IsHeadingInside (page_items (spelled s signs)) }
+    ensures level { (s : Setting) (signs : List ContentSign) (sides : Sides) → IsHeadingContent s signs → AreSides sides → KeepsLevel sides signs
+        → IsOfLevel sides (page_items (spelled s signs)) }
+    ensures heading { (s : Setting) (signs : List ContentSign) (sides : Sides) → IsHeadingContent s signs → AreSides sides
+        → IsOfLevel sides (page_items (spelled s signs))
+        → heading (heading_line sides (page_items (spelled s signs))) ≡ heading_of sides (content_parts s [] signs) }
+{}
+
+/// Between other lines of a page such a content is one paragraph of the body, or a heading: the body's other children are
+/// those that what is before it and what is behind it make by themselves, whatever is typed in it.
+#[tactic(auto, using(crate::proofs::LineStands::paragraph_stands, crate::proofs::LineStands::heading_stands))]
+pub fn texts_beside_nodes_stand_between_lines()
+    ensures paragraph { (before : List Item) (s : Setting) (signs : List ContentSign) (tail : List Item) → EndsApart before → IsFlatContent s signs
+        → EndsParagraph tail
+        → meaning (before ++ (page_items (spelled s signs) ++ tail))
+            ≡ body_with (blocks_in before ++ para_with (content_parts s [] signs) ∷ blocks_in tail) }
+    ensures heading { (before : List Item) (s : Setting) (signs : List ContentSign) (sides : Sides) (tail : List Item)
+        → AreClosed (before_marks before) → AreSides sides → IsHeadingContent s signs → IsOfLevel sides (page_items (spelled s signs)) → EndsLine tail
+        → meaning (before ++ (heading_line sides (page_items (spelled s signs)) ++ tail))
+            ≡ body_with (blocks_in before ++ heading_of sides (content_parts s [] signs) ∷ blocks_in tail) }
 {}
