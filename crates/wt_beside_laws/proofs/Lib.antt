@@ -49,3 +49,5 @@ pub mod BareLeaves
 pub mod BlockNumbers
 pub mod BlockSigns
 pub mod FlatAgain
+pub mod SentPieces
+pub mod NoFaults

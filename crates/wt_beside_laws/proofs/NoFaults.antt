@@ -8,8 +8,8 @@ use Rattle.wt_tree.specs.declared.edit_shape.InlineForm.TheVariants as inline
 use Rattle.wt_original.specs.Kept.{Kept, kept_with}
 use Rattle.wt_original.specs.Page.{Page, page_of, is_unchanged}
 use Rattle.wt_content.specs.declared.reason.ContentWhy.{ContentWhy}
-use Rattle.wt_content.specs.declared.standing.Standing.{Standing}
-use Rattle.wt_content.specs.declared.standing.Standing.TheVariants as stands
+use Rattle.wt_content.specs.declared.content.Standing.{Standing}
+use Rattle.wt_content.specs.declared.content.Standing.TheVariants as stands
 use Rattle.wt_content.specs.Content.{changed_from, standing_of, standing, faults_by, holds_link, below, all_faults, is_paragraph, outermost, first_why, bad_content}
 use Rattle.wt_link_spelling.specs.Spelling.{children_of}
 use Rattle.wt_beside_laws.specs.SentNodes.{IsUnchanged, IsSentBy, AreSent}

@@ -14,3 +14,4 @@ pub mod InHeadings
 pub mod Tiles
 pub mod Glyphs
 pub mod Beginnings
+pub mod SentPieces

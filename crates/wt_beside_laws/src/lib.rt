@@ -1,7 +1,7 @@
 //! Laws of texts that are typed beside nodes that stay.
 #![tactic(auto)]
 
-ghost use Rattle.std.specs.Prelude.{◌≡◌, ◌≤◌, ℕ, ◌+◌, Bool, false, Some, List, [], ◌∷◌, ◌++◌, length, map};
+ghost use Rattle.std.specs.Prelude.{◌≡◌, ◌≤◌, ℕ, ◌+◌, Bool, false, Some, None, List, [], ◌∷◌, ◌++◌, length, map};
 ghost use Rattle.wt_span.specs.Items.{Item};
 ghost use Rattle.wt_guards.specs.Content.{ContentSign};
 ghost use Rattle.wt_guards.specs.Guards.{Setting, spelled};
@@ -34,13 +34,17 @@ ghost use Rattle.wt_beside_laws.specs.Nodes.{AreNodes, AllMeet};
 ghost use Rattle.wt_beside_laws.specs.Shown.{parts_shown_at, content_shown};
 ghost use Rattle.wt_tree.specs.Plain.{Plains};
 ghost use Rattle.wt_beside_laws.specs.PageSigns.{signs_of_lines, AreFlatLines};
-ghost use Rattle.wt_tree.specs.Tree.{Tree as Block, Trees, label};
+ghost use Rattle.wt_tree.specs.EditShapes.{edit_shape};
+ghost use Rattle.wt_tree.specs.Tree.{Label, Tree as Block, tree, Trees, label};
+ghost use Rattle.wt_content.specs.Content.{is_paragraph, bad_content};
+ghost use Rattle.wt_typed_blocks.specs.Edited.{Piece, page_pieces, sent_pieces, PiecesStay};
 ghost use Rattle.wt_tree.specs.declared.edit_shape.Place.{Place as Where};
 ghost use Rattle.wt_original.specs.Page.{Page as Known, page_of, TellsSame};
 ghost use Rattle.wt_link_spelling.specs.Spelling.{signs_of_all, children_of};
 ghost use Rattle.wt_beside_laws.specs.OwnSigns.{own_signs, IsFlatBlock};
 ghost use Rattle.wt_beside_laws.specs.PageBlocks.{AreUnstyled, IsBlockOfLines};
 ghost use Rattle.wt_beside_laws.specs.SentNodes.{AreSent, numbers};
+ghost use Rattle.wt_beside_laws.specs.SentPieces.{OnlyTextsGo, TextsFit};
 ghost use Rattle.wt_beside_laws.specs.Stood.{AreStood, AreAt, things};
 ghost use Rattle.wt_beside_laws.specs.Tiles.{IsPlainLink, IsPastUrl};
 
@@ -214,4 +218,21 @@ pub fn texts_beside_nodes_stand_between_lines()
         → AreClosed (before_marks before) → AreSides sides → IsHeadingContent s signs → IsOfLevel sides (page_items (spelled s signs)) → EndsLine tail
         → meaning (before ++ (heading_line sides (page_items (spelled s signs)) ++ tail))
             ≡ body_with (blocks_in before ++ heading_of sides (content_parts s [] signs) ∷ blocks_in tail) }
+{}
+
+/// Where all nodes of a flat block stay (`PiecesStay` of `wt_typed_blocks`) and only texts go and come (`OnlyTextsGo`), the nodes are
+/// sent as they are, with the numbers of the page's in their order. So `nodes_sent_are_those_of_the_page` holds of such a content.
+pub fn nodes_that_stay_are_sent()
+    ensures sent { (same : Block → Block → Bool) (block : Block) (ps : List Piece) → TellsSame same → IsFlatBlock block
+        → page_pieces ps ≡ children_of block → PiecesStay ps → AreSent (page_of same block) (sent_pieces ps) }
+    ensures numbers { (block : Block) (ps : List Piece) → page_pieces ps ≡ children_of block → PiecesStay ps → OnlyTextsGo ps
+        → numbers (sent_pieces ps) ≡ numbers (children_of block) }
+{}
+
+/// Nothing is wrong in a content of nodes that are sent as they are, and of texts, which in a heading have no line break
+/// (`TextsFit`): it isn't refused.
+#[tactic(auto, using(crate::proofs::NoFaults::no_fault))]
+pub fn contents_of_such_nodes_have_no_fault()
+    ensures { (same : Block → Block → Bool) (block : Block) (m : Label) (us : Trees) → AreSent (page_of same block) us
+        → TextsFit (is_paragraph (edit_shape (label block).kind).form) us → bad_content same block (tree m us) ≡ None }
 {}
