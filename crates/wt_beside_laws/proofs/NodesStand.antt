@@ -252,7 +252,7 @@ unfolding bare_url_at scheme_len
 no_bare_tag true gs = refl
 no_bare_tag false gs = refl
 
-by_less : (a : Bool) (gs : List Glyph) (t : Tag) → tag_at (glyph.Byte 60 ∷ gs) ≡ Some t
+pub by_less : (a : Bool) (gs : List Glyph) (t : Tag) → tag_at (glyph.Byte 60 ∷ gs) ≡ Some t
     → form_at in_line a (glyph.Byte 60 ∷ gs) ≡ Some (shape_of_tag 0 t.name t.shape t.len (glyph.Byte 60 ∷ gs))
 by_less a gs t e = as_tag a (glyph.Byte 60 ∷ gs) t (no_link 60 gs refl) (no_external 60 gs refl) (no_bare_tag a gs) e
 
@@ -270,7 +270,7 @@ lone_stands word t others behind tagged lone whole =
     }
 
 -- the shape of a pair, by what is found of its closing tag
-opened_shape : (t : Tag) (m : TagName) (gs us : List Glyph) → t.name ≡ Paired m → t.shape ≡ Opening → partner (number m) 0 (drop t.len gs) ≡ Some us
+pub opened_shape : (t : Tag) (m : TagName) (gs us : List Glyph) → t.name ≡ Paired m → t.shape ≡ Opening → partner (number m) 0 (drop t.len gs) ≡ Some us
     → shape_of_tag 0 t.name t.shape t.len gs ≡ pair_or_island t.len (Some us) gs
 opened_shape t m gs us name opens found =
     ap (λ (k : Name). shape_of_tag 0 k t.shape t.len gs) name

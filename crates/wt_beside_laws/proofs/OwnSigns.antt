@@ -83,7 +83,7 @@ inside_found P at from l ts h e =
     (every_right P (found_if (l.id == 0) (found_at at from (tree l ts))) inner e)
 
 -- what is no leaf has delimiters round its items
-held_if : (k : Kind) → is_leaf k ≡ false → (not (is_leaf k) && is_delimited (edit_shape k).items) ≡ true
+pub held_if : (k : Kind) → is_leaf k ≡ false → (not (is_leaf k) && is_delimited (edit_shape k).items) ≡ true
 held_if kind.Body e = refl
 held_if (kind.Section n) e = refl
 held_if kind.Para e = refl

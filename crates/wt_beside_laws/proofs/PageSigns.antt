@@ -124,7 +124,7 @@ sources_append xs ys = flat_map-append source xs ys
 -- ---- a run of characters
 
 -- each of these items is a character
-abbrev AreChars : List Item → Type 0
+abbrev pub AreChars : List Item → Type 0
 AreChars [] = Unit {0}
 AreChars (char o b ∷ xs) = AreChars xs
 AreChars (whole f o bs ∷ xs) = ⊥
@@ -151,7 +151,7 @@ no_form a form.Hidden o bs gs e = cc
 no_form a form.EmptyCall o bs gs e = cc
 
 -- where no form begins at the first n items
-are_chars : (n : ℕ) (a : Bool) (xs : List Item)
+pub are_chars : (n : ℕ) (a : Bool) (xs : List Item)
     → ((k : ℕ) → k < n → tile_at in_line (word_before a (map glyph_of xs) k) (drop k (map glyph_of xs)) ≡ None) → AreChars (take n xs)
 are_chars zero a xs f = tt
 are_chars (suc n) a [] f = tt
@@ -229,7 +229,7 @@ atom_tile (whole form.Hidden o bs ∷ xs) = tt
 atom_tile (whole form.EmptyCall o bs ∷ xs) = tt
 
 -- a form that stays
-abbrev IsFlatKind : TileKind → Type 0
+abbrev pub IsFlatKind : TileKind → Type 0
 IsFlatKind kind.Link = Unit {0}
 IsFlatKind kind.Category = Unit {0}
 IsFlatKind kind.Media = Unit {0}

@@ -3,6 +3,7 @@ pub mod Nodes
 pub mod Content
 pub mod Cuts
 pub mod PageSigns
+pub mod PageBlocks
 pub mod OwnSigns
 pub mod SentNodes
 pub mod Stood

@@ -42,6 +42,7 @@ ghost use Rattle.wt_tree.specs.declared.edit_shape.Place.{Place as Where};
 ghost use Rattle.wt_original.specs.Page.{Page as Known, page_of, TellsSame};
 ghost use Rattle.wt_link_spelling.specs.Spelling.{signs_of_all, children_of};
 ghost use Rattle.wt_beside_laws.specs.OwnSigns.{own_signs, IsFlatBlock};
+ghost use Rattle.wt_beside_laws.specs.PageBlocks.{AreUnstyled, IsBlockOfLines};
 ghost use Rattle.wt_beside_laws.specs.SentNodes.{AreSent, numbers};
 ghost use Rattle.wt_beside_laws.specs.SentPieces.{OnlyTextsGo, TextsFit, PiecesShow};
 ghost use Rattle.wt_beside_laws.specs.Stood.{AreStood, AreAt, things};
@@ -134,6 +135,34 @@ pub fn nodes_sent_are_those_of_the_page()
 pub fn texts_beside_nodes_of_the_page_are_flat()
     ensures { (s : Setting) (ls : List (List Item)) (at : ℕ) (signs : List ContentSign) → s.within ≡ false → AreFlatLines ls
         → AreKept (signs_of_lines at ls) → AreCharacters signs → things signs ≡ things (signs_of_lines at ls) → IsFlatContent s signs }
+{}
+
+/// A paragraph or a heading of the page that its lines make (`IsBlockOfLines`), none of which has a style (`AreUnstyled`) or a form that
+/// doesn't stay (`AreFlatLines`), has no style and no group in it, its numbers count up, and its nodes are those of the lines: as it is
+/// sent back, and by their tiles.
+pub fn blocks_of_flat_lines_have_their_nodes()
+    ensures flat { (ls : List (List Item)) (block : Block) → AreFlatLines ls → AreUnstyled ls → IsBlockOfLines ls block → IsFlatBlock block }
+    ensures nodes { (ls : List (List Item)) (block : Block) → AreFlatLines ls → AreUnstyled ls → IsBlockOfLines ls block
+        → things (own_signs block (length (label block).opening) (length (label block).opening) (children_of block))
+        ≡ things (signs_of_lines (length (label block).opening) ls) }
+{}
+
+/// What is sent for such a block, with its nodes as they are and any texts between them, is a content that is read sign by sign
+/// (`IsFlatContent`): each node has the number of the page's, in the page's order, and is of the same kind and plain view (`AreSent`).
+/// Asked of the page is that the source of each node stands whatever is written behind it (`AreKept`).
+pub fn texts_sent_beside_nodes_are_flat()
+    ensures { (same : Block → Block → Bool) (s : Setting) (pl : Where) (ls : List (List Item)) (block : Block) (news : Trees) → TellsSame same → s.within ≡ false
+        → AreFlatLines ls → AreUnstyled ls → IsBlockOfLines ls block → AreKept (signs_of_lines (length (label block).opening) ls)
+        → AreSent (page_of same block) news → numbers news ≡ numbers (children_of block) → AreCharacters (signs_of_all (page_of same block) pl news)
+        → IsFlatContent s (signs_of_all (page_of same block) pl news) }
+{}
+
+/// What is written for such a content is again lines of a page of which the content may be: its lines are flat (`AreFlatLines`), no
+/// style is in them, and the source of each of their nodes stands, where references and the nowikis that are put are nodes, too.
+pub fn contents_beside_nodes_are_flat_again()
+    ensures lines { (s : Setting) (signs : List ContentSign) → IsFlatContent s signs → AreFlatLines (content_lines s signs) }
+    ensures unstyled { (s : Setting) (signs : List ContentSign) → IsFlatContent s signs → AreUnstyled (content_lines s signs) }
+    ensures kept { (at : ℕ) (s : Setting) (signs : List ContentSign) → IsFlatContent s signs → AreKept (signs_of_lines at (content_lines s signs)) }
 {}
 
 /// The lines of such a content are cut where a line break is typed, and each is a line of text, in a table too: nothing that
