@@ -52,3 +52,5 @@ pub mod FlatAgain
 pub mod SentPieces
 pub mod NoFaults
 pub mod SentShown
+pub mod CalmContents
+pub mod FlatLines
