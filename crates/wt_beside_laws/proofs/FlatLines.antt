@@ -1,5 +1,5 @@
 -- Lines of text of a page are one paragraph, with a line break between each two.
-use Rattle.std.proofs.Common.{◌≡◌, ℕ, ◌==◌, Bool, true, false, Option, Some, None, List, [], ◌∷◌, ◌++◌, map, refl, sym, ap, ◌∙◌, subst, append-nil, All}
+use Rattle.std.proofs.Common.{◌≡◌, ℕ, Some, None, List, [], ◌∷◌, ◌++◌, map, sym, ap, ◌∙◌, subst, append-nil, All}
 use Rattle.std.proofs.lemmas.List.Elements.{All-nil, All-cons, All-head, All-tail}
 use Rattle.wt_span.specs.Items.{Item, char, whole, call_of}
 use Rattle.wt_span.proofs.RunLaws.{runs_are}
@@ -8,7 +8,7 @@ use Rattle.wt_expand.proofs.PageLaws.{page_has_no_calls}
 use Rattle.wt_lines.specs.declared.kind.TheConstants.{MOST_TABLES}
 use Rattle.wt_lines.specs.Lines.{lines, full_lines, content, empty_end, goes_on}
 use Rattle.wt_lines.proofs.FullLines.{same_lines}
-use Rattle.wt_page.specs.Rows.{Row, rows, rows_from}
+use Rattle.wt_page.specs.Rows.{rows, rows_from}
 use Rattle.wt_page.specs.Texts.{para_parts}
 use Rattle.wt_page.specs.Body.{within, blocks, meaning}
 use Rattle.wt_text_edit_laws.specs.ParagraphBetween.{body_with}
