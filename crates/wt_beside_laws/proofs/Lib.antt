@@ -52,3 +52,4 @@ pub mod BlockSigns
 pub mod FlatAgain
 pub mod SentPieces
 pub mod NoFaults
+pub mod SentShown

@@ -150,11 +150,11 @@ record IsReadAsSwitch (word : List ℕ) : Type 0 where
   alone : switch_at (byte_glyphs (95 ∷ 95 ∷ word)) ≡ Some (leaf kind.Switch (2 + length word))
   whole : size (leaf kind.Switch (2 + length word)) ≡ length (byte_glyphs (95 ∷ 95 ∷ word))
 
-abbrev EachIs : (List ℕ → Type 0) → List (List ℕ) → Type 0
+abbrev pub EachIs : (List ℕ → Type 0) → List (List ℕ) → Type 0
 EachIs P [] = Unit {0}
 EachIs P (x ∷ xs) = P x × EachIs P xs
 
-all_by : (P : List ℕ → Type 0) (xs : List (List ℕ)) → EachIs P xs → All P xs
+pub all_by : (P : List ℕ → Type 0) (xs : List (List ℕ)) → EachIs P xs → All P xs
 all_by P [] h = All-nil P
 all_by P (x ∷ xs) h = All-cons P x xs h.0 (all_by P xs h.1)
 

@@ -37,14 +37,14 @@ ghost use Rattle.wt_beside_laws.specs.PageSigns.{signs_of_lines, AreFlatLines};
 ghost use Rattle.wt_tree.specs.EditShapes.{edit_shape};
 ghost use Rattle.wt_tree.specs.Tree.{Label, Tree as Block, tree, Trees, label};
 ghost use Rattle.wt_content.specs.Content.{is_paragraph, bad_content};
-ghost use Rattle.wt_typed_blocks.specs.Edited.{Piece, page_pieces, sent_pieces, PiecesStay};
+ghost use Rattle.wt_typed_blocks.specs.Edited.{Piece, page_pieces, sent_pieces, PiecesStay, pieces_before};
 ghost use Rattle.wt_tree.specs.declared.edit_shape.Place.{Place as Where};
 ghost use Rattle.wt_original.specs.Page.{Page as Known, page_of, TellsSame};
 ghost use Rattle.wt_link_spelling.specs.Spelling.{signs_of_all, children_of};
 ghost use Rattle.wt_beside_laws.specs.OwnSigns.{own_signs, IsFlatBlock};
 ghost use Rattle.wt_beside_laws.specs.PageBlocks.{AreUnstyled, IsBlockOfLines};
 ghost use Rattle.wt_beside_laws.specs.SentNodes.{AreSent, numbers};
-ghost use Rattle.wt_beside_laws.specs.SentPieces.{OnlyTextsGo, TextsFit};
+ghost use Rattle.wt_beside_laws.specs.SentPieces.{OnlyTextsGo, TextsFit, PiecesShow};
 ghost use Rattle.wt_beside_laws.specs.Stood.{AreStood, AreAt, things};
 ghost use Rattle.wt_beside_laws.specs.Tiles.{IsPlainLink, IsPastUrl};
 
@@ -235,4 +235,12 @@ pub fn nodes_that_stay_are_sent()
 pub fn contents_of_such_nodes_have_no_fault()
     ensures { (same : Block → Block → Bool) (block : Block) (m : Label) (us : Trees) → AreSent (page_of same block) us
         → TextsFit (is_paragraph (edit_shape (label block).kind).form) us → bad_content same block (tree m us) ≡ None }
+{}
+
+/// What is written for such a content shows what was sent: the texts as they were typed, and between them what the page shows for
+/// each node that stays, if the page's node shows what its source shows by itself (`PiecesShow`).
+#[tactic(auto, using(crate::proofs::SentShown::pieces_shown))]
+pub fn what_is_sent_is_what_is_shown()
+    ensures { (p : Known) (pl : Where) (ps : List Piece) (rest : Plains) → PiecesStay ps → AreSent p (sent_pieces ps) → PiecesShow p ps
+        → content_shown (signs_of_all p pl (sent_pieces ps)) rest ≡ pieces_before ps rest }
 {}

@@ -41,7 +41,7 @@ shown_same Element l m f g rest c e h =
     ap (λ (a : Face). along (element a (f ended)) rest) e ∙ ap (λ (ps : Plains). along (element (face l) ps) rest) (h ended)
 
 -- a node that is sent as it is, with children that show something else
-pub node_shows : (l m : Label) (us : Trees) (f : Plains → Plains) (rest : Plains) → IsSentAsIs l m → ((ps : Plains) → plains_before us ps ≡ f ps)
+node_shows : (l m : Label) (us : Trees) (f : Plains → Plains) (rest : Plains) → IsSentAsIs l m → ((ps : Plains) → plains_before us ps ≡ f ps)
     → plain_before (tree m us) rest ≡ shown_before (showing l.kind) l f rest
 node_shows l m us f rest h e =
     ap (λ (k : Kind). shown_before (showing k) m (λ ps. plains_before us ps) rest) h.kind
