@@ -1,5 +1,5 @@
 -- A form of a line is the same by itself: its source has the node that it has in the line.
-use Rattle.std.proofs.Common.{arith, ◌≡◌, ℕ, ◌<◌, Bool, true, false, Option, Some, None, List, [], ◌∷◌, ◌++◌, length, map, refl, sym, ap, ◌∙◌, subst, append-nil}
+use Rattle.std.proofs.Common.{arith, ◌≡◌, ◌<◌, Bool, false, Option, Some, None, List, [], ◌∷◌, ◌++◌, length, map, refl, sym, ap, ◌∙◌, subst, append-nil}
 use Rattle.std.specs.List.{flat_map}
 use Rattle.std.proofs.lemmas.List.{length-map, map-append}
 use Rattle.wt_span.specs.Items.{Item}
@@ -9,20 +9,19 @@ use Rattle.wt_guards.specs.declared.role.Role.{Role}
 use Rattle.wt_guards.specs.declared.role.Role.TheVariants.{Link, External, Bare, Switch, Toggle, Mark, Group, Function, Node}
 use Rattle.wt_inline.specs.declared.loose.Loose.TheVariants.{Text}
 use Rattle.wt_inline.specs.ItemTree.{ItemTree}
-use Rattle.wt_inline.specs.Parts.{Part, part, parts}
+use Rattle.wt_inline.specs.Parts.{part, parts}
 use Rattle.wt_tiles.specs.declared.glyph.Glyph.{Glyph}
 use Rattle.wt_tiles.specs.declared.glyph.Glyph.TheVariants as glyph
 use Rattle.wt_tiles.specs.declared.shape.Shape.{Shape}
 use Rattle.wt_tiles.specs.declared.shape.TileKind.{TileKind}
-use Rattle.wt_tiles.specs.declared.shape.TileKind.TheVariants as kind
 use Rattle.wt_tiles.specs.Contexts.{in_line}
 use Rattle.wt_tiles.specs.Glyphs.{glyph_of}
 use Rattle.wt_tiles.specs.Reading.{tile_at}
 use Rattle.wt_tiles.specs.Tiles.{size, form_at}
 use Rattle.wt_tiles.specs.Urls.{bare_shape}
 use Rattle.wt_context.specs.Line.{context_parts, line_parts}
-use Rattle.wt_context.specs.Nodes.{tile_tree, segments_by, tile_segments}
-use Rattle.wt_context.specs.Segments.{Segment, one_stretch, loose_segment, loose_segments, segment_parts}
+use Rattle.wt_context.specs.Nodes.{tile_tree, segments_by}
+use Rattle.wt_context.specs.Segments.{one_stretch, loose_segment, loose_segments, segment_parts}
 use Rattle.wt_context.specs.Unstyled.{tile_parts}
 use Rattle.wt_beside_laws.specs.Cuts.{own_form, form_before, StandsAs}
 use Rattle.wt_beside_laws.specs.Flat.{IsFlat}
@@ -31,8 +30,8 @@ use Rattle.wt_beside_laws.specs.PageSigns.{tile_role, IsFlatForm}
 use Rattle.wt_beside_laws.specs.Stood.{IsTileOf, OpensNoPair, IsRead, HasBehind}
 use Rattle.wt_beside_laws.proofs.FlatContents.{flat_role}
 use Rattle.wt_beside_laws.proofs.FormOpenings.{OpensAs, opens_so}
-use Rattle.wt_beside_laws.proofs.LineParts.{HasForm, has_form, node_alone}
-use Rattle.wt_beside_laws.proofs.LineSegments.{IsOneSegment, one_segment}
+use Rattle.wt_beside_laws.proofs.LineParts.{has_form, node_alone}
+use Rattle.wt_beside_laws.proofs.LineSegments.{one_segment}
 use Rattle.wt_beside_laws.proofs.NodesStand.{as_bare, no_link, no_external, node_stands}
 use Rattle.wt_beside_laws.proofs.PageSigns.{IsFlatKind, before_is, role_fits}
 use Rattle.wt_beside_laws.proofs.Stood.{Stays, stood}

@@ -4,12 +4,10 @@ use Rattle.std.specs.Prelude.{nat_eq}
 use Rattle.std.specs.List.{ends_with, flat_map, AllByRecursion}
 use Rattle.std.specs.Str.{chars}
 use Rattle.std.proofs.lemmas.Bool.Decides.{nat_tests}
-use Rattle.std.proofs.lemmas.List.{length-append, take-append-drop, map-append}
+use Rattle.std.proofs.lemmas.List.{length-append, take-append-drop}
 use Rattle.std.proofs.lemmas.Grind.{flat_map-append}
 use Rattle.wt_span.specs.declared.form.ItemForm.{ItemForm}
 use Rattle.wt_span.specs.declared.form.ItemForm.TheVariants as form
-use Rattle.wt_span.specs.Runs.{runs}
-use Rattle.wt_span.proofs.RunLaws.{runs_joined}
 use Rattle.wt_span.specs.Items.{Item, char, whole, source, sources}
 use Rattle.wt_tree.specs.declared.kind.Kind.TheVariants as node_kind
 use Rattle.wt_guards.specs.declared.role.Role.{Role}
@@ -19,7 +17,7 @@ use Rattle.wt_expand.specs.PageItems.{page_items}
 use Rattle.wt_inline.specs.declared.loose.Loose.TheVariants.{Text}
 use Rattle.wt_inline.specs.Inside.{opened_all}
 use Rattle.wt_inline.specs.ItemTree.{plain, ItemTree, tree_items}
-use Rattle.wt_inline.specs.Parts.{Part, loose, node, whole_tree, part, parts}
+use Rattle.wt_inline.specs.Parts.{Part, loose, node, whole_tree, parts}
 use Rattle.wt_inline.proofs.HeldLaws.{held_of_parts, sources_opened}
 use Rattle.wt_tiles.specs.declared.glyph.Glyph.{Glyph}
 use Rattle.wt_tiles.specs.declared.glyph.Glyph.TheVariants as glyph
@@ -36,8 +34,8 @@ use Rattle.wt_tiles.specs.Urls.{bare_shape}
 use Rattle.wt_tiles.proofs.Readings.{shapes_are}
 use Rattle.wt_tiles.proofs.TagInsides.{no_form}
 use Rattle.wt_context.specs.Line.{context_parts, line_parts}
-use Rattle.wt_context.specs.Nodes.{inside_of, leaf_tree, nested_tree, bare_url, tile_tree, segments_by, tile_segments, segments}
-use Rattle.wt_context.specs.Segments.{Segment, one_stretch, loose_segment, loose_segments, segment_parts}
+use Rattle.wt_context.specs.Nodes.{inside_of, leaf_tree, nested_tree, bare_url, tile_tree, tile_segments, segments}
+use Rattle.wt_context.specs.Segments.{Segment, segment_parts}
 use Rattle.wt_context.specs.declared.node.Leaf.TheVariants as as_leaf
 use Rattle.wt_context.specs.RunCuts.{has_run}
 use Rattle.wt_context.specs.Unstyled.{tile_parts as tile_parts_of, tile_part}
