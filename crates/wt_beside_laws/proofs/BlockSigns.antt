@@ -11,21 +11,22 @@ use Rattle.wt_inline.specs.Parts.{Part, children}
 use Rattle.wt_annotated.specs.Labels.{label_at}
 use Rattle.wt_link_spelling.specs.Spelling.{signs_of_all, children_of}
 use Rattle.wt_moved_laws.specs.Standing.{standing}
+use Rattle.wt_original.specs.Kept.{KeptNode, found_from, found_in}
 use Rattle.wt_original.specs.Page.{page_of, TellsSame}
 use Rattle.wt_typed_blocks.specs.Sent.{Block, paragraph, heading, kind_of}
 use Rattle.wt_beside_laws.specs.Content.{AreKept}
 use Rattle.wt_beside_laws.specs.Flat.{IsFlatContent}
 use Rattle.wt_beside_laws.specs.Lines.{AreCharacters}
 use Rattle.wt_beside_laws.specs.OwnSigns.{own_signs, HaveOwn, IsFlatBlock}
-use Rattle.wt_beside_laws.specs.PageBlocks.{joined_parts, AreUnstyled, IsBlockOfLines}
+use Rattle.wt_beside_laws.specs.PageBlocks.{joined_parts, AreUnstyled, ShowSources, IsBlockOfLines}
 use Rattle.wt_beside_laws.specs.PageSigns.{signs_of_lines, AreFlatLines}
 use Rattle.wt_beside_laws.specs.SentNodes.{AreSent, numbers}
 use Rattle.wt_beside_laws.specs.Stood.{things}
 use Rattle.wt_beside_laws.proofs.BlockNumbers.{block_counts}
 use Rattle.wt_beside_laws.proofs.FlatContents.{flat_content}
 use Rattle.wt_beside_laws.proofs.LineThings.{lines_have}
-use Rattle.wt_beside_laws.proofs.OwnSigns.{own_content, own_sent}
-use Rattle.wt_beside_laws.proofs.PartThings.{nodes_of, own_things, have_own}
+use Rattle.wt_beside_laws.proofs.OwnSigns.{Every, Finds, all_found, inside_found, held_if, own_content, own_sent}
+use Rattle.wt_beside_laws.proofs.PartThings.{nodes_of, own_things, have_own, show_sources}
 use Rattle.wt_beside_laws.proofs.SentNodes.{same_nodes}
 
 -- ---- the block
@@ -98,3 +99,29 @@ sent_content same s pl ls block news tells within f u b kept sent counted charac
     same_nodes (page_of same block) pl (children_of block) news (own_sent same block tells flat) sent counted
     ∙ ap things (own_content same block pl tells flat) ∙ block_nodes ls block f u b in
     flat_content s ls (length (label block).opening) (signs_of_all (page_of same block) pl news) within f kept characters nodes
+
+-- ---- what its nodes show
+
+inside : (P : KeptNode → Type 0) (t : Tree) → is_leaf (label t).kind ≡ false → Every P (found_from 0 0 t)
+    → Every P (found_in (0 + length (label t).opening) (0 + length (label t).opening) (children_of t))
+inside P (tree l ts) e f = inside_found P 0 0 l ts (held_if l.kind e) f
+
+shows_by : (k : Block) (same : Tree → Tree → Bool) (n : ℕ) (before opening closing : List Item) (ls : List (List Item)) → 0 < n
+    → HasNoGroup (standing n before (block_by k opening (joined_parts ls) closing)) → AreUnstyled ls → AreFlatLines ls
+    → ShowSources (page_of same (standing n before (block_by k opening (joined_parts ls) closing))) (children_of (standing n before (block_by k opening (joined_parts ls) closing)))
+shows_by k same n before opening closing ls some g u f =
+    let ps : List Part = joined_parts ls in
+    let block : Tree = standing n before (block_by k opening ps closing) in
+    let at : ℕ = 0 + length (label block).opening in
+    let e : children_of block ≡ nodes_of (n + 1) (before ++ opening) (forest (children ps)) = its_children k n before opening closing ps in
+    let found : Every (Finds block) (found_in at at (children_of block)) =
+    inside (Finds block) block (no_leaf k n before opening closing ps) (all_found block n some (block_counts n before (block_by k opening ps closing) some g)) in
+    subst (ShowSources (page_of same block)) (sym e)
+    (show_sources ps same block at at (n + 1) (before ++ opening) (things (signs_of_lines at ls)) (omega arith) (lines_have at ls u f)
+    (subst (λ (ts : Trees). Every (Finds block) (found_in at at ts)) e found))
+
+pub block_shows : (same : Tree → Tree → Bool) (ls : List (List Item)) (block : Tree) → AreFlatLines ls → AreUnstyled ls → IsBlockOfLines ls block
+    → ShowSources (page_of same block) (children_of block)
+block_shows same ls block f u b =
+    subst (λ (t : Tree). ShowSources (page_of same t) (children_of t)) (sym b.is)
+    (shows_by b.form same b.number b.before b.opening b.closing ls b.some (subst HasNoGroup b.is b.ungrouped) u f)

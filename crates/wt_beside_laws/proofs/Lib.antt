@@ -43,6 +43,7 @@ pub mod PartThings
 pub mod TileRoles
 pub mod UrlShown
 pub mod FormOpenings
+pub mod FormsAlone
 pub mod PageLexemes
 pub mod LineThings
 pub mod BareLeaves

@@ -151,7 +151,7 @@ pub glyphs_long : (own : List Item) → length (map glyph_of own) ≡ length own
 glyphs_long [] = refl
 glyphs_long (x ∷ own) = ap suc (glyphs_long own)
 
-node_alone : (own : List Item) (w : Shape) (s : IsOneSegment own w) → size w ≡ length (map glyph_of own) → form_before in_line false (map glyph_of own) [] ≡ Some w
+pub node_alone : (own : List Item) (w : Shape) (s : IsOneSegment own w) → size w ≡ length (map glyph_of own) → form_before in_line false (map glyph_of own) [] ≡ Some w
     → line_parts own ≡ s.segment.parts
 node_alone own w s e k =
     let gs : List Glyph = map glyph_of own in

@@ -4,12 +4,10 @@ use Rattle.std.specs.Prelude.{nat_eq}
 use Rattle.std.specs.List.{ends_with, flat_map, AllByRecursion}
 use Rattle.std.specs.Str.{chars}
 use Rattle.std.proofs.lemmas.Bool.Decides.{nat_tests}
-use Rattle.std.proofs.lemmas.List.{length-append, take-append-drop, map-append}
+use Rattle.std.proofs.lemmas.List.{length-append, take-append-drop}
 use Rattle.std.proofs.lemmas.Grind.{flat_map-append}
 use Rattle.wt_span.specs.declared.form.ItemForm.{ItemForm}
 use Rattle.wt_span.specs.declared.form.ItemForm.TheVariants as form
-use Rattle.wt_span.specs.Runs.{runs}
-use Rattle.wt_span.proofs.RunLaws.{runs_joined}
 use Rattle.wt_span.specs.Items.{Item, char, whole, source, sources}
 use Rattle.wt_tree.specs.declared.kind.Kind.TheVariants as node_kind
 use Rattle.wt_guards.specs.declared.role.Role.{Role}
@@ -19,7 +17,7 @@ use Rattle.wt_expand.specs.PageItems.{page_items}
 use Rattle.wt_inline.specs.declared.loose.Loose.TheVariants.{Text}
 use Rattle.wt_inline.specs.Inside.{opened_all}
 use Rattle.wt_inline.specs.ItemTree.{plain, ItemTree, tree_items}
-use Rattle.wt_inline.specs.Parts.{Part, loose, node, whole_tree, part, parts}
+use Rattle.wt_inline.specs.Parts.{Part, loose, node, whole_tree, parts}
 use Rattle.wt_inline.proofs.HeldLaws.{held_of_parts, sources_opened}
 use Rattle.wt_tiles.specs.declared.glyph.Glyph.{Glyph}
 use Rattle.wt_tiles.specs.declared.glyph.Glyph.TheVariants as glyph
@@ -36,8 +34,8 @@ use Rattle.wt_tiles.specs.Urls.{bare_shape}
 use Rattle.wt_tiles.proofs.Readings.{shapes_are}
 use Rattle.wt_tiles.proofs.TagInsides.{no_form}
 use Rattle.wt_context.specs.Line.{context_parts, line_parts}
-use Rattle.wt_context.specs.Nodes.{inside_of, leaf_tree, nested_tree, bare_url, tile_tree, segments_by, tile_segments, segments}
-use Rattle.wt_context.specs.Segments.{Segment, one_stretch, loose_segment, loose_segments, segment_parts}
+use Rattle.wt_context.specs.Nodes.{inside_of, leaf_tree, nested_tree, bare_url, tile_tree, tile_segments, segments}
+use Rattle.wt_context.specs.Segments.{Segment, segment_parts}
 use Rattle.wt_context.specs.declared.node.Leaf.TheVariants as as_leaf
 use Rattle.wt_context.specs.RunCuts.{has_run}
 use Rattle.wt_context.specs.Unstyled.{tile_parts as tile_parts_of, tile_part}
@@ -51,11 +49,12 @@ use Rattle.wt_beside_laws.specs.PageBlocks.{joined_parts, AreUnstyled}
 use Rattle.wt_beside_laws.specs.PageSigns.{form_role, tile_role, form_sign, tile_signs, signs_of_tiles, line_signs, signs_of_lines, IsFlatForm, IsFlatTile, AreFlatTiles, AreFlatLines}
 use Rattle.wt_beside_laws.specs.Stood.{things}
 use Rattle.wt_beside_laws.proofs.FormKinds.{IsNodeKind, form_is_node}
+use Rattle.wt_beside_laws.proofs.FormsAlone.{by_parts, form_alone}
 use Rattle.wt_beside_laws.proofs.FormOpenings.{OpensAs, opens_so}
 use Rattle.wt_beside_laws.proofs.LineSegments.{unstyled}
 use Rattle.wt_beside_laws.proofs.PageLexemes.{IsPageForm, AreOfPage, are_of_page, no_brace}
 use Rattle.wt_beside_laws.proofs.PageSigns.{AreChars, are_chars, IsFlatKind, flat_nodes}
-use Rattle.wt_beside_laws.proofs.PartThings.{IsThing, thing_at, tree_source, HaveThings, parts_width, things_both}
+use Rattle.wt_beside_laws.proofs.PartThings.{IsThing, thing_at, tree_source, IsAlone, HaveThings, parts_width, things_both}
 use Rattle.wt_beside_laws.proofs.SentNodes.{things_append, no_things}
 use Rattle.wt_beside_laws.proofs.TileRoles.{NoBraces, link_thing, category_thing, switch_thing, break_thing, placeholder_thing, pair_thing, external_thing, bare_thing, IsLexemeForm, lexeme_thing}
 use Rattle.wt_beside_laws.proofs.UrlShown.{AreTextual, all_textual, url_shows}
@@ -153,10 +152,17 @@ record Told (at : ℕ) (ps : List Part) (ts : List Thing) (n : ℕ) : Type 0 whe
   have : HaveThings at ps ts
   wide : parts_width ps ≡ n
 
-node_told : (at : ℕ) (u : ItemTree) (r : Role) (bs : List ℕ) → tree_source u ≡ bs → IsThing u r → Told at (node u ∷ []) (thing_at r bs at ∷ []) (length bs)
-node_told at u r bs e i =
-    let long : length (tree_source u) ≡ length bs = ap length e in
-    record { have = (r, [], ap (λ (cs : List ℕ). thing_at r cs at ∷ []) (sym e), i, refl); wide = omega (arith, long) }
+-- the node of these items, which are read so by themselves
+pub record IsNodeOf (u : ItemTree) (ys : List Item) : Type 0 where
+  pub source : tree_source u ≡ sources ys
+  pub read : page_items (sources ys) ≡ ys
+  pub alone : line_parts ys ≡ node u ∷ []
+
+node_told : (at : ℕ) (u : ItemTree) (r : Role) (ys : List Item) → IsNodeOf u ys → IsThing u r → Told at (node u ∷ []) (thing_at r (sources ys) at ∷ []) (length (sources ys))
+node_told at u r ys o i =
+    let long : length (tree_source u) ≡ length (sources ys) = ap length o.source in
+    let alone : IsAlone u = ap (λ (bs : List ℕ). line_parts (page_items bs)) o.source ∙ ap line_parts o.read ∙ o.alone in
+    record { have = (r, [], ap (λ (cs : List ℕ). thing_at r cs at ∷ []) (sym o.source), i, alone, refl); wide = omega (arith, long) }
 
 chars_told : (at : ℕ) (ys : List Item) → AreChars ys → Told at (parts Text ys) [] (length (sources ys))
 chars_told at [] h = record { have = refl; wide = refl }
@@ -191,21 +197,24 @@ whole_unbraced f o [] e = refl
 whole_unbraced f o (b ∷ bs) e = first_unbraced b (bs ++ []) (no_brace b (bs ++ []) f o (b ∷ bs) e)
 
 lexeme_told : (at : ℕ) (f : ItemForm) (o : Option ℕ) (bs : List ℕ) → IsLexemeForm f → page_items (sources (whole f o bs ∷ [])) ≡ whole f o bs ∷ []
+    → line_parts (whole f o bs ∷ []) ≡ parts Text (whole f o bs ∷ [])
     → Told at (parts Text (whole f o bs ∷ [])) (things (form_sign kind.Atom at (whole f o bs ∷ []))) (length (sources (whole f o bs ∷ [])))
-lexeme_told at f o bs l e =
+lexeme_told at f o bs l e apart =
     let u : ItemTree = whole_tree f o bs in
     let own : tree_source u ≡ sources (whole f o bs ∷ []) =
     ap sources (sym (append-nil (tree_items u)) ∙ held_of_parts Text (whole f o bs ∷ [])) ∙ sources_opened (whole f o bs ∷ []) in
-    node_told at u (form_role f) (sources (whole f o bs ∷ [])) own (lexeme_thing f o bs l (subst NoBraces (sym own) (whole_unbraced f o bs e)))
+    node_told at u (form_role f) (whole f o bs ∷ []) (record { source = own; read = e; alone = apart })
+    (lexeme_thing f o bs l (subst NoBraces (sym own) (whole_unbraced f o bs e)))
 
 atom_told : (a : Bool) (at : ℕ) (w : Shape) (ys zs : List Item) → w.kind ≡ kind.Atom → 0 < length ys → length ys ≡ size w → page_items (sources ys) ≡ ys
-    → tile_at in_line a (map glyph_of (ys ++ zs)) ≡ Some w → Told at (parts Text ys) (things (form_sign kind.Atom at ys)) (length (sources ys))
-atom_told a at w [] zs i some l alone e = absurd (omega (arith, some))
-atom_told a at w (char o b ∷ ys) zs i some l alone e = absurd (subst IsNodeKind i (form_is_node in_line a (map glyph_of (char o b ∷ (ys ++ zs))) w e))
-atom_told a at w (whole f o bs ∷ []) zs i some l alone e =
+    → tile_at in_line a (map glyph_of (ys ++ zs)) ≡ Some w → line_parts ys ≡ parts Text ys
+    → Told at (parts Text ys) (things (form_sign kind.Atom at ys)) (length (sources ys))
+atom_told a at w [] zs i some l alone e apart = absurd (omega (arith, some))
+atom_told a at w (char o b ∷ ys) zs i some l alone e apart = absurd (subst IsNodeKind i (form_is_node in_line a (map glyph_of (char o b ∷ (ys ++ zs))) w e))
+atom_told a at w (whole f o bs ∷ []) zs i some l alone e apart =
     let p : AreOfPage (whole f o bs ∷ []) = subst AreOfPage alone (are_of_page (sources (whole f o bs ∷ []))) in
-    lexeme_told at f o bs (lexeme_form a f (map glyph_of zs) w p.0 e i) alone
-atom_told a at w (whole f o bs ∷ y ∷ ys) zs i some l alone e =
+    lexeme_told at f o bs (lexeme_form a f (map glyph_of zs) w p.0 e i) alone apart
+atom_told a at w (whole f o bs ∷ y ∷ ys) zs i some l alone e apart =
     let one : size w ≡ 1 = (whole_kind a f (map glyph_of (y ∷ (ys ++ zs))) w e).1 in
     absurd (omega (arith, one, l))
 
@@ -213,14 +222,14 @@ atom_told a at w (whole f o bs ∷ y ∷ ys) zs i some l alone e =
 bare_textual : (own : List Glyph) → IsBareNode own → AreTextual own
 bare_textual own n = subst AreTextual (sym n.is) (all_textual (glyph.Byte n.first ∷ n.others) n.shape n.url (n.whole ∙ ap length n.is))
 
-url_told : (at : ℕ) (w : Shape) (ys : List Item) → w ≡ bare_shape (size w) → length ys ≡ size w → tree_source (bare_url w ys) ≡ sources ys
+url_told : (at : ℕ) (w : Shape) (ys : List Item) → w ≡ bare_shape (size w) → length ys ≡ size w → IsNodeOf (bare_url w ys) ys
     → AreTextual (map glyph_of ys) → Told at (node (bare_url w ys) ∷ []) (things (form_sign kind.BareUrl at ys)) (length (sources ys))
 url_told at w ys is l own t =
     let m : ℕ = size w in
     let text : List ℕ = flat_map text_of (map glyph_of ys) in
     let u : IsThing (bare_url (bare_shape m) ys) (role.Bare (ends_with nat_eq text (61 ∷ []))) =
     bare_thing m ys text (λ n before. url_shows m n before ys (omega (arith, l)) t) in
-    node_told at (bare_url w ys) (role.Bare (ends_with nat_eq text (61 ∷ []))) (sources ys) own
+    node_told at (bare_url w ys) (role.Bare (ends_with nat_eq text (61 ∷ []))) ys own
     (subst (λ (v : Shape). IsThing (bare_url v ys) (role.Bare (ends_with nat_eq text (61 ∷ [])))) (sym is) u)
 
 -- what is known of a form and its items
@@ -230,51 +239,65 @@ record IsFormOf (k : TileKind) (a : Bool) (w : Shape) (ys zs : List Item) : Type
   some : 0 < length ys
   read : tile_at in_line a (map glyph_of (ys ++ zs)) ≡ Some w
   placed : IsPlaced in_line (w, ys)
-  alone : page_items (sources ys) ≡ ys
+  form : IsFlatForm k ys
   stays : IsNode (tile_role k ys) (map glyph_of ys)
+
+-- the node of such a form
+its_node : (k : TileKind) (a : Bool) (w : Shape) (ys zs : List Item) (u : ItemTree) → IsFormOf k a w ys zs → IsNodeKind k → tile_tree context_parts in_line k w ys ≡ Some u
+    → IsNodeOf u ys
+its_node k a w ys zs u f n e =
+    let held : OptHolds (Some u) ys = subst (λ (o : Option ItemTree). OptHolds o ys) e (tile_source k w ys f.kind_is f.placed) in
+    let b = begins k a w ys zs f.kind_is n f.some f.read in
+    record {
+      source = held_source u ys held;
+      read = f.form.alone;
+      alone = form_alone k a w ys zs f.kind_is f.flat f.form b.opens (sym f.placed.0) f.some f.read ∙ ap (λ (o : Option ItemTree). tile_parts_of o ys) e;
+    }
 
 form_told : (k : TileKind) (a : Bool) (at : ℕ) (w : Shape) (ys zs : List Item) → IsFormOf k a w ys zs
     → Told at (tile_parts_of (tile_tree context_parts in_line k w ys) ys) (things (tile_signs k at ys)) (length (sources ys))
 form_told kind.Link a at w ys zs f =
     let ps : List Part = context_parts (in_text in_line) (inside_of w ys) in
-    node_told at (nested_tree nested.Link w ys ps) role.Link (sources ys)
-    (held_source (nested_tree nested.Link w ys ps) ys (tile_source kind.Link w ys f.kind_is f.placed)) (link_thing w ys ps)
+    let u : ItemTree = nested_tree nested.Link w ys ps in
+    node_told at u role.Link ys (its_node kind.Link a w ys zs u f tt refl) (link_thing w ys ps)
 form_told kind.Category a at w ys zs f =
-    node_told at (leaf_tree as_leaf.Category ys) role.Node (sources ys)
-    (held_source (leaf_tree as_leaf.Category ys) ys (tile_source kind.Category w ys f.kind_is f.placed)) (category_thing ys)
+    let u : ItemTree = leaf_tree as_leaf.Category ys in
+    node_told at u role.Node ys (its_node kind.Category a w ys zs u f tt refl) (category_thing ys)
 form_told kind.Media a at w ys zs f =
-    let own : tree_source (leaf_tree as_leaf.Placeholder ys) ≡ sources ys =
-    held_source (leaf_tree as_leaf.Placeholder ys) ys (tile_source kind.Media w ys f.kind_is f.placed) in
+    let u : ItemTree = leaf_tree as_leaf.Placeholder ys in
+    let own = its_node kind.Media a w ys zs u f tt refl in
     let b = begins kind.Media a w ys zs f.kind_is tt f.some f.read in
-    node_told at (leaf_tree as_leaf.Placeholder ys) role.Node (sources ys) own (placeholder_thing ys (subst NoBraces (sym own) b.unbraced))
+    node_told at u role.Node ys own (placeholder_thing ys (subst NoBraces (sym own.source) b.unbraced))
 form_told kind.ExtLink a at w ys zs f =
     let ps : List Part = context_parts (in_text in_line) (inside_of w ys) in
+    let u : ItemTree = nested_tree nested.ExtLink w ys ps in
     let b = begins kind.ExtLink a w ys zs f.kind_is tt f.some f.read in
-    node_told at (nested_tree nested.ExtLink w ys ps) role.External (sources ys)
-    (held_source (nested_tree nested.ExtLink w ys ps) ys (tile_source kind.ExtLink w ys f.kind_is f.placed))
+    node_told at u role.External ys (its_node kind.ExtLink a w ys zs u f tt refl)
     (external_thing w ys ps (b.some w.opening (subst (λ (j : TileKind). OpensAs j w) f.kind_is b.opens)))
 form_told kind.BareUrl a at w ys zs f =
     let b = begins kind.BareUrl a w ys zs f.kind_is tt f.some f.read in
-    url_told at w ys (subst (λ (j : TileKind). OpensAs j w) f.kind_is b.opens) f.placed.0
-    (held_source (bare_url w ys) ys (tile_source kind.BareUrl w ys f.kind_is f.placed)) (bare_textual (map glyph_of ys) f.stays)
+    url_told at w ys (subst (λ (j : TileKind). OpensAs j w) f.kind_is b.opens) f.placed.0 (its_node kind.BareUrl a w ys zs (bare_url w ys) f tt refl)
+    (bare_textual (map glyph_of ys) f.stays)
 form_told kind.Br a at w ys zs f =
-    node_told at (leaf_tree as_leaf.Break ys) role.Node (sources ys)
-    (held_source (leaf_tree as_leaf.Break ys) ys (tile_source kind.Br w ys f.kind_is f.placed)) (break_thing (plain node_kind.Br) ys refl)
+    let u : ItemTree = leaf_tree as_leaf.Break ys in
+    node_told at u role.Node ys (its_node kind.Br a w ys zs u f tt refl) (break_thing (plain node_kind.Br) ys refl)
 form_told kind.Pair a at w ys zs f =
     let ps : List Part = context_parts (in_pair in_line) (inside_of w ys) in
-    let own : tree_source (nested_tree nested.Pair w ys ps) ≡ sources ys =
-    held_source (nested_tree nested.Pair w ys ps) ys (tile_source kind.Pair w ys f.kind_is f.placed) in
+    let u : ItemTree = nested_tree nested.Pair w ys ps in
+    let own = its_node kind.Pair a w ys zs u f tt refl in
     let b = begins kind.Pair a w ys zs f.kind_is tt f.some f.read in
-    node_told at (nested_tree nested.Pair w ys ps) role.Node (sources ys) own (pair_thing w ys ps (subst NoBraces (sym own) b.unbraced))
+    node_told at u role.Node ys own (pair_thing w ys ps (subst NoBraces (sym own.source) b.unbraced))
 form_told kind.TagIsland a at w ys zs f =
-    let own : tree_source (leaf_tree as_leaf.Placeholder ys) ≡ sources ys =
-    held_source (leaf_tree as_leaf.Placeholder ys) ys (tile_source kind.TagIsland w ys f.kind_is f.placed) in
+    let u : ItemTree = leaf_tree as_leaf.Placeholder ys in
+    let own = its_node kind.TagIsland a w ys zs u f tt refl in
     let b = begins kind.TagIsland a w ys zs f.kind_is tt f.some f.read in
-    node_told at (leaf_tree as_leaf.Placeholder ys) role.Node (sources ys) own (placeholder_thing ys (subst NoBraces (sym own) b.unbraced))
+    node_told at u role.Node ys own (placeholder_thing ys (subst NoBraces (sym own.source) b.unbraced))
 form_told kind.Switch a at w ys zs f =
-    node_told at (leaf_tree as_leaf.Switch ys) role.Switch (sources ys)
-    (held_source (leaf_tree as_leaf.Switch ys) ys (tile_source kind.Switch w ys f.kind_is f.placed)) (switch_thing ys)
-form_told kind.Atom a at w ys zs f = atom_told a at w ys zs f.kind_is f.some f.placed.0 f.alone f.read
+    let u : ItemTree = leaf_tree as_leaf.Switch ys in
+    node_told at u role.Switch ys (its_node kind.Switch a w ys zs u f tt refl) (switch_thing ys)
+form_told kind.Atom a at w ys zs f =
+    atom_told a at w ys zs f.kind_is f.some f.placed.0 f.form.alone f.read
+    (form_alone kind.Atom a w ys zs f.kind_is f.flat f.form (subst (λ (j : TileKind). OpensAs j w) (sym f.kind_is) tt) (sym f.placed.0) f.some f.read)
 form_told kind.Mark a at w ys zs f = absurd f.flat
 form_told kind.Chars a at w ys zs f = absurd f.flat
 
@@ -300,7 +323,7 @@ form_here k a at w xs i flat f e some p n =
       some = omega (arith, long, some);
       read = ap (λ us. tile_at in_line a (map glyph_of us)) (take-append-drop (size w) xs) ∙ e;
       placed = p;
-      alone = f.alone;
+      form = f;
       stays = subst (λ us. IsNode (tile_role k ys) (map glyph_of us)) f.alone n.0;
     })
 
@@ -374,15 +397,6 @@ tiles_told (w ∷ ws) a at xs t p f n =
     (tile_signs w.kind at ys) more own rest)
 
 -- ---- a line without styles is its tiles
-
-loose_joined : (rs : List (List Item)) → segment_parts (map loose_segment rs) ≡ parts Text (flat_map (λ r. r) rs)
-loose_joined [] = refl
-loose_joined (r ∷ rs) = ap (λ ps. parts Text r ++ ps) (loose_joined rs) ∙ sym (map-append (part Text) r (flat_map (λ s. s) rs))
-
-by_parts : (o : Option ItemTree) (xs : List Item) → segment_parts (segments_by o xs) ≡ tile_parts_of o xs
-unfolding loose_segments
-by_parts None xs = loose_joined (runs one_stretch xs) ∙ ap (parts Text) (runs_joined one_stretch xs)
-by_parts (Some t) xs = refl
 
 segments_parts : (ps : List (Shape × List Item)) → segment_parts (flat_map (tile_segments context_parts in_line) ps) ≡ flat_map (tile_part context_parts in_line) ps
 segments_parts [] = refl

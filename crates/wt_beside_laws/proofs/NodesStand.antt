@@ -42,7 +42,7 @@ as_external : (a : Bool) (gs : List Glyph) (w : Shape) → link_at gs ≡ None �
 unfolding form_at link_or_url
 as_external a gs w l e = rw (l, e) refl
 
-as_bare : (a : Bool) (gs : List Glyph) (w : Shape) → link_at gs ≡ None → ext_link_at gs ≡ None → bare_url_at a gs ≡ Some w → form_at in_line a gs ≡ Some w
+pub as_bare : (a : Bool) (gs : List Glyph) (w : Shape) → link_at gs ≡ None → ext_link_at gs ≡ None → bare_url_at a gs ≡ Some w → form_at in_line a gs ≡ Some w
 unfolding form_at link_or_url
 as_bare a gs w l x e = rw (l, x, e) refl
 
@@ -118,11 +118,11 @@ external_stands word own behind n =
           (ext_stays (glyph.Byte 91) n.inside behind n.shape (one_fits n.shape own n.inside n.is n.whole) n.link);
     })
 
-no_link : (b : ℕ) (gs : List Glyph) → (b == 91) ≡ false → link_at (glyph.Byte b ∷ gs) ≡ None
+pub no_link : (b : ℕ) (gs : List Glyph) → (b == 91) ≡ false → link_at (glyph.Byte b ∷ gs) ≡ None
 unfolding link_at
 no_link b gs e = rw e refl
 
-no_external : (b : ℕ) (gs : List Glyph) → (b == 91) ≡ false → ext_link_at (glyph.Byte b ∷ gs) ≡ None
+pub no_external : (b : ℕ) (gs : List Glyph) → (b == 91) ≡ false → ext_link_at (glyph.Byte b ∷ gs) ≡ None
 unfolding ext_link_at
 no_external b gs e = rw e refl
 

@@ -243,7 +243,7 @@ IsFlatKind kind.Atom = Unit {0}
 IsFlatKind kind.Mark = ⊥
 IsFlatKind kind.Chars = ⊥
 
-role_fits : (k : TileKind) (xs : List Item) → IsFlatKind k → IsTileOf (tile_role k xs) k
+pub role_fits : (k : TileKind) (xs : List Item) → IsFlatKind k → IsTileOf (tile_role k xs) k
 role_fits kind.Link xs h = refl
 role_fits kind.Category xs h = tt
 role_fits kind.Media xs h = tt
@@ -257,7 +257,7 @@ role_fits kind.Atom xs h = atom_tile xs
 role_fits kind.Mark xs h = absurd h
 role_fits kind.Chars xs h = absurd h
 
-before_is : (a : Bool) (own behind : List Glyph) → 0 < length own → form_before in_line a own behind ≡ tile_at in_line a (own ++ behind)
+pub before_is : (a : Bool) (own behind : List Glyph) → 0 < length own → form_before in_line a own behind ≡ tile_at in_line a (own ++ behind)
 before_is a [] behind some = absurd (omega (arith, some))
 before_is a (g ∷ gs) behind some = refl
 

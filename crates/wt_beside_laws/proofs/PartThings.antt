@@ -11,6 +11,7 @@ use Rattle.wt_tree.specs.declared.edit_shape.InlineForm.{InlineForm}
 use Rattle.wt_tree.specs.declared.edit_shape.InlineForm.TheVariants as inline
 use Rattle.wt_tree.specs.EditShapes.{edit_shape}
 use Rattle.wt_tree.specs.Kinds.{is_numbered}
+use Rattle.wt_tree.specs.Plain.{Plains, plain_before}
 use Rattle.wt_tree.specs.Source.{flat}
 use Rattle.wt_tree.specs.Tree.{Label, Tree, tree, Trees, more, label}
 use Rattle.wt_guards.specs.declared.role.Role.{Role}
@@ -25,11 +26,19 @@ use Rattle.wt_annotated.specs.Labels.{label_at}
 use Rattle.wt_annotated.specs.Numbering.{number_of, count, all_with_numbers}
 use Rattle.wt_annotated.specs.WithoutCalls.{placed, all_placed}
 use Rattle.wt_moved_laws.specs.Standing.{standing}
+use Rattle.wt_moved_laws.proofs.Moved.{shows_the_same}
 use Rattle.wt_moved_laws.proofs.Sources.{standing_source}
-use Rattle.wt_original.specs.Kept.{items, visible, found_at, role_of}
+use Rattle.wt_original.specs.Kept.{Kept, KeptNode, items, visible, found_at, found_from, found_in, kept_of, role_of}
+use Rattle.wt_original.specs.Page.{page_of}
 use Rattle.wt_original.specs.declared.block.Extent.{Extent}
+use Rattle.wt_expand.specs.PageItems.{page_items}
+use Rattle.wt_context.specs.Line.{line_parts}
 use Rattle.wt_beside_laws.specs.OwnSigns.{own_node, own_by, own_signs, HasOwnBy, HaveOwn}
+use Rattle.wt_beside_laws.specs.PageBlocks.{ShowSources}
+use Rattle.wt_beside_laws.specs.SentPieces.{IsNodeForm, ShowsItsSource}
+use Rattle.wt_beside_laws.specs.Shown.{parts_shown_at}
 use Rattle.wt_beside_laws.specs.Stood.{things}
+use Rattle.wt_beside_laws.proofs.OwnSigns.{Every, every_left, every_right, Finds, own_found}
 use Rattle.wt_beside_laws.proofs.SentNodes.{things_append, no_things}
 
 -- ---- parts and their nodes
@@ -62,12 +71,16 @@ thing_at r bs at = record { role = r; source = bs; place = Some (record { start 
 abbrev pub tree_source : ItemTree → List ℕ
 tree_source u = sources (tree_items u)
 
+-- its source by itself is this node
+abbrev pub IsAlone : ItemTree → Type 0
+IsAlone u = line_parts (page_items (tree_source u)) ≡ node u ∷ []
+
 -- so many bytes come before these parts
 abbrev pub HaveThings : ℕ → List Part → List Thing → Type 0
 HaveThings at [] ts = ts ≡ []
 HaveThings at (loose k o b ∷ ps) ts = HaveThings (at + 1) ps ts
 HaveThings at (node u ∷ ps) ts =
-    (r : Role) × (us : List Thing) × (ts ≡ thing_at r (tree_source u) at ∷ us) × IsThing u r × HaveThings (at + length (tree_source u)) ps us
+    (r : Role) × (us : List Thing) × (ts ≡ thing_at r (tree_source u) at ∷ us) × IsThing u r × IsAlone u × HaveThings (at + length (tree_source u)) ps us
 
 abbrev pub parts_width : List Part → ℕ
 parts_width [] = 0
@@ -87,7 +100,7 @@ things_both at (node u ∷ ps) qs ts us h k =
     let w : ℕ = parts_width ps in
     let v : ℕ = length (tree_source u) in
     let z : at + (v + w) ≡ at + v + w = omega arith in
-    (h.0, h.1 ++ us, ap (λ (xs : List Thing). xs ++ us) h.2, h.3, things_both (at + v) ps qs h.1 us h.4 (subst (λ (n : ℕ). HaveThings n qs us) z k))
+    (h.0, h.1 ++ us, ap (λ (xs : List Thing). xs ++ us) h.2, h.3, h.4, things_both (at + v) ps qs h.1 us h.5 (subst (λ (n : ℕ). HaveThings n qs us) z k))
 
 -- ---- a run of characters
 
@@ -190,7 +203,7 @@ runs_things ((node u ∷ []) ∷ rs) ps block at from n before ts a h =
     (node_own block at from n before u own.0 own.3)
     ∙ ap (λ (ss : List Thing). thing_at own.0 (tree_source u) at ∷ ss)
     (runs_things rs a.0 block (at + length (flat t)) (from + length (visible (items t))) (n + count (placed before u)) (before ++ tree_items u) own.1 a.3
-    (subst (λ (w : ℕ). HaveThings (at + w) a.0 own.1) wide own.4))
+    (subst (λ (w : ℕ). HaveThings (at + w) a.0 own.1) wide own.5))
     ∙ sym own.2
 runs_things ((node u ∷ p ∷ r) ∷ rs) ps block at from n before ts a h = absurd (let no = a.2.0 in cc)
 
@@ -231,11 +244,13 @@ stands_number : (n : ℕ) (before : List Item) (u : ItemTree) → (label (standi
 unfolding label_at
 stands_number n before (inner h opening ts closing) = refl
 
-node_owned : (n : ℕ) (before : List Item) (u : ItemTree) (r : Role) → 0 < n → IsThing u r → OwnOf (standing n before u)
-node_owned n before u r some i =
+node_number : (n : ℕ) (before : List Item) (u : ItemTree) (r : Role) → 0 < n → IsThing u r → (label (standing n before u)).id ≢ 0
+node_number n before u r some i =
     let is : (label (standing n before u)).id ≡ n = stands_number n before u ∙ ap (λ (v : Bool). if v then n else 0) i.numbered in
-    let apart : (label (standing n before u)).id ≢ 0 = omega (arith, is, some) in
-    tree_owned (standing n before u) (stands_form n before u r i) apart
+    omega (arith, is, some)
+
+node_owned : (n : ℕ) (before : List Item) (u : ItemTree) (r : Role) → 0 < n → IsThing u r → OwnOf (standing n before u)
+node_owned n before u r some i = tree_owned (standing n before u) (stands_form n before u r i) (node_number n before u r some i)
 
 runs_owned : (rs : List (List Part)) (ps : List Part) (at n : ℕ) (before : List Item) (ts : List Thing) → 0 < n → AreRuns one_leaf rs ps → HaveThings at ps ts
     → HaveOwn (nodes_of n before (forest (map child rs)))
@@ -254,9 +269,78 @@ runs_owned ((node u ∷ []) ∷ rs) ps at n before ts some a h =
     let us : Trees = nodes_of (n + m) (before ++ tree_items u) (forest (map child rs)) in
     let own : HaveThings at (node u ∷ a.0) ts = subst (λ (qs : List Part). HaveThings at qs ts) a.1 h in
     first_owned (standing n before u) us (node_owned n before u own.0 some own.3)
-    (runs_owned rs a.0 (at + length (tree_source u)) (n + m) (before ++ tree_items u) own.1 (omega (arith, some)) a.3 own.4)
+    (runs_owned rs a.0 (at + length (tree_source u)) (n + m) (before ++ tree_items u) own.1 (omega (arith, some)) a.3 own.5)
 runs_owned ((node u ∷ p ∷ r) ∷ rs) ps at n before ts some a h = absurd (let no = a.2.0 in cc)
 
 pub have_own : (ps : List Part) (at n : ℕ) (before : List Item) (ts : List Thing) → 0 < n → HaveThings at ps ts → HaveOwn (nodes_of n before (forest (children ps)))
 unfolding children
 have_own ps at n before ts some h = runs_owned (runs one_leaf ps) ps at n before ts some (runs_are one_leaf ps) h
+
+-- ---- each shows what its source shows by itself
+
+lone_shows : (n : ℕ) (before : List Item) (u : ItemTree) (rest : Plains) → parts_shown_at 0 [] (node u ∷ []) rest ≡ plain_before (standing n before u) rest
+unfolding children
+lone_shows n before u rest = shows_the_same 0 n [] before u rest
+
+shows_source : (same : Tree → Tree → Bool) (block : Tree) (at from n : ℕ) (before : List Item) (u : ItemTree) → IsAlone u
+    → Finds block (found_at at from (standing n before u)) → ShowsItsSource (page_of same block) (standing n before u)
+shows_source same block at from n before u alone found = λ k e rest.
+    let t : Tree = standing n before u in
+    let is : kept_of block (found_at at from t) ≡ k = same_kept (kept_of block (found_at at from t)) k (sym found ∙ e) in
+    ap (λ (j : Kept). parts_shown_at 0 [] (line_parts (page_items (flat j.node))) rest) (sym is)
+    ∙ ap (λ (bs : List ℕ). parts_shown_at 0 [] (line_parts (page_items bs)) rest) (standing_source n before u)
+    ∙ ap (λ (ps : List Part). parts_shown_at 0 [] ps rest) alone
+    ∙ lone_shows n before u rest
+  where
+    same_kept : (j k : Kept) → Some j ≡ Some k → j ≡ k
+    same_kept j k i = cc
+
+-- what is found of the first of several, and of the others
+first_found : (P : KeptNode → Type 0) (at from : ℕ) (t : Tree) (us : Trees) → (label t).id ≢ 0 → Every P (found_in at from (more t us)) → P (found_at at from t)
+first_found P at from (tree l ts) us d e =
+    own_found P at from l ts d (every_left P (found_from at from (tree l ts)) (found_in (at + length (flat (tree l ts))) (from + length (visible (items (tree l ts)))) us) e)
+
+others_found : (P : KeptNode → Type 0) (at from : ℕ) (t : Tree) (us : Trees) → Every P (found_in at from (more t us))
+    → Every P (found_in (at + length (flat t)) (from + length (visible (items t))) us)
+others_found P at from t us e = every_right P (found_from at from t) (found_in (at + length (flat t)) (from + length (visible (items t))) us) e
+
+no_node : (k : Loose) (own : List Item) (n : ℕ) (before : List Item) → IsNodeForm (edit_shape (label (standing n before (loose_leaf k own))).kind).inline → ⊥
+unfolding label_at
+no_node Text own n before h = h
+no_node Sep own n before h = h
+
+runs_show : (rs : List (List Part)) (ps : List Part) (same : Tree → Tree → Bool) (block : Tree) (at from n : ℕ) (before : List Item) (ts : List Thing) → 0 < n
+    → AreRuns one_leaf rs ps → HaveThings at ps ts → Every (Finds block) (found_in at from (nodes_of n before (forest (map child rs))))
+    → ShowSources (page_of same block) (nodes_of n before (forest (map child rs)))
+runs_show [] ps same block at from n before ts some a h f = tt
+runs_show ([] ∷ rs) ps same block at from n before ts some a h f = absurd a.2
+runs_show ((loose k o b ∷ r) ∷ rs) ps same block at from n before ts some a h f =
+    let run : List Part = loose k o b ∷ r in
+    let u : ItemTree = child run in
+    let t : Tree = standing n before u in
+    let m : ℕ = count (placed before u) in
+    let us : Trees = nodes_of (n + m) (before ++ tree_items u) (forest (map child rs)) in
+    let behind : HaveThings (at + parts_width run) a.0 ts = past_loose k o b at r a.0 ts a.2 (subst (λ (qs : List Part). HaveThings at qs ts) a.1 h) in
+    let wide : parts_width run ≡ length (flat t) =
+    loose_width k o b r a.0 a.2 ∙ ap length (sym (leaf_source k (held_parts run))) ∙ ap length (sym (standing_source n before u)) in (
+      λ i. absurd (no_node k (held_parts run) n before i),
+      runs_show rs a.0 same block (at + length (flat t)) (from + length (visible (items t))) (n + m) (before ++ tree_items u) ts (omega (arith, some)) a.3
+          (subst (λ (w : ℕ). HaveThings (at + w) a.0 ts) wide behind) (others_found (Finds block) at from t us f),
+    )
+runs_show ((node u ∷ []) ∷ rs) ps same block at from n before ts some a h f =
+    let t : Tree = standing n before u in
+    let m : ℕ = count (placed before u) in
+    let us : Trees = nodes_of (n + m) (before ++ tree_items u) (forest (map child rs)) in
+    let own : HaveThings at (node u ∷ a.0) ts = subst (λ (qs : List Part). HaveThings at qs ts) a.1 h in
+    let wide : length (tree_source u) ≡ length (flat t) = ap length (sym (standing_source n before u)) in
+    let numbered : (label t).id ≢ 0 = node_number n before u own.0 some own.3 in (
+      λ i. shows_source same block at from n before u own.4 (first_found (Finds block) at from t us numbered f),
+      runs_show rs a.0 same block (at + length (flat t)) (from + length (visible (items t))) (n + m) (before ++ tree_items u) own.1 (omega (arith, some)) a.3
+          (subst (λ (w : ℕ). HaveThings (at + w) a.0 own.1) wide own.5) (others_found (Finds block) at from t us f),
+    )
+runs_show ((node u ∷ p ∷ r) ∷ rs) ps same block at from n before ts some a h f = absurd (let no = a.2.0 in cc)
+
+pub show_sources : (ps : List Part) (same : Tree → Tree → Bool) (block : Tree) (at from n : ℕ) (before : List Item) (ts : List Thing) → 0 < n → HaveThings at ps ts
+    → Every (Finds block) (found_in at from (nodes_of n before (forest (children ps)))) → ShowSources (page_of same block) (nodes_of n before (forest (children ps)))
+unfolding children
+show_sources ps same block at from n before ts some h f = runs_show (runs one_leaf ps) ps same block at from n before ts some (runs_are one_leaf ps) h f

@@ -48,7 +48,7 @@ ghost use Rattle.wt_tree.specs.declared.edit_shape.Place.{Place as Where};
 ghost use Rattle.wt_original.specs.Page.{Page as Known, page_of, TellsSame};
 ghost use Rattle.wt_link_spelling.specs.Spelling.{signs_of_all, children_of};
 ghost use Rattle.wt_beside_laws.specs.OwnSigns.{own_signs, IsFlatBlock};
-ghost use Rattle.wt_beside_laws.specs.PageBlocks.{joined_parts, AreUnstyled, IsBlockOfLines};
+ghost use Rattle.wt_beside_laws.specs.PageBlocks.{joined_parts, AreUnstyled, ShowSources, IsBlockOfLines};
 ghost use Rattle.wt_beside_laws.specs.SentNodes.{AreSent, numbers};
 ghost use Rattle.wt_beside_laws.specs.SentPieces.{OnlyTextsGo, TextsFit, PiecesShow};
 ghost use Rattle.wt_beside_laws.specs.Stood.{AreStood, AreAt, things};
@@ -151,6 +151,12 @@ pub fn blocks_of_flat_lines_have_their_nodes()
     ensures nodes { (ls : List (List Item)) (block : Block) → AreFlatLines ls → AreUnstyled ls → IsBlockOfLines ls block
         → things (own_signs block (length (label block).opening) (length (label block).opening) (children_of block))
         ≡ things (signs_of_lines (length (label block).opening) ls) }
+{}
+
+/// Each node of such a block shows, wherever it is, what its source shows by itself (`ShowsItsSource`).
+pub fn nodes_of_flat_lines_show_their_sources()
+    ensures { (same : Block → Block → Bool) (ls : List (List Item)) (block : Block) → AreFlatLines ls → AreUnstyled ls → IsBlockOfLines ls block
+        → ShowSources (page_of same block) (children_of block) }
 {}
 
 /// What is sent for such a block, with its nodes as they are and any texts between them, is a content that is read sign by sign
