@@ -101,6 +101,7 @@ class Functions(unittest.TestCase):
         tags = ("wt_lex", "tags.+tags")
         self.assertEqual(function_of("Rattle-wt_lex-proofs.tags.+tags.Lts-tag"), (tags, "Lts-tag"))
         self.assertEqual(function_of("Rattle-wt_lex-proofs.Cases.decls"), (("wt_lex", "Cases"), ""))
+        self.assertEqual(gate_times.member_of(("wt_lex", "+all"), "Lts-tags-tag"), "tags.tag")
         self.assertIsNone(function_of("Rattle-wt_lex-proofs.TheLinks.wt_lex-sign")[0])
         self.assertIsNone(function_of("Rattle-wt_lex-specs.contracts.sign.Key")[0])
 
