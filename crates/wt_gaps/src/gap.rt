@@ -375,13 +375,12 @@ fn place_between(gap: &Gap<'_, '_, '_>) -> Slot {
     Slot { start: at, end: at }
 }
 
-/// Whether the page has directly below the block before what comes here, too: something that is no heading, or
-/// anything below a heading.
+/// Whether the page has something directly below the block before what comes: a paragraph, or anything below a heading.
 fn is_followed_closely(page: &str, gap: &Gap<'_, '_, '_>, before: &Node<'_>) -> bool {
     let Some(below) = first_gone(gap.gone).or(gap.behind) else {
         return false;
     };
-    let is_alike = is_heading(kind_at_end(before)) || !is_heading(kind_at_start(below));
+    let is_alike = is_heading(kind_at_end(before)) || !is_lined_block(kind_at_start(below));
     is_alike && breaks_between(page, range_of(before).end, range_of(below).start) == Some(1)
 }
 
@@ -453,6 +452,14 @@ fn is_parted_from_heading(gap: &Gap<'_, '_, '_>, last: Kind, behind: &Node<'_>) 
     }
 }
 
+/// Whether something else than a heading comes after the gap.
+fn is_before_text(gap: &Gap<'_, '_, '_>) -> bool {
+    match gap.behind {
+        Some(behind) => !is_heading(kind_at_start(behind)),
+        None => false,
+    }
+}
+
 /// Where the place of what comes ends: after the blanks of its line, or, where a new heading comes in a page that has
 /// what is below headings directly below them, after the empty lines, too.
 fn end_of_place(
@@ -464,7 +471,7 @@ fn end_of_place(
 ) -> usize {
     let is_new_heading = match last_before(gap) {
         Some(before) if is_heading(kind_at_end(before)) => false,
-        _ => is_heading(coming.last) && gap.behind.is_some() && !gap.is_tight,
+        _ => is_heading(coming.last) && is_before_text(gap) && !gap.is_tight,
     };
     match breaks_between(known.page, from, to) {
         Some(count) if count > 1 && is_new_heading && known.closeness.below_headings => from.max(
