@@ -5,12 +5,12 @@ use crate::breaks::{
     between, breaks, is_lined_block, kind_at_end, kind_at_start, least_between, push_breaks,
 };
 use crate::lines::{
-    is_doubled, is_doubled_at, leaves_line_start, push_in_line, range_of, shares_line,
-    sign_at_line_start,
+    is_doubled, is_doubled_at, leaves_line_start, next_in_page, push_in_line, range_of,
+    shares_line, sign_at_line_start,
 };
 use std::alloc::Global;
 use wt_block_signs::{Style, is_cell, is_item, is_lined, is_row_without_sign, signs_of, style_of};
-use wt_checks::is_compared;
+use wt_checks::{is_compared, original};
 use wt_difference::{Child, inside};
 use wt_known::{Known, breaks_between, joined as texts_joined};
 use wt_places::Slot;
@@ -121,18 +121,27 @@ fn push_slice(out: &mut Vec<Slot>, slice: Option<Slot>) -> Result<(), NoMemory> 
     Ok(())
 }
 
-/// The slices of the children that go: those that are next to each other in one. A comment or an include tag
-/// between two of them stays.
-pub fn slices_of(alloc: Global, gone: &[Child<'_, '_>]) -> Result<Vec<Slot>, NoMemory> {
+/// Whether a node is one of the comments that come along with the block below them; `along` says it of each number.
+pub fn comes_along(along: &[bool], node: &Node<'_>) -> bool {
+    along.get(node.id as usize).copied().unwrap_or(false)
+}
+
+/// The slices of the children that go: those that are next to each other in one, with the comments that come along with
+/// them. Another comment or an include tag between two of them stays.
+pub fn slices_of(
+    alloc: Global,
+    gone: &[Child<'_, '_>],
+    along: &[bool],
+) -> Result<Vec<Slot>, NoMemory> {
     let mut out = Vec::new(alloc);
     let mut slice = None;
     for child in gone {
         let kind = child.node.kind;
-        if kind.is_mark() {
+        if is_compared(kind) || comes_along(along, child.node) {
+            slice = Some(joined(slice, range_of(child.node)));
+        } else if kind.is_mark() {
             push_slice(&mut out, slice)?;
             slice = None;
-        } else if is_compared(kind) {
-            slice = Some(joined(slice, range_of(child.node)));
         }
     }
     push_slice(&mut out, slice)?;
@@ -215,8 +224,33 @@ fn push_part_of(
     )
 }
 
-/// Appends the slices that go. Where they leave fewer line breaks than are wanted between what comes before and
-/// after them, the last one has the others.
+/// Whether something else than a heading comes after the gap, and a heading before it.
+fn is_below_heading(gap: &Gap<'_, '_, '_>) -> bool {
+    match gap.before {
+        Some(before) => is_heading(kind_at_end(before)) && is_before_text(gap),
+        None => false,
+    }
+}
+
+/// How many more line breaks a slice that goes has after it, up to the end of its place, than before it: the longer of
+/// the two is what is left. What comes after it goes on in its line, or is as close to a heading as it was.
+fn more_breaks_behind(
+    page: &str,
+    gap: &Gap<'_, '_, '_>,
+    least: usize,
+    slice: Slot,
+    end: usize,
+) -> usize {
+    let start = back_over_blanks(page, least, slice.start);
+    let before = most_breaks(page, start, slice.start);
+    if gap.is_tight || before == 0 || is_below_heading(gap) {
+        return 0;
+    }
+    most_breaks(page, slice.end, end).saturating_sub(before)
+}
+
+/// Appends the slices that go, each with the line breaks by which those after it are more than those before it. Where
+/// they leave fewer line breaks than are wanted between what comes before and after them, the last one has the others.
 pub fn push_gone(
     alloc: Global,
     out: &mut Vec<Change>,
@@ -232,14 +266,17 @@ pub fn push_gone(
     for slice in slices {
         left = left.saturating_sub(1);
         let place = with_blanks(page, gap, *slice);
-        standing = most_breaks(page, at, place.start).max(standing);
+        let more = more_breaks_behind(page, gap, at, *slice, place.end);
+        standing = most_breaks(page, at, place.start)
+            .saturating_add(more)
+            .max(standing);
         at = place.end;
-        let by = if left == 0 {
-            let behind = most_breaks(page, at, gap.place.end).max(standing);
-            breaks(alloc, wanted, behind)?
+        let missing = if left == 0 {
+            wanted.saturating_sub(most_breaks(page, at, gap.place.end).max(standing))
         } else {
-            Str::new(alloc)
+            0
         };
+        let by = breaks(alloc, more.saturating_add(missing))?;
         push_part_of(alloc, out, known, gap, place, by)?;
     }
     Ok(())
@@ -375,13 +412,19 @@ fn place_between(gap: &Gap<'_, '_, '_>) -> Slot {
     Slot { start: at, end: at }
 }
 
-/// Whether the page has something directly below the block before what comes: a paragraph, or anything below a heading.
-fn is_followed_closely(page: &str, gap: &Gap<'_, '_, '_>, before: &Node<'_>) -> bool {
-    let Some(below) = first_gone(gap.gone).or(gap.behind) else {
+/// Whether the page has this node directly below a block: a paragraph, or anything below a heading.
+fn is_followed_closely(page: &str, above: &Node<'_>, below: Option<&Node<'_>>) -> bool {
+    let Some(below) = below else {
         return false;
     };
-    let is_alike = is_heading(kind_at_end(before)) || !is_lined_block(kind_at_start(below));
-    is_alike && breaks_between(page, range_of(before).end, range_of(below).start) == Some(1)
+    let is_alike = is_heading(kind_at_end(above)) || !is_lined_block(kind_at_start(below));
+    is_alike && breaks_between(page, range_of(above).end, range_of(below).start) == Some(1)
+}
+
+/// Whether blocks of these kinds are as close as the first one was to what was below it: a heading, or a list, a table
+/// or a rule with no heading after it.
+fn may_be_close(above: Kind, below: Kind) -> bool {
+    is_heading(above) || (is_lined_block(above) && !is_heading(below))
 }
 
 fn is_heading(kind: Kind) -> bool {
@@ -397,11 +440,42 @@ fn breaks_below(
     first: Kind,
 ) -> usize {
     let last = kind_at_end(before);
-    let may_be_close = is_heading(last) || (is_lined_block(last) && !is_heading(first));
-    if may_be_close && is_followed_closely(known.page, gap, before) {
+    let below = first_gone(gap.gone).or(gap.behind);
+    if may_be_close(last, first) && is_followed_closely(known.page, before, below) {
         return least_between(gap.is_tight, last, first).max(1);
     }
     between(known.closeness, gap.is_tight, last, first)
+}
+
+/// Whether the last of those that come was in the page, and had something directly below it there.
+fn was_followed_closely(known: &Known<'_, '_>, gap: &Gap<'_, '_, '_>) -> bool {
+    let mut last = 0;
+    for node in gap.new {
+        if is_compared(node.kind) {
+            last = node.id;
+        }
+    }
+    match original(known.index, last) {
+        Some(visit) if last != 0 => {
+            is_followed_closely(known.page, visit.node, next_in_page(known, visit))
+        }
+        _ => false,
+    }
+}
+
+/// The line breaks between what comes, which takes no other's place, and what is after it: as many as there are between
+/// other blocks of the page, or as the last that comes had below it.
+fn breaks_below_new(
+    known: &Known<'_, '_>,
+    gap: &Gap<'_, '_, '_>,
+    last: Kind,
+    behind: &Node<'_>,
+) -> usize {
+    let below = kind_at_start(behind);
+    if !gap.is_tight && may_be_close(last, below) && was_followed_closely(known, gap) {
+        return least_between(gap.is_tight, last, below).max(1);
+    }
+    between(known.closeness, gap.is_tight, last, below)
 }
 
 /// The line breaks before what comes.
@@ -481,14 +555,14 @@ fn end_of_place(
     }
 }
 
-/// The line breaks after it, up to what comes after or to the next slice that goes. After all that a cell holds
-/// the next cell may go on in the line.
+/// The line breaks after it, before what the page has after it, up to what stays or to the next slice that goes. After
+/// all that a cell holds the next cell may go on in the line.
 fn breaks_behind(
     known: &Known<'_, '_>,
     gap: &Gap<'_, '_, '_>,
     coming: &Coming,
-    from: usize,
-    to: usize,
+    takes_place: bool,
+    after: Slot,
 ) -> usize {
     let page = known.page;
     let last = coming.last;
@@ -499,9 +573,11 @@ fn breaks_behind(
             0
         };
     };
-    let standing = most_breaks(page, from, to);
+    let standing = most_breaks(page, after.start, after.end);
     let wanted = if standing == 0 && coming.is_of_line && shares_line(page, last, behind) {
         0
+    } else if !takes_place {
+        breaks_below_new(known, gap, last, behind)
     } else if standing == 0 {
         between(known.closeness, gap.is_tight, last, behind.kind)
     } else if is_parted_from_heading(gap, last, behind) {
@@ -595,15 +671,20 @@ pub fn push_new(
         None => gap.place.end,
     };
     let end = end_of_place(known, gap, coming, place.end, to);
-    let before = breaks_before(known, gap, !slices.is_empty(), coming.first, place.start);
-    let behind = breaks_behind(known, gap, coming, end, to);
+    let takes_place = !slices.is_empty();
+    let before = breaks_before(known, gap, takes_place, coming.first, place.start);
+    let after = Slot {
+        start: end,
+        end: to,
+    };
+    let behind = breaks_behind(known, gap, coming, takes_place, after);
     let mut by = Str::new(alloc);
     let is_in_line = joins_line(page, gap, coming) || comes_last_in_line(page, gap, coming);
-    if slices.is_empty() && is_in_line {
+    if !takes_place && is_in_line {
         push_in_line(&mut by, coming.source.as_str())?;
         return push_change(out, place, by);
     }
-    if !slices.is_empty() && takes_place_in_line(page, gap, coming, place.start) {
+    if takes_place && takes_place_in_line(page, gap, coming, place.start) {
         push_in_line(&mut by, coming.source.as_str())?;
     } else {
         push_breaks(&mut by, before)?;
