@@ -8,6 +8,7 @@ use crate::lines::{
     is_doubled, is_doubled_at, leaves_line_start, next_in_page, push_in_line, range_of,
     shares_line, sign_at_line_start,
 };
+use crate::nodes::{behind_first, children_between, count_of, nodes_between};
 use std::alloc::Global;
 use wt_block_signs::{Style, is_cell, is_item, is_lined, is_row_without_sign, signs_of, style_of};
 use wt_checks::{is_compared, original};
@@ -46,27 +47,6 @@ impl Numbering {
     }
 }
 
-/// The children from one place up to another; none where there are none.
-pub fn children_between<'w, 't, 'a>(
-    children: &'w [Child<'t, 'a>],
-    from: usize,
-    to: usize,
-) -> &'w [Child<'t, 'a>] {
-    if from <= to && to <= children.len() {
-        &children[from..to]
-    } else {
-        &children[..0]
-    }
-}
-
-/// The nodes from one place up to another; none where there are none.
-pub fn nodes_between<'w, 'a>(nodes: &'w [Node<'a>], from: usize, to: usize) -> &'w [Node<'a>] {
-    if from <= to && to <= nodes.len() {
-        &nodes[from..to]
-    } else {
-        &nodes[..0]
-    }
-}
 /// A gap between two children that stay in their turn, or the part of it between two comments or include tags: where
 /// it is, from where on blanks before it count, these two as the page has them, the text at the end of the one before,
 /// where that was looked for, whether that one is text alone as it was edited, the page's children between them, and
@@ -381,17 +361,6 @@ pub struct Coming {
     pub source: Str,
 }
 
-/// How many of these nodes count.
-pub fn count_of(nodes: &[Node<'_>]) -> usize {
-    let mut count = 0usize;
-    for node in nodes {
-        if is_compared(node.kind) {
-            count = count.saturating_add(1);
-        }
-    }
-    count
-}
-
 /// How what comes is written: as the item, cell or row beside it, or, where lists come in an item, as this one.
 pub fn style_beside(gap: &Gap<'_, '_, '_>) -> Style {
     match item_beside(gap) {
@@ -701,32 +670,6 @@ pub fn push_new(
 
 // ---- a gap
 
-/// The greatest number among children, which rise.
-pub fn last_number(children: &[Child<'_, '_>]) -> u32 {
-    let mut last = 0;
-    for child in children {
-        last = child.node.id.max(last);
-    }
-    last
-}
-
-/// The first of the children from one place on that has this number or a greater one.
-pub fn place_behind(children: &[Child<'_, '_>], from: usize, number: u32) -> usize {
-    for at in from..children.len() {
-        if children[at].node.id >= number {
-            return at;
-        }
-    }
-    children.len()
-}
-
-/// A comment or an include tag of the page, which has this number.
-pub fn mark_at<'t, 'a>(children: &[Child<'t, 'a>], at: usize, number: u32) -> Option<&'t Node<'a>> {
-    let child = children.get(at)?;
-    let is_same = child.node.id == number && child.node.kind.is_mark();
-    if is_same { Some(child.node) } else { None }
-}
-
 /// How far the parts of a gap are written: the children of the page and the edited ones that are passed, where
 /// the next part begins, from where on blanks before it count, and the number of its first block.
 #[derive(Clone, Copy)]
@@ -800,13 +743,4 @@ fn past_all(first: Numbering, nodes: &[Node<'_>]) -> Numbering {
         }
     }
     block
-}
-
-/// All but the first.
-pub fn behind_first(slices: &[Slot]) -> &[Slot] {
-    if slices.is_empty() {
-        slices
-    } else {
-        &slices[1..]
-    }
 }

@@ -92,9 +92,22 @@ fn may_come(below: &[u32], nodes: &[Node<'_>]) -> bool {
     false
 }
 
-/// Notes those of these nodes, which were sent before the block with this number, that the page has before it.
+/// Where those of these nodes begin, which were sent before the block with this number, after the last comment that the page
+/// hasn't before it.
+fn own_row(below: &[u32], nodes: &[Node<'_>], number: u32) -> usize {
+    let mut from = 0;
+    for at in 0..nodes.len() {
+        if is_comment(&nodes[at]) && block_below(below, &nodes[at]) != number {
+            from = at.saturating_add(1);
+        }
+    }
+    from
+}
+
+/// Notes those of these nodes, which were sent before the block with this number, that the page has before it, with no
+/// other comment between.
 fn note_before(out: &mut [bool], below: &[u32], nodes: &[Node<'_>], number: u32) {
-    for node in nodes {
+    for node in nodes_between(nodes, own_row(below, nodes, number), nodes.len()) {
         let at = node.id as usize;
         if block_below(below, node) == number && at < out.len() {
             out[at] = true;
