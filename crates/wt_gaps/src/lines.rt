@@ -3,7 +3,7 @@
 use crate::blanks::{byte_at, is_at_line_start, most_breaks, past_blanks};
 use crate::breaks::{between, kind_at_end, kind_at_start, least_between, push_breaks};
 use wt_block_signs::{is_cell, is_part};
-use wt_checks::{Visit, original};
+use wt_checks::{Visit, is_compared, original};
 use wt_known::{Known, breaks_between};
 use wt_places::Slot;
 use wt_span::{NoMemory, Str};
@@ -105,13 +105,13 @@ pub fn push_comment(
     ))
 }
 
-/// The node after one of the page's, in what holds it.
+/// The block after one of the page's, in what holds it; None where a comment or an include tag comes first.
 pub fn next_in_page<'t, 'a>(known: &Known<'t, 'a>, visit: Visit<'t, 'a>) -> Option<&'t Node<'a>> {
     let first = (visit.node.id as usize).saturating_add(1);
     for at in first..known.index.len() {
         let next = known.index[at];
         if next.parent <= visit.parent {
-            return if next.parent == visit.parent {
+            return if next.parent == visit.parent && is_compared(next.node.kind) {
                 Some(next.node)
             } else {
                 None

@@ -92,20 +92,29 @@ fn may_come(below: &[u32], nodes: &[Node<'_>]) -> bool {
     false
 }
 
-/// Where those of these nodes begin, which were sent before the block with this number, after the last comment that the page
-/// hasn't before it.
+/// Where those of these nodes begin, which were sent before the block with this number, that the page has directly before
+/// it, too, in the same order; their end, where it has none.
 fn own_row(below: &[u32], nodes: &[Node<'_>], number: u32) -> usize {
     let mut from = 0;
+    let mut next = 0;
     for at in 0..nodes.len() {
-        if is_comment(&nodes[at]) && block_below(below, &nodes[at]) != number {
-            from = at.saturating_add(1);
+        let node = &nodes[at];
+        if is_comment(node) {
+            if node.id != next {
+                from = at;
+            }
+            next = if block_below(below, node) == number {
+                node.id.saturating_add(1)
+            } else {
+                0
+            };
         }
     }
-    from
+    if next == number { from } else { nodes.len() }
 }
 
-/// Notes those of these nodes, which were sent before the block with this number, that the page has before it, with no
-/// other comment between.
+/// Notes those of these nodes, which were sent before the block with this number, that the page has directly before it, too,
+/// in the same order.
 fn note_before(out: &mut [bool], below: &[u32], nodes: &[Node<'_>], number: u32) {
     for node in nodes_between(nodes, own_row(below, nodes, number), nodes.len()) {
         let at = node.id as usize;
