@@ -351,13 +351,14 @@ pub fn signs_in(
     }
 }
 
-/// What comes: the kinds of the first and the last, whether the last is of one line, in which a cell may follow, and how
-/// it is written.
+/// What comes: the kinds of the first and the last, whether the last is of one line, in which a cell may follow, whether a
+/// comment comes before the first, and how it is written.
 #[derive(Drop)]
 pub struct Coming {
     pub first: Kind,
     pub last: Kind,
     pub is_of_line: bool,
+    pub is_led: bool,
     pub source: Str,
 }
 
@@ -452,10 +453,11 @@ fn breaks_before(
     known: &Known<'_, '_>,
     gap: &Gap<'_, '_, '_>,
     takes_place: bool,
-    first: Kind,
+    coming: &Coming,
     at: usize,
 ) -> usize {
     let page = known.page;
+    let first = coming.first;
     let standing = most_breaks(page, gap.blanks, at);
     let wanted = match gap.before {
         Some(before) if takes_place => least_between(gap.is_tight, kind_at_end(before), first),
@@ -464,8 +466,8 @@ fn breaks_before(
         None => 1,
     };
     let missing = wanted.saturating_sub(standing);
-    let is_within_line = !is_at_line_start(page, at) && (gap.place.start < at || is_cell(first));
-    if missing == 0 && is_within_line && is_lined(first) {
+    let is_lined = is_lined(first) && (gap.place.start < at || is_cell(first));
+    if missing == 0 && (coming.is_led || is_lined) && !is_at_line_start(page, at) {
         1
     } else {
         missing
@@ -641,7 +643,7 @@ pub fn push_new(
     };
     let end = end_of_place(known, gap, coming, place.end, to);
     let takes_place = !slices.is_empty();
-    let before = breaks_before(known, gap, takes_place, coming.first, place.start);
+    let before = breaks_before(known, gap, takes_place, coming, place.start);
     let after = Slot {
         start: end,
         end: to,

@@ -4,7 +4,7 @@ use std::alloc::Global;
 use wt_block_signs::is_cell;
 use wt_checks::{Visit, is_compared};
 use wt_difference::{inside_count, is_block_part, stays_in};
-use wt_gaps::{is_at_line_start, nodes_between, range_of};
+use wt_gaps::{byte_at, is_at_line_start, nodes_between, range_of};
 use wt_places::turns;
 use wt_span::NoMemory;
 use wt_tree::{Kind, Node};
@@ -15,25 +15,31 @@ fn is_comment(node: &Node<'_>) -> bool {
 
 // ---- in the page
 
-/// Whether a comment is in a row with those from `from` on, which are before it: on its line, or on lines of its own.
-fn goes_on(page: &str, index: &[Visit<'_, '_>], from: usize, at: usize) -> bool {
-    let (Some(visit), Some(before)) = (index.get(at), index.get(at.saturating_sub(1))) else {
-        return false;
-    };
-    let start = range_of(visit.node).start;
-    from < at
-        && visit.parent == before.parent
-        && (start == range_of(before.node).end || is_at_line_start(page, start))
+/// Whether a comment begins its line, and is one alone: several on a line of their own are one node.
+fn is_alone(page: &str, comment: &Node<'_>) -> bool {
+    let place = range_of(comment);
+    for at in place.start.saturating_add(1)..place.end {
+        let next = byte_at(page, at.saturating_add(1));
+        if byte_at(page, at) == b'<' && next == b'!' {
+            return false;
+        }
+    }
+    is_at_line_start(page, place.start)
 }
 
-/// Where the row of comments begins that ends with this one; after it, where it has the end of another's line.
+/// Where the row of comments begins that ends with this one, where those before it begin at `from`; after it, where it
+/// isn't alone on its line.
 fn row_from(page: &str, index: &[Visit<'_, '_>], from: usize, at: usize) -> usize {
-    if goes_on(page, index, from, at) {
-        return from;
+    let (Some(visit), Some(before)) = (index.get(at), index.get(at.saturating_sub(1))) else {
+        return at;
+    };
+    if !is_alone(page, visit.node) {
+        return at.saturating_add(1);
     }
-    match index.get(at) {
-        Some(visit) if is_at_line_start(page, range_of(visit.node).start) => at,
-        _ => at.saturating_add(1),
+    if from < at && visit.parent == before.parent {
+        from
+    } else {
+        at
     }
 }
 
@@ -166,7 +172,7 @@ fn note_within(
     let nodes = node.children.as_slice();
     let children = nodes_between(nodes, inside_count(node), nodes.len());
     note_children(alloc, out, below, index, node.id, children)?;
-    for child in children {
+    for child in nodes {
         if is_block_part(child.kind) && stays_in(index, node.id, child) {
             note_within(alloc, out, below, index, child)?;
         }

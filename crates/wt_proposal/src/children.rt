@@ -93,6 +93,7 @@ fn begun_with(
         first: node.kind,
         last: node.kind,
         is_of_line: may_go_on(source.as_str(), 0, node),
+        is_led: false,
         source,
     })
 }
@@ -139,6 +140,7 @@ fn led_by(
             first: block.kind,
             last: block.kind,
             is_of_line: false,
+            is_led: true,
             source: Str::new(alloc),
         },
     };
@@ -163,6 +165,7 @@ fn followed(
         first,
         last,
         is_of_line: _,
+        is_led,
         mut source,
     } = coming;
     let is_begun = before.is_none()
@@ -178,6 +181,7 @@ fn followed(
         first,
         last: node.kind,
         is_of_line: may_go_on(source.as_str(), start, node),
+        is_led,
         source,
     })
 }
