@@ -68,8 +68,9 @@ pub fn push_breaks(out: &mut Str, count: usize) -> Result<(), NoMemory> {
     Ok(())
 }
 
-pub fn breaks(alloc: Global, wanted: usize, standing: usize) -> Result<Str, NoMemory> {
+/// So many line breaks.
+pub fn breaks(alloc: Global, count: usize) -> Result<Str, NoMemory> {
     let mut out = Str::new(alloc);
-    push_breaks(&mut out, wanted.saturating_sub(standing))?;
+    push_breaks(&mut out, count)?;
     Ok(out)
 }

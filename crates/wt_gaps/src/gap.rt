@@ -5,12 +5,13 @@ use crate::breaks::{
     between, breaks, is_lined_block, kind_at_end, kind_at_start, least_between, push_breaks,
 };
 use crate::lines::{
-    is_doubled, is_doubled_at, leaves_line_start, push_in_line, range_of, shares_line,
-    sign_at_line_start,
+    is_doubled, is_doubled_at, leaves_line_start, next_in_page, push_in_line, range_of,
+    shares_line, sign_at_line_start,
 };
+use crate::nodes::{behind_first, children_between, count_of, nodes_between};
 use std::alloc::Global;
 use wt_block_signs::{Style, is_cell, is_item, is_lined, is_row_without_sign, signs_of, style_of};
-use wt_checks::is_compared;
+use wt_checks::{is_compared, original};
 use wt_difference::{Child, inside};
 use wt_known::{Known, breaks_between, joined as texts_joined};
 use wt_places::Slot;
@@ -46,27 +47,6 @@ impl Numbering {
     }
 }
 
-/// The children from one place up to another; none where there are none.
-pub fn children_between<'w, 't, 'a>(
-    children: &'w [Child<'t, 'a>],
-    from: usize,
-    to: usize,
-) -> &'w [Child<'t, 'a>] {
-    if from <= to && to <= children.len() {
-        &children[from..to]
-    } else {
-        &children[..0]
-    }
-}
-
-/// The nodes from one place up to another; none where there are none.
-pub fn nodes_between<'w, 'a>(nodes: &'w [Node<'a>], from: usize, to: usize) -> &'w [Node<'a>] {
-    if from <= to && to <= nodes.len() {
-        &nodes[from..to]
-    } else {
-        &nodes[..0]
-    }
-}
 /// A gap between two children that stay in their turn, or the part of it between two comments or include tags: where
 /// it is, from where on blanks before it count, these two as the page has them, the text at the end of the one before,
 /// where that was looked for, whether that one is text alone as it was edited, the page's children between them, and
@@ -121,18 +101,27 @@ fn push_slice(out: &mut Vec<Slot>, slice: Option<Slot>) -> Result<(), NoMemory> 
     Ok(())
 }
 
-/// The slices of the children that go: those that are next to each other in one. A comment or an include tag
-/// between two of them stays.
-pub fn slices_of(alloc: Global, gone: &[Child<'_, '_>]) -> Result<Vec<Slot>, NoMemory> {
+/// Whether a node is one of the comments that come along with the block below them; `along` says it of each number.
+pub fn comes_along(along: &[bool], node: &Node<'_>) -> bool {
+    along.get(node.id as usize).copied().unwrap_or(false)
+}
+
+/// The slices of the children that go: those that are next to each other in one, with the comments that come along with
+/// them. Another comment or an include tag between two of them stays.
+pub fn slices_of(
+    alloc: Global,
+    gone: &[Child<'_, '_>],
+    along: &[bool],
+) -> Result<Vec<Slot>, NoMemory> {
     let mut out = Vec::new(alloc);
     let mut slice = None;
     for child in gone {
         let kind = child.node.kind;
-        if kind.is_mark() {
+        if is_compared(kind) || comes_along(along, child.node) {
+            slice = Some(joined(slice, range_of(child.node)));
+        } else if kind.is_mark() {
             push_slice(&mut out, slice)?;
             slice = None;
-        } else if is_compared(kind) {
-            slice = Some(joined(slice, range_of(child.node)));
         }
     }
     push_slice(&mut out, slice)?;
@@ -215,8 +204,33 @@ fn push_part_of(
     )
 }
 
-/// Appends the slices that go. Where they leave fewer line breaks than are wanted between what comes before and
-/// after them, the last one has the others.
+/// Whether something else than a heading comes after the gap, and a heading before it.
+fn is_below_heading(gap: &Gap<'_, '_, '_>) -> bool {
+    match gap.before {
+        Some(before) => is_heading(kind_at_end(before)) && is_before_text(gap),
+        None => false,
+    }
+}
+
+/// How many more line breaks a slice that goes has after it, up to the end of its place, than before it: the longer of
+/// the two is what is left. What comes after it goes on in its line, or is as close to a heading as it was.
+fn more_breaks_behind(
+    page: &str,
+    gap: &Gap<'_, '_, '_>,
+    least: usize,
+    slice: Slot,
+    end: usize,
+) -> usize {
+    let start = back_over_blanks(page, least, slice.start);
+    let before = most_breaks(page, start, slice.start);
+    if gap.is_tight || before == 0 || is_below_heading(gap) {
+        return 0;
+    }
+    most_breaks(page, slice.end, end).saturating_sub(before)
+}
+
+/// Appends the slices that go, each with the line breaks by which those after it are more than those before it. Where
+/// they leave fewer line breaks than are wanted between what comes before and after them, the last one has the others.
 pub fn push_gone(
     alloc: Global,
     out: &mut Vec<Change>,
@@ -232,14 +246,17 @@ pub fn push_gone(
     for slice in slices {
         left = left.saturating_sub(1);
         let place = with_blanks(page, gap, *slice);
-        standing = most_breaks(page, at, place.start).max(standing);
+        let more = more_breaks_behind(page, gap, at, *slice, place.end);
+        standing = most_breaks(page, at, place.start)
+            .saturating_add(more)
+            .max(standing);
         at = place.end;
-        let by = if left == 0 {
-            let behind = most_breaks(page, at, gap.place.end).max(standing);
-            breaks(alloc, wanted, behind)?
+        let missing = if left == 0 {
+            wanted.saturating_sub(most_breaks(page, at, gap.place.end).max(standing))
         } else {
-            Str::new(alloc)
+            0
         };
+        let by = breaks(alloc, more.saturating_add(missing))?;
         push_part_of(alloc, out, known, gap, place, by)?;
     }
     Ok(())
@@ -334,25 +351,15 @@ pub fn signs_in(
     }
 }
 
-/// What comes: the kinds of the first and the last, whether the last is of one line, in which a cell may follow, and how
-/// it is written.
+/// What comes: the kinds of the first and the last, whether the last is of one line, in which a cell may follow, whether a
+/// comment comes before the first, and how it is written.
 #[derive(Drop)]
 pub struct Coming {
     pub first: Kind,
     pub last: Kind,
     pub is_of_line: bool,
+    pub is_led: bool,
     pub source: Str,
-}
-
-/// How many of these nodes count.
-pub fn count_of(nodes: &[Node<'_>]) -> usize {
-    let mut count = 0usize;
-    for node in nodes {
-        if is_compared(node.kind) {
-            count = count.saturating_add(1);
-        }
-    }
-    count
 }
 
 /// How what comes is written: as the item, cell or row beside it, or, where lists come in an item, as this one.
@@ -375,14 +382,19 @@ fn place_between(gap: &Gap<'_, '_, '_>) -> Slot {
     Slot { start: at, end: at }
 }
 
-/// Whether the page has directly below the block before what comes here, too: something that is no heading, or
-/// anything below a heading.
-fn is_followed_closely(page: &str, gap: &Gap<'_, '_, '_>, before: &Node<'_>) -> bool {
-    let Some(below) = first_gone(gap.gone).or(gap.behind) else {
+/// Whether the page has this node directly below a block: a paragraph, or anything below a heading.
+fn is_followed_closely(page: &str, above: &Node<'_>, below: Option<&Node<'_>>) -> bool {
+    let Some(below) = below else {
         return false;
     };
-    let is_alike = is_heading(kind_at_end(before)) || !is_heading(kind_at_start(below));
-    is_alike && breaks_between(page, range_of(before).end, range_of(below).start) == Some(1)
+    let is_alike = is_heading(kind_at_end(above)) || !is_lined_block(kind_at_start(below));
+    is_alike && breaks_between(page, range_of(above).end, range_of(below).start) == Some(1)
+}
+
+/// Whether blocks of these kinds are as close as the first one was to what was below it: a heading, or a list, a table
+/// or a rule with no heading after it.
+fn may_be_close(above: Kind, below: Kind) -> bool {
+    is_heading(above) || (is_lined_block(above) && !is_heading(below))
 }
 
 fn is_heading(kind: Kind) -> bool {
@@ -398,11 +410,42 @@ fn breaks_below(
     first: Kind,
 ) -> usize {
     let last = kind_at_end(before);
-    let may_be_close = is_heading(last) || (is_lined_block(last) && !is_heading(first));
-    if may_be_close && is_followed_closely(known.page, gap, before) {
+    let below = first_gone(gap.gone).or(gap.behind);
+    if may_be_close(last, first) && is_followed_closely(known.page, before, below) {
         return least_between(gap.is_tight, last, first).max(1);
     }
     between(known.closeness, gap.is_tight, last, first)
+}
+
+/// Whether the last of those that come was in the page, and had something directly below it there.
+fn was_followed_closely(known: &Known<'_, '_>, gap: &Gap<'_, '_, '_>) -> bool {
+    let mut last = 0;
+    for node in gap.new {
+        if is_compared(node.kind) {
+            last = node.id;
+        }
+    }
+    match original(known.index, last) {
+        Some(visit) if last != 0 => {
+            is_followed_closely(known.page, visit.node, next_in_page(known, visit))
+        }
+        _ => false,
+    }
+}
+
+/// The line breaks between what comes, which takes no other's place, and what is after it: as many as there are between
+/// other blocks of the page, or as the last that comes had below it.
+fn breaks_below_new(
+    known: &Known<'_, '_>,
+    gap: &Gap<'_, '_, '_>,
+    last: Kind,
+    behind: &Node<'_>,
+) -> usize {
+    let below = kind_at_start(behind);
+    if !gap.is_tight && may_be_close(last, below) && was_followed_closely(known, gap) {
+        return least_between(gap.is_tight, last, below).max(1);
+    }
+    between(known.closeness, gap.is_tight, last, below)
 }
 
 /// The line breaks before what comes.
@@ -410,10 +453,11 @@ fn breaks_before(
     known: &Known<'_, '_>,
     gap: &Gap<'_, '_, '_>,
     takes_place: bool,
-    first: Kind,
+    coming: &Coming,
     at: usize,
 ) -> usize {
     let page = known.page;
+    let first = coming.first;
     let standing = most_breaks(page, gap.blanks, at);
     let wanted = match gap.before {
         Some(before) if takes_place => least_between(gap.is_tight, kind_at_end(before), first),
@@ -422,8 +466,8 @@ fn breaks_before(
         None => 1,
     };
     let missing = wanted.saturating_sub(standing);
-    let is_within_line = !is_at_line_start(page, at) && (gap.place.start < at || is_cell(first));
-    if missing == 0 && is_within_line && is_lined(first) {
+    let is_lined = is_lined(first) && (gap.place.start < at || is_cell(first));
+    if missing == 0 && (coming.is_led || is_lined) && !is_at_line_start(page, at) {
         1
     } else {
         missing
@@ -453,6 +497,14 @@ fn is_parted_from_heading(gap: &Gap<'_, '_, '_>, last: Kind, behind: &Node<'_>) 
     }
 }
 
+/// Whether something else than a heading comes after the gap.
+fn is_before_text(gap: &Gap<'_, '_, '_>) -> bool {
+    match gap.behind {
+        Some(behind) => !is_heading(kind_at_start(behind)),
+        None => false,
+    }
+}
+
 /// Where the place of what comes ends: after the blanks of its line, or, where a new heading comes in a page that has
 /// what is below headings directly below them, after the empty lines, too.
 fn end_of_place(
@@ -464,7 +516,7 @@ fn end_of_place(
 ) -> usize {
     let is_new_heading = match last_before(gap) {
         Some(before) if is_heading(kind_at_end(before)) => false,
-        _ => is_heading(coming.last) && gap.behind.is_some() && !gap.is_tight,
+        _ => is_heading(coming.last) && is_before_text(gap) && !gap.is_tight,
     };
     match breaks_between(known.page, from, to) {
         Some(count) if count > 1 && is_new_heading && known.closeness.below_headings => from.max(
@@ -474,14 +526,14 @@ fn end_of_place(
     }
 }
 
-/// The line breaks after it, up to what comes after or to the next slice that goes. After all that a cell holds
-/// the next cell may go on in the line.
+/// The line breaks after it, before what the page has after it, up to what stays or to the next slice that goes. After
+/// all that a cell holds the next cell may go on in the line.
 fn breaks_behind(
     known: &Known<'_, '_>,
     gap: &Gap<'_, '_, '_>,
     coming: &Coming,
-    from: usize,
-    to: usize,
+    takes_place: bool,
+    after: Slot,
 ) -> usize {
     let page = known.page;
     let last = coming.last;
@@ -492,9 +544,11 @@ fn breaks_behind(
             0
         };
     };
-    let standing = most_breaks(page, from, to);
+    let standing = most_breaks(page, after.start, after.end);
     let wanted = if standing == 0 && coming.is_of_line && shares_line(page, last, behind) {
         0
+    } else if !takes_place {
+        breaks_below_new(known, gap, last, behind)
     } else if standing == 0 {
         between(known.closeness, gap.is_tight, last, behind.kind)
     } else if is_parted_from_heading(gap, last, behind) {
@@ -588,15 +642,20 @@ pub fn push_new(
         None => gap.place.end,
     };
     let end = end_of_place(known, gap, coming, place.end, to);
-    let before = breaks_before(known, gap, !slices.is_empty(), coming.first, place.start);
-    let behind = breaks_behind(known, gap, coming, end, to);
+    let takes_place = !slices.is_empty();
+    let before = breaks_before(known, gap, takes_place, coming, place.start);
+    let after = Slot {
+        start: end,
+        end: to,
+    };
+    let behind = breaks_behind(known, gap, coming, takes_place, after);
     let mut by = Str::new(alloc);
     let is_in_line = joins_line(page, gap, coming) || comes_last_in_line(page, gap, coming);
-    if slices.is_empty() && is_in_line {
+    if !takes_place && is_in_line {
         push_in_line(&mut by, coming.source.as_str())?;
         return push_change(out, place, by);
     }
-    if !slices.is_empty() && takes_place_in_line(page, gap, coming, place.start) {
+    if takes_place && takes_place_in_line(page, gap, coming, place.start) {
         push_in_line(&mut by, coming.source.as_str())?;
     } else {
         push_breaks(&mut by, before)?;
@@ -612,32 +671,6 @@ pub fn push_new(
 }
 
 // ---- a gap
-
-/// The greatest number among children, which rise.
-pub fn last_number(children: &[Child<'_, '_>]) -> u32 {
-    let mut last = 0;
-    for child in children {
-        last = child.node.id.max(last);
-    }
-    last
-}
-
-/// The first of the children from one place on that has this number or a greater one.
-pub fn place_behind(children: &[Child<'_, '_>], from: usize, number: u32) -> usize {
-    for at in from..children.len() {
-        if children[at].node.id >= number {
-            return at;
-        }
-    }
-    children.len()
-}
-
-/// A comment or an include tag of the page, which has this number.
-pub fn mark_at<'t, 'a>(children: &[Child<'t, 'a>], at: usize, number: u32) -> Option<&'t Node<'a>> {
-    let child = children.get(at)?;
-    let is_same = child.node.id == number && child.node.kind.is_mark();
-    if is_same { Some(child.node) } else { None }
-}
 
 /// How far the parts of a gap are written: the children of the page and the edited ones that are passed, where
 /// the next part begins, from where on blanks before it count, and the number of its first block.
@@ -712,13 +745,4 @@ fn past_all(first: Numbering, nodes: &[Node<'_>]) -> Numbering {
         }
     }
     block
-}
-
-/// All but the first.
-pub fn behind_first(slices: &[Slot]) -> &[Slot] {
-    if slices.is_empty() {
-        slices
-    } else {
-        &slices[1..]
-    }
 }

@@ -7,9 +7,10 @@ use wt_block_signs::USUAL;
 use wt_checks::is_compared;
 use wt_difference::inside;
 use wt_gaps::{
-    Coming, Gap, Passed, behind_first, between, count_of, empties_row, last_number, mark_at,
-    place_behind, push_between, push_breaks, push_emptied_row, push_gone, push_new, range_of,
-    signs_in, slices_of, style_beside, wanted_between,
+    Coming, Gap, Passed, behind_first, between, comes_along, count_of, empties_row, last_number,
+    mark_at, nodes_between, place_behind, push_between, push_breaks, push_comment,
+    push_emptied_row, push_gone, push_new, push_up_to_comment, range_of, signs_in, slices_of,
+    style_beside, wanted_between,
 };
 use wt_known::{Known, last_text};
 use wt_span::{NoMemory, Str};
@@ -37,8 +38,13 @@ fn coming_of<'t, 'a>(
     let mut left = count_of(gap.new);
     let mut block = gap.first;
     let mut before = None;
-    for node in gap.new {
-        if is_compared(node.kind) {
+    for at in 0..gap.new.len() {
+        let node = &gap.new[at];
+        if comes_along(plan.along, node) {
+            let rest = nodes_between(gap.new, at, gap.new.len());
+            coming = led_by(alloc, plan.known, gap.is_tight, coming, before, rest)?;
+            before = None;
+        } else if is_compared(node.kind) {
             left = left.saturating_sub(1);
             let signs = signs_in(alloc, plan.known, gap, node.kind, outer)?;
             let keeps = plan.keeps(block.number);
@@ -87,6 +93,7 @@ fn begun_with(
         first: node.kind,
         last: node.kind,
         is_of_line: may_go_on(source.as_str(), 0, node),
+        is_led: false,
         source,
     })
 }
@@ -104,7 +111,48 @@ fn push_as_between(
     }
 }
 
-/// What came so far, and this one after it, which comes after that one.
+/// The first of these nodes that counts.
+fn first_block<'w, 'a>(nodes: &'w [Node<'a>]) -> Option<&'w Node<'a>> {
+    for node in nodes {
+        if is_compared(node.kind) {
+            return Some(node);
+        }
+    }
+    None
+}
+
+/// What came so far, and after it the first of these nodes, a comment that comes along with the block below it. It comes
+/// after the block `before`, unless it begins what comes or is after another comment.
+fn led_by(
+    alloc: Global,
+    known: &Known<'_, '_>,
+    is_tight: bool,
+    coming: Option<Coming>,
+    before: Option<&Node<'_>>,
+    nodes: &[Node<'_>],
+) -> Result<Option<Coming>, NoMemory> {
+    let (Some(comment), Some(block)) = (nodes.first(), first_block(nodes)) else {
+        return Ok(coming);
+    };
+    let mut coming = match coming {
+        Some(coming) => coming,
+        None => Coming {
+            first: block.kind,
+            last: block.kind,
+            is_of_line: false,
+            is_led: true,
+            source: Str::new(alloc),
+        },
+    };
+    if let Some(before) = before {
+        push_up_to_comment(&mut coming.source, known, is_tight, before, comment, block)?;
+    }
+    push_comment(&mut coming.source, known, comment)?;
+    Ok(Some(coming))
+}
+
+/// What came so far, and this one after it, which comes after that one; in the line that is begun, where it comes after a
+/// comment.
 fn followed(
     alloc: Global,
     is_tight: bool,
@@ -117,9 +165,11 @@ fn followed(
         first,
         last,
         is_of_line: _,
+        is_led,
         mut source,
     } = coming;
-    let is_begun = push_if_in_line(alloc, &mut source, around, before, node)?
+    let is_begun = before.is_none()
+        || push_if_in_line(alloc, &mut source, around, before, node)?
         || push_as_between(&mut source, around.known, before, node)?;
     if !is_begun {
         let closeness = around.known.closeness;
@@ -131,6 +181,7 @@ fn followed(
         first,
         last: node.kind,
         is_of_line: may_go_on(source.as_str(), start, node),
+        is_led,
         source,
     })
 }
@@ -157,7 +208,8 @@ pub fn push_gap<'t, 'a>(
     let last = last_number(gap.gone);
     for at in 0..gap.new.len() {
         let node = &gap.new[at];
-        if node.kind.is_mark() && node.id != 0 && node.id <= last {
+        let stays = node.kind.is_mark() && !comes_along(plan.along, node);
+        if stays && node.id != 0 && node.id <= last {
             from = place_behind(gap.gone, from, node.id);
             if let Some(mark) = mark_at(gap.gone, from, node.id) {
                 let mark = range_of(mark);
@@ -180,7 +232,7 @@ fn push_part<'t, 'a>(
     gap: &Gap<'_, 't, 'a>,
 ) -> Result<(), NoMemory> {
     let page = plan.known.page;
-    let slices = slices_of(alloc, gap.gone)?;
+    let slices = slices_of(alloc, gap.gone, plan.along)?;
     let coming = coming_of(alloc, plan, outer, gap)?;
     match coming {
         None if empties_row(gap) => {

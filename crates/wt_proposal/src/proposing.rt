@@ -6,6 +6,7 @@ ghost use Rattle.wt_checks.specs.View.{indexed};
 ghost use Rattle.wt_tree.specs.View.{view};
 ghost use Rattle.wt_places.specs.Rewritten.{IsRewritten};
 
+use crate::along::comments_along;
 use crate::children::push_gap;
 use std::alloc::Global;
 use wt_block_signs::{
@@ -44,11 +45,13 @@ impl Keeping {
     }
 }
 
-/// What a proposal is made by.
+/// What a proposal is made by: what is known of the page, where texts keep their bytes, and by the number of each comment
+/// whether it comes along with the block below it.
 #[derive(Clone, Copy)]
 pub struct Plan<'w, 't, 'a> {
     pub known: &'w Known<'t, 'a>,
     pub keeping: Keeping,
+    pub along: &'w [bool],
 }
 
 impl<'w, 't, 'a> Plan<'w, 't, 'a> {
@@ -568,9 +571,11 @@ fn changes_of<'t, 'a>(
     keeping: Keeping,
 ) -> Result<Vec<Change>, NoMemory> {
     let known = Known::of(alloc, page, index, tree, edited)?;
+    let along = comments_along(alloc, page, index, edited)?;
     let plan = Plan {
         known: &known,
         keeping,
+        along: along.as_slice(),
     };
     let body = Numbering {
         number: 0,
