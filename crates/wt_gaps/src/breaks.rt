@@ -2,6 +2,7 @@
 
 use std::alloc::Global;
 use wt_block_signs::{is_cell, is_lined, is_list, is_part};
+use wt_checks::is_compared;
 use wt_known::Closeness;
 use wt_span::{NoMemory, Str};
 use wt_tree::{Kind, Node};
@@ -11,9 +12,29 @@ pub fn is_lined_block(kind: Kind) -> bool {
     is_lined(kind) && !is_part(kind)
 }
 
+pub fn is_heading(kind: Kind) -> bool {
+    matches!(kind, Kind::Heading(_))
+}
+
+/// Whether a node is a group that shows nothing.
+fn is_empty_group(node: &Node<'_>) -> bool {
+    if !matches!(node.kind, Kind::Group) {
+        return false;
+    }
+    for child in node.children.as_slice() {
+        if is_compared(child.kind) {
+            return false;
+        }
+    }
+    true
+}
+
 /// The kind of what a node shows last, as its neighbour after it sees it: of a group that ends with a list, a heading
-/// or the like this one's.
+/// or the like this one's, and of one that shows nothing `Empty`.
 pub fn kind_at_end(node: &Node<'_>) -> Kind {
+    if is_empty_group(node) {
+        return Kind::Empty;
+    }
     match node.children.as_slice().last() {
         Some(last) if matches!(node.kind, Kind::Group) && is_lined_block(last.kind) => last.kind,
         _ => node.kind,
@@ -22,21 +43,30 @@ pub fn kind_at_end(node: &Node<'_>) -> Kind {
 
 /// The same of what it shows first.
 pub fn kind_at_start(node: &Node<'_>) -> Kind {
+    if is_empty_group(node) {
+        return Kind::Empty;
+    }
     match node.children.as_slice().first() {
         Some(first) if matches!(node.kind, Kind::Group) && is_lined_block(first.kind) => first.kind,
         _ => node.kind,
     }
 }
 
+/// Whether a block of this kind is apart from any other on the next line, but for a list from a list: it is recognized
+/// by its line's signs, or leaves its line empty.
+fn is_apart(kind: Kind) -> bool {
+    is_lined(kind) || matches!(kind, Kind::Empty)
+}
+
 /// How many line breaks two neighbours ask for at least. No empty line is in an item, a list or a table.
 pub fn least_between(is_tight: bool, left: Kind, right: Kind) -> usize {
-    if is_cell(left) && !matches!(right, Kind::Group) {
+    if is_cell(left) && !matches!(right, Kind::Group | Kind::Empty) {
         return 0;
     }
     if is_tight {
         return 1;
     }
-    if (is_lined(left) || is_lined(right)) && !(is_list(left) && is_list(right)) {
+    if (is_apart(left) || is_apart(right)) && !(is_list(left) && is_list(right)) {
         1
     } else {
         2

@@ -1,8 +1,7 @@
-//! Children of a node of the page, edited nodes and slices: some of them, and how many there are.
+//! Children of a node of the page and edited nodes: some of them, and how many there are.
 
 use wt_checks::is_compared;
 use wt_difference::Child;
-use wt_places::Slot;
 use wt_tree::Node;
 
 /// The children from one place up to another; none where there are none.
@@ -62,13 +61,4 @@ pub fn mark_at<'t, 'a>(children: &[Child<'t, 'a>], at: usize, number: u32) -> Op
     let child = children.get(at)?;
     let is_same = child.node.id == number && child.node.kind.is_mark();
     if is_same { Some(child.node) } else { None }
-}
-
-/// All but the first.
-pub fn behind_first(slices: &[Slot]) -> &[Slot] {
-    if slices.is_empty() {
-        slices
-    } else {
-        &slices[1..]
-    }
 }

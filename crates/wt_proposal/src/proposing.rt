@@ -16,7 +16,7 @@ use wt_block_signs::{
 use wt_checks::{Visit, is_compared};
 use wt_content_proposal::{Writing, edges_of, spelled};
 use wt_difference::{Child, held, inside, inside_count, same_inside};
-use wt_gaps::{Gap, Numbering, byte_at, children_between, nodes_between, push_change};
+use wt_gaps::{Gap, Numbering, Tags, byte_at, children_between, nodes_between, push_change};
 use wt_known::{Known, block_of};
 use wt_places::{
     Beside, Reached, Slot, begun, inside_end, inside_start, inside_stop, next_turn, places,
@@ -400,6 +400,7 @@ fn push_span<'t, 'a>(
     let behind = node_at(held.children, behind);
     let gap = Gap {
         place: up_to(span.place, behind),
+        tags: Tags::none(),
         blanks: span.place.start,
         is_tight: !held.signs.is_empty() || holds_parts(held.kind),
         in_cell: is_cell(held.kind),
