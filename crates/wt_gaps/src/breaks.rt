@@ -2,7 +2,6 @@
 
 use std::alloc::Global;
 use wt_block_signs::{is_cell, is_lined, is_list, is_part};
-use wt_checks::is_compared;
 use wt_known::Closeness;
 use wt_span::{NoMemory, Str};
 use wt_tree::{Kind, Node};
@@ -16,21 +15,19 @@ pub fn is_heading(kind: Kind) -> bool {
     matches!(kind, Kind::Heading(_))
 }
 
-/// Whether a node is a group that shows nothing.
+/// Whether a node is the group of one call that gives nothing.
 fn is_empty_group(node: &Node<'_>) -> bool {
-    if !matches!(node.kind, Kind::Group) {
-        return false;
-    }
-    for child in node.children.as_slice() {
-        if is_compared(child.kind) {
-            return false;
+    let children = node.children.as_slice();
+    match children.first() {
+        Some(first) if matches!(node.kind, Kind::Group) => {
+            children.len() == 1 && matches!(first.kind, Kind::Empty)
         }
+        _ => false,
     }
-    true
 }
 
 /// The kind of what a node shows last, as its neighbour after it sees it: of a group that ends with a list, a heading
-/// or the like this one's, and of one that shows nothing `Empty`.
+/// or the like this one's, and of that of a call that gives nothing `Empty`.
 pub fn kind_at_end(node: &Node<'_>) -> Kind {
     if is_empty_group(node) {
         return Kind::Empty;
