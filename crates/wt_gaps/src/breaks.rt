@@ -2,6 +2,7 @@
 
 use std::alloc::Global;
 use wt_block_signs::{is_cell, is_lined, is_list, is_part};
+use wt_checks::is_compared;
 use wt_known::Closeness;
 use wt_span::{NoMemory, Str};
 use wt_tree::{Kind, Node};
@@ -26,27 +27,37 @@ fn is_empty_group(node: &Node<'_>) -> bool {
     }
 }
 
-/// The kind of what a node shows last, as its neighbour after it sees it: of a group that ends with a list, a heading
-/// or the like this one's, and of that of a call that gives nothing `Empty`.
-pub fn kind_at_end(node: &Node<'_>) -> Kind {
+/// The kind of what a node shows at one side, where this child is; the next one, where this one shows nothing, as the line
+/// break doesn't with which what a call gives may begin or end.
+fn kind_beside(node: &Node<'_>, child: Option<&Node<'_>>, next: Option<&Node<'_>>) -> Kind {
     if is_empty_group(node) {
         return Kind::Empty;
     }
-    match node.children.as_slice().last() {
-        Some(last) if matches!(node.kind, Kind::Group) && is_lined_block(last.kind) => last.kind,
+    let shown = match child {
+        Some(child) if !is_compared(child.kind) => next,
+        _ => child,
+    };
+    match shown {
+        Some(shown) if matches!(node.kind, Kind::Group) && is_lined_block(shown.kind) => shown.kind,
         _ => node.kind,
     }
 }
 
+/// The kind of what a node shows last, as its neighbour after it sees it: of a group that ends with a list, a heading
+/// or the like this one's, and of that of a call that gives nothing `Empty`.
+pub fn kind_at_end(node: &Node<'_>) -> Kind {
+    let children = node.children.as_slice();
+    let before = match children.len().checked_sub(2) {
+        Some(at) => children.get(at),
+        None => None,
+    };
+    kind_beside(node, children.last(), before)
+}
+
 /// The same of what it shows first.
 pub fn kind_at_start(node: &Node<'_>) -> Kind {
-    if is_empty_group(node) {
-        return Kind::Empty;
-    }
-    match node.children.as_slice().first() {
-        Some(first) if matches!(node.kind, Kind::Group) && is_lined_block(first.kind) => first.kind,
-        _ => node.kind,
-    }
+    let children = node.children.as_slice();
+    kind_beside(node, children.first(), children.get(1))
 }
 
 /// Whether a block of this kind is apart from any other on the next line, but for a list from a list: it is recognized

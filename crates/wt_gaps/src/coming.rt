@@ -6,9 +6,7 @@ use crate::breaks::{
 };
 use crate::gap::{Gap, is_before_text};
 use crate::gone::{Slice, push_change, push_part_of};
-use crate::lines::{
-    is_doubled, is_doubled_at, next_in_page, push_in_line, range_of, shares_line,
-};
+use crate::lines::{is_doubled, is_doubled_at, next_in_page, push_in_line, range_of, shares_line};
 use crate::nodes::count_of;
 use crate::tags::{Tags, breaks_before_tag, breaks_behind_tag};
 use std::alloc::Global;
@@ -129,6 +127,17 @@ fn may_be_close(above: Kind, below: Kind) -> bool {
     is_heading(above) || (is_lined_block(above) && !is_heading(below))
 }
 
+/// Whether a part of a gap begins where the child before it ends: the first part of each does.
+fn is_directly_behind(gap: &Gap<'_, '_, '_>, before: &Node<'_>) -> bool {
+    gap.place.start <= range_of(before).end
+}
+
+/// Whether what is directly below the child before in the page is as close to it as it may be.
+fn is_above_closely(page: &str, gap: &Gap<'_, '_, '_>, before: &Node<'_>) -> bool {
+    let below = first_gone(gap.gone).or(gap.behind);
+    is_directly_behind(gap, before) && is_followed_closely(page, before, below)
+}
+
 /// The line breaks between the child before and what comes after it: below a heading, a table or a list as many as the
 /// page has below this one.
 fn breaks_below(
@@ -138,8 +147,7 @@ fn breaks_below(
     coming: &Coming,
 ) -> usize {
     let last = kind_at_end(before);
-    let below = first_gone(gap.gone).or(gap.behind);
-    if may_be_close(last, coming.start) && is_followed_closely(known.page, before, below) {
+    if may_be_close(last, coming.start) && is_above_closely(known.page, gap, before) {
         return least_between(gap.is_tight, last, coming.start).max(1);
     }
     between(known.closeness, gap.is_tight, last, coming.first)
@@ -374,6 +382,7 @@ fn comes_last_in_line(page: &str, gap: &Gap<'_, '_, '_>, coming: &Coming) -> boo
     };
     gap.behind.is_none()
         && gap.is_behind_text
+        && is_directly_behind(gap, before)
         && is_cell(coming.first)
         && same_kind(before.kind, coming.first)
         && count_of(gap.new) == 1

@@ -20,7 +20,5 @@ pub use gone::{
     slices_of, wanted_between,
 };
 pub use lines::{push_between, push_comment, push_up_to_comment, range_of};
-pub use nodes::{
-    children_between, count_of, last_number, mark_at, nodes_between, place_behind,
-};
+pub use nodes::{children_between, count_of, last_number, mark_at, nodes_between, place_behind};
 pub use tags::Tags;
