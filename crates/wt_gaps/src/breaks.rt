@@ -29,7 +29,11 @@ fn is_empty_group(node: &Node<'_>) -> bool {
 
 /// The kind of what a node shows at one side, where this child is; the next one, where this one shows nothing, as the line
 /// break doesn't with which what a call gives may begin or end.
-fn kind_beside(node: &Node<'_>, child: Option<&Node<'_>>, next: Option<&Node<'_>>) -> Kind {
+fn kind_beside<'n, 'a>(
+    node: &Node<'_>,
+    child: Option<&'n Node<'a>>,
+    next: Option<&'n Node<'a>>,
+) -> Kind {
     if is_empty_group(node) {
         return Kind::Empty;
     }

@@ -324,11 +324,12 @@ impl Line {
         }
     }
 
-    /// Whether the edited child before those that come, one of these, is text alone.
+    /// Whether the edited child before those that come, one of these, is text alone, which isn't read with a sign that
+    /// comes after it.
     fn is_behind_text(&self, nodes: &[Node<'_>]) -> bool {
         match self.came_from.checked_sub(1) {
             Some(at) => match nodes.get(at) {
-                Some(node) => inside(node).len() == node.children.as_slice().len(),
+                Some(node) => !holds_more(node) && !ends_with_sign(node),
                 None => false,
             },
             None => false,
@@ -362,6 +363,25 @@ impl Line {
             gets_line: false,
             first: self.first,
         }
+    }
+}
+
+/// Whether a node holds more than its inside.
+fn holds_more(node: &Node<'_>) -> bool {
+    inside(node).len() != node.children.as_slice().len()
+}
+
+/// Whether a heading cell ends with a text, its own or that of a group, that would be read with the signs of the next one.
+fn ends_with_sign(cell: &Node<'_>) -> bool {
+    if !matches!(cell.kind, Kind::Th) {
+        return false;
+    }
+    match inside(cell).last() {
+        Some(last) => match last.children.as_slice().last() {
+            Some(text) if matches!(last.kind, Kind::Group) => text.shown().ends_with("!"),
+            _ => last.shown().ends_with("!"),
+        },
+        None => false,
     }
 }
 
