@@ -14,12 +14,11 @@ mod table;
 mod words;
 mod written;
 
-pub use table::Page;
-pub use words::Word;
-
 use crate::reply::reply_to;
 use crate::rooms::hand_back;
 use std::alloc::Global;
+pub use table::Page;
+pub use words::Word;
 use wt_pagetool::Status;
 
 /// Answers the words of a command over the bytes of `input` and the pages of a table.
