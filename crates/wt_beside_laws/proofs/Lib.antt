@@ -53,3 +53,4 @@ pub mod FlatAgain
 pub mod SentPieces
 pub mod NoFaults
 pub mod SentShown
+pub mod PlainContents
