@@ -1,5 +1,5 @@
 -- A page that is one paragraph of text and of nodes, and texts that are typed in it beside the nodes.
-use Rattle.std.specs.Prelude.{◌≡◌, ℕ, true, false, List, [], ◌∷◌, ◌++◌}
+use Rattle.std.specs.Prelude.{◌≡◌, ℕ, true, false, None, List, [], ◌∷◌}
 use Rattle.std.specs.List.{list_all, list_any}
 use Rattle.std.specs.Str.{IsUtf8}
 use Rattle.wt_span.specs.Items.{Item}
@@ -46,10 +46,10 @@ paragraph_of q = para_with (joined_parts (lines_of q))
 abbrev pub block_of : List ℕ → Tree
 block_of q = standing 1 [] (paragraph_of q)
 
--- Each of these nodes has an item, all are the page's own, and no node in it is empty.
+-- The characters are the page's own. Each node has an item, all are the page's own, and no node in it is empty.
 abbrev pub AreFullParts : List Part → Type 0
 AreFullParts [] = Unit {0}
-AreFullParts (loose k o b ∷ ps) = AreFullParts ps
+AreFullParts (loose k o b ∷ ps) = (o ≡ None) × AreFullParts ps
 AreFullParts (node t ∷ ps) = (list_any is_page (tree_items t) ≡ true) × NoneEmpty t × (list_all is_page (tree_items t) ≡ true) × AreFullParts ps
 
 -- so each node of a content by its source
