@@ -18,11 +18,13 @@ use Rattle.wt_inline.specs.Parts.{Part, loose, node}
 use Rattle.wt_context.specs.Line.{line_parts}
 use Rattle.wt_annotated.specs.Clean.{is_page}
 use Rattle.wt_annotated.specs.WithoutCalls.{NoneEmpty}
+use Rattle.wt_difference.specs.Difference.{same_inside}
 use Rattle.wt_selser.specs.Edits.{is_tangled}
 use Rattle.wt_visible.specs.SameNodes.{same_node}
 use Rattle.wt_moved_laws.specs.Standing.{standing}
 use Rattle.wt_typed_blocks.specs.Sent.{paragraph}
 use Rattle.wt_typed_blocks.specs.Edited.{Piece, gone, written, kept, page_pieces, sent_pieces, PiecesStay, edited, Edits, no_edits, more_edits, sent_body}
+use Rattle.wt_typed_blocks.specs.EditedUnmarked.{bare_node, bare_body, AreInline}
 use Rattle.wt_text_edit_laws.specs.LonePages.{of_items}
 use Rattle.wt_text_edit_laws.specs.NoCalls.{CallsNothing}
 use Rattle.wt_text_edit_laws.specs.Parts.{part_tree, HasNoGroups}
@@ -102,3 +104,15 @@ new_signs q ps = signs_of_all (page_of same_node (block_of q)) place.Paragraph (
 
 abbrev pub new_flat : List ℕ → List Piece → List ℕ
 new_flat q ps = spelled (record { within = false; place = place.Paragraph; source = flat (block_of q) }) (new_signs q ps)
+
+-- ---- without marks
+
+-- the edited tree, whatever marks are on the paragraph and the body
+abbrev pub bare_flat : Label → Label → List ℕ → List Piece → Tree
+bare_flat b m q ps = bare_body (label (part_tree q)) b (flat_edits m q ps)
+
+-- Its content is another one than that of the page's paragraph, and what stays in it is inline.
+pub record IsUnmarkedFlatEdit (m : Label) (q : List ℕ) (ps : List Piece) : Type 0 where
+  pub edit : IsFlatEdit q ps
+  pub inline : AreInline ps
+  pub other : same_inside (block_of q) (bare_node (edited paragraph (label (block_of q)) m ps)) ≡ false
