@@ -53,4 +53,6 @@ pub mod FlatAgain
 pub mod SentPieces
 pub mod NoFaults
 pub mod SentShown
+pub mod CalmContents
+pub mod FlatLines
 pub mod PlainContents

@@ -15,3 +15,4 @@ pub mod Tiles
 pub mod Glyphs
 pub mod Beginnings
 pub mod SentPieces
+pub mod Calm

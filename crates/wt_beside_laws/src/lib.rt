@@ -5,7 +5,13 @@ ghost use Rattle.std.specs.Prelude.{◌≡◌, ◌≤◌, ℕ, ◌+◌, Bool, fa
 ghost use Rattle.wt_span.specs.Items.{Item};
 ghost use Rattle.wt_guards.specs.Content.{ContentSign};
 ghost use Rattle.wt_guards.specs.Guards.{Setting, spelled};
+ghost use Rattle.std.specs.Str.{IsUtf8};
 ghost use Rattle.wt_expand.specs.PageItems.{page_items};
+ghost use Rattle.wt_expand.specs.PageCalls.{expanded_page};
+ghost use Rattle.wt_expand.specs.Work.{Pages, first_refusal};
+ghost use Rattle.wt_expand.specs.Expansion.{page_work};
+ghost use Rattle.wt_text_edit_laws.specs.LonePages.{of_items};
+ghost use Rattle.wt_beside_laws.specs.Calm.{AreCalm};
 ghost use Rattle.wt_lines.specs.Lines.{lines};
 ghost use Rattle.wt_isolation.specs.OpenTags.{any_ends_open};
 ghost use Rattle.wt_inline.specs.ItemTree.{forest};
@@ -268,4 +274,22 @@ pub fn contents_of_such_nodes_have_no_fault()
 pub fn what_is_sent_is_what_is_shown()
     ensures { (p : Known) (pl : Where) (ps : List Piece) (rest : Plains) → PiecesStay ps → AreSent p (sent_pieces ps) → PiecesShow p ps
         → content_shown (signs_of_all p pl (sent_pieces ps)) rest ≡ pieces_before ps rest }
+{}
+
+/// Such a content is UTF-8, and as a page it calls nothing, whatever the folder has: nothing is expanded in it, and nothing refuses
+/// it. Asked is that the source of each node is UTF-8 and has no brace outside of its lexemes (`AreCalm`).
+#[tactic(auto, using(crate::proofs::CalmContents::content_utf8, crate::proofs::CalmContents::content_expanded, crate::proofs::CalmContents::content_unrefused))]
+pub fn texts_beside_nodes_call_nothing()
+    ensures utf8 { (s : Setting) (signs : List ContentSign) → AreCharacters signs → AreCalm signs → IsUtf8 (spelled s signs) }
+    ensures expanded { (pages : Pages) (s : Setting) (signs : List ContentSign) → AreKept signs → AreCalm signs
+        → expanded_page pages (spelled s signs) ≡ of_items (page_items (spelled s signs)) }
+    ensures unrefused { (pages : Pages) (s : Setting) (signs : List ContentSign) → AreKept signs → AreCalm signs
+        → first_refusal pages (spelled s signs) (page_work pages (spelled s signs)) ≡ None }
+{}
+
+/// A page whose lines are text is one paragraph: what its lines are, with a line break between each two (`joined_parts`).
+#[tactic(auto, using(crate::proofs::FlatLines::lines_meaning))]
+pub fn lines_of_text_are_one_paragraph()
+    ensures { (q : List ℕ) → AreLinesOfText 0 (lines (page_items q))
+        → meaning (page_items q) ≡ body_with (para_with (joined_parts (lines (page_items q))) ∷ []) }
 {}
