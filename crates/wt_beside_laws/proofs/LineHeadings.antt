@@ -26,7 +26,7 @@ use Rattle.wt_text_edit_laws.proofs.Headings.HeadingRows.{round_is, apart_level}
 use Rattle.wt_text_edit_laws.proofs.Headings.TypedTexts.{end_by, no_equals, begins_other, begins_still, ends_still, ends_blank, ends_other, ends_behind as behind_other}
 use Rattle.wt_beside_laws.specs.Content.{guard_items, letter_items, content_items}
 use Rattle.wt_beside_laws.specs.Flat.{content_parts, line_content}
-use Rattle.wt_beside_laws.specs.InHeadings.{AreOnOneLine, IsHeadingContent, SignEndsUnequal, LastEndsUnequal, IsSome, KeepsLevel, heading_of}
+use Rattle.wt_beside_laws.specs.InHeadings.{AreOnOneLine, IsHeadingContent, LastEndsUnequal, IsSome, KeepsLevel, heading_of}
 use Rattle.wt_beside_laws.specs.Lines.{AreUnbroken, line_items}
 use Rattle.wt_beside_laws.specs.Nodes.{AreNodes}
 use Rattle.wt_beside_laws.proofs.Contents.{content_alone}

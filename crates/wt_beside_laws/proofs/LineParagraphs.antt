@@ -34,11 +34,11 @@ use Rattle.wt_beside_laws.proofs.LineRows.{OwnBreaks, rows_parts, content_own, l
 
 -- ---- lines of text
 
-front_all : (P : List Item → Type 0) (ls ms : List (List Item)) → All P (ls ++ ms) → All P ls
+pub front_all : (P : List Item → Type 0) (ls ms : List (List Item)) → All P (ls ++ ms) → All P ls
 front_all P [] ms h = All-nil P
 front_all P (l ∷ ls) ms h = All-cons P l ls (All-head P l (ls ++ ms) h) (front_all P ls ms (All-tail P l (ls ++ ms) h))
 
-rest_all : (P : List Item → Type 0) (ls ms : List (List Item)) → All P (ls ++ ms) → All P ms
+pub rest_all : (P : List Item → Type 0) (ls ms : List (List Item)) → All P (ls ++ ms) → All P ms
 rest_all P [] ms h = h
 rest_all P (l ∷ ls) ms h = rest_all P ls ms (All-tail P l (ls ++ ms) h)
 
@@ -50,7 +50,7 @@ no_text_at : (n : ℕ) → line_kind n [] ≡ line.Text → ⊥
 unfolding kind_of_signs
 no_text_at n e = cc
 
-no_end : (n : ℕ) (xs : List Item) → All (IsLineOfText n) (empty_end xs) → empty_end xs ≡ []
+pub no_end : (n : ℕ) (xs : List Item) → All (IsLineOfText n) (empty_end xs) → empty_end xs ≡ []
 no_end n [] h = absurd (no_text_at n (All-head (IsLineOfText n) [] [] h).text)
 no_end n (x ∷ []) h = by (is_break_item x) h
   where
@@ -149,10 +149,10 @@ para_is s signs h =
     let ls : List (List Item) = full_lines (page_items (spelled s signs)) in
     ap para (rows_are s signs h) ∙ para_by (map text_row ls) (content_parts s [] signs) (flat_paragraph s signs h).parts
 
-abbrev body_of : List Stretch → ItemTree
+abbrev pub body_of : List Stretch → ItemTree
 body_of ss = inner (plain kind.Body) [] (forest (children (stretches_parts ss))) []
 
-body_by : (ls : List (List Item)) (xs : List Item) (t : ItemTree) → AreRuns goes_on ls xs → empty_end xs ≡ [] → para (map text_row ls) ≡ t
+pub body_by : (ls : List (List Item)) (xs : List Item) (t : ItemTree) → AreRuns goes_on ls xs → empty_end xs ≡ [] → para (map text_row ls) ≡ t
     → body_of (within MOST_TABLES (map text_row ls)) ≡ body_with (t ∷ [])
 unfolding children
 body_by [] xs t r e p = let no : one_empty ≡ [] = sym (ap empty_end r) ∙ e in cc

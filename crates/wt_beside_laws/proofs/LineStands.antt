@@ -13,10 +13,10 @@ use Rattle.wt_lines.specs.Lines.{full_lines, content, empty_end, is_break_item, 
 use Rattle.wt_headings.specs.Lines.{ending}
 use Rattle.wt_inline.specs.declared.loose.Loose.TheVariants.{Sep}
 use Rattle.wt_inline.specs.ItemTree.{plain, ItemTree, inner, forest}
-use Rattle.wt_inline.specs.Parts.{Part, node, parts, children}
+use Rattle.wt_inline.specs.Parts.{node, parts, children}
 use Rattle.wt_page.specs.Rows.{Row, rows_from, rows, last_ending}
 use Rattle.wt_page.specs.Stretches.{stretches_parts}
-use Rattle.wt_page.specs.Texts.{para_parts, para}
+use Rattle.wt_page.specs.Texts.{para}
 use Rattle.wt_page.specs.Body.{blocks, body_parts, meaning}
 use Rattle.wt_rows.proofs.Portions.{no_parts, breaks_first}
 use Rattle.wt_text_edit_laws.specs.ParagraphBetween.{AreClosed, before_marks, EndsApart, EndsParagraph, blocks_in, body_with}

@@ -1,17 +1,16 @@
 -- Nothing is wrong in a content of nodes that are sent as they are, and of texts.
-use Rattle.std.proofs.Common.{◌≡◌, Bool, true, false, List, [], ◌∷◌, ◌++◌, refl, ap, ◌∙◌}
+use Rattle.std.proofs.Common.{◌≡◌, Bool, false, List, [], ◌++◌, refl, ap, ◌∙◌}
 use Rattle.std.specs.Prelude.{if◌then◌else◌, Option, None}
 use Rattle.wt_tree.specs.Tree.{Label, Tree, tree, Trees, none, more, label}
 use Rattle.wt_tree.specs.EditShapes.{edit_shape}
 use Rattle.wt_tree.specs.declared.edit_shape.InlineForm.{InlineForm}
 use Rattle.wt_tree.specs.declared.edit_shape.InlineForm.TheVariants as inline
-use Rattle.wt_original.specs.Kept.{Kept, kept_with}
-use Rattle.wt_original.specs.Page.{Page, page_of, is_unchanged}
+use Rattle.wt_original.specs.Kept.{Kept}
+use Rattle.wt_original.specs.Page.{Page, page_of}
 use Rattle.wt_content.specs.declared.reason.ContentWhy.{ContentWhy}
-use Rattle.wt_content.specs.declared.standing.Standing.{Standing}
-use Rattle.wt_content.specs.declared.standing.Standing.TheVariants as stands
-use Rattle.wt_content.specs.Content.{changed_from, standing_of, standing, faults_by, holds_link, below, all_faults, is_paragraph, outermost, first_why, bad_content}
-use Rattle.wt_link_spelling.specs.Spelling.{children_of}
+use Rattle.wt_content.specs.declared.content.Standing.{Standing}
+use Rattle.wt_content.specs.declared.content.Standing.TheVariants as stands
+use Rattle.wt_content.specs.Content.{changed_from, standing_of, standing, faults_by, holds_link, below, all_faults, is_paragraph, first_why, bad_content}
 use Rattle.wt_beside_laws.specs.SentNodes.{IsUnchanged, IsSentBy, AreSent}
 use Rattle.wt_beside_laws.specs.SentPieces.{FitsBy, TextsFit}
 

@@ -1,9 +1,9 @@
 -- With what nodes that stay end: with no blank, and with no `=` but for bare URLs.
-use Rattle.std.proofs.Common.{arith, ◌≡◌, ℕ, zero, suc, ◌+◌, ◌-◌, ◌<◌, ◌≤◌, ◌==◌, Bool, true, false, Option, Some, None, List, [], ◌∷◌, ◌++◌, length, map, take, drop, refl, sym, ap, ◌∙◌, subst, inl, inr, ◌⊎◌, All}
-use Rattle.std.specs.Prelude.{◌&&◌, not, codes, if◌then◌else◌, nat_le, nat_lt}
+use Rattle.std.proofs.Common.{arith, ◌≡◌, ℕ, zero, suc, ◌+◌, ◌-◌, ◌<◌, ◌≤◌, ◌==◌, Bool, true, false, Option, Some, None, List, [], ◌∷◌, length, map, take, drop, refl, sym, ap, ◌∙◌, subst, inl, inr, ◌⊎◌, All}
+use Rattle.std.specs.Prelude.{◌&&◌, not, codes, if◌then◌else◌}
 use Rattle.std.proofs.lemmas.Bool.Decides.{nat_tests}
 use Rattle.std.proofs.lemmas.List.{length-drop}
-use Rattle.std.proofs.lemmas.List.Elements.{All-nil, All-cons, All-contains}
+use Rattle.std.proofs.lemmas.List.Elements.{All-contains}
 use Rattle.wt_span.specs.Bytes.{is_blank}
 use Rattle.wt_span.specs.Items.{Item, char, whole, is_mark_form, sign}
 use Rattle.wt_guards.specs.declared.role.Role.{Role}
@@ -19,7 +19,7 @@ use Rattle.wt_tiles.specs.declared.target.LinkKind.{LinkKind}
 use Rattle.wt_tiles.specs.declared.target.LinkKind.TheVariants.{Page, Category, Media}
 use Rattle.wt_tiles.specs.declared.target.Target.{Target}
 use Rattle.wt_tiles.specs.Glyphs.{glyph_of, in_class, is_in, is_small, first_is, run_len, begins, byte_glyphs}
-use Rattle.wt_tiles.specs.Links.{target_of, kind_of, target_len, inner_len, has_pipe, head_len, link_shape, link_with, link_to, link_by, link_in, link_at}
+use Rattle.wt_tiles.specs.Links.{target_of, kind_of, target_len, inner_len, has_pipe, head_len, link_shape, link_with, link_to, link_by, link_in}
 use Rattle.wt_tiles.specs.Partners.{DepthChange, Up, Down, Level, number, tag_turn, by_tag, partner}
 use Rattle.wt_tiles.specs.Searches.{IsHead}
 use Rattle.wt_tiles.specs.Tags.{opening_tag, closing_tag, tag_at}
@@ -33,6 +33,7 @@ use Rattle.wt_beside_laws.specs.Nodes.{IsLinkNode, IsExternalNode, IsBareNode, I
 use Rattle.wt_beside_laws.specs.Tiles.{IsPlainKind, IsCategoryKind, IsMediaKind, LeadsBy, AimsBy}
 use Rattle.wt_beside_laws.proofs.LinkTiles.{with_made}
 use Rattle.wt_beside_laws.proofs.NodesEnd.{EndsWith, external_ends, ClosesAt, inner_by, second_is, inside_of, other_ends, aims_other, category_other, media_other, tag_ends}
+use Rattle.wt_beside_laws.proofs.NodesStand.{EachIs, all_by}
 use Rattle.wt_beside_laws.proofs.PairTiles.{HasTag, partner_tag, same_list}
 use Rattle.wt_beside_laws.proofs.TagFronts.{byte_is}
 use Rattle.wt_beside_laws.proofs.UrlFronts.{some_shape}
@@ -83,24 +84,25 @@ trail_fails p glyph.Mark f e = refl
 
 run_fails : (p : ℕ → Bool) (us : List Glyph) → FailsAtEnds p → run_len class.Trail us ≡ length us → 0 < length us → LastFails p us
 run_fails p [] f e some = absurd (omega (arith, some))
-run_fails p (u ∷ us) f e some = by (in_class class.Trail u) refl e
+run_fails p (u ∷ us) f e some = by (in_class class.Trail u) refl e (λ z k. run_fails p us f z k)
   where
     rest_fails : (vs : List Glyph) → (run_len class.Trail vs ≡ length vs → 0 < length vs → LastFails p vs) → run_len class.Trail vs ≡ length vs
         → in_class class.Trail u ≡ true → LastFails p (u ∷ vs)
     rest_fails [] k z i = trail_fails p u f i
     rest_fails (v ∷ vs) k z i = k z (omega arith)
 
-    by : (t : Bool) → in_class class.Trail u ≡ t → (if t then 1 + run_len class.Trail us else 0) ≡ suc (length us) → LastFails p (u ∷ us)
-    by true i z = rest_fails us (run_fails p us f) (omega (arith, z)) i
-    by false i z = absurd (omega (arith, z))
+    by : (t : Bool) → in_class class.Trail u ≡ t → (if t then 1 + run_len class.Trail us else 0) ≡ suc (length us)
+        → (run_len class.Trail us ≡ length us → 0 < length us → LastFails p us) → LastFails p (u ∷ us)
+    by true i z k = rest_fails us k (omega (arith, z)) i
+    by false i z k = absurd (omega (arith, z))
 
 -- behind the `]]` at a place are letters that join it, or nothing
 page_fails : (p : ℕ → Bool) (j r : ℕ) (gs : List Glyph) → FailsAtEnds p → ClosesAt gs j → run_len class.Trail (drop (j + 2) gs) ≡ r → j + 2 + r ≡ length gs
     → LastFails p gs
-page_fails p j zero gs f c e whole = last_at p 93 (suc j) gs f.bracket (omega (arith, whole)) (second_is j gs c)
-page_fails p j (suc r) gs f c e whole =
+page_fails p j zero gs f c e full = last_at p 93 (suc j) gs f.bracket (omega (arith, full)) (second_is j gs c)
+page_fails p j (suc r) gs f c e long =
     let cut : length (drop (j + 2) gs) ≡ length gs - (j + 2) = length-drop (j + 2) gs in
-    let full : suc r ≡ length (drop (j + 2) gs) = omega (arith, cut, whole) in
+    let full : suc r ≡ length (drop (j + 2) gs) = omega (arith, cut, long) in
     let some : 0 < length (drop (j + 2) gs) = omega (arith, full) in
     last_drop p (j + 2) gs (run_fails p (drop (j + 2) gs) f (e ∙ full) some)
 
@@ -114,49 +116,49 @@ plain_fails p Media head j gs f a h c e = absurd a
 
 with_fails : (p : ℕ → Bool) (t : Target) (n : ℕ) (o : Option ℕ) (gs : List Glyph) (w : Shape) → FailsAtEnds p → IsPlainKind (kind_of t)
     → inner_len (kind_of t) n gs ≡ o → link_with t n o gs ≡ Some w → size w ≡ 2 + length gs → LastFails p gs
-with_fails p t n None gs w f h i e whole = cc
-with_fails p t n (Some j) gs w f h i e whole =
+with_fails p t n None gs w f h i e full = cc
+with_fails p t n (Some j) gs w f h i e full =
     let head : ℕ = head_len t.colon n gs in
     let m = with_made (has_pipe n gs && j == n + 1) (link_shape (kind_of t) head j gs) w e in
     plain_fails p (kind_of t) head j gs f h (head_within (kind_of t) t.colon n j gs (Some j) (sym i) refl) (inner_by (kind_of t) n j gs i)
-    (ap size m.1 ∙ whole)
+    (ap size m.1 ∙ full)
 
 to_fails : (p : ℕ → Bool) (o : Option Target) (n : ℕ) (gs : List Glyph) (w : Shape) → FailsAtEnds p → LeadsBy IsPlainKind o → link_to o n gs ≡ Some w
     → size w ≡ 2 + length gs → LastFails p gs
-to_fails p None n gs w f h e whole = cc
-to_fails p (Some t) n gs w f h e whole = with_fails p t n (inner_len (kind_of t) n gs) gs w f h refl e whole
+to_fails p None n gs w f h e full = cc
+to_fails p (Some t) n gs w f h e full = with_fails p t n (inner_len (kind_of t) n gs) gs w f h refl e full
 
 by_fails : (p : ℕ → Bool) (o : Option ℕ) (gs : List Glyph) (w : Shape) → FailsAtEnds p → AimsBy IsPlainKind o gs → link_by o gs ≡ Some w
     → size w ≡ 2 + length gs → LastFails p gs
-by_fails p None gs w f h e whole = cc
-by_fails p (Some n) gs w f h e whole = to_fails p (target_of (take n gs)) n gs w f h e whole
+by_fails p None gs w f h e full = cc
+by_fails p (Some n) gs w f h e full = to_fails p (target_of (take n gs)) n gs w f h e full
 
 in_fails : (p : ℕ → Bool) (gs : List Glyph) (w : Shape) → FailsAtEnds p → AimsBy IsPlainKind (target_len gs) gs → link_in gs ≡ Some w → size w ≡ 2 + length gs
     → LastFails p gs
 unfolding link_in
-in_fails p gs w f h e whole = by_fails p (target_len gs) gs w f h e whole
+in_fails p gs w f h e full = by_fails p (target_len gs) gs w f h e full
 
 link_fails : (p : ℕ → Bool) (own : List Glyph) → FailsAtEnds p → IsLinkNode own → LastFails p own
 link_fails p own f n =
-    let whole : size n.shape ≡ 2 + length n.inside = n.whole ∙ ap length n.is ∙ omega arith in
+    let full : size n.shape ≡ 2 + length n.inside = n.whole ∙ ap length n.is ∙ omega arith in
     subst (LastFails p) (sym n.is)
-    (last_drop p 2 (glyph.Byte 91 ∷ glyph.Byte 91 ∷ n.inside) (in_fails p n.inside n.shape f n.plain (inside_of n.inside n.shape n.link) whole))
+    (last_drop p 2 (glyph.Byte 91 ∷ glyph.Byte 91 ∷ n.inside) (in_fails p n.inside n.shape f n.plain (inside_of n.inside n.shape n.link) full))
 
 category_fails : (p : ℕ → Bool) (own : List Glyph) → FailsAtEnds p → IsCategoryNode own → LastFails p own
 category_fails p own f n =
-    let whole : size n.shape ≡ 2 + length n.inside = n.whole ∙ ap length n.is ∙ omega arith in
+    let full : size n.shape ≡ 2 + length n.inside = n.whole ∙ ap length n.is ∙ omega arith in
     subst (LastFails p) (sym n.is)
     (ends_so p 93 (glyph.Byte 91 ∷ glyph.Byte 91 ∷ n.inside) f.bracket
-    (other_ends n.inside n.shape (aims_other IsCategoryKind category_other (target_len n.inside) n.inside n.category) n.link whole))
+    (other_ends n.inside n.shape (aims_other IsCategoryKind category_other (target_len n.inside) n.inside n.category) n.link full))
 
 media_fails : (p : ℕ → Bool) (own : List Glyph) → FailsAtEnds p → IsMediaNode own → LastFails p own
 media_fails p own f n =
-    let whole : size n.shape ≡ 2 + length n.inside = n.whole ∙ ap length n.is ∙ omega arith in
+    let full : size n.shape ≡ 2 + length n.inside = n.whole ∙ ap length n.is ∙ omega arith in
     let aims : AimsBy IsMediaKind (target_len n.inside) n.inside =
     subst (λ (o : Option ℕ). AimsBy IsMediaKind o n.inside) (sym n.media.target) n.media.kind in
     subst (LastFails p) (sym n.is)
     (ends_so p 93 (glyph.Byte 91 ∷ glyph.Byte 91 ∷ n.inside) f.bracket
-    (other_ends n.inside n.shape (aims_other IsMediaKind media_other (target_len n.inside) n.inside aims) n.link whole))
+    (other_ends n.inside n.shape (aims_other IsMediaKind media_other (target_len n.inside) n.inside aims) n.link full))
 
 external_fails : (p : ℕ → Bool) (own : List Glyph) → FailsAtEnds p → IsExternalNode own → LastFails p own
 external_fails p own f n =
@@ -165,36 +167,37 @@ external_fails p own f n =
 
 -- ---- bare URLs
 
+char_blank : (b : ℕ) → is_url_char b ≡ true → is_blank b ≡ false
+unfolding is_url_char
+char_blank b e = grind (arith, nat_tests, e)
+
 url_blank : (g : Glyph) → is_url_glyph g ≡ true → is_in is_blank g ≡ false
-url_blank (glyph.Byte b) e = blank_by b e
-  where
-    blank_by : (b : ℕ) → is_url_char b ≡ true → is_blank b ≡ false
-    unfolding is_url_char
-    blank_by b e = grind (arith, nat_tests, e)
+url_blank (glyph.Byte b) e = char_blank b e
 url_blank (glyph.Entity c) e = refl
 url_blank glyph.Atom e = refl
 url_blank glyph.Mark e = refl
 
 url_fails : (us : List Glyph) → length us ≤ url_run us → 0 < length us → LastFails is_blank us
 url_fails [] le some = absurd (omega (arith, some))
-url_fails (u ∷ us) le some = by (is_url_glyph u) (not (begins (codes "''") (u ∷ us))) refl le
+url_fails (u ∷ us) le some = by (is_url_glyph u) (not (begins (codes "''") (u ∷ us))) refl le (λ z k. url_fails us z k)
   where
     rest_fails : (vs : List Glyph) → (length vs ≤ url_run vs → 0 < length vs → LastFails is_blank vs) → length vs ≤ url_run vs
         → is_url_glyph u ≡ true → LastFails is_blank (u ∷ vs)
     rest_fails [] k z i = url_blank u i
     rest_fails (v ∷ vs) k z i = k z (omega arith)
 
-    by : (t v : Bool) → is_url_glyph u ≡ t → suc (length us) ≤ (if t && v then suc (url_run us) else 0) → LastFails is_blank (u ∷ us)
-    by true true i z = rest_fails us (url_fails us) (omega (arith, z)) i
-    by true false i z = absurd (omega (arith, z))
-    by false v i z = absurd (omega (arith, z))
+    by : (t v : Bool) → is_url_glyph u ≡ t → suc (length us) ≤ (if t && v then suc (url_run us) else 0)
+        → (length us ≤ url_run us → 0 < length us → LastFails is_blank us) → LastFails is_blank (u ∷ us)
+    by true true i z k = rest_fails us k (omega (arith, z)) i
+    by true false i z k = absurd (omega (arith, z))
+    by false v i z k = absurd (omega (arith, z))
 
 kept_most : (us : List Glyph) → kept_len us ≤ length us
 unfolding kept_len
 kept_most us = omega arith
 
 bare_full : (gs : List Glyph) (w : Shape) → bare_url_of (scheme_len gs) (kept_len (url_items gs)) ≡ Some w → size w ≡ length gs → LastFails is_blank gs
-bare_full gs w e whole =
+bare_full gs w e full =
     let s : ℕ = scheme_len gs in
     let us : List Glyph = drop s gs in
     let m = some_shape s (kept_len (url_items gs)) w e in
@@ -203,7 +206,7 @@ bare_full gs w e whole =
     let kept : kept_len (url_items gs) ≤ length (url_items gs) = kept_most (url_items gs) in
     let cut : length us ≡ length gs - s = length-drop s gs in
     let taken : length (take (url_run us) us) ≤ url_run us = take_most (url_run us) us in
-    last_drop is_blank s gs (url_fails us (omega (arith, whole, long, some, kept, cut, taken)) (omega (arith, whole, long, some, cut)))
+    last_drop is_blank s gs (url_fails us (omega (arith, full, long, some, kept, cut, taken)) (omega (arith, full, long, some, cut)))
   where
     take_most : (n : ℕ) (xs : List Glyph) → length (take n xs) ≤ n
     take_most zero [] = omega arith
@@ -259,12 +262,12 @@ tag_fails p own f n = subst (LastFails p) (sym n.is) (elim n.ends [
 
 -- ---- other nodes
 
-switches_fail : (p : ℕ → Bool) → FailsAtEnds p → All (λ word. LastFails p (byte_glyphs (95 ∷ 95 ∷ word))) switch_names
+each_fails : (p : ℕ → Bool) → FailsAtEnds p → EachIs (λ word. LastFails p (byte_glyphs (95 ∷ 95 ∷ word))) switch_names
 unfolding switch_names
-switches_fail p f =
-    let P : List ℕ → Type 0 = λ word. LastFails p (byte_glyphs (95 ∷ 95 ∷ word)) in
-    let u = f.underscore in
-    All-cons P _ _ u (All-cons P _ _ u (All-cons P _ _ u (All-cons P _ _ u (All-cons P _ _ u (All-cons P _ _ u (All-cons P _ _ u (All-cons P _ _ u (All-cons P _ _ u (All-nil P)))))))))
+each_fails p f = let u = f.underscore in (u, (u, (u, (u, (u, (u, (u, (u, (u, tt)))))))))
+
+switches_fail : (p : ℕ → Bool) → FailsAtEnds p → All (λ word. LastFails p (byte_glyphs (95 ∷ 95 ∷ word))) switch_names
+switches_fail p f = all_by (λ word. LastFails p (byte_glyphs (95 ∷ 95 ∷ word))) switch_names (each_fails p f)
 
 switch_fails : (p : ℕ → Bool) (own : List Glyph) → FailsAtEnds p → IsSwitchNode own → LastFails p own
 switch_fails p own f n =

@@ -1,25 +1,43 @@
 -- Where all nodes of a block stay, they are sent as they are, and in their order.
 use Rattle.std.proofs.Common.{◌≡◌, ℕ, Bool, true, false, List, [], ◌∷◌, refl, sym, ap, ◌∙◌, subst}
-use Rattle.std.specs.Prelude.{◌||◌, if◌then◌else◌}
+use Rattle.std.specs.Prelude.{◌||◌, if◌then◌else◌, Option}
 use Rattle.wt_tree.specs.declared.kind.Kind.{Kind}
+use Rattle.wt_tree.specs.declared.kind.AttrName.{AttrName}
+use Rattle.wt_tree.specs.declared.node.DataMw.{DataMw}
 use Rattle.wt_tree.specs.Kinds.{showing}
-use Rattle.wt_tree.specs.Plain.{Plains, ended, plain, plain_before, plains_before}
+use Rattle.wt_tree.specs.Plain.{Face, face, Plains, ended, shown_before, plain, plain_before, plains_before}
 use Rattle.wt_tree.specs.Tiling.{is_group, HasNoGroup, NoneIsGroup}
 use Rattle.wt_tree.specs.Tree.{Label, Tree, tree, Trees, none, more, label}
 use Rattle.wt_tree.specs.EditShapes.{edit_shape}
 use Rattle.wt_tree.specs.declared.edit_shape.InlineForm.{InlineForm}
 use Rattle.wt_tree.specs.declared.edit_shape.InlineForm.TheVariants as inline
 use Rattle.wt_original.specs.Kept.{Kept, kept_with}
-use Rattle.wt_original.specs.Page.{Page, page_of, TellsSame, node_or, restored, restored_all, is_unchanged}
+use Rattle.wt_original.specs.Page.{Page, page_of, TellsSame, node_or, restored, restored_all}
 use Rattle.wt_link_spelling.specs.Spelling.{children_of}
 use Rattle.wt_typed_blocks.specs.Sent.{IsSentAsIs, StandsAsIs, AllStandAsIs}
 use Rattle.wt_typed_blocks.specs.Edited.{Piece, gone, written, kept, page_pieces, text_node, sent_pieces, PiecesStay}
 use Rattle.wt_typed_blocks.proofs.SentGroups.{in_group}
-use Rattle.wt_typed_blocks.proofs.EditedShows.{node_shows}
+use Rattle.wt_typed_blocks.proofs.EditedShows.{shown_same}
 use Rattle.wt_beside_laws.specs.OwnSigns.{IsFlatBlock}
 use Rattle.wt_beside_laws.specs.SentNodes.{IsUnchanged, IsSentBy, AreSent, number_by, numbers}
 use Rattle.wt_beside_laws.specs.SentPieces.{IsNoNode, OnlyTextsGo}
 use Rattle.wt_beside_laws.proofs.OwnSigns.{own_sent}
+
+-- ---- a node that is sent as it is
+
+same_face : (l m : Label) → IsSentAsIs l m → face m ≡ face l
+same_face l m s =
+    let F : Kind → List (AttrName × List ℕ) → Option DataMw → Face = λ k xs d. record { kind = k; attrs = xs; mw = d } in
+    ap (λ (k : Kind). F k m.attrs m.mw) s.kind
+    ∙ ap (λ (xs : List (AttrName × List ℕ)). F l.kind xs m.mw) s.attrs
+    ∙ ap (λ (d : Option DataMw). F l.kind l.attrs d) s.mw
+
+-- with children that show something else
+node_shows : (l m : Label) (us : Trees) (f : Plains → Plains) (rest : Plains) → IsSentAsIs l m → ((ps : Plains) → plains_before us ps ≡ f ps)
+    → plain_before (tree m us) rest ≡ shown_before (showing l.kind) l f rest
+node_shows l m us f rest h e =
+    ap (λ (k : Kind). shown_before (showing k) m (λ ps. plains_before us ps) rest) h.kind
+    ∙ shown_same (showing l.kind) l m (λ ps. plains_before us ps) f rest h.shown (same_face l m h) e
 
 -- ---- groups are put back, of which there are none
 

@@ -3,6 +3,7 @@ pub mod Nodes
 pub mod Content
 pub mod Cuts
 pub mod PageSigns
+pub mod PageBlocks
 pub mod OwnSigns
 pub mod SentNodes
 pub mod Stood
@@ -13,3 +14,5 @@ pub mod InHeadings
 pub mod Tiles
 pub mod Glyphs
 pub mod Beginnings
+pub mod SentPieces
+pub mod Calm
