@@ -49,7 +49,7 @@ use Rattle.wt_beside_edit_laws.proofs.Pieces.{all_fit}
 
 -- ---- the page's nodes
 
-abbrev para_edit : Label → List ℕ → List Piece → Edited
+abbrev pub para_edit : Label → List ℕ → List Piece → Edited
 para_edit m q ps = edited paragraph (label (block_of q)) m ps
 
 pub old_node : (m : Label) (q : List ℕ) (ps : List Piece) → IsFlatEdit q ps → page_node (para_edit m q ps) ≡ block_of q

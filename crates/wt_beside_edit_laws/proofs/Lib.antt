@@ -3,3 +3,4 @@ pub mod Pieces
 pub mod FlatEdits
 pub mod FullTrees
 pub mod NewPages
+pub mod FlatUnmarked

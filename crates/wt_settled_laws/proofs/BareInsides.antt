@@ -42,6 +42,7 @@ inside_bare false ts e = e
 
 mutual
   unfolding label_at
+
   unplaced_bare : (t : ItemTree) → placeless (unplaced t) ≡ unplaced t
   unplaced_bare (inner h q ts c) = ap (tree (label (unplaced (inner h q ts c)))) (inside_bare (is_leaf h.kind) (all_unplaced ts) (all_unplaced_bare ts))
 
