@@ -1,4 +1,4 @@
-"""When the server's folder of pages tells that nothing was written: by the steps of its file system's clock."""
+"""When the server's folder tells that nothing was written, by the steps of its file system's clock."""
 import sys
 import tempfile
 import time
@@ -26,7 +26,7 @@ class StepsOfTheClock(unittest.TestCase):
         self.folder = PageFolder(str(self.path))
 
     def told(self, written: int, age: int) -> Tuple[bool, bool]:
-        """Whether the folder tells its state and its fingerprint, so long after it and its file were written."""
+        """Whether the folder tells its state and its fingerprint, so long after both were written."""
 
         def times(*_: object, **__: object) -> mock.Mock:
             return mock.Mock(st_mtime_ns=written, st_ctime_ns=written, st_dev=1, st_ino=1, st_size=1)
@@ -35,9 +35,10 @@ class StepsOfTheClock(unittest.TestCase):
         entry.name = "Main.wiki"
         found = mock.MagicMock()
         found.__enter__.return_value = [entry]
-        with mock.patch("serving.pages.os.stat", times), mock.patch("serving.pages.os.scandir", return_value=found):
-            with mock.patch.object(time, "time_ns", return_value=written + age):
-                return self.folder.state() is not None, self.folder.fingerprint() is not None
+        scandir = mock.patch("serving.pages.os.scandir", return_value=found)
+        clock = mock.patch.object(time, "time_ns", return_value=written + age)
+        with mock.patch("serving.pages.os.stat", times), scandir, clock:
+            return self.folder.state() is not None, self.folder.fingerprint() is not None
 
     def test_times_in_nanoseconds(self) -> None:
         self.assertEqual(self.told(WRITTEN + 1, STEP // 2), (False, False))

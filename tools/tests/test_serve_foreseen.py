@@ -1,6 +1,6 @@
 """The page that an edit will probably make: its HTML is made while the program makes the page."""
-import os
 import json
+import os
 import threading
 import time
 import unittest
