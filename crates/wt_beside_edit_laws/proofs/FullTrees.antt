@@ -125,7 +125,7 @@ nowiki_full : AreFullParts (node (inner (plain kind.Nowiki) (page_chars nowiki) 
 unfolding nowiki
 nowiki_full = (refl, tt, refl, tt)
 
-guard_full : (u : Bool) → AreFullParts (parts Text (guard_items u))
+pub guard_full : (u : Bool) → AreFullParts (parts Text (guard_items u))
 guard_full false = tt
 guard_full true = subst (λ (t : ItemTree). AreFullParts (node t ∷ [])) (sym guard_tree) nowiki_full
 
@@ -133,7 +133,7 @@ chars_full : (bs : List ℕ) → AreFullParts (parts Text (page_chars bs))
 chars_full [] = tt
 chars_full (b ∷ bs) = (refl, chars_full bs)
 
-letter_full : (e : Bool) (c : ℕ) → AreFullParts (parts Text (letter_items e c))
+pub letter_full : (e : Bool) (c : ℕ) → AreFullParts (parts Text (letter_items e c))
 letter_full true c = (refl, tt, refl, tt)
 letter_full false c = chars_full (encode_utf8 c)
 

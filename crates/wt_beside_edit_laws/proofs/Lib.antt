@@ -4,3 +4,4 @@ pub mod FlatEdits
 pub mod FullTrees
 pub mod NewPages
 pub mod FlatUnmarked
+pub mod FlatPagesAgain
