@@ -4,4 +4,5 @@ pub mod FlatEdits
 pub mod FullTrees
 pub mod NewPages
 pub mod FlatUnmarked
+pub mod OldFull
 pub mod FlatPagesAgain

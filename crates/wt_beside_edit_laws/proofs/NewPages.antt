@@ -65,6 +65,7 @@ use Rattle.wt_beside_edit_laws.specs.FlatPages.{lines_of, paragraph_of, block_of
 use Rattle.wt_beside_edit_laws.proofs.OldPages.{IsOneBlock, body_label, one_tree, flat_page, para_label, label_is, of_lines, is_flat}
 use Rattle.wt_beside_edit_laws.proofs.Pieces.{pieces_characters}
 use Rattle.wt_beside_edit_laws.proofs.FlatEdits.{are_sent, are_edited, ungrouped, answer_so}
+use Rattle.wt_beside_edit_laws.proofs.OldFull.{old_full}
 use Rattle.wt_beside_edit_laws.proofs.FullTrees.{Each, para_plain, content_full, same_full}
 
 -- ---- its nodes are the page's
@@ -150,7 +151,7 @@ new_page q ps h e =
       unrefused = λ pages. content_unrefused pages (setting q) (new_signs q ps) f.kept calm;
       means = means;
       plain = para_plain (new_parts q ps) (new_flat q ps)
-          (content_full (setting q) [] (new_signs q ps) (same_full (signs_of_lines 0 (lines_of q)) (new_signs q ps) (same_things q ps h e) h.full))
+          (content_full (setting q) [] (new_signs q ps) (same_full (signs_of_lines 0 (lines_of q)) (new_signs q ps) (same_things q ps h e) (old_full q h)))
           (means_source (new_flat q ps) (new_tree q ps) means) (not_empty q ps f);
     }
 

@@ -28,7 +28,7 @@ use Rattle.wt_beside_laws.proofs.BlockNumbers.{block_counts}
 use Rattle.wt_beside_laws.proofs.FlatContents.{flat_content}
 use Rattle.wt_beside_laws.proofs.LineThings.{lines_have}
 use Rattle.wt_beside_laws.proofs.OwnSigns.{Every, Finds, all_found, inside_found, held_if, own_content, own_sent}
-use Rattle.wt_beside_laws.proofs.PartThings.{nodes_of, own_things, have_own, show_sources, ShutThings, shut_things, none_open, sources_shut, are_shut}
+use Rattle.wt_beside_laws.proofs.PartThings.{nodes_of, own_things, have_own, show_sources, ShutThings, shut_things, none_open, are_shut}
 use Rattle.wt_beside_laws.proofs.SentNodes.{same_nodes}
 
 -- ---- the block
@@ -140,15 +140,6 @@ pub block_shut : (ls : List (List Item)) (block : Tree) (at : ℕ) → AreFlatLi
     → any_ends_open (children_of block) ≡ false
 block_shut ls block at f u b s =
     ap (λ (t : Tree). any_ends_open (children_of t)) b.is ∙ shut_by b.form b.number at b.before b.opening b.closing ls u f s
-
--- where no node of it does, no source of its lines does
-pub block_sources_shut : (ls : List (List Item)) (block : Tree) (at : ℕ) → AreFlatLines ls → AreUnstyled ls → IsBlockOfLines ls block
-    → any_ends_open (children_of block) ≡ false → AreShut (signs_of_lines at ls)
-block_sources_shut ls block at f u b e =
-    let ps : List Part = joined_parts ls in
-    let none : any_ends_open (nodes_of (b.number + 1) (b.before ++ b.opening) (forest (children ps))) ≡ false =
-    sym (ap (λ (t : Tree). any_ends_open (children_of t)) b.is ∙ ap any_ends_open (its_children b.form b.number b.before b.opening b.closing ps)) ∙ e in
-    are_shut (signs_of_lines at ls) (sources_shut ps at (b.number + 1) (b.before ++ b.opening) (things (signs_of_lines at ls)) (lines_have at ls u f) none)
 
 -- a content of the same nodes
 pub same_shut : (olds news : List ContentSign) → things news ≡ things olds → AreShut olds → AreShut news

@@ -32,17 +32,15 @@ use Rattle.wt_tiles.specs.declared.shape.TileKind.{TileKind}
 use Rattle.wt_tiles.specs.declared.shape.TileKind.TheVariants as kind
 use Rattle.wt_tiles.specs.declared.tag.Tag.{Tag}
 use Rattle.wt_tiles.specs.Contexts.{in_line}
-use Rattle.wt_tiles.specs.Glyphs.{glyph_of, byte_glyphs}
+use Rattle.wt_tiles.specs.Glyphs.{byte_glyphs}
 use Rattle.wt_tiles.specs.Links.{leaf}
-use Rattle.wt_tiles.specs.Reading.{tile_at}
 use Rattle.wt_tiles.specs.Tags.{tag_at}
 use Rattle.wt_tiles.specs.Tiles.{size, Cut, chars as run, closed, pair_or_island, shapes, parts as tile_parts, tiles}
 use Rattle.wt_tiles.specs.Urls.{bare_url_at}
 use Rattle.wt_tiles.proofs.Joining.{tiles_are}
 use Rattle.wt_tiles.proofs.TagInsides.{no_tag}
-use Rattle.wt_inline.specs.declared.loose.Loose.TheVariants.{Text}
 use Rattle.wt_inline.specs.Parts.{parts}
-use Rattle.wt_context.specs.Line.{context_parts, line_parts}
+use Rattle.wt_context.specs.Line.{context_parts}
 use Rattle.wt_context.specs.Nodes.{segments}
 use Rattle.wt_context.specs.RunCuts.{has_run}
 use Rattle.wt_text_edit_laws.specs.LonePages.{page_chars}
@@ -59,7 +57,6 @@ use Rattle.wt_beside_laws.specs.Stood.{OpensNone, OpensNoPair}
 use Rattle.wt_beside_laws.proofs.Contents.{nowiki_reads, reference_reads}
 use Rattle.wt_beside_laws.proofs.Firm.{alone_as}
 use Rattle.wt_beside_laws.proofs.FormKinds.{IsNodeKind, form_is_node}
-use Rattle.wt_beside_laws.proofs.FormsAlone.{form_alone}
 use Rattle.wt_beside_laws.proofs.LineItems.{content_lines_are}
 use Rattle.wt_beside_laws.proofs.LineParts.{has_form, glyphs_long, line_cuts, line_unstyled}
 use Rattle.wt_beside_laws.proofs.LineTiles.{line_cut}
@@ -575,21 +572,3 @@ again_kept at s signs h = to_kept (signs_of_lines at (content_lines s signs)) (s
 pub again_shut : (at : ℕ) (s : Setting) (signs : List ContentSign) → IsFlatContent s signs → AreShut signs → AreShut (signs_of_lines at (content_lines s signs))
 again_shut at s signs h k =
     to_shut (signs_of_lines at (content_lines s signs)) (so_lines IsShut at (content_lines s signs) (all_flat IsShut put_shut s signs h (from_shut signs k)))
-
--- ---- what is put, on a line by itself
-
-atom_line : (f : ItemForm) (bs : List ℕ) → page_items (sources (whole f None bs ∷ [])) ≡ whole f None bs ∷ []
-    → tile_at in_line false (map glyph_of (whole f None bs ∷ [])) ≡ Some (leaf kind.Atom 1) → line_parts (whole f None bs ∷ []) ≡ parts Text (whole f None bs ∷ [])
-atom_line f bs alone e =
-    form_alone kind.Atom false (leaf kind.Atom 1) (whole f None bs ∷ []) [] refl tt (record { alone = alone; lone = tt }) tt refl (omega arith) e
-
-pub nowiki_line : line_parts (page_items nowiki) ≡ parts Text (whole form.Nowiki None nowiki ∷ [])
-nowiki_line =
-    let is : page_items nowiki ≡ whole form.Nowiki None nowiki ∷ [] = alone_as nowiki (whole form.Nowiki None nowiki ∷ []) nowiki_reads in
-    ap line_parts is ∙ atom_line form.Nowiki nowiki (nowiki_atom IsKept put_kept).alone refl
-
-pub reference_line : (c : ℕ) → is_escapable c ≡ true → line_parts (page_items (reference c)) ≡ parts Text (whole (form.Entity c) None (reference c) ∷ [])
-reference_line c e =
-    let is : page_items (reference c) ≡ whole (form.Entity c) None (reference c) ∷ [] =
-    alone_as (reference c) (whole (form.Entity c) None (reference c) ∷ []) (reference_reads c e) in
-    ap line_parts is ∙ atom_line (form.Entity c) (reference c) (reference_atom IsKept c put_kept e).alone refl

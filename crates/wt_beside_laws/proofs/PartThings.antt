@@ -408,39 +408,6 @@ pub none_open : (ps : List Part) (at n : ℕ) (before : List Item) (ts : List Th
 unfolding children
 none_open ps at n before ts h s = runs_shut (runs one_leaf ps) ps at n before ts (runs_are one_leaf ps) h s
 
--- and where none does, none of the sources does
-both_of_none : (a b : Bool) → (a || b) ≡ false → (a ≡ false) × (b ≡ false)
-both_of_none true b e = cc
-both_of_none false b e = (refl, e)
-
-runs_end : (rs : List (List Part)) (ps : List Part) (at n : ℕ) (before : List Item) (ts : List Thing) → AreRuns one_leaf rs ps → HaveThings at ps ts
-    → any_ends_open (nodes_of n before (forest (map child rs))) ≡ false → ShutThings ts
-runs_end [] ps at n before ts a h e = subst ShutThings (sym (subst (λ (qs : List Part). HaveThings at qs ts) a h)) tt
-runs_end ([] ∷ rs) ps at n before ts a h e = absurd a.2
-runs_end ((loose k o b ∷ r) ∷ rs) ps at n before ts a h e =
-    let run : List Part = loose k o b ∷ r in
-    let u : ItemTree = child run in
-    let m : ℕ = count (placed before u) in
-    let more : Bool = any_ends_open (nodes_of (n + m) (before ++ tree_items u) (forest (map child rs))) in
-    let own : HaveThings at (run ++ a.0) ts = subst (λ (qs : List Part). HaveThings at qs ts) a.1 h in
-    runs_end rs a.0 (at + parts_width run) (n + m) (before ++ tree_items u) ts a.3 (past_loose k o b at r a.0 ts a.2 own)
-    (both_of_none (node_ends_open (standing n before u)) more e).1
-runs_end ((node u ∷ []) ∷ rs) ps at n before ts a h e =
-    let m : ℕ = count (placed before u) in
-    let more : Bool = any_ends_open (nodes_of (n + m) (before ++ tree_items u) (forest (map child rs))) in
-    let own : HaveThings at (node u ∷ a.0) ts = subst (λ (qs : List Part). HaveThings at qs ts) a.1 h in
-    let none = both_of_none (node_ends_open (standing n before u)) more e in
-    subst ShutThings (sym own.2) (
-      sym (node_open (standing n before u) (stands_form n before u own.0 own.3) ∙ ap ends_open (standing_source n before u)) ∙ none.0,
-      runs_end rs a.0 (at + length (tree_source u)) (n + m) (before ++ tree_items u) own.1 a.3 own.5 none.1,
-    )
-runs_end ((node u ∷ p ∷ r) ∷ rs) ps at n before ts a h e = absurd (let no = a.2.0 in cc)
-
-pub sources_shut : (ps : List Part) (at n : ℕ) (before : List Item) (ts : List Thing) → HaveThings at ps ts
-    → any_ends_open (nodes_of n before (forest (children ps))) ≡ false → ShutThings ts
-unfolding children
-sources_shut ps at n before ts h e = runs_end (runs one_leaf ps) ps at n before ts (runs_are one_leaf ps) h e
-
 pub are_shut : (signs : List ContentSign) → ShutThings (things signs) → AreShut signs
 are_shut [] h = tt
 are_shut (letter c ∷ signs) h = are_shut signs h
