@@ -61,7 +61,6 @@ use Rattle.wt_beside_laws.proofs.OwnSigns.{own_content, own_sent}
 use Rattle.wt_beside_laws.proofs.SentNodes.{same_nodes}
 use Rattle.wt_beside_laws.proofs.SentPieces.{same_numbers}
 use Rattle.wt_beside_laws.proofs.SentShown.{pieces_shown}
-
 use Rattle.wt_beside_edit_laws.specs.FlatPages.{lines_of, paragraph_of, block_of, IsFlatPage, AreNodesAndTexts, IsFlatEdit, flat_edits, sent_flat, new_signs, new_flat}
 use Rattle.wt_beside_edit_laws.proofs.OldPages.{IsOneBlock, body_label, one_tree, flat_page, para_label, label_is, of_lines, is_flat}
 use Rattle.wt_beside_edit_laws.proofs.Pieces.{pieces_characters}
@@ -117,7 +116,7 @@ new_calm q ps h e =
 
 -- ---- it is one paragraph
 
-abbrev new_parts : List ℕ → List Piece → List Part
+abbrev pub new_parts : List ℕ → List Piece → List Part
 new_parts q ps = content_parts (setting q) [] (new_signs q ps)
 
 abbrev pub new_tree : List ℕ → List Piece → ItemTree

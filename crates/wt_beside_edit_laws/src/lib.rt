@@ -23,3 +23,9 @@ pub fn flat_pages_take_texts_beside_nodes()
         → IsFlatPage q → IsUnmarkedFlatEdit m q ps → stands ≡ Some q → length q ≤ PAGE_BYTES → length (new_flat q ps) ≤ PAGE_BYTES
         → length input ≤ HTML_BYTES → read input ≡ as_page (bare_flat b m q ps) unsourced → DoneByEdit pages stands input }
 {}
+
+/// The new page is such a page again, so of a chain of such edits none is refused: the nodes beside which texts are typed next are the same, and the
+/// references and nowikis that were put.
+pub fn flat_pages_are_such_again()
+    ensures { (q : List ℕ) (ps : List Piece) → IsFlatPage q → IsFlatEdit q ps → IsFlatPage (new_flat q ps) }
+{}
