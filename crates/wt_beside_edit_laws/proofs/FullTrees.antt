@@ -129,7 +129,7 @@ nowiki_full : AreFullParts (node (inner (plain kind.Nowiki) (page_chars nowiki) 
 unfolding nowiki
 nowiki_full = ((refl, tt, refl), tt)
 
-guard_full : (u : Bool) → AreFullParts (parts Text (guard_items u))
+pub guard_full : (u : Bool) → AreFullParts (parts Text (guard_items u))
 guard_full false = tt
 guard_full true = subst (λ (t : ItemTree). AreFullParts (node t ∷ [])) (sym guard_tree) nowiki_full
 

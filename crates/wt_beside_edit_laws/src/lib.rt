@@ -16,7 +16,6 @@ ghost use Rattle.wt_beside_edit_laws.specs.FlatPages.{IsFlatPage, IsFlatEdit, se
 /// is what was sent, as it is spelled, unless that is longer than a page may be. Without marks, too, as a browser sends it,
 /// `edit` of the difference is done, where the content is another one than that of the page's paragraph, and what stays in
 /// it is inline.
-#[tactic(auto, using(crate::proofs::NewPages::takes_texts, crate::proofs::FlatUnmarked::unmarked_done))]
 pub fn flat_pages_take_texts_beside_nodes()
     ensures takes { (pages : Pages) (b m : Label) (q : List ℕ) (ps : List Piece) → IsFlatPage q → IsFlatEdit q ps → length (new_flat q ps) ≤ PAGE_BYTES
         → edit_to pages q (sent_flat b m q ps) ≡ done (new_flat q ps) }
