@@ -24,24 +24,38 @@ use Rattle.wt_beside_laws.specs.Content.{guard_items, letter_items}
 use Rattle.wt_beside_laws.specs.Flat.{content_parts, para_with}
 use Rattle.wt_beside_laws.specs.Stood.{things}
 use Rattle.wt_beside_laws.proofs.LineShown.{guard_tree}
-use Rattle.wt_beside_edit_laws.specs.FlatPages.{AreFullParts, AreFull}
 
 -- ---- parts
+
+-- a node isn't empty, all in it is the page's own, and no node in it is empty
+abbrev pub IsFullTree : ItemTree → Type 0
+IsFullTree t = (holds_page t ≡ true) × NoneEmpty t × AllOfPage (tree_items t)
+
+abbrev pub AreFullParts : List Part → Type 0
+AreFullParts [] = Unit {0}
+AreFullParts (loose k o b ∷ ps) = (o ≡ None) × AreFullParts ps
+AreFullParts (node t ∷ ps) = IsFullTree t × AreFullParts ps
+
+-- the nodes of a content by their sources
+abbrev pub AreFull : List ContentSign → Type 0
+AreFull [] = Unit {0}
+AreFull (letter c ∷ after) = AreFull after
+AreFull (thing t ∷ after) = AreFullParts (line_parts (page_items t.source)) × AreFull after
 
 full_both : (ps qs : List Part) → AreFullParts ps → AreFullParts qs → AreFullParts (ps ++ qs)
 full_both [] qs h k = k
 full_both (loose j o b ∷ ps) qs h k = (h.0, full_both ps qs h.1 k)
-full_both (node t ∷ ps) qs h k = (h.0, h.1, h.2, full_both ps qs h.3 k)
+full_both (node t ∷ ps) qs h k = (h.0, full_both ps qs h.1 k)
 
 full_first : (ps qs : List Part) → AreFullParts (ps ++ qs) → AreFullParts ps
 full_first [] qs h = tt
 full_first (loose j o b ∷ ps) qs h = (h.0, full_first ps qs h.1)
-full_first (node t ∷ ps) qs h = (h.0, h.1, h.2, full_first ps qs h.3)
+full_first (node t ∷ ps) qs h = (h.0, full_first ps qs h.1)
 
 full_rest : (ps qs : List Part) → AreFullParts (ps ++ qs) → AreFullParts qs
 full_rest [] qs h = h
 full_rest (loose j o b ∷ ps) qs h = full_rest ps qs h.1
-full_rest (node t ∷ ps) qs h = full_rest ps qs h.3
+full_rest (node t ∷ ps) qs h = full_rest ps qs h.1
 
 char_of_page : (o : Option ℕ) (b : ℕ) (xs : List Item) → o ≡ None → AllOfPage xs → AllOfPage (char o b ∷ xs)
 char_of_page None b xs e h = h
@@ -50,35 +64,25 @@ char_of_page (Some k) b xs e h = absurd (cc)
 held_of_page : (ps : List Part) → AreFullParts ps → AllOfPage (held_parts ps)
 held_of_page [] h = refl
 held_of_page (loose j o b ∷ ps) h = char_of_page o b (held_parts ps) h.0 (held_of_page ps h.1)
-held_of_page (node t ∷ ps) h = both_of_page (tree_items t) (held_parts ps) h.2 (held_of_page ps h.3)
+held_of_page (node t ∷ ps) h = both_of_page (tree_items t) (held_parts ps) h.0.2 (held_of_page ps h.1)
 
 -- ---- the children
 
-abbrev IsFullChild : ItemTree → Type 0
-IsFullChild t = (holds_page t ≡ true) × NoneEmpty t × AllOfPage (tree_items t)
-
-or_true : (a b : Bool) → b ≡ true → (a || b) ≡ true
-or_true true b e = refl
-or_true false b e = e
-
-holds_by : (t : ItemTree) → list_any is_page (tree_items t) ≡ true → holds_page t ≡ true
-holds_by (inner h o ts c) e = or_true (is_body h.kind) (list_any is_page (o ++ (held_by_all ts ++ c))) e
-
-node_alone : (t : ItemTree) (p : Part) (r others : List Part) → IsRun one_leaf (node t ∷ p ∷ r) others → ⊥
+pub node_alone : (t : ItemTree) (p : Part) (r others : List Part) → IsRun one_leaf (node t ∷ p ∷ r) others → ⊥
 node_alone t p r others h = let e : false ≡ true = h.0 in cc
 
-leaf_full : (k : Loose) (b : ℕ) (r : List Part) → AreFullParts r → IsFullChild (child (loose k None b ∷ r))
+leaf_full : (k : Loose) (b : ℕ) (r : List Part) → AreFullParts r → IsFullTree (child (loose k None b ∷ r))
 leaf_full Text b r h = (refl, tt, both_of_page (char None b ∷ held_parts r) [] (held_of_page r h) refl)
 leaf_full Sep b r h = (refl, tt, both_of_page (char None b ∷ held_parts r) [] (held_of_page r h) refl)
 
-loose_full : (k : Loose) (o : Option ℕ) (b : ℕ) (r : List Part) → o ≡ None → AreFullParts r → IsFullChild (child (loose k o b ∷ r))
+loose_full : (k : Loose) (o : Option ℕ) (b : ℕ) (r : List Part) → o ≡ None → AreFullParts r → IsFullTree (child (loose k o b ∷ r))
 loose_full k None b r e h = leaf_full k b r h
 loose_full k (Some j) b r e h = absurd (cc)
 
-child_full : (r others : List Part) → IsRun one_leaf r others → AreFullParts r → IsFullChild (child r)
+child_full : (r others : List Part) → IsRun one_leaf r others → AreFullParts r → IsFullTree (child r)
 child_full [] others h f = absurd h
 child_full (loose k o b ∷ r) others h f = loose_full k o b r f.0 f.1
-child_full (node t ∷ []) others h f = (holds_by t f.0, f.1, f.2)
+child_full (node t ∷ []) others h f = f.0
 child_full (node t ∷ p ∷ r) others h f = absurd (node_alone t p r others h)
 
 runs_full : (rs : List (List Part)) (ps : List Part) → AreRuns one_leaf rs ps → AreFullParts ps
@@ -86,7 +90,7 @@ runs_full : (rs : List (List Part)) (ps : List Part) → AreRuns one_leaf rs ps 
 runs_full [] ps h f = (tt, refl)
 runs_full (r ∷ rs) ps h f =
     let all : AreFullParts (r ++ h.0) = subst AreFullParts h.1 f in
-    let c : IsFullChild (child r) = child_full r h.0 h.2 (full_first r h.0 all) in
+    let c : IsFullTree (child r) = child_full r h.0 h.2 (full_first r h.0 all) in
     let more = runs_full rs h.0 h.3 (full_rest r h.0 all) in
     ((c.0, c.1, more.0), both_of_page (tree_items (child r)) (held_by_all (forest (map child rs))) c.2 more.1)
 
@@ -123,9 +127,9 @@ para_plain ps bs f e some =
 
 nowiki_full : AreFullParts (node (inner (plain kind.Nowiki) (page_chars nowiki) nothing []) ∷ [])
 unfolding nowiki
-nowiki_full = (refl, tt, refl, tt)
+nowiki_full = ((refl, tt, refl), tt)
 
-guard_full : (u : Bool) → AreFullParts (parts Text (guard_items u))
+pub guard_full : (u : Bool) → AreFullParts (parts Text (guard_items u))
 guard_full false = tt
 guard_full true = subst (λ (t : ItemTree). AreFullParts (node t ∷ [])) (sym guard_tree) nowiki_full
 
@@ -134,7 +138,7 @@ chars_full [] = tt
 chars_full (b ∷ bs) = (refl, chars_full bs)
 
 letter_full : (e : Bool) (c : ℕ) → AreFullParts (parts Text (letter_items e c))
-letter_full true c = (refl, tt, refl, tt)
+letter_full true c = ((refl, tt, refl), tt)
 letter_full false c = chars_full (encode_utf8 c)
 
 pub content_full : (s : Setting) (before signs : List ContentSign) → AreFull signs → AreFullParts (content_parts s before signs)
@@ -157,7 +161,7 @@ abbrev pub Each : (Thing → Type 0) → List Thing → Type 0
 Each P [] = Unit {0}
 Each P (t ∷ ts) = P t × Each P ts
 
-abbrev FullThing : Thing → Type 0
+abbrev pub FullThing : Thing → Type 0
 FullThing t = AreFullParts (line_parts (page_items t.source))
 
 full_each : (signs : List ContentSign) → AreFull signs → Each FullThing (things signs)
@@ -165,7 +169,7 @@ full_each [] h = tt
 full_each (letter c ∷ after) h = full_each after h
 full_each (thing t ∷ after) h = (h.0, full_each after h.1)
 
-each_full : (signs : List ContentSign) → Each FullThing (things signs) → AreFull signs
+pub each_full : (signs : List ContentSign) → Each FullThing (things signs) → AreFull signs
 each_full [] h = tt
 each_full (letter c ∷ after) h = each_full after h
 each_full (thing t ∷ after) h = (h.0, each_full after h.1)

@@ -65,11 +65,12 @@ use Rattle.wt_beside_edit_laws.specs.FlatPages.{lines_of, paragraph_of, block_of
 use Rattle.wt_beside_edit_laws.proofs.OldPages.{IsOneBlock, body_label, one_tree, flat_page, para_label, label_is, of_lines, is_flat}
 use Rattle.wt_beside_edit_laws.proofs.Pieces.{pieces_characters}
 use Rattle.wt_beside_edit_laws.proofs.FlatEdits.{are_sent, are_edited, ungrouped, answer_so}
+use Rattle.wt_beside_edit_laws.proofs.OldFull.{old_full}
 use Rattle.wt_beside_edit_laws.proofs.FullTrees.{Each, para_plain, content_full, same_full}
 
 -- ---- its nodes are the page's
 
-abbrev setting : List ℕ → Setting
+abbrev pub setting : List ℕ → Setting
 setting q = record { within = false; place = place.Paragraph; source = flat (block_of q) }
 
 abbrev known : List ℕ → Page
@@ -78,7 +79,7 @@ known q = page_of same_node (block_of q)
 opening_none : (q : List ℕ) → length (label (block_of q)).opening ≡ 0
 opening_none q = ap (λ (l : Label). length l.opening) (label_is (joined_parts (lines_of q)))
 
-same_things : (q : List ℕ) (ps : List Piece) → IsFlatPage q → IsFlatEdit q ps → things (new_signs q ps) ≡ things (signs_of_lines 0 (lines_of q))
+pub same_things : (q : List ℕ) (ps : List Piece) → IsFlatPage q → IsFlatEdit q ps → things (new_signs q ps) ≡ things (signs_of_lines 0 (lines_of q))
 same_things q ps h e =
     same_nodes (known q) place.Paragraph (children_of (block_of q)) (sent_pieces ps) (own_sent same_node (block_of q) tells_same (is_flat q h))
     (are_sent q ps h e) (same_numbers (block_of q) ps e.old e.stay e.go)
@@ -86,7 +87,7 @@ same_things q ps h e =
     ∙ block_nodes (lines_of q) (block_of q) h.flat h.unstyled (of_lines q h)
     ∙ ap (λ (n : ℕ). things (signs_of_lines n (lines_of q))) (opening_none q)
 
-new_content : (q : List ℕ) (ps : List Piece) → IsFlatPage q → IsFlatEdit q ps → IsFlatContent (setting q) (new_signs q ps)
+pub new_content : (q : List ℕ) (ps : List Piece) → IsFlatPage q → IsFlatEdit q ps → IsFlatContent (setting q) (new_signs q ps)
 new_content q ps h e =
     let kept_so : AreKept (signs_of_lines (length (label (block_of q)).opening) (lines_of q)) =
     subst (λ (n : ℕ). AreKept (signs_of_lines n (lines_of q))) (sym (opening_none q)) h.kept in
@@ -109,16 +110,16 @@ each_calm [] h = tt
 each_calm (letter c ∷ after) h = each_calm after h
 each_calm (thing t ∷ after) h = (h.0, each_calm after h.1)
 
-new_calm : (q : List ℕ) (ps : List Piece) → IsFlatPage q → IsFlatEdit q ps → AreCalm (new_signs q ps)
+pub new_calm : (q : List ℕ) (ps : List Piece) → IsFlatPage q → IsFlatEdit q ps → AreCalm (new_signs q ps)
 new_calm q ps h e =
     each_calm (new_signs q ps) (subst (Each CalmThing) (sym (same_things q ps h e)) (calm_each (signs_of_lines 0 (lines_of q)) h.calm))
 
 -- ---- it is one paragraph
 
-abbrev new_parts : List ℕ → List Piece → List Part
+abbrev pub new_parts : List ℕ → List Piece → List Part
 new_parts q ps = content_parts (setting q) [] (new_signs q ps)
 
-abbrev new_tree : List ℕ → List Piece → ItemTree
+abbrev pub new_tree : List ℕ → List Piece → ItemTree
 new_tree q ps = para_with (new_parts q ps)
 
 means_source : (q : List ℕ) (t : ItemTree) → meaning (page_items q) ≡ body_with (t ∷ []) → sources (tree_items t) ≡ q
@@ -150,7 +151,7 @@ new_page q ps h e =
       unrefused = λ pages. content_unrefused pages (setting q) (new_signs q ps) f.kept calm;
       means = means;
       plain = para_plain (new_parts q ps) (new_flat q ps)
-          (content_full (setting q) [] (new_signs q ps) (same_full (signs_of_lines 0 (lines_of q)) (new_signs q ps) (same_things q ps h e) h.full))
+          (content_full (setting q) [] (new_signs q ps) (same_full (signs_of_lines 0 (lines_of q)) (new_signs q ps) (same_things q ps h e) (old_full q h)))
           (means_source (new_flat q ps) (new_tree q ps) means) (not_empty q ps f);
     }
 

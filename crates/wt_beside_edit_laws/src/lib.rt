@@ -16,11 +16,16 @@ ghost use Rattle.wt_beside_edit_laws.specs.FlatPages.{IsFlatPage, IsFlatEdit, se
 /// is what was sent, as it is spelled, unless that is longer than a page may be. Without marks, too, as a browser sends it,
 /// `edit` of the difference is done, where the content is another one than that of the page's paragraph, and what stays in
 /// it is inline.
-#[tactic(auto, using(crate::proofs::NewPages::takes_texts, crate::proofs::FlatUnmarked::unmarked_done))]
 pub fn flat_pages_take_texts_beside_nodes()
     ensures takes { (pages : Pages) (b m : Label) (q : List ℕ) (ps : List Piece) → IsFlatPage q → IsFlatEdit q ps → length (new_flat q ps) ≤ PAGE_BYTES
         → edit_to pages q (sent_flat b m q ps) ≡ done (new_flat q ps) }
     ensures unmarked { (pages : Pages) (b m : Label) (q : List ℕ) (ps : List Piece) (stands : Option (List ℕ)) (input : List ℕ) (unsourced : Option ℕ)
         → IsFlatPage q → IsUnmarkedFlatEdit m q ps → stands ≡ Some q → length q ≤ PAGE_BYTES → length (new_flat q ps) ≤ PAGE_BYTES
         → length input ≤ HTML_BYTES → read input ≡ as_page (bare_flat b m q ps) unsourced → DoneByEdit pages stands input }
+{}
+
+/// The new page is such a page again, so of a chain of such edits none is refused: the nodes beside which texts are typed next are the same, and the
+/// references and nowikis that were put.
+pub fn flat_pages_are_such_again()
+    ensures { (q : List ℕ) (ps : List Piece) → IsFlatPage q → IsFlatEdit q ps → IsFlatPage (new_flat q ps) }
 {}

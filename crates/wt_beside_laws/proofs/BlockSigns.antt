@@ -5,6 +5,7 @@ use Rattle.wt_tree.specs.Kinds.{is_leaf}
 use Rattle.wt_tree.specs.Tiling.{HasNoGroup, NoneIsGroup}
 use Rattle.wt_tree.specs.Tree.{Tree, tree, Trees, label}
 use Rattle.wt_tree.specs.declared.edit_shape.Place.{Place}
+use Rattle.wt_guards.specs.Content.{ContentSign}
 use Rattle.wt_guards.specs.Guards.{Setting}
 use Rattle.wt_isolation.specs.OpenTags.{any_ends_open}
 use Rattle.wt_inline.specs.ItemTree.{plain, ItemTree, inner, forest}
@@ -27,7 +28,7 @@ use Rattle.wt_beside_laws.proofs.BlockNumbers.{block_counts}
 use Rattle.wt_beside_laws.proofs.FlatContents.{flat_content}
 use Rattle.wt_beside_laws.proofs.LineThings.{lines_have}
 use Rattle.wt_beside_laws.proofs.OwnSigns.{Every, Finds, all_found, inside_found, held_if, own_content, own_sent}
-use Rattle.wt_beside_laws.proofs.PartThings.{nodes_of, own_things, have_own, show_sources, shut_things, none_open}
+use Rattle.wt_beside_laws.proofs.PartThings.{nodes_of, own_things, have_own, show_sources, ShutThings, shut_things, none_open, are_shut}
 use Rattle.wt_beside_laws.proofs.SentNodes.{same_nodes}
 
 -- ---- the block
@@ -139,3 +140,7 @@ pub block_shut : (ls : List (List Item)) (block : Tree) (at : ℕ) → AreFlatLi
     → any_ends_open (children_of block) ≡ false
 block_shut ls block at f u b s =
     ap (λ (t : Tree). any_ends_open (children_of t)) b.is ∙ shut_by b.form b.number at b.before b.opening b.closing ls u f s
+
+-- a content of the same nodes
+pub same_shut : (olds news : List ContentSign) → things news ≡ things olds → AreShut olds → AreShut news
+same_shut olds news e h = are_shut news (subst ShutThings (sym e) (shut_things olds h))

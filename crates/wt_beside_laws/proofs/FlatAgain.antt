@@ -39,6 +39,7 @@ use Rattle.wt_tiles.specs.Tiles.{size, Cut, chars as run, closed, pair_or_island
 use Rattle.wt_tiles.specs.Urls.{bare_url_at}
 use Rattle.wt_tiles.proofs.Joining.{tiles_are}
 use Rattle.wt_tiles.proofs.TagInsides.{no_tag}
+use Rattle.wt_inline.specs.Parts.{parts}
 use Rattle.wt_context.specs.Line.{context_parts}
 use Rattle.wt_context.specs.Nodes.{segments}
 use Rattle.wt_context.specs.RunCuts.{has_run}
@@ -252,9 +253,9 @@ so_both Q (letter c ∷ xs) ys h k = so_both Q xs ys h k
 so_both Q (thing t ∷ xs) ys h k = (h.0, so_both Q xs ys h.1 k)
 
 -- the nowikis that are put, and references, are so
-record HoldsOfPut (Q : List ℕ → Type 0) : Type 0 where
-  of_nowiki : Q nowiki
-  of_reference : (c : ℕ) → is_escapable c ≡ true → Q (reference c)
+pub record HoldsOfPut (Q : List ℕ → Type 0) : Type 0 where
+  pub of_nowiki : Q nowiki
+  pub of_reference : (c : ℕ) → is_escapable c ≡ true → Q (reference c)
 
 nowiki_kept : IsKept nowiki
 unfolding nowiki comment_len
@@ -550,6 +551,11 @@ so_lines Q at (l ∷ []) f = f.0.kept at
 so_lines Q at (l ∷ m ∷ ls) f =
     so_both Q (line_signs at l) (letter 10 ∷ signs_of_lines (at + length (sources l) + 1) (m ∷ ls)) (f.0.kept at)
     (so_lines Q (at + length (sources l) + 1) (m ∷ ls) f.1)
+
+-- whatever holds of each source, and of what is put, holds of the sources of the new lines
+pub again_each : (Q : List ℕ → Type 0) (p : HoldsOfPut Q) (at : ℕ) (s : Setting) (signs : List ContentSign) → IsFlatContent s signs → EachSource Q signs
+    → EachSource Q (signs_of_lines at (content_lines s signs))
+again_each Q p at s signs h q = so_lines Q at (content_lines s signs) (all_flat Q p s signs h q)
 
 kept_content : (s : Setting) (signs : List ContentSign) → IsFlatContent s signs → FlatLines IsKept (content_lines s signs)
 kept_content s signs h = all_flat IsKept put_kept s signs h (from_kept signs h.kept)

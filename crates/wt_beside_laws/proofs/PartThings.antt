@@ -407,3 +407,8 @@ pub none_open : (ps : List Part) (at n : ℕ) (before : List Item) (ts : List Th
     → any_ends_open (nodes_of n before (forest (children ps))) ≡ false
 unfolding children
 none_open ps at n before ts h s = runs_shut (runs one_leaf ps) ps at n before ts (runs_are one_leaf ps) h s
+
+pub are_shut : (signs : List ContentSign) → ShutThings (things signs) → AreShut signs
+are_shut [] h = tt
+are_shut (letter c ∷ signs) h = are_shut signs h
+are_shut (thing t ∷ signs) h = (h.0, are_shut signs h.1)

@@ -1,9 +1,8 @@
 -- No node of a content is empty, where none of the block of the page is.
-use Rattle.std.proofs.Common.{◌≡◌, ℕ, ◌+◌, Bool, true, false, Option, None, List, [], ◌∷◌, ◌++◌, length, map, refl, sym, ap, ◌∙◌, subst}
+use Rattle.std.proofs.Common.{◌≡◌, ℕ, ◌+◌, Bool, true, false, Option, None, List, [], ◌∷◌, ◌++◌, length, map, refl, sym, subst}
 use Rattle.std.specs.Prelude.{encode_utf8}
 use Rattle.wt_tree.specs.declared.kind.Kind.TheVariants as kind
-use Rattle.wt_span.specs.declared.form.ItemForm.TheVariants as form
-use Rattle.wt_span.specs.Items.{Item, char, whole}
+use Rattle.wt_span.specs.Items.{Item, char}
 use Rattle.wt_span.specs.Runs.{runs, IsRun, AreRuns}
 use Rattle.wt_span.specs.Tags.{opening_tag, tag_after}
 use Rattle.wt_span.proofs.RunLaws.{runs_are}
@@ -14,7 +13,7 @@ use Rattle.wt_expand.specs.PageItems.{page_items}
 use Rattle.wt_inline.specs.declared.loose.Loose.{Loose}
 use Rattle.wt_inline.specs.declared.loose.Loose.TheVariants.{Text, Sep}
 use Rattle.wt_inline.specs.ItemTree.{plain, ItemTree, inner, nothing, forest}
-use Rattle.wt_inline.specs.Parts.{Part, loose, node, held_parts, one_leaf, loose_leaf, child, children, nowiki as nowiki_tree, whole_tree, parts}
+use Rattle.wt_inline.specs.Parts.{Part, loose, node, held_parts, one_leaf, loose_leaf, child, children, nowiki as nowiki_tree, parts}
 use Rattle.wt_annotated.specs.WithoutCalls.{holds_page, NoneEmpty, AllNonEmpty}
 use Rattle.wt_context.specs.Line.{line_parts}
 use Rattle.wt_text_edit_laws.specs.LonePages.{page_chars}
@@ -24,7 +23,7 @@ use Rattle.wt_beside_laws.specs.PageBlocks.{joined_parts, AreUnstyled}
 use Rattle.wt_beside_laws.specs.PageSigns.{signs_of_lines, AreFlatLines}
 use Rattle.wt_beside_laws.specs.Stood.{things}
 use Rattle.wt_beside_laws.proofs.LineThings.{lines_have}
-use Rattle.wt_beside_laws.proofs.PartThings.{HaveThings, thing_at, tree_source}
+use Rattle.wt_beside_laws.proofs.PartThings.{HaveThings, tree_source}
 
 -- ---- parts
 
