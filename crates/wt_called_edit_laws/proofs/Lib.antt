@@ -5,3 +5,27 @@ pub mod CleanAgain
 pub mod FreeBlocks
 pub mod Untangled
 pub mod CalmPages
+pub mod CutFrames
+pub mod TextsMake
+pub mod TilesStand
+pub mod PathsSend
+pub mod Cases
+pub mod HoldersSent
+pub mod NodesTold
+pub mod OwnEdits
+pub mod Unframed
+pub mod PageBody
+pub mod NodeGaps
+pub mod BlocksMade
+pub mod Leads
+pub mod TextsUntangled
+pub mod CalledUtf8
+pub mod EditFacts
+pub mod EditTaken
+pub mod AmongCalls
+pub mod CallsTake
+pub mod CalmCalls
+pub mod BareInsides
+mod SettledCases
+pub mod Settles
+pub mod SettledPages
