@@ -29,3 +29,5 @@ pub mod BareInsides
 mod SettledCases
 pub mod Settles
 pub mod SettledPages
+pub mod RunsFree
+pub mod FreePlaces

@@ -11,3 +11,4 @@ pub mod CalledTexts
 pub mod CalledCalls
 pub mod Settled
 pub mod SettledPages
+pub mod Covered

@@ -31,6 +31,7 @@ ghost use Rattle.wt_called_edit_laws.specs.CalledCalls.{TakesTextsAmongCalls};
 ghost use Rattle.wt_called_edit_laws.specs.CalledTexts.{TakesTextsAmong};
 ghost use Rattle.wt_called_edit_laws.specs.Settled.{IsSettled};
 ghost use Rattle.wt_called_edit_laws.specs.SettledPages.{OnlyTextsAreOthers};
+ghost use Rattle.wt_called_edit_laws.specs.Covered.{CleanWhereFree};
 
 /// Where texts are typed in paragraphs and headings among calls, and no node round one of them is in a group, the page's
 /// tree has the same groups and the same other nodes, whatever the texts are: but for numbers and places it is one tree
@@ -141,4 +142,12 @@ pub fn numbers_and_places_hang_on_the_rest()
 #[tactic(auto, using(crate::proofs::SettledPages::only_texts))]
 pub fn only_typed_texts_among_calls_are_others()
     ensures { (pages : Pages) (ss : List BlockSpot) (behind : List ℕ) → IsCalledPage pages ss behind → OnlyTextsAreOthers pages ss behind }
+{}
+
+/// A page with calls, with places for blocks in its body and in the cells and captions of its tables. Where no group of
+/// its tree, as a walk makes it, has the first byte of one of these blocks, each node round them is clean: so groups stay
+/// what they are, whatever the blocks are.
+#[tactic(auto, using(crate::proofs::FreePlaces::clean_where_free))]
+pub fn nodes_round_free_blocks_are_clean()
+    ensures { (calls : List OuterCall) (fs : Frames) (t : ℕ → ItemTree) → CleanWhereFree calls fs t }
 {}
