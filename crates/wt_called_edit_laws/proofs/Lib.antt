@@ -4,3 +4,4 @@ pub mod GroupsAmong
 pub mod CleanAgain
 pub mod FreeBlocks
 pub mod Untangled
+pub mod CalmPages

@@ -1,3 +1,4 @@
 pub mod Groups
 pub mod FreeBlocks
 pub mod Untangled
+pub mod CalledPages

@@ -7,6 +7,8 @@ ghost use Rattle.wt_expand.specs.PageCalls.{expanded_page};
 ghost use Rattle.wt_text_edit_laws.specs.BlockSpots.{BlockSpot, spots_source};
 ghost use Rattle.wt_called_parts.specs.Parts.{AreCalled};
 ghost use Rattle.wt_called_parts.specs.Retyped.{AreRetyped};
+ghost use Rattle.wt_cell_edit_laws.specs.AnyBlocks.{AreSpots};
+ghost use Rattle.wt_called_edit_laws.specs.CalledPages.{IsCalledPage};
 ghost use Rattle.wt_called_edit_laws.specs.FreeBlocks.{AreFreeFrom};
 ghost use Rattle.wt_called_edit_laws.specs.Groups.{AreOutsideGroups, GroupsStayAmong};
 ghost use Rattle.wt_called_edit_laws.specs.Untangled.{AreUntangledFrom};
@@ -32,4 +34,10 @@ pub fn text_calls_touch_no_block()
 pub fn blocks_among_calls_are_untangled()
     ensures { (pages : Pages) (ss : List BlockSpot) (behind : List ℕ) → AreCalled ss behind
         → AreUntangledFrom (expanded_page pages (spots_source ss behind)) (spots_source ss behind) 0 ss }
+{}
+
+/// A page that calls nothing, and of which no node can only be kept as a whole (`AreSpots` of `wt_cell_edit_laws`), is
+/// such a page, whatever pages the folder has.
+pub fn pages_without_calls_are_called_pages()
+    ensures { (pages : Pages) (ss : List BlockSpot) (behind : List ℕ) → AreSpots ss behind → IsCalledPage pages ss behind }
 {}

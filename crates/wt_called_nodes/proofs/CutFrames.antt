@@ -30,7 +30,7 @@ use Rattle.wt_called_trees.specs.Rounded.{AreOwn, AreClean, body_of, body_label,
 use Rattle.wt_called_trees.proofs.FramesWalked.{kept_before, holder_label, no_leaf, call_after, stretch, nodes_of, spots_are}
 use Rattle.wt_called_trees.proofs.FrameEnds.{held}
 use Rattle.wt_called_trees.proofs.GroupsStay.{numbers_gone, stays}
-use Rattle.wt_called_nodes.specs.Nodes.{IsBlock, AreBlocks, block_at, NoneLeaves, NodesStay}
+use Rattle.wt_called_nodes.specs.Nodes.{IsBlock, AreBlocks, block_at, NoneLeaves, AreHolders, NodesStay}
 
 -- ---- cutting
 
@@ -251,6 +251,47 @@ cut_leaves v x us (more_nodes (holder l gs) fs) h =
     leaves_before (fore_at v x us) (more_nodes (holder l (cut_nodes true (texts_of_kind l.kind) none gs)) (cut_nodes false x none fs))
     ((h.0.0, cut_leaves true (texts_of_kind l.kind) none gs h.0.1), cut_leaves false x none fs h.1)
 
+-- ---- what holds places is a table's part
+
+holders_before : (ts : Trees) (fs : TreeFrames) (p : Part) → AreHolders fs p → AreHolders (kept_before ts fs) p
+holders_before none fs p h = h
+holders_before (more t ts) fs p h = (tt, holders_before ts fs p h)
+
+are_holders : (calls : List OuterCall) (t : ℕ → ItemTree) (o : Option ℕ) (us : List ItemTree) (fs : Frames) (p : Option ℕ) (part : Part) → AreFrames fs part
+    → AreHolders (nodes_of calls t o us fs p) part
+are_holders calls t o us no_frames p part h = holders_before (stretch calls o p us) no_nodes part tt
+are_holders calls t o us (more_frames (whole u) fs) p part h = are_holders calls t o (us ++ u ∷ []) fs p part h.1
+are_holders calls t o us (more_frames (place n) fs) p part h =
+    holders_before (stretch calls o None us) (more_nodes (spot n) (nodes_of calls t None [] fs p)) part (tt, are_holders calls t None [] fs p part h.1)
+are_holders calls t o us (more_frames (around j q gs c) fs) p part h =
+    let a : Option ℕ = call_after o us in
+    let after : Option ℕ = first_of (held t fs) p in
+    let u : ItemTree = tree_at t (around j q gs c) in
+    holders_before (stretch calls o (first_of (tree_items u) after) us)
+    (more_nodes (holder (holder_label j q c) (nodes_of calls t (last_of a q) [] gs (first_of c after))) (nodes_of calls t (last_of a (tree_items u)) [] fs p)) part (
+      (h.0.0, h.0.1, are_holders calls t (last_of a q) [] gs (first_of c after) h.0.0 h.0.2),
+      are_holders calls t (last_of a (tree_items u)) [] fs p part h.1,
+    )
+
+cut_holders : (v : Bool) (x : Texts) (us : Trees) (fs : TreeFrames) (p : Part) → AreHolders fs p → AreHolders (cut_nodes v x us fs) p
+cut_holders v x us no_nodes p h = holders_before (cut_at v x us) no_nodes p tt
+cut_holders v x us (more_nodes (kept t) fs) p h = cut_holders v x (beside us (more (cut_texts t) none)) fs p h.1
+cut_holders v x us (more_nodes (spot n) fs) p h =
+    holders_before (fore_at v x us) (more_nodes (spot n) (cut_nodes false x none fs)) p (tt, cut_holders false x none fs p h.1)
+cut_holders v x us (more_nodes (holder l gs) fs) p h =
+    holders_before (fore_at v x us) (more_nodes (holder l (cut_nodes true (texts_of_kind l.kind) none gs)) (cut_nodes false x none fs)) p
+    ((h.0.0, h.0.1, cut_holders true (texts_of_kind l.kind) none gs h.0.0 h.0.2), cut_holders false x none fs p h.1)
+
+fits_separators : (p : Part) → Fits p Separators
+fits_separators content = tt
+fits_separators in_table = λ p. tt {0}
+fits_separators in_body = λ p. tt {0}
+fits_separators in_row = λ p. tt {0}
+
+-- so it is no group
+pub no_group_round : (p q : Part) (k : Kind) → Holds p k q → is_group k ≡ false
+no_group_round p q k h = (is_round p q Separators k (fits_separators p) h).0
+
 -- ---- the page
 
 mutual
@@ -281,6 +322,7 @@ nodes_stay calls fs t h g clean =
       nodes = cut_nodes true Page none nodes;
       in_order = cut_spots true Page none nodes ∙ spots_are calls t None [] fs None;
       inner_nodes = cut_leaves true Page none nodes (none_leaves calls t None [] fs None content h);
+      holders = cut_holders true Page none nodes content (are_holders calls t None [] fs None content h);
       stay = λ others w same own blocks.
           placeless_children (annotated others (group_data others) (body_of (trees_at w fs)))
           ∙ ap children (stays calls others fs t w same h g own clean)

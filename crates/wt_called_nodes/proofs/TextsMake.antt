@@ -23,12 +23,12 @@ flat_by true own xs ys e = refl
 flat_by false own xs ys e = e
 
 mutual
-  flat_same : (t : Tree) → flat (placeless t) ≡ flat t
+  pub flat_same : (t : Tree) → flat (placeless t) ≡ flat t
   flat_same (tree l ts) =
       flat_by (is_leaf l.kind) l.own (l.opening ++ flat_of_all (all_placeless ts) ++ l.closing) (l.opening ++ flat_of_all ts ++ l.closing)
       (ap (λ (bs : List ℕ). l.opening ++ bs ++ l.closing) (all_flat_same ts))
 
-  all_flat_same : (ts : Trees) → flat_of_all (all_placeless ts) ≡ flat_of_all ts
+  pub all_flat_same : (ts : Trees) → flat_of_all (all_placeless ts) ≡ flat_of_all ts
   all_flat_same none = refl
   all_flat_same (more t ts) = ap₂ (λ (cs bs : List ℕ). cs ++ bs) (flat_same t) (all_flat_same ts)
 
@@ -68,7 +68,7 @@ shown_by Nothing l m f g rest c e h = refl
 shown_by Element l m f g rest c e h =
     ap (λ (a : Face). along (element a (f ended)) rest) e ∙ ap (λ (ps : Plains). along (element (face m) ps) rest) (h ended)
 
-leaf_or : (v : Bool) (own inside : List ℕ) → v ≡ false → inside ≡ (if v then own else inside)
+pub leaf_or : (v : Bool) (own inside : List ℕ) → v ≡ false → inside ≡ (if v then own else inside)
 leaf_or true own inside e = let no : true ≡ false = e in absurd (cc)
 leaf_or false own inside e = refl
 

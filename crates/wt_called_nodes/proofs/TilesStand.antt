@@ -16,10 +16,10 @@ use Rattle.wt_called_nodes.specs.Stand.{HasHolders, HaveHolders, BlocksStand}
 
 -- ---- ranges
 
-abbrev ranges_at : ℕ → List ℕ → List ℕ → List ℕ → Ranges
+abbrev pub ranges_at : ℕ → List ℕ → List ℕ → List ℕ → Ranges
 ranges_at at source opening closing = record { start = at; end = at + length source; open_w = length opening; close_w = length closing }
 
-ranges_are : (page : List ℕ) (at : ℕ) (r : Option Ranges) (source opening closing : List ℕ) → BeginsAt at r → StandsIn page r source opening closing
+pub ranges_are : (page : List ℕ) (at : ℕ) (r : Option Ranges) (source opening closing : List ℕ) → BeginsAt at r → StandsIn page r source opening closing
     → r ≡ Some (ranges_at at source opening closing)
 ranges_are page at None source opening closing b h = absurd b
 ranges_are page at (Some r) source opening closing b h =
@@ -44,13 +44,13 @@ opening_or : (v : Bool) (l : Label) → v ≡ false → opening_by v l ≡ l.ope
 opening_or true l e = let no : true ≡ false = e in absurd (cc)
 opening_or false l e = refl
 
-inside_or : (v : Bool) (r : Option Ranges) (s : Ranges) (inside : ℕ → ℕ → Type 0) → v ≡ false → r ≡ Some s → TiledBy v r inside
+pub inside_or : (v : Bool) (r : Option Ranges) (s : Ranges) (inside : ℕ → ℕ → Type 0) → v ≡ false → r ≡ Some s → TiledBy v r inside
     → inside (s.start + s.open_w) (s.end - s.close_w)
 inside_or v r s inside e f h =
     let P : Bool → Option Ranges → Type 0 = λ w q. TiledBy w q inside in
     (subst (λ (q : Option Ranges). P false q) f (subst (λ (w : Bool). P w r) e h)).1
 
-reached_or : (page : List ℕ) (v : Bool) (ts : Trees) → v ≡ false → AllByRecursion (IsSlice page) (if v then [] else reached_in_all ts)
+pub reached_or : (page : List ℕ) (v : Bool) (ts : Trees) → v ≡ false → AllByRecursion (IsSlice page) (if v then [] else reached_in_all ts)
     → AllByRecursion (IsSlice page) (reached_in_all ts)
 reached_or page true ts e h = let no : true ≡ false = e in absurd (cc)
 reached_or page false ts e h = h

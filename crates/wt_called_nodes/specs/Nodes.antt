@@ -8,7 +8,7 @@ use Rattle.wt_inline.specs.ItemTree.{ItemTree, inner}
 use Rattle.wt_checks.specs.Kept.{children}
 use Rattle.wt_annotated.specs.Annotated.{annotated}
 use Rattle.wt_annotated.specs.GroupData.{group_data}
-use Rattle.wt_row_laws.specs.Frames.{Frames, trees_at, all_places, content, AreFrames}
+use Rattle.wt_row_laws.specs.Frames.{Frames, trees_at, all_places, Part, content, Holds, AreFrames}
 use Rattle.wt_moved_laws.specs.Standing.{standing}
 use Rattle.wt_moved_laws.specs.Placeless.{placeless, all_placeless}
 use Rattle.wt_called_trees.specs.TreeFrames.{TreeFrame, spot, kept, holder, TreeFrames, no_nodes, more_nodes, all_filled, spots}
@@ -41,6 +41,17 @@ abbrev mutual
   NoneLeaves no_nodes = Unit {0}
   NoneLeaves (more_nodes f fs) = NoLeaves f × NoneLeaves fs
 
+-- what holds places is a table, or a part of one in it, as it is in the page
+abbrev mutual
+  pub IsHolder : TreeFrame → Part → Type 0
+  IsHolder (spot n) p = Unit {0}
+  IsHolder (kept t) p = Unit {0}
+  IsHolder (holder l fs) p = (q : Part) × Holds p l.kind q × AreHolders fs q
+
+  pub AreHolders : TreeFrames → Part → Type 0
+  AreHolders no_nodes p = Unit {0}
+  AreHolders (more_nodes f fs) p = IsHolder f p × AreHolders fs p
+
 -- ---- the page
 
 -- Whatever paragraphs and headings of the page are at the places, and wherever the calls are then, the children of the page's body are these
@@ -49,6 +60,7 @@ pub record NodesStay (calls : List OuterCall) (fs : Frames) : Type 0 where
   pub nodes : TreeFrames
   pub in_order : spots nodes ≡ all_places fs
   pub inner_nodes : NoneLeaves nodes
+  pub holders : AreHolders nodes content
   pub stay : (others : List OuterCall) (t : ℕ → ItemTree) → HaveSameData calls others → AreOwn t (all_places fs) → AreBlocks t (all_places fs)
       → all_placeless (children (annotated others (group_data others) (body_of (trees_at t fs)))) ≡ all_filled (block_at t) nodes
 

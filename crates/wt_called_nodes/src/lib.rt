@@ -7,11 +7,14 @@ ghost use Rattle.wt_tree.specs.Tree.{Tree};
 ghost use Rattle.wt_inline.specs.ItemTree.{ItemTree};
 ghost use Rattle.wt_row_laws.specs.Frames.{Frames};
 ghost use Rattle.wt_typed_blocks.specs.Sent.{Sents};
+ghost use Rattle.wt_text_edit_laws.specs.BlockSpots.{BlockSpot};
+ghost use Rattle.wt_cell_edit_laws.specs.AnyBlocks.{AllLead};
 ghost use Rattle.wt_called_trees.specs.TreeFrames.{TreeFrames};
 ghost use Rattle.wt_called_nodes.specs.Nodes.{NodesStayIn};
-ghost use Rattle.wt_called_nodes.specs.PathsTo.{PathsSend};
+ghost use Rattle.wt_called_nodes.specs.PathsTo.{paths_to, PathsSend};
 ghost use Rattle.wt_called_nodes.specs.Sends.{TextsMake};
-ghost use Rattle.wt_called_nodes.specs.Stand.{BlocksStand};
+ghost use Rattle.wt_called_nodes.specs.Stand.{BlocksStand, BlocksAreFree};
+ghost use Rattle.wt_called_nodes.specs.TreeEdits.{IsNumberedBody, HasOwnEdits, AreFoundApart};
 
 /// A page with calls, with places for paragraphs and headings in its body and in the cells and captions of its tables.
 /// Where no node round a place is in a group, all other nodes stay the same but for numbers and places, the texts and
@@ -37,4 +40,21 @@ pub fn typed_blocks_say_where_they_are()
 /// is sent for the blocks at the places are these texts.
 pub fn texts_at_paths_are_sent_for_the_blocks()
     ensures { (fs : TreeFrames) (o : ℕ → Option (List ℕ)) (b : ℕ → Tree) (es : Sents) → PathsSend fs o b es }
+{}
+
+/// What holds blocks in which texts are typed is neither a leaf nor a group.
+pub fn typed_blocks_are_outside_groups()
+    ensures { (fs : TreeFrames) (o : ℕ → Option (List ℕ)) (b : ℕ → Tree) (es : Sents) → BlocksAreFree fs o b es }
+{}
+
+/// Whatever texts are chosen for the blocks at the places, there is an edit that types them: the one that sends every
+/// other node as it is, without marks, and for a group the elements that are written for it.
+pub fn any_texts_may_be_typed_at_paths()
+    ensures { (t : Tree) (ss : List BlockSpot) (fs : TreeFrames) → IsNumberedBody t → AllLead ss (paths_to fs) t → HasOwnEdits t ss (paths_to fs) }
+{}
+
+/// Without marks, too: where each text that was typed is another one than what its block held, the difference finds it.
+#[tactic(auto, using(crate::proofs::NodesTold::found_apart))]
+pub fn typed_texts_at_places_are_told_apart()
+    ensures { (t : Tree) (fs : TreeFrames) (o : ℕ → Option (List ℕ)) (b : ℕ → Tree) (es : Sents) → AreFoundApart t fs o b es }
 {}

@@ -5,14 +5,15 @@ use Rattle.std.proofs.lemmas.List.{take-append-le, take_all, drop-append-le, dro
 use Rattle.wt_tree.specs.declared.kind.Ranges.{Ranges}
 use Rattle.wt_tree.specs.Kinds.{is_leaf}
 use Rattle.wt_tree.specs.Source.{flat, flat_of_all}
-use Rattle.wt_tree.specs.Tree.{Label, Trees}
-use Rattle.wt_guards.specs.Content.{letters}
-use Rattle.wt_guards.specs.Guards.{spelled}
+use Rattle.wt_tree.specs.Tree.{Label}
+use Rattle.wt_link_spelling.specs.Spelling.{inline_spelling}
 use Rattle.wt_slices.specs.Changes.{change_with}
 use Rattle.wt_splice.specs.Splice.{Change, between, spliced_from, spliced}
-use Rattle.wt_typed_blocks.specs.Sent.{Block, paragraph, heading, Sent, stands, typed, holds, Sents, none_sent, more_sent, old_child, old_children}
-use Rattle.wt_typed_blocks.specs.Typed.{place_of, block_source, old_source, new_source, new_sources, StandsAt, StandAt}
-use Rattle.wt_typed_blocks.proofs.SentSlices.{Same, written, change_of, changes_of, written_is}
+use Rattle.wt_typed_blocks.specs.Sent.{Block, paragraph, heading}
+use Rattle.wt_typed_blocks.specs.Edited.{Piece, page_pieces, Edited, stays, edited, round, Edits, no_edits, more_edits, page_node, sent_node, page_nodes}
+use Rattle.wt_typed_blocks.specs.EditedPage.{page_source, edited_source, edited_sources, LiesAt, LieAt}
+use Rattle.wt_typed_blocks.specs.Typed.{place_of, block_source}
+use Rattle.wt_typed_blocks.proofs.EditedSlices.{Same, content_of, change_of, changes_of, content_is}
 
 -- what stands from a place on in a front, before what follows it
 up_to : (from : ℕ) (front rest : List ℕ) → from ≤ length front → between from (length front) (front ++ rest) ≡ drop from front
@@ -31,9 +32,9 @@ behind front rest =
 
 -- ---- the source of a block between its delimiters
 
-block_flat : (k : Block) (l : Label) (ts : Trees) (m x : Label) (text : List ℕ) → flat (old_child (typed k l ts m x text)) ≡ block_source l ts
-block_flat paragraph l ts m x text = refl
-block_flat (heading n) l ts m x text = refl
+block_flat : (k : Block) (l m : Label) (ps : List Piece) → flat (page_node (edited k l m ps)) ≡ block_source l (page_pieces ps)
+block_flat paragraph l m ps = refl
+block_flat (heading n) l m ps = refl
 
 -- where the inside of a block ends
 inside_ends : (front o inner c : List ℕ) → length front + length ((o ++ inner) ++ c) - length c ≡ length (front ++ (o ++ inner))
@@ -82,10 +83,10 @@ source_by : (leaf : Bool) (own inner : List ℕ) → leaf ≡ false → (if leaf
 source_by true own inner e = cc
 source_by false own inner e = refl
 
-source_is : (at : ℕ) (s : Sent) → StandsAt at s → flat (old_child s) ≡ old_source s
-source_is at (stands t u) h = refl
-source_is at (typed k l ts m x text) h = block_flat k l ts m x text
-source_is at (holds l m ss) h = source_by (is_leaf l.kind) l.own (block_source l (old_children ss)) h.0
+source_is : (at : ℕ) (s : Edited) → LiesAt at s → flat (page_node s) ≡ page_source s
+source_is at (stays t u) h = refl
+source_is at (edited k l m ps) h = block_flat k l m ps
+source_is at (round l m ss) h = source_by (is_leaf l.kind) l.own (block_source l (page_nodes ss)) h.0
 
 -- After a front of the page, from any place in it on, the changes make this page.
 abbrev Makes : List ℕ → List Change → List ℕ → List ℕ → Type 0
@@ -99,22 +100,22 @@ opened_front front o page cs new k = λ from le.
     ∙ ap (λ (xs : List ℕ). xs ++ new) (drop-append-le from front o le) ∙ append_assoc (drop from front) o new
 
 mutual
-  one_makes : (same : Same) (page front rest : List ℕ) (s : Sent) (cs : List Change) (new : List ℕ) → page ≡ front ++ (old_source s ++ rest)
-      → StandsAt (length front) s → Makes page cs (front ++ old_source s) new → Makes page (change_of same s ++ cs) front (new_source s ++ new)
-  one_makes same page front rest (stands t u) cs new is h k = opened_front front (flat t) page cs new k
-  one_makes same page front rest (typed k l ts m x text) cs new is h later = λ from le.
-      let s : Sent = typed k l ts m x text in
-      let old : List ℕ = block_source l ts in
-      let by : List ℕ = spelled (record { within = false; place = place_of k; source = old }) (letters text) in
+  one_makes : (same : Same) (page front rest : List ℕ) (s : Edited) (cs : List Change) (new : List ℕ) → page ≡ front ++ (page_source s ++ rest)
+      → LiesAt (length front) s → Makes page cs (front ++ page_source s) new → Makes page (change_of same s ++ cs) front (edited_source same s ++ new)
+  one_makes same page front rest (stays t u) cs new is h k = opened_front front (flat t) page cs new k
+  one_makes same page front rest (edited k l m ps) cs new is h later = λ from le.
+      let s : Edited = edited k l m ps in
+      let old : List ℕ = block_source l (page_pieces ps) in
+      let by : List ℕ = inline_spelling same (page_node s) (sent_node s) (place_of k) in
       let long : length (front ++ old) ≡ length front + length old = length-append front old in
       let end : ℕ = length front + length old - length l.closing in
       let C : Option Ranges → List ℕ → List ℕ = λ r bs. spliced_from page from (change_with r bs ++ cs) in
-      ap (λ (r : Option Ranges). C r (written same s)) h
-      ∙ ap (C (Some (record { start = length front; end = length front + length old; open_w = length l.opening; close_w = length l.closing }))) (written_is same k l ts m x text)
-      ∙ one_more front l.opening (flat_of_all ts) l.closing by rest page from cs new le is (later end (omega (arith, long)))
-  one_makes same page front rest (holds l m ss) cs new is h k =
+      ap (λ (r : Option Ranges). C r (content_of same s)) h
+      ∙ ap (C (Some (record { start = length front; end = length front + length old; open_w = length l.opening; close_w = length l.closing }))) (content_is same k l m ps)
+      ∙ one_more front l.opening (flat_of_all (page_pieces ps)) l.closing by rest page from cs new le is (later end (omega (arith, long)))
+  one_makes same page front rest (round l m ss) cs new is h k =
       let o : List ℕ = l.opening in
-      let inner : List ℕ = flat_of_all (old_children ss) in
+      let inner : List ℕ = flat_of_all (page_nodes ss) in
       let c : List ℕ = l.closing in
       let long : length (front ++ o) ≡ length front + length o = length-append front o in
       let now : page ≡ (front ++ o) ++ (inner ++ (c ++ rest)) =
@@ -123,43 +124,43 @@ mutual
       ap (λ (xs : List ℕ). front ++ xs) (append_assoc o inner c) ∙ sym (append_assoc front o (inner ++ c)) ∙ sym (append_assoc (front ++ o) inner c) in
       let behind_it : Makes page cs ((front ++ o) ++ inner) (c ++ new) =
       opened_front ((front ++ o) ++ inner) c page cs new (subst (λ (xs : List ℕ). Makes page cs xs new) ends k) in
-      let inside : Makes page (changes_of same ss ++ cs) (front ++ o) (new_sources ss ++ (c ++ new)) =
-      all_make same page (front ++ o) (c ++ rest) ss cs (c ++ new) now (subst (λ (n : ℕ). StandAt n ss) (sym long) h.1) behind_it in
+      let inside : Makes page (changes_of same ss ++ cs) (front ++ o) (edited_sources same ss ++ (c ++ new)) =
+      all_make same page (front ++ o) (c ++ rest) ss cs (c ++ new) now (subst (λ (n : ℕ). LieAt n ss) (sym long) h.1) behind_it in
       subst (λ (xs : List ℕ). Makes page (changes_of same ss ++ cs) front xs)
-      (ap (λ (xs : List ℕ). o ++ xs) (sym (append_assoc (new_sources ss) c new)) ∙ sym (append_assoc o (new_sources ss ++ c) new)
-      ∙ ap (λ (xs : List ℕ). xs ++ new) (sym (append_assoc o (new_sources ss) c)))
-      (opened_front front o page (changes_of same ss ++ cs) (new_sources ss ++ (c ++ new)) inside)
+      (ap (λ (xs : List ℕ). o ++ xs) (sym (append_assoc (edited_sources same ss) c new)) ∙ sym (append_assoc o (edited_sources same ss ++ c) new)
+      ∙ ap (λ (xs : List ℕ). xs ++ new) (sym (append_assoc o (edited_sources same ss) c)))
+      (opened_front front o page (changes_of same ss ++ cs) (edited_sources same ss ++ (c ++ new)) inside)
 
-  all_make : (same : Same) (page front rest : List ℕ) (ss : Sents) (cs : List Change) (new : List ℕ)
-      → page ≡ front ++ (flat_of_all (old_children ss) ++ rest) → StandAt (length front) ss → Makes page cs (front ++ flat_of_all (old_children ss)) new
-      → Makes page (changes_of same ss ++ cs) front (new_sources ss ++ new)
-  all_make same page front rest none_sent cs new is h k = subst (λ (xs : List ℕ). Makes page cs xs new) (append-nil front) k
-  all_make same page front rest (more_sent s ss) cs new is h k =
-      let q : List ℕ = old_source s in
-      let tail : List ℕ = flat_of_all (old_children ss) in
-      let e : flat (old_child s) ≡ q = source_is (length front) s h.0 in
+  all_make : (same : Same) (page front rest : List ℕ) (ss : Edits) (cs : List Change) (new : List ℕ)
+      → page ≡ front ++ (flat_of_all (page_nodes ss) ++ rest) → LieAt (length front) ss → Makes page cs (front ++ flat_of_all (page_nodes ss)) new
+      → Makes page (changes_of same ss ++ cs) front (edited_sources same ss ++ new)
+  all_make same page front rest no_edits cs new is h k = subst (λ (xs : List ℕ). Makes page cs xs new) (append-nil front) k
+  all_make same page front rest (more_edits s ss) cs new is h k =
+      let q : List ℕ = page_source s in
+      let tail : List ℕ = flat_of_all (page_nodes ss) in
+      let e : flat (page_node s) ≡ q = source_is (length front) s h.0 in
       let long : length (front ++ q) ≡ length front + length q = length-append front q in
-      let joined : flat (old_child s) ++ tail ≡ q ++ tail = ap (λ (xs : List ℕ). xs ++ tail) e in
+      let joined : flat (page_node s) ++ tail ≡ q ++ tail = ap (λ (xs : List ℕ). xs ++ tail) e in
       let now : page ≡ front ++ (q ++ (tail ++ rest)) =
       is ∙ ap (λ (xs : List ℕ). front ++ (xs ++ rest)) joined ∙ ap (λ (xs : List ℕ). front ++ xs) (append_assoc q tail rest) in
       let further : page ≡ (front ++ q) ++ (tail ++ rest) = now ∙ sym (append_assoc front q (tail ++ rest)) in
-      let ends : front ++ (flat (old_child s) ++ tail) ≡ (front ++ q) ++ tail = ap (λ (xs : List ℕ). front ++ xs) joined ∙ sym (append_assoc front q tail) in
-      let later : Makes page (changes_of same ss ++ cs) (front ++ q) (new_sources ss ++ new) =
-      all_make same page (front ++ q) rest ss cs new further (subst (λ (n : ℕ). StandAt n ss) (sym long) h.1) (subst (λ (xs : List ℕ). Makes page cs xs new) ends k) in
-      let all : Makes page (change_of same s ++ (changes_of same ss ++ cs)) front (new_source s ++ (new_sources ss ++ new)) =
-      one_makes same page front (tail ++ rest) s (changes_of same ss ++ cs) (new_sources ss ++ new) now h.0 later in
-      subst (λ (ds : List Change). Makes page ds front ((new_source s ++ new_sources ss) ++ new)) (sym (append_assoc (change_of same s) (changes_of same ss) cs))
-      (subst (λ (xs : List ℕ). Makes page (change_of same s ++ (changes_of same ss ++ cs)) front xs) (sym (append_assoc (new_source s) (new_sources ss) new)) all)
+      let ends : front ++ (flat (page_node s) ++ tail) ≡ (front ++ q) ++ tail = ap (λ (xs : List ℕ). front ++ xs) joined ∙ sym (append_assoc front q tail) in
+      let later : Makes page (changes_of same ss ++ cs) (front ++ q) (edited_sources same ss ++ new) =
+      all_make same page (front ++ q) rest ss cs new further (subst (λ (n : ℕ). LieAt n ss) (sym long) h.1) (subst (λ (xs : List ℕ). Makes page cs xs new) ends k) in
+      let all : Makes page (change_of same s ++ (changes_of same ss ++ cs)) front (edited_source same s ++ (edited_sources same ss ++ new)) =
+      one_makes same page front (tail ++ rest) s (changes_of same ss ++ cs) (edited_sources same ss ++ new) now h.0 later in
+      subst (λ (ds : List Change). Makes page ds front ((edited_source same s ++ edited_sources same ss) ++ new)) (sym (append_assoc (change_of same s) (changes_of same ss) cs))
+      (subst (λ (xs : List ℕ). Makes page (change_of same s ++ (changes_of same ss ++ cs)) front xs) (sym (append_assoc (edited_source same s) (edited_sources same ss) new)) all)
 
 nothing_left : (page : List ℕ) → Makes page [] page []
 nothing_left page = λ from le. sym (append-nil (drop from page))
 
-pub spliced_is : (same : Same) (page : List ℕ) (ss : Sents) → page ≡ flat_of_all (old_children ss) → StandAt 0 ss
-    → spliced page (changes_of same ss) ≡ new_sources ss
+pub spliced_is : (same : Same) (page : List ℕ) (ss : Edits) → page ≡ flat_of_all (page_nodes ss) → LieAt 0 ss
+    → spliced page (changes_of same ss) ≡ edited_sources same ss
 unfolding spliced
 spliced_is same page ss is h =
     let le : 0 ≤ 0 = omega arith in
-    let end : Makes page [] ([] ++ flat_of_all (old_children ss)) [] = subst (λ (xs : List ℕ). Makes page [] xs []) is (nothing_left page) in
+    let end : Makes page [] ([] ++ flat_of_all (page_nodes ss)) [] = subst (λ (xs : List ℕ). Makes page [] xs []) is (nothing_left page) in
     ap (spliced_from page 0) (sym (append-nil (changes_of same ss)))
-    ∙ all_make same page [] [] ss [] [] (is ∙ sym (append-nil (flat_of_all (old_children ss)))) h end 0 le
-    ∙ append-nil (new_sources ss)
+    ∙ all_make same page [] [] ss [] [] (is ∙ sym (append-nil (flat_of_all (page_nodes ss)))) h end 0 le
+    ∙ append-nil (edited_sources same ss)

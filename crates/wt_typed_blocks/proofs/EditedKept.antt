@@ -1,4 +1,4 @@
--- An edit that types texts in blocks and sends all else as it stands passes the checks.
+-- An edit of contents of blocks that sends all else as it stands passes the checks.
 use Rattle.std.proofs.Common.{◌≡◌, ℕ, Bool, true, false, List, [], ◌∷◌, ◌++◌, refl, sym, ap, ◌∙◌, subst, inl, inr}
 use Rattle.std.specs.Prelude.{◌==◌, ◌&&◌, ◌||◌, not, if◌then◌else◌, Option, Some, None, MatchOption}
 use Rattle.std.specs.List.{AllByRecursion}
@@ -23,7 +23,8 @@ use Rattle.wt_checks.proofs.InOrder.{not_zero_kept}
 use Rattle.wt_checks.proofs.Lookups.{each_split, each_join}
 use Rattle.wt_checks.proofs.Repeated.{or_false}
 use Rattle.wt_checks.proofs.WhatIsKept.{increasing, unrefused}
-use Rattle.wt_typed_blocks.specs.Sent.{IsSentAsIs, GroupIsSent, StandsAsIs, AllStandAsIs, Block, paragraph, heading, kind_of, text_in, Sent, stands, typed, holds, Sents, none_sent, more_sent, old_child, new_child, old_children, new_children, IsSent, AreSent, old_body, new_body, IsOutsideGroups, AreOutsideGroups}
+use Rattle.wt_typed_blocks.specs.Sent.{IsSentAsIs, GroupIsSent, StandsAsIs, AllStandAsIs, Block, paragraph, heading, kind_of}
+use Rattle.wt_typed_blocks.specs.Edited.{Piece, gone, written, kept, page_pieces, text_node, sent_pieces, PiecesStay, Edited, stays, edited, round, Edits, no_edits, more_edits, page_node, page_nodes, sent_node, sent_nodes, IsEdited, AreEdited, IsOutside, AreOutside, page_body, sent_body}
 use Rattle.wt_typed_blocks.proofs.SentGroups.{in_group, no_mark, all_new, new_under, new_groups, new_nodes}
 
 -- ---- numbers in their order
@@ -85,39 +86,53 @@ mutual
   all_some_under n m v w (more t ts) (more u us) h =
       both_joined n (placed m w u) (all_placed m w us) (placed m v t) (all_placed m v ts) (some_under n m v w t u h.0) (all_some_under n m v w ts us h.1)
 
-under_text : (n m : ℕ) (w : Bool) (x : Label) (text : List ℕ) → kept_under n (all_placed m w (text_in x text)) ≡ []
-under_text n m w x [] = refl
-under_text n m w x (b ∷ bs) = refl
+-- of a content: a text has no number, and what isn't sent is missing
+text_under : (n m : ℕ) (w : Bool) (x : Label) (text : List ℕ) (us : Trees)
+    → kept_under n (all_placed m w (text_node x text us)) ≡ kept_under n (all_placed m w us)
+text_under n m w x [] us = refl
+text_under n m w x (b ∷ bs) us = refl
 
-typed_under : (b : Bool) (i : ℕ) (xs ys : List ℕ) → xs ≡ [] → IsSublist (if b then i ∷ xs else xs) (if b then i ∷ ys else ys)
-typed_under true i xs ys e = inl (refl, none_sublist xs ys e)
-typed_under false i xs ys e = none_sublist xs ys e
+pieces_under : (n m : ℕ) (v w : Bool) (ps : List Piece) → PiecesStay ps
+    → IsSublist (kept_under n (all_placed m w (sent_pieces ps))) (kept_under n (all_placed m v (page_pieces ps)))
+pieces_under n m v w [] h = tt
+pieces_under n m v w (gone t ∷ ps) h =
+    let own : List ℕ = kept_under n (all_placed m w (sent_pieces ps)) in
+    let others : List ℕ = kept_under n (all_placed m v (page_pieces ps)) in
+    subst (λ (xs : List ℕ). IsSublist own xs) (sym (under_join n (placed m v t) (all_placed m v (page_pieces ps))))
+    (more_sublist own (kept_under n (placed m v t)) others (pieces_under n m v w ps h))
+pieces_under n m v w (written x text ∷ ps) h =
+    subst (λ (xs : List ℕ). IsSublist xs (kept_under n (all_placed m v (page_pieces ps)))) (sym (text_under n m w x text (sent_pieces ps)))
+    (pieces_under n m v w ps h)
+pieces_under n m v w (kept t u ∷ ps) h =
+    both_joined n (placed m w u) (all_placed m w (sent_pieces ps)) (placed m v t) (all_placed m v (page_pieces ps)) (some_under n m v w t u h.0)
+    (pieces_under n m v w ps h.1)
 
 mutual
-  child_under : (n m : ℕ) (v w : Bool) (s : Sent) → IsSent s → IsSublist (kept_under n (placed m w (new_child s))) (kept_under n (placed m v (old_child s)))
-  child_under n m v w (stands t u) h = some_under n m v w t u h
-  child_under n m v w (typed k l ts p x text) h =
-      typed_under (not (l.id == 0) && m == n) l.id (kept_under n (all_placed (parent_below m l.id) (w || true) (text_in x text)))
-      (kept_under n (all_placed (parent_below m l.id) (v || is_content l.mark) ts)) (under_text n (parent_below m l.id) (w || true) x text)
-  child_under n m v w (holds l k ss) h =
+  child_under : (n m : ℕ) (v w : Bool) (s : Edited) → IsEdited s → IsSublist (kept_under n (placed m w (sent_node s))) (kept_under n (placed m v (page_node s)))
+  child_under n m v w (stays t u) h = some_under n m v w t u h
+  child_under n m v w (edited k l p ps) h =
+      both_under (not (l.id == 0) && m == n) l.id (kept_under n (all_placed (parent_below m l.id) (w || true) (sent_pieces ps)))
+      (kept_under n (all_placed (parent_below m l.id) (v || is_content l.mark) (page_pieces ps)))
+      (pieces_under n (parent_below m l.id) (v || is_content l.mark) (w || true) ps h.1)
+  child_under n m v w (round l k ss) h =
       let c : Bool = w || is_content k.mark in
       let d : Bool = v || is_content l.mark in
-      let ys : List ℕ = kept_under n (all_placed (parent_below m l.id) d (old_children ss)) in
+      let ys : List ℕ = kept_under n (all_placed (parent_below m l.id) d (page_nodes ss)) in
       let P : ℕ → Type 0 = λ i. IsSublist
-      (if not (i == 0) && m == n then i ∷ kept_under n (all_placed (parent_below m i) c (new_children ss)) else kept_under n (all_placed (parent_below m i) c (new_children ss)))
+      (if not (i == 0) && m == n then i ∷ kept_under n (all_placed (parent_below m i) c (sent_nodes ss)) else kept_under n (all_placed (parent_below m i) c (sent_nodes ss)))
       (if not (l.id == 0) && m == n then l.id ∷ ys else ys) in
       subst P (sym h.0.id)
-      (both_under (not (l.id == 0) && m == n) l.id (kept_under n (all_placed (parent_below m l.id) c (new_children ss))) ys
+      (both_under (not (l.id == 0) && m == n) l.id (kept_under n (all_placed (parent_below m l.id) c (sent_nodes ss))) ys
       (children_under n (parent_below m l.id) d c ss h.1))
 
-  children_under : (n m : ℕ) (v w : Bool) (ss : Sents) → AreSent ss
-      → IsSublist (kept_under n (all_placed m w (new_children ss))) (kept_under n (all_placed m v (old_children ss)))
-  children_under n m v w none_sent h = tt
-  children_under n m v w (more_sent s ss) h =
-      both_joined n (placed m w (new_child s)) (all_placed m w (new_children ss)) (placed m v (old_child s)) (all_placed m v (old_children ss))
+  children_under : (n m : ℕ) (v w : Bool) (ss : Edits) → AreEdited ss
+      → IsSublist (kept_under n (all_placed m w (sent_nodes ss))) (kept_under n (all_placed m v (page_nodes ss)))
+  children_under n m v w no_edits h = tt
+  children_under n m v w (more_edits s ss) h =
+      both_joined n (placed m w (sent_node s)) (all_placed m w (sent_nodes ss)) (placed m v (page_node s)) (all_placed m v (page_nodes ss))
       (child_under n m v w s h.0) (children_under n m v w ss h.1)
 
-ordered : (l b : Label) (ss : Sents) → AreSent ss → InOrder (places (old_body l ss)) (places (new_body l b ss))
+ordered : (l b : Label) (ss : Edits) → AreEdited ss → InOrder (places (page_body l ss)) (places (sent_body l b ss))
 ordered l b ss h = λ n. children_under n 0 (is_content l.mark) false ss h
 
 -- ---- nodes as they were
@@ -215,59 +230,75 @@ mutual
       let s = each_split (Itself page) (placed i v t) (all_placed i v ts) it in
       each_join (NodeKept page) (placed j w u) (all_placed j w us) (nodes_kept page i j v w t u h.0 d.0 s.0) (all_nodes_kept page i j v w ts us h.1 d.1 s.1)
 
-text_kept : (page : Page) (j : ℕ) (w : Bool) (x : Label) (text : List ℕ) → AllByRecursion (NodeKept page) (all_placed j w (text_in x text))
-text_kept page j w x [] = tt
-text_kept page j w x (c ∷ cs) = (λ a b. absurd (cc), tt)
+text_kept : (page : Page) (j : ℕ) (w : Bool) (x : Label) (text : List ℕ) (us : Trees) → AllByRecursion (NodeKept page) (all_placed j w us)
+    → AllByRecursion (NodeKept page) (all_placed j w (text_node x text us))
+text_kept page j w x [] us h = h
+text_kept page j w x (c ∷ cs) us h = (λ a b. absurd (cc), h)
+
+pieces_kept : (page : Page) (i j : ℕ) (v w : Bool) (ps : List Piece) → PiecesStay ps → have_frame (page_pieces ps) ≡ false
+    → AllByRecursion (Itself page) (all_placed i v (page_pieces ps)) → AllByRecursion (NodeKept page) (all_placed j w (sent_pieces ps))
+pieces_kept page i j v w [] h f it = tt
+pieces_kept page i j v w (gone t ∷ ps) h f it =
+    let d = or_false (has_frame t) (have_frame (page_pieces ps)) f in
+    let s = each_split (Itself page) (placed i v t) (all_placed i v (page_pieces ps)) it in
+    pieces_kept page i j v w ps h d.1 s.1
+pieces_kept page i j v w (written x text ∷ ps) h f it = text_kept page j w x text (sent_pieces ps) (pieces_kept page i j v w ps h f it)
+pieces_kept page i j v w (kept t u ∷ ps) h f it =
+    let d = or_false (has_frame t) (have_frame (page_pieces ps)) f in
+    let s = each_split (Itself page) (placed i v t) (all_placed i v (page_pieces ps)) it in
+    each_join (NodeKept page) (placed j w u) (all_placed j w (sent_pieces ps)) (nodes_kept page i j v w t u h.0 d.0 s.0)
+    (pieces_kept page i j v w ps h.1 d.1 s.1)
 
 mutual
-  child_entry : (s : Sent) (es fs : List Entry) → IsSent s → es ≡ fs
-      → (if is_compared (showing (label (old_child s)).kind) then entry (label (old_child s)) ∷ es else es)
-      ≡ (if is_compared (showing (label (new_child s)).kind) then entry (label (new_child s)) ∷ fs else fs)
-  child_entry (stands t u) es fs h e = entry_same t u es fs h e
-  child_entry (typed paragraph l ts m x text) es fs h e = ap (λ (zs : List Entry). entry_child l.id ∷ zs) e
-  child_entry (typed (heading n) l ts m x text) es fs h e = ap (λ (zs : List Entry). entry_child l.id ∷ zs) e
-  child_entry (holds l m ss) es fs h e = label_entry l m es fs h.0 e
+  child_entry : (s : Edited) (es fs : List Entry) → IsEdited s → es ≡ fs
+      → (if is_compared (showing (label (page_node s)).kind) then entry (label (page_node s)) ∷ es else es)
+      ≡ (if is_compared (showing (label (sent_node s)).kind) then entry (label (sent_node s)) ∷ fs else fs)
+  child_entry (stays t u) es fs h e = entry_same t u es fs h e
+  child_entry (edited paragraph l m ps) es fs h e = ap (λ (zs : List Entry). entry_child l.id ∷ zs) e
+  child_entry (edited (heading n) l m ps) es fs h e = ap (λ (zs : List Entry). entry_child l.id ∷ zs) e
+  child_entry (round l m ss) es fs h e = label_entry l m es fs h.0 e
 
-  child_entries : (ss : Sents) → AreSent ss → entries (old_children ss) ≡ entries (new_children ss)
-  child_entries none_sent h = refl
-  child_entries (more_sent s ss) h = child_entry s (entries (old_children ss)) (entries (new_children ss)) h.0 (child_entries ss h.1)
+  child_entries : (ss : Edits) → AreEdited ss → entries (page_nodes ss) ≡ entries (sent_nodes ss)
+  child_entries no_edits h = refl
+  child_entries (more_edits s ss) h = child_entry s (entries (page_nodes ss)) (entries (sent_nodes ss)) h.0 (child_entries ss h.1)
 
 mutual
-  child_kept : (page : Page) (i j : ℕ) (v w : Bool) (s : Sent) → IsSent s → has_frame (old_child s) ≡ false → AllByRecursion (Itself page) (placed i v (old_child s))
-      → AllByRecursion (NodeKept page) (placed j w (new_child s))
-  child_kept page i j v w (stands t u) h f it = nodes_kept page i j v w t u h f it
-  child_kept page i j v w (typed k l ts m x text) h f it =
-      let old : Tree = old_child (typed k l ts m x text) in
-      let new : Tree = new_child (typed k l ts m x text) in
+  child_kept : (page : Page) (i j : ℕ) (v w : Bool) (s : Edited) → IsEdited s → has_frame (page_node s) ≡ false → AllByRecursion (Itself page) (placed i v (page_node s))
+      → AllByRecursion (NodeKept page) (placed j w (sent_node s))
+  child_kept page i j v w (stays t u) h f it = nodes_kept page i j v w t u h f it
+  child_kept page i j v w (edited k l m ps) h f it =
+      let old : Tree = page_node (edited k l m ps) in
+      let new : Tree = sent_node (edited k l m ps) in
+      let d = or_false (is_frame (kind_of k)) (have_frame (page_pieces ps)) f in
       let was : NodeAsItWas old new = record { kind = refl; attrs = refl; mw = inr refl; holds = inl refl } in (
-        kept_by page (record { node = new; parent = j; in_content = w }) (record { node = old; parent = i; in_content = v }) (it.0 (not_zero_kept l.id h)) was,
-        text_kept page (parent_below j l.id) (w || true) x text,
+        kept_by page (record { node = new; parent = j; in_content = w }) (record { node = old; parent = i; in_content = v }) (it.0 (not_zero_kept l.id h.0)) was,
+        pieces_kept page (parent_below i l.id) (parent_below j l.id) (v || is_content l.mark) (w || true) ps h.1 d.1 it.1,
       )
-  child_kept page i j v w (holds l m ss) h f it =
-      let d = or_false (is_frame l.kind) (have_frame (old_children ss)) f in (
-        node_kept page i j v w l m (old_children ss) (new_children ss) h.0 (child_entries ss h.1) d.0 d.1 it.0,
+  child_kept page i j v w (round l m ss) h f it =
+      let d = or_false (is_frame l.kind) (have_frame (page_nodes ss)) f in (
+        node_kept page i j v w l m (page_nodes ss) (sent_nodes ss) h.0 (child_entries ss h.1) d.0 d.1 it.0,
         children_kept page (parent_below i l.id) (parent_below j m.id) (v || is_content l.mark) (w || is_content m.mark) ss h.1 d.1 it.1,
       )
 
-  children_kept : (page : Page) (i j : ℕ) (v w : Bool) (ss : Sents) → AreSent ss → have_frame (old_children ss) ≡ false
-      → AllByRecursion (Itself page) (all_placed i v (old_children ss)) → AllByRecursion (NodeKept page) (all_placed j w (new_children ss))
-  children_kept page i j v w none_sent h f it = tt
-  children_kept page i j v w (more_sent s ss) h f it =
-      let d = or_false (has_frame (old_child s)) (have_frame (old_children ss)) f in
-      let p = each_split (Itself page) (placed i v (old_child s)) (all_placed i v (old_children ss)) it in
-      each_join (NodeKept page) (placed j w (new_child s)) (all_placed j w (new_children ss)) (child_kept page i j v w s h.0 d.0 p.0)
+  children_kept : (page : Page) (i j : ℕ) (v w : Bool) (ss : Edits) → AreEdited ss → have_frame (page_nodes ss) ≡ false
+      → AllByRecursion (Itself page) (all_placed i v (page_nodes ss)) → AllByRecursion (NodeKept page) (all_placed j w (sent_nodes ss))
+  children_kept page i j v w no_edits h f it = tt
+  children_kept page i j v w (more_edits s ss) h f it =
+      let d = or_false (has_frame (page_node s)) (have_frame (page_nodes ss)) f in
+      let p = each_split (Itself page) (placed i v (page_node s)) (all_placed i v (page_nodes ss)) it in
+      each_join (NodeKept page) (placed j w (sent_node s)) (all_placed j w (sent_nodes ss)) (child_kept page i j v w s h.0 d.0 p.0)
       (children_kept page i j v w ss h.1 d.1 p.1)
 
 -- what is found by its number in the page
-pub found : (l : Label) (ss : Sents) → InPreorder (old_body l ss)
-    → AllByRecursion (Itself (page_of (old_body l ss))) (all_placed 0 (is_content l.mark) (old_children ss))
-found l ss pre = (each_itself (places (old_body l ss)) (increasing (old_body l ss) refl pre)).1
+pub found : (l : Label) (ss : Edits) → InPreorder (page_body l ss)
+    → AllByRecursion (Itself (page_of (page_body l ss))) (all_placed 0 (is_content l.mark) (page_nodes ss))
+found l ss pre = (each_itself (places (page_body l ss)) (increasing (page_body l ss) refl pre)).1
 
-nodes_stand : (l b : Label) (ss : Sents) → InPreorder (old_body l ss) → have_frame (old_children ss) ≡ false → AreSent ss
-    → AllByRecursion (NodeKept (page_of (old_body l ss))) (places (new_body l b ss))
+nodes_stand : (l b : Label) (ss : Edits) → InPreorder (page_body l ss) → have_frame (page_nodes ss) ≡ false → AreEdited ss
+    → AllByRecursion (NodeKept (page_of (page_body l ss))) (places (sent_body l b ss))
 nodes_stand l b ss pre f h =
-    let t : Tree = old_body l ss in
-    let u : Tree = new_body l b ss in
+    let t : Tree = page_body l ss in
+    let u : Tree = sent_body l b ss in
     let holds : HoldsTheSame t u = record { character = refl; held = ap entries (bare_root t f) ∙ child_entries ss h } in
     let was : NodeAsItWas t u = record { kind = refl; attrs = refl; mw = inr refl; holds = inr holds } in (
       kept_by (page_of t) (record { node = u; parent = 0; in_content = false }) (record { node = t; parent = 0; in_content = false }) (found_root t refl) was,
@@ -319,41 +350,53 @@ mutual
       let s = each_split (Itself page) (placed i v t) (all_placed i v ts) it in
       each_join (GroupKept false page) (placed j w u) (all_placed j w us) (groups_kept page i j v w t u h.0 s.0) (all_groups_kept page i j v w ts us h.1 s.1)
 
-text_ungrouped : (page : Page) (j : ℕ) (w : Bool) (x : Label) (text : List ℕ) → AllByRecursion (GroupKept false page) (all_placed j w (text_in x text))
-text_ungrouped page j w x [] = tt
-text_ungrouped page j w x (c ∷ cs) = (λ k. absurd (cc), tt)
+text_ungrouped : (page : Page) (j : ℕ) (w : Bool) (x : Label) (text : List ℕ) (us : Trees) → AllByRecursion (GroupKept false page) (all_placed j w us)
+    → AllByRecursion (GroupKept false page) (all_placed j w (text_node x text us))
+text_ungrouped page j w x [] us h = h
+text_ungrouped page j w x (c ∷ cs) us h = (λ k. absurd (cc), h)
+
+pieces_groups : (page : Page) (i j : ℕ) (v w : Bool) (ps : List Piece) → PiecesStay ps → AllByRecursion (Itself page) (all_placed i v (page_pieces ps))
+    → AllByRecursion (GroupKept false page) (all_placed j w (sent_pieces ps))
+pieces_groups page i j v w [] h it = tt
+pieces_groups page i j v w (gone t ∷ ps) h it =
+    let s = each_split (Itself page) (placed i v t) (all_placed i v (page_pieces ps)) it in pieces_groups page i j v w ps h s.1
+pieces_groups page i j v w (written x text ∷ ps) h it = text_ungrouped page j w x text (sent_pieces ps) (pieces_groups page i j v w ps h it)
+pieces_groups page i j v w (kept t u ∷ ps) h it =
+    let s = each_split (Itself page) (placed i v t) (all_placed i v (page_pieces ps)) it in
+    each_join (GroupKept false page) (placed j w u) (all_placed j w (sent_pieces ps)) (groups_kept page i j v w t u h.0 s.0)
+    (pieces_groups page i j v w ps h.1 s.1)
 
 block_ungrouped : (k : Block) → is_group (kind_of k) ≡ false
 block_ungrouped paragraph = refl
 block_ungrouped (heading n) = refl
 
 mutual
-  child_groups : (page : Page) (i j : ℕ) (v w : Bool) (s : Sent) → IsSent s → IsOutsideGroups s → AllByRecursion (Itself page) (placed i v (old_child s))
-      → AllByRecursion (GroupKept false page) (placed j w (new_child s))
-  child_groups page i j v w (stands t u) h o it = groups_kept page i j v w t u h it
-  child_groups page i j v w (typed k l ts m x text) h o it =
-      let old : Tree = old_child (typed k l ts m x text) in
-      let new : Tree = new_child (typed k l ts m x text) in (
+  child_groups : (page : Page) (i j : ℕ) (v w : Bool) (s : Edited) → IsEdited s → IsOutside s → AllByRecursion (Itself page) (placed i v (page_node s))
+      → AllByRecursion (GroupKept false page) (placed j w (sent_node s))
+  child_groups page i j v w (stays t u) h o it = groups_kept page i j v w t u h it
+  child_groups page i j v w (edited k l m ps) h o it =
+      let old : Tree = page_node (edited k l m ps) in
+      let new : Tree = sent_node (edited k l m ps) in (
         no_group_by page (record { node = new; parent = j; in_content = w }) (record { node = old; parent = i; in_content = v }) it.0 (block_ungrouped k),
-        text_ungrouped page (parent_below j l.id) (w || true) x text,
+        pieces_groups page (parent_below i l.id) (parent_below j l.id) (v || is_content l.mark) (w || true) ps h.1 it.1,
       )
-  child_groups page i j v w (holds l m ss) h o it = (
-    no_group_by page (record { node = tree m (new_children ss); parent = j; in_content = w }) (record { node = tree l (old_children ss); parent = i; in_content = v })
-        (found_sent page i v l m (old_children ss) h.0 it.0) o.0,
+  child_groups page i j v w (round l m ss) h o it = (
+    no_group_by page (record { node = tree m (sent_nodes ss); parent = j; in_content = w }) (record { node = tree l (page_nodes ss); parent = i; in_content = v })
+        (found_sent page i v l m (page_nodes ss) h.0 it.0) o.0,
     children_groups page (parent_below i l.id) (parent_below j m.id) (v || is_content l.mark) (w || is_content m.mark) ss h.1 o.1 it.1,
   )
 
-  children_groups : (page : Page) (i j : ℕ) (v w : Bool) (ss : Sents) → AreSent ss → AreOutsideGroups ss → AllByRecursion (Itself page) (all_placed i v (old_children ss))
-      → AllByRecursion (GroupKept false page) (all_placed j w (new_children ss))
-  children_groups page i j v w none_sent h o it = tt
-  children_groups page i j v w (more_sent s ss) h o it =
-      let p = each_split (Itself page) (placed i v (old_child s)) (all_placed i v (old_children ss)) it in
-      each_join (GroupKept false page) (placed j w (new_child s)) (all_placed j w (new_children ss)) (child_groups page i j v w s h.0 o.0 p.0)
+  children_groups : (page : Page) (i j : ℕ) (v w : Bool) (ss : Edits) → AreEdited ss → AreOutside ss → AllByRecursion (Itself page) (all_placed i v (page_nodes ss))
+      → AllByRecursion (GroupKept false page) (all_placed j w (sent_nodes ss))
+  children_groups page i j v w no_edits h o it = tt
+  children_groups page i j v w (more_edits s ss) h o it =
+      let p = each_split (Itself page) (placed i v (page_node s)) (all_placed i v (page_nodes ss)) it in
+      each_join (GroupKept false page) (placed j w (sent_node s)) (all_placed j w (sent_nodes ss)) (child_groups page i j v w s h.0 o.0 p.0)
       (children_groups page i j v w ss h.1 o.1 p.1)
 
-groups_stand : (l b : Label) (ss : Sents) → InPreorder (old_body l ss) → AreSent ss → AreOutsideGroups ss
-    → AllByRecursion (GroupKept false (page_of (old_body l ss))) (places (new_body l b ss))
-groups_stand l b ss pre h o = (λ k. absurd (cc), children_groups (page_of (old_body l ss)) 0 0 (is_content l.mark) false ss h o (found l ss pre))
+groups_stand : (l b : Label) (ss : Edits) → InPreorder (page_body l ss) → AreEdited ss → AreOutside ss
+    → AllByRecursion (GroupKept false (page_of (page_body l ss))) (places (sent_body l b ss))
+groups_stand l b ss pre h o = (λ k. absurd (cc), children_groups (page_of (page_body l ss)) 0 0 (is_content l.mark) false ss h o (found l ss pre))
 
 -- ---- marks
 
@@ -371,43 +414,51 @@ mutual
       let d = or_false (has_mark u) (have_mark us) h in
       each_join (MarkKept page) (placed j w u) (all_placed j w us) (marks_none page j w u d.0) (all_marks_none page j w us d.1)
 
-text_unmarked : (page : Page) (j : ℕ) (w : Bool) (x : Label) (text : List ℕ) → AllByRecursion (MarkKept page) (all_placed j w (text_in x text))
-text_unmarked page j w x [] = tt
-text_unmarked page j w x (c ∷ cs) = (λ e. absurd (cc), tt)
+text_unmarked : (page : Page) (j : ℕ) (w : Bool) (x : Label) (text : List ℕ) (us : Trees) → AllByRecursion (MarkKept page) (all_placed j w us)
+    → AllByRecursion (MarkKept page) (all_placed j w (text_node x text us))
+text_unmarked page j w x [] us h = h
+text_unmarked page j w x (c ∷ cs) us h = (λ e. absurd (cc), h)
+
+pieces_unmarked : (page : Page) (j : ℕ) (w : Bool) (ps : List Piece) → PiecesStay ps → AllByRecursion (MarkKept page) (all_placed j w (sent_pieces ps))
+pieces_unmarked page j w [] h = tt
+pieces_unmarked page j w (gone t ∷ ps) h = pieces_unmarked page j w ps h
+pieces_unmarked page j w (written x text ∷ ps) h = text_unmarked page j w x text (sent_pieces ps) (pieces_unmarked page j w ps h)
+pieces_unmarked page j w (kept t u ∷ ps) h =
+    each_join (MarkKept page) (placed j w u) (all_placed j w (sent_pieces ps)) (marks_none page j w u (no_mark t u h.0)) (pieces_unmarked page j w ps h.1)
 
 allowed_in : (k : Block) (o : Option Place) → allows (editing (kind_of k)) marks.Content o ≡ true
 allowed_in paragraph o = refl
 allowed_in (heading n) o = refl
 
 mutual
-  child_marked : (page : Page) (j : ℕ) (s : Sent) → IsSent s → AllByRecursion (MarkKept page) (placed j false (new_child s))
-  child_marked page j (stands t u) h = marks_none page j false u (no_mark t u h)
-  child_marked page j (typed k l ts m x text) h = (
+  child_marked : (page : Page) (j : ℕ) (s : Edited) → IsEdited s → AllByRecursion (MarkKept page) (placed j false (sent_node s))
+  child_marked page j (stays t u) h = marks_none page j false u (no_mark t u h)
+  child_marked page j (edited k l m ps) h = (
     λ e. record {
       outside = refl;
-      old = ap (λ (b : Bool). b || is_body (kind_of k)) (not_zero_kept l.id h);
+      old = ap (λ (b : Bool). b || is_body (kind_of k)) (not_zero_kept l.id h.0);
       allowed = allowed_in k (page l.id);
     },
-    text_unmarked page (parent_below j l.id) true x text,
+    pieces_unmarked page (parent_below j l.id) true ps h.1,
   )
-  child_marked page j (holds l m ss) h = (
+  child_marked page j (round l m ss) h = (
     λ e. let n : is_marked m.mark ≡ false = ap is_marked h.0.unmarked in absurd (cc),
-    subst (λ (c : Mark). AllByRecursion (MarkKept page) (all_placed (parent_below j m.id) (is_content c) (new_children ss))) (sym h.0.unmarked)
+    subst (λ (c : Mark). AllByRecursion (MarkKept page) (all_placed (parent_below j m.id) (is_content c) (sent_nodes ss))) (sym h.0.unmarked)
         (children_marked page (parent_below j m.id) ss h.1),
   )
 
-  children_marked : (page : Page) (j : ℕ) (ss : Sents) → AreSent ss → AllByRecursion (MarkKept page) (all_placed j false (new_children ss))
-  children_marked page j none_sent h = tt
-  children_marked page j (more_sent s ss) h =
-      each_join (MarkKept page) (placed j false (new_child s)) (all_placed j false (new_children ss)) (child_marked page j s h.0) (children_marked page j ss h.1)
+  children_marked : (page : Page) (j : ℕ) (ss : Edits) → AreEdited ss → AllByRecursion (MarkKept page) (all_placed j false (sent_nodes ss))
+  children_marked page j no_edits h = tt
+  children_marked page j (more_edits s ss) h =
+      each_join (MarkKept page) (placed j false (sent_node s)) (all_placed j false (sent_nodes ss)) (child_marked page j s h.0) (children_marked page j ss h.1)
 
 -- ---- all of it
 
-pub passes : (l b : Label) (ss : Sents) → InPreorder (old_body l ss) → have_frame (old_children ss) ≡ false → AreSent ss → AreOutsideGroups ss
-    → checked false (old_body l ss) (new_body l b ss) ≡ None
+pub passes : (l b : Label) (ss : Edits) → InPreorder (page_body l ss) → have_frame (page_nodes ss) ≡ false → AreEdited ss → AreOutside ss
+    → checked false (page_body l ss) (sent_body l b ss) ≡ None
 passes l b ss pre f h o =
-    let t : Tree = old_body l ss in
-    let u : Tree = new_body l b ss in
+    let t : Tree = page_body l ss in
+    let u : Tree = sent_body l b ss in
     let all : Kept false t u = record {
       order = ordered l b ss h;
       groups = groups_stand l b ss pre h o;

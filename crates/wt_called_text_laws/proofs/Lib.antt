@@ -1,0 +1,12 @@
+pub mod Unframed
+pub mod PageBody
+pub mod NodeGaps
+pub mod BlocksMade
+pub mod Leads
+pub mod Untangled
+pub mod CalledUtf8
+pub mod EditFacts
+pub mod EditTaken
+pub mod AmongCalls
+pub mod CallsTake
+pub mod CalmCalls

@@ -1,0 +1,2 @@
+pub mod CalledTexts
+pub mod CalledCalls

@@ -1,0 +1,3 @@
+pub mod BareInsides
+pub mod Settles
+pub mod SettledPages
