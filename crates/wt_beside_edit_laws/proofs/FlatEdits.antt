@@ -44,12 +44,12 @@ use Rattle.wt_beside_laws.specs.SentPieces.{TextsFit}
 use Rattle.wt_beside_laws.proofs.NoFaults.{no_fault}
 use Rattle.wt_beside_laws.proofs.SentPieces.{stays_sent}
 use Rattle.wt_beside_edit_laws.specs.FlatPages.{lines_of, paragraph_of, block_of, IsFlatPage, IsFlatEdit, flat_edits, new_signs, new_flat}
-use Rattle.wt_beside_edit_laws.proofs.OldPages.{IsOneBlock, body_label, one_tree, one_source, one_ungrouped, one_unframed, one_flat, flat_page, para_label, label_is, kind_is, block_is, numbered, is_flat}
+use Rattle.wt_beside_edit_laws.proofs.OldPages.{IsOneBlock, body_label, one_tree, one_source, one_ungrouped, one_unframed, one_flat, flat_page, para_label, label_is, kind_is, block_is, numbered, is_flat, old_untangled}
 use Rattle.wt_beside_edit_laws.proofs.Pieces.{all_fit}
 
 -- ---- the page's nodes
 
-abbrev para_edit : Label → List ℕ → List Piece → Edited
+abbrev pub para_edit : Label → List ℕ → List Piece → Edited
 para_edit m q ps = edited paragraph (label (block_of q)) m ps
 
 pub old_node : (m : Label) (q : List ℕ) (ps : List Piece) → IsFlatEdit q ps → page_node (para_edit m q ps) ≡ block_of q
@@ -80,7 +80,7 @@ are_taken m q ps h e =
     )
 
 are_apart : (m : Label) (q : List ℕ) (ps : List Piece) → IsFlatPage q → IsFlatEdit q ps → AreApart (of_items (page_items q)) q (flat_edits m q ps)
-are_apart m q ps h e = (ap (is_tangled (of_items (page_items q)) q) (old_node m q ps e) ∙ h.untangled, tt)
+are_apart m q ps h e = (ap (is_tangled (of_items (page_items q)) q) (old_node m q ps e) ∙ old_untangled q h, tt)
 
 -- ---- where it is
 

@@ -1,5 +1,6 @@
 -- A flat page: its tree, its paragraph, and what refuses it.
-use Rattle.std.proofs.Common.{arith, ◌≡◌, ◌≢◌, ℕ, ◌+◌, ◌<◌, false, Option, Some, None, List, [], ◌∷◌, ◌++◌, length, refl, sym, ap, ◌∙◌, subst, append-nil}
+use Rattle.std.proofs.Common.{arith, ◌≡◌, ◌≢◌, ℕ, ◌+◌, ◌<◌, false, Option, Some, None, List, [], ◌∷◌, ◌++◌, length, refl, sym, ap, ap₂, ◌∙◌, subst, append-nil, Bool}
+use Rattle.std.specs.Prelude.{◌||◌, take}
 use Rattle.std.specs.Str.{IsUtf8}
 use Rattle.wt_span.specs.Items.{Item, sources}
 use Rattle.wt_devices.specs.Device.{Pages}
@@ -37,12 +38,16 @@ use Rattle.wt_text_edit_laws.proofs.Blocks.PageKinds.{page_ordinary}
 use Rattle.wt_text_edit_laws.proofs.Paragraphs.PartTrees.{plain_tree}
 use Rattle.wt_text_edit_laws.proofs.Prose.ProseTrees.{blocks_of}
 use Rattle.wt_text_edit_laws.proofs.Texts.LoneTrees.{sized}
+use Rattle.wt_isolation.specs.OpenTags.{before, ends_open, any_ends_open}
+use Rattle.wt_isolation.specs.TextCalls.{touches_text_call}
+use Rattle.wt_selser.specs.Edits.{is_tangled}
+use Rattle.wt_selser.proofs.NoGroups.{untangled}
 use Rattle.wt_cell_edit_laws.proofs.Nodes.{blocks_flat}
 use Rattle.wt_cell_edit_laws.proofs.Unframed.{blocks_unframed}
 use Rattle.wt_beside_laws.specs.Flat.{para_with}
 use Rattle.wt_beside_laws.specs.OwnSigns.{IsFlatBlock}
 use Rattle.wt_beside_laws.specs.PageBlocks.{joined_parts, IsBlockOfLines}
-use Rattle.wt_beside_laws.proofs.BlockSigns.{flat_block}
+use Rattle.wt_beside_laws.proofs.BlockSigns.{flat_block, block_shut}
 use Rattle.wt_beside_laws.proofs.FlatLines.{lines_meaning}
 use Rattle.wt_beside_edit_laws.specs.FlatPages.{lines_of, paragraph_of, block_of, IsFlatPage}
 
@@ -135,3 +140,29 @@ of_lines q h = record {
 
 pub is_flat : (q : List ℕ) → IsFlatPage q → IsFlatBlock (block_of q)
 is_flat q h = flat_block (lines_of q) (block_of q) h.flat h.unstyled (of_lines q h)
+
+-- ---- it isn't tangled
+
+no_text_call : (r : Option Ranges) → touches_text_call [] r ≡ false
+no_text_call None = refl
+no_text_call (Some r) = refl
+
+untangled_by : (xs : List Item) (q : List ℕ) (t : Tree) → NoneIsGroup (children_of t) → ends_open (before q (label t).ranges) ≡ false
+    → any_ends_open (children_of t) ≡ false → is_tangled (of_items xs) q t ≡ false
+untangled_by xs q (tree l ts) g f o = untangled (of_items xs) q l ts g (no_text_call l.ranges) (ap₂ (λ (a b : Bool). a || b) f o)
+
+nothing_before : (q : List ℕ) → ends_open (take 0 q) ≡ false
+nothing_before [] = refl
+nothing_before (b ∷ q) = refl
+
+begins_page : (q : List ℕ) (l : Label) (ps : List Part) → l ≡ para_label ps → ends_open (before q l.ranges) ≡ false
+begins_page q l ps is = ap (λ (k : Label). ends_open (before q k.ranges)) is ∙ nothing_before q
+
+none_inside : (t : Tree) → HasNoGroup t → NoneIsGroup (children_of t)
+none_inside (tree l ts) h = h.1
+
+pub old_untangled : (q : List ℕ) → IsFlatPage q → is_tangled (of_items (page_items q)) q (block_of q) ≡ false
+old_untangled q h =
+    untangled_by (page_items q) q (block_of q) (none_inside (block_of q) (one_ungrouped q (paragraph_of q) (flat_page q h)).0)
+    (begins_page q (label (block_of q)) (joined_parts (lines_of q)) (label_is (joined_parts (lines_of q))))
+    (block_shut (lines_of q) (block_of q) 0 h.flat h.unstyled (of_lines q h) h.shut)

@@ -1,6 +1,5 @@
 -- A page that is one paragraph of text and of nodes, and texts that are typed in it beside the nodes.
-use Rattle.std.specs.Prelude.{◌≡◌, ℕ, true, false, List, [], ◌∷◌, ◌++◌}
-use Rattle.std.specs.List.{list_all, list_any}
+use Rattle.std.specs.Prelude.{◌≡◌, ℕ, false, List, [], ◌∷◌}
 use Rattle.std.specs.Str.{IsUtf8}
 use Rattle.wt_span.specs.Items.{Item}
 use Rattle.wt_tree.specs.declared.edit_shape.Place.TheVariants as place
@@ -13,24 +12,20 @@ use Rattle.wt_original.specs.Page.{page_of}
 use Rattle.wt_link_spelling.specs.Spelling.{signs_of_all, children_of}
 use Rattle.wt_expand.specs.PageItems.{page_items}
 use Rattle.wt_lines.specs.Lines.{lines}
-use Rattle.wt_inline.specs.ItemTree.{ItemTree, tree_items}
-use Rattle.wt_inline.specs.Parts.{Part, loose, node}
-use Rattle.wt_context.specs.Line.{line_parts}
-use Rattle.wt_annotated.specs.Clean.{is_page}
-use Rattle.wt_annotated.specs.WithoutCalls.{NoneEmpty}
-use Rattle.wt_selser.specs.Edits.{is_tangled}
+use Rattle.wt_inline.specs.ItemTree.{ItemTree}
+use Rattle.wt_difference.specs.Difference.{same_inside}
 use Rattle.wt_visible.specs.SameNodes.{same_node}
 use Rattle.wt_moved_laws.specs.Standing.{standing}
 use Rattle.wt_typed_blocks.specs.Sent.{paragraph}
 use Rattle.wt_typed_blocks.specs.Edited.{Piece, gone, written, kept, page_pieces, sent_pieces, PiecesStay, edited, Edits, no_edits, more_edits, sent_body}
-use Rattle.wt_text_edit_laws.specs.LonePages.{of_items}
+use Rattle.wt_typed_blocks.specs.EditedUnmarked.{bare_node, bare_body, AreInline}
 use Rattle.wt_text_edit_laws.specs.NoCalls.{CallsNothing}
 use Rattle.wt_text_edit_laws.specs.Parts.{part_tree, HasNoGroups}
 use Rattle.wt_beside_laws.specs.Calm.{AreCalm}
 use Rattle.wt_beside_laws.specs.Content.{AreKept}
 use Rattle.wt_beside_laws.specs.Flat.{para_with}
 use Rattle.wt_beside_laws.specs.Lines.{AreLinesOfText}
-use Rattle.wt_beside_laws.specs.PageBlocks.{joined_parts, AreUnstyled}
+use Rattle.wt_beside_laws.specs.PageBlocks.{joined_parts, AreUnstyled, AreShut}
 use Rattle.wt_beside_laws.specs.PageSigns.{signs_of_lines, AreFlatLines}
 use Rattle.wt_beside_laws.specs.SentPieces.{IsNodeForm, OnlyTextsGo}
 
@@ -46,20 +41,8 @@ paragraph_of q = para_with (joined_parts (lines_of q))
 abbrev pub block_of : List ℕ → Tree
 block_of q = standing 1 [] (paragraph_of q)
 
--- Each of these nodes has an item, all are the page's own, and no node in it is empty.
-abbrev pub AreFullParts : List Part → Type 0
-AreFullParts [] = Unit {0}
-AreFullParts (loose k o b ∷ ps) = AreFullParts ps
-AreFullParts (node t ∷ ps) = (list_any is_page (tree_items t) ≡ true) × NoneEmpty t × (list_all is_page (tree_items t) ≡ true) × AreFullParts ps
-
--- so each node of a content by its source
-abbrev pub AreFull : List ContentSign → Type 0
-AreFull [] = Unit {0}
-AreFull (letter c ∷ after) = AreFull after
-AreFull (thing t ∷ after) = AreFullParts (line_parts (page_items t.source)) × AreFull after
-
--- Its lines are text, in which no style begins and each form is a node that stays. The page calls nothing, no node of it can only be kept as a
--- whole, and the paragraph isn't tangled: no text in it ends with the beginning of a tag that something behind it could close.
+-- Its lines are text, in which no style begins and each form is a node that stays, whose source doesn't end in an open tag. The page calls
+-- nothing, and no node of it can only be kept as a whole.
 pub record IsFlatPage (q : List ℕ) : Type 0 where
   pub utf8 : IsUtf8 q
   pub calls_nothing : CallsNothing (page_items q)
@@ -68,8 +51,7 @@ pub record IsFlatPage (q : List ℕ) : Type 0 where
   pub unstyled : AreUnstyled (lines_of q)
   pub kept : AreKept (signs_of_lines 0 (lines_of q))
   pub calm : AreCalm (signs_of_lines 0 (lines_of q))
-  pub full : AreFull (signs_of_lines 0 (lines_of q))
-  pub untangled : is_tangled (of_items (page_items q)) q (block_of q) ≡ false
+  pub shut : AreShut (signs_of_lines 0 (lines_of q))
   pub ungrouped : HasNoGroups q
 
 -- ---- the edit
@@ -102,3 +84,15 @@ new_signs q ps = signs_of_all (page_of same_node (block_of q)) place.Paragraph (
 
 abbrev pub new_flat : List ℕ → List Piece → List ℕ
 new_flat q ps = spelled (record { within = false; place = place.Paragraph; source = flat (block_of q) }) (new_signs q ps)
+
+-- ---- without marks
+
+-- the edited tree, whatever marks are on the paragraph and the body
+abbrev pub bare_flat : Label → Label → List ℕ → List Piece → Tree
+bare_flat b m q ps = bare_body (label (part_tree q)) b (flat_edits m q ps)
+
+-- Its content is another one than that of the page's paragraph, and what stays in it is inline.
+pub record IsUnmarkedFlatEdit (m : Label) (q : List ℕ) (ps : List Piece) : Type 0 where
+  pub edit : IsFlatEdit q ps
+  pub inline : AreInline ps
+  pub other : same_inside (block_of q) (bare_node (edited paragraph (label (block_of q)) m ps)) ≡ false

@@ -5,7 +5,9 @@ use Rattle.wt_tree.specs.Kinds.{is_leaf}
 use Rattle.wt_tree.specs.Tiling.{HasNoGroup, NoneIsGroup}
 use Rattle.wt_tree.specs.Tree.{Tree, tree, Trees, label}
 use Rattle.wt_tree.specs.declared.edit_shape.Place.{Place}
+use Rattle.wt_guards.specs.Content.{ContentSign}
 use Rattle.wt_guards.specs.Guards.{Setting}
+use Rattle.wt_isolation.specs.OpenTags.{any_ends_open}
 use Rattle.wt_inline.specs.ItemTree.{plain, ItemTree, inner, forest}
 use Rattle.wt_inline.specs.Parts.{Part, children}
 use Rattle.wt_annotated.specs.Labels.{label_at}
@@ -18,7 +20,7 @@ use Rattle.wt_beside_laws.specs.Content.{AreKept}
 use Rattle.wt_beside_laws.specs.Flat.{IsFlatContent}
 use Rattle.wt_beside_laws.specs.Lines.{AreCharacters}
 use Rattle.wt_beside_laws.specs.OwnSigns.{own_signs, HaveOwn, IsFlatBlock}
-use Rattle.wt_beside_laws.specs.PageBlocks.{joined_parts, AreUnstyled, ShowSources, IsBlockOfLines}
+use Rattle.wt_beside_laws.specs.PageBlocks.{joined_parts, AreUnstyled, AreShut, ShowSources, IsBlockOfLines}
 use Rattle.wt_beside_laws.specs.PageSigns.{signs_of_lines, AreFlatLines}
 use Rattle.wt_beside_laws.specs.SentNodes.{AreSent, numbers}
 use Rattle.wt_beside_laws.specs.Stood.{things}
@@ -26,7 +28,7 @@ use Rattle.wt_beside_laws.proofs.BlockNumbers.{block_counts}
 use Rattle.wt_beside_laws.proofs.FlatContents.{flat_content}
 use Rattle.wt_beside_laws.proofs.LineThings.{lines_have}
 use Rattle.wt_beside_laws.proofs.OwnSigns.{Every, Finds, all_found, inside_found, held_if, own_content, own_sent}
-use Rattle.wt_beside_laws.proofs.PartThings.{nodes_of, own_things, have_own, show_sources}
+use Rattle.wt_beside_laws.proofs.PartThings.{nodes_of, own_things, have_own, show_sources, ShutThings, shut_things, none_open, are_shut}
 use Rattle.wt_beside_laws.proofs.SentNodes.{same_nodes}
 
 -- ---- the block
@@ -125,3 +127,20 @@ pub block_shows : (same : Tree → Tree → Bool) (ls : List (List Item)) (block
 block_shows same ls block f u b =
     subst (λ (t : Tree). ShowSources (page_of same t) (children_of t)) (sym b.is)
     (shows_by b.form same b.number b.before b.opening b.closing ls b.some (subst HasNoGroup b.is b.ungrouped) u f)
+
+-- ---- and none ends in an open tag
+
+shut_by : (k : Block) (n at : ℕ) (before opening closing : List Item) (ls : List (List Item)) → AreUnstyled ls → AreFlatLines ls → AreShut (signs_of_lines at ls)
+    → any_ends_open (children_of (standing n before (block_by k opening (joined_parts ls) closing))) ≡ false
+shut_by k n at before opening closing ls u f s =
+    ap any_ends_open (its_children k n before opening closing (joined_parts ls))
+    ∙ none_open (joined_parts ls) at (n + 1) (before ++ opening) (things (signs_of_lines at ls)) (lines_have at ls u f) (shut_things (signs_of_lines at ls) s)
+
+pub block_shut : (ls : List (List Item)) (block : Tree) (at : ℕ) → AreFlatLines ls → AreUnstyled ls → IsBlockOfLines ls block → AreShut (signs_of_lines at ls)
+    → any_ends_open (children_of block) ≡ false
+block_shut ls block at f u b s =
+    ap (λ (t : Tree). any_ends_open (children_of t)) b.is ∙ shut_by b.form b.number at b.before b.opening b.closing ls u f s
+
+-- a content of the same nodes
+pub same_shut : (olds news : List ContentSign) → things news ≡ things olds → AreShut olds → AreShut news
+same_shut olds news e h = are_shut news (subst ShutThings (sym e) (shut_things olds h))

@@ -8,6 +8,7 @@ use Rattle.std.proofs.lemmas.Bool.{cases_lt}
 use Rattle.std.proofs.lemmas.Bool.Decides.{nat_tests}
 use Rattle.std.proofs.lemmas.List.Elements.{All-head, All-tail}
 use Rattle.std.proofs.lemmas.Str.{encode_ascii, IsUtf8-append, IsUtf8-nil, IsUtf8-encode}
+use Rattle.wt_span.specs.declared.form.ItemForm.TheVariants as form
 use Rattle.wt_span.specs.Items.{Item, char, whole}
 use Rattle.wt_names.proofs.Ascii.{IsWide, encode_wide}
 use Rattle.wt_guards.specs.Content.{ContentSign, letter, thing}
@@ -24,10 +25,11 @@ use Rattle.wt_text_edit_laws.specs.NoCalls.{NonePairs, CallsNothing}
 use Rattle.wt_text_edit_laws.proofs.Between.LessBraces.{none_unbraced}
 use Rattle.wt_text_edit_laws.proofs.Between.NoCalls.{calm_expanded, calm_unrefused}
 use Rattle.wt_text_edit_laws.proofs.Prose.InFront.{AreUnbraced}
-use Rattle.wt_beside_laws.specs.Calm.{is_brace, HaveNoBraces, AreCalm}
+use Rattle.wt_beside_laws.specs.Calm.{is_brace, HaveNoBraces, IsCalm, AreCalm}
 use Rattle.wt_beside_laws.specs.Content.{AreKept, guard_items, letter_items, content_items}
 use Rattle.wt_beside_laws.specs.Lines.{AreCharacters}
-use Rattle.wt_beside_laws.proofs.Contents.{content_alone}
+use Rattle.wt_beside_laws.proofs.Contents.{content_alone, nowiki_reads, reference_reads}
+use Rattle.wt_beside_laws.proofs.Firm.{alone_as}
 
 -- ---- UTF-8
 
@@ -118,7 +120,7 @@ unbraced_so [] h = tt
 unbraced_so (char o b ∷ xs) h = (h.0, unbraced_so xs h.1)
 unbraced_so (whole f o bs ∷ xs) h = unbraced_so xs h
 
-content_calm : (s : Setting) (signs : List ContentSign) → AreKept signs → AreCalm signs → CallsNothing (page_items (spelled s signs))
+pub content_calm : (s : Setting) (signs : List ContentSign) → AreKept signs → AreCalm signs → CallsNothing (page_items (spelled s signs))
 content_calm s signs k h =
     let xs : List Item = page_items (spelled s signs) in
     let none : HaveNoBraces xs = subst HaveNoBraces (sym (content_alone s signs k)) (content_none s [] signs h) in
@@ -131,3 +133,17 @@ content_expanded pages s signs k h = calm_expanded pages (spelled s signs) (cont
 pub content_unrefused : (pages : Pages) (s : Setting) (signs : List ContentSign) → AreKept signs → AreCalm signs
     → first_refusal pages (spelled s signs) (page_work pages (spelled s signs)) ≡ None
 content_unrefused pages s signs k h = calm_unrefused pages (spelled s signs) (content_calm s signs k h)
+
+-- ---- what is put
+
+pub nowiki_calm : IsCalm nowiki
+nowiki_calm = record {
+  utf8 = guard_utf8 true;
+  unbraced = subst HaveNoBraces (sym (alone_as nowiki (whole form.Nowiki None nowiki ∷ []) nowiki_reads)) tt;
+}
+
+pub reference_calm : (c : ℕ) → is_escapable c ≡ true → IsCalm (reference c)
+reference_calm c e = record {
+  utf8 = reference_utf8 c e;
+  unbraced = subst HaveNoBraces (sym (alone_as (reference c) (whole (form.Entity c) None (reference c) ∷ []) (reference_reads c e))) tt;
+}

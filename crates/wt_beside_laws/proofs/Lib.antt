@@ -55,3 +55,4 @@ pub mod NoFaults
 pub mod SentShown
 pub mod CalmContents
 pub mod FlatLines
+pub mod PlainContents

@@ -88,7 +88,7 @@ children_show n before ps rest t = runs_show n before (runs one_leaf ps) ps rest
 
 -- ---- what is put, and what is typed
 
-guard_tree : nowiki_tree None nowiki ≡ inner (plain kind.Nowiki) (page_chars nowiki) nothing []
+pub guard_tree : nowiki_tree None nowiki ≡ inner (plain kind.Nowiki) (page_chars nowiki) nothing []
 unfolding nowiki_tree nowiki opening_tag tag_after children
 guard_tree = refl
 

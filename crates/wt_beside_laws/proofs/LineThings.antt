@@ -166,7 +166,7 @@ node_told at u r ys o i =
 
 chars_told : (at : ℕ) (ys : List Item) → AreChars ys → Told at (parts Text ys) [] (length (sources ys))
 chars_told at [] h = record { have = refl; wide = refl }
-chars_told at (char o b ∷ ys) h = let r = chars_told (at + 1) ys h in let w = r.wide in record { have = r.have; wide = omega (arith, w) }
+chars_told at (char o b ∷ ys) h = let r = chars_told (at + 1) ys h in let w = r.wide in record { have = (tt, r.have); wide = omega (arith, w) }
 chars_told at (whole f o bs ∷ ys) h = absurd h
 
 -- its source is that of its items
@@ -435,7 +435,7 @@ lines_told at (xs ∷ ys ∷ ls) u f n =
     let rest : HaveThings (at + m + 1) (joined_parts (ys ∷ ls)) (things (signs_of_lines (at + m + 1) (ys ∷ ls))) = lines_told (at + m + 1) (ys ∷ ls) u.1 f.2 split.1 in
     subst (HaveThings at (joined_parts (xs ∷ ys ∷ ls))) (sym (things_append (line_signs at xs) more))
     (things_both at (line_parts xs) (loose Text None 10 ∷ joined_parts (ys ∷ ls)) (things (line_signs at xs)) (things more) own.have
-    (subst (λ (i : ℕ). HaveThings (at + i + 1) (joined_parts (ys ∷ ls)) (things (signs_of_lines (at + m + 1) (ys ∷ ls)))) (sym w) rest))
+    (tt, subst (λ (i : ℕ). HaveThings (at + i + 1) (joined_parts (ys ∷ ls)) (things (signs_of_lines (at + m + 1) (ys ∷ ls)))) (sym w) rest))
 
 pub lines_have : (at : ℕ) (ls : List (List Item)) → AreUnstyled ls → AreFlatLines ls → HaveThings at (joined_parts ls) (things (signs_of_lines at ls))
 lines_have at ls u f = lines_told at ls u f (flat_nodes ls at (signs_of_lines at ls) f refl)

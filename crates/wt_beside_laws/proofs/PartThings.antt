@@ -1,6 +1,6 @@
 -- The nodes of a block of the page, by its parts.
-use Rattle.std.proofs.Common.{arith, ◌≡◌, ◌≢◌, ℕ, ◌+◌, ◌<◌, Bool, true, Option, Some, List, [], ◌∷◌, ◌++◌, length, map, refl, sym, ap, ap₂, ◌∙◌, subst, append-nil}
-use Rattle.std.specs.Prelude.{if◌then◌else◌}
+use Rattle.std.proofs.Common.{arith, ◌≡◌, ◌≢◌, ℕ, ◌+◌, ◌<◌, Bool, true, false, Option, Some, List, [], ◌∷◌, ◌++◌, length, map, refl, sym, ap, ap₂, ◌∙◌, subst, append-nil}
+use Rattle.std.specs.Prelude.{◌||◌, if◌then◌else◌}
 use Rattle.std.specs.List.{flat_map}
 use Rattle.std.specs.Str.{chars}
 use Rattle.wt_span.specs.Items.{Item, sources}
@@ -15,7 +15,8 @@ use Rattle.wt_tree.specs.Plain.{Plains, plain_before}
 use Rattle.wt_tree.specs.Source.{flat}
 use Rattle.wt_tree.specs.Tree.{Label, Tree, tree, Trees, more, label}
 use Rattle.wt_guards.specs.declared.role.Role.{Role}
-use Rattle.wt_guards.specs.Content.{ContentSign, Thing}
+use Rattle.wt_isolation.specs.OpenTags.{ends_open, open_by, node_ends_open, any_ends_open}
+use Rattle.wt_guards.specs.Content.{ContentSign, Thing, letter, thing}
 use Rattle.wt_inline.specs.declared.loose.Loose.{Loose}
 use Rattle.wt_inline.specs.declared.loose.Loose.TheVariants.{Text, Sep}
 use Rattle.wt_inline.specs.Carried.{shown_item}
@@ -33,8 +34,9 @@ use Rattle.wt_original.specs.Page.{page_of}
 use Rattle.wt_original.specs.declared.block.Extent.{Extent}
 use Rattle.wt_expand.specs.PageItems.{page_items}
 use Rattle.wt_context.specs.Line.{line_parts}
+use Rattle.wt_context.proofs.PlainNodes.{IsText}
 use Rattle.wt_beside_laws.specs.OwnSigns.{own_node, own_by, own_signs, HasOwnBy, HaveOwn}
-use Rattle.wt_beside_laws.specs.PageBlocks.{ShowSources}
+use Rattle.wt_beside_laws.specs.PageBlocks.{AreShut, ShowSources}
 use Rattle.wt_beside_laws.specs.SentPieces.{IsNodeForm, ShowsItsSource}
 use Rattle.wt_beside_laws.specs.Shown.{parts_shown_at}
 use Rattle.wt_beside_laws.specs.Stood.{things}
@@ -78,7 +80,7 @@ IsAlone u = line_parts (page_items (tree_source u)) ≡ node u ∷ []
 -- so many bytes come before these parts
 abbrev pub HaveThings : ℕ → List Part → List Thing → Type 0
 HaveThings at [] ts = ts ≡ []
-HaveThings at (loose k o b ∷ ps) ts = HaveThings (at + 1) ps ts
+HaveThings at (loose k o b ∷ ps) ts = IsText k × HaveThings (at + 1) ps ts
 HaveThings at (node u ∷ ps) ts =
     (r : Role) × (us : List Thing) × (ts ≡ thing_at r (tree_source u) at ∷ us) × IsThing u r × IsAlone u × HaveThings (at + length (tree_source u)) ps us
 
@@ -95,7 +97,7 @@ things_both at [] qs ts us h k =
 things_both at (loose j o b ∷ ps) qs ts us h k =
     let w : ℕ = parts_width ps in
     let z : at + (1 + w) ≡ at + 1 + w = omega arith in
-    things_both (at + 1) ps qs ts us h (subst (λ (n : ℕ). HaveThings n qs us) z k)
+    (h.0, things_both (at + 1) ps qs ts us h.1 (subst (λ (n : ℕ). HaveThings n qs us) z k))
 things_both at (node u ∷ ps) qs ts us h k =
     let w : ℕ = parts_width ps in
     let v : ℕ = length (tree_source u) in
@@ -106,11 +108,11 @@ things_both at (node u ∷ ps) qs ts us h k =
 
 past_loose : (k : Loose) (o : Option ℕ) (b at : ℕ) (r others : List Part) (ts : List Thing) → IsRun one_leaf (loose k o b ∷ r) others
     → HaveThings at (loose k o b ∷ (r ++ others)) ts → HaveThings (at + parts_width (loose k o b ∷ r)) others ts
-past_loose k o b at [] others ts run h = let z : at + 1 ≡ at + (1 + 0) = omega arith in subst (λ (n : ℕ). HaveThings n others ts) z h
+past_loose k o b at [] others ts run h = let z : at + 1 ≡ at + (1 + 0) = omega arith in subst (λ (n : ℕ). HaveThings n others ts) z h.1
 past_loose k o b at (loose j i c ∷ r) others ts run h =
     let w : ℕ = parts_width (loose j i c ∷ r) in
     let z : at + 1 + w ≡ at + (1 + w) = omega arith in
-    subst (λ (n : ℕ). HaveThings n others ts) z (past_loose j i c (at + 1) r others ts run.1 h)
+    subst (λ (n : ℕ). HaveThings n others ts) z (past_loose j i c (at + 1) r others ts run.1 h.1)
 past_loose k o b at (node x ∷ r) others ts run h = absurd (let no = run.0 in cc)
 
 loose_width : (k : Loose) (o : Option ℕ) (b : ℕ) (r others : List Part) → IsRun one_leaf (loose k o b ∷ r) others
@@ -344,3 +346,69 @@ pub show_sources : (ps : List Part) (same : Tree → Tree → Bool) (block : Tre
     → Every (Finds block) (found_in at from (nodes_of n before (forest (children ps)))) → ShowSources (page_of same block) (nodes_of n before (forest (children ps)))
 unfolding children
 show_sources ps same block at from n before ts some h f = runs_show (runs one_leaf ps) ps same block at from n before ts some (runs_are one_leaf ps) h f
+
+-- ---- none ends in an open tag
+
+abbrev pub ShutThings : List Thing → Type 0
+ShutThings [] = Unit {0}
+ShutThings (t ∷ ts) = (ends_open t.source ≡ false) × ShutThings ts
+
+pub shut_things : (signs : List ContentSign) → AreShut signs → ShutThings (things signs)
+shut_things [] h = tt
+shut_things (letter c ∷ signs) h = shut_things signs h
+shut_things (thing t ∷ signs) h = (h.0, shut_things signs h.1)
+
+none_of_both : (a b : Bool) → a ≡ false → b ≡ false → (a || b) ≡ false
+none_of_both true b e f = cc
+none_of_both false b e f = f
+
+leaf_shut : (k : Loose) (own : List Item) (n : ℕ) (before : List Item) → IsText k → node_ends_open (standing n before (loose_leaf k own)) ≡ false
+unfolding label_at
+leaf_shut Text own n before h = refl
+leaf_shut Sep own n before h = absurd h
+
+open_is : (w : InlineForm) (source : List ℕ) (inside : Bool) → IsThingForm w → open_by w source inside ≡ ends_open source
+open_is inline.Nothing source inside f = absurd f
+open_is inline.Characters source inside f = absurd f
+open_is inline.Bold source inside f = absurd f
+open_is inline.Italic source inside f = absurd f
+open_is inline.Shown source inside f = refl
+open_is inline.PageLink source inside f = refl
+open_is inline.ExternalLink source inside f = refl
+open_is inline.Tag source inside f = refl
+open_is inline.Break source inside f = refl
+open_is inline.AsItStood source inside f = refl
+
+node_open : (t : Tree) → IsThingForm (edit_shape (label t).kind).inline → node_ends_open t ≡ ends_open (flat t)
+node_open (tree l ts) f = open_is (edit_shape l.kind).inline (flat (tree l ts)) (any_ends_open ts) f
+
+runs_shut : (rs : List (List Part)) (ps : List Part) (at n : ℕ) (before : List Item) (ts : List Thing) → AreRuns one_leaf rs ps → HaveThings at ps ts → ShutThings ts
+    → any_ends_open (nodes_of n before (forest (map child rs))) ≡ false
+runs_shut [] ps at n before ts a h s = refl
+runs_shut ([] ∷ rs) ps at n before ts a h s = absurd a.2
+runs_shut ((loose k o b ∷ r) ∷ rs) ps at n before ts a h s =
+    let run : List Part = loose k o b ∷ r in
+    let u : ItemTree = child run in
+    let m : ℕ = count (placed before u) in
+    let own : HaveThings at (run ++ a.0) ts = subst (λ (qs : List Part). HaveThings at qs ts) a.1 h in
+    none_of_both (node_ends_open (standing n before u)) (any_ends_open (nodes_of (n + m) (before ++ tree_items u) (forest (map child rs))))
+    (leaf_shut k (held_parts run) n before own.0)
+    (runs_shut rs a.0 (at + parts_width run) (n + m) (before ++ tree_items u) ts a.3 (past_loose k o b at r a.0 ts a.2 own) s)
+runs_shut ((node u ∷ []) ∷ rs) ps at n before ts a h s =
+    let m : ℕ = count (placed before u) in
+    let own : HaveThings at (node u ∷ a.0) ts = subst (λ (qs : List Part). HaveThings at qs ts) a.1 h in
+    let shut : ShutThings (thing_at own.0 (tree_source u) at ∷ own.1) = subst ShutThings own.2 s in
+    none_of_both (node_ends_open (standing n before u)) (any_ends_open (nodes_of (n + m) (before ++ tree_items u) (forest (map child rs))))
+    (node_open (standing n before u) (stands_form n before u own.0 own.3) ∙ ap ends_open (standing_source n before u) ∙ shut.0)
+    (runs_shut rs a.0 (at + length (tree_source u)) (n + m) (before ++ tree_items u) own.1 a.3 own.5 shut.1)
+runs_shut ((node u ∷ p ∷ r) ∷ rs) ps at n before ts a h s = absurd (let no = a.2.0 in cc)
+
+pub none_open : (ps : List Part) (at n : ℕ) (before : List Item) (ts : List Thing) → HaveThings at ps ts → ShutThings ts
+    → any_ends_open (nodes_of n before (forest (children ps))) ≡ false
+unfolding children
+none_open ps at n before ts h s = runs_shut (runs one_leaf ps) ps at n before ts (runs_are one_leaf ps) h s
+
+pub are_shut : (signs : List ContentSign) → ShutThings (things signs) → AreShut signs
+are_shut [] h = tt
+are_shut (letter c ∷ signs) h = are_shut signs h
+are_shut (thing t ∷ signs) h = (h.0, are_shut signs h.1)

@@ -5,6 +5,8 @@ use Rattle.wt_span.specs.Items.{Item, char}
 use Rattle.wt_tree.specs.Tiling.{HasNoGroup}
 use Rattle.wt_tree.specs.EditShapes.{edit_shape}
 use Rattle.wt_tree.specs.Tree.{Tree, Trees, none, more, label}
+use Rattle.wt_isolation.specs.OpenTags.{ends_open}
+use Rattle.wt_guards.specs.Content.{ContentSign, letter, thing}
 use Rattle.wt_tiles.specs.Contexts.{in_line}
 use Rattle.wt_inline.specs.declared.loose.Loose.TheVariants.{Text}
 use Rattle.wt_inline.specs.ItemTree.{plain, inner, forest}
@@ -35,6 +37,12 @@ joined_parts (l ∷ ls) = line_parts l ++ after_breaks ls
 abbrev pub AreUnstyled : List (List Item) → Type 0
 AreUnstyled [] = Unit {0}
 AreUnstyled (l ∷ ls) = (has_run (segments context_parts in_line l) ≡ false) × AreUnstyled ls
+
+-- no source of a node ends in a tag that nothing ends
+abbrev pub AreShut : List ContentSign → Type 0
+AreShut [] = Unit {0}
+AreShut (letter c ∷ after) = AreShut after
+AreShut (thing t ∷ after) = (ends_open t.source ≡ false) × AreShut after
 
 -- each node of the page shows what its source shows by itself
 abbrev pub ShowSources : Page → Trees → Type 0

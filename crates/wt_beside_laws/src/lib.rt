@@ -13,6 +13,10 @@ ghost use Rattle.wt_expand.specs.Expansion.{page_work};
 ghost use Rattle.wt_text_edit_laws.specs.LonePages.{of_items};
 ghost use Rattle.wt_beside_laws.specs.Calm.{AreCalm};
 ghost use Rattle.wt_lines.specs.Lines.{lines};
+ghost use Rattle.wt_isolation.specs.OpenTags.{any_ends_open};
+ghost use Rattle.wt_inline.specs.ItemTree.{forest};
+ghost use Rattle.wt_inline.specs.Parts.{children};
+ghost use Rattle.wt_annotated.specs.WithoutCalls.{AllNonEmpty};
 ghost use Rattle.wt_context.specs.Line.{line_parts};
 ghost use Rattle.wt_page.specs.Body.{meaning};
 ghost use Rattle.wt_page.specs.Rows.{rows};
@@ -48,7 +52,7 @@ ghost use Rattle.wt_tree.specs.declared.edit_shape.Place.{Place as Where};
 ghost use Rattle.wt_original.specs.Page.{Page as Known, page_of, TellsSame};
 ghost use Rattle.wt_link_spelling.specs.Spelling.{signs_of_all, children_of};
 ghost use Rattle.wt_beside_laws.specs.OwnSigns.{own_signs, IsFlatBlock};
-ghost use Rattle.wt_beside_laws.specs.PageBlocks.{joined_parts, AreUnstyled, ShowSources, IsBlockOfLines};
+ghost use Rattle.wt_beside_laws.specs.PageBlocks.{joined_parts, AreUnstyled, AreShut, ShowSources, IsBlockOfLines};
 ghost use Rattle.wt_beside_laws.specs.SentNodes.{AreSent, numbers};
 ghost use Rattle.wt_beside_laws.specs.SentPieces.{OnlyTextsGo, TextsFit, PiecesShow};
 ghost use Rattle.wt_beside_laws.specs.Stood.{AreStood, AreAt, things};
@@ -153,6 +157,20 @@ pub fn blocks_of_flat_lines_have_their_nodes()
         ≡ things (signs_of_lines (length (label block).opening) ls) }
 {}
 
+/// Where none of its sources ends in an open tag (`AreShut`), no node of such a block does, and so no tag in it goes on behind it.
+#[tactic(auto, using(crate::proofs::BlockSigns::block_shut))]
+pub fn blocks_of_flat_lines_end_no_open_tag()
+    ensures { (ls : List (List Item)) (block : Block) (at : ℕ) → AreFlatLines ls → AreUnstyled ls → IsBlockOfLines ls block → AreShut (signs_of_lines at ls)
+        → any_ends_open (children_of block) ≡ false }
+{}
+
+/// Where no node of its lines is empty, none is of a content of the same nodes with any texts between them.
+#[tactic(auto, using(crate::proofs::PlainContents::content_plain))]
+pub fn contents_of_nodes_have_none_empty()
+    ensures { (s : Setting) (ls : List (List Item)) (at : ℕ) (signs : List ContentSign) → AreFlatLines ls → AreUnstyled ls
+        → things signs ≡ things (signs_of_lines at ls) → AllNonEmpty (forest (children (joined_parts ls))) → AllNonEmpty (forest (children (content_parts s [] signs))) }
+{}
+
 /// Each node of such a block shows, wherever it is, what its source shows by itself (`ShowsItsSource`).
 pub fn nodes_of_flat_lines_show_their_sources()
     ensures { (same : Block → Block → Bool) (ls : List (List Item)) (block : Block) → AreFlatLines ls → AreUnstyled ls → IsBlockOfLines ls block
@@ -175,6 +193,7 @@ pub fn contents_beside_nodes_are_flat_again()
     ensures lines { (s : Setting) (signs : List ContentSign) → IsFlatContent s signs → AreFlatLines (content_lines s signs) }
     ensures unstyled { (s : Setting) (signs : List ContentSign) → IsFlatContent s signs → AreUnstyled (content_lines s signs) }
     ensures kept { (at : ℕ) (s : Setting) (signs : List ContentSign) → IsFlatContent s signs → AreKept (signs_of_lines at (content_lines s signs)) }
+    ensures shut { (at : ℕ) (s : Setting) (signs : List ContentSign) → IsFlatContent s signs → AreShut signs → AreShut (signs_of_lines at (content_lines s signs)) }
 {}
 
 /// The lines of such a content are cut where a line break is typed, and each is a line of text, in a table too: nothing that

@@ -2,6 +2,7 @@
 
 use std::alloc::Global;
 use wt_block_signs::{is_cell, is_lined, is_list, is_part};
+use wt_checks::is_compared;
 use wt_known::Closeness;
 use wt_span::{NoMemory, Str};
 use wt_tree::{Kind, Node};
@@ -11,32 +12,73 @@ pub fn is_lined_block(kind: Kind) -> bool {
     is_lined(kind) && !is_part(kind)
 }
 
-/// The kind of what a node shows last, as its neighbour after it sees it: of a group that ends with a list, a heading
-/// or the like this one's.
-pub fn kind_at_end(node: &Node<'_>) -> Kind {
-    match node.children.as_slice().last() {
-        Some(last) if matches!(node.kind, Kind::Group) && is_lined_block(last.kind) => last.kind,
+pub fn is_heading(kind: Kind) -> bool {
+    matches!(kind, Kind::Heading(_))
+}
+
+/// Whether a node is the group of one call that gives nothing.
+fn is_empty_group(node: &Node<'_>) -> bool {
+    let children = node.children.as_slice();
+    match children.first() {
+        Some(first) if matches!(node.kind, Kind::Group) => {
+            children.len() == 1 && matches!(first.kind, Kind::Empty)
+        }
+        _ => false,
+    }
+}
+
+/// The kind of what a node shows at one side, where this child is; the next one, where this one shows nothing, as the line
+/// break doesn't with which what a call gives may begin or end.
+fn kind_beside<'n, 'a>(
+    node: &Node<'_>,
+    child: Option<&'n Node<'a>>,
+    next: Option<&'n Node<'a>>,
+) -> Kind {
+    if is_empty_group(node) {
+        return Kind::Empty;
+    }
+    let shown = match child {
+        Some(child) if !is_compared(child.kind) => next,
+        _ => child,
+    };
+    match shown {
+        Some(shown) if matches!(node.kind, Kind::Group) && is_lined_block(shown.kind) => shown.kind,
         _ => node.kind,
     }
+}
+
+/// The kind of what a node shows last, as its neighbour after it sees it: of a group that ends with a list, a heading
+/// or the like this one's, and of that of a call that gives nothing `Empty`.
+pub fn kind_at_end(node: &Node<'_>) -> Kind {
+    let children = node.children.as_slice();
+    let before = match children.len().checked_sub(2) {
+        Some(at) => children.get(at),
+        None => None,
+    };
+    kind_beside(node, children.last(), before)
 }
 
 /// The same of what it shows first.
 pub fn kind_at_start(node: &Node<'_>) -> Kind {
-    match node.children.as_slice().first() {
-        Some(first) if matches!(node.kind, Kind::Group) && is_lined_block(first.kind) => first.kind,
-        _ => node.kind,
-    }
+    let children = node.children.as_slice();
+    kind_beside(node, children.first(), children.get(1))
+}
+
+/// Whether a block of this kind is apart from any other on the next line, but for a list from a list: it is recognized
+/// by its line's signs, or leaves its line empty.
+fn is_apart(kind: Kind) -> bool {
+    is_lined(kind) || matches!(kind, Kind::Empty)
 }
 
 /// How many line breaks two neighbours ask for at least. No empty line is in an item, a list or a table.
 pub fn least_between(is_tight: bool, left: Kind, right: Kind) -> usize {
-    if is_cell(left) && !matches!(right, Kind::Group) {
+    if is_cell(left) && !matches!(right, Kind::Group | Kind::Empty) {
         return 0;
     }
     if is_tight {
         return 1;
     }
-    if (is_lined(left) || is_lined(right)) && !(is_list(left) && is_list(right)) {
+    if (is_apart(left) || is_apart(right)) && !(is_list(left) && is_list(right)) {
         1
     } else {
         2
@@ -68,8 +110,9 @@ pub fn push_breaks(out: &mut Str, count: usize) -> Result<(), NoMemory> {
     Ok(())
 }
 
-pub fn breaks(alloc: Global, wanted: usize, standing: usize) -> Result<Str, NoMemory> {
+/// So many line breaks.
+pub fn breaks(alloc: Global, count: usize) -> Result<Str, NoMemory> {
     let mut out = Str::new(alloc);
-    push_breaks(&mut out, wanted.saturating_sub(standing))?;
+    push_breaks(&mut out, count)?;
     Ok(out)
 }

@@ -1,9 +1,9 @@
 //! Where nodes are in the page, and which cells go on in the line of the one before them.
 
-use crate::blanks::{byte_at, is_at_line_start};
-use crate::breaks::{kind_at_end, kind_at_start, least_between, push_breaks};
+use crate::blanks::{byte_at, is_at_line_start, most_breaks, past_blanks};
+use crate::breaks::{between, kind_at_end, kind_at_start, least_between, push_breaks};
 use wt_block_signs::{is_cell, is_part};
-use wt_checks::original;
+use wt_checks::{Visit, is_compared, original};
 use wt_known::{Known, breaks_between};
 use wt_places::Slot;
 use wt_span::{NoMemory, Str};
@@ -59,6 +59,66 @@ pub fn push_between(
     out.push_str(slice_of(known.page, place))?;
     push_breaks(out, least.saturating_sub(standing))?;
     Ok(true)
+}
+
+/// Appends what comes between a block and a comment, which comes after it with the block below that: what the page has
+/// between them, where they are neighbours there, else as many line breaks as come between the two blocks.
+pub fn push_up_to_comment(
+    out: &mut Str,
+    known: &Known<'_, '_>,
+    is_tight: bool,
+    before: &Node<'_>,
+    comment: &Node<'_>,
+    block: &Node<'_>,
+) -> Result<(), NoMemory> {
+    let Some(place) = place_between(known, before, comment) else {
+        let count = between(known.closeness, is_tight, before.kind, block.kind);
+        return push_breaks(out, count);
+    };
+    let start = match original(known.index, block.id) {
+        Some(visit) => range_of(visit.node).start,
+        None => place.end,
+    };
+    let least = least_between(is_tight, kind_at_end(before), kind_at_start(block));
+    let standing = most_breaks(known.page, place.start, start);
+    out.push_str(slice_of(known.page, place))?;
+    push_breaks(out, least.saturating_sub(standing))
+}
+
+/// Appends a comment of the page, with the blanks and line breaks after it.
+pub fn push_comment(
+    out: &mut Str,
+    known: &Known<'_, '_>,
+    comment: &Node<'_>,
+) -> Result<(), NoMemory> {
+    let Some(visit) = original(known.index, comment.id) else {
+        return Ok(());
+    };
+    let place = range_of(visit.node);
+    let end = past_blanks(known.page, place.end, known.page.len());
+    out.push_str(slice_of(
+        known.page,
+        Slot {
+            start: place.start,
+            end,
+        },
+    ))
+}
+
+/// The block after one of the page's, in what holds it; None where a comment or an include tag comes first.
+pub fn next_in_page<'t, 'a>(known: &Known<'t, 'a>, visit: Visit<'t, 'a>) -> Option<&'t Node<'a>> {
+    let first = (visit.node.id as usize).saturating_add(1);
+    for at in first..known.index.len() {
+        let next = known.index[at];
+        if next.parent <= visit.parent {
+            return if next.parent == visit.parent && is_compared(next.node.kind) {
+                Some(next.node)
+            } else {
+                None
+            };
+        }
+    }
+    None
 }
 
 /// Whether what begins at a place of the page is a cell that goes on in a line, by its two signs.

@@ -3,13 +3,14 @@
 use crate::proposing::Plan;
 use std::alloc::Global;
 use wt_block_proposal::{Surroundings, push_block, push_if_in_line};
-use wt_block_signs::USUAL;
+use wt_block_signs::{USUAL, goes_on_behind, is_item};
 use wt_checks::is_compared;
 use wt_difference::inside;
 use wt_gaps::{
-    Coming, Gap, Passed, behind_first, between, count_of, empties_row, last_number, mark_at,
-    place_behind, push_between, push_breaks, push_emptied_row, push_gone, push_new, range_of,
-    signs_in, slices_of, style_beside, wanted_between,
+    Coming, Gap, Passed, behind_first, between, comes_along, count_of, empties_row, kind_at_end,
+    kind_at_start, last_number, mark_at, nodes_between, place_behind, push_between, push_breaks,
+    push_comment, push_emptied_row, push_gone, push_new, push_up_to_comment, signs_in, slices_of,
+    style_beside, wanted_between,
 };
 use wt_known::{Known, last_text};
 use wt_span::{NoMemory, Str};
@@ -37,8 +38,13 @@ fn coming_of<'t, 'a>(
     let mut left = count_of(gap.new);
     let mut block = gap.first;
     let mut before = None;
-    for node in gap.new {
-        if is_compared(node.kind) {
+    for at in 0..gap.new.len() {
+        let node = &gap.new[at];
+        if comes_along(plan.along, node) {
+            let rest = nodes_between(gap.new, at, gap.new.len());
+            coming = led_by(alloc, plan.known, gap.is_tight, coming, before, rest)?;
+            before = None;
+        } else if is_compared(node.kind) {
             left = left.saturating_sub(1);
             let signs = signs_in(alloc, plan.known, gap, node.kind, outer)?;
             let keeps = plan.keeps(block.number);
@@ -85,8 +91,10 @@ fn begun_with(
     push_block(alloc, &mut source, around, node)?;
     Ok(Coming {
         first: node.kind,
-        last: node.kind,
+        start: kind_at_start(node),
+        last: kind_at_end(node),
         is_of_line: may_go_on(source.as_str(), 0, node),
+        is_led: false,
         source,
     })
 }
@@ -104,7 +112,89 @@ fn push_as_between(
     }
 }
 
-/// What came so far, and this one after it, which comes after that one.
+/// The first of these nodes that counts.
+fn first_block<'w, 'a>(nodes: &'w [Node<'a>]) -> Option<&'w Node<'a>> {
+    for node in nodes {
+        if is_compared(node.kind) {
+            return Some(node);
+        }
+    }
+    None
+}
+
+/// What comes, of which nothing is written yet, and begins with a comment that comes along with this block.
+fn led_to(alloc: Global, block: &Node<'_>) -> Coming {
+    Coming {
+        first: block.kind,
+        start: kind_at_start(block),
+        last: kind_at_end(block),
+        is_of_line: false,
+        is_led: true,
+        source: Str::new(alloc),
+    }
+}
+
+/// What came so far, and after it the first of these nodes, a comment that comes along with the block below it. It
+/// comes after the block `before`, unless it begins what comes or is after another comment. The block is sought for the
+/// first of several comments alone.
+fn led_by(
+    alloc: Global,
+    known: &Known<'_, '_>,
+    is_tight: bool,
+    coming: Option<Coming>,
+    before: Option<&Node<'_>>,
+    nodes: &[Node<'_>],
+) -> Result<Option<Coming>, NoMemory> {
+    let is_first = coming.is_none() || before.is_some();
+    let block = if is_first { first_block(nodes) } else { None };
+    let mut coming = match coming {
+        Some(coming) => coming,
+        None => match block {
+            Some(block) => led_to(alloc, block),
+            None => return Ok(None),
+        },
+    };
+    if let Some(comment) = nodes.first() {
+        if let (Some(before), Some(block)) = (before, block) {
+            push_up_to_comment(&mut coming.source, known, is_tight, before, comment, block)?;
+        }
+        push_comment(&mut coming.source, known, comment)?;
+    }
+    Ok(Some(coming))
+}
+
+/// Whether an item that holds no lists goes on in the line of the one before it, as a definition in that of its term.
+fn goes_on_in_line(known: &Known<'_, '_>, before: Option<&Node<'_>>, node: &Node<'_>) -> bool {
+    match before {
+        Some(before) => {
+            is_item(node.kind)
+                && inside(node).len() == node.children.as_slice().len()
+                && goes_on_behind(known, before, node)
+        }
+        None => false,
+    }
+}
+
+/// Appends a block that comes after another; of an item that goes on in its line the last sign alone.
+fn push_behind(
+    alloc: Global,
+    out: &mut Str,
+    around: &Surroundings<'_, '_, '_>,
+    goes_on: bool,
+    node: &Node<'_>,
+) -> Result<(), NoMemory> {
+    if !goes_on {
+        return push_block(alloc, out, around, node);
+    }
+    let own = Surroundings {
+        signs: ":",
+        ..*around
+    };
+    push_block(alloc, out, &own, node)
+}
+
+/// What came so far, and this one after it, which comes after that one; in the line that is begun, where it comes
+/// after a comment, and in that of its term, where it is a definition that was there.
 fn followed(
     alloc: Global,
     is_tight: bool,
@@ -115,22 +205,29 @@ fn followed(
 ) -> Result<Coming, NoMemory> {
     let Coming {
         first,
+        start,
         last,
         is_of_line: _,
+        is_led,
         mut source,
     } = coming;
-    let is_begun = push_if_in_line(alloc, &mut source, around, before, node)?
+    let goes_on = goes_on_in_line(around.known, before, node);
+    let is_begun = before.is_none()
+        || goes_on
+        || push_if_in_line(alloc, &mut source, around, before, node)?
         || push_as_between(&mut source, around.known, before, node)?;
     if !is_begun {
         let closeness = around.known.closeness;
         push_breaks(&mut source, between(closeness, is_tight, last, node.kind))?;
     }
-    let start = source.as_str().len();
-    push_block(alloc, &mut source, around, node)?;
+    let from = source.as_str().len();
+    push_behind(alloc, &mut source, around, goes_on, node)?;
     Ok(Coming {
         first,
-        last: node.kind,
-        is_of_line: may_go_on(source.as_str(), start, node),
+        start,
+        last: kind_at_end(node),
+        is_of_line: may_go_on(source.as_str(), from, node),
+        is_led,
         source,
     })
 }
@@ -157,18 +254,17 @@ pub fn push_gap<'t, 'a>(
     let last = last_number(gap.gone);
     for at in 0..gap.new.len() {
         let node = &gap.new[at];
-        if node.kind.is_mark() && node.id != 0 && node.id <= last {
+        let stays = node.kind.is_mark() && !comes_along(plan.along, node);
+        if stays && node.id != 0 && node.id <= last {
             from = place_behind(gap.gone, from, node.id);
             if let Some(mark) = mark_at(gap.gone, from, node.id) {
-                let mark = range_of(mark);
-                let part = passed.part(&gap, from, at, mark.start);
+                let part = passed.part(&gap, from, at, mark);
                 push_part(alloc, out, plan, outer, &part)?;
                 passed = passed.behind(plan.known.page, &part, mark);
             }
         }
     }
-    let rest = passed.part(&gap, gap.gone.len(), gap.new.len(), gap.place.end);
-    push_part(alloc, out, plan, outer, &rest)
+    push_part(alloc, out, plan, outer, &passed.rest(&gap))
 }
 
 /// Appends what is written anew in a part of a gap.
@@ -180,7 +276,7 @@ fn push_part<'t, 'a>(
     gap: &Gap<'_, 't, 'a>,
 ) -> Result<(), NoMemory> {
     let page = plan.known.page;
-    let slices = slices_of(alloc, gap.gone)?;
+    let slices = slices_of(alloc, gap, plan.along)?;
     let coming = coming_of(alloc, plan, outer, gap)?;
     match coming {
         None if empties_row(gap) => {

@@ -2,6 +2,7 @@
 //! stays as it was, texts too. Whether a proposal is any good is found by reading it back, and by nothing here.
 #![tactic(auto)]
 
+mod along;
 mod children;
 mod proposing;
 

@@ -6,6 +6,7 @@ ghost use Rattle.wt_checks.specs.View.{indexed};
 ghost use Rattle.wt_tree.specs.View.{view};
 ghost use Rattle.wt_places.specs.Rewritten.{IsRewritten};
 
+use crate::along::comments_along;
 use crate::children::push_gap;
 use std::alloc::Global;
 use wt_block_signs::{
@@ -15,7 +16,7 @@ use wt_block_signs::{
 use wt_checks::{Visit, is_compared};
 use wt_content_proposal::{Writing, edges_of, spelled};
 use wt_difference::{Child, held, inside, inside_count, same_inside};
-use wt_gaps::{Gap, Numbering, byte_at, children_between, nodes_between, push_change};
+use wt_gaps::{Gap, Numbering, Tags, byte_at, children_between, nodes_between, push_change};
 use wt_known::{Known, block_of};
 use wt_places::{
     Beside, Reached, Slot, begun, inside_end, inside_start, inside_stop, next_turn, places,
@@ -44,11 +45,13 @@ impl Keeping {
     }
 }
 
-/// What a proposal is made by.
+/// What a proposal is made by: what is known of the page, where texts keep their bytes, and by the number of each comment
+/// whether it comes along with the block below it.
 #[derive(Clone, Copy)]
 pub struct Plan<'w, 't, 'a> {
     pub known: &'w Known<'t, 'a>,
     pub keeping: Keeping,
+    pub along: &'w [bool],
 }
 
 impl<'w, 't, 'a> Plan<'w, 't, 'a> {
@@ -321,11 +324,12 @@ impl Line {
         }
     }
 
-    /// Whether the edited child before those that come, one of these, is text alone.
+    /// Whether the edited child before those that come, one of these, is text alone, which isn't read with a sign that
+    /// comes after it.
     fn is_behind_text(&self, nodes: &[Node<'_>]) -> bool {
         match self.came_from.checked_sub(1) {
             Some(at) => match nodes.get(at) {
-                Some(node) => inside(node).len() == node.children.as_slice().len(),
+                Some(node) => !holds_more(node) && !ends_with_sign(node),
                 None => false,
             },
             None => false,
@@ -359,6 +363,25 @@ impl Line {
             gets_line: false,
             first: self.first,
         }
+    }
+}
+
+/// Whether a node holds more than its inside.
+fn holds_more(node: &Node<'_>) -> bool {
+    inside(node).len() != node.children.as_slice().len()
+}
+
+/// Whether a heading cell ends with a text, its own or that of a group, that would be read with the signs of the next one.
+fn ends_with_sign(cell: &Node<'_>) -> bool {
+    if !matches!(cell.kind, Kind::Th) {
+        return false;
+    }
+    match inside(cell).last() {
+        Some(last) => match last.children.as_slice().last() {
+            Some(text) if matches!(last.kind, Kind::Group) => text.shown().ends_with("!"),
+            _ => last.shown().ends_with("!"),
+        },
+        None => false,
     }
 }
 
@@ -397,6 +420,7 @@ fn push_span<'t, 'a>(
     let behind = node_at(held.children, behind);
     let gap = Gap {
         place: up_to(span.place, behind),
+        tags: Tags::none(),
         blanks: span.place.start,
         is_tight: !held.signs.is_empty() || holds_parts(held.kind),
         in_cell: is_cell(held.kind),
@@ -568,9 +592,11 @@ fn changes_of<'t, 'a>(
     keeping: Keeping,
 ) -> Result<Vec<Change>, NoMemory> {
     let known = Known::of(alloc, page, index, tree, edited)?;
+    let along = comments_along(alloc, page, index, edited)?;
     let plan = Plan {
         known: &known,
         keeping,
+        along: along.as_slice(),
     };
     let body = Numbering {
         number: 0,

@@ -41,8 +41,9 @@ inside_bare true ts e = refl
 inside_bare false ts e = e
 
 mutual
-  unplaced_bare : (t : ItemTree) → placeless (unplaced t) ≡ unplaced t
   unfolding label_at
+
+  unplaced_bare : (t : ItemTree) → placeless (unplaced t) ≡ unplaced t
   unplaced_bare (inner h q ts c) = ap (tree (label (unplaced (inner h q ts c)))) (inside_bare (is_leaf h.kind) (all_unplaced ts) (all_unplaced_bare ts))
 
   all_unplaced_bare : (ts : ItemTrees) → all_placeless (all_unplaced ts) ≡ all_unplaced ts
@@ -109,7 +110,7 @@ parts_bare r (c ∷ cs) (b ∷ bs) ts h =
     let n : ℕ = length (c ∷ cs) in
     or_bare (is_blank (b ∷ bs)) (more (text_leaf (front_ranges n r) (c ∷ cs)) (more (sep_leaf (rest_ranges n r) (b ∷ bs)) ts))
     (more (text_leaf r ((c ∷ cs) ++ (b ∷ bs))) ts)
-    (text_bare (front_ranges n r) (c ∷ cs), sep_bare (rest_ranges n r) (b ∷ bs), h) (text_bare r ((c ∷ cs) ++ (b ∷ bs)), h)
+    (text_bare (front_ranges n r) (c ∷ cs), (sep_bare (rest_ranges n r) (b ∷ bs), h)) (text_bare r ((c ∷ cs) ++ (b ∷ bs)), h)
 
 cut_bare : (behind : Bool) (ts : Trees) → AreBare ts → AreBare (cut_from behind ts)
 cut_bare behind none h = tt

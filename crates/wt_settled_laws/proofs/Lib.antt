@@ -1,3 +1,4 @@
 pub mod BareInsides
+mod Cases
 pub mod Settles
 pub mod SettledPages

@@ -1,5 +1,5 @@
 -- The numbers and places of a page's tree are those that the rest of it leaves: each node begins where what comes before it ends.
-use Rattle.std.proofs.Common.{◌≡◌, ℕ, ◌+◌, ◌-◌, Bool, true, false, Option, Some, List, [], length, refl, sym, ap, ap₂, ◌∙◌, subst}
+use Rattle.std.proofs.Common.{◌≡◌, ℕ, ◌+◌, ◌-◌, Bool, true, false, Option, Some, None, List, [], length, refl, sym, ap, ap₂, ◌∙◌, subst}
 use Rattle.std.specs.Prelude.{if◌then◌else◌}
 use Rattle.std.specs.List.{AllByRecursion}
 use Rattle.wt_tree.specs.declared.kind.Kind.TheVariants as kind
@@ -18,12 +18,12 @@ use Rattle.wt_annotated.specs.Annotated.{placed, annotated}
 use Rattle.wt_annotated.specs.CutTexts.{cut_texts}
 use Rattle.wt_annotated.specs.GroupParts.{Part}
 use Rattle.wt_annotated.specs.Grouped.{grouped}
-use Rattle.wt_annotated.specs.Numbering.{number_of, next_after, count, count_all, with_numbers, all_with_numbers}
+use Rattle.wt_annotated.specs.Numbering.{number_of, next_after, count, count_all, with_id, with_numbers, all_with_numbers}
 use Rattle.wt_annotated.specs.Reached.{reached, reached_in_all}
-use Rattle.wt_annotated.specs.Slices.{opening_by, opening_of, IsSlice}
+use Rattle.wt_annotated.specs.Slices.{opening_by, opening_of, StandsIn, IsSlice}
 use Rattle.wt_annotated.proofs.AnnotatedTree.{annotated_tiles, annotated_slices, annotated_covers}
 use Rattle.wt_annotated.proofs.Ends.{body_clean}
-use Rattle.wt_moved_laws.specs.Placeless.{placeless, all_placeless}
+use Rattle.wt_moved_laws.specs.Placeless.{placeless_label, placeless, all_placeless}
 use Rattle.wt_called_trees.proofs.GroupsStay.{numbers_gone}
 use Rattle.wt_called_nodes.proofs.TextsMake.{flat_same}
 use Rattle.wt_called_nodes.proofs.TilesStand.{ranges_at, ranges_are}
@@ -81,6 +81,14 @@ children_settled : (page : List ℕ) (g : Bool) (l : Label) (ts us vs : Trees) �
 children_settled page true l ts us vs h t s f = sym h
 children_settled page false l ts us vs h t s f = f h.0 h.1 t s
 
+-- its delimiters hang neither on its number nor on its place
+opening_same : (v : Bool) (i : ℕ) (r : Option Ranges) (l : Label) → opening_by v (record l { id = i; ranges = r }) ≡ opening_by v l
+opening_same true i r l = refl
+opening_same false i r l = refl
+
+settled_end : (n at : ℕ) (t : Tree) → end_of (label (settled n at t)).ranges ≡ at + length (flat t)
+settled_end n at (tree l ts) = refl
+
 -- ---- all of it
 
 mutual
@@ -91,10 +99,15 @@ mutual
       let us : Trees = all_with_numbers m ts in
       let source : List ℕ = flat (placeless (tree l ts)) in
       let same : flat (with_numbers n (tree l ts)) ≡ source = numbered_flat n (tree l ts) in
+      let own : opening_of (with_id (number_of l.kind n) l) ≡ opening_of l = opening_same (is_leaf l.kind) (number_of l.kind n) l.ranges l in
+      let stands : StandsIn page l.ranges (flat (with_numbers n (tree l ts))) (opening_of l) l.closing =
+      subst (λ (os : List ℕ). StandsIn page l.ranges (flat (with_numbers n (tree l ts))) os l.closing) own s.0 in
       let is : l.ranges ≡ Some (ranges_at at source (opening_of l) l.closing) =
       subst (λ (cs : List ℕ). l.ranges ≡ Some (ranges_at at cs (opening_of l) l.closing)) same
-      (ranges_are page at l.ranges (flat (with_numbers n (tree l ts))) (opening_of l) l.closing b s.0) in
-      ap₂ tree (ap (λ (q : Option Ranges). record l { id = number_of l.kind n; ranges = q }) is)
+      (ranges_are page at l.ranges (flat (with_numbers n (tree l ts))) (opening_of l) l.closing b stands) in
+      let now : l.ranges ≡ Some (ranges_at at source (opening_of (placeless_label l)) l.closing) =
+      is ∙ ap (λ (os : List ℕ). Some (ranges_at at source os l.closing)) (sym (opening_same (is_leaf l.kind) 0 None l)) in
+      ap₂ tree (ap (λ (q : Option Ranges). record l { id = number_of l.kind n; ranges = q }) now)
       (children_settled page (is_group l.kind) l ts us (all_settled m (at + length l.opening) (all_placeless ts)) h t s.1
       (λ leaf bare inside sliced.
       inner_settled (is_leaf l.kind) m at l source ts refl leaf is inside (λ to tiled. all_settles page m (at + length l.opening) to ts tiled sliced bare)))
@@ -102,13 +115,12 @@ mutual
   all_settles : (page : List ℕ) (n at to : ℕ) (ts : Trees) → TiledFrom (all_with_numbers n ts) at to → AllSliced page (all_with_numbers n ts) → AreBare ts
       → all_with_numbers n ts ≡ all_settled n at (all_placeless ts)
   all_settles page n at to none t s h = refl
-  all_settles page n at to (more (tree l us) ts) t s h =
-      let u : Tree = tree l us in
+  all_settles page n at to (more u ts) t s h =
       let rest : Trees = all_with_numbers (n + count u) ts in
       let next : ℕ = at + length (flat (placeless u)) in
       let w = each_split (IsSlice page) (reached (with_numbers n u)) (reached_in_all rest) s in
       let one : with_numbers n u ≡ settled n at (placeless u) = settles page n at u t.0 t.1 w.0 h.0 in
-      let ends : end_of (label (with_numbers n u)).ranges ≡ next = ap (λ (x : Tree). end_of (label x).ranges) one in
+      let ends : end_of (label (with_numbers n u)).ranges ≡ next = ap (λ (x : Tree). end_of (label x).ranges) one ∙ settled_end n at (placeless u) in
       ap₂ more one
       (all_settles page (n + count u) next to ts (subst (λ (i : ℕ). TiledFrom rest i to) ends t.2) w.1 h.1
       ∙ ap (λ (k : ℕ). all_settled (n + k) next (all_placeless ts)) (sym (count_same u)))

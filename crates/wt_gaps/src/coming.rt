@@ -1,0 +1,460 @@
+//! What comes in a gap, and where it is put.
+
+use crate::blanks::{is_at_line_start, most_breaks, past_spaces};
+use crate::breaks::{
+    between, is_heading, is_lined_block, kind_at_end, kind_at_start, least_between, push_breaks,
+};
+use crate::gap::{Gap, is_before_text};
+use crate::gone::{Slice, push_change, push_part_of};
+use crate::lines::{is_doubled, is_doubled_at, next_in_page, push_in_line, range_of, shares_line};
+use crate::nodes::count_of;
+use crate::tags::{Tags, breaks_before_tag, breaks_behind_tag};
+use std::alloc::Global;
+use wt_block_signs::{Style, is_cell, is_item, is_lined, is_row_without_sign, signs_of, style_of};
+use wt_checks::{is_compared, original};
+use wt_difference::Child;
+use wt_known::{Known, breaks_between};
+use wt_places::Slot;
+use wt_span::{NoMemory, Str};
+use wt_splice::Change;
+use wt_tree::{Kind, Node, same_kind};
+
+fn first_gone<'t, 'a>(gone: &[Child<'t, 'a>]) -> Option<&'t Node<'a>> {
+    for child in gone {
+        if is_compared(child.node.kind) {
+            return Some(child.node);
+        }
+    }
+    None
+}
+
+/// A child of the page that is beside those that come.
+fn item_beside<'t, 'a>(gap: &Gap<'_, 't, 'a>) -> Option<&'t Node<'a>> {
+    gap.before.or(gap.behind).or(first_gone(gap.gone))
+}
+
+/// All but the last byte of an item's signs, which are ASCII.
+fn outer_signs(signs: &str) -> &str {
+    let count = signs.len().saturating_sub(1);
+    if signs.is_char_boundary(count) {
+        &signs[..count]
+    } else {
+        signs
+    }
+}
+
+/// The signs of an item of this kind beside one with these.
+fn signs_like(alloc: Global, signs: &str, kind: Kind) -> Result<Str, NoMemory> {
+    match kind {
+        Kind::Dt | Kind::Dd => {
+            let mut out = Str::copy_of(alloc, outer_signs(signs))?;
+            out.push_str(if matches!(kind, Kind::Dt) { ";" } else { ":" })?;
+            Ok(out)
+        }
+        _ => Str::copy_of(alloc, signs),
+    }
+}
+
+/// The signs with which an item that comes begins: those of the items that are there.
+pub fn signs_in(
+    alloc: Global,
+    known: &Known<'_, '_>,
+    gap: &Gap<'_, '_, '_>,
+    kind: Kind,
+    outer: &str,
+) -> Result<Str, NoMemory> {
+    if !is_item(kind) {
+        return Str::copy_of(alloc, outer);
+    }
+    match item_beside(gap) {
+        None => Str::copy_of(alloc, outer),
+        Some(item) => {
+            let signs = signs_of(alloc, known, item)?;
+            signs_like(alloc, signs.as_str(), kind)
+        }
+    }
+}
+
+/// What comes: the kind of the first, the kinds of what all of them show first and last, whether the last is of one
+/// line, in which a cell may follow, whether a comment comes before the first, and how it is written.
+#[derive(Drop)]
+pub struct Coming {
+    pub first: Kind,
+    pub start: Kind,
+    pub last: Kind,
+    pub is_of_line: bool,
+    pub is_led: bool,
+    pub source: Str,
+}
+
+/// How what comes is written: as the item, cell or row beside it, or, where lists come in an item, as this one.
+pub fn style_beside(gap: &Gap<'_, '_, '_>) -> Style {
+    match item_beside(gap) {
+        Some(node) if is_item(node.kind) || is_cell(node.kind) || matches!(node.kind, Kind::Tr) => {
+            style_of(Some(node))
+        }
+        _ => gap.style,
+    }
+}
+
+// ---- line breaks beside it
+
+/// Where those come that take the place of a slice, or no other's: after the child before, or before the one after.
+fn place_of(gap: &Gap<'_, '_, '_>, slice: Option<Slice>) -> Slot {
+    if let Some(slice) = slice {
+        return slice.place;
+    }
+    let at = if gap.before.is_none() && gap.behind.is_some() {
+        gap.place.end
+    } else {
+        gap.place.start
+    };
+    Slot { start: at, end: at }
+}
+
+/// Whether the page has this node directly below a block: a paragraph, or anything below a heading.
+fn is_followed_closely(page: &str, above: &Node<'_>, below: Option<&Node<'_>>) -> bool {
+    let Some(below) = below else {
+        return false;
+    };
+    let is_alike = is_heading(kind_at_end(above)) || !is_lined_block(kind_at_start(below));
+    is_alike && breaks_between(page, range_of(above).end, range_of(below).start) == Some(1)
+}
+
+/// Whether blocks of these kinds are as close as the first one was to what was below it: a heading, or a list, a table
+/// or a rule with no heading after it.
+fn may_be_close(above: Kind, below: Kind) -> bool {
+    is_heading(above) || (is_lined_block(above) && !is_heading(below))
+}
+
+/// Whether a part of a gap begins where the child before it ends: the first part of each does.
+fn is_directly_behind(gap: &Gap<'_, '_, '_>, before: &Node<'_>) -> bool {
+    gap.place.start <= range_of(before).end
+}
+
+/// Whether what is directly below the child before in the page is as close to it as it may be.
+fn is_above_closely(page: &str, gap: &Gap<'_, '_, '_>, before: &Node<'_>) -> bool {
+    let below = first_gone(gap.gone).or(gap.behind);
+    is_directly_behind(gap, before) && is_followed_closely(page, before, below)
+}
+
+/// The line breaks between the child before and what comes after it: below a heading, a table or a list as many as the
+/// page has below this one.
+fn breaks_below(
+    known: &Known<'_, '_>,
+    gap: &Gap<'_, '_, '_>,
+    before: &Node<'_>,
+    coming: &Coming,
+) -> usize {
+    let last = kind_at_end(before);
+    if may_be_close(last, coming.start) && is_above_closely(known.page, gap, before) {
+        return least_between(gap.is_tight, last, coming.start).max(1);
+    }
+    between(known.closeness, gap.is_tight, last, coming.first)
+}
+
+/// The line breaks that what comes asks for at least after the child before.
+fn least_before(gap: &Gap<'_, '_, '_>, coming: &Coming) -> usize {
+    match gap.before {
+        Some(before) => least_between(gap.is_tight, kind_at_end(before), coming.start),
+        None => 0,
+    }
+}
+
+/// The line breaks between an include tag and what comes after it: those after the tag in the page, and so many that
+/// what comes is read apart from the child before. Where nothing comes after it, it is on a line of its own.
+fn breaks_after_tag(page: &str, gap: &Gap<'_, '_, '_>, coming: &Coming, tag: Slot) -> usize {
+    let tag = Some(tag);
+    let own = if gap.behind.is_none() { 1 } else { 0 };
+    let least = least_before(gap, coming).saturating_sub(breaks_before_tag(page, tag));
+    breaks_behind_tag(page, tag).max(own).max(least)
+}
+
+/// The line breaks before what comes, which takes no other's place.
+fn breaks_after_child(known: &Known<'_, '_>, gap: &Gap<'_, '_, '_>, coming: &Coming) -> usize {
+    match gap.before {
+        Some(before) => breaks_below(known, gap, before, coming),
+        None if gap.behind.is_some() || gap.place.start == 0 => 0,
+        None => 1,
+    }
+}
+
+/// The include tags beside what comes in the place of a slice, or in a gap.
+fn tags_beside(gap: &Gap<'_, '_, '_>, slice: Option<Slice>) -> Tags {
+    if gap.is_tight {
+        return Tags::none();
+    }
+    match slice {
+        Some(slice) => slice.tags,
+        None => gap.tags,
+    }
+}
+
+/// The line breaks before what comes in the place of a slice, or in a gap.
+fn breaks_before(
+    known: &Known<'_, '_>,
+    gap: &Gap<'_, '_, '_>,
+    slice: Option<Slice>,
+    coming: &Coming,
+    at: usize,
+) -> usize {
+    let page = known.page;
+    let first = coming.first;
+    let standing = most_breaks(page, gap.blanks, at);
+    let wanted = match tags_beside(gap, slice).before {
+        Some(tag) => breaks_after_tag(page, gap, coming, tag),
+        None if slice.is_some() => least_before(gap, coming),
+        None => breaks_after_child(known, gap, coming),
+    };
+    let missing = wanted.saturating_sub(standing);
+    let is_lined = is_lined(first) && (gap.place.start < at || is_cell(first));
+    if missing == 0 && (coming.is_led || is_lined) && !is_at_line_start(page, at) {
+        1
+    } else {
+        missing
+    }
+}
+
+/// Whether the last of those that come was in the page, and had something directly below it there.
+fn was_followed_closely(known: &Known<'_, '_>, gap: &Gap<'_, '_, '_>) -> bool {
+    let mut last = 0;
+    for node in gap.new {
+        if is_compared(node.kind) {
+            last = node.id;
+        }
+    }
+    match original(known.index, last) {
+        Some(visit) if last != 0 => {
+            is_followed_closely(known.page, visit.node, next_in_page(known, visit))
+        }
+        _ => false,
+    }
+}
+
+/// The line breaks between what comes, which takes no other's place, and what is after it: as many as there are between
+/// other blocks of the page, or as the last that comes had below it.
+fn breaks_below_new(
+    known: &Known<'_, '_>,
+    gap: &Gap<'_, '_, '_>,
+    last: Kind,
+    behind: &Node<'_>,
+) -> usize {
+    let below = kind_at_start(behind);
+    if !gap.is_tight && may_be_close(last, below) && was_followed_closely(known, gap) {
+        return least_between(gap.is_tight, last, below).max(1);
+    }
+    between(known.closeness, gap.is_tight, last, below)
+}
+
+/// The last of the page's children before the one after the gap.
+fn last_before<'t, 'a>(gap: &Gap<'_, 't, 'a>) -> Option<&'t Node<'a>> {
+    let mut last = gap.before;
+    for child in gap.gone {
+        if is_compared(child.node.kind) {
+            last = Some(child.node);
+        }
+    }
+    last
+}
+
+/// Whether a heading comes after, was below another one, and is below something else now.
+fn is_parted_from_heading(gap: &Gap<'_, '_, '_>, last: Kind, behind: &Node<'_>) -> bool {
+    match last_before(gap) {
+        Some(before) if !gap.is_tight => {
+            is_heading(kind_at_start(behind))
+                && is_heading(kind_at_end(before))
+                && !is_heading(last)
+        }
+        _ => false,
+    }
+}
+
+/// Where the place of what comes ends: after the blanks of its line, or, where a new heading comes in a page that has
+/// what is below headings directly below them, after the empty lines, too.
+fn end_of_place(
+    known: &Known<'_, '_>,
+    gap: &Gap<'_, '_, '_>,
+    coming: &Coming,
+    from: usize,
+    to: usize,
+) -> usize {
+    let is_new_heading = match last_before(gap) {
+        Some(before) if is_heading(kind_at_end(before)) => false,
+        _ => is_heading(coming.last) && is_before_text(gap) && !gap.is_tight,
+    };
+    match breaks_between(known.page, from, to) {
+        Some(count) if count > 1 && is_new_heading && known.closeness.below_headings => from.max(
+            to,
+        ),
+        _ => past_spaces(known.page, from, to),
+    }
+}
+
+/// The line breaks between what comes and an include tag after it, a line break at least: those before the tag in the
+/// page, and so many that what comes is read apart from the child behind.
+fn breaks_up_to_tag(page: &str, tag: Slot, last: Kind, behind: &Node<'_>) -> usize {
+    let tag = Some(tag);
+    let least = least_between(false, last, kind_at_start(behind));
+    breaks_before_tag(page, tag)
+        .max(1)
+        .max(least.saturating_sub(breaks_behind_tag(page, tag)))
+}
+
+/// The line breaks after what comes in the place of a slice, or in a gap, before what the page has after it, up to what
+/// stays or to the next slice that goes. After all that a cell holds the next cell may go on in the line.
+fn breaks_behind(
+    known: &Known<'_, '_>,
+    gap: &Gap<'_, '_, '_>,
+    slice: Option<Slice>,
+    coming: &Coming,
+    after: Slot,
+) -> usize {
+    let page = known.page;
+    let last = coming.last;
+    let Some(behind) = gap.behind else {
+        return if gap.in_cell && is_doubled_at(page, gap.place.end) {
+            1
+        } else {
+            0
+        };
+    };
+    let standing = most_breaks(page, after.start, after.end);
+    let wanted = if standing == 0 && coming.is_of_line && shares_line(page, last, behind) {
+        0
+    } else if let Some(tag) = tags_beside(gap, slice).behind {
+        breaks_up_to_tag(page, tag, last, behind)
+    } else if slice.is_none() {
+        breaks_below_new(known, gap, last, behind)
+    } else if standing == 0 {
+        between(known.closeness, gap.is_tight, last, behind.kind)
+    } else if is_parted_from_heading(gap, last, behind) {
+        2
+    } else {
+        least_between(gap.is_tight, last, kind_at_start(behind))
+    };
+    wanted.saturating_sub(standing)
+}
+
+// ---- its source
+
+/// Whether a row without a sign of its own comes after, as the first one of a table may.
+fn begins_without_sign(gap: &Gap<'_, '_, '_>) -> bool {
+    match gap.behind {
+        Some(row) => is_row_without_sign(row),
+        None => false,
+    }
+}
+
+/// Appends a line of its own for an item that follows and is on the line of its first item: else it would be taken
+/// into the one that comes.
+fn push_line_of_item(
+    alloc: Global,
+    out: &mut Str,
+    known: &Known<'_, '_>,
+    gap: &Gap<'_, '_, '_>,
+) -> Result<(), NoMemory> {
+    match gap.behind {
+        Some(item) if is_item(item.kind) && item.opening().is_empty() && !gap.gets_line => {
+            let signs = signs_of(alloc, known, item)?;
+            out.push_str("\n")?;
+            out.push_str(signs.as_str())?;
+            out.push_str(" ")
+        }
+        _ => Ok(()),
+    }
+}
+
+/// Whether what comes is one cell between two of a line.
+fn joins_line(page: &str, gap: &Gap<'_, '_, '_>, coming: &Coming) -> bool {
+    let (Some(before), Some(behind)) = (gap.before, gap.behind) else {
+        return false;
+    };
+    same_kind(before.kind, coming.first)
+        && count_of(gap.new) == 1
+        && shares_line(page, coming.last, behind)
+        && coming.is_of_line
+}
+
+/// Whether what comes is one cell after the last one of a line, in which no blanks are beside the signs.
+fn comes_last_in_line(page: &str, gap: &Gap<'_, '_, '_>, coming: &Coming) -> bool {
+    let Some(before) = gap.before else {
+        return false;
+    };
+    gap.behind.is_none()
+        && gap.is_behind_text
+        && is_directly_behind(gap, before)
+        && is_cell(coming.first)
+        && same_kind(before.kind, coming.first)
+        && count_of(gap.new) == 1
+        && coming.is_of_line
+        && style_of(gap.before).is_tight
+        && is_doubled(page, before)
+        && most_breaks(page, range_of(before).start, range_of(before).end) == 0
+}
+
+/// Whether what comes is one cell in the place of one that went on in the line of the cell before, which has its kind.
+fn takes_place_in_line(page: &str, gap: &Gap<'_, '_, '_>, coming: &Coming, at: usize) -> bool {
+    let Some(before) = gap.before else {
+        return false;
+    };
+    is_cell(coming.first)
+        && same_kind(before.kind, coming.first)
+        && count_of(gap.new) == 1
+        && coming.is_of_line
+        && is_doubled_at(page, at)
+        && !is_at_line_start(page, at)
+}
+
+/// Appends what comes: in the line that is begun, or after so many line breaks.
+fn push_source(
+    out: &mut Str,
+    coming: &Coming,
+    is_in_line: bool,
+    breaks: usize,
+) -> Result<(), NoMemory> {
+    if is_in_line {
+        return push_in_line(out, coming.source.as_str());
+    }
+    push_breaks(out, breaks)?;
+    out.push_str(coming.source.as_str())
+}
+
+/// Appends what comes, in the place of the first slice that goes.
+pub fn push_new(
+    alloc: Global,
+    out: &mut Vec<Change>,
+    known: &Known<'_, '_>,
+    gap: &Gap<'_, '_, '_>,
+    slices: &[Slice],
+    coming: &Coming,
+) -> Result<(), NoMemory> {
+    let page = known.page;
+    let slice = slices.first().copied();
+    let place = place_of(gap, slice);
+    let to = match slices.get(1) {
+        Some(next) => next.place.start,
+        None => gap.place.end,
+    };
+    let end = end_of_place(known, gap, coming, place.end, to);
+    let before = breaks_before(known, gap, slice, coming, place.start);
+    let after = Slot {
+        start: end,
+        end: to,
+    };
+    let behind = breaks_behind(known, gap, slice, coming, after);
+    let mut by = Str::new(alloc);
+    let joins = joins_line(page, gap, coming) || comes_last_in_line(page, gap, coming);
+    if slice.is_none() && joins {
+        push_in_line(&mut by, coming.source.as_str())?;
+        return push_change(out, place, by);
+    }
+    let is_in_line = slice.is_some() && takes_place_in_line(page, gap, coming, place.start);
+    push_source(&mut by, coming, is_in_line, before)?;
+    if begins_without_sign(gap) {
+        by.push_str("\n|-")?;
+    }
+    push_line_of_item(alloc, &mut by, known, gap)?;
+    push_breaks(&mut by, behind)?;
+    let start = place.start;
+    push_part_of(alloc, out, known, gap, Slot { start, end }, by)
+}
