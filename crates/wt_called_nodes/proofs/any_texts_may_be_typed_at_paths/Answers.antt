@@ -1,5 +1,0 @@
-use Rattle.wt_called_nodes.proofs.OwnEdits.{own_edits}
-use Rattle.wt_called_nodes.proofs.any_texts_may_be_typed_at_paths.Goals as goal
-
-pub returns : goal.returns
-returns c t ss fs = own_edits t ss fs

@@ -1,2 +1,0 @@
-pub mod CalledTexts
-pub mod CalledCalls

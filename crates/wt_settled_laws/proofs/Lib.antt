@@ -1,4 +1,0 @@
-pub mod BareInsides
-mod Cases
-pub mod Settles
-pub mod SettledPages

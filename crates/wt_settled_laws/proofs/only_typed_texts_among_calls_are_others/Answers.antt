@@ -1,5 +1,0 @@
-use Rattle.wt_settled_laws.proofs.SettledPages.{only_texts}
-use Rattle.wt_settled_laws.proofs.only_typed_texts_among_calls_are_others.Goals as goal
-
-pub returns : goal.returns
-returns c pages ss behind = only_texts pages ss behind
