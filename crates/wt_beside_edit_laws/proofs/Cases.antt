@@ -1,5 +1,5 @@
 -- Worked case: the page `x<br>y` is a flat page.
-use Rattle.std.proofs.Common.{◌≡◌, ℕ, true, false, None, List, [], ◌∷◌, refl, sym, ap, ◌∙◌, subst}
+use Rattle.std.proofs.Common.{◌≡◌, ℕ, List, [], ◌∷◌, refl, sym, subst}
 use Rattle.std.specs.Prelude.{codes}
 use Rattle.std.specs.Str.{IsUtf8, chars}
 use Rattle.std.proofs.Math.Utf8.{encode}
@@ -23,7 +23,6 @@ use Rattle.wt_context.specs.Segments.{loose_segments}
 use Rattle.wt_context.specs.Styled.{with_styles}
 use Rattle.wt_quotes.specs.Styles.{style_tree_of}
 use Rattle.wt_quotes.specs.Toggles.{toggle_at, toggles_of}
-use Rattle.wt_inline.specs.Parts.{children}
 use Rattle.wt_page.specs.Body.{meaning}
 use Rattle.wt_text_edit_laws.specs.LonePages.{page_chars}
 use Rattle.wt_text_edit_laws.specs.NoCalls.{CallsNothing}
@@ -32,7 +31,7 @@ use Rattle.wt_text_edit_laws.specs.ParagraphBetween.{body_with}
 use Rattle.wt_text_edit_laws.proofs.Between.NoCalls.{calm_expanded, calm_unrefused}
 use Rattle.wt_beside_laws.specs.Calm.{IsCalm, AreCalm, HaveNoBraces}
 use Rattle.wt_beside_laws.specs.Content.{AreKept}
-use Rattle.wt_beside_laws.specs.Kept.{characters, sign, IsKept, AreParts}
+use Rattle.wt_beside_laws.specs.Kept.{characters, sign, IsKept}
 use Rattle.wt_beside_laws.specs.Lines.{AreLinesOfText}
 use Rattle.wt_beside_laws.specs.PageBlocks.{joined_parts, AreUnstyled, AreShut}
 use Rattle.wt_beside_laws.specs.PageSigns.{signs_of_lines, AreFlatLines}

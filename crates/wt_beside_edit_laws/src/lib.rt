@@ -26,7 +26,6 @@ pub fn flat_pages_take_texts_beside_nodes()
 
 /// The new page is such a page again, so of a chain of such edits none is refused: the nodes beside which texts are typed next are the same, and the
 /// references and nowikis that were put.
-#[tactic(auto, using(crate::proofs::FlatPagesAgain::flat_again))]
 pub fn flat_pages_are_such_again()
     ensures { (q : List ℕ) (ps : List Piece) → IsFlatPage q → IsFlatEdit q ps → IsFlatPage (new_flat q ps) }
 {}
