@@ -201,7 +201,7 @@ def title_of_file(file: str) -> Optional[str]:
         return None
     try:
         title = titles.read_title(unquote(file[: -len(".wiki")], errors="strict").replace("_", " "))
-    except (titles.BadTitle, UnicodeDecodeError):
+    except (titles.BadTitle, UnicodeError):
         return None
     return title.full_name if title.fragment is None and titles.file_name(title.full_name) == file else None
 

@@ -1,4 +1,5 @@
-"""When the server's folder tells that nothing was written, by the steps of its file system's clock."""
+"""The server's folder: its titles, and when it tells that nothing was written."""
+import os
 import sys
 import tempfile
 import time
@@ -54,6 +55,17 @@ class StepsOfTheClock(unittest.TestCase):
         with mock.patch.object(time, "time_ns", return_value=now + 2 * COARSE_STEP):
             self.assertIsNotNone(self.folder.state())
             self.assertIsNotNone(self.folder.fingerprint())
+
+
+class Titles(unittest.TestCase):
+    def test_a_file_whose_name_is_not_utf8(self) -> None:
+        with tempfile.TemporaryDirectory() as room:
+            (Path(room) / "Main.wiki").write_text("x")
+            try:
+                (Path(room) / os.fsdecode(b"M\xfcnze.wiki")).write_text("x")
+            except OSError:
+                self.skipTest("this file system has no such names")
+            self.assertEqual(PageFolder(room).titles(), ["Main"])
 
 
 if __name__ == "__main__":

@@ -23,7 +23,6 @@ ghost use Rattle.wt_called_edit_laws.specs.PathsTo.{paths_to, PathsSend};
 ghost use Rattle.wt_called_edit_laws.specs.Sends.{TextsMake};
 ghost use Rattle.wt_called_edit_laws.specs.Stand.{BlocksStand, BlocksAreFree};
 ghost use Rattle.wt_called_edit_laws.specs.TreeEdits.{IsNumberedBody, HasOwnEdits, AreFoundApart};
-ghost use Rattle.wt_devices.specs.Device.{Pages};
 ghost use Rattle.wt_commands.specs.Calls.{Call};
 ghost use Rattle.wt_pagetool.specs.Promises.{Ends, EndsAsEdit};
 ghost use Rattle.wt_cell_edit_laws.specs.AnyCalls.{TakesTextsAnywhere};
