@@ -31,3 +31,4 @@ pub mod Settles
 pub mod SettledPages
 pub mod RunsFree
 pub mod FreePlaces
+pub mod GroupsKept

@@ -6,9 +6,9 @@ use Rattle.wt_tree.specs.Tree.{Tree, tree, Trees, none, more}
 use Rattle.wt_span.specs.Items.{sources}
 use Rattle.wt_span.specs.Origins.{OuterCall}
 use Rattle.wt_inline.specs.ItemTree.{ItemTree, tree_items}
+use Rattle.wt_annotated.specs.Annotated.{annotated}
 use Rattle.wt_annotated.specs.GroupData.{group_data}
 use Rattle.wt_annotated.specs.Seams.{last_of, text_from}
-use Rattle.wt_annotated.specs.Walked.{walked}
 use Rattle.wt_row_laws.specs.Frames.{Frame, place, whole, around, Frames, no_frames, more_frames, tree_at, trees_at, all_places, content, AreFrames}
 use Rattle.wt_called_trees.specs.Rounded.{AreOwn, AreClean, body_of}
 
@@ -73,4 +73,4 @@ abbrev mutual
 abbrev pub CleanWhereFree : List OuterCall → Frames → (ℕ → ItemTree) → Type 0
 CleanWhereFree calls fs t =
     AreFrames fs content → HoldPlaces fs → AreOwn t (all_places fs) → HaveBytes t (all_places fs)
-    → AtPlaces (λ b. NoGroupAt b (walked calls (group_data calls) None 0 None (body_of (trees_at t fs)))) calls t None 0 fs → AreClean t None fs None
+    → AtPlaces (λ b. NoGroupAt b (annotated calls (group_data calls) (body_of (trees_at t fs)))) calls t None 0 fs → AreClean t None fs None

@@ -144,8 +144,8 @@ pub fn only_typed_texts_among_calls_are_others()
 {}
 
 /// A page with calls, with places for blocks in its body and in the cells and captions of its tables. Where no group of
-/// its tree, as a walk makes it, has the first byte of one of these blocks, each node round them is clean: so groups stay
-/// what they are, whatever the blocks are.
+/// its tree has the first byte of one of these blocks, each node round them is clean: so groups stay what they are,
+/// whatever the blocks are.
 #[tactic(auto, using(crate::proofs::FreePlaces::clean_where_free))]
 pub fn nodes_round_free_blocks_are_clean()
     ensures { (calls : List OuterCall) (fs : Frames) (t : ℕ → ItemTree) → CleanWhereFree calls fs t }
