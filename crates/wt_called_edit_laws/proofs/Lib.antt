@@ -32,3 +32,6 @@ pub mod SettledPages
 pub mod RunsFree
 pub mod FreePlaces
 pub mod GroupsKept
+pub mod PlaceBytes
+pub mod Squashed
+pub mod GroupsOfPage

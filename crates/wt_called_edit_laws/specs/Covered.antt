@@ -10,6 +10,8 @@ use Rattle.wt_annotated.specs.Annotated.{annotated}
 use Rattle.wt_annotated.specs.GroupData.{group_data}
 use Rattle.wt_annotated.specs.Seams.{last_of, text_from}
 use Rattle.wt_row_laws.specs.Frames.{Frame, place, whole, around, Frames, no_frames, more_frames, tree_at, trees_at, all_places, content, AreFrames}
+use Rattle.wt_text_edit_laws.specs.BlockSpots.{BlockSpot}
+use Rattle.wt_text_edit_laws.specs.TextBlocks.{source_of}
 use Rattle.wt_called_trees.specs.Rounded.{AreOwn, AreClean, body_of}
 
 -- ---- groups
@@ -66,6 +68,14 @@ abbrev mutual
   pub HoldPlaces : Frames → Type 0
   HoldPlaces no_frames = Unit {0}
   HoldPlaces (more_frames f fs) = HoldsPlace f × HoldPlaces fs
+
+-- ---- blocks
+
+-- Where so many bytes come before the first part, no group of the tree has the first byte of one of these blocks.
+abbrev pub AreInNoGroup : ℕ → List BlockSpot → Tree → Type 0
+AreInNoGroup at [] t = Unit {0}
+AreInNoGroup at (s ∷ ss) t =
+    let start = at + length s.before in NoGroupAt start t × AreInNoGroup (start + length (source_of s.block s.text)) ss t
 
 -- ---- the page
 
