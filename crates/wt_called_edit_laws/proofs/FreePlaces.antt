@@ -6,6 +6,7 @@ use Rattle.wt_tree.specs.Tree.{Trees, trees}
 use Rattle.wt_span.specs.Items.{Item, sources}
 use Rattle.wt_span.specs.Origins.{OuterCall}
 use Rattle.wt_inline.specs.ItemTree.{Head, ItemTree, inner, forest, tree_items, held_by_all}
+use Rattle.wt_annotated.specs.Annotated.{annotated}
 use Rattle.wt_annotated.specs.GroupData.{group_data}
 use Rattle.wt_annotated.specs.Seams.{last_of, first_of, parted, text_from}
 use Rattle.wt_annotated.specs.Walked.{clean_at, Near, near_runs, walked, near}
@@ -18,6 +19,7 @@ use Rattle.wt_called_trees.proofs.FramesWalked.{no_leaf}
 use Rattle.wt_called_trees.proofs.OwnWalks.{text_own}
 use Rattle.wt_called_edit_laws.proofs.CutFrames.{no_group_round}
 use Rattle.wt_called_edit_laws.specs.Covered.{NoGroupAt, NoneGroupAt, IfGroup, AtPlace, AtPlaces, HaveBytes, HasAny, HoldsPlace, HoldPlaces, CleanWhereFree}
+use Rattle.wt_called_edit_laws.proofs.GroupsKept.{walk_free}
 use Rattle.wt_called_edit_laws.proofs.RunsFree.{IsFreeAt, AreFreeAt, children_free}
 
 -- ---- of each place
@@ -199,7 +201,9 @@ mutual
 
 pub clean_where_free : (calls : List OuterCall) (fs : Frames) (t : ℕ → ItemTree) → CleanWhereFree calls fs t
 clean_where_free calls fs t i a w h g =
-    let G : ℕ → Type 0 = λ b. NoGroupAt b (walked calls (group_data calls) None 0 None (body_of (trees_at t fs))) in
+    let body : ItemTree = body_of (trees_at t fs) in
+    let G : ℕ → Type 0 = λ b. NoGroupAt b (annotated calls (group_data calls) body) in
     let A : ℕ → Type 0 = λ b. AreFreeAt calls b (near calls (group_data calls) None 0 None (forest (trees_at t fs))) in
     frames_clean calls t None 0 fs None content i a w h
-    (map_places G A calls t None 0 fs (λ b y. children_free calls (group_data calls) b None 0 None (forest (trees_at t fs)) y) g)
+    (map_places G A calls t None 0 fs
+    (λ b y. children_free calls (group_data calls) b None 0 None (forest (trees_at t fs)) (walk_free calls (group_data calls) body b y)) g)

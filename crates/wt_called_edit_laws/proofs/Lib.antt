@@ -31,3 +31,7 @@ pub mod Settles
 pub mod SettledPages
 pub mod RunsFree
 pub mod FreePlaces
+pub mod GroupsKept
+pub mod PlaceBytes
+pub mod Squashed
+pub mod GroupsOfPage

@@ -99,7 +99,7 @@ mutual
 
 -- ---- the places of the page's blocks
 
-abbrev AreThere : (ℕ → ItemTree) → List ℕ → List BlockSpot → Type 0
+abbrev pub AreThere : (ℕ → ItemTree) → List ℕ → List BlockSpot → Type 0
 AreThere t [] ss = Unit {0}
 AreThere t (n ∷ ns) [] = ⊥
 AreThere t (n ∷ ns) (s ∷ ss) = (t n ≡ block_tree s.block s.text) × AreThere t ns ss
@@ -109,7 +109,7 @@ there_moved t [] ss h = tt
 there_moved t (n ∷ ns) [] h = h
 there_moved t (n ∷ ns) (s ∷ ss) h = (h.0, there_moved t ns ss h.1)
 
-all_there : (ss : List BlockSpot) → AreThere (tree_by ss) (counted ss) ss
+pub all_there : (ss : List BlockSpot) → AreThere (tree_by ss) (counted ss) ss
 all_there [] = tt
 all_there (s ∷ ss) = (refl, there_moved (tree_by (s ∷ ss)) (counted ss) ss (all_there ss))
 

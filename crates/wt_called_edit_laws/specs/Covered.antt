@@ -6,10 +6,12 @@ use Rattle.wt_tree.specs.Tree.{Tree, tree, Trees, none, more}
 use Rattle.wt_span.specs.Items.{sources}
 use Rattle.wt_span.specs.Origins.{OuterCall}
 use Rattle.wt_inline.specs.ItemTree.{ItemTree, tree_items}
+use Rattle.wt_annotated.specs.Annotated.{annotated}
 use Rattle.wt_annotated.specs.GroupData.{group_data}
 use Rattle.wt_annotated.specs.Seams.{last_of, text_from}
-use Rattle.wt_annotated.specs.Walked.{walked}
 use Rattle.wt_row_laws.specs.Frames.{Frame, place, whole, around, Frames, no_frames, more_frames, tree_at, trees_at, all_places, content, AreFrames}
+use Rattle.wt_text_edit_laws.specs.BlockSpots.{BlockSpot}
+use Rattle.wt_text_edit_laws.specs.TextBlocks.{source_of}
 use Rattle.wt_called_trees.specs.Rounded.{AreOwn, AreClean, body_of}
 
 -- ---- groups
@@ -67,10 +69,18 @@ abbrev mutual
   HoldPlaces no_frames = Unit {0}
   HoldPlaces (more_frames f fs) = HoldsPlace f × HoldPlaces fs
 
+-- ---- blocks
+
+-- Where so many bytes come before the first part, no group of the tree has the first byte of one of these blocks.
+abbrev pub AreInNoGroup : ℕ → List BlockSpot → Tree → Type 0
+AreInNoGroup at [] t = Unit {0}
+AreInNoGroup at (s ∷ ss) t =
+    let start = at + length s.before in NoGroupAt start t × AreInNoGroup (start + length (source_of s.block s.text)) ss t
+
 -- ---- the page
 
 -- Where no group of the page's tree has the first byte of a block, each node round the blocks is clean.
 abbrev pub CleanWhereFree : List OuterCall → Frames → (ℕ → ItemTree) → Type 0
 CleanWhereFree calls fs t =
     AreFrames fs content → HoldPlaces fs → AreOwn t (all_places fs) → HaveBytes t (all_places fs)
-    → AtPlaces (λ b. NoGroupAt b (walked calls (group_data calls) None 0 None (body_of (trees_at t fs)))) calls t None 0 fs → AreClean t None fs None
+    → AtPlaces (λ b. NoGroupAt b (annotated calls (group_data calls) (body_of (trees_at t fs)))) calls t None 0 fs → AreClean t None fs None

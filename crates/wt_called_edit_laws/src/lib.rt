@@ -1,7 +1,7 @@
 //! Laws of text edits on pages with calls: in paragraphs and headings among calls, in cells of tables, too, any text is taken, and nothing else is changed.
 #![tactic(auto)]
 
-ghost use Rattle.std.specs.Prelude.{ℕ, List, Option};
+ghost use Rattle.std.specs.Prelude.{◌≡◌, ℕ, List, Option, None};
 ghost use Rattle.wt_expand.specs.Work.{Pages};
 ghost use Rattle.wt_expand.specs.PageCalls.{expanded_page};
 ghost use Rattle.wt_text_edit_laws.specs.BlockSpots.{BlockSpot, spots_source};
@@ -23,14 +23,16 @@ ghost use Rattle.wt_called_edit_laws.specs.PathsTo.{paths_to, PathsSend};
 ghost use Rattle.wt_called_edit_laws.specs.Sends.{TextsMake};
 ghost use Rattle.wt_called_edit_laws.specs.Stand.{BlocksStand, BlocksAreFree};
 ghost use Rattle.wt_called_edit_laws.specs.TreeEdits.{IsNumberedBody, HasOwnEdits, AreFoundApart};
+ghost use Rattle.wt_commands.specs.Answers.{refusal_of_page};
 ghost use Rattle.wt_commands.specs.Calls.{Call};
+ghost use Rattle.wt_cell_edit_laws.specs.CalledBlocks.{AreAmongCalls};
 ghost use Rattle.wt_pagetool.specs.Promises.{Ends, EndsAsEdit};
 ghost use Rattle.wt_cell_edit_laws.specs.AnyCalls.{TakesTextsAnywhere};
 ghost use Rattle.wt_called_edit_laws.specs.CalledCalls.{TakesTextsAmongCalls};
 ghost use Rattle.wt_called_edit_laws.specs.CalledTexts.{TakesTextsAmong};
 ghost use Rattle.wt_called_edit_laws.specs.Settled.{IsSettled};
 ghost use Rattle.wt_called_edit_laws.specs.SettledPages.{OnlyTextsAreOthers};
-ghost use Rattle.wt_called_edit_laws.specs.Covered.{CleanWhereFree};
+ghost use Rattle.wt_called_edit_laws.specs.Covered.{CleanWhereFree, AreInNoGroup};
 
 /// Where texts are typed in paragraphs and headings among calls, and no node round one of them is in a group, the page's
 /// tree has the same groups and the same other nodes, whatever the texts are: but for numbers and places it is one tree
@@ -144,9 +146,17 @@ pub fn only_typed_texts_among_calls_are_others()
 {}
 
 /// A page with calls, with places for blocks in its body and in the cells and captions of its tables. Where no group of
-/// its tree, as a walk makes it, has the first byte of one of these blocks, each node round them is clean: so groups stay
-/// what they are, whatever the blocks are.
+/// its tree has the first byte of one of these blocks, each node round them is clean: so groups stay what they are,
+/// whatever the blocks are.
 #[tactic(auto, using(crate::proofs::FreePlaces::clean_where_free))]
 pub fn nodes_round_free_blocks_are_clean()
     ensures { (calls : List OuterCall) (fs : Frames) (t : ℕ → ItemTree) → CleanWhereFree calls fs t }
+{}
+
+/// So a page whose paragraphs and headings are among calls, none of which a group of its tree has, and that isn't refused
+/// with what the folder has, is one of those of which text edits are taken.
+pub fn pages_with_blocks_in_no_group_are_called_pages()
+    ensures { (pages : Pages) (ss : List BlockSpot) (behind : List ℕ) → AreAmongCalls pages ss behind
+        → refusal_of_page pages (spots_source ss behind) ≡ None → AreInNoGroup 0 ss (called_tree pages (spots_source ss behind))
+        → IsCalledPage pages ss behind }
 {}
