@@ -1,8 +1,8 @@
 -- The edit of a flat page: it is never refused, and makes the page with what was sent.
-use Rattle.std.proofs.Common.{arith, ◌≡◌, ◌≢◌, ℕ, ◌+◌, ◌≤◌, Bool, true, false, Option, Some, None, List, [], ◌∷◌, ◌++◌, length, refl, sym, ap, ◌∙◌, subst, append-nil}
+use Rattle.std.proofs.Common.{◌≡◌, ℕ, ◌+◌, ◌≤◌, Option, Some, List, [], ◌∷◌, ◌++◌, length, refl, sym, ap, ◌∙◌, subst, append-nil}
 use Rattle.std.specs.Prelude.{Ok}
 use Rattle.wt_span.specs.declared.limits.TheConstants.{PAGE_BYTES}
-use Rattle.wt_span.specs.Items.{Item, sources}
+use Rattle.wt_span.specs.Items.{sources}
 use Rattle.wt_devices.specs.Device.{Pages}
 use Rattle.wt_tree.specs.declared.kind.Kind.{Kind}
 use Rattle.wt_tree.specs.declared.kind.Kind.TheVariants as kind
@@ -15,7 +15,7 @@ use Rattle.wt_tree.specs.Tiling.{InPreorder, NoneIsGroup}
 use Rattle.wt_tree.specs.Tree.{Label, Tree, tree, Trees, none, more, label}
 use Rattle.wt_checks.specs.PutBack.{have_frame}
 use Rattle.wt_original.specs.Page.{page_of}
-use Rattle.wt_link_spelling.specs.Spelling.{inline_spelling, children_of}
+use Rattle.wt_link_spelling.specs.Spelling.{inline_spelling}
 use Rattle.wt_content.specs.Content.{is_paragraph, bad_content}
 use Rattle.wt_expand.specs.PageCalls.{expanded_page}
 use Rattle.wt_expand.specs.PageItems.{page_items}
@@ -31,11 +31,10 @@ use Rattle.wt_commands.proofs.SectionEdits.{page_bare}
 use Rattle.wt_moved_laws.proofs.Sources.{standing_source}
 use Rattle.wt_typed_blocks.specs.Sent.{paragraph}
 use Rattle.wt_typed_blocks.specs.Typed.{block_source}
-use Rattle.wt_typed_blocks.specs.Edited.{Piece, page_pieces, sent_pieces, Edited, edited, Edits, no_edits, more_edits, page_node, sent_node, page_nodes, AreEdited, AreOutside, page_body, sent_body}
+use Rattle.wt_typed_blocks.specs.Edited.{Piece, page_pieces, sent_pieces, Edited, edited, Edits, page_node, sent_node, page_nodes, AreEdited, page_body, sent_body}
 use Rattle.wt_typed_blocks.specs.EditedPage.{edited_sources, AreTaken, LieAt, AreApart}
 use Rattle.wt_typed_blocks.proofs.EditedSections.{answer_in_sections}
 use Rattle.wt_text_edit_laws.specs.LonePages.{of_items}
-use Rattle.wt_text_edit_laws.specs.Parts.{part_tree}
 use Rattle.wt_text_edit_laws.proofs.Prose.ProseTakes.{as_edit}
 use Rattle.wt_text_edit_laws.proofs.Prose.ProseTrees.{blocks_of}
 use Rattle.wt_beside_laws.specs.PageBlocks.{joined_parts}
@@ -43,8 +42,8 @@ use Rattle.wt_beside_laws.specs.SentNodes.{AreSent}
 use Rattle.wt_beside_laws.specs.SentPieces.{TextsFit}
 use Rattle.wt_beside_laws.proofs.NoFaults.{no_fault}
 use Rattle.wt_beside_laws.proofs.SentPieces.{stays_sent}
-use Rattle.wt_beside_edit_laws.specs.FlatPages.{lines_of, paragraph_of, block_of, IsFlatPage, IsFlatEdit, flat_edits, new_signs, new_flat}
-use Rattle.wt_beside_edit_laws.proofs.OldPages.{IsOneBlock, body_label, one_tree, one_source, one_ungrouped, one_unframed, one_flat, flat_page, para_label, label_is, kind_is, block_is, numbered, is_flat, old_untangled}
+use Rattle.wt_beside_edit_laws.specs.FlatPages.{lines_of, paragraph_of, block_of, IsFlatPage, IsFlatEdit, flat_edits, new_flat}
+use Rattle.wt_beside_edit_laws.proofs.OldPages.{body_label, one_tree, one_ungrouped, one_unframed, one_flat, flat_page, para_label, label_is, kind_is, block_is, numbered, is_flat, old_untangled}
 use Rattle.wt_beside_edit_laws.proofs.Pieces.{all_fit}
 
 -- ---- the page's nodes

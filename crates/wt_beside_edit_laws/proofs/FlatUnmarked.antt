@@ -1,5 +1,5 @@
 -- The same without marks: the difference finds the paragraph, and `edit` of the difference is done.
-use Rattle.std.proofs.Common.{◌≡◌, ℕ, ◌≤◌, Bool, false, Option, Some, List, length, refl, sym, ap, ◌∙◌, subst}
+use Rattle.std.proofs.Common.{◌≡◌, ℕ, ◌≤◌, Bool, Option, Some, List, length, refl, sym, ap, ◌∙◌, subst}
 use Rattle.std.specs.Prelude.{if◌then◌else◌}
 use Rattle.wt_span.specs.declared.limits.TheConstants.{HTML_BYTES, PAGE_BYTES}
 use Rattle.wt_devices.specs.Device.{Pages}
@@ -20,12 +20,11 @@ use Rattle.wt_commands.specs.declared.refusal.Refusal.TheVariants.{TooLong}
 use Rattle.wt_commands.specs.Answers.{refused, text_answer, title_answer, edit_to, IsText}
 use Rattle.wt_commands.proofs.SectionEdits.{page_bare}
 use Rattle.wt_pagetool.specs.Selser.{EditIsDone, DoneByEdit}
-use Rattle.wt_typed_blocks.specs.Edited.{Piece, Edits, page_nodes, page_body, sent_body}
+use Rattle.wt_typed_blocks.specs.Edited.{Piece, Edits, page_body, sent_body}
 use Rattle.wt_typed_blocks.specs.EditedUnmarked.{bare_node, bare_body, AreTold}
 use Rattle.wt_typed_blocks.proofs.EditedUnmarked.{told_by_difference}
-use Rattle.wt_text_edit_laws.specs.Parts.{part_tree}
 use Rattle.wt_text_edit_laws.proofs.Prose.ProseTakes.{not_longer}
-use Rattle.wt_beside_edit_laws.specs.FlatPages.{paragraph_of, IsFlatPage, IsFlatEdit, flat_edits, sent_flat, new_flat, IsUnmarkedFlatEdit, bare_flat}
+use Rattle.wt_beside_edit_laws.specs.FlatPages.{paragraph_of, IsFlatPage, flat_edits, sent_flat, new_flat, IsUnmarkedFlatEdit, bare_flat}
 use Rattle.wt_beside_edit_laws.proofs.OldPages.{body_label, one_tree, one_unframed, flat_page}
 use Rattle.wt_beside_edit_laws.proofs.FlatEdits.{para_edit, old_node, old_nodes, are_edited, opened_is}
 use Rattle.wt_beside_edit_laws.proofs.NewPages.{takes_texts}

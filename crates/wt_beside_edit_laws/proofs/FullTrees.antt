@@ -1,5 +1,5 @@
 -- A paragraph of full parts is plain: all its items are the page's own, and no node of it is empty.
-use Rattle.std.proofs.Common.{◌≡◌, ℕ, Bool, true, false, Option, Some, None, List, [], ◌∷◌, ◌++◌, map, refl, sym, ap, ◌∙◌, subst, append-nil}
+use Rattle.std.proofs.Common.{◌≡◌, ℕ, Bool, true, false, Option, Some, None, List, [], ◌∷◌, ◌++◌, map, refl, sym, subst}
 use Rattle.std.specs.Prelude.{◌&&◌, ◌||◌, encode_utf8}
 use Rattle.std.specs.List.{list_all, list_any}
 use Rattle.wt_span.specs.Items.{Item, char, sources}
@@ -7,7 +7,7 @@ use Rattle.wt_span.specs.Runs.{runs, IsRun, AreRuns}
 use Rattle.wt_span.proofs.RunLaws.{runs_are}
 use Rattle.wt_guards.specs.Content.{Thing, ContentSign, letter, thing}
 use Rattle.wt_guards.specs.Guards.{Setting, nowiki, is_guarded}
-use Rattle.wt_guards.specs.Letters.{is_escaped, reference}
+use Rattle.wt_guards.specs.Letters.{is_escaped}
 use Rattle.wt_expand.specs.PageItems.{page_items}
 use Rattle.wt_inline.specs.declared.loose.Loose.{Loose}
 use Rattle.wt_inline.specs.declared.loose.Loose.TheVariants.{Text, Sep}
@@ -15,7 +15,7 @@ use Rattle.wt_inline.specs.ItemTree.{plain, ItemTree, inner, nothing, forest, tr
 use Rattle.wt_inline.specs.Parts.{Part, loose, node, parts, held_parts, one_leaf, child, children}
 use Rattle.wt_context.specs.Line.{line_parts}
 use Rattle.wt_tree.specs.declared.kind.Kind.TheVariants as kind
-use Rattle.wt_annotated.specs.Clean.{is_page, is_body}
+use Rattle.wt_annotated.specs.Clean.{is_page}
 use Rattle.wt_annotated.specs.WithoutCalls.{NoneEmpty, AllNonEmpty, holds_page, IsPlain}
 use Rattle.wt_text_edit_laws.specs.LonePages.{page_chars}
 use Rattle.wt_text_edit_laws.specs.ParagraphBetween.{body_with}

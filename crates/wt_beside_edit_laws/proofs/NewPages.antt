@@ -1,21 +1,20 @@
 -- The new page of such an edit: it is such a paragraph again, and shows what was sent; so the edit is done.
-use Rattle.std.proofs.Common.{◌≡◌, ℕ, ◌≤◌, Bool, false, Option, None, List, [], ◌∷◌, ◌++◌, length, refl, sym, ap, ◌∙◌, subst, append-nil}
+use Rattle.std.proofs.Common.{◌≡◌, ℕ, ◌≤◌, Bool, false, None, List, [], ◌∷◌, length, refl, sym, ap, ◌∙◌, subst, append-nil}
 use Rattle.std.specs.Prelude.{if◌then◌else◌}
 use Rattle.wt_span.specs.declared.limits.TheConstants.{PAGE_BYTES}
 use Rattle.wt_span.specs.Items.{Item, sources}
 use Rattle.wt_devices.specs.Device.{Pages}
 use Rattle.wt_tree.specs.declared.kind.Kind.TheVariants as kind
 use Rattle.wt_tree.specs.declared.edit_shape.Place.TheVariants as place
-use Rattle.wt_tree.specs.EditShapes.{edit_shape}
-use Rattle.wt_tree.specs.Plain.{Face, face, Plains, ended, along, element, plain_before, plains_before}
+use Rattle.wt_tree.specs.Plain.{Face, face, Plains, ended, along, element, plain_before}
 use Rattle.wt_tree.specs.Source.{flat}
-use Rattle.wt_tree.specs.Tree.{Label, Tree, tree, Trees, none, more, label}
+use Rattle.wt_tree.specs.Tree.{Label, Tree, label}
 use Rattle.wt_utf8.specs.Places.{not_utf8_place}
 use Rattle.wt_utf8.proofs.PlaceLaws.{no_place}
 use Rattle.wt_guards.specs.Content.{Thing, ContentSign, letter, thing}
 use Rattle.wt_guards.specs.Guards.{Setting}
 use Rattle.wt_original.specs.Page.{Page, page_of}
-use Rattle.wt_link_spelling.specs.Spelling.{signs_of_all, children_of}
+use Rattle.wt_link_spelling.specs.Spelling.{children_of}
 use Rattle.wt_expand.specs.PageCalls.{expanded_page}
 use Rattle.wt_expand.specs.PageItems.{page_items}
 use Rattle.wt_expand.proofs.PageLaws.{page_sources}
@@ -36,14 +35,12 @@ use Rattle.wt_selser.specs.Edits.{edit_answer}
 use Rattle.wt_commands.specs.declared.refusal.Refusal.TheVariants.{TooLong}
 use Rattle.wt_commands.specs.Answers.{Answer, done, refused, text_answer, title_answer, expanded_by, unspelled_by, unspelled_answer, new_by, new_expanded, new_answer, edit_by, edit_from, edit_to}
 use Rattle.wt_moved_laws.specs.Standing.{standing}
-use Rattle.wt_typed_blocks.specs.Edited.{Piece, gone, written, kept, page_pieces, sent_pieces, pieces_before, edits_show, sent_body}
+use Rattle.wt_typed_blocks.specs.Edited.{Piece, gone, written, kept, page_pieces, sent_pieces, pieces_before, sent_body}
 use Rattle.wt_typed_blocks.proofs.EditedShows.{body_shows}
 use Rattle.wt_text_edit_laws.specs.ParagraphBetween.{body_with}
-use Rattle.wt_text_edit_laws.specs.Parts.{part_tree}
-use Rattle.wt_text_edit_laws.proofs.Blocks.KeptBlocks.{blocks_source, held_source}
+use Rattle.wt_text_edit_laws.proofs.Blocks.KeptBlocks.{held_source}
 use Rattle.wt_text_edit_laws.proofs.Prose.InFront.{reads_nothing, read_items}
 use Rattle.wt_text_edit_laws.proofs.Prose.ProseTakes.{not_longer}
-use Rattle.wt_text_edit_laws.proofs.Prose.ProseTrees.{blocks_of}
 use Rattle.wt_text_edit_laws.proofs.Texts.TypedShown.{gathered_shows}
 use Rattle.wt_beside_laws.specs.Calm.{IsCalm, AreCalm}
 use Rattle.wt_beside_laws.specs.Content.{AreKept}
@@ -51,7 +48,7 @@ use Rattle.wt_beside_laws.specs.Flat.{IsFlatContent, content_parts, para_with}
 use Rattle.wt_beside_laws.specs.PageBlocks.{joined_parts, ShowSources}
 use Rattle.wt_beside_laws.specs.PageSigns.{signs_of_lines}
 use Rattle.wt_beside_laws.specs.SentPieces.{PiecesShow}
-use Rattle.wt_beside_laws.specs.Shown.{parts_shown_at, content_shown}
+use Rattle.wt_beside_laws.specs.Shown.{parts_shown_at}
 use Rattle.wt_beside_laws.specs.Stood.{things}
 use Rattle.wt_beside_laws.proofs.BlockSigns.{block_nodes, sent_content, block_shows}
 use Rattle.wt_beside_laws.proofs.CalmContents.{content_utf8, content_expanded, content_unrefused}

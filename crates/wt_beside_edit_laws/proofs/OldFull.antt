@@ -1,5 +1,5 @@
 -- The nodes of a flat page are full by their sources: no node of the page is a group, so none is empty, and all is the page's own.
-use Rattle.std.proofs.Common.{◌≡◌, ℕ, ◌+◌, true, false, Option, List, [], ◌∷◌, ◌++◌, length, map, sym, ap, ◌∙◌, subst}
+use Rattle.std.proofs.Common.{◌≡◌, ℕ, ◌+◌, true, false, Option, List, [], ◌∷◌, ◌++◌, length, map, sym, subst}
 use Rattle.wt_span.specs.Items.{Item}
 use Rattle.wt_span.specs.Runs.{runs, IsRun, AreRuns}
 use Rattle.wt_span.proofs.RunLaws.{runs_are}
@@ -17,7 +17,7 @@ use Rattle.wt_beside_laws.specs.PageSigns.{signs_of_lines}
 use Rattle.wt_beside_laws.specs.Stood.{things}
 use Rattle.wt_beside_laws.proofs.LineThings.{lines_have}
 use Rattle.wt_beside_laws.proofs.PartThings.{HaveThings, tree_source}
-use Rattle.wt_beside_edit_laws.specs.FlatPages.{lines_of, paragraph_of, IsFlatPage}
+use Rattle.wt_beside_edit_laws.specs.FlatPages.{lines_of, IsFlatPage}
 use Rattle.wt_beside_edit_laws.proofs.OldPages.{flat_page}
 use Rattle.wt_beside_edit_laws.proofs.FullTrees.{IsFullTree, AreFullParts, AreFull, FullThing, Each, each_full, node_alone}
 

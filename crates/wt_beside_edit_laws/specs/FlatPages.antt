@@ -6,7 +6,7 @@ use Rattle.wt_tree.specs.declared.edit_shape.Place.TheVariants as place
 use Rattle.wt_tree.specs.EditShapes.{edit_shape}
 use Rattle.wt_tree.specs.Source.{flat}
 use Rattle.wt_tree.specs.Tree.{Label, Tree, label}
-use Rattle.wt_guards.specs.Content.{ContentSign, letter, thing}
+use Rattle.wt_guards.specs.Content.{ContentSign}
 use Rattle.wt_guards.specs.Guards.{spelled}
 use Rattle.wt_original.specs.Page.{page_of}
 use Rattle.wt_link_spelling.specs.Spelling.{signs_of_all, children_of}

@@ -1,7 +1,7 @@
 -- What a page has before each place of its meaning, by what a walk over its items finds: the bytes at which the blocks are.
 use Rattle.std.proofs.Common.{arith, ◌≡◌, ℕ, ◌+◌, Option, Some, None, List, [], ◌∷◌, ◌++◌, Bool, true, false, length, refl, sym, ap, ap₂, ◌∙◌, subst, cond, append-nil, append_assoc, length-append}
 use Rattle.wt_span.specs.Cuts.{text_by}
-use Rattle.wt_span.specs.Items.{Item, source, sources, call_of}
+use Rattle.wt_span.specs.Items.{Item, source, call_of}
 use Rattle.wt_span.specs.Origins.{OuterCall}
 use Rattle.wt_inline.specs.ItemTree.{ItemTree, tree_items}
 use Rattle.wt_annotated.specs.Seams.{last_of, parted, text_from}

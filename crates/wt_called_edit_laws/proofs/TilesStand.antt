@@ -4,13 +4,13 @@ use Rattle.std.specs.Prelude.{if◌then◌else◌}
 use Rattle.std.specs.List.{AllByRecursion}
 use Rattle.wt_tree.specs.declared.kind.Ranges.{Ranges}
 use Rattle.wt_tree.specs.Kinds.{is_leaf}
-use Rattle.wt_tree.specs.Source.{flat, flat_of_all}
+use Rattle.wt_tree.specs.Source.{flat}
 use Rattle.wt_tree.specs.Tiling.{is_group, BeginsAt, end_of, TiledBy, Tiled, TiledFrom}
-use Rattle.wt_tree.specs.Tree.{Label, Tree, tree, Trees, label}
+use Rattle.wt_tree.specs.Tree.{Label, tree, Trees, label}
 use Rattle.wt_annotated.specs.Reached.{reached, reached_in_all}
-use Rattle.wt_annotated.specs.Slices.{slice, opening_by, opening_of, StandsIn, IsSlice}
+use Rattle.wt_annotated.specs.Slices.{opening_by, opening_of, StandsIn, IsSlice}
 use Rattle.wt_annotated.proofs.PageSlices.{slice_length}
-use Rattle.wt_typed_blocks.specs.Sent.{Block, paragraph, heading, Sent, stands, typed, holds, Sents, none_sent, more_sent, old_child, old_children}
+use Rattle.wt_typed_blocks.specs.Sent.{paragraph, heading, Sent, stands, typed, holds, Sents, none_sent, more_sent, old_child, old_children}
 use Rattle.wt_typed_blocks.specs.Typed.{block_source, old_source, StandsAt, StandAt}
 use Rattle.wt_called_edit_laws.specs.Stand.{HasHolders, HaveHolders, BlocksStand}
 
