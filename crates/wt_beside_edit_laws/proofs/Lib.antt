@@ -6,3 +6,4 @@ pub mod OldFull
 pub mod NewPages
 pub mod FlatUnmarked
 pub mod FlatPagesAgain
+mod Cases

@@ -122,7 +122,7 @@ new_parts q ps = content_parts (setting q) [] (new_signs q ps)
 abbrev pub new_tree : List ℕ → List Piece → ItemTree
 new_tree q ps = para_with (new_parts q ps)
 
-means_source : (q : List ℕ) (t : ItemTree) → meaning (page_items q) ≡ body_with (t ∷ []) → sources (tree_items t) ≡ q
+pub means_source : (q : List ℕ) (t : ItemTree) → meaning (page_items q) ≡ body_with (t ∷ []) → sources (tree_items t) ≡ q
 means_source q t means =
     sym (append-nil (sources (tree_items t)))
     ∙ sym (held_source (t ∷ []))
