@@ -19,7 +19,7 @@ use Rattle.wt_difference.specs.Remarked.{remarked}
 use Rattle.wt_commands.specs.declared.refusal.Refusal.TheVariants.{TooLong}
 use Rattle.wt_commands.specs.Answers.{refused, text_answer, title_answer, edit_to, IsText}
 use Rattle.wt_commands.proofs.SectionEdits.{page_bare}
-use Rattle.wt_pagetool.specs.Selser.{EditIsDone, DoneByEdit}
+use Rattle.wt_commands.specs.UnmarkedEdits.{EditIsDone, DoneByEdit}
 use Rattle.wt_typed_blocks.specs.Edited.{Piece, Edits, page_body, sent_body}
 use Rattle.wt_typed_blocks.specs.EditedUnmarked.{bare_node, bare_body, AreTold}
 use Rattle.wt_typed_blocks.proofs.EditedUnmarked.{told_by_difference}

@@ -6,7 +6,7 @@ ghost use Rattle.wt_span.specs.declared.limits.TheConstants.{HTML_BYTES, PAGE_BY
 ghost use Rattle.wt_devices.specs.Device.{Pages};
 ghost use Rattle.wt_tree.specs.Tree.{Label};
 ghost use Rattle.wt_schema.specs.Read.{page as as_page, read};
-ghost use Rattle.wt_pagetool.specs.Selser.{DoneByEdit};
+ghost use Rattle.wt_commands.specs.UnmarkedEdits.{DoneByEdit};
 ghost use Rattle.wt_commands.specs.Answers.{done, edit_to};
 ghost use Rattle.wt_typed_blocks.specs.Edited.{Piece};
 ghost use Rattle.wt_beside_edit_laws.specs.FlatPages.{IsFlatPage, IsFlatEdit, sent_flat, new_flat, IsUnmarkedFlatEdit, bare_flat};

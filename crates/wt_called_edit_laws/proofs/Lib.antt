@@ -22,9 +22,7 @@ pub mod TextsUntangled
 pub mod CalledUtf8
 pub mod EditFacts
 pub mod EditTaken
-pub mod AmongCalls
 pub mod CallsTake
-pub mod CalmCalls
 pub mod BareInsides
 mod SettledCases
 pub mod Settles

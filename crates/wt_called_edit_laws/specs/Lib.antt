@@ -8,7 +8,6 @@ pub mod Stand
 pub mod PathsTo
 pub mod TreeEdits
 pub mod CalledTexts
-pub mod CalledCalls
 pub mod Settled
 pub mod SettledPages
 pub mod Covered

@@ -24,11 +24,7 @@ ghost use Rattle.wt_called_edit_laws.specs.Sends.{TextsMake};
 ghost use Rattle.wt_called_edit_laws.specs.Stand.{BlocksStand, BlocksAreFree};
 ghost use Rattle.wt_called_edit_laws.specs.TreeEdits.{IsNumberedBody, HasOwnEdits, AreFoundApart};
 ghost use Rattle.wt_commands.specs.Answers.{refusal_of_page};
-ghost use Rattle.wt_commands.specs.Calls.{Call};
 ghost use Rattle.wt_cell_edit_laws.specs.CalledBlocks.{AreAmongCalls};
-ghost use Rattle.wt_pagetool.specs.Promises.{Ends, EndsAsEdit};
-ghost use Rattle.wt_cell_edit_laws.specs.AnyCalls.{TakesTextsAnywhere};
-ghost use Rattle.wt_called_edit_laws.specs.CalledCalls.{TakesTextsAmongCalls};
 ghost use Rattle.wt_called_edit_laws.specs.CalledTexts.{TakesTextsAmong};
 ghost use Rattle.wt_called_edit_laws.specs.Settled.{IsSettled};
 ghost use Rattle.wt_called_edit_laws.specs.SettledPages.{OnlyTextsAreOthers};
@@ -114,20 +110,6 @@ pub fn typed_texts_at_places_are_told_apart()
 #[tactic(auto, using(crate::proofs::CallsTake::texts_taken))]
 pub fn texts_among_calls_are_taken()
     ensures { (pages : Pages) (ss : List BlockSpot) (behind : List ℕ) → IsCalledPage pages ss behind → TakesTextsAmong pages ss behind }
-{}
-
-/// So every call that keeps what `run` of `wt_pagetool` promises takes such texts: `edit` has written the new page and
-/// no line, and `selser` is done; or a device failed, or memory ran out. Where no device failed, only want of memory may
-/// come in the place of the new page.
-#[tactic(auto, using(crate::proofs::CallsTake::calls_take))]
-pub fn calls_take_texts_among_calls()
-    ensures { (c : Call) (ended : ℕ) → Ends c ended → EndsAsEdit c ended → TakesTextsAmongCalls c ended }
-{}
-
-/// Where a call takes texts on pages with calls, it takes those on pages without calls, too: these are such pages.
-#[tactic(auto, using(crate::proofs::CalmCalls::anywhere_so))]
-pub fn texts_on_pages_without_calls_are_taken_so()
-    ensures { (c : Call) (ended : ℕ) → TakesTextsAmongCalls c ended → TakesTextsAnywhere c ended }
 {}
 
 /// The numbers and places of the tree of each page, without its sections, are those that the rest of it leaves: the nodes

@@ -2,15 +2,11 @@
 use Rattle.std.proofs.Common.{arith, ℕ, ◌≤◌, true, List, [], map}
 use Rattle.wt_tree.specs.declared.row.Texts.TheVariants.{Page}
 use Rattle.wt_row_laws.specs.Frames.{content}
-use Rattle.wt_commands.specs.Calls.{Call}
-use Rattle.wt_pagetool.specs.Promises.{Ends, EndsAsEdit}
 use Rattle.wt_typed_blocks.specs.Sent.{Sents}
 use Rattle.wt_typed_blocks.specs.Unmarked.{AreToldApart}
 use Rattle.wt_text_edit_laws.specs.BlockSpots.{BlockSpot}
 use Rattle.wt_cell_edit_laws.specs.AnyBlocks.{AreSpots, typed_by, IsTextEdit}
-use Rattle.wt_cell_edit_laws.specs.AnyCalls.{TakesTextsAnywhere}
 use Rattle.wt_cell_edit_laws.specs.AnyTexts.{IsUnmarkedEdit, TakesAnyTexts}
-use Rattle.wt_cell_edit_laws.proofs.AnyCalls.{calls_take}
 use Rattle.wt_cell_edit_laws.proofs.AnyTakes.{Makes, made_done, unmarked_done}
 use Rattle.wt_cell_edit_laws.proofs.ManyPaths.{paths_full}
 use Rattle.wt_cell_edit_laws.proofs.OwnTexts.{own_edit, paths_apart}
@@ -47,6 +43,3 @@ take_by ss behind f h = record {
 
 pub any_take : (ss : List BlockSpot) (behind : List ℕ) → AreSpots ss behind → TakesAnyTexts ss behind
 any_take ss behind h = take_by ss behind (framed ss behind h.parts) h
-
-pub any_calls : (c : Call) (ended : ℕ) → Ends c ended → EndsAsEdit c ended → TakesTextsAnywhere c ended
-any_calls c ended ends as_edit = λ ss behind h. calls_take c ended ss behind ends as_edit h (any_take ss behind h)

@@ -4,7 +4,7 @@ use Rattle.wt_span.specs.declared.limits.TheConstants.{HTML_BYTES, PAGE_BYTES}
 use Rattle.wt_devices.specs.Device.{Pages}
 use Rattle.wt_tree.specs.Tree.{Label}
 use Rattle.wt_schema.specs.Read.{page as as_page, read}
-use Rattle.wt_pagetool.specs.Selser.{DoneByEdit}
+use Rattle.wt_commands.specs.UnmarkedEdits.{DoneByEdit}
 use Rattle.wt_typed_blocks.specs.Sent.{Sent, stands, typed, holds, Sents, none_sent, more_sent}
 use Rattle.wt_typed_blocks.specs.Unmarked.{IsToldApart, AreToldApart}
 use Rattle.wt_cell_edit_laws.specs.AnyTexts.{IsOwn, AreOwn}

@@ -1,4 +1,3 @@
-pub mod AnyCalls
 mod AnyCases
 mod CalledCases
 pub mod AnyPages
@@ -8,7 +7,6 @@ mod Cases
 pub mod CellRows
 pub mod CellSpots
 pub mod Cells
-pub mod CellsCalls
 pub mod CellsUnmarked
 pub mod HolderKinds
 pub mod Cuts

@@ -7,7 +7,7 @@ use Rattle.wt_difference.specs.Difference.{same_inside}
 use Rattle.wt_difference.specs.Unedited.{SameLabel, IsUnedited}
 use Rattle.wt_schema.specs.Read.{page as as_page, read}
 use Rattle.wt_commands.specs.Answers.{done, edit_to}
-use Rattle.wt_pagetool.specs.Selser.{DoneByEdit}
+use Rattle.wt_commands.specs.UnmarkedEdits.{DoneByEdit}
 use Rattle.wt_typed_blocks.specs.Sent.{Sent, stands, typed, holds, Sents, none_sent, more_sent, old_child, new_body}
 use Rattle.wt_typed_blocks.specs.Unmarked.{free_child, free_body}
 use Rattle.wt_text_edit_laws.specs.BlockSpots.{BlockSpot, spots_source}

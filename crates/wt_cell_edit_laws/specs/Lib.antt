@@ -1,7 +1,5 @@
 pub mod AnyBlocks
-pub mod AnyCalls
 pub mod AnyTexts
-pub mod CellCalls
 pub mod CellEdits
 pub mod HeadingsInCells
 pub mod InCells

@@ -5,7 +5,7 @@ use Rattle.wt_devices.specs.Device.{Pages}
 use Rattle.wt_tree.specs.Tree.{Label, Tree, label}
 use Rattle.wt_schema.specs.Read.{page as as_page, read}
 use Rattle.wt_checks.specs.Kept.{children}
-use Rattle.wt_pagetool.specs.Selser.{DoneByEdit}
+use Rattle.wt_commands.specs.UnmarkedEdits.{DoneByEdit}
 use Rattle.wt_typed_blocks.specs.Sent.{Sents}
 use Rattle.wt_typed_blocks.specs.Unmarked.{free_body, AreToldApart}
 use Rattle.wt_text_edit_laws.specs.Parts.{part_tree}

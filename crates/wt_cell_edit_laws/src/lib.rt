@@ -8,8 +8,6 @@ ghost use Rattle.wt_tree.specs.Tree.{Label};
 ghost use Rattle.wt_checks.specs.Kept.{children};
 ghost use Rattle.wt_expand.specs.PageItems.{page_items};
 ghost use Rattle.wt_expand.specs.Work.{Pages};
-ghost use Rattle.wt_commands.specs.Calls.{Call};
-ghost use Rattle.wt_pagetool.specs.Promises.{Ends, EndsAsEdit};
 ghost use Rattle.wt_typed_blocks.specs.Sent.{paragraph};
 ghost use Rattle.wt_text_edit_laws.specs.BlockEdits.{typed_as};
 ghost use Rattle.wt_text_edit_laws.specs.BlockSpots.{BlockSpot, AreBlockSpots};
@@ -18,10 +16,8 @@ ghost use Rattle.wt_text_edit_laws.specs.TextBlocks.{a_paragraph};
 ghost use Rattle.wt_text_edit_laws.specs.TypedPages.{IsTypedPage};
 ghost use Rattle.wt_called_parts.specs.Retyped.{AreRetyped};
 ghost use Rattle.wt_cell_edit_laws.specs.AnyBlocks.{AreSpots};
-ghost use Rattle.wt_cell_edit_laws.specs.AnyCalls.{TakesTextsAnywhere};
 ghost use Rattle.wt_cell_edit_laws.specs.AnyTexts.{TakesAnyTexts};
 ghost use Rattle.wt_cell_edit_laws.specs.CalledBlocks.{AreAmongCalls, StandAmongCalls};
-ghost use Rattle.wt_cell_edit_laws.specs.CellCalls.{TakesTextsInCells};
 ghost use Rattle.wt_cell_edit_laws.specs.CellEdits.{CellPage, page_with, IsCellPage, IsCellEdit, LeadsFrom, TakesText, own_sents};
 ghost use Rattle.wt_cell_edit_laws.specs.HeadingsInCells.{IsHeadingInCell, HeadingStandsInCell};
 ghost use Rattle.wt_cell_edit_laws.specs.UnmarkedCells.{TakesUnmarked};
@@ -64,14 +60,6 @@ pub fn typed_paragraph_in_a_cell_takes_any_text_without_marks()
     ensures { (c : CellPage) → IsCellPage c → TakesUnmarked c }
 {}
 
-/// So every call that keeps what `run` of `wt_pagetool` promises (`Ends`, `EndsAsEdit`) takes such a text: `edit` has
-/// written the new page and no line, and `selser` is done; or a device failed, or memory ran out. Where no device
-/// failed, only want of memory may come in the place of the new page.
-#[tactic(auto, using(crate::proofs::CellsCalls::takes_in_cells))]
-pub fn calls_take_texts_in_cells()
-    ensures { (c : Call) (ended : ℕ) → Ends c ended → EndsAsEdit c ended → TakesTextsInCells c ended }
-{}
-
 /// Any number of texts at once, in paragraphs and headings anywhere: in the body, in cells and in captions, typed or
 /// written by hand. Each is at a path of the page's tree, and an edit that sends texts typed in any of them, and all else
 /// as it is in the page, is done: the new page has these texts, as they are spelled, and every other byte is what it was;
@@ -91,14 +79,6 @@ pub fn pages_with_blocks_in_the_body_are_such()
 /// And so is each page with one typed paragraph in a cell (`IsCellPage`).
 pub fn pages_with_a_paragraph_in_a_cell_are_such()
     ensures { (c : CellPage) → IsCellPage c → AreSpots (record { before = c.before; block = a_paragraph; text = c.text } ∷ []) c.behind }
-{}
-
-/// So every call that keeps what `run` of `wt_pagetool` promises takes such texts: `edit` has written the new page and
-/// no line, and `selser` is done; or a device failed, or memory ran out. Where no device failed, only want of memory may
-/// come in the place of the new page.
-#[tactic(auto, using(crate::proofs::AnyPages::any_calls))]
-pub fn calls_take_texts_anywhere()
-    ensures { (c : Call) (ended : ℕ) → Ends c ended → EndsAsEdit c ended → TakesTextsAnywhere c ended }
 {}
 
 /// Such blocks may be among calls, too, where no call goes over the end of a part, and each block is a block of its own

@@ -1,4 +1,4 @@
-//! The program's call: `run` answers the words of a command line, and takes text edits.
+//! The program's call: `run` answers the words of a command line, and takes text edits; and the laws by which it does.
 #![tactic(auto)]
 
 ghost use Rattle.std.specs.Prelude.{◌≡◌, ◌+◌};
@@ -8,13 +8,19 @@ ghost use Rattle.wt_commands.specs.Calls.{call};
 ghost use Rattle.wt_commands.specs.Devices.{read_from, fetched_from, written_to};
 ghost use Rattle.wt_pagetool.specs.Promises.{AsksFor, Ends, EndsAsEdit, GivesBack, ReadsAtMost, Waits, Wrote};
 ghost use Rattle.wt_commands.specs.Words.{command_of, Fetches, Reads};
-ghost use Rattle.wt_text_edit_laws.specs.Calls.{TakesTexts};
-ghost use Rattle.wt_cell_edit_laws.specs.AnyCalls.{TakesTextsAnywhere};
-ghost use Rattle.wt_cell_edit_laws.specs.CellCalls.{TakesTextsInCells};
-ghost use Rattle.wt_called_edit_laws.specs.CalledCalls.{TakesTextsAmongCalls};
+ghost use Rattle.wt_program.specs.Calls.{TakesTexts};
+ghost use Rattle.wt_program.specs.AnyCalls.{TakesTextsAnywhere};
+ghost use Rattle.wt_program.specs.CellCalls.{TakesTextsInCells};
+ghost use Rattle.wt_program.specs.CalledCalls.{TakesTextsAmongCalls};
+
+mod laws;
 
 use std::alloc::Global;
 use wt_devices::{Folder, Sink, Source};
+pub use laws::{
+    calls_take_texts, calls_take_texts_among_calls, calls_take_texts_anywhere, calls_take_texts_in_cells,
+    texts_on_pages_without_calls_are_taken_so,
+};
 pub use wt_pagetool::tell_no_memory;
 use wt_span::{List, PAGE_BYTES, Str};
 
@@ -22,7 +28,7 @@ use wt_span::{List, PAGE_BYTES, Str};
 /// (`Status::code` of `wt_pagetool`). This is `run` of `wt_pagetool`, which says what each command does, with all
 /// that it promises and four promises more, which rest on the crates of laws (`takes_texts_among_calls`,
 /// `takes_texts_anywhere`, `takes_texts`, `takes_texts_in_cells`).
-#[tactic(auto, using(wt_text_edit_laws::proofs::Blocks::BlocksCalls::takes, wt_cell_edit_laws::proofs::CellsCalls::takes_in_cells, wt_cell_edit_laws::proofs::AnyPages::any_calls, wt_called_edit_laws::proofs::CallsTake::calls_take))]
+#[tactic(auto, using(crate::proofs::BlocksCalls::takes, crate::proofs::CellsCalls::takes_in_cells, crate::proofs::AnyCalls::any_calls, crate::proofs::AmongCalls::calls_take))]
 pub fn run<S: Source, F: Folder, W: Sink, E: Sink>(
     alloc: Global,
     words: &List<Str>,

@@ -13,7 +13,6 @@ pub mod TypedFacts
 pub mod BlockSpotFacts
 pub mod BlocksTake
 pub mod BlocksUnmarked
-pub mod BlocksCalls
 pub mod OwnNodes
 mod Cases
 mod PageCases

@@ -7,15 +7,17 @@ use Rattle.wt_commands.specs.Answers.{done, edit_to}
 use Rattle.wt_commands.specs.Calls.{Call}
 use Rattle.wt_commands.specs.declared.command.Command.TheVariants.{Edit, Selser}
 use Rattle.wt_pagetool.specs.Promises.{Ends, EndsAsEdit}
-use Rattle.wt_pagetool.specs.Selser.{DoneByEdit}
+use Rattle.wt_commands.specs.UnmarkedEdits.{DoneByEdit}
 use Rattle.wt_typed_blocks.specs.Sent.{Sents}
 use Rattle.wt_text_edit_laws.specs.BlockSpots.{BlockSpot, spots_source}
-use Rattle.wt_text_edit_laws.proofs.Blocks.BlocksCalls.{page_ends, page_completes}
+use Rattle.wt_program.proofs.BlocksCalls.{page_ends, page_completes}
 use Rattle.wt_cell_edit_laws.specs.AnyBlocks.{new_page}
-use Rattle.wt_cell_edit_laws.specs.AnyCalls.{SendsFor}
-use Rattle.wt_cell_edit_laws.proofs.AnyCalls.{answer_is, selser_ends}
+use Rattle.wt_program.specs.AnyCalls.{SendsFor}
+use Rattle.wt_program.proofs.AnyCalls.{answer_is, selser_ends}
 use Rattle.wt_called_edit_laws.specs.TreeEdits.{IsEditOf, IsUnmarkedEditOf, sent_body, free_sent_body}
-use Rattle.wt_called_edit_laws.specs.CalledCalls.{TakesThemAmong}
+use Rattle.wt_called_edit_laws.proofs.CallsTake.{texts_taken}
+use Rattle.wt_called_edit_laws.proofs.EditFacts.{spots_utf8}
+use Rattle.wt_program.specs.CalledCalls.{TakesThemAmong, TakesTextsAmongCalls}
 use Rattle.wt_called_edit_laws.specs.CalledTexts.{spots_tree, TakesTextsAmong}
 
 -- ---- the pages that the folder tells
@@ -47,7 +49,7 @@ unmarked_made c pages ss behind t es told e s =
     subst (λ (ps : Pages). DoneByEdit ps (s.pages s.title) s.input) (same_pages pages s.pages (sym told ∙ s.told))
     (t.unmarked (s.pages s.title) s.input s.body s.unsourced es e s.found s.old_within s.new_within s.within s.reads)
 
-pub calls_take_them : (c : Call) (ended : ℕ) (pages : Pages) (ss : List BlockSpot) (behind : List ℕ) → Ends c ended → EndsAsEdit c ended
+calls_take_them : (c : Call) (ended : ℕ) (pages : Pages) (ss : List BlockSpot) (behind : List ℕ) → Ends c ended → EndsAsEdit c ended
     → c.folder.pages_before ≡ Some pages → IsUtf8 (spots_source ss behind) → TakesTextsAmong pages ss behind → TakesThemAmong c ended pages ss behind
 calls_take_them c ended pages ss behind ends as_edit told utf8 t =
     let page : List ℕ = spots_source ss behind in
@@ -64,3 +66,7 @@ calls_take_them c ended pages ss behind ends as_edit told utf8 t =
       selser = λ es e s.
           selser_ends c ended page (new_page ss behind t.paths es) (free_sent_body body es) s (unmarked_made c pages ss behind t es told e s) as_edit;
     }
+
+pub calls_take : (c : Call) (ended : ℕ) → Ends c ended → EndsAsEdit c ended → TakesTextsAmongCalls c ended
+calls_take c ended ends as_edit = λ pages ss behind told h.
+    calls_take_them c ended pages ss behind ends as_edit told (spots_utf8 pages ss behind h) (texts_taken pages ss behind h)

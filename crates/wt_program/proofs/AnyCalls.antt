@@ -14,14 +14,15 @@ use Rattle.wt_commands.specs.Answers.{Answer, done, refused, text_answer, title_
 use Rattle.wt_commands.specs.Calls.{Call, known_answer}
 use Rattle.wt_commands.specs.declared.status.Status.TheVariants as status
 use Rattle.wt_pagetool.specs.Promises.{Ends, EndsAsEdit}
-use Rattle.wt_pagetool.specs.Selser.{DoneByEdit}
+use Rattle.wt_commands.specs.UnmarkedEdits.{DoneByEdit}
 use Rattle.wt_commands.specs.Statuses.{code, IsFaultOrNoMemory}
 use Rattle.wt_text_edit_laws.specs.BlockSpots.{BlockSpot, spots_source}
 use Rattle.wt_text_edit_laws.proofs.Prose.ProseTakes.{not_longer}
-use Rattle.wt_text_edit_laws.proofs.Blocks.BlocksCalls.{page_ends, page_completes}
+use Rattle.wt_program.proofs.BlocksCalls.{page_ends, page_completes}
 use Rattle.wt_cell_edit_laws.specs.AnyBlocks.{AreSpots, new_page}
-use Rattle.wt_cell_edit_laws.specs.AnyCalls.{SendsFor, TakesThem}
+use Rattle.wt_program.specs.AnyCalls.{SendsFor, TakesThem, TakesTextsAnywhere}
 use Rattle.wt_cell_edit_laws.specs.AnyTexts.{sent_page, unmarked_page, TakesAnyTexts}
+use Rattle.wt_cell_edit_laws.proofs.AnyPages.{any_take}
 use Rattle.wt_cell_edit_laws.proofs.SpotTrees.{same_self, over_self, over_utf8}
 
 -- of what is under a title, to an input
@@ -55,7 +56,7 @@ selser_ends c ended page new sent s made ends =
     let both : P s.pages s.input = subst (λ (given : Option (List ℕ)). IfSome given (λ bytes. P s.pages bytes)) s.given over in
     both made
 
-pub calls_take : (c : Call) (ended : ℕ) (ss : List BlockSpot) (behind : List ℕ) → Ends c ended → EndsAsEdit c ended → AreSpots ss behind
+calls_take : (c : Call) (ended : ℕ) (ss : List BlockSpot) (behind : List ℕ) → Ends c ended → EndsAsEdit c ended → AreSpots ss behind
     → TakesAnyTexts ss behind → TakesThem c ended ss behind
 calls_take c ended ss behind ends as_edit h t =
     let page : List ℕ = spots_source ss behind in
@@ -73,3 +74,6 @@ calls_take c ended ss behind ends as_edit h t =
           selser_ends c ended page (new_page ss behind t.paths es) (unmarked_page ss behind es) s
           (t.unmarked s.pages (s.pages s.title) s.input s.body s.unsourced es e s.found s.old_within s.new_within s.within s.reads) as_edit;
     }
+
+pub any_calls : (c : Call) (ended : ℕ) → Ends c ended → EndsAsEdit c ended → TakesTextsAnywhere c ended
+any_calls c ended ends as_edit = λ ss behind h. calls_take c ended ss behind ends as_edit h (any_take ss behind h)

@@ -9,11 +9,11 @@ use Rattle.wt_commands.specs.Calls.{Call, known_answer, NothingFailed}
 use Rattle.wt_commands.specs.Devices.{Took}
 use Rattle.wt_pagetool.specs.Promises.{Ends, EndsAsEdit}
 use Rattle.wt_commands.specs.Reports.{WasDone}
-use Rattle.wt_pagetool.specs.Selser.{DoneByEdit}
+use Rattle.wt_commands.specs.UnmarkedEdits.{DoneByEdit}
 use Rattle.wt_commands.specs.Statuses.{code, IsFaultOrNoMemory}
 use Rattle.wt_text_edit_laws.specs.BlockEdits.{BlockEdit, new_page, sent_page, IsBlockEdit}
 use Rattle.wt_text_edit_laws.specs.UnmarkedBlocks.{unmarked_page, IsUnmarkedBlockEdit}
-use Rattle.wt_text_edit_laws.specs.Calls.{Sends, WroteNewPage, TakesTexts}
+use Rattle.wt_program.specs.Calls.{Sends, WroteNewPage, TakesTexts}
 use Rattle.wt_text_edit_laws.proofs.Blocks.BlocksTake.{command_takes_texts}
 use Rattle.wt_text_edit_laws.proofs.Blocks.BlocksUnmarked.{unmarked_done}
 

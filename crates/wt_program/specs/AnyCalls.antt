@@ -12,7 +12,7 @@ use Rattle.wt_commands.specs.Statuses.{code, IsFaultOrNoMemory}
 use Rattle.wt_commands.specs.Words.{command_of}
 use Rattle.wt_typed_blocks.specs.Sent.{Sents}
 use Rattle.wt_text_edit_laws.specs.BlockSpots.{BlockSpot, spots_source}
-use Rattle.wt_text_edit_laws.specs.Calls.{WroteNewPage}
+use Rattle.wt_program.specs.Calls.{WroteNewPage}
 use Rattle.wt_text_edit_laws.specs.Parts.{part_tree}
 use Rattle.wt_cell_edit_laws.specs.AnyBlocks.{AreSpots, IsTextEdit, new_page, AllLead}
 use Rattle.wt_cell_edit_laws.specs.AnyTexts.{sent_page, unmarked_page, IsUnmarkedEdit}

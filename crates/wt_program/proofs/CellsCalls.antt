@@ -13,14 +13,14 @@ use Rattle.wt_commands.specs.Answers.{Answer, done, refused, text_answer, title_
 use Rattle.wt_commands.specs.Calls.{Call, known_answer}
 use Rattle.wt_commands.specs.declared.status.Status.TheVariants as status
 use Rattle.wt_pagetool.specs.Promises.{Ends, EndsAsEdit}
-use Rattle.wt_pagetool.specs.Selser.{DoneByEdit}
+use Rattle.wt_commands.specs.UnmarkedEdits.{DoneByEdit}
 use Rattle.wt_commands.specs.Statuses.{code, IsFaultOrNoMemory}
 use Rattle.wt_typed_blocks.specs.Sent.{Sents, new_body}
 use Rattle.wt_text_edit_laws.specs.Parts.{part_tree}
 use Rattle.wt_text_edit_laws.proofs.Prose.ProseTakes.{not_longer}
-use Rattle.wt_text_edit_laws.proofs.Blocks.BlocksCalls.{page_ends, page_completes}
+use Rattle.wt_program.proofs.BlocksCalls.{page_ends, page_completes}
 use Rattle.wt_cell_edit_laws.specs.CellEdits.{CellPage, page_with, IsCellPage, new_page, IsCellEdit}
-use Rattle.wt_cell_edit_laws.specs.CellCalls.{sent_page, SendsInCell, TakesTextsInCells}
+use Rattle.wt_program.specs.CellCalls.{sent_page, SendsInCell, TakesTextsInCells}
 use Rattle.wt_cell_edit_laws.specs.UnmarkedCells.{unmarked_page, IsUnmarkedCellEdit}
 use Rattle.wt_cell_edit_laws.proofs.CellSpots.{cell_spots}
 use Rattle.wt_cell_edit_laws.proofs.SpotTrees.{same_self, over_self, over_utf8}
