@@ -42,8 +42,8 @@ use Rattle.wt_isolation.specs.OpenTags.{before, ends_open, any_ends_open}
 use Rattle.wt_isolation.specs.TextCalls.{touches_text_call}
 use Rattle.wt_selser.specs.Edits.{is_tangled}
 use Rattle.wt_selser.proofs.NoGroups.{untangled}
-use Rattle.wt_cell_edit_laws.proofs.Nodes.{blocks_flat}
-use Rattle.wt_cell_edit_laws.proofs.Unframed.{blocks_unframed}
+use Rattle.wt_text_edit_laws.proofs.Blocks.KeptBlocks.{blocks_flat}
+use Rattle.wt_text_edit_laws.proofs.Blocks.Unframed.{blocks_unframed}
 use Rattle.wt_beside_laws.specs.Flat.{para_with}
 use Rattle.wt_beside_laws.specs.OwnSigns.{IsFlatBlock}
 use Rattle.wt_beside_laws.specs.PageBlocks.{joined_parts, IsBlockOfLines}

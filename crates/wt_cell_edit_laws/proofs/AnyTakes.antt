@@ -44,12 +44,12 @@ use Rattle.wt_text_edit_laws.proofs.Prose.ProseTakes.{as_edit, not_longer}
 use Rattle.wt_text_edit_laws.proofs.Prose.ProseTrees.{blocks_of}
 use Rattle.wt_text_edit_laws.proofs.Texts.TypedShown.{gathered_shows}
 use Rattle.wt_cell_edit_laws.specs.AnyBlocks.{AreSpots}
-use Rattle.wt_cell_edit_laws.proofs.Nodes.{blocks_flat}
+use Rattle.wt_text_edit_laws.proofs.Blocks.KeptBlocks.{blocks_flat}
 use Rattle.wt_cell_edit_laws.proofs.Paths.{AllFacts}
 use Rattle.wt_cell_edit_laws.proofs.PlaceTrees.{Framed}
 use Rattle.wt_cell_edit_laws.proofs.SpotTrees.{same_self, over_self, nodes_over, label_over, over_tree, over_source, over_utf8, over_expanded, over_unrefused, over_ordinary}
 use Rattle.wt_text_edit_laws.proofs.Blocks.BlocksUngrouped.{blocks_ungrouped}
-use Rattle.wt_cell_edit_laws.proofs.Unframed.{blocks_unframed}
+use Rattle.wt_text_edit_laws.proofs.Blocks.Unframed.{blocks_unframed}
 
 -- ---- what was sent
 

@@ -11,7 +11,7 @@ use Rattle.wt_annotated.specs.WithoutCalls.{holds_page, InsideOf, NoneEmpty, All
 use Rattle.wt_row_laws.specs.Frames.{Frame, place, whole, around, Frames, no_frames, more_frames, tree_at, trees_at, places_in, all_places}
 use Rattle.wt_text_edit_laws.specs.ParagraphBetween.{body_with}
 use Rattle.wt_text_edit_laws.proofs.Texts.TypedShown.{AllOfPage, both_of_page}
-use Rattle.wt_cell_edit_laws.proofs.TwoTexts.{all_of}
+use Rattle.wt_text_edit_laws.proofs.Blocks.PageItems.{all_of}
 
 -- ---- what is asked of the trees
 

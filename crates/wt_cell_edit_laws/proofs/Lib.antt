@@ -37,5 +37,4 @@ pub mod SpotSlots
 pub mod SpotTrees
 pub mod SpotsRead
 pub mod Takes
-pub mod Unframed
 pub mod ToldApart

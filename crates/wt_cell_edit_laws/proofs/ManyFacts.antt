@@ -26,10 +26,10 @@ use Rattle.wt_typed_blocks.specs.Typed.{new_sources, old_source, StandsAt, Stand
 use Rattle.wt_text_edit_laws.specs.LonePages.{of_items}
 use Rattle.wt_text_edit_laws.proofs.Prose.ProseTrees.{blocks_of, number_behind, items_behind}
 use Rattle.wt_text_edit_laws.proofs.Prose.BlockFacts.{behind_width}
-use Rattle.wt_text_edit_laws.proofs.Blocks.KeptBlocks.{block_shown, blocks_source, held_source}
+use Rattle.wt_text_edit_laws.proofs.Blocks.KeptBlocks.{block_shown, blocks_source, held_source, blocks_flat}
 use Rattle.wt_cell_edit_laws.specs.CellEdits.{IsKept, AllKept}
 use Rattle.wt_cell_edit_laws.proofs.Cuts.{beside, shown_beside}
-use Rattle.wt_cell_edit_laws.proofs.Nodes.{IsHolder, number_after, items_after, width_after, blocks_flat, blocks_moved, shown_same, fore_flat, fore_same, aft_flat, aft_same, AtBorder, holder_label, kids, standing_inner, shown_by, same_label, same_inside}
+use Rattle.wt_cell_edit_laws.proofs.Nodes.{IsHolder, number_after, items_after, width_after, blocks_moved, shown_same, fore_flat, fore_same, aft_flat, aft_same, AtBorder, holder_label, kids, standing_inner, shown_by, same_label, same_inside}
 use Rattle.wt_cell_edit_laws.proofs.ManyNodes.{cut_mid, mid_source, mid_same, fore_at, cut_at, nodes_from, AtBorders, one_round, nodes_are}
 use Rattle.wt_cell_edit_laws.proofs.Paths.{same_first, same_rest, count_of, Facts, AllFacts, kept_facts}
 

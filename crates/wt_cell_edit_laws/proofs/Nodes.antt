@@ -23,7 +23,6 @@ use Rattle.wt_moved_laws.specs.Standing.{standing}
 use Rattle.wt_moved_laws.specs.Placeless.{all_placeless}
 use Rattle.wt_moved_laws.proofs.Moved.{moved}
 use Rattle.wt_moved_laws.proofs.Placeless.{all_shown_placeless}
-use Rattle.wt_moved_laws.proofs.Sources.{standing_source}
 use Rattle.wt_text_edit_laws.proofs.Prose.ProseTrees.{blocks_of, number_behind, items_behind}
 use Rattle.wt_text_edit_laws.proofs.Blocks.KeptBlocks.{blocks_source}
 use Rattle.wt_cell_edit_laws.proofs.Cuts.{beside, cut_front, cut_back, recut_round, front_source, back_source, front_same, back_same}
@@ -42,12 +41,6 @@ pub blocks_split : (n : ℕ) (b : List Item) (us vs : List ItemTree)
     → blocks_of n b (us ++ vs) ≡ beside (blocks_of n b us) (blocks_of (number_after n b us) (items_after b us) vs)
 blocks_split n b [] vs = refl
 blocks_split n b (t ∷ us) vs = ap (more (standing n b t)) (blocks_split (number_behind n b t) (items_behind b t) us vs)
-
-pub blocks_flat : (n : ℕ) (b : List Item) (us : List ItemTree) → flat_of_all (blocks_of n b us) ≡ blocks_source us
-blocks_flat n b [] = refl
-blocks_flat n b (t ∷ us) =
-    ap (λ bs. bs ++ flat_of_all (blocks_of (number_behind n b t) (items_behind b t) us)) (standing_source n b t)
-    ∙ ap (λ bs. sources (tree_items t) ++ bs) (blocks_flat (number_behind n b t) (items_behind b t) us)
 
 pub sources_after : (b : List Item) (us : List ItemTree) → sources (items_after b us) ≡ sources b ++ blocks_source us
 sources_after b [] = sym (append-nil (sources b))

@@ -41,7 +41,7 @@ use Rattle.wt_text_edit_laws.proofs.Texts.LoneTrees.{sized}
 use Rattle.wt_text_edit_laws.proofs.Texts.TypedLeaves.{leaves}
 use Rattle.wt_cell_edit_laws.specs.AnyBlocks.{AreSpots}
 use Rattle.wt_cell_edit_laws.proofs.HolderKinds.{block_at, para_block}
-use Rattle.wt_cell_edit_laws.proofs.TwoTexts.{all_of}
+use Rattle.wt_text_edit_laws.proofs.Blocks.PageItems.{all_of}
 use Rattle.wt_cell_edit_laws.proofs.FramesBorders.{IsBordered, AreBordered, all_borders}
 use Rattle.wt_cell_edit_laws.proofs.FramesPlain.{IsFull, AreFull, frames_plain}
 use Rattle.wt_cell_edit_laws.proofs.ManyFacts.{AllBorders}

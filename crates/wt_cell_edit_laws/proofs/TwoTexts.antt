@@ -1,11 +1,5 @@
--- What is before a place, where two things may be there; and items of the page alone.
-use Rattle.std.proofs.Common.{◌≡◌, ◌≢◌, ℕ, Bool, true, false, List, [], ◌∷◌, ◌++◌, refl, sym, ap, ap₂, ◌∙◌}
-use Rattle.std.specs.Prelude.{◌&&◌}
-use Rattle.std.specs.List.{list_all}
-use Rattle.wt_span.specs.Items.{Item}
-use Rattle.wt_annotated.specs.Clean.{is_page}
-
--- ---- which items are before a place that takes two things
+-- What is before a place, where two things may be there.
+use Rattle.std.proofs.Common.{◌≡◌, ◌≢◌, ℕ, List, [], ◌∷◌, ◌++◌, refl, sym, ap, ap₂, ◌∙◌}
 
 head_or : ℕ → List ℕ → ℕ
 head_or n [] = n
@@ -30,19 +24,3 @@ same_round (y ∷ f) b [] z c d n e g = absurd (n (sym (same_head y c (f ++ c �
 same_round (y ∷ f) b (w ∷ x) z c d n e g =
     let r = same_round f b x z c d n (same_tail_of y w (f ++ c ∷ b) (x ++ c ∷ z) e) (same_tail_of y w (f ++ d ∷ b) (x ++ d ∷ z) g) in
     (ap₂ (λ (a : ℕ) (fs : List ℕ). a ∷ fs) (same_head y w (f ++ c ∷ b) (x ++ c ∷ z) e) r.0, r.1)
-
--- ---- no item comes from a call
-
-abbrev AreBoth : List Item → List Item → Type 0
-AreBoth xs ys = (list_all is_page xs ≡ true) × (list_all is_page ys ≡ true)
-
-all_step : (x : Item) (xs ys : List Item) (v : Bool) → is_page x ≡ v → (list_all is_page (xs ++ ys) ≡ true → AreBoth xs ys)
-    → list_all is_page (x ∷ (xs ++ ys)) ≡ true → AreBoth (x ∷ xs) ys
-all_step x xs ys true f k e =
-    let r = k (sym (ap (λ (v : Bool). v && list_all is_page (xs ++ ys)) f) ∙ e) in
-    (ap (λ (v : Bool). v && list_all is_page xs) f ∙ r.0, r.1)
-all_step x xs ys false f k e = let no : false ≡ true = sym (ap (λ (v : Bool). v && list_all is_page (xs ++ ys)) f) ∙ e in cc
-
-pub all_of : (xs ys : List Item) → list_all is_page (xs ++ ys) ≡ true → (list_all is_page xs ≡ true) × (list_all is_page ys ≡ true)
-all_of [] ys e = (refl, e)
-all_of (x ∷ xs) ys e = all_step x xs ys (is_page x) refl (all_of xs ys) e

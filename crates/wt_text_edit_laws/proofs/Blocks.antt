@@ -8,6 +8,8 @@ pub mod TypedAgain
 pub mod OtherBlocks
 pub mod PageKinds
 pub mod KeptBlocks
+pub mod Unframed
+pub mod PageItems
 pub mod BlocksUngrouped
 pub mod TypedFacts
 pub mod BlockSpotFacts
