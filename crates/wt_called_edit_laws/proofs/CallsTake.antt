@@ -4,9 +4,9 @@ use Rattle.wt_devices.specs.Device.{Pages}
 use Rattle.wt_typed_blocks.specs.Sent.{Sents}
 use Rattle.wt_typed_blocks.specs.Unmarked.{AreToldApart}
 use Rattle.wt_text_edit_laws.specs.BlockSpots.{BlockSpot}
-use Rattle.wt_cell_edit_laws.specs.AnyBlocks.{typed_by}
-use Rattle.wt_cell_edit_laws.specs.CalledBlocks.{tree_by}
-use Rattle.wt_cell_edit_laws.proofs.PlaceTrees.{text_at}
+use Rattle.wt_called_edit_laws.specs.AnyBlocks.{typed_by}
+use Rattle.wt_called_edit_laws.specs.CalledBlocks.{tree_by}
+use Rattle.wt_called_edit_laws.proofs.Cells.PlaceTrees.{text_at}
 use Rattle.wt_called_edit_laws.specs.CalledPages.{IsCalledPage}
 use Rattle.wt_called_edit_laws.specs.Nodes.{block_at}
 use Rattle.wt_called_edit_laws.specs.TreeEdits.{IsNumberedBody, IsEditOf, IsUnmarkedEditOf}

@@ -33,3 +33,5 @@ pub mod GroupsKept
 pub mod PlaceBytes
 pub mod Squashed
 pub mod GroupsOfPage
+pub mod Parts
+pub mod Cells

@@ -11,3 +11,15 @@ pub mod CalledTexts
 pub mod Settled
 pub mod SettledPages
 pub mod Covered
+pub mod Parts
+pub mod Retyped
+pub mod AnyBlocks
+pub mod AnyTexts
+pub mod CellEdits
+pub mod HeadingsInCells
+pub mod InCells
+pub mod UnmarkedCells
+pub mod OwnTexts
+pub mod ItemSpots
+pub mod CalledBlocks
+pub mod SentAsIs

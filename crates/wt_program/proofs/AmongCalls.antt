@@ -11,7 +11,7 @@ use Rattle.wt_commands.specs.UnmarkedEdits.{DoneByEdit}
 use Rattle.wt_typed_blocks.specs.Sent.{Sents}
 use Rattle.wt_text_edit_laws.specs.BlockSpots.{BlockSpot, spots_source}
 use Rattle.wt_program.proofs.BlocksCalls.{page_ends, page_completes}
-use Rattle.wt_cell_edit_laws.specs.AnyBlocks.{new_page}
+use Rattle.wt_called_edit_laws.specs.AnyBlocks.{new_page}
 use Rattle.wt_program.specs.AnyCalls.{SendsFor}
 use Rattle.wt_program.proofs.AnyCalls.{answer_is, selser_ends}
 use Rattle.wt_called_edit_laws.specs.TreeEdits.{IsEditOf, IsUnmarkedEditOf, sent_body, free_sent_body}

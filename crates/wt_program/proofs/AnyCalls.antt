@@ -19,11 +19,11 @@ use Rattle.wt_commands.specs.Statuses.{code, IsFaultOrNoMemory}
 use Rattle.wt_text_edit_laws.specs.BlockSpots.{BlockSpot, spots_source}
 use Rattle.wt_text_edit_laws.proofs.Prose.ProseTakes.{not_longer}
 use Rattle.wt_program.proofs.BlocksCalls.{page_ends, page_completes}
-use Rattle.wt_cell_edit_laws.specs.AnyBlocks.{AreSpots, new_page}
+use Rattle.wt_called_edit_laws.specs.AnyBlocks.{AreSpots, new_page}
 use Rattle.wt_program.specs.AnyCalls.{SendsFor, TakesThem, TakesTextsAnywhere}
-use Rattle.wt_cell_edit_laws.specs.AnyTexts.{sent_page, unmarked_page, TakesAnyTexts}
-use Rattle.wt_cell_edit_laws.proofs.AnyPages.{any_take}
-use Rattle.wt_cell_edit_laws.proofs.SpotTrees.{same_self, over_self, over_utf8}
+use Rattle.wt_called_edit_laws.specs.AnyTexts.{sent_page, unmarked_page, TakesAnyTexts}
+use Rattle.wt_called_edit_laws.proofs.Cells.AnyPages.{any_take}
+use Rattle.wt_called_edit_laws.proofs.Cells.SpotTrees.{same_self, over_self, over_utf8}
 
 -- of what is under a title, to an input
 edit_is : (pages : Pages) (page new input : List ℕ) (u : Tree) (unsourced : Option ℕ) → IsUtf8 page → length page ≤ PAGE_BYTES → length input ≤ HTML_BYTES

@@ -12,11 +12,11 @@ use Rattle.wt_commands.specs.Calls.{Call}
 use Rattle.wt_typed_blocks.specs.Sent.{Sents}
 use Rattle.wt_text_edit_laws.specs.BlockSpots.{BlockSpot, spots_source}
 use Rattle.wt_text_edit_laws.specs.Parts.{part_tree}
-use Rattle.wt_cell_edit_laws.specs.AnyBlocks.{AreSpots, IsTextEdit, new_page, AllLead}
+use Rattle.wt_called_edit_laws.specs.AnyBlocks.{AreSpots, IsTextEdit, new_page, AllLead}
 use Rattle.wt_program.specs.AnyCalls.{SendsFor, TakesThem, TakesTextsAnywhere}
-use Rattle.wt_cell_edit_laws.specs.AnyTexts.{TakesAnyTexts}
-use Rattle.wt_cell_edit_laws.proofs.AnyPages.{any_take}
-use Rattle.wt_cell_edit_laws.proofs.SpotTrees.{same_self, over_self, over_expanded}
+use Rattle.wt_called_edit_laws.specs.AnyTexts.{TakesAnyTexts}
+use Rattle.wt_called_edit_laws.proofs.Cells.AnyPages.{any_take}
+use Rattle.wt_called_edit_laws.proofs.Cells.SpotTrees.{same_self, over_self, over_expanded}
 use Rattle.wt_called_edit_laws.proofs.CalmPages.{calm_pages}
 use Rattle.wt_called_edit_laws.specs.TreeEdits.{IsEditOf, sent_body, free_sent_body}
 use Rattle.wt_program.specs.CalledCalls.{TakesThemAmong, TakesTextsAmongCalls}

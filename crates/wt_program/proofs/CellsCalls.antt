@@ -19,13 +19,13 @@ use Rattle.wt_typed_blocks.specs.Sent.{Sents, new_body}
 use Rattle.wt_text_edit_laws.specs.Parts.{part_tree}
 use Rattle.wt_text_edit_laws.proofs.Prose.ProseTakes.{not_longer}
 use Rattle.wt_program.proofs.BlocksCalls.{page_ends, page_completes}
-use Rattle.wt_cell_edit_laws.specs.CellEdits.{CellPage, page_with, IsCellPage, new_page, IsCellEdit}
+use Rattle.wt_called_edit_laws.specs.CellEdits.{CellPage, page_with, IsCellPage, new_page, IsCellEdit}
 use Rattle.wt_program.specs.CellCalls.{sent_page, SendsInCell, TakesTextsInCells}
-use Rattle.wt_cell_edit_laws.specs.UnmarkedCells.{unmarked_page, IsUnmarkedCellEdit}
-use Rattle.wt_cell_edit_laws.proofs.CellSpots.{cell_spots}
-use Rattle.wt_cell_edit_laws.proofs.SpotTrees.{same_self, over_self, over_utf8}
-use Rattle.wt_cell_edit_laws.proofs.Takes.{one_spot, path_of, path_leads, takes_text}
-use Rattle.wt_cell_edit_laws.proofs.CellsUnmarked.{unmarked_done}
+use Rattle.wt_called_edit_laws.specs.UnmarkedCells.{unmarked_page, IsUnmarkedCellEdit}
+use Rattle.wt_called_edit_laws.proofs.Cells.CellSpots.{cell_spots}
+use Rattle.wt_called_edit_laws.proofs.Cells.SpotTrees.{same_self, over_self, over_utf8}
+use Rattle.wt_called_edit_laws.proofs.Cells.Takes.{one_spot, path_of, path_leads, takes_text}
+use Rattle.wt_called_edit_laws.proofs.Cells.CellsUnmarked.{unmarked_done}
 
 -- of what is under a title, to an input
 edit_is : (pages : Pages) (p : CellPage) (h : IsCellPage p) (text input : List ℕ) (ss : Sents) (b : Label) (unsourced : Option ℕ)

@@ -14,8 +14,8 @@ use Rattle.wt_typed_blocks.specs.Sent.{Sents}
 use Rattle.wt_text_edit_laws.specs.BlockSpots.{BlockSpot, spots_source}
 use Rattle.wt_program.specs.Calls.{WroteNewPage}
 use Rattle.wt_text_edit_laws.specs.Parts.{part_tree}
-use Rattle.wt_cell_edit_laws.specs.AnyBlocks.{AreSpots, IsTextEdit, new_page, AllLead}
-use Rattle.wt_cell_edit_laws.specs.AnyTexts.{sent_page, unmarked_page, IsUnmarkedEdit}
+use Rattle.wt_called_edit_laws.specs.AnyBlocks.{AreSpots, IsTextEdit, new_page, AllLead}
+use Rattle.wt_called_edit_laws.specs.AnyTexts.{sent_page, unmarked_page, IsUnmarkedEdit}
 
 -- The words are those of this command for a title, the folder tells its pages and has the page under the title, and the input tells its bytes,
 -- which are read as this edited tree. Neither the page nor the new one nor the input is longer than it may be.

@@ -8,7 +8,7 @@ use Rattle.wt_commands.specs.Statuses.{code, IsFaultOrNoMemory}
 use Rattle.wt_typed_blocks.specs.Sent.{Sents}
 use Rattle.wt_text_edit_laws.specs.BlockSpots.{BlockSpot, spots_source}
 use Rattle.wt_program.specs.Calls.{WroteNewPage}
-use Rattle.wt_cell_edit_laws.specs.AnyBlocks.{new_page, AllLead}
+use Rattle.wt_called_edit_laws.specs.AnyBlocks.{new_page, AllLead}
 use Rattle.wt_program.specs.AnyCalls.{SendsFor}
 use Rattle.wt_called_edit_laws.specs.CalledPages.{IsCalledPage}
 use Rattle.wt_called_edit_laws.specs.TreeEdits.{IsEditOf, IsUnmarkedEditOf, sent_body, free_sent_body}

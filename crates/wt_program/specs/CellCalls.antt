@@ -14,8 +14,8 @@ use Rattle.wt_commands.specs.Words.{command_of}
 use Rattle.wt_typed_blocks.specs.Sent.{Sents, new_body}
 use Rattle.wt_program.specs.Calls.{WroteNewPage}
 use Rattle.wt_text_edit_laws.specs.Parts.{part_tree}
-use Rattle.wt_cell_edit_laws.specs.UnmarkedCells.{unmarked_page, IsUnmarkedCellEdit}
-use Rattle.wt_cell_edit_laws.specs.CellEdits.{CellPage, page_with, IsCellPage, new_page, IsCellEdit, LeadsFrom}
+use Rattle.wt_called_edit_laws.specs.UnmarkedCells.{unmarked_page, IsUnmarkedCellEdit}
+use Rattle.wt_called_edit_laws.specs.CellEdits.{CellPage, page_with, IsCellPage, new_page, IsCellEdit, LeadsFrom}
 
 -- the edited tree, in which the paragraph is marked
 abbrev pub sent_page : CellPage → Sents → Label → Tree

@@ -26,8 +26,8 @@ use wt_span::{List, PAGE_BYTES, Str};
 
 /// Answers the words of a command line, without the program's name, and gives the number to end with
 /// (`Status::code` of `wt_pagetool`). This is `run` of `wt_pagetool`, which says what each command does, with all
-/// that it promises and four promises more, which rest on the crates of laws (`takes_texts_among_calls`,
-/// `takes_texts_anywhere`, `takes_texts`, `takes_texts_in_cells`).
+/// that it promises and four promises more, which follow from that and from the laws of text edits
+/// (`takes_texts_among_calls`, `takes_texts_anywhere`, `takes_texts`, `takes_texts_in_cells`).
 #[tactic(auto, using(crate::proofs::BlocksCalls::takes, crate::proofs::CellsCalls::takes_in_cells, crate::proofs::AnyCalls::any_calls, crate::proofs::AmongCalls::calls_take))]
 pub fn run<S: Source, F: Folder, W: Sink, E: Sink>(
     alloc: Global,
@@ -45,8 +45,8 @@ pub fn run<S: Source, F: Folder, W: Sink, E: Sink>(
         (fetched_from F.Folder folder.old folder.new) (written_to W.Sink out.old out.new)
         (written_to E.Sink err.old err.new)) result }
 
-    // The same of pages of the class of `wt_cell_edit_laws`, which call nothing: of these it asks nothing of what the
-    // folder has.
+    // The same of such pages that call nothing (`AreSpots` of `wt_called_edit_laws`): of these it asks nothing of what
+    // the folder has.
     ensures takes_texts_anywhere { TakesTextsAnywhere (call words.now (read_from S.Source input.old input.new)
         (fetched_from F.Folder folder.old folder.new) (written_to W.Sink out.old out.new)
         (written_to E.Sink err.old err.new)) result }
