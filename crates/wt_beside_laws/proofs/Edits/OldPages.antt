@@ -49,7 +49,7 @@ use Rattle.wt_beside_laws.specs.OwnSigns.{IsFlatBlock}
 use Rattle.wt_beside_laws.specs.PageBlocks.{joined_parts, IsBlockOfLines}
 use Rattle.wt_beside_laws.proofs.BlockSigns.{flat_block, block_shut}
 use Rattle.wt_beside_laws.proofs.FlatLines.{lines_meaning}
-use Rattle.wt_beside_edit_laws.specs.FlatPages.{lines_of, paragraph_of, block_of, IsFlatPage}
+use Rattle.wt_beside_laws.specs.FlatPages.{lines_of, paragraph_of, block_of, IsFlatPage}
 
 -- ---- pages of one paragraph
 

@@ -15,9 +15,9 @@ use Rattle.wt_beside_laws.proofs.CalmContents.{content_utf8, content_calm, nowik
 use Rattle.wt_beside_laws.proofs.FlatAgain.{EachSource, HoldsOfPut, again_flat, again_unstyled, again_kept, again_shut, again_each}
 use Rattle.wt_beside_laws.proofs.LineItems.{content_lines_are}
 use Rattle.wt_beside_laws.proofs.LineKinds.{are_lines_of_text}
-use Rattle.wt_beside_edit_laws.specs.FlatPages.{lines_of, IsFlatPage, IsFlatEdit, new_signs, new_flat}
-use Rattle.wt_beside_edit_laws.proofs.OldPages.{one_tree, one_ungrouped}
-use Rattle.wt_beside_edit_laws.proofs.NewPages.{setting, same_things, new_content, new_calm, new_tree, new_page}
+use Rattle.wt_beside_laws.specs.FlatPages.{lines_of, IsFlatPage, IsFlatEdit, new_signs, new_flat}
+use Rattle.wt_beside_laws.proofs.Edits.OldPages.{one_tree, one_ungrouped}
+use Rattle.wt_beside_laws.proofs.Edits.NewPages.{setting, same_things, new_content, new_calm, new_tree, new_page}
 
 -- ---- what holds of the sources
 

@@ -24,10 +24,10 @@ use Rattle.wt_typed_blocks.specs.Edited.{Piece, Edits, page_body, sent_body}
 use Rattle.wt_typed_blocks.specs.EditedUnmarked.{bare_node, bare_body, AreTold}
 use Rattle.wt_typed_blocks.proofs.EditedUnmarked.{told_by_difference}
 use Rattle.wt_text_edit_laws.proofs.Prose.ProseTakes.{not_longer}
-use Rattle.wt_beside_edit_laws.specs.FlatPages.{paragraph_of, IsFlatPage, flat_edits, sent_flat, new_flat, IsUnmarkedFlatEdit, bare_flat}
-use Rattle.wt_beside_edit_laws.proofs.OldPages.{body_label, one_tree, one_unframed, flat_page}
-use Rattle.wt_beside_edit_laws.proofs.FlatEdits.{para_edit, old_node, old_nodes, are_edited, opened_is}
-use Rattle.wt_beside_edit_laws.proofs.NewPages.{takes_texts}
+use Rattle.wt_beside_laws.specs.FlatPages.{paragraph_of, IsFlatPage, flat_edits, sent_flat, new_flat, IsUnmarkedFlatEdit, bare_flat}
+use Rattle.wt_beside_laws.proofs.Edits.OldPages.{body_label, one_tree, one_unframed, flat_page}
+use Rattle.wt_beside_laws.proofs.Edits.FlatEdits.{para_edit, old_node, old_nodes, are_edited, opened_is}
+use Rattle.wt_beside_laws.proofs.Edits.NewPages.{takes_texts}
 
 told : (m : Label) (q : List ℕ) (ps : List Piece) → IsUnmarkedFlatEdit m q ps → AreTold (flat_edits m q ps)
 told m q ps u = ((ap (λ (t : Tree). same_inside t (bare_node (para_edit m q ps))) (old_node m q ps u.edit) ∙ u.other, u.inline), tt)

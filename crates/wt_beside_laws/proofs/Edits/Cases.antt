@@ -37,10 +37,10 @@ use Rattle.wt_beside_laws.specs.PageBlocks.{joined_parts, AreUnstyled, AreShut}
 use Rattle.wt_beside_laws.specs.PageSigns.{signs_of_lines, AreFlatLines}
 use Rattle.wt_beside_laws.proofs.Firm.{alone_as, parts_read}
 use Rattle.wt_beside_laws.proofs.FlatLines.{lines_meaning}
-use Rattle.wt_beside_edit_laws.specs.FlatPages.{lines_of, paragraph_of, IsFlatPage}
-use Rattle.wt_beside_edit_laws.proofs.OldPages.{IsOneBlock, one_tree, one_ungrouped}
-use Rattle.wt_beside_edit_laws.proofs.FullTrees.{AreFullParts, para_plain}
-use Rattle.wt_beside_edit_laws.proofs.NewPages.{means_source}
+use Rattle.wt_beside_laws.specs.FlatPages.{lines_of, paragraph_of, IsFlatPage}
+use Rattle.wt_beside_laws.proofs.Edits.OldPages.{IsOneBlock, one_tree, one_ungrouped}
+use Rattle.wt_beside_laws.proofs.Edits.FullTrees.{AreFullParts, para_plain}
+use Rattle.wt_beside_laws.proofs.Edits.NewPages.{means_source}
 
 -- ---- a page whose nodes are full has no groups
 

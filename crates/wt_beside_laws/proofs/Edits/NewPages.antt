@@ -58,12 +58,12 @@ use Rattle.wt_beside_laws.proofs.OwnSigns.{own_content, own_sent}
 use Rattle.wt_beside_laws.proofs.SentNodes.{same_nodes}
 use Rattle.wt_beside_laws.proofs.SentPieces.{same_numbers}
 use Rattle.wt_beside_laws.proofs.SentShown.{pieces_shown}
-use Rattle.wt_beside_edit_laws.specs.FlatPages.{lines_of, paragraph_of, block_of, IsFlatPage, AreNodesAndTexts, IsFlatEdit, flat_edits, sent_flat, new_signs, new_flat}
-use Rattle.wt_beside_edit_laws.proofs.OldPages.{IsOneBlock, body_label, one_tree, flat_page, para_label, label_is, of_lines, is_flat}
-use Rattle.wt_beside_edit_laws.proofs.Pieces.{pieces_characters}
-use Rattle.wt_beside_edit_laws.proofs.FlatEdits.{are_sent, are_edited, ungrouped, answer_so}
-use Rattle.wt_beside_edit_laws.proofs.OldFull.{old_full}
-use Rattle.wt_beside_edit_laws.proofs.FullTrees.{Each, para_plain, content_full, same_full}
+use Rattle.wt_beside_laws.specs.FlatPages.{lines_of, paragraph_of, block_of, IsFlatPage, AreNodesAndTexts, IsFlatEdit, flat_edits, sent_flat, new_signs, new_flat}
+use Rattle.wt_beside_laws.proofs.Edits.OldPages.{IsOneBlock, body_label, one_tree, flat_page, para_label, label_is, of_lines, is_flat}
+use Rattle.wt_beside_laws.proofs.Edits.Pieces.{pieces_characters}
+use Rattle.wt_beside_laws.proofs.Edits.FlatEdits.{are_sent, are_edited, ungrouped, answer_so}
+use Rattle.wt_beside_laws.proofs.Edits.OldFull.{old_full}
+use Rattle.wt_beside_laws.proofs.Edits.FullTrees.{Each, para_plain, content_full, same_full}
 
 -- ---- its nodes are the page's
 

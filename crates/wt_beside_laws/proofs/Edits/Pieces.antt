@@ -18,7 +18,7 @@ use Rattle.wt_text_edit_laws.proofs.Texts.PlainWords.{and_left, and_right}
 use Rattle.wt_beside_laws.specs.Lines.{AreCharacters}
 use Rattle.wt_beside_laws.specs.SentNodes.{IsUnchanged, IsSentBy, AreSent}
 use Rattle.wt_beside_laws.specs.SentPieces.{IsNodeForm, FitsBy, TextsFit}
-use Rattle.wt_beside_edit_laws.specs.FlatPages.{AreNodesAndTexts}
+use Rattle.wt_beside_laws.specs.FlatPages.{AreNodesAndTexts}
 
 -- ---- in a paragraph any text fits
 

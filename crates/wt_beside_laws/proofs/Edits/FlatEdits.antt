@@ -42,9 +42,9 @@ use Rattle.wt_beside_laws.specs.SentNodes.{AreSent}
 use Rattle.wt_beside_laws.specs.SentPieces.{TextsFit}
 use Rattle.wt_beside_laws.proofs.NoFaults.{no_fault}
 use Rattle.wt_beside_laws.proofs.SentPieces.{stays_sent}
-use Rattle.wt_beside_edit_laws.specs.FlatPages.{lines_of, paragraph_of, block_of, IsFlatPage, IsFlatEdit, flat_edits, new_flat}
-use Rattle.wt_beside_edit_laws.proofs.OldPages.{body_label, one_tree, one_ungrouped, one_unframed, one_flat, flat_page, para_label, label_is, kind_is, block_is, numbered, is_flat, old_untangled}
-use Rattle.wt_beside_edit_laws.proofs.Pieces.{all_fit}
+use Rattle.wt_beside_laws.specs.FlatPages.{lines_of, paragraph_of, block_of, IsFlatPage, IsFlatEdit, flat_edits, new_flat}
+use Rattle.wt_beside_laws.proofs.Edits.OldPages.{body_label, one_tree, one_ungrouped, one_unframed, one_flat, flat_page, para_label, label_is, kind_is, block_is, numbered, is_flat, old_untangled}
+use Rattle.wt_beside_laws.proofs.Edits.Pieces.{all_fit}
 
 -- ---- the page's nodes
 

@@ -1,3 +1,4 @@
+-- Edits that type texts beside nodes that stay.
 pub mod OldPages
 pub mod Pieces
 pub mod FlatEdits

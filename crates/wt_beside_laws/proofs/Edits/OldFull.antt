@@ -17,9 +17,9 @@ use Rattle.wt_beside_laws.specs.PageSigns.{signs_of_lines}
 use Rattle.wt_beside_laws.specs.Stood.{things}
 use Rattle.wt_beside_laws.proofs.LineThings.{lines_have}
 use Rattle.wt_beside_laws.proofs.PartThings.{HaveThings, tree_source}
-use Rattle.wt_beside_edit_laws.specs.FlatPages.{lines_of, IsFlatPage}
-use Rattle.wt_beside_edit_laws.proofs.OldPages.{flat_page}
-use Rattle.wt_beside_edit_laws.proofs.FullTrees.{IsFullTree, AreFullParts, AreFull, FullThing, Each, each_full, node_alone}
+use Rattle.wt_beside_laws.specs.FlatPages.{lines_of, IsFlatPage}
+use Rattle.wt_beside_laws.proofs.Edits.OldPages.{flat_page}
+use Rattle.wt_beside_laws.proofs.Edits.FullTrees.{IsFullTree, AreFullParts, AreFull, FullThing, Each, each_full, node_alone}
 
 -- ---- the nodes among parts
 
