@@ -15,12 +15,12 @@ ghost use Rattle.wt_program.specs.CalledCalls.{TakesTextsAmongCalls};
 
 mod laws;
 
+pub use laws::{
+    calls_take_texts, calls_take_texts_among_calls, calls_take_texts_anywhere,
+    calls_take_texts_in_cells, texts_on_pages_without_calls_are_taken_so,
+};
 use std::alloc::Global;
 use wt_devices::{Folder, Sink, Source};
-pub use laws::{
-    calls_take_texts, calls_take_texts_among_calls, calls_take_texts_anywhere, calls_take_texts_in_cells,
-    texts_on_pages_without_calls_are_taken_so,
-};
 pub use wt_pagetool::tell_no_memory;
 use wt_span::{List, PAGE_BYTES, Str};
 
