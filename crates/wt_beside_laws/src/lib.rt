@@ -57,7 +57,6 @@ ghost use Rattle.wt_beside_laws.specs.SentPieces.{OnlyTextsGo, TextsFit, PiecesS
 ghost use Rattle.wt_beside_laws.specs.Stood.{AreStood, AreAt, things};
 ghost use Rattle.wt_beside_laws.specs.Tiles.{IsPlainLink, IsPastUrl};
 ghost use Rattle.wt_span.specs.declared.limits.TheConstants.{HTML_BYTES, PAGE_BYTES};
-ghost use Rattle.wt_devices.specs.Device.{Pages};
 ghost use Rattle.wt_schema.specs.Read.{page as as_page, read};
 ghost use Rattle.wt_commands.specs.UnmarkedEdits.{DoneByEdit};
 ghost use Rattle.wt_commands.specs.Answers.{done, edit_to};
