@@ -56,3 +56,4 @@ pub mod SentShown
 pub mod CalmContents
 pub mod FlatLines
 pub mod PlainContents
+pub mod Edits

@@ -16,3 +16,4 @@ pub mod Glyphs
 pub mod Beginnings
 pub mod SentPieces
 pub mod Calm
+pub mod FlatPages

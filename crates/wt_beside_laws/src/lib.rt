@@ -1,7 +1,7 @@
-//! Laws of texts that are typed beside nodes that stay.
+//! Laws of texts that are typed beside nodes that stay: how such a content is read, and that edits which type them are done.
 #![tactic(auto)]
 
-ghost use Rattle.std.specs.Prelude.{◌≡◌, ◌≤◌, ℕ, ◌+◌, Bool, false, Some, None, List, [], ◌∷◌, ◌++◌, length, map};
+ghost use Rattle.std.specs.Prelude.{◌≡◌, ◌≤◌, ℕ, ◌+◌, Bool, false, Some, None, List, [], ◌∷◌, ◌++◌, length, map, Option};
 ghost use Rattle.wt_span.specs.Items.{Item};
 ghost use Rattle.wt_guards.specs.Content.{ContentSign};
 ghost use Rattle.wt_guards.specs.Guards.{Setting, spelled};
@@ -24,7 +24,6 @@ ghost use Rattle.wt_page.specs.Texts.{para};
 ghost use Rattle.wt_text_edit_laws.specs.ParagraphBetween.{AreClosed, before_marks, EndsApart, EndsParagraph, blocks_in, body_with};
 ghost use Rattle.wt_text_edit_laws.specs.TextBetween.{StandsBehind};
 ghost use Rattle.wt_tiles.specs.declared.glyph.Glyph.{Glyph as Sign};
-ghost use Rattle.wt_tiles.specs.declared.glyph.GlyphClass.TheVariants as class;
 ghost use Rattle.wt_tiles.specs.declared.shape.Shape.{Shape as Tile};
 ghost use Rattle.wt_tiles.specs.Contexts.{in_line};
 ghost use Rattle.wt_tiles.specs.Glyphs.{glyph_of, first_is};
@@ -57,6 +56,12 @@ ghost use Rattle.wt_beside_laws.specs.SentNodes.{AreSent, numbers};
 ghost use Rattle.wt_beside_laws.specs.SentPieces.{OnlyTextsGo, TextsFit, PiecesShow};
 ghost use Rattle.wt_beside_laws.specs.Stood.{AreStood, AreAt, things};
 ghost use Rattle.wt_beside_laws.specs.Tiles.{IsPlainLink, IsPastUrl};
+ghost use Rattle.wt_span.specs.declared.limits.TheConstants.{HTML_BYTES, PAGE_BYTES};
+ghost use Rattle.wt_schema.specs.Read.{page as as_page, read};
+ghost use Rattle.wt_commands.specs.UnmarkedEdits.{DoneByEdit};
+ghost use Rattle.wt_commands.specs.Answers.{done, edit_to};
+ghost use Rattle.wt_beside_laws.specs.FlatPages.{IsFlatPage, IsFlatEdit, sent_flat, new_flat, IsUnmarkedFlatEdit, bare_flat};
+ghost use Rattle.wt_tiles.specs.declared.glyph.GlyphClass.TheVariants as class;
 
 /// A content of text that is typed and of nodes that stay, as it is spelled, makes no lexeme over the border of a text and
 /// a node: its items are those of each node by itself, the characters and references of the text, and the nowikis that
@@ -292,4 +297,23 @@ pub fn texts_beside_nodes_call_nothing()
 pub fn lines_of_text_are_one_paragraph()
     ensures { (q : List ℕ) → AreLinesOfText 0 (lines (page_items q))
         → meaning (page_items q) ≡ body_with (para_with (joined_parts (lines (page_items q))) ∷ []) }
+{}
+
+/// A page that is one paragraph of text and of nodes (`IsFlatPage`) takes any texts beside its nodes: an edit that sends the
+/// paragraph with its nodes as they are, in their order, and any texts between them (`IsFlatEdit`) is done, and the new page
+/// is what was sent, as it is spelled, unless that is longer than a page may be. Without marks, too, as a browser sends it,
+/// `edit` of the difference is done, where the content is another one than that of the page's paragraph, and what stays in
+/// it is inline.
+pub fn flat_pages_take_texts_beside_nodes()
+    ensures takes { (pages : Pages) (b m : Label) (q : List ℕ) (ps : List Piece) → IsFlatPage q → IsFlatEdit q ps → length (new_flat q ps) ≤ PAGE_BYTES
+        → edit_to pages q (sent_flat b m q ps) ≡ done (new_flat q ps) }
+    ensures unmarked { (pages : Pages) (b m : Label) (q : List ℕ) (ps : List Piece) (stands : Option (List ℕ)) (input : List ℕ) (unsourced : Option ℕ)
+        → IsFlatPage q → IsUnmarkedFlatEdit m q ps → stands ≡ Some q → length q ≤ PAGE_BYTES → length (new_flat q ps) ≤ PAGE_BYTES
+        → length input ≤ HTML_BYTES → read input ≡ as_page (bare_flat b m q ps) unsourced → DoneByEdit pages stands input }
+{}
+
+/// The new page is such a page again, so of a chain of such edits none is refused: the nodes beside which texts are typed next are the same, and the
+/// references and nowikis that were put.
+pub fn flat_pages_are_such_again()
+    ensures { (q : List ℕ) (ps : List Piece) → IsFlatPage q → IsFlatEdit q ps → IsFlatPage (new_flat q ps) }
 {}

@@ -20,12 +20,12 @@ use Rattle.wt_text_edit_laws.proofs.Blocks.BlockTrees.{open_items, close_items, 
 use Rattle.wt_text_edit_laws.proofs.Blocks.TypedFacts.{framed, leaves_are, text_label, text_nodes, its_node, typed_shown}
 use Rattle.wt_text_edit_laws.proofs.Texts.TypedLeaves.{AreOwn, Leaf, leaves}
 use Rattle.wt_text_edit_laws.proofs.Texts.TypedNodes.{nodes_flat}
-use Rattle.wt_cell_edit_laws.specs.AnyBlocks.{with_text, with_texts}
-use Rattle.wt_cell_edit_laws.specs.CalledBlocks.{tree_by}
-use Rattle.wt_cell_edit_laws.specs.OwnTexts.{AreTypings}
-use Rattle.wt_cell_edit_laws.proofs.PlaceFacts.{same_block}
-use Rattle.wt_cell_edit_laws.proofs.PlaceGaps.{block_source as source_is}
-use Rattle.wt_cell_edit_laws.proofs.PlaceTrees.{text_at, same_where_none}
+use Rattle.wt_called_edit_laws.specs.AnyBlocks.{with_text, with_texts}
+use Rattle.wt_called_edit_laws.specs.CalledBlocks.{tree_by}
+use Rattle.wt_called_edit_laws.specs.OwnTexts.{AreTypings}
+use Rattle.wt_called_edit_laws.proofs.Cells.PlaceFacts.{same_block}
+use Rattle.wt_called_edit_laws.proofs.Cells.PlaceGaps.{block_source as source_is}
+use Rattle.wt_called_edit_laws.proofs.Cells.PlaceTrees.{text_at, same_where_none}
 use Rattle.wt_called_edit_laws.specs.Nodes.{block_at}
 use Rattle.wt_called_edit_laws.specs.Sends.{BlockSent, MakesNode, BlocksMake}
 use Rattle.wt_called_edit_laws.proofs.TextsMake.{flat_same, all_flat_same}

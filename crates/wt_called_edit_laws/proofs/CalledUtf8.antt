@@ -9,11 +9,11 @@ use Rattle.wt_text_edit_laws.proofs.Blocks.BlockMeaning.{heading_frame}
 use Rattle.wt_text_edit_laws.proofs.Blocks.BlockReading.{AreQuiet, run_quiet, blanks_quiet, opening_quiet, each_quiet, typed_text}
 use Rattle.wt_text_edit_laws.proofs.Blocks.TypedBraces.{AreTypedOver}
 use Rattle.wt_text_edit_laws.proofs.Paragraphs.Texts.{paragraph_utf8}
-use Rattle.wt_cell_edit_laws.specs.AnyBlocks.{with_texts}
-use Rattle.wt_cell_edit_laws.specs.OwnTexts.{AreTypings}
-use Rattle.wt_cell_edit_laws.proofs.SpotsRead.{typed_round, typed_over}
-use Rattle.wt_called_parts.specs.Parts.{AreCalled}
-use Rattle.wt_called_parts.specs.Retyped.{AreRetyped}
+use Rattle.wt_called_edit_laws.specs.AnyBlocks.{with_texts}
+use Rattle.wt_called_edit_laws.specs.OwnTexts.{AreTypings}
+use Rattle.wt_called_edit_laws.proofs.Cells.SpotsRead.{typed_round, typed_over}
+use Rattle.wt_called_edit_laws.specs.Parts.{AreCalled}
+use Rattle.wt_called_edit_laws.specs.Retyped.{AreRetyped}
 
 -- ---- UTF-8
 

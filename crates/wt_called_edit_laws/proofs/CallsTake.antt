@@ -1,23 +1,19 @@
--- Any texts are taken in paragraphs and headings among calls, by the law and by each call of the program.
+-- Any texts are taken in paragraphs and headings among calls.
 use Rattle.std.proofs.Common.{ℕ, List, map}
 use Rattle.wt_devices.specs.Device.{Pages}
-use Rattle.wt_commands.specs.Calls.{Call}
-use Rattle.wt_pagetool.specs.Promises.{Ends, EndsAsEdit}
 use Rattle.wt_typed_blocks.specs.Sent.{Sents}
 use Rattle.wt_typed_blocks.specs.Unmarked.{AreToldApart}
 use Rattle.wt_text_edit_laws.specs.BlockSpots.{BlockSpot}
-use Rattle.wt_cell_edit_laws.specs.AnyBlocks.{typed_by}
-use Rattle.wt_cell_edit_laws.specs.CalledBlocks.{tree_by}
-use Rattle.wt_cell_edit_laws.proofs.PlaceTrees.{text_at}
+use Rattle.wt_called_edit_laws.specs.AnyBlocks.{typed_by}
+use Rattle.wt_called_edit_laws.specs.CalledBlocks.{tree_by}
+use Rattle.wt_called_edit_laws.proofs.Cells.PlaceTrees.{text_at}
 use Rattle.wt_called_edit_laws.specs.CalledPages.{IsCalledPage}
 use Rattle.wt_called_edit_laws.specs.Nodes.{block_at}
 use Rattle.wt_called_edit_laws.specs.TreeEdits.{IsNumberedBody, IsEditOf, IsUnmarkedEditOf}
 use Rattle.wt_called_edit_laws.proofs.NodesTold.{found_apart}
 use Rattle.wt_called_edit_laws.proofs.OwnEdits.{own_edits}
-use Rattle.wt_called_edit_laws.specs.CalledCalls.{TakesTextsAmongCalls}
 use Rattle.wt_called_edit_laws.specs.CalledTexts.{spots_tree, TakesTextsAmong}
-use Rattle.wt_called_edit_laws.proofs.AmongCalls.{calls_take_them}
-use Rattle.wt_called_edit_laws.proofs.EditFacts.{IsFramedPage, framed_page, paths_of, new_spots, spots_utf8, spots_body, spots_lead, edit_made}
+use Rattle.wt_called_edit_laws.proofs.EditFacts.{IsFramedPage, framed_page, paths_of, new_spots, spots_body, spots_lead, edit_made}
 use Rattle.wt_called_edit_laws.proofs.EditTaken.{IsTextsEdit, edit_done, unmarked_done}
 
 numbered_body : (pages : Pages) (ss : List BlockSpot) (behind : List ℕ) → IsCalledPage pages ss behind → IsNumberedBody (spots_tree pages ss behind)
@@ -47,7 +43,3 @@ take_by pages ss behind f h = record {
 
 pub texts_taken : (pages : Pages) (ss : List BlockSpot) (behind : List ℕ) → IsCalledPage pages ss behind → TakesTextsAmong pages ss behind
 texts_taken pages ss behind h = take_by pages ss behind (framed_page pages ss behind h) h
-
-pub calls_take : (c : Call) (ended : ℕ) → Ends c ended → EndsAsEdit c ended → TakesTextsAmongCalls c ended
-calls_take c ended ends as_edit = λ pages ss behind told h.
-    calls_take_them c ended pages ss behind ends as_edit told (spots_utf8 pages ss behind h) (texts_taken pages ss behind h)

@@ -22,16 +22,16 @@ use Rattle.wt_annotated.proofs.NoGroups.{only_plain}
 use Rattle.wt_row_laws.specs.Frames.{Frame, place, whole, around, Frames, no_frames, more_frames, tree_at, trees_at, Part, content, IsFrame, AreFrames}
 use Rattle.wt_text_edit_laws.specs.BlockSpots.{BlockSpot, spots_source}
 use Rattle.wt_text_edit_laws.specs.ParagraphBetween.{body_with}
-use Rattle.wt_called_parts.specs.Retyped.{AreRetyped}
+use Rattle.wt_called_edit_laws.specs.Retyped.{AreRetyped}
 use Rattle.wt_called_trees.specs.Rounded.{IsClean, AreClean}
 use Rattle.wt_called_trees.proofs.FrameEnds.{held}
 use Rattle.wt_called_trees.proofs.FramesWalked.{no_leaf}
 use Rattle.wt_called_trees.proofs.OwnWalks.{OfPage, HasPage, own_clean}
-use Rattle.wt_cell_edit_laws.specs.AnyBlocks.{AreSpots}
-use Rattle.wt_cell_edit_laws.specs.CalledBlocks.{AreAmongCalls, tree_by, StandAmongCalls}
-use Rattle.wt_cell_edit_laws.proofs.CalledFrames.{spots_among_calls, stand_among}
-use Rattle.wt_cell_edit_laws.proofs.SpotTrees.{same_self, over_self, over_expanded, over_unrefused}
-use Rattle.wt_cell_edit_laws.proofs.ToldApart.{part_kind}
+use Rattle.wt_called_edit_laws.specs.AnyBlocks.{AreSpots}
+use Rattle.wt_called_edit_laws.specs.CalledBlocks.{AreAmongCalls, tree_by, StandAmongCalls}
+use Rattle.wt_called_edit_laws.proofs.Cells.CalledFrames.{spots_among_calls, stand_among}
+use Rattle.wt_called_edit_laws.proofs.Cells.SpotTrees.{same_self, over_self, over_expanded, over_unrefused}
+use Rattle.wt_called_edit_laws.proofs.Cells.ToldApart.{part_kind}
 use Rattle.wt_called_edit_laws.specs.CalledPages.{IsCalledPage}
 
 -- ---- nodes of the page alone are clean

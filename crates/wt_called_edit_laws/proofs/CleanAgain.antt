@@ -6,14 +6,14 @@ use Rattle.wt_annotated.specs.Seams.{last_of, first_of}
 use Rattle.wt_row_laws.specs.Frames.{Frame, place, whole, around, Frames, no_frames, more_frames, tree_at, places_in, all_places, Part, content, IsFrame, AreFrames}
 use Rattle.wt_text_edit_laws.specs.BlockSpots.{BlockSpot, AreBlocks}
 use Rattle.wt_text_edit_laws.specs.TextBlocks.{TextBlock, IsTypedIn}
-use Rattle.wt_called_parts.specs.Retyped.{AreRetyped}
-use Rattle.wt_called_parts.proofs.Retyped.{same_round, blocks_over, called_blocks}
+use Rattle.wt_called_edit_laws.specs.Retyped.{AreRetyped}
+use Rattle.wt_called_edit_laws.proofs.Parts.Retyped.{same_round, blocks_over, called_blocks}
 use Rattle.wt_called_trees.specs.Rounded.{AreOwn, IsClean, AreClean}
 use Rattle.wt_called_trees.proofs.FrameEnds.{held, own_split, firsts_same, last_same, clean_same}
 use Rattle.wt_called_trees.proofs.FramesWalked.{no_leaf}
-use Rattle.wt_cell_edit_laws.specs.CalledBlocks.{tree_by, counted, StandAmongCalls}
-use Rattle.wt_cell_edit_laws.proofs.CalledFrames.{again_among}
-use Rattle.wt_cell_edit_laws.proofs.SpotTrees.{counted_same}
+use Rattle.wt_called_edit_laws.specs.CalledBlocks.{tree_by, counted, StandAmongCalls}
+use Rattle.wt_called_edit_laws.proofs.Cells.CalledFrames.{again_among}
+use Rattle.wt_called_edit_laws.proofs.Cells.SpotTrees.{counted_same}
 use Rattle.wt_called_edit_laws.specs.Groups.{AreOutsideGroups}
 use Rattle.wt_called_edit_laws.proofs.OwnBlocks.{counted_own}
 

@@ -22,9 +22,9 @@ use Rattle.wt_row_laws.specs.Rounds.{IsCellKind}
 use Rattle.wt_row_laws.specs.Frames.{place, whole, around, Frames, no_frames, more_frames, tree_at, trees_at, all_places, Part, content, in_table, in_body, in_row, Holds, AreFrames}
 use Rattle.wt_moved_laws.specs.Placeless.{placeless, all_placeless}
 use Rattle.wt_moved_laws.proofs.Recuts.{texts_same}
-use Rattle.wt_cell_edit_laws.proofs.Cuts.{beside}
-use Rattle.wt_cell_edit_laws.proofs.Nodes.{AtBorder}
-use Rattle.wt_cell_edit_laws.proofs.ManyNodes.{fore_at, cut_at, cut_at_round}
+use Rattle.wt_called_edit_laws.proofs.Cells.Cuts.{beside}
+use Rattle.wt_called_edit_laws.proofs.Cells.Nodes.{AtBorder}
+use Rattle.wt_called_edit_laws.proofs.Cells.ManyNodes.{fore_at, cut_at, cut_at_round}
 use Rattle.wt_called_trees.specs.TreeFrames.{TreeFrame, spot, kept, holder, TreeFrames, no_nodes, more_nodes, filled, all_filled, spots}
 use Rattle.wt_called_trees.specs.Rounded.{AreOwn, AreClean, body_of, body_label, block_alone}
 use Rattle.wt_called_trees.proofs.FramesWalked.{kept_before, holder_label, no_leaf, call_after, stretch, nodes_of, spots_are}

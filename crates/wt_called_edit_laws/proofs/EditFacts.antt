@@ -22,14 +22,14 @@ use Rattle.wt_typed_blocks.specs.Typed.{new_sources, StandAt, AreUntangled}
 use Rattle.wt_visible.specs.Children.{shown_children, listed}
 use Rattle.wt_text_edit_laws.specs.BlockSpots.{BlockSpot, spots_source, AreBlocks as AreTextBlocks}
 use Rattle.wt_text_edit_laws.specs.TextBlocks.{TextBlock, a_paragraph, a_heading, block_tree}
-use Rattle.wt_cell_edit_laws.specs.AnyBlocks.{typed_by, with_texts, AllLead}
-use Rattle.wt_cell_edit_laws.specs.CalledBlocks.{tree_by, counted}
-use Rattle.wt_cell_edit_laws.specs.OwnTexts.{AreTypings}
-use Rattle.wt_cell_edit_laws.proofs.PlacePaths.{by_tree}
-use Rattle.wt_cell_edit_laws.proofs.PlaceTrees.{text_at}
-use Rattle.wt_cell_edit_laws.proofs.SpotTrees.{counted_same}
-use Rattle.wt_called_parts.specs.Retyped.{AreRetyped}
-use Rattle.wt_called_parts.proofs.Retyped.{blocks_over, called_blocks, expanded_again}
+use Rattle.wt_called_edit_laws.specs.AnyBlocks.{typed_by, with_texts, AllLead}
+use Rattle.wt_called_edit_laws.specs.CalledBlocks.{tree_by, counted}
+use Rattle.wt_called_edit_laws.specs.OwnTexts.{AreTypings}
+use Rattle.wt_called_edit_laws.proofs.Cells.PlacePaths.{by_tree}
+use Rattle.wt_called_edit_laws.proofs.Cells.PlaceTrees.{text_at}
+use Rattle.wt_called_edit_laws.proofs.Cells.SpotTrees.{counted_same}
+use Rattle.wt_called_edit_laws.specs.Retyped.{AreRetyped}
+use Rattle.wt_called_edit_laws.proofs.Parts.Retyped.{blocks_over, called_blocks, expanded_again}
 use Rattle.wt_called_trees.specs.TreeFrames.{TreeFrames, all_filled, spots}
 use Rattle.wt_called_edit_laws.specs.CalledPages.{IsCalledPage}
 use Rattle.wt_called_edit_laws.proofs.CleanAgain.{outside_again}

@@ -24,7 +24,7 @@ use Rattle.wt_selser.specs.Edits.{most_bytes, edit_answer}
 use Rattle.wt_commands.specs.declared.refusal.Refusal.TheVariants.{TooLong}
 use Rattle.wt_commands.specs.Answers.{Answer, done, refused, text_answer, title_answer, expanded_by, unspelled_by, unspelled_answer, new_by, new_expanded, new_answer, edit_by, edit_from, edit_to, IsText}
 use Rattle.wt_commands.proofs.SectionEdits.{page_bare}
-use Rattle.wt_pagetool.specs.Selser.{EditIsDone, DoneByEdit}
+use Rattle.wt_commands.specs.UnmarkedEdits.{EditIsDone, DoneByEdit}
 use Rattle.wt_typed_blocks.specs.Sent.{Sents, old_children, all_show, old_body}
 use Rattle.wt_typed_blocks.specs.Typed.{new_sources}
 use Rattle.wt_typed_blocks.specs.Unmarked.{AreToldApart}

@@ -20,8 +20,8 @@ use Rattle.wt_joined_calls.specs.Expanded.{moved_span}
 use Rattle.wt_joined_calls.proofs.ApartStretches.{spans_both}
 use Rattle.wt_text_edit_laws.specs.BlockSpots.{BlockSpot, spots_source}
 use Rattle.wt_text_edit_laws.specs.TextBlocks.{source_of}
-use Rattle.wt_called_parts.specs.Parts.{AreCalled, called_texts}
-use Rattle.wt_called_parts.proofs.Retyped.{is_by_parts}
+use Rattle.wt_called_edit_laws.specs.Parts.{AreCalled, called_texts}
+use Rattle.wt_called_edit_laws.proofs.Parts.Retyped.{is_by_parts}
 use Rattle.wt_called_edit_laws.specs.FreeBlocks.{AreFreeFrom}
 
 -- ---- calls that are text lie in their part

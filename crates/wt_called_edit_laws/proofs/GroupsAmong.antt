@@ -8,15 +8,15 @@ use Rattle.wt_annotated.specs.GroupData.{group_data}
 use Rattle.wt_moved_laws.specs.Placeless.{placeless}
 use Rattle.wt_row_laws.specs.Frames.{Frames, all_places}
 use Rattle.wt_text_edit_laws.specs.BlockSpots.{BlockSpot, spots_source}
-use Rattle.wt_called_parts.specs.Parts.{AreCalled, called_outers}
-use Rattle.wt_called_parts.proofs.Retyped.{is_by_parts, same_round, blocks_over, called_blocks, expanded_again}
-use Rattle.wt_called_parts.specs.Retyped.{AreRetyped}
+use Rattle.wt_called_edit_laws.specs.Parts.{AreCalled, called_outers}
+use Rattle.wt_called_edit_laws.proofs.Parts.Retyped.{is_by_parts, same_round, blocks_over, called_blocks, expanded_again}
+use Rattle.wt_called_edit_laws.specs.Retyped.{AreRetyped}
 use Rattle.wt_called_trees.specs.MovedCalls.{AreMoved}
 use Rattle.wt_called_trees.specs.Rounded.{HaveSameData, AreOwn, GroupsStay}
 use Rattle.wt_called_trees.proofs.GroupsStay.{groups_stay}
 use Rattle.wt_called_trees.proofs.MovedData.{moved_data}
-use Rattle.wt_cell_edit_laws.specs.CalledBlocks.{tree_by}
-use Rattle.wt_cell_edit_laws.proofs.SpotTrees.{counted_same}
+use Rattle.wt_called_edit_laws.specs.CalledBlocks.{tree_by}
+use Rattle.wt_called_edit_laws.proofs.Cells.SpotTrees.{counted_same}
 use Rattle.wt_called_edit_laws.specs.Groups.{AreOutsideGroups, GroupsStayAmong}
 use Rattle.wt_called_edit_laws.proofs.MovedOuters.{outers_moved}
 use Rattle.wt_called_edit_laws.proofs.OwnBlocks.{counted_own}

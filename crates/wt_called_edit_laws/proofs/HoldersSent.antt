@@ -6,8 +6,8 @@ use Rattle.wt_tree.specs.Tree.{Label, Tree, tree, Trees}
 use Rattle.wt_row_laws.specs.Frames.{Part, content}
 use Rattle.wt_moved_laws.specs.Placeless.{placeless_label, placeless, all_placeless}
 use Rattle.wt_typed_blocks.specs.Sent.{Sent, stands, typed, holds, Sents, none_sent, more_sent, old_child, old_children, IsOutsideGroups, AreOutsideGroups}
-use Rattle.wt_cell_edit_laws.proofs.Nodes.{same_inside, same_label}
-use Rattle.wt_cell_edit_laws.proofs.Paths.{same_first, same_rest}
+use Rattle.wt_called_edit_laws.proofs.Cells.Nodes.{same_inside, same_label}
+use Rattle.wt_called_edit_laws.proofs.Cells.Paths.{same_first, same_rest}
 use Rattle.wt_called_trees.specs.TreeFrames.{TreeFrame, spot, kept, holder, TreeFrames, no_nodes, more_nodes, filled, all_filled}
 use Rattle.wt_called_trees.proofs.FramesWalked.{no_leaf}
 use Rattle.wt_called_edit_laws.specs.Nodes.{IsHolder, AreHolders}

@@ -15,12 +15,12 @@ use Rattle.wt_moved_laws.specs.Standing.{standing}
 use Rattle.wt_typed_blocks.specs.Sent.{Block, paragraph, heading, kind_of, Sents}
 use Rattle.wt_text_edit_laws.specs.BlockSpots.{BlockSpot}
 use Rattle.wt_text_edit_laws.specs.TextBlocks.{TextBlock, a_paragraph, a_heading, block_tree}
-use Rattle.wt_cell_edit_laws.specs.AnyBlocks.{typed_by, LeadsTo, AllLead}
-use Rattle.wt_cell_edit_laws.specs.CalledBlocks.{tree_by, counted}
-use Rattle.wt_cell_edit_laws.proofs.ManyPaths.{LeadsFrom, leads_inside}
-use Rattle.wt_cell_edit_laws.proofs.Nodes.{same_label, same_inside}
-use Rattle.wt_cell_edit_laws.proofs.Paths.{same_first, same_rest}
-use Rattle.wt_cell_edit_laws.proofs.PlaceTrees.{block_by, text_at}
+use Rattle.wt_called_edit_laws.specs.AnyBlocks.{typed_by, LeadsTo, AllLead}
+use Rattle.wt_called_edit_laws.specs.CalledBlocks.{tree_by, counted}
+use Rattle.wt_called_edit_laws.proofs.Cells.ManyPaths.{LeadsFrom, leads_inside}
+use Rattle.wt_called_edit_laws.proofs.Cells.Nodes.{same_label, same_inside}
+use Rattle.wt_called_edit_laws.proofs.Cells.Paths.{same_first, same_rest}
+use Rattle.wt_called_edit_laws.proofs.Cells.PlaceTrees.{block_by, text_at}
 use Rattle.wt_called_trees.specs.TreeFrames.{spot, kept, holder, TreeFrames, no_nodes, more_nodes, all_filled, spots}
 use Rattle.wt_called_edit_laws.specs.Nodes.{AreHolders, block_at}
 use Rattle.wt_called_edit_laws.specs.PathsTo.{past_one, all_past, all_inside, paths_to, AreTypedThere}

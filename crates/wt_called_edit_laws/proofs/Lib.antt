@@ -22,9 +22,7 @@ pub mod TextsUntangled
 pub mod CalledUtf8
 pub mod EditFacts
 pub mod EditTaken
-pub mod AmongCalls
 pub mod CallsTake
-pub mod CalmCalls
 pub mod BareInsides
 mod SettledCases
 pub mod Settles
@@ -35,3 +33,5 @@ pub mod GroupsKept
 pub mod PlaceBytes
 pub mod Squashed
 pub mod GroupsOfPage
+pub mod Parts
+pub mod Cells

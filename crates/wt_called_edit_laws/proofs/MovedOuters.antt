@@ -6,7 +6,7 @@ use Rattle.wt_expand.specs.PageCalls.{expanded_page}
 use Rattle.wt_joined_calls.specs.Expanded.{moved_span, moved_place, moved_call}
 use Rattle.wt_text_edit_laws.specs.BlockSpots.{BlockSpot, SameRound}
 use Rattle.wt_text_edit_laws.specs.TextBlocks.{source_of}
-use Rattle.wt_called_parts.specs.Parts.{called_outers}
+use Rattle.wt_called_edit_laws.specs.Parts.{called_outers}
 use Rattle.wt_called_trees.specs.MovedCalls.{IsMoved, AreMoved}
 
 -- ---- a call that is moved twice, and one that isn't moved

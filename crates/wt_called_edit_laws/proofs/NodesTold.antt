@@ -13,11 +13,11 @@ use Rattle.wt_row_laws.specs.Frames.{Part, content, Holds}
 use Rattle.wt_moved_laws.specs.Placeless.{placeless_label, placeless, all_placeless}
 use Rattle.wt_typed_blocks.specs.Sent.{Sent, stands, typed, holds, Sents, none_sent, more_sent, old_child, old_children}
 use Rattle.wt_typed_blocks.specs.Unmarked.{AreToldApart}
-use Rattle.wt_cell_edit_laws.specs.AnyTexts.{IsOwn, AreOwn}
-use Rattle.wt_cell_edit_laws.proofs.Nodes.{same_inside}
-use Rattle.wt_cell_edit_laws.proofs.Paths.{same_first, same_rest}
-use Rattle.wt_cell_edit_laws.proofs.SentAsIs.{body_inner}
-use Rattle.wt_cell_edit_laws.proofs.ToldApart.{part_kind, Told, AllTold, in_block, in_typed, none_in, then_told, holder_told}
+use Rattle.wt_called_edit_laws.specs.AnyTexts.{IsOwn, AreOwn}
+use Rattle.wt_called_edit_laws.proofs.Cells.Nodes.{same_inside}
+use Rattle.wt_called_edit_laws.proofs.Cells.Paths.{same_first, same_rest}
+use Rattle.wt_called_edit_laws.proofs.Cells.SentAsIs.{body_inner}
+use Rattle.wt_called_edit_laws.proofs.Cells.ToldApart.{part_kind, Told, AllTold, in_block, in_typed, none_in, then_told, holder_told}
 use Rattle.wt_called_trees.specs.TreeFrames.{TreeFrame, spot, kept, holder, TreeFrames, no_nodes, more_nodes, filled, all_filled}
 use Rattle.wt_called_edit_laws.specs.Nodes.{IsHolder, AreHolders}
 use Rattle.wt_called_edit_laws.specs.Sends.{BlockSent, Sends, AllSend}

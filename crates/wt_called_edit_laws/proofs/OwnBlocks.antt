@@ -8,9 +8,9 @@ use Rattle.wt_text_edit_laws.specs.TextBlocks.{TextBlock, a_paragraph, a_heading
 use Rattle.wt_text_edit_laws.proofs.Blocks.BlockTrees.{leaf_block, block_leaves, block_own, block_plain}
 use Rattle.wt_text_edit_laws.proofs.Texts.TypedLeaves.{Leaf, letters, reference, guard, leaves, leaf_tree}
 use Rattle.wt_called_trees.specs.Rounded.{HasItems, AllHaveItems, IsOwn, AreOwn}
-use Rattle.wt_cell_edit_laws.specs.CalledBlocks.{tree_by, counted}
-use Rattle.wt_cell_edit_laws.proofs.FramesPlain.{IsFull}
-use Rattle.wt_cell_edit_laws.proofs.SpotTrees.{leaves_full}
+use Rattle.wt_called_edit_laws.specs.CalledBlocks.{tree_by, counted}
+use Rattle.wt_called_edit_laws.proofs.Cells.FramesPlain.{IsFull}
+use Rattle.wt_called_edit_laws.proofs.Cells.SpotTrees.{leaves_full}
 
 leaf_has : (l : Leaf) → HasItems (leaf_tree l)
 unfolding nowiki

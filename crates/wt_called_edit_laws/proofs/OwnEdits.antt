@@ -6,11 +6,11 @@ use Rattle.wt_tree.specs.Tree.{Label, Tree, label}
 use Rattle.wt_checks.specs.Kept.{children}
 use Rattle.wt_checks.specs.PutBack.{have_frame}
 use Rattle.wt_text_edit_laws.specs.BlockSpots.{BlockSpot}
-use Rattle.wt_cell_edit_laws.specs.AnyBlocks.{typed_by, AllLead}
-use Rattle.wt_cell_edit_laws.specs.OwnTexts.{AreTypings}
-use Rattle.wt_cell_edit_laws.proofs.ManyPaths.{past, further, deeper, NoneEmpty, further_full, inside_full}
-use Rattle.wt_cell_edit_laws.proofs.OwnTexts.{AreApart, further_apart, first_apart, inside_apart, tree_edit}
-use Rattle.wt_cell_edit_laws.proofs.SentAsIs.{page_numbered}
+use Rattle.wt_called_edit_laws.specs.AnyBlocks.{typed_by, AllLead}
+use Rattle.wt_called_edit_laws.specs.OwnTexts.{AreTypings}
+use Rattle.wt_called_edit_laws.proofs.Cells.ManyPaths.{past, further, deeper, NoneEmpty, further_full, inside_full}
+use Rattle.wt_called_edit_laws.proofs.Cells.OwnTexts.{AreApart, further_apart, first_apart, inside_apart, tree_edit}
+use Rattle.wt_called_edit_laws.proofs.Cells.SentAsIs.{page_numbered}
 use Rattle.wt_called_trees.specs.TreeFrames.{spot, kept, holder, TreeFrames, no_nodes, more_nodes}
 use Rattle.wt_called_edit_laws.specs.PathsTo.{past_one, all_past, all_inside, paths_to}
 use Rattle.wt_called_edit_laws.specs.TreeEdits.{IsNumberedBody, IsEditOf, own_edit, HasOwnEdits}

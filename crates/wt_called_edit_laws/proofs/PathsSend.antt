@@ -3,9 +3,9 @@ use Rattle.std.proofs.Common.{◌≡◌, ℕ, zero, Option, None, List, [], ◌�
 use Rattle.wt_tree.specs.Tree.{Label, Tree, tree}
 use Rattle.wt_moved_laws.specs.Placeless.{placeless_label, placeless, all_placeless}
 use Rattle.wt_typed_blocks.specs.Sent.{Sent, stands, typed, holds, Sents, none_sent, more_sent, old_child, old_children}
-use Rattle.wt_cell_edit_laws.specs.AnyBlocks.{typed_at, typed_by, first_paths, other_paths, EndHere, TypesOnly, AllTypeOnly}
-use Rattle.wt_cell_edit_laws.proofs.Paths.{same_first, same_rest}
-use Rattle.wt_cell_edit_laws.proofs.Nodes.{same_inside}
+use Rattle.wt_called_edit_laws.specs.AnyBlocks.{typed_at, typed_by, first_paths, other_paths, EndHere, TypesOnly, AllTypeOnly}
+use Rattle.wt_called_edit_laws.proofs.Cells.Paths.{same_first, same_rest}
+use Rattle.wt_called_edit_laws.proofs.Cells.Nodes.{same_inside}
 use Rattle.wt_called_trees.specs.TreeFrames.{spot, kept, holder, TreeFrames, no_nodes, more_nodes, all_filled, spots}
 use Rattle.wt_called_edit_laws.specs.PathsTo.{past_one, all_past, all_inside, paths_to, AreTypedThere, PathsSend}
 use Rattle.wt_called_edit_laws.specs.Sends.{BlockSent, NoneTyped, Sends, AllSend}

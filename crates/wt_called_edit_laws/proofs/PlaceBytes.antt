@@ -10,8 +10,8 @@ use Rattle.wt_row_laws.specs.Frames.{Frame, place, whole, around, Frames, no_fra
 use Rattle.wt_called_trees.specs.Rounded.{HaveSameData, AreOwn}
 use Rattle.wt_called_trees.proofs.FrameEnds.{held, own_split, last_same, lasts_same}
 use Rattle.wt_called_trees.proofs.OwnWalks.{text_own}
-use Rattle.wt_cell_edit_laws.proofs.PlaceGaps.{Gaps, then_gap, put_before, numbers_in, numbers_before, fill, fill_before, source_at, sources_at, sources_both, at_before}
-use Rattle.wt_cell_edit_laws.proofs.PlaceGaps.{AtPlaces as AtGaps}
+use Rattle.wt_called_edit_laws.proofs.Cells.PlaceGaps.{Gaps, then_gap, put_before, numbers_in, numbers_before, fill, fill_before, source_at, sources_at, sources_both, at_before}
+use Rattle.wt_called_edit_laws.proofs.Cells.PlaceGaps.{AtPlaces as AtGaps}
 use Rattle.wt_called_edit_laws.specs.Covered.{AtPlace, AtPlaces}
 
 -- ---- what is between places

@@ -13,11 +13,11 @@ use Rattle.wt_annotated.specs.GroupData.{group_data}
 use Rattle.wt_checks.specs.Kept.{children}
 use Rattle.wt_moved_laws.specs.Placeless.{placeless, all_placeless}
 use Rattle.wt_text_edit_laws.specs.BlockSpots.{BlockSpot, spots_source}
-use Rattle.wt_called_parts.specs.Retyped.{AreRetyped}
+use Rattle.wt_called_edit_laws.specs.Retyped.{AreRetyped}
 use Rattle.wt_called_trees.specs.Rounded.{body_label}
 use Rattle.wt_called_trees.specs.TreeFrames.{all_filled}
 use Rattle.wt_called_edit_laws.specs.Nodes.{block_at}
-use Rattle.wt_cell_edit_laws.specs.CalledBlocks.{tree_by}
+use Rattle.wt_called_edit_laws.specs.CalledBlocks.{tree_by}
 use Rattle.wt_called_edit_laws.specs.CalledPages.{IsCalledPage}
 use Rattle.wt_called_edit_laws.specs.Groups.{called_tree, GroupsStayAmong}
 use Rattle.wt_called_edit_laws.proofs.GroupsAmong.{groups_among}

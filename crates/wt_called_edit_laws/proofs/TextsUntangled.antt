@@ -12,12 +12,12 @@ use Rattle.wt_typed_blocks.specs.Sent.{Block, paragraph, heading, kind_of, Sent,
 use Rattle.wt_typed_blocks.specs.Typed.{block_source, old_source, StandsAt, StandAt, IsUntangled, AreUntangled}
 use Rattle.wt_text_edit_laws.specs.BlockSpots.{BlockSpot, AreBlocks}
 use Rattle.wt_text_edit_laws.specs.TextBlocks.{source_of, block_tree}
-use Rattle.wt_cell_edit_laws.specs.CalledBlocks.{tree_by, counted}
-use Rattle.wt_cell_edit_laws.proofs.ManyFacts.{old_flat}
-use Rattle.wt_cell_edit_laws.proofs.Nodes.{same_label, same_inside}
-use Rattle.wt_cell_edit_laws.proofs.Paths.{same_first, same_rest}
-use Rattle.wt_cell_edit_laws.proofs.PlaceGaps.{Gaps, last_gap, then_gap, put_before, numbers_in, source_at, AreSame, AtPlaces, at_before}
-use Rattle.wt_cell_edit_laws.proofs.PlaceGaps.{block_source as source_is}
+use Rattle.wt_called_edit_laws.specs.CalledBlocks.{tree_by, counted}
+use Rattle.wt_called_edit_laws.proofs.Cells.ManyFacts.{old_flat}
+use Rattle.wt_called_edit_laws.proofs.Cells.Nodes.{same_label, same_inside}
+use Rattle.wt_called_edit_laws.proofs.Cells.Paths.{same_first, same_rest}
+use Rattle.wt_called_edit_laws.proofs.Cells.PlaceGaps.{Gaps, last_gap, then_gap, put_before, numbers_in, source_at, AreSame, AtPlaces, at_before}
+use Rattle.wt_called_edit_laws.proofs.Cells.PlaceGaps.{block_source as source_is}
 use Rattle.wt_called_trees.specs.TreeFrames.{TreeFrame, spot, kept, holder, TreeFrames, no_nodes, more_nodes, filled, all_filled}
 use Rattle.wt_called_edit_laws.specs.Untangled.{AreUntangledFrom}
 use Rattle.wt_called_edit_laws.specs.Nodes.{block_at, NoLeaves, NoneLeaves}

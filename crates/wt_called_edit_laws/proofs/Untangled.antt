@@ -34,8 +34,8 @@ use Rattle.wt_text_edit_laws.proofs.Blocks.TypedFacts.{text_nodes, its_node}
 use Rattle.wt_text_edit_laws.proofs.Paragraphs.ClearLines.{clear_first, clear_line}
 use Rattle.wt_text_edit_laws.proofs.Texts.TypedLeaves.{Leaf, letters, reference, guard, leaves, leaves_shut}
 use Rattle.wt_text_edit_laws.proofs.Texts.TypedNodes.{nodes, next, behind, none_open}
-use Rattle.wt_called_parts.specs.Parts.{AreCalled}
-use Rattle.wt_called_parts.proofs.Retyped.{called_blocks}
+use Rattle.wt_called_edit_laws.specs.Parts.{AreCalled}
+use Rattle.wt_called_edit_laws.proofs.Parts.Retyped.{called_blocks}
 use Rattle.wt_called_edit_laws.specs.FreeBlocks.{AreFreeFrom}
 use Rattle.wt_called_edit_laws.specs.Untangled.{AreUntangledFrom}
 use Rattle.wt_called_edit_laws.proofs.FreeBlocks.{blocks_free}

@@ -5,10 +5,10 @@ use Rattle.wt_devices.specs.Device.{Pages}
 use Rattle.wt_tree.specs.Tree.{Label, Tree}
 use Rattle.wt_schema.specs.Read.{page as as_page, read}
 use Rattle.wt_commands.specs.Answers.{done, edit_to}
-use Rattle.wt_pagetool.specs.Selser.{DoneByEdit}
+use Rattle.wt_commands.specs.UnmarkedEdits.{DoneByEdit}
 use Rattle.wt_typed_blocks.specs.Sent.{Sents}
 use Rattle.wt_text_edit_laws.specs.BlockSpots.{BlockSpot, spots_source}
-use Rattle.wt_cell_edit_laws.specs.AnyBlocks.{typed_by, with_texts, new_page, AllLead}
+use Rattle.wt_called_edit_laws.specs.AnyBlocks.{typed_by, with_texts, new_page, AllLead}
 use Rattle.wt_called_edit_laws.specs.CalledPages.{IsCalledPage}
 use Rattle.wt_called_edit_laws.specs.Groups.{called_tree}
 use Rattle.wt_called_edit_laws.specs.TreeEdits.{IsEditOf, IsUnmarkedEditOf, HasOwnEdits, sent_body, free_sent_body}

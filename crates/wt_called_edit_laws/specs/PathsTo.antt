@@ -3,7 +3,7 @@ use Rattle.std.specs.Prelude.{◌≡◌, ℕ, zero, suc, Option, List, [], ◌�
 use Rattle.wt_tree.specs.Tree.{Tree}
 use Rattle.wt_moved_laws.specs.Placeless.{all_placeless}
 use Rattle.wt_typed_blocks.specs.Sent.{Sents, old_children}
-use Rattle.wt_cell_edit_laws.specs.AnyBlocks.{typed_by, AllTypeOnly}
+use Rattle.wt_called_edit_laws.specs.AnyBlocks.{typed_by, AllTypeOnly}
 use Rattle.wt_called_trees.specs.TreeFrames.{spot, kept, holder, TreeFrames, no_nodes, more_nodes, all_filled, spots}
 use Rattle.wt_called_edit_laws.specs.Sends.{AllSend}
 

@@ -5,11 +5,11 @@ use Rattle.wt_tree.specs.Tree.{tree}
 use Rattle.wt_sections.specs.Sections.{with_sections}
 use Rattle.wt_page_round_trip.specs.PageTree.{page_tree}
 use Rattle.wt_text_edit_laws.specs.BlockSpots.{BlockSpot, spots_source}
-use Rattle.wt_called_parts.specs.Retyped.{AreRetyped}
+use Rattle.wt_called_edit_laws.specs.Retyped.{AreRetyped}
 use Rattle.wt_called_trees.specs.Rounded.{body_label}
 use Rattle.wt_called_trees.specs.TreeFrames.{TreeFrames, all_filled, spots}
 use Rattle.wt_called_edit_laws.specs.Nodes.{block_at}
-use Rattle.wt_cell_edit_laws.specs.CalledBlocks.{tree_by, counted}
+use Rattle.wt_called_edit_laws.specs.CalledBlocks.{tree_by, counted}
 use Rattle.wt_called_edit_laws.specs.Settled.{page_settled}
 
 -- Nothing but these blocks is another one: the tree is that of the same nodes with the blocks at their places, its numbers and places counted

@@ -11,9 +11,9 @@ use Rattle.wt_row_laws.specs.Frames.{content}
 use Rattle.wt_moved_laws.specs.Placeless.{all_placeless}
 use Rattle.wt_typed_blocks.specs.Unmarked.{free_body, AreToldApart}
 use Rattle.wt_text_edit_laws.specs.BlockSpots.{BlockSpot}
-use Rattle.wt_cell_edit_laws.specs.AnyBlocks.{typed_by, AllTypeOnly}
-use Rattle.wt_cell_edit_laws.specs.AnyTexts.{AreOwn}
-use Rattle.wt_cell_edit_laws.specs.OwnTexts.{AreTypings, path_texts, own_texts}
+use Rattle.wt_called_edit_laws.specs.AnyBlocks.{typed_by, AllTypeOnly}
+use Rattle.wt_called_edit_laws.specs.AnyTexts.{AreOwn}
+use Rattle.wt_called_edit_laws.specs.OwnTexts.{AreTypings, path_texts, own_texts}
 use Rattle.wt_called_trees.specs.TreeFrames.{TreeFrames, all_filled}
 use Rattle.wt_called_edit_laws.specs.Nodes.{AreHolders}
 use Rattle.wt_called_edit_laws.specs.Sends.{AllSend}

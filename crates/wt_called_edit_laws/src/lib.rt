@@ -1,22 +1,37 @@
-//! Laws of text edits on pages with calls: in paragraphs and headings among calls, in cells of tables, too, any text is taken, and nothing else is changed.
+//! Laws of text edits anywhere in a page: in paragraphs and headings in its body, in cells of tables and in captions, among calls, too, any
+//! text is taken, and nothing else is changed.
 #![tactic(auto)]
 
-ghost use Rattle.std.specs.Prelude.{◌≡◌, ℕ, List, Option, None};
+ghost use Rattle.std.specs.Prelude.{ℕ, List, [], ◌∷◌, ◌≡◌, Option, None};
 ghost use Rattle.wt_expand.specs.Work.{Pages};
+ghost use Rattle.wt_text_edit_laws.specs.BlockSpots.{BlockSpot, AreRead, AreBlockSpots, spots_source};
+ghost use Rattle.wt_called_edit_laws.specs.Parts.{AreCalled, IsByParts};
+ghost use Rattle.wt_called_edit_laws.specs.Retyped.{AreRetyped, IsExpandedAgain};
+ghost use Rattle.std.specs.Str.{IsUtf8};
+ghost use Rattle.wt_span.specs.Items.{Item};
+ghost use Rattle.wt_tree.specs.Tree.{Label, Tree};
+ghost use Rattle.wt_checks.specs.Kept.{children};
+ghost use Rattle.wt_expand.specs.PageItems.{page_items};
+ghost use Rattle.wt_typed_blocks.specs.Sent.{paragraph, Sents};
+ghost use Rattle.wt_text_edit_laws.specs.BlockEdits.{typed_as};
+ghost use Rattle.wt_text_edit_laws.specs.Parts.{part_tree};
+ghost use Rattle.wt_text_edit_laws.specs.TextBlocks.{a_paragraph};
+ghost use Rattle.wt_text_edit_laws.specs.TypedPages.{IsTypedPage};
+ghost use Rattle.wt_called_edit_laws.specs.AnyBlocks.{AreSpots, AllLead};
+ghost use Rattle.wt_called_edit_laws.specs.AnyTexts.{TakesAnyTexts};
+ghost use Rattle.wt_called_edit_laws.specs.CalledBlocks.{AreAmongCalls, StandAmongCalls};
+ghost use Rattle.wt_called_edit_laws.specs.CellEdits.{CellPage, page_with, IsCellPage, IsCellEdit, LeadsFrom, TakesText, own_sents};
+ghost use Rattle.wt_called_edit_laws.specs.HeadingsInCells.{IsHeadingInCell, HeadingStandsInCell};
+ghost use Rattle.wt_called_edit_laws.specs.UnmarkedCells.{TakesUnmarked};
+ghost use Rattle.wt_called_edit_laws.specs.InCells.{IsInCell, AreTextLines, StandsInCell};
 ghost use Rattle.wt_expand.specs.PageCalls.{expanded_page};
-ghost use Rattle.wt_text_edit_laws.specs.BlockSpots.{BlockSpot, spots_source};
-ghost use Rattle.wt_called_parts.specs.Parts.{AreCalled};
-ghost use Rattle.wt_called_parts.specs.Retyped.{AreRetyped};
-ghost use Rattle.wt_cell_edit_laws.specs.AnyBlocks.{AreSpots, AllLead};
 ghost use Rattle.wt_called_edit_laws.specs.CalledPages.{IsCalledPage};
 ghost use Rattle.wt_called_edit_laws.specs.FreeBlocks.{AreFreeFrom};
 ghost use Rattle.wt_called_edit_laws.specs.Groups.{AreOutsideGroups, GroupsStayAmong, called_tree};
 ghost use Rattle.wt_called_edit_laws.specs.Untangled.{AreUntangledFrom};
 ghost use Rattle.wt_span.specs.Origins.{OuterCall};
-ghost use Rattle.wt_tree.specs.Tree.{Tree};
 ghost use Rattle.wt_inline.specs.ItemTree.{ItemTree};
 ghost use Rattle.wt_row_laws.specs.Frames.{Frames};
-ghost use Rattle.wt_typed_blocks.specs.Sent.{Sents};
 ghost use Rattle.wt_called_trees.specs.TreeFrames.{TreeFrames};
 ghost use Rattle.wt_called_edit_laws.specs.Nodes.{NodesStayIn};
 ghost use Rattle.wt_called_edit_laws.specs.PathsTo.{paths_to, PathsSend};
@@ -24,15 +39,102 @@ ghost use Rattle.wt_called_edit_laws.specs.Sends.{TextsMake};
 ghost use Rattle.wt_called_edit_laws.specs.Stand.{BlocksStand, BlocksAreFree};
 ghost use Rattle.wt_called_edit_laws.specs.TreeEdits.{IsNumberedBody, HasOwnEdits, AreFoundApart};
 ghost use Rattle.wt_commands.specs.Answers.{refusal_of_page};
-ghost use Rattle.wt_commands.specs.Calls.{Call};
-ghost use Rattle.wt_cell_edit_laws.specs.CalledBlocks.{AreAmongCalls};
-ghost use Rattle.wt_pagetool.specs.Promises.{Ends, EndsAsEdit};
-ghost use Rattle.wt_cell_edit_laws.specs.AnyCalls.{TakesTextsAnywhere};
-ghost use Rattle.wt_called_edit_laws.specs.CalledCalls.{TakesTextsAmongCalls};
 ghost use Rattle.wt_called_edit_laws.specs.CalledTexts.{TakesTextsAmong};
 ghost use Rattle.wt_called_edit_laws.specs.Settled.{IsSettled};
 ghost use Rattle.wt_called_edit_laws.specs.SettledPages.{OnlyTextsAreOthers};
 ghost use Rattle.wt_called_edit_laws.specs.Covered.{CleanWhereFree, AreInNoGroup};
+
+/// A page with blocks among calls, none of which goes over the end of a part, is expanded part by part: its items are
+/// those of what stands before, between and behind the blocks, with the numbers that their calls have in the page, and
+/// between these the blocks' own; its calls are those of these parts, with their places; and so is the work.
+pub fn pages_with_blocks_are_expanded_by_their_parts()
+    ensures { (pages : Pages) (ss : List BlockSpot) (behind : List ℕ) → AreCalled ss behind → IsByParts pages ss behind }
+{}
+
+/// Where texts are typed in the blocks of such a page, it is such a page again, its work is the same, and it is refused
+/// only if it was refused before.
+pub fn pages_with_typed_texts_are_expanded_again()
+    ensures { (pages : Pages) (ss rs : List BlockSpot) (behind : List ℕ) → AreCalled ss behind → AreRetyped ss rs
+        → IsExpandedAgain pages ss rs behind }
+{}
+
+/// A page that calls nothing is such a page.
+#[tactic(auto, using(crate::proofs::Parts::NoCallsCalled::read_called))]
+pub fn pages_without_calls_are_such()
+    ensures { (ss : List BlockSpot) (behind : List ℕ) → AreRead ss behind → AreCalled ss behind }
+{}
+
+/// A paragraph in a cell of a table, which may be in a cell of another table, is at a place of the page's tree that its
+/// text doesn't move: whatever the text is, it is in the same nodes, and everything before it and behind it is as it
+/// was. Whatever somebody types, each of its lines stays text there, however many tables are open.
+#[tactic(auto, using(crate::proofs::Cells::Cells::stands_in_cell, crate::proofs::Cells::Cells::typed_stays_text))]
+pub fn typed_paragraph_stands_in_its_cell()
+    ensures stands { (xs tail : List Item) → IsInCell xs tail → StandsInCell xs tail }
+    ensures typed { (n : ℕ) (q : List ℕ) → IsTypedPage q → AreTextLines n (page_items q) }
+{}
+
+/// And so is a heading in a cell, between any lines: whatever text was typed in it, or written by hand, and whatever its
+/// level is, however many tables are open, its line is a heading.
+#[tactic(auto, using(crate::proofs::Cells::HeadingCells::heading_in_cell))]
+pub fn heading_stands_in_its_cell()
+    ensures { (xs tail : List Item) → IsHeadingInCell xs tail → HeadingStandsInCell xs tail }
+{}
+
+/// Such a paragraph takes any text: there is a path at which it is in the page's tree, and an edit that sends it marked
+/// `content`, with any text typed in it, and all else as it is in the page, is done; in the new page the paragraph is
+/// its text as it is spelled, and every other byte is what it was; unless the new page is longer than a page may be.
+/// There is such an edit with each text: the one that sends every other node without marks. The new page is such a page
+/// again.
+#[tactic(auto, using(crate::proofs::Cells::Takes::takes_any))]
+pub fn typed_paragraph_in_a_cell_takes_any_text()
+    ensures takes { (c : CellPage) → IsCellPage c → TakesText c }
+    ensures edit { (c : CellPage) (path : List ℕ) (m : Label) (text : List ℕ) → IsCellPage c → LeadsFrom path (children (part_tree (page_with c c.text))) → IsUtf8 text
+        → IsCellEdit c path text (own_sents path m text (children (part_tree (page_with c c.text)))) }
+    ensures again { (c : CellPage) (text : List ℕ) → IsCellPage c → IsUtf8 text
+        → IsCellPage (record { before = c.before; text = typed_as paragraph c.text text; behind = c.behind }) }
+{}
+
+/// Without marks, too, as a browser sends it: where the text that was typed is another one than what the paragraph held,
+/// `edit` of the difference is done, whatever marks the paragraph and the body have.
+#[tactic(auto, using(crate::proofs::Cells::CellsUnmarked::takes_unmarked))]
+pub fn typed_paragraph_in_a_cell_takes_any_text_without_marks()
+    ensures { (c : CellPage) → IsCellPage c → TakesUnmarked c }
+{}
+
+/// Any number of texts at once, in paragraphs and headings anywhere: in the body, in cells and in captions, typed or
+/// written by hand. Each is at a path of the page's tree, and an edit that sends texts typed in any of them, and all else
+/// as it is in the page, is done: the new page has these texts, as they are spelled, and every other byte is what it was;
+/// unless it is longer than a page may be. Without marks, too. For any texts there is such an edit. The new page is such
+/// a page again.
+#[tactic(auto, using(crate::proofs::Cells::AnyPages::any_take))]
+pub fn blocks_anywhere_take_any_texts()
+    ensures { (ss : List BlockSpot) (behind : List ℕ) → AreSpots ss behind → TakesAnyTexts ss behind }
+{}
+
+/// Such a page is each page of the class of `wt_text_edit_laws`, in which the paragraphs and headings are in the body.
+#[tactic(auto, using(crate::proofs::Cells::BodyPages::body_spots))]
+pub fn pages_with_blocks_in_the_body_are_such()
+    ensures { (ss : List BlockSpot) (behind : List ℕ) → AreBlockSpots ss behind → AreSpots ss behind }
+{}
+
+/// And so is each page with one typed paragraph in a cell (`IsCellPage`).
+pub fn pages_with_a_paragraph_in_a_cell_are_such()
+    ensures { (c : CellPage) → IsCellPage c → AreSpots (record { before = c.before; block = a_paragraph; text = c.text } ∷ []) c.behind }
+{}
+
+/// Such blocks may be among calls, too, where no call goes over the end of a part, and each block is a block of its own
+/// by what the calls give: each is at a place of the page's tree that texts typed in them don't move, and all else is
+/// the same. With such texts it is such a page again.
+pub fn blocks_among_calls_stand_at_their_places()
+    ensures stand { (pages : Pages) (ss : List BlockSpot) (behind : List ℕ) → AreAmongCalls pages ss behind → StandAmongCalls pages ss behind }
+    ensures again { (pages : Pages) (ss rs : List BlockSpot) (behind : List ℕ) → AreAmongCalls pages ss behind → AreRetyped ss rs
+        → AreAmongCalls pages rs behind }
+{}
+
+/// A page that calls nothing (`AreSpots`) is such a page, too.
+pub fn pages_without_calls_are_among_these()
+    ensures { (pages : Pages) (ss : List BlockSpot) (behind : List ℕ) → AreSpots ss behind → AreAmongCalls pages ss behind }
+{}
 
 /// Where texts are typed in paragraphs and headings among calls, and no node round one of them is in a group, the page's
 /// tree has the same groups and the same other nodes, whatever the texts are: but for numbers and places it is one tree
@@ -57,7 +159,7 @@ pub fn blocks_among_calls_are_untangled()
         → AreUntangledFrom (expanded_page pages (spots_source ss behind)) (spots_source ss behind) 0 ss }
 {}
 
-/// A page that calls nothing, and of which no node can only be kept as a whole (`AreSpots` of `wt_cell_edit_laws`), is
+/// A page that calls nothing, and of which no node can only be kept as a whole (`AreSpots`), is
 /// such a page, whatever pages the folder has.
 pub fn pages_without_calls_are_called_pages()
     ensures { (pages : Pages) (ss : List BlockSpot) (behind : List ℕ) → AreSpots ss behind → IsCalledPage pages ss behind }
@@ -114,20 +216,6 @@ pub fn typed_texts_at_places_are_told_apart()
 #[tactic(auto, using(crate::proofs::CallsTake::texts_taken))]
 pub fn texts_among_calls_are_taken()
     ensures { (pages : Pages) (ss : List BlockSpot) (behind : List ℕ) → IsCalledPage pages ss behind → TakesTextsAmong pages ss behind }
-{}
-
-/// So every call that keeps what `run` of `wt_pagetool` promises takes such texts: `edit` has written the new page and
-/// no line, and `selser` is done; or a device failed, or memory ran out. Where no device failed, only want of memory may
-/// come in the place of the new page.
-#[tactic(auto, using(crate::proofs::CallsTake::calls_take))]
-pub fn calls_take_texts_among_calls()
-    ensures { (c : Call) (ended : ℕ) → Ends c ended → EndsAsEdit c ended → TakesTextsAmongCalls c ended }
-{}
-
-/// Where a call takes texts on pages with calls, it takes those on pages without calls, too: these are such pages.
-#[tactic(auto, using(crate::proofs::CalmCalls::anywhere_so))]
-pub fn texts_on_pages_without_calls_are_taken_so()
-    ensures { (c : Call) (ended : ℕ) → TakesTextsAmongCalls c ended → TakesTextsAnywhere c ended }
 {}
 
 /// The numbers and places of the tree of each page, without its sections, are those that the rest of it leaves: the nodes

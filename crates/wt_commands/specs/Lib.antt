@@ -11,4 +11,5 @@ pub mod Refusals
 pub mod Reports
 pub mod Statuses
 pub mod Unchanged
+pub mod UnmarkedEdits
 pub mod Words

@@ -13,13 +13,13 @@ use Rattle.wt_moved_laws.specs.Standing.{standing}
 use Rattle.wt_text_edit_laws.specs.TextBlocks.{TextBlock, a_paragraph, a_heading, source_of, block_tree}
 use Rattle.wt_text_edit_laws.specs.BlockSpots.{BlockSpot, spots_source, AreBlocks}
 use Rattle.wt_text_edit_laws.specs.Parts.{part_tree}
-use Rattle.wt_cell_edit_laws.specs.AnyBlocks.{AreSpots}
-use Rattle.wt_cell_edit_laws.proofs.ManyNodes.{nodes_from}
-use Rattle.wt_cell_edit_laws.proofs.ManyPaths.{NoneEmpty, paths_full, AreAsMany}
-use Rattle.wt_cell_edit_laws.proofs.PlaceGaps.{Gaps, last_gap, then_gap, gaps_of, numbers_in, source_at, AreSame, AtPlaces, block_source}
-use Rattle.wt_cell_edit_laws.proofs.PlacePaths.{paths_of, tree_so, paths_counted, gaps_so, numbers_so}
-use Rattle.wt_cell_edit_laws.proofs.PlaceTrees.{tree_by, counted, Framed}
-use Rattle.wt_cell_edit_laws.proofs.SpotTrees.{tree_borders, same_self, over_self, over_blocks, label_over}
+use Rattle.wt_called_edit_laws.specs.AnyBlocks.{AreSpots}
+use Rattle.wt_called_edit_laws.proofs.Cells.ManyNodes.{nodes_from}
+use Rattle.wt_called_edit_laws.proofs.Cells.ManyPaths.{NoneEmpty, paths_full, AreAsMany}
+use Rattle.wt_called_edit_laws.proofs.Cells.PlaceGaps.{Gaps, last_gap, then_gap, gaps_of, numbers_in, source_at, AreSame, AtPlaces, block_source}
+use Rattle.wt_called_edit_laws.proofs.Cells.PlacePaths.{paths_of, tree_so, paths_counted, gaps_so, numbers_so}
+use Rattle.wt_called_edit_laws.proofs.Cells.PlaceTrees.{tree_by, counted, Framed}
+use Rattle.wt_called_edit_laws.proofs.Cells.SpotTrees.{tree_borders, same_self, over_self, over_blocks, label_over}
 use Rattle.wt_inside_laws.specs.AnyReplaced.{replaced_at, number_by}
 use Rattle.wt_inside_laws.specs.TextsReplaced.{numbered_inside}
 use Rattle.wt_inside_laws.proofs.EditPlaces.{FitsAt, IsNone, EditIn}

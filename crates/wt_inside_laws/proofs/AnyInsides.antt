@@ -7,14 +7,14 @@ use Rattle.wt_text_edit_laws.specs.Parts.{part_tree}
 use Rattle.wt_text_edit_laws.specs.TextBlocks.{source_of, block_tree, IsBlock}
 use Rattle.wt_text_edit_laws.specs.BlockSpots.{BlockSpot, spots_source, SameRound, AreBlocks}
 use Rattle.wt_text_edit_laws.proofs.Blocks.TypedBraces.{AreTypedOver}
-use Rattle.wt_cell_edit_laws.specs.AnyBlocks.{AreSpots, typed_by, with_text, with_texts}
-use Rattle.wt_cell_edit_laws.specs.OwnTexts.{AreTypings}
-use Rattle.wt_cell_edit_laws.proofs.ManyPaths.{AreAsMany}
-use Rattle.wt_cell_edit_laws.proofs.PlacePaths.{paths_of, paths_counted, all_lead, typings}
-use Rattle.wt_cell_edit_laws.proofs.PlaceTrees.{tree_by, counted, Framed}
-use Rattle.wt_cell_edit_laws.proofs.SpotFrames.{framed}
-use Rattle.wt_cell_edit_laws.proofs.SpotTrees.{same_self, over_self, over_blocks}
-use Rattle.wt_cell_edit_laws.proofs.SpotsRead.{typed_round, typed_over}
+use Rattle.wt_called_edit_laws.specs.AnyBlocks.{AreSpots, typed_by, with_text, with_texts}
+use Rattle.wt_called_edit_laws.specs.OwnTexts.{AreTypings}
+use Rattle.wt_called_edit_laws.proofs.Cells.ManyPaths.{AreAsMany}
+use Rattle.wt_called_edit_laws.proofs.Cells.PlacePaths.{paths_of, paths_counted, all_lead, typings}
+use Rattle.wt_called_edit_laws.proofs.Cells.PlaceTrees.{tree_by, counted, Framed}
+use Rattle.wt_called_edit_laws.proofs.Cells.SpotFrames.{framed}
+use Rattle.wt_called_edit_laws.proofs.Cells.SpotTrees.{same_self, over_self, over_blocks}
+use Rattle.wt_called_edit_laws.proofs.Cells.SpotsRead.{typed_round, typed_over}
 use Rattle.wt_inside_laws.specs.AnyReplaced.{replaced_at, number_by, replaced_behind, ReplacesTexts}
 use Rattle.wt_inside_laws.proofs.AllTexts.{round_front, over_front, one_more}
 use Rattle.wt_inside_laws.proofs.AnyEdits.{number_of, front_of, fronts, own_numbers, edit_found, many_moved}

@@ -15,12 +15,12 @@ use Rattle.wt_text_edit_laws.specs.TextBlocks.{TextBlock}
 use Rattle.wt_text_edit_laws.specs.BlockSpots.{BlockSpot, spots_source, SameRound}
 use Rattle.wt_text_edit_laws.proofs.Blocks.TypedBraces.{AreTypedOver}
 use Rattle.wt_text_edit_laws.proofs.Prose.ProseTrees.{blocks_of}
-use Rattle.wt_cell_edit_laws.specs.AnyBlocks.{AreSpots}
-use Rattle.wt_cell_edit_laws.proofs.FramesBorders.{page_borders}
-use Rattle.wt_cell_edit_laws.proofs.ManyFacts.{AllBorders}
-use Rattle.wt_cell_edit_laws.proofs.Nodes.{width_after}
-use Rattle.wt_cell_edit_laws.proofs.PlaceTrees.{tree_by, Framed}
-use Rattle.wt_cell_edit_laws.proofs.SpotTrees.{counted_same, tree_borders, nodes_over, over_tree, over_expanded}
+use Rattle.wt_called_edit_laws.specs.AnyBlocks.{AreSpots}
+use Rattle.wt_called_edit_laws.proofs.Cells.FramesBorders.{page_borders}
+use Rattle.wt_called_edit_laws.proofs.Cells.ManyFacts.{AllBorders}
+use Rattle.wt_called_edit_laws.proofs.Cells.Nodes.{width_after}
+use Rattle.wt_called_edit_laws.proofs.Cells.PlaceTrees.{tree_by, Framed}
+use Rattle.wt_called_edit_laws.proofs.Cells.SpotTrees.{counted_same, tree_borders, nodes_over, over_tree, over_expanded}
 use Rattle.wt_inside_laws.proofs.Behind.{test_below}
 use Rattle.wt_inside_laws.proofs.EditPlaces.{FitsAt, EditIn}
 use Rattle.wt_inside_laws.proofs.FramesReplaced.{AreReplaced, IsAhead, ahead, MovesBehind, moves, frames_replaced}

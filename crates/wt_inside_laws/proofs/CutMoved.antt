@@ -14,9 +14,9 @@ use Rattle.wt_annotated.specs.WithoutCalls.{all_placed}
 use Rattle.wt_local.specs.Replaced.{Edit, all_with_inside}
 use Rattle.wt_text_edit_laws.proofs.Prose.ProseTrees.{blocks_of, number_behind, items_behind}
 use Rattle.wt_text_edit_laws.proofs.Blocks.KeptBlocks.{held_source}
-use Rattle.wt_cell_edit_laws.proofs.Cuts.{lead_in, front}
-use Rattle.wt_cell_edit_laws.proofs.ManyNodes.{fore_at, cut_at}
-use Rattle.wt_cell_edit_laws.proofs.Nodes.{number_after, items_after, width_after}
+use Rattle.wt_called_edit_laws.proofs.Cells.Cuts.{lead_in, front}
+use Rattle.wt_called_edit_laws.proofs.Cells.ManyNodes.{fore_at, cut_at}
+use Rattle.wt_called_edit_laws.proofs.Cells.Nodes.{number_after, items_after, width_after}
 use Rattle.wt_inside_laws.proofs.Before.{AllBelow, either, all_placed_below, joined_below, parts_below, all_texts_below, all_stay}
 use Rattle.wt_inside_laws.proofs.Behind.{IsBehind, all_shift_moved}
 use Rattle.wt_inside_laws.proofs.Shifted.{all_shifted, all_placed_shifted, all_numbered_shifted, joined_same, cut_same, as_same, all_texts_same}

@@ -10,7 +10,7 @@ use Rattle.wt_local.specs.Replaced.{Edit}
 use Rattle.wt_moved_laws.specs.Standing.{standing}
 use Rattle.wt_text_edit_laws.specs.TextBlocks.{TextBlock, source_of, block_tree}
 use Rattle.wt_text_edit_laws.proofs.Prose.ProseTrees.{number_behind, items_behind}
-use Rattle.wt_cell_edit_laws.proofs.Nodes.{number_after, items_after}
+use Rattle.wt_called_edit_laws.proofs.Cells.Nodes.{number_after, items_after}
 use Rattle.wt_inside_laws.specs.TextsReplaced.{numbered_inside}
 
 -- the edit puts this text in place of this one into a block with this number, behind these items

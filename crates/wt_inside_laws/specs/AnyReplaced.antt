@@ -11,7 +11,7 @@ use Rattle.wt_typed_blocks.specs.Sent.{Sents}
 use Rattle.wt_text_edit_laws.specs.TextBlocks.{TextBlock, source_of, block_tree}
 use Rattle.wt_text_edit_laws.specs.BlockSpots.{BlockSpot, spots_source}
 use Rattle.wt_text_edit_laws.specs.Parts.{part_tree}
-use Rattle.wt_cell_edit_laws.specs.AnyBlocks.{typed_by, IsTextEdit, with_text, new_page, AllLead}
+use Rattle.wt_called_edit_laws.specs.AnyBlocks.{typed_by, IsTextEdit, with_text, new_page, AllLead}
 use Rattle.wt_inside_laws.specs.TextsReplaced.{numbered_inside}
 
 -- ---- one text

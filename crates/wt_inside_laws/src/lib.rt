@@ -8,7 +8,7 @@ ghost use Rattle.wt_local.specs.Replaced.{with_inside, with_insides};
 ghost use Rattle.wt_text_edit_laws.specs.TextBlocks.{TextBlock};
 ghost use Rattle.wt_text_edit_laws.specs.BlockSpots.{BlockSpot, AreBlockSpots};
 ghost use Rattle.wt_text_edit_laws.specs.BlockEdits.{BlockEdit, old_page, new_page, IsBlockEdit};
-ghost use Rattle.wt_cell_edit_laws.specs.AnyBlocks.{AreSpots};
+ghost use Rattle.wt_called_edit_laws.specs.AnyBlocks.{AreSpots};
 ghost use Rattle.wt_inside_laws.specs.AnyReplaced.{ReplacesTexts};
 ghost use Rattle.wt_inside_laws.specs.TextsReplaced.{Place, spots_with, page_with, replaced_by, all_replaced};
 

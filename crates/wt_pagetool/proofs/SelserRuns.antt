@@ -34,7 +34,8 @@ use Rattle.wt_commands.specs.Refusals.{status_of}
 use Rattle.wt_pagetool.specs.Rewrites.{WroteSelser}
 use Rattle.wt_commands.specs.Reports.{Reported}
 use Rattle.wt_unmarked_edit.specs.Found.{ReadsBack}
-use Rattle.wt_pagetool.specs.Selser.{AnswersSelser, DoneByEdit, EditIsDone, Finds, FindsFor, FindsNew, FindsNone, FindsUnder, IsUnfound, NoneFor, NoneUnder, OrFound, RefusedSelser, RefusesSelser}
+use Rattle.wt_commands.specs.UnmarkedEdits.{DoneByEdit, EditIsDone}
+use Rattle.wt_pagetool.specs.Selser.{AnswersSelser, Finds, FindsFor, FindsNew, FindsNone, FindsUnder, IsUnfound, NoneFor, NoneUnder, OrFound, RefusedSelser, RefusesSelser}
 use Rattle.wt_commands.specs.Statuses.{code, IsAnswer, IsDoneOrRefused, IsFaultOrNoMemory}
 use Rattle.wt_commands.specs.Words.{command_of, Reads}
 use Rattle.wt_commands.proofs.AnswerLaws.{input_done, input_within}

@@ -17,7 +17,8 @@ use Rattle.wt_commands.specs.Inputs.{GivesAtMost}
 use Rattle.wt_commands.specs.Reports.{WasDone, WasRefused, OutFailed, ErrFailed}
 use Rattle.wt_pagetool.specs.Rewrites.{WroteSelser}
 use Rattle.wt_commands.specs.Reports.{WrotePage, WroteExpansion, WroteEdit, WroteCounts, WroteSource}
-use Rattle.wt_pagetool.specs.Selser.{DoneByEdit, IsUnchanged, RefusedSelser}
+use Rattle.wt_commands.specs.UnmarkedEdits.{DoneByEdit}
+use Rattle.wt_pagetool.specs.Selser.{IsUnchanged, RefusedSelser}
 use Rattle.wt_commands.specs.Statuses.{code, IsDoneOrRefused, IsFaultOrNoMemory}
 use Rattle.wt_commands.specs.Words.{command_of}
 

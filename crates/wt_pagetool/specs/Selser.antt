@@ -17,7 +17,7 @@ use Rattle.wt_commands.specs.declared.output.Output.{Output}
 use Rattle.wt_commands.specs.declared.refusal.Refusal.{Refusal}
 use Rattle.wt_commands.specs.declared.status.Status.{Status}
 use Rattle.wt_commands.specs.declared.status.Status.TheVariants as status
-use Rattle.wt_commands.specs.Answers.{Answer, done, refused, edit_to, remarked_of, taken_of, IsText, IsUnrefused}
+use Rattle.wt_commands.specs.Answers.{Answer, done, refused, remarked_of, taken_of, IsUnrefused}
 use Rattle.wt_commands.specs.Causes.{Answered}
 use Rattle.wt_commands.specs.Devices.{SinkUse, Took}
 use Rattle.wt_commands.specs.Outputs.{output_bytes}
@@ -75,22 +75,6 @@ OrFound (done page) found result = found
 -- `selser` of what is under the title, for this input
 abbrev pub AnswersSelser : Pages → Option (List ℕ) → List ℕ → Result Output Refusal → Type 0
 AnswersSelser pages stands input result = OrFound (taken_of pages stands input) (FindsUnder pages stands (read input) result) result
-
--- ---- `edit` of the difference
-
--- `edit` of the edited tree with the marks of its difference is done
-abbrev pub EditIsDone : Pages → List ℕ → Read → Type 0
-EditIsDone pages page (as_page edited unsourced) = (new : List ℕ) × (edit_to pages page (remarked_of pages page edited) ≡ done new)
-EditIsDone pages page (ill place why) = ⊥
-EditIsDone pages page (misfit n why) = ⊥
-
--- of what is under a title, for an input that may be taken
-pub record DoneByEdit (pages : Pages) (stands : Option (List ℕ)) (input : List ℕ) : Type 0 where
-  pub page : List ℕ
-  pub found : stands ≡ Some page
-  pub text : IsText page
-  pub within : length input ≤ HTML_BYTES
-  pub done : EditIsDone pages page (read input)
 
 -- ---- nothing is changed
 

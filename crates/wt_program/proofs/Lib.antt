@@ -1,0 +1,5 @@
+pub mod BlocksCalls
+pub mod CellsCalls
+pub mod AnyCalls
+pub mod AmongCalls
+pub mod CalmCalls

@@ -1,0 +1,4 @@
+pub mod Calls
+pub mod CellCalls
+pub mod AnyCalls
+pub mod CalledCalls

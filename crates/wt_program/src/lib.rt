@@ -1,4 +1,4 @@
-//! The program's call: `run` answers the words of a command line, and takes text edits.
+//! The program's call: `run` answers the words of a command line, and takes text edits; and the laws by which it does.
 #![tactic(auto)]
 
 ghost use Rattle.std.specs.Prelude.{◌≡◌, ◌+◌};
@@ -8,11 +8,17 @@ ghost use Rattle.wt_commands.specs.Calls.{call};
 ghost use Rattle.wt_commands.specs.Devices.{read_from, fetched_from, written_to};
 ghost use Rattle.wt_pagetool.specs.Promises.{AsksFor, Ends, EndsAsEdit, GivesBack, ReadsAtMost, Waits, Wrote};
 ghost use Rattle.wt_commands.specs.Words.{command_of, Fetches, Reads};
-ghost use Rattle.wt_text_edit_laws.specs.Calls.{TakesTexts};
-ghost use Rattle.wt_cell_edit_laws.specs.AnyCalls.{TakesTextsAnywhere};
-ghost use Rattle.wt_cell_edit_laws.specs.CellCalls.{TakesTextsInCells};
-ghost use Rattle.wt_called_edit_laws.specs.CalledCalls.{TakesTextsAmongCalls};
+ghost use Rattle.wt_program.specs.Calls.{TakesTexts};
+ghost use Rattle.wt_program.specs.AnyCalls.{TakesTextsAnywhere};
+ghost use Rattle.wt_program.specs.CellCalls.{TakesTextsInCells};
+ghost use Rattle.wt_program.specs.CalledCalls.{TakesTextsAmongCalls};
 
+mod laws;
+
+pub use laws::{
+    calls_take_texts, calls_take_texts_among_calls, calls_take_texts_anywhere,
+    calls_take_texts_in_cells, texts_on_pages_without_calls_are_taken_so,
+};
 use std::alloc::Global;
 use wt_devices::{Folder, Sink, Source};
 pub use wt_pagetool::tell_no_memory;
@@ -20,9 +26,9 @@ use wt_span::{List, PAGE_BYTES, Str};
 
 /// Answers the words of a command line, without the program's name, and gives the number to end with
 /// (`Status::code` of `wt_pagetool`). This is `run` of `wt_pagetool`, which says what each command does, with all
-/// that it promises and four promises more, which rest on the crates of laws (`takes_texts_among_calls`,
-/// `takes_texts_anywhere`, `takes_texts`, `takes_texts_in_cells`).
-#[tactic(auto, using(wt_text_edit_laws::proofs::Blocks::BlocksCalls::takes, wt_cell_edit_laws::proofs::CellsCalls::takes_in_cells, wt_cell_edit_laws::proofs::AnyPages::any_calls, wt_called_edit_laws::proofs::CallsTake::calls_take))]
+/// that it promises and four promises more, which follow from that and from the laws of text edits
+/// (`takes_texts_among_calls`, `takes_texts_anywhere`, `takes_texts`, `takes_texts_in_cells`).
+#[tactic(auto, using(crate::proofs::BlocksCalls::takes, crate::proofs::CellsCalls::takes_in_cells, crate::proofs::AnyCalls::any_calls, crate::proofs::AmongCalls::calls_take))]
 pub fn run<S: Source, F: Folder, W: Sink, E: Sink>(
     alloc: Global,
     words: &List<Str>,
@@ -39,8 +45,8 @@ pub fn run<S: Source, F: Folder, W: Sink, E: Sink>(
         (fetched_from F.Folder folder.old folder.new) (written_to W.Sink out.old out.new)
         (written_to E.Sink err.old err.new)) result }
 
-    // The same of pages of the class of `wt_cell_edit_laws`, which call nothing: of these it asks nothing of what the
-    // folder has.
+    // The same of such pages that call nothing (`AreSpots` of `wt_called_edit_laws`): of these it asks nothing of what
+    // the folder has.
     ensures takes_texts_anywhere { TakesTextsAnywhere (call words.now (read_from S.Source input.old input.new)
         (fetched_from F.Folder folder.old folder.new) (written_to W.Sink out.old out.new)
         (written_to E.Sink err.old err.new)) result }

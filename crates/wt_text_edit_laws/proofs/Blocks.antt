@@ -8,12 +8,13 @@ pub mod TypedAgain
 pub mod OtherBlocks
 pub mod PageKinds
 pub mod KeptBlocks
+pub mod Unframed
+pub mod PageItems
 pub mod BlocksUngrouped
 pub mod TypedFacts
 pub mod BlockSpotFacts
 pub mod BlocksTake
 pub mod BlocksUnmarked
-pub mod BlocksCalls
 pub mod OwnNodes
 mod Cases
 mod PageCases

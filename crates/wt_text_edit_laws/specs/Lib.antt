@@ -17,5 +17,4 @@ pub mod TextBlocks
 pub mod BlockSpots
 pub mod BlockEdits
 pub mod UnmarkedBlocks
-pub mod Calls
 pub mod OwnNodes

@@ -35,9 +35,7 @@ ghost use Rattle.wt_edit.specs.Edits.{refusal_of_page};
 ghost use Rattle.wt_commands.specs.Answers.{answer_told, done, edit_of, edit_to};
 ghost use Rattle.wt_commands.specs.Words.{command_of};
 ghost use Rattle.wt_commands.specs.declared.command.Command.TheVariants.{Edit};
-ghost use Rattle.wt_pagetool.specs.Selser.{DoneByEdit};
-ghost use Rattle.wt_commands.specs.Calls.{Call};
-ghost use Rattle.wt_pagetool.specs.Promises.{Ends, EndsAsEdit};
+ghost use Rattle.wt_commands.specs.UnmarkedEdits.{DoneByEdit};
 ghost use Rattle.wt_text_edit_laws.specs.LoneEdits.{sent, typed_in};
 ghost use Rattle.wt_text_edit_laws.specs.LonePages.{lone_page, of_items, one_shown};
 ghost use Rattle.wt_text_edit_laws.specs.PlainTexts.{IsPlainText};
@@ -57,7 +55,6 @@ ghost use Rattle.wt_text_edit_laws.specs.BlockSpots.{BlockSpot, spots_source, pa
 ghost use Rattle.wt_text_edit_laws.specs.BlockEdits.{BlockEdit, new_spots, old_page, new_page, sent_page, IsBlockEdit};
 ghost use Rattle.wt_text_edit_laws.specs.OwnNodes.{TypedSpot, spots_of, AreTypedSpots, own_edit};
 ghost use Rattle.wt_text_edit_laws.specs.UnmarkedBlocks.{unmarked_page, IsUnmarkedBlockEdit};
-ghost use Rattle.wt_text_edit_laws.specs.Calls.{TakesTexts};
 
 // ---- a typed text, and a page that is one paragraph
 
@@ -324,14 +321,6 @@ pub fn unmarked_blocks_are_taken()
     ensures { (pages : Pages) (e : BlockEdit) (stands : Option (List ℕ)) (input : List ℕ) (b : Label) (unsourced : Option ℕ)
         → IsUnmarkedBlockEdit e → stands ≡ Some (old_page e) → length (old_page e) ≤ PAGE_BYTES → length (new_page e) ≤ PAGE_BYTES
         → length input ≤ HTML_BYTES → read input ≡ as_page (unmarked_page b e) unsourced → DoneByEdit pages stands input }
-{}
-
-/// So every call that keeps what `run` of `wt_pagetool` promises (`Ends`, `EndsAsEdit`) takes such texts, whatever else
-/// the page holds: `edit` has written the new page and no line, and `selser` is done; or a device failed, or memory
-/// ran out. Where no device failed, only want of memory may come in the place of the new page.
-#[tactic(auto, using(crate::proofs::Blocks::BlocksCalls::takes))]
-pub fn calls_take_texts()
-    ensures { (c : Call) (ended : ℕ) → Ends c ended → EndsAsEdit c ended → TakesTexts c ended }
 {}
 
 /// And no other block becomes another one: numbers and places aside, the tree of such a page has, one after the

@@ -19,7 +19,7 @@ use Rattle.wt_page_round_trip.proofs.PageTrees.{ungathered_numbered, page_number
 use Rattle.wt_difference.specs.Remarked.{remarked}
 use Rattle.wt_commands.specs.declared.refusal.Refusal.TheVariants.{TooLong}
 use Rattle.wt_commands.specs.Answers.{refused, text_answer, title_answer, edit_to, IsText}
-use Rattle.wt_pagetool.specs.Selser.{EditIsDone, DoneByEdit}
+use Rattle.wt_commands.specs.UnmarkedEdits.{EditIsDone, DoneByEdit}
 use Rattle.wt_commands.proofs.SectionEdits.{page_bare}
 use Rattle.wt_typed_blocks.specs.Sent.{Sents, old_body}
 use Rattle.wt_typed_blocks.specs.Unmarked.{free_body, AreToldApart}

@@ -2,15 +2,17 @@
 use Rattle.std.proofs.Common.{◌≡◌, ℕ, List, [], ◌∷◌, ◌++◌, refl, sym, ap, ◌∙◌, append-nil}
 use Rattle.std.proofs.lemmas.Grind.{flat_map-append}
 use Rattle.wt_tree.specs.Plain.{Plains, plain_before}
+use Rattle.wt_tree.specs.Source.{flat_of_all}
 use Rattle.wt_span.specs.Items.{Item, source, sources}
 use Rattle.wt_inline.specs.ItemTree.{ItemTree, forest, tree_items, held_by_all}
 use Rattle.wt_page.specs.Body.{meaning}
 use Rattle.wt_page.proofs.HeldBody.{sources_meaning}
 use Rattle.wt_moved_laws.specs.Standing.{standing}
 use Rattle.wt_moved_laws.proofs.Moved.{shows_the_same}
+use Rattle.wt_moved_laws.proofs.Sources.{standing_source}
 use Rattle.wt_expand.specs.PageItems.{page_items}
 use Rattle.wt_expand.proofs.PageLaws.{page_sources}
-use Rattle.wt_text_edit_laws.proofs.Prose.ProseTrees.{number_behind, items_behind}
+use Rattle.wt_text_edit_laws.proofs.Prose.ProseTrees.{blocks_of, number_behind, items_behind}
 use Rattle.wt_text_edit_laws.proofs.Prose.ProseFacts.{plains_of}
 use Rattle.wt_text_edit_laws.specs.ParagraphBetween.{blocks_in}
 
@@ -50,3 +52,10 @@ others_show (t ∷ ts) vs shown k n before =
     let m : ℕ = number_behind n before t in
     let after : List Item = items_behind before t in
     shows_the_same n 0 before [] t (plains_of m after (ts ++ vs)) ∙ ap (block_shown t) (others_show ts vs shown k m after)
+
+-- the source of their nodes
+pub blocks_flat : (n : ℕ) (b : List Item) (us : List ItemTree) → flat_of_all (blocks_of n b us) ≡ blocks_source us
+blocks_flat n b [] = refl
+blocks_flat n b (t ∷ us) =
+    ap (λ bs. bs ++ flat_of_all (blocks_of (number_behind n b t) (items_behind b t) us)) (standing_source n b t)
+    ∙ ap (λ bs. sources (tree_items t) ++ bs) (blocks_flat (number_behind n b t) (items_behind b t) us)

@@ -1,0 +1,41 @@
+-- Paragraphs and headings anywhere in a page, in cells and captions of tables, too.
+mod AnyCases
+mod CalledCases
+pub mod AnyPages
+pub mod AnyTakes
+pub mod BodyPages
+mod Cases
+pub mod CellRows
+pub mod CellSpots
+pub mod Cells
+pub mod CellsUnmarked
+pub mod HolderKinds
+pub mod Cuts
+pub mod TwoTexts
+pub mod FramesBorders
+pub mod FramesPlain
+pub mod HeadingCells
+pub mod OwnEdits
+pub mod ManyFacts
+pub mod ManyNodes
+pub mod ManyPaths
+pub mod Nodes
+pub mod OwnTexts
+pub mod SentAsIs
+mod SentCases
+mod PageCases
+pub mod PageSlots
+pub mod Paths
+pub mod PlaceFacts
+pub mod PlaceGaps
+pub mod PlacePaths
+pub mod PlaceTrees
+pub mod ItemFrames
+pub mod CalledFrames
+pub mod SpotFrames
+pub mod SpotRows
+pub mod SpotSlots
+pub mod SpotTrees
+pub mod SpotsRead
+pub mod Takes
+pub mod ToldApart

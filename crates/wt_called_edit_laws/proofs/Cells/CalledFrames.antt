@@ -1,0 +1,111 @@
+-- Blocks among calls are at places of the page's tree, which are the same whatever the texts are; and a page that calls nothing is such a page.
+use Rattle.std.proofs.Common.{◌≡◌, ℕ, zero, suc, ◌+◌, List, [], ◌∷◌, ◌++◌, map, refl, sym, ap, ap₂, ◌∙◌, subst}
+use Rattle.wt_span.specs.Items.{Item}
+use Rattle.wt_expand.specs.PageItems.{page_items}
+use Rattle.wt_expand.specs.Work.{Pages}
+use Rattle.wt_page.specs.Body.{meaning}
+use Rattle.wt_text_edit_laws.specs.BlockSpots.{BlockSpot, AreRead, SameRound}
+use Rattle.wt_text_edit_laws.specs.TextBlocks.{block_items}
+use Rattle.wt_text_edit_laws.proofs.Blocks.TypedBraces.{AreTypedOver}
+use Rattle.wt_called_edit_laws.specs.Parts.{part_items, calls_in, called_items}
+use Rattle.wt_called_edit_laws.specs.Retyped.{AreRetyped}
+use Rattle.wt_called_edit_laws.proofs.Parts.NoCallsCalled.{PartsCalm, parts_calm, read_called, calm_items, calm_count}
+use Rattle.wt_called_edit_laws.proofs.Parts.Retyped.{is_by_parts, same_round, typed_over, expanded_again}
+use Rattle.wt_called_edit_laws.specs.AnyBlocks.{AreSpots}
+use Rattle.wt_called_edit_laws.specs.ItemSpots.{ItemSpot, items_of_spots, placed_items, ArePlaced, SameItems, AreTypedIn}
+use Rattle.wt_called_edit_laws.specs.CalledBlocks.{spots_among, items_behind, AreAmongCalls, tree_by, counted, StandAmongCalls}
+use Rattle.wt_called_edit_laws.proofs.Cells.ItemFrames.{counted_in, items_over, items_framed}
+use Rattle.wt_called_edit_laws.proofs.Cells.SpotFrames.{parts_placed}
+use Rattle.wt_called_edit_laws.proofs.Cells.SpotRows.{trees_by}
+use Rattle.wt_called_edit_laws.proofs.Cells.SpotsRead.{parts_read}
+
+called_are : (pages : Pages) (k : ℕ) (ss : List BlockSpot) (behind : List ℕ)
+    → called_items pages k ss behind ≡ placed_items (spots_among pages k ss) (items_behind pages k ss behind)
+called_are pages k [] behind = refl
+called_are pages k (s ∷ ss) behind =
+    ap (λ xs. part_items pages k s.before ++ (block_items s.block s.text ++ xs)) (called_are pages (k + calls_in pages s.before) ss behind)
+
+same_among : (pages : Pages) (k : ℕ) (ss rs : List BlockSpot) → SameRound ss rs → SameItems (spots_among pages k ss) (spots_among pages k rs)
+same_among pages k [] [] e = tt
+same_among pages k [] (r ∷ rs) e = absurd e
+same_among pages k (s ∷ ss) [] e = absurd e
+same_among pages k (s ∷ ss) (r ∷ rs) e = (
+  ap (part_items pages k) e.0,
+  e.1,
+  subst (λ bs. SameItems (spots_among pages (k + calls_in pages s.before) ss) (spots_among pages (k + calls_in pages bs) rs)) (sym e.0)
+      (same_among pages (k + calls_in pages s.before) ss rs e.2),
+)
+
+same_behind : (pages : Pages) (k : ℕ) (ss rs : List BlockSpot) (behind : List ℕ) → SameRound ss rs → items_behind pages k rs behind ≡ items_behind pages k ss behind
+same_behind pages k [] [] behind e = refl
+same_behind pages k [] (r ∷ rs) behind e = absurd e
+same_behind pages k (s ∷ ss) [] behind e = absurd e
+same_behind pages k (s ∷ ss) (r ∷ rs) behind e =
+    ap (λ bs. items_behind pages (k + calls_in pages bs) rs behind) e.0 ∙ same_behind pages (k + calls_in pages s.before) ss rs behind e.2
+
+typed_among : (pages : Pages) (k j : ℕ) (ss rs : List BlockSpot) → AreTypedOver ss rs → AreTypedIn (spots_among pages k ss) (spots_among pages j rs)
+typed_among pages k j [] rs o = tt
+typed_among pages k j (s ∷ ss) [] o = tt
+typed_among pages k j (s ∷ ss) (r ∷ rs) o = (o.0, typed_among pages (k + calls_in pages s.before) (j + calls_in pages r.before) ss rs o.1)
+
+counted_same : (pages : Pages) (k : ℕ) (ss : List BlockSpot) → counted_in (spots_among pages k ss) ≡ counted ss
+counted_same pages k [] = refl
+counted_same pages k (s ∷ ss) = ap (λ (ns : List ℕ). 0 ∷ map suc ns) (counted_same pages (k + calls_in pages s.before) ss)
+
+trees_same : (pages : Pages) (k : ℕ) (ss : List BlockSpot) (i : ℕ) → tree_by ss i ≡ trees_by (spots_among pages k ss) i
+trees_same pages k [] i = refl
+trees_same pages k (s ∷ ss) zero = refl
+trees_same pages k (s ∷ ss) (suc i) = trees_same pages (k + calls_in pages s.before) ss i
+
+pub stand_among : (pages : Pages) (ss : List BlockSpot) (behind : List ℕ) → AreAmongCalls pages ss behind → StandAmongCalls pages ss behind
+stand_among pages ss behind h =
+    let f = items_framed (spots_among pages 0 ss) (items_behind pages 0 ss behind) h.placed in
+    record {
+      frames = f.frames;
+      of_cells = f.of_cells;
+      in_order = f.in_order ∙ counted_same pages 0 ss;
+      means = λ rs t.
+          let again = expanded_again pages ss rs behind h.called t in
+          let by = is_by_parts pages rs behind again.called in
+          ap meaning (by.items ∙ called_are pages 0 rs behind ∙ ap (placed_items (spots_among pages 0 rs)) (same_behind pages 0 ss rs behind (same_round ss rs t)))
+          ∙ f.means (spots_among pages 0 rs) (tree_by rs) (same_among pages 0 ss rs (same_round ss rs t)) (typed_among pages 0 0 ss rs (typed_over ss rs t))
+          (trees_same pages 0 rs);
+    }
+
+-- ---- with texts that were typed it is such a page again
+
+pub again_among : (pages : Pages) (ss rs : List BlockSpot) (behind : List ℕ) → AreAmongCalls pages ss behind → AreRetyped ss rs → AreAmongCalls pages rs behind
+again_among pages ss rs behind h t =
+    let again = expanded_again pages ss rs behind h.called t in
+    let e : SameRound ss rs = same_round ss rs t in
+    record {
+      called = again.called;
+      placed = subst (ArePlaced (spots_among pages 0 rs)) (sym (same_behind pages 0 ss rs behind e))
+          (items_over (spots_among pages 0 ss) (spots_among pages 0 rs) (items_behind pages 0 ss behind) h.placed (same_among pages 0 ss rs e)
+          (typed_among pages 0 0 ss rs (typed_over ss rs t)));
+    }
+
+-- ---- a page that calls nothing is such a page
+
+pub calm_among : (pages : Pages) (k : ℕ) (ss : List BlockSpot) (behind : List ℕ) → PartsCalm ss behind → spots_among pages k ss ≡ items_of_spots ss
+calm_among pages k [] behind h = refl
+calm_among pages k (s ∷ ss) behind h =
+    let own : ItemSpot = record { before = part_items pages k s.before; block = s.block; text = s.text } in
+    ap (λ (n : ℕ). own ∷ spots_among pages n ss) (calm_count pages k s.before h.0)
+    ∙ ap₂ (λ (xs : List Item) (rs : List ItemSpot). record { before = xs; block = s.block; text = s.text } ∷ rs) (calm_items pages k s.before h.0)
+    (calm_among pages k ss behind h.1)
+
+calm_behind : (pages : Pages) (k : ℕ) (ss : List BlockSpot) (behind : List ℕ) → PartsCalm ss behind → items_behind pages k ss behind ≡ page_items behind
+calm_behind pages k [] behind h = calm_items pages k behind h
+calm_behind pages k (s ∷ ss) behind h =
+    ap (λ (n : ℕ). items_behind pages n ss behind) (calm_count pages k s.before h.0) ∙ calm_behind pages k ss behind h.1
+
+pub spots_among_calls : (pages : Pages) (ss : List BlockSpot) (behind : List ℕ) → AreSpots ss behind → AreAmongCalls pages ss behind
+spots_among_calls pages ss behind h =
+    let r : AreRead ss behind = parts_read ss behind h.parts h.whole in
+    let c : PartsCalm ss behind = parts_calm ss behind r in
+    record {
+      called = read_called ss behind r;
+      placed = subst (λ rs. ArePlaced rs (items_behind pages 0 ss behind)) (sym (calm_among pages 0 ss behind c))
+          (subst (ArePlaced (items_of_spots ss)) (sym (calm_behind pages 0 ss behind c)) (parts_placed ss behind h.parts));
+    }

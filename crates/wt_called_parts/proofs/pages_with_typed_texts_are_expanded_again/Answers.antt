@@ -1,5 +1,0 @@
-use Rattle.wt_called_parts.proofs.Retyped.{expanded_again}
-use Rattle.wt_called_parts.proofs.pages_with_typed_texts_are_expanded_again.Goals as goal
-
-pub returns : goal.returns
-returns c = expanded_again

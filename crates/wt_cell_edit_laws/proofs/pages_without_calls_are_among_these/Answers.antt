@@ -1,5 +1,0 @@
-use Rattle.wt_cell_edit_laws.proofs.CalledFrames.{spots_among_calls}
-use Rattle.wt_cell_edit_laws.proofs.pages_without_calls_are_among_these.Goals as goal
-
-pub returns : goal.returns
-returns c = spots_among_calls

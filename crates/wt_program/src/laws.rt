@@ -1,0 +1,42 @@
+// Laws of calls that send texts typed in a page: what `run` of `wt_pagetool` promises is enough for them to be taken.
+
+ghost use Rattle.std.specs.Prelude.{ℕ};
+ghost use Rattle.wt_commands.specs.Calls.{Call};
+ghost use Rattle.wt_pagetool.specs.Promises.{Ends, EndsAsEdit};
+ghost use Rattle.wt_program.specs.AnyCalls.{TakesTextsAnywhere};
+ghost use Rattle.wt_program.specs.CalledCalls.{TakesTextsAmongCalls};
+ghost use Rattle.wt_program.specs.Calls.{TakesTexts};
+ghost use Rattle.wt_program.specs.CellCalls.{TakesTextsInCells};
+
+/// Every call that keeps what `run` of `wt_pagetool` promises (`Ends`, `EndsAsEdit`) takes texts typed in paragraphs and
+/// headings among calls (`IsCalledPage`): `edit` has written the new page and no line, and `selser` is done; or a device
+/// failed, or memory ran out. Where no device failed, only want of memory may come in the place of the new page.
+#[tactic(auto, using(crate::proofs::AmongCalls::calls_take))]
+pub fn calls_take_texts_among_calls()
+    ensures { (c : Call) (ended : ℕ) → Ends c ended → EndsAsEdit c ended → TakesTextsAmongCalls c ended }
+{}
+
+/// Where a call takes texts on pages with calls, it takes those on pages without calls, too: these are such pages.
+#[tactic(auto, using(crate::proofs::CalmCalls::anywhere_so))]
+pub fn texts_on_pages_without_calls_are_taken_so()
+    ensures { (c : Call) (ended : ℕ) → TakesTextsAmongCalls c ended → TakesTextsAnywhere c ended }
+{}
+
+/// The same of pages that call nothing (`AreSpots`), whatever the folder has.
+#[tactic(auto, using(crate::proofs::AnyCalls::any_calls))]
+pub fn calls_take_texts_anywhere()
+    ensures { (c : Call) (ended : ℕ) → Ends c ended → EndsAsEdit c ended → TakesTextsAnywhere c ended }
+{}
+
+/// The same of pages with these paragraphs and headings in their body, where the edit is told by what is sent for each
+/// part of the page (`IsBlockEdit`).
+#[tactic(auto, using(crate::proofs::BlocksCalls::takes))]
+pub fn calls_take_texts()
+    ensures { (c : Call) (ended : ℕ) → Ends c ended → EndsAsEdit c ended → TakesTexts c ended }
+{}
+
+/// The same of a text typed in one typed paragraph in a cell of a table (`IsCellPage`).
+#[tactic(auto, using(crate::proofs::CellsCalls::takes_in_cells))]
+pub fn calls_take_texts_in_cells()
+    ensures { (c : Call) (ended : ℕ) → Ends c ended → EndsAsEdit c ended → TakesTextsInCells c ended }
+{}
