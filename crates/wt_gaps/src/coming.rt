@@ -231,11 +231,14 @@ fn was_followed_closely(known: &Known<'_, '_>, gap: &Gap<'_, '_, '_>) -> bool {
     }
 }
 
-/// Whether what comes after a paragraph ends with one, too, as where it is split: what is below is as close to this one.
-fn goes_on_as_paragraph(gap: &Gap<'_, '_, '_>, last: Kind) -> bool {
+/// Whether what comes after a paragraph ends with one, too, as where it is split: what is below is as close to this one,
+/// but for a heading.
+fn goes_on_as_paragraph(gap: &Gap<'_, '_, '_>, last: Kind, below: Kind) -> bool {
     match gap.before {
-        Some(before) => matches!(before.kind, Kind::Para) && matches!(last, Kind::Para),
-        None => false,
+        Some(before) if !gap.is_tight && !is_heading(below) => {
+            matches!(before.kind, Kind::Para) && matches!(last, Kind::Para)
+        }
+        _ => false,
     }
 }
 
@@ -251,7 +254,7 @@ fn breaks_below_new(
     if !gap.is_tight && may_be_close(last, below) && was_followed_closely(known, gap) {
         return least_between(gap.is_tight, last, below).max(1);
     }
-    if !gap.is_tight && goes_on_as_paragraph(gap, last) {
+    if goes_on_as_paragraph(gap, last, below) {
         return least_between(gap.is_tight, last, below);
     }
     between(known.closeness, gap.is_tight, last, below)
